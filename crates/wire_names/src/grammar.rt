@@ -1,0 +1,134 @@
+//! The grammars as tests of bytes.
+ghost use Rattle.std.specs.Prelude.{◌≡◌, nat_le, length, ◌==◌};
+ghost use Rattle.std.specs.List.{list_all};
+ghost use Rattle.wire_names.specs.Names.{elements, begins_with_digit, is_element_byte, is_element, is_connection, is_dotted, is_unique_name, is_well_known_name, is_interface_name, is_member_name, is_object_path};
+
+/// The most bytes that a name may have.
+const LONGEST_NAME: usize = 255;
+
+const BUS: &[u8] = b"org.freedesktop.DBus";
+
+/// What an element may have besides letters, `_`, and digits behind its first byte.
+#[derive(Clone, Copy)]
+struct Element {
+    hyphen: bool,
+    leading_digit: bool,
+}
+
+const IN_PATH: Element = Element {
+    hyphen: false,
+    leading_digit: true,
+};
+
+const IN_UNIQUE_NAME: Element = Element {
+    hyphen: true,
+    leading_digit: true,
+};
+
+const IN_INTERFACE_NAME: Element = Element {
+    hyphen: false,
+    leading_digit: false,
+};
+
+const IN_WELL_KNOWN_NAME: Element = Element {
+    hyphen: true,
+    leading_digit: false,
+};
+
+fn is_element_byte(byte: u8, hyphen: bool) -> bool
+    ensures { result ≡ is_element_byte hyphen byte }
+{
+    byte.is_ascii_alphanumeric() || byte == b'_' || (hyphen && byte == b'-')
+}
+
+fn begins_with_digit(element: &[u8]) -> bool
+    ensures { result ≡ begins_with_digit element.now }
+{
+    match element {
+        [first, ..] => first.is_ascii_digit(),
+        [] => false,
+    }
+}
+
+fn has_element_bytes(element: &[u8], hyphen: bool) -> bool
+    ensures { result ≡ list_all (is_element_byte hyphen) element.now }
+{
+    element.iter().all(|byte| is_element_byte(*byte, hyphen))
+}
+
+#[tactic(auto, unfolding(crate::specs::Names::is_element))]
+fn is_element(element: &[u8], kind: Element) -> bool
+    ensures { result ≡ is_element kind.hyphen kind.leading_digit element.now }
+{
+    !element.is_empty()
+        && has_element_bytes(element, kind.hyphen)
+        && (kind.leading_digit || !begins_with_digit(element))
+}
+
+fn each_is_element(text: &[u8], separator: u8, kind: Element) -> bool
+    ensures { result ≡ list_all (is_element kind.hyphen kind.leading_digit) (elements separator text.now) }
+{
+    text.split(|byte| *byte == separator)
+        .all(|element| is_element(element, kind))
+}
+
+fn has_dot(text: &[u8]) -> bool
+    ensures { result ≡ nat_le 2 (length (elements 46 text.now)) }
+{
+    text.contains(&b'.')
+}
+
+#[tactic(auto, unfolding(crate::specs::Names::is_dotted))]
+fn is_dotted(text: &[u8], kind: Element) -> bool
+    ensures { result ≡ is_dotted (is_element kind.hyphen kind.leading_digit) text.now }
+{
+    has_dot(text) && each_is_element(text, b'.', kind)
+}
+
+#[tactic(auto, unfolding(crate::specs::Names::is_connection))]
+fn is_connection(text: &[u8]) -> bool
+    ensures { result ≡ is_connection text.now }
+{
+    match text {
+        [b':', rest @ ..] => is_dotted(rest, IN_UNIQUE_NAME),
+        _ => false,
+    }
+}
+
+#[tactic(auto, unfolding(crate::specs::Names::is_unique_name))]
+pub(crate) fn is_unique_name(text: &[u8]) -> bool
+    ensures { result ≡ is_unique_name text.now }
+{
+    text.len() <= LONGEST_NAME && (text == BUS || is_connection(text))
+}
+
+#[tactic(auto, unfolding(crate::specs::Names::is_well_known_name))]
+pub(crate) fn is_well_known_name(text: &[u8]) -> bool
+    ensures { result ≡ is_well_known_name text.now }
+{
+    text.len() <= LONGEST_NAME && is_dotted(text, IN_WELL_KNOWN_NAME)
+}
+
+#[tactic(auto, unfolding(crate::specs::Names::is_interface_name))]
+pub(crate) fn is_interface_name(text: &[u8]) -> bool
+    ensures { result ≡ is_interface_name text.now }
+{
+    text.len() <= LONGEST_NAME && is_dotted(text, IN_INTERFACE_NAME)
+}
+
+#[tactic(auto, unfolding(crate::specs::Names::is_member_name))]
+pub(crate) fn is_member_name(text: &[u8]) -> bool
+    ensures { result ≡ is_member_name text.now }
+{
+    text.len() <= LONGEST_NAME && is_element(text, IN_INTERFACE_NAME)
+}
+
+#[tactic(auto, unfolding(crate::specs::Names::is_object_path))]
+pub(crate) fn is_object_path(text: &[u8]) -> bool
+    ensures { result ≡ is_object_path text.now }
+{
+    match text {
+        [b'/', rest @ ..] => rest.is_empty() || each_is_element(rest, b'/', IN_PATH),
+        _ => false,
+    }
+}
