@@ -2,6 +2,12 @@
 #![tactic(auto)]
 
 pub use crate::error::NamesError;
+pub use crate::member::{MemberName, OwnedMemberName};
+pub use crate::path::{ObjectPath, OwnedObjectPath};
+pub use crate::small::{Bytes, Text};
 
 mod error;
 mod grammar;
+mod member;
+mod path;
+mod small;
