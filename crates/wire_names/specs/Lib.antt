@@ -1,1 +1,2 @@
+pub mod BusName
 pub mod Names

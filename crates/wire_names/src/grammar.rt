@@ -1,7 +1,7 @@
 //! The grammars as tests of bytes.
 ghost use Rattle.std.specs.Prelude.{◌≡◌, nat_le, length, ◌==◌};
 ghost use Rattle.std.specs.List.{list_all};
-ghost use Rattle.wire_names.specs.Names.{elements, begins_with_digit, is_element_byte, is_element, is_connection, is_dotted, is_unique_name, is_well_known_name, is_interface_name, is_member_name, is_object_path};
+ghost use Rattle.wire_names.specs.Names.{elements, begins_with_digit, is_element_byte, is_element, is_connection, is_dotted, is_unique_name, is_well_known_name, is_interface_name, is_error_name, is_member_name, is_object_path};
 
 /// The most bytes that a name may have.
 const LONGEST_NAME: usize = 255;
@@ -114,6 +114,13 @@ pub(crate) fn is_interface_name(text: &[u8]) -> bool
     ensures { result ≡ is_interface_name text.now }
 {
     text.len() <= LONGEST_NAME && is_dotted(text, IN_INTERFACE_NAME)
+}
+
+#[tactic(auto, unfolding(crate::specs::Names::is_error_name))]
+pub(crate) fn is_error_name(text: &[u8]) -> bool
+    ensures { result ≡ is_error_name text.now }
+{
+    is_interface_name(text)
 }
 
 #[tactic(auto, unfolding(crate::specs::Names::is_member_name))]
