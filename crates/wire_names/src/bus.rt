@@ -38,8 +38,10 @@ impl<'a> TryFrom<&'a str> for BusName<'a> {
 }
 
 impl<'a> BusName<'a> {
+    #[tactic(auto, unfolding(crate::specs::Names::is_bus_name))]
     pub fn as_str(&self) -> &'a str
-        ensures { result.now ≡ text_of self.now }
+        ensures value { result.now ≡ text_of self.now }
+        ensures valid { IsBusName (text_of self.now) }
     {
         match self {
             BusName::Unique(name) => name.as_str(),
@@ -98,8 +100,10 @@ impl OwnedBusName {
         Ok(name.to_owned(alloc)?)
     }
 
+    #[tactic(auto, unfolding(crate::specs::Names::is_bus_name))]
     pub fn as_str(&self) -> &str
-        ensures { result.now ≡ text_of_owned self.now }
+        ensures value { result.now ≡ text_of_owned self.now }
+        ensures valid { IsBusName (text_of_owned self.now) }
     {
         match self {
             OwnedBusName::Unique(name) => name.as_str(),

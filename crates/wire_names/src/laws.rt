@@ -1,0 +1,8 @@
+//! Laws of the grammars, each the contract of a function that does nothing.
+ghost use Rattle.std.specs.Prelude.{◌≡◌, ℕ, List, codes};
+ghost use Rattle.wire_names.specs.Names.{IsUniqueName, IsWellKnownName};
+
+/// The name of the bus is the only text that is both a unique and a well-known name.
+pub fn only_the_bus_is_both()
+    ensures { (text : List ℕ) → IsUniqueName text → IsWellKnownName text → text ≡ codes "org.freedesktop.DBus" }
+{}
