@@ -21,5 +21,7 @@ mod laws;
 mod member;
 mod path;
 mod small;
+#[cfg(test)]
+mod tests;
 mod unique;
 mod well_known;
