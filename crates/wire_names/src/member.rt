@@ -48,6 +48,21 @@ impl<'a> TryFrom<&'a str> for MemberName<'a> {
 }
 
 impl<'a> MemberName<'a> {
+    /// Reads bytes, which may be no UTF-8, without taking memory.
+    ///
+    /// # Errors
+    ///
+    /// [`NamesError::Member`] exactly outside the grammar.
+    pub fn try_from_bytes(bytes: &'a [u8]) -> Result<MemberName<'a>, NamesError>
+        ensures value { OkIff result (IsMemberName bytes.now) bytes.now }
+        ensures error { IfErr result (λ e. e ≡ Member) }
+    {
+        match str::from_utf8(bytes) {
+            Ok(text) => MemberName::try_from(text),
+            Err(_) => Err(NamesError::Member),
+        }
+    }
+
     pub fn as_str(&self) -> &'a str
         ensures value { result.now ≡ self.now }
         ensures valid { IsMemberName self.now }

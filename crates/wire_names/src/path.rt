@@ -48,6 +48,21 @@ impl<'a> TryFrom<&'a str> for ObjectPath<'a> {
 }
 
 impl<'a> ObjectPath<'a> {
+    /// Reads bytes, which may be no UTF-8, without taking memory.
+    ///
+    /// # Errors
+    ///
+    /// [`NamesError::Path`] exactly outside the grammar.
+    pub fn try_from_bytes(bytes: &'a [u8]) -> Result<ObjectPath<'a>, NamesError>
+        ensures value { OkIff result (IsObjectPath bytes.now) bytes.now }
+        ensures error { IfErr result (λ e. e ≡ Path) }
+    {
+        match str::from_utf8(bytes) {
+            Ok(text) => ObjectPath::try_from(text),
+            Err(_) => Err(NamesError::Path),
+        }
+    }
+
     pub fn as_str(&self) -> &'a str
         ensures value { result.now ≡ self.now }
         ensures valid { IsObjectPath self.now }

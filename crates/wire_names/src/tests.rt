@@ -166,6 +166,26 @@ fn calls_of_object_paths(rt: HostRuntime) -> Result<(), Fail> {
 }
 
 #[test]
+fn object_paths_from_bytes(rt: HostRuntime) -> Result<(), Fail> {
+    let path = ObjectPath::try_from_bytes(b"/a/b")?;
+    assert_eq!(rt; path.as_str(), "/a/b");
+    for bytes in [b"/a/".as_slice(), b"/\xc3\xa9", b"/\xff"] {
+        assert!(rt; ObjectPath::try_from_bytes(bytes) == Err(NamesError::Path));
+    }
+    Ok(())
+}
+
+#[test]
+fn member_names_from_bytes(rt: HostRuntime) -> Result<(), Fail> {
+    let name = MemberName::try_from_bytes(b"Get1")?;
+    assert_eq!(rt; name.as_str(), "Get1");
+    for bytes in [b"1a".as_slice(), b"\xc3\xa9", b"a\xff"] {
+        assert!(rt; MemberName::try_from_bytes(bytes) == Err(NamesError::Member));
+    }
+    Ok(())
+}
+
+#[test]
 fn owned_names_are_keys_and_texts(rt: HostRuntime) -> Result<(), Fail> {
     let alloc = rt.alloc();
     let mut names = HashSet::new(alloc);
