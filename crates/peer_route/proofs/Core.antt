@@ -1,0 +1,358 @@
+-- The core after each event.
+use Rattle.std.proofs.Common.{◌≡◌, ℕ, ◌+◌, ◌<◌, ◌≤◌, ◌==◌, is_some, ◌&&◌, is_none, if◌then◌else◌, refl, sym, ◌∙◌, ap, subst, Bool, true, false, List, [], ◌∷◌, ◌++◌, length, map, find, get_or, set, Option, Some, None, Result, Ok, Err}
+use Rattle.std.specs.List.{list_any, position, slice_get}
+use Rattle.std.specs.Option.{option_map}
+use Rattle.std.proofs.Math.Seq.{drop-length}
+use Rattle.std.proofs.lemmas.List.{map-append, length-map, set-set, set-get_or}
+use Rattle.std.proofs.lemmas.Bool.{true≢false, false≢true}
+use Rattle.std.proofs.lemmas.List.Quantifiers.{position-Some}
+use Rattle.std.proofs.lemmas.Option.{slice_get-map, slice_get_read, none-some}
+use Rattle.wire_message.specs.Front.{Seen}
+use Rattle.wire_message.specs.Call.{call_message, call_text, Builds, Draft}
+use Rattle.wire_message.specs.Circle.{IsNext, AllTaken}
+use Rattle.wire_message.specs.declared.error.Error.{Error}
+use Rattle.wire_message.specs.declared.error.Error.TheVariants as errors
+use Rattle.wire_message.specs.declared.error.IoKind.TheVariants as kinds
+use Rattle.peer_route.specs.declared.polled.Polled.{Polled}
+use Rattle.peer_route.specs.declared.polled.Polled.TheVariants as polled
+use Rattle.peer_route.specs.declared.calls.Slot.{Slot}
+use Rattle.peer_route.specs.declared.route.Issued.{Issued}
+use Rattle.peer_route.specs.declared.calls.Slot.TheVariants as slots
+use Rattle.peer_route.specs.History.{Event, Took, Shut, Put, Wrote, Fault, Spent, Call, read, put, closing, done, is_failed, last_serial, is_reply, is_serial, calls, found, bears, is_gone, new_call, first_of, pending, waits_with, poll_answer, poll_events, polled_at, polled_by}
+use Rattle.peer_route.specs.Left.{slot_of, slot_by, is_waiting, AreDistinct, CallsView, waiting_serial, is_number, LeftCalls, View, Left, Issues, Places, placed}
+use Rattle.peer_route.proofs.Plain.{list_any-map, list_any-along, position-None, is_some-position}
+use Rattle.peer_route.proofs.CallsMade.{calls_early, places, places_rise, places-edit, places-fail}
+use Rattle.peer_route.proofs.Slots.{arrived, slots_took, arrived_nowhere, arrived_past, arrived_first, arrived_distinct, gone_distinct, slots_spent, slots_kept, slots_lost, distinct_push, waits-slot}
+
+-- ---- a message comes
+
+taken_slots : (m : Seen) (v : CallsView) (h : List Event) → LeftCalls v h → map (arrived m) v.slots ≡ map (slot_of (Took m ∷ h)) (calls h)
+taken_slots m v h left = ap (map (arrived m)) left.slots ∙ sym (slots_took m h (calls h) (calls_early h))
+
+pub took : (m : Seen) (v new : CallsView) (h : List Event) → LeftCalls v h → new.closing ≡ v.closing → new.slots ≡ map (arrived m) v.slots → LeftCalls new (Took m ∷ h)
+took m v new h left same e = record {
+  slots = e ∙ taken_slots m v h left;
+  closing = same ∙ left.closing;
+  distinct = λ open_. subst AreDistinct (sym e) (arrived_distinct m v.slots (left.distinct (sym same ∙ open_)));
+}
+
+-- no call waits for it
+pub took_by_none : (m : Seen) (v : CallsView) (h : List Event) → ((n : ℕ) → bears n m ≡ false) → LeftCalls v h → LeftCalls v (Took m ∷ h)
+took_by_none m v h none left = took m v v h left refl (sym (arrived_nowhere m none v.slots))
+
+pub took_past : (m : Seen) (s : ℕ) (v : CallsView) (h : List Event) → ((n : ℕ) → bears n m ≡ (s == n)) → position (is_waiting s) v.slots ≡ None → LeftCalls v h → LeftCalls v (Took m ∷ h)
+took_past m s v h same none left = took m v v h left refl (sym (arrived_past m s same v.slots (position-None (is_waiting s) v.slots none)))
+
+-- the first call that waits for it takes it
+pub took_first : (m : Seen) (s k : ℕ) (v new : CallsView) (h : List Event) → ((n : ℕ) → bears n m ≡ (s == n)) → position (is_waiting s) v.slots ≡ Some k
+    → new.slots ≡ set v.slots k (slots.Replied m) → new.closing ≡ v.closing → LeftCalls v h → closing h ≡ None → LeftCalls new (Took m ∷ h)
+took_first m s k v new h same at e kept left open_ =
+    took m v new h left kept
+    (e ∙ sym (arrived_first m s same v.slots k (position-Some (is_waiting s) v.slots k slots.Gone at).1 (left.distinct (left.closing ∙ open_))))
+
+-- ---- the peer is shut
+
+shut_open : (o : Option Error) (error : Error) → first_of o error ≡ None → ⊥
+shut_open None error e = none-some error (sym e)
+shut_open (Some earlier) error e = none-some earlier (sym e)
+
+pub shut : (error : Error) (v new : CallsView) (h : List Event) → new.slots ≡ v.slots → new.closing ≡ first_of v.closing error → LeftCalls v h → LeftCalls new (Shut error ∷ h)
+unfolding slot_of found
+shut error v new h same e left = record {
+  slots = same ∙ left.slots;
+  closing = e ∙ ap (λ o. first_of o error) left.closing;
+  distinct = λ open_. absurd (shut_open v.closing error (sym e ∙ open_));
+}
+
+-- ---- polls
+
+-- what a slot gives a poll
+abbrev pub slot_gives : Option Slot → Option Error → Result (Polled Seen) Error
+slot_gives None error = Err errors.UnknownHandle
+slot_gives (Some slots.Gone) error = Err errors.UnknownHandle
+slot_gives (Some (slots.Replied m)) error = Ok (polled.Now m)
+slot_gives (Some (slots.Waiting n)) error = polled_by None error
+
+slot_gives_by : (gone : Bool) (n : ℕ) (o : Option Seen) (error : Option Error)
+    → slot_gives (Some (if gone then slots.Gone else slot_by n o)) error ≡ (if gone then Err errors.UnknownHandle else polled_by o error)
+slot_gives_by true n o error = refl
+slot_gives_by false n (Some m) error = refl
+slot_gives_by false n None error = refl
+
+gives_at : (h : List Event) (o : Option Call) → slot_gives (option_map (slot_of h) o) (closing h) ≡ polled_at h o
+unfolding slot_of
+gives_at h None = refl
+gives_at h (Some c) = slot_gives_by (is_gone c) c.serial (found h c) (closing h)
+
+pub gives : (v : CallsView) (h : List Event) (k : ℕ) → LeftCalls v h → slot_gives (slice_get v.slots k) v.closing ≡ poll_answer h k
+unfolding poll_answer
+gives v h k left =
+    rw left.slots (rw left.closing (rw (slice_get-map (slot_of h) (calls h) k) (gives_at h (slice_get (calls h) k))))
+
+-- a call's answer was given
+pub spent : (k : ℕ) (v new : CallsView) (h : List Event) → new.slots ≡ set v.slots k slots.Gone → new.closing ≡ v.closing → LeftCalls v h → LeftCalls new (Spent k ∷ h)
+unfolding slot_of found
+spent k v new h e same left = record {
+  slots = e ∙ ap (λ ss. set ss k slots.Gone) left.slots ∙ sym (slots_spent h (calls h) k);
+  closing = same ∙ left.closing;
+  distinct = λ open_. subst AreDistinct (sym e) (gone_distinct v.slots k (left.distinct (sym same ∙ open_)));
+}
+
+-- ---- which serials are pending
+
+pub pending-left : (v : CallsView) (h : List Event) → LeftCalls v h → (serial : ℕ) → pending h serial ≡ waiting_serial v serial
+unfolding pending waiting_serial
+pending-left v h left serial =
+    rw left.slots (rw left.closing
+    (ap (λ b. is_none (closing h) && b)
+    (list_any-along (waits_with h serial) (λ c. is_waiting serial (slot_of h c)) (waits-slot h serial) (calls h)
+    ∙ sym (list_any-map (is_waiting serial) (slot_of h) (calls h)))))
+
+pub IsNext-along : (f g : ℕ → Bool) (last serial : ℕ) → ((n : ℕ) → f n ≡ g n) → IsNext f last serial → IsNext g last serial
+IsNext-along f g last serial e x = record {
+  place = x.place;
+  one = x.one;
+  round = x.round;
+  there = x.there;
+  free = sym (e serial) ∙ x.free;
+  first = λ k a b. sym (e _) ∙ x.first k a b;
+}
+
+pub AllTaken-along : (f g : ℕ → Bool) → ((n : ℕ) → f n ≡ g n) → AllTaken f → AllTaken g
+AllTaken-along f g e x serial a b = sym (e serial) ∙ x serial a b
+
+-- ---- a call is issued
+
+slot_new : (h : List Event) (m : Seen) → slot_of h (record { index = length (put h); serial = m.serial; from = length (read h); spent = false; failed = false }) ≡ slots.Waiting m.serial
+unfolding slot_of found
+slot_new h m = ap (λ ms. slot_by m.serial (find (bears m.serial) ms)) (drop-length (read h))
+
+pub issued_calls : (m : Seen) (v new : CallsView) (h : List Event) → new.slots ≡ v.slots ++ slots.Waiting m.serial ∷ [] → new.closing ≡ v.closing
+    → waiting_serial v m.serial ≡ false → LeftCalls v h → LeftCalls new (Put m true ∷ h)
+unfolding slot_of found waiting_serial
+issued_calls m v new h e same free left = record {
+  slots = e ∙ ap (λ ss. ss ++ slots.Waiting m.serial ∷ []) left.slots ∙ sym (map-append (slot_of h) (calls h) (new_call h m ∷ []) ∙ ap (λ s. map (slot_of h) (calls h) ++ s ∷ []) (slot_new h m));
+  closing = same ∙ left.closing;
+  distinct = λ open_.
+      let was : v.closing ≡ None = sym same ∙ open_ in
+      let none : list_any (is_waiting m.serial) v.slots ≡ false = (rw was at free) in
+      subst AreDistinct (sym e) (distinct_push m.serial v.slots none (left.distinct was));
+}
+
+-- ---- what the code reads of its slots
+
+abbrev pub calls_of : List Slot → Option Error → CallsView
+calls_of ss error = record { slots = ss; closing = error }
+
+pub first_none : (o : Option Error) (error : Error) → is_some o ≡ false → Some error ≡ first_of o error
+first_none None error e = refl
+first_none (Some earlier) error e = absurd (true≢false e)
+
+pub first_some : (o : Option Error) (error : Error) → is_some o ≡ true → o ≡ first_of o error
+first_some None error e = absurd (false≢true e)
+first_some (Some earlier) error e = refl
+
+-- the slot at a place that was read
+pub at_slot : (ss : List Slot) (n k : ℕ) (x s : Slot) → n ≡ length ss → k < n → x ≡ get_or ss k x → s ≡ x → slice_get ss k ≡ Some s
+at_slot ss n k x s len lt at e = slice_get_read ss n k x len lt at ∙ ap (λ y. Some y) (sym e)
+
+pub gives_slot : (ss : List Slot) (error : Option Error) (v : CallsView) (h : List Event) (k : ℕ) (o : Option Slot)
+    → calls_of ss error ≡ v → slice_get ss k ≡ o → LeftCalls v h → slot_gives o error ≡ poll_answer h k
+gives_slot ss error v h k o e at left =
+    ap (λ s. slot_gives s error) (sym at) ∙ ap (λ (w : CallsView). slot_gives (slice_get w.slots k) w.closing) e ∙ gives v h k left
+
+-- a slot that was taken out and put back
+pub put_back : (ss : List Slot) (k : ℕ) (y x s : Slot) → x ≡ get_or ss k x → s ≡ x → set (set ss k y) k s ≡ ss
+put_back ss k y x s at e = set-set ss k y s ∙ ap (set ss k) (e ∙ at) ∙ set-get_or ss k x
+
+open_by : (o : Option Error) (b : Bool) → is_some o ≡ false → b ≡ (is_none o && b)
+open_by None b e = refl
+open_by (Some error) b e = absurd (true≢false e)
+
+shut_by : (o : Option Error) (b : Bool) → is_some o ≡ true → false ≡ (is_none o && b)
+shut_by None b e = absurd (false≢true e)
+shut_by (Some error) b e = refl
+
+pub taken_open : (ss : List Slot) (error : Option Error) (v : CallsView) (serial : ℕ) → calls_of ss error ≡ v → is_some error ≡ false
+    → is_some (position (is_waiting serial) ss) ≡ waiting_serial v serial
+unfolding waiting_serial
+taken_open ss error v serial e open_ =
+    is_some-position (is_waiting serial) ss ∙ open_by error (list_any (is_waiting serial) ss) open_
+    ∙ ap (λ (w : CallsView). is_none w.closing && list_any (is_waiting serial) w.slots) e
+
+pub taken_shut : (ss : List Slot) (error : Option Error) (v : CallsView) (serial : ℕ) → calls_of ss error ≡ v → is_some error ≡ true
+    → false ≡ waiting_serial v serial
+unfolding waiting_serial
+taken_shut ss error v serial e is_shut =
+    shut_by error (list_any (is_waiting serial) ss) is_shut
+    ∙ ap (λ (w : CallsView). is_none w.closing && list_any (is_waiting serial) w.slots) e
+
+-- ---- which serial a message answers
+
+same_number : (o : Option ℕ) (serial : ℕ) → is_serial o serial ≡ is_number o serial
+same_number None serial = refl
+same_number (Some n) serial = refl
+
+pub bears_reply : (serial : ℕ) (m : Seen) → is_reply m.kind ≡ true → bears serial m ≡ is_number m.reply_serial serial
+unfolding bears
+bears_reply serial m e = ap (λ b. b && is_serial m.reply_serial serial) e ∙ same_number m.reply_serial serial
+
+pub bears_none : (serial : ℕ) (m : Seen) → is_reply m.kind ≡ false → bears serial m ≡ false
+unfolding bears
+bears_none serial m e = ap (λ b. b && is_serial m.reply_serial serial) e
+
+-- ---- the whole core
+
+pub left_wrote : (v : View) (h : List Event) → Left v h → Left (record v { done = v.done + 1 }) (Wrote ∷ h)
+unfolding slot_of found
+left_wrote v h left = record {
+  calls = record { slots = left.calls.slots; closing = left.calls.closing; distinct = left.calls.distinct };
+  read = left.read;
+  last = left.last;
+  outbox = left.outbox;
+  places = left.places;
+  done = ap (λ n. n + 1) left.done;
+  failed = left.failed;
+}
+
+-- the write of a call failed
+pub lost : (n k : ℕ) (ps : List ℕ) (v new : CallsView) (h : List Event) → n ≡ done h → ps ≡ places (calls h) → position (λ i. i == n) ps ≡ Some k
+    → new.slots ≡ set v.slots k slots.Gone → new.closing ≡ v.closing → LeftCalls v h → LeftCalls new (Fault ∷ h)
+unfolding slot_of found
+lost n k ps v new h first same at e kept left =
+    let there = position-Some (λ i. i == done h) (places (calls h)) k 0 (rw (← same, ← first) at) in
+    record {
+      slots = e ∙ ap (λ ss. set ss k slots.Gone) left.slots ∙ sym (slots_lost h (done h) (calls h) k there.0 there.1 (places_rise h));
+      closing = kept ∙ left.closing;
+      distinct = λ open_. subst AreDistinct (sym e) (gone_distinct v.slots k (left.distinct (sym kept ∙ open_)));
+    }
+
+-- the write of a message that no call waits for failed
+pub lost_none : (n : ℕ) (ps : List ℕ) (v : CallsView) (h : List Event) → n ≡ done h → ps ≡ places (calls h) → position (λ i. i == n) ps ≡ None
+    → LeftCalls v h → LeftCalls v (Fault ∷ h)
+unfolding slot_of found
+lost_none n ps v h first same at left =
+    let none = position-None (λ i. i == done h) (places (calls h)) (rw (← same, ← first) at) in
+    record {
+      slots = left.slots ∙ sym (slots_kept h (done h) (calls h) none);
+      closing = left.closing;
+      distinct = left.distinct;
+    }
+
+pub left_fault : (v : View) (cv : CallsView) (h : List Event) → Left v h → LeftCalls cv (Fault ∷ h)
+    → Left (record v { calls = cv; done = v.done + 1; failed = true }) (Fault ∷ h)
+left_fault v cv h left after = record {
+  calls = after;
+  read = left.read;
+  last = left.last;
+  outbox = left.outbox;
+  places = left.places ∙ sym (places-fail (done h) (calls h));
+  done = ap (λ n. n + 1) left.done;
+  failed = refl;
+}
+
+left_spent : (v : View) (cv : CallsView) (k : ℕ) (h : List Event) → Left v h → LeftCalls cv (Spent k ∷ h) → Left (record v { calls = cv }) (Spent k ∷ h)
+left_spent v cv k h left after = record {
+  calls = after;
+  read = left.read;
+  last = left.last;
+  outbox = left.outbox;
+  places = left.places ∙ sym (places-edit k (calls h));
+  done = left.done;
+  failed = left.failed;
+}
+
+left_same : (v : View) (cv : CallsView) (h : List Event) → Left v h → LeftCalls cv h → Left (record v { calls = cv }) h
+left_same v cv h left after = record {
+  calls = after;
+  read = left.read;
+  last = left.last;
+  outbox = left.outbox;
+  places = left.places;
+  done = left.done;
+  failed = left.failed;
+}
+
+pub left_polled : (v : View) (cv : CallsView) (k : ℕ) (r : Result (Polled Seen) Error) (h : List Event) → Left v h
+    → LeftCalls cv (poll_events k r ++ h) → Left (record v { calls = cv }) (poll_events k r ++ h)
+left_polled v cv k (Ok (polled.Now m)) h left after = left_spent v cv k h left after
+left_polled v cv k (Ok (polled.Closed error)) h left after = left_spent v cv k h left after
+left_polled v cv k (Ok polled.NotYet) h left after = left_same v cv h left after
+left_polled v cv k (Err error) h left after = left_same v cv h left after
+
+-- ---- issuing
+
+pub next_left : (v : View) (h : List Event) (serial : ℕ) → Left v h → IsNext (waiting_serial v.calls) v.last serial → IsNext (pending h) (last_serial h) serial
+next_left v h serial left next =
+    subst (λ last. IsNext (pending h) last serial) left.last
+    (IsNext-along (waiting_serial v.calls) (pending h) v.last serial (λ n. sym (pending-left v.calls h left.calls n)) next)
+
+-- what building refuses, issuing does
+pub refused : (v : View) (draft : Draft) (new : ℕ) (h : List Event) (error : Error) → Left v h
+    → Builds (waiting_serial v.calls) draft v.last new (Err error) → Issues v v draft.path draft.member h (Err error)
+refused v draft new h errors.SerialsSpent left b = (AllTaken-along (waiting_serial v.calls) (pending h) (λ n. sym (pending-left v.calls h left.calls n)) b.0, refl)
+refused v draft new h errors.ExcessData left b = (b.0, next_left v h b.0 left b.1, b.2, refl)
+refused v draft new h errors.Memory left b = refl
+refused v draft new h (errors.InputOutput kind) left b = absurd b
+refused v draft new h (errors.Variant kind) left b = absurd b
+refused v draft new h (errors.Names kind) left b = absurd b
+refused v draft new h errors.IncorrectEndian left b = absurd b
+refused v draft new h errors.UnknownHandle left b = absurd b
+
+left_issued : (v : View) (m : Seen) (h : List Event) → Left v h → waiting_serial v.calls m.serial ≡ false → Left (placed v m m.serial) (Put m true ∷ h)
+left_issued v m h left free = record {
+  calls = issued_calls m v.calls (placed v m m.serial).calls h refl refl free left.calls;
+  read = left.read;
+  last = refl;
+  outbox = ap (λ ms. ms ++ m ∷ []) left.outbox;
+  places = ap (λ ns. ns ++ length v.outbox ∷ []) left.places ∙ ap (λ ms. places (calls h) ++ length ms ∷ []) left.outbox
+      ∙ sym (map-append (λ (c : Call). c.index) (calls h) (new_call h m ∷ []));
+  done = left.done;
+  failed = left.failed;
+}
+
+-- the number of calls
+slots_len : (v : CallsView) (h : List Event) → LeftCalls v h → length v.slots ≡ length (calls h)
+slots_len v h left = ap length left.slots ∙ length-map (calls h) (slot_of h)
+
+call_message-bytes : (serial : ℕ) (path member : List ℕ) → (call_message serial path member).bytes ≡ call_text serial path member
+unfolding call_message
+call_message-bytes serial path member = refl
+
+-- A message that was built with the next serial and placed is issued.
+pub issued : (v new : View) (path member : List ℕ) (m : Seen) (last : ℕ) (r : Result Issued Error) (h : List Event) → Left v h
+    → Builds (waiting_serial v.calls) (record { path = path; member = member }) v.last last (Ok m) → v.failed ≡ false → Places v new m last r
+    → Issues v new path member h r
+issued v new path member m last (Ok found) h left built fine p =
+    let P : ℕ → Type 0 = λ serial. IsNext (pending h) (last_serial h) serial × (length (call_text serial path member) ≤ 134217728)
+    × (is_failed h ≡ false) × (found.index ≡ length (put h)) × (found.call ≡ length (calls h))
+    × Left new (Put (call_message serial path member) true ∷ h) in
+    subst P (sym p.1) (
+      next_left v h m.serial left built.0,
+      subst (λ bs. length bs ≤ 134217728) (ap (λ (n : Seen). n.bytes) built.3 ∙ call_message-bytes m.serial path member) built.2,
+      sym left.failed ∙ fine,
+      p.0 ∙ ap length left.outbox,
+      p.2 ∙ slots_len v.calls h left.calls,
+      subst (λ w. Left w (Put (call_message m.serial path member) true ∷ h)) (sym (p.3 ∙ ap (placed v m) built.1))
+          (subst (λ n. Left (placed v m m.serial) (Put n true ∷ h)) built.3 (left_issued v m h left built.0.free)),
+    )
+issued v new path member m last (Err errors.Memory) h left built fine p = p
+issued v new path member m last (Err errors.SerialsSpent) h left built fine p = absurd p
+issued v new path member m last (Err errors.ExcessData) h left built fine p = absurd p
+issued v new path member m last (Err (errors.InputOutput kind)) h left built fine p = absurd p
+issued v new path member m last (Err (errors.Variant kind)) h left built fine p = absurd p
+issued v new path member m last (Err (errors.Names kind)) h left built fine p = absurd p
+issued v new path member m last (Err errors.IncorrectEndian) h left built fine p = absurd p
+issued v new path member m last (Err errors.UnknownHandle) h left built fine p = absurd p
+
+-- where a write failed, a message that was built isn't placed
+pub refused_failed : (v : View) (path member : List ℕ) (m : Seen) (last : ℕ) (h : List Event) → Left v h
+    → Builds (waiting_serial v.calls) (record { path = path; member = member }) v.last last (Ok m) → v.failed ≡ true
+    → Issues v v path member h (Err (errors.InputOutput kinds.WriteFault))
+refused_failed v path member m last h left built failed = (
+  m.serial,
+  next_left v h m.serial left built.0,
+  subst (λ bs. length bs ≤ 134217728) (ap (λ (n : Seen). n.bytes) built.3 ∙ call_message-bytes m.serial path member) built.2,
+  sym left.failed ∙ failed,
+  refl,
+)

@@ -1,0 +1,75 @@
+-- Plain facts about lists: the first place that passes a test, one element changed, numbers that rise.
+use Rattle.std.proofs.Common.{inl, inr, get_or, ◌≡◌, ℕ, ◌+◌, ◌<◌, ◌≤◌, zero, suc, refl, sym, ◌∙◌, ap, arith, Bool, true, false, not, ◌||◌, cond, ltb, is_some, List, [], ◌∷◌, ◌++◌, length, map, Some, None}
+use Rattle.std.specs.List.{list_any, position, position_or_len}
+use Rattle.std.proofs.lemmas.Bool.{cases_lt, lt-ltb, le-ltb}
+
+-- a test of the images is a test of the elements
+pub list_any-map : {X Y : Type 0} (p : Y → Bool) (f : X → Y) (xs : List X) → list_any p (map f xs) ≡ list_any (λ x. p (f x)) xs
+list_any-map p f [] = refl
+list_any-map p f (x ∷ xs) = ap (λ b. p (f x) || b) (list_any-map p f xs)
+
+pub list_any-along : {X : Type 0} (p q : X → Bool) → ((x : X) → p x ≡ q x) → (xs : List X) → list_any p xs ≡ list_any q xs
+list_any-along p q e [] = refl
+list_any-along p q e (x ∷ xs) = let a = e x in let b = list_any-along p q e xs in cc
+
+ltb-suc : (a b : ℕ) → ltb (1 + a) (suc b) ≡ ltb a b
+ltb-suc a b = elim (cases_lt a b) as (λ _. ltb (1 + a) (suc b) ≡ ltb a b) [
+  | inl h ↦ lt-ltb (1 + a) (suc b) (omega arith) ∙ sym (lt-ltb a b h)
+  | inr h ↦ le-ltb (1 + a) (suc b) (omega arith) ∙ sym (le-ltb a b h)
+]
+
+place_within_by : (b : Bool) (n m : ℕ) (more : Bool) → ltb n m ≡ more → ltb (cond (not b) (1 + n) 0) (suc m) ≡ (b || more)
+place_within_by true n m more e = lt-ltb 0 (suc m) (omega arith)
+place_within_by false n m more e = ltb-suc n m ∙ e
+
+-- the first place that passes is within the list exactly where an element passes
+pub place_within : {X : Type 0} (p : X → Bool) (xs : List X) → ltb (position_or_len p xs) (length xs) ≡ list_any p xs
+place_within p [] = refl
+place_within p (x ∷ xs) = place_within_by (p x) (position_or_len p xs) (length xs) (list_any p xs) (place_within p xs)
+
+is_some-cond : {X : Type 0} (b : Bool) (x : X) → is_some (cond b (Some x) None) ≡ b
+is_some-cond true x = refl
+is_some-cond false x = refl
+
+pub is_some-position : {X : Type 0} (p : X → Bool) (xs : List X) → is_some (position p xs) ≡ list_any p xs
+is_some-position p xs = is_some-cond (ltb (position_or_len p xs) (length xs)) (position_or_len p xs) ∙ place_within p xs
+
+-- no place passes: no element does
+pub position-None : {X : Type 0} (p : X → Bool) (xs : List X) → position p xs ≡ None → list_any p xs ≡ false
+position-None p xs e = sym (is_some-position p xs) ∙ ap is_some e
+
+-- ---- numbers that rise
+
+abbrev pub Below : ℕ → List ℕ → Type 0
+Below n [] = Unit {0}
+Below n (x ∷ xs) = (x < n) × Below n xs
+
+abbrev pub After : ℕ → List ℕ → Type 0
+After n [] = Unit {0}
+After n (x ∷ xs) = (n < x) × After n xs
+
+abbrev pub Rising : List ℕ → Type 0
+Rising [] = Unit {0}
+Rising (x ∷ xs) = After x xs × Rising xs
+
+pub Below-more : (n m : ℕ) (xs : List ℕ) → n ≤ m → Below n xs → Below m xs
+Below-more n m [] le b = tt
+Below-more n m (x ∷ xs) le b = (let h : x < n = b.0 in omega arith, Below-more n m xs le b.1)
+
+pub Below-push : (n m : ℕ) (xs : List ℕ) → n < m → Below n xs → Below m (xs ++ n ∷ [])
+Below-push n m [] lt b = (lt, tt)
+Below-push n m (x ∷ xs) lt b = (let h : x < n = b.0 in omega arith, Below-push n m xs lt b.1)
+
+After-push : (x n : ℕ) (xs : List ℕ) → x < n → After x xs → After x (xs ++ n ∷ [])
+After-push x n [] lt a = (lt, tt)
+After-push x n (y ∷ ys) lt a = (a.0, After-push x n ys lt a.1)
+
+pub Rising-push : (n : ℕ) (xs : List ℕ) → Below n xs → Rising xs → Rising (xs ++ n ∷ [])
+Rising-push n [] b r = (tt, tt)
+Rising-push n (x ∷ xs) b r = (After-push x n xs b.0 r.0, Rising-push n xs b.1 r.1)
+
+-- what stands further on is greater
+pub After-at : (n : ℕ) (xs : List ℕ) (k : ℕ) → k < length xs → After n xs → n < get_or xs k 0
+After-at n [] k lt a = absurd (omega arith)
+After-at n (x ∷ xs) zero lt a = a.0
+After-at n (x ∷ xs) (suc k) lt a = After-at n xs k (omega arith) a.1

@@ -1,0 +1,177 @@
+-- A peer's history as a list of events, newest first, that never loses anything; and what is asked of it: filters and
+-- first-such, never the machine's fields (D-Bus Specification, "Message Protocol", "Types of messages").
+use Rattle.std.specs.Prelude.{ℕ, ◌==◌, ◌+◌, Bool, true, false, ◌&&◌, ◌||◌, not, is_none, if◌then◌else◌, List, [], ◌∷◌, ◌++◌, length, map, drop, find, slice_get, Option, Some, None, Result, Ok, Err, zero, suc}
+use Rattle.std.specs.List.{list_any}
+use Rattle.wire_message.specs.Front.{Seen}
+use Rattle.wire_message.specs.declared.kind.MessageType.{MessageType}
+use Rattle.wire_message.specs.declared.kind.MessageType.TheVariants as types
+use Rattle.wire_message.specs.declared.error.Error.{Error}
+use Rattle.wire_message.specs.declared.error.Error.TheVariants as errors
+use Rattle.peer_route.specs.declared.polled.Polled.{Polled}
+use Rattle.peer_route.specs.declared.polled.Polled.TheVariants as polled
+
+-- ---- events
+
+pub data Event : Type 0 where
+  Took : (m : Seen) → Event  -- a read took the message
+  Shut : (error : Error) → Event  -- a read ended the peer's messages
+  Put : (m : Seen) (expects : Bool) → Event  -- a message was put in the outbox; whether it expects a reply
+  Wrote : Event  -- the first message that isn't done was written
+  Fault : Event  -- its write failed
+  Spent : (call : ℕ) → Event  -- the call's answer was given
+
+-- ---- reads and closing
+
+-- the messages that were read, oldest first
+abbrev pub read : List Event → List Seen
+read [] = []
+read (Took m ∷ h) = read h ++ m ∷ []
+read (Shut error ∷ h) = read h
+read (Put m expects ∷ h) = read h
+read (Wrote ∷ h) = read h
+read (Fault ∷ h) = read h
+read (Spent call ∷ h) = read h
+
+abbrev pub first_of : Option Error → Error → Option Error
+first_of None error = Some error
+first_of (Some earlier) error = Some earlier
+
+-- the first closing error
+abbrev pub closing : List Event → Option Error
+closing [] = None
+closing (Shut error ∷ h) = first_of (closing h) error
+closing (Took m ∷ h) = closing h
+closing (Put m expects ∷ h) = closing h
+closing (Wrote ∷ h) = closing h
+closing (Fault ∷ h) = closing h
+closing (Spent call ∷ h) = closing h
+
+-- ---- the outbox
+
+-- the messages that were put, by their index
+abbrev pub put : List Event → List Seen
+put [] = []
+put (Put m expects ∷ h) = put h ++ m ∷ []
+put (Took m ∷ h) = put h
+put (Shut error ∷ h) = put h
+put (Wrote ∷ h) = put h
+put (Fault ∷ h) = put h
+put (Spent call ∷ h) = put h
+
+-- how many of them were written or failed
+abbrev pub done : List Event → ℕ
+done [] = 0
+done (Wrote ∷ h) = done h + 1
+done (Fault ∷ h) = done h + 1
+done (Took m ∷ h) = done h
+done (Shut error ∷ h) = done h
+done (Put m expects ∷ h) = done h
+done (Spent call ∷ h) = done h
+
+-- a write failed
+abbrev pub is_failed : List Event → Bool
+is_failed [] = false
+is_failed (Fault ∷ h) = true
+is_failed (Wrote ∷ h) = is_failed h
+is_failed (Took m ∷ h) = is_failed h
+is_failed (Shut error ∷ h) = is_failed h
+is_failed (Put m expects ∷ h) = is_failed h
+is_failed (Spent call ∷ h) = is_failed h
+
+-- the last serial that was drawn, 0 before the first
+abbrev pub last_serial : List Event → ℕ
+last_serial [] = 0
+last_serial (Put m expects ∷ h) = m.serial
+last_serial (Took m ∷ h) = last_serial h
+last_serial (Shut error ∷ h) = last_serial h
+last_serial (Wrote ∷ h) = last_serial h
+last_serial (Fault ∷ h) = last_serial h
+last_serial (Spent call ∷ h) = last_serial h
+
+-- ---- calls
+
+-- A call that was issued: the place of its message in the outbox, its serial, how many messages were read before it was
+-- put, whether its answer was given, and whether its write failed.
+pub record Call : Type 0 where
+  pub index : ℕ
+  pub serial : ℕ
+  pub from : ℕ
+  pub spent : Bool
+  pub failed : Bool
+
+abbrev pub new_call : List Event → Seen → Call
+new_call h m = record { index = length (put h); serial = m.serial; from = length (read h); spent = false; failed = false }
+
+-- the element at a place is changed
+abbrev pub edit : {A : Type 0} → ℕ → (A → A) → List A → List A
+edit k f [] = []
+edit zero f (x ∷ xs) = f x ∷ xs
+edit (suc k) f (x ∷ xs) = x ∷ edit k f xs
+
+abbrev pub spend : Call → Call
+spend c = record c { spent = true }
+
+abbrev pub fail_at : ℕ → Call → Call
+fail_at index c = record c { failed = c.failed || (c.index == index) }
+
+-- the calls that were issued, oldest first
+abbrev pub calls : List Event → List Call
+calls [] = []
+calls (Put m expects ∷ h) = if expects then calls h ++ new_call h m ∷ [] else calls h
+calls (Spent k ∷ h) = edit k spend (calls h)
+calls (Fault ∷ h) = map (fail_at (done h)) (calls h)
+calls (Took m ∷ h) = calls h
+calls (Shut error ∷ h) = calls h
+calls (Wrote ∷ h) = calls h
+
+-- a method return or an error
+abbrev pub is_reply : MessageType → Bool
+is_reply types.MethodReturn = true
+is_reply types.Error = true
+is_reply types.MethodCall = false
+is_reply types.Signal = false
+
+abbrev pub is_serial : Option ℕ → ℕ → Bool
+is_serial None serial = false
+is_serial (Some n) serial = n == serial
+
+-- the message is a return or an error with this reply serial
+unfoldable pub bears : ℕ → Seen → Bool
+bears serial m = is_reply m.kind && is_serial m.reply_serial serial
+
+-- the first message read after the call was put that bears its serial
+unfoldable pub found : List Event → Call → Option Seen
+found h c = find (bears c.serial) (drop c.from (read h))
+
+-- its answer was given, or its message failed
+abbrev pub is_gone : Call → Bool
+is_gone c = c.spent || c.failed
+
+abbrev pub polled_by : Option Seen → Option Error → Result (Polled Seen) Error
+polled_by (Some m) error = Ok (polled.Now m)
+polled_by None (Some error) = Ok (polled.Closed error)
+polled_by None None = Ok polled.NotYet
+
+abbrev pub polled_at : List Event → Option Call → Result (Polled Seen) Error
+polled_at h None = Err errors.UnknownHandle
+polled_at h (Some c) = if is_gone c then Err errors.UnknownHandle else polled_by (found h c) (closing h)
+
+-- What a poll of the call with this number gives: its reply, which is the first message read after it that bears its
+-- serial; else the closing error; else nothing yet. A call that wasn't made, or whose answer was given, is unknown.
+unfoldable pub poll_answer : List Event → ℕ → Result (Polled Seen) Error
+poll_answer h k = polled_at h (slice_get (calls h) k)
+
+-- what a poll is, by its answer
+abbrev pub poll_events : ℕ → Result (Polled Seen) Error → List Event
+poll_events k (Ok (polled.Now m)) = Spent k ∷ []
+poll_events k (Ok (polled.Closed error)) = Spent k ∷ []
+poll_events k (Ok polled.NotYet) = []
+poll_events k (Err error) = []
+
+-- the call waits for a reply, and bears this serial
+abbrev pub waits_with : List Event → ℕ → Call → Bool
+waits_with h serial c = not (is_gone c) && is_none (found h c) && (c.serial == serial)
+
+-- a call waits for a reply of this serial; after the closing error none waits
+unfoldable pub pending : List Event → ℕ → Bool
+pending h serial = is_none (closing h) && list_any (waits_with h serial) (calls h)

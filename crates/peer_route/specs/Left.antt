@@ -1,0 +1,122 @@
+-- What a history leaves of a peer: all that the answers to come depend on.
+use Rattle.std.specs.Prelude.{ℕ, ⊤, ◌≡◌, ◌<◌, ◌≤◌, Bool, true, false, ◌&&◌, ◌==◌, if◌then◌else◌, is_none, List, [], ◌∷◌, ◌++◌, length, map, Option, Some, None, Result, Ok, Err}
+use Rattle.std.specs.List.{list_any}
+use Rattle.wire_message.specs.Front.{Seen}
+use Rattle.wire_message.specs.Call.{call_message, call_text}
+use Rattle.wire_message.specs.Circle.{IsNext, AllTaken}
+use Rattle.wire_message.specs.declared.error.Error.{Error}
+use Rattle.wire_message.specs.declared.error.Error.TheVariants as errors
+use Rattle.wire_message.specs.declared.error.IoKind.TheVariants as kinds
+use Rattle.peer_route.specs.declared.calls.Slot.{Slot}
+use Rattle.peer_route.specs.declared.calls.Slot.TheVariants as slots
+use Rattle.peer_route.specs.declared.route.Issued.{Issued}
+use Rattle.peer_route.specs.History.{Event, Put, Call, put, is_failed, last_serial, found, bears, is_gone, pending}
+use Rattle.peer_route.specs.History as events
+
+-- what is kept of a call: that it is over, the serial that it waits for, or its reply
+abbrev pub slot_by : ℕ → Option Seen → Slot
+slot_by serial None = slots.Waiting serial
+slot_by serial (Some m) = slots.Replied m
+
+unfoldable pub slot_of : List Event → Call → Slot
+slot_of h c = if is_gone c then slots.Gone else slot_by c.serial (found h c)
+
+-- the slot waits for this serial
+abbrev pub is_waiting : ℕ → Slot → Bool
+is_waiting serial (slots.Waiting n) = n == serial
+is_waiting serial slots.Gone = false
+is_waiting serial (slots.Replied m) = false
+
+-- the slot waits for a serial that the message bears
+abbrev pub takes : Seen → Slot → Bool
+takes m (slots.Waiting n) = bears n m
+takes m slots.Gone = false
+takes m (slots.Replied r) = false
+
+-- no two slots wait for one serial
+abbrev pub AreDistinct : List Slot → Type 0
+AreDistinct [] = ⊤
+AreDistinct (slots.Waiting serial ∷ ss) = (list_any (is_waiting serial) ss ≡ false) × AreDistinct ss
+AreDistinct (slots.Gone ∷ ss) = AreDistinct ss
+AreDistinct (slots.Replied m ∷ ss) = AreDistinct ss
+
+-- what is kept of calls
+pub record CallsView : Type 0 where
+  pub slots : List Slot
+  pub closing : Option Error
+
+-- the serials that are pending, as the core has them
+unfoldable pub waiting_serial : CallsView → ℕ → Bool
+waiting_serial v serial = is_none v.closing && list_any (is_waiting serial) v.slots
+
+-- the number is there and is this
+abbrev pub is_number : Option ℕ → ℕ → Bool
+is_number None serial = false
+is_number (Some n) serial = n == serial
+
+-- what contracts see of a peer's core; `places` has for each call the place of its message in the outbox
+pub record View : Type 0 where
+  pub calls : CallsView
+  pub read : ℕ
+  pub last : ℕ
+  pub outbox : List Seen
+  pub places : List ℕ
+  pub done : ℕ
+  pub failed : Bool
+
+-- The history leaves these calls: each with what was found for it, and the first closing error.
+pub record LeftCalls (v : CallsView) (h : List Event) : Type 0 where
+  pub slots : v.slots ≡ map (slot_of h) (events.calls h)
+  pub closing : v.closing ≡ events.closing h
+  pub distinct : v.closing ≡ None → AreDistinct v.slots
+
+-- The history leaves this core.
+pub record Left (v : View) (h : List Event) : Type 0 where
+  pub calls : LeftCalls v.calls h
+  pub read : v.read ≡ length (events.read h)
+  pub last : v.last ≡ last_serial h
+  pub outbox : v.outbox ≡ put h
+  pub places : v.places ≡ map (λ c. c.index) (events.calls h)
+  pub done : v.done ≡ events.done h
+  pub failed : v.failed ≡ is_failed h
+
+-- the core with one more message in the outbox, and the call that waits for its reply
+abbrev pub placed : View → Seen → ℕ → View
+placed v m last = record v {
+  calls = record { slots = v.calls.slots ++ slots.Waiting m.serial ∷ []; closing = v.calls.closing };
+  last = last;
+  outbox = v.outbox ++ m ∷ [];
+  places = v.places ++ length v.outbox ∷ [];
+}
+
+-- What placing a message gives: its place, its serial and its call's number. Want of memory changes nothing.
+abbrev pub Places : View → View → Seen → ℕ → Result Issued Error → Type 0
+Places old new m last (Ok issued) =
+    (issued.index ≡ length old.outbox) × (issued.serial ≡ m.serial) × (issued.call ≡ length old.calls.slots) × (new ≡ placed old m last)
+Places old new m last (Err errors.Memory) = new ≡ old
+Places old new m last (Err error) = ⊥
+
+-- What issuing a method call gives, by the history before it. Nothing changes but on Ok, when the message is put.
+abbrev pub Issues : View → View → List ℕ → List ℕ → List Event → Result Issued Error → Type 0
+Issues old new path member h (Ok issued) =
+    IsNext (pending h) (last_serial h) issued.serial
+    × (length (call_text issued.serial path member) ≤ 134217728)
+    × (is_failed h ≡ false)
+    × (issued.index ≡ length (put h)) × (issued.call ≡ length (events.calls h))
+    × Left new (Put (call_message issued.serial path member) true ∷ h)
+-- each serial is pending
+Issues old new path member h (Err errors.SerialsSpent) = AllTaken (pending h) × (new ≡ old)
+-- else, the message would pass its limit
+Issues old new path member h (Err errors.ExcessData) =
+    (serial : ℕ) × IsNext (pending h) (last_serial h) serial × (134217728 < length (call_text serial path member)) × (new ≡ old)
+-- else, an earlier write failed
+Issues old new path member h (Err (errors.InputOutput kinds.WriteFault)) =
+    (serial : ℕ) × IsNext (pending h) (last_serial h) serial × (length (call_text serial path member) ≤ 134217728)
+    × (is_failed h ≡ true) × (new ≡ old)
+Issues old new path member h (Err errors.Memory) = new ≡ old
+Issues old new path member h (Err error) = ⊥
+
+-- A message that was issued waits at the end of the outbox, and no write failed.
+abbrev pub Waits : View → View → Issued → Type 0
+Waits old new issued =
+    (issued.index ≡ length old.outbox) × (issued.index < length new.outbox) × (new.done ≡ old.done) × (old.failed ≡ false) × (new.failed ≡ false)

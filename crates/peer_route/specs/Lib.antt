@@ -1,0 +1,5 @@
+pub mod History
+pub mod Trail
+pub mod Answers
+pub mod Told
+pub mod Left

@@ -1,0 +1,75 @@
+-- What the outside told: the reads are what stands in the source's bytes, and a send fails where the sink's room ends. It
+-- stands apart from `Legal`, over the same history.
+use Rattle.std.specs.Prelude.{ℕ, ⊤, ◌≡◌, ◌+◌, ◌<◌, ◌≤◌, ◌⊎◌, Bool, true, false, List, [], ◌∷◌, ◌++◌, length, drop, take, Option, Some, None, Result, Ok, Err}
+use Rattle.std.specs.List.{flat_map}
+use Rattle.wire_message.specs.Front.{Seen}
+use Rattle.wire_message.specs.Outcome.{outcome}
+use Rattle.wire_message.specs.declared.error.Error.{Error}
+use Rattle.wire_message.specs.declared.error.Error.TheVariants as errors
+use Rattle.wire_message.specs.declared.error.IoKind.{IoKind}
+use Rattle.wire_message.specs.declared.error.IoKind.TheVariants as kinds
+use Rattle.peer_route.specs.declared.words.Words.{Words}
+use Rattle.peer_route.specs.declared.words.Words.TheVariants as words
+use Rattle.peer_route.specs.declared.answer.Answer.{Answer}
+use Rattle.peer_route.specs.declared.answer.Answer.TheVariants as answers
+use Rattle.peer_route.specs.declared.answer.Entry.{Entry}
+use Rattle.peer_route.specs.History.{Event, read, closing, put, is_failed}
+use Rattle.peer_route.specs.Trail.{trail}
+
+-- ---- the source
+
+-- the encodings of messages, one after another
+abbrev pub encodings : List Seen → List ℕ
+encodings ms = flat_map (λ m. m.bytes) ms
+
+-- the source's bytes without those of the messages read
+abbrev pub left_after : List ℕ → List Event → List ℕ
+left_after bytes h = drop (length (encodings (read h))) bytes
+
+-- what a read is answered by its outcome
+abbrev pub answer_of : Result Seen Error → Answer
+answer_of (Ok m) = answers.Got m
+answer_of (Err error) = answers.Closed error
+
+-- what comes after the source's bytes: a failing call or the end
+abbrev pub ending_of : Bool → IoKind
+ending_of true = kinds.Fault
+ending_of false = kinds.Ended
+
+-- Where it isn't told what comes after the bytes, a failing call may come at any time.
+abbrev pub IsOutcome : Option Bool → ℕ → List ℕ → Answer → Type 0
+IsOutcome (Some stop) count bytes answer = answer ≡ answer_of (outcome count bytes (ending_of stop))
+IsOutcome None count bytes answer =
+    (answer ≡ answer_of (outcome count bytes kinds.Ended)) ⊎ (answer ≡ answers.Closed (errors.InputOutput kinds.Fault))
+
+abbrev pub ReadTold : Option Bool → List ℕ → List Event → Option Error → Words → Answer → Type 0
+ReadTold stop bytes h None words.Read answer = IsOutcome stop (length (read h)) (left_after bytes h) answer
+ReadTold stop bytes h (Some error) words.Read answer = ⊤
+ReadTold stop bytes h closed (words.Call path member) answer = ⊤
+ReadTold stop bytes h closed (words.Poll number) answer = ⊤
+
+-- Each read of an open peer is what stands at the front of the bytes that the reads before it left.
+abbrev pub ReadsTold : Option Bool → List ℕ → List Entry → Type 0
+ReadsTold stop bytes [] = ⊤
+ReadsTold stop bytes (e ∷ es) =
+    ReadTold stop bytes (trail es).events (closing (trail es).events) e.words e.answer × ReadsTold stop bytes es
+
+-- ---- the sink
+
+-- What the sink got of what was put: all of it; after a failed write all but the last message, and of that a proper prefix.
+abbrev pub IsSentBytes : Bool → List Seen → List ℕ → Type 0
+IsSentBytes false ms sent = sent ≡ encodings ms
+IsSentBytes true ms sent =
+    (before : List Seen) × (last : Seen) × (n : ℕ) × (ms ≡ before ++ last ∷ []) × (n < length last.bytes)
+    × (sent ≡ encodings before ++ take n last.bytes)
+
+abbrev pub IsSentOf : List Event → List ℕ → Type 0
+IsSentOf h sent = IsSentBytes (is_failed h) (put h) sent
+
+-- Where the sink says that no write fails, none does. Where it has room for so many bytes, the first message that ends past
+-- them fails, and no other, and the sink got just those bytes.
+abbrev pub WritesTold : Option (Option ℕ) → Bool → List Seen → List ℕ → Type 0
+WritesTold None failed ms sent = ⊤
+WritesTold (Some None) failed ms sent = failed ≡ false
+WritesTold (Some (Some room)) false ms sent = length (encodings ms) ≤ room
+WritesTold (Some (Some room)) true ms sent = (length sent ≡ room) × (room < length (encodings ms))

@@ -1,0 +1,154 @@
+ghost use Rattle.std.specs.Prelude.{ℕ, ◌≡◌, ◌+◌, ◌<◌, ◌++◌, ◌∷◌, [], List, length, IfSome, IfNone, OnOk, OnErr, IfOk, Some, None, is_none, position, slice_set};
+ghost use Rattle.std.specs.List.{list_any};
+ghost use Rattle.peer_route.specs.History.{Event, Took, Shut, Put, Call, poll_answer, poll_events, pending, bears, closing, calls};
+ghost use Rattle.peer_route.specs.Left.{CallsView, LeftCalls, is_waiting, is_number, takes, waiting_serial};
+ghost use Rattle.wire_message.specs.Front.{Seen};
+
+use crate::polled::Polled;
+use std::alloc::{AllocError, Global};
+use std::marker::Model;
+use std::mem;
+use wire_message::{Error, Message, MessageType, Taken};
+
+/// What is kept of a call.
+#[derive(Drop)]
+pub enum Slot {
+    /// Its answer was given, or its message failed.
+    Gone,
+    /// It waits for a reply to this serial.
+    Waiting(u32),
+    /// Its reply came.
+    Replied(Message),
+}
+
+/// The calls of a peer, by the order in which they were made, with their answers.
+#[derive(Drop)]
+pub struct PendingMethodCalls {
+    slots: Vec<Slot>,
+    closing: Option<Error>,
+}
+
+impl Model for PendingMethodCalls {
+    ghost use Rattle.peer_route.specs.Left.{CallsView};
+
+    ghost Value = { CallsView };
+
+    ghost view = { λ c. record { slots = c.slots.items; closing = c.closing } };
+}
+
+/// The serial that a return or an error answers.
+fn answered(message: &Message) -> Option<u32>
+    ensures { (serial : ℕ) → bears serial message.now ≡ is_number result serial }
+{
+    match message.message_type() {
+        MessageType::MethodReturn | MessageType::Error => message.reply_serial(),
+        MessageType::MethodCall | MessageType::Signal => None,
+    }
+}
+
+/// The first slot that waits for this serial.
+fn waiting_place(slots: &[Slot], serial: u32) -> Option<usize>
+    ensures { result ≡ position (is_waiting serial) slots.now }
+{
+    slots
+        .iter()
+        .position(|slot| matches!(slot, Slot::Waiting(n) if *n == serial))
+}
+
+impl PendingMethodCalls {
+    /// No calls.
+    pub fn new(alloc: Global) -> PendingMethodCalls
+        ensures { LeftCalls result [] }
+    {
+        PendingMethodCalls {
+            slots: Vec::new(alloc),
+            closing: None,
+        }
+    }
+
+    /// A new call whose message has this serial, and its number, from 0 on. The serial isn't 0 and isn't pending.
+    pub fn register_call(&mut self, serial: u32) -> Result<u64, AllocError>
+        ensures err { OnErr result (self.new ≡ self.old) }
+        ensures number { IfOk result (λ k. k ≡ length self.old.slots) }
+        ensures ok { OnOk result (self.new ≡ record { slots = self.old.slots ++ Slot.Waiting serial ∷ []; closing = self.old.closing }) }
+    {
+        let number = self.slots.len() as u64;
+        self.slots.push(Slot::Waiting(serial))?;
+        Ok(number)
+    }
+
+    /// Gives a message to the call that waits for its reply serial. It is handed back exactly where none does.
+    pub fn complete_call(&mut self, message: Message) -> Option<Message>
+        ensures exact { is_none result ≡ list_any (takes message) self.old.slots }
+        ensures none { IfNone result ((h : List Event) → LeftCalls self.old h → closing h ≡ None → LeftCalls self.new (Took message ∷ h)) }
+        ensures back { IfSome result (λ m. (m ≡ message) × (self.new ≡ self.old)) }
+        ensures left { IfSome result (λ m. (h : List Event) → LeftCalls self.old h → closing h ≡ None → LeftCalls self.new (Took message ∷ h)) }
+    {
+        let Some(serial) = answered(&message) else {
+            return Some(message);
+        };
+        match waiting_place(&self.slots, serial) {
+            None => Some(message),
+            Some(place) => {
+                self.slots[place] = Slot::Replied(message);
+                None
+            }
+        }
+    }
+
+    /// The call with this number gets no answer, since its message failed. Nothing changes where no such call was made.
+    pub(crate) fn lose(&mut self, call: usize)
+        ensures { self.new ≡ record { slots = slice_set self.old.slots call Slot.Gone; closing = self.old.closing } }
+    {
+        if let Some(slot) = self.slots.get_mut(call) {
+            *slot = Slot::Gone;
+        }
+    }
+
+    /// Answers each call that waits, and each one made later, with the closing error; a later one changes nothing.
+    pub fn fail_all(&mut self, error: Error)
+        ensures { (h : List Event) → LeftCalls self.old h → LeftCalls self.new (Shut error ∷ h) }
+    {
+        if self.closing.is_none() {
+            self.closing = Some(error);
+        }
+    }
+
+    /// The error that closed the peer.
+    pub fn closing(&self) -> Option<Error>
+        ensures { result ≡ self.now.closing }
+    {
+        self.closing
+    }
+
+    /// The answer of the call with this number: its reply once, else the closing error once, else NotYet; UnknownHandle
+    /// exactly where no such call was made or its answer was given. Takes no memory.
+    pub fn poll(&mut self, call: u64) -> Result<Polled<Message>, Error>
+        ensures answer { (h : List Event) → LeftCalls self.old h → result ≡ poll_answer h call }
+        ensures left { (h : List Event) → LeftCalls self.old h → LeftCalls self.new (poll_events call result ++ h) }
+    {
+        if call >= self.slots.len() as u64 {
+            return Err(Error::UnknownHandle);
+        }
+        let place = call as usize;
+        match mem::replace(&mut self.slots[place], Slot::Gone) {
+            Slot::Gone => Err(Error::UnknownHandle),
+            Slot::Replied(message) => Ok(Polled::Now(message)),
+            Slot::Waiting(serial) => match self.closing {
+                Some(error) => Ok(Polled::Closed(error)),
+                None => {
+                    self.slots[place] = Slot::Waiting(serial);
+                    Ok(Polled::NotYet)
+                }
+            },
+        }
+    }
+}
+
+impl Taken for PendingMethodCalls {
+    ghost is_taken = { waiting_serial };
+
+    fn taken(&self, serial: u32) -> bool {
+        self.closing.is_none() && waiting_place(&self.slots, serial).is_some()
+    }
+}

@@ -1,0 +1,202 @@
+ghost use Rattle.std.specs.Prelude.{ℕ, ◌≡◌, ◌+◌, ◌<◌, ◌≤◌, ◌^◌, ◌-◌, ◌==◌, [], ◌∷◌, ◌++◌, List, length, position, slice_get, option_copied, Some, None, Ok, Err, false, IfOk};
+ghost use Rattle.peer_route.specs.History.{Event, Took, Shut, Put, Wrote, Fault, poll_answer, poll_events};
+ghost use Rattle.peer_route.specs.Left.{Waits, View, Left, Issues, Places};
+ghost use Rattle.wire_message.specs.Front.{Seen};
+
+use crate::calls::PendingMethodCalls;
+use crate::polled::Polled;
+use std::alloc::Global;
+use std::marker::Model;
+use wire_message::{Error, IoKind, Message, Result, Serials};
+use wire_names::{MemberName, ObjectPath};
+
+/// A method call that was put in the outbox.
+#[derive(Clone, Copy, PartialEq, Eq, Debug)]
+pub struct Issued {
+    /// Its place in the outbox, from 0 on.
+    pub index: u64,
+    /// Its serial.
+    pub serial: u32,
+    /// Its number among the calls, from 0 on.
+    pub call: u64,
+}
+
+/// The core of a peer: its calls, what was read, what closed it, its serials and its outbox. It holds what a history
+/// leaves, and no history.
+#[derive(Drop)]
+pub struct Route {
+    alloc: Global,
+    calls: PendingMethodCalls,
+    received: u64,
+    serials: Serials,
+    outbox: Vec<Message>,
+    /// For each call, by its number, the place of its message in the outbox.
+    places: Vec<u64>,
+    done: u64,
+    failed: bool,
+}
+
+impl Model for Route {
+    ghost use Rattle.peer_route.specs.Left.{View};
+
+    ghost Value = { View };
+
+    ghost view = { λ r. record { calls = r.calls; read = r.received; last = r.serials; outbox = r.outbox.items; places = r.places.items; done = r.done; failed = r.failed } };
+}
+
+/// The number of the call whose message has this place in the outbox.
+fn call_at(places: &[u64], index: u64) -> Option<usize>
+    ensures { result ≡ position (λ place. place == index) places.now }
+{
+    places.iter().position(|place| *place == index)
+}
+
+impl Route {
+    /// A peer that nothing happened to.
+    pub fn new(alloc: Global) -> Route
+        ensures { Left result [] }
+    {
+        Route {
+            alloc,
+            calls: PendingMethodCalls::new(alloc),
+            received: 0,
+            serials: Serials::new(),
+            outbox: Vec::new(alloc),
+            places: Vec::new(alloc),
+            done: 0,
+            failed: false,
+        }
+    }
+
+    /// Puts a method call in the outbox, with the next serial. Refused, in this order: SerialsSpent exactly where each of
+    /// the 4,294,967,295 serials is pending; ExcessData exactly where the message would pass 134,217,728 bytes;
+    /// InputOutput(WriteFault) exactly where a write failed. A refusal changes nothing, and draws no serial.
+    pub fn issue(&mut self, path: &ObjectPath<'_>, member: &MemberName<'_>) -> Result<Issued>
+        ensures issues { (h : List Event) → Left self.old h → Issues self.old self.new path.now member.now h result }
+        ensures placed { IfOk result (Waits self.old self.new) }
+    {
+        let mut serials = self.serials;
+        let message = Message::method_call(path, member).build(
+            self.alloc,
+            &mut serials,
+            &self.calls,
+        )?;
+        if self.failed {
+            return Err(Error::InputOutput(IoKind::WriteFault));
+        }
+        self.place(message, serials)
+    }
+
+    /// Puts a method call in the outbox, and makes the call that waits for its reply. Want of memory changes nothing.
+    fn place(&mut self, message: Message, serials: Serials) -> Result<Issued>
+        ensures { Places self.old self.new message serials result }
+    {
+        self.outbox.reserve(1)?;
+        self.places.reserve(1)?;
+        let serial = message.serial_num();
+        let index = self.outbox.len() as u64;
+        let call = self.calls.register_call(serial)?;
+        if self.places.push(index).is_err() || self.outbox.push(message).is_err() {
+            unreachable!()
+        }
+        self.serials = serials;
+        Ok(Issued {
+            index,
+            serial,
+            call,
+        })
+    }
+
+    /// Takes a message that was read: the call that it answers gets it. The peer is open, and the message's position is
+    /// one above the number read.
+    pub fn arrive(&mut self, message: Message)
+        requires is_open { self.old.calls.closing ≡ None }
+        requires placed { message.position ≡ self.old.read + 1 }
+        requires limit { message.position ≤ 2 ^ 64 - 2 }
+        ensures { (h : List Event) → Left self.old h → Left self.new (Took message ∷ h) }
+    {
+        self.received += 1;
+        let _ = self.calls.complete_call(message);
+    }
+
+    /// Closes the peer: each call without a reply is answered with the error. A later one changes nothing.
+    pub fn close(&mut self, error: Error)
+        ensures { (h : List Event) → Left self.old h → Left self.new (Shut error ∷ h) }
+    {
+        self.calls.fail_all(error);
+    }
+
+    /// The answer of the call with this number, as `PendingMethodCalls::poll`.
+    pub fn poll(&mut self, call: u64) -> Result<Polled<Message>>
+        ensures answer { (h : List Event) → Left self.old h → result ≡ poll_answer h call }
+        ensures left { (h : List Event) → Left self.old h → Left self.new (poll_events call result ++ h) }
+    {
+        self.calls.poll(call)
+    }
+
+    /// The error that closed the peer.
+    pub fn closing(&self) -> Option<Error>
+        ensures { result ≡ self.now.calls.closing }
+    {
+        self.calls.closing()
+    }
+
+    /// How many messages were read.
+    pub fn received(&self) -> u64
+        ensures { result ≡ self.now.read }
+    {
+        self.received
+    }
+
+    /// The message that was put at this place, from 0 on; None exactly past the last.
+    pub fn outbox(&self, index: u64) -> Option<&Message>
+        ensures { option_copied result ≡ slice_get self.now.outbox index }
+    {
+        self.outbox.get(index as usize)
+    }
+
+    /// How many messages were put.
+    pub fn outbox_len(&self) -> u64
+        ensures { result ≡ length self.now.outbox }
+    {
+        self.outbox.len() as u64
+    }
+
+    /// How many of them were written or failed.
+    pub fn outbox_done(&self) -> u64
+        ensures { result ≡ self.now.done }
+    {
+        self.done
+    }
+
+    /// Whether a write failed.
+    pub fn is_failed(&self) -> bool
+        ensures { result ≡ self.now.failed }
+    {
+        self.failed
+    }
+
+    /// The message at this place, the first that isn't done, was written.
+    pub fn wrote(&mut self, index: u64)
+        requires first { index ≡ self.old.done }
+        requires there { index < length self.old.outbox }
+        requires fine { self.old.failed ≡ false }
+        ensures { (h : List Event) → Left self.old h → Left self.new (Wrote ∷ h) }
+    {
+        self.done += 1;
+    }
+
+    /// The write of the message at this place, the first that isn't done, failed: its call is gone. From now on `issue`
+    /// is refused.
+    pub fn write_fault(&mut self, index: u64)
+        requires first { index ≡ self.old.done }
+        requires there { index < length self.old.outbox }
+        ensures { (h : List Event) → Left self.old h → Left self.new (Fault ∷ h) }
+    {
+        self.done += 1;
+        self.failed = true;
+        if let Some(call) = call_at(&self.places, index) {
+            self.calls.lose(call);
+        }
+    }
+}

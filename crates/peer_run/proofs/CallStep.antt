@@ -1,0 +1,299 @@
+-- A call is one entry more.
+use Rattle.std.proofs.Common.{◌≡◌, ℕ, zero, suc, ◌+◌, ◌-◌, ◌≤◌, ◌<◌, refl, sym, ◌∙◌, ap, subst, arith, Bool, true, false, List, [], ◌∷◌, ◌++◌, length, take, Option, Some, None, IfSome, ◌⊎◌, inl, inr, Result, Ok, Err, length-append, append_assoc}
+use Rattle.std.proofs.lemmas.List.{append-nil, length_push, length-take-le}
+use Rattle.std.specs.Io.KnownBytes.{Appends}
+use Rattle.wire_message.specs.Front.{Seen}
+use Rattle.wire_message.specs.Call.{call_message}
+use Rattle.wire_message.specs.declared.error.Error.{Error}
+use Rattle.wire_message.specs.declared.error.Error.TheVariants as errors
+use Rattle.wire_message.specs.declared.error.IoKind.TheVariants as kinds
+use Rattle.wire_framing.specs.Source.{MayRise}
+use Rattle.wire_framing.specs.Sink.{RoomFalls, RoomBreaks}
+use Rattle.wire_framing.specs.Send.{Part}
+use Rattle.peer_route.specs.declared.words.Words.{Words}
+use Rattle.peer_route.specs.declared.words.Words.TheVariants as words
+use Rattle.peer_route.specs.declared.answer.Answer.{Answer}
+use Rattle.peer_route.specs.declared.answer.Answer.TheVariants as answers
+use Rattle.peer_route.specs.declared.answer.Entry.{Entry}
+use Rattle.peer_route.specs.History as events
+use Rattle.peer_route.specs.Trail.{Trail, trail, call_events, failed_put, read_events, poll_spends, place, count, next_serial, or_zero, new_names}
+use Rattle.peer_route.specs.Answers.{Legal, IsAnswer, IsCalled, IsSent, call_refusal, write_fault}
+use Rattle.peer_route.specs.Told.{ReadTold, IsSentBytes, WritesTold, encodings}
+use Rattle.peer_route.specs.Left.{View, Left}
+use Rattle.peer_route.proofs.Steps.{encodings-append}
+use Rattle.peer_run.specs.Stands.{PeerView, Inlet, Outlet, Follows, Reads, Writes, Holds, HoldsThen, RoomFor, HasReadFault, IsReadFault, HasWriteFault, IsWriteFault, entry}
+use Rattle.peer_run.proofs.Quiet.{follows_more, rise_after, rise_before}
+use Rattle.peer_run.proofs.Kept.{reads_kept, writes_kept}
+
+-- ---- the peer
+
+-- a refusal changes nothing
+pub follows_refused : (p : PeerView) (es : List Entry) (lane : ℕ) (path member : List ℕ) (error : Error) → Follows p es
+    → call_refusal (trail es).events path member ≡ Some error
+    → Follows p (entry lane (words.Call path member) (answers.Refused error) ∷ es)
+follows_refused p es lane path member error f r =
+    follows_more p es (entry lane (words.Call path member) (answers.Refused error)) (trail es).events refl f.left
+    (f.names ∙ sym (append-nil (trail es).names)) f.legal (rw r refl) f.within f.written
+
+-- after a failed write nothing goes out
+pub follows_unsent : (p : PeerView) (es : List Entry) (lane : ℕ) (path member : List ℕ) → Follows p es
+    → call_refusal (trail es).events path member ≡ None → events.is_failed (trail es).events ≡ true
+    → Follows p (entry lane (words.Call path member) write_fault ∷ es)
+follows_unsent p es lane path member f r failed =
+    follows_more p es (entry lane (words.Call path member) write_fault) (trail es).events (rw failed refl) f.left
+    (f.names ∙ sym (append-nil (trail es).names) ∙ rw failed refl) f.legal (rw (r, failed) refl) f.within f.written
+
+-- the call went out
+pub follows_sent : (p q : PeerView) (es : List Entry) (lane serial : ℕ) (path member : List ℕ) → Follows p es
+    → call_refusal (trail es).events path member ≡ None → events.is_failed (trail es).events ≡ false → next_serial (trail es).events ≡ Some serial
+    → q.names ≡ p.names ++ Some lane ∷ []
+    → Left q.core (events.Wrote ∷ events.Put (call_message serial path member) true ∷ (trail es).events)
+    → Follows q (entry lane (words.Call path member) (answers.Called (count lane p.names) serial) ∷ es)
+follows_sent p q es lane serial path member f r fine next names left =
+    follows_more q es (entry lane (words.Call path member) (answers.Called (count lane p.names) serial))
+    (events.Wrote ∷ events.Put (call_message serial path member) true ∷ (trail es).events) refl left
+    (names ∙ ap (λ ns. ns ++ Some lane ∷ []) f.names) f.legal
+    (rw (r, fine) (inl (called_as (ap (count lane) f.names) next)))
+    (let same : q.core.read ≡ p.core.read = left.read ∙ sym f.left.read in rw same f.within)
+    (left.done ∙ ap (λ n. n + 1) (sym f.left.done ∙ f.written ∙ ap length f.left.outbox) ∙ sym (length_push (events.put (trail es).events) _) ∙ ap length (sym left.outbox))
+  where
+    called_as : count lane p.names ≡ count lane (trail es).names → next_serial (trail es).events ≡ Some serial
+        → answers.Called (count lane p.names) serial ≡ answers.Called (count lane (trail es).names) (or_zero (next_serial (trail es).events))
+    called_as a b = rw (a, b) refl
+
+-- the call's write failed
+pub follows_failed : (p q : PeerView) (es : List Entry) (lane serial : ℕ) (path member : List ℕ) → Follows p es
+    → call_refusal (trail es).events path member ≡ None → events.is_failed (trail es).events ≡ false → next_serial (trail es).events ≡ Some serial
+    → q.names ≡ p.names ++ None ∷ []
+    → Left q.core (events.Fault ∷ events.Put (call_message serial path member) true ∷ (trail es).events)
+    → Follows q (entry lane (words.Call path member) write_fault ∷ es)
+follows_failed p q es lane serial path member f r fine next names left =
+    follows_more q es (entry lane (words.Call path member) write_fault)
+    (events.Fault ∷ events.Put (call_message serial path member) true ∷ (trail es).events) (rw (fine, next) refl) left
+    (names ∙ ap (λ ns. ns ++ None ∷ []) f.names ∙ rw fine refl) f.legal
+    (rw (r, fine) (inr refl))
+    (let same : q.core.read ≡ p.core.read = left.read ∙ sym f.left.read in rw same f.within)
+    (left.done ∙ ap (λ n. n + 1) (sym f.left.done ∙ f.written ∙ ap length f.left.outbox) ∙ sym (length_push (events.put (trail es).events) _) ∙ ap length (sym left.outbox))
+
+-- ---- the source
+
+put_reads : (failed : Bool) (m : Seen) (h : List events.Event) → (events.read (failed_put failed (events.Put m true) ++ h) ≡ events.read h) × (events.closing (failed_put failed (events.Put m true) ++ h) ≡ events.closing h)
+put_reads true m h = (refl, refl)
+put_reads false m h = (refl, refl)
+
+call_reads : (h : List events.Event) (path member : List ℕ) (a : Answer) → (events.read (call_events h path member a ++ h) ≡ events.read h) × (events.closing (call_events h path member a ++ h) ≡ events.closing h)
+call_reads h path member (answers.Called call serial) = (refl, refl)
+call_reads h path member (answers.SendFailed error) = put_reads (events.is_failed h) _ h
+call_reads h path member (answers.Got m) = (refl, refl)
+call_reads h path member (answers.Closed error) = (refl, refl)
+call_reads h path member (answers.Refused error) = (refl, refl)
+call_reads h path member (answers.Reply position) = (refl, refl)
+call_reads h path member (answers.InvalidReply position) = (refl, refl)
+call_reads h path member answers.NotYet = (refl, refl)
+
+-- a call reads nothing
+pub reads_call : (start now : Inlet) (es : List Entry) (lane : ℕ) (path member : List ℕ) (a : Answer) → (IsReadFault a → ⊥)
+    → Reads start now es → Reads start now (entry lane (words.Call path member) a ∷ es)
+reads_call start now es lane path member a never r =
+    let q = call_reads (trail es).events path member a in
+    reads_kept start now es lane (words.Call path member) a q.0 q.1 (λ stop bytes. told_call stop bytes (events.closing (trail es).events)) (λ f. absurd (never f)) r
+  where
+    told_call : (stop : Option Bool) (bytes : List ℕ) (closing : Option Error) → ReadTold stop bytes (trail es).events closing (words.Call path member) a
+    told_call stop bytes None = tt
+    told_call stop bytes (Some error) = tt
+
+-- ---- the sink
+
+pub writes_refused : (start now : Outlet) (es : List Entry) (lane : ℕ) (path member : List ℕ) (error : Error) → Writes start now es
+    → Writes start now (entry lane (words.Call path member) (answers.Refused error) ∷ es)
+writes_refused start now es lane path member error r = writes_kept start now es lane (words.Call path member) (answers.Refused error) refl refl (λ f. cc) r
+
+-- a failed write was answered
+called_fault : (refusal : Option Error) (failed : Bool) (number serial : ℕ) (error : Error)
+    → IsCalled refusal failed (answers.Called number serial) (answers.SendFailed error) → IsWriteFault (answers.SendFailed error)
+called_fault (Some other) failed number serial error a = cc
+called_fault None true number serial error a = a
+called_fault None false number serial error (inl a) = cc
+called_fault None false number serial error (inr a) = a
+
+call_fails : (h : List events.Event) (names : List (Option ℕ)) (lane : ℕ) (path member : List ℕ) (a : Answer)
+    → IsCalled (call_refusal h path member) (events.is_failed h) (answers.Called (count lane names) (or_zero (next_serial h))) a
+    → events.is_failed (call_events h path member a ++ h) ≡ true → IsWriteFault a ⊎ (events.is_failed h ≡ true)
+call_fails h names lane path member (answers.Called call serial) a f = inr f
+call_fails h names lane path member (answers.SendFailed error) a f = inl (called_fault (call_refusal h path member) (events.is_failed h) _ _ error a)
+call_fails h names lane path member (answers.Got m) a f = inr f
+call_fails h names lane path member (answers.Closed error) a f = inr f
+call_fails h names lane path member (answers.Refused error) a f = inr f
+call_fails h names lane path member (answers.Reply position) a f = inr f
+call_fails h names lane path member (answers.InvalidReply position) a f = inr f
+call_fails h names lane path member answers.NotYet a f = inr f
+
+read_fails : (closing : Option Error) (a : Answer) (h : List events.Event) → events.is_failed (read_events closing a ++ h) ≡ events.is_failed h
+read_fails (Some error) a h = refl
+read_fails None (answers.Got m) h = refl
+read_fails None (answers.Closed error) h = refl
+read_fails None (answers.Called call serial) h = refl
+read_fails None (answers.Refused error) h = refl
+read_fails None (answers.SendFailed error) h = refl
+read_fails None (answers.Reply position) h = refl
+read_fails None (answers.InvalidReply position) h = refl
+read_fails None answers.NotYet h = refl
+
+poll_fails : (k : Option ℕ) (a : Answer) (h : List events.Event) → events.is_failed (poll_spends k a ++ h) ≡ events.is_failed h
+poll_fails None a h = refl
+poll_fails (Some k) (answers.Called call serial) h = refl
+poll_fails (Some k) (answers.SendFailed error) h = refl
+poll_fails (Some k) (answers.Got m) h = refl
+poll_fails (Some k) (answers.Closed error) h = refl
+poll_fails (Some k) (answers.Refused error) h = refl
+poll_fails (Some k) (answers.Reply position) h = refl
+poll_fails (Some k) (answers.InvalidReply position) h = refl
+poll_fails (Some k) answers.NotYet h = refl
+
+fails_by : (es : List Entry) (lane : ℕ) (w : Words) (a : Answer) → IsAnswer (trail es) lane w a
+    → events.is_failed (trail (entry lane w a ∷ es)).events ≡ true → IsWriteFault a ⊎ (events.is_failed (trail es).events ≡ true)
+fails_by es lane (words.Call path member) a x f = call_fails (trail es).events (trail es).names lane path member a x f
+fails_by es lane words.Read a x f = inr (sym (read_fails (events.closing (trail es).events) a (trail es).events) ∙ f)
+fails_by es lane (words.Poll number) a x f = inr (sym (poll_fails (place 0 lane number (trail es).names) a (trail es).events) ∙ f)
+
+earlier : (A B C : Type 0) → A ⊎ B → (B → C) → A ⊎ C
+earlier A B C (inl a) f = inl a
+earlier A B C (inr b) f = inr (f b)
+
+pub fault_was_written : (es : List Entry) → Legal es → events.is_failed (trail es).events ≡ true → HasWriteFault es
+fault_was_written [] legal f = cc
+fault_was_written (e ∷ es) legal f =
+    earlier (IsWriteFault e.answer) (events.is_failed (trail es).events ≡ true) (HasWriteFault es)
+    (fails_by es e.lane e.words e.answer legal.0 f) (fault_was_written es legal.1)
+
+pub writes_unsent : (start now : Outlet) (es : List Entry) (lane : ℕ) (path member : List ℕ) → Legal es → events.is_failed (trail es).events ≡ true
+    → Writes start now es → Writes start now (entry lane (words.Call path member) write_fault ∷ es)
+writes_unsent start now es lane path member legal failed r =
+    writes_kept start now es lane (words.Call path member) write_fault (rw failed failed) (rw failed refl) (λ f. fault_was_written es legal failed) r
+
+-- ---- a message goes out
+
+appended_to : (held : List ℕ) (after : Option (List ℕ)) (bytes : List ℕ) → Appends (Some held) after bytes → (ys : List ℕ) × (after ≡ Some ys) × (ys ≡ held ++ bytes)
+appended_to held None bytes a = absurd a
+appended_to held (Some ys) bytes a = (ys, refl, a)
+
+room_left : (room now after : Option (Option ℕ)) (used bytes : ℕ) → RoomFalls room now used → RoomFalls now after bytes → RoomFalls room after (used + bytes)
+room_left None now after used bytes a b = tt
+room_left (Some None) now after used bytes a b = rw a at b
+room_left (Some (Some k)) now after used bytes a b =
+    let c : (bytes ≤ k - used) × (after ≡ Some (Some (k - used - bytes))) = rw (a.1) at b in
+    let e : k - used - bytes ≡ k - (used + bytes) = omega (arith, a.0, c.0) in
+    (omega (arith, a.0, c.0), c.1 ∙ ap (λ n. Some (Some n)) e)
+
+sent_told : (room after : Option (Option ℕ)) (ms : List Seen) (sent : List ℕ) → RoomFalls room after (length (encodings ms)) → WritesTold room false ms sent
+sent_told None after ms sent r = tt
+sent_told (Some None) after ms sent r = refl
+sent_told (Some (Some k)) after ms sent r = r.0
+
+more_encodings : (ms : List Seen) (m : Seen) → length (encodings (ms ++ m ∷ [])) ≡ length (encodings ms) + length m.bytes
+more_encodings ms m = ap length (encodings-append ms m) ∙ length-append (encodings ms) m.bytes
+
+sent_holds : (room : Option (Option ℕ)) (before : List ℕ) (now after : Option (List ℕ)) (h : List events.Event) (m : Seen) (rest : Option (Option ℕ))
+    → events.is_failed h ≡ false → Appends now after m.bytes → RoomFalls room rest (length (encodings (events.put h ++ m ∷ [])))
+    → HoldsThen room before now h → HoldsThen room before after (events.Wrote ∷ events.Put m true ∷ h)
+sent_holds room before None after h m rest fine appends room_is holds = absurd holds
+sent_holds room before (Some held) after h m rest fine appends room_is holds =
+    let a = appended_to held after m.bytes appends in
+    let sent : holds.sent ≡ encodings (events.put h) = rw fine at holds.bytes in
+    let w : Holds room before a.0 (events.Wrote ∷ events.Put m true ∷ h) = record {
+      sent = holds.sent ++ m.bytes;
+      appended = a.2 ∙ ap (λ xs. xs ++ m.bytes) holds.appended ∙ append_assoc before holds.sent m.bytes;
+      bytes = rw fine (ap (λ xs. xs ++ m.bytes) sent ∙ sym (encodings-append (events.put h) m));
+      told = rw fine (sent_told room rest (events.put h ++ m ∷ []) (holds.sent ++ m.bytes) room_is);
+    } in
+    rw (a.1) w
+
+-- a call went out whole
+pub writes_sent : (start now after : Outlet) (es : List Entry) (lane number serial : ℕ) (path member : List ℕ)
+    → events.is_failed (trail es).events ≡ false
+    → Appends now.held after.held (call_message serial path member).bytes
+    → RoomFalls now.room after.room (length (call_message serial path member).bytes) → after.faults ≡ now.faults
+    → Writes start now es → Writes start after (entry lane (words.Call path member) (answers.Called number serial) ∷ es)
+writes_sent start now after es lane number serial path member fine appends falls faults r =
+    let h = (trail es).events in
+    let m = call_message serial path member in
+    let open_room : RoomFalls start.room now.room (length (encodings (events.put h))) = rw fine at r.room in
+    let room : RoomFalls start.room after.room (length (encodings (events.put h ++ m ∷ []))) =
+    rw (more_encodings (events.put h) m) (room_left start.room now.room after.room (length (encodings (events.put h))) (length m.bytes) open_room falls) in
+    record {
+      holds = all_held start.held room r.holds;
+      room = rw fine room;
+      cause = λ f. rise_before start.faults now.faults after.faults (r.cause (not_called f)) (omega (arith, faults));
+      kept = omega (arith, faults, r.kept);
+      only = λ f. faults ∙ r.only fine;
+    }
+  where
+    all_held : (held : Option (List ℕ)) → RoomFalls start.room after.room (length (encodings (events.put (trail es).events ++ call_message serial path member ∷ [])))
+        → IfSome held (λ before. HoldsThen start.room before now.held (trail es).events)
+        → IfSome held (λ before. HoldsThen start.room before after.held (events.Wrote ∷ events.Put (call_message serial path member) true ∷ (trail es).events))
+    all_held None room t = tt
+    all_held (Some before) room t = sent_holds start.room before now.held after.held (trail es).events (call_message serial path member) after.room fine appends room t
+
+    not_called : HasWriteFault (entry lane (words.Call path member) (answers.Called number serial) ∷ es) → HasWriteFault es
+    not_called (inl f) = cc
+    not_called (inr f) = f
+
+-- ---- a message's write fails
+
+broken_told : (room now after : Option (Option ℕ)) (ms : List Seen) (m : Seen) (sent : List ℕ) (n : ℕ)
+    → RoomFalls room now (length (encodings ms)) → RoomBreaks now after n → n < length m.bytes → length sent ≡ length (encodings ms) + n
+    → WritesTold room true (ms ++ m ∷ []) sent
+broken_told None now after ms m sent n a b less long = tt
+broken_told (Some None) now after ms m sent n a b less long = absurd (rw a at b)
+broken_told (Some (Some k)) now after ms m sent n a b less long =
+    let c : (n ≡ k - length (encodings ms)) × (after ≡ Some None) = rw (a.1) at b in
+    (long ∙ omega (arith, a.0, c.0), let e = more_encodings ms m in omega (arith, a.0, c.0, e, less))
+
+failed_holds : (room : Option (Option ℕ)) (before : List ℕ) (held held' : Option (List ℕ)) (h : List events.Event) (m : Seen) (now after : Option (Option ℕ)) (n : ℕ)
+    → events.is_failed h ≡ false → Appends held held' (take n m.bytes) → n < length m.bytes
+    → RoomFalls room now (length (encodings (events.put h))) → RoomBreaks now after n
+    → HoldsThen room before held h → HoldsThen room before held' (events.Fault ∷ events.Put m true ∷ h)
+failed_holds room before None held' h m now after n fine appends less falls breaks holds = absurd holds
+failed_holds room before (Some held) held' h m now after n fine appends less falls breaks holds =
+    let a = appended_to held held' (take n m.bytes) appends in
+    let sent : holds.sent ≡ encodings (events.put h) = rw fine at holds.bytes in
+    let long : length (holds.sent ++ take n m.bytes) ≡ length (encodings (events.put h)) + n =
+    length-append holds.sent (take n m.bytes) ∙ ap (λ xs. length xs + length (take n m.bytes)) sent ∙ ap (λ k. length (encodings (events.put h)) + k) (length-take-le n m.bytes (omega (arith, less))) in
+    let w : Holds room before a.0 (events.Fault ∷ events.Put m true ∷ h) = record {
+      sent = holds.sent ++ take n m.bytes;
+      appended = a.2 ∙ ap (λ xs. xs ++ take n m.bytes) holds.appended ∙ append_assoc before holds.sent (take n m.bytes);
+      bytes = (events.put h, m, n, refl, less, ap (λ xs. xs ++ take n m.bytes) sent);
+      told = broken_told room now after (events.put h) m (holds.sent ++ take n m.bytes) n falls breaks less long;
+    } in
+    rw (a.1) w
+
+-- a call's write failed
+pub writes_failed : (start now after : Outlet) (es : List Entry) (lane serial : ℕ) (path member : List ℕ) (n : ℕ)
+    → events.is_failed (trail es).events ≡ false → next_serial (trail es).events ≡ Some serial
+    → Part (call_message serial path member).bytes now.held after.held n → RoomBreaks now.room after.room n → MayRise now.faults after.faults
+    → Writes start now es → Writes start after (entry lane (words.Call path member) write_fault ∷ es)
+writes_failed start now after es lane serial path member n fine next part breaks rises r =
+    let h = (trail es).events in
+    let m = call_message serial path member in
+    let same : (trail (entry lane (words.Call path member) write_fault ∷ es)).events ≡ events.Fault ∷ events.Put m true ∷ h = rw (fine, next) refl in
+    let falls : RoomFalls start.room now.room (length (encodings (events.put h))) = rw fine at r.room in
+    record {
+      holds = all_held same start.held falls r.holds;
+      room = subst (λ g. RoomFor (events.is_failed g) start.room after.room (events.put g)) (sym same) tt;
+      cause = λ f. rise_after start.faults now.faults after.faults r.kept rises;
+      kept = kept_after (rises);
+      only = λ f. let g : true ≡ false = ap events.is_failed (sym same) ∙ f in cc;
+    }
+  where
+    kept_after : MayRise now.faults after.faults → start.faults ≤ after.faults
+    kept_after (inl f) = omega (arith, f, r.kept)
+    kept_after (inr f) = omega (arith, f.0, f.1, r.kept)
+
+    all_held : (trail (entry lane (words.Call path member) write_fault ∷ es)).events ≡ events.Fault ∷ events.Put (call_message serial path member) true ∷ (trail es).events
+        → (held : Option (List ℕ)) → RoomFalls start.room now.room (length (encodings (events.put (trail es).events)))
+        → IfSome held (λ before. HoldsThen start.room before now.held (trail es).events)
+        → IfSome held (λ before. HoldsThen start.room before after.held (trail (entry lane (words.Call path member) write_fault ∷ es)).events)
+    all_held same None falls t = tt
+    all_held same (Some before) falls t =
+        subst (λ g. HoldsThen start.room before after.held g) (sym same)
+        (failed_holds start.room before now.held after.held (trail es).events (call_message serial path member) now.room after.room n fine part.gone part.proper falls breaks t)

@@ -1,0 +1,100 @@
+-- Two histories of the same commands over the same bytes are the same.
+use Rattle.std.proofs.Common.{◌≡◌, ℕ, ◌+◌, refl, sym, ◌∙◌, ap, subst, Bool, true, false, List, [], ◌∷◌, ◌++◌, length, map, Option, Some, None, ◌⊎◌, inl, inr}
+use Rattle.wire_message.specs.declared.error.Error.{Error}
+use Rattle.wire_message.specs.declared.error.Error.TheVariants as errors
+use Rattle.wire_message.specs.declared.error.IoKind.TheVariants as kinds
+use Rattle.peer_route.specs.declared.words.Words.{Words}
+use Rattle.peer_route.specs.declared.words.Words.TheVariants as words
+use Rattle.peer_route.specs.declared.words.Command.{Command}
+use Rattle.peer_route.specs.declared.answer.Answer.{Answer}
+use Rattle.peer_route.specs.declared.answer.Answer.TheVariants as answers
+use Rattle.peer_route.specs.declared.answer.Entry.{Entry}
+use Rattle.peer_route.specs.History as events
+use Rattle.peer_route.specs.Trail.{Trail, trail, events_of, call_events, or_zero, next_serial, count}
+use Rattle.peer_route.specs.Answers.{Legal, IsAnswer, IsCalled, IsSent, IsReadOf, call_refusal, write_fault}
+use Rattle.peer_route.specs.Told.{ReadsTold, ReadTold, IsOutcome, left_after}
+use Rattle.peer_run.specs.Runs.{command_of}
+
+-- a write that failed stays failed
+failed_before : (xs h : List events.Event) → events.is_failed (xs ++ h) ≡ false → events.is_failed h ≡ false
+failed_before [] h e = e
+failed_before (events.Took m ∷ xs) h e = failed_before xs h e
+failed_before (events.Shut error ∷ xs) h e = failed_before xs h e
+failed_before (events.Put m expects ∷ xs) h e = failed_before xs h e
+failed_before (events.Wrote ∷ xs) h e = failed_before xs h e
+failed_before (events.Fault ∷ xs) h e = cc
+failed_before (events.Spent call ∷ xs) h e = failed_before xs h e
+
+failed_tail : (e : Entry) (es : List Entry) → events.is_failed (trail (e ∷ es)).events ≡ false → events.is_failed (trail es).events ≡ false
+failed_tail e es h = failed_before (events_of (trail es).events (trail es).names e.lane e.words e.answer) (trail es).events h
+
+-- a call's answer is one of two, and one of them fails
+same_sent : (failed : Bool) (sent a b : Answer) → failed ≡ false → (a ≡ write_fault → ⊥) → (b ≡ write_fault → ⊥) → IsSent failed sent a → IsSent failed sent b → a ≡ b
+same_sent true sent a b e p q x y = cc
+same_sent false sent a b e p q (inl x) (inl y) = x ∙ sym y
+same_sent false sent a b e p q (inr x) y = absurd (p x)
+same_sent false sent a b e p q (inl x) (inr y) = absurd (q y)
+
+same_called : (refusal : Option Error) (failed : Bool) (sent a b : Answer) → failed ≡ false
+    → (refusal ≡ None → a ≡ write_fault → ⊥) → (refusal ≡ None → b ≡ write_fault → ⊥) → IsCalled refusal failed sent a → IsCalled refusal failed sent b → a ≡ b
+same_called (Some error) failed sent a b e p q x y = x ∙ sym y
+same_called None failed sent a b e p q x y = same_sent failed sent a b e (p refl) (q refl) x y
+
+-- a call's failed write fails the history
+call_fault : (h : List events.Event) (path member : List ℕ) (a : Answer) → events.is_failed h ≡ false → a ≡ write_fault
+    → events.is_failed (call_events h path member a ++ h) ≡ true
+call_fault h path member a e f = rw (f, e) refl
+
+same_read : (closing : Option Error) (stop : Bool) (bytes : List ℕ) (h : List events.Event) (a b : Answer)
+    → IsReadOf closing (length (events.read h)) a → IsReadOf closing (length (events.read h)) b
+    → ReadTold (Some stop) bytes h closing words.Read a → ReadTold (Some stop) bytes h closing words.Read b → a ≡ b
+same_read (Some error) stop bytes h a b x y p q = x ∙ sym y
+same_read None stop bytes h a b x y p q = p ∙ sym q
+
+same_answer : (es : List Entry) (stop : Bool) (bytes : List ℕ) (lane : ℕ) (w : Words) (a b : Answer)
+    → events.is_failed (trail (record { lane = lane; words = w; answer = a } ∷ es)).events ≡ false
+    → events.is_failed (trail (record { lane = lane; words = w; answer = b } ∷ es)).events ≡ false
+    → IsAnswer (trail es) lane w a → IsAnswer (trail es) lane w b
+    → ReadTold (Some stop) bytes (trail es).events (events.closing (trail es).events) w a
+    → ReadTold (Some stop) bytes (trail es).events (events.closing (trail es).events) w b → a ≡ b
+same_answer es stop bytes lane (words.Call path member) a b fa fb x y p q =
+    let h = (trail es).events in
+    let fine : events.is_failed h ≡ false = failed_before (call_events h path member a) h fa in
+    same_called (call_refusal h path member) (events.is_failed h) (answers.Called (count lane (trail es).names) (or_zero (next_serial h))) a b fine
+    (λ _ f. let t : events.is_failed (call_events h path member a ++ h) ≡ true = call_fault h path member a fine f in cc)
+    (λ _ f. let t : events.is_failed (call_events h path member b ++ h) ≡ true = call_fault h path member b fine f in cc) x y
+same_answer es stop bytes lane words.Read a b fa fb x y p q = same_read (events.closing (trail es).events) stop bytes (trail es).events a b x y p q
+same_answer es stop bytes lane (words.Poll number) a b fa fb x y p q = x ∙ sym y
+
+-- what is known of the newest entry
+record Newest (es : List Entry) (stop : Bool) (bytes : List ℕ) (e : Entry) : Type 0 where
+  fine : events.is_failed (trail (e ∷ es)).events ≡ false
+  is_answer : IsAnswer (trail es) e.lane e.words e.answer
+  told : ReadTold (Some stop) bytes (trail es).events (events.closing (trail es).events) e.words e.answer
+
+same_newest : (es : List Entry) (stop : Bool) (bytes : List ℕ) (e f : Entry) → command_of e ≡ command_of f
+    → Newest es stop bytes e → Newest es stop bytes f → e ≡ f
+same_newest es stop bytes e f c p q =
+    let g : Entry = record { lane = e.lane; words = e.words; answer = f.answer } in
+    let to_f : g ≡ f = ap (λ (k : Command). record { lane = k.lane; words = k.words; answer = f.answer }) c in
+    let r : Newest es stop bytes g = subst (λ x. Newest es stop bytes x) (sym to_f) q in
+    let a : e.answer ≡ f.answer = same_answer es stop bytes e.lane e.words e.answer f.answer p.fine r.fine p.is_answer r.is_answer p.told r.told in
+    ap (λ (x : Answer). record { lane = e.lane; words = e.words; answer = x }) a ∙ to_f
+
+-- an entry in front of two histories that are the same
+same_front : (es fs : List Entry) (stop : Bool) (bytes : List ℕ) (e f : Entry) → es ≡ fs → command_of e ≡ command_of f
+    → Newest es stop bytes e → Newest fs stop bytes f → (e ∷ es) ≡ (f ∷ fs)
+same_front es fs stop bytes e f same c p q =
+    let a : e ≡ f = same_newest es stop bytes e f c p (subst (λ xs. Newest xs stop bytes f) (sym same) q) in cc
+
+pub same_history : (es fs : List Entry) (stop : Bool) (bytes : List ℕ) → map command_of es ≡ map command_of fs → Legal es → Legal fs
+    → ReadsTold (Some stop) bytes es → ReadsTold (Some stop) bytes fs
+    → events.is_failed (trail es).events ≡ false → events.is_failed (trail fs).events ≡ false → es ≡ fs
+same_history [] [] stop bytes c le lf re rf fe ff = refl
+same_history [] (f ∷ fs) stop bytes c le lf re rf fe ff = cc
+same_history (e ∷ es) [] stop bytes c le lf re rf fe ff = cc
+same_history (e ∷ es) (f ∷ fs) stop bytes c le lf re rf fe ff =
+    let head : command_of e ≡ command_of f = cc in
+    let tail : map command_of es ≡ map command_of fs = cc in
+    same_front es fs stop bytes e f (same_history es fs stop bytes tail le.1 lf.1 re.1 rf.1 (failed_tail e es fe) (failed_tail f fs ff)) head
+    (record { fine = fe; is_answer = le.0; told = re.0 }) (record { fine = ff; is_answer = lf.0; told = rf.0 })

@@ -1,0 +1,10 @@
+pub mod Quiet
+pub mod Kept
+pub mod ReadStep
+pub mod PollStep
+pub mod CallStep
+pub mod Lanes
+pub mod CallEnds
+pub mod Ends
+pub mod Cut
+pub mod Printing

@@ -1,0 +1,243 @@
+-- A read is one entry more.
+use Rattle.std.proofs.Common.{◌≡◌, ◌≢◌, ℕ, ◌+◌, ◌-◌, ◌^◌, ◌≤◌, ◌<◌, refl, sym, ◌∙◌, ap, subst, arith, Bool, true, false, List, [], ◌∷◌, ◌++◌, length, take, Option, Some, None, IfSome, ◌⊎◌, inl, inr, Result, Ok, Err, length-append}
+use Rattle.std.proofs.lemmas.List.{append-nil, length_push}
+use Rattle.std.specs.Io.KnownBytes.{Consumes}
+use Rattle.wire_message.specs.Front.{Seen, Front}
+use Rattle.wire_message.specs.Outcome.{outcome, Tells}
+use Rattle.wire_message.specs.declared.error.Error.{Error}
+use Rattle.wire_message.specs.declared.error.Error.TheVariants as errors
+use Rattle.wire_message.specs.declared.error.IoKind.{IoKind}
+use Rattle.wire_message.specs.declared.error.IoKind.TheVariants as kinds
+use Rattle.wire_signature.specs.declared.error.VariantError.{VariantError}
+use Rattle.wire_signature.specs.declared.error.VariantError.TheVariants as faults
+use Rattle.wire_framing.specs.Source.{MayRise}
+use Rattle.wire_framing.specs.Receive as receive
+use Rattle.peer_route.specs.declared.words.Words.{Words}
+use Rattle.peer_route.specs.declared.words.Words.TheVariants as words
+use Rattle.peer_route.specs.declared.answer.Answer.{Answer}
+use Rattle.peer_route.specs.declared.answer.Answer.TheVariants as answers
+use Rattle.peer_route.specs.declared.answer.Entry.{Entry}
+use Rattle.peer_route.specs.History as events
+use Rattle.peer_route.specs.Trail.{Trail, trail, read_events}
+use Rattle.peer_route.specs.Answers.{Legal, IsAnswer, IsReadOf, IsRead, IsReadError}
+use Rattle.peer_route.specs.Told.{ReadsTold, ReadTold, IsOutcome, answer_of, ending_of, left_after, encodings}
+use Rattle.peer_route.specs.Left.{View, Left}
+use Rattle.peer_route.proofs.Steps.{left_after-took}
+use Rattle.peer_run.specs.Stands.{PeerView, Inlet, Outlet, Follows, Reads, Writes, IsRest, HasReadFault, IsReadFault, HasWriteFault, IsWriteFault, entry}
+use Rattle.peer_run.proofs.Quiet.{rise_after, rise_before, follows_more, fault_was_read}
+
+-- ---- the events of a read
+
+at_closed : (es : List Entry) (lane : ℕ) (a : Answer) (error : Error) → events.closing (trail es).events ≡ Some error
+    → (trail (entry lane words.Read a ∷ es)).events ≡ (trail es).events
+at_closed es lane a error e = rw e refl
+
+at_got : (es : List Entry) (lane : ℕ) (m : Seen) → events.closing (trail es).events ≡ None
+    → (trail (entry lane words.Read (answers.Got m) ∷ es)).events ≡ events.Took m ∷ (trail es).events
+at_got es lane m e = rw e refl
+
+at_shut : (es : List Entry) (lane : ℕ) (error : Error) → events.closing (trail es).events ≡ None
+    → (trail (entry lane words.Read (answers.Closed error) ∷ es)).events ≡ events.Shut error ∷ (trail es).events
+at_shut es lane error e = rw e refl
+
+pub closing_of : (p : PeerView) (es : List Entry) (closing : Option Error) → Follows p es → p.core.calls.closing ≡ closing → events.closing (trail es).events ≡ closing
+closing_of p es closing f e = sym f.left.calls.closing ∙ e
+
+-- ---- the peer
+
+-- a peer that is closed gives its error again
+pub follows_closed : (p : PeerView) (es : List Entry) (lane : ℕ) (error : Error) → p.core.calls.closing ≡ Some error
+    → Follows p es → Follows p (entry lane words.Read (answers.Closed error) ∷ es)
+follows_closed p es lane error e f =
+    let c : events.closing (trail es).events ≡ Some error = closing_of p es (Some error) f e in
+    follows_more p es (entry lane words.Read (answers.Closed error)) (trail es).events (at_closed es lane (answers.Closed error) error c) f.left
+    (f.names ∙ sym (append-nil (trail es).names)) f.legal (rw c refl) f.within f.written
+
+-- a message was taken
+pub follows_got : (p q : PeerView) (es : List Entry) (lane : ℕ) (m : Seen) → p.core.calls.closing ≡ None → Follows p es
+    → Front m.bytes m (length m.bytes) → m.position ≡ p.core.read + 1 → p.core.read < 2 ^ 64 - 2
+    → q.names ≡ p.names → Left q.core (events.Took m ∷ (trail es).events)
+    → Follows q (entry lane words.Read (answers.Got m) ∷ es)
+follows_got p q es lane m e f front position below names left =
+    let c : events.closing (trail es).events ≡ None = closing_of p es None f e in
+    let count : length (events.read (trail es).events) ≡ p.core.read = sym f.left.read in
+    let more : q.core.read ≡ p.core.read + 1 = left.read ∙ length_push (events.read (trail es).events) m ∙ ap (λ n. n + 1) count in
+    follows_more q es (entry lane words.Read (answers.Got m)) (events.Took m ∷ (trail es).events) (at_got es lane m c) left
+    (names ∙ f.names ∙ sym (append-nil (trail es).names)) f.legal
+    (rw c (front, position ∙ ap (λ n. n + 1) (sym count), rw count below))
+    (omega (arith, more))
+    (left.done ∙ sym f.left.done ∙ f.written ∙ ap length (f.left.outbox ∙ sym left.outbox))
+
+-- a read's error, which isn't want of memory
+is_read_error : (error : Error) → receive.IsReadError error → error ≢ errors.Memory → IsReadError error
+is_read_error (errors.InputOutput kinds.Ended) r n = tt
+is_read_error (errors.InputOutput kinds.Fault) r n = tt
+is_read_error (errors.InputOutput kinds.Closed) r n = absurd r
+is_read_error (errors.InputOutput kinds.WriteFault) r n = absurd r
+is_read_error (errors.InputOutput kinds.TimedOut) r n = absurd r
+is_read_error (errors.Variant faults.Signature) r n = absurd r
+is_read_error (errors.Variant faults.Depth) r n = absurd r
+is_read_error (errors.Variant faults.Malformed) r n = tt
+is_read_error (errors.Variant faults.SignatureMismatch) r n = absurd r
+is_read_error (errors.Variant faults.Memory) r n = absurd r
+is_read_error (errors.Names kind) r n = absurd r
+is_read_error errors.IncorrectEndian r n = tt
+is_read_error errors.ExcessData r n = tt
+is_read_error errors.SerialsSpent r n = absurd r
+is_read_error errors.UnknownHandle r n = absurd r
+is_read_error errors.Memory r n = absurd (n refl)
+
+-- the read ended the peer's messages
+pub follows_shut : (p q : PeerView) (es : List Entry) (lane : ℕ) (error : Error) → p.core.calls.closing ≡ None → Follows p es
+    → receive.IsReadError error → error ≢ errors.Memory
+    → q.names ≡ p.names → Left q.core (events.Shut error ∷ (trail es).events)
+    → Follows q (entry lane words.Read (answers.Closed error) ∷ es)
+follows_shut p q es lane error e f r n names left =
+    let c : events.closing (trail es).events ≡ None = closing_of p es None f e in
+    let same : q.core.read ≡ p.core.read = left.read ∙ sym f.left.read in
+    follows_more q es (entry lane words.Read (answers.Closed error)) (events.Shut error ∷ (trail es).events) (at_shut es lane error c) left
+    (names ∙ f.names ∙ sym (append-nil (trail es).names)) f.legal
+    (rw c (is_read_error error r n))
+    (rw same f.within)
+    (left.done ∙ sym f.left.done ∙ f.written ∙ ap length (f.left.outbox ∙ sym left.outbox))
+
+-- ---- the source
+
+told_error : (error : Error) (found : Result Seen Error) → error ≢ errors.Memory → Tells {A = Seen} (λ m. m) (Err error) found → found ≡ Err error
+told_error (errors.InputOutput kind) found n t = t
+told_error (errors.Variant kind) found n t = t
+told_error (errors.Names kind) found n t = t
+told_error errors.IncorrectEndian found n t = t
+told_error errors.ExcessData found n t = t
+told_error errors.SerialsSpent found n t = t
+told_error errors.UnknownHandle found n t = t
+told_error errors.Memory found n t = absurd (n refl)
+
+-- what a read of a closed peer leaves
+pub reads_closed : (start now : Inlet) (es : List Entry) (lane : ℕ) (error : Error) → events.closing (trail es).events ≡ Some error
+    → Reads start now es → Reads start now (entry lane words.Read (answers.Closed error) ∷ es)
+reads_closed start now es lane error c r = record {
+  told = told_closed start.left start.stop c r.told;
+  rest = rest_closed start.left c r.rest;
+  cause = λ f. r.cause (earlier_fault c f);
+  kept = r.kept;
+}
+  where
+    told_closed : (left : Option (List ℕ)) (stop : Option Bool) → events.closing (trail es).events ≡ Some error
+        → IfSome left (λ bytes. ReadsTold stop bytes es)
+        → IfSome left (λ bytes. ReadsTold stop bytes (entry lane words.Read (answers.Closed error) ∷ es))
+    told_closed None stop e t = tt
+    told_closed (Some bytes) stop e t = (rw e tt, t)
+
+    rest_closed : (left : Option (List ℕ)) → events.closing (trail es).events ≡ Some error
+        → IfSome left (λ bytes. IsRest (events.closing (trail es).events) (left_after bytes (trail es).events) start.stop now.left now.stop)
+        → IfSome left (λ bytes. IsRest (events.closing (trail (entry lane words.Read (answers.Closed error) ∷ es)).events) (left_after bytes (trail (entry lane words.Read (answers.Closed error) ∷ es)).events) start.stop now.left now.stop)
+    rest_closed None e t = tt
+    rest_closed (Some bytes) e t = rw (at_closed es lane (answers.Closed error) error e, e) tt
+
+    earlier_fault : events.closing (trail es).events ≡ Some error → HasReadFault (entry lane words.Read (answers.Closed error) ∷ es) → HasReadFault es
+    earlier_fault e (inl f) = fault_was_read es (e ∙ cc)
+    earlier_fault e (inr f) = f
+
+same_ending : (stop : Bool) → receive.ending_of stop ≡ ending_of stop
+same_ending true = refl
+same_ending false = refl
+
+-- what was received is the outcome of the bytes that were left
+got_outcome : (stop : Option Bool) (count : ℕ) (bytes : List ℕ) (m : Seen) → receive.Receives stop count bytes (Ok m) → IsOutcome stop count bytes (answers.Got m)
+got_outcome (Some stop) count bytes m t = sym (ap (λ k. answer_of (outcome count bytes k)) (sym (same_ending stop)) ∙ ap answer_of t)
+got_outcome None count bytes m (inl t) = inl (sym (ap answer_of t))
+got_outcome None count bytes m (inr t) = cc
+
+shut_outcome : (stop : Option Bool) (count : ℕ) (bytes : List ℕ) (error : Error) → error ≢ errors.Memory → receive.Receives stop count bytes (Err error)
+    → IsOutcome stop count bytes (answers.Closed error)
+shut_outcome (Some stop) count bytes error n t =
+    sym (ap (λ k. answer_of (outcome count bytes k)) (sym (same_ending stop)) ∙ ap answer_of (told_error error (outcome count bytes (receive.ending_of stop)) n t))
+shut_outcome None count bytes error n (inl t) = inl (sym (ap answer_of (told_error error (outcome count bytes kinds.Ended) n t)))
+shut_outcome None count bytes error n (inr t) = inr (let e : error ≡ errors.InputOutput kinds.Fault = cc in ap answers.Closed e)
+
+consumed_left : (rest : List ℕ) (left : Option (List ℕ)) (taken : List ℕ) → Consumes (Some rest) left taken → (ys : List ℕ) × (left ≡ Some ys) × (rest ≡ taken ++ ys)
+consumed_left rest None taken c = absurd c
+consumed_left rest (Some ys) taken c = (ys, refl, c)
+
+got_told : (start_left : Option (List ℕ)) (start_stop : Option Bool) (now : Inlet) (count : ℕ) (es : List Entry) (lane : ℕ) (m : Seen)
+    → events.closing (trail es).events ≡ None → length (events.read (trail es).events) ≡ count
+    → IfSome now.left (λ bytes. receive.Receives now.stop count bytes (Ok m))
+    → IfSome start_left (λ bytes. IsRest (events.closing (trail es).events) (left_after bytes (trail es).events) start_stop now.left now.stop)
+    → IfSome start_left (λ bytes. ReadsTold start_stop bytes es)
+    → IfSome start_left (λ bytes. ReadsTold start_stop bytes (entry lane words.Read (answers.Got m) ∷ es))
+got_told None start_stop now count es lane m c n received rest told = tt
+got_told (Some bytes) start_stop now count es lane m c n received rest told =
+    let open_rest : (now.left ≡ Some (left_after bytes (trail es).events)) × (now.stop ≡ start_stop) = rw c at rest in
+    let here : receive.Receives start_stop count (left_after bytes (trail es).events) (Ok m) = rw (open_rest.0, open_rest.1) at received in
+    (rw (c, n) (got_outcome start_stop count (left_after bytes (trail es).events) m here), told)
+
+got_rest : (start_left : Option (List ℕ)) (start_stop : Option Bool) (now after : Inlet) (es : List Entry) (lane : ℕ) (m : Seen)
+    → events.closing (trail es).events ≡ None → Consumes now.left after.left m.bytes → after.stop ≡ now.stop
+    → IfSome start_left (λ bytes. IsRest (events.closing (trail es).events) (left_after bytes (trail es).events) start_stop now.left now.stop)
+    → IfSome start_left (λ bytes. IsRest (events.closing (trail (entry lane words.Read (answers.Got m) ∷ es)).events)
+    (left_after bytes (trail (entry lane words.Read (answers.Got m) ∷ es)).events) start_stop after.left after.stop)
+got_rest None start_stop now after es lane m c consumed stops rest = tt
+got_rest (Some bytes) start_stop now after es lane m c consumed stops rest =
+    let open_rest : (now.left ≡ Some (left_after bytes (trail es).events)) × (now.stop ≡ start_stop) = rw c at rest in
+    let taken : Consumes (Some (left_after bytes (trail es).events)) after.left m.bytes = rw (open_rest.0) at consumed in
+    let left = consumed_left (left_after bytes (trail es).events) after.left m.bytes taken in
+    let next : left_after bytes (events.Took m ∷ (trail es).events) ≡ left.0 = left_after-took bytes left.0 (trail es).events m left.2 in
+    rw (at_got es lane m c, c) (left.1 ∙ ap Some (sym next), stops ∙ open_rest.1)
+
+-- what a message leaves of the source's bytes
+pub reads_got : (start now after : Inlet) (p : PeerView) (es : List Entry) (lane : ℕ) (m : Seen) → Follows p es → p.core.calls.closing ≡ None
+    → IfSome now.left (λ bytes. receive.Receives now.stop p.core.read bytes (Ok m))
+    → Consumes now.left after.left m.bytes → after.stop ≡ now.stop → now.faults ≤ after.faults
+    → Reads start now es → Reads start after (entry lane words.Read (answers.Got m) ∷ es)
+reads_got start now after p es lane m f e received consumed stops grows r =
+    let c : events.closing (trail es).events ≡ None = closing_of p es None f e in
+    record {
+      told = got_told start.left start.stop now p.core.read es lane m c (sym f.left.read) received r.rest r.told;
+      rest = got_rest start.left start.stop now after es lane m c consumed stops r.rest;
+      cause = λ has. rise_before start.faults now.faults after.faults (r.cause (not_got has)) grows;
+      kept = omega (arith, r.kept, grows);
+    }
+  where
+    not_got : HasReadFault (entry lane words.Read (answers.Got m) ∷ es) → HasReadFault es
+    not_got (inl h) = cc
+    not_got (inr h) = h
+
+shut_told : (start_left : Option (List ℕ)) (start_stop : Option Bool) (now : Inlet) (count : ℕ) (es : List Entry) (lane : ℕ) (error : Error)
+    → events.closing (trail es).events ≡ None → length (events.read (trail es).events) ≡ count → error ≢ errors.Memory
+    → IfSome now.left (λ bytes. receive.Receives now.stop count bytes (Err error))
+    → IfSome start_left (λ bytes. IsRest (events.closing (trail es).events) (left_after bytes (trail es).events) start_stop now.left now.stop)
+    → IfSome start_left (λ bytes. ReadsTold start_stop bytes es)
+    → IfSome start_left (λ bytes. ReadsTold start_stop bytes (entry lane words.Read (answers.Closed error) ∷ es))
+shut_told None start_stop now count es lane error c n not received rest told = tt
+shut_told (Some bytes) start_stop now count es lane error c n not received rest told =
+    let open_rest : (now.left ≡ Some (left_after bytes (trail es).events)) × (now.stop ≡ start_stop) = rw c at rest in
+    let here : receive.Receives start_stop count (left_after bytes (trail es).events) (Err error) = rw (open_rest.0, open_rest.1) at received in
+    (rw (c, n) (shut_outcome start_stop count (left_after bytes (trail es).events) error not here), told)
+
+shut_rest : (start_left : Option (List ℕ)) (start_stop : Option Bool) (after : Inlet) (es : List Entry) (lane : ℕ) (error : Error)
+    → events.closing (trail es).events ≡ None
+    → IfSome start_left (λ bytes. IsRest (events.closing (trail (entry lane words.Read (answers.Closed error) ∷ es)).events)
+    (left_after bytes (trail (entry lane words.Read (answers.Closed error) ∷ es)).events) start_stop after.left after.stop)
+shut_rest None start_stop after es lane error c = tt
+shut_rest (Some bytes) start_stop after es lane error c = rw (at_shut es lane error c, c) tt
+
+-- what an error leaves of the source
+pub reads_shut : (start now after : Inlet) (p : PeerView) (es : List Entry) (lane : ℕ) (error : Error) → Follows p es → p.core.calls.closing ≡ None
+    → error ≢ errors.Memory → IfSome now.left (λ bytes. receive.Receives now.stop p.core.read bytes (Err error))
+    → receive.HasCause error now.faults after.faults → now.faults ≤ after.faults
+    → Reads start now es → Reads start after (entry lane words.Read (answers.Closed error) ∷ es)
+reads_shut start now after p es lane error f e not received cause grows r =
+    let c : events.closing (trail es).events ≡ None = closing_of p es None f e in
+    record {
+      told = shut_told start.left start.stop now p.core.read es lane error c (sym f.left.read) not received r.rest r.told;
+      rest = shut_rest start.left start.stop after es lane error c;
+      cause = shut_cause;
+      kept = omega (arith, r.kept, grows);
+    }
+  where
+    shut_cause : HasReadFault (entry lane words.Read (answers.Closed error) ∷ es) → MayRise start.faults after.faults
+    shut_cause (inl h) =
+        let is_fault : error ≡ errors.InputOutput kinds.Fault = cc in
+        rise_after start.faults now.faults after.faults r.kept (rw is_fault at cause)
+    shut_cause (inr h) = rise_before start.faults now.faults after.faults (r.cause h) grows

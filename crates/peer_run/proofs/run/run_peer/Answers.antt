@@ -1,0 +1,19 @@
+use Rattle.std.proofs.Common.{◌≡◌, List, [], ◌∷◌, ◌++◌, map, reverse, take, refl, sym, ◌∙◌, ap, subst, arith}
+use Rattle.std.proofs.lemmas.List.{take_more, reverse-append, map_push}
+use Rattle.peer_run.specs.Runs.{Stands, command_of}
+use Rattle.peer_run.proofs.run.run_peer.Goals as goal
+
+pub loop-command-preserved : goal.loop-command-preserved
+loop-command-preserved g c =
+    let inv = c.loop-command.invariant in
+    let item = c.in_ok-entry.ensures.command ∙ c.command-item.is in
+    record {
+      stands = rw (c.in_ok-push.ensures.items, reverse-append c.loop-command.entries.items (c.in_ok-entry.entry ∷ []))
+          (c.in_ok-entry.ensures.stands _ _ _ inv.stands);
+      commands = ap (map command_of) (c.in_ok-push.ensures.items) ∙ map_push command_of c.loop-command.entries.items c.in_ok-entry.entry
+          ∙ ap (λ xs. xs ++ command_of c.in_ok-entry.entry ∷ []) inv.commands
+          ∙ ap (λ x. take c.loop-command.command-index c.args.commands.now ++ x ∷ []) item
+          ∙ sym (take_more c.args.commands.now c.loop-command.command-index c.command-item.result c.loop-command-test.true);
+      source = omega (arith, inv.source, c.in_ok-entry.ensures.source_grows);
+      sink = omega (arith, inv.sink, c.in_ok-entry.ensures.sink_grows);
+    }

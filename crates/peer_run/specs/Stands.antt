@@ -1,0 +1,128 @@
+-- How a peer, a source and a sink stand to a history, newest first: what a run keeps from command to command.
+use Rattle.std.specs.Prelude.{ℕ, ⊤, ◌≡◌, ◌+◌, ◌-◌, ◌^◌, ◌<◌, ◌≤◌, ◌⊎◌, Bool, true, false, List, [], ◌∷◌, ◌++◌, length, map, Option, Some, None, IfSome, Result, Ok, Err}
+use Rattle.wire_message.specs.Front.{Seen}
+use Rattle.wire_message.specs.declared.error.Error.{Error}
+use Rattle.wire_message.specs.declared.error.Error.TheVariants as errors
+use Rattle.wire_message.specs.declared.error.IoKind.TheVariants as kinds
+use Rattle.wire_framing.specs.Source.{MayRise}
+use Rattle.std.specs.Io.KnownBytes.{Appends}
+use Rattle.wire_framing.specs.Sink.{RoomFalls, RoomBreaks}
+use Rattle.wire_framing.specs.Send.{Part}
+use Rattle.peer_route.specs.declared.words.Words.{Words}
+use Rattle.peer_route.specs.declared.answer.Answer.{Answer}
+use Rattle.peer_route.specs.declared.answer.Answer.TheVariants as answers
+use Rattle.peer_route.specs.declared.answer.Entry.{Entry}
+use Rattle.peer_route.specs.History.{Event, Wrote, Fault, put, is_failed}
+use Rattle.peer_route.specs.History as events
+use Rattle.peer_route.specs.Trail.{Trail, Names, trail, count}
+use Rattle.peer_route.specs.Answers.{Legal}
+use Rattle.peer_route.specs.Left.{View, Left}
+use Rattle.peer_route.specs.Told.{ReadsTold, IsSentOf, WritesTold, encodings, left_after}
+
+-- what a source tells of itself
+pub record Inlet : Type 0 where
+  pub left : Option (List ℕ)
+  pub stop : Option Bool
+  pub faults : ℕ
+
+-- what a sink tells of itself
+pub record Outlet : Type 0 where
+  pub held : Option (List ℕ)
+  pub room : Option (Option ℕ)
+  pub faults : ℕ
+
+-- an entry as a record
+abbrev pub entry : ℕ → Words → Answer → Entry
+entry lane w answer = record { lane = lane; words = w; answer = answer }
+
+-- what contracts see of a peer: its core, and whose its calls are
+pub record PeerView : Type 0 where
+  pub core : View
+  pub names : Names
+
+-- The peer is what the history leaves, and the history is legal.
+pub record Follows (p : PeerView) (es : List Entry) : Type 0 where
+  pub left : Left p.core (trail es).events
+  pub names : p.names ≡ (trail es).names
+  pub legal : Legal es
+  pub within : p.core.read ≤ 2 ^ 64 - 2
+  pub written : p.core.done ≡ length p.core.outbox
+
+-- ---- the source
+
+-- a read that the source's failing call ended
+abbrev pub IsReadFault : Answer → Type 0
+IsReadFault answer = answer ≡ answers.Closed (errors.InputOutput kinds.Fault)
+
+-- some entry is such a read, or gives its error again
+abbrev pub HasReadFault : List Entry → Type 0
+HasReadFault [] = ⊥
+HasReadFault (e ∷ es) = IsReadFault e.answer ⊎ HasReadFault es
+
+-- an open peer's source has the bytes that the reads left
+abbrev pub IsRest : Option Error → List ℕ → Option Bool → Option (List ℕ) → Option Bool → Type 0
+IsRest (Some error) rest before left stop = ⊤
+IsRest None rest before left stop = (left ≡ Some rest) × (stop ≡ before)
+
+-- What the source told at the start, and tells now, is what the history's reads say.
+pub record Reads (start now : Inlet) (es : List Entry) : Type 0 where
+  pub told : IfSome start.left (λ bytes. ReadsTold start.stop bytes es)
+  pub rest : IfSome start.left (λ bytes. IsRest (events.closing (trail es).events) (left_after bytes (trail es).events) start.stop now.left now.stop)
+  pub cause : HasReadFault es → MayRise start.faults now.faults
+  pub kept : start.faults ≤ now.faults
+
+-- ---- the sink
+
+-- a send that the sink's failing call ended
+abbrev pub IsWriteFault : Answer → Type 0
+IsWriteFault answer = answer ≡ answers.SendFailed (errors.InputOutput kinds.WriteFault)
+
+abbrev pub HasWriteFault : List Entry → Type 0
+HasWriteFault [] = ⊥
+HasWriteFault (e ∷ es) = IsWriteFault e.answer ⊎ HasWriteFault es
+
+-- what the sink holds behind what it held at the start
+pub record Holds (room : Option (Option ℕ)) (before after : List ℕ) (h : List Event) : Type 0 where
+  pub sent : List ℕ
+  pub appended : after ≡ before ++ sent
+  pub bytes : IsSentOf h sent
+  pub told : WritesTold room (is_failed h) (put h) sent
+
+abbrev pub HoldsThen : Option (Option ℕ) → List ℕ → Option (List ℕ) → List Event → Type 0
+HoldsThen room before None h = ⊥
+HoldsThen room before (Some after) h = Holds room before after h
+
+abbrev pub RoomFor : Bool → Option (Option ℕ) → Option (Option ℕ) → List Seen → Type 0
+RoomFor true room now ms = ⊤
+RoomFor false room now ms = RoomFalls room now (length (encodings ms))
+
+-- What the sink held at the start, and holds now, is what the history put.
+pub record Writes (start now : Outlet) (es : List Entry) : Type 0 where
+  pub holds : IfSome start.held (λ before. HoldsThen start.room before now.held (trail es).events)
+  pub room : RoomFor (is_failed (trail es).events) start.room now.room (put (trail es).events)
+  pub cause : HasWriteFault es → MayRise start.faults now.faults
+  pub kept : start.faults ≤ now.faults
+  -- the count rose only by a write that failed
+  pub only : is_failed (trail es).events ≡ false → now.faults ≡ start.faults
+
+-- The message was written, and is the lane's next call; or its write failed, and it is nobody's call.
+abbrev pub Sent : PeerView → PeerView → ℕ → ℕ → Seen → Outlet → Outlet → Answer → Type 0
+Sent old new lane serial m now after (answers.Called call number) =
+    (call ≡ count lane old.names) × (number ≡ serial) × (new.names ≡ old.names ++ Some lane ∷ [])
+    × ((h : List Event) → Left old.core h → Left new.core (Wrote ∷ h))
+    × Appends now.held after.held m.bytes × RoomFalls now.room after.room (length m.bytes) × (after.faults ≡ now.faults)
+Sent old new lane serial m now after (answers.SendFailed error) =
+    (error ≡ errors.InputOutput kinds.WriteFault) × (new.names ≡ old.names ++ None ∷ [])
+    × ((h : List Event) → Left old.core h → Left new.core (Fault ∷ h))
+    × (n : ℕ) × Part m.bytes now.held after.held n × RoomBreaks now.room after.room n × MayRise now.faults after.faults
+Sent old new lane serial m now after answer = ⊥
+
+-- a call that wasn't issued: its refusal, or an earlier failed write; not want of memory
+abbrev pub unsent_answer : Error → Option Answer
+unsent_answer (errors.InputOutput kind) = Some (answers.SendFailed (errors.InputOutput kind))
+unsent_answer errors.Memory = None
+unsent_answer error = Some (answers.Refused error)
+
+abbrev pub NotIssued : {E : Type 0} → Error → Result Answer E → Type 0
+NotIssued error (Ok answer) = unsent_answer error ≡ Some answer
+NotIssued error (Err e) = unsent_answer error ≡ None

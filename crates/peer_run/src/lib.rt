@@ -1,0 +1,17 @@
+//! A script's commands, run over a source and a sink; and the program around it.
+#![tactic(auto)]
+
+mod laws;
+mod main_call;
+mod peer;
+mod run;
+
+pub use laws::cut_anyhow;
+pub use main_call::peer_main;
+pub use peer::RunError;
+pub use peer_route::{Answer, Command, Entry, Words};
+pub use peer_script::{ScriptError, Setup, Transcript, Word, read_script, write_transcript};
+pub use run::run_peer;
+pub use wire_framing::{
+    Failed, MemorySink, MemorySource, Piece, Refusal, Sink, Source, StdSink, StdSource,
+};

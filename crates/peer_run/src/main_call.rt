@@ -1,0 +1,128 @@
+ghost use Rattle.std.specs.Prelude.{ℕ, ◌≡◌, ◌≤◌, ◌<◌, ◌⊎◌, List, map, length, string_bytes, IfSome, is_some, false};
+ghost use Rattle.std.specs.Io.KnownBytes.{Appends};
+ghost use Rattle.wire_framing.specs.Source.{MayRise};
+ghost use Rattle.peer_script.specs.Reading.{given};
+ghost use Rattle.wire_framing.specs.Memory.{told_stop};
+ghost use Rattle.peer_run.specs.Program.{IsRun, is_run, usage, input_fault, limit_text, line_text, Prints, Refuses, IsDecided, Says, Shows, Ends};
+
+use crate::peer::RunError;
+use crate::run::run_peer;
+use peer_route::Command;
+use peer_script::{ScriptError, Setup, Word, read_script, write_all, write_transcript};
+use std::alloc::Global;
+use wire_framing::{MemorySink, MemorySource, Refusal, Sink, Source};
+
+/// Done: the transcript was printed.
+const DONE: u8 = 0;
+/// Want of memory.
+const MEMORY: u8 = 1;
+/// The words are none of the program's.
+const USAGE: u8 = 2;
+/// The input passes its limit or is no script.
+const SCRIPT: u8 = 3;
+/// The input failed.
+const INPUT: u8 = 4;
+/// The output failed.
+const OUTPUT: u8 = 5;
+
+/// Writes a text and gives the status; where that fails, the status of that.
+fn say<O: Sink>(output: &mut O, text: &[u8], status: u8) -> u8
+    ensures { Says status text.now (O.held output.old) (O.held output.new) (O.faults output.old) (O.faults output.new) result }
+{
+    match write_all(output, text) {
+        Ok(()) => status,
+        Err(Refusal::Failed) => OUTPUT,
+        Err(Refusal::Memory) => MEMORY,
+    }
+}
+
+/// The word that the program's words name.
+fn word_of(words: &[String]) -> Option<Word>
+    ensures { is_some result ≡ is_run (map (λ word. string_bytes word) words.now) }
+{
+    match words {
+        [] => Some(Word::Run),
+        [word] if word.as_str() == "run" => Some(Word::Run),
+        _ => None,
+    }
+}
+
+/// Runs the commands over the setup's pieces, and prints the transcript.
+fn run_commands<O: Sink>(alloc: Global, setup: &Setup, commands: &[Command], output: &mut O) -> u8
+    requires { told_stop setup.now.pieces.items ≡ false }
+    ensures { Shows (record { pieces = given setup.now.pieces.items; commands = commands.now }) (O.held output.old) (O.held output.new) (O.faults output.old) (O.faults output.new) result }
+{
+    let mut source = MemorySource::new(&setup.pieces);
+    let mut sink = MemorySink::new(alloc, false);
+    match run_peer(alloc, setup, &mut source, &mut sink, commands) {
+        Ok(transcript) => match write_transcript(alloc, setup, &transcript, sink.bytes(), output) {
+            Ok(()) => DONE,
+            Err(Refusal::Failed) => OUTPUT,
+            Err(Refusal::Memory) => say(output, b"memory\n", MEMORY),
+        },
+        Err(RunError::Memory) => say(output, b"memory\n", MEMORY),
+    }
+}
+
+/// Says which line is the first outside.
+fn say_line<O: Sink>(alloc: Global, output: &mut O, line: u64) -> u8
+    ensures { Says 3 (line_text line) (O.held output.old) (O.held output.new) (O.faults output.old) (O.faults output.new) result }
+{
+    match format!(in alloc; "script: line {line}\n") {
+        Ok(text) => say(output, text.as_bytes(), SCRIPT),
+        Err(_) => say(output, b"memory\n", MEMORY),
+    }
+}
+
+/// Reads a script to its end and runs it.
+fn run_script<I: Source, O: Sink>(alloc: Global, input: &mut I, output: &mut O) -> u8
+    ensures { Ends (I.left input.old) (O.held output.old) (O.held output.new) (I.faults input.old) (I.faults input.new) (O.faults output.old) (O.faults output.new) result }
+{
+    match read_script(alloc, Word::Run, input) {
+        Ok((setup, commands)) => run_commands(alloc, &setup, commands.as_slice(), output),
+        Err(ScriptError::Memory) => say(output, b"memory\n", MEMORY),
+        Err(ScriptError::InputFault) => say(output, b"input fault\n", INPUT),
+        Err(ScriptError::Limit) => say(output, b"script: limit\n", SCRIPT),
+        Err(ScriptError::Line(line)) => say_line(alloc, output, line),
+    }
+}
+
+/// The program: `run`, or no words, reads a script from the input to its end, runs it over a source and a sink in memory
+/// that are made from its header lines, and prints the transcript. Its status: 0 done; 1 want of memory; 2 the words are
+/// none of the program's; 3 the input passes 1,073,741,824 bytes or is no script text; 4 the input failed; 5 the output
+/// failed. All that is printed goes to the output, each line ended by 0x0a.
+pub fn peer_main<R, I: Source, O: Sink>(
+    _rt: &R,
+    alloc: Global,
+    words: &[String],
+    input: &mut I,
+    output: &mut O,
+) -> u8
+    // 0: the transcript of a legal history of the script, and nothing else, was printed
+    ensures done { result ≡ 0 → IsRun (map (λ word. string_bytes word) words.now)
+        × IfSome (I.left input.old) (λ bytes. Prints bytes (O.held output.old) (O.held output.new)) }
+    // 2: exactly where the words are no row of the program's table, memory and the output's faults aside
+    ensures usage { result ≡ 2 → (¬ IsRun (map (λ word. string_bytes word) words.now)) × Appends (O.held output.old) (O.held output.new) usage }
+    ensures no_row { ¬ IsRun (map (λ word. string_bytes word) words.now) → (result ≡ 2) ⊎ (result ≡ 1) ⊎ (result ≡ 5) }
+    // 3: exactly where the input passes the limit or is no script text, and the printed line says where
+    ensures refused { result ≡ 3 → IsRun (map (λ word. string_bytes word) words.now)
+        × IfSome (I.left input.old) (λ bytes. Refuses bytes (O.held output.old) (O.held output.new)) }
+    // 4, 5: only where the count of the input's, the output's faults rose; 5 exactly there, in place of any other
+    ensures input_fault { result ≡ 4 → IsRun (map (λ word. string_bytes word) words.now)
+        × MayRise (I.faults input.old) (I.faults input.new) × Appends (O.held output.old) (O.held output.new) input_fault }
+    ensures output_fault { result ≡ 5 → MayRise (O.faults output.old) (O.faults output.new) }
+    ensures output_first { O.faults output.old < O.faults output.new → result ≡ 5 }
+    ensures statuses { result ≤ 5 }
+    // a script text gives 0, another input 3, where no count rose and there is memory
+    ensures script { IsRun (map (λ word. string_bytes word) words.now) → ¬ MayRise (I.faults input.old) (I.faults input.new)
+        → ¬ MayRise (O.faults output.old) (O.faults output.new) → IfSome (I.left input.old) (λ bytes. IsDecided bytes result) }
+{
+    match word_of(words) {
+        Some(Word::Run) => run_script(alloc, input, output),
+        None => say(
+            output,
+            b"usage: run, live, talk ADDR, serve ADDR, gen N\n",
+            USAGE,
+        ),
+    }
+}

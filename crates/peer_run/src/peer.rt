@@ -1,0 +1,239 @@
+ghost use Rattle.std.specs.Prelude.{ℕ, ◌≡◌, ◌+◌, ◌≤◌, ◌<◌, ◌-◌, ◌^◌, slice_get, false, List, [], ◌∷◌, length, IfOk, Some, None};
+ghost use Rattle.peer_route.specs.declared.answer.Entry.{Entry};
+ghost use Rattle.peer_route.specs.declared.words.Words.TheVariants as words;
+ghost use Rattle.peer_route.specs.Trail as trails;
+ghost use Rattle.peer_route.specs.Answers as shows;
+ghost use Rattle.peer_run.specs.Stands.{PeerView, Inlet, Outlet, Follows, Reads, Writes, Sent, NotIssued, entry};
+ghost use Rattle.wire_message.specs.Front.{Seen};
+
+use peer_route::{Answer, Issued, Polled, Route};
+use std::alloc::{AllocError, AllocFailed, Global};
+use std::marker::Model;
+use wire_framing::{Sink, Source, receive_message, send_message};
+use wire_message::{Error, Message, MessageType};
+use wire_names::{Bytes, MemberName, ObjectPath};
+
+/// Why a run ended early.
+#[derive(Clone, Copy, PartialEq, Eq, Debug)]
+pub enum RunError {
+    /// There is no memory.
+    Memory,
+}
+
+impl From<AllocError> for RunError {
+    fn from(_e: AllocError) -> RunError {
+        RunError::Memory
+    }
+}
+
+impl<T: Drop> From<AllocFailed<T>> for RunError {
+    fn from(_e: AllocFailed<T>) -> RunError {
+        RunError::Memory
+    }
+}
+
+#[allow(dead_code)]
+/// A peer's core, and whose its calls are: for each call, by its number, its lane; none where its message failed.
+#[derive(Drop)]
+pub(crate) struct Peer {
+    route: Route,
+    names: Vec<Option<u32>>,
+}
+
+impl Model for Peer {
+    ghost use Rattle.peer_route.specs.Answers as shows;
+    ghost use Rattle.peer_run.specs.Stands.{PeerView};
+
+    ghost Value = { PeerView };
+
+    ghost view = { λ p. record { core = p.route; names = p.names.items } };
+}
+
+/// How many calls belong to the lane.
+#[tactic(auto, using(crate::proofs::Lanes::counting))]
+fn count(names: &[Option<u32>], lane: u32) -> u64
+    ensures { result ≡ trails.count lane names.now }
+{
+    let mut number = 0;
+    for name in names {
+        if *name == Some(lane) {
+            number += 1;
+        }
+    }
+    number
+}
+
+/// The call that the lane's number names, by its number among all.
+#[tactic(auto, using(crate::proofs::Lanes::placing))]
+fn place(names: &[Option<u32>], lane: u32, number: u64) -> Option<u64>
+    ensures { result ≡ trails.place 0 lane number names.now }
+{
+    let mut at = 0;
+    let mut left = number;
+    while at < names.len() {
+        if names[at] == Some(lane) {
+            if left == 0 {
+                return Some(at as u64);
+            }
+            left -= 1;
+        }
+        at += 1;
+    }
+    None
+}
+
+/// What is shown of a poll.
+fn shown(polled: wire_message::Result<Polled<Message>>) -> Answer
+    ensures { result ≡ shows.shown polled }
+{
+    match polled {
+        Ok(Polled::Now(message)) => match message.message_type() {
+            MessageType::MethodReturn => Answer::Reply(message.recv_position()),
+            MessageType::MethodCall | MessageType::Error | MessageType::Signal => {
+                Answer::InvalidReply(message.recv_position())
+            }
+        },
+        Ok(Polled::NotYet) => Answer::NotYet,
+        Ok(Polled::Closed(error)) => Answer::Closed(error),
+        Err(error) => Answer::Refused(error),
+    }
+}
+
+/// What is answered where a call wasn't issued.
+fn not_issued(error: Error) -> Result<Answer, RunError>
+    ensures { NotIssued error result }
+{
+    match error {
+        Error::Memory => Err(RunError::Memory),
+        Error::InputOutput(_) => Ok(Answer::SendFailed(error)),
+        _ => Ok(Answer::Refused(error)),
+    }
+}
+
+impl Peer {
+    /// A peer that nothing happened to.
+    pub(crate) fn new(alloc: Global) -> Peer
+        ensures { Follows result [] }
+    {
+        Peer {
+            route: Route::new(alloc),
+            names: Vec::new(alloc),
+        }
+    }
+
+    /// Takes the next message from the source; where the peer is closed, its first closing error again.
+    pub(crate) fn read<S: Source>(
+        &mut self,
+        alloc: Global,
+        source: &mut S,
+    ) -> Result<Answer, RunError>
+        requires { self.old.core.read ≤ 2 ^ 64 - 2 }
+        ensures follows { IfOk result (λ answer. (es : List Entry) (lane : ℕ) → Follows self.old es
+            → Follows self.new (entry lane words.Read answer ∷ es)) }
+        ensures reads { IfOk result (λ answer. (start : Inlet) (es : List Entry) (lane : ℕ) → Follows self.old es
+            → Reads start (record { left = S.left source.old; stop = S.stop source.old; faults = S.faults source.old }) es
+            → Reads start (record { left = S.left source.new; stop = S.stop source.new; faults = S.faults source.new }) (entry lane words.Read answer ∷ es)) }
+        ensures writes { IfOk result (λ answer. (start now : Outlet) (es : List Entry) (lane : ℕ) → Follows self.old es
+            → Writes start now es → Writes start now (entry lane words.Read answer ∷ es)) }
+        ensures grows { S.faults source.old ≤ S.faults source.new }
+    {
+        if let Some(error) = self.route.closing() {
+            return Ok(Answer::Closed(error));
+        }
+        match receive_message(alloc, source, self.route.received() + 1) {
+            Ok(message) => {
+                let copy = message.try_clone()?;
+                self.route.arrive(message);
+                Ok(Answer::Got(copy))
+            }
+            Err(error) => match error {
+                Error::Memory => Err(RunError::Memory),
+                _ => {
+                    self.route.close(error);
+                    Ok(Answer::Closed(error))
+                }
+            },
+        }
+    }
+
+    /// The answer of the lane's call with this number.
+    pub(crate) fn poll(&mut self, lane: u32, number: u64) -> Answer
+        ensures follows { (es : List Entry) → Follows self.old es → Follows self.new (entry lane (words.Poll number) result ∷ es) }
+        ensures reads { (start now : Inlet) (es : List Entry) → Follows self.old es
+            → Reads start now es → Reads start now (entry lane (words.Poll number) result ∷ es) }
+        ensures writes { (start now : Outlet) (es : List Entry) → Follows self.old es
+            → Writes start now es → Writes start now (entry lane (words.Poll number) result ∷ es) }
+    {
+        match place(&self.names, lane, number) {
+            Some(call) => shown(self.route.poll(call)),
+            None => Answer::Refused(Error::UnknownHandle),
+        }
+    }
+
+    /// Writes the message that was issued, which stands at that place of the outbox.
+    fn send<W: Sink>(&mut self, sink: &mut W, lane: u32, issued: Issued) -> Result<Answer, RunError>
+        requires there { issued.index < length self.old.core.outbox }
+        requires due { issued.index ≡ self.old.core.done }
+        requires fine { self.old.core.failed ≡ false }
+        ensures sent { IfOk result (λ answer. (m : Seen) → slice_get self.old.core.outbox issued.index ≡ Some m
+            → Sent self.old self.new lane issued.serial m (record { held = W.held sink.old; room = W.room sink.old; faults = W.faults sink.old })
+            (record { held = W.held sink.new; room = W.room sink.new; faults = W.faults sink.new }) answer) }
+        ensures grows { W.faults sink.old ≤ W.faults sink.new }
+    {
+        self.names.reserve(1)?;
+        let Some(message) = self.route.outbox(issued.index) else {
+            unreachable!()
+        };
+        match send_message(sink, message) {
+            Ok(()) => {
+                self.route.wrote(issued.index);
+                let call = count(&self.names, lane);
+                self.names.push(Some(lane))?;
+                Ok(Answer::Called {
+                    call,
+                    serial: issued.serial,
+                })
+            }
+            Err(error) => match error {
+                Error::Memory => Err(RunError::Memory),
+                _ => {
+                    self.route.write_fault(issued.index);
+                    self.names.push(None)?;
+                    Ok(Answer::SendFailed(error))
+                }
+            },
+        }
+    }
+
+    /// Sends a method call.
+    pub(crate) fn call<W: Sink>(
+        &mut self,
+        sink: &mut W,
+        lane: u32,
+        path: &Bytes,
+        member: &Bytes,
+    ) -> Result<Answer, RunError>
+        requires { self.old.core.done ≡ length self.old.core.outbox }
+        ensures follows { IfOk result (λ answer. (es : List Entry) → Follows self.old es
+            → Follows self.new (entry lane (words.Call path.now member.now) answer ∷ es)) }
+        ensures reads { IfOk result (λ answer. (start now : Inlet) (es : List Entry) → Follows self.old es
+            → Reads start now es → Reads start now (entry lane (words.Call path.now member.now) answer ∷ es)) }
+        ensures writes { IfOk result (λ answer. (start : Outlet) (es : List Entry) → Follows self.old es
+            → Writes start (record { held = W.held sink.old; room = W.room sink.old; faults = W.faults sink.old }) es
+            → Writes start (record { held = W.held sink.new; room = W.room sink.new; faults = W.faults sink.new }) (entry lane (words.Call path.now member.now) answer ∷ es)) }
+        ensures grows { W.faults sink.old ≤ W.faults sink.new }
+    {
+        let path = match ObjectPath::try_from_bytes(path.as_slice()) {
+            Ok(path) => path,
+            Err(error) => return Ok(Answer::Refused(Error::Names(error))),
+        };
+        let member = match MemberName::try_from_bytes(member.as_slice()) {
+            Ok(member) => member,
+            Err(error) => return Ok(Answer::Refused(Error::Names(error))),
+        };
+        match self.route.issue(&path, &member) {
+            Ok(issued) => self.send(sink, lane, issued),
+            Err(error) => not_issued(error),
+        }
+    }
+}

@@ -1,0 +1,5 @@
+//! The program's top call over scripts, and over inputs and outputs that fail or come in pieces.
+#![tactic(auto)]
+
+#[cfg(test)]
+mod tests;

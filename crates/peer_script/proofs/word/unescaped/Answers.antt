@@ -1,0 +1,8 @@
+use Rattle.peer_script.specs.Word.{unescaped}
+use Rattle.peer_script.proofs.Spelled.{taken_more}
+use Rattle.peer_script.proofs.word.unescaped.Goals as goal
+
+pub loop-rest-preserved : goal.loop-rest-preserved
+loop-rest-preserved c =
+    taken_more unescaped c.args.word.now c.loop-rest.rest.now c.in-Some.more.now c.loop-rest.bytes.items c.push.new.self.items c.in-Some.byte
+    c.loop-rest.invariant c.in-Some.ensures.0 c.in_ok-push.ensures.items

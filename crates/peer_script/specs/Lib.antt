@@ -1,0 +1,6 @@
+pub mod Word
+pub mod Script
+pub mod Transcript
+pub mod Reading
+pub mod Steps
+pub mod Output

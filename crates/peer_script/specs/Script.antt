@@ -1,0 +1,111 @@
+-- Script text: a list of lines, each ended by one byte 0x0a: `direct`, the pieces of the source, the commands, and perhaps
+-- one `sent` line, which is passed over.
+use Rattle.std.specs.Prelude.{ℕ, ◌≡◌, Bool, true, false, ◌&&◌, ◌||◌, ◌==◌, nat_le, if◌then◌else◌, List, [], ◌∷◌, ◌++◌, map, codes, Option, Some, None, is_some}
+use Rattle.std.specs.List.{slice_split}
+use Rattle.peer_route.specs.declared.words.Words.{Words}
+use Rattle.peer_route.specs.declared.words.Words.TheVariants as words
+use Rattle.peer_route.specs.declared.words.Command.{Command}
+use Rattle.peer_script.specs.declared.line.Line.{Line}
+use Rattle.peer_script.specs.declared.line.Line.TheVariants.{Direct, In, Do, Sent}
+use Rattle.peer_script.specs.Word.{same, words_of, number_of, bytes_of, text_of}
+
+-- what a script says
+pub record Script : Type 0 where
+  pub pieces : List (List ℕ)
+  pub commands : List Command
+
+-- ---- a line
+
+abbrev pub call_of : Option (List ℕ) → Option (List ℕ) → Option Words
+call_of (Some path) (Some member) = Some (words.Call path member)
+call_of path member = None
+
+abbrev pub poll_of : Option ℕ → Option Words
+poll_of (Some number) = Some (words.Poll number)
+poll_of None = None
+
+-- the word `-`, which stands for what is absent
+abbrev pub is_absent : List ℕ → Bool
+is_absent word = same word (45 ∷ [])
+
+-- the words of a command, without its lane: `read`, `poll C`, `call - P - M - -`
+unfoldable pub command_words : List (List ℕ) → Option Words
+command_words (name ∷ []) = if same name (codes "read") then Some words.Read else None
+command_words (name ∷ number ∷ []) = if same name (codes "poll") then poll_of (number_of number) else None
+command_words (name ∷ destination ∷ path ∷ interface ∷ member ∷ flags ∷ body ∷ []) =
+    if same name (codes "call") && (is_absent destination && is_absent interface && is_absent flags && is_absent body)
+    then call_of (text_of path) (text_of member) else None
+command_words others = None
+
+abbrev pub in_lane : ℕ → Option Words → Option Command
+in_lane lane (Some w) = Some (record { lane = lane; words = w })
+in_lane lane None = None
+
+abbrev pub with_lane : Option ℕ → List ℕ → List (List ℕ) → Option Command
+with_lane (Some lane) word rest = if nat_le lane 63 then in_lane lane (command_words rest) else None
+with_lane None word rest = in_lane 0 (command_words (word ∷ rest))
+
+-- a command's words, behind a lane of at most 63 where the first word is a number; else it is of lane 0
+abbrev pub lane_words : List (List ℕ) → Option Command
+lane_words [] = None
+lane_words (word ∷ rest) = with_lane (number_of word) word rest
+
+-- what stands before the first ` = `; what stands from there on is passed over
+abbrev pub before_answer : List ℕ → List ℕ
+before_answer [] = []
+before_answer (a ∷ []) = a ∷ []
+before_answer (a ∷ b ∷ []) = a ∷ b ∷ []
+before_answer (a ∷ b ∷ c ∷ rest) = if (a == 32) && (b == 61) && (c == 32) then [] else a ∷ before_answer (b ∷ c ∷ rest)
+
+abbrev pub command_line : List ℕ → Option Command
+command_line line = lane_words (words_of (before_answer line))
+
+abbrev pub in_line : Option (List ℕ) → Option Line
+in_line (Some piece) = Some (In piece)
+in_line None = None
+
+abbrev pub sent_line : List ℕ → Option Line
+sent_line word = if is_absent word || is_some (bytes_of word) then Some Sent else None
+
+abbrev pub do_line : Option Command → Option Line
+do_line (Some command) = Some (Do command)
+do_line None = None
+
+-- the header lines and the `sent` line, by their words
+unfoldable pub head_line : List (List ℕ) → Option Line
+head_line (name ∷ []) = if same name (codes "direct") then Some Direct else None
+head_line (name ∷ word ∷ []) =
+    if same name (codes "in") then in_line (bytes_of word)
+    else if same name (codes "sent") then sent_line word
+    else None
+head_line others = None
+
+abbrev pub or_line : Option Line → Option Line → Option Line
+or_line (Some line) other = Some line
+or_line None other = other
+
+-- what a line is, where it is in the table; no line is both
+unfoldable pub line_of : List ℕ → Option Line
+line_of line = or_line (head_line (words_of line)) (do_line (command_line line))
+
+-- ---- a text
+
+-- the lines of a text, each ended by 0x0a; `rest` is what stands behind the last
+abbrev pub parts : List ℕ → List (List ℕ)
+parts bytes = slice_split (λ b. b == 10) bytes
+
+abbrev pub sent_lines : Bool → List Line
+sent_lines true = Sent ∷ []
+sent_lines false = []
+
+-- the lines of a script, in their order
+abbrev pub script_lines : Script → Bool → List Line
+script_lines s sent = Direct ∷ map In s.pieces ++ map Do s.commands ++ sent_lines sent
+
+-- The bytes are the text of this script: each line is ended, and the lines are `direct`, the pieces, the commands, and
+-- perhaps one `sent`.
+pub record ScriptText (bytes : List ℕ) (s : Script) : Type 0 where
+  pub lines : List (List ℕ)
+  pub sent : Bool
+  pub ended : parts bytes ≡ lines ++ [] ∷ []
+  pub each : map line_of lines ≡ map Some (script_lines s sent)

@@ -1,0 +1,105 @@
+-- The words of a line: numbers, bytes in hexadecimal, and texts with escapes.
+use Rattle.std.specs.Prelude.{ℕ, ◌+◌, ◌-◌, ◌*◌, ◌^◌, ◌/◌, ◌%◌, Bool, false, not, ◌&&◌, ◌||◌, ◌==◌, nat_eq, nat_le, nat_lt, if◌then◌else◌, List, [], ◌∷◌, length, codes, Option, Some, None, fold}
+use Rattle.std.specs.List.{list_all, slice_split, flat_map}
+use Rattle.std.specs.Char.{is_ascii_digit}
+use Rattle.std.specs.Cmp.Lexicographic.{pointwise}
+
+-- two texts are the same
+abbrev pub same : List ℕ → List ℕ → Bool
+same xs ys = pointwise nat_eq xs ys
+
+-- the words of a line: what stands before, between and after its spaces
+abbrev pub words_of : List ℕ → List (List ℕ)
+words_of line = slice_split (λ b. b == 32) line
+
+-- ---- numbers
+
+abbrev pub digits_value : List ℕ → ℕ
+digits_value word = fold (λ sum digit. sum * 10 + (digit - 48)) 0 word
+
+abbrev pub begins_with_zero : List ℕ → Bool
+begins_with_zero [] = false
+begins_with_zero (b ∷ bs) = b == 48 && nat_le 1 (length bs)
+
+-- a number below 2^64 in decimal digits, without leading zeros
+unfoldable pub number_of : List ℕ → Option ℕ
+number_of word =
+    if nat_le 1 (length word) && list_all is_ascii_digit word && not (begins_with_zero word) && nat_lt (digits_value word) (2 ^ 64)
+    then Some (digits_value word) else None
+
+-- ---- bytes
+
+-- the value of a hexadecimal digit in lower case
+abbrev pub hex_value : ℕ → Option ℕ
+hex_value b =
+    if nat_le 48 b && nat_le b 57 then Some (b - 48)
+    else if nat_le 97 b && nat_le b 102 then Some (b - 87)
+    else None
+
+abbrev pub hex_byte : Option ℕ → Option ℕ → Option ℕ
+hex_byte (Some high) (Some low) = Some (16 * high + low)
+hex_byte high low = None
+
+abbrev pub onto : Option ℕ → Option (List ℕ) → Option (List ℕ)
+onto (Some b) (Some bs) = Some (b ∷ bs)
+onto b bs = None
+
+-- an even count of digits, two for each byte
+abbrev pub hex_pairs : List ℕ → Option (List ℕ)
+hex_pairs [] = Some []
+hex_pairs (a ∷ []) = None
+hex_pairs (a ∷ b ∷ rest) = onto (hex_byte (hex_value a) (hex_value b)) (hex_pairs rest)
+
+-- bytes as a word: at least two digits
+abbrev pub bytes_of : List ℕ → Option (List ℕ)
+bytes_of [] = None
+bytes_of (b ∷ rest) = hex_pairs (b ∷ rest)
+
+-- ---- texts
+
+-- a byte that stands for itself in a word: 0x21 to 0x7e, but for the backslash
+abbrev pub is_plain : ℕ → Bool
+is_plain b = nat_le 33 b && nat_le b 126 && not (b == 92)
+
+abbrev pub plain_byte : ℕ → Option ℕ
+plain_byte b = if is_plain b then Some b else None
+
+-- what an escape stands for: a byte that doesn't stand for itself
+abbrev pub escaped : Option ℕ → Option ℕ
+escaped (Some b) = if is_plain b then None else Some b
+escaped None = None
+
+-- the bytes that a word spells: each byte for itself, or a backslash and two digits
+abbrev pub unescaped : List ℕ → Option (List ℕ)
+unescaped [] = Some []
+unescaped (a ∷ []) = onto (plain_byte a) (Some [])
+unescaped (a ∷ b ∷ []) = onto (plain_byte a) (onto (plain_byte b) (Some []))
+unescaped (a ∷ b ∷ c ∷ rest) =
+    if a == 92 then onto (escaped (hex_byte (hex_value b) (hex_value c))) (unescaped rest)
+    else onto (plain_byte a) (unescaped (b ∷ c ∷ rest))
+
+-- A text as a word. No word is `=` alone: that text is written `\3d`. A word has at least one byte.
+unfoldable pub text_of : List ℕ → Option (List ℕ)
+text_of word =
+    if same word (codes "\\3d") then Some (61 ∷ [])
+    else if same word (61 ∷ []) || not (nat_le 1 (length word)) then None
+    else unescaped word
+
+-- ---- and back
+
+-- the digit of a value below 16
+abbrev pub hex_digit : ℕ → ℕ
+hex_digit n = if nat_lt n 10 then 48 + n else 87 + n
+
+abbrev pub hex_two : ℕ → List ℕ
+hex_two b = hex_digit (b / 16) ∷ hex_digit (b % 16) ∷ []
+
+abbrev pub hex_word : List ℕ → List ℕ
+hex_word bytes = flat_map hex_two bytes
+
+abbrev pub text_byte : ℕ → List ℕ
+text_byte b = if is_plain b then b ∷ [] else 92 ∷ hex_two b
+
+-- the one word of a text
+unfoldable pub text_word : List ℕ → List ℕ
+text_word text = if same text (61 ∷ []) then codes "\\3d" else flat_map text_byte text

@@ -1,0 +1,33 @@
+ghost use Rattle.std.specs.Prelude.{◌≡◌};
+ghost use Rattle.peer_script.specs.declared.error.ScriptError.TheVariants.{Memory};
+
+use std::alloc::{AllocError, AllocFailed};
+
+/// Why an input is no script.
+#[derive(Clone, Copy, PartialEq, Eq, Debug)]
+pub enum ScriptError {
+    /// There is no memory.
+    Memory,
+    /// The input failed.
+    InputFault,
+    /// The input has more than 1,073,741,824 bytes.
+    Limit,
+    /// The first line outside the table of lines or out of its order, from 1 on.
+    Line(u64),
+}
+
+impl From<AllocError> for ScriptError {
+    ghost from_gives = { λ _ e. e ≡ Memory };
+
+    fn from(_e: AllocError) -> ScriptError {
+        ScriptError::Memory
+    }
+}
+
+impl<T: Drop> From<AllocFailed<T>> for ScriptError {
+    ghost from_gives = { λ _ e. e ≡ Memory };
+
+    fn from(_e: AllocFailed<T>) -> ScriptError {
+        ScriptError::Memory
+    }
+}

@@ -1,0 +1,19 @@
+//! Script text in, transcript text out.
+#![tactic(auto)]
+
+mod error;
+mod laws;
+mod line;
+mod output;
+mod reading;
+mod script;
+#[cfg(test)]
+mod tests;
+mod transcript;
+mod word;
+
+pub use error::ScriptError;
+pub use laws::script_texts_are_read;
+pub use output::write_all;
+pub use script::{Setup, Word, read_script};
+pub use transcript::{Transcript, write_transcript};

@@ -1,0 +1,160 @@
+//! A script is read line by line.
+ghost use Rattle.std.specs.Prelude.{ℕ, ◌≡◌, ◌+◌, ◌<◌, ◌≤◌, ◌^◌, length, take, drop, List, Some, None, Ok, Err, true, false};
+ghost use Rattle.wire_framing.specs.Memory.{told_stop};
+ghost use Rattle.peer_script.specs.Reading.{SplitsLine, TakesLine, TellsText, may_end};
+ghost use Rattle.peer_script.specs.declared.line.Line.TheVariants as lines;
+
+use crate::error::ScriptError;
+use crate::line::{Line, line_of};
+use crate::script::Setup;
+use peer_route::Command;
+use std::alloc::{AllocError, Global};
+use wire_framing::Piece;
+use wire_names::Bytes;
+
+/// How far a script has come.
+#[derive(Clone, Copy)]
+pub(crate) enum Stage {
+    /// `direct` is wanted.
+    Start,
+    /// Pieces, commands or `sent` may come.
+    Pieces,
+    /// Commands or `sent` may come.
+    Commands,
+    /// Nothing may come.
+    Over,
+}
+
+/// What was read of a script.
+#[derive(Drop)]
+struct Progress {
+    stage: Stage,
+    pieces: Vec<Piece>,
+    commands: Vec<Command>,
+}
+
+#[tactic(auto, using(crate::proofs::Pieces::pushed), unfolding(crate::specs::Reading::take_line))]
+fn take_direct(progress: &mut Progress) -> Result<bool, AllocError>
+    requires { told_stop progress.old.pieces.items ≡ false }
+    ensures { TakesLine result progress.old progress.new lines.Direct }
+{
+    match progress.stage {
+        Stage::Start => {
+            progress.stage = Stage::Pieces;
+            Ok(true)
+        }
+        Stage::Pieces | Stage::Commands | Stage::Over => Ok(false),
+    }
+}
+
+#[tactic(auto, using(crate::proofs::Pieces::pushed), unfolding(crate::specs::Reading::take_line))]
+fn take_piece(progress: &mut Progress, piece: Bytes) -> Result<bool, AllocError>
+    requires { told_stop progress.old.pieces.items ≡ false }
+    ensures { TakesLine result progress.old progress.new (lines.In piece) }
+{
+    match progress.stage {
+        Stage::Pieces => {
+            progress.pieces.push(Piece::Bytes(piece.into_vec()))?;
+            Ok(true)
+        }
+        Stage::Start | Stage::Commands | Stage::Over => Ok(false),
+    }
+}
+
+#[tactic(auto, using(crate::proofs::Pieces::pushed), unfolding(crate::specs::Reading::take_line))]
+fn take_command(progress: &mut Progress, command: Command) -> Result<bool, AllocError>
+    requires { told_stop progress.old.pieces.items ≡ false }
+    ensures { TakesLine result progress.old progress.new (lines.Do command) }
+{
+    match progress.stage {
+        Stage::Pieces | Stage::Commands => {
+            progress.commands.push(command)?;
+            progress.stage = Stage::Commands;
+            Ok(true)
+        }
+        Stage::Start | Stage::Over => Ok(false),
+    }
+}
+
+#[tactic(auto, using(crate::proofs::Pieces::pushed), unfolding(crate::specs::Reading::take_line))]
+fn take_sent(progress: &mut Progress) -> Result<bool, AllocError>
+    requires { told_stop progress.old.pieces.items ≡ false }
+    ensures { TakesLine result progress.old progress.new lines.Sent }
+{
+    match progress.stage {
+        Stage::Pieces | Stage::Commands => {
+            progress.stage = Stage::Over;
+            Ok(true)
+        }
+        Stage::Start | Stage::Over => Ok(false),
+    }
+}
+
+/// Takes one line more. False: it may not come at this stage.
+fn take_line(progress: &mut Progress, line: Line) -> Result<bool, AllocError>
+    requires { told_stop progress.old.pieces.items ≡ false }
+    ensures { TakesLine result progress.old progress.new line }
+{
+    match line {
+        Line::Direct => take_direct(progress),
+        Line::In(piece) => take_piece(progress, piece),
+        Line::Do(command) => take_command(progress, command),
+        Line::Sent => take_sent(progress),
+    }
+}
+
+/// The first line and what stands behind its end.
+fn split_line(text: &[u8]) -> Option<(&[u8], &[u8])>
+    ensures { SplitsLine (λ x. x.0.now) (λ x. x.1.now) text.now result }
+{
+    let mut at = 0;
+    while at < text.len() {
+        if text[at] == b'\n' {
+            return Some((&text[..at], &text[at + 1..]));
+        }
+        at += 1;
+    }
+    None
+}
+
+fn may_end(stage: Stage) -> bool
+    ensures { result ≡ may_end stage }
+{
+    match stage {
+        Stage::Start => false,
+        Stage::Pieces | Stage::Commands | Stage::Over => true,
+    }
+}
+
+/// The script of a text.
+pub(crate) fn read_text(alloc: Global, text: &[u8]) -> Result<(Setup, Vec<Command>), ScriptError>
+    requires { length text.now < 2 ^ 63 }
+    ensures { TellsText (λ x. x.0.pieces.items) (λ x. x.1.items) text.now result }
+{
+    let mut progress = Progress {
+        stage: Stage::Start,
+        pieces: Vec::new(alloc),
+        commands: Vec::new(alloc),
+    };
+    let mut rest = text;
+    let mut number: u64 = 1;
+    while let Some((line, more)) = split_line(rest) {
+        let Some(line) = line_of(alloc, line)? else {
+            return Err(ScriptError::Line(number));
+        };
+        if !take_line(&mut progress, line)? {
+            return Err(ScriptError::Line(number));
+        }
+        rest = more;
+        number += 1;
+    }
+    if !rest.is_empty() || !may_end(progress.stage) {
+        return Err(ScriptError::Line(number));
+    }
+    let Progress {
+        pieces,
+        commands,
+        ..
+    } = progress;
+    Ok((Setup { pieces }, commands))
+}

@@ -1,0 +1,82 @@
+//! Reading a script.
+ghost use Rattle.std.specs.Prelude.{ℕ, ◌≡◌, ◌≤◌, ◌<◌, length, List, IfSome, IfOk, false};
+ghost use Rattle.wire_framing.specs.Memory.{told_stop};
+ghost use Rattle.peer_script.specs.Reading.{TellsScript, FaultsTell, ReadsInput};
+
+use crate::error::ScriptError;
+use crate::reading::read_text;
+use peer_route::Command;
+use std::alloc::Global;
+use wire_framing::{Piece, Source};
+
+/// The most bytes that a script has.
+const LIMIT: usize = 1_073_741_824;
+
+/// How many bytes are read at once.
+const STEP: usize = 65_536;
+
+/// What stands in a script before its commands.
+#[derive(Drop)]
+pub struct Setup {
+    /// What the peer's source gives.
+    pub pieces: Vec<Piece>,
+}
+
+/// Which scripts are read.
+#[derive(Clone, Copy, PartialEq, Eq, Debug)]
+pub enum Word {
+    /// Scripts of commands that run one after the other.
+    Run,
+}
+
+/// Reads the input through the buffer.
+fn read_through<I: Source>(
+    alloc: Global,
+    input: &mut I,
+    buffer: &mut [u8],
+) -> Result<Vec<u8>, ScriptError>
+    requires { length buffer.old ≡ 65536 }
+    ensures told { ReadsInput (λ v. v.items) result (I.left input.old) }
+    ensures faults { FaultsTell result (I.stop input.old) (I.faults input.old) (I.faults input.new) }
+{
+    let mut bytes = Vec::new(alloc);
+    'reading: loop {
+        match input.read(buffer) {
+            Ok(0) => return Ok(bytes),
+            Ok(count) => {
+                if bytes.len() + count > LIMIT {
+                    return Err(ScriptError::Limit);
+                }
+                bytes.extend_from_slice(&buffer[..count])?;
+            }
+            Err(_) => return Err(ScriptError::InputFault),
+        }
+    }
+}
+
+/// Reads the input to its end, or past the limit.
+fn read_input<I: Source>(alloc: Global, input: &mut I) -> Result<Vec<u8>, ScriptError>
+    ensures told { ReadsInput (λ v. v.items) result (I.left input.old) }
+    ensures faults { FaultsTell result (I.stop input.old) (I.faults input.old) (I.faults input.new) }
+{
+    let mut buffer = Vec::new(alloc);
+    buffer.resize(STEP, 0)?;
+    read_through(alloc, input, buffer.as_mut_slice())
+}
+
+/// Reads a script. The first that holds: `InputFault`, where the input failed; `Limit`, where it has more than
+/// 1,073,741,824 bytes; `Line`, the first line outside the table or out of its order, from 1 on, one past the last where a
+/// needed line is missing.
+pub fn read_script<I: Source>(
+    alloc: Global,
+    word: Word,
+    input: &mut I,
+) -> Result<(Setup, Vec<Command>), ScriptError>
+    ensures told { IfSome (I.left input.old) (λ bytes. TellsScript (λ x. x.0.pieces.items) (λ x. x.1.items) bytes result) }
+    ensures pieces { IfOk result (λ x. told_stop x.0.pieces.items ≡ false) }
+    ensures faults { FaultsTell result (I.stop input.old) (I.faults input.old) (I.faults input.new) }
+{
+    let Word::Run = word;
+    let bytes = read_input(alloc, input)?;
+    read_text(alloc, bytes.as_slice())
+}

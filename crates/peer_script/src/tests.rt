@@ -1,0 +1,162 @@
+use crate::{ScriptError, Setup, Transcript, Word, read_script, write_all, write_transcript};
+use peer_route::{Answer, Command, Entry, Words};
+use std::alloc::Global;
+use std::test::Fail;
+use wire_framing::{MemorySink, MemorySource, Piece, Refusal};
+use wire_message::header_front;
+use wire_names::Bytes;
+
+/// A method return of serial 1 to the call of serial 1, without a body: 24 bytes.
+const RETURN: [u8; 24] = [
+    b'l', 2, 0, 1, 0, 0, 0, 0, 1, 0, 0, 0, 8, 0, 0, 0, 5, 1, b'u', 0, 1, 0, 0, 0,
+];
+
+/// The method call of `do` at `/`, of serial 1: 48 bytes.
+const SENT: [u8; 48] = [
+    108, 1, 0, 1, 0, 0, 0, 0, 1, 0, 0, 0, 27, 0, 0, 0, 1, 1, 111, 0, 1, 0, 0, 0, 47, 0, 0, 0, 0, 0,
+    0, 0, 3, 1, 115, 0, 2, 0, 0, 0, 100, 111, 0, 0, 0, 0, 0, 0,
+];
+
+/// One call and its answer.
+const TRANSCRIPT: &[u8] = b"direct\n\
+in 6c0200010000000001000000080000000501750001000000\n\
+0 call - / - do - - = call 0 serial 1\n\
+0 read = got 1 24 Method return\n\
+0 poll 0 = reply 1\n\
+sent 6c01000100000000010000001b00000001016f00010000002f000000000000000301730002000000646f000000000000\n";
+
+fn read_of(
+    alloc: Global,
+    text: &[u8],
+    fault: bool,
+) -> Result<Result<(Setup, Vec<Command>), ScriptError>, Fail> {
+    let mut pieces = Vec::new(alloc);
+    pieces.push(Piece::Bytes(text.to_vec(alloc)?))?;
+    if fault {
+        pieces.push(Piece::Fault)?;
+    }
+    let mut source = MemorySource::new(&pieces);
+    Ok(read_script(alloc, Word::Run, &mut source))
+}
+
+#[test]
+fn reads_scripts(rt: HostRuntime) -> Result<(), Fail> {
+    let alloc = rt.alloc();
+    let table: [(&[u8], usize, usize); 9] = [
+        (b"direct\n", 0, 0),
+        (b"direct\nsent -\n", 0, 0),
+        (b"direct\nsent 00\n", 0, 0),
+        (
+            b"direct\nin 00ff\nin 6c\nread\n0 poll 0\n63 call - / - do - -\nsent -\n",
+            2,
+            3,
+        ),
+        (b"direct\nread = any = \xff\\ \n", 0, 1),
+        (b"direct\nread = \n", 0, 1),
+        (b"direct\ncall - \\3d - a\\0a\\5c - -\n", 0, 1),
+        (b"direct\npoll 18446744073709551615\n", 0, 1),
+        (TRANSCRIPT, 1, 3),
+    ];
+    for (text, pieces, commands) in table {
+        match read_of(alloc, text, false)? {
+            Ok(read) => {
+                assert_eq!(rt; read.0.pieces.len(), pieces);
+                assert_eq!(rt; read.1.len(), commands);
+            }
+            Err(_) => panic!(rt; "a script"),
+        }
+    }
+    Ok(())
+}
+
+#[test]
+fn names_the_first_line_outside(rt: HostRuntime) -> Result<(), Fail> {
+    let alloc = rt.alloc();
+    let table: [(&[u8], u64); 26] = [
+        (b"", 1),
+        (b"direct", 1),
+        (b"\n", 1),
+        (b"direct = x\n", 1),
+        (b"read\n", 1),
+        (b"direct\n\n", 2),
+        (b"direct\ndirect\n", 2),
+        (b"direct\nread", 2),
+        (b"direct\nin 0\n", 2),
+        (b"direct\nin 0A\n", 2),
+        (b"direct\nin \n", 2),
+        (b"direct\nin 00 = x\n", 2),
+        (b"direct\nread\nin 00\n", 3),
+        (b"direct\nsent -\nread\n", 3),
+        (b"direct\nsent -\nsent -\n", 3),
+        (b"direct\n64 read\n", 2),
+        (b"direct\n00 read\n", 2),
+        (b"direct\n1 2 read\n", 2),
+        (b"direct\npoll 18446744073709551616\n", 2),
+        (b"direct\npoll 01\n", 2),
+        (b"direct\n = read\n", 2),
+        (b"direct\nread =\n", 2),
+        (b"direct\nread  = x\n", 2),
+        (b"direct\ncall - \\41 - do - -\n", 2),
+        (b"direct\ncall - a\\3db - do - -\n", 2),
+        (b"direct\ncall - \\5C - do - -\n", 2),
+    ];
+    for (text, line) in table {
+        match read_of(alloc, text, false)? {
+            Ok(_) => panic!(rt; "no script"),
+            Err(error) => assert_eq!(rt; error, ScriptError::Line(line)),
+        }
+        match read_of(alloc, text, true)? {
+            Ok(_) => panic!(rt; "no script"),
+            Err(error) => assert_eq!(rt; error, ScriptError::InputFault),
+        }
+    }
+    Ok(())
+}
+
+fn entries_of(alloc: Global) -> Result<Vec<Entry>, Fail> {
+    let path = Bytes::from_slice(alloc, b"/")?;
+    let member = Bytes::from_slice(alloc, b"do")?;
+    let (message, _) = header_front(alloc, &RETURN)?;
+    let mut entries = Vec::new(alloc);
+    entries.push(Entry {
+        lane: 0,
+        words: Words::Call { path, member },
+        answer: Answer::Called { call: 0, serial: 1 },
+    })?;
+    entries.push(Entry {
+        lane: 0,
+        words: Words::Read,
+        answer: Answer::Got(message.at(1)),
+    })?;
+    entries.push(Entry {
+        lane: 0,
+        words: Words::Poll(0),
+        answer: Answer::Reply(1),
+    })?;
+    Ok(entries)
+}
+
+#[test]
+fn writes_a_transcript(rt: HostRuntime) -> Result<(), Fail> {
+    let alloc = rt.alloc();
+    let mut pieces = Vec::new(alloc);
+    pieces.push(Piece::Bytes(RETURN.to_vec(alloc)?))?;
+    let setup = Setup { pieces };
+    let entries = entries_of(alloc)?;
+    let transcript = Transcript { entries };
+    let mut sink = MemorySink::new(alloc, false);
+    let written = write_transcript(alloc, &setup, &transcript, &SENT, &mut sink);
+    assert!(rt; written.is_ok());
+    assert_eq!(rt; sink.bytes(), TRANSCRIPT);
+    Ok(())
+}
+
+#[test]
+fn writes_all_or_fails(rt: HostRuntime) -> Result<(), Fail> {
+    let alloc = rt.alloc();
+    let mut sink = MemorySink::with_fault(alloc, 3, false);
+    assert!(rt; write_all(&mut sink, b"ab").is_ok());
+    assert_eq!(rt; write_all(&mut sink, b"cd"), Err(Refusal::Failed));
+    assert_eq!(rt; sink.bytes(), b"abc".as_slice());
+    Ok(())
+}

@@ -1,0 +1,312 @@
+//! The transcript's text.
+ghost use Rattle.std.specs.Prelude.{ℕ, ◌≡◌, ◌++◌, [], ◌∷◌, length, List, OnOk, false, ◌<◌, codes, decimal};
+ghost use Rattle.std.specs.List.{flat_map};
+ghost use Rattle.peer_script.specs.Word.{hex_digit, hex_two, hex_word, text_byte, text_word};
+ghost use Rattle.peer_script.specs.Transcript.{kind_text, io_word, error_word, words_text, answer_text, entry_text, piece_text, setup_line, sent_word, setup_transcript, transcript_text};
+ghost use Rattle.peer_script.specs.Reading.{given};
+ghost use Rattle.wire_framing.specs.Memory.{told_stop};
+ghost use Rattle.peer_script.specs.Output.{WritesAll};
+
+use crate::output::write_all;
+use crate::script::Setup;
+use crate::word::{is_plain, same};
+use peer_route::{Answer, Entry, Words};
+use std::alloc::{AllocError, Global};
+use wire_framing::{Piece, Refusal, Sink};
+use wire_message::{Error, IoKind, Message, MessageType};
+
+/// What commands were answered.
+#[derive(Drop)]
+pub struct Transcript {
+    /// One entry for each command, in the order in which they ran.
+    pub entries: Vec<Entry>,
+}
+
+fn put(text: &mut Vec<u8>, bytes: &[u8]) -> Result<(), AllocError>
+    ensures { OnOk result (text.new.items ≡ text.old.items ++ bytes.now) }
+{
+    text.extend_from_slice(bytes)
+}
+
+fn put_number(alloc: Global, text: &mut Vec<u8>, number: u64) -> Result<(), AllocError>
+    ensures { OnOk result (text.new.items ≡ text.old.items ++ decimal number) }
+{
+    let digits = number.to_string(alloc)?;
+    put(text, digits.as_bytes())
+}
+
+fn hex_digit(value: u8) -> u8
+    requires { value < 16 }
+    ensures { result ≡ hex_digit value }
+{
+    if value < 10 { b'0' + value } else { 87 + value }
+}
+
+fn put_hex_byte(text: &mut Vec<u8>, byte: u8) -> Result<(), AllocError>
+    ensures { OnOk result (text.new.items ≡ text.old.items ++ hex_two byte) }
+{
+    put(text, &[hex_digit(byte / 16), hex_digit(byte % 16)])
+}
+
+fn put_hex(text: &mut Vec<u8>, bytes: &[u8]) -> Result<(), AllocError>
+    ensures { OnOk result (text.new.items ≡ text.old.items ++ hex_word bytes.now) }
+{
+    for byte in bytes {
+        put_hex_byte(text, *byte)?;
+    }
+    Ok(())
+}
+
+fn put_text_byte(text: &mut Vec<u8>, byte: u8) -> Result<(), AllocError>
+    ensures { OnOk result (text.new.items ≡ text.old.items ++ text_byte byte) }
+{
+    if is_plain(byte) {
+        put(text, &[byte])
+    } else {
+        put(text, b"\\")?;
+        put_hex_byte(text, byte)
+    }
+}
+
+fn put_text_bytes(text: &mut Vec<u8>, bytes: &[u8]) -> Result<(), AllocError>
+    ensures { OnOk result (text.new.items ≡ text.old.items ++ flat_map text_byte bytes.now) }
+{
+    for byte in bytes {
+        put_text_byte(text, *byte)?;
+    }
+    Ok(())
+}
+
+#[tactic(auto, unfolding(crate::specs::Word::text_word))]
+fn put_text(text: &mut Vec<u8>, bytes: &[u8]) -> Result<(), AllocError>
+    ensures { OnOk result (text.new.items ≡ text.old.items ++ text_word bytes.now) }
+{
+    if same(bytes, b"=") {
+        put(text, b"\\3d")
+    } else {
+        put_text_bytes(text, bytes)
+    }
+}
+
+fn kind_text(kind: MessageType) -> &'static [u8]
+    ensures { result.now ≡ kind_text kind }
+{
+    match kind {
+        MessageType::MethodCall => b"Method call",
+        MessageType::MethodReturn => b"Method return",
+        MessageType::Error => b"Error",
+        MessageType::Signal => b"Signal",
+    }
+}
+
+fn io_word(kind: IoKind) -> &'static [u8]
+    ensures { result.now ≡ io_word kind }
+{
+    match kind {
+        IoKind::Ended => b"Ended",
+        IoKind::Fault => b"Fault",
+        IoKind::Closed => b"Closed",
+        IoKind::WriteFault => b"WriteFault",
+        IoKind::TimedOut => b"TimedOut",
+    }
+}
+
+fn put_error(text: &mut Vec<u8>, error: Error) -> Result<(), AllocError>
+    ensures { OnOk result (text.new.items ≡ text.old.items ++ error_word error) }
+{
+    match error {
+        Error::InputOutput(kind) => {
+            put(text, b"InputOutput.")?;
+            put(text, io_word(kind))
+        }
+        Error::Variant(_) => put(text, b"Variant"),
+        Error::Names(_) => put(text, b"Names"),
+        Error::IncorrectEndian => put(text, b"IncorrectEndian"),
+        Error::ExcessData => put(text, b"ExcessData"),
+        Error::SerialsSpent => put(text, b"SerialsSpent"),
+        Error::UnknownHandle => put(text, b"UnknownHandle"),
+        Error::Memory => put(text, b"Memory"),
+    }
+}
+
+fn put_call(text: &mut Vec<u8>, path: &[u8], member: &[u8]) -> Result<(), AllocError>
+    ensures { OnOk result (text.new.items ≡ text.old.items ++ codes "call - " ++ text_word path.now ++ codes " - " ++ text_word member.now ++ codes " - -") }
+{
+    put(text, b"call - ")?;
+    put_text(text, path)?;
+    put(text, b" - ")?;
+    put_text(text, member)?;
+    put(text, b" - -")
+}
+
+#[tactic(auto, unfolding(crate::specs::Transcript::words_text))]
+fn put_words(alloc: Global, text: &mut Vec<u8>, words: &Words) -> Result<(), AllocError>
+    ensures { OnOk result (text.new.items ≡ text.old.items ++ words_text words.now) }
+{
+    match words {
+        Words::Call { path, member } => put_call(text, path.as_slice(), member.as_slice()),
+        Words::Read => put(text, b"read"),
+        Words::Poll(number) => {
+            put(text, b"poll ")?;
+            put_number(alloc, text, *number)
+        }
+    }
+}
+
+fn put_called(alloc: Global, text: &mut Vec<u8>, call: u64, serial: u32) -> Result<(), AllocError>
+    ensures { OnOk result (text.new.items ≡ text.old.items ++ codes "call " ++ decimal call ++ codes " serial " ++ decimal serial) }
+{
+    put(text, b"call ")?;
+    put_number(alloc, text, call)?;
+    put(text, b" serial ")?;
+    put_number(alloc, text, u64::from(serial))
+}
+
+fn put_got(alloc: Global, text: &mut Vec<u8>, message: &Message) -> Result<(), AllocError>
+    ensures { OnOk result (text.new.items ≡ text.old.items ++ codes "got " ++ decimal message.now.position ++ 32 ∷ [] ++ decimal (length message.now.bytes) ++ 32 ∷ [] ++ kind_text message.now.kind) }
+{
+    put(text, b"got ")?;
+    put_number(alloc, text, message.recv_position())?;
+    put(text, b" ")?;
+    put_number(alloc, text, message.data().len() as u64)?;
+    put(text, b" ")?;
+    put(text, kind_text(message.message_type()))
+}
+
+fn put_with_error(text: &mut Vec<u8>, what: &[u8], error: Error) -> Result<(), AllocError>
+    ensures { OnOk result (text.new.items ≡ text.old.items ++ what.now ++ error_word error) }
+{
+    put(text, what)?;
+    put_error(text, error)
+}
+
+fn put_with_number(
+    alloc: Global,
+    text: &mut Vec<u8>,
+    what: &[u8],
+    number: u64,
+) -> Result<(), AllocError>
+    ensures { OnOk result (text.new.items ≡ text.old.items ++ what.now ++ decimal number) }
+{
+    put(text, what)?;
+    put_number(alloc, text, number)
+}
+
+#[tactic(auto, unfolding(crate::specs::Transcript::answer_text))]
+fn put_answer(alloc: Global, text: &mut Vec<u8>, answer: &Answer) -> Result<(), AllocError>
+    ensures { OnOk result (text.new.items ≡ text.old.items ++ answer_text answer.now) }
+{
+    match answer {
+        Answer::Called { call, serial } => put_called(alloc, text, *call, *serial),
+        Answer::Refused(error) => put_with_error(text, b"refused ", *error),
+        Answer::SendFailed(error) => put_with_error(text, b"sendfailed ", *error),
+        Answer::Got(message) => put_got(alloc, text, message),
+        Answer::Closed(error) => put_with_error(text, b"closed ", *error),
+        Answer::Reply(position) => put_with_number(alloc, text, b"reply ", *position),
+        Answer::InvalidReply(position) => put_with_number(alloc, text, b"invalidreply ", *position),
+        Answer::NotYet => put(text, b"notyet"),
+    }
+}
+
+#[tactic(auto, unfolding(crate::specs::Transcript::entry_text))]
+fn put_entry(alloc: Global, text: &mut Vec<u8>, entry: &Entry) -> Result<(), AllocError>
+    ensures { OnOk result (text.new.items ≡ text.old.items ++ entry_text entry.now) }
+{
+    put_number(alloc, text, u64::from(entry.lane))?;
+    put(text, b" ")?;
+    put_words(alloc, text, &entry.words)?;
+    put(text, b" = ")?;
+    put_answer(alloc, text, &entry.answer)?;
+    put(text, b"\n")
+}
+
+fn put_entries(alloc: Global, text: &mut Vec<u8>, entries: &[Entry]) -> Result<(), AllocError>
+    ensures { OnOk result (text.new.items ≡ text.old.items ++ flat_map entry_text entries.now) }
+{
+    for entry in entries {
+        put_entry(alloc, text, entry)?;
+    }
+    Ok(())
+}
+
+#[tactic(auto, unfolding(crate::specs::Transcript::piece_text))]
+fn put_bytes(text: &mut Vec<u8>, piece: &[u8]) -> Result<(), AllocError>
+    ensures { OnOk result (text.new.items ≡ text.old.items ++ piece_text piece.now) }
+{
+    put(text, b"in ")?;
+    put_hex(text, piece)?;
+    put(text, b"\n")
+}
+
+fn put_piece(text: &mut Vec<u8>, piece: &Piece) -> Result<(), AllocError>
+    ensures { OnOk result (text.new.items ≡ text.old.items ++ setup_line piece.now) }
+{
+    match piece {
+        Piece::Bytes(bytes) => put_bytes(text, bytes.as_slice()),
+        Piece::Fault => put(text, b"infault\n"),
+    }
+}
+
+fn put_pieces(text: &mut Vec<u8>, pieces: &[Piece]) -> Result<(), AllocError>
+    ensures { OnOk result (text.new.items ≡ text.old.items ++ flat_map setup_line pieces.now) }
+{
+    for piece in pieces {
+        put_piece(text, piece)?;
+    }
+    Ok(())
+}
+
+fn put_sent(text: &mut Vec<u8>, sent: &[u8]) -> Result<(), AllocError>
+    ensures { OnOk result (text.new.items ≡ text.old.items ++ sent_word sent.now) }
+{
+    if sent.is_empty() {
+        put(text, b"-")
+    } else {
+        put_hex(text, sent)
+    }
+}
+
+#[tactic(auto, unfolding(crate::specs::Transcript::setup_transcript))]
+fn put_transcript(
+    alloc: Global,
+    text: &mut Vec<u8>,
+    pieces: &[Piece],
+    entries: &[Entry],
+    sent: &[u8],
+) -> Result<(), AllocError>
+    ensures { OnOk result (text.new.items ≡ text.old.items ++ setup_transcript pieces.now entries.now sent.now) }
+{
+    put(text, b"direct\n")?;
+    put_pieces(text, pieces)?;
+    put_entries(alloc, text, entries)?;
+    put(text, b"sent ")?;
+    put_sent(text, sent)?;
+    put(text, b"\n")
+}
+
+/// Writes the transcript: the header lines as they were read, one line for each entry in order, and one `sent` line with
+/// all bytes that were sent. Failed, only where the output's count of faults rose, and Memory leave a proper part of the
+/// text in the output.
+pub fn write_transcript<O: Sink>(
+    alloc: Global,
+    setup: &Setup,
+    transcript: &Transcript,
+    sent: &[u8],
+    output: &mut O,
+) -> Result<(), Refusal>
+    ensures text { WritesAll result (setup_transcript setup.now.pieces.items transcript.now.entries.items sent.now) (O.held output.old) (O.held output.new) (O.room output.old) (O.room output.new) (O.faults output.old) (O.faults output.new) }
+    ensures bytes { told_stop setup.now.pieces.items ≡ false → setup_transcript setup.now.pieces.items transcript.now.entries.items sent.now ≡ transcript_text (given setup.now.pieces.items) transcript.now.entries.items sent.now }
+    ensures fds { O.takes output.new ≡ O.takes output.old }
+{
+    let mut text = Vec::new(alloc);
+    match put_transcript(
+        alloc,
+        &mut text,
+        setup.pieces.as_slice(),
+        transcript.entries.as_slice(),
+        sent,
+    ) {
+        Ok(()) => write_all(output, text.as_slice()),
+        Err(_) => Err(Refusal::Memory),
+    }
+}

@@ -1,0 +1,194 @@
+//! The words of a line: numbers, bytes in hexadecimal, and texts with escapes.
+ghost use Rattle.std.specs.Prelude.{◌≡◌, ◌<◌, ◌^◌, nat_lt, nat_le, ◌&&◌, map, length, IfSome, IfOk, Some, None, if◌then◌else◌, not, ◌==◌};
+ghost use Rattle.std.specs.Option.{option_map};
+ghost use Rattle.std.specs.List.{list_all};
+ghost use Rattle.std.specs.Char.{is_ascii_digit};
+ghost use Rattle.peer_script.specs.Word.{same, words_of, digits_value, begins_with_zero, number_of, hex_value, hex_byte, hex_pairs, bytes_of, is_plain, escaped, unescaped, text_of};
+ghost use Rattle.peer_script.specs.Steps.{TakesOne};
+
+use std::alloc::{AllocError, Global};
+use wire_names::Bytes;
+
+/// The one text that isn't written as its bytes.
+const EQUALS: &[u8] = b"=";
+
+/// How that text is written.
+const EQUALS_WORD: &[u8] = b"\\3d";
+
+/// Whether two texts are the same.
+pub(crate) fn same(word: &[u8], text: &[u8]) -> bool
+    ensures { result ≡ same word.now text.now }
+{
+    word == text
+}
+
+/// What stands before, between and after the spaces.
+pub(crate) fn words_of(alloc: Global, line: &[u8]) -> Result<Vec<&[u8]>, AllocError>
+    ensures { IfOk result (λ words. map (λ w. w.now) words.items ≡ words_of line.now) }
+{
+    line.split(|byte| *byte == b' ').collect(alloc)
+}
+
+fn digits_value(word: &[u8]) -> Option<u64>
+    ensures { result ≡ (if nat_lt (digits_value word.now) (2 ^ 64) then Some (digits_value word.now) else None) }
+{
+    let mut value: u64 = 0;
+    for digit in word {
+        let digit = u64::from(digit.saturating_sub(b'0'));
+        value = value.checked_mul(10)?.checked_add(digit)?;
+    }
+    Some(value)
+}
+
+fn begins_with_zero(word: &[u8]) -> bool
+    ensures { result ≡ begins_with_zero word.now }
+{
+    match word {
+        [first, rest @ ..] => *first == b'0' && !rest.is_empty(),
+        [] => false,
+    }
+}
+
+fn are_digits(word: &[u8]) -> bool
+    ensures { result ≡ list_all is_ascii_digit word.now }
+{
+    word.iter().all(|byte| byte.is_ascii_digit())
+}
+
+fn is_numeral(word: &[u8]) -> bool
+    ensures { result ≡ (nat_le 1 (length word.now) && list_all is_ascii_digit word.now && not (begins_with_zero word.now)) }
+{
+    !word.is_empty() && are_digits(word) && !begins_with_zero(word)
+}
+
+/// The number that a word of decimal digits without leading zeros is, where it is below 2^64.
+#[tactic(auto, unfolding(crate::specs::Word::number_of))]
+pub(crate) fn number_of(word: &[u8]) -> Option<u64>
+    ensures { result ≡ number_of word.now }
+{
+    if is_numeral(word) {
+        digits_value(word)
+    } else {
+        None
+    }
+}
+
+fn hex_value(digit: u8) -> Option<u8>
+    ensures value { result ≡ hex_value digit }
+    ensures small { IfSome result (λ value. value < 16) }
+{
+    if digit >= b'0' && digit <= b'9' {
+        Some(digit - b'0')
+    } else if digit >= b'a' && digit <= b'f' {
+        Some(digit - b'a' + 10)
+    } else {
+        None
+    }
+}
+
+fn hex_byte(high: u8, low: u8) -> Option<u8>
+    ensures { result ≡ hex_byte (hex_value high) (hex_value low) }
+{
+    let high = hex_value(high)?;
+    let low = hex_value(low)?;
+    Some(16 * high + low)
+}
+
+fn take_hex(rest: &[u8]) -> Option<(u8, &[u8])>
+    requires { 0 < length rest.now }
+    ensures { TakesOne (λ x. x.0) (λ x. x.1.now) hex_pairs rest.now result }
+{
+    match rest {
+        [high, low, more @ ..] => {
+            let byte = hex_byte(*high, *low)?;
+            Some((byte, more))
+        }
+        _ => None,
+    }
+}
+
+/// The bytes that a word of hexadecimal digits is, two for each byte.
+pub(crate) fn bytes_of(alloc: Global, word: &[u8]) -> Result<Option<Vec<u8>>, AllocError>
+    ensures { IfOk result (λ bytes. option_map (λ v. v.items) bytes ≡ bytes_of word.now) }
+{
+    if word.is_empty() {
+        return Ok(None);
+    }
+    let mut bytes = Vec::new(alloc);
+    let mut rest = word;
+    while !rest.is_empty() {
+        let Some((byte, more)) = take_hex(rest) else {
+            return Ok(None);
+        };
+        bytes.push(byte)?;
+        rest = more;
+    }
+    Ok(Some(bytes))
+}
+
+pub(crate) fn is_plain(byte: u8) -> bool
+    ensures { result ≡ is_plain byte }
+{
+    byte >= 0x21 && byte <= 0x7e && byte != b'\\'
+}
+
+fn escaped(byte: Option<u8>) -> Option<u8>
+    ensures { result ≡ escaped byte }
+{
+    match byte {
+        Some(byte) => { if is_plain(byte) { None } else { Some(byte) } }
+        None => None,
+    }
+}
+
+fn take_byte(rest: &[u8]) -> Option<(u8, &[u8])>
+    requires { 0 < length rest.now }
+    ensures { TakesOne (λ x. x.0) (λ x. x.1.now) unescaped rest.now result }
+{
+    match rest {
+        [b'\\', high, low, more @ ..] => {
+            let byte = escaped(hex_byte(*high, *low))?;
+            Some((byte, more))
+        }
+        [byte, more @ ..] => {
+            if is_plain(*byte) {
+                Some((*byte, more))
+            } else {
+                None
+            }
+        }
+        [] => None,
+    }
+}
+
+fn unescaped(alloc: Global, word: &[u8]) -> Result<Option<Vec<u8>>, AllocError>
+    ensures { IfOk result (λ bytes. option_map (λ v. v.items) bytes ≡ unescaped word.now) }
+{
+    let mut bytes = Vec::new(alloc);
+    let mut rest = word;
+    while !rest.is_empty() {
+        let Some((byte, more)) = take_byte(rest) else {
+            return Ok(None);
+        };
+        bytes.push(byte)?;
+        rest = more;
+    }
+    Ok(Some(bytes))
+}
+
+/// The text that a word spells.
+#[tactic(auto, unfolding(crate::specs::Word::text_of))]
+pub(crate) fn text_of(alloc: Global, word: &[u8]) -> Result<Option<Bytes>, AllocError>
+    ensures { IfOk result (λ text. text ≡ text_of word.now) }
+{
+    if word == EQUALS_WORD {
+        return Ok(Some(Bytes::from_slice(alloc, EQUALS)?));
+    }
+    if word == EQUALS || word.is_empty() {
+        return Ok(None);
+    }
+    match unescaped(alloc, word)? {
+        Some(bytes) => Ok(Some(Bytes::from_vec(bytes))),
+        None => Ok(None),
+    }
+}

@@ -1,0 +1,4 @@
+pub mod Steps
+pub mod Gone
+pub mod Fronts
+pub mod Whole

@@ -1,0 +1,6 @@
+pub mod Source
+pub mod Sink
+pub mod Receive
+pub mod Send
+pub mod Fill
+pub mod Memory

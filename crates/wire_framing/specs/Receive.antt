@@ -1,0 +1,60 @@
+-- What one read of a message gives and takes (D-Bus Specification, "Message Protocol").
+use Rattle.std.specs.Prelude.{ℕ, ◌≡◌, ◌≤◌, ◌⊎◌, Bool, true, false, nat_lt, is_some, min, if◌then◌else◌, List, length, drop, IfSome, Option, Some, None, Result, Ok, Err}
+use Rattle.std.specs.Io.KnownBytes.{Consumes}
+use Rattle.wire_framing.specs.Source.{MayRise}
+use Rattle.wire_message.specs.Front.{Seen, Front, total}
+use Rattle.wire_message.specs.Outcome.{outcome, head_fault, Tells}
+use Rattle.wire_message.specs.declared.error.Error.{Error}
+use Rattle.wire_message.specs.declared.error.Error.TheVariants as errors
+use Rattle.wire_message.specs.declared.error.IoKind.{IoKind}
+use Rattle.wire_message.specs.declared.error.IoKind.TheVariants as kinds
+use Rattle.wire_signature.specs.declared.error.VariantError.TheVariants as faults
+
+-- what comes after the last byte: a failing call, or the end
+abbrev pub ending_of : Bool → IoKind
+ending_of true = kinds.Fault
+ending_of false = kinds.Ended
+
+-- What a read answers where `bytes` are left and `count` messages were read before. Where nothing is told of a failing
+-- call, one may come at any time; it is then the answer.
+abbrev pub Receives : Option Bool → ℕ → List ℕ → Result Seen Error → Type 0
+Receives (Some stop) count bytes result = Tells (λ m. m) result (outcome count bytes (ending_of stop))
+Receives None count bytes result =
+    Tells (λ m. m) result (outcome count bytes kinds.Ended) ⊎ (result ≡ Err (errors.InputOutput kinds.Fault))
+
+-- the errors of a read
+abbrev pub IsReadError : Error → Type 0
+IsReadError (errors.InputOutput kinds.Ended) = Unit {0}
+IsReadError (errors.InputOutput kinds.Fault) = Unit {0}
+IsReadError (errors.Variant faults.Malformed) = Unit {0}
+IsReadError errors.IncorrectEndian = Unit {0}
+IsReadError errors.ExcessData = Unit {0}
+IsReadError errors.Memory = Unit {0}
+IsReadError e = ⊥
+
+-- A fault is answered only where the source's count of faults rose.
+abbrev pub HasCause : Error → ℕ → ℕ → Type 0
+HasCause (errors.InputOutput kinds.Fault) faults faults' = MayRise faults faults'
+HasCause e faults faults' = faults ≤ faults'
+
+-- What a read takes, whatever is told. Ok: exactly the message's own bytes, on which it stands, at the position asked for.
+-- Err: one of a read's errors, a fault only with its cause.
+abbrev pub Takes : ℕ → Result Seen Error → Option (List ℕ) → Option (List ℕ) → Option Bool → Option Bool → ℕ → ℕ → Type 0
+Takes position (Ok m) left left' stop stop' faults faults' =
+    Front m.bytes m (length m.bytes) × (m.position ≡ position) × Consumes left left' m.bytes × (stop' ≡ stop) × (faults ≤ faults')
+Takes position (Err e) left left' stop stop' faults faults' = IsReadError e × HasCause e faults faults'
+
+-- How many of the bytes left a read takes: those of a head, where fewer are there or the head is refused; else those of the
+-- message that it announces.
+unfoldable pub spent : List ℕ → ℕ
+spent bytes =
+    if nat_lt (length bytes) 16 then length bytes
+    else if is_some (head_fault bytes) then 16
+    else min (total bytes) (length bytes)
+
+-- What is left after a read, where it was told before, is what stands behind the bytes that it takes. Where a call failed or
+-- there was no memory, fewer may be gone.
+abbrev pub Spends : {A : Type 0} → Result A Error → Option (List ℕ) → Option (List ℕ) → Type 0
+Spends (Err (errors.InputOutput kinds.Fault)) left left' = Unit {0}
+Spends (Err errors.Memory) left left' = Unit {0}
+Spends result left left' = IfSome left (λ bytes. left' ≡ Some (drop (spent bytes) bytes))

@@ -1,0 +1,181 @@
+ghost use Rattle.std.specs.Prelude.{ℕ, ◌≡◌, ◌+◌, ◌≤◌, ◌<◌, List, [], ◌++◌, length, take, drop, Bool, ◌==◌, Some, None, OnOk, IfOk, IfErr, min};
+ghost use Rattle.std.specs.Option.{option_map_or};
+ghost use Rattle.wire_framing.specs.Sink.{Writes};
+ghost use Rattle.wire_framing.specs.Memory.{told_bytes, told_stop, source_left, source_stop, told_of_no_more};
+ghost use Rattle.wire_framing.specs.declared.sink.Refusal.TheVariants.{Memory};
+
+use crate::sink::{Refusal, Sink};
+use crate::source::{Failed, Source};
+use std::alloc::Global;
+
+/// What a memory source gives.
+#[derive(Drop)]
+pub enum Piece {
+    /// Bytes, of which a read gives no more than these.
+    Bytes(Vec<u8>),
+    /// One read fails.
+    Fault,
+}
+
+/// A source over pieces in memory. It tells its bytes until its first failed call.
+#[derive(Drop)]
+pub struct MemorySource<'a> {
+    piece: &'a [u8],
+    pieces: &'a [Piece],
+    faults: u64,
+}
+
+impl<'a> MemorySource<'a> {
+    /// A source that gives these pieces.
+    pub fn new(pieces: &'a [Piece]) -> MemorySource<'a>
+        ensures left { source_left result ≡ Some (told_bytes pieces.now) }
+        ensures stop { source_stop result ≡ Some (told_stop pieces.now) }
+        ensures faults { result.faults ≡ 0 }
+    {
+        MemorySource {
+            piece: &[],
+            pieces,
+            faults: 0,
+        }
+    }
+}
+
+impl<'a> Source for MemorySource<'a> {
+    ghost left = { λ s. source_left s };
+
+    ghost stop = { λ s. source_stop s };
+
+    ghost faults = { λ s. s.faults };
+
+    fn read(&mut self, buf: &mut [u8]) -> Result<usize, Failed> {
+        while self.piece.is_empty() {
+            let Some((piece, pieces)) = self.pieces.split_first() else {
+                return Ok(0);
+            };
+            self.pieces = pieces;
+            match piece {
+                Piece::Bytes(bytes) => self.piece = bytes.as_slice(),
+                Piece::Fault => {
+                    self.faults = self.faults.saturating_add(1);
+                    return Err(Failed);
+                }
+            }
+        }
+        let count = self.piece.len().min(buf.len());
+        let (front, rest) = self.piece.split_at(count);
+        buf[..count].copy_from_slice(front);
+        self.piece = rest;
+        Ok(count)
+    }
+
+    ghost told_together = { λ s e. told_of_no_more (s.faults == 0) (s.piece.now ++ told_bytes s.pieces.now) (told_stop s.pieces.now) e };
+}
+
+/// A sink in memory. It tells its bytes, and where its one write fails.
+#[derive(Drop)]
+pub struct MemorySink {
+    bytes: Vec<u8>,
+    room: Option<u64>,
+    takes_fds: bool,
+    faults: u64,
+}
+
+impl MemorySink {
+    /// An empty sink of which no write fails.
+    pub fn new(alloc: Global, takes_fds: bool) -> MemorySink
+        ensures bytes { result.bytes.items ≡ [] }
+        ensures room { result.room ≡ None }
+        ensures fds { result.takes_fds ≡ takes_fds }
+        ensures faults { result.faults ≡ 0 }
+    {
+        MemorySink {
+            bytes: Vec::new(alloc),
+            room: None,
+            takes_fds,
+            faults: 0,
+        }
+    }
+
+    /// An empty sink that fails the one write that would go past `count` bytes, and takes whatever comes after it.
+    pub fn with_fault(alloc: Global, count: u64, takes_fds: bool) -> MemorySink
+        ensures bytes { result.bytes.items ≡ [] }
+        ensures room { result.room ≡ Some count }
+        ensures fds { result.takes_fds ≡ takes_fds }
+        ensures faults { result.faults ≡ 0 }
+    {
+        MemorySink {
+            bytes: Vec::new(alloc),
+            room: Some(count),
+            takes_fds,
+            faults: 0,
+        }
+    }
+
+    /// The bytes that the sink holds.
+    pub fn bytes(&self) -> &[u8]
+        ensures { result.now ≡ self.now.bytes.items }
+    {
+        self.bytes.as_slice()
+    }
+
+    /// The bytes that the sink holds.
+    pub fn into_bytes(self) -> Vec<u8>
+        ensures { result.items ≡ self.bytes.items }
+    {
+        self.bytes
+    }
+}
+
+fn append(bytes: &mut Vec<u8>, piece: &[u8]) -> Result<(), Refusal>
+    ensures ok { OnOk result (bytes.new.items ≡ bytes.old.items ++ piece.now) }
+    ensures err { IfErr result (λ e. (e ≡ Memory) × (bytes.new.items ≡ bytes.old.items)) }
+{
+    match bytes.extend_from_slice(piece) {
+        Ok(()) => Ok(()),
+        Err(_) => Err(Refusal::Memory),
+    }
+}
+
+impl Sink for MemorySink {
+    ghost held = { λ s. Some s.bytes.items };
+
+    ghost room = { λ s. Some s.room };
+
+    ghost faults = { λ s. s.faults };
+
+    ghost takes = { λ s. s.takes_fds };
+
+    // all that there is room for is taken at once
+    fn write(&mut self, piece: &[u8]) -> Result<usize, Refusal>
+        ensures bytes { Writes result piece.now (Some self.old.bytes.items) (Some self.new.bytes.items) (Some self.old.room) (Some self.new.room) self.old.faults self.new.faults }
+        ensures fds { self.new.takes_fds ≡ self.old.takes_fds }
+        ensures all { IfOk result (λ count. count ≡ option_map_or (λ room. min room (length piece.now)) self.old.room (length piece.now)) }
+    {
+        let Some(room) = self.room else {
+            append(&mut self.bytes, piece)?;
+            return Ok(piece.len());
+        };
+        if piece.is_empty() {
+            return Ok(0);
+        }
+        if room == 0 {
+            self.room = None;
+            self.faults = self.faults.saturating_add(1);
+            return Err(Refusal::Failed);
+        }
+        let count = room.min(piece.len() as u64);
+        append(&mut self.bytes, &piece[..count as usize])?;
+        self.room = Some(room - count);
+        Ok(count as usize)
+    }
+
+    fn close(&mut self) -> Result<(), Failed> {
+        Ok(())
+    }
+
+    fn takes_fds(&self) -> bool {
+        self.takes_fds
+    }
+
+    ghost told_together = { λ s e. Prim.cc };
+}

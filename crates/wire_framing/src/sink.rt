@@ -1,0 +1,46 @@
+ghost use Rattle.std.specs.Prelude.{ℕ, ◌≡◌, List, Bool, Option, None};
+ghost use Rattle.wire_framing.specs.Sink.{Writes, Closes};
+
+use crate::source::Failed;
+
+/// Why a sink didn't take a piece.
+#[derive(Clone, Copy, PartialEq, Eq, Debug)]
+pub enum Refusal {
+    /// The sink failed.
+    Failed,
+    /// There is no memory.
+    Memory,
+}
+
+/// Where bytes go.
+pub trait Sink {
+    // the bytes that it holds, where that is told
+    ghost held: { Self → Option (List ℕ) };
+
+    // the number of bytes that it still takes before the one write that fails, or that no write fails, where that is told
+    ghost room: { Self → Option (Option ℕ) };
+
+    // how many calls have failed; it never falls, and stays at 2^64 - 1
+    ghost faults: { Self → ℕ };
+
+    // whether it takes file descriptors
+    ghost takes: { Self → Bool };
+
+    /// Appends the piece's first bytes, and says how many: at least one, unless it is empty. Failed only where the count
+    /// of faults rose; an error appends nothing.
+    fn write(&mut self, piece: &[u8]) -> Result<usize, Refusal>
+        ensures bytes { Writes result piece.now (held self.old) (held self.new) (room self.old) (room self.new) (faults self.old) (faults self.new) }
+        ensures fds { takes self.new ≡ takes self.old };
+
+    /// Says that no more bytes come. Failed only where the count of faults rose, and never where room is told.
+    fn close(&mut self) -> Result<(), Failed>
+        ensures bytes { Closes result (held self.old) (held self.new) (room self.old) (room self.new) (faults self.old) (faults self.new) }
+        ensures fds { takes self.new ≡ takes self.old };
+
+    /// Whether the sink takes file descriptors.
+    fn takes_fds(&self) -> bool
+        ensures { result ≡ takes self.now };
+
+    // room is told only where the bytes are
+    ghost told_together: { (sink : Self) → held sink ≡ None → room sink ≡ None };
+}

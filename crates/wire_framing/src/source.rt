@@ -1,0 +1,26 @@
+ghost use Rattle.std.specs.Prelude.{ℕ, ◌≡◌, List, Bool, Option, None};
+ghost use Rattle.wire_framing.specs.Source.{Reads};
+
+/// A call of a source or a sink failed.
+#[derive(Clone, Copy, PartialEq, Eq, Debug)]
+pub struct Failed;
+
+/// Where bytes come from.
+pub trait Source {
+    // the bytes that are left before the first failing call, or before the end, where that is told
+    ghost left: { Self → Option (List ℕ) };
+
+    // whether a failing call comes after them, where that is told
+    ghost stop: { Self → Option Bool };
+
+    // how many calls have failed; it never falls, and stays at 2^64 - 1
+    ghost faults: { Self → ℕ };
+
+    /// Puts the next bytes at the buffer's front, and says how many; for a buffer that isn't empty 0 comes only at the
+    /// end. Failed only where the count of faults rose.
+    fn read(&mut self, buf: &mut [u8]) -> Result<usize, Failed>
+        ensures { Reads result buf.new (left self.old) (left self.new) (stop self.old) (stop self.new) (faults self.old) (faults self.new) };
+
+    // a failing call is told of only where the bytes before it are
+    ghost told_together: { (source : Self) → left source ≡ None → stop source ≡ None };
+}

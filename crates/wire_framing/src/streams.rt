@@ -1,0 +1,100 @@
+//! The trusted edge: a reader as a source, a writer as a sink. They tell the bytes that the reader or the writer tells, and
+//! nothing of faults to come.
+ghost use Rattle.std.specs.Prelude.{◌≡◌, false, None, refl};
+
+use crate::sink::{Refusal, Sink};
+use crate::source::{Failed, Source};
+use std::io::{ErrorKind, Read, Write};
+
+/// A source over a reader, as `rt.stdin()`. Each error of the reader is a fault, an interrupted read among them.
+#[derive(Drop)]
+pub struct StdSource<R> {
+    reader: R,
+    faults: u64,
+}
+
+impl<R: Read> StdSource<R> {
+    /// A source of what the reader has left.
+    pub fn new(reader: R) -> StdSource<R>
+        ensures reader { result.reader ≡ reader }
+        ensures faults { result.faults ≡ 0 }
+    {
+        StdSource { reader, faults: 0 }
+    }
+}
+
+impl<R: Read> Source for StdSource<R> {
+    ghost left = { λ s. R.remaining s.reader };
+
+    ghost stop = { λ s. None };
+
+    ghost faults = { λ s. s.faults };
+
+    fn read(&mut self, buf: &mut [u8]) -> Result<usize, Failed> {
+        match self.reader.read(buf) {
+            Ok(count) => Ok(count),
+            Err(_) => {
+                self.faults = self.faults.saturating_add(1);
+                Err(Failed)
+            }
+        }
+    }
+
+    ghost told_together = { λ s e. refl };
+}
+
+/// A sink over a writer, as `io::writer(&rt)`, which writes straight out. Each error of the writer but want of memory is a
+/// fault, an interrupted write among them, and so is a write that takes nothing. It takes no file descriptors.
+#[derive(Drop)]
+pub struct StdSink<W> {
+    writer: W,
+    faults: u64,
+}
+
+impl<W: Write> StdSink<W> {
+    /// A sink that appends to what the writer holds.
+    pub fn new(writer: W) -> StdSink<W>
+        ensures writer { result.writer ≡ writer }
+        ensures faults { result.faults ≡ 0 }
+    {
+        StdSink { writer, faults: 0 }
+    }
+}
+
+impl<W: Write> Sink for StdSink<W> {
+    ghost held = { λ s. W.contents s.writer };
+
+    ghost room = { λ s. None };
+
+    ghost faults = { λ s. s.faults };
+
+    ghost takes = { λ s. false };
+
+    fn write(&mut self, piece: &[u8]) -> Result<usize, Refusal> {
+        match self.writer.write(piece) {
+            Ok(count) if count > 0 || piece.is_empty() => Ok(count),
+            Err(e) if e.kind() == ErrorKind::OutOfMemory => Err(Refusal::Memory),
+            _ => {
+                self.faults = self.faults.saturating_add(1);
+                Err(Refusal::Failed)
+            }
+        }
+    }
+
+    /// Flushes the writer, so that what a buffered one holds goes out.
+    fn close(&mut self) -> Result<(), Failed> {
+        match self.writer.flush() {
+            Ok(()) => Ok(()),
+            Err(_) => {
+                self.faults = self.faults.saturating_add(1);
+                Err(Failed)
+            }
+        }
+    }
+
+    fn takes_fds(&self) -> bool {
+        false
+    }
+
+    ghost told_together = { λ s e. refl };
+}

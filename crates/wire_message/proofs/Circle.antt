@@ -1,0 +1,69 @@
+-- Steps round the circle of serials.
+use Rattle.std.proofs.Common.{◌≡◌, ℕ, ◌+◌, ◌-◌, ◌%◌, ◌≤◌, ◌<◌, zero, suc, refl, sym, ◌∙◌, ap, arith, Bool, true, false, inl, inr}
+use Rattle.std.proofs.Math.Nat.{mod-add-mod, add-mod_right, mod-eq_of_lt, eq-or-lt_of_le}
+use Rattle.std.proofs.lemmas.Bool.{cases_lt}
+use Rattle.wire_message.specs.Circle.{serial_after, IsNext, AllTaken}
+
+-- after `tried` candidates: the last of them is the candidate, and each was taken
+pub record Tried (taken : ℕ → Bool) (last tried candidate : ℕ) : Type 0 where
+  pub within : tried ≤ 4294967295
+  pub first : tried ≡ 0 → candidate ≡ last
+  pub later : 1 ≤ tried → candidate ≡ serial_after last tried
+  pub taken_all : (k : ℕ) → 1 ≤ k → k ≤ tried → taken (serial_after last k) ≡ true
+
+-- the next candidate is the next round the circle
+pub after-tried : (taken : ℕ → Bool) (last tried candidate : ℕ) → last ≤ 4294967295 → Tried taken last tried candidate → candidate % 4294967295 + 1 ≡ serial_after last (tried + 1)
+after-tried taken last zero candidate h t = rw (t.first refl) (let e : last + (0 + 1) - 1 ≡ last = omega arith in rw e refl)
+after-tried taken last (suc k) candidate h t =
+    rw (t.later (omega arith))
+    (rw (mod-add-mod (last + suc k - 1) 4294967295 1)
+    (let e : last + (suc k + 1) - 1 ≡ last + suc k - 1 + 1 = omega arith in rw e refl))
+
+small_mod : (n : ℕ) → n < 4294967295 → n % 4294967295 ≡ n
+small_mod n h = mod-eq_of_lt h
+
+-- a place on the round
+place_after : (last serial : ℕ) → 1 ≤ serial → serial ≤ 4294967295 → last < serial → serial_after last (serial - last) ≡ serial
+place_after last serial one limit h =
+    let e : last + (serial - last) - 1 ≡ serial - 1 = omega arith in
+    rw e (rw (small_mod (serial - 1) (omega arith)) (omega arith))
+
+place_before : (last serial : ℕ) → 1 ≤ serial → serial ≤ last → last ≤ 4294967295 → serial_after last (serial + 4294967295 - last) ≡ serial
+place_before last serial one h limit =
+    let e : last + (serial + 4294967295 - last) - 1 ≡ serial - 1 + 4294967295 = omega arith in
+    rw e (rw (add-mod_right (serial - 1) 4294967295) (rw (small_mod (serial - 1) (omega arith)) (omega arith)))
+
+-- each serial is met on one whole round
+pub round_all : (taken : ℕ → Bool) (last candidate : ℕ) → last ≤ 4294967295 → Tried taken last 4294967295 candidate → AllTaken taken
+round_all taken last candidate h t serial one limit =
+    elim (cases_lt last serial) as (λ _. taken serial ≡ true) [
+      | inl p ↦ ap taken (sym (place_after last serial one limit p)) ∙ t.taken_all (serial - last) (omega arith) (omega arith)
+      | inr p ↦ ap taken (sym (place_before last serial one p h)) ∙ t.taken_all (serial + 4294967295 - last) (omega arith) (omega arith)
+    ]
+
+-- where the next candidate isn't taken, it is the next serial
+pub next-of : (taken : ℕ → Bool) (last tried candidate serial : ℕ) → last ≤ 4294967295 → Tried taken last tried candidate → tried < 4294967295
+    → serial ≡ candidate % 4294967295 + 1 → taken serial ≡ false → IsNext taken last serial
+next-of taken last tried candidate serial h t below e free = record {
+  place = tried + 1;
+  one = omega arith;
+  round = omega arith;
+  there = e ∙ after-tried taken last tried candidate h t;
+  free = free;
+  first = λ k one less. t.taken_all k one (omega arith);
+}
+
+-- where it is taken, one more was tried
+pub tried_more : (taken : ℕ → Bool) (last tried candidate serial : ℕ) → last ≤ 4294967295 → Tried taken last tried candidate → tried < 4294967295
+    → serial ≡ candidate % 4294967295 + 1 → taken serial ≡ true → Tried taken last (tried + 1) serial
+tried_more taken last tried candidate serial h t below e is_taken = record {
+  within = omega arith;
+  first = λ z. absurd (omega arith);
+  later = λ _. e ∙ after-tried taken last tried candidate h t;
+  taken_all = λ k one most. elim (eq-or-lt_of_le most) as (λ _. taken (serial_after last k) ≡ true) [
+    | inl p ↦ rw p (ap taken (sym (e ∙ after-tried taken last tried candidate h t)) ∙ is_taken)
+    | inr p ↦ t.taken_all k one (omega arith)
+  ];
+}
+
+pub ruleset round = (tried_more)

@@ -1,0 +1,4 @@
+pub mod CallLength
+pub mod Circle
+pub mod Fields
+pub mod Grammar

@@ -1,0 +1,13 @@
+use Rattle.std.proofs.Common.{arith, sym, ◌∙◌, ◌≡◌}
+use Rattle.wire_message.proofs.Circle.{next-of, round_all}
+use Rattle.wire_message.proofs.serials.next_after.Goals as goal
+
+-- the candidate isn't pending
+pub returns-then-not-taken-clause-next : goal.returns-then-not-taken-clause-next
+returns-then-not-taken-clause-next g c = next-of (g.T.Taken.is_taken c.args.taken.now) c.args.last c.loop.counter c.loop.candidate _ (omega arith) c.loop.invariant c.loop-test.true c.after-candidate.ensures (sym c.taken.ensures ∙ c.if-not-taken.true)
+
+-- the whole round was pending
+pub returns-clause-none : goal.returns-clause-none
+returns-clause-none g c =
+    let e : c.loop.counter ≡ 4294967295 = omega arith in
+    round_all (g.T.Taken.is_taken c.args.taken.now) c.args.last c.loop.candidate (omega arith) (rw e at c.loop.invariant)

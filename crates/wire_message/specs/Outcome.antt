@@ -1,0 +1,89 @@
+-- What a read takes from the bytes that are left (D-Bus Specification, "Message Protocol").
+use Rattle.std.specs.Prelude.{ℕ, ◌≡◌, ◌+◌, ◌^◌, ◌-◌, Bool, not, ◌||◌, ◌&&◌, ◌==◌, nat_lt, nat_le, is_none, if◌then◌else◌, List, [], ◌∷◌, length, take, slice_index, Option, Some, None, Result, Ok, Err}
+use Rattle.wire_message.specs.Numbers.{word_at}
+use Rattle.wire_message.specs.Front.{Seen, total, field_bytes}
+use Rattle.wire_message.specs.declared.kind.MessageType.{MessageType}
+use Rattle.wire_message.specs.declared.kind.MessageType.TheVariants as types
+use Rattle.wire_message.specs.declared.error.Error.{Error}
+use Rattle.wire_message.specs.declared.error.Error.TheVariants as errors
+use Rattle.wire_message.specs.declared.error.IoKind.{IoKind}
+use Rattle.wire_message.specs.declared.error.IoKind.TheVariants as kinds
+use Rattle.wire_signature.specs.declared.error.VariantError.TheVariants as faults
+
+-- the message type of a byte
+abbrev pub kind_of : ℕ → Option MessageType
+kind_of code =
+    if code == 1 then Some types.MethodCall
+    else if code == 2 then Some types.MethodReturn
+    else if code == 3 then Some types.Error
+    else if code == 4 then Some types.Signal
+    else None
+
+-- a header that is refused by its type, its flags or its serial
+abbrev pub is_refused : List ℕ → Bool
+is_refused bytes = is_none (kind_of (slice_index bytes 1)) || nat_lt 7 (slice_index bytes 2) || (word_at 8 bytes == 0)
+
+-- what is wrong with the first 16 bytes: the first case that holds
+abbrev pub head_fault : List ℕ → Option Error
+head_fault bytes =
+    if not (slice_index bytes 0 == 108) then Some errors.IncorrectEndian
+    else if is_refused bytes then Some (errors.Variant faults.Malformed)
+    else if nat_lt 134217728 (total bytes) then Some errors.ExcessData
+    else None
+
+-- The reply serial in the eight bytes of a header field: field 5, of type u, not 0.
+abbrev pub reply_of : List ℕ → Option ℕ
+reply_of bytes =
+    if (slice_index bytes 0 == 5) && (slice_index bytes 1 == 1) && (slice_index bytes 2 == 117) && (slice_index bytes 3 == 0)
+    && not (word_at 4 bytes == 0)
+    then Some (word_at 4 bytes) else None
+
+abbrev pub then_field : Option ℕ → (ℕ → Option (Option ℕ)) → Option (Option ℕ)
+then_field None more = None
+then_field (Some serial) more = more serial
+
+-- The reply serial of a field array, the one given where it has none; nothing where the bytes are no field array.
+abbrev pub reply_in : Option ℕ → List ℕ → Option (Option ℕ)
+reply_in last [] = Some last
+reply_in last (a ∷ b ∷ c ∷ d ∷ e ∷ f ∷ g ∷ h ∷ rest) =
+    then_field (reply_of (a ∷ b ∷ c ∷ d ∷ e ∷ f ∷ g ∷ h ∷ [])) (λ serial. reply_in (Some serial) rest)
+reply_in last bytes = None
+
+abbrev pub message_by : List ℕ → Option MessageType → Option (Option ℕ) → Result Seen Error
+message_by bytes (Some kind) (Some reply) =
+    Ok (record { bytes = take (total bytes) bytes; position = 0; kind = kind; serial = word_at 8 bytes; reply_serial = reply })
+message_by bytes kind reply = Err (errors.Variant faults.Malformed)
+
+abbrev pub then_message : List ℕ → IoKind → Option Error → Result Seen Error
+then_message bytes ending (Some error) = Err error
+then_message bytes ending None =
+    if nat_lt (length bytes) (total bytes) then Err (errors.InputOutput ending)
+    else message_by bytes (kind_of (slice_index bytes 1)) (reply_in None (field_bytes bytes))
+
+-- The message at the front of the bytes, or what a reader finds in its place; after the bytes comes the ending.
+abbrev pub front_outcome : List ℕ → IoKind → Result Seen Error
+front_outcome bytes ending =
+    if nat_lt (length bytes) 16 then Err (errors.InputOutput ending)
+    else then_message bytes ending (head_fault bytes)
+
+abbrev pub placed : ℕ → Result Seen Error → Result Seen Error
+placed position (Ok m) = Ok (record m { position = position })
+placed position (Err error) = Err error
+
+-- What a read gives: `count` messages were read before it, `bytes` are all that is left, and after them comes the
+-- ending. No message has a position above 2^64 - 2.
+unfoldable pub outcome : ℕ → List ℕ → IoKind → Result Seen Error
+outcome count bytes ending =
+    if nat_le (2 ^ 64 - 2) count then Err (errors.InputOutput kinds.Ended)
+    else placed (count + 1) (front_outcome bytes ending)
+
+-- what the total of the first 16 bytes gives
+abbrev pub TellsTotal : Result ℕ Error → List ℕ → Type 0
+TellsTotal (Ok n) bytes = (head_fault bytes ≡ None) × (n ≡ total bytes)
+TellsTotal (Err error) bytes = head_fault bytes ≡ Some error
+
+-- What was given is what was found; want of memory, which has no cause here, may stand in its place.
+abbrev pub Tells : {A B : Type 0} → (A → B) → Result A Error → Result B Error → Type 0
+Tells view (Ok x) found = found ≡ Ok (view x)
+Tells view (Err errors.Memory) found = Unit {0}
+Tells view (Err error) found = found ≡ Err error

@@ -1,0 +1,5 @@
+pub mod Shape
+pub mod ShapeCode
+pub mod TypeView
+pub mod TypeFalls
+pub mod Parsing

@@ -1,0 +1,84 @@
+-- Types as trees of numbers, by which a proof tells them apart.
+use Rattle.std.specs.Prelude.{◌≡◌, ℕ, zero, suc, refl, Some, unwrap_or}
+use Rattle.std.proofs.Common.{sym, ◌∙◌, ap}
+use base.Stored.{Coded, Gv, gnil, gnum, gcons}
+use Rattle.wire_signature.specs.declared.basic.BasicType.{BasicType}
+use Rattle.wire_signature.specs.declared.basic.BasicType.TheVariants.{Byte, Boolean, Int16, Uint16, Int32, Uint32, Int64, Uint64, Double, String, ObjectPath, Signature, UnixFd}
+use Rattle.wire_signature.specs.Shape.{Shape, basic, variant, array, dict, struct, Shapes, no_shapes, shapes, letter, basic_of}
+
+pub basic_of-letter : (b : BasicType) → basic_of (letter b) ≡ Some b
+basic_of-letter Byte = refl
+basic_of-letter Boolean = refl
+basic_of-letter Int16 = refl
+basic_of-letter Uint16 = refl
+basic_of-letter Int32 = refl
+basic_of-letter Uint32 = refl
+basic_of-letter Int64 = refl
+basic_of-letter Uint64 = refl
+basic_of-letter Double = refl
+basic_of-letter String = refl
+basic_of-letter ObjectPath = refl
+basic_of-letter Signature = refl
+basic_of-letter UnixFd = refl
+
+-- the basic type of a code; of other numbers nothing is said
+abbrev pub basic_at : ℕ → BasicType
+basic_at n = unwrap_or (basic_of n) Byte
+
+basic_at-letter : (b : BasicType) → basic_at (letter b) ≡ b
+basic_at-letter b = ap (λ o. unwrap_or o Byte) (basic_of-letter b)
+
+pub letter-inj : (x y : BasicType) → letter x ≡ letter y → x ≡ y
+letter-inj x y e = sym (basic_at-letter x) ∙ ap basic_at e ∙ basic_at-letter y
+
+abbrev mutual
+  pub code : Shape → Gv
+  code (basic b) = gcons (gnum 0) (gnum (letter b))
+  code variant = gnil
+  code (array t) = gcons (gnum 1) (code t)
+  code (dict k v) = gcons (gcons (gnum 0) (gnum (letter k))) (code v)
+  code (struct ts) = gcons (gnum 2) (codes ts)
+
+  pub codes : Shapes → Gv
+  codes no_shapes = gnil
+  codes (shapes t ts) = gcons (code t) (codes ts)
+
+abbrev pub number_in : Gv → ℕ
+number_in gnil = 0
+number_in (gnum n) = n
+number_in (gcons a b) = 0
+
+-- which form a pair of numbers is the code of: its mark, the type in its second part, and the list there
+abbrev pub form_of : Gv → ℕ → Shape → Shapes → Shape
+form_of gnil n t ts = variant
+form_of (gnum zero) n t ts = basic (basic_at n)
+form_of (gnum (suc zero)) n t ts = array t
+form_of (gnum (suc (suc m))) n t ts = struct ts
+form_of (gcons a b) n t ts = dict (basic_at (number_in b)) t
+
+-- a tree read as a type, and as a list of types
+abbrev pub back : Gv → Shape × Shapes
+back gnil = (variant, no_shapes)
+back (gnum n) = (variant, no_shapes)
+back (gcons a b) = (form_of a (number_in b) (back b).0 (back b).1, shapes (back a).0 (back b).1)
+
+mutual
+  pub back-code : (t : Shape) → (back (code t)).0 ≡ t
+  back-code (basic b) = ap basic (basic_at-letter b)
+  back-code variant = refl
+  back-code (array t) = ap array (back-code t)
+  back-code (dict k v) = ap (λ b. dict b (back (code v)).0) (basic_at-letter k) ∙ ap (dict k) (back-code v)
+  back-code (struct ts) = ap struct (back-codes ts)
+
+  pub back-codes : (ts : Shapes) → (back (codes ts)).1 ≡ ts
+  back-codes no_shapes = refl
+  back-codes (shapes t ts) = ap (λ u. shapes u (back (codes ts)).1) (back-code t) ∙ ap (shapes t) (back-codes ts)
+
+pub code-inj : (t u : Shape) → code t ≡ code u → t ≡ u
+code-inj t u e = sym (back-code t) ∙ ap (λ g. (back g).0) e ∙ back-code u
+
+abbrev pub shape_code : Coded Shape
+shape_code = record { code = code; inj = code-inj }
+
+abbrev pub basic_code : Coded BasicType
+basic_code = record { code = λ b. gnum (letter b); inj = λ x y e. letter-inj x y (ap number_in e) }

@@ -1,0 +1,38 @@
+//! What types and their texts owe one another.
+ghost use Rattle.std.specs.Prelude.{◌≡◌, List, ℕ, Some};
+ghost use Rattle.wire_signature.specs.Shape.{Shape, SignatureText, TypeText};
+ghost use Rattle.wire_signature.specs.Parsing.{type_in, types_in};
+
+/// A text is the signature of at most one list of types.
+pub fn one_list_of_types()
+    ensures { (types others : List Shape) (bytes : List ℕ)
+        → SignatureText types bytes → SignatureText others bytes → types ≡ others }
+{}
+
+/// A list of types has at most one text.
+pub fn one_signature_text()
+    ensures { (types : List Shape) (bytes others : List ℕ)
+        → SignatureText types bytes → SignatureText types others → bytes ≡ others }
+{}
+
+/// A text is that of at most one type.
+pub fn one_type()
+    ensures { (first second : Shape) (bytes : List ℕ) → TypeText first bytes → TypeText second bytes → first ≡ second }
+{}
+
+/// A type has at most one text.
+pub fn one_type_text()
+    ensures { (shape : Shape) (bytes others : List ℕ) → TypeText shape bytes → TypeText shape others → bytes ≡ others }
+{}
+
+/// Reading a text from left to right finds the types of which it is the signature, and nothing else.
+pub fn reading_a_signature()
+    ensures found { (types : List Shape) (bytes : List ℕ) → types_in bytes ≡ Some types → SignatureText types bytes }
+    ensures all { (types : List Shape) (bytes : List ℕ) → SignatureText types bytes → types_in bytes ≡ Some types }
+{}
+
+/// Reading a text from left to right finds the one type that it spells, and nothing else.
+pub fn reading_a_type()
+    ensures found { (shape : Shape) (bytes : List ℕ) → type_in bytes ≡ Some shape → TypeText shape bytes }
+    ensures all { (shape : Shape) (bytes : List ℕ) → TypeText shape bytes → type_in bytes ≡ Some shape }
+{}

@@ -1,0 +1,100 @@
+//! Signatures.
+use crate::error::VariantError;
+use crate::read::read_types;
+use crate::text::{MAX_ARRAYS, MAX_LENGTH, MAX_STRUCTS, ROOM};
+use crate::value_type::{ValueType, copies_of, write_types};
+use crate::walk::End;
+use std::alloc::{AllocError, Global};
+use std::marker::Model;
+
+/// A list of complete types, as the signature of a message's body (D-Bus Specification, "Valid Signatures").
+#[derive(Drop)]
+pub struct Signature {
+    types: Vec<ValueType>,
+}
+
+impl Model for Signature {
+    ghost use Rattle.std.specs.Prelude.{List};
+    ghost use Rattle.std.specs.Coded.{coded_list};
+    ghost use Rattle.wire_signature.specs.Shape.{Shape, IsSignature};
+    ghost use Rattle.wire_signature.specs.ShapeCode.{shape_code};
+
+    ghost Value = { List Shape };
+
+    ghost coded = { coded_list shape_code };
+
+    ghost view = { λ s. s.types.items };
+
+    ghost invariant = { λ s. IsSignature s.types.items };
+}
+
+impl Signature {
+    ghost use Rattle.std.specs.Prelude.{◌≡◌, ◌↔◌, [], IfOk, IsTrue, string_bytes};
+    ghost use Rattle.wire_signature.specs.Shape.{IsSignature, SignatureText};
+    ghost use Rattle.wire_signature.specs.Parsing.{GivesType, TellsSignature, types_in};
+
+    #[tactic(auto, unfolding(crate::specs::Parsing::types_in, crate::specs::Parsing::first_at))]
+    fn read(alloc: Global, text: &str) -> Result<Signature, VariantError>
+        ensures { GivesType result (types_in text.now) }
+    {
+        if text.len() > MAX_LENGTH {
+            return Err(VariantError::Signature);
+        }
+        let (types, _) = read_types(
+            alloc,
+            End::Text,
+            ROOM,
+            MAX_ARRAYS,
+            MAX_STRUCTS,
+            text.as_bytes(),
+        )?;
+        Ok(Signature { types })
+    }
+
+    /// The signature that a text spells. `Signature` comes exactly where the text is outside the grammar or the
+    /// limits: more than 255 bytes, or more than 32 arrays or 32 structs in one another.
+    pub fn try_from(alloc: Global, text: &str) -> Result<Signature, VariantError>
+        ensures told { TellsSignature result text.now }
+        ensures read { GivesType result (types_in text.now) }
+    {
+        Signature::read(alloc, text)
+    }
+
+    /// The signature of these types, which together are one.
+    pub fn from_types(types: Vec<ValueType>) -> Signature
+        requires { IsSignature types.items }
+        ensures { result ≡ types.items }
+    {
+        Signature { types }
+    }
+
+    /// The complete types, in their order.
+    pub fn types(&self) -> &[ValueType]
+        ensures types { result.now ≡ self.now }
+        ensures valid { IsSignature self.now }
+    {
+        self.types.as_slice()
+    }
+
+    /// Whether there are no types: the signature of an empty body.
+    pub fn is_unit(&self) -> bool
+        ensures { IsTrue result ↔ (self.now ≡ []) }
+    {
+        self.types.is_empty()
+    }
+    /// The one text of the signature (D-Bus Specification, "Valid Signatures").
+    pub fn to_text(&self, alloc: Global) -> Result<String, AllocError>
+        ensures { IfOk result (λ text. SignatureText self.now (string_bytes text)) }
+    {
+        let mut text = String::new(alloc);
+        write_types(&mut text, self.types())?;
+        Ok(text)
+    }
+
+    /// A copy. It fails only for want of memory.
+    pub fn try_clone(&self, alloc: Global) -> Result<Signature, AllocError>
+        ensures { IfOk result (λ copy. copy ≡ self.now) }
+    {
+        Ok(Signature::from_types(copies_of(alloc, self.types())?))
+    }
+}
