@@ -4,3 +4,7 @@ pub mod Slots
 pub mod Core
 pub mod NextSerial
 pub mod Steps
+pub mod Once
+pub mod Read
+pub mod Others
+pub mod Lanes

@@ -3,3 +3,4 @@ pub mod Trail
 pub mod Answers
 pub mod Told
 pub mod Left
+pub mod Laws

@@ -1,4 +1,7 @@
-use crate::{Issued, PendingMethodCalls, Polled, Route};
+use crate::{
+    Issued, PendingMethodCalls, Polled, Route, answered_by_the_closing_error,
+    answered_by_the_first, answered_once, reply_changes_no_other, spent_changes_no_other,
+};
 use std::alloc::Global;
 use std::test::Fail;
 use wire_message::{Error, IoKind, Message, Taken, header_front};
@@ -105,5 +108,15 @@ fn a_reply_goes_to_its_call(rt: HostRuntime) -> Result<(), Fail> {
     calls.fail_all(Error::ExcessData);
     assert_eq!(rt; calls.closing(), Some(Error::ExcessData));
     assert!(rt; matches!(calls.poll(0)?, Polled::Closed(Error::ExcessData)));
+    Ok(())
+}
+
+#[test]
+fn laws_are_calls_that_do_nothing(_rt: HostRuntime) -> Result<(), Fail> {
+    answered_once();
+    answered_by_the_first();
+    answered_by_the_closing_error();
+    reply_changes_no_other();
+    spent_changes_no_other();
     Ok(())
 }

@@ -5,3 +5,6 @@ pub mod Pieces
 pub mod Written
 pub mod Read
 pub mod Grammar
+pub mod Spelling
+pub mod Again
+pub mod Reread

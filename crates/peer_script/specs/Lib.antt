@@ -4,3 +4,4 @@ pub mod Transcript
 pub mod Reading
 pub mod Steps
 pub mod Output
+pub mod Again

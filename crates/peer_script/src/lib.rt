@@ -13,7 +13,7 @@ mod transcript;
 mod word;
 
 pub use error::ScriptError;
-pub use laws::script_texts_are_read;
+pub use laws::{script_texts_are_read, transcripts_are_read_again};
 pub use output::write_all;
 pub use script::{Setup, Word, read_script};
 pub use transcript::{Transcript, write_transcript};

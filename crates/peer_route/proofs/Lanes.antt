@@ -1,0 +1,123 @@
+-- A lane's number names one call, and a poll changes the answer of that call alone.
+use Rattle.std.proofs.Common.{◌≡◌, ◌≢◌, ℕ, zero, suc, ◌+◌, ◌==◌, if◌then◌else◌, arith, refl, sym, ◌∙◌, ap, true, false, List, [], ◌∷◌, ◌++◌, take, Option, Some, None, Result, Ok, Err, append-nil}
+use Rattle.std.specs.List.{slice_get}
+use Rattle.std.proofs.lemmas.Bool.{eqb-true}
+use Rattle.wire_message.specs.Front.{Seen}
+use Rattle.wire_message.specs.declared.error.Error.{Error}
+use Rattle.wire_message.specs.declared.kind.MessageType.{MessageType}
+use Rattle.wire_message.specs.declared.kind.MessageType.TheVariants as types
+use Rattle.peer_route.specs.declared.polled.Polled.{Polled}
+use Rattle.peer_route.specs.declared.polled.Polled.TheVariants as polled
+use Rattle.peer_route.specs.declared.words.Words.{Words}
+use Rattle.peer_route.specs.declared.words.Words.TheVariants as words
+use Rattle.peer_route.specs.declared.answer.Answer.{Answer}
+use Rattle.peer_route.specs.declared.answer.Answer.TheVariants as answers
+use Rattle.peer_route.specs.declared.answer.Entry.{Entry}
+use Rattle.peer_route.specs.History.{Event, poll_answer}
+use Rattle.peer_route.specs.Trail.{Trail, Names, place, count, trail, poll_spends, events_of, new_names}
+use Rattle.peer_route.specs.Answers.{IsAnswer, Legal, reply_answer, shown, poll_of}
+use Rattle.peer_route.specs.Laws.{poll_now}
+use Rattle.peer_route.proofs.Once.{poll_is}
+use Rattle.peer_route.proofs.Others.{spent_other}
+
+-- ---- a number names one call
+
+-- the call that stands `i` places on belongs to the lane, and so many before it do
+pub record Owned (at lane number : ℕ) (names : Names) (k : ℕ) : Type 0 where
+  pub i : ℕ
+  pub far : k ≡ at + i
+  pub owner : slice_get names i ≡ Some (Some lane)
+  pub before : count lane (take i names) ≡ number
+
+owned_past : (at lane number : ℕ) (names : Names) (k : ℕ) → Owned (at + 1) lane number names k → Owned at lane number (None ∷ names) k
+owned_past at lane number names k o = let far = o.far in record { i = suc o.i; far = omega arith; owner = o.owner; before = o.before }
+
+owned_other : (at lane number l : ℕ) (names : Names) (k : ℕ) → (l == lane) ≡ false → Owned (at + 1) lane number names k → Owned at lane number (Some l ∷ names) k
+owned_other at lane number l names k e o =
+    let far = o.far in
+    record { i = suc o.i; far = omega arith; owner = o.owner; before = ap (λ b. if b then count lane (take o.i names) + 1 else count lane (take o.i names)) e ∙ o.before }
+
+owned_same : (at lane number l : ℕ) (names : Names) (k : ℕ) → (l == lane) ≡ true → Owned (at + 1) lane number names k → Owned at lane (suc number) (Some l ∷ names) k
+owned_same at lane number l names k e o =
+    let far = o.far in
+    let before = o.before in
+    let one_more : count lane (take o.i names) + 1 ≡ suc number = omega arith in
+    record { i = suc o.i; far = omega arith; owner = o.owner; before = ap (λ b. if b then count lane (take o.i names) + 1 else count lane (take o.i names)) e ∙ one_more }
+
+owned_here : (at lane l : ℕ) (names : Names) (k : ℕ) → (l == lane) ≡ true → Some at ≡ Some k → Owned at lane zero (Some l ∷ names) k
+owned_here at lane l names k e here =
+    let same : at ≡ k = cc in
+    record { i = 0; far = omega arith; owner = ap (λ x. Some (Some x)) (eqb-true l lane e); before = refl }
+
+owned : (at lane number : ℕ) (names : Names) (k : ℕ) → place at lane number names ≡ Some k → Owned at lane number names k
+owned at lane number [] k e = cc
+owned at lane number (None ∷ names) k e = owned_past at lane number names k (owned (at + 1) lane number names k e)
+owned at lane zero (Some l ∷ names) k e =
+    elim (l == lane) as (λ b. (l == lane) ≡ b → (if b then Some at else place (at + 1) lane zero names) ≡ Some k → Owned at lane zero (Some l ∷ names) k) [
+      | true ↦ λ same q. owned_here at lane l names k same q
+      | false ↦ λ other q. owned_other at lane zero l names k other (owned (at + 1) lane zero names k q)
+    ] refl e
+owned at lane (suc number) (Some l ∷ names) k e =
+    elim (l == lane) as (λ b. (l == lane) ≡ b → (if b then place (at + 1) lane number names else place (at + 1) lane (suc number) names) ≡ Some k → Owned at lane (suc number) (Some l ∷ names) k) [
+      | true ↦ λ same q. owned_same at lane number l names k same (owned (at + 1) lane number names k q)
+      | false ↦ λ other q. owned_other at lane (suc number) l names k other (owned (at + 1) lane (suc number) names k q)
+    ] refl e
+
+one_call : (names : Names) (lane number lane₂ number₂ k : ℕ) → Owned 0 lane number names k → Owned 0 lane₂ number₂ names k → (lane ≡ lane₂) × (number ≡ number₂)
+one_call names lane number lane₂ number₂ k a b =
+    let far_a = a.far in
+    let far_b = b.far in
+    let same : a.i ≡ b.i = omega arith in
+    let found : Some (Some lane) ≡ Some (Some lane₂) = sym a.owner ∙ ap (slice_get names) same ∙ b.owner in
+    let lanes : lane ≡ lane₂ = cc in
+    (lanes, sym a.before ∙ ap (λ i. count lane (take i names)) same ∙ ap (λ l. count l (take b.i names)) lanes ∙ b.before)
+
+apart : (names : Names) (lane number lane₂ number₂ j k : ℕ) → place 0 lane number names ≡ Some j → place 0 lane₂ number₂ names ≡ Some k → (lane₂ ≡ lane → number₂ ≢ number) → j ≢ k
+apart names lane number lane₂ number₂ j k p q differ same =
+    let one = one_call names lane number lane₂ number₂ k (owned 0 lane number names k (p ∙ ap Some same)) (owned 0 lane₂ number₂ names k q) in
+    differ (sym one.0) (sym one.1)
+
+-- ---- a poll makes no call
+
+reply_names : (h : List Event) (lane position : ℕ) (kind : MessageType) → new_names h lane (reply_answer kind position) ≡ []
+reply_names h lane position types.MethodReturn = refl
+reply_names h lane position types.MethodCall = refl
+reply_names h lane position types.Error = refl
+reply_names h lane position types.Signal = refl
+
+shown_names : (h : List Event) (lane : ℕ) (r : Result (Polled Seen) Error) → new_names h lane (shown r) ≡ []
+shown_names h lane (Ok (polled.Now m)) = reply_names h lane m.position m.kind
+shown_names h lane (Ok polled.NotYet) = refl
+shown_names h lane (Ok (polled.Closed error)) = refl
+shown_names h lane (Err error) = refl
+
+poll_names : (h : List Event) (lane : ℕ) (p : Option ℕ) → new_names h lane (poll_of h p) ≡ []
+poll_names h lane None = refl
+poll_names h lane (Some k) = shown_names h lane (poll_answer h k)
+
+names_kept : (t : Trail) (e : Entry) (number : ℕ) → IsAnswer t e.lane e.words e.answer → e.words ≡ words.Poll number → t.names ++ new_names t.events e.lane e.answer ≡ t.names
+names_kept t e number a w =
+    ap (λ x. t.names ++ new_names t.events e.lane x) (poll_is t e number a w)
+    ∙ ap (λ ns. t.names ++ ns) (poll_names t.events e.lane (place 0 e.lane number t.names))
+    ∙ append-nil t.names
+
+-- ---- what a poll leaves
+
+spends_by : (h : List Event) (j k : ℕ) (a : Answer) → j ≢ k → poll_of (poll_spends (Some j) a ++ h) (Some k) ≡ poll_of h (Some k)
+spends_by h j k (answers.Reply position) ne = ap shown (spent_other h j k ne)
+spends_by h j k (answers.InvalidReply position) ne = ap shown (spent_other h j k ne)
+spends_by h j k (answers.Closed error) ne = ap shown (spent_other h j k ne)
+spends_by h j k a ne = refl
+
+spends_other : (h : List Event) (p q : Option ℕ) (a : Answer) → ((j k : ℕ) → p ≡ Some j → q ≡ Some k → j ≢ k) → poll_of (poll_spends p a ++ h) q ≡ poll_of h q
+spends_other h p None a ne = refl
+spends_other h None (Some k) a ne = refl
+spends_other h (Some j) (Some k) a ne = spends_by h j k a (ne j k refl refl)
+
+pub poll_other : (older : List Entry) (e : Entry) (number lane other : ℕ) → Legal (e ∷ older) → e.words ≡ words.Poll number → (lane ≡ e.lane → other ≢ number)
+    → poll_now (trail (e ∷ older)) lane other ≡ poll_now (trail older) lane other
+poll_other older e number lane other legal w differ =
+    let t = trail older in
+    ap (λ (ns : Names). poll_of (events_of t.events t.names e.lane e.words e.answer ++ t.events) (place 0 lane other ns)) (names_kept t e number legal.0 w)
+    ∙ ap (λ (x : Words). poll_of (events_of t.events t.names e.lane x e.answer ++ t.events) (place 0 lane other t.names)) w
+    ∙ spends_other t.events (place 0 e.lane number t.names) (place 0 lane other t.names) e.answer (λ j k p q. apart t.names e.lane number lane other j k p q differ)

@@ -1,0 +1,147 @@
+-- A call whose answer was given is over for good.
+use Rattle.std.proofs.Common.{◌≡◌, ℕ, zero, suc, ◌+◌, ◌||◌, ◌==◌, if◌then◌else◌, refl, ◌∙◌, ap, subst, Bool, true, false, List, [], ◌∷◌, ◌++◌, map, Option, Some, None, Err}
+use Rattle.std.specs.List.{slice_get, AllByRecursion}
+use Rattle.wire_message.specs.declared.error.Error.TheVariants as errors
+use Rattle.peer_route.specs.declared.words.Words.TheVariants as words
+use Rattle.peer_route.specs.declared.answer.Answer.{Answer}
+use Rattle.peer_route.specs.declared.answer.Answer.TheVariants as answers
+use Rattle.peer_route.specs.declared.answer.Entry.{Entry}
+use Rattle.peer_route.specs.History.{Event, Took, Shut, Put, Wrote, Fault, Spent, Call, calls, new_call, edit, spend, fail_at, done, is_gone, polled_at, poll_answer}
+use Rattle.peer_route.specs.Trail.{Trail, Names, place, trail, poll_spends, events_of, new_names}
+use Rattle.peer_route.specs.Answers.{IsAnswer, Legal, shown, poll_of}
+use Rattle.peer_route.specs.Laws.{IsFinal, IsUnknown}
+
+-- ---- a call that is over
+
+-- the call with this number was made and is over
+abbrev gone_at : List Call → ℕ → Bool
+gone_at [] k = false
+gone_at (c ∷ cs) zero = is_gone c
+gone_at (c ∷ cs) (suc k) = gone_at cs k
+
+gone_append : (cs ds : List Call) (k : ℕ) → gone_at cs k ≡ true → gone_at (cs ++ ds) k ≡ true
+gone_append [] ds k g = cc
+gone_append (c ∷ cs) ds zero g = g
+gone_append (c ∷ cs) ds (suc k) g = gone_append cs ds k g
+
+gone_edit : (j k : ℕ) (cs : List Call) → gone_at cs k ≡ true → gone_at (edit j spend cs) k ≡ true
+gone_edit j k [] g = g
+gone_edit zero zero (c ∷ cs) g = refl
+gone_edit zero (suc k) (c ∷ cs) g = g
+gone_edit (suc j) zero (c ∷ cs) g = g
+gone_edit (suc j) (suc k) (c ∷ cs) g = gone_edit j k cs g
+
+gone_by : (spent failed more : Bool) → (spent || failed) ≡ true → (spent || (failed || more)) ≡ true
+gone_by true failed more g = refl
+gone_by false true more g = refl
+gone_by false false more g = cc
+
+gone_fail : (i k : ℕ) (cs : List Call) → gone_at cs k ≡ true → gone_at (map (fail_at i) cs) k ≡ true
+gone_fail i k [] g = g
+gone_fail i zero (c ∷ cs) g = gone_by c.spent c.failed (c.index == i) g
+gone_fail i (suc k) (c ∷ cs) g = gone_fail i k cs g
+
+gone_event : (e : Event) (h : List Event) (k : ℕ) → gone_at (calls h) k ≡ true → gone_at (calls (e ∷ h)) k ≡ true
+gone_event (Took m) h k g = g
+gone_event (Shut error) h k g = g
+gone_event (Put m true) h k g = gone_append (calls h) (new_call h m ∷ []) k g
+gone_event (Put m false) h k g = g
+gone_event Wrote h k g = g
+gone_event Fault h k g = gone_fail (done h) k (calls h) g
+gone_event (Spent j) h k g = gone_edit j k (calls h) g
+
+gone_events : (es h : List Event) (k : ℕ) → gone_at (calls h) k ≡ true → gone_at (calls (es ++ h)) k ≡ true
+gone_events [] h k g = g
+gone_events (e ∷ es) h k g = gone_event e (es ++ h) k (gone_events es h k g)
+
+gone_spent : (cs : List Call) (k : ℕ) (c : Call) → slice_get cs k ≡ Some c → gone_at (edit k spend cs) k ≡ true
+gone_spent [] k c at = cc
+gone_spent (d ∷ cs) zero c at = refl
+gone_spent (d ∷ cs) (suc k) c at = gone_spent cs k c at
+
+gone_polled : (h : List Event) (cs : List Call) (k : ℕ) → gone_at cs k ≡ true → polled_at h (slice_get cs k) ≡ Err errors.UnknownHandle
+gone_polled h [] k g = cc
+gone_polled h (c ∷ cs) zero g = rw g refl
+gone_polled h (c ∷ cs) (suc k) g = gone_polled h cs k g
+
+gone_shown : (h : List Event) (k : ℕ) → gone_at (calls h) k ≡ true → shown (poll_answer h k) ≡ answers.Refused errors.UnknownHandle
+unfolding poll_answer
+gone_shown h k g = ap shown (gone_polled h (calls h) k g)
+
+-- ---- what a number names stays
+
+pub place_append : (at lane number : ℕ) (names more : Names) (k : ℕ) → place at lane number names ≡ Some k → place at lane number (names ++ more) ≡ Some k
+place_append at lane number [] more k e = cc
+place_append at lane number (None ∷ names) more k e = place_append (at + 1) lane number names more k e
+place_append at lane zero (Some l ∷ names) more k e =
+    elim (l == lane) as (λ b. (if b then Some at else place (at + 1) lane zero names) ≡ Some k → (if b then Some at else place (at + 1) lane zero (names ++ more)) ≡ Some k) [
+      | true ↦ λ q. q
+      | false ↦ λ q. place_append (at + 1) lane zero names more k q
+    ] e
+place_append at lane (suc number) (Some l ∷ names) more k e =
+    elim (l == lane) as (λ b. (if b then place (at + 1) lane number names else place (at + 1) lane (suc number) names) ≡ Some k → (if b then place (at + 1) lane number (names ++ more) else place (at + 1) lane (suc number) (names ++ more)) ≡ Some k) [
+      | true ↦ λ q. place_append (at + 1) lane number names more k q
+      | false ↦ λ q. place_append (at + 1) lane (suc number) names more k q
+    ] e
+
+-- ---- entries
+
+pub poll_is : (t : Trail) (e : Entry) (number : ℕ) → IsAnswer t e.lane e.words e.answer → e.words ≡ words.Poll number → e.answer ≡ poll_of t.events (place 0 e.lane number t.names)
+poll_is t e number a w = subst (λ x. IsAnswer t e.lane x e.answer) w a
+
+final_spends : (k : ℕ) (a : Answer) → IsFinal a → poll_spends (Some k) a ≡ Spent k ∷ []
+final_spends k (answers.Reply position) f = refl
+final_spends k (answers.InvalidReply position) f = refl
+final_spends k (answers.Closed error) f = refl
+final_spends k a f = absurd f
+
+final_made : (h : List Event) (cs : List Call) (k : ℕ) (o : Option Call) → slice_get cs k ≡ o → IsFinal (shown (polled_at h o)) → gone_at (edit k spend cs) k ≡ true
+final_made h cs k None at f = absurd f
+final_made h cs k (Some c) at f = gone_spent cs k c at
+
+-- the number names a call, and the call is over
+abbrev IsOver : Trail → ℕ → ℕ → Type 0
+IsOver t lane number = (k : ℕ) × (place 0 lane number t.names ≡ Some k) × (gone_at (calls t.events) k ≡ true)
+
+final_over : (h : List Event) (p : Option ℕ) (a : Answer) → a ≡ poll_of h p → IsFinal a → (k : ℕ) × (p ≡ Some k) × (gone_at (calls (poll_spends p a ++ h)) k ≡ true)
+unfolding poll_answer
+final_over h None a e f = absurd (subst IsFinal e f)
+final_over h (Some k) a e f =
+    let over : gone_at (edit k spend (calls h)) k ≡ true = final_made h (calls h) k (slice_get (calls h) k) refl (subst IsFinal e f) in
+    (k, refl, rw (final_spends k a f) over)
+
+-- the entry that gave the answer leaves the call over
+over_now : (t : Trail) (e : Entry) (number : ℕ) → IsAnswer t e.lane e.words e.answer → e.words ≡ words.Poll number → IsFinal e.answer
+    → (k : ℕ) × (place 0 e.lane number t.names ≡ Some k) × (gone_at (calls (events_of t.events t.names e.lane e.words e.answer ++ t.events)) k ≡ true)
+over_now t e number a w f = rw w (final_over t.events (place 0 e.lane number t.names) e.answer (poll_is t e number a w) f)
+
+over_after : (e : Entry) (es : List Entry) (number : ℕ) → Legal (e ∷ es) → e.words ≡ words.Poll number → IsFinal e.answer → IsOver (trail (e ∷ es)) e.lane number
+over_after e es number legal w f =
+    let now = over_now (trail es) e number legal.0 w f in
+    (now.0, place_append 0 e.lane number (trail es).names (new_names (trail es).events e.lane e.answer) now.0 now.1, now.2)
+
+over_more : (e : Entry) (es : List Entry) (lane number : ℕ) → IsOver (trail es) lane number → IsOver (trail (e ∷ es)) lane number
+over_more e es lane number over = (
+  over.0,
+  place_append 0 lane number (trail es).names (new_names (trail es).events e.lane e.answer) over.0 over.1,
+  gone_events (events_of (trail es).events (trail es).names e.lane e.words e.answer) (trail es).events over.0 over.2,
+)
+
+unknown_at : (t : Trail) (lane number : ℕ) → IsOver t lane number → poll_of t.events (place 0 lane number t.names) ≡ answers.Refused errors.UnknownHandle
+unknown_at t lane number over = rw over.1 (gone_shown t.events over.0 over.2)
+
+unknown_entry : (e : Entry) (es : List Entry) (lane number : ℕ) → IsOver (trail es) lane number → Legal (e ∷ es) → IsUnknown lane number e
+unknown_entry e es lane number over legal same w =
+    poll_is (trail es) e number legal.0 w
+    ∙ ap (λ l. poll_of (trail es).events (place 0 l number (trail es).names)) same
+    ∙ unknown_at (trail es) lane number over
+
+over_later : (newer older : List Entry) (e : Entry) (number : ℕ) → Legal (newer ++ e ∷ older) → e.words ≡ words.Poll number → IsFinal e.answer
+    → IsOver (trail (newer ++ e ∷ older)) e.lane number × AllByRecursion (IsUnknown e.lane number) newer
+over_later [] older e number legal w f = (over_after e older number legal w f, tt)
+over_later (x ∷ newer) older e number legal w f =
+    let rest = over_later newer older e number legal.1 w f in
+    (over_more x (newer ++ e ∷ older) e.lane number rest.0, (unknown_entry x (newer ++ e ∷ older) e.lane number rest.0 legal, rest.1))
+
+pub once : (newer older : List Entry) (e : Entry) (number : ℕ) → Legal (newer ++ e ∷ older) → e.words ≡ words.Poll number → IsFinal e.answer → AllByRecursion (IsUnknown e.lane number) newer
+once newer older e number legal w f = (over_later newer older e number legal w f).1

@@ -1,0 +1,185 @@
+-- What answered a call, and where it stands among the messages read.
+use Rattle.std.proofs.Common.{◌≡◌, ℕ, zero, suc, ◌+◌, cond, if◌then◌else◌, arith, refl, sym, ◌∙◌, ap, subst, Bool, true, false, List, [], ◌∷◌, ◌++◌, length, drop, Option, Some, None, Result, Ok, Err}
+use Rattle.std.specs.List.{slice_get, find, AllByRecursion}
+use Rattle.wire_message.specs.Front.{Seen}
+use Rattle.wire_message.specs.declared.kind.MessageType.{MessageType}
+use Rattle.wire_message.specs.declared.kind.MessageType.TheVariants as types
+use Rattle.wire_message.specs.declared.error.Error.{Error}
+use Rattle.wire_message.specs.declared.error.Error.TheVariants as errors
+use Rattle.peer_route.specs.declared.polled.Polled.{Polled}
+use Rattle.peer_route.specs.declared.polled.Polled.TheVariants as polled
+use Rattle.peer_route.specs.declared.words.Words.{Words}
+use Rattle.peer_route.specs.declared.words.Words.TheVariants as words
+use Rattle.peer_route.specs.declared.answer.Answer.{Answer}
+use Rattle.peer_route.specs.declared.answer.Answer.TheVariants as answers
+use Rattle.peer_route.specs.declared.answer.Entry.{Entry}
+use Rattle.peer_route.specs.History.{Event, Put, Call, read, closing, is_failed, calls, found, bears, is_gone, polled_by, polled_at, poll_answer}
+use Rattle.peer_route.specs.Trail.{Trail, place, trail, failed_put, call_events, read_events, poll_spends, events_of}
+use Rattle.peer_route.specs.Answers.{IsAnswer, IsReadOf, Legal, reply_answer, shown, poll_of}
+use Rattle.peer_route.specs.Laws.{IsReplyAt, IsFirstReply, IsCutOff}
+use Rattle.peer_route.proofs.Once.{poll_is}
+
+-- ---- positions
+
+-- the positions of messages are those of their places, from `n + 1` on
+abbrev Ranked : ℕ → List Seen → Type 0
+Ranked n [] = Unit {0}
+Ranked n (m ∷ ms) = (m.position ≡ n + 1) × Ranked (n + 1) ms
+
+ranked_push : (n : ℕ) (ms : List Seen) (m : Seen) → Ranked n ms → m.position ≡ n + length ms + 1 → Ranked n (ms ++ m ∷ [])
+ranked_push n [] m r e = (omega arith, tt)
+ranked_push n (x ∷ ms) m r e = (r.0, ranked_push (n + 1) ms m r.1 (omega arith))
+
+ranked_at : (n : ℕ) (ms : List Seen) (i : ℕ) (m : Seen) → Ranked n ms → slice_get ms i ≡ Some m → m.position ≡ n + i + 1
+ranked_at n [] i m r at = cc
+ranked_at n (x ∷ ms) zero m r at = let same : x ≡ m = cc in subst (λ (y : Seen). y.position ≡ n + 0 + 1) same (let p : x.position ≡ n + 1 = r.0 in omega arith)
+ranked_at n (x ∷ ms) (suc i) m r at = let rest = ranked_at (n + 1) ms i m r.1 at in omega arith
+
+ranked_read : (h : List Event) (o : Option Error) (a : Answer) → IsReadOf o (length (read h)) a → Ranked 0 (read h) → Ranked 0 (read (read_events o a ++ h))
+ranked_read h (Some error) a is r = subst (λ (x : Answer). Ranked 0 (read (read_events (Some error) x ++ h))) (sym is) r
+ranked_read h None (answers.Got m) is r = ranked_push 0 (read h) m r (let p : m.position ≡ length (read h) + 1 = is.1 in omega arith)
+ranked_read h None (answers.Closed error) is r = r
+ranked_read h None a is r = absurd is
+
+failed_read : (b : Bool) (h : List Event) (m : Seen) → read (failed_put b (Put m true) ++ h) ≡ read h
+failed_read true h m = refl
+failed_read false h m = refl
+
+call_read : (h : List Event) (path member : List ℕ) (a : Answer) → read (call_events h path member a ++ h) ≡ read h
+call_read h path member (answers.Called call serial) = refl
+call_read h path member (answers.SendFailed error) = failed_read (is_failed h) h _
+call_read h path member a = refl
+
+poll_read : (h : List Event) (p : Option ℕ) (a : Answer) → read (poll_spends p a ++ h) ≡ read h
+poll_read h None a = refl
+poll_read h (Some k) (answers.Reply position) = refl
+poll_read h (Some k) (answers.InvalidReply position) = refl
+poll_read h (Some k) (answers.Closed error) = refl
+poll_read h (Some k) a = refl
+
+ranked_entry : (t : Trail) (lane : ℕ) (w : Words) (a : Answer) → IsAnswer t lane w a → Ranked 0 (read t.events) → Ranked 0 (read (events_of t.events t.names lane w a ++ t.events))
+ranked_entry t lane (words.Call path member) a is r = subst (Ranked 0) (sym (call_read t.events path member a)) r
+ranked_entry t lane words.Read a is r = ranked_read t.events (closing t.events) a is r
+ranked_entry t lane (words.Poll number) a is r = subst (Ranked 0) (sym (poll_read t.events (place 0 lane number t.names) a)) r
+
+ranked : (es : List Entry) → Legal es → Ranked 0 (read (trail es).events)
+ranked [] legal = tt
+ranked (e ∷ es) legal = ranked_entry (trail es) e.lane e.words e.answer legal.0 (ranked es legal.1)
+
+-- ---- what a search finds
+
+stands_by : {A : Type 0} (p : A → Bool) (xs : List A) (m : A) → find p xs ≡ Some m → (i : ℕ) × (slice_get xs i ≡ Some m)
+stands_by p [] m e = cc
+stands_by {A} p (x ∷ xs) m e =
+    elim (p x) as (λ b. cond b (Some x) (find p xs) ≡ Some m → (i : ℕ) × (slice_get (x ∷ xs) i ≡ Some m)) [
+      | true ↦ λ q. (0, q)
+      | false ↦ λ q. let rest = stands_by p xs m q in (suc rest.0, rest.1)
+    ] e
+
+stands : {A : Type 0} (p : A → Bool) (n : ℕ) (xs : List A) (m : A) → find p (drop n xs) ≡ Some m → (i : ℕ) × (slice_get xs i ≡ Some m)
+stands p zero xs m e = stands_by p xs m e
+stands p (suc n) [] m e = cc
+stands p (suc n) (x ∷ xs) m e = let rest = stands p n xs m e in (suc rest.0, rest.1)
+
+none_passes : {A : Type 0} (p : A → Bool) (xs : List A) → find p xs ≡ None → AllByRecursion (λ x. p x ≡ false) xs
+none_passes p [] e = tt
+none_passes p (x ∷ xs) e =
+    elim (p x) as (λ b. p x ≡ b → cond b (Some x) (find p xs) ≡ None → (p x ≡ false) × AllByRecursion (λ y. p y ≡ false) xs) [
+      | true ↦ λ at q. cc
+      | false ↦ λ at q. (at, none_passes p xs q)
+    ] refl e
+
+-- ---- what a poll shows
+
+reply_position : (kind : MessageType) (position q : ℕ) → IsReplyAt q (reply_answer kind position) → position ≡ q
+reply_position types.MethodReturn position q is = is
+reply_position types.MethodCall position q is = is
+reply_position types.Error position q is = is
+reply_position types.Signal position q is = is
+
+reply_shown : (r : Result (Polled Seen) Error) (q : ℕ) → IsReplyAt q (shown r) → (m : Seen) × (r ≡ Ok (polled.Now m)) × (m.position ≡ q)
+reply_shown (Ok (polled.Now m)) q is = (m, refl, reply_position m.kind m.position q is)
+reply_shown (Ok polled.NotYet) q is = absurd is
+reply_shown (Ok (polled.Closed error)) q is = absurd is
+reply_shown (Err error) q is = absurd is
+
+not_closed : (kind : MessageType) (position : ℕ) (error : Error) → reply_answer kind position ≡ answers.Closed error → ⊥
+not_closed types.MethodReturn position error e = cc
+not_closed types.MethodCall position error e = cc
+not_closed types.Error position error e = cc
+not_closed types.Signal position error e = cc
+
+closed_shown : (r : Result (Polled Seen) Error) (error : Error) → shown r ≡ answers.Closed error → r ≡ Ok (polled.Closed error)
+closed_shown (Ok (polled.Now m)) error e = absurd (not_closed m.kind m.position error e)
+closed_shown (Ok polled.NotYet) error e = cc
+closed_shown (Ok (polled.Closed other)) error e = cc
+closed_shown (Err other) error e = cc
+
+now_by : (b : Bool) (f : Option Seen) (o : Option Error) (m : Seen) → (if b then Err errors.UnknownHandle else polled_by f o) ≡ Ok (polled.Now m) → f ≡ Some m
+now_by true f o m e = cc
+now_by false (Some x) o m e = cc
+now_by false None (Some error) m e = cc
+now_by false None None m e = cc
+
+closed_by : (b : Bool) (f : Option Seen) (o : Option Error) (error : Error) → (if b then Err errors.UnknownHandle else polled_by f o) ≡ Ok (polled.Closed error) → (f ≡ None) × (o ≡ Some error)
+closed_by true f o error e = cc
+closed_by false (Some x) o error e = cc
+closed_by false None (Some other) error e = (refl, cc)
+closed_by false None None error e = cc
+
+now_call : (h : List Event) (o : Option Call) (m : Seen) → polled_at h o ≡ Ok (polled.Now m) → (c : Call) × (o ≡ Some c) × (found h c ≡ Some m)
+now_call h None m e = cc
+now_call h (Some c) m e = (c, refl, now_by (is_gone c) (found h c) (closing h) m e)
+
+closed_call : (h : List Event) (o : Option Call) (error : Error) → polled_at h o ≡ Ok (polled.Closed error) → (c : Call) × (o ≡ Some c) × (found h c ≡ None) × (closing h ≡ Some error)
+closed_call h None error e = cc
+closed_call h (Some c) error e = let parts = closed_by (is_gone c) (found h c) (closing h) error e in (c, refl, parts.0, parts.1)
+
+-- ---- the first reply
+
+first_by : (t : Trail) (lane number q : ℕ) (a : Answer) (p : Option ℕ) → Ranked 0 (read t.events) → place 0 lane number t.names ≡ p → a ≡ poll_of t.events p → IsReplyAt q a → IsFirstReply t lane number q a
+unfolding poll_answer found
+first_by t lane number q a None r named e is = absurd (subst (IsReplyAt q) e is)
+first_by t lane number q a (Some k) r named e is =
+    let now = reply_shown (poll_answer t.events k) q (subst (IsReplyAt q) e is) in
+    let c = now_call t.events (slice_get (calls t.events) k) now.0 now.1 in
+    let at = stands (bears c.0.serial) c.0.from (read t.events) now.0 c.2 in
+    let rank : now.0.position ≡ 0 + at.0 + 1 = ranked_at 0 (read t.events) at.0 now.0 r at.1 in
+    let position : now.0.position ≡ q = now.2 in
+    record {
+      k = k;
+      call = c.0;
+      message = now.0;
+      place_before = at.0;
+      named = named;
+      made = c.1;
+      first = c.2;
+      shown = e ∙ ap shown now.1 ∙ ap (reply_answer now.0.kind) now.2;
+      position = now.2;
+      rank = omega arith;
+      stands = at.1;
+    }
+
+pub by_the_first : (older : List Entry) (e : Entry) (number q : ℕ) → Legal (e ∷ older) → e.words ≡ words.Poll number → IsReplyAt q e.answer → IsFirstReply (trail older) e.lane number q e.answer
+by_the_first older e number q legal w is =
+    first_by (trail older) e.lane number q e.answer (place 0 e.lane number (trail older).names) (ranked older legal.1) refl (poll_is (trail older) e number legal.0 w) is
+
+-- ---- the closing error
+
+cut_by : (t : Trail) (lane number : ℕ) (error : Error) (p : Option ℕ) → place 0 lane number t.names ≡ p → poll_of t.events p ≡ answers.Closed error → IsCutOff t lane number error
+unfolding poll_answer found
+cut_by t lane number error None named e = cc
+cut_by t lane number error (Some k) named e =
+    let c = closed_call t.events (slice_get (calls t.events) k) error (closed_shown (poll_answer t.events k) error e) in
+    record {
+      k = k;
+      call = c.0;
+      named = named;
+      made = c.1;
+      unanswered = none_passes (bears c.0.serial) (drop c.0.from (read t.events)) c.2;
+      first = c.3;
+    }
+
+pub by_the_closing_error : (older : List Entry) (e : Entry) (number : ℕ) (error : Error) → Legal (e ∷ older) → e.words ≡ words.Poll number → e.answer ≡ answers.Closed error → IsCutOff (trail older) e.lane number error
+by_the_closing_error older e number error legal w closed =
+    cut_by (trail older) e.lane number error (place 0 e.lane number (trail older).names) refl (sym (poll_is (trail older) e number legal.0 w) ∙ closed)

@@ -1,0 +1,5 @@
+use Rattle.peer_route.proofs.Once.{once}
+use Rattle.peer_route.proofs.laws.answered_once.Goals as goal
+
+pub returns : goal.returns
+returns c = once

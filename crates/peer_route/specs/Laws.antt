@@ -1,0 +1,63 @@
+-- What the laws of histories say, in words of their own.
+use Rattle.std.specs.Prelude.{ℕ, ⊤, ◌≡◌, ◌+◌, ◌||◌, ◌⊎◌, true, false, is_some, List, drop, find, slice_get, Some}
+use Rattle.std.specs.List.{AllByRecursion}
+use Rattle.wire_message.specs.Front.{Seen}
+use Rattle.wire_message.specs.declared.error.Error.{Error}
+use Rattle.wire_message.specs.declared.error.Error.TheVariants as errors
+use Rattle.peer_route.specs.declared.words.Words.TheVariants as words
+use Rattle.peer_route.specs.declared.answer.Answer.{Answer}
+use Rattle.peer_route.specs.declared.answer.Answer.TheVariants as answers
+use Rattle.peer_route.specs.declared.answer.Entry.{Entry}
+use Rattle.peer_route.specs.History.{Event, Call, read, closing, calls, bears, found, is_gone}
+use Rattle.peer_route.specs.Trail.{Trail, place}
+use Rattle.peer_route.specs.Answers.{reply_answer, poll_of}
+
+-- the answer is the call's last word: its reply, or the error that closed the peer
+abbrev pub IsFinal : Answer → Type 0
+IsFinal (answers.Reply position) = ⊤
+IsFinal (answers.InvalidReply position) = ⊤
+IsFinal (answers.Closed error) = ⊤
+IsFinal answer = ⊥
+
+-- the answer is a reply, valid or not, that stood at this position
+abbrev pub IsReplyAt : ℕ → Answer → Type 0
+IsReplyAt q (answers.Reply position) = position ≡ q
+IsReplyAt q (answers.InvalidReply position) = position ≡ q
+IsReplyAt q answer = ⊥
+
+-- where the entry is this lane's poll of this number, its answer is that no such call waits
+abbrev pub IsUnknown : ℕ → ℕ → Entry → Type 0
+IsUnknown lane number e = e.lane ≡ lane → e.words ≡ words.Poll number → e.answer ≡ answers.Refused errors.UnknownHandle
+
+-- The lane's number names a call, and the first message read after it was put that bears its serial is shown by the
+-- answer; that message was the q-th that was read, from 1 on, and its position says so.
+pub record IsFirstReply (t : Trail) (lane number q : ℕ) (answer : Answer) : Type 0 where
+  pub k : ℕ
+  pub call : Call
+  pub message : Seen
+  pub place_before : ℕ
+  pub named : place 0 lane number t.names ≡ Some k
+  pub made : slice_get (calls t.events) k ≡ Some call
+  pub first : find (bears call.serial) (drop call.from (read t.events)) ≡ Some message
+  pub shown : answer ≡ reply_answer message.kind q
+  pub position : message.position ≡ q
+  pub rank : q ≡ place_before + 1
+  pub stands : slice_get (read t.events) place_before ≡ Some message
+
+-- The lane's number names a call, no message read after it was put bears its serial, and this was the first error that
+-- closed the peer.
+pub record IsCutOff (t : Trail) (lane number : ℕ) (error : Error) : Type 0 where
+  pub k : ℕ
+  pub call : Call
+  pub named : place 0 lane number t.names ≡ Some k
+  pub made : slice_get (calls t.events) k ≡ Some call
+  pub unanswered : AllByRecursion (λ m. bears call.serial m ≡ false) (drop call.from (read t.events))
+  pub first : closing t.events ≡ Some error
+
+-- a message that comes now says nothing to this call: it bears another serial, or the call has its reply or is over
+abbrev pub IsPast : List Event → Seen → Call → Type 0
+IsPast h m c = (bears c.serial m ≡ false) ⊎ ((is_gone c || is_some (found h c)) ≡ true)
+
+-- what a poll of this number by this lane is answered now
+abbrev pub poll_now : Trail → ℕ → ℕ → Answer
+poll_now t lane number = poll_of t.events (place 0 lane number t.names)

@@ -1,0 +1,348 @@
+-- Each line of a transcript is read again, and so is the whole.
+use Rattle.std.proofs.Common.{ℕ, ◌≡◌, ◌/◌, ◌%◌, ◌^◌, ◌<◌, Bool, true, false, ◌&&◌, ◌||◌, nat_eq, nat_le, if◌then◌else◌, List, [], ◌∷◌, ◌++◌, length, map, Some, None, is_some, codes, decimal, refl, sym, ap, subst, ◌∙◌, arith, append_assoc, append-nil}
+use Rattle.std.specs.List.{list_all, flat_map, All}
+use Rattle.std.proofs.lemmas.Bool.Decides.{nat_tests}
+use Rattle.std.proofs.lemmas.List.Elements.{All-head, All-tail, All-from_recursion}
+use Rattle.std.proofs.lemmas.Fmt.{decimal_nonempty}
+use Rattle.wire_message.specs.declared.kind.MessageType.{MessageType}
+use Rattle.wire_message.specs.declared.kind.MessageType.TheVariants as types
+use Rattle.wire_message.specs.declared.error.Error.{Error}
+use Rattle.wire_message.specs.declared.error.Error.TheVariants as errors
+use Rattle.wire_message.specs.declared.error.IoKind.{IoKind}
+use Rattle.wire_message.specs.declared.error.IoKind.TheVariants as kinds
+use Rattle.peer_route.specs.declared.words.Words.{Words}
+use Rattle.peer_route.specs.declared.words.Words.TheVariants as words
+use Rattle.peer_route.specs.declared.words.Command.{Command}
+use Rattle.peer_route.specs.declared.answer.Answer.{Answer}
+use Rattle.peer_route.specs.declared.answer.Answer.TheVariants as answers
+use Rattle.peer_route.specs.declared.answer.Entry.{Entry}
+use Rattle.peer_script.specs.declared.line.Line.{Line}
+use Rattle.peer_script.specs.declared.line.Line.TheVariants.{Direct, In, Do, Sent}
+use Rattle.peer_script.specs.Word.{same, words_of, number_of, bytes_of, is_plain, hex_digit, hex_two, hex_word, text_byte, text_word}
+use Rattle.peer_script.specs.Script.{ScriptText, parts, lane_words, command_words, command_line, head_line, line_of, script_lines}
+use Rattle.peer_script.specs.Transcript.{kind_text, io_word, error_word, words_text, answer_text, entry_text, piece_text, sent_word, transcript_text}
+use Rattle.peer_script.specs.Again.{command_of, SomeBytes, HasText, HasNumbers, CanBeRead}
+use Rattle.peer_script.proofs.Spelling.{number_again, bytes_again, text_again, number_other, text_other, text_some, decimal_digits}
+use Rattle.peer_script.proofs.Again.{word_byte, line_byte, both, joined, word_line, digits_word, line_part, spaced, IsWord, words_again, words_alone, before_again}
+
+-- ---- words
+
+digit_byte : (k : ℕ) → k < 16 → word_byte (hex_digit k) ≡ true
+digit_byte k h = grind (arith, nat_tests)
+
+hex_bytes : (bytes : List ℕ) → All (λ b. b < 256) bytes → list_all word_byte (hex_word bytes) ≡ true
+hex_bytes [] h = refl
+hex_bytes (b ∷ bytes) h =
+    let small = All-head (λ b. b < 256) b bytes h in
+    both _ _ (digit_byte (b / 16) (omega arith))
+    (both _ _ (digit_byte (b % 16) (omega arith)) (hex_bytes bytes (All-tail (λ b. b < 256) b bytes h)))
+
+byte_word : (b : ℕ) (v : Bool) → b < 256 → is_plain b ≡ v → list_all word_byte (if v then b ∷ [] else 92 ∷ hex_two b) ≡ true
+byte_word b true h e = grind (arith, nat_tests)
+byte_word b false h e = both _ _ (digit_byte (b / 16) (omega arith)) (both _ _ (digit_byte (b % 16) (omega arith)) refl)
+
+bytes_word : (text : List ℕ) → All (λ b. b < 256) text → list_all word_byte (flat_map text_byte text) ≡ true
+bytes_word [] h = refl
+bytes_word (b ∷ text) h =
+    joined word_byte (text_byte b) (flat_map text_byte text) (byte_word b (is_plain b) (All-head (λ b. b < 256) b text h) refl) (bytes_word text (All-tail (λ b. b < 256) b text h))
+
+text_bytes_by : (text : List ℕ) (v : Bool) → All (λ b. b < 256) text → list_all word_byte (if v then codes "\\3d" else flat_map text_byte text) ≡ true
+text_bytes_by text true h = refl
+text_bytes_by text false h = bytes_word text h
+
+text_bytes : (text : List ℕ) → All (λ b. b < 256) text → list_all word_byte (text_word text) ≡ true
+unfolding text_word
+text_bytes text h = text_bytes_by text (same text (61 ∷ [])) h
+
+text_is_word : (text : List ℕ) → SomeBytes text → IsWord (text_word text)
+text_is_word text h =
+    let again = text_again text h.some h.bytes in
+    record { bytes = text_bytes text h.bytes; some = text_some (text_word text) text again; other = text_other (text_word text) text again }
+
+number_is_word : (n : ℕ) → n < 2 ^ 64 → IsWord (decimal n)
+number_is_word n h = record { bytes = digits_word (decimal n) (decimal_digits n h); some = decimal_nonempty n h; other = number_other n h }
+
+-- ---- the words of a command
+
+entry_words : Words → List (List ℕ)
+entry_words (words.Call path member) = codes "call" ∷ (45 ∷ []) ∷ text_word path ∷ (45 ∷ []) ∷ text_word member ∷ (45 ∷ []) ∷ (45 ∷ []) ∷ []
+entry_words words.Read = codes "read" ∷ []
+entry_words (words.Poll number) = codes "poll" ∷ decimal number ∷ []
+
+words_spaced : (w : Words) → 32 ∷ words_text w ≡ flat_map spaced (entry_words w)
+unfolding words_text entry_words
+words_spaced (words.Call path member) = simp append_assoc
+words_spaced words.Read = refl
+words_spaced (words.Poll number) = simp append-nil
+
+are_words : (w : Words) → HasText w → All IsWord (entry_words w)
+unfolding entry_words
+are_words (words.Call path member) h =
+    let absent : IsWord (45 ∷ []) = record { bytes = refl; some = omega arith; other = refl } in
+    let call : IsWord (codes "call") = record { bytes = refl; some = omega arith; other = refl } in
+    All-from_recursion IsWord (entry_words (words.Call path member)) (call, (absent, (text_is_word path h.0, (absent, (text_is_word member h.1, (absent, (absent, tt)))))))
+are_words words.Read h =
+    let name : IsWord (codes "read") = record { bytes = refl; some = omega arith; other = refl } in
+    All-from_recursion IsWord (entry_words words.Read) (name, tt)
+are_words (words.Poll number) h =
+    let name : IsWord (codes "poll") = record { bytes = refl; some = omega arith; other = refl } in
+    All-from_recursion IsWord (entry_words (words.Poll number)) (name, (number_is_word number h, tt))
+
+command_again : (w : Words) → HasText w → command_words (entry_words w) ≡ Some w
+unfolding entry_words command_words
+command_again (words.Call path member) h = rw (text_again path h.0.some h.0.bytes, text_again member h.1.some h.1.bytes) refl
+command_again words.Read h = refl
+command_again (words.Poll number) h = rw (number_again number h) refl
+
+-- ---- the line of an entry
+
+entry_line : Entry → List ℕ
+entry_line e = decimal e.lane ++ (flat_map spaced (entry_words e.words) ++ 32 ∷ 61 ∷ 32 ∷ answer_text e.answer)
+
+line_ends : (d w f a rest : List ℕ) → 32 ∷ w ≡ f
+    → ((((((d ++ 32 ∷ []) ++ w) ++ codes " = ") ++ a) ++ 10 ∷ []) ++ rest) ≡ (d ++ (f ++ 32 ∷ 61 ∷ 32 ∷ a)) ++ 10 ∷ rest
+line_ends d w f a rest e =
+    subst (λ l. ((((((d ++ 32 ∷ []) ++ w) ++ codes " = ") ++ a) ++ 10 ∷ []) ++ rest) ≡ (d ++ (l ++ 32 ∷ 61 ∷ 32 ∷ a)) ++ 10 ∷ rest) e (simp append_assoc)
+
+entry_ends : (e : Entry) (rest : List ℕ) → entry_text e ++ rest ≡ entry_line e ++ 10 ∷ rest
+unfolding entry_text entry_line
+entry_ends e rest = line_ends (decimal e.lane) (words_text e.words) (flat_map spaced (entry_words e.words)) (answer_text e.answer) rest (words_spaced e.words)
+
+head_none : (a b c : List ℕ) (ws ds : List (List ℕ)) → head_line (a ∷ b ∷ (ws ++ c ∷ ds)) ≡ None
+unfolding head_line
+head_none a b c [] ds = refl
+head_none a b c (w ∷ ws) ds = refl
+
+no_head : (a : List ℕ) (w : Words) (c : List ℕ) (ds : List (List ℕ)) → head_line (a ∷ (entry_words w ++ c ∷ ds)) ≡ None
+unfolding entry_words
+no_head a (words.Call path member) c ds = head_none a (codes "call") c ((45 ∷ []) ∷ text_word path ∷ (45 ∷ []) ∷ text_word member ∷ (45 ∷ []) ∷ (45 ∷ []) ∷ []) ds
+no_head a words.Read c ds = head_none a (codes "read") c [] ds
+no_head a (words.Poll number) c ds = head_none a (codes "poll") c (decimal number ∷ []) ds
+
+lane_again : (lane : ℕ) (word : List ℕ) (rest : List (List ℕ)) (w : Words) → number_of word ≡ Some lane → nat_le lane 63 ≡ true → command_words rest ≡ Some w
+    → lane_words (word ∷ rest) ≡ Some (record { lane = lane; words = w })
+lane_again lane word rest w e f g = rw (e, f, g) refl
+
+line_by : (line : List ℕ) (c : Command) → head_line (words_of line) ≡ None → command_line line ≡ Some c → line_of line ≡ Some (Do c)
+unfolding line_of
+line_by line c h e = rw (h, e) refl
+
+entry_again : (e : Entry) → CanBeRead e → line_of (entry_line e) ≡ Some (Do (command_of e))
+unfolding entry_line
+entry_again e r =
+    let small : e.lane < 2 ^ 64 = omega (arith, r.lane) in
+    let lane = number_is_word e.lane small in
+    let ws = are_words e.words r.text in
+    line_by _ (command_of e)
+    (ap head_line (words_again (decimal e.lane) (entry_words e.words) (61 ∷ 32 ∷ answer_text e.answer) lane ws) ∙ no_head (decimal e.lane) e.words (61 ∷ []) (words_of (answer_text e.answer)))
+    (ap (λ l. lane_words (words_of l)) (before_again (decimal e.lane) (entry_words e.words) (answer_text e.answer) lane ws)
+    ∙ ap lane_words (words_alone (decimal e.lane) (entry_words e.words) lane ws)
+    ∙ lane_again e.lane (decimal e.lane) (entry_words e.words) e.words (number_again e.lane small) (grind (arith, nat_tests)) (command_again e.words r.text))
+
+-- ---- bytes of a line
+
+spaced_bytes : (ws : List (List ℕ)) → All IsWord ws → list_all line_byte (flat_map spaced ws) ≡ true
+spaced_bytes [] h = refl
+spaced_bytes (w ∷ ws) h =
+    joined line_byte (32 ∷ w) (flat_map spaced ws) (word_line w (All-head IsWord w ws h).bytes) (spaced_bytes ws (All-tail IsWord w ws h))
+
+number_line : (n : ℕ) → n < 2 ^ 64 → list_all line_byte (decimal n) ≡ true
+number_line n h = word_line (decimal n) (digits_word (decimal n) (decimal_digits n h))
+
+kind_line : (kind : MessageType) → list_all line_byte (kind_text kind) ≡ true
+kind_line types.MethodCall = refl
+kind_line types.MethodReturn = refl
+kind_line types.Error = refl
+kind_line types.Signal = refl
+
+io_line : (kind : IoKind) → list_all line_byte (io_word kind) ≡ true
+io_line kinds.Ended = refl
+io_line kinds.Fault = refl
+io_line kinds.Closed = refl
+io_line kinds.WriteFault = refl
+io_line kinds.TimedOut = refl
+
+error_line : (error : Error) → list_all line_byte (error_word error) ≡ true
+error_line (errors.InputOutput kind) = joined line_byte (codes "InputOutput.") (io_word kind) refl (io_line kind)
+error_line (errors.Variant kind) = refl
+error_line (errors.Names kind) = refl
+error_line errors.IncorrectEndian = refl
+error_line errors.ExcessData = refl
+error_line errors.SerialsSpent = refl
+error_line errors.UnknownHandle = refl
+error_line errors.Memory = refl
+
+answer_line : (a : Answer) → HasNumbers a → list_all line_byte (answer_text a) ≡ true
+unfolding answer_text
+answer_line (answers.Called call serial) h =
+    let first = joined line_byte (codes "call ") (decimal call) refl (number_line call h.0) in
+    let second = joined line_byte (codes "call " ++ decimal call) (codes " serial ") first refl in
+    joined line_byte (codes "call " ++ decimal call ++ codes " serial ") (decimal serial) second (number_line serial h.1)
+answer_line (answers.Refused error) h = joined line_byte (codes "refused ") (error_word error) refl (error_line error)
+answer_line (answers.SendFailed error) h = joined line_byte (codes "sendfailed ") (error_word error) refl (error_line error)
+answer_line (answers.Got m) h =
+    let place = codes "got " ++ decimal m.position in
+    let first : list_all line_byte place ≡ true = joined line_byte (codes "got ") (decimal m.position) refl (number_line m.position h.0) in
+    let second = joined line_byte place (32 ∷ []) first refl in
+    let third = joined line_byte (place ++ 32 ∷ []) (decimal (length m.bytes)) second (number_line (length m.bytes) h.1) in
+    let fourth = joined line_byte (place ++ 32 ∷ [] ++ decimal (length m.bytes)) (32 ∷ []) third refl in
+    joined line_byte (place ++ 32 ∷ [] ++ decimal (length m.bytes) ++ 32 ∷ []) (kind_text m.kind) fourth (kind_line m.kind)
+answer_line (answers.Closed error) h = joined line_byte (codes "closed ") (error_word error) refl (error_line error)
+answer_line (answers.Reply position) h = joined line_byte (codes "reply ") (decimal position) refl (number_line position h)
+answer_line (answers.InvalidReply position) h = joined line_byte (codes "invalidreply ") (decimal position) refl (number_line position h)
+answer_line answers.NotYet h = refl
+
+entry_bytes : (e : Entry) → CanBeRead e → list_all line_byte (entry_line e) ≡ true
+unfolding entry_line
+entry_bytes e r =
+    joined line_byte (decimal e.lane) _ (number_line e.lane (omega (arith, r.lane)))
+    (joined line_byte (flat_map spaced (entry_words e.words)) (32 ∷ 61 ∷ 32 ∷ answer_text e.answer) (spaced_bytes (entry_words e.words) (are_words e.words r.text)) (answer_line e.answer r.numbers))
+
+-- ---- the whole
+
+entries_parts : (es : List Entry) (rest : List ℕ) → All CanBeRead es → parts (flat_map entry_text es ++ rest) ≡ map entry_line es ++ parts rest
+entries_parts [] rest h = refl
+entries_parts (e ∷ es) rest h =
+    ap parts (append_assoc (entry_text e) (flat_map entry_text es) rest ∙ entry_ends e (flat_map entry_text es ++ rest))
+    ∙ line_part (entry_line e) (flat_map entry_text es ++ rest) (entry_bytes e (All-head CanBeRead e es h))
+    ∙ ap (λ l. entry_line e ∷ l) (entries_parts es rest (All-tail CanBeRead e es h))
+
+entries_again : (es : List Entry) → All CanBeRead es → map line_of (map entry_line es) ≡ map Some (map Do (map command_of es))
+entries_again [] h = refl
+entries_again (e ∷ es) h =
+    ap (λ x. x ∷ map line_of (map entry_line es)) (entry_again e (All-head CanBeRead e es h))
+    ∙ ap (λ l. Some (Do (command_of e)) ∷ l) (entries_again es (All-tail CanBeRead e es h))
+
+piece_line : List ℕ → List ℕ
+piece_line piece = codes "in " ++ hex_word piece
+
+piece_ends : (p rest : List ℕ) → piece_text p ++ rest ≡ piece_line p ++ 10 ∷ rest
+unfolding piece_text piece_line
+piece_ends p rest = append_assoc (codes "in " ++ hex_word p) (10 ∷ []) rest
+
+piece_bytes : (p : List ℕ) → SomeBytes p → list_all line_byte (piece_line p) ≡ true
+unfolding piece_line
+piece_bytes p h = joined line_byte (codes "in ") (hex_word p) refl (word_line (hex_word p) (hex_bytes p h.bytes))
+
+pieces_parts : (ps : List (List ℕ)) (rest : List ℕ) → All SomeBytes ps → parts (flat_map piece_text ps ++ rest) ≡ map piece_line ps ++ parts rest
+pieces_parts [] rest h = refl
+pieces_parts (p ∷ ps) rest h =
+    ap parts (append_assoc (piece_text p) (flat_map piece_text ps) rest ∙ piece_ends p (flat_map piece_text ps ++ rest))
+    ∙ line_part (piece_line p) (flat_map piece_text ps ++ rest) (piece_bytes p (All-head SomeBytes p ps h))
+    ∙ ap (λ l. piece_line p ∷ l) (pieces_parts ps rest (All-tail SomeBytes p ps h))
+
+head_again : (line : List ℕ) (l : Line) → head_line (words_of line) ≡ Some l → line_of line ≡ Some l
+unfolding line_of
+head_again line l e = rw e refl
+
+name_word : (name : List ℕ) → list_all word_byte name ≡ true → 0 < length name → same name (61 ∷ []) ≡ false → IsWord name
+name_word name b s o = record { bytes = b; some = s; other = o }
+
+-- two words
+two_words : (name word : List ℕ) → IsWord name → IsWord word → words_of (name ++ 32 ∷ word) ≡ name ∷ word ∷ []
+two_words name word n w =
+    ap (λ l. words_of (name ++ 32 ∷ l)) (sym (append-nil word)) ∙ words_alone name (word ∷ []) n (All-from_recursion IsWord (word ∷ []) (w, tt))
+
+in_again : (piece word : List ℕ) → bytes_of word ≡ Some piece → head_line (codes "in" ∷ word ∷ []) ≡ Some (In piece)
+unfolding head_line
+in_again piece word e = rw e refl
+
+sent_by : (p q : Bool) → q ≡ true → (if p || q then Some Sent else None) ≡ Some Sent
+sent_by true q e = refl
+sent_by false q e = rw e refl
+
+sent_again : (word : List ℕ) → (is_some (bytes_of word) ≡ true) → head_line (codes "sent" ∷ word ∷ []) ≡ Some Sent
+unfolding head_line
+sent_again word e = sent_by (same word (45 ∷ [])) (is_some (bytes_of word)) e
+
+dash_again : head_line (codes "sent" ∷ (45 ∷ []) ∷ []) ≡ Some Sent
+unfolding head_line
+dash_again = refl
+
+direct_again : line_of (codes "direct") ≡ Some Direct
+unfolding line_of head_line
+direct_again = refl
+
+and_no : (v : Bool) → (v && false) ≡ false
+and_no true = refl
+and_no false = refl
+
+hex_is_word : (bytes : List ℕ) → 0 < length bytes → All (λ b. b < 256) bytes → IsWord (hex_word bytes)
+hex_is_word [] some h = absurd (omega arith)
+hex_is_word (b ∷ bytes) some h = record { bytes = hex_bytes (b ∷ bytes) h; some = omega arith; other = and_no (nat_eq (hex_digit (b / 16)) 61) }
+
+piece_again : (p : List ℕ) → SomeBytes p → line_of (piece_line p) ≡ Some (In p)
+unfolding piece_line
+piece_again p h =
+    let name : IsWord (codes "in") = record { bytes = refl; some = omega arith; other = refl } in
+    head_again (piece_line p) (In p)
+    (ap head_line (two_words (codes "in") (hex_word p) name (hex_is_word p h.some h.bytes)) ∙ in_again p (hex_word p) (bytes_again p h.some h.bytes))
+
+pieces_again : (ps : List (List ℕ)) → All SomeBytes ps → map line_of (map piece_line ps) ≡ map Some (map In ps)
+pieces_again [] h = refl
+pieces_again (p ∷ ps) h =
+    ap (λ x. x ∷ map line_of (map piece_line ps)) (piece_again p (All-head SomeBytes p ps h))
+    ∙ ap (λ l. Some (In p) ∷ l) (pieces_again ps (All-tail SomeBytes p ps h))
+
+sent_text : List ℕ → List ℕ
+sent_text sent = codes "sent " ++ sent_word sent
+
+sent_is_word : (sent : List ℕ) → All (λ b. b < 256) sent → IsWord (sent_word sent)
+sent_is_word [] h = record { bytes = refl; some = omega arith; other = refl }
+sent_is_word (b ∷ bytes) h = hex_is_word (b ∷ bytes) (omega arith) h
+
+sent_head : (sent : List ℕ) → All (λ b. b < 256) sent → head_line (codes "sent" ∷ sent_word sent ∷ []) ≡ Some Sent
+sent_head [] h = dash_again
+sent_head (b ∷ bytes) h = sent_again (hex_word (b ∷ bytes)) (ap is_some (bytes_again (b ∷ bytes) (omega arith) h))
+
+sent_reads : (sent : List ℕ) → All (λ b. b < 256) sent → line_of (sent_text sent) ≡ Some Sent
+unfolding sent_text
+sent_reads sent h =
+    let name : IsWord (codes "sent") = record { bytes = refl; some = omega arith; other = refl } in
+    head_again (sent_text sent) Sent (ap head_line (two_words (codes "sent") (sent_word sent) name (sent_is_word sent h)) ∙ sent_head sent h)
+
+sent_bytes : (sent : List ℕ) → All (λ b. b < 256) sent → list_all line_byte (sent_text sent) ≡ true
+unfolding sent_text
+sent_bytes sent h = joined line_byte (codes "sent ") (sent_word sent) refl (word_line (sent_word sent) (sent_is_word sent h).bytes)
+
+mapped : {A B : Type 0} (f : A → B) (xs ys : List A) → map f (xs ++ ys) ≡ map f xs ++ map f ys
+mapped f [] ys = refl
+mapped f (x ∷ xs) ys = ap (λ l. f x ∷ l) (mapped f xs ys)
+
+whole_ends : (d ps es s w : List ℕ) → (((((d ++ 10 ∷ []) ++ ps) ++ es) ++ s) ++ w) ++ 10 ∷ [] ≡ d ++ 10 ∷ (ps ++ (es ++ ((s ++ w) ++ 10 ∷ [])))
+whole_ends d ps es s w = simp append_assoc
+
+all_lines : List (List ℕ) → List Entry → List ℕ → List (List ℕ)
+all_lines ps es sent = codes "direct" ∷ (map piece_line ps ++ (map entry_line es ++ sent_text sent ∷ []))
+
+whole_parts : (ps : List (List ℕ)) (es : List Entry) (sent : List ℕ) → All SomeBytes ps → All CanBeRead es → All (λ b. b < 256) sent
+    → parts (transcript_text ps es sent) ≡ all_lines ps es sent ++ [] ∷ []
+unfolding transcript_text all_lines sent_text
+whole_parts ps es sent p e s =
+    ap parts (whole_ends (codes "direct") (flat_map piece_text ps) (flat_map entry_text es) (codes "sent ") (sent_word sent))
+    ∙ line_part (codes "direct") (flat_map piece_text ps ++ (flat_map entry_text es ++ (sent_text sent ++ 10 ∷ []))) refl
+    ∙ ap (λ l. codes "direct" ∷ l) (pieces_parts ps (flat_map entry_text es ++ (sent_text sent ++ 10 ∷ [])) p)
+    ∙ ap (λ l. codes "direct" ∷ (map piece_line ps ++ l)) (entries_parts es (sent_text sent ++ 10 ∷ []) e)
+    ∙ ap (λ l. codes "direct" ∷ (map piece_line ps ++ (map entry_line es ++ l))) (line_part (sent_text sent) [] (sent_bytes sent s))
+    ∙ ap (λ l. codes "direct" ∷ l) (simp append_assoc)
+
+whole_lines : (ps : List (List ℕ)) (es : List Entry) (sent : List ℕ) → All SomeBytes ps → All CanBeRead es → All (λ b. b < 256) sent
+    → map line_of (all_lines ps es sent) ≡ map Some (script_lines (record { pieces = ps; commands = map command_of es }) true)
+unfolding all_lines
+whole_lines ps es sent p e s =
+    let ins = map In ps in
+    let dos = map Do (map command_of es) in
+    ap (λ x. x ∷ map line_of (map piece_line ps ++ (map entry_line es ++ sent_text sent ∷ []))) direct_again
+    ∙ ap (λ l. Some Direct ∷ l) (mapped line_of (map piece_line ps) (map entry_line es ++ sent_text sent ∷ []))
+    ∙ ap (λ l. Some Direct ∷ (l ++ map line_of (map entry_line es ++ sent_text sent ∷ []))) (pieces_again ps p)
+    ∙ ap (λ l. Some Direct ∷ (map Some ins ++ l)) (mapped line_of (map entry_line es) (sent_text sent ∷ []))
+    ∙ ap (λ l. Some Direct ∷ (map Some ins ++ (l ++ line_of (sent_text sent) ∷ []))) (entries_again es e)
+    ∙ ap (λ x. Some Direct ∷ (map Some ins ++ (map Some dos ++ x ∷ []))) (sent_reads sent s)
+    ∙ ap (λ l. Some Direct ∷ l) (sym (append_assoc (map Some ins) (map Some dos) (Some Sent ∷ [])))
+    ∙ ap (λ l. Some Direct ∷ (l ++ Some Sent ∷ [])) (sym (mapped Some ins dos))
+    ∙ ap (λ l. Some Direct ∷ l) (sym (mapped Some (ins ++ dos) (Sent ∷ [])))
+
+pub transcript_again : (ps : List (List ℕ)) (es : List Entry) (sent : List ℕ) → All SomeBytes ps → All CanBeRead es → All (λ b. b < 256) sent
+    → ScriptText (transcript_text ps es sent) (record { pieces = ps; commands = map command_of es })
+transcript_again ps es sent p e s =
+    record { lines = all_lines ps es sent; sent = true; ended = whole_parts ps es sent p e s; each = whole_lines ps es sent p e s }

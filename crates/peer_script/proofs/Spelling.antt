@@ -1,0 +1,154 @@
+-- What is spelled is read again: numbers, bytes and texts.
+use Rattle.std.proofs.Common.{ℕ, zero, suc, ◌≡◌, ◌+◌, ◌-◌, ◌*◌, ◌^◌, ◌/◌, ◌%◌, ◌<◌, Bool, true, false, not, ◌||◌, ◌==◌, nat_lt, nat_le, if◌then◌else◌, List, [], ◌∷◌, ◌++◌, length, get_or, Option, Some, None, codes, decimal, fold, refl, sym, ap, ◌∙◌, arith, rules}
+use Rattle.std.specs.List.{list_all, flat_map, All}
+use Rattle.std.specs.Char.{is_ascii_digit}
+use Rattle.std.proofs.lemmas.Bool.Decides.{nat_tests}
+use Rattle.std.proofs.lemmas.List.Elements.{All-head, All-tail}
+use Rattle.std.proofs.lemmas.Str.Parse.{IsNumeralModel, numerals_by_fold}
+use Rattle.std.proofs.lemmas.Fmt.{digits_decimal, digits_value-decimal, decimal_nonempty, first_decimal, decimal_digit}
+use Rattle.std.specs.Cmp.Lexicographic.{bytes_decides}
+use Rattle.peer_script.specs.Word.{same, digits_value, begins_with_zero, number_of, hex_value, hex_byte, hex_pairs, bytes_of, onto, is_plain, plain_byte, escaped, unescaped, text_of, hex_digit, hex_two, hex_word, text_byte, text_word}
+
+-- ---- numbers
+
+own : IsNumeralModel (λ ds. list_all is_ascii_digit ds ≡ true) (λ ds. digits_value ds)
+own = numerals_by_fold _ (search rules) (λ n ds. fold (λ sum digit. sum * 10 + (digit - 48)) n ds) (search rules)
+
+first_no_zero : (ds : List ℕ) → 48 < get_or ds 0 0 → begins_with_zero ds ≡ false
+first_no_zero [] h = refl
+first_no_zero (d ∷ ds) h = grind (arith, nat_tests)
+
+no_zero : (n : ℕ) → n < 2 ^ 64 → begins_with_zero (decimal n) ≡ false
+no_zero zero h = rw (decimal_digit 0 (omega arith)) refl
+no_zero (suc n) h = first_no_zero (decimal (suc n)) (first_decimal (suc n) (omega arith) h)
+
+number_by : (n : ℕ) (word : List ℕ) → nat_le 1 (length word) ≡ true → list_all is_ascii_digit word ≡ true → begins_with_zero word ≡ false → digits_value word ≡ n → nat_lt n (2 ^ 64) ≡ true
+    → number_of word ≡ Some n
+unfolding number_of
+number_by n word a b c d e = rw (a, b, c, d, e) refl
+
+pub number_again : (n : ℕ) → n < 2 ^ 64 → number_of (decimal n) ≡ Some n
+number_again n h =
+    let long = decimal_nonempty n h in
+    number_by n (decimal n) (grind (arith, nat_tests)) (digits_decimal own n h) (no_zero n h) (digits_value-decimal own n h) (grind (arith, nat_tests))
+
+-- ---- bytes
+
+digit_again : (k : ℕ) → k < 16 → hex_value (hex_digit k) ≡ Some k
+digit_again k h = grind (arith, nat_tests)
+
+byte_again : (b : ℕ) → b < 256 → hex_byte (hex_value (hex_digit (b / 16))) (hex_value (hex_digit (b % 16))) ≡ Some b
+byte_again b h =
+    let high = digit_again (b / 16) (omega arith) in
+    let low = digit_again (b % 16) (omega arith) in
+    rw (high, low) (ap Some (omega arith))
+
+pairs_again : (bytes : List ℕ) → All (λ b. b < 256) bytes → hex_pairs (hex_word bytes) ≡ Some bytes
+pairs_again [] h = refl
+pairs_again (b ∷ bytes) h = rw (byte_again b (All-head (λ b. b < 256) b bytes h), pairs_again bytes (All-tail (λ b. b < 256) b bytes h)) refl
+
+pub bytes_again : (bytes : List ℕ) → 0 < length bytes → All (λ b. b < 256) bytes → bytes_of (hex_word bytes) ≡ Some bytes
+bytes_again [] few h = absurd (omega arith)
+bytes_again (b ∷ bytes) few h = pairs_again (b ∷ bytes) h
+
+-- ---- texts
+
+plain_no_backslash : (b : ℕ) → is_plain b ≡ true → (b == 92) ≡ false
+plain_no_backslash b h = grind (arith, nat_tests)
+
+plain_is : (b : ℕ) → is_plain b ≡ true → plain_byte b ≡ Some b
+plain_is b h = rw h refl
+
+plain_first : (b : ℕ) (rest : List ℕ) → is_plain b ≡ true → unescaped (b ∷ rest) ≡ onto (Some b) (unescaped rest)
+plain_first b [] h = rw h refl
+plain_first b (c ∷ []) h = rw h refl
+plain_first b (c ∷ d ∷ rest) h =
+    ap (λ v. if v then onto (escaped (hex_byte (hex_value c) (hex_value d))) (unescaped rest) else onto (plain_byte b) (unescaped (c ∷ d ∷ rest))) (plain_no_backslash b h)
+    ∙ ap (λ o. onto o (unescaped (c ∷ d ∷ rest))) (plain_is b h)
+
+escaped_first : (b : ℕ) (rest : List ℕ) → b < 256 → is_plain b ≡ false → unescaped (92 ∷ hex_two b ++ rest) ≡ onto (Some b) (unescaped rest)
+escaped_first b rest h e = rw (byte_again b h, e) refl
+
+spelled_first : (b : ℕ) (v : Bool) (rest : List ℕ) → b < 256 → is_plain b ≡ v → unescaped ((if v then b ∷ [] else 92 ∷ hex_two b) ++ rest) ≡ onto (Some b) (unescaped rest)
+spelled_first b true rest h e = plain_first b rest e
+spelled_first b false rest h e = escaped_first b rest h e
+
+unescaped_again : (text : List ℕ) → All (λ b. b < 256) text → unescaped (flat_map text_byte text) ≡ Some text
+unescaped_again [] h = refl
+unescaped_again (b ∷ text) h =
+    spelled_first b (is_plain b) (flat_map text_byte text) (All-head (λ b. b < 256) b text h) refl
+    ∙ ap (onto (Some b)) (unescaped_again text (All-tail (λ b. b < 256) b text h))
+
+pub same_is : (xs ys : List ℕ) → same xs ys ≡ true → xs ≡ ys
+same_is xs ys h = (bytes_decides xs ys).0 h
+
+pub is_same : (xs : List ℕ) → same xs xs ≡ true
+is_same xs = (bytes_decides xs xs).1 refl
+
+not_empty : (text : List ℕ) → 0 < length text → Some [] ≡ Some text → ⊥
+not_empty [] some e = omega arith
+not_empty (b ∷ text) some e = cc
+
+no_word : (word : List ℕ) → nat_le 1 (length word) ≡ false → word ≡ []
+no_word [] h = refl
+no_word (b ∷ word) h = grind (arith, nat_tests)
+
+text_by : (text word : List ℕ) (p q r : Bool) → unescaped word ≡ Some text → 0 < length text → same text (61 ∷ []) ≡ false
+    → same word (codes "\\3d") ≡ p → same word (61 ∷ []) ≡ q → nat_le 1 (length word) ≡ r
+    → (if p then Some (61 ∷ []) else if q || not r then None else unescaped word) ≡ Some text
+text_by text word true q r u some other e f g = absurd (cc (u, ap unescaped (same_is word (codes "\\3d") e)))
+text_by text word false true r u some other e f g =
+    let t : Some text ≡ Some (61 ∷ []) = sym u ∙ ap unescaped (same_is word (61 ∷ []) f) in
+    let is : text ≡ 61 ∷ [] = cc in
+    absurd (cc (ap (λ x. same x (61 ∷ [])) is, other))
+text_by text word false false false u some other e f g = absurd (not_empty text some (sym (ap unescaped (no_word word g)) ∙ u))
+text_by text word false false true u some other e f g = u
+
+text_of_word : (text word : List ℕ) → unescaped word ≡ Some text → 0 < length text → same text (61 ∷ []) ≡ false → text_of word ≡ Some text
+unfolding text_of
+text_of_word text word u some other = text_by text word _ _ _ u some other refl refl refl
+
+text_cases : (text : List ℕ) (v : Bool) → same text (61 ∷ []) ≡ v → 0 < length text → All (λ b. b < 256) text
+    → text_of (if v then codes "\\3d" else flat_map text_byte text) ≡ Some text
+unfolding text_of
+text_cases text true e some h = ap Some (sym (same_is text (61 ∷ []) e))
+text_cases text false e some h = text_of_word text (flat_map text_byte text) (unescaped_again text h) some e
+
+pub text_again : (text : List ℕ) → 0 < length text → All (λ b. b < 256) text → text_of (text_word text) ≡ Some text
+unfolding text_word
+text_again text some h = text_cases text (same text (61 ∷ [])) refl some h
+
+-- ---- no spelling is empty or `=`
+
+not_equals_by : (f : List ℕ → Option ℕ) (word : List ℕ) (n : ℕ) (v : Bool) → f (61 ∷ []) ≡ None → f word ≡ Some n → same word (61 ∷ []) ≡ v → v ≡ false
+not_equals_by f word n true e g h = absurd (cc (sym (ap f (same_is word (61 ∷ []) h)) ∙ g, e))
+not_equals_by f word n false e g h = refl
+
+no_number : number_of (61 ∷ []) ≡ None
+unfolding number_of
+no_number = refl
+
+pub number_other : (n : ℕ) → n < 2 ^ 64 → same (decimal n) (61 ∷ []) ≡ false
+number_other n h = not_equals_by number_of (decimal n) n (same (decimal n) (61 ∷ [])) no_number (number_again n h) refl
+
+no_text : text_of (61 ∷ []) ≡ None
+unfolding text_of
+no_text = refl
+
+empty_text : text_of [] ≡ None
+unfolding text_of
+empty_text = refl
+
+text_other_by : (word text : List ℕ) (v : Bool) → text_of word ≡ Some text → same word (61 ∷ []) ≡ v → v ≡ false
+text_other_by word text true g h = absurd (cc (sym (ap text_of (same_is word (61 ∷ []) h)) ∙ g, no_text))
+text_other_by word text false g h = refl
+
+pub text_other : (word text : List ℕ) → text_of word ≡ Some text → same word (61 ∷ []) ≡ false
+text_other word text g = text_other_by word text (same word (61 ∷ [])) g refl
+
+pub text_some : (word text : List ℕ) → text_of word ≡ Some text → 0 < length word
+text_some [] text g = absurd (cc (g, empty_text))
+text_some (b ∷ word) text g = omega arith
+
+pub decimal_digits : (n : ℕ) → n < 2 ^ 64 → list_all is_ascii_digit (decimal n) ≡ true
+decimal_digits n h = digits_decimal own n h

@@ -1,0 +1,48 @@
+-- Transcripts as scripts: the command of an entry, and the entries whose lines are read again.
+use Rattle.std.specs.Prelude.{ℕ, ◌≡◌, ◌<◌, ◌≤◌, ◌^◌, List, length, map, Ok}
+use Rattle.std.specs.List.{All}
+use Rattle.peer_route.specs.declared.words.Words.{Words}
+use Rattle.peer_route.specs.declared.words.Words.TheVariants as words
+use Rattle.peer_route.specs.declared.words.Command.{Command}
+use Rattle.peer_route.specs.declared.answer.Answer.{Answer}
+use Rattle.peer_route.specs.declared.answer.Answer.TheVariants as answers
+use Rattle.peer_route.specs.declared.answer.Entry.{Entry}
+use Rattle.peer_script.specs.Reading.{script_of}
+use Rattle.peer_script.specs.Transcript.{transcript_text}
+
+-- the command that an entry answers
+abbrev pub command_of : Entry → Command
+command_of e = record { lane = e.lane; words = e.words }
+
+-- bytes, of which there is at least one
+pub record SomeBytes (text : List ℕ) : Type 0 where
+  pub some : 0 < length text
+  pub bytes : All (λ b. b < 256) text
+
+abbrev pub HasText : Words → Type 0
+HasText (words.Call path member) = SomeBytes path × SomeBytes member
+HasText words.Read = Unit {0}
+HasText (words.Poll number) = number < 2 ^ 64
+
+-- the numbers of an answer are below 2^64
+abbrev pub HasNumbers : Answer → Type 0
+HasNumbers (answers.Called call serial) = (call < 2 ^ 64) × (serial < 2 ^ 64)
+HasNumbers (answers.Got m) = (m.position < 2 ^ 64) × (length m.bytes < 2 ^ 64)
+HasNumbers (answers.Reply position) = position < 2 ^ 64
+HasNumbers (answers.InvalidReply position) = position < 2 ^ 64
+HasNumbers (answers.Refused error) = Unit {0}
+HasNumbers (answers.SendFailed error) = Unit {0}
+HasNumbers (answers.Closed error) = Unit {0}
+HasNumbers answers.NotYet = Unit {0}
+
+-- an entry of a command that a script can hold
+pub record CanBeRead (e : Entry) : Type 0 where
+  pub lane : e.lane ≤ 63
+  pub text : HasText e.words
+  pub numbers : HasNumbers e.answer
+
+-- The transcript is read again as the script of its pieces and of its entries' commands.
+abbrev pub TranscriptsAreRead : Type 0
+TranscriptsAreRead =
+    (pieces : List (List ℕ)) (entries : List Entry) (sent : List ℕ) → All SomeBytes pieces → All CanBeRead entries → All (λ b. b < 256) sent
+    → script_of (transcript_text pieces entries sent) ≡ Ok (record { pieces = pieces; commands = map command_of entries })
