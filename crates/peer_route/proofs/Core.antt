@@ -1,14 +1,14 @@
 -- The core after each event.
-use Rattle.std.proofs.Common.{◌≡◌, ℕ, ◌+◌, ◌<◌, ◌≤◌, ◌==◌, is_some, ◌&&◌, is_none, if◌then◌else◌, refl, sym, ◌∙◌, ap, subst, Bool, true, false, List, [], ◌∷◌, ◌++◌, length, map, find, get_or, set, Option, Some, None, Result, Ok, Err}
+use Rattle.std.proofs.Common.{◌≡◌, ℕ, ◌+◌, ◌<◌, ◌≤◌, ◌==◌, is_some, ◌&&◌, is_none, if◌then◌else◌, refl, sym, ◌∙◌, ap, subst, arith, IfOk, Bool, true, false, not, List, [], ◌∷◌, ◌++◌, length, map, find, get_or, set, Option, Some, None, Result, Ok, Err, length-append}
 use Rattle.std.specs.List.{list_any, position, slice_get}
 use Rattle.std.specs.Option.{option_map}
 use Rattle.std.proofs.Math.Seq.{drop-length}
-use Rattle.std.proofs.lemmas.List.{map-append, length-map, set-set, set-get_or}
+use Rattle.std.proofs.lemmas.List.{map-append, length-map, length_push, set-set, set-get_or}
 use Rattle.std.proofs.lemmas.Bool.{true≢false, false≢true}
 use Rattle.std.proofs.lemmas.List.Quantifiers.{position-Some}
 use Rattle.std.proofs.lemmas.Option.{slice_get-map, slice_get_read, none-some}
 use Rattle.wire_message.specs.Front.{Seen}
-use Rattle.wire_message.specs.Call.{call_message, call_text, Builds, Draft}
+use Rattle.wire_message.specs.Draft.{built, message_text, Builds, Draft}
 use Rattle.wire_message.specs.Circle.{IsNext, AllTaken}
 use Rattle.wire_message.specs.declared.error.Error.{Error}
 use Rattle.wire_message.specs.declared.error.Error.TheVariants as errors
@@ -18,10 +18,12 @@ use Rattle.peer_route.specs.declared.polled.Polled.TheVariants as polled
 use Rattle.peer_route.specs.declared.calls.Slot.{Slot}
 use Rattle.peer_route.specs.declared.route.Issued.{Issued}
 use Rattle.peer_route.specs.declared.calls.Slot.TheVariants as slots
-use Rattle.peer_route.specs.History.{Event, Took, Shut, Put, Wrote, Fault, Spent, Call, read, put, closing, done, is_failed, last_serial, is_reply, is_serial, calls, found, bears, is_gone, new_call, first_of, pending, waits_with, poll_answer, poll_events, polled_at, polled_by}
-use Rattle.peer_route.specs.Left.{slot_of, slot_by, is_waiting, AreDistinct, CallsView, waiting_serial, is_number, LeftCalls, View, Left, Issues, Places, placed}
+use Rattle.peer_route.specs.History.{Event, Took, Shut, Put, Wrote, Fault, Spent, Made, Plain, Did, Deed, Gave, Told, Call, edit, read, put, closing, done, is_failed, last_serial, is_reply, is_serial, calls, found, bears, is_gone, new_call, first_of, pending, waits_with, poll_answer, poll_events, polled_at, polled_by, drop_answer, drop_events, dropped_at}
+use Rattle.peer_route.specs.Streams.{busy, take_answer, take_events}
+use Rattle.peer_route.specs.Left.{Held, is_over, after_take, held_gives, LeftStreams, is_busy, is_empty_slot, slot_of, slot_by, is_waiting, AreDistinct, CallsView, waiting_serial, is_number, LeftCalls, View, Left, Issues, Places, Waits, placed}
 use Rattle.peer_route.proofs.Plain.{list_any-map, list_any-along, position-None, is_some-position}
 use Rattle.peer_route.proofs.CallsMade.{calls_early, places, places_rise, places-edit, places-fail}
+use Rattle.peer_route.proofs.StreamsMade.{streams_shut, streams_put, streams_wrote, streams_fault, streams_spent, streams_made, streams_taken, taken_gives, over_any}
 use Rattle.peer_route.proofs.Slots.{arrived, slots_took, arrived_nowhere, arrived_past, arrived_first, arrived_distinct, gone_distinct, slots_spent, slots_kept, slots_lost, distinct_push, waits-slot}
 
 -- ---- a message comes
@@ -207,6 +209,7 @@ pub left_wrote : (v : View) (h : List Event) → Left v h → Left (record v { d
 unfolding slot_of found
 left_wrote v h left = record {
   calls = record { slots = left.calls.slots; closing = left.calls.closing; distinct = left.calls.distinct };
+  streams = streams_wrote v.streams h left.streams;
   read = left.read;
   last = left.last;
   outbox = left.outbox;
@@ -243,6 +246,7 @@ pub left_fault : (v : View) (cv : CallsView) (h : List Event) → Left v h → L
     → Left (record v { calls = cv; done = v.done + 1; failed = true }) (Fault ∷ h)
 left_fault v cv h left after = record {
   calls = after;
+  streams = streams_fault v.streams h left.streams;
   read = left.read;
   last = left.last;
   outbox = left.outbox;
@@ -254,6 +258,7 @@ left_fault v cv h left after = record {
 left_spent : (v : View) (cv : CallsView) (k : ℕ) (h : List Event) → Left v h → LeftCalls cv (Spent k ∷ h) → Left (record v { calls = cv }) (Spent k ∷ h)
 left_spent v cv k h left after = record {
   calls = after;
+  streams = streams_spent k v.streams h left.streams;
   read = left.read;
   last = left.last;
   outbox = left.outbox;
@@ -265,6 +270,7 @@ left_spent v cv k h left after = record {
 left_same : (v : View) (cv : CallsView) (h : List Event) → Left v h → LeftCalls cv h → Left (record v { calls = cv }) h
 left_same v cv h left after = record {
   calls = after;
+  streams = left.streams;
   read = left.read;
   last = left.last;
   outbox = left.outbox;
@@ -278,6 +284,7 @@ pub left_polled : (v : View) (cv : CallsView) (k : ℕ) (r : Result (Polled Seen
 left_polled v cv k (Ok (polled.Now m)) h left after = left_spent v cv k h left after
 left_polled v cv k (Ok (polled.Closed error)) h left after = left_spent v cv k h left after
 left_polled v cv k (Ok polled.NotYet) h left after = left_same v cv h left after
+left_polled v cv k (Ok polled.Ended) h left after = left_same v cv h left after
 left_polled v cv k (Err error) h left after = left_same v cv h left after
 
 -- ---- issuing
@@ -289,19 +296,21 @@ next_left v h serial left next =
 
 -- what building refuses, issuing does
 pub refused : (v : View) (draft : Draft) (new : ℕ) (h : List Event) (error : Error) → Left v h
-    → Builds (waiting_serial v.calls) draft v.last new (Err error) → Issues v v draft.path draft.member h (Err error)
+    → Builds (waiting_serial v.calls) draft [] v.last new (Err error) → Issues v v draft h (Err error)
 refused v draft new h errors.SerialsSpent left b = (AllTaken-along (waiting_serial v.calls) (pending h) (λ n. sym (pending-left v.calls h left.calls n)) b.0, refl)
 refused v draft new h errors.ExcessData left b = (b.0, next_left v h b.0 left b.1, b.2, refl)
 refused v draft new h errors.Memory left b = refl
 refused v draft new h (errors.InputOutput kind) left b = absurd b
 refused v draft new h (errors.Variant kind) left b = absurd b
 refused v draft new h (errors.Names kind) left b = absurd b
+refused v draft new h errors.InvalidMatchRule left b = absurd b
 refused v draft new h errors.IncorrectEndian left b = absurd b
 refused v draft new h errors.UnknownHandle left b = absurd b
 
 left_issued : (v : View) (m : Seen) (h : List Event) → Left v h → waiting_serial v.calls m.serial ≡ false → Left (placed v m m.serial) (Put m true ∷ h)
 left_issued v m h left free = record {
   calls = issued_calls m v.calls (placed v m m.serial).calls h refl refl free left.calls;
+  streams = streams_put m true v.streams h left.streams;
   read = left.read;
   last = refl;
   outbox = ap (λ ms. ms ++ m ∷ []) left.outbox;
@@ -315,44 +324,200 @@ left_issued v m h left free = record {
 slots_len : (v : CallsView) (h : List Event) → LeftCalls v h → length v.slots ≡ length (calls h)
 slots_len v h left = ap length left.slots ∙ length-map (calls h) (slot_of h)
 
-call_message-bytes : (serial : ℕ) (path member : List ℕ) → (call_message serial path member).bytes ≡ call_text serial path member
-unfolding call_message
-call_message-bytes serial path member = refl
+built-bytes : (draft : Draft) (serial : ℕ) → (built draft serial []).bytes ≡ message_text draft serial []
+unfolding built
+built-bytes draft serial = refl
 
 -- A message that was built with the next serial and placed is issued.
-pub issued : (v new : View) (path member : List ℕ) (m : Seen) (last : ℕ) (r : Result Issued Error) (h : List Event) → Left v h
-    → Builds (waiting_serial v.calls) (record { path = path; member = member }) v.last last (Ok m) → v.failed ≡ false → Places v new m last r
-    → Issues v new path member h r
-issued v new path member m last (Ok found) h left built fine p =
-    let P : ℕ → Type 0 = λ serial. IsNext (pending h) (last_serial h) serial × (length (call_text serial path member) ≤ 134217728)
-    × (is_failed h ≡ false) × (found.index ≡ length (put h)) × (found.call ≡ length (calls h))
-    × Left new (Put (call_message serial path member) true ∷ h) in
+pub issued : (v new : View) (draft : Draft) (m : Seen) (last : ℕ) (r : Result Issued Error) (h : List Event) → Left v h
+    → Builds (waiting_serial v.calls) draft [] v.last last (Ok m) → v.failed ≡ false → Places v new m last r
+    → Issues v new draft h r
+issued v new draft m last (Ok got) h left made fine p =
+    let P : ℕ → Type 0 = λ serial. IsNext (pending h) (last_serial h) serial × (length (message_text draft serial []) ≤ 134217728)
+    × (is_failed h ≡ false) × (got.index ≡ length (put h)) × (got.call ≡ length (calls h))
+    × Left new (Put (built draft serial []) true ∷ h) in
     subst P (sym p.1) (
-      next_left v h m.serial left built.0,
-      subst (λ bs. length bs ≤ 134217728) (ap (λ (n : Seen). n.bytes) built.3 ∙ call_message-bytes m.serial path member) built.2,
+      next_left v h m.serial left made.0,
+      subst (λ bs. length bs ≤ 134217728) (ap (λ (n : Seen). n.bytes) made.3 ∙ built-bytes draft m.serial) made.2,
       sym left.failed ∙ fine,
       p.0 ∙ ap length left.outbox,
       p.2 ∙ slots_len v.calls h left.calls,
-      subst (λ w. Left w (Put (call_message m.serial path member) true ∷ h)) (sym (p.3 ∙ ap (placed v m) built.1))
-          (subst (λ n. Left (placed v m m.serial) (Put n true ∷ h)) built.3 (left_issued v m h left built.0.free)),
+      subst (λ w. Left w (Put (built draft m.serial []) true ∷ h)) (sym (p.3 ∙ ap (placed v m) made.1))
+          (subst (λ n. Left (placed v m m.serial) (Put n true ∷ h)) made.3 (left_issued v m h left made.0.free)),
     )
-issued v new path member m last (Err errors.Memory) h left built fine p = p
-issued v new path member m last (Err errors.SerialsSpent) h left built fine p = absurd p
-issued v new path member m last (Err errors.ExcessData) h left built fine p = absurd p
-issued v new path member m last (Err (errors.InputOutput kind)) h left built fine p = absurd p
-issued v new path member m last (Err (errors.Variant kind)) h left built fine p = absurd p
-issued v new path member m last (Err (errors.Names kind)) h left built fine p = absurd p
-issued v new path member m last (Err errors.IncorrectEndian) h left built fine p = absurd p
-issued v new path member m last (Err errors.UnknownHandle) h left built fine p = absurd p
+issued v new draft m last (Err errors.Memory) h left made fine p = p
+issued v new draft m last (Err errors.SerialsSpent) h left made fine p = absurd p
+issued v new draft m last (Err errors.ExcessData) h left made fine p = absurd p
+issued v new draft m last (Err (errors.InputOutput kind)) h left made fine p = absurd p
+issued v new draft m last (Err (errors.Variant kind)) h left made fine p = absurd p
+issued v new draft m last (Err (errors.Names kind)) h left made fine p = absurd p
+issued v new draft m last (Err errors.InvalidMatchRule) h left made fine p = absurd p
+issued v new draft m last (Err errors.IncorrectEndian) h left made fine p = absurd p
+issued v new draft m last (Err errors.UnknownHandle) h left made fine p = absurd p
+
+-- a message that was placed waits at the end of the outbox
+pub placed_waits : (v new : View) (m : Seen) (last : ℕ) (r : Result Issued Error) → v.failed ≡ false → Places v new m last r → IfOk r (Waits v new)
+placed_waits v new m last (Ok got) fine p =
+    let len : length new.outbox ≡ length v.outbox + 1 = ap (λ (w : View). length w.outbox) p.3 ∙ length_push v.outbox m in
+    (p.0, omega (arith, p.0, len), ap (λ (w : View). w.done) p.3, fine, ap (λ (w : View). w.failed) p.3 ∙ fine)
+placed_waits v new m last (Err e) fine p = tt
 
 -- where a write failed, a message that was built isn't placed
-pub refused_failed : (v : View) (path member : List ℕ) (m : Seen) (last : ℕ) (h : List Event) → Left v h
-    → Builds (waiting_serial v.calls) (record { path = path; member = member }) v.last last (Ok m) → v.failed ≡ true
-    → Issues v v path member h (Err (errors.InputOutput kinds.WriteFault))
-refused_failed v path member m last h left built failed = (
+pub refused_failed : (v : View) (draft : Draft) (m : Seen) (last : ℕ) (h : List Event) → Left v h
+    → Builds (waiting_serial v.calls) draft [] v.last last (Ok m) → v.failed ≡ true
+    → Issues v v draft h (Err (errors.InputOutput kinds.WriteFault))
+refused_failed v draft m last h left made failed = (
   m.serial,
-  next_left v h m.serial left built.0,
-  subst (λ bs. length bs ≤ 134217728) (ap (λ (n : Seen). n.bytes) built.3 ∙ call_message-bytes m.serial path member) built.2,
+  next_left v h m.serial left made.0,
+  subst (λ bs. length bs ≤ 134217728) (ap (λ (n : Seen). n.bytes) made.3 ∙ built-bytes draft m.serial) made.2,
   sym left.failed ∙ failed,
   refl,
 )
+
+-- ---- streams
+
+pub left_took : (v : View) (cv : CallsView) (sv : List Held) (m : Seen) (h : List Event) → Left v h → LeftCalls cv (Took m ∷ h) → LeftStreams sv (Took m ∷ h)
+    → Left (record v { calls = cv; streams = sv; read = v.read + 1 }) (Took m ∷ h)
+left_took v cv sv m h left after streams_after = record {
+  calls = after;
+  streams = streams_after;
+  read = ap (λ n. n + 1) left.read ∙ sym (length-append (read h) (m ∷ []));
+  last = left.last;
+  outbox = left.outbox;
+  places = left.places;
+  done = left.done;
+  failed = left.failed;
+}
+
+pub left_shut : (v : View) (cv : CallsView) (error : Error) (h : List Event) → Left v h → LeftCalls cv (Shut error ∷ h) → Left (record v { calls = cv }) (Shut error ∷ h)
+left_shut v cv error h left after = record {
+  calls = after;
+  streams = streams_shut error v.streams h left.streams;
+  read = left.read;
+  last = left.last;
+  outbox = left.outbox;
+  places = left.places;
+  done = left.done;
+  failed = left.failed;
+}
+
+calls_made : (v : CallsView) (h : List Event) → LeftCalls v h → LeftCalls v (Made Plain ∷ h)
+unfolding slot_of found
+calls_made v h left = record { slots = left.slots; closing = left.closing; distinct = left.distinct }
+
+calls_did : (k : ℕ) (deed : Deed) (v : CallsView) (h : List Event) → LeftCalls v h → LeftCalls v (Did k deed ∷ h)
+unfolding slot_of found
+calls_did k deed v h left = record { slots = left.slots; closing = left.closing; distinct = left.distinct }
+
+pub left_made : (v : View) (told : Bool) (h : List Event) → told ≡ is_some v.calls.closing → Left v h
+    → Left (record v { streams = v.streams ++ (record { items = []; told = told }) ∷ [] }) (Made Plain ∷ h)
+left_made v told h e left = record {
+  calls = calls_made v.calls h left.calls;
+  streams = streams_made told v.streams h (e ∙ ap is_some left.calls.closing) left.streams;
+  read = left.read;
+  last = left.last;
+  outbox = left.outbox;
+  places = left.places;
+  done = left.done;
+  failed = left.failed;
+}
+
+left_did : (v : View) (sv : List Held) (k : ℕ) (deed : Deed) (h : List Event) → Left v h → LeftStreams sv (Did k deed ∷ h) → Left (record v { streams = sv }) (Did k deed ∷ h)
+left_did v sv k deed h left after = record {
+  calls = calls_did k deed v.calls h left.calls;
+  streams = after;
+  read = left.read;
+  last = left.last;
+  outbox = left.outbox;
+  places = left.places;
+  done = left.done;
+  failed = left.failed;
+}
+
+left_idle : (v : View) (sv : List Held) (h : List Event) → Left v h → LeftStreams sv h → Left (record v { streams = sv }) h
+left_idle v sv h left after = record {
+  calls = left.calls;
+  streams = after;
+  read = left.read;
+  last = left.last;
+  outbox = left.outbox;
+  places = left.places;
+  done = left.done;
+  failed = left.failed;
+}
+
+left_gave : (v : View) (sv : List Held) (k : ℕ) (r : Result (Polled Seen) Error) (h : List Event) → Left v h
+    → LeftStreams sv (take_events k r ++ h) → Left (record v { streams = sv }) (take_events k r ++ h)
+left_gave v sv k (Ok (polled.Now m)) h left after = left_did v sv k Gave h left after
+left_gave v sv k (Ok (polled.Closed error)) h left after = left_did v sv k Told h left after
+left_gave v sv k (Ok polled.NotYet) h left after = left_idle v sv h left after
+left_gave v sv k (Ok polled.Ended) h left after = left_idle v sv h left after
+left_gave v sv k (Err error) h left after = left_idle v sv h left after
+
+pub left_taken : (v : View) (k : ℕ) (h : List Event) → Left v h
+    → Left (record v { streams = edit k (after_take v.calls.closing) v.streams }) (take_events k (take_answer h k) ++ h)
+left_taken v k h left =
+    let P : Option Error → Type 0 = λ o. Left (record v { streams = edit k (after_take o) v.streams }) (take_events k (take_answer h k) ++ h) in
+    subst P (sym left.calls.closing)
+    (left_gave v (edit k (after_take (closing h)) v.streams) k (take_answer h k) h left (streams_taken k v.streams h left.streams))
+
+pub take_gives : (v : View) (k : ℕ) (h : List Event) → Left v h → held_gives (slice_get v.streams k) v.calls.closing ≡ take_answer h k
+take_gives v k h left = ap (held_gives (slice_get v.streams k)) left.calls.closing ∙ taken_gives v.streams h k left.streams
+
+pub busy_left : (v : View) (h : List Event) → Left v h → is_busy v ≡ busy h
+unfolding is_busy busy
+busy_left v h left = ap (λ o. is_none o && list_any is_over v.streams) left.calls.closing ∙ ap (λ b. is_none (closing h) && b) (over_any v.streams h left.streams)
+
+-- ---- drops
+
+-- what a slot gives a drop
+abbrev pub slot_drops : Option Slot → Result (Unit {0}) Error
+slot_drops None = Err errors.UnknownHandle
+slot_drops (Some slots.Gone) = Err errors.UnknownHandle
+slot_drops (Some (slots.Replied m)) = Ok tt
+slot_drops (Some (slots.Waiting n)) = Ok tt
+
+slot_drops_by : (gone : Bool) (n : ℕ) (o : Option Seen) → slot_drops (Some (if gone then slots.Gone else slot_by n o)) ≡ (if gone then Err errors.UnknownHandle else Ok tt)
+slot_drops_by true n o = refl
+slot_drops_by false n (Some m) = refl
+slot_drops_by false n None = refl
+
+drops_at : (h : List Event) (o : Option Call) → slot_drops (option_map (slot_of h) o) ≡ dropped_at o
+unfolding slot_of
+drops_at h None = refl
+drops_at h (Some c) = slot_drops_by (is_gone c) c.serial (found h c)
+
+pub drops : (v : CallsView) (h : List Event) (k : ℕ) → LeftCalls v h → slot_drops (slice_get v.slots k) ≡ drop_answer h k
+unfolding drop_answer
+drops v h k left = rw left.slots (rw (slice_get-map (slot_of h) (calls h) k) (drops_at h (slice_get (calls h) k)))
+
+pub drops_slot : (ss : List Slot) (error : Option Error) (v : CallsView) (h : List Event) (k : ℕ) (o : Option Slot)
+    → calls_of ss error ≡ v → slice_get ss k ≡ o → LeftCalls v h → slot_drops o ≡ drop_answer h k
+drops_slot ss error v h k o e at left = ap slot_drops (sym at) ∙ ap (λ (w : CallsView). slot_drops (slice_get w.slots k)) e ∙ drops v h k left
+
+pub left_dropped : (v : View) (cv : CallsView) (k : ℕ) (r : Result (Unit {0}) Error) (h : List Event) → Left v h
+    → LeftCalls cv (drop_events k r ++ h) → Left (record v { calls = cv }) (drop_events k r ++ h)
+left_dropped v cv k (Ok done) h left after = left_spent v cv k h left after
+left_dropped v cv k (Err error) h left after = left_same v cv h left after
+
+is_none_by : (o : Option Error) (b : Bool) → is_some o ≡ b → is_none o ≡ not b
+is_none_by None b e = ap not e
+is_none_by (Some error) b e = ap not e
+
+pub busy_open : (v : View) (b : Bool) → is_some v.calls.closing ≡ false → b ≡ list_any is_over v.streams → b ≡ is_busy v
+unfolding is_busy
+busy_open v b open_ e = e ∙ ap (λ x. x && list_any is_over v.streams) (sym (is_none_by v.calls.closing false open_))
+
+pub busy_shut : (v : View) (b : Bool) → is_some v.calls.closing ≡ true → b ≡ false → b ≡ is_busy v
+unfolding is_busy
+busy_shut v b shut_ e = e ∙ ap (λ x. x && list_any is_over v.streams) (sym (is_none_by v.calls.closing true shut_))
+
+pub slot_drops_gone : (s : Slot) → is_empty_slot s ≡ true → slot_drops (Some s) ≡ Err errors.UnknownHandle
+slot_drops_gone slots.Gone e = refl
+slot_drops_gone (slots.Waiting n) e = cc
+slot_drops_gone (slots.Replied m) e = cc
+
+pub slot_drops_there : (s : Slot) → is_empty_slot s ≡ false → slot_drops (Some s) ≡ Ok tt
+slot_drops_there slots.Gone e = cc
+slot_drops_there (slots.Waiting n) e = refl
+slot_drops_there (slots.Replied m) e = refl

@@ -1,5 +1,5 @@
 -- A lane's number names one call, and a poll changes the answer of that call alone.
-use Rattle.std.proofs.Common.{◌≡◌, ◌≢◌, ℕ, zero, suc, ◌+◌, ◌==◌, if◌then◌else◌, arith, refl, sym, ◌∙◌, ap, true, false, List, [], ◌∷◌, ◌++◌, take, Option, Some, None, Result, Ok, Err, append-nil}
+use Rattle.std.proofs.Common.{inl, inr, ◌⊎◌, ◌≡◌, ◌≢◌, ℕ, zero, suc, ◌+◌, ◌==◌, if◌then◌else◌, arith, refl, sym, ◌∙◌, ap, true, false, List, [], ◌∷◌, ◌++◌, take, Option, Some, None, Result, Ok, Err, append-nil}
 use Rattle.std.specs.List.{slice_get}
 use Rattle.std.proofs.lemmas.Bool.{eqb-true}
 use Rattle.wire_message.specs.Front.{Seen}
@@ -13,11 +13,11 @@ use Rattle.peer_route.specs.declared.words.Words.TheVariants as words
 use Rattle.peer_route.specs.declared.answer.Answer.{Answer}
 use Rattle.peer_route.specs.declared.answer.Answer.TheVariants as answers
 use Rattle.peer_route.specs.declared.answer.Entry.{Entry}
-use Rattle.peer_route.specs.History.{Event, poll_answer}
-use Rattle.peer_route.specs.Trail.{Trail, Names, place, count, trail, poll_spends, events_of, new_names}
-use Rattle.peer_route.specs.Answers.{IsAnswer, Legal, reply_answer, shown, poll_of}
+use Rattle.peer_route.specs.History.{Event, poll_answer, drop_answer}
+use Rattle.peer_route.specs.Trail.{Trail, Names, place, count, trail, poll_spends, drop_spends, events_of, new_names}
+use Rattle.peer_route.specs.Answers.{IsAnswer, Legal, error_answer, reply_by, shown, poll_of, shown_drop, drop_of}
 use Rattle.peer_route.specs.Laws.{poll_now}
-use Rattle.peer_route.proofs.Once.{poll_is}
+use Rattle.peer_route.proofs.Once.{poll_is, drop_is}
 use Rattle.peer_route.proofs.Others.{spent_other}
 
 -- ---- a number names one call
@@ -72,23 +72,28 @@ one_call names lane number lane₂ number₂ k a b =
     let lanes : lane ≡ lane₂ = cc in
     (lanes, sym a.before ∙ ap (λ i. count lane (take i names)) same ∙ ap (λ l. count l (take b.i names)) lanes ∙ b.before)
 
-apart : (names : Names) (lane number lane₂ number₂ j k : ℕ) → place 0 lane number names ≡ Some j → place 0 lane₂ number₂ names ≡ Some k → (lane₂ ≡ lane → number₂ ≢ number) → j ≢ k
+pub apart : (names : Names) (lane number lane₂ number₂ j k : ℕ) → place 0 lane number names ≡ Some j → place 0 lane₂ number₂ names ≡ Some k → (lane₂ ≡ lane → number₂ ≢ number) → j ≢ k
 apart names lane number lane₂ number₂ j k p q differ same =
     let one = one_call names lane number lane₂ number₂ k (owned 0 lane number names k (p ∙ ap Some same)) (owned 0 lane₂ number₂ names k q) in
     differ (sym one.0) (sym one.1)
 
 -- ---- a poll makes no call
 
-reply_names : (h : List Event) (lane position : ℕ) (kind : MessageType) → new_names h lane (reply_answer kind position) ≡ []
-reply_names h lane position types.MethodReturn = refl
-reply_names h lane position types.MethodCall = refl
-reply_names h lane position types.Error = refl
-reply_names h lane position types.Signal = refl
+error_names : (h : List Event) (lane : ℕ) (m : Seen) (name : Option (List ℕ)) → new_names h lane (error_answer m name) ≡ []
+error_names h lane m (Some name) = refl
+error_names h lane m None = refl
+
+reply_names : (h : List Event) (lane : ℕ) (m : Seen) (kind : MessageType) → new_names h lane (reply_by m kind) ≡ []
+reply_names h lane m types.MethodReturn = refl
+reply_names h lane m types.MethodCall = refl
+reply_names h lane m types.Error = error_names h lane m m.error_name
+reply_names h lane m types.Signal = refl
 
 shown_names : (h : List Event) (lane : ℕ) (r : Result (Polled Seen) Error) → new_names h lane (shown r) ≡ []
-shown_names h lane (Ok (polled.Now m)) = reply_names h lane m.position m.kind
+shown_names h lane (Ok (polled.Now m)) = reply_names h lane m m.kind
 shown_names h lane (Ok polled.NotYet) = refl
 shown_names h lane (Ok (polled.Closed error)) = refl
+shown_names h lane (Ok polled.Ended) = refl
 shown_names h lane (Err error) = refl
 
 poll_names : (h : List Event) (lane : ℕ) (p : Option ℕ) → new_names h lane (poll_of h p) ≡ []
@@ -101,11 +106,26 @@ names_kept t e number a w =
     ∙ ap (λ ns. t.names ++ ns) (poll_names t.events e.lane (place 0 e.lane number t.names))
     ∙ append-nil t.names
 
+drop_shown_names : (h : List Event) (lane : ℕ) (r : Result (Unit {0}) Error) → new_names h lane (shown_drop r) ≡ []
+drop_shown_names h lane (Ok done) = refl
+drop_shown_names h lane (Err error) = refl
+
+drop_names : (h : List Event) (lane : ℕ) (p : Option ℕ) → new_names h lane (drop_of h p) ≡ []
+drop_names h lane None = refl
+drop_names h lane (Some k) = drop_shown_names h lane (drop_answer h k)
+
+names_kept_drop : (t : Trail) (e : Entry) (number : ℕ) → IsAnswer t e.lane e.words e.answer → e.words ≡ words.Drop number → t.names ++ new_names t.events e.lane e.answer ≡ t.names
+names_kept_drop t e number a w =
+    ap (λ x. t.names ++ new_names t.events e.lane x) (drop_is t e number a w)
+    ∙ ap (λ ns. t.names ++ ns) (drop_names t.events e.lane (place 0 e.lane number t.names))
+    ∙ append-nil t.names
+
 -- ---- what a poll leaves
 
 spends_by : (h : List Event) (j k : ℕ) (a : Answer) → j ≢ k → poll_of (poll_spends (Some j) a ++ h) (Some k) ≡ poll_of h (Some k)
 spends_by h j k (answers.Reply position) ne = ap shown (spent_other h j k ne)
 spends_by h j k (answers.InvalidReply position) ne = ap shown (spent_other h j k ne)
+spends_by h j k (answers.MethodError m) ne = ap shown (spent_other h j k ne)
 spends_by h j k (answers.Closed error) ne = ap shown (spent_other h j k ne)
 spends_by h j k a ne = refl
 
@@ -114,10 +134,24 @@ spends_other h p None a ne = refl
 spends_other h None (Some k) a ne = refl
 spends_other h (Some j) (Some k) a ne = spends_by h j k a (ne j k refl refl)
 
-pub poll_other : (older : List Entry) (e : Entry) (number lane other : ℕ) → Legal (e ∷ older) → e.words ≡ words.Poll number → (lane ≡ e.lane → other ≢ number)
+drops_by : (h : List Event) (j k : ℕ) (a : Answer) → j ≢ k → poll_of (drop_spends (Some j) a ++ h) (Some k) ≡ poll_of h (Some k)
+drops_by h j k answers.Dropped ne = ap shown (spent_other h j k ne)
+drops_by h j k a ne = refl
+
+drops_other : (h : List Event) (p q : Option ℕ) (a : Answer) → ((j k : ℕ) → p ≡ Some j → q ≡ Some k → j ≢ k) → poll_of (drop_spends p a ++ h) q ≡ poll_of h q
+drops_other h p None a ne = refl
+drops_other h None (Some k) a ne = refl
+drops_other h (Some j) (Some k) a ne = drops_by h j k a (ne j k refl refl)
+
+pub poll_other : (older : List Entry) (e : Entry) (number lane other : ℕ) → Legal (e ∷ older) → (e.words ≡ words.Poll number) ⊎ (e.words ≡ words.Drop number) → (lane ≡ e.lane → other ≢ number)
     → poll_now (trail (e ∷ older)) lane other ≡ poll_now (trail older) lane other
-poll_other older e number lane other legal w differ =
+poll_other older e number lane other legal (inl w) differ =
     let t = trail older in
-    ap (λ (ns : Names). poll_of (events_of t.events t.names e.lane e.words e.answer ++ t.events) (place 0 lane other ns)) (names_kept t e number legal.0 w)
-    ∙ ap (λ (x : Words). poll_of (events_of t.events t.names e.lane x e.answer ++ t.events) (place 0 lane other t.names)) w
+    ap (λ (ns : Names). poll_of (events_of t.events t.names t.streams e.lane e.words e.answer ++ t.events) (place 0 lane other ns)) (names_kept t e number legal.0 w)
+    ∙ ap (λ (x : Words). poll_of (events_of t.events t.names t.streams e.lane x e.answer ++ t.events) (place 0 lane other t.names)) w
     ∙ spends_other t.events (place 0 e.lane number t.names) (place 0 lane other t.names) e.answer (λ j k p q. apart t.names e.lane number lane other j k p q differ)
+poll_other older e number lane other legal (inr w) differ =
+    let t = trail older in
+    ap (λ (ns : Names). poll_of (events_of t.events t.names t.streams e.lane e.words e.answer ++ t.events) (place 0 lane other ns)) (names_kept_drop t e number legal.0 w)
+    ∙ ap (λ (x : Words). poll_of (events_of t.events t.names t.streams e.lane x e.answer ++ t.events) (place 0 lane other t.names)) w
+    ∙ drops_other t.events (place 0 e.lane number t.names) (place 0 lane other t.names) e.answer (λ j k p q. apart t.names e.lane number lane other j k p q differ)

@@ -1,6 +1,8 @@
 pub mod Plain
+pub mod Queues
 pub mod CallsMade
 pub mod Slots
+pub mod StreamsMade
 pub mod Core
 pub mod NextSerial
 pub mod Steps
@@ -8,3 +10,8 @@ pub mod Once
 pub mod Read
 pub mod Others
 pub mod Lanes
+pub mod Yields
+pub mod Drained
+pub mod Sent
+pub mod Waiting
+pub mod Refused

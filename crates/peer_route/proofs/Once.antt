@@ -1,14 +1,14 @@
 -- A call whose answer was given is over for good.
-use Rattle.std.proofs.Common.{◌≡◌, ℕ, zero, suc, ◌+◌, ◌||◌, ◌==◌, if◌then◌else◌, refl, ◌∙◌, ap, subst, Bool, true, false, List, [], ◌∷◌, ◌++◌, map, Option, Some, None, Err}
+use Rattle.std.proofs.Common.{inl, inr, sym, ◌≡◌, ℕ, zero, suc, ◌+◌, ◌||◌, ◌==◌, if◌then◌else◌, refl, ◌∙◌, ap, subst, Bool, true, false, List, [], ◌∷◌, ◌++◌, map, Option, Some, None, Err}
 use Rattle.std.specs.List.{slice_get, AllByRecursion}
 use Rattle.wire_message.specs.declared.error.Error.TheVariants as errors
 use Rattle.peer_route.specs.declared.words.Words.TheVariants as words
 use Rattle.peer_route.specs.declared.answer.Answer.{Answer}
 use Rattle.peer_route.specs.declared.answer.Answer.TheVariants as answers
 use Rattle.peer_route.specs.declared.answer.Entry.{Entry}
-use Rattle.peer_route.specs.History.{Event, Took, Shut, Put, Wrote, Fault, Spent, Call, calls, new_call, edit, spend, fail_at, done, is_gone, polled_at, poll_answer}
-use Rattle.peer_route.specs.Trail.{Trail, Names, place, trail, poll_spends, events_of, new_names}
-use Rattle.peer_route.specs.Answers.{IsAnswer, Legal, shown, poll_of}
+use Rattle.peer_route.specs.History.{Event, Took, Shut, Put, Wrote, Fault, Spent, Made, Did, Call, calls, new_call, edit, spend, fail_at, done, is_gone, polled_at, poll_answer, dropped_at, drop_answer}
+use Rattle.peer_route.specs.Trail.{Trail, Names, place, trail, poll_spends, drop_spends, events_of, new_names}
+use Rattle.peer_route.specs.Answers.{IsAnswer, Legal, shown, poll_of, shown_drop, drop_of}
 use Rattle.peer_route.specs.Laws.{IsFinal, IsUnknown}
 
 -- ---- a call that is over
@@ -49,6 +49,8 @@ gone_event (Put m false) h k g = g
 gone_event Wrote h k g = g
 gone_event Fault h k g = gone_fail (done h) k (calls h) g
 gone_event (Spent j) h k g = gone_edit j k (calls h) g
+gone_event (Made making) h k g = g
+gone_event (Did stream deed) h k g = g
 
 gone_events : (es h : List Event) (k : ℕ) → gone_at (calls h) k ≡ true → gone_at (calls (es ++ h)) k ≡ true
 gone_events [] h k g = g
@@ -63,6 +65,15 @@ gone_polled : (h : List Event) (cs : List Call) (k : ℕ) → gone_at cs k ≡ t
 gone_polled h [] k g = cc
 gone_polled h (c ∷ cs) zero g = rw g refl
 gone_polled h (c ∷ cs) (suc k) g = gone_polled h cs k g
+
+gone_dropped : (cs : List Call) (k : ℕ) → gone_at cs k ≡ true → dropped_at (slice_get cs k) ≡ Err errors.UnknownHandle
+gone_dropped [] k g = cc
+gone_dropped (c ∷ cs) zero g = rw g refl
+gone_dropped (c ∷ cs) (suc k) g = gone_dropped cs k g
+
+gone_drop_shown : (h : List Event) (k : ℕ) → gone_at (calls h) k ≡ true → shown_drop (drop_answer h k) ≡ answers.Refused errors.UnknownHandle
+unfolding drop_answer
+gone_drop_shown h k g = ap (λ r. shown_drop r) (gone_dropped (calls h) k g)
 
 gone_shown : (h : List Event) (k : ℕ) → gone_at (calls h) k ≡ true → shown (poll_answer h k) ≡ answers.Refused errors.UnknownHandle
 unfolding poll_answer
@@ -89,9 +100,13 @@ place_append at lane (suc number) (Some l ∷ names) more k e =
 pub poll_is : (t : Trail) (e : Entry) (number : ℕ) → IsAnswer t e.lane e.words e.answer → e.words ≡ words.Poll number → e.answer ≡ poll_of t.events (place 0 e.lane number t.names)
 poll_is t e number a w = subst (λ x. IsAnswer t e.lane x e.answer) w a
 
+pub drop_is : (t : Trail) (e : Entry) (number : ℕ) → IsAnswer t e.lane e.words e.answer → e.words ≡ words.Drop number → e.answer ≡ drop_of t.events (place 0 e.lane number t.names)
+drop_is t e number a w = subst (λ x. IsAnswer t e.lane x e.answer) w a
+
 final_spends : (k : ℕ) (a : Answer) → IsFinal a → poll_spends (Some k) a ≡ Spent k ∷ []
 final_spends k (answers.Reply position) f = refl
 final_spends k (answers.InvalidReply position) f = refl
+final_spends k (answers.MethodError m) f = refl
 final_spends k (answers.Closed error) f = refl
 final_spends k a f = absurd f
 
@@ -112,7 +127,7 @@ final_over h (Some k) a e f =
 
 -- the entry that gave the answer leaves the call over
 over_now : (t : Trail) (e : Entry) (number : ℕ) → IsAnswer t e.lane e.words e.answer → e.words ≡ words.Poll number → IsFinal e.answer
-    → (k : ℕ) × (place 0 e.lane number t.names ≡ Some k) × (gone_at (calls (events_of t.events t.names e.lane e.words e.answer ++ t.events)) k ≡ true)
+    → (k : ℕ) × (place 0 e.lane number t.names ≡ Some k) × (gone_at (calls (events_of t.events t.names t.streams e.lane e.words e.answer ++ t.events)) k ≡ true)
 over_now t e number a w f = rw w (final_over t.events (place 0 e.lane number t.names) e.answer (poll_is t e number a w) f)
 
 over_after : (e : Entry) (es : List Entry) (number : ℕ) → Legal (e ∷ es) → e.words ≡ words.Poll number → IsFinal e.answer → IsOver (trail (e ∷ es)) e.lane number
@@ -124,24 +139,58 @@ over_more : (e : Entry) (es : List Entry) (lane number : ℕ) → IsOver (trail 
 over_more e es lane number over = (
   over.0,
   place_append 0 lane number (trail es).names (new_names (trail es).events e.lane e.answer) over.0 over.1,
-  gone_events (events_of (trail es).events (trail es).names e.lane e.words e.answer) (trail es).events over.0 over.2,
+  gone_events (events_of (trail es).events (trail es).names (trail es).streams e.lane e.words e.answer) (trail es).events over.0 over.2,
 )
 
 unknown_at : (t : Trail) (lane number : ℕ) → IsOver t lane number → poll_of t.events (place 0 lane number t.names) ≡ answers.Refused errors.UnknownHandle
 unknown_at t lane number over = rw over.1 (gone_shown t.events over.0 over.2)
 
+unknown_drop_at : (t : Trail) (lane number : ℕ) → IsOver t lane number → drop_of t.events (place 0 lane number t.names) ≡ answers.Refused errors.UnknownHandle
+unknown_drop_at t lane number over = rw over.1 (gone_drop_shown t.events over.0 over.2)
+
 unknown_entry : (e : Entry) (es : List Entry) (lane number : ℕ) → IsOver (trail es) lane number → Legal (e ∷ es) → IsUnknown lane number e
-unknown_entry e es lane number over legal same w =
+unknown_entry e es lane number over legal same (inl w) =
     poll_is (trail es) e number legal.0 w
     ∙ ap (λ l. poll_of (trail es).events (place 0 l number (trail es).names)) same
     ∙ unknown_at (trail es) lane number over
+unknown_entry e es lane number over legal same (inr w) =
+    drop_is (trail es) e number legal.0 w
+    ∙ ap (λ l. drop_of (trail es).events (place 0 l number (trail es).names)) same
+    ∙ unknown_drop_at (trail es) lane number over
 
-over_later : (newer older : List Entry) (e : Entry) (number : ℕ) → Legal (newer ++ e ∷ older) → e.words ≡ words.Poll number → IsFinal e.answer
+unknown_later : (newer older : List Entry) (e : Entry) (number : ℕ) → Legal (newer ++ e ∷ older) → IsOver (trail (e ∷ older)) e.lane number
     → IsOver (trail (newer ++ e ∷ older)) e.lane number × AllByRecursion (IsUnknown e.lane number) newer
-over_later [] older e number legal w f = (over_after e older number legal w f, tt)
-over_later (x ∷ newer) older e number legal w f =
-    let rest = over_later newer older e number legal.1 w f in
+unknown_later [] older e number legal over = (over, tt)
+unknown_later (x ∷ newer) older e number legal over =
+    let rest = unknown_later newer older e number legal.1 over in
     (over_more x (newer ++ e ∷ older) e.lane number rest.0, (unknown_entry x (newer ++ e ∷ older) e.lane number rest.0 legal, rest.1))
 
+pub legal_from : (newer older : List Entry) → Legal (newer ++ older) → Legal older
+legal_from [] older legal = legal
+legal_from (x ∷ newer) older legal = legal_from newer older legal.1
+
 pub once : (newer older : List Entry) (e : Entry) (number : ℕ) → Legal (newer ++ e ∷ older) → e.words ≡ words.Poll number → IsFinal e.answer → AllByRecursion (IsUnknown e.lane number) newer
-once newer older e number legal w f = (over_later newer older e number legal w f).1
+once newer older e number legal w f = (unknown_later newer older e number legal (over_after e older number (legal_from newer (e ∷ older) legal) w f)).1
+
+-- ---- a drop
+
+dropped_made : (cs : List Call) (k : ℕ) (o : Option Call) → slice_get cs k ≡ o → shown_drop (dropped_at o) ≡ answers.Dropped → gone_at (edit k spend cs) k ≡ true
+dropped_made cs k None at f = cc
+dropped_made cs k (Some c) at f = gone_spent cs k c at
+
+dropped_over : (h : List Event) (p : Option ℕ) → drop_of h p ≡ answers.Dropped → (k : ℕ) × (p ≡ Some k) × (gone_at (calls (drop_spends p answers.Dropped ++ h)) k ≡ true)
+unfolding drop_answer
+dropped_over h None e = cc
+dropped_over h (Some k) e = (k, refl, dropped_made (calls h) k (slice_get (calls h) k) refl e)
+
+dropped_now : (t : Trail) (e : Entry) (number : ℕ) → IsAnswer t e.lane e.words e.answer → e.words ≡ words.Drop number → e.answer ≡ answers.Dropped
+    → (k : ℕ) × (place 0 e.lane number t.names ≡ Some k) × (gone_at (calls (events_of t.events t.names t.streams e.lane e.words e.answer ++ t.events)) k ≡ true)
+dropped_now t e number a w f = rw (w, f) (dropped_over t.events (place 0 e.lane number t.names) (sym (drop_is t e number a w) ∙ f))
+
+dropped_after : (e : Entry) (es : List Entry) (number : ℕ) → Legal (e ∷ es) → e.words ≡ words.Drop number → e.answer ≡ answers.Dropped → IsOver (trail (e ∷ es)) e.lane number
+dropped_after e es number legal w f =
+    let now = dropped_now (trail es) e number legal.0 w f in
+    (now.0, place_append 0 e.lane number (trail es).names (new_names (trail es).events e.lane e.answer) now.0 now.1, now.2)
+
+pub dropped : (newer older : List Entry) (e : Entry) (number : ℕ) → Legal (newer ++ e ∷ older) → e.words ≡ words.Drop number → e.answer ≡ answers.Dropped → AllByRecursion (IsUnknown e.lane number) newer
+dropped newer older e number legal w f = (unknown_later newer older e number legal (dropped_after e older number (legal_from newer (e ∷ older) legal) w f)).1

@@ -2,6 +2,7 @@
 use Rattle.std.proofs.Common.{◌≡◌, ℕ, zero, suc, ◌+◌, cond, if◌then◌else◌, arith, refl, sym, ◌∙◌, ap, subst, Bool, true, false, List, [], ◌∷◌, ◌++◌, length, drop, Option, Some, None, Result, Ok, Err}
 use Rattle.std.specs.List.{slice_get, find, AllByRecursion}
 use Rattle.wire_message.specs.Front.{Seen}
+use Rattle.wire_message.specs.Draft.{Draft}
 use Rattle.wire_message.specs.declared.kind.MessageType.{MessageType}
 use Rattle.wire_message.specs.declared.kind.MessageType.TheVariants as types
 use Rattle.wire_message.specs.declared.error.Error.{Error}
@@ -14,8 +15,9 @@ use Rattle.peer_route.specs.declared.answer.Answer.{Answer}
 use Rattle.peer_route.specs.declared.answer.Answer.TheVariants as answers
 use Rattle.peer_route.specs.declared.answer.Entry.{Entry}
 use Rattle.peer_route.specs.History.{Event, Put, Call, read, closing, is_failed, calls, found, bears, is_gone, polled_by, polled_at, poll_answer}
-use Rattle.peer_route.specs.Trail.{Trail, place, trail, failed_put, call_events, read_events, poll_spends, events_of}
-use Rattle.peer_route.specs.Answers.{IsAnswer, IsReadOf, Legal, reply_answer, shown, poll_of}
+use Rattle.peer_route.specs.Streams.{busy}
+use Rattle.peer_route.specs.Trail.{Trail, place, trail, failed_put, call_events, read_events, poll_spends, drop_spends, stream_makes, take_does, events_of}
+use Rattle.peer_route.specs.Answers.{IsAnswer, IsReadOf, Legal, error_answer, reply_by, reply_answer, shown, poll_of}
 use Rattle.peer_route.specs.Laws.{IsReplyAt, IsFirstReply, IsCutOff}
 use Rattle.peer_route.proofs.Once.{poll_is}
 
@@ -35,32 +37,52 @@ ranked_at n [] i m r at = cc
 ranked_at n (x ∷ ms) zero m r at = let same : x ≡ m = cc in subst (λ (y : Seen). y.position ≡ n + 0 + 1) same (let p : x.position ≡ n + 1 = r.0 in omega arith)
 ranked_at n (x ∷ ms) (suc i) m r at = let rest = ranked_at (n + 1) ms i m r.1 at in omega arith
 
-ranked_read : (h : List Event) (o : Option Error) (a : Answer) → IsReadOf o (length (read h)) a → Ranked 0 (read h) → Ranked 0 (read (read_events o a ++ h))
-ranked_read h (Some error) a is r = subst (λ (x : Answer). Ranked 0 (read (read_events (Some error) x ++ h))) (sym is) r
-ranked_read h None (answers.Got m) is r = ranked_push 0 (read h) m r (let p : m.position ≡ length (read h) + 1 = is.1 in omega arith)
-ranked_read h None (answers.Closed error) is r = r
-ranked_read h None a is r = absurd is
+ranked_read : (h : List Event) (o : Option Error) (full : Bool) (a : Answer) → IsReadOf o full (length (read h)) a → Ranked 0 (read h) → Ranked 0 (read (read_events o a ++ h))
+ranked_read h (Some error) full a is r = subst (λ (x : Answer). Ranked 0 (read (read_events (Some error) x ++ h))) (sym is) r
+ranked_read h None true a is r = subst (λ (x : Answer). Ranked 0 (read (read_events None x ++ h))) (sym is) r
+ranked_read h None false (answers.Got m) is r = ranked_push 0 (read h) m r (let p : m.position ≡ length (read h) + 1 = is.1 in omega arith)
+ranked_read h None false (answers.Closed error) is r = r
+ranked_read h None false a is r = absurd is
 
 failed_read : (b : Bool) (h : List Event) (m : Seen) → read (failed_put b (Put m true) ++ h) ≡ read h
 failed_read true h m = refl
 failed_read false h m = refl
 
-call_read : (h : List Event) (path member : List ℕ) (a : Answer) → read (call_events h path member a ++ h) ≡ read h
-call_read h path member (answers.Called call serial) = refl
-call_read h path member (answers.SendFailed error) = failed_read (is_failed h) h _
-call_read h path member a = refl
+pub call_read : (h : List Event) (draft : Draft) (a : Answer) → read (call_events h draft a ++ h) ≡ read h
+call_read h draft (answers.Called call serial) = refl
+call_read h draft (answers.SendFailed error) = failed_read (is_failed h) h _
+call_read h draft a = refl
 
-poll_read : (h : List Event) (p : Option ℕ) (a : Answer) → read (poll_spends p a ++ h) ≡ read h
+pub poll_read : (h : List Event) (p : Option ℕ) (a : Answer) → read (poll_spends p a ++ h) ≡ read h
 poll_read h None a = refl
 poll_read h (Some k) (answers.Reply position) = refl
 poll_read h (Some k) (answers.InvalidReply position) = refl
+poll_read h (Some k) (answers.MethodError m) = refl
 poll_read h (Some k) (answers.Closed error) = refl
 poll_read h (Some k) a = refl
 
-ranked_entry : (t : Trail) (lane : ℕ) (w : Words) (a : Answer) → IsAnswer t lane w a → Ranked 0 (read t.events) → Ranked 0 (read (events_of t.events t.names lane w a ++ t.events))
-ranked_entry t lane (words.Call path member) a is r = subst (Ranked 0) (sym (call_read t.events path member a)) r
-ranked_entry t lane words.Read a is r = ranked_read t.events (closing t.events) a is r
+pub drop_read : (h : List Event) (p : Option ℕ) (a : Answer) → read (drop_spends p a ++ h) ≡ read h
+drop_read h None a = refl
+drop_read h (Some k) answers.Dropped = refl
+drop_read h (Some k) a = refl
+
+pub stream_read : (h : List Event) (a : Answer) → read (stream_makes a ++ h) ≡ read h
+stream_read h (answers.Streaming number) = refl
+stream_read h a = refl
+
+pub take_read : (h : List Event) (p : Option ℕ) (a : Answer) → read (take_does p a ++ h) ≡ read h
+take_read h None a = refl
+take_read h (Some k) (answers.Item position) = refl
+take_read h (Some k) (answers.Closed error) = refl
+take_read h (Some k) a = refl
+
+ranked_entry : (t : Trail) (lane : ℕ) (w : Words) (a : Answer) → IsAnswer t lane w a → Ranked 0 (read t.events) → Ranked 0 (read (events_of t.events t.names t.streams lane w a ++ t.events))
+ranked_entry t lane (words.Call path member) a is r = subst (Ranked 0) (sym (call_read t.events _ a)) r
+ranked_entry t lane words.Read a is r = ranked_read t.events (closing t.events) (busy t.events) a is r
 ranked_entry t lane (words.Poll number) a is r = subst (Ranked 0) (sym (poll_read t.events (place 0 lane number t.names) a)) r
+ranked_entry t lane (words.Drop number) a is r = subst (Ranked 0) (sym (drop_read t.events (place 0 lane number t.names) a)) r
+ranked_entry t lane words.Stream a is r = subst (Ranked 0) (sym (stream_read t.events a)) r
+ranked_entry t lane (words.Take number) a is r = subst (Ranked 0) (sym (take_read t.events (place 0 lane number t.streams) a)) r
 
 ranked : (es : List Entry) → Legal es → Ranked 0 (read (trail es).events)
 ranked [] legal = tt
@@ -91,28 +113,38 @@ none_passes p (x ∷ xs) e =
 
 -- ---- what a poll shows
 
-reply_position : (kind : MessageType) (position q : ℕ) → IsReplyAt q (reply_answer kind position) → position ≡ q
-reply_position types.MethodReturn position q is = is
-reply_position types.MethodCall position q is = is
-reply_position types.Error position q is = is
-reply_position types.Signal position q is = is
+error_position : (m : Seen) (name : Option (List ℕ)) (q : ℕ) → IsReplyAt q (error_answer m name) → m.position ≡ q
+error_position m (Some name) q is = is
+error_position m None q is = is
+
+reply_position : (m : Seen) (kind : MessageType) (q : ℕ) → IsReplyAt q (reply_by m kind) → m.position ≡ q
+reply_position m types.MethodReturn q is = is
+reply_position m types.MethodCall q is = is
+reply_position m types.Error q is = error_position m m.error_name q is
+reply_position m types.Signal q is = is
 
 reply_shown : (r : Result (Polled Seen) Error) (q : ℕ) → IsReplyAt q (shown r) → (m : Seen) × (r ≡ Ok (polled.Now m)) × (m.position ≡ q)
-reply_shown (Ok (polled.Now m)) q is = (m, refl, reply_position m.kind m.position q is)
+reply_shown (Ok (polled.Now m)) q is = (m, refl, reply_position m m.kind q is)
 reply_shown (Ok polled.NotYet) q is = absurd is
 reply_shown (Ok (polled.Closed error)) q is = absurd is
+reply_shown (Ok polled.Ended) q is = absurd is
 reply_shown (Err error) q is = absurd is
 
-not_closed : (kind : MessageType) (position : ℕ) (error : Error) → reply_answer kind position ≡ answers.Closed error → ⊥
-not_closed types.MethodReturn position error e = cc
-not_closed types.MethodCall position error e = cc
-not_closed types.Error position error e = cc
-not_closed types.Signal position error e = cc
+error_not_closed : (m : Seen) (name : Option (List ℕ)) (error : Error) → error_answer m name ≡ answers.Closed error → ⊥
+error_not_closed m (Some name) error e = cc
+error_not_closed m None error e = cc
+
+not_closed : (m : Seen) (kind : MessageType) (error : Error) → reply_by m kind ≡ answers.Closed error → ⊥
+not_closed m types.MethodReturn error e = cc
+not_closed m types.MethodCall error e = cc
+not_closed m types.Error error e = error_not_closed m m.error_name error e
+not_closed m types.Signal error e = cc
 
 closed_shown : (r : Result (Polled Seen) Error) (error : Error) → shown r ≡ answers.Closed error → r ≡ Ok (polled.Closed error)
-closed_shown (Ok (polled.Now m)) error e = absurd (not_closed m.kind m.position error e)
+closed_shown (Ok (polled.Now m)) error e = absurd (not_closed m m.kind error e)
 closed_shown (Ok polled.NotYet) error e = cc
 closed_shown (Ok (polled.Closed other)) error e = cc
+closed_shown (Ok polled.Ended) error e = cc
 closed_shown (Err other) error e = cc
 
 now_by : (b : Bool) (f : Option Seen) (o : Option Error) (m : Seen) → (if b then Err errors.UnknownHandle else polled_by f o) ≡ Ok (polled.Now m) → f ≡ Some m
@@ -154,7 +186,7 @@ first_by t lane number q a (Some k) r named e is =
       named = named;
       made = c.1;
       first = c.2;
-      shown = e ∙ ap shown now.1 ∙ ap (reply_answer now.0.kind) now.2;
+      shown = e ∙ ap shown now.1;
       position = now.2;
       rank = omega arith;
       stands = at.1;

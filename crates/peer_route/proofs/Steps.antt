@@ -1,19 +1,16 @@
 -- One entry more: what an answer of the core makes of a history.
-use Rattle.std.proofs.Common.{◌≡◌, ℕ, zero, suc, ◌+◌, ◌-◌, ◌≤◌, ◌<◌, refl, sym, ◌∙◌, ap, arith, Bool, true, false, not, List, [], ◌∷◌, ◌++◌, length, take, drop, map, Option, Some, None, ◌⊎◌, inl, inr, Result, Ok, Err, nat_lt, length-append, append_assoc, IsTrue}
-use Rattle.std.specs.List.{flat_map}
+use Rattle.std.proofs.Common.{◌≡◌, ℕ, ◌≤◌, ◌<◌, refl, sym, ◌∙◌, ap, true, false, List, [], ◌∷◌, ◌++◌, length, drop, Some, None, length-append, append_assoc}
 use Rattle.std.proofs.lemmas.List.{drop-drop, append-nil}
 use Rattle.std.proofs.Math.Seq.{drop-append_seam}
-use borrow.Author.Tests.{ltb-true, ltb-false, lt-ltb, le-ltb}
-use Rattle.wire_names.specs.Names.{is_object_path, is_member_name, IsObjectPath, IsMemberName}
+use borrow.Author.Tests.{lt-ltb, le-ltb}
+use Rattle.wire_names.specs.Names.{is_object_path, is_member_name}
 use Rattle.wire_names.specs.declared.error.NamesError.TheVariants as names
 use Rattle.wire_message.specs.Front.{Seen}
-use Rattle.wire_message.specs.Call.{call_text}
+use Rattle.wire_message.specs.Draft.{call_draft, message_text}
 use Rattle.wire_message.specs.Circle.{IsNext, AllTaken}
-use Rattle.wire_message.specs.declared.error.Error.{Error}
 use Rattle.wire_message.specs.declared.error.Error.TheVariants as errors
-use Rattle.peer_route.specs.History.{Event, Took, Put, Wrote, Fault, Shut, read, put, pending, last_serial}
-use Rattle.peer_route.specs.Trail.{next_serial}
-use Rattle.peer_route.specs.Answers.{call_refusal, long_refusal}
+use Rattle.peer_route.specs.History.{Event, Took, read, pending, last_serial}
+use Rattle.peer_route.specs.Answers.{call_refusal}
 use Rattle.peer_route.specs.Told.{encodings, left_after}
 use Rattle.peer_route.proofs.NextSerial.{next_serial-next, next_serial-none}
 
@@ -32,12 +29,12 @@ unfolding call_refusal
 call_refusal-spent h path member p m all = rw (p, m, next_serial-none h all) refl
 
 pub call_refusal-long : (h : List Event) (path member : List ℕ) (serial : ℕ) → is_object_path path ≡ true → is_member_name member ≡ true
-    → IsNext (pending h) (last_serial h) serial → 134217728 < length (call_text serial path member) → call_refusal h path member ≡ Some errors.ExcessData
+    → IsNext (pending h) (last_serial h) serial → 134217728 < length (message_text (call_draft path member) serial []) → call_refusal h path member ≡ Some errors.ExcessData
 unfolding call_refusal
 call_refusal-long h path member serial p m next long = rw (p, m, next_serial-next h serial next, lt-ltb _ _ long) refl
 
 pub call_refusal-none : (h : List Event) (path member : List ℕ) (serial : ℕ) → is_object_path path ≡ true → is_member_name member ≡ true
-    → IsNext (pending h) (last_serial h) serial → length (call_text serial path member) ≤ 134217728 → call_refusal h path member ≡ None
+    → IsNext (pending h) (last_serial h) serial → length (message_text (call_draft path member) serial []) ≤ 134217728 → call_refusal h path member ≡ None
 unfolding call_refusal
 call_refusal-none h path member serial p m next short = rw (p, m, next_serial-next h serial next, le-ltb _ _ short) refl
 

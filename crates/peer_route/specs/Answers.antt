@@ -4,7 +4,8 @@ use Rattle.wire_names.specs.Names.{is_object_path, is_member_name}
 use Rattle.wire_names.specs.declared.error.NamesError.TheVariants as names
 use Rattle.wire_signature.specs.declared.error.VariantError.TheVariants as faults
 use Rattle.wire_message.specs.Front.{Seen, Front}
-use Rattle.wire_message.specs.Call.{call_text}
+use Rattle.wire_message.specs.Draft.{Draft, call_draft, message_text}
+use Rattle.wire_message.specs.Outcome.{IsReadError}
 use Rattle.wire_message.specs.declared.kind.MessageType.{MessageType}
 use Rattle.wire_message.specs.declared.kind.MessageType.TheVariants as types
 use Rattle.wire_message.specs.declared.error.Error.{Error}
@@ -17,14 +18,15 @@ use Rattle.peer_route.specs.declared.words.Words.TheVariants as words
 use Rattle.peer_route.specs.declared.answer.Answer.{Answer}
 use Rattle.peer_route.specs.declared.answer.Answer.TheVariants as answers
 use Rattle.peer_route.specs.declared.answer.Entry.{Entry}
-use Rattle.peer_route.specs.History.{Event, read, closing, is_failed, poll_answer}
-use Rattle.peer_route.specs.Trail.{Trail, Names, trail, place, count, next_serial, or_zero}
+use Rattle.peer_route.specs.History.{Event, read, closing, is_failed, poll_answer, drop_answer}
+use Rattle.peer_route.specs.Streams.{busy, take_answer}
+use Rattle.peer_route.specs.Trail.{Trail, trail, place, count, next_serial, or_zero}
 
 -- ---- a call
 
-abbrev pub long_refusal : Option ℕ → List ℕ → List ℕ → Option Error
-long_refusal None path member = Some errors.SerialsSpent
-long_refusal (Some serial) path member = if nat_lt 134217728 (length (call_text serial path member)) then Some errors.ExcessData else None
+abbrev pub long_refusal : Option ℕ → Draft → Option Error
+long_refusal None draft = Some errors.SerialsSpent
+long_refusal (Some serial) draft = if nat_lt 134217728 (length (message_text draft serial [])) then Some errors.ExcessData else None
 
 -- Why a call is refused, the first case that holds: its path or its member is outside its grammar, each serial is pending,
 -- the message would pass its limit.
@@ -32,7 +34,7 @@ unfoldable pub call_refusal : List Event → List ℕ → List ℕ → Option Er
 call_refusal h path member =
     if not (is_object_path path) then Some (errors.Names names.Path)
     else if not (is_member_name member) then Some (errors.Names names.Member)
-    else long_refusal (next_serial h) path member
+    else long_refusal (next_serial h) (call_draft path member)
 
 abbrev pub write_fault : Answer
 write_fault = answers.SendFailed (errors.InputOutput kinds.WriteFault)
@@ -48,44 +50,68 @@ IsCalled None failed sent answer = IsSent failed sent answer
 
 -- ---- a read
 
--- the errors that end a read (a peer that was closed is no such end)
-abbrev pub IsReadError : Error → Type 0
-IsReadError (errors.InputOutput kinds.Ended) = ⊤
-IsReadError (errors.InputOutput kinds.Fault) = ⊤
-IsReadError (errors.Variant faults.Malformed) = ⊤
-IsReadError errors.IncorrectEndian = ⊤
-IsReadError errors.ExcessData = ⊤
-IsReadError error = ⊥
-
 -- `count` messages were read before: the next stands on its own bytes, one position above; no position passes 2^64 - 2
 abbrev pub IsRead : ℕ → Answer → Type 0
 IsRead count (answers.Got m) = Front m.bytes m (length m.bytes) × (m.position ≡ count + 1) × (count < 2 ^ 64 - 2)
 IsRead count (answers.Closed error) = IsReadError error
 IsRead count answer = ⊥
 
--- the first closing error is given again and again
-abbrev pub IsReadOf : Option Error → ℕ → Answer → Type 0
-IsReadOf (Some error) count answer = answer ≡ answers.Closed error
-IsReadOf None count answer = IsRead count answer
+-- The first closing error is given again and again. Else the read is busy exactly where a stream is full.
+abbrev pub IsReadOf : Option Error → Bool → ℕ → Answer → Type 0
+IsReadOf (Some error) full count answer = answer ≡ answers.Closed error
+IsReadOf None true count answer = answer ≡ answers.Busy
+IsReadOf None false count answer = IsRead count answer
 
 -- ---- a poll
 
-abbrev pub reply_answer : MessageType → ℕ → Answer
-reply_answer types.MethodReturn position = answers.Reply position
-reply_answer types.MethodCall position = answers.InvalidReply position
-reply_answer types.Error position = answers.InvalidReply position
-reply_answer types.Signal position = answers.InvalidReply position
+-- an error with a name, or without
+abbrev pub error_answer : Seen → Option (List ℕ) → Answer
+error_answer m (Some name) = answers.MethodError m
+error_answer m None = answers.InvalidReply m.position
 
--- what is shown of a poll: a method return's position, or an error's, which so far has no name
+abbrev pub reply_by : Seen → MessageType → Answer
+reply_by m types.MethodReturn = answers.Reply m.position
+reply_by m types.Error = error_answer m m.error_name
+reply_by m types.MethodCall = answers.InvalidReply m.position
+reply_by m types.Signal = answers.InvalidReply m.position
+
+abbrev pub reply_answer : Seen → Answer
+reply_answer m = reply_by m m.kind
+
+-- what is shown of a poll: a method return's position; an error with its name, or the position of one without
 abbrev pub shown : Result (Polled Seen) Error → Answer
-shown (Ok (polled.Now m)) = reply_answer m.kind m.position
+shown (Ok (polled.Now m)) = reply_answer m
 shown (Ok polled.NotYet) = answers.NotYet
 shown (Ok (polled.Closed error)) = answers.Closed error
+shown (Ok polled.Ended) = answers.Ended
 shown (Err error) = answers.Refused error
 
 abbrev pub poll_of : List Event → Option ℕ → Answer
 poll_of h None = answers.Refused errors.UnknownHandle
 poll_of h (Some k) = shown (poll_answer h k)
+
+-- what is shown of a drop
+abbrev pub shown_drop : {A : Type 0} → Result A Error → Answer
+shown_drop (Ok done) = answers.Dropped
+shown_drop (Err error) = answers.Refused error
+
+abbrev pub drop_of : List Event → Option ℕ → Answer
+drop_of h None = answers.Refused errors.UnknownHandle
+drop_of h (Some k) = shown_drop (drop_answer h k)
+
+-- ---- a stream
+
+-- what is shown of a take: the item's position
+abbrev pub shown_take : Result (Polled Seen) Error → Answer
+shown_take (Ok (polled.Now m)) = answers.Item m.position
+shown_take (Ok polled.NotYet) = answers.Empty
+shown_take (Ok (polled.Closed error)) = answers.Closed error
+shown_take (Ok polled.Ended) = answers.Ended
+shown_take (Err error) = answers.Refused error
+
+abbrev pub take_of : List Event → Option ℕ → Answer
+take_of h None = answers.Refused errors.UnknownHandle
+take_of h (Some k) = shown_take (take_answer h k)
 
 -- ---- a history
 
@@ -93,8 +119,11 @@ poll_of h (Some k) = shown (poll_answer h k)
 abbrev pub IsAnswer : Trail → ℕ → Words → Answer → Type 0
 IsAnswer t lane (words.Call path member) answer =
     IsCalled (call_refusal t.events path member) (is_failed t.events) (answers.Called (count lane t.names) (or_zero (next_serial t.events))) answer
-IsAnswer t lane words.Read answer = IsReadOf (closing t.events) (length (read t.events)) answer
+IsAnswer t lane words.Read answer = IsReadOf (closing t.events) (busy t.events) (length (read t.events)) answer
 IsAnswer t lane (words.Poll number) answer = answer ≡ poll_of t.events (place 0 lane number t.names)
+IsAnswer t lane (words.Drop number) answer = answer ≡ drop_of t.events (place 0 lane number t.names)
+IsAnswer t lane words.Stream answer = answer ≡ answers.Streaming (count lane t.streams)
+IsAnswer t lane (words.Take number) answer = answer ≡ take_of t.events (place 0 lane number t.streams)
 
 -- Each entry's answer is that of the entries before it. The history is newest first.
 abbrev pub Legal : List Entry → Type 0

@@ -12,13 +12,24 @@ use Rattle.peer_route.specs.declared.polled.Polled.TheVariants as polled
 
 -- ---- events
 
+-- how a stream is made
+pub data Making : Type 0 where
+  Plain : Making  -- without a rule, so that it takes each message
+
+-- what a stream did
+pub data Deed : Type 0 where
+  Gave : Deed  -- it gave an item
+  Told : Deed  -- it gave the closing error
+
 pub data Event : Type 0 where
   Took : (m : Seen) → Event  -- a read took the message
   Shut : (error : Error) → Event  -- a read ended the peer's messages
   Put : (m : Seen) (expects : Bool) → Event  -- a message was put in the outbox; whether it expects a reply
   Wrote : Event  -- the first message that isn't done was written
   Fault : Event  -- its write failed
-  Spent : (call : ℕ) → Event  -- the call's answer was given
+  Spent : (call : ℕ) → Event  -- the call's answer was given, or it was dropped
+  Made : (making : Making) → Event  -- a stream was made
+  Did : (stream : ℕ) (deed : Deed) → Event  -- the stream with this number did it
 
 -- ---- reads and closing
 
@@ -31,6 +42,8 @@ read (Put m expects ∷ h) = read h
 read (Wrote ∷ h) = read h
 read (Fault ∷ h) = read h
 read (Spent call ∷ h) = read h
+read (Made making ∷ h) = read h
+read (Did stream deed ∷ h) = read h
 
 abbrev pub first_of : Option Error → Error → Option Error
 first_of None error = Some error
@@ -45,6 +58,8 @@ closing (Put m expects ∷ h) = closing h
 closing (Wrote ∷ h) = closing h
 closing (Fault ∷ h) = closing h
 closing (Spent call ∷ h) = closing h
+closing (Made making ∷ h) = closing h
+closing (Did stream deed ∷ h) = closing h
 
 -- ---- the outbox
 
@@ -57,6 +72,8 @@ put (Shut error ∷ h) = put h
 put (Wrote ∷ h) = put h
 put (Fault ∷ h) = put h
 put (Spent call ∷ h) = put h
+put (Made making ∷ h) = put h
+put (Did stream deed ∷ h) = put h
 
 -- how many of them were written or failed
 abbrev pub done : List Event → ℕ
@@ -67,6 +84,8 @@ done (Took m ∷ h) = done h
 done (Shut error ∷ h) = done h
 done (Put m expects ∷ h) = done h
 done (Spent call ∷ h) = done h
+done (Made making ∷ h) = done h
+done (Did stream deed ∷ h) = done h
 
 -- a write failed
 abbrev pub is_failed : List Event → Bool
@@ -77,6 +96,8 @@ is_failed (Took m ∷ h) = is_failed h
 is_failed (Shut error ∷ h) = is_failed h
 is_failed (Put m expects ∷ h) = is_failed h
 is_failed (Spent call ∷ h) = is_failed h
+is_failed (Made making ∷ h) = is_failed h
+is_failed (Did stream deed ∷ h) = is_failed h
 
 -- the last serial that was drawn, 0 before the first
 abbrev pub last_serial : List Event → ℕ
@@ -87,11 +108,13 @@ last_serial (Shut error ∷ h) = last_serial h
 last_serial (Wrote ∷ h) = last_serial h
 last_serial (Fault ∷ h) = last_serial h
 last_serial (Spent call ∷ h) = last_serial h
+last_serial (Made making ∷ h) = last_serial h
+last_serial (Did stream deed ∷ h) = last_serial h
 
 -- ---- calls
 
 -- A call that was issued: the place of its message in the outbox, its serial, how many messages were read before it was
--- put, whether its answer was given, and whether its write failed.
+-- put, whether its answer was given or it was dropped, and whether its write failed.
 pub record Call : Type 0 where
   pub index : ℕ
   pub serial : ℕ
@@ -123,6 +146,8 @@ calls (Fault ∷ h) = map (fail_at (done h)) (calls h)
 calls (Took m ∷ h) = calls h
 calls (Shut error ∷ h) = calls h
 calls (Wrote ∷ h) = calls h
+calls (Made making ∷ h) = calls h
+calls (Did stream deed ∷ h) = calls h
 
 -- a method return or an error
 abbrev pub is_reply : MessageType → Bool
@@ -143,7 +168,7 @@ bears serial m = is_reply m.kind && is_serial m.reply_serial serial
 unfoldable pub found : List Event → Call → Option Seen
 found h c = find (bears c.serial) (drop c.from (read h))
 
--- its answer was given, or its message failed
+-- its answer was given, or it was dropped, or its message failed
 abbrev pub is_gone : Call → Bool
 is_gone c = c.spent || c.failed
 
@@ -157,7 +182,8 @@ polled_at h None = Err errors.UnknownHandle
 polled_at h (Some c) = if is_gone c then Err errors.UnknownHandle else polled_by (found h c) (closing h)
 
 -- What a poll of the call with this number gives: its reply, which is the first message read after it that bears its
--- serial; else the closing error; else nothing yet. A call that wasn't made, or whose answer was given, is unknown.
+-- serial; else the closing error; else nothing yet. A call that wasn't made, or whose answer was given, or that was dropped,
+-- is unknown.
 unfoldable pub poll_answer : List Event → ℕ → Result (Polled Seen) Error
 poll_answer h k = polled_at h (slice_get (calls h) k)
 
@@ -166,6 +192,7 @@ abbrev pub poll_events : ℕ → Result (Polled Seen) Error → List Event
 poll_events k (Ok (polled.Now m)) = Spent k ∷ []
 poll_events k (Ok (polled.Closed error)) = Spent k ∷ []
 poll_events k (Ok polled.NotYet) = []
+poll_events k (Ok polled.Ended) = []
 poll_events k (Err error) = []
 
 -- the call waits for a reply, and bears this serial
@@ -175,3 +202,16 @@ waits_with h serial c = not (is_gone c) && is_none (found h c) && (c.serial == s
 -- a call waits for a reply of this serial; after the closing error none waits
 unfoldable pub pending : List Event → ℕ → Bool
 pending h serial = is_none (closing h) && list_any (waits_with h serial) (calls h)
+
+-- What dropping the call with this number gives: a call that still waits for its answer, or has one, is dropped. One that
+-- wasn't made, or is over, is unknown.
+abbrev pub dropped_at : Option Call → Result (Unit {0}) Error
+dropped_at None = Err errors.UnknownHandle
+dropped_at (Some c) = if is_gone c then Err errors.UnknownHandle else Ok tt
+
+unfoldable pub drop_answer : List Event → ℕ → Result (Unit {0}) Error
+drop_answer h k = dropped_at (slice_get (calls h) k)
+
+abbrev pub drop_events : {A E : Type 0} → ℕ → Result A E → List Event
+drop_events k (Ok done) = Spent k ∷ []
+drop_events k (Err error) = []

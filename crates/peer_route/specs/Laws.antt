@@ -16,6 +16,7 @@ use Rattle.peer_route.specs.Answers.{reply_answer, poll_of}
 abbrev pub IsFinal : Answer → Type 0
 IsFinal (answers.Reply position) = ⊤
 IsFinal (answers.InvalidReply position) = ⊤
+IsFinal (answers.MethodError m) = ⊤
 IsFinal (answers.Closed error) = ⊤
 IsFinal answer = ⊥
 
@@ -23,11 +24,12 @@ IsFinal answer = ⊥
 abbrev pub IsReplyAt : ℕ → Answer → Type 0
 IsReplyAt q (answers.Reply position) = position ≡ q
 IsReplyAt q (answers.InvalidReply position) = position ≡ q
+IsReplyAt q (answers.MethodError m) = m.position ≡ q
 IsReplyAt q answer = ⊥
 
--- where the entry is this lane's poll of this number, its answer is that no such call waits
+-- where the entry is this lane's poll or drop of this number, its answer is that no such call waits
 abbrev pub IsUnknown : ℕ → ℕ → Entry → Type 0
-IsUnknown lane number e = e.lane ≡ lane → e.words ≡ words.Poll number → e.answer ≡ answers.Refused errors.UnknownHandle
+IsUnknown lane number e = e.lane ≡ lane → (e.words ≡ words.Poll number) ⊎ (e.words ≡ words.Drop number) → e.answer ≡ answers.Refused errors.UnknownHandle
 
 -- The lane's number names a call, and the first message read after it was put that bears its serial is shown by the
 -- answer; that message was the q-th that was read, from 1 on, and its position says so.
@@ -39,7 +41,7 @@ pub record IsFirstReply (t : Trail) (lane number q : ℕ) (answer : Answer) : Ty
   pub named : place 0 lane number t.names ≡ Some k
   pub made : slice_get (calls t.events) k ≡ Some call
   pub first : find (bears call.serial) (drop call.from (read t.events)) ≡ Some message
-  pub shown : answer ≡ reply_answer message.kind q
+  pub shown : answer ≡ reply_answer message
   pub position : message.position ≡ q
   pub rank : q ≡ place_before + 1
   pub stands : slice_get (read t.events) place_before ≡ Some message

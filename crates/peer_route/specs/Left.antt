@@ -1,8 +1,8 @@
 -- What a history leaves of a peer: all that the answers to come depend on.
-use Rattle.std.specs.Prelude.{ℕ, ⊤, ◌≡◌, ◌<◌, ◌≤◌, Bool, true, false, ◌&&◌, ◌==◌, if◌then◌else◌, is_none, List, [], ◌∷◌, ◌++◌, length, map, Option, Some, None, Result, Ok, Err}
-use Rattle.std.specs.List.{list_any}
+use Rattle.std.specs.Prelude.{ℕ, zero, suc, ⊤, ◌≡◌, ◌+◌, ◌<◌, ◌≤◌, nat_lt, nat_le, not, Bool, true, false, ◌&&◌, ◌==◌, if◌then◌else◌, is_none, List, [], ◌∷◌, ◌++◌, length, map, Option, Some, None, Result, Ok, Err}
+use Rattle.std.specs.List.{list_any, AllByRecursion}
 use Rattle.wire_message.specs.Front.{Seen}
-use Rattle.wire_message.specs.Call.{call_message, call_text}
+use Rattle.wire_message.specs.Draft.{Draft, built, message_text}
 use Rattle.wire_message.specs.Circle.{IsNext, AllTaken}
 use Rattle.wire_message.specs.declared.error.Error.{Error}
 use Rattle.wire_message.specs.declared.error.Error.TheVariants as errors
@@ -10,7 +10,9 @@ use Rattle.wire_message.specs.declared.error.IoKind.TheVariants as kinds
 use Rattle.peer_route.specs.declared.calls.Slot.{Slot}
 use Rattle.peer_route.specs.declared.calls.Slot.TheVariants as slots
 use Rattle.peer_route.specs.declared.route.Issued.{Issued}
-use Rattle.peer_route.specs.History.{Event, Put, Call, put, is_failed, last_serial, found, bears, is_gone, pending}
+use Rattle.peer_route.specs.Streams.{Stream, streams, held, capacity, take_by}
+use Rattle.peer_route.specs.declared.polled.Polled.{Polled}
+use Rattle.peer_route.specs.History.{Event, Put, Call, put, edit, is_failed, last_serial, found, bears, is_gone, pending}
 use Rattle.peer_route.specs.History as events
 
 -- what is kept of a call: that it is over, the serial that it waits for, or its reply
@@ -26,6 +28,12 @@ abbrev pub is_waiting : ℕ → Slot → Bool
 is_waiting serial (slots.Waiting n) = n == serial
 is_waiting serial slots.Gone = false
 is_waiting serial (slots.Replied m) = false
+
+-- nothing is kept of the call
+abbrev pub is_empty_slot : Slot → Bool
+is_empty_slot slots.Gone = true
+is_empty_slot (slots.Waiting n) = false
+is_empty_slot (slots.Replied m) = false
 
 -- the slot waits for a serial that the message bears
 abbrev pub takes : Seen → Slot → Bool
@@ -49,14 +57,60 @@ pub record CallsView : Type 0 where
 unfoldable pub waiting_serial : CallsView → ℕ → Bool
 waiting_serial v serial = is_none v.closing && list_any (is_waiting serial) v.slots
 
+-- the slot waits for a serial of the circle, and none behind it waits for the same
+abbrev pub is_last_waiting : Slot → List Slot → Bool
+is_last_waiting (slots.Waiting n) ss = nat_le 1 n && nat_le n 4294967295 && not (list_any (is_waiting n) ss)
+is_last_waiting slots.Gone ss = false
+is_last_waiting (slots.Replied m) ss = false
+
+-- how many serials the slots wait for
+abbrev pub waiting_count : List Slot → ℕ
+waiting_count [] = 0
+waiting_count (s ∷ ss) = if is_last_waiting s ss then waiting_count ss + 1 else waiting_count ss
+
 -- the number is there and is this
 abbrev pub is_number : Option ℕ → ℕ → Bool
 is_number None serial = false
 is_number (Some n) serial = n == serial
 
+-- what is kept of a stream: the messages that it holds, and whether it gave the closing error
+pub record Held : Type 0 where
+  pub items : List Seen
+  pub told : Bool
+
+unfoldable pub held_of : List Event → Stream → Held
+held_of h s = record { items = held h s; told = s.told }
+
+-- a stream with one message more
+abbrev pub queued : Seen → Held → Held
+queued m q = record q { items = q.items ++ m ∷ [] }
+
+-- the first so many streams with one message more
+abbrev pub queued_first : ℕ → Seen → List Held → List Held
+queued_first zero m qs = qs
+queued_first (suc n) m [] = []
+queued_first (suc n) m (q ∷ qs) = queued m q ∷ queued_first n m qs
+
+abbrev pub is_over : Held → Bool
+is_over q = nat_lt capacity (length q.items)
+
+-- a stream after a take: without its first message, or with the closing error told
+abbrev pub after_by : List Seen → Option Error → Bool → Held
+after_by (m ∷ ms) closing told = record { items = ms; told = told }
+after_by [] None told = record { items = []; told = told }
+after_by [] (Some error) told = record { items = []; told = true }
+
+abbrev pub after_take : Option Error → Held → Held
+after_take closing q = after_by q.items closing q.told
+
+abbrev pub held_gives : Option Held → Option Error → Result (Polled Seen) Error
+held_gives None closing = Err errors.UnknownHandle
+held_gives (Some q) closing = Ok (take_by q.items closing q.told)
+
 -- what contracts see of a peer's core; `places` has for each call the place of its message in the outbox
 pub record View : Type 0 where
   pub calls : CallsView
+  pub streams : List Held
   pub read : ℕ
   pub last : ℕ
   pub outbox : List Seen
@@ -70,9 +124,23 @@ pub record LeftCalls (v : CallsView) (h : List Event) : Type 0 where
   pub closing : v.closing ≡ events.closing h
   pub distinct : v.closing ≡ None → AreDistinct v.slots
 
+-- no stream gave more than was read above its start
+abbrev pub IsWithin : List Event → Stream → Type 0
+IsWithin h s = s.from + s.taken ≤ length (events.read h)
+
+-- The history leaves these streams: each with what it holds.
+pub record LeftStreams (v : List Held) (h : List Event) : Type 0 where
+  pub queues : v ≡ map (held_of h) (streams h)
+  pub within : AllByRecursion (IsWithin h) (streams h)
+
+-- a read takes nothing now
+unfoldable pub is_busy : View → Bool
+is_busy v = is_none v.calls.closing && list_any is_over v.streams
+
 -- The history leaves this core.
 pub record Left (v : View) (h : List Event) : Type 0 where
   pub calls : LeftCalls v.calls h
+  pub streams : LeftStreams v.streams h
   pub read : v.read ≡ length (events.read h)
   pub last : v.last ≡ last_serial h
   pub outbox : v.outbox ≡ put h
@@ -97,24 +165,24 @@ Places old new m last (Err errors.Memory) = new ≡ old
 Places old new m last (Err error) = ⊥
 
 -- What issuing a method call gives, by the history before it. Nothing changes but on Ok, when the message is put.
-abbrev pub Issues : View → View → List ℕ → List ℕ → List Event → Result Issued Error → Type 0
-Issues old new path member h (Ok issued) =
+abbrev pub Issues : View → View → Draft → List Event → Result Issued Error → Type 0
+Issues old new draft h (Ok issued) =
     IsNext (pending h) (last_serial h) issued.serial
-    × (length (call_text issued.serial path member) ≤ 134217728)
+    × (length (message_text draft issued.serial []) ≤ 134217728)
     × (is_failed h ≡ false)
     × (issued.index ≡ length (put h)) × (issued.call ≡ length (events.calls h))
-    × Left new (Put (call_message issued.serial path member) true ∷ h)
+    × Left new (Put (built draft issued.serial []) true ∷ h)
 -- each serial is pending
-Issues old new path member h (Err errors.SerialsSpent) = AllTaken (pending h) × (new ≡ old)
+Issues old new draft h (Err errors.SerialsSpent) = AllTaken (pending h) × (new ≡ old)
 -- else, the message would pass its limit
-Issues old new path member h (Err errors.ExcessData) =
-    (serial : ℕ) × IsNext (pending h) (last_serial h) serial × (134217728 < length (call_text serial path member)) × (new ≡ old)
+Issues old new draft h (Err errors.ExcessData) =
+    (serial : ℕ) × IsNext (pending h) (last_serial h) serial × (134217728 < length (message_text draft serial [])) × (new ≡ old)
 -- else, an earlier write failed
-Issues old new path member h (Err (errors.InputOutput kinds.WriteFault)) =
-    (serial : ℕ) × IsNext (pending h) (last_serial h) serial × (length (call_text serial path member) ≤ 134217728)
+Issues old new draft h (Err (errors.InputOutput kinds.WriteFault)) =
+    (serial : ℕ) × IsNext (pending h) (last_serial h) serial × (length (message_text draft serial []) ≤ 134217728)
     × (is_failed h ≡ true) × (new ≡ old)
-Issues old new path member h (Err errors.Memory) = new ≡ old
-Issues old new path member h (Err error) = ⊥
+Issues old new draft h (Err errors.Memory) = new ≡ old
+Issues old new draft h (Err error) = ⊥
 
 -- A message that was issued waits at the end of the outbox, and no write failed.
 abbrev pub Waits : View → View → Issued → Type 0

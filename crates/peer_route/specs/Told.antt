@@ -1,9 +1,9 @@
 -- What the outside told: the reads are what stands in the source's bytes, and a send fails where the sink's room ends. It
 -- stands apart from `Legal`, over the same history.
-use Rattle.std.specs.Prelude.{ℕ, ⊤, ◌≡◌, ◌+◌, ◌<◌, ◌≤◌, ◌⊎◌, Bool, true, false, List, [], ◌∷◌, ◌++◌, length, drop, take, Option, Some, None, Result, Ok, Err}
+use Rattle.std.specs.Prelude.{ℕ, ⊤, ◌≡◌, ◌<◌, ◌≤◌, ◌⊎◌, Bool, true, false, List, [], ◌∷◌, ◌++◌, length, drop, take, Option, Some, None, Result, Ok, Err}
 use Rattle.std.specs.List.{flat_map}
 use Rattle.wire_message.specs.Front.{Seen}
-use Rattle.wire_message.specs.Outcome.{outcome}
+use Rattle.wire_message.specs.Outcome.{outcome, ending_of}
 use Rattle.wire_message.specs.declared.error.Error.{Error}
 use Rattle.wire_message.specs.declared.error.Error.TheVariants as errors
 use Rattle.wire_message.specs.declared.error.IoKind.{IoKind}
@@ -14,6 +14,7 @@ use Rattle.peer_route.specs.declared.answer.Answer.{Answer}
 use Rattle.peer_route.specs.declared.answer.Answer.TheVariants as answers
 use Rattle.peer_route.specs.declared.answer.Entry.{Entry}
 use Rattle.peer_route.specs.History.{Event, read, closing, put, is_failed}
+use Rattle.peer_route.specs.Streams.{busy}
 use Rattle.peer_route.specs.Trail.{trail}
 
 -- ---- the source
@@ -31,24 +32,27 @@ abbrev pub answer_of : Result Seen Error → Answer
 answer_of (Ok m) = answers.Got m
 answer_of (Err error) = answers.Closed error
 
--- what comes after the source's bytes: a failing call or the end
-abbrev pub ending_of : Bool → IoKind
-ending_of true = kinds.Fault
-ending_of false = kinds.Ended
-
 -- Where it isn't told what comes after the bytes, a failing call may come at any time.
 abbrev pub IsOutcome : Option Bool → ℕ → List ℕ → Answer → Type 0
 IsOutcome (Some stop) count bytes answer = answer ≡ answer_of (outcome count bytes (ending_of stop))
 IsOutcome None count bytes answer =
     (answer ≡ answer_of (outcome count bytes kinds.Ended)) ⊎ (answer ≡ answers.Closed (errors.InputOutput kinds.Fault))
 
+-- a read of an open peer that isn't busy; a busy one takes nothing
+abbrev pub ReadOpenTold : Bool → Option Bool → List ℕ → List Event → Answer → Type 0
+ReadOpenTold true stop bytes h answer = ⊤
+ReadOpenTold false stop bytes h answer = IsOutcome stop (length (read h)) (left_after bytes h) answer
+
 abbrev pub ReadTold : Option Bool → List ℕ → List Event → Option Error → Words → Answer → Type 0
-ReadTold stop bytes h None words.Read answer = IsOutcome stop (length (read h)) (left_after bytes h) answer
+ReadTold stop bytes h None words.Read answer = ReadOpenTold (busy h) stop bytes h answer
 ReadTold stop bytes h (Some error) words.Read answer = ⊤
 ReadTold stop bytes h closed (words.Call path member) answer = ⊤
 ReadTold stop bytes h closed (words.Poll number) answer = ⊤
+ReadTold stop bytes h closed (words.Drop number) answer = ⊤
+ReadTold stop bytes h closed words.Stream answer = ⊤
+ReadTold stop bytes h closed (words.Take number) answer = ⊤
 
--- Each read of an open peer is what stands at the front of the bytes that the reads before it left.
+-- Each read of an open peer that isn't busy is what stands at the front of the bytes that the reads before it left.
 abbrev pub ReadsTold : Option Bool → List ℕ → List Entry → Type 0
 ReadsTold stop bytes [] = ⊤
 ReadsTold stop bytes (e ∷ es) =

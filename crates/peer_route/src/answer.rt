@@ -16,10 +16,24 @@ pub enum Answer {
     Closed(Error),
     /// The position of the method return that answers the call.
     Reply(u64),
+    /// The error with a name that answers the call.
+    MethodError(Message),
     /// The position of an error without a name that answers the call.
     InvalidReply(u64),
     /// The call has no answer yet.
     NotYet,
+    /// The call's answer is waited for no more.
+    Dropped,
+    /// The read took nothing, since a stream holds more than its capacity.
+    Busy,
+    /// The stream was opened: its number in its lane.
+    Streaming(u64),
+    /// The position of the message that the stream gave.
+    Item(u64),
+    /// The stream holds nothing, and more may come.
+    Empty,
+    /// The stream is over: it holds nothing, nothing comes any more, and the closing error isn't given again.
+    Ended,
 }
 
 /// One entry of a history: a lane's command and its answer.

@@ -1,7 +1,7 @@
 ghost use Rattle.std.specs.Prelude.{ℕ, ◌≡◌, ◌+◌, ◌<◌, ◌++◌, ◌∷◌, [], List, length, IfSome, IfNone, OnOk, OnErr, IfOk, Some, None, is_none, position, slice_set};
 ghost use Rattle.std.specs.List.{list_any};
-ghost use Rattle.peer_route.specs.History.{Event, Took, Shut, Put, Call, poll_answer, poll_events, pending, bears, closing, calls};
-ghost use Rattle.peer_route.specs.Left.{CallsView, LeftCalls, is_waiting, is_number, takes, waiting_serial};
+ghost use Rattle.peer_route.specs.History.{Event, Took, Shut, Put, Call, poll_answer, poll_events, drop_answer, drop_events, pending, bears, closing, calls};
+ghost use Rattle.peer_route.specs.Left.{CallsView, LeftCalls, is_waiting, is_empty_slot, is_last_waiting, waiting_count, is_number, takes, waiting_serial};
 ghost use Rattle.wire_message.specs.Front.{Seen};
 
 use crate::polled::Polled;
@@ -55,6 +55,13 @@ fn waiting_place(slots: &[Slot], serial: u32) -> Option<usize>
         .position(|slot| matches!(slot, Slot::Waiting(n) if *n == serial))
 }
 
+/// Whether nothing is kept of the call any more.
+fn is_gone(slot: &Slot) -> bool
+    ensures { result ≡ is_empty_slot slot.now }
+{
+    matches!(slot, Slot::Gone)
+}
+
 impl PendingMethodCalls {
     /// No calls.
     pub fn new(alloc: Global) -> PendingMethodCalls
@@ -96,7 +103,7 @@ impl PendingMethodCalls {
         }
     }
 
-    /// The call with this number gets no answer, since its message failed. Nothing changes where no such call was made.
+    /// The call with this number gets no answer, since its message failed or it is dropped. Nothing changes where no such call was made.
     pub(crate) fn lose(&mut self, call: usize)
         ensures { self.new ≡ record { slots = slice_set self.old.slots call Slot.Gone; closing = self.old.closing } }
     {
@@ -145,10 +152,62 @@ impl PendingMethodCalls {
     }
 }
 
+impl PendingMethodCalls {
+    /// Drops the call with this number: its answer is waited for no more, and a poll of it is refused. UnknownHandle exactly
+    /// where no such call was made, its answer was given, or it was dropped before. Takes no memory.
+    pub fn drop_call(&mut self, call: u64) -> Result<(), Error>
+        ensures answer { (h : List Event) → LeftCalls self.old h → result ≡ drop_answer h call }
+        ensures left { (h : List Event) → LeftCalls self.old h → LeftCalls self.new (drop_events call result ++ h) }
+    {
+        if call >= self.slots.len() as u64 {
+            return Err(Error::UnknownHandle);
+        }
+        if is_gone(&self.slots[call as usize]) {
+            return Err(Error::UnknownHandle);
+        }
+        self.lose(call as usize);
+        Ok(())
+    }
+}
+
+/// Whether the slot waits for a serial, and none of those behind it waits for the same.
+fn is_last_waiting(slot: &Slot, behind: &[Slot]) -> bool
+    ensures { result ≡ is_last_waiting slot.now behind.now }
+{
+    match slot {
+        Slot::Waiting(serial) => *serial != 0 && waiting_place(behind, *serial).is_none(),
+        Slot::Gone | Slot::Replied(_) => false,
+    }
+}
+
+/// How many serials the slots wait for.
+#[tactic(auto, using(crate::proofs::Waiting::counting))]
+fn waiting_count(slots: &[Slot]) -> u64
+    ensures { result ≡ waiting_count slots.now }
+{
+    let mut count = 0;
+    let mut at = 0;
+    while at < slots.len() {
+        if is_last_waiting(&slots[at], &slots[at + 1..]) {
+            count += 1;
+        }
+        at += 1;
+    }
+    count
+}
+
 impl Taken for PendingMethodCalls {
     ghost is_taken = { waiting_serial };
 
     fn taken(&self, serial: u32) -> bool {
         self.closing.is_none() && waiting_place(&self.slots, serial).is_some()
+    }
+
+    fn count(&self) -> u64 {
+        if self.closing.is_some() {
+            0
+        } else {
+            waiting_count(&self.slots)
+        }
     }
 }

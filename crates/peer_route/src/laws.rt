@@ -1,21 +1,27 @@
 //! Laws of every history, each the contract of a function that does nothing.
-ghost use Rattle.std.specs.Prelude.{◌≡◌, ◌≢◌, ℕ, List, ◌∷◌, ◌++◌, IfSome, None, true, false, slice_get};
+ghost use Rattle.std.specs.Prelude.{◌≡◌, ◌≢◌, ◌⊎◌, ℕ, List, ◌∷◌, ◌++◌, IfSome, Some, None, true, false, slice_get};
 ghost use Rattle.std.specs.List.{AllByRecursion};
 ghost use Rattle.wire_message.specs.Front.{Seen};
 ghost use Rattle.wire_message.specs.declared.error.Error.{Error};
 ghost use Rattle.peer_route.specs.declared.answer.Entry.{Entry};
-ghost use Rattle.peer_route.specs.History.{Event, Took, Spent, calls, closing, is_serial, pending, poll_answer};
+ghost use Rattle.peer_route.specs.History.{Event, Took, Spent, calls, closing, is_failed, is_serial, pending, poll_answer, put};
 ghost use Rattle.peer_route.specs.Trail.{trail};
 ghost use Rattle.peer_route.specs.Answers.{Legal};
+ghost use Rattle.peer_route.specs.StreamLaws.{Yields, IsEnded, IsLast, IsDrained, HoldsTooMany, IsPutOf, all_sent};
 ghost use Rattle.peer_route.specs.Laws.{IsFinal, IsReplyAt, IsUnknown, IsFirstReply, IsCutOff, IsPast, poll_now};
 
 use crate::answer::Answer;
 use crate::words::Words;
 
 /// A call is answered once. Once a lane's poll of a number gave a reply, valid or not, or the closing error, each later
-/// poll of that number by that lane is refused, as of a call that was never made. Histories are newest first.
+/// poll or drop of that number by that lane is refused, as of a call that was never made. Histories are newest first.
 pub fn answered_once()
     ensures { (newer older : List Entry) (e : Entry) (number : ℕ) → Legal (newer ++ e ∷ older) → e.words ≡ Words.Poll number → IsFinal e.answer → AllByRecursion (IsUnknown e.lane number) newer }
+{}
+
+/// A dropped call is unknown from then on: each later poll or drop of that number by that lane is refused, whatever comes.
+pub fn dropped_for_good()
+    ensures { (newer older : List Entry) (e : Entry) (number : ℕ) → Legal (newer ++ e ∷ older) → e.words ≡ Words.Drop number → e.answer ≡ Answer.Dropped → AllByRecursion (IsUnknown e.lane number) newer }
 {}
 
 /// A reply answers the call whose serial it bears, and the first such reply does. Where a poll is answered with a position,
@@ -38,8 +44,50 @@ pub fn reply_changes_no_other()
     ensures late { (h : List Event) (m : Seen) (serial : ℕ) → closing h ≡ None → is_serial m.reply_serial serial ≡ true → pending h serial ≡ false → (k : ℕ) → poll_answer (Took m ∷ h) k ≡ poll_answer h k }
 {}
 
-/// A poll changes the answer of no other call: neither of another number of its lane, nor of another lane.
+/// A poll or a drop changes the answer of no other call: neither of another number of its lane, nor of another lane.
 pub fn spent_changes_no_other()
     ensures event { (h : List Event) (j k : ℕ) → j ≢ k → poll_answer (Spent j ∷ h) k ≡ poll_answer h k }
-    ensures entry { (older : List Entry) (e : Entry) (number lane other : ℕ) → Legal (e ∷ older) → e.words ≡ Words.Poll number → (lane ≡ e.lane → other ≢ number) → poll_now (trail (e ∷ older)) lane other ≡ poll_now (trail older) lane other }
+    ensures entry { (older : List Entry) (e : Entry) (number lane other : ℕ) → Legal (e ∷ older) → (e.words ≡ Words.Poll number) ⊎ (e.words ≡ Words.Drop number) → (lane ≡ e.lane → other ≢ number) → poll_now (trail (e ∷ older)) lane other ≡ poll_now (trail older) lane other }
+{}
+
+/// A stream gives exactly what was read since it was made. Where a lane's command made a stream, the positions of the items
+/// that the lane's takes of its number gave since, and behind them those of the messages that it holds, are the positions of
+/// all messages that were read since, in order: none is missed, given twice, or taken from before it was made.
+pub fn stream_gives_all()
+    ensures { (newer : List Entry) (e : Entry) (older : List Entry) (number : ℕ) → Legal (newer ++ e ∷ older) → e.words ≡ Words.Stream → e.answer ≡ Answer.Streaming number → Yields newer e older number }
+{}
+
+/// A stream ends once and for good. Once a lane's take of a number gave the closing error, or said that the stream is over,
+/// each later take of that number by that lane says that it is over.
+pub fn stream_ends_once()
+    ensures { (newer older : List Entry) (e : Entry) (number : ℕ) → Legal (newer ++ e ∷ older) → e.words ≡ Words.Take number → IsLast e.answer → AllByRecursion (IsEnded e.lane number) newer }
+{}
+
+/// A stream gives the closing error only where it holds nothing, and the error is the first that closed the peer.
+pub fn stream_gives_the_first_error()
+    ensures { (older : List Entry) (e : Entry) (number : ℕ) (error : Error) → Legal (e ∷ older) → e.words ≡ Words.Take number → e.answer ≡ Answer.Closed error → IsDrained (trail older) e.lane number error }
+{}
+
+/// A stream that is made after the peer was closed is over from the start.
+pub fn stream_after_closing_is_over()
+    ensures { (newer older : List Entry) (e : Entry) (number : ℕ) (error : Error) → Legal (newer ++ e ∷ older) → e.words ≡ Words.Stream → e.answer ≡ Answer.Streaming number
+        → closing (trail older).events ≡ Some error → AllByRecursion (IsEnded e.lane number) newer }
+{}
+
+/// A read is busy exactly where the peer is open and some stream holds more than 64 messages, and changes nothing then.
+pub fn busy_where_a_stream_is_full()
+    ensures only { (older : List Entry) (e : Entry) → Legal (e ∷ older) → e.words ≡ Words.Read → e.answer ≡ Answer.Busy → HoldsTooMany (trail older).events }
+    ensures there { (older : List Entry) (e : Entry) → Legal (e ∷ older) → e.words ≡ Words.Read → HoldsTooMany (trail older).events → e.answer ≡ Answer.Busy }
+    ensures same { (older : List Entry) (e : Entry) → e.words ≡ Words.Read → e.answer ≡ Answer.Busy → (trail (e ∷ older)).events ≡ (trail older).events }
+{}
+
+/// What is put in the outbox is what the answers say was sent: the messages of the calls that were answered with a number and
+/// a serial, in order; where a write failed, one message more, the last, whose write it was.
+pub fn put_is_what_was_sent()
+    ensures { (es : List Entry) → Legal es → IsPutOf (is_failed (trail es).events) (put (trail es).events) (all_sent es) }
+{}
+
+/// A refused command leaves all as it was: what the entries leave is the same as before it.
+pub fn refused_changes_nothing()
+    ensures { (older : List Entry) (e : Entry) (error : Error) → e.answer ≡ Answer.Refused error → trail (e ∷ older) ≡ trail older }
 {}

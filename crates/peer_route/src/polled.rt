@@ -1,6 +1,6 @@
 use wire_message::Error;
 
-/// What a poll gives.
+/// What a poll of a call or of a stream gives.
 #[derive(Drop)]
 pub enum Polled<T> {
     /// What was waited for.
@@ -9,4 +9,6 @@ pub enum Polled<T> {
     NotYet,
     /// The error that closed the peer.
     Closed(Error),
+    /// No more: the stream gave all, and the closing error.
+    Ended,
 }

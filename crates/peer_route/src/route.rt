@@ -1,14 +1,15 @@
-ghost use Rattle.std.specs.Prelude.{ℕ, ◌≡◌, ◌+◌, ◌<◌, ◌≤◌, ◌^◌, ◌-◌, ◌==◌, [], ◌∷◌, ◌++◌, List, length, position, slice_get, option_copied, Some, None, Ok, Err, false, IfOk};
-ghost use Rattle.peer_route.specs.History.{Event, Took, Shut, Put, Wrote, Fault, poll_answer, poll_events};
-ghost use Rattle.peer_route.specs.Left.{Waits, View, Left, Issues, Places};
+ghost use Rattle.std.specs.Prelude.{ℕ, ◌≡◌, ◌+◌, ◌<◌, ◌≤◌, ◌^◌, ◌-◌, ◌==◌, [], ◌∷◌, ◌++◌, List, length, position, slice_get, option_copied, Some, None, Ok, Err, false, IfOk, IfErr, OnOk, OnErr};
+ghost use Rattle.peer_route.specs.History.{Event, Took, Shut, Put, Wrote, Fault, Made, Plain, poll_answer, poll_events, drop_answer, drop_events};
+ghost use Rattle.peer_route.specs.Streams.{busy, take_answer, take_events};
+ghost use Rattle.peer_route.specs.Left.{Waits, is_busy, View, Left, Issues, Places};
 ghost use Rattle.wire_message.specs.Front.{Seen};
 
 use crate::calls::PendingMethodCalls;
 use crate::polled::Polled;
-use std::alloc::Global;
+use crate::streams::{MessageStream, Streams};
+use std::alloc::{AllocError, AllocFailed, Global};
 use std::marker::Model;
-use wire_message::{Error, IoKind, Message, Result, Serials};
-use wire_names::{MemberName, ObjectPath};
+use wire_message::{Builder, Error, IoKind, Message, Result, Serials};
 
 /// A method call that was put in the outbox.
 #[derive(Clone, Copy, PartialEq, Eq, Debug)]
@@ -27,6 +28,7 @@ pub struct Issued {
 pub struct Route {
     alloc: Global,
     calls: PendingMethodCalls,
+    streams: Streams,
     received: u64,
     serials: Serials,
     outbox: Vec<Message>,
@@ -41,7 +43,7 @@ impl Model for Route {
 
     ghost Value = { View };
 
-    ghost view = { λ r. record { calls = r.calls; read = r.received; last = r.serials; outbox = r.outbox.items; places = r.places.items; done = r.done; failed = r.failed } };
+    ghost view = { λ r. record { calls = r.calls; streams = r.streams; read = r.received; last = r.serials; outbox = r.outbox.items; places = r.places.items; done = r.done; failed = r.failed } };
 }
 
 /// The number of the call whose message has this place in the outbox.
@@ -59,6 +61,7 @@ impl Route {
         Route {
             alloc,
             calls: PendingMethodCalls::new(alloc),
+            streams: Streams::new(alloc),
             received: 0,
             serials: Serials::new(),
             outbox: Vec::new(alloc),
@@ -68,19 +71,15 @@ impl Route {
         }
     }
 
-    /// Puts a method call in the outbox, with the next serial. Refused, in this order: SerialsSpent exactly where each of
+    /// Puts the message of a builder of a method call in the outbox, with the next serial. Refused, in this order: SerialsSpent exactly where each of
     /// the 4,294,967,295 serials is pending; ExcessData exactly where the message would pass 134,217,728 bytes;
     /// InputOutput(WriteFault) exactly where a write failed. A refusal changes nothing, and draws no serial.
-    pub fn issue(&mut self, path: &ObjectPath<'_>, member: &MemberName<'_>) -> Result<Issued>
-        ensures issues { (h : List Event) → Left self.old h → Issues self.old self.new path.now member.now h result }
+    pub fn issue(&mut self, builder: Builder<'_>) -> Result<Issued>
+        ensures issues { (h : List Event) → Left self.old h → Issues self.old self.new builder.entry h result }
         ensures placed { IfOk result (Waits self.old self.new) }
     {
         let mut serials = self.serials;
-        let message = Message::method_call(path, member).build(
-            self.alloc,
-            &mut serials,
-            &self.calls,
-        )?;
+        let message = builder.build_uncounted(self.alloc, &mut serials, &self.calls)?;
         if self.failed {
             return Err(Error::InputOutput(IoKind::WriteFault));
         }
@@ -107,16 +106,51 @@ impl Route {
         })
     }
 
-    /// Takes a message that was read: the call that it answers gets it. The peer is open, and the message's position is
-    /// one above the number read.
-    pub fn arrive(&mut self, message: Message)
+    /// Takes a message that was read: the call that it answers gets it, and each stream. The peer is open and not busy, and
+    /// the message's position is one above the number read. For want of memory it is handed back, and nothing changes.
+    pub fn arrive(&mut self, message: Message) -> std::result::Result<(), AllocFailed<Message>>
         requires is_open { self.old.calls.closing ≡ None }
+        requires has_room { is_busy self.old ≡ false }
         requires placed { message.position ≡ self.old.read + 1 }
         requires limit { message.position ≤ 2 ^ 64 - 2 }
-        ensures { (h : List Event) → Left self.old h → Left self.new (Took message ∷ h) }
+        ensures left { OnOk result ((h : List Event) → Left self.old h → Left self.new (Took message ∷ h)) }
+        ensures back { IfErr result (λ e. (e.value ≡ message) × (self.new ≡ self.old)) }
     {
+        if self.streams.arrive(&message).is_err() {
+            return Err(AllocFailed { value: message });
+        }
         self.received += 1;
         let _ = self.calls.complete_call(message);
+        Ok(())
+    }
+
+    /// Whether the peer is open and some stream holds more than 64 messages: then no message may be read.
+    pub fn busy(&self) -> bool
+        ensures view { result ≡ is_busy self.now }
+        ensures busy { (h : List Event) → Left self.now h → result ≡ busy h }
+    {
+        self.calls.closing().is_none() && self.streams.is_over()
+    }
+
+    /// Opens a stream of all messages that are read from now on. One that is opened on a closed peer is ended. Want of memory
+    /// changes nothing.
+    pub fn open(&mut self) -> std::result::Result<MessageStream, AllocError>
+        ensures number { IfOk result (λ s. s.number ≡ length self.old.streams) }
+        ensures left { OnOk result ((h : List Event) → Left self.old h → Left self.new (Made Plain ∷ h)) }
+        ensures same { OnErr result (self.new ≡ self.old) }
+    {
+        let told = self.calls.closing().is_some();
+        let number = self.streams.open(told)?;
+        Ok(MessageStream { number })
+    }
+
+    /// What the stream gives next: the first message that it holds; else NotYet on an open peer; else the closing error
+    /// once; from then on Ended. UnknownHandle exactly where no such stream was made. Takes no memory.
+    pub fn take(&mut self, stream: &MessageStream) -> Result<Polled<Message>>
+        ensures answer { (h : List Event) → Left self.old h → result ≡ take_answer h stream.now.number }
+        ensures left { (h : List Event) → Left self.old h → Left self.new (take_events stream.now.number result ++ h) }
+    {
+        self.streams.take(stream.number, self.calls.closing())
     }
 
     /// Closes the peer: each call without a reply is answered with the error. A later one changes nothing.
@@ -132,6 +166,14 @@ impl Route {
         ensures left { (h : List Event) → Left self.old h → Left self.new (poll_events call result ++ h) }
     {
         self.calls.poll(call)
+    }
+
+    /// Drops the call with this number, as `PendingMethodCalls::drop_call`.
+    pub fn drop_call(&mut self, call: u64) -> Result<()>
+        ensures answer { (h : List Event) → Left self.old h → result ≡ drop_answer h call }
+        ensures left { (h : List Event) → Left self.old h → Left self.new (drop_events call result ++ h) }
+    {
+        self.calls.drop_call(call)
     }
 
     /// The error that closed the peer.

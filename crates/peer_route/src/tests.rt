@@ -1,6 +1,8 @@
 use crate::{
-    Issued, PendingMethodCalls, Polled, Route, answered_by_the_closing_error,
-    answered_by_the_first, answered_once, reply_changes_no_other, spent_changes_no_other,
+    Issued, MessageStream, PendingMethodCalls, Polled, Route, answered_by_the_closing_error,
+    answered_by_the_first, answered_once, busy_where_a_stream_is_full, dropped_for_good,
+    put_is_what_was_sent, refused_changes_nothing, reply_changes_no_other, spent_changes_no_other,
+    stream_after_closing_is_over, stream_ends_once, stream_gives_all, stream_gives_the_first_error,
 };
 use std::alloc::Global;
 use std::test::Fail;
@@ -26,14 +28,17 @@ fn reply(alloc: Global) -> Result<Message, Error> {
 fn position(polled: Polled<Message>) -> Option<u64> {
     match polled {
         Polled::Now(message) => Some(message.recv_position()),
-        Polled::NotYet | Polled::Closed(_) => None,
+        Polled::NotYet | Polled::Closed(_) | Polled::Ended => None,
     }
 }
 
 #[test]
 fn one_call_is_answered_once(rt: HostRuntime) -> Result<(), Fail> {
     let mut route = Route::new(rt.alloc());
-    let issued = route.issue(&ObjectPath::try_from("/")?, &MemberName::try_from("do")?)?;
+    let issued = route.issue(Message::method_call(
+        &ObjectPath::try_from("/")?,
+        &MemberName::try_from("do")?,
+    ))?;
     assert_eq!(rt;
         issued,
         Issued {
@@ -56,7 +61,7 @@ fn one_call_is_answered_once(rt: HostRuntime) -> Result<(), Fail> {
     assert!(rt; route.closing().is_none());
     assert_eq!(rt; route.received(), 0);
     assert_eq!(rt; message.recv_position(), 1);
-    route.arrive(message);
+    route.arrive(message)?;
     assert_eq!(rt; route.received(), 1);
     assert_eq!(rt; position(route.poll(0)?), Some(1));
     assert_eq!(rt; route.poll(0).err(), Some(Error::UnknownHandle));
@@ -68,8 +73,8 @@ fn closing_answers_and_a_fault_does_not(rt: HostRuntime) -> Result<(), Fail> {
     let mut route = Route::new(rt.alloc());
     let path = ObjectPath::try_from("/")?;
     let member = MemberName::try_from("do")?;
-    route.issue(&path, &member)?;
-    let second = route.issue(&path, &member)?;
+    route.issue(Message::method_call(&path, &member))?;
+    let second = route.issue(Message::method_call(&path, &member))?;
     assert_eq!(rt;
         second,
         Issued {
@@ -83,7 +88,7 @@ fn closing_answers_and_a_fault_does_not(rt: HostRuntime) -> Result<(), Fail> {
     route.write_fault(0);
     assert!(rt; route.is_failed());
     assert_eq!(rt;
-        route.issue(&path, &member).err(),
+        route.issue(Message::method_call(&path, &member)).err(),
         Some(Error::InputOutput(IoKind::WriteFault))
     );
     route.close(Error::IncorrectEndian);
@@ -111,12 +116,88 @@ fn a_reply_goes_to_its_call(rt: HostRuntime) -> Result<(), Fail> {
     Ok(())
 }
 
+/// The position of the item that a stream gives.
+fn item(polled: Polled<Message>) -> Result<u64, &'static str> {
+    match polled {
+        Polled::Now(message) => Ok(message.recv_position()),
+        Polled::NotYet | Polled::Closed(_) | Polled::Ended => Err("no item"),
+    }
+}
+
 #[test]
-fn laws_are_calls_that_do_nothing(_rt: HostRuntime) -> Result<(), Fail> {
+fn a_stream_holds_what_came_after_it(rt: HostRuntime) -> Result<(), Fail> {
+    let mut route = Route::new(rt.alloc());
+    route.arrive(reply(rt.alloc())?)?;
+    let stream = route.open()?;
+    assert_eq!(rt; stream, MessageStream { number: 0 });
+    assert!(rt; matches!(route.take(&stream)?, Polled::NotYet));
+    for position in 2..67 {
+        assert!(rt; !route.busy());
+        route.arrive(reply(rt.alloc())?.at(position))?;
+    }
+    assert!(rt; route.busy());
+    for position in 2..67 {
+        assert_eq!(rt; item(route.take(&stream)?)?, position);
+    }
+    assert!(rt; matches!(route.take(&stream)?, Polled::NotYet));
+    route.close(Error::ExcessData);
+    assert!(rt; matches!(route.take(&stream)?, Polled::Closed(Error::ExcessData)));
+    assert!(rt; matches!(route.take(&stream)?, Polled::Ended));
+    let late = route.open()?;
+    assert!(rt; matches!(route.take(&late)?, Polled::Ended));
+    assert_eq!(rt;
+        route.take(&MessageStream { number: 2 }).err(),
+        Some(Error::UnknownHandle)
+    );
+    Ok(())
+}
+
+#[test]
+fn a_dropped_call_is_unknown(rt: HostRuntime) -> Result<(), Fail> {
+    let mut route = Route::new(rt.alloc());
+    let issued = route.issue(Message::method_call(
+        &ObjectPath::try_from("/")?,
+        &MemberName::try_from("do")?,
+    ))?;
+    route.wrote(0);
+    route.drop_call(issued.call)?;
+    route.arrive(reply(rt.alloc())?)?;
+    assert_eq!(rt; route.poll(issued.call).err(), Some(Error::UnknownHandle));
+    assert_eq!(rt;
+        route.drop_call(issued.call).err(),
+        Some(Error::UnknownHandle)
+    );
+    let mut calls = PendingMethodCalls::new(rt.alloc());
+    let call = calls.register_call(7)?;
+    calls.drop_call(call)?;
+    assert_eq!(rt; calls.poll(call).err(), Some(Error::UnknownHandle));
+    Ok(())
+}
+
+#[test]
+fn laws_of_calls_do_nothing(_rt: HostRuntime) -> Result<(), Fail> {
     answered_once();
+    dropped_for_good();
     answered_by_the_first();
     answered_by_the_closing_error();
+    Ok(())
+}
+
+#[test]
+fn laws_of_changes_do_nothing(_rt: HostRuntime) -> Result<(), Fail> {
     reply_changes_no_other();
     spent_changes_no_other();
+    refused_changes_nothing();
+    put_is_what_was_sent();
+    Ok(())
+}
+
+#[test]
+fn laws_of_streams_do_nothing(_rt: HostRuntime) -> Result<(), Fail> {
+    stream_gives_all();
+    stream_ends_once();
+    stream_gives_the_first_error();
+    stream_after_closing_is_over();
+    busy_where_a_stream_is_full();
     Ok(())
 }

@@ -12,6 +12,12 @@ pub enum Words {
     Read,
     /// Ask for the answer of the lane's call with this number, from 0 on.
     Poll(u64),
+    /// Wait no more for the answer of the lane's call with this number.
+    Drop(u64),
+    /// Open a stream of all messages that are read from now on.
+    Stream,
+    /// Take the next item of the lane's stream with this number, from 0 on.
+    Take(u64),
 }
 
 impl Words {
@@ -26,6 +32,9 @@ impl Words {
             },
             Words::Read => Words::Read,
             Words::Poll(number) => Words::Poll(*number),
+            Words::Drop(number) => Words::Drop(*number),
+            Words::Stream => Words::Stream,
+            Words::Take(number) => Words::Take(*number),
         })
     }
 }
@@ -33,7 +42,7 @@ impl Words {
 /// A command of a lane.
 #[derive(Drop)]
 pub struct Command {
-    /// Whose command it is; each lane numbers its calls from 0 on.
+    /// Whose command it is; each lane numbers its calls, and its streams, from 0 on.
     pub lane: u32,
     /// What it asks for.
     pub words: Words,

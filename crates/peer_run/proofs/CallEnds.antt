@@ -1,9 +1,9 @@
 -- A call's end, from what issuing and sending gave.
-use Rattle.std.proofs.Common.{◌≡◌, ◌≢◌, ℕ, zero, suc, ◌+◌, ◌-◌, ◌≤◌, ◌<◌, refl, sym, ◌∙◌, ap, subst, arith, Bool, true, false, List, [], ◌∷◌, ◌++◌, length, Option, Some, None, ◌⊎◌, inl, inr, Result, Ok, Err, IfOk, slice_get}
+use Rattle.std.proofs.Common.{◌≡◌, ℕ, refl, sym, ◌∙◌, ap, subst, Bool, true, false, List, [], ◌∷◌, ◌++◌, length, Some, None, Result, Ok, Err, IfOk, slice_get}
 use Rattle.wire_names.specs.Names.{is_object_path, is_member_name}
 use Rattle.wire_names.specs.declared.error.NamesError.TheVariants as kinds_of_name
 use Rattle.wire_message.specs.Front.{Seen}
-use Rattle.wire_message.specs.Call.{call_message}
+use Rattle.wire_message.specs.Draft.{call_draft, built}
 use Rattle.wire_message.specs.declared.error.Error.{Error}
 use Rattle.wire_message.specs.declared.error.Error.TheVariants as errors
 use Rattle.wire_message.specs.declared.error.IoKind.TheVariants as kinds
@@ -48,7 +48,7 @@ as_answer : (a b : Answer) (P : Answer → Type 0) → Some a ≡ Some b → P a
 as_answer a b P e x = let f : a ≡ b = cc in subst P f x
 
 unissued : (p q : PeerView) (es : List Entry) (lane : ℕ) (path member : List ℕ) (error : Error) (a : Answer)
-    → is_object_path path ≡ true → is_member_name member ≡ true → Follows p es → Issues p.core q.core path member (trail es).events (Err error)
+    → is_object_path path ≡ true → is_member_name member ≡ true → Follows p es → Issues p.core q.core (call_draft path member) (trail es).events (Err error)
     → unsent_answer error ≡ Some a → Unissued p q es lane path member a
 unissued p q es lane path member errors.SerialsSpent a x y f i e =
     as_answer (answers.Refused errors.SerialsSpent) a (Unissued p q es lane path member) e (record {
@@ -74,22 +74,26 @@ unissued p q es lane path member (errors.InputOutput kinds.Closed) a x y f i e =
 unissued p q es lane path member (errors.InputOutput kinds.TimedOut) a x y f i e = absurd i
 unissued p q es lane path member (errors.Variant kind) a x y f i e = absurd i
 unissued p q es lane path member (errors.Names kind) a x y f i e = absurd i
+unissued p q es lane path member errors.InvalidMatchRule a x y f i e = absurd i
 unissued p q es lane path member errors.IncorrectEndian a x y f i e = absurd i
 unissued p q es lane path member errors.UnknownHandle a x y f i e = absurd i
 unissued p q es lane path member errors.Memory a x y f i e = cc
 
-same_peer : (p q : PeerView) → q.core ≡ p.core → q.names ≡ p.names → p ≡ q
-same_peer p q c n = ap (λ (v : View). record { core = v; names = p.names }) (sym c) ∙ ap (λ ns. record { core = q.core; names = ns }) (sym n)
+same_peer : (p q : PeerView) → q.core ≡ p.core → q.names ≡ p.names → q.streams ≡ p.streams → p ≡ q
+same_peer p q c n s =
+    ap (λ (v : View). record { core = v; names = p.names; streams = p.streams }) (sym c)
+    ∙ ap (λ ns. record { core = q.core; names = ns; streams = p.streams }) (sym n)
+    ∙ ap (λ ns. record { core = q.core; names = q.names; streams = ns }) (sym s)
 
 pub follows_unissued : (p q : PeerView) (es : List Entry) (lane : ℕ) (path member : List ℕ) (error : Error) (a : Answer)
-    → is_object_path path ≡ true → is_member_name member ≡ true → Follows p es → Issues p.core q.core path member (trail es).events (Err error)
-    → unsent_answer error ≡ Some a → q.names ≡ p.names → Follows q (entry lane (words.Call path member) a ∷ es)
-follows_unissued p q es lane path member error a x y f i e n =
+    → is_object_path path ≡ true → is_member_name member ≡ true → Follows p es → Issues p.core q.core (call_draft path member) (trail es).events (Err error)
+    → unsent_answer error ≡ Some a → q.names ≡ p.names → q.streams ≡ p.streams → Follows q (entry lane (words.Call path member) a ∷ es)
+follows_unissued p q es lane path member error a x y f i e n s =
     let u = unissued p q es lane path member error a x y f i e in
-    subst (λ v. Follows v (entry lane (words.Call path member) a ∷ es)) (same_peer p q u.same n) u.follows
+    subst (λ v. Follows v (entry lane (words.Call path member) a ∷ es)) (same_peer p q u.same n s) u.follows
 
 pub writes_unissued : (p q : PeerView) (start now : Outlet) (es : List Entry) (lane : ℕ) (path member : List ℕ) (error : Error) (a : Answer)
-    → is_object_path path ≡ true → is_member_name member ≡ true → Follows p es → Issues p.core q.core path member (trail es).events (Err error)
+    → is_object_path path ≡ true → is_member_name member ≡ true → Follows p es → Issues p.core q.core (call_draft path member) (trail es).events (Err error)
     → unsent_answer error ≡ Some a → Writes start now es → Writes start now (entry lane (words.Call path member) a ∷ es)
 writes_unissued p q start now es lane path member error a x y f i e w = (unissued p q es lane path member error a x y f i e).writes start now w
 
@@ -97,6 +101,7 @@ never_read : (error : Error) (a : Answer) → unsent_answer error ≡ Some a →
 never_read (errors.InputOutput kind) a e f = cc
 never_read (errors.Variant kind) a e f = cc
 never_read (errors.Names kind) a e f = cc
+never_read errors.InvalidMatchRule a e f = cc
 never_read errors.IncorrectEndian a e f = cc
 never_read errors.ExcessData a e f = cc
 never_read errors.SerialsSpent a e f = cc
@@ -124,43 +129,38 @@ pub record Sending (p q r : PeerView) (es : List Entry) (lane : ℕ) (path membe
   pub reads : IsReadFault a → ⊥
 
 pub sending : (p q r : PeerView) (es : List Entry) (lane : ℕ) (path member : List ℕ) (issued : Issued) (now after : Outlet) (a : Answer)
-    → is_object_path path ≡ true → is_member_name member ≡ true → Follows p es → Issues p.core q.core path member (trail es).events (Ok issued)
-    → q.names ≡ p.names
+    → is_object_path path ≡ true → is_member_name member ≡ true → Follows p es → Issues p.core q.core (call_draft path member) (trail es).events (Ok issued)
+    → q.names ≡ p.names → q.streams ≡ p.streams
     → ((m : Seen) → slice_get q.core.outbox issued.index ≡ Some m → Sent q r lane issued.serial m now after a)
     → Sending p q r es lane path member now after a
-sending p q r es lane path member issued now after (answers.Called call number) x y f i n sent =
+sending p q r es lane path member issued now after (answers.Called call number) x y f i n t sent =
     let h = (trail es).events in
-    let m = call_message issued.serial path member in
+    let m = built (call_draft path member) issued.serial [] in
     let s = sent m (waits_there q.core h m issued.index i.3 i.5) in
     let none = call_refusal-none h path member issued.serial x y i.0 i.1 in
     let is : answers.Called (count lane p.names) issued.serial ≡ answers.Called call number = rw (s.0, s.1, n) refl in
     record {
       follows = subst (λ b. Follows r (entry lane (words.Call path member) b ∷ es)) is
-          (follows_sent p r es lane issued.serial path member f none i.2 (next_serial-next h issued.serial i.0) (s.2 ∙ ap (λ ns. ns ++ Some lane ∷ []) n) (s.3 _ i.5));
+          (follows_sent p r es lane issued.serial path member f none i.2 (next_serial-next h issued.serial i.0) (s.2 ∙ ap (λ ns. ns ++ Some lane ∷ []) n) (s.7 ∙ t) (s.3 _ i.5));
       writes = λ start w. subst (λ k. Writes start after (entry lane (words.Call path member) (answers.Called call k) ∷ es)) (sym (s.1))
           (writes_sent start now after es lane call issued.serial path member i.2 s.4 s.5 s.6 w);
       reads = λ e. cc;
     }
-sending p q r es lane path member issued now after (answers.SendFailed error) x y f i n sent =
+sending p q r es lane path member issued now after (answers.SendFailed error) x y f i n t sent =
     let h = (trail es).events in
-    let m = call_message issued.serial path member in
+    let m = built (call_draft path member) issued.serial [] in
     let s = sent m (waits_there q.core h m issued.index i.3 i.5) in
     let none = call_refusal-none h path member issued.serial x y i.0 i.1 in
     let next = next_serial-next h issued.serial i.0 in
     let is : write_fault ≡ answers.SendFailed error = rw (s.0) refl in
     record {
       follows = subst (λ b. Follows r (entry lane (words.Call path member) b ∷ es)) is
-          (follows_failed p r es lane issued.serial path member f none i.2 next (s.1 ∙ ap (λ ns. ns ++ None ∷ []) n) (s.2 _ i.5));
+          (follows_failed p r es lane issued.serial path member f none i.2 next (s.1 ∙ ap (λ ns. ns ++ None ∷ []) n) (s.7 ∙ t) (s.2 _ i.5));
       writes = λ start w. subst (λ b. Writes start after (entry lane (words.Call path member) b ∷ es)) is
           (writes_failed start now after es lane issued.serial path member s.3 i.2 next s.4 s.5 s.6 w);
       reads = λ e. cc;
     }
-sending p q r es lane path member issued now after (answers.Got m) x y f i n sent = absurd (sent _ (waits_there q.core (trail es).events (call_message issued.serial path member) issued.index i.3 i.5))
-sending p q r es lane path member issued now after (answers.Closed error) x y f i n sent = absurd (sent _ (waits_there q.core (trail es).events (call_message issued.serial path member) issued.index i.3 i.5))
-sending p q r es lane path member issued now after (answers.Refused error) x y f i n sent = absurd (sent _ (waits_there q.core (trail es).events (call_message issued.serial path member) issued.index i.3 i.5))
-sending p q r es lane path member issued now after (answers.Reply position) x y f i n sent = absurd (sent _ (waits_there q.core (trail es).events (call_message issued.serial path member) issued.index i.3 i.5))
-sending p q r es lane path member issued now after (answers.InvalidReply position) x y f i n sent = absurd (sent _ (waits_there q.core (trail es).events (call_message issued.serial path member) issued.index i.3 i.5))
-sending p q r es lane path member issued now after answers.NotYet x y f i n sent = absurd (sent _ (waits_there q.core (trail es).events (call_message issued.serial path member) issued.index i.3 i.5))
+sending p q r es lane path member issued now after a x y f i n t sent = absurd (sent _ (waits_there q.core (trail es).events (built (call_draft path member) issued.serial []) issued.index i.3 i.5))
 
 -- what was answered where nothing was issued
 pub unsent_ok : {E : Type 0} (error : Error) (r : Result Answer E) → NotIssued error r → IfOk r (λ a. unsent_answer error ≡ Some a)

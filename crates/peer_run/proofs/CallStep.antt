@@ -1,12 +1,10 @@
 -- A call is one entry more.
-use Rattle.std.proofs.Common.{◌≡◌, ℕ, zero, suc, ◌+◌, ◌-◌, ◌≤◌, ◌<◌, refl, sym, ◌∙◌, ap, subst, arith, Bool, true, false, List, [], ◌∷◌, ◌++◌, length, take, Option, Some, None, IfSome, ◌⊎◌, inl, inr, Result, Ok, Err, length-append, append_assoc}
+use Rattle.std.proofs.Common.{◌≡◌, ℕ, ◌+◌, ◌-◌, ◌≤◌, ◌<◌, refl, sym, ◌∙◌, ap, subst, arith, Bool, true, false, List, [], ◌∷◌, ◌++◌, length, take, Option, Some, None, IfSome, ◌⊎◌, inl, inr, length-append, append_assoc}
 use Rattle.std.proofs.lemmas.List.{append-nil, length_push, length-take-le}
 use Rattle.std.specs.Io.KnownBytes.{Appends}
 use Rattle.wire_message.specs.Front.{Seen}
-use Rattle.wire_message.specs.Call.{call_message}
+use Rattle.wire_message.specs.Draft.{call_draft, built}
 use Rattle.wire_message.specs.declared.error.Error.{Error}
-use Rattle.wire_message.specs.declared.error.Error.TheVariants as errors
-use Rattle.wire_message.specs.declared.error.IoKind.TheVariants as kinds
 use Rattle.wire_framing.specs.Source.{MayRise}
 use Rattle.wire_framing.specs.Sink.{RoomFalls, RoomBreaks}
 use Rattle.wire_framing.specs.Send.{Part}
@@ -16,13 +14,13 @@ use Rattle.peer_route.specs.declared.answer.Answer.{Answer}
 use Rattle.peer_route.specs.declared.answer.Answer.TheVariants as answers
 use Rattle.peer_route.specs.declared.answer.Entry.{Entry}
 use Rattle.peer_route.specs.History as events
-use Rattle.peer_route.specs.Trail.{Trail, trail, call_events, failed_put, read_events, poll_spends, place, count, next_serial, or_zero, new_names}
-use Rattle.peer_route.specs.Answers.{Legal, IsAnswer, IsCalled, IsSent, call_refusal, write_fault}
-use Rattle.peer_route.specs.Told.{ReadTold, IsSentBytes, WritesTold, encodings}
-use Rattle.peer_route.specs.Left.{View, Left}
+use Rattle.peer_route.specs.Trail.{trail, call_events, failed_put, read_events, poll_spends, drop_spends, stream_makes, take_does, place, count, next_serial, or_zero}
+use Rattle.peer_route.specs.Answers.{Legal, IsAnswer, IsCalled, call_refusal, write_fault}
+use Rattle.peer_route.specs.Told.{ReadTold, WritesTold, encodings}
+use Rattle.peer_route.specs.Left.{Left}
 use Rattle.peer_route.proofs.Steps.{encodings-append}
-use Rattle.peer_run.specs.Stands.{PeerView, Inlet, Outlet, Follows, Reads, Writes, Holds, HoldsThen, RoomFor, HasReadFault, IsReadFault, HasWriteFault, IsWriteFault, entry}
-use Rattle.peer_run.proofs.Quiet.{follows_more, rise_after, rise_before}
+use Rattle.peer_run.specs.Stands.{PeerView, Inlet, Outlet, Follows, Reads, Writes, Holds, HoldsThen, RoomFor, IsReadFault, HasWriteFault, IsWriteFault, entry}
+use Rattle.peer_run.proofs.Quiet.{follows_more, quiet_same, poll_quiet, drop_quiet, stream_quiet, take_quiet, rise_after, rise_before}
 use Rattle.peer_run.proofs.Kept.{reads_kept, writes_kept}
 
 -- ---- the peer
@@ -33,7 +31,7 @@ pub follows_refused : (p : PeerView) (es : List Entry) (lane : ℕ) (path member
     → Follows p (entry lane (words.Call path member) (answers.Refused error) ∷ es)
 follows_refused p es lane path member error f r =
     follows_more p es (entry lane (words.Call path member) (answers.Refused error)) (trail es).events refl f.left
-    (f.names ∙ sym (append-nil (trail es).names)) f.legal (rw r refl) f.within f.written
+    (f.names ∙ sym (append-nil (trail es).names)) (f.streams ∙ sym (append-nil (trail es).streams)) f.legal (rw r refl) f.within f.written
 
 -- after a failed write nothing goes out
 pub follows_unsent : (p : PeerView) (es : List Entry) (lane : ℕ) (path member : List ℕ) → Follows p es
@@ -41,18 +39,18 @@ pub follows_unsent : (p : PeerView) (es : List Entry) (lane : ℕ) (path member 
     → Follows p (entry lane (words.Call path member) write_fault ∷ es)
 follows_unsent p es lane path member f r failed =
     follows_more p es (entry lane (words.Call path member) write_fault) (trail es).events (rw failed refl) f.left
-    (f.names ∙ sym (append-nil (trail es).names) ∙ rw failed refl) f.legal (rw (r, failed) refl) f.within f.written
+    (f.names ∙ sym (append-nil (trail es).names) ∙ rw failed refl) (f.streams ∙ sym (append-nil (trail es).streams)) f.legal (rw (r, failed) refl) f.within f.written
 
 -- the call went out
 pub follows_sent : (p q : PeerView) (es : List Entry) (lane serial : ℕ) (path member : List ℕ) → Follows p es
     → call_refusal (trail es).events path member ≡ None → events.is_failed (trail es).events ≡ false → next_serial (trail es).events ≡ Some serial
-    → q.names ≡ p.names ++ Some lane ∷ []
-    → Left q.core (events.Wrote ∷ events.Put (call_message serial path member) true ∷ (trail es).events)
+    → q.names ≡ p.names ++ Some lane ∷ [] → q.streams ≡ p.streams
+    → Left q.core (events.Wrote ∷ events.Put (built (call_draft path member) serial []) true ∷ (trail es).events)
     → Follows q (entry lane (words.Call path member) (answers.Called (count lane p.names) serial) ∷ es)
-follows_sent p q es lane serial path member f r fine next names left =
+follows_sent p q es lane serial path member f r fine next names streams left =
     follows_more q es (entry lane (words.Call path member) (answers.Called (count lane p.names) serial))
-    (events.Wrote ∷ events.Put (call_message serial path member) true ∷ (trail es).events) refl left
-    (names ∙ ap (λ ns. ns ++ Some lane ∷ []) f.names) f.legal
+    (events.Wrote ∷ events.Put (built (call_draft path member) serial []) true ∷ (trail es).events) refl left
+    (names ∙ ap (λ ns. ns ++ Some lane ∷ []) f.names) (streams ∙ f.streams ∙ sym (append-nil (trail es).streams)) f.legal
     (rw (r, fine) (inl (called_as (ap (count lane) f.names) next)))
     (let same : q.core.read ≡ p.core.read = left.read ∙ sym f.left.read in rw same f.within)
     (left.done ∙ ap (λ n. n + 1) (sym f.left.done ∙ f.written ∙ ap length f.left.outbox) ∙ sym (length_push (events.put (trail es).events) _) ∙ ap length (sym left.outbox))
@@ -64,13 +62,13 @@ follows_sent p q es lane serial path member f r fine next names left =
 -- the call's write failed
 pub follows_failed : (p q : PeerView) (es : List Entry) (lane serial : ℕ) (path member : List ℕ) → Follows p es
     → call_refusal (trail es).events path member ≡ None → events.is_failed (trail es).events ≡ false → next_serial (trail es).events ≡ Some serial
-    → q.names ≡ p.names ++ None ∷ []
-    → Left q.core (events.Fault ∷ events.Put (call_message serial path member) true ∷ (trail es).events)
+    → q.names ≡ p.names ++ None ∷ [] → q.streams ≡ p.streams
+    → Left q.core (events.Fault ∷ events.Put (built (call_draft path member) serial []) true ∷ (trail es).events)
     → Follows q (entry lane (words.Call path member) write_fault ∷ es)
-follows_failed p q es lane serial path member f r fine next names left =
+follows_failed p q es lane serial path member f r fine next names streams left =
     follows_more q es (entry lane (words.Call path member) write_fault)
-    (events.Fault ∷ events.Put (call_message serial path member) true ∷ (trail es).events) (rw (fine, next) refl) left
-    (names ∙ ap (λ ns. ns ++ None ∷ []) f.names ∙ rw fine refl) f.legal
+    (events.Fault ∷ events.Put (built (call_draft path member) serial []) true ∷ (trail es).events) (rw (fine, next) refl) left
+    (names ∙ ap (λ ns. ns ++ None ∷ []) f.names ∙ rw fine refl) (streams ∙ f.streams ∙ sym (append-nil (trail es).streams)) f.legal
     (rw (r, fine) (inr refl))
     (let same : q.core.read ≡ p.core.read = left.read ∙ sym f.left.read in rw same f.within)
     (left.done ∙ ap (λ n. n + 1) (sym f.left.done ∙ f.written ∙ ap length f.left.outbox) ∙ sym (length_push (events.put (trail es).events) _) ∙ ap length (sym left.outbox))
@@ -81,15 +79,10 @@ put_reads : (failed : Bool) (m : Seen) (h : List events.Event) → (events.read 
 put_reads true m h = (refl, refl)
 put_reads false m h = (refl, refl)
 
-call_reads : (h : List events.Event) (path member : List ℕ) (a : Answer) → (events.read (call_events h path member a ++ h) ≡ events.read h) × (events.closing (call_events h path member a ++ h) ≡ events.closing h)
+call_reads : (h : List events.Event) (path member : List ℕ) (a : Answer) → (events.read (call_events h (call_draft path member) a ++ h) ≡ events.read h) × (events.closing (call_events h (call_draft path member) a ++ h) ≡ events.closing h)
 call_reads h path member (answers.Called call serial) = (refl, refl)
 call_reads h path member (answers.SendFailed error) = put_reads (events.is_failed h) _ h
-call_reads h path member (answers.Got m) = (refl, refl)
-call_reads h path member (answers.Closed error) = (refl, refl)
-call_reads h path member (answers.Refused error) = (refl, refl)
-call_reads h path member (answers.Reply position) = (refl, refl)
-call_reads h path member (answers.InvalidReply position) = (refl, refl)
-call_reads h path member answers.NotYet = (refl, refl)
+call_reads h path member a = (refl, refl)
 
 -- a call reads nothing
 pub reads_call : (start now : Inlet) (es : List Entry) (lane : ℕ) (path member : List ℕ) (a : Answer) → (IsReadFault a → ⊥)
@@ -118,43 +111,25 @@ called_fault None false number serial error (inr a) = a
 
 call_fails : (h : List events.Event) (names : List (Option ℕ)) (lane : ℕ) (path member : List ℕ) (a : Answer)
     → IsCalled (call_refusal h path member) (events.is_failed h) (answers.Called (count lane names) (or_zero (next_serial h))) a
-    → events.is_failed (call_events h path member a ++ h) ≡ true → IsWriteFault a ⊎ (events.is_failed h ≡ true)
+    → events.is_failed (call_events h (call_draft path member) a ++ h) ≡ true → IsWriteFault a ⊎ (events.is_failed h ≡ true)
 call_fails h names lane path member (answers.Called call serial) a f = inr f
 call_fails h names lane path member (answers.SendFailed error) a f = inl (called_fault (call_refusal h path member) (events.is_failed h) _ _ error a)
-call_fails h names lane path member (answers.Got m) a f = inr f
-call_fails h names lane path member (answers.Closed error) a f = inr f
-call_fails h names lane path member (answers.Refused error) a f = inr f
-call_fails h names lane path member (answers.Reply position) a f = inr f
-call_fails h names lane path member (answers.InvalidReply position) a f = inr f
-call_fails h names lane path member answers.NotYet a f = inr f
+call_fails h names lane path member x a f = inr f
 
 read_fails : (closing : Option Error) (a : Answer) (h : List events.Event) → events.is_failed (read_events closing a ++ h) ≡ events.is_failed h
 read_fails (Some error) a h = refl
 read_fails None (answers.Got m) h = refl
 read_fails None (answers.Closed error) h = refl
-read_fails None (answers.Called call serial) h = refl
-read_fails None (answers.Refused error) h = refl
-read_fails None (answers.SendFailed error) h = refl
-read_fails None (answers.Reply position) h = refl
-read_fails None (answers.InvalidReply position) h = refl
-read_fails None answers.NotYet h = refl
-
-poll_fails : (k : Option ℕ) (a : Answer) (h : List events.Event) → events.is_failed (poll_spends k a ++ h) ≡ events.is_failed h
-poll_fails None a h = refl
-poll_fails (Some k) (answers.Called call serial) h = refl
-poll_fails (Some k) (answers.SendFailed error) h = refl
-poll_fails (Some k) (answers.Got m) h = refl
-poll_fails (Some k) (answers.Closed error) h = refl
-poll_fails (Some k) (answers.Refused error) h = refl
-poll_fails (Some k) (answers.Reply position) h = refl
-poll_fails (Some k) (answers.InvalidReply position) h = refl
-poll_fails (Some k) answers.NotYet h = refl
+read_fails None a h = refl
 
 fails_by : (es : List Entry) (lane : ℕ) (w : Words) (a : Answer) → IsAnswer (trail es) lane w a
     → events.is_failed (trail (entry lane w a ∷ es)).events ≡ true → IsWriteFault a ⊎ (events.is_failed (trail es).events ≡ true)
 fails_by es lane (words.Call path member) a x f = call_fails (trail es).events (trail es).names lane path member a x f
 fails_by es lane words.Read a x f = inr (sym (read_fails (events.closing (trail es).events) a (trail es).events) ∙ f)
-fails_by es lane (words.Poll number) a x f = inr (sym (poll_fails (place 0 lane number (trail es).names) a (trail es).events) ∙ f)
+fails_by es lane (words.Poll number) a x f = inr (sym (quiet_same (poll_spends (place 0 lane number (trail es).names) a) (trail es).events (poll_quiet (place 0 lane number (trail es).names) a)).failed ∙ f)
+fails_by es lane (words.Drop number) a x f = inr (sym (quiet_same (drop_spends (place 0 lane number (trail es).names) a) (trail es).events (drop_quiet (place 0 lane number (trail es).names) a)).failed ∙ f)
+fails_by es lane words.Stream a x f = inr (sym (quiet_same (stream_makes a) (trail es).events (stream_quiet a)).failed ∙ f)
+fails_by es lane (words.Take number) a x f = inr (sym (quiet_same (take_does (place 0 lane number (trail es).streams) a) (trail es).events (take_quiet (place 0 lane number (trail es).streams) a)).failed ∙ f)
 
 earlier : (A B C : Type 0) → A ⊎ B → (B → C) → A ⊎ C
 earlier A B C (inl a) f = inl a
@@ -211,12 +186,12 @@ sent_holds room before (Some held) after h m rest fine appends room_is holds =
 -- a call went out whole
 pub writes_sent : (start now after : Outlet) (es : List Entry) (lane number serial : ℕ) (path member : List ℕ)
     → events.is_failed (trail es).events ≡ false
-    → Appends now.held after.held (call_message serial path member).bytes
-    → RoomFalls now.room after.room (length (call_message serial path member).bytes) → after.faults ≡ now.faults
+    → Appends now.held after.held (built (call_draft path member) serial []).bytes
+    → RoomFalls now.room after.room (length (built (call_draft path member) serial []).bytes) → after.faults ≡ now.faults
     → Writes start now es → Writes start after (entry lane (words.Call path member) (answers.Called number serial) ∷ es)
 writes_sent start now after es lane number serial path member fine appends falls faults r =
     let h = (trail es).events in
-    let m = call_message serial path member in
+    let m = built (call_draft path member) serial [] in
     let open_room : RoomFalls start.room now.room (length (encodings (events.put h))) = rw fine at r.room in
     let room : RoomFalls start.room after.room (length (encodings (events.put h ++ m ∷ []))) =
     rw (more_encodings (events.put h) m) (room_left start.room now.room after.room (length (encodings (events.put h))) (length m.bytes) open_room falls) in
@@ -228,11 +203,11 @@ writes_sent start now after es lane number serial path member fine appends falls
       only = λ f. faults ∙ r.only fine;
     }
   where
-    all_held : (held : Option (List ℕ)) → RoomFalls start.room after.room (length (encodings (events.put (trail es).events ++ call_message serial path member ∷ [])))
+    all_held : (held : Option (List ℕ)) → RoomFalls start.room after.room (length (encodings (events.put (trail es).events ++ built (call_draft path member) serial [] ∷ [])))
         → IfSome held (λ before. HoldsThen start.room before now.held (trail es).events)
-        → IfSome held (λ before. HoldsThen start.room before after.held (events.Wrote ∷ events.Put (call_message serial path member) true ∷ (trail es).events))
+        → IfSome held (λ before. HoldsThen start.room before after.held (events.Wrote ∷ events.Put (built (call_draft path member) serial []) true ∷ (trail es).events))
     all_held None room t = tt
-    all_held (Some before) room t = sent_holds start.room before now.held after.held (trail es).events (call_message serial path member) after.room fine appends room t
+    all_held (Some before) room t = sent_holds start.room before now.held after.held (trail es).events (built (call_draft path member) serial []) after.room fine appends room t
 
     not_called : HasWriteFault (entry lane (words.Call path member) (answers.Called number serial) ∷ es) → HasWriteFault es
     not_called (inl f) = cc
@@ -270,11 +245,11 @@ failed_holds room before (Some held) held' h m now after n fine appends less fal
 -- a call's write failed
 pub writes_failed : (start now after : Outlet) (es : List Entry) (lane serial : ℕ) (path member : List ℕ) (n : ℕ)
     → events.is_failed (trail es).events ≡ false → next_serial (trail es).events ≡ Some serial
-    → Part (call_message serial path member).bytes now.held after.held n → RoomBreaks now.room after.room n → MayRise now.faults after.faults
+    → Part (built (call_draft path member) serial []).bytes now.held after.held n → RoomBreaks now.room after.room n → MayRise now.faults after.faults
     → Writes start now es → Writes start after (entry lane (words.Call path member) write_fault ∷ es)
 writes_failed start now after es lane serial path member n fine next part breaks rises r =
     let h = (trail es).events in
-    let m = call_message serial path member in
+    let m = built (call_draft path member) serial [] in
     let same : (trail (entry lane (words.Call path member) write_fault ∷ es)).events ≡ events.Fault ∷ events.Put m true ∷ h = rw (fine, next) refl in
     let falls : RoomFalls start.room now.room (length (encodings (events.put h))) = rw fine at r.room in
     record {
@@ -289,11 +264,11 @@ writes_failed start now after es lane serial path member n fine next part breaks
     kept_after (inl f) = omega (arith, f, r.kept)
     kept_after (inr f) = omega (arith, f.0, f.1, r.kept)
 
-    all_held : (trail (entry lane (words.Call path member) write_fault ∷ es)).events ≡ events.Fault ∷ events.Put (call_message serial path member) true ∷ (trail es).events
+    all_held : (trail (entry lane (words.Call path member) write_fault ∷ es)).events ≡ events.Fault ∷ events.Put (built (call_draft path member) serial []) true ∷ (trail es).events
         → (held : Option (List ℕ)) → RoomFalls start.room now.room (length (encodings (events.put (trail es).events)))
         → IfSome held (λ before. HoldsThen start.room before now.held (trail es).events)
         → IfSome held (λ before. HoldsThen start.room before after.held (trail (entry lane (words.Call path member) write_fault ∷ es)).events)
     all_held same None falls t = tt
     all_held same (Some before) falls t =
         subst (λ g. HoldsThen start.room before after.held g) (sym same)
-        (failed_holds start.room before now.held after.held (trail es).events (call_message serial path member) now.room after.room n fine part.gone part.proper falls breaks t)
+        (failed_holds start.room before now.held after.held (trail es).events (built (call_draft path member) serial []) now.room after.room n fine part.gone part.proper falls breaks t)

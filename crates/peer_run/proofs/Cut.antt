@@ -1,8 +1,7 @@
 -- Two histories of the same commands over the same bytes are the same.
-use Rattle.std.proofs.Common.{◌≡◌, ℕ, ◌+◌, refl, sym, ◌∙◌, ap, subst, Bool, true, false, List, [], ◌∷◌, ◌++◌, length, map, Option, Some, None, ◌⊎◌, inl, inr}
+use Rattle.std.proofs.Common.{◌≡◌, ℕ, refl, sym, ◌∙◌, ap, subst, Bool, true, false, List, [], ◌∷◌, ◌++◌, length, map, Option, Some, None, inl, inr}
 use Rattle.wire_message.specs.declared.error.Error.{Error}
-use Rattle.wire_message.specs.declared.error.Error.TheVariants as errors
-use Rattle.wire_message.specs.declared.error.IoKind.TheVariants as kinds
+use Rattle.wire_message.specs.Draft.{call_draft}
 use Rattle.peer_route.specs.declared.words.Words.{Words}
 use Rattle.peer_route.specs.declared.words.Words.TheVariants as words
 use Rattle.peer_route.specs.declared.words.Command.{Command}
@@ -10,9 +9,10 @@ use Rattle.peer_route.specs.declared.answer.Answer.{Answer}
 use Rattle.peer_route.specs.declared.answer.Answer.TheVariants as answers
 use Rattle.peer_route.specs.declared.answer.Entry.{Entry}
 use Rattle.peer_route.specs.History as events
-use Rattle.peer_route.specs.Trail.{Trail, trail, events_of, call_events, or_zero, next_serial, count}
+use Rattle.peer_route.specs.Trail.{trail, events_of, call_events, or_zero, next_serial, count}
 use Rattle.peer_route.specs.Answers.{Legal, IsAnswer, IsCalled, IsSent, IsReadOf, call_refusal, write_fault}
-use Rattle.peer_route.specs.Told.{ReadsTold, ReadTold, IsOutcome, left_after}
+use Rattle.peer_route.specs.Streams.{busy}
+use Rattle.peer_route.specs.Told.{ReadsTold, ReadTold, ReadOpenTold}
 use Rattle.peer_run.specs.Runs.{command_of}
 
 -- a write that failed stays failed
@@ -24,9 +24,11 @@ failed_before (events.Put m expects ∷ xs) h e = failed_before xs h e
 failed_before (events.Wrote ∷ xs) h e = failed_before xs h e
 failed_before (events.Fault ∷ xs) h e = cc
 failed_before (events.Spent call ∷ xs) h e = failed_before xs h e
+failed_before (events.Made making ∷ xs) h e = failed_before xs h e
+failed_before (events.Did stream deed ∷ xs) h e = failed_before xs h e
 
 failed_tail : (e : Entry) (es : List Entry) → events.is_failed (trail (e ∷ es)).events ≡ false → events.is_failed (trail es).events ≡ false
-failed_tail e es h = failed_before (events_of (trail es).events (trail es).names e.lane e.words e.answer) (trail es).events h
+failed_tail e es h = failed_before (events_of (trail es).events (trail es).names (trail es).streams e.lane e.words e.answer) (trail es).events h
 
 -- a call's answer is one of two, and one of them fails
 same_sent : (failed : Bool) (sent a b : Answer) → failed ≡ false → (a ≡ write_fault → ⊥) → (b ≡ write_fault → ⊥) → IsSent failed sent a → IsSent failed sent b → a ≡ b
@@ -42,14 +44,20 @@ same_called None failed sent a b e p q x y = same_sent failed sent a b e (p refl
 
 -- a call's failed write fails the history
 call_fault : (h : List events.Event) (path member : List ℕ) (a : Answer) → events.is_failed h ≡ false → a ≡ write_fault
-    → events.is_failed (call_events h path member a ++ h) ≡ true
+    → events.is_failed (call_events h (call_draft path member) a ++ h) ≡ true
 call_fault h path member a e f = rw (f, e) refl
 
+same_open : (full stop : Bool) (bytes : List ℕ) (h : List events.Event) (a b : Answer)
+    → IsReadOf None full (length (events.read h)) a → IsReadOf None full (length (events.read h)) b
+    → ReadOpenTold full (Some stop) bytes h a → ReadOpenTold full (Some stop) bytes h b → a ≡ b
+same_open true stop bytes h a b x y p q = x ∙ sym y
+same_open false stop bytes h a b x y p q = p ∙ sym q
+
 same_read : (closing : Option Error) (stop : Bool) (bytes : List ℕ) (h : List events.Event) (a b : Answer)
-    → IsReadOf closing (length (events.read h)) a → IsReadOf closing (length (events.read h)) b
+    → IsReadOf closing (busy h) (length (events.read h)) a → IsReadOf closing (busy h) (length (events.read h)) b
     → ReadTold (Some stop) bytes h closing words.Read a → ReadTold (Some stop) bytes h closing words.Read b → a ≡ b
 same_read (Some error) stop bytes h a b x y p q = x ∙ sym y
-same_read None stop bytes h a b x y p q = p ∙ sym q
+same_read None stop bytes h a b x y p q = same_open (busy h) stop bytes h a b x y p q
 
 same_answer : (es : List Entry) (stop : Bool) (bytes : List ℕ) (lane : ℕ) (w : Words) (a b : Answer)
     → events.is_failed (trail (record { lane = lane; words = w; answer = a } ∷ es)).events ≡ false
@@ -59,12 +67,15 @@ same_answer : (es : List Entry) (stop : Bool) (bytes : List ℕ) (lane : ℕ) (w
     → ReadTold (Some stop) bytes (trail es).events (events.closing (trail es).events) w b → a ≡ b
 same_answer es stop bytes lane (words.Call path member) a b fa fb x y p q =
     let h = (trail es).events in
-    let fine : events.is_failed h ≡ false = failed_before (call_events h path member a) h fa in
+    let fine : events.is_failed h ≡ false = failed_before (call_events h (call_draft path member) a) h fa in
     same_called (call_refusal h path member) (events.is_failed h) (answers.Called (count lane (trail es).names) (or_zero (next_serial h))) a b fine
-    (λ _ f. let t : events.is_failed (call_events h path member a ++ h) ≡ true = call_fault h path member a fine f in cc)
-    (λ _ f. let t : events.is_failed (call_events h path member b ++ h) ≡ true = call_fault h path member b fine f in cc) x y
+    (λ _ f. let t : events.is_failed (call_events h (call_draft path member) a ++ h) ≡ true = call_fault h path member a fine f in cc)
+    (λ _ f. let t : events.is_failed (call_events h (call_draft path member) b ++ h) ≡ true = call_fault h path member b fine f in cc) x y
 same_answer es stop bytes lane words.Read a b fa fb x y p q = same_read (events.closing (trail es).events) stop bytes (trail es).events a b x y p q
 same_answer es stop bytes lane (words.Poll number) a b fa fb x y p q = x ∙ sym y
+same_answer es stop bytes lane (words.Drop number) a b fa fb x y p q = x ∙ sym y
+same_answer es stop bytes lane words.Stream a b fa fb x y p q = x ∙ sym y
+same_answer es stop bytes lane (words.Take number) a b fa fb x y p q = x ∙ sym y
 
 -- what is known of the newest entry
 record Newest (es : List Entry) (stop : Bool) (bytes : List ℕ) (e : Entry) : Type 0 where

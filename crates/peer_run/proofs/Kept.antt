@@ -1,19 +1,16 @@
 -- What an entry leaves of the source or the sink that it doesn't touch.
-use Rattle.std.proofs.Common.{◌≡◌, ℕ, ◌+◌, ◌≤◌, ◌<◌, refl, sym, ◌∙◌, ap, subst, Bool, true, false, List, [], ◌∷◌, ◌++◌, length, Option, Some, None, IfSome, ◌⊎◌, inl, inr, Result, Ok, Err}
+use Rattle.std.proofs.Common.{◌≡◌, ℕ, refl, sym, ◌∙◌, Bool, true, false, List, ◌∷◌, ◌++◌, Option, Some, None, IfSome, inl, inr}
 use Rattle.wire_message.specs.Front.{Seen}
 use Rattle.wire_message.specs.declared.error.Error.{Error}
-use Rattle.wire_message.specs.declared.error.Error.TheVariants as errors
-use Rattle.wire_message.specs.declared.error.IoKind.TheVariants as kinds
 use Rattle.peer_route.specs.declared.words.Words.{Words}
 use Rattle.peer_route.specs.declared.words.Words.TheVariants as words
 use Rattle.peer_route.specs.declared.answer.Answer.{Answer}
 use Rattle.peer_route.specs.declared.answer.Answer.TheVariants as answers
 use Rattle.peer_route.specs.declared.answer.Entry.{Entry}
 use Rattle.peer_route.specs.History as events
-use Rattle.peer_route.specs.Trail.{Trail, trail, read_events, call_events, failed_put}
-use Rattle.peer_route.specs.Answers.{Legal, IsAnswer, IsCalled, IsSent, call_refusal}
-use Rattle.peer_route.specs.Told.{ReadsTold, ReadTold, left_after, IsSentBytes, WritesTold, encodings}
-use Rattle.peer_run.specs.Stands.{Inlet, Outlet, Reads, Writes, IsRest, Holds, HoldsThen, RoomFor, HasReadFault, IsReadFault, HasWriteFault, IsWriteFault, entry}
+use Rattle.peer_route.specs.Trail.{trail, read_events, failed_put}
+use Rattle.peer_route.specs.Told.{ReadsTold, ReadTold, left_after}
+use Rattle.peer_run.specs.Stands.{Inlet, Outlet, Reads, Writes, IsRest, HoldsThen, HasReadFault, IsReadFault, HasWriteFault, IsWriteFault, entry}
 
 -- ---- the source
 
@@ -81,12 +78,7 @@ read_puts : (closing : Option Error) (a : Answer) (h : List events.Event) → (e
 read_puts (Some error) a h = (refl, refl)
 read_puts None (answers.Got m) h = (refl, refl)
 read_puts None (answers.Closed error) h = (refl, refl)
-read_puts None (answers.Called call serial) h = (refl, refl)
-read_puts None (answers.Refused error) h = (refl, refl)
-read_puts None (answers.SendFailed error) h = (refl, refl)
-read_puts None (answers.Reply position) h = (refl, refl)
-read_puts None (answers.InvalidReply position) h = (refl, refl)
-read_puts None answers.NotYet h = (refl, refl)
+read_puts None a h = (refl, refl)
 
 pub writes_closed : (start now : Outlet) (es : List Entry) (lane : ℕ) (error : Error) → Writes start now es → Writes start now (entry lane words.Read (answers.Closed error) ∷ es)
 writes_closed start now es lane error r =
@@ -97,6 +89,11 @@ pub writes_got : (start now : Outlet) (es : List Entry) (lane : ℕ) (m : Seen) 
 writes_got start now es lane m r =
     let p = read_puts (events.closing (trail es).events) (answers.Got m) (trail es).events in
     writes_kept start now es lane words.Read (answers.Got m) p.0 p.1 (λ f. cc) r
+
+pub writes_busy : (start now : Outlet) (es : List Entry) (lane : ℕ) → Writes start now es → Writes start now (entry lane words.Read answers.Busy ∷ es)
+writes_busy start now es lane r =
+    let p = read_puts (events.closing (trail es).events) answers.Busy (trail es).events in
+    writes_kept start now es lane words.Read answers.Busy p.0 p.1 (λ f. cc) r
 
 -- ---- a write that failed was answered
 

@@ -1,7 +1,9 @@
 pub mod Quiet
 pub mod Kept
 pub mod ReadStep
+pub mod QuietStep
 pub mod PollStep
+pub mod StreamStep
 pub mod CallStep
 pub mod Lanes
 pub mod CallEnds

@@ -1,22 +1,22 @@
 -- Counts that rise, and what later entries keep of earlier ones.
-use Rattle.std.proofs.Common.{◌≡◌, ℕ, ◌+◌, ◌-◌, ◌^◌, ◌≤◌, ◌<◌, refl, sym, ◌∙◌, ap, subst, arith, Bool, true, false, List, [], ◌∷◌, ◌++◌, length, Option, Some, None, ◌⊎◌, inl, inr, Result, Ok, Err}
+use Rattle.std.proofs.Common.{◌≡◌, ℕ, ◌-◌, ◌^◌, ◌≤◌, refl, sym, ◌∙◌, subst, arith, Bool, true, false, List, [], ◌∷◌, ◌++◌, length, Option, Some, None, ◌⊎◌, inl, inr}
 use Rattle.std.proofs.lemmas.Bool.{cases_lt}
-use Rattle.std.proofs.lemmas.List.{append-nil}
 use Rattle.wire_message.specs.declared.error.Error.{Error}
 use Rattle.wire_message.specs.declared.error.Error.TheVariants as errors
 use Rattle.wire_message.specs.declared.error.IoKind.TheVariants as kinds
 use Rattle.wire_framing.specs.Source.{MayRise}
 use Rattle.wire_message.specs.Front.{Seen}
+use Rattle.wire_message.specs.Draft.{call_draft}
 use Rattle.peer_route.specs.declared.words.Words.{Words}
 use Rattle.peer_route.specs.declared.words.Words.TheVariants as words
 use Rattle.peer_route.specs.declared.answer.Answer.{Answer}
 use Rattle.peer_route.specs.declared.answer.Answer.TheVariants as answers
 use Rattle.peer_route.specs.declared.answer.Entry.{Entry}
 use Rattle.peer_route.specs.History as events
-use Rattle.peer_route.specs.Trail.{Trail, trail, events_of, new_names, read_events, call_events, failed_put, poll_spends, place}
+use Rattle.peer_route.specs.Trail.{trail, read_events, call_events, failed_put, poll_spends, drop_spends, stream_makes, take_does, place}
 use Rattle.peer_route.specs.Answers.{Legal, IsAnswer}
-use Rattle.peer_route.specs.Left.{View, Left}
-use Rattle.peer_run.specs.Stands.{PeerView, Follows, HasReadFault, IsReadFault, HasWriteFault, IsWriteFault, entry}
+use Rattle.peer_route.specs.Left.{Left}
+use Rattle.peer_run.specs.Stands.{PeerView, Follows, HasReadFault, IsReadFault, entry}
 
 -- ---- counts
 
@@ -40,11 +40,12 @@ rise_before a b c (inr p) h =
 
 -- The peer follows a history with one entry more, where it is what the entry's events leave.
 pub follows_more : (p : PeerView) (es : List Entry) (e : Entry) (h : List events.Event)
-    → (trail (e ∷ es)).events ≡ h → Left p.core h → p.names ≡ (trail (e ∷ es)).names → Legal es → IsAnswer (trail es) e.lane e.words e.answer
+    → (trail (e ∷ es)).events ≡ h → Left p.core h → p.names ≡ (trail (e ∷ es)).names → p.streams ≡ (trail (e ∷ es)).streams → Legal es → IsAnswer (trail es) e.lane e.words e.answer
     → p.core.read ≤ 2 ^ 64 - 2 → p.core.done ≡ length p.core.outbox → Follows p (e ∷ es)
-follows_more p es e h same left names legal answer within written = record {
+follows_more p es e h same left names streams legal answer within written = record {
   left = subst (λ x. Left p.core x) (sym same) left;
   names = names;
+  streams = streams;
   legal = (answer, legal);
   within = within;
   written = written;
@@ -60,43 +61,80 @@ read_closes : (closing : Option Error) (a : Answer) (h : List events.Event)
 read_closes (Some error) a h e f = inr f
 read_closes None (answers.Closed error) h e f = inl (let g : events.first_of None error ≡ Some (errors.InputOutput kinds.Fault) = rw e at f in cc)
 read_closes None (answers.Got m) h e f = inr f
-read_closes None (answers.Called call serial) h e f = inr f
-read_closes None (answers.Refused error) h e f = inr f
-read_closes None (answers.SendFailed error) h e f = inr f
-read_closes None (answers.Reply position) h e f = inr f
-read_closes None (answers.InvalidReply position) h e f = inr f
-read_closes None answers.NotYet h e f = inr f
+read_closes None a h e f = inr f
 
 put_closes : (failed : Bool) (m : Seen) (h : List events.Event) → events.closing (failed_put failed (events.Put m true) ++ h) ≡ events.closing h
 put_closes true m h = refl
 put_closes false m h = refl
 
-call_closes : (h : List events.Event) (path member : List ℕ) (a : Answer) → events.closing (call_events h path member a ++ h) ≡ events.closing h
+call_closes : (h : List events.Event) (path member : List ℕ) (a : Answer) → events.closing (call_events h (call_draft path member) a ++ h) ≡ events.closing h
 call_closes h path member (answers.Called call serial) = refl
 call_closes h path member (answers.SendFailed error) = put_closes (events.is_failed h) _ h
-call_closes h path member (answers.Got m) = refl
-call_closes h path member (answers.Closed error) = refl
-call_closes h path member (answers.Refused error) = refl
-call_closes h path member (answers.Reply position) = refl
-call_closes h path member (answers.InvalidReply position) = refl
-call_closes h path member answers.NotYet = refl
+call_closes h path member a = refl
 
-poll_closes : (k : Option ℕ) (a : Answer) (h : List events.Event) → events.closing (poll_spends k a ++ h) ≡ events.closing h
-poll_closes None a h = refl
-poll_closes (Some k) (answers.Called call serial) h = refl
-poll_closes (Some k) (answers.SendFailed error) h = refl
-poll_closes (Some k) (answers.Got m) h = refl
-poll_closes (Some k) (answers.Closed error) h = refl
-poll_closes (Some k) (answers.Refused error) h = refl
-poll_closes (Some k) (answers.Reply position) h = refl
-poll_closes (Some k) (answers.InvalidReply position) h = refl
-poll_closes (Some k) answers.NotYet h = refl
+-- ---- events that read nothing and send nothing
+
+abbrev pub AreQuiet : List events.Event → Type 0
+AreQuiet [] = Unit {0}
+AreQuiet (events.Spent k ∷ xs) = AreQuiet xs
+AreQuiet (events.Made making ∷ xs) = AreQuiet xs
+AreQuiet (events.Did k deed ∷ xs) = AreQuiet xs
+AreQuiet (events.Took m ∷ xs) = ⊥
+AreQuiet (events.Shut error ∷ xs) = ⊥
+AreQuiet (events.Put m expects ∷ xs) = ⊥
+AreQuiet (events.Wrote ∷ xs) = ⊥
+AreQuiet (events.Fault ∷ xs) = ⊥
+
+-- what such events leave as it was
+pub record Same (g h : List events.Event) : Type 0 where
+  pub read : events.read g ≡ events.read h
+  pub closing : events.closing g ≡ events.closing h
+  pub put : events.put g ≡ events.put h
+  pub done : events.done g ≡ events.done h
+  pub failed : events.is_failed g ≡ events.is_failed h
+
+pub quiet_same : (xs h : List events.Event) → AreQuiet xs → Same (xs ++ h) h
+quiet_same [] h q = record { read = refl; closing = refl; put = refl; done = refl; failed = refl }
+quiet_same (events.Spent k ∷ xs) h q = let r = quiet_same xs h q in record { read = r.read; closing = r.closing; put = r.put; done = r.done; failed = r.failed }
+quiet_same (events.Made making ∷ xs) h q = let r = quiet_same xs h q in record { read = r.read; closing = r.closing; put = r.put; done = r.done; failed = r.failed }
+quiet_same (events.Did k deed ∷ xs) h q = let r = quiet_same xs h q in record { read = r.read; closing = r.closing; put = r.put; done = r.done; failed = r.failed }
+quiet_same (events.Took m ∷ xs) h q = absurd q
+quiet_same (events.Shut error ∷ xs) h q = absurd q
+quiet_same (events.Put m expects ∷ xs) h q = absurd q
+quiet_same (events.Wrote ∷ xs) h q = absurd q
+quiet_same (events.Fault ∷ xs) h q = absurd q
+
+pub poll_quiet : (k : Option ℕ) (a : Answer) → AreQuiet (poll_spends k a)
+poll_quiet None a = tt
+poll_quiet (Some k) (answers.Reply position) = tt
+poll_quiet (Some k) (answers.InvalidReply position) = tt
+poll_quiet (Some k) (answers.MethodError m) = tt
+poll_quiet (Some k) (answers.Closed error) = tt
+poll_quiet (Some k) a = tt
+
+pub drop_quiet : (k : Option ℕ) (a : Answer) → AreQuiet (drop_spends k a)
+drop_quiet None a = tt
+drop_quiet (Some k) answers.Dropped = tt
+drop_quiet (Some k) a = tt
+
+pub stream_quiet : (a : Answer) → AreQuiet (stream_makes a)
+stream_quiet (answers.Streaming number) = tt
+stream_quiet a = tt
+
+pub take_quiet : (k : Option ℕ) (a : Answer) → AreQuiet (take_does k a)
+take_quiet None a = tt
+take_quiet (Some k) (answers.Item position) = tt
+take_quiet (Some k) (answers.Closed error) = tt
+take_quiet (Some k) a = tt
 
 closes_by : (es : List Entry) (lane : ℕ) (w : Words) (a : Answer)
     → ClosedByFault (events.closing (trail (entry lane w a ∷ es)).events) → IsReadFault a ⊎ ClosedByFault (events.closing (trail es).events)
 closes_by es lane (words.Call path member) a f = inr (sym (call_closes (trail es).events path member a) ∙ f)
 closes_by es lane words.Read a f = read_closes (events.closing (trail es).events) a (trail es).events refl f
-closes_by es lane (words.Poll number) a f = inr (sym (poll_closes (place 0 lane number (trail es).names) a (trail es).events) ∙ f)
+closes_by es lane (words.Poll number) a f = inr (sym (quiet_same (poll_spends (place 0 lane number (trail es).names) a) (trail es).events (poll_quiet (place 0 lane number (trail es).names) a)).closing ∙ f)
+closes_by es lane (words.Drop number) a f = inr (sym (quiet_same (drop_spends (place 0 lane number (trail es).names) a) (trail es).events (drop_quiet (place 0 lane number (trail es).names) a)).closing ∙ f)
+closes_by es lane words.Stream a f = inr (sym (quiet_same (stream_makes a) (trail es).events (stream_quiet a)).closing ∙ f)
+closes_by es lane (words.Take number) a f = inr (sym (quiet_same (take_does (place 0 lane number (trail es).streams) a) (trail es).events (take_quiet (place 0 lane number (trail es).streams) a)).closing ∙ f)
 
 earlier : (A B C : Type 0) → A ⊎ B → (B → C) → A ⊎ C
 earlier A B C (inl a) f = inl a

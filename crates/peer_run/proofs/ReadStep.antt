@@ -1,29 +1,27 @@
 -- A read is one entry more.
-use Rattle.std.proofs.Common.{◌≡◌, ◌≢◌, ℕ, ◌+◌, ◌-◌, ◌^◌, ◌≤◌, ◌<◌, refl, sym, ◌∙◌, ap, subst, arith, Bool, true, false, List, [], ◌∷◌, ◌++◌, length, take, Option, Some, None, IfSome, ◌⊎◌, inl, inr, Result, Ok, Err, length-append}
+use Rattle.std.proofs.Common.{◌≡◌, ◌≢◌, ℕ, ◌+◌, ◌-◌, ◌^◌, ◌≤◌, ◌<◌, refl, sym, ◌∙◌, ap, arith, Bool, true, false, List, ◌∷◌, ◌++◌, length, Option, Some, None, IfSome, inl, inr, Result, Ok, Err}
 use Rattle.std.proofs.lemmas.List.{append-nil, length_push}
 use Rattle.std.specs.Io.KnownBytes.{Consumes}
 use Rattle.wire_message.specs.Front.{Seen, Front}
-use Rattle.wire_message.specs.Outcome.{outcome, Tells}
+use Rattle.wire_message.specs.Outcome.{outcome, Tells, ending_of, IsReadError, IsReadRefusal}
 use Rattle.wire_message.specs.declared.error.Error.{Error}
 use Rattle.wire_message.specs.declared.error.Error.TheVariants as errors
-use Rattle.wire_message.specs.declared.error.IoKind.{IoKind}
 use Rattle.wire_message.specs.declared.error.IoKind.TheVariants as kinds
-use Rattle.wire_signature.specs.declared.error.VariantError.{VariantError}
 use Rattle.wire_signature.specs.declared.error.VariantError.TheVariants as faults
 use Rattle.wire_framing.specs.Source.{MayRise}
 use Rattle.wire_framing.specs.Receive as receive
-use Rattle.peer_route.specs.declared.words.Words.{Words}
 use Rattle.peer_route.specs.declared.words.Words.TheVariants as words
 use Rattle.peer_route.specs.declared.answer.Answer.{Answer}
 use Rattle.peer_route.specs.declared.answer.Answer.TheVariants as answers
 use Rattle.peer_route.specs.declared.answer.Entry.{Entry}
 use Rattle.peer_route.specs.History as events
-use Rattle.peer_route.specs.Trail.{Trail, trail, read_events}
-use Rattle.peer_route.specs.Answers.{Legal, IsAnswer, IsReadOf, IsRead, IsReadError}
-use Rattle.peer_route.specs.Told.{ReadsTold, ReadTold, IsOutcome, answer_of, ending_of, left_after, encodings}
-use Rattle.peer_route.specs.Left.{View, Left}
+use Rattle.peer_route.specs.Streams.{busy}
+use Rattle.peer_route.specs.Trail.{trail}
+use Rattle.peer_route.specs.Told.{ReadsTold, IsOutcome, answer_of, left_after}
+use Rattle.peer_route.specs.Left.{Left}
 use Rattle.peer_route.proofs.Steps.{left_after-took}
-use Rattle.peer_run.specs.Stands.{PeerView, Inlet, Outlet, Follows, Reads, Writes, IsRest, HasReadFault, IsReadFault, HasWriteFault, IsWriteFault, entry}
+use Rattle.peer_run.specs.Stands.{PeerView, Inlet, Follows, Reads, IsRest, HasReadFault, entry}
+use Rattle.peer_run.proofs.Kept.{reads_kept}
 use Rattle.peer_run.proofs.Quiet.{rise_after, rise_before, follows_more, fault_was_read}
 
 -- ---- the events of a read
@@ -51,25 +49,45 @@ pub follows_closed : (p : PeerView) (es : List Entry) (lane : ℕ) (error : Erro
 follows_closed p es lane error e f =
     let c : events.closing (trail es).events ≡ Some error = closing_of p es (Some error) f e in
     follows_more p es (entry lane words.Read (answers.Closed error)) (trail es).events (at_closed es lane (answers.Closed error) error c) f.left
-    (f.names ∙ sym (append-nil (trail es).names)) f.legal (rw c refl) f.within f.written
+    (f.names ∙ sym (append-nil (trail es).names)) (f.streams ∙ sym (append-nil (trail es).streams)) f.legal (rw c refl) f.within f.written
 
 -- a message was taken
-pub follows_got : (p q : PeerView) (es : List Entry) (lane : ℕ) (m : Seen) → p.core.calls.closing ≡ None → Follows p es
+pub follows_got : (p q : PeerView) (es : List Entry) (lane : ℕ) (m : Seen) → p.core.calls.closing ≡ None → busy (trail es).events ≡ false → Follows p es
     → Front m.bytes m (length m.bytes) → m.position ≡ p.core.read + 1 → p.core.read < 2 ^ 64 - 2
-    → q.names ≡ p.names → Left q.core (events.Took m ∷ (trail es).events)
+    → q.names ≡ p.names → q.streams ≡ p.streams → Left q.core (events.Took m ∷ (trail es).events)
     → Follows q (entry lane words.Read (answers.Got m) ∷ es)
-follows_got p q es lane m e f front position below names left =
+follows_got p q es lane m e free f front position below names streams left =
     let c : events.closing (trail es).events ≡ None = closing_of p es None f e in
     let count : length (events.read (trail es).events) ≡ p.core.read = sym f.left.read in
     let more : q.core.read ≡ p.core.read + 1 = left.read ∙ length_push (events.read (trail es).events) m ∙ ap (λ n. n + 1) count in
     follows_more q es (entry lane words.Read (answers.Got m)) (events.Took m ∷ (trail es).events) (at_got es lane m c) left
-    (names ∙ f.names ∙ sym (append-nil (trail es).names)) f.legal
-    (rw c (front, position ∙ ap (λ n. n + 1) (sym count), rw count below))
+    (names ∙ f.names ∙ sym (append-nil (trail es).names)) (streams ∙ f.streams ∙ sym (append-nil (trail es).streams)) f.legal
+    (rw (c, free) (front, position ∙ ap (λ n. n + 1) (sym count), rw count below))
     (omega (arith, more))
     (left.done ∙ sym f.left.done ∙ f.written ∙ ap length (f.left.outbox ∙ sym left.outbox))
 
+-- a stream was full
+at_busy : (es : List Entry) (lane : ℕ) → events.closing (trail es).events ≡ None
+    → (trail (entry lane words.Read answers.Busy ∷ es)).events ≡ (trail es).events
+at_busy es lane e = rw e refl
+
+pub follows_busy : (p : PeerView) (es : List Entry) (lane : ℕ) → p.core.calls.closing ≡ None → busy (trail es).events ≡ true
+    → Follows p es → Follows p (entry lane words.Read answers.Busy ∷ es)
+follows_busy p es lane e full f =
+    let c : events.closing (trail es).events ≡ None = closing_of p es None f e in
+    follows_more p es (entry lane words.Read answers.Busy) (trail es).events (at_busy es lane c) f.left
+    (f.names ∙ sym (append-nil (trail es).names)) (f.streams ∙ sym (append-nil (trail es).streams)) f.legal (rw (c, full) refl) f.within f.written
+
+-- a busy read takes nothing
+pub reads_busy : (start now : Inlet) (es : List Entry) (lane : ℕ) → events.closing (trail es).events ≡ None → busy (trail es).events ≡ true
+    → Reads start now es → Reads start now (entry lane words.Read answers.Busy ∷ es)
+reads_busy start now es lane c full r =
+    let same = at_busy es lane c in
+    reads_kept start now es lane words.Read answers.Busy (ap events.read same) (ap events.closing same)
+    (λ stop bytes. rw (c, full) tt) (λ f. cc) r
+
 -- a read's error, which isn't want of memory
-is_read_error : (error : Error) → receive.IsReadError error → error ≢ errors.Memory → IsReadError error
+is_read_error : (error : Error) → IsReadRefusal error → error ≢ errors.Memory → IsReadError error
 is_read_error (errors.InputOutput kinds.Ended) r n = tt
 is_read_error (errors.InputOutput kinds.Fault) r n = tt
 is_read_error (errors.InputOutput kinds.Closed) r n = absurd r
@@ -81,6 +99,7 @@ is_read_error (errors.Variant faults.Malformed) r n = tt
 is_read_error (errors.Variant faults.SignatureMismatch) r n = absurd r
 is_read_error (errors.Variant faults.Memory) r n = absurd r
 is_read_error (errors.Names kind) r n = absurd r
+is_read_error errors.InvalidMatchRule r n = absurd r
 is_read_error errors.IncorrectEndian r n = tt
 is_read_error errors.ExcessData r n = tt
 is_read_error errors.SerialsSpent r n = absurd r
@@ -88,16 +107,16 @@ is_read_error errors.UnknownHandle r n = absurd r
 is_read_error errors.Memory r n = absurd (n refl)
 
 -- the read ended the peer's messages
-pub follows_shut : (p q : PeerView) (es : List Entry) (lane : ℕ) (error : Error) → p.core.calls.closing ≡ None → Follows p es
-    → receive.IsReadError error → error ≢ errors.Memory
-    → q.names ≡ p.names → Left q.core (events.Shut error ∷ (trail es).events)
+pub follows_shut : (p q : PeerView) (es : List Entry) (lane : ℕ) (error : Error) → p.core.calls.closing ≡ None → busy (trail es).events ≡ false → Follows p es
+    → IsReadRefusal error → error ≢ errors.Memory
+    → q.names ≡ p.names → q.streams ≡ p.streams → Left q.core (events.Shut error ∷ (trail es).events)
     → Follows q (entry lane words.Read (answers.Closed error) ∷ es)
-follows_shut p q es lane error e f r n names left =
+follows_shut p q es lane error e free f r n names streams left =
     let c : events.closing (trail es).events ≡ None = closing_of p es None f e in
     let same : q.core.read ≡ p.core.read = left.read ∙ sym f.left.read in
     follows_more q es (entry lane words.Read (answers.Closed error)) (events.Shut error ∷ (trail es).events) (at_shut es lane error c) left
-    (names ∙ f.names ∙ sym (append-nil (trail es).names)) f.legal
-    (rw c (is_read_error error r n))
+    (names ∙ f.names ∙ sym (append-nil (trail es).names)) (streams ∙ f.streams ∙ sym (append-nil (trail es).streams)) f.legal
+    (rw (c, free) (is_read_error error r n))
     (rw same f.within)
     (left.done ∙ sym f.left.done ∙ f.written ∙ ap length (f.left.outbox ∙ sym left.outbox))
 
@@ -107,6 +126,7 @@ told_error : (error : Error) (found : Result Seen Error) → error ≢ errors.Me
 told_error (errors.InputOutput kind) found n t = t
 told_error (errors.Variant kind) found n t = t
 told_error (errors.Names kind) found n t = t
+told_error errors.InvalidMatchRule found n t = t
 told_error errors.IncorrectEndian found n t = t
 told_error errors.ExcessData found n t = t
 told_error errors.SerialsSpent found n t = t
@@ -139,20 +159,16 @@ reads_closed start now es lane error c r = record {
     earlier_fault e (inl f) = fault_was_read es (e ∙ cc)
     earlier_fault e (inr f) = f
 
-same_ending : (stop : Bool) → receive.ending_of stop ≡ ending_of stop
-same_ending true = refl
-same_ending false = refl
-
 -- what was received is the outcome of the bytes that were left
 got_outcome : (stop : Option Bool) (count : ℕ) (bytes : List ℕ) (m : Seen) → receive.Receives stop count bytes (Ok m) → IsOutcome stop count bytes (answers.Got m)
-got_outcome (Some stop) count bytes m t = sym (ap (λ k. answer_of (outcome count bytes k)) (sym (same_ending stop)) ∙ ap answer_of t)
+got_outcome (Some stop) count bytes m t = sym (ap answer_of t)
 got_outcome None count bytes m (inl t) = inl (sym (ap answer_of t))
 got_outcome None count bytes m (inr t) = cc
 
 shut_outcome : (stop : Option Bool) (count : ℕ) (bytes : List ℕ) (error : Error) → error ≢ errors.Memory → receive.Receives stop count bytes (Err error)
     → IsOutcome stop count bytes (answers.Closed error)
 shut_outcome (Some stop) count bytes error n t =
-    sym (ap (λ k. answer_of (outcome count bytes k)) (sym (same_ending stop)) ∙ ap answer_of (told_error error (outcome count bytes (receive.ending_of stop)) n t))
+    sym (ap answer_of (told_error error (outcome count bytes (ending_of stop)) n t))
 shut_outcome None count bytes error n (inl t) = inl (sym (ap answer_of (told_error error (outcome count bytes kinds.Ended) n t)))
 shut_outcome None count bytes error n (inr t) = inr (let e : error ≡ errors.InputOutput kinds.Fault = cc in ap answers.Closed e)
 
@@ -161,16 +177,16 @@ consumed_left rest None taken c = absurd c
 consumed_left rest (Some ys) taken c = (ys, refl, c)
 
 got_told : (start_left : Option (List ℕ)) (start_stop : Option Bool) (now : Inlet) (count : ℕ) (es : List Entry) (lane : ℕ) (m : Seen)
-    → events.closing (trail es).events ≡ None → length (events.read (trail es).events) ≡ count
+    → events.closing (trail es).events ≡ None → busy (trail es).events ≡ false → length (events.read (trail es).events) ≡ count
     → IfSome now.left (λ bytes. receive.Receives now.stop count bytes (Ok m))
     → IfSome start_left (λ bytes. IsRest (events.closing (trail es).events) (left_after bytes (trail es).events) start_stop now.left now.stop)
     → IfSome start_left (λ bytes. ReadsTold start_stop bytes es)
     → IfSome start_left (λ bytes. ReadsTold start_stop bytes (entry lane words.Read (answers.Got m) ∷ es))
-got_told None start_stop now count es lane m c n received rest told = tt
-got_told (Some bytes) start_stop now count es lane m c n received rest told =
+got_told None start_stop now count es lane m c free n received rest told = tt
+got_told (Some bytes) start_stop now count es lane m c free n received rest told =
     let open_rest : (now.left ≡ Some (left_after bytes (trail es).events)) × (now.stop ≡ start_stop) = rw c at rest in
     let here : receive.Receives start_stop count (left_after bytes (trail es).events) (Ok m) = rw (open_rest.0, open_rest.1) at received in
-    (rw (c, n) (got_outcome start_stop count (left_after bytes (trail es).events) m here), told)
+    (rw (c, free, n) (got_outcome start_stop count (left_after bytes (trail es).events) m here), told)
 
 got_rest : (start_left : Option (List ℕ)) (start_stop : Option Bool) (now after : Inlet) (es : List Entry) (lane : ℕ) (m : Seen)
     → events.closing (trail es).events ≡ None → Consumes now.left after.left m.bytes → after.stop ≡ now.stop
@@ -186,14 +202,14 @@ got_rest (Some bytes) start_stop now after es lane m c consumed stops rest =
     rw (at_got es lane m c, c) (left.1 ∙ ap Some (sym next), stops ∙ open_rest.1)
 
 -- what a message leaves of the source's bytes
-pub reads_got : (start now after : Inlet) (p : PeerView) (es : List Entry) (lane : ℕ) (m : Seen) → Follows p es → p.core.calls.closing ≡ None
+pub reads_got : (start now after : Inlet) (p : PeerView) (es : List Entry) (lane : ℕ) (m : Seen) → Follows p es → p.core.calls.closing ≡ None → busy (trail es).events ≡ false
     → IfSome now.left (λ bytes. receive.Receives now.stop p.core.read bytes (Ok m))
     → Consumes now.left after.left m.bytes → after.stop ≡ now.stop → now.faults ≤ after.faults
     → Reads start now es → Reads start after (entry lane words.Read (answers.Got m) ∷ es)
-reads_got start now after p es lane m f e received consumed stops grows r =
+reads_got start now after p es lane m f e free received consumed stops grows r =
     let c : events.closing (trail es).events ≡ None = closing_of p es None f e in
     record {
-      told = got_told start.left start.stop now p.core.read es lane m c (sym f.left.read) received r.rest r.told;
+      told = got_told start.left start.stop now p.core.read es lane m c free (sym f.left.read) received r.rest r.told;
       rest = got_rest start.left start.stop now after es lane m c consumed stops r.rest;
       cause = λ has. rise_before start.faults now.faults after.faults (r.cause (not_got has)) grows;
       kept = omega (arith, r.kept, grows);
@@ -204,16 +220,16 @@ reads_got start now after p es lane m f e received consumed stops grows r =
     not_got (inr h) = h
 
 shut_told : (start_left : Option (List ℕ)) (start_stop : Option Bool) (now : Inlet) (count : ℕ) (es : List Entry) (lane : ℕ) (error : Error)
-    → events.closing (trail es).events ≡ None → length (events.read (trail es).events) ≡ count → error ≢ errors.Memory
+    → events.closing (trail es).events ≡ None → busy (trail es).events ≡ false → length (events.read (trail es).events) ≡ count → error ≢ errors.Memory
     → IfSome now.left (λ bytes. receive.Receives now.stop count bytes (Err error))
     → IfSome start_left (λ bytes. IsRest (events.closing (trail es).events) (left_after bytes (trail es).events) start_stop now.left now.stop)
     → IfSome start_left (λ bytes. ReadsTold start_stop bytes es)
     → IfSome start_left (λ bytes. ReadsTold start_stop bytes (entry lane words.Read (answers.Closed error) ∷ es))
-shut_told None start_stop now count es lane error c n not received rest told = tt
-shut_told (Some bytes) start_stop now count es lane error c n not received rest told =
+shut_told None start_stop now count es lane error c free n not received rest told = tt
+shut_told (Some bytes) start_stop now count es lane error c free n not received rest told =
     let open_rest : (now.left ≡ Some (left_after bytes (trail es).events)) × (now.stop ≡ start_stop) = rw c at rest in
     let here : receive.Receives start_stop count (left_after bytes (trail es).events) (Err error) = rw (open_rest.0, open_rest.1) at received in
-    (rw (c, n) (shut_outcome start_stop count (left_after bytes (trail es).events) error not here), told)
+    (rw (c, free, n) (shut_outcome start_stop count (left_after bytes (trail es).events) error not here), told)
 
 shut_rest : (start_left : Option (List ℕ)) (start_stop : Option Bool) (after : Inlet) (es : List Entry) (lane : ℕ) (error : Error)
     → events.closing (trail es).events ≡ None
@@ -223,14 +239,14 @@ shut_rest None start_stop after es lane error c = tt
 shut_rest (Some bytes) start_stop after es lane error c = rw (at_shut es lane error c, c) tt
 
 -- what an error leaves of the source
-pub reads_shut : (start now after : Inlet) (p : PeerView) (es : List Entry) (lane : ℕ) (error : Error) → Follows p es → p.core.calls.closing ≡ None
+pub reads_shut : (start now after : Inlet) (p : PeerView) (es : List Entry) (lane : ℕ) (error : Error) → Follows p es → p.core.calls.closing ≡ None → busy (trail es).events ≡ false
     → error ≢ errors.Memory → IfSome now.left (λ bytes. receive.Receives now.stop p.core.read bytes (Err error))
     → receive.HasCause error now.faults after.faults → now.faults ≤ after.faults
     → Reads start now es → Reads start after (entry lane words.Read (answers.Closed error) ∷ es)
-reads_shut start now after p es lane error f e not received cause grows r =
+reads_shut start now after p es lane error f e free not received cause grows r =
     let c : events.closing (trail es).events ≡ None = closing_of p es None f e in
     record {
-      told = shut_told start.left start.stop now p.core.read es lane error c (sym f.left.read) not received r.rest r.told;
+      told = shut_told start.left start.stop now p.core.read es lane error c free (sym f.left.read) not received r.rest r.told;
       rest = shut_rest start.left start.stop after es lane error c;
       cause = shut_cause;
       kept = omega (arith, r.kept, grows);
@@ -241,3 +257,23 @@ reads_shut start now after p es lane error f e not received cause grows r =
         let is_fault : error ≡ errors.InputOutput kinds.Fault = cc in
         rise_after start.faults now.faults after.faults r.kept (rw is_fault at cause)
     shut_cause (inr h) = rise_before start.faults now.faults after.faults (r.cause h) grows
+
+-- a count of faults never falls
+cause_rises : (faults faults' : ℕ) → MayRise faults faults' → faults ≤ faults'
+cause_rises faults faults' (inl h) = omega (arith, h)
+cause_rises faults faults' (inr h) = omega (arith, h.0, h.1)
+
+pub faults_rise : (error : Error) (faults faults' : ℕ) → receive.HasCause error faults faults' → faults ≤ faults'
+faults_rise (errors.InputOutput kinds.Fault) faults faults' h = cause_rises faults faults' h
+faults_rise (errors.InputOutput kinds.Ended) faults faults' h = h
+faults_rise (errors.InputOutput kinds.Closed) faults faults' h = h
+faults_rise (errors.InputOutput kinds.WriteFault) faults faults' h = h
+faults_rise (errors.InputOutput kinds.TimedOut) faults faults' h = h
+faults_rise (errors.Variant kind) faults faults' h = h
+faults_rise (errors.Names kind) faults faults' h = h
+faults_rise errors.InvalidMatchRule faults faults' h = h
+faults_rise errors.IncorrectEndian faults faults' h = h
+faults_rise errors.ExcessData faults faults' h = h
+faults_rise errors.SerialsSpent faults faults' h = h
+faults_rise errors.UnknownHandle faults faults' h = h
+faults_rise errors.Memory faults faults' h = h

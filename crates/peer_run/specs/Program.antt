@@ -1,14 +1,20 @@
 -- What the program prints, and with which status it ends.
-use Rattle.std.specs.Prelude.{ℕ, ◌≡◌, ◌<◌, ◌≤◌, ◌⊎◌, nat_le, Bool, true, false, List, [], ◌∷◌, ◌++◌, length, map, reverse, codes, decimal, flat_map, Option, Some, None, Result, Ok, Err, IfSome, IsTrue}
+use Rattle.std.specs.Prelude.{ℕ, ◌≡◌, ◌<◌, ◌⊎◌, ◌&&◌, nat_le, Bool, true, false, List, [], ◌∷◌, ◌++◌, length, map, reverse, codes, decimal, Option, Some, Result, Ok, Err, IfSome, IsTrue}
+use Rattle.std.specs.List.{AllByRecursion}
 use Rattle.std.specs.Io.KnownBytes.{Appends}
+use Rattle.wire_message.specs.declared.error.Error.{Error}
+use Rattle.peer_route.specs.declared.words.Words.TheVariants as words
+use Rattle.peer_route.specs.declared.answer.Answer.TheVariants as answers
 use Rattle.peer_route.specs.declared.answer.Entry.{Entry}
 use Rattle.peer_route.specs.History.{put, is_failed}
 use Rattle.peer_route.specs.Trail.{trail}
 use Rattle.peer_route.specs.Answers.{Legal}
-use Rattle.peer_route.specs.Told.{ReadsTold, encodings}
+use Rattle.peer_route.specs.Told.{ReadsTold, IsSentOf, WritesTold}
+use Rattle.peer_route.specs.Laws.{IsFinal, IsReplyAt, IsFirstReply, IsCutOff, IsUnknown}
+use Rattle.peer_route.specs.StreamLaws.{Yields, IsEnded, IsLast, HoldsTooMany, IsPutOf, all_sent}
 use Rattle.peer_script.specs.Word.{same}
-use Rattle.peer_script.specs.Script.{Script}
-use Rattle.peer_script.specs.Reading.{script_of}
+use Rattle.peer_script.specs.Script.{Given, Gave, Broke, Script, line_count}
+use Rattle.peer_script.specs.Reading.{IsWithin, script_of}
 use Rattle.peer_script.specs.Transcript.{transcript_text}
 use Rattle.wire_framing.specs.Source.{MayRise}
 use Rattle.peer_run.specs.Runs.{command_of}
@@ -34,37 +40,87 @@ limit_text = codes "script: limit" ++ 10 ∷ []
 abbrev pub line_text : ℕ → List ℕ
 line_text n = codes "script: line " ++ decimal n ++ 10 ∷ []
 
--- the greatest length of a script in bytes
-abbrev pub script_limit : ℕ
-script_limit = 1073741824
+-- ---- what a run's history is
 
--- The text is the transcript of a history of the script: legal, with the script's commands, each once and in order; its
--- reads are what stands in the script's pieces, joined; no write failed; a line for each entry, and behind them the
--- encodings of all messages that were put.
-pub record IsTranscript (s : Script) (text : List ℕ) : Type 0 where
-  pub entries : List Entry
-  pub legal : Legal (reverse entries)
-  pub each : map command_of entries ≡ s.commands
-  pub reads : ReadsTold (Some false) (flat_map (λ piece. piece) s.pieces) (reverse entries)
-  pub whole : is_failed (trail (reverse entries)).events ≡ false
-  pub printed : text ≡ transcript_text s.pieces entries (encodings (put (trail (reverse entries)).events))
+-- the bytes that a script's source gives before its first failing read, or before its end
+abbrev pub source_bytes : List Given → List ℕ
+source_bytes [] = []
+source_bytes (Gave piece ∷ given) = piece ++ source_bytes given
+source_bytes (Broke ∷ given) = []
 
--- The input is a script text, and what the output gained is its transcript.
-pub record Prints (input : List ℕ) (before after : Option (List ℕ)) : Type 0 where
+-- whether a read fails there
+abbrev pub source_breaks : List Given → Bool
+source_breaks [] = false
+source_breaks (Gave piece ∷ given) = source_breaks given
+source_breaks (Broke ∷ given) = true
+
+-- Reads take the messages that stand in the source's bytes, in order, however these are cut; a busy read and a read of a
+-- closed peer take nothing.
+abbrev pub ReadsAre : Script → List Entry → List ℕ → Type 0
+ReadsAre s h sent = ReadsTold (Some (source_breaks s.given)) (source_bytes s.given) h
+
+-- what a poll of a lane's call gives: its answer, by the entries before it; and what comes after its last word
+pub record IsPolled (newer : List Entry) (e : Entry) (older : List Entry) (number : ℕ) : Type 0 where
+  pub first : (q : ℕ) → IsReplyAt q e.answer → IsFirstReply (trail older) e.lane number q e.answer
+  pub cut_off : (error : Error) → e.answer ≡ answers.Closed error → IsCutOff (trail older) e.lane number error
+  pub once : IsFinal e.answer → AllByRecursion (IsUnknown e.lane number) newer
+
+-- A polled call is answered at most once: by the first later reply that bears its serial, else by the error that closed the
+-- peer.
+abbrev pub PollsAre : Script → List Entry → List ℕ → Type 0
+PollsAre s h sent = (newer older : List Entry) (e : Entry) (number : ℕ) → h ≡ newer ++ e ∷ older → e.words ≡ words.Poll number → IsPolled newer e older number
+
+-- what a stream's entries say, from the one that made it on
+abbrev pub StreamsYield : List Entry → Type 0
+StreamsYield h = (newer older : List Entry) (e : Entry) (number : ℕ) → h ≡ newer ++ e ∷ older → e.words ≡ words.Stream → e.answer ≡ answers.Streaming number → Yields newer e older number
+
+abbrev pub StreamsEnd : List Entry → Type 0
+StreamsEnd h = (newer older : List Entry) (e : Entry) (number : ℕ) → h ≡ newer ++ e ∷ older → e.words ≡ words.Take number → IsLast e.answer → AllByRecursion (IsEnded e.lane number) newer
+
+abbrev pub FullStreamsWait : List Entry → Type 0
+FullStreamsWait h = (newer older : List Entry) (e : Entry) → h ≡ newer ++ e ∷ older → e.words ≡ words.Read → HoldsTooMany (trail older).events → e.answer ≡ answers.Busy
+
+-- Each stream gives exactly the messages that were read since it was made, in order; it ends once; and where one holds more
+-- than its capacity, reads wait.
+pub record StreamsAre (s : Script) (h : List Entry) (sent : List ℕ) : Type 0 where
+  pub yields : StreamsYield h
+  pub ends : StreamsEnd h
+  pub waits : FullStreamsWait h
+
+-- The bytes sent are the encodings of the messages that were put, in order, up to the sink's fault, perhaps with a proper
+-- prefix of one more; where the sink has room for so many bytes, exactly the first message that ends past them fails; and
+-- what was put is what the answers say was sent.
+pub record SentIs (s : Script) (h : List Entry) (sent : List ℕ) : Type 0 where
+  pub bytes : IsSentOf (trail h).events sent
+  pub room : WritesTold (Some s.outfault) (is_failed (trail h).events) (put (trail h).events) sent
+  pub put_is : IsPutOf (is_failed (trail h).events) (put (trail h).events) (all_sent h)
+
+-- ---- what is printed
+
+-- The input is a script text within the limits, and what the output gained is the transcript of a history of it: the
+-- answers are those of the entries before them, the commands are the script's, each once and in order; and of the history,
+-- newest first, and the bytes sent this holds.
+pub record Prints (Such : Script → List Entry → List ℕ → Type 0) (input : List ℕ) (before after : Option (List ℕ)) : Type 0 where
   pub script : Script
-  pub within : length input ≤ script_limit
+  pub within : IsWithin input
   pub read : script_of input ≡ Ok script
-  pub text : List ℕ
-  pub transcript : IsTranscript script text
-  pub gained : Appends before after text
+  pub entries : List Entry
+  pub sent : List ℕ
+  pub legal : Legal (reverse entries)
+  pub each : map command_of entries ≡ script.commands
+  pub such : Such script (reverse entries) sent
+  pub gained : Appends before after (transcript_text script.outfault script.given entries sent)
 
--- The input passes the limit, or is no script text; what the output gained says so, with the first line outside.
+-- The input passes a limit, or is no script text; what the output gained says so, with the first line outside.
 abbrev pub Refuses : List ℕ → Option (List ℕ) → Option (List ℕ) → Type 0
 Refuses input before after =
-    ((script_limit < length input) × Appends before after limit_text)
-    ⊎ ((length input ≤ script_limit) × (n : ℕ) × (script_of input ≡ Err n) × Appends before after (line_text n))
+    (((1073741824 < length input) ⊎ (1000000 < line_count input)) × Appends before after limit_text)
+    ⊎ (IsWithin input × (n : ℕ) × (script_of input ≡ Err n) × Appends before after (line_text n))
 
--- The status that an input's bytes decide: 0 for a script text within the limit, else 3.
+abbrev pub within : List ℕ → Bool
+within bytes = nat_le (length bytes) 1073741824 && nat_le (line_count bytes) 1000000
+
+-- The status that an input's bytes decide: 0 for a script text within the limits, else 3.
 abbrev pub status_of : Bool → Result Script ℕ → ℕ
 status_of true (Ok script) = 0
 status_of true (Err n) = 3
@@ -72,7 +128,7 @@ status_of false read = 3
 
 -- that status, or want of memory
 abbrev pub IsDecided : List ℕ → ℕ → Type 0
-IsDecided bytes status = (status ≡ status_of (nat_le (length bytes) script_limit) (script_of bytes)) ⊎ (status ≡ 1)
+IsDecided bytes status = (status ≡ status_of (within bytes) (script_of bytes)) ⊎ (status ≡ 1)
 
 -- A text was printed under a status; or the output failed, or there was no memory, and the count of faults says which.
 pub data Says (status : ℕ) (text : List ℕ) (before after : Option (List ℕ)) (faults faults' : ℕ) (result : ℕ) : Type 0 where
@@ -80,15 +136,31 @@ pub data Says (status : ℕ) (text : List ℕ) (before after : Option (List ℕ)
   SaidPart : result ≡ 5 → MayRise faults faults' → Says status text before after faults faults' result
   SaidNot : result ≡ 1 → faults' ≡ faults → Says status text before after faults faults' result
 
+-- the entries, oldest first, are a run of the script whose sink holds these bytes
+pub record IsRunOf (s : Script) (entries : List Entry) (sent : List ℕ) : Type 0 where
+  pub legal : Legal (reverse entries)
+  pub each : map command_of entries ≡ s.commands
+  pub reads : ReadsAre s (reverse entries) sent
+  pub bytes : IsSentOf (trail (reverse entries)).events sent
+  pub room : WritesTold (Some s.outfault) (is_failed (trail (reverse entries)).events) (put (trail (reverse entries)).events) sent
+
 -- A script's commands were run, and its transcript was printed; or not, as above.
 pub data Shows (s : Script) (before after : Option (List ℕ)) (faults faults' : ℕ) (result : ℕ) : Type 0 where
-  Shown : (text : List ℕ) → IsTranscript s text → result ≡ 0 → Appends before after text → faults' ≡ faults → Shows s before after faults faults' result
+  Shown : (entries : List Entry) (sent : List ℕ) → IsRunOf s entries sent → result ≡ 0
+      → Appends before after (transcript_text s.outfault s.given entries sent) → faults' ≡ faults → Shows s before after faults faults' result
   ShownPart : result ≡ 5 → MayRise faults faults' → Shows s before after faults faults' result
   ShownNot : result ≡ 1 → faults' ≡ faults → Shows s before after faults faults' result
 
+-- all that is said of a run's history
+pub record IsWhole (s : Script) (h : List Entry) (sent : List ℕ) : Type 0 where
+  pub reads : ReadsAre s h sent
+  pub polls : PollsAre s h sent
+  pub streams : StreamsAre s h sent
+  pub sends : SentIs s h sent
+
 -- How a run of the program ends, by what the input told and the output gained.
 pub data Ends (input : Option (List ℕ)) (before after : Option (List ℕ)) (in_faults in_faults' faults faults' : ℕ) (result : ℕ) : Type 0 where
-  Done : result ≡ 0 → IfSome input (λ bytes. Prints bytes before after) → faults' ≡ faults
+  Done : result ≡ 0 → IfSome input (λ bytes. Prints IsWhole bytes before after) → faults' ≡ faults
       → Ends input before after in_faults in_faults' faults faults' result
   NoScript : result ≡ 3 → IfSome input (λ bytes. Refuses bytes before after) → faults' ≡ faults
       → Ends input before after in_faults in_faults' faults faults' result

@@ -1,5 +1,5 @@
 -- How a peer, a source and a sink stand to a history, newest first: what a run keeps from command to command.
-use Rattle.std.specs.Prelude.{ℕ, ⊤, ◌≡◌, ◌+◌, ◌-◌, ◌^◌, ◌<◌, ◌≤◌, ◌⊎◌, Bool, true, false, List, [], ◌∷◌, ◌++◌, length, map, Option, Some, None, IfSome, Result, Ok, Err}
+use Rattle.std.specs.Prelude.{ℕ, ⊤, ◌≡◌, ◌-◌, ◌^◌, ◌≤◌, ◌⊎◌, Bool, true, false, List, [], ◌∷◌, ◌++◌, length, Option, Some, None, IfSome, Result, Ok, Err}
 use Rattle.wire_message.specs.Front.{Seen}
 use Rattle.wire_message.specs.declared.error.Error.{Error}
 use Rattle.wire_message.specs.declared.error.Error.TheVariants as errors
@@ -14,7 +14,7 @@ use Rattle.peer_route.specs.declared.answer.Answer.TheVariants as answers
 use Rattle.peer_route.specs.declared.answer.Entry.{Entry}
 use Rattle.peer_route.specs.History.{Event, Wrote, Fault, put, is_failed}
 use Rattle.peer_route.specs.History as events
-use Rattle.peer_route.specs.Trail.{Trail, Names, trail, count}
+use Rattle.peer_route.specs.Trail.{Names, trail, count}
 use Rattle.peer_route.specs.Answers.{Legal}
 use Rattle.peer_route.specs.Left.{View, Left}
 use Rattle.peer_route.specs.Told.{ReadsTold, IsSentOf, WritesTold, encodings, left_after}
@@ -35,15 +35,17 @@ pub record Outlet : Type 0 where
 abbrev pub entry : ℕ → Words → Answer → Entry
 entry lane w answer = record { lane = lane; words = w; answer = answer }
 
--- what contracts see of a peer: its core, and whose its calls are
+-- what contracts see of a peer: its core, and whose its calls and its streams are
 pub record PeerView : Type 0 where
   pub core : View
   pub names : Names
+  pub streams : Names
 
 -- The peer is what the history leaves, and the history is legal.
 pub record Follows (p : PeerView) (es : List Entry) : Type 0 where
   pub left : Left p.core (trail es).events
   pub names : p.names ≡ (trail es).names
+  pub streams : p.streams ≡ (trail es).streams
   pub legal : Legal es
   pub within : p.core.read ≤ 2 ^ 64 - 2
   pub written : p.core.done ≡ length p.core.outbox
@@ -111,10 +113,12 @@ Sent old new lane serial m now after (answers.Called call number) =
     (call ≡ count lane old.names) × (number ≡ serial) × (new.names ≡ old.names ++ Some lane ∷ [])
     × ((h : List Event) → Left old.core h → Left new.core (Wrote ∷ h))
     × Appends now.held after.held m.bytes × RoomFalls now.room after.room (length m.bytes) × (after.faults ≡ now.faults)
+    × (new.streams ≡ old.streams)
 Sent old new lane serial m now after (answers.SendFailed error) =
     (error ≡ errors.InputOutput kinds.WriteFault) × (new.names ≡ old.names ++ None ∷ [])
     × ((h : List Event) → Left old.core h → Left new.core (Fault ∷ h))
     × (n : ℕ) × Part m.bytes now.held after.held n × RoomBreaks now.room after.room n × MayRise now.faults after.faults
+    × (new.streams ≡ old.streams)
 Sent old new lane serial m now after answer = ⊥
 
 -- a call that wasn't issued: its refusal, or an earlier failed write; not want of memory

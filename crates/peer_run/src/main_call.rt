@@ -1,9 +1,8 @@
-ghost use Rattle.std.specs.Prelude.{ℕ, ◌≡◌, ◌≤◌, ◌<◌, ◌⊎◌, List, map, length, string_bytes, IfSome, is_some, false};
+ghost use Rattle.std.specs.Prelude.{ℕ, ◌≡◌, ◌≤◌, ◌<◌, ◌⊎◌, List, [], map, string_bytes, IfSome, is_some};
 ghost use Rattle.std.specs.Io.KnownBytes.{Appends};
 ghost use Rattle.wire_framing.specs.Source.{MayRise};
-ghost use Rattle.peer_script.specs.Reading.{given};
-ghost use Rattle.wire_framing.specs.Memory.{told_stop};
-ghost use Rattle.peer_run.specs.Program.{IsRun, is_run, usage, input_fault, limit_text, line_text, Prints, Refuses, IsDecided, Says, Shows, Ends};
+ghost use Rattle.peer_script.specs.Reading.{script_from};
+ghost use Rattle.peer_run.specs.Program.{IsRun, is_run, usage, input_fault, limit_text, line_text, Prints, ReadsAre, PollsAre, StreamsAre, SentIs, Refuses, IsDecided, Says, Shows, Ends};
 
 use crate::peer::RunError;
 use crate::run::run_peer;
@@ -47,13 +46,23 @@ fn word_of(words: &[String]) -> Option<Word>
     }
 }
 
-/// Runs the commands over the setup's pieces, and prints the transcript.
+/// A sink that fails where the setup says.
+fn sink_of(alloc: Global, outfault: Option<u64>) -> MemorySink
+    ensures bytes { result.bytes.items ≡ [] }
+    ensures room { result.room ≡ outfault }
+{
+    match outfault {
+        Some(count) => MemorySink::with_fault(alloc, count, false),
+        None => MemorySink::new(alloc, false),
+    }
+}
+
+/// Runs the commands over the setup's pieces and its sink, and prints the transcript.
 fn run_commands<O: Sink>(alloc: Global, setup: &Setup, commands: &[Command], output: &mut O) -> u8
-    requires { told_stop setup.now.pieces.items ≡ false }
-    ensures { Shows (record { pieces = given setup.now.pieces.items; commands = commands.now }) (O.held output.old) (O.held output.new) (O.faults output.old) (O.faults output.new) result }
+    ensures { Shows (script_from setup.now.outfault setup.now.pieces.items commands.now) (O.held output.old) (O.held output.new) (O.faults output.old) (O.faults output.new) result }
 {
     let mut source = MemorySource::new(&setup.pieces);
-    let mut sink = MemorySink::new(alloc, false);
+    let mut sink = sink_of(alloc, setup.outfault);
     match run_peer(alloc, setup, &mut source, &mut sink, commands) {
         Ok(transcript) => match write_transcript(alloc, setup, &transcript, sink.bytes(), output) {
             Ok(()) => DONE,
@@ -89,8 +98,8 @@ fn run_script<I: Source, O: Sink>(alloc: Global, input: &mut I, output: &mut O) 
 
 /// The program: `run`, or no words, reads a script from the input to its end, runs it over a source and a sink in memory
 /// that are made from its header lines, and prints the transcript. Its status: 0 done; 1 want of memory; 2 the words are
-/// none of the program's; 3 the input passes 1,073,741,824 bytes or is no script text; 4 the input failed; 5 the output
-/// failed. All that is printed goes to the output, each line ended by 0x0a.
+/// none of the program's; 3 the input passes 1,000,000 lines or 1,073,741,824 bytes, or is no script text; 4 the input
+/// failed; 5 the output failed. All that is printed goes to the output, each line ended by 0x0a.
 pub fn peer_main<R, I: Source, O: Sink>(
     _rt: &R,
     alloc: Global,
@@ -98,13 +107,20 @@ pub fn peer_main<R, I: Source, O: Sink>(
     input: &mut I,
     output: &mut O,
 ) -> u8
-    // 0: the transcript of a legal history of the script, and nothing else, was printed
-    ensures done { result ≡ 0 → IsRun (map (λ word. string_bytes word) words.now)
-        × IfSome (I.left input.old) (λ bytes. Prints bytes (O.held output.old) (O.held output.new)) }
+    // 0: the transcript of a legal history of the script, and nothing else, was printed, and of that history hold:
+    // reads take the messages that stand in the source's bytes, in order, however these are cut
+    ensures reads { result ≡ 0 → IsRun (map (λ word. string_bytes word) words.now)
+        × IfSome (I.left input.old) (λ bytes. Prints ReadsAre bytes (O.held output.old) (O.held output.new)) }
+    // a polled call is answered at most once, by the first later reply that bears its serial, else by the closing error
+    ensures polls { result ≡ 0 → IfSome (I.left input.old) (λ bytes. Prints PollsAre bytes (O.held output.old) (O.held output.new)) }
+    // each stream gives exactly the messages that were read since it was made, then the end; a full one makes reads wait
+    ensures streams { result ≡ 0 → IfSome (I.left input.old) (λ bytes. Prints StreamsAre bytes (O.held output.old) (O.held output.new)) }
+    // the bytes sent, printed behind the entries, are the encodings of what was put, up to the sink's fault
+    ensures sends { result ≡ 0 → IfSome (I.left input.old) (λ bytes. Prints SentIs bytes (O.held output.old) (O.held output.new)) }
     // 2: exactly where the words are no row of the program's table, memory and the output's faults aside
     ensures usage { result ≡ 2 → (¬ IsRun (map (λ word. string_bytes word) words.now)) × Appends (O.held output.old) (O.held output.new) usage }
     ensures no_row { ¬ IsRun (map (λ word. string_bytes word) words.now) → (result ≡ 2) ⊎ (result ≡ 1) ⊎ (result ≡ 5) }
-    // 3: exactly where the input passes the limit or is no script text, and the printed line says where
+    // 3: exactly where the input passes a limit or is no script text, and the printed line says where
     ensures refused { result ≡ 3 → IsRun (map (λ word. string_bytes word) words.now)
         × IfSome (I.left input.old) (λ bytes. Refuses bytes (O.held output.old) (O.held output.new)) }
     // 4, 5: only where the count of the input's, the output's faults rose; 5 exactly there, in place of any other

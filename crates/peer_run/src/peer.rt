@@ -6,7 +6,7 @@ ghost use Rattle.peer_route.specs.Answers as shows;
 ghost use Rattle.peer_run.specs.Stands.{PeerView, Inlet, Outlet, Follows, Reads, Writes, Sent, NotIssued, entry};
 ghost use Rattle.wire_message.specs.Front.{Seen};
 
-use peer_route::{Answer, Issued, Polled, Route};
+use peer_route::{Answer, Issued, MessageStream, Polled, Route};
 use std::alloc::{AllocError, AllocFailed, Global};
 use std::marker::Model;
 use wire_framing::{Sink, Source, receive_message, send_message};
@@ -33,11 +33,13 @@ impl<T: Drop> From<AllocFailed<T>> for RunError {
 }
 
 #[allow(dead_code)]
-/// A peer's core, and whose its calls are: for each call, by its number, its lane; none where its message failed.
+/// A peer's core, and whose its calls and its streams are: for each, by its number, its lane; none where a call's message
+/// failed.
 #[derive(Drop)]
 pub(crate) struct Peer {
     route: Route,
     names: Vec<Option<u32>>,
+    streams: Vec<Option<u32>>,
 }
 
 impl Model for Peer {
@@ -46,10 +48,10 @@ impl Model for Peer {
 
     ghost Value = { PeerView };
 
-    ghost view = { λ p. record { core = p.route; names = p.names.items } };
+    ghost view = { λ p. record { core = p.route; names = p.names.items; streams = p.streams.items } };
 }
 
-/// How many calls belong to the lane.
+/// How many of the calls, or of the streams, belong to the lane.
 #[tactic(auto, using(crate::proofs::Lanes::counting))]
 fn count(names: &[Option<u32>], lane: u32) -> u64
     ensures { result ≡ trails.count lane names.now }
@@ -63,7 +65,7 @@ fn count(names: &[Option<u32>], lane: u32) -> u64
     number
 }
 
-/// The call that the lane's number names, by its number among all.
+/// The call, or the stream, that the lane's number names, by its number among all.
 #[tactic(auto, using(crate::proofs::Lanes::placing))]
 fn place(names: &[Option<u32>], lane: u32, number: u64) -> Option<u64>
     ensures { result ≡ trails.place 0 lane number names.now }
@@ -82,19 +84,57 @@ fn place(names: &[Option<u32>], lane: u32, number: u64) -> Option<u64>
     None
 }
 
+/// What is shown of a reply: its position, and the name of an error that has one.
+fn shown_reply(message: Message) -> Answer
+    ensures { result ≡ shows.reply_answer message }
+{
+    match message.message_type() {
+        MessageType::MethodReturn => Answer::Reply(message.recv_position()),
+        MessageType::Error => {
+            if message.header().error_name().is_some() {
+                Answer::MethodError(message)
+            } else {
+                Answer::InvalidReply(message.recv_position())
+            }
+        }
+        MessageType::MethodCall | MessageType::Signal => {
+            Answer::InvalidReply(message.recv_position())
+        }
+    }
+}
+
 /// What is shown of a poll.
 fn shown(polled: wire_message::Result<Polled<Message>>) -> Answer
     ensures { result ≡ shows.shown polled }
 {
     match polled {
-        Ok(Polled::Now(message)) => match message.message_type() {
-            MessageType::MethodReturn => Answer::Reply(message.recv_position()),
-            MessageType::MethodCall | MessageType::Error | MessageType::Signal => {
-                Answer::InvalidReply(message.recv_position())
-            }
-        },
+        Ok(Polled::Now(message)) => shown_reply(message),
         Ok(Polled::NotYet) => Answer::NotYet,
         Ok(Polled::Closed(error)) => Answer::Closed(error),
+        Ok(Polled::Ended) => Answer::Ended,
+        Err(error) => Answer::Refused(error),
+    }
+}
+
+/// What is shown of a take: the item's position.
+fn shown_take(polled: wire_message::Result<Polled<Message>>) -> Answer
+    ensures { result ≡ shows.shown_take polled }
+{
+    match polled {
+        Ok(Polled::Now(message)) => Answer::Item(message.recv_position()),
+        Ok(Polled::NotYet) => Answer::Empty,
+        Ok(Polled::Closed(error)) => Answer::Closed(error),
+        Ok(Polled::Ended) => Answer::Ended,
+        Err(error) => Answer::Refused(error),
+    }
+}
+
+/// What is shown of a drop.
+fn shown_drop(dropped: wire_message::Result<()>) -> Answer
+    ensures { result ≡ shows.shown_drop dropped }
+{
+    match dropped {
+        Ok(()) => Answer::Dropped,
         Err(error) => Answer::Refused(error),
     }
 }
@@ -118,10 +158,12 @@ impl Peer {
         Peer {
             route: Route::new(alloc),
             names: Vec::new(alloc),
+            streams: Vec::new(alloc),
         }
     }
 
-    /// Takes the next message from the source; where the peer is closed, its first closing error again.
+    /// Takes the next message from the source; where the peer is closed, its first closing error again; else, where a stream
+    /// is full, nothing.
     pub(crate) fn read<S: Source>(
         &mut self,
         alloc: Global,
@@ -140,10 +182,13 @@ impl Peer {
         if let Some(error) = self.route.closing() {
             return Ok(Answer::Closed(error));
         }
+        if self.route.busy() {
+            return Ok(Answer::Busy);
+        }
         match receive_message(alloc, source, self.route.received() + 1) {
             Ok(message) => {
                 let copy = message.try_clone()?;
-                self.route.arrive(message);
+                self.route.arrive(message)?;
                 Ok(Answer::Got(copy))
             }
             Err(error) => match error {
@@ -167,6 +212,48 @@ impl Peer {
         match place(&self.names, lane, number) {
             Some(call) => shown(self.route.poll(call)),
             None => Answer::Refused(Error::UnknownHandle),
+        }
+    }
+
+    /// Drops the lane's call with this number.
+    pub(crate) fn drop_call(&mut self, lane: u32, number: u64) -> Answer
+        ensures follows { (es : List Entry) → Follows self.old es → Follows self.new (entry lane (words.Drop number) result ∷ es) }
+        ensures reads { (start now : Inlet) (es : List Entry) → Follows self.old es
+            → Reads start now es → Reads start now (entry lane (words.Drop number) result ∷ es) }
+        ensures writes { (start now : Outlet) (es : List Entry) → Follows self.old es
+            → Writes start now es → Writes start now (entry lane (words.Drop number) result ∷ es) }
+    {
+        match place(&self.names, lane, number) {
+            Some(call) => shown_drop(self.route.drop_call(call)),
+            None => shown_drop(Err(Error::UnknownHandle)),
+        }
+    }
+
+    /// Opens a stream for the lane.
+    pub(crate) fn stream(&mut self, lane: u32) -> Result<Answer, RunError>
+        ensures follows { IfOk result (λ answer. (es : List Entry) → Follows self.old es → Follows self.new (entry lane words.Stream answer ∷ es)) }
+        ensures reads { IfOk result (λ answer. (start now : Inlet) (es : List Entry) → Follows self.old es
+            → Reads start now es → Reads start now (entry lane words.Stream answer ∷ es)) }
+        ensures writes { IfOk result (λ answer. (start now : Outlet) (es : List Entry) → Follows self.old es
+            → Writes start now es → Writes start now (entry lane words.Stream answer ∷ es)) }
+    {
+        let number = count(&self.streams, lane);
+        let _ = self.route.open()?;
+        self.streams.push(Some(lane))?;
+        Ok(Answer::Streaming(number))
+    }
+
+    /// What the lane's stream with this number gives.
+    pub(crate) fn take(&mut self, lane: u32, number: u64) -> Answer
+        ensures follows { (es : List Entry) → Follows self.old es → Follows self.new (entry lane (words.Take number) result ∷ es) }
+        ensures reads { (start now : Inlet) (es : List Entry) → Follows self.old es
+            → Reads start now es → Reads start now (entry lane (words.Take number) result ∷ es) }
+        ensures writes { (start now : Outlet) (es : List Entry) → Follows self.old es
+            → Writes start now es → Writes start now (entry lane (words.Take number) result ∷ es) }
+    {
+        match place(&self.streams, lane, number) {
+            Some(number) => shown_take(self.route.take(&MessageStream { number })),
+            None => shown_take(Err(Error::UnknownHandle)),
         }
     }
 
@@ -231,7 +318,7 @@ impl Peer {
             Ok(member) => member,
             Err(error) => return Ok(Answer::Refused(Error::Names(error))),
         };
-        match self.route.issue(&path, &member) {
+        match self.route.issue(Message::method_call(&path, &member)) {
             Ok(issued) => self.send(sink, lane, issued),
             Err(error) => not_issued(error),
         }

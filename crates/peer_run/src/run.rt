@@ -29,6 +29,9 @@ fn answer_to<S: Source, W: Sink>(
     match words {
         Words::Read => peer.read(alloc, source),
         Words::Poll(number) => Ok(peer.poll(lane, *number)),
+        Words::Drop(number) => Ok(peer.drop_call(lane, *number)),
+        Words::Stream => peer.stream(lane),
+        Words::Take(number) => Ok(peer.take(lane, *number)),
         Words::Call { path, member } => peer.call(sink, lane, path, member),
     }
 }

@@ -10,7 +10,7 @@ struct Case {
 }
 
 /// Worked by hand from the message format and the program's rules.
-const CASES: [Case; 12] = [
+const CASES: [Case; 17] = [
     // one call answered once
     Case {
         word: "run",
@@ -80,6 +80,41 @@ const CASES: [Case; 12] = [
         input: "direct\nin 6c010001f1ffff070100000000000000\nread\n",
         status: 0,
         output: "direct\nin 6c010001f1ffff070100000000000000\n0 read = closed ExcessData\nsent -\n",
+    },
+    // stream and poll
+    Case {
+        word: "run",
+        input: "direct\nin 6c0200010000000001000000080000000501750009000000\nstream\ncall - / - do - -\nread\npoll 0\ntake 0\ndrop 0\npoll 0\n",
+        status: 0,
+        output: "direct\nin 6c0200010000000001000000080000000501750009000000\n0 stream = stream 0\n0 call - / - do - - = call 0 serial 1\n0 read = got 1 24 Method return\n0 poll 0 = notyet\n0 take 0 = item 1\n0 drop 0 = dropped\n0 poll 0 = refused UnknownHandle\nsent 6c01000100000000010000001b00000001016f00010000002f000000000000000301730002000000646f000000000000\n",
+    },
+    // closed before any message
+    Case {
+        word: "run",
+        input: "direct\nread\nstream\ntake 0\n",
+        status: 0,
+        output: "direct\n0 read = closed InputOutput.Ended\n0 stream = stream 0\n0 take 0 = ended\nsent -\n",
+    },
+    // fault before any byte
+    Case {
+        word: "run",
+        input: "direct\ninfault\nread\n",
+        status: 0,
+        output: "direct\ninfault\n0 read = closed InputOutput.Fault\nsent -\n",
+    },
+    // write fault in a call then a call
+    Case {
+        word: "run",
+        input: "direct\noutfault 10\ncall - / - do - -\npoll 0\ncall - / - do - -\n",
+        status: 0,
+        output: "direct\noutfault 10\n0 call - / - do - - = sendfailed InputOutput.WriteFault\n0 poll 0 = refused UnknownHandle\n0 call - / - do - - = sendfailed InputOutput.WriteFault\nsent 6c010001000000000100\n",
+    },
+    // one reply twice
+    Case {
+        word: "run",
+        input: "direct\nin 6c0200010000000001000000080000000501750001000000\nin 6c0200010000000001000000080000000501750001000000\nstream\ncall - / - do - -\nread\nread\npoll 0\ntake 0\ntake 0\npoll 0\n",
+        status: 0,
+        output: "direct\nin 6c0200010000000001000000080000000501750001000000\nin 6c0200010000000001000000080000000501750001000000\n0 stream = stream 0\n0 call - / - do - - = call 0 serial 1\n0 read = got 1 24 Method return\n0 read = got 2 24 Method return\n0 poll 0 = reply 1\n0 take 0 = item 1\n0 take 0 = item 2\n0 poll 0 = refused UnknownHandle\nsent 6c01000100000000010000001b00000001016f00010000002f000000000000000301730002000000646f000000000000\n",
     },
     // unknown word
     Case {
@@ -163,5 +198,149 @@ fn an_output_that_fails(rt: HostRuntime) -> Result<(), Fail> {
     let mut sink = MemorySink::with_fault(rt.alloc(), 5, false);
     assert_eq!(rt; run(&rt, "run", pieces.as_slice(), &mut sink)?, 5);
     assert_eq!(rt; sink.bytes(), b"direc".as_slice());
+    Ok(())
+}
+
+/// A method return with serial 1 that answers serial 1 (D-Bus Specification, "Message Format"), byte by byte.
+const RETURN: &str = "6c0200010000000001000000080000000501750001000000";
+
+/// The method call of `do` at `/` with serial 1.
+const CALL: &str =
+    "6c01000100000000010000001b00000001016f00010000002f000000000000000301730002000000646f000000000000";
+
+/// One text behind another.
+fn put(text: &mut Vec<u8>, piece: &str) -> Result<(), Fail> {
+    text.extend_from_slice(piece.as_bytes())?;
+    Ok(())
+}
+
+/// What the program prints of a script that it runs.
+fn printed(rt: &HostRuntime, input: &[u8]) -> Result<Vec<u8>, Fail> {
+    let pieces = whole(rt, input)?;
+    let mut sink = MemorySink::new(rt.alloc(), false);
+    if run(rt, "run", pieces.as_slice(), &mut sink)? != 0 {
+        return Err("another status than 0".into());
+    }
+    Ok(sink.into_bytes())
+}
+
+/// The header of a script whose source fails after `count` bytes of the message.
+fn broken_after(rt: &HostRuntime, count: usize) -> Result<Vec<u8>, Fail> {
+    let (before, after) = RETURN.split_at(2 * count);
+    let mut text = Vec::new(rt.alloc());
+    put(&mut text, "direct\n")?;
+    if count > 0 {
+        put(&mut text, "in ")?;
+        put(&mut text, before)?;
+        put(&mut text, "\n")?;
+    }
+    put(&mut text, "infault\nin ")?;
+    put(&mut text, after)?;
+    put(&mut text, "\n")?;
+    Ok(text)
+}
+
+/// What stood before the fault is no whole message, so each read ends the peer with the fault.
+#[test]
+fn a_source_that_fails_after_each_byte(rt: HostRuntime) -> Result<(), Fail> {
+    for count in 0..24 {
+        let mut input = broken_after(&rt, count)?;
+        put(&mut input, "read\n")?;
+        let mut output = broken_after(&rt, count)?;
+        put(&mut output, "0 read = closed InputOutput.Fault\nsent -\n")?;
+        let text = printed(&rt, input.as_slice())?;
+        assert_eq!(rt; text.as_slice(), output.as_slice());
+    }
+    Ok(())
+}
+
+/// The header of a script whose sink fails after `count` bytes.
+fn room_for(rt: &HostRuntime, count: usize) -> Result<Vec<u8>, Fail> {
+    let line = format!(in rt.alloc(); "direct\noutfault {count}\n")?;
+    Ok(Vec::from_slice(rt.alloc(), line.as_bytes())?)
+}
+
+/// Exactly the bytes before the fault are sent, and the call is unknown.
+#[test]
+fn a_sink_that_fails_after_each_byte(rt: HostRuntime) -> Result<(), Fail> {
+    for count in 0..48 {
+        let mut input = room_for(&rt, count)?;
+        put(&mut input, "call - / - do - -\npoll 0\n")?;
+        let mut output = room_for(&rt, count)?;
+        put(
+            &mut output,
+            "0 call - / - do - - = sendfailed InputOutput.WriteFault\n",
+        )?;
+        put(&mut output, "0 poll 0 = refused UnknownHandle\nsent ")?;
+        put(
+            &mut output,
+            if count == 0 {
+                "-"
+            } else {
+                CALL.split_at(2 * count).0
+            },
+        )?;
+        put(&mut output, "\n")?;
+        let text = printed(&rt, input.as_slice())?;
+        assert_eq!(rt; text.as_slice(), output.as_slice());
+    }
+    Ok(())
+}
+
+/// A message that ends exactly where the sink's room ends is whole; the next one fails, and so does every later one.
+#[test]
+fn a_message_that_ends_at_the_fault_is_whole(rt: HostRuntime) -> Result<(), Fail> {
+    let mut input = room_for(&rt, 48)?;
+    put(
+        &mut input,
+        "call - / - do - -\npoll 0\ncall - / - do - -\ncall - / - do - -\npoll 1\nread\npoll 0\n",
+    )?;
+    let mut output = room_for(&rt, 48)?;
+    put(
+        &mut output,
+        "0 call - / - do - - = call 0 serial 1\n0 poll 0 = notyet\n",
+    )?;
+    put(
+        &mut output,
+        "0 call - / - do - - = sendfailed InputOutput.WriteFault\n",
+    )?;
+    put(
+        &mut output,
+        "0 call - / - do - - = sendfailed InputOutput.WriteFault\n0 poll 1 = refused UnknownHandle\n",
+    )?;
+    put(
+        &mut output,
+        "0 read = closed InputOutput.Ended\n0 poll 0 = closed InputOutput.Ended\nsent ",
+    )?;
+    put(&mut output, CALL)?;
+    put(&mut output, "\n")?;
+    let text = printed(&rt, input.as_slice())?;
+    assert_eq!(rt; text.as_slice(), output.as_slice());
+    Ok(())
+}
+
+/// A stream of which nothing is taken holds 65 messages; the next read is busy, and takes nothing.
+#[test]
+fn sixty_five_in_a_stream(rt: HostRuntime) -> Result<(), Fail> {
+    let mut input = Vec::new(rt.alloc());
+    put(&mut input, "direct\n")?;
+    for _ in 0..66 {
+        put(&mut input, "in 6c040001000000000100000000000000\n")?;
+    }
+    let mut output = Vec::from_slice(rt.alloc(), input.as_slice())?;
+    put(&mut input, "stream\n")?;
+    put(&mut output, "0 stream = stream 0\n")?;
+    for position in 1..66 {
+        put(&mut input, "read\n")?;
+        let line = format!(in rt.alloc(); "0 read = got {position} 16 Signal\n")?;
+        put(&mut output, line.as_str())?;
+    }
+    put(&mut input, "read\ntake 0\nread\nread\n")?;
+    put(
+        &mut output,
+        "0 read = busy\n0 take 0 = item 1\n0 read = got 66 16 Signal\n0 read = busy\nsent -\n",
+    )?;
+    let text = printed(&rt, input.as_slice())?;
+    assert_eq!(rt; text.as_slice(), output.as_slice());
     Ok(())
 }

@@ -2,101 +2,134 @@
 use Rattle.std.proofs.Common.{ℕ, ◌≡◌, ◌+◌, ◌≤◌, Bool, true, false, List, [], ◌∷◌, ◌++◌, length, map, Option, Some, None, Ok, refl, sym, ap, ◌∙◌, arith, append_assoc, append-nil, length-append}
 use Rattle.peer_route.specs.declared.words.Command.{Command}
 use Rattle.peer_script.specs.declared.line.Line.{Line}
-use Rattle.peer_script.specs.declared.line.Line.TheVariants.{Direct, In, Do, Sent}
+use Rattle.peer_script.specs.declared.line.Line.TheVariants.{Direct, OutFault, In, InFault, Do, Sent}
 use Rattle.peer_script.specs.declared.reading.Stage.{Stage}
-use Rattle.peer_script.specs.declared.reading.Stage.TheVariants.{Start, Pieces, Commands, Over}
-use Rattle.peer_script.specs.Script.{Script, ScriptText, line_of, parts, sent_lines, script_lines}
-use Rattle.peer_script.specs.Reading.{Step, begun, more_piece, more_command, take_line, end_of, then_read, read_lines, script_of}
+use Rattle.peer_script.specs.declared.reading.Stage.TheVariants.{Start, Head, Pieces, Commands, Over}
+use Rattle.peer_script.specs.Script.{Given, Gave, Broke, Script, ScriptText, line_of, parts, outfault_lines, given_line, sent_lines, script_lines}
+use Rattle.peer_script.specs.Reading.{Step, begun, with_outfault, more_given, more_command, take_line, end_of, then_read, read_lines, script_of}
 use Rattle.peer_script.proofs.Read.{lines_step}
 
 -- what may come behind `direct`
-abbrev body : List (List ℕ) → List Command → Bool → List Line
-body ps cs sent = map In ps ++ map Do cs ++ sent_lines sent
+abbrev body : Option ℕ → List Given → List Command → Bool → List Line
+body out gs cs sent = outfault_lines out ++ map given_line gs ++ map Do cs ++ sent_lines sent
 
 -- what may still come at a stage
-abbrev Fits : Stage → List (List ℕ) → List Command → Bool → Type 0
-Fits Start ps cs sent = ⊥
-Fits Pieces ps cs sent = Unit {0}
-Fits Commands ps cs sent = ps ≡ []
-Fits Over ps cs sent = (ps ≡ []) × (cs ≡ []) × (sent ≡ false)
+abbrev Fits : Stage → Option ℕ → List Given → List Command → Bool → Type 0
+Fits Start out gs cs sent = ⊥
+Fits Head out gs cs sent = Unit {0}
+Fits Pieces out gs cs sent = out ≡ None
+Fits Commands out gs cs sent = (out ≡ None) × (gs ≡ [])
+Fits Over out gs cs sent = (out ≡ None) × (gs ≡ []) × (cs ≡ []) × (sent ≡ false)
 
-abbrev joined : Script → List (List ℕ) → List Command → Script
-joined s ps cs = record { pieces = s.pieces ++ ps; commands = s.commands ++ cs }
+abbrev or_out : Option ℕ → Option ℕ → Option ℕ
+or_out out None = out
+or_out out (Some n) = Some n
 
--- the parts are the ended lines of these pieces and commands
+abbrev joined : Script → Option ℕ → List Given → List Command → Script
+joined s out gs cs = record { outfault = or_out s.outfault out; given = s.given ++ gs; commands = s.commands ++ cs }
+
+-- the parts are the ended lines of these
 record Behind (stage : Stage) (s whole : Script) (ls : List (List ℕ)) : Type 0 where
-  ps : List (List ℕ)
+  out : Option ℕ
+  gs : List Given
   cs : List Command
   sent : Bool
   lines : List (List ℕ)
-  fits : Fits stage ps cs sent
+  fits : Fits stage out gs cs sent
   ended : ls ≡ lines ++ [] ∷ []
-  each : map line_of lines ≡ map Some (body ps cs sent)
-  all : whole ≡ joined s ps cs
+  each : map line_of lines ≡ map Some (body out gs cs sent)
+  all : whole ≡ joined s out gs cs
 
 -- ---- from the reading to the grammar
 
-joined_nothing : (s : Script) → s ≡ joined s [] []
-joined_nothing s = ap (λ l. record { pieces = l; commands = s.commands }) (sym (append-nil s.pieces)) ∙ ap (λ l. record { pieces = s.pieces ++ []; commands = l }) (sym (append-nil s.commands))
+joined_nothing : (s : Script) → s ≡ joined s None [] []
+joined_nothing s =
+    ap (λ l. record { outfault = s.outfault; given = l; commands = s.commands }) (sym (append-nil s.given))
+    ∙ ap (λ l. record { outfault = s.outfault; given = s.given ++ []; commands = l }) (sym (append-nil s.commands))
 
-fits_nothing : (stage : Stage) (s whole : Script) (n : ℕ) → end_of stage s n [] ≡ Ok whole → Fits stage [] [] false
+fits_nothing : (stage : Stage) (s whole : Script) (n : ℕ) → end_of stage s n [] ≡ Ok whole → Fits stage None [] [] false
 fits_nothing Start s whole n e = absurd (cc)
-fits_nothing Pieces s whole n e = tt
-fits_nothing Commands s whole n e = refl
-fits_nothing Over s whole n e = (refl, refl, refl)
+fits_nothing Head s whole n e = tt
+fits_nothing Pieces s whole n e = refl
+fits_nothing Commands s whole n e = (refl, refl)
+fits_nothing Over s whole n e = (refl, refl, refl, refl)
 
 end_whole : (stage : Stage) (s whole : Script) (n : ℕ) → end_of stage s n [] ≡ Ok whole → whole ≡ s
 end_whole Start s whole n e = absurd (cc)
+end_whole Head s whole n e = cc
 end_whole Pieces s whole n e = cc
 end_whole Commands s whole n e = cc
 end_whole Over s whole n e = cc
 
 ends : (stage : Stage) (s whole : Script) (n : ℕ) (rest : List ℕ) → end_of stage s n rest ≡ Ok whole → Behind stage s whole (rest ∷ [])
 ends stage s whole n [] e =
-    record { ps = []; cs = []; sent = false; lines = []; fits = fits_nothing stage s whole n e; ended = refl; each = refl; all = end_whole stage s whole n e ∙ joined_nothing s }
+    record { out = None; gs = []; cs = []; sent = false; lines = []; fits = fits_nothing stage s whole n e; ended = refl; each = refl; all = end_whole stage s whole n e ∙ joined_nothing s }
 ends stage s whole n (b ∷ rest) e = absurd (cc)
 
-piece_first : (s whole : Script) (line : List ℕ) (ls : List (List ℕ)) (piece : List ℕ) → line_of line ≡ Some (In piece)
-    → Behind Pieces (more_piece s piece) whole ls → Behind Pieces s whole (line ∷ ls)
-piece_first s whole line ls piece e r =
+out_first : (s whole : Script) (line : List ℕ) (ls : List (List ℕ)) (count : ℕ) → line_of line ≡ Some (OutFault count)
+    → Behind Pieces (with_outfault s count) whole ls → Behind Head s whole (line ∷ ls)
+out_first s whole line ls count e r =
     record {
-      ps = piece ∷ r.ps;
+      out = Some count;
+      gs = r.gs;
       cs = r.cs;
       sent = r.sent;
       lines = line ∷ r.lines;
       fits = tt;
       ended = ap (λ l. line ∷ l) r.ended;
-      each = ap (λ x. x ∷ map line_of r.lines) e ∙ ap (λ l. Some (In piece) ∷ l) r.each;
-      all = r.all ∙ ap (λ l. record { pieces = l; commands = s.commands ++ r.cs }) (append_assoc s.pieces (piece ∷ []) r.ps);
+      each = ap (λ x. x ∷ map line_of r.lines) e ∙ ap (λ l. Some (OutFault count) ∷ l) (r.each ∙ ap (λ o. map Some (body o r.gs r.cs r.sent)) r.fits);
+      all = r.all ∙ ap (λ o. joined (with_outfault s count) o r.gs r.cs) r.fits;
     }
 
-command_first : (s whole : Script) (line : List ℕ) (ls : List (List ℕ)) (command : Command) (stage : Stage) → Fits stage [] (command ∷ []) true → line_of line ≡ Some (Do command)
-    → ((cs : List Command) (sent : Bool) → Fits stage [] cs sent) → Behind Commands (more_command s command) whole ls → Behind stage s whole (line ∷ ls)
-command_first s whole line ls command stage f e any r =
+given_first : (stage : Stage) (s whole : Script) (line : List ℕ) (ls : List (List ℕ)) (g : Given) → line_of line ≡ Some (given_line g)
+    → ((gs : List Given) (cs : List Command) (sent : Bool) → Fits stage None gs cs sent)
+    → Behind Pieces (more_given s g) whole ls → Behind stage s whole (line ∷ ls)
+given_first stage s whole line ls g e any r =
     record {
-      ps = [];
+      out = None;
+      gs = g ∷ r.gs;
+      cs = r.cs;
+      sent = r.sent;
+      lines = line ∷ r.lines;
+      fits = any _ _ _;
+      ended = ap (λ l. line ∷ l) r.ended;
+      each = ap (λ x. x ∷ map line_of r.lines) e ∙ ap (λ l. Some (given_line g) ∷ l) (r.each ∙ ap (λ o. map Some (body o r.gs r.cs r.sent)) r.fits);
+      all = r.all ∙ ap (λ o. joined (more_given s g) o r.gs r.cs) r.fits
+          ∙ ap (λ l. record { outfault = s.outfault; given = l; commands = s.commands ++ r.cs }) (append_assoc s.given (g ∷ []) r.gs);
+    }
+
+command_first : (stage : Stage) (s whole : Script) (line : List ℕ) (ls : List (List ℕ)) (command : Command) → line_of line ≡ Some (Do command)
+    → ((cs : List Command) (sent : Bool) → Fits stage None [] cs sent) → Behind Commands (more_command s command) whole ls → Behind stage s whole (line ∷ ls)
+command_first stage s whole line ls command e any r =
+    record {
+      out = None;
+      gs = [];
       cs = command ∷ r.cs;
       sent = r.sent;
       lines = line ∷ r.lines;
       fits = any _ _;
       ended = ap (λ l. line ∷ l) r.ended;
-      each = ap (λ x. x ∷ map line_of r.lines) e ∙ ap (λ l. Some (Do command) ∷ l) (r.each ∙ ap (λ ps. map Some (body ps r.cs r.sent)) r.fits);
-      all = r.all ∙ ap (λ ps. joined (more_command s command) ps r.cs) r.fits ∙ ap (λ l. record { pieces = s.pieces ++ []; commands = l }) (append_assoc s.commands (command ∷ []) r.cs);
+      each = ap (λ x. x ∷ map line_of r.lines) e ∙ ap (λ l. Some (Do command) ∷ l)
+          (r.each ∙ ap (λ o. map Some (body o r.gs r.cs r.sent)) r.fits.0 ∙ ap (λ gs. map Some (body None gs r.cs r.sent)) r.fits.1);
+      all = r.all ∙ ap (λ o. joined (more_command s command) o r.gs r.cs) r.fits.0 ∙ ap (λ gs. joined (more_command s command) None gs r.cs) r.fits.1
+          ∙ ap (λ l. record { outfault = s.outfault; given = s.given ++ []; commands = l }) (append_assoc s.commands (command ∷ []) r.cs);
     }
 
-sent_last : (s whole : Script) (line : List ℕ) (ls : List (List ℕ)) (stage : Stage) → line_of line ≡ Some Sent
-    → Fits stage [] [] true → Behind Over s whole ls → Behind stage s whole (line ∷ ls)
-sent_last s whole line ls stage e f r =
+sent_last : (stage : Stage) (s whole : Script) (line : List ℕ) (ls : List (List ℕ)) → line_of line ≡ Some Sent
+    → Fits stage None [] [] true → Behind Over s whole ls → Behind stage s whole (line ∷ ls)
+sent_last stage s whole line ls e f r =
     record {
-      ps = [];
+      out = None;
+      gs = [];
       cs = [];
       sent = true;
       lines = line ∷ r.lines;
       fits = f;
       ended = ap (λ l. line ∷ l) r.ended;
       each = ap (λ x. x ∷ map line_of r.lines) e ∙ ap (λ l. Some Sent ∷ l)
-          (r.each ∙ ap (λ ps. map Some (body ps r.cs r.sent)) r.fits.0 ∙ ap (λ cs. map Some (body [] cs r.sent)) r.fits.1 ∙ ap (λ b. map Some (body [] [] b)) r.fits.2);
-      all = r.all ∙ ap (λ ps. joined s ps r.cs) r.fits.0 ∙ ap (joined s []) r.fits.1;
+          (r.each ∙ ap (λ o. map Some (body o r.gs r.cs r.sent)) r.fits.0 ∙ ap (λ gs. map Some (body None gs r.cs r.sent)) r.fits.1
+          ∙ ap (λ cs. map Some (body None [] cs r.sent)) r.fits.2 ∙ ap (λ b. map Some (body None [] [] b)) r.fits.3);
+      all = r.all ∙ ap (λ o. joined s o r.gs r.cs) r.fits.0 ∙ ap (λ gs. joined s None gs r.cs) r.fits.1 ∙ ap (joined s None []) r.fits.2;
     }
 
 line_behind : (stage : Stage) (o : Option Line) (s whole : Script) (n : ℕ) (line : List ℕ) (ls : List (List ℕ)) → line_of line ≡ o
@@ -104,20 +137,31 @@ line_behind : (stage : Stage) (o : Option Line) (s whole : Script) (n : ℕ) (li
     → (stage ≡ Start → ⊥) → then_read (take_line stage s o) n (λ q. read_lines q (n + 1) ls) ≡ Ok whole → Behind stage s whole (line ∷ ls)
 unfolding take_line
 line_behind Start o s whole n line ls e more past h = absurd (past refl)
-line_behind Pieces (Some (In piece)) s whole n line ls e more past h = piece_first s whole line ls piece e (more Pieces (more_piece s piece) h (λ x. cc))
-line_behind Pieces (Some (Do command)) s whole n line ls e more past h =
-    command_first s whole line ls command Pieces tt e (λ cs b. tt) (more Commands (more_command s command) h (λ x. cc))
-line_behind Commands (Some (Do command)) s whole n line ls e more past h =
-    command_first s whole line ls command Commands refl e (λ cs b. refl) (more Commands (more_command s command) h (λ x. cc))
-line_behind Pieces (Some Sent) s whole n line ls e more past h = sent_last s whole line ls Pieces e tt (more Over s h (λ x. cc))
-line_behind Commands (Some Sent) s whole n line ls e more past h = sent_last s whole line ls Commands e refl (more Over s h (λ x. cc))
+line_behind Head (Some (OutFault count)) s whole n line ls e more past h = out_first s whole line ls count e (more Pieces (with_outfault s count) h (λ x. cc))
+line_behind Head (Some (In piece)) s whole n line ls e more past h = given_first Head s whole line ls (Gave piece) e (λ gs cs b. tt) (more Pieces (more_given s (Gave piece)) h (λ x. cc))
+line_behind Head (Some InFault) s whole n line ls e more past h = given_first Head s whole line ls Broke e (λ gs cs b. tt) (more Pieces (more_given s Broke) h (λ x. cc))
+line_behind Pieces (Some (In piece)) s whole n line ls e more past h = given_first Pieces s whole line ls (Gave piece) e (λ gs cs b. refl) (more Pieces (more_given s (Gave piece)) h (λ x. cc))
+line_behind Pieces (Some InFault) s whole n line ls e more past h = given_first Pieces s whole line ls Broke e (λ gs cs b. refl) (more Pieces (more_given s Broke) h (λ x. cc))
+line_behind Head (Some (Do command)) s whole n line ls e more past h = command_first Head s whole line ls command e (λ cs b. tt) (more Commands (more_command s command) h (λ x. cc))
+line_behind Head (Some Sent) s whole n line ls e more past h = sent_last Head s whole line ls e tt (more Over s h (λ x. cc))
+line_behind Pieces (Some (Do command)) s whole n line ls e more past h = command_first Pieces s whole line ls command e (λ cs b. refl) (more Commands (more_command s command) h (λ x. cc))
+line_behind Pieces (Some Sent) s whole n line ls e more past h = sent_last Pieces s whole line ls e refl (more Over s h (λ x. cc))
+line_behind Commands (Some (Do command)) s whole n line ls e more past h = command_first Commands s whole line ls command e (λ cs b. (refl, refl)) (more Commands (more_command s command) h (λ x. cc))
+line_behind Commands (Some Sent) s whole n line ls e more past h = sent_last Commands s whole line ls e (refl, refl) (more Over s h (λ x. cc))
+line_behind Head (Some Direct) s whole n line ls e more past h = absurd (cc)
+line_behind Head None s whole n line ls e more past h = absurd (cc)
 line_behind Pieces (Some Direct) s whole n line ls e more past h = absurd (cc)
+line_behind Pieces (Some (OutFault count)) s whole n line ls e more past h = absurd (cc)
 line_behind Pieces None s whole n line ls e more past h = absurd (cc)
 line_behind Commands (Some Direct) s whole n line ls e more past h = absurd (cc)
+line_behind Commands (Some (OutFault count)) s whole n line ls e more past h = absurd (cc)
 line_behind Commands (Some (In piece)) s whole n line ls e more past h = absurd (cc)
+line_behind Commands (Some InFault) s whole n line ls e more past h = absurd (cc)
 line_behind Commands None s whole n line ls e more past h = absurd (cc)
 line_behind Over (Some Direct) s whole n line ls e more past h = absurd (cc)
+line_behind Over (Some (OutFault count)) s whole n line ls e more past h = absurd (cc)
 line_behind Over (Some (In piece)) s whole n line ls e more past h = absurd (cc)
+line_behind Over (Some InFault) s whole n line ls e more past h = absurd (cc)
 line_behind Over (Some (Do command)) s whole n line ls e more past h = absurd (cc)
 line_behind Over (Some Sent) s whole n line ls e more past h = absurd (cc)
 line_behind Over None s whole n line ls e more past h = absurd (cc)
@@ -129,21 +173,28 @@ behind (rest ∷ []) stage s whole n h past = ends stage s whole n rest h
 behind (line ∷ next ∷ ls) stage s whole n h past =
     line_behind stage (line_of line) s whole n line (next ∷ ls) refl (λ t q e k. behind (next ∷ ls) t q whole (n + 1) e k) past h
 
+none_or : (out : Option ℕ) → or_out None out ≡ out
+none_or None = refl
+none_or (Some n) = refl
+
 text_behind : (bytes : List ℕ) (whole : Script) (line : List ℕ) (ls : List (List ℕ)) → parts bytes ≡ line ∷ ls → line_of line ≡ Some Direct
-    → Behind Pieces begun.script whole ls → ScriptText bytes whole
+    → Behind Head begun.script whole ls → ScriptText bytes whole
 text_behind bytes whole line ls p e r =
     record {
       lines = line ∷ r.lines;
       sent = r.sent;
       ended = p ∙ ap (λ l. line ∷ l) r.ended;
-      each = ap (λ x. x ∷ map line_of r.lines) e ∙ ap (λ l. Some Direct ∷ l) (r.each ∙ ap (λ s. map Some (body s.pieces s.commands r.sent)) (sym r.all));
+      each = ap (λ x. x ∷ map line_of r.lines) e ∙ ap (λ l. Some Direct ∷ l)
+          (r.each ∙ ap (λ o. map Some (body o r.gs r.cs r.sent)) (sym (none_or r.out)) ∙ ap (λ s. map Some (body s.outfault s.given s.commands r.sent)) (sym r.all));
     }
 
 first_line : (o : Option Line) (bytes : List ℕ) (whole : Script) (line : List ℕ) (ls : List (List ℕ)) → parts bytes ≡ line ∷ ls → line_of line ≡ o
     → then_read (take_line Start begun.script o) 1 (λ q. read_lines q (1 + 1) ls) ≡ Ok whole → ScriptText bytes whole
 unfolding take_line
-first_line (Some Direct) bytes whole line ls p e h = text_behind bytes whole line ls p e (behind ls Pieces begun.script whole (1 + 1) h (λ x. cc))
+first_line (Some Direct) bytes whole line ls p e h = text_behind bytes whole line ls p e (behind ls Head begun.script whole (1 + 1) h (λ x. cc))
+first_line (Some (OutFault count)) bytes whole line ls p e h = absurd (cc)
 first_line (Some (In piece)) bytes whole line ls p e h = absurd (cc)
+first_line (Some InFault) bytes whole line ls p e h = absurd (cc)
 first_line (Some (Do command)) bytes whole line ls p e h = absurd (cc)
 first_line (Some Sent) bytes whole line ls p e h = absurd (cc)
 first_line None bytes whole line ls p e h = absurd (cc)
@@ -169,32 +220,46 @@ read_on stage s whole n line lines r e h =
     lines_step (record { stage = stage; script = s }) n line (lines ++ [] ∷ []) (one_more lines)
     ∙ ap (λ x. then_read x n (λ q. read_lines q (n + 1) (lines ++ [] ∷ []))) e ∙ h
 
-takes_in : (s : Script) (o : Option Line) (piece : List ℕ) → o ≡ Some (In piece) → take_line Pieces s o ≡ Some (record { stage = Pieces; script = more_piece s piece })
+takes_out : (s : Script) (o : Option Line) (count : ℕ) → o ≡ Some (OutFault count) → take_line Head s o ≡ Some (record { stage = Pieces; script = with_outfault s count })
 unfolding take_line
-takes_in s o piece e = ap (take_line Pieces s) e
+takes_out s o count e = ap (take_line Head s) e
 
-takes_do : (stage : Stage) (s : Script) (o : Option Line) (c : Command) (cs : List Command) (b : Bool) → Fits stage [] (c ∷ cs) b → o ≡ Some (Do c)
+takes_given : (stage : Stage) (s : Script) (o : Option Line) (g : Given) (gs : List Given) (cs : List Command) (b : Bool) → Fits stage None (g ∷ gs) cs b → o ≡ Some (given_line g)
+    → take_line stage s o ≡ Some (record { stage = Pieces; script = more_given s g })
+unfolding take_line
+takes_given Start s o g gs cs b f e = absurd f
+takes_given Head s o (Gave piece) gs cs b f e = ap (take_line Head s) e
+takes_given Head s o Broke gs cs b f e = ap (take_line Head s) e
+takes_given Pieces s o (Gave piece) gs cs b f e = ap (take_line Pieces s) e
+takes_given Pieces s o Broke gs cs b f e = ap (take_line Pieces s) e
+takes_given Commands s o g gs cs b f e = absurd (cc (f.1))
+takes_given Over s o g gs cs b f e = absurd (cc (f.1))
+
+takes_do : (stage : Stage) (s : Script) (o : Option Line) (c : Command) (cs : List Command) (b : Bool) → Fits stage None [] (c ∷ cs) b → o ≡ Some (Do c)
     → take_line stage s o ≡ Some (record { stage = Commands; script = more_command s c })
 unfolding take_line
 takes_do Start s o c cs b f e = absurd f
+takes_do Head s o c cs b f e = ap (take_line Head s) e
 takes_do Pieces s o c cs b f e = ap (take_line Pieces s) e
 takes_do Commands s o c cs b f e = ap (take_line Commands s) e
-takes_do Over s o c cs b f e = absurd (cc (f.1))
+takes_do Over s o c cs b f e = absurd (cc (f.2))
 
-takes_sent : (stage : Stage) (s : Script) (o : Option Line) → Fits stage [] [] true → o ≡ Some Sent → take_line stage s o ≡ Some (record { stage = Over; script = s })
+takes_sent : (stage : Stage) (s : Script) (o : Option Line) → Fits stage None [] [] true → o ≡ Some Sent → take_line stage s o ≡ Some (record { stage = Over; script = s })
 unfolding take_line
 takes_sent Start s o f e = absurd f
+takes_sent Head s o f e = ap (take_line Head s) e
 takes_sent Pieces s o f e = ap (take_line Pieces s) e
 takes_sent Commands s o f e = ap (take_line Commands s) e
-takes_sent Over s o f e = absurd (cc (f.2))
+takes_sent Over s o f e = absurd (cc (f.3))
 
-ends_here : (stage : Stage) (s : Script) (n : ℕ) (b : Bool) → Fits stage [] [] b → read_lines (record { stage = stage; script = s }) n ([] ∷ []) ≡ Ok s
+ends_here : (stage : Stage) (s : Script) (n : ℕ) (b : Bool) → Fits stage None [] [] b → read_lines (record { stage = stage; script = s }) n ([] ∷ []) ≡ Ok s
 ends_here Start s n b f = absurd f
+ends_here Head s n b f = refl
 ends_here Pieces s n b f = refl
 ends_here Commands s n b f = refl
 ends_here Over s n b f = refl
 
-read_end : (stage : Stage) (b : Bool) (s : Script) (n : ℕ) (lines : List (List ℕ)) → Fits stage [] [] b → map line_of lines ≡ map Some (body [] [] b)
+read_end : (stage : Stage) (b : Bool) (s : Script) (n : ℕ) (lines : List (List ℕ)) → Fits stage None [] [] b → map line_of lines ≡ map Some (body None [] [] b)
     → read_lines (record { stage = stage; script = s }) n (lines ++ [] ∷ []) ≡ Ok s
 read_end stage false s n [] f e = ends_here stage s n false f
 read_end stage false s n (line ∷ lines) f e = absurd (cc)
@@ -202,23 +267,33 @@ read_end stage true s n [] f e = absurd (cc)
 read_end stage true s n (line ∷ []) f e = read_on stage s s n line [] (record { stage = Over; script = s }) (takes_sent stage s (line_of line) f cc) refl
 read_end stage true s n (line ∷ next ∷ lines) f e = absurd (cc)
 
-read_commands : (cs : List Command) (stage : Stage) (b : Bool) (s : Script) (n : ℕ) (lines : List (List ℕ)) → Fits stage [] cs b → map line_of lines ≡ map Some (body [] cs b)
-    → read_lines (record { stage = stage; script = s }) n (lines ++ [] ∷ []) ≡ Ok (record { pieces = s.pieces; commands = s.commands ++ cs })
-read_commands [] stage b s n lines f e = read_end stage b s n lines f e ∙ ap (λ l. Ok (record { pieces = s.pieces; commands = l })) (sym (append-nil s.commands))
+read_commands : (cs : List Command) (stage : Stage) (b : Bool) (s : Script) (n : ℕ) (lines : List (List ℕ)) → Fits stage None [] cs b → map line_of lines ≡ map Some (body None [] cs b)
+    → read_lines (record { stage = stage; script = s }) n (lines ++ [] ∷ []) ≡ Ok (record s { commands = s.commands ++ cs })
+read_commands [] stage b s n lines f e = read_end stage b s n lines f e ∙ ap (λ l. Ok (record s { commands = l })) (sym (append-nil s.commands))
 read_commands (c ∷ cs) stage b s n [] f e = absurd (cc)
 read_commands (c ∷ cs) stage b s n (line ∷ lines) f e =
     read_on stage s _ n line lines (record { stage = Commands; script = more_command s c }) (takes_do stage s (line_of line) c cs b f cc)
-    (read_commands cs Commands b (more_command s c) (n + 1) lines refl (cc) ∙ ap (λ l. Ok (record { pieces = s.pieces; commands = l })) (append_assoc s.commands (c ∷ []) cs))
+    (read_commands cs Commands b (more_command s c) (n + 1) lines (refl, refl) (cc) ∙ ap (λ l. Ok (record s { commands = l })) (append_assoc s.commands (c ∷ []) cs))
 
-read_pieces : (ps : List (List ℕ)) (cs : List Command) (b : Bool) (s : Script) (n : ℕ) (lines : List (List ℕ)) → map line_of lines ≡ map Some (body ps cs b)
-    → read_lines (record { stage = Pieces; script = s }) n (lines ++ [] ∷ []) ≡ Ok (joined s ps cs)
-read_pieces [] cs b s n lines e = read_commands cs Pieces b s n lines tt e ∙ ap (λ l. Ok (record { pieces = l; commands = s.commands ++ cs })) (sym (append-nil s.pieces))
-read_pieces (p ∷ ps) cs b s n [] e = absurd (cc)
-read_pieces (p ∷ ps) cs b s n (line ∷ lines) e =
-    read_on Pieces s _ n line lines (record { stage = Pieces; script = more_piece s p }) (takes_in s (line_of line) p cc)
-    (read_pieces ps cs b (more_piece s p) (n + 1) lines (cc) ∙ ap (λ l. Ok (record { pieces = l; commands = s.commands ++ cs })) (append_assoc s.pieces (p ∷ []) ps))
+read_given : (gs : List Given) (stage : Stage) (cs : List Command) (b : Bool) (s : Script) (n : ℕ) (lines : List (List ℕ)) → Fits stage None gs cs b → map line_of lines ≡ map Some (body None gs cs b)
+    → read_lines (record { stage = stage; script = s }) n (lines ++ [] ∷ []) ≡ Ok (joined s None gs cs)
+read_given [] stage cs b s n lines f e =
+    read_commands cs stage b s n lines f e ∙ ap (λ l. Ok (record { outfault = s.outfault; given = l; commands = s.commands ++ cs })) (sym (append-nil s.given))
+read_given (g ∷ gs) stage cs b s n [] f e = absurd (cc)
+read_given (g ∷ gs) stage cs b s n (line ∷ lines) f e =
+    read_on stage s _ n line lines (record { stage = Pieces; script = more_given s g }) (takes_given stage s (line_of line) g gs cs b f cc)
+    (read_given gs Pieces cs b (more_given s g) (n + 1) lines refl (cc)
+    ∙ ap (λ l. Ok (record { outfault = s.outfault; given = l; commands = s.commands ++ cs })) (append_assoc s.given (g ∷ []) gs))
 
-takes_direct : (s : Script) (o : Option Line) → o ≡ Some Direct → take_line Start s o ≡ Some (record { stage = Pieces; script = s })
+read_head : (out : Option ℕ) (gs : List Given) (cs : List Command) (b : Bool) (s : Script) (n : ℕ) (lines : List (List ℕ)) → map line_of lines ≡ map Some (body out gs cs b)
+    → read_lines (record { stage = Head; script = s }) n (lines ++ [] ∷ []) ≡ Ok (joined s out gs cs)
+read_head None gs cs b s n lines e = read_given gs Head cs b s n lines tt e
+read_head (Some count) gs cs b s n [] e = absurd (cc)
+read_head (Some count) gs cs b s n (line ∷ lines) e =
+    read_on Head s _ n line lines (record { stage = Pieces; script = with_outfault s count }) (takes_out s (line_of line) count cc)
+    (read_given gs Pieces cs b (with_outfault s count) (n + 1) lines refl (cc))
+
+takes_direct : (s : Script) (o : Option Line) → o ≡ Some Direct → take_line Start s o ≡ Some (record { stage = Head; script = s })
 unfolding take_line
 takes_direct s o e = ap (take_line Start s) e
 
@@ -226,8 +301,8 @@ from_lines : (lines : List (List ℕ)) (bytes : List ℕ) (s : Script) (b : Bool
     → read_lines begun 1 (parts bytes) ≡ Ok s
 from_lines [] bytes s b p e = absurd (cc)
 from_lines (line ∷ lines) bytes s b p e =
-    ap (read_lines begun 1) p ∙ read_on Start begun.script s 1 line lines (record { stage = Pieces; script = begun.script }) (takes_direct begun.script (line_of line) cc)
-    (read_pieces s.pieces s.commands b begun.script (1 + 1) lines cc)
+    ap (read_lines begun 1) p ∙ read_on Start begun.script _ 1 line lines (record { stage = Head; script = begun.script }) (takes_direct begun.script (line_of line) cc)
+    (read_head s.outfault s.given s.commands b begun.script (1 + 1) lines cc) ∙ ap (λ o. Ok (record s { outfault = o })) (none_or s.outfault)
 
 pub reading_of_text : (bytes : List ℕ) (s : Script) → ScriptText bytes s → script_of bytes ≡ Ok s
 unfolding script_of

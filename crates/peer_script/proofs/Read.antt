@@ -2,14 +2,13 @@
 use Rattle.std.proofs.Common.{ℕ, ◌≡◌, ◌+◌, ◌<◌, ◌≤◌, ◌==◌, if◌then◌else◌, Bool, true, false, List, [], ◌∷◌, length, Option, Some, None, Result, Ok, Err, refl, sym, ap, subst, ◌∙◌, arith}
 use Rattle.std.proofs.lemmas.List.Splits.{length-slice_split}
 use Rattle.wire_framing.specs.declared.memory.Piece.{Piece}
-use Rattle.wire_framing.specs.Memory.{told_stop}
 use Rattle.peer_route.specs.declared.words.Command.{Command}
 use Rattle.peer_script.specs.declared.reading.Progress.{Progress}
 use Rattle.peer_script.specs.declared.line.Line.{Line}
 use Rattle.peer_script.specs.declared.reading.Stage.{Stage}
-use Rattle.peer_script.specs.declared.reading.Stage.TheVariants.{Start, Pieces, Commands, Over}
+use Rattle.peer_script.specs.declared.reading.Stage.TheVariants.{Start, Head, Pieces, Commands, Over}
 use Rattle.peer_script.specs.Script.{Script, line_of, parts}
-use Rattle.peer_script.specs.Reading.{Step, take_line, may_end, end_of, then_read, read_lines, script_of, given, TakesLine}
+use Rattle.peer_script.specs.Reading.{Step, take_line, may_end, end_of, then_read, read_lines, script_of, script_from, TakesLine}
 
 pub lines_step : (r : Step) (n : ℕ) (line : List ℕ) (ls : List (List ℕ)) → 1 ≤ length ls
     → read_lines r n (line ∷ ls) ≡ then_read (take_line r.stage r.script (line_of line)) n (λ q. read_lines q (n + 1) ls)
@@ -22,6 +21,7 @@ some_part xs = omega (arith, length-slice_split (λ (b : ℕ). b == 10) xs)
 pub no_line : (stage : Stage) (s : Script) → take_line stage s None ≡ None
 unfolding take_line
 no_line Start s = refl
+no_line Head s = refl
 no_line Pieces s = refl
 no_line Commands s = refl
 no_line Over s = refl
@@ -75,14 +75,11 @@ pub whole_text : (whole : Result Script ℕ) (stage : Stage) (s : Script) (n : �
 whole_text whole stage s n rest p q h e = ended whole stage s n rest p q ∙ end_here stage s n rest true h e
 
 pub nothing_read : (text : List ℕ) (ps : List Piece) (cs : List Command) → ps ≡ [] → cs ≡ []
-    → script_of text ≡ read_lines (record { stage = Start; script = record { pieces = given ps; commands = cs } }) 1 (parts text)
+    → script_of text ≡ read_lines (record { stage = Start; script = script_from None ps cs }) 1 (parts text)
 unfolding script_of
 nothing_read text ps cs e f =
-    ap (λ l. read_lines (record { stage = Start; script = record { pieces = given l; commands = [] } }) 1 (parts text)) (sym e)
-    ∙ ap (λ l. read_lines (record { stage = Start; script = record { pieces = given ps; commands = l } }) 1 (parts text)) (sym f)
-
-pub nothing_told : (ps : List Piece) → ps ≡ [] → told_stop ps ≡ false
-nothing_told ps e = ap told_stop e
+    ap (λ l. read_lines (record { stage = Start; script = script_from None l [] }) 1 (parts text)) (sym e)
+    ∙ ap (λ l. read_lines (record { stage = Start; script = script_from None ps l }) 1 (parts text)) (sym f)
 
 pub may_come : (E : Type 0) (b : Bool) (old new : Progress) (line : Line) → b ≡ true → TakesLine {E = E} (Ok b) old new line → TakesLine {E = E} (Ok true) old new line
 may_come E b old new line e h = subst (λ x. TakesLine {E = E} (Ok x) old new line) e h

@@ -1,11 +1,10 @@
 -- Each line of a transcript is read again, and so is the whole.
-use Rattle.std.proofs.Common.{ℕ, ◌≡◌, ◌/◌, ◌%◌, ◌^◌, ◌<◌, Bool, true, false, ◌&&◌, ◌||◌, nat_eq, nat_le, if◌then◌else◌, List, [], ◌∷◌, ◌++◌, length, map, Some, None, is_some, codes, decimal, refl, sym, ap, subst, ◌∙◌, arith, append_assoc, append-nil}
+use Rattle.std.proofs.Common.{ℕ, ◌≡◌, ◌/◌, ◌%◌, ◌^◌, ◌<◌, Bool, true, false, not, ◌&&◌, ◌||◌, nat_eq, nat_le, if◌then◌else◌, List, [], ◌∷◌, ◌++◌, length, map, Option, Some, None, is_some, codes, decimal, refl, sym, ap, subst, ◌∙◌, arith, append_assoc, append-nil}
 use Rattle.std.specs.List.{list_all, flat_map, All}
 use Rattle.std.proofs.lemmas.Bool.Decides.{nat_tests}
 use Rattle.std.proofs.lemmas.List.Elements.{All-head, All-tail, All-from_recursion}
 use Rattle.std.proofs.lemmas.Fmt.{decimal_nonempty}
-use Rattle.wire_message.specs.declared.kind.MessageType.{MessageType}
-use Rattle.wire_message.specs.declared.kind.MessageType.TheVariants as types
+use Rattle.wire_message.specs.Texts.{message_line}
 use Rattle.wire_message.specs.declared.error.Error.{Error}
 use Rattle.wire_message.specs.declared.error.Error.TheVariants as errors
 use Rattle.wire_message.specs.declared.error.IoKind.{IoKind}
@@ -17,11 +16,11 @@ use Rattle.peer_route.specs.declared.answer.Answer.{Answer}
 use Rattle.peer_route.specs.declared.answer.Answer.TheVariants as answers
 use Rattle.peer_route.specs.declared.answer.Entry.{Entry}
 use Rattle.peer_script.specs.declared.line.Line.{Line}
-use Rattle.peer_script.specs.declared.line.Line.TheVariants.{Direct, In, Do, Sent}
+use Rattle.peer_script.specs.declared.line.Line.TheVariants.{Direct, OutFault, In, InFault, Do, Sent}
 use Rattle.peer_script.specs.Word.{same, words_of, number_of, bytes_of, is_plain, hex_digit, hex_two, hex_word, text_byte, text_word}
-use Rattle.peer_script.specs.Script.{ScriptText, parts, lane_words, command_words, command_line, head_line, line_of, script_lines}
-use Rattle.peer_script.specs.Transcript.{kind_text, io_word, error_word, words_text, answer_text, entry_text, piece_text, sent_word, transcript_text}
-use Rattle.peer_script.specs.Again.{command_of, SomeBytes, HasText, HasNumbers, CanBeRead}
+use Rattle.peer_script.specs.Script.{Given, Gave, Broke, ScriptText, given_line, outfault_lines, parts, lane_words, command_words, command_line, head_line, line_of, script_lines}
+use Rattle.peer_script.specs.Transcript.{or_empty, shown_byte, shown_text, io_word, error_word, words_text, answer_text, entry_text, given_text, outfault_text, sent_word, transcript_text}
+use Rattle.peer_script.specs.Again.{command_of, SomeBytes, HasText, HasNumbers, CanBeRead, IsGiven, IsCount}
 use Rattle.peer_script.proofs.Spelling.{number_again, bytes_again, text_again, number_other, text_other, text_some, decimal_digits}
 use Rattle.peer_script.proofs.Again.{word_byte, line_byte, both, joined, word_line, digits_word, line_part, spaced, IsWord, words_again, words_alone, before_again}
 
@@ -68,12 +67,18 @@ entry_words : Words → List (List ℕ)
 entry_words (words.Call path member) = codes "call" ∷ (45 ∷ []) ∷ text_word path ∷ (45 ∷ []) ∷ text_word member ∷ (45 ∷ []) ∷ (45 ∷ []) ∷ []
 entry_words words.Read = codes "read" ∷ []
 entry_words (words.Poll number) = codes "poll" ∷ decimal number ∷ []
+entry_words (words.Drop number) = codes "drop" ∷ decimal number ∷ []
+entry_words words.Stream = codes "stream" ∷ []
+entry_words (words.Take number) = codes "take" ∷ decimal number ∷ []
 
 words_spaced : (w : Words) → 32 ∷ words_text w ≡ flat_map spaced (entry_words w)
 unfolding words_text entry_words
 words_spaced (words.Call path member) = simp append_assoc
 words_spaced words.Read = refl
 words_spaced (words.Poll number) = simp append-nil
+words_spaced (words.Drop number) = simp append-nil
+words_spaced words.Stream = refl
+words_spaced (words.Take number) = simp append-nil
 
 are_words : (w : Words) → HasText w → All IsWord (entry_words w)
 unfolding entry_words
@@ -84,15 +89,27 @@ are_words (words.Call path member) h =
 are_words words.Read h =
     let name : IsWord (codes "read") = record { bytes = refl; some = omega arith; other = refl } in
     All-from_recursion IsWord (entry_words words.Read) (name, tt)
+are_words words.Stream h =
+    let name : IsWord (codes "stream") = record { bytes = refl; some = omega arith; other = refl } in
+    All-from_recursion IsWord (entry_words words.Stream) (name, tt)
 are_words (words.Poll number) h =
     let name : IsWord (codes "poll") = record { bytes = refl; some = omega arith; other = refl } in
     All-from_recursion IsWord (entry_words (words.Poll number)) (name, (number_is_word number h, tt))
+are_words (words.Drop number) h =
+    let name : IsWord (codes "drop") = record { bytes = refl; some = omega arith; other = refl } in
+    All-from_recursion IsWord (entry_words (words.Drop number)) (name, (number_is_word number h, tt))
+are_words (words.Take number) h =
+    let name : IsWord (codes "take") = record { bytes = refl; some = omega arith; other = refl } in
+    All-from_recursion IsWord (entry_words (words.Take number)) (name, (number_is_word number h, tt))
 
 command_again : (w : Words) → HasText w → command_words (entry_words w) ≡ Some w
 unfolding entry_words command_words
 command_again (words.Call path member) h = rw (text_again path h.0.some h.0.bytes, text_again member h.1.some h.1.bytes) refl
 command_again words.Read h = refl
 command_again (words.Poll number) h = rw (number_again number h) refl
+command_again (words.Drop number) h = rw (number_again number h) refl
+command_again words.Stream h = refl
+command_again (words.Take number) h = rw (number_again number h) refl
 
 -- ---- the line of an entry
 
@@ -118,6 +135,9 @@ unfolding entry_words
 no_head a (words.Call path member) c ds = head_none a (codes "call") c ((45 ∷ []) ∷ text_word path ∷ (45 ∷ []) ∷ text_word member ∷ (45 ∷ []) ∷ (45 ∷ []) ∷ []) ds
 no_head a words.Read c ds = head_none a (codes "read") c [] ds
 no_head a (words.Poll number) c ds = head_none a (codes "poll") c (decimal number ∷ []) ds
+no_head a (words.Drop number) c ds = head_none a (codes "drop") c (decimal number ∷ []) ds
+no_head a words.Stream c ds = head_none a (codes "stream") c [] ds
+no_head a (words.Take number) c ds = head_none a (codes "take") c (decimal number ∷ []) ds
 
 lane_again : (lane : ℕ) (word : List ℕ) (rest : List (List ℕ)) (w : Words) → number_of word ≡ Some lane → nat_le lane 63 ≡ true → command_words rest ≡ Some w
     → lane_words (word ∷ rest) ≡ Some (record { lane = lane; words = w })
@@ -149,11 +169,14 @@ spaced_bytes (w ∷ ws) h =
 number_line : (n : ℕ) → n < 2 ^ 64 → list_all line_byte (decimal n) ≡ true
 number_line n h = word_line (decimal n) (digits_word (decimal n) (decimal_digits n h))
 
-kind_line : (kind : MessageType) → list_all line_byte (kind_text kind) ≡ true
-kind_line types.MethodCall = refl
-kind_line types.MethodReturn = refl
-kind_line types.Error = refl
-kind_line types.Signal = refl
+shown_by : (b : ℕ) (v : Bool) → b < 256 → (nat_le 32 b && nat_le b 126 && not (nat_eq b 92)) ≡ v → list_all line_byte (if v then b ∷ [] else 92 ∷ hex_two b) ≡ true
+shown_by b true h e = grind (arith, nat_tests)
+shown_by b false h e = word_line (92 ∷ hex_two b) (both _ _ (digit_byte (b / 16) (omega arith)) (both _ _ (digit_byte (b % 16) (omega arith)) refl))
+
+shown_line : (text : List ℕ) → All (λ b. b < 256) text → list_all line_byte (shown_text text) ≡ true
+shown_line [] h = refl
+shown_line (b ∷ text) h =
+    joined line_byte (shown_byte b) (shown_text text) (shown_by b _ (All-head (λ b. b < 256) b text h) refl) (shown_line text (All-tail (λ b. b < 256) b text h))
 
 io_line : (kind : IoKind) → list_all line_byte (io_word kind) ≡ true
 io_line kinds.Ended = refl
@@ -166,6 +189,7 @@ error_line : (error : Error) → list_all line_byte (error_word error) ≡ true
 error_line (errors.InputOutput kind) = joined line_byte (codes "InputOutput.") (io_word kind) refl (io_line kind)
 error_line (errors.Variant kind) = refl
 error_line (errors.Names kind) = refl
+error_line errors.InvalidMatchRule = refl
 error_line errors.IncorrectEndian = refl
 error_line errors.ExcessData = refl
 error_line errors.SerialsSpent = refl
@@ -178,6 +202,10 @@ answer_line (answers.Called call serial) h =
     let first = joined line_byte (codes "call ") (decimal call) refl (number_line call h.0) in
     let second = joined line_byte (codes "call " ++ decimal call) (codes " serial ") first refl in
     joined line_byte (codes "call " ++ decimal call ++ codes " serial ") (decimal serial) second (number_line serial h.1)
+answer_line (answers.MethodError m) h =
+    let first = joined line_byte (codes "methoderror ") (decimal m.position) refl (number_line m.position h.0) in
+    let second = joined line_byte (codes "methoderror " ++ decimal m.position) (32 ∷ []) first refl in
+    joined line_byte (codes "methoderror " ++ decimal m.position ++ 32 ∷ []) (text_word (or_empty m.error_name)) second (word_line (text_word (or_empty m.error_name)) (text_bytes (or_empty m.error_name) h.1))
 answer_line (answers.Refused error) h = joined line_byte (codes "refused ") (error_word error) refl (error_line error)
 answer_line (answers.SendFailed error) h = joined line_byte (codes "sendfailed ") (error_word error) refl (error_line error)
 answer_line (answers.Got m) h =
@@ -186,11 +214,17 @@ answer_line (answers.Got m) h =
     let second = joined line_byte place (32 ∷ []) first refl in
     let third = joined line_byte (place ++ 32 ∷ []) (decimal (length m.bytes)) second (number_line (length m.bytes) h.1) in
     let fourth = joined line_byte (place ++ 32 ∷ [] ++ decimal (length m.bytes)) (32 ∷ []) third refl in
-    joined line_byte (place ++ 32 ∷ [] ++ decimal (length m.bytes) ++ 32 ∷ []) (kind_text m.kind) fourth (kind_line m.kind)
+    joined line_byte (place ++ 32 ∷ [] ++ decimal (length m.bytes) ++ 32 ∷ []) (shown_text (message_line m)) fourth (shown_line (message_line m) h.2)
 answer_line (answers.Closed error) h = joined line_byte (codes "closed ") (error_word error) refl (error_line error)
 answer_line (answers.Reply position) h = joined line_byte (codes "reply ") (decimal position) refl (number_line position h)
 answer_line (answers.InvalidReply position) h = joined line_byte (codes "invalidreply ") (decimal position) refl (number_line position h)
 answer_line answers.NotYet h = refl
+answer_line answers.Busy h = refl
+answer_line answers.Dropped h = refl
+answer_line (answers.Streaming number) h = joined line_byte (codes "stream ") (decimal number) refl (number_line number h)
+answer_line (answers.Item position) h = joined line_byte (codes "item ") (decimal position) refl (number_line position h)
+answer_line answers.Empty h = refl
+answer_line answers.Ended h = refl
 
 entry_bytes : (e : Entry) → CanBeRead e → list_all line_byte (entry_line e) ≡ true
 unfolding entry_line
@@ -213,23 +247,26 @@ entries_again (e ∷ es) h =
     ap (λ x. x ∷ map line_of (map entry_line es)) (entry_again e (All-head CanBeRead e es h))
     ∙ ap (λ l. Some (Do (command_of e)) ∷ l) (entries_again es (All-tail CanBeRead e es h))
 
-piece_line : List ℕ → List ℕ
-piece_line piece = codes "in " ++ hex_word piece
+given_words : Given → List ℕ
+given_words (Gave piece) = codes "in " ++ hex_word piece
+given_words Broke = codes "infault"
 
-piece_ends : (p rest : List ℕ) → piece_text p ++ rest ≡ piece_line p ++ 10 ∷ rest
-unfolding piece_text piece_line
-piece_ends p rest = append_assoc (codes "in " ++ hex_word p) (10 ∷ []) rest
+given_ends : (g : Given) (rest : List ℕ) → given_text g ++ rest ≡ given_words g ++ 10 ∷ rest
+unfolding given_text given_words
+given_ends (Gave p) rest = append_assoc (codes "in " ++ hex_word p) (10 ∷ []) rest
+given_ends Broke rest = refl
 
-piece_bytes : (p : List ℕ) → SomeBytes p → list_all line_byte (piece_line p) ≡ true
-unfolding piece_line
-piece_bytes p h = joined line_byte (codes "in ") (hex_word p) refl (word_line (hex_word p) (hex_bytes p h.bytes))
+given_bytes : (g : Given) → IsGiven g → list_all line_byte (given_words g) ≡ true
+unfolding given_words
+given_bytes (Gave p) h = joined line_byte (codes "in ") (hex_word p) refl (word_line (hex_word p) (hex_bytes p h.bytes))
+given_bytes Broke h = refl
 
-pieces_parts : (ps : List (List ℕ)) (rest : List ℕ) → All SomeBytes ps → parts (flat_map piece_text ps ++ rest) ≡ map piece_line ps ++ parts rest
-pieces_parts [] rest h = refl
-pieces_parts (p ∷ ps) rest h =
-    ap parts (append_assoc (piece_text p) (flat_map piece_text ps) rest ∙ piece_ends p (flat_map piece_text ps ++ rest))
-    ∙ line_part (piece_line p) (flat_map piece_text ps ++ rest) (piece_bytes p (All-head SomeBytes p ps h))
-    ∙ ap (λ l. piece_line p ∷ l) (pieces_parts ps rest (All-tail SomeBytes p ps h))
+given_parts : (gs : List Given) (rest : List ℕ) → All IsGiven gs → parts (flat_map given_text gs ++ rest) ≡ map given_words gs ++ parts rest
+given_parts [] rest h = refl
+given_parts (g ∷ gs) rest h =
+    ap parts (append_assoc (given_text g) (flat_map given_text gs) rest ∙ given_ends g (flat_map given_text gs ++ rest))
+    ∙ line_part (given_words g) (flat_map given_text gs ++ rest) (given_bytes g (All-head IsGiven g gs h))
+    ∙ ap (λ l. given_words g ∷ l) (given_parts gs rest (All-tail IsGiven g gs h))
 
 head_again : (line : List ℕ) (l : Line) → head_line (words_of line) ≡ Some l → line_of line ≡ Some l
 unfolding line_of
@@ -263,6 +300,10 @@ direct_again : line_of (codes "direct") ≡ Some Direct
 unfolding line_of head_line
 direct_again = refl
 
+infault_again : line_of (codes "infault") ≡ Some InFault
+unfolding line_of head_line
+infault_again = refl
+
 and_no : (v : Bool) → (v && false) ≡ false
 and_no true = refl
 and_no false = refl
@@ -271,18 +312,52 @@ hex_is_word : (bytes : List ℕ) → 0 < length bytes → All (λ b. b < 256) by
 hex_is_word [] some h = absurd (omega arith)
 hex_is_word (b ∷ bytes) some h = record { bytes = hex_bytes (b ∷ bytes) h; some = omega arith; other = and_no (nat_eq (hex_digit (b / 16)) 61) }
 
-piece_again : (p : List ℕ) → SomeBytes p → line_of (piece_line p) ≡ Some (In p)
-unfolding piece_line
-piece_again p h =
+given_again : (g : Given) → IsGiven g → line_of (given_words g) ≡ Some (given_line g)
+unfolding given_words
+given_again (Gave p) h =
     let name : IsWord (codes "in") = record { bytes = refl; some = omega arith; other = refl } in
-    head_again (piece_line p) (In p)
+    head_again (codes "in " ++ hex_word p) (In p)
     (ap head_line (two_words (codes "in") (hex_word p) name (hex_is_word p h.some h.bytes)) ∙ in_again p (hex_word p) (bytes_again p h.some h.bytes))
+given_again Broke h = infault_again
 
-pieces_again : (ps : List (List ℕ)) → All SomeBytes ps → map line_of (map piece_line ps) ≡ map Some (map In ps)
-pieces_again [] h = refl
-pieces_again (p ∷ ps) h =
-    ap (λ x. x ∷ map line_of (map piece_line ps)) (piece_again p (All-head SomeBytes p ps h))
-    ∙ ap (λ l. Some (In p) ∷ l) (pieces_again ps (All-tail SomeBytes p ps h))
+all_given : (gs : List Given) → All IsGiven gs → map line_of (map given_words gs) ≡ map Some (map given_line gs)
+all_given [] h = refl
+all_given (g ∷ gs) h =
+    ap (λ x. x ∷ map line_of (map given_words gs)) (given_again g (All-head IsGiven g gs h))
+    ∙ ap (λ l. Some (given_line g) ∷ l) (all_given gs (All-tail IsGiven g gs h))
+
+-- ---- the line of the sink
+
+outfault_words : Option ℕ → List (List ℕ)
+outfault_words None = []
+outfault_words (Some count) = (codes "outfault " ++ decimal count) ∷ []
+
+outfault_ends : (count : ℕ) (rest : List ℕ) → outfault_text (Some count) ++ rest ≡ (codes "outfault " ++ decimal count) ++ 10 ∷ rest
+unfolding outfault_text
+outfault_ends count rest = append_assoc (codes "outfault " ++ decimal count) (10 ∷ []) rest
+
+no_outfault : (rest : List ℕ) → outfault_text None ++ rest ≡ rest
+unfolding outfault_text
+no_outfault rest = refl
+
+outfault_parts : (out : Option ℕ) (rest : List ℕ) → IsCount out → parts (outfault_text out ++ rest) ≡ outfault_words out ++ parts rest
+unfolding outfault_words
+outfault_parts None rest h = ap parts (no_outfault rest)
+outfault_parts (Some count) rest h =
+    ap parts (outfault_ends count rest)
+    ∙ line_part (codes "outfault " ++ decimal count) rest (joined line_byte (codes "outfault ") (decimal count) refl (number_line count h))
+
+count_again : (count : ℕ) (word : List ℕ) → number_of word ≡ Some count → head_line (codes "outfault" ∷ word ∷ []) ≡ Some (OutFault count)
+unfolding head_line
+count_again count word e = rw e refl
+
+outfault_again : (out : Option ℕ) → IsCount out → map line_of (outfault_words out) ≡ map Some (outfault_lines out)
+unfolding outfault_words
+outfault_again None h = refl
+outfault_again (Some count) h =
+    let name : IsWord (codes "outfault") = record { bytes = refl; some = omega arith; other = refl } in
+    ap (λ x. x ∷ []) (head_again (codes "outfault " ++ decimal count) (OutFault count)
+    (ap head_line (two_words (codes "outfault") (decimal count) name (number_is_word count h)) ∙ count_again count (decimal count) (number_again count h)))
 
 sent_text : List ℕ → List ℕ
 sent_text sent = codes "sent " ++ sent_word sent
@@ -309,40 +384,48 @@ mapped : {A B : Type 0} (f : A → B) (xs ys : List A) → map f (xs ++ ys) ≡ 
 mapped f [] ys = refl
 mapped f (x ∷ xs) ys = ap (λ l. f x ∷ l) (mapped f xs ys)
 
-whole_ends : (d ps es s w : List ℕ) → (((((d ++ 10 ∷ []) ++ ps) ++ es) ++ s) ++ w) ++ 10 ∷ [] ≡ d ++ 10 ∷ (ps ++ (es ++ ((s ++ w) ++ 10 ∷ [])))
-whole_ends d ps es s w = simp append_assoc
+lines_joined : (outs ins dos : List Line) → map Some outs ++ (map Some ins ++ (map Some dos ++ Some Sent ∷ [])) ≡ map Some (outs ++ ins ++ dos ++ Sent ∷ [])
+lines_joined outs ins dos =
+    sym (mapped Some ((outs ++ ins) ++ dos) (Sent ∷ []) ∙ ap (λ l. l ++ Some Sent ∷ []) (mapped Some (outs ++ ins) dos)
+    ∙ ap (λ l. (l ++ map Some dos) ++ Some Sent ∷ []) (mapped Some outs ins) ∙ simp append_assoc)
 
-all_lines : List (List ℕ) → List Entry → List ℕ → List (List ℕ)
-all_lines ps es sent = codes "direct" ∷ (map piece_line ps ++ (map entry_line es ++ sent_text sent ∷ []))
+whole_ends : (d o gs es s w : List ℕ) → ((((((d ++ 10 ∷ []) ++ o) ++ gs) ++ es) ++ s) ++ w) ++ 10 ∷ [] ≡ d ++ 10 ∷ (o ++ (gs ++ (es ++ ((s ++ w) ++ 10 ∷ []))))
+whole_ends d o gs es s w = simp append_assoc
 
-whole_parts : (ps : List (List ℕ)) (es : List Entry) (sent : List ℕ) → All SomeBytes ps → All CanBeRead es → All (λ b. b < 256) sent
-    → parts (transcript_text ps es sent) ≡ all_lines ps es sent ++ [] ∷ []
+all_lines : Option ℕ → List Given → List Entry → List ℕ → List (List ℕ)
+all_lines out gs es sent = codes "direct" ∷ (outfault_words out ++ (map given_words gs ++ (map entry_line es ++ sent_text sent ∷ [])))
+
+whole_parts : (out : Option ℕ) (gs : List Given) (es : List Entry) (sent : List ℕ) → IsCount out → All IsGiven gs → All CanBeRead es → All (λ b. b < 256) sent
+    → parts (transcript_text out gs es sent) ≡ all_lines out gs es sent ++ [] ∷ []
 unfolding transcript_text all_lines sent_text
-whole_parts ps es sent p e s =
-    ap parts (whole_ends (codes "direct") (flat_map piece_text ps) (flat_map entry_text es) (codes "sent ") (sent_word sent))
-    ∙ line_part (codes "direct") (flat_map piece_text ps ++ (flat_map entry_text es ++ (sent_text sent ++ 10 ∷ []))) refl
-    ∙ ap (λ l. codes "direct" ∷ l) (pieces_parts ps (flat_map entry_text es ++ (sent_text sent ++ 10 ∷ [])) p)
-    ∙ ap (λ l. codes "direct" ∷ (map piece_line ps ++ l)) (entries_parts es (sent_text sent ++ 10 ∷ []) e)
-    ∙ ap (λ l. codes "direct" ∷ (map piece_line ps ++ (map entry_line es ++ l))) (line_part (sent_text sent) [] (sent_bytes sent s))
+whole_parts out gs es sent o p e s =
+    ap parts (whole_ends (codes "direct") (outfault_text out) (flat_map given_text gs) (flat_map entry_text es) (codes "sent ") (sent_word sent))
+    ∙ line_part (codes "direct") (outfault_text out ++ (flat_map given_text gs ++ (flat_map entry_text es ++ (sent_text sent ++ 10 ∷ [])))) refl
+    ∙ ap (λ l. codes "direct" ∷ l) (outfault_parts out (flat_map given_text gs ++ (flat_map entry_text es ++ (sent_text sent ++ 10 ∷ []))) o)
+    ∙ ap (λ l. codes "direct" ∷ (outfault_words out ++ l)) (given_parts gs (flat_map entry_text es ++ (sent_text sent ++ 10 ∷ [])) p)
+    ∙ ap (λ l. codes "direct" ∷ (outfault_words out ++ (map given_words gs ++ l))) (entries_parts es (sent_text sent ++ 10 ∷ []) e)
+    ∙ ap (λ l. codes "direct" ∷ (outfault_words out ++ (map given_words gs ++ (map entry_line es ++ l)))) (line_part (sent_text sent) [] (sent_bytes sent s))
     ∙ ap (λ l. codes "direct" ∷ l) (simp append_assoc)
 
-whole_lines : (ps : List (List ℕ)) (es : List Entry) (sent : List ℕ) → All SomeBytes ps → All CanBeRead es → All (λ b. b < 256) sent
-    → map line_of (all_lines ps es sent) ≡ map Some (script_lines (record { pieces = ps; commands = map command_of es }) true)
+whole_lines : (out : Option ℕ) (gs : List Given) (es : List Entry) (sent : List ℕ) → IsCount out → All IsGiven gs → All CanBeRead es → All (λ b. b < 256) sent
+    → map line_of (all_lines out gs es sent) ≡ map Some (script_lines (record { outfault = out; given = gs; commands = map command_of es }) true)
 unfolding all_lines
-whole_lines ps es sent p e s =
-    let ins = map In ps in
+whole_lines out gs es sent o p e s =
+    let outs = outfault_lines out in
+    let ins = map given_line gs in
     let dos = map Do (map command_of es) in
-    ap (λ x. x ∷ map line_of (map piece_line ps ++ (map entry_line es ++ sent_text sent ∷ []))) direct_again
-    ∙ ap (λ l. Some Direct ∷ l) (mapped line_of (map piece_line ps) (map entry_line es ++ sent_text sent ∷ []))
-    ∙ ap (λ l. Some Direct ∷ (l ++ map line_of (map entry_line es ++ sent_text sent ∷ []))) (pieces_again ps p)
-    ∙ ap (λ l. Some Direct ∷ (map Some ins ++ l)) (mapped line_of (map entry_line es) (sent_text sent ∷ []))
-    ∙ ap (λ l. Some Direct ∷ (map Some ins ++ (l ++ line_of (sent_text sent) ∷ []))) (entries_again es e)
-    ∙ ap (λ x. Some Direct ∷ (map Some ins ++ (map Some dos ++ x ∷ []))) (sent_reads sent s)
-    ∙ ap (λ l. Some Direct ∷ l) (sym (append_assoc (map Some ins) (map Some dos) (Some Sent ∷ [])))
-    ∙ ap (λ l. Some Direct ∷ (l ++ Some Sent ∷ [])) (sym (mapped Some ins dos))
-    ∙ ap (λ l. Some Direct ∷ l) (sym (mapped Some (ins ++ dos) (Sent ∷ [])))
+    let tail = map entry_line es ++ sent_text sent ∷ [] in
+    ap (λ x. x ∷ map line_of (outfault_words out ++ (map given_words gs ++ tail))) direct_again
+    ∙ ap (λ l. Some Direct ∷ l) (mapped line_of (outfault_words out) (map given_words gs ++ tail))
+    ∙ ap (λ l. Some Direct ∷ (l ++ map line_of (map given_words gs ++ tail))) (outfault_again out o)
+    ∙ ap (λ l. Some Direct ∷ (map Some outs ++ l)) (mapped line_of (map given_words gs) tail)
+    ∙ ap (λ l. Some Direct ∷ (map Some outs ++ (l ++ map line_of tail))) (all_given gs p)
+    ∙ ap (λ l. Some Direct ∷ (map Some outs ++ (map Some ins ++ l))) (mapped line_of (map entry_line es) (sent_text sent ∷ []))
+    ∙ ap (λ l. Some Direct ∷ (map Some outs ++ (map Some ins ++ (l ++ line_of (sent_text sent) ∷ [])))) (entries_again es e)
+    ∙ ap (λ x. Some Direct ∷ (map Some outs ++ (map Some ins ++ (map Some dos ++ x ∷ [])))) (sent_reads sent s)
+    ∙ ap (λ l. Some Direct ∷ l) (lines_joined outs ins dos)
 
-pub transcript_again : (ps : List (List ℕ)) (es : List Entry) (sent : List ℕ) → All SomeBytes ps → All CanBeRead es → All (λ b. b < 256) sent
-    → ScriptText (transcript_text ps es sent) (record { pieces = ps; commands = map command_of es })
-transcript_again ps es sent p e s =
-    record { lines = all_lines ps es sent; sent = true; ended = whole_parts ps es sent p e s; each = whole_lines ps es sent p e s }
+pub transcript_again : (out : Option ℕ) (gs : List Given) (es : List Entry) (sent : List ℕ) → IsCount out → All IsGiven gs → All CanBeRead es → All (λ b. b < 256) sent
+    → ScriptText (transcript_text out gs es sent) (record { outfault = out; given = gs; commands = map command_of es })
+transcript_again out gs es sent o p e s =
+    record { lines = all_lines out gs es sent; sent = true; ended = whole_parts out gs es sent o p e s; each = whole_lines out gs es sent o p e s }

@@ -1,22 +1,12 @@
 -- What the transcript's text is, and what was written where nothing was.
-use Rattle.std.proofs.Common.{ℕ, ◌≡◌, ◌<◌, false, List, [], ◌∷◌, ◌++◌, length, Option, Some, None, Err, codes, refl, ap, arith}
-use Rattle.std.specs.List.{flat_map}
+use Rattle.std.proofs.Common.{ℕ, ◌<◌, List, length, Option, Some, None, Err, refl, ap, arith}
 use Rattle.std.proofs.KnownBytes.{Appends-nil}
-use Rattle.wire_framing.specs.declared.memory.Piece.{Piece}
 use Rattle.wire_framing.specs.declared.sink.Refusal.TheVariants as refusals
-use Rattle.wire_framing.specs.Memory.{told_stop}
 use Rattle.wire_framing.specs.Sink.{RoomFalls}
 use Rattle.peer_route.specs.declared.answer.Entry.{Entry}
-use Rattle.peer_script.specs.Reading.{given}
 use Rattle.peer_script.specs.Output.{WritesAll}
-use Rattle.peer_script.specs.Transcript.{entry_text, sent_word, setup_transcript, transcript_text}
-use Rattle.peer_script.proofs.Pieces.{bytes_alone}
-
-pub setup_of_bytes : (ps : List Piece) (entries : List Entry) (sent : List ℕ) → told_stop ps ≡ false
-    → setup_transcript ps entries sent ≡ transcript_text (given ps) entries sent
-unfolding setup_transcript transcript_text
-setup_of_bytes ps entries sent h =
-    ap (λ l. codes "direct" ++ 10 ∷ [] ++ l ++ flat_map entry_text entries ++ codes "sent " ++ sent_word sent ++ 10 ∷ []) (bytes_alone ps h)
+use Rattle.peer_script.specs.Script.{Given}
+use Rattle.peer_script.specs.Transcript.{transcript_text}
 
 room_none : (room : Option (Option ℕ)) → RoomFalls room room 0
 room_none None = tt
@@ -27,6 +17,6 @@ pub nothing_written : (A : Type 0) (bytes : List ℕ) (held : Option (List ℕ))
     → WritesAll {A = A} (Err refusals.Memory) bytes held held room room faults faults
 nothing_written A bytes held room faults h = (0, record { proper = h; gone = Appends-nil held }, room_none room, refl)
 
-pub some_text : (ps : List Piece) (entries : List Entry) (sent : List ℕ) → 0 < length (setup_transcript ps entries sent)
-unfolding setup_transcript
-some_text ps entries sent = omega arith
+pub some_text : (outfault : Option ℕ) (given : List Given) (entries : List Entry) (sent : List ℕ) → 0 < length (transcript_text outfault given entries sent)
+unfolding transcript_text
+some_text outfault given entries sent = omega arith

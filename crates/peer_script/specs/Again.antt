@@ -1,5 +1,5 @@
 -- Transcripts as scripts: the command of an entry, and the entries whose lines are read again.
-use Rattle.std.specs.Prelude.{ℕ, ◌≡◌, ◌<◌, ◌≤◌, ◌^◌, List, length, map, Ok}
+use Rattle.std.specs.Prelude.{ℕ, ◌≡◌, ◌<◌, ◌≤◌, ◌^◌, List, length, map, Ok, Option, Some, None}
 use Rattle.std.specs.List.{All}
 use Rattle.peer_route.specs.declared.words.Words.{Words}
 use Rattle.peer_route.specs.declared.words.Words.TheVariants as words
@@ -7,8 +7,10 @@ use Rattle.peer_route.specs.declared.words.Command.{Command}
 use Rattle.peer_route.specs.declared.answer.Answer.{Answer}
 use Rattle.peer_route.specs.declared.answer.Answer.TheVariants as answers
 use Rattle.peer_route.specs.declared.answer.Entry.{Entry}
+use Rattle.wire_message.specs.Texts.{message_line}
+use Rattle.peer_script.specs.Script.{Given, Gave, Broke}
 use Rattle.peer_script.specs.Reading.{script_of}
-use Rattle.peer_script.specs.Transcript.{transcript_text}
+use Rattle.peer_script.specs.Transcript.{or_empty, transcript_text}
 
 -- the command that an entry answers
 abbrev pub command_of : Entry → Command
@@ -23,17 +25,27 @@ abbrev pub HasText : Words → Type 0
 HasText (words.Call path member) = SomeBytes path × SomeBytes member
 HasText words.Read = Unit {0}
 HasText (words.Poll number) = number < 2 ^ 64
+HasText (words.Drop number) = number < 2 ^ 64
+HasText words.Stream = Unit {0}
+HasText (words.Take number) = number < 2 ^ 64
 
--- the numbers of an answer are below 2^64
+-- the numbers of an answer are below 2^64, and its texts are bytes
 abbrev pub HasNumbers : Answer → Type 0
 HasNumbers (answers.Called call serial) = (call < 2 ^ 64) × (serial < 2 ^ 64)
-HasNumbers (answers.Got m) = (m.position < 2 ^ 64) × (length m.bytes < 2 ^ 64)
+HasNumbers (answers.MethodError m) = (m.position < 2 ^ 64) × All (λ b. b < 256) (or_empty m.error_name)
+HasNumbers (answers.Got m) = (m.position < 2 ^ 64) × (length m.bytes < 2 ^ 64) × All (λ b. b < 256) (message_line m)
 HasNumbers (answers.Reply position) = position < 2 ^ 64
 HasNumbers (answers.InvalidReply position) = position < 2 ^ 64
 HasNumbers (answers.Refused error) = Unit {0}
 HasNumbers (answers.SendFailed error) = Unit {0}
 HasNumbers (answers.Closed error) = Unit {0}
 HasNumbers answers.NotYet = Unit {0}
+HasNumbers answers.Busy = Unit {0}
+HasNumbers answers.Dropped = Unit {0}
+HasNumbers (answers.Streaming number) = number < 2 ^ 64
+HasNumbers (answers.Item position) = position < 2 ^ 64
+HasNumbers answers.Empty = Unit {0}
+HasNumbers answers.Ended = Unit {0}
 
 -- an entry of a command that a script can hold
 pub record CanBeRead (e : Entry) : Type 0 where
@@ -41,8 +53,19 @@ pub record CanBeRead (e : Entry) : Type 0 where
   pub text : HasText e.words
   pub numbers : HasNumbers e.answer
 
--- The transcript is read again as the script of its pieces and of its entries' commands.
+-- a piece that a script can hold: it has at least one byte
+abbrev pub IsGiven : Given → Type 0
+IsGiven (Gave piece) = SomeBytes piece
+IsGiven Broke = Unit {0}
+
+abbrev pub IsCount : Option ℕ → Type 0
+IsCount None = Unit {0}
+IsCount (Some count) = count < 2 ^ 64
+
+-- The transcript is read again as the script of its header lines and of its entries' commands.
 abbrev pub TranscriptsAreRead : Type 0
 TranscriptsAreRead =
-    (pieces : List (List ℕ)) (entries : List Entry) (sent : List ℕ) → All SomeBytes pieces → All CanBeRead entries → All (λ b. b < 256) sent
-    → script_of (transcript_text pieces entries sent) ≡ Ok (record { pieces = pieces; commands = map command_of entries })
+    (outfault : Option ℕ) (given : List Given) (entries : List Entry) (sent : List ℕ)
+    → IsCount outfault → All IsGiven given → All CanBeRead entries → All (λ b. b < 256) sent
+    → script_of (transcript_text outfault given entries sent)
+    ≡ Ok (record { outfault = outfault; given = given; commands = map command_of entries })

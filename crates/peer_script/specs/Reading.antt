@@ -1,18 +1,17 @@
 -- Reading a script: line by line, with the first line outside the table or out of its order.
-use Rattle.std.specs.Prelude.{ℕ, ◌≡◌, ◌+◌, ◌<◌, ◌≤◌, Bool, true, false, if◌then◌else◌, List, [], ◌∷◌, ◌++◌, length, ◌≢◌, Option, Some, None, IfSome, Result, Ok, Err}
+use Rattle.std.specs.Prelude.{ℕ, ◌≡◌, ◌+◌, ◌<◌, ◌≤◌, ◌⊎◌, Bool, true, false, if◌then◌else◌, List, [], ◌∷◌, ◌++◌, length, map, ◌≢◌, Option, Some, None, IfSome, Result, Ok, Err}
 use Rattle.peer_route.specs.declared.words.Command.{Command}
 use Rattle.wire_framing.specs.declared.memory.Piece.{Piece}
 use Rattle.wire_framing.specs.declared.memory.Piece.TheVariants.{Bytes, Fault}
-use Rattle.wire_framing.specs.Memory.{told_stop}
 use Rattle.wire_framing.specs.Source.{MayRise}
 use Rattle.peer_script.specs.declared.line.Line.{Line}
-use Rattle.peer_script.specs.declared.line.Line.TheVariants.{Direct, In, Do, Sent}
+use Rattle.peer_script.specs.declared.line.Line.TheVariants.{Direct, OutFault, In, InFault, Do, Sent}
 use Rattle.peer_script.specs.declared.reading.Stage.{Stage}
-use Rattle.peer_script.specs.declared.reading.Stage.TheVariants.{Start, Pieces, Commands, Over}
+use Rattle.peer_script.specs.declared.reading.Stage.TheVariants.{Start, Head, Pieces, Commands, Over}
 use Rattle.peer_script.specs.declared.reading.Progress.{Progress}
 use Rattle.peer_script.specs.declared.error.ScriptError.{ScriptError}
 use Rattle.peer_script.specs.declared.error.ScriptError.TheVariants as errors
-use Rattle.peer_script.specs.Script.{Script, line_of, parts}
+use Rattle.peer_script.specs.Script.{Given, Gave, Broke, Script, line_of, line_count, parts}
 
 -- how far a script has come, and what it said so far
 pub record Step : Type 0 where
@@ -20,20 +19,29 @@ pub record Step : Type 0 where
   pub script : Script
 
 abbrev pub begun : Step
-begun = record { stage = Start; script = record { pieces = []; commands = [] } }
+begun = record { stage = Start; script = record { outfault = None; given = []; commands = [] } }
 
-abbrev pub more_piece : Script → List ℕ → Script
-more_piece s piece = record { pieces = s.pieces ++ piece ∷ []; commands = s.commands }
+abbrev pub with_outfault : Script → ℕ → Script
+with_outfault s count = record s { outfault = Some count }
+
+abbrev pub more_given : Script → Given → Script
+more_given s g = record s { given = s.given ++ g ∷ [] }
 
 abbrev pub more_command : Script → Command → Script
-more_command s command = record { pieces = s.pieces; commands = s.commands ++ command ∷ [] }
+more_command s command = record s { commands = s.commands ++ command ∷ [] }
 
 -- one line more, where it may come at this stage
 unfoldable pub take_line : Stage → Script → Option Line → Option Step
-take_line Start s (Some Direct) = Some (record { stage = Pieces; script = s })
-take_line Pieces s (Some (In piece)) = Some (record { stage = Pieces; script = more_piece s piece })
+take_line Start s (Some Direct) = Some (record { stage = Head; script = s })
+take_line Head s (Some (OutFault count)) = Some (record { stage = Pieces; script = with_outfault s count })
+take_line Head s (Some (In piece)) = Some (record { stage = Pieces; script = more_given s (Gave piece) })
+take_line Pieces s (Some (In piece)) = Some (record { stage = Pieces; script = more_given s (Gave piece) })
+take_line Head s (Some InFault) = Some (record { stage = Pieces; script = more_given s Broke })
+take_line Pieces s (Some InFault) = Some (record { stage = Pieces; script = more_given s Broke })
+take_line Head s (Some (Do command)) = Some (record { stage = Commands; script = more_command s command })
 take_line Pieces s (Some (Do command)) = Some (record { stage = Commands; script = more_command s command })
 take_line Commands s (Some (Do command)) = Some (record { stage = Commands; script = more_command s command })
+take_line Head s (Some Sent) = Some (record { stage = Over; script = s })
 take_line Pieces s (Some Sent) = Some (record { stage = Over; script = s })
 take_line Commands s (Some Sent) = Some (record { stage = Over; script = s })
 take_line stage s line = None
@@ -41,6 +49,7 @@ take_line stage s line = None
 -- a text may end at each stage but the first
 abbrev pub may_end : Stage → Bool
 may_end Start = false
+may_end Head = true
 may_end Pieces = true
 may_end Commands = true
 may_end Over = true
@@ -67,46 +76,51 @@ script_of bytes = read_lines begun 1 (parts bytes)
 
 -- ---- what the calls answer
 
--- the pieces of a source that are bytes
-abbrev pub given : List Piece → List (List ℕ)
-given [] = []
-given (Bytes v ∷ pieces) = v.items ∷ given pieces
-given (Fault ∷ pieces) = given pieces
+-- what a source's pieces are
+abbrev pub given_of : Piece → Given
+given_of (Bytes v) = Gave v.items
+given_of Fault = Broke
+
+abbrev pub given : List Piece → List Given
+given pieces = map given_of pieces
+
+-- the script that a setup's parts and commands are
+abbrev pub script_from : Option ℕ → List Piece → List Command → Script
+script_from outfault pieces commands = record { outfault = outfault; given = given pieces; commands = commands }
 
 -- what was read so far
 abbrev pub said : Progress → Script
-said p = record { pieces = given p.pieces.items; commands = p.commands.items }
+said p = script_from p.outfault p.pieces.items p.commands.items
 
 -- The first line, without its end, and what stands behind that; or there is no end.
 abbrev pub SplitsLine : {A : Type 0} → (A → List ℕ) → (A → List ℕ) → List ℕ → Option A → Type 0
 SplitsLine line more text (Some x) = (parts text ≡ line x ∷ parts (more x)) × (length (more x) < length text)
 SplitsLine line more text None = parts text ≡ text ∷ []
 
--- True: the line was taken. False: it may not come. No piece is a fault.
+-- True: the line was taken. False: it may not come.
 abbrev pub TakesLine : {E : Type 0} → Result Bool E → Progress → Progress → Line → Type 0
-TakesLine (Ok true) old new line =
-    (take_line old.stage (said old) (Some line) ≡ Some (record { stage = new.stage; script = said new })) × (told_stop new.pieces.items ≡ false)
+TakesLine (Ok true) old new line = take_line old.stage (said old) (Some line) ≡ Some (record { stage = new.stage; script = said new })
 TakesLine (Ok false) old new line = take_line old.stage (said old) (Some line) ≡ None
 TakesLine (Err e) old new line = Unit {0}
 
--- The script that a setup and commands are. No piece is a fault.
-pub record IsScriptOf (bytes : List ℕ) (pieces : List Piece) (commands : List Command) : Type 0 where
-  pub script : script_of bytes ≡ Ok (record { pieces = given pieces; commands = commands })
-  pub bytes_alone : told_stop pieces ≡ false
-
 -- Ok: the text's script. Line: the first line that is outside or out of order.
-abbrev pub TellsText : {A : Type 0} → (A → List Piece) → (A → List Command) → List ℕ → Result A ScriptError → Type 0
-TellsText pieces commands bytes (Ok x) = IsScriptOf bytes (pieces x) (commands x)
-TellsText pieces commands bytes (Err (errors.Line n)) = script_of bytes ≡ Err n
-TellsText pieces commands bytes (Err errors.Memory) = Unit {0}
-TellsText pieces commands bytes (Err e) = ⊥
+abbrev pub TellsText : {A : Type 0} → (A → Script) → List ℕ → Result A ScriptError → Type 0
+TellsText script bytes (Ok x) = script_of bytes ≡ Ok (script x)
+TellsText script bytes (Err (errors.Line n)) = script_of bytes ≡ Err n
+TellsText script bytes (Err errors.Memory) = Unit {0}
+TellsText script bytes (Err e) = ⊥
 
--- Over the whole input: the limit is told before the text is looked at.
-abbrev pub TellsScript : {A : Type 0} → (A → List Piece) → (A → List Command) → List ℕ → Result A ScriptError → Type 0
-TellsScript pieces commands bytes (Ok x) = (length bytes ≤ 1073741824) × IsScriptOf bytes (pieces x) (commands x)
-TellsScript pieces commands bytes (Err (errors.Line n)) = (length bytes ≤ 1073741824) × (script_of bytes ≡ Err n)
-TellsScript pieces commands bytes (Err errors.Limit) = 1073741824 < length bytes
-TellsScript pieces commands bytes (Err e) = Unit {0}
+-- a text within the limits: 1,000,000 lines and 1,073,741,824 bytes
+pub record IsWithin (bytes : List ℕ) : Type 0 where
+  pub small : length bytes ≤ 1073741824
+  pub few : line_count bytes ≤ 1000000
+
+-- Over the whole input: the limits are told before the text is looked at.
+abbrev pub TellsScript : {A : Type 0} → (A → Script) → List ℕ → Result A ScriptError → Type 0
+TellsScript script bytes (Ok x) = IsWithin bytes × (script_of bytes ≡ Ok (script x))
+TellsScript script bytes (Err (errors.Line n)) = IsWithin bytes × (script_of bytes ≡ Err n)
+TellsScript script bytes (Err errors.Limit) = (1073741824 < length bytes) ⊎ (1000000 < line_count bytes)
+TellsScript script bytes (Err e) = Unit {0}
 
 -- An input fault comes only where the count of faults rose, which never falls. Where a failing call comes before the end,
 -- the text isn't looked at.

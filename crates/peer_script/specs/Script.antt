@@ -1,17 +1,23 @@
--- Script text: a list of lines, each ended by one byte 0x0a: `direct`, the pieces of the source, the commands, and perhaps
--- one `sent` line, which is passed over.
-use Rattle.std.specs.Prelude.{ℕ, ◌≡◌, Bool, true, false, ◌&&◌, ◌||◌, ◌==◌, nat_le, if◌then◌else◌, List, [], ◌∷◌, ◌++◌, map, codes, Option, Some, None, is_some}
+-- Script text: a list of lines, each ended by one byte 0x0a: `direct`, perhaps the bytes that the sink takes, what the
+-- source gives, the commands, and perhaps one `sent` line, which is passed over.
+use Rattle.std.specs.Prelude.{ℕ, ◌≡◌, ◌+◌, Bool, true, false, ◌&&◌, ◌||◌, ◌==◌, nat_le, if◌then◌else◌, List, [], ◌∷◌, ◌++◌, map, codes, Option, Some, None, is_some}
 use Rattle.std.specs.List.{slice_split}
 use Rattle.peer_route.specs.declared.words.Words.{Words}
 use Rattle.peer_route.specs.declared.words.Words.TheVariants as words
 use Rattle.peer_route.specs.declared.words.Command.{Command}
 use Rattle.peer_script.specs.declared.line.Line.{Line}
-use Rattle.peer_script.specs.declared.line.Line.TheVariants.{Direct, In, Do, Sent}
+use Rattle.peer_script.specs.declared.line.Line.TheVariants.{Direct, OutFault, In, InFault, Do, Sent}
 use Rattle.peer_script.specs.Word.{same, words_of, number_of, bytes_of, text_of}
 
--- what a script says
+-- one line of the source: a piece of its bytes, or a read that fails there
+pub data Given : Type 0 where
+  Gave : (piece : List ℕ) → Given
+  Broke : Given
+
+-- What a script says: after how many bytes the sink fails a write, where it does; what the source gives; the commands.
 pub record Script : Type 0 where
-  pub pieces : List (List ℕ)
+  pub outfault : Option ℕ
+  pub given : List Given
   pub commands : List Command
 
 -- ---- a line
@@ -20,18 +26,25 @@ abbrev pub call_of : Option (List ℕ) → Option (List ℕ) → Option Words
 call_of (Some path) (Some member) = Some (words.Call path member)
 call_of path member = None
 
-abbrev pub poll_of : Option ℕ → Option Words
-poll_of (Some number) = Some (words.Poll number)
-poll_of None = None
+abbrev pub numbered : (ℕ → Words) → Option ℕ → Option Words
+numbered command (Some number) = Some (command number)
+numbered command None = None
 
 -- the word `-`, which stands for what is absent
 abbrev pub is_absent : List ℕ → Bool
 is_absent word = same word (45 ∷ [])
 
--- the words of a command, without its lane: `read`, `poll C`, `call - P - M - -`
+-- the words of a command, without its lane: `read`, `stream`, `poll C`, `drop C`, `take S`, `call - P - M - -`
 unfoldable pub command_words : List (List ℕ) → Option Words
-command_words (name ∷ []) = if same name (codes "read") then Some words.Read else None
-command_words (name ∷ number ∷ []) = if same name (codes "poll") then poll_of (number_of number) else None
+command_words (name ∷ []) =
+    if same name (codes "read") then Some words.Read
+    else if same name (codes "stream") then Some words.Stream
+    else None
+command_words (name ∷ number ∷ []) =
+    if same name (codes "poll") then numbered words.Poll (number_of number)
+    else if same name (codes "drop") then numbered words.Drop (number_of number)
+    else if same name (codes "take") then numbered words.Take (number_of number)
+    else None
 command_words (name ∷ destination ∷ path ∷ interface ∷ member ∷ flags ∷ body ∷ []) =
     if same name (codes "call") && (is_absent destination && is_absent interface && is_absent flags && is_absent body)
     then call_of (text_of path) (text_of member) else None
@@ -64,6 +77,10 @@ abbrev pub in_line : Option (List ℕ) → Option Line
 in_line (Some piece) = Some (In piece)
 in_line None = None
 
+abbrev pub outfault_line : Option ℕ → Option Line
+outfault_line (Some count) = Some (OutFault count)
+outfault_line None = None
+
 abbrev pub sent_line : List ℕ → Option Line
 sent_line word = if is_absent word || is_some (bytes_of word) then Some Sent else None
 
@@ -73,9 +90,13 @@ do_line None = None
 
 -- the header lines and the `sent` line, by their words
 unfoldable pub head_line : List (List ℕ) → Option Line
-head_line (name ∷ []) = if same name (codes "direct") then Some Direct else None
+head_line (name ∷ []) =
+    if same name (codes "direct") then Some Direct
+    else if same name (codes "infault") then Some InFault
+    else None
 head_line (name ∷ word ∷ []) =
     if same name (codes "in") then in_line (bytes_of word)
+    else if same name (codes "outfault") then outfault_line (number_of word)
     else if same name (codes "sent") then sent_line word
     else None
 head_line others = None
@@ -94,16 +115,30 @@ line_of line = or_line (head_line (words_of line)) (do_line (command_line line))
 abbrev pub parts : List ℕ → List (List ℕ)
 parts bytes = slice_split (λ b. b == 10) bytes
 
+-- How many lines a text has: each byte 0x0a ends one, and bytes behind the last one are one more.
+abbrev pub line_count : List ℕ → ℕ
+line_count [] = 0
+line_count (b ∷ []) = 1
+line_count (b ∷ c ∷ rest) = if b == 10 then line_count (c ∷ rest) + 1 else line_count (c ∷ rest)
+
+abbrev pub outfault_lines : Option ℕ → List Line
+outfault_lines (Some count) = OutFault count ∷ []
+outfault_lines None = []
+
+abbrev pub given_line : Given → Line
+given_line (Gave piece) = In piece
+given_line Broke = InFault
+
 abbrev pub sent_lines : Bool → List Line
 sent_lines true = Sent ∷ []
 sent_lines false = []
 
 -- the lines of a script, in their order
 abbrev pub script_lines : Script → Bool → List Line
-script_lines s sent = Direct ∷ map In s.pieces ++ map Do s.commands ++ sent_lines sent
+script_lines s sent = Direct ∷ outfault_lines s.outfault ++ map given_line s.given ++ map Do s.commands ++ sent_lines sent
 
--- The bytes are the text of this script: each line is ended, and the lines are `direct`, the pieces, the commands, and
--- perhaps one `sent`.
+-- The bytes are the text of this script: each line is ended, and the lines are `direct`, perhaps `outfault`, the source's
+-- lines, the commands, and perhaps one `sent`.
 pub record ScriptText (bytes : List ℕ) (s : Script) : Type 0 where
   pub lines : List (List ℕ)
   pub sent : Bool

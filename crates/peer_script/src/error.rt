@@ -10,7 +10,7 @@ pub enum ScriptError {
     Memory,
     /// The input failed.
     InputFault,
-    /// The input has more than 1,073,741,824 bytes.
+    /// The input has more than 1,073,741,824 bytes or more than 1,000,000 lines.
     Limit,
     /// The first line outside the table of lines or out of its order, from 1 on.
     Line(u64),

@@ -1,7 +1,7 @@
 //! What a line is.
-ghost use Rattle.std.specs.Prelude.{◌≡◌, ◌&&◌, ◌++◌, length, take, map, IfOk, Some, None};
-ghost use Rattle.peer_script.specs.Script.{before_answer, lane_words, command_words, command_line, head_line, line_of, call_of, poll_of, in_lane, in_line, sent_line, is_absent};
-ghost use Rattle.peer_script.specs.Word.{text_of, bytes_of};
+ghost use Rattle.std.specs.Prelude.{◌≡◌, [], ◌∷◌, ◌&&◌, ◌++◌, length, take, map, IfOk, Some, None};
+ghost use Rattle.peer_script.specs.Script.{before_answer, lane_words, command_words, command_line, head_line, line_of, call_of, numbered, in_lane, in_line, outfault_line, sent_line, is_absent};
+ghost use Rattle.peer_script.specs.Word.{number_of, text_of, bytes_of};
 
 use crate::word::{bytes_of, number_of, same, text_of, words_of};
 use peer_route::{Command, Words};
@@ -18,8 +18,12 @@ const ABSENT: &[u8] = b"-";
 pub(crate) enum Line {
     /// The peer has no bus.
     Direct,
+    /// After how many bytes the sink fails a write.
+    OutFault(u64),
     /// A piece of the source.
     In(Bytes),
+    /// A read that fails.
+    InFault,
     /// A command.
     Do(Command),
     /// The bytes that were sent, which are passed over.
@@ -52,12 +56,33 @@ fn call_of(alloc: Global, path: &[u8], member: &[u8]) -> Result<Option<Words>, A
     Ok(Some(Words::Call { path, member }))
 }
 
-fn poll_of(number: Option<u64>) -> Option<Words>
-    ensures { result ≡ poll_of number }
+/// The words of one name.
+#[tactic(auto, unfolding(crate::specs::Script::command_words))]
+fn lone_command(name: &[u8]) -> Option<Words>
+    ensures { result ≡ command_words (name.now ∷ []) }
 {
-    match number {
-        Some(number) => Some(Words::Poll(number)),
-        None => None,
+    if same(name, b"read") {
+        Some(Words::Read)
+    } else if same(name, b"stream") {
+        Some(Words::Stream)
+    } else {
+        None
+    }
+}
+
+/// The words of a name and a number.
+#[tactic(auto, unfolding(crate::specs::Script::command_words))]
+fn numbered_command(name: &[u8], number: &[u8]) -> Option<Words>
+    ensures { result ≡ command_words (name.now ∷ number.now ∷ []) }
+{
+    if same(name, b"poll") {
+        Some(Words::Poll(number_of(number)?))
+    } else if same(name, b"drop") {
+        Some(Words::Drop(number_of(number)?))
+    } else if same(name, b"take") {
+        Some(Words::Take(number_of(number)?))
+    } else {
+        None
     }
 }
 
@@ -75,20 +100,8 @@ fn command_words(alloc: Global, words: &[&[u8]]) -> Result<Option<Words>, AllocE
     ensures { IfOk result (λ w. w ≡ command_words (map (λ word. word.now) words.now)) }
 {
     match words {
-        [name] => {
-            if same(name, b"read") {
-                Ok(Some(Words::Read))
-            } else {
-                Ok(None)
-            }
-        }
-        [name, number] => {
-            if same(name, b"poll") {
-                Ok(poll_of(number_of(number)))
-            } else {
-                Ok(None)
-            }
-        }
+        [name] => Ok(lone_command(name)),
+        [name, number] => Ok(numbered_command(name, number)),
         [name, destination, path, interface, member, flags, body] => {
             if same(name, b"call") && are_absent(destination, interface, flags, body) {
                 call_of(alloc, path, member)
@@ -143,6 +156,13 @@ fn in_line(alloc: Global, word: &[u8]) -> Result<Option<Line>, AllocError>
     }
 }
 
+fn outfault_line(word: &[u8]) -> Option<Line>
+    ensures { result ≡ outfault_line (number_of word.now) }
+{
+    let count = number_of(word)?;
+    Some(Line::OutFault(count))
+}
+
 fn sent_line(alloc: Global, word: &[u8]) -> Result<Option<Line>, AllocError>
     ensures { IfOk result (λ line. line ≡ sent_line word.now) }
 {
@@ -161,6 +181,8 @@ fn head_line(alloc: Global, words: &[&[u8]]) -> Result<Option<Line>, AllocError>
         [name] => {
             if same(name, b"direct") {
                 Ok(Some(Line::Direct))
+            } else if same(name, b"infault") {
+                Ok(Some(Line::InFault))
             } else {
                 Ok(None)
             }
@@ -168,6 +190,8 @@ fn head_line(alloc: Global, words: &[&[u8]]) -> Result<Option<Line>, AllocError>
         [name, word] => {
             if same(name, b"in") {
                 in_line(alloc, word)
+            } else if same(name, b"outfault") {
+                Ok(outfault_line(word))
             } else if same(name, b"sent") {
                 sent_line(alloc, word)
             } else {

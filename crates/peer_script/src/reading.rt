@@ -1,7 +1,6 @@
 //! A script is read line by line.
-ghost use Rattle.std.specs.Prelude.{ℕ, ◌≡◌, ◌+◌, ◌<◌, ◌≤◌, ◌^◌, length, take, drop, List, Some, None, Ok, Err, true, false};
-ghost use Rattle.wire_framing.specs.Memory.{told_stop};
-ghost use Rattle.peer_script.specs.Reading.{SplitsLine, TakesLine, TellsText, may_end};
+ghost use Rattle.std.specs.Prelude.{ℕ, ◌≡◌, ◌+◌, ◌<◌, ◌≤◌, ◌^◌, length, take, drop, List, Some, None, Ok, Err};
+ghost use Rattle.peer_script.specs.Reading.{SplitsLine, TakesLine, TellsText, may_end, script_from};
 ghost use Rattle.peer_script.specs.declared.line.Line.TheVariants as lines;
 
 use crate::error::ScriptError;
@@ -17,7 +16,9 @@ use wire_names::Bytes;
 pub(crate) enum Stage {
     /// `direct` is wanted.
     Start,
-    /// Pieces, commands or `sent` may come.
+    /// `outfault`, the source's lines, commands or `sent` may come.
+    Head,
+    /// The source's lines, commands or `sent` may come.
     Pieces,
     /// Commands or `sent` may come.
     Commands,
@@ -29,32 +30,60 @@ pub(crate) enum Stage {
 #[derive(Drop)]
 struct Progress {
     stage: Stage,
+    outfault: Option<u64>,
     pieces: Vec<Piece>,
     commands: Vec<Command>,
 }
 
 #[tactic(auto, using(crate::proofs::Pieces::pushed), unfolding(crate::specs::Reading::take_line))]
 fn take_direct(progress: &mut Progress) -> Result<bool, AllocError>
-    requires { told_stop progress.old.pieces.items ≡ false }
     ensures { TakesLine result progress.old progress.new lines.Direct }
 {
     match progress.stage {
         Stage::Start => {
+            progress.stage = Stage::Head;
+            Ok(true)
+        }
+        Stage::Head | Stage::Pieces | Stage::Commands | Stage::Over => Ok(false),
+    }
+}
+
+#[tactic(auto, using(crate::proofs::Pieces::pushed), unfolding(crate::specs::Reading::take_line))]
+fn take_outfault(progress: &mut Progress, count: u64) -> Result<bool, AllocError>
+    ensures { TakesLine result progress.old progress.new (lines.OutFault count) }
+{
+    match progress.stage {
+        Stage::Head => {
+            progress.outfault = Some(count);
             progress.stage = Stage::Pieces;
             Ok(true)
         }
-        Stage::Pieces | Stage::Commands | Stage::Over => Ok(false),
+        Stage::Start | Stage::Pieces | Stage::Commands | Stage::Over => Ok(false),
     }
 }
 
 #[tactic(auto, using(crate::proofs::Pieces::pushed), unfolding(crate::specs::Reading::take_line))]
 fn take_piece(progress: &mut Progress, piece: Bytes) -> Result<bool, AllocError>
-    requires { told_stop progress.old.pieces.items ≡ false }
     ensures { TakesLine result progress.old progress.new (lines.In piece) }
 {
     match progress.stage {
-        Stage::Pieces => {
+        Stage::Head | Stage::Pieces => {
             progress.pieces.push(Piece::Bytes(piece.into_vec()))?;
+            progress.stage = Stage::Pieces;
+            Ok(true)
+        }
+        Stage::Start | Stage::Commands | Stage::Over => Ok(false),
+    }
+}
+
+#[tactic(auto, using(crate::proofs::Pieces::pushed), unfolding(crate::specs::Reading::take_line))]
+fn take_infault(progress: &mut Progress) -> Result<bool, AllocError>
+    ensures { TakesLine result progress.old progress.new lines.InFault }
+{
+    match progress.stage {
+        Stage::Head | Stage::Pieces => {
+            progress.pieces.push(Piece::Fault)?;
+            progress.stage = Stage::Pieces;
             Ok(true)
         }
         Stage::Start | Stage::Commands | Stage::Over => Ok(false),
@@ -63,11 +92,10 @@ fn take_piece(progress: &mut Progress, piece: Bytes) -> Result<bool, AllocError>
 
 #[tactic(auto, using(crate::proofs::Pieces::pushed), unfolding(crate::specs::Reading::take_line))]
 fn take_command(progress: &mut Progress, command: Command) -> Result<bool, AllocError>
-    requires { told_stop progress.old.pieces.items ≡ false }
     ensures { TakesLine result progress.old progress.new (lines.Do command) }
 {
     match progress.stage {
-        Stage::Pieces | Stage::Commands => {
+        Stage::Head | Stage::Pieces | Stage::Commands => {
             progress.commands.push(command)?;
             progress.stage = Stage::Commands;
             Ok(true)
@@ -78,11 +106,10 @@ fn take_command(progress: &mut Progress, command: Command) -> Result<bool, Alloc
 
 #[tactic(auto, using(crate::proofs::Pieces::pushed), unfolding(crate::specs::Reading::take_line))]
 fn take_sent(progress: &mut Progress) -> Result<bool, AllocError>
-    requires { told_stop progress.old.pieces.items ≡ false }
     ensures { TakesLine result progress.old progress.new lines.Sent }
 {
     match progress.stage {
-        Stage::Pieces | Stage::Commands => {
+        Stage::Head | Stage::Pieces | Stage::Commands => {
             progress.stage = Stage::Over;
             Ok(true)
         }
@@ -92,12 +119,13 @@ fn take_sent(progress: &mut Progress) -> Result<bool, AllocError>
 
 /// Takes one line more. False: it may not come at this stage.
 fn take_line(progress: &mut Progress, line: Line) -> Result<bool, AllocError>
-    requires { told_stop progress.old.pieces.items ≡ false }
     ensures { TakesLine result progress.old progress.new line }
 {
     match line {
         Line::Direct => take_direct(progress),
+        Line::OutFault(count) => take_outfault(progress, count),
         Line::In(piece) => take_piece(progress, piece),
+        Line::InFault => take_infault(progress),
         Line::Do(command) => take_command(progress, command),
         Line::Sent => take_sent(progress),
     }
@@ -122,17 +150,18 @@ fn may_end(stage: Stage) -> bool
 {
     match stage {
         Stage::Start => false,
-        Stage::Pieces | Stage::Commands | Stage::Over => true,
+        Stage::Head | Stage::Pieces | Stage::Commands | Stage::Over => true,
     }
 }
 
 /// The script of a text.
 pub(crate) fn read_text(alloc: Global, text: &[u8]) -> Result<(Setup, Vec<Command>), ScriptError>
     requires { length text.now < 2 ^ 63 }
-    ensures { TellsText (λ x. x.0.pieces.items) (λ x. x.1.items) text.now result }
+    ensures { TellsText (λ x. script_from x.0.outfault x.0.pieces.items x.1.items) text.now result }
 {
     let mut progress = Progress {
         stage: Stage::Start,
+        outfault: None,
         pieces: Vec::new(alloc),
         commands: Vec::new(alloc),
     };
@@ -152,9 +181,10 @@ pub(crate) fn read_text(alloc: Global, text: &[u8]) -> Result<(Setup, Vec<Comman
         return Err(ScriptError::Line(number));
     }
     let Progress {
+        outfault,
         pieces,
         commands,
         ..
     } = progress;
-    Ok((Setup { pieces }, commands))
+    Ok((Setup { outfault, pieces }, commands))
 }

@@ -1,7 +1,7 @@
 //! Reading a script.
 ghost use Rattle.std.specs.Prelude.{ℕ, ◌≡◌, ◌≤◌, ◌<◌, length, List, IfSome, IfOk, false};
-ghost use Rattle.wire_framing.specs.Memory.{told_stop};
-ghost use Rattle.peer_script.specs.Reading.{TellsScript, FaultsTell, ReadsInput};
+ghost use Rattle.peer_script.specs.Script.{line_count};
+ghost use Rattle.peer_script.specs.Reading.{script_from, TellsScript, FaultsTell, ReadsInput};
 
 use crate::error::ScriptError;
 use crate::reading::read_text;
@@ -12,12 +12,17 @@ use wire_framing::{Piece, Source};
 /// The most bytes that a script has.
 const LIMIT: usize = 1_073_741_824;
 
+/// The most lines that a script has.
+const LINE_LIMIT: usize = 1_000_000;
+
 /// How many bytes are read at once.
 const STEP: usize = 65_536;
 
 /// What stands in a script before its commands.
 #[derive(Drop)]
 pub struct Setup {
+    /// After how many bytes the peer's sink fails one write; None where it never does.
+    pub outfault: Option<u64>,
     /// What the peer's source gives.
     pub pieces: Vec<Piece>,
 }
@@ -64,19 +69,37 @@ fn read_input<I: Source>(alloc: Global, input: &mut I) -> Result<Vec<u8>, Script
     read_through(alloc, input, buffer.as_mut_slice())
 }
 
+/// How many lines a text has, an unended last one among them.
+#[tactic(auto, using(crate::proofs::Lines::counting))]
+fn line_count(text: &[u8]) -> usize
+    ensures { result ≡ line_count text.now }
+{
+    let mut count = 0;
+    let mut at = 0;
+    while at < text.len() {
+        if text[at] == b'\n' || at + 1 == text.len() {
+            count += 1;
+        }
+        at += 1;
+    }
+    count
+}
+
 /// Reads a script. The first that holds: `InputFault`, where the input failed; `Limit`, where it has more than
-/// 1,073,741,824 bytes; `Line`, the first line outside the table or out of its order, from 1 on, one past the last where a
-/// needed line is missing.
+/// 1,073,741,824 bytes or more than 1,000,000 lines; `Line`, the first line outside the table or out of its order, from 1
+/// on, one past the last where a needed line is missing.
 pub fn read_script<I: Source>(
     alloc: Global,
     word: Word,
     input: &mut I,
 ) -> Result<(Setup, Vec<Command>), ScriptError>
-    ensures told { IfSome (I.left input.old) (λ bytes. TellsScript (λ x. x.0.pieces.items) (λ x. x.1.items) bytes result) }
-    ensures pieces { IfOk result (λ x. told_stop x.0.pieces.items ≡ false) }
+    ensures told { IfSome (I.left input.old) (λ bytes. TellsScript (λ x. script_from x.0.outfault x.0.pieces.items x.1.items) bytes result) }
     ensures faults { FaultsTell result (I.stop input.old) (I.faults input.old) (I.faults input.new) }
 {
     let Word::Run = word;
     let bytes = read_input(alloc, input)?;
+    if line_count(bytes.as_slice()) > LINE_LIMIT {
+        return Err(ScriptError::Limit);
+    }
     read_text(alloc, bytes.as_slice())
 }

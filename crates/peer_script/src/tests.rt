@@ -42,7 +42,7 @@ fn read_of(
 #[test]
 fn reads_scripts(rt: HostRuntime) -> Result<(), Fail> {
     let alloc = rt.alloc();
-    let table: [(&[u8], usize, usize); 9] = [
+    let table: [(&[u8], usize, usize); 11] = [
         (b"direct\n", 0, 0),
         (b"direct\nsent -\n", 0, 0),
         (b"direct\nsent 00\n", 0, 0),
@@ -55,6 +55,12 @@ fn reads_scripts(rt: HostRuntime) -> Result<(), Fail> {
         (b"direct\nread = \n", 0, 1),
         (b"direct\ncall - \\3d - a\\0a\\5c - -\n", 0, 1),
         (b"direct\npoll 18446744073709551615\n", 0, 1),
+        (
+            b"direct\noutfault 0\ninfault\nin 00\ninfault\n1 stream\ntake 0\ndrop 18446744073709551615\n",
+            3,
+            3,
+        ),
+        (b"direct\noutfault 18446744073709551615\n", 0, 0),
         (TRANSCRIPT, 1, 3),
     ];
     for (text, pieces, commands) in table {
@@ -72,7 +78,7 @@ fn reads_scripts(rt: HostRuntime) -> Result<(), Fail> {
 #[test]
 fn names_the_first_line_outside(rt: HostRuntime) -> Result<(), Fail> {
     let alloc = rt.alloc();
-    let table: [(&[u8], u64); 26] = [
+    let table: [(&[u8], u64); 32] = [
         (b"", 1),
         (b"direct", 1),
         (b"\n", 1),
@@ -96,6 +102,12 @@ fn names_the_first_line_outside(rt: HostRuntime) -> Result<(), Fail> {
         (b"direct\n = read\n", 2),
         (b"direct\nread =\n", 2),
         (b"direct\nread  = x\n", 2),
+        (b"direct\nin 00\noutfault 1\n", 3),
+        (b"direct\noutfault 1\noutfault 1\n", 3),
+        (b"direct\noutfault 01\n", 2),
+        (b"direct\nread\ninfault\n", 3),
+        (b"direct\nstream 0\n", 2),
+        (b"direct\ninfault = x\n", 2),
         (b"direct\ncall - \\41 - do - -\n", 2),
         (b"direct\ncall - a\\3db - do - -\n", 2),
         (b"direct\ncall - \\5C - do - -\n", 2),
@@ -110,6 +122,61 @@ fn names_the_first_line_outside(rt: HostRuntime) -> Result<(), Fail> {
             Err(error) => assert_eq!(rt; error, ScriptError::InputFault),
         }
     }
+    Ok(())
+}
+
+/// `direct` and as many lines `read` as make this count.
+fn script_of_lines(alloc: Global, count: usize) -> Result<Vec<u8>, Fail> {
+    let mut text = Vec::new(alloc);
+    text.extend_from_slice(b"direct\n")?;
+    for _ in 1..count {
+        text.extend_from_slice(b"read\n")?;
+    }
+    Ok(text)
+}
+
+#[test]
+fn refuses_a_line_past_a_million(rt: HostRuntime) -> Result<(), Fail> {
+    let alloc = rt.alloc();
+    let mut text = script_of_lines(alloc, 1_000_000)?;
+    text.push(b'x')?;
+    match read_of(alloc, text.as_slice(), false)? {
+        Ok(_) => panic!(rt; "no script"),
+        Err(error) => assert_eq!(rt; error, ScriptError::Limit),
+    }
+    Ok(())
+}
+
+/// What a stream's commands and answers look like.
+#[test]
+fn writes_each_answer(rt: HostRuntime) -> Result<(), Fail> {
+    let alloc = rt.alloc();
+    let mut entries = Vec::new(alloc);
+    for (words, answer) in [
+        (Words::Drop(1), Answer::Dropped),
+        (Words::Stream, Answer::Streaming(0)),
+        (Words::Read, Answer::Busy),
+        (Words::Take(0), Answer::Item(1)),
+        (Words::Take(0), Answer::Empty),
+        (Words::Take(0), Answer::Ended),
+    ] {
+        entries.push(Entry {
+            lane: 0,
+            words,
+            answer,
+        })?;
+    }
+    let setup = Setup {
+        outfault: Some(9),
+        pieces: vec![in alloc; Piece::Fault]?,
+    };
+    let mut sink = MemorySink::new(alloc, false);
+    let transcript = Transcript { entries };
+    assert!(rt; write_transcript(alloc, &setup, &transcript, b"", &mut sink).is_ok());
+    assert_eq!(rt;
+        sink.bytes(),
+        b"direct\noutfault 9\ninfault\n0 drop 1 = dropped\n0 stream = stream 0\n0 read = busy\n0 take 0 = item 1\n0 take 0 = empty\n0 take 0 = ended\nsent -\n".as_slice()
+    );
     Ok(())
 }
 
@@ -141,7 +208,10 @@ fn writes_a_transcript(rt: HostRuntime) -> Result<(), Fail> {
     let alloc = rt.alloc();
     let mut pieces = Vec::new(alloc);
     pieces.push(Piece::Bytes(RETURN.to_vec(alloc)?))?;
-    let setup = Setup { pieces };
+    let setup = Setup {
+        outfault: None,
+        pieces,
+    };
     let entries = entries_of(alloc)?;
     let transcript = Transcript { entries };
     let mut sink = MemorySink::new(alloc, false);

@@ -1,10 +1,10 @@
 //! The transcript's text.
 ghost use Rattle.std.specs.Prelude.{ℕ, ◌≡◌, ◌++◌, [], ◌∷◌, length, List, OnOk, false, ◌<◌, codes, decimal};
 ghost use Rattle.std.specs.List.{flat_map};
+ghost use Rattle.wire_message.specs.Texts.{message_line};
 ghost use Rattle.peer_script.specs.Word.{hex_digit, hex_two, hex_word, text_byte, text_word};
-ghost use Rattle.peer_script.specs.Transcript.{kind_text, io_word, error_word, words_text, answer_text, entry_text, piece_text, setup_line, sent_word, setup_transcript, transcript_text};
-ghost use Rattle.peer_script.specs.Reading.{given};
-ghost use Rattle.wire_framing.specs.Memory.{told_stop};
+ghost use Rattle.peer_script.specs.Transcript.{or_empty, shown_byte, shown_text, io_word, error_word, words_text, answer_text, entry_text, given_text, outfault_text, sent_word, transcript_text};
+ghost use Rattle.peer_script.specs.Reading.{given_of, given};
 ghost use Rattle.peer_script.specs.Output.{WritesAll};
 
 use crate::output::write_all;
@@ -13,7 +13,7 @@ use crate::word::{is_plain, same};
 use peer_route::{Answer, Entry, Words};
 use std::alloc::{AllocError, Global};
 use wire_framing::{Piece, Refusal, Sink};
-use wire_message::{Error, IoKind, Message, MessageType};
+use wire_message::{Error, IoKind, Message};
 
 /// What commands were answered.
 #[derive(Drop)]
@@ -88,17 +88,6 @@ fn put_text(text: &mut Vec<u8>, bytes: &[u8]) -> Result<(), AllocError>
     }
 }
 
-fn kind_text(kind: MessageType) -> &'static [u8]
-    ensures { result.now ≡ kind_text kind }
-{
-    match kind {
-        MessageType::MethodCall => b"Method call",
-        MessageType::MethodReturn => b"Method return",
-        MessageType::Error => b"Error",
-        MessageType::Signal => b"Signal",
-    }
-}
-
 fn io_word(kind: IoKind) -> &'static [u8]
     ensures { result.now ≡ io_word kind }
 {
@@ -121,6 +110,7 @@ fn put_error(text: &mut Vec<u8>, error: Error) -> Result<(), AllocError>
         }
         Error::Variant(_) => put(text, b"Variant"),
         Error::Names(_) => put(text, b"Names"),
+        Error::InvalidMatchRule => put(text, b"InvalidMatchRule"),
         Error::IncorrectEndian => put(text, b"IncorrectEndian"),
         Error::ExcessData => put(text, b"ExcessData"),
         Error::SerialsSpent => put(text, b"SerialsSpent"),
@@ -146,10 +136,10 @@ fn put_words(alloc: Global, text: &mut Vec<u8>, words: &Words) -> Result<(), All
     match words {
         Words::Call { path, member } => put_call(text, path.as_slice(), member.as_slice()),
         Words::Read => put(text, b"read"),
-        Words::Poll(number) => {
-            put(text, b"poll ")?;
-            put_number(alloc, text, *number)
-        }
+        Words::Poll(number) => put_with_number(alloc, text, b"poll ", *number),
+        Words::Drop(number) => put_with_number(alloc, text, b"drop ", *number),
+        Words::Stream => put(text, b"stream"),
+        Words::Take(number) => put_with_number(alloc, text, b"take ", *number),
     }
 }
 
@@ -162,15 +152,48 @@ fn put_called(alloc: Global, text: &mut Vec<u8>, call: u64, serial: u32) -> Resu
     put_number(alloc, text, u64::from(serial))
 }
 
+fn put_shown_byte(text: &mut Vec<u8>, byte: u8) -> Result<(), AllocError>
+    ensures { OnOk result (text.new.items ≡ text.old.items ++ shown_byte byte) }
+{
+    if byte >= 0x20 && byte <= 0x7e && byte != b'\\' {
+        put(text, &[byte])
+    } else {
+        put(text, b"\\")?;
+        put_hex_byte(text, byte)
+    }
+}
+
+fn put_shown(text: &mut Vec<u8>, bytes: &[u8]) -> Result<(), AllocError>
+    ensures { OnOk result (text.new.items ≡ text.old.items ++ shown_text bytes.now) }
+{
+    for byte in bytes {
+        put_shown_byte(text, *byte)?;
+    }
+    Ok(())
+}
+
 fn put_got(alloc: Global, text: &mut Vec<u8>, message: &Message) -> Result<(), AllocError>
-    ensures { OnOk result (text.new.items ≡ text.old.items ++ codes "got " ++ decimal message.now.position ++ 32 ∷ [] ++ decimal (length message.now.bytes) ++ 32 ∷ [] ++ kind_text message.now.kind) }
+    ensures { OnOk result (text.new.items ≡ text.old.items ++ codes "got " ++ decimal message.now.position ++ 32 ∷ [] ++ decimal (length message.now.bytes) ++ 32 ∷ [] ++ shown_text (message_line message.now)) }
 {
     put(text, b"got ")?;
     put_number(alloc, text, message.recv_position())?;
     put(text, b" ")?;
     put_number(alloc, text, message.data().len() as u64)?;
     put(text, b" ")?;
-    put(text, kind_text(message.message_type()))
+    let display = message.to_string(alloc)?;
+    put_shown(text, display.as_bytes())
+}
+
+fn put_method_error(alloc: Global, text: &mut Vec<u8>, message: &Message) -> Result<(), AllocError>
+    ensures { OnOk result (text.new.items ≡ text.old.items ++ codes "methoderror " ++ decimal message.now.position ++ 32 ∷ [] ++ text_word (or_empty message.now.error_name)) }
+{
+    put(text, b"methoderror ")?;
+    put_number(alloc, text, message.recv_position())?;
+    put(text, b" ")?;
+    match message.header().error_name() {
+        Some(name) => put_text(text, name.as_str().as_bytes()),
+        None => put_text(text, b""),
+    }
 }
 
 fn put_with_error(text: &mut Vec<u8>, what: &[u8], error: Error) -> Result<(), AllocError>
@@ -203,8 +226,15 @@ fn put_answer(alloc: Global, text: &mut Vec<u8>, answer: &Answer) -> Result<(), 
         Answer::Got(message) => put_got(alloc, text, message),
         Answer::Closed(error) => put_with_error(text, b"closed ", *error),
         Answer::Reply(position) => put_with_number(alloc, text, b"reply ", *position),
+        Answer::MethodError(message) => put_method_error(alloc, text, message),
         Answer::InvalidReply(position) => put_with_number(alloc, text, b"invalidreply ", *position),
         Answer::NotYet => put(text, b"notyet"),
+        Answer::Busy => put(text, b"busy"),
+        Answer::Dropped => put(text, b"dropped"),
+        Answer::Streaming(number) => put_with_number(alloc, text, b"stream ", *number),
+        Answer::Item(position) => put_with_number(alloc, text, b"item ", *position),
+        Answer::Empty => put(text, b"empty"),
+        Answer::Ended => put(text, b"ended"),
     }
 }
 
@@ -229,26 +259,22 @@ fn put_entries(alloc: Global, text: &mut Vec<u8>, entries: &[Entry]) -> Result<(
     Ok(())
 }
 
-#[tactic(auto, unfolding(crate::specs::Transcript::piece_text))]
-fn put_bytes(text: &mut Vec<u8>, piece: &[u8]) -> Result<(), AllocError>
-    ensures { OnOk result (text.new.items ≡ text.old.items ++ piece_text piece.now) }
-{
-    put(text, b"in ")?;
-    put_hex(text, piece)?;
-    put(text, b"\n")
-}
-
+#[tactic(auto, unfolding(crate::specs::Transcript::given_text))]
 fn put_piece(text: &mut Vec<u8>, piece: &Piece) -> Result<(), AllocError>
-    ensures { OnOk result (text.new.items ≡ text.old.items ++ setup_line piece.now) }
+    ensures { OnOk result (text.new.items ≡ text.old.items ++ given_text (given_of piece.now)) }
 {
     match piece {
-        Piece::Bytes(bytes) => put_bytes(text, bytes.as_slice()),
+        Piece::Bytes(bytes) => {
+            put(text, b"in ")?;
+            put_hex(text, bytes.as_slice())?;
+            put(text, b"\n")
+        }
         Piece::Fault => put(text, b"infault\n"),
     }
 }
 
 fn put_pieces(text: &mut Vec<u8>, pieces: &[Piece]) -> Result<(), AllocError>
-    ensures { OnOk result (text.new.items ≡ text.old.items ++ flat_map setup_line pieces.now) }
+    ensures { OnOk result (text.new.items ≡ text.old.items ++ flat_map given_text (given pieces.now)) }
 {
     for piece in pieces {
         put_piece(text, piece)?;
@@ -266,18 +292,32 @@ fn put_sent(text: &mut Vec<u8>, sent: &[u8]) -> Result<(), AllocError>
     }
 }
 
-#[tactic(auto, unfolding(crate::specs::Transcript::setup_transcript))]
+#[tactic(auto, unfolding(crate::specs::Transcript::outfault_text))]
+fn put_outfault(alloc: Global, text: &mut Vec<u8>, count: Option<u64>) -> Result<(), AllocError>
+    ensures { OnOk result (text.new.items ≡ text.old.items ++ outfault_text count) }
+{
+    match count {
+        None => Ok(()),
+        Some(count) => {
+            put_with_number(alloc, text, b"outfault ", count)?;
+            put(text, b"\n")
+        }
+    }
+}
+
+#[tactic(auto, unfolding(crate::specs::Transcript::transcript_text))]
 fn put_transcript(
     alloc: Global,
     text: &mut Vec<u8>,
-    pieces: &[Piece],
+    setup: &Setup,
     entries: &[Entry],
     sent: &[u8],
 ) -> Result<(), AllocError>
-    ensures { OnOk result (text.new.items ≡ text.old.items ++ setup_transcript pieces.now entries.now sent.now) }
+    ensures { OnOk result (text.new.items ≡ text.old.items ++ transcript_text setup.now.outfault (given setup.now.pieces.items) entries.now sent.now) }
 {
     put(text, b"direct\n")?;
-    put_pieces(text, pieces)?;
+    put_outfault(alloc, text, setup.outfault)?;
+    put_pieces(text, setup.pieces.as_slice())?;
     put_entries(alloc, text, entries)?;
     put(text, b"sent ")?;
     put_sent(text, sent)?;
@@ -294,18 +334,11 @@ pub fn write_transcript<O: Sink>(
     sent: &[u8],
     output: &mut O,
 ) -> Result<(), Refusal>
-    ensures text { WritesAll result (setup_transcript setup.now.pieces.items transcript.now.entries.items sent.now) (O.held output.old) (O.held output.new) (O.room output.old) (O.room output.new) (O.faults output.old) (O.faults output.new) }
-    ensures bytes { told_stop setup.now.pieces.items ≡ false → setup_transcript setup.now.pieces.items transcript.now.entries.items sent.now ≡ transcript_text (given setup.now.pieces.items) transcript.now.entries.items sent.now }
+    ensures text { WritesAll result (transcript_text setup.now.outfault (given setup.now.pieces.items) transcript.now.entries.items sent.now) (O.held output.old) (O.held output.new) (O.room output.old) (O.room output.new) (O.faults output.old) (O.faults output.new) }
     ensures fds { O.takes output.new ≡ O.takes output.old }
 {
     let mut text = Vec::new(alloc);
-    match put_transcript(
-        alloc,
-        &mut text,
-        setup.pieces.as_slice(),
-        transcript.entries.as_slice(),
-        sent,
-    ) {
+    match put_transcript(alloc, &mut text, setup, transcript.entries.as_slice(), sent) {
         Ok(()) => write_all(output, text.as_slice()),
         Err(_) => Err(Refusal::Memory),
     }

@@ -1,40 +1,52 @@
 -- What stands at the front of some bytes, and that it hangs on the message's own bytes alone.
-use Rattle.std.proofs.Common.{ℕ, ◌≡◌, ◌+◌, ◌<◌, ◌≤◌, Bool, true, false, nat_lt, if◌then◌else◌, List, ◌++◌, length, take, drop, Option, Some, None, Ok, Err, refl, sym, ap, ◌∙◌, arith, length-append, length-drop, slice_index}
-use Rattle.std.proofs.lemmas.List.{take-append-le, drop-append-le, get_or_append_left}
+use Rattle.std.proofs.Common.{ℕ, ◌≡◌, ◌+◌, ◌<◌, ◌≤◌, ◌==◌, ◌||◌, Bool, true, false, not, is_none, nat_lt, if◌then◌else◌, List, ◌++◌, length, take, le_refl, Option, Some, None, Ok, Err, refl, sym, ap, ◌∙◌, arith, length-append, slice_index}
+use Rattle.std.proofs.lemmas.List.{take-append-le}
 use Rattle.std.proofs.lemmas.Bool.Decides.{nat_tests}
-use Rattle.std.specs.Int.{w32, from_le_bytes}
-use Rattle.wire_message.specs.Numbers.{word_at, pad_to_8}
-use Rattle.wire_message.specs.Front.{total, field_bytes}
-use Rattle.wire_message.specs.Outcome.{kind_of, head_fault, front_outcome, then_message, message_by, reply_in}
+use Rattle.wire_number.specs.declared.endian.Endian.{Endian}
+use Rattle.wire_signature.specs.declared.error.VariantError.TheVariants as faults
+use Rattle.wire_message.specs.Field.{Fields}
+use Rattle.wire_message.specs.Front.{seen, order_at, word_at, fields_len, total, field_bytes}
+use Rattle.wire_message.specs.Reading.{fields_in}
+use Rattle.wire_message.specs.Outcome.{kind_of, is_order, head_fault, front_outcome, then_message, message_by, fields_found}
 use Rattle.wire_message.specs.declared.error.Error.{Error}
 use Rattle.wire_message.specs.declared.error.Error.TheVariants as errors
 use Rattle.wire_message.specs.declared.error.IoKind.{IoKind}
 use Rattle.wire_message.specs.declared.kind.MessageType.{MessageType}
+use Rattle.wire_message.proofs.Moved.{index-same, order-same, word-same, total-same, fields-same}
 
-pub word_at-append : (place : ℕ) (xs ys : List ℕ) → place + 4 ≤ length xs → word_at place (xs ++ ys) ≡ word_at place xs
-word_at-append place xs ys h =
-    let inside : place ≤ length xs = omega arith in
-    let long : 4 ≤ length (drop place xs) = omega (arith, length-drop place xs) in
-    ap (λ l. from_le_bytes w32 (take 4 l)) (drop-append-le place xs ys inside)
-    ∙ ap (from_le_bytes w32) (take-append-le 4 (drop place xs) ys long)
-
-pub index-append : (place : ℕ) (xs ys : List ℕ) → place < length xs → slice_index (xs ++ ys) place ≡ slice_index xs place
-index-append place xs ys h = get_or_append_left xs ys 0 place h
+-- the front is the same
+same : (xs ys : List ℕ) → take (length xs) (xs ++ ys) ≡ take (length xs) xs
+same xs ys = take-append-le (length xs) xs ys (le_refl (length xs))
 
 pub total-append : (xs ys : List ℕ) → 16 ≤ length xs → total (xs ++ ys) ≡ total xs
-total-append xs ys h =
-    let fields = word_at-append 12 xs ys (omega arith) in
-    let body = word_at-append 4 xs ys (omega arith) in
-    ap (λ n. 16 + n + pad_to_8 (16 + n) + word_at 4 (xs ++ ys)) fields ∙ ap (λ n. 16 + word_at 12 xs + pad_to_8 (16 + word_at 12 xs) + n) body
+total-append xs ys h = total-same (length xs) (xs ++ ys) xs (same xs ys) h
+
+-- what is wrong with a head, by its parts
+head_by : ℕ → ℕ → ℕ → ℕ → ℕ → Option Error
+head_by first code flags serial all =
+    if not (is_order first) then Some errors.IncorrectEndian
+    else if is_none (kind_of code) || nat_lt 7 flags || (serial == 0) then Some (errors.Variant faults.Malformed)
+    else if nat_lt 134217728 all then Some errors.ExcessData
+    else None
+
+head-is : (bs : List ℕ) → head_fault bs ≡ head_by (slice_index bs 0) (slice_index bs 1) (slice_index bs 2) (word_at 8 bs) (total bs)
+unfolding head_by
+head-is bs = refl
 
 pub head_fault-append : (xs ys : List ℕ) → 16 ≤ length xs → head_fault (xs ++ ys) ≡ head_fault xs
 head_fault-append xs ys h =
-    let e0 = index-append 0 xs ys (omega arith) in
-    let e1 = index-append 1 xs ys (omega arith) in
-    let e2 = index-append 2 xs ys (omega arith) in
-    let e8 = word_at-append 8 xs ys (omega arith) in
-    let e = total-append xs ys h in
-    rw (e0, e1, e2, e8, e) refl
+    let n = length xs in
+    let zs = xs ++ ys in
+    let e0 : slice_index zs 0 ≡ slice_index xs 0 = index-same n 0 zs xs (same xs ys) (omega arith) in
+    let e1 : slice_index zs 1 ≡ slice_index xs 1 = index-same n 1 zs xs (same xs ys) (omega arith) in
+    let e2 : slice_index zs 2 ≡ slice_index xs 2 = index-same n 2 zs xs (same xs ys) (omega arith) in
+    let e8 : word_at 8 zs ≡ word_at 8 xs = word-same n 8 zs xs (same xs ys) (omega arith) in
+    let e : total zs ≡ total xs = total-append xs ys h in
+    head-is zs ∙ ap (λ (k : ℕ). head_by k (slice_index zs 1) (slice_index zs 2) (word_at 8 zs) (total zs)) e0
+    ∙ ap (λ (k : ℕ). head_by (slice_index xs 0) k (slice_index zs 2) (word_at 8 zs) (total zs)) e1
+    ∙ ap (λ (k : ℕ). head_by (slice_index xs 0) (slice_index xs 1) k (word_at 8 zs) (total zs)) e2
+    ∙ ap (λ (k : ℕ). head_by (slice_index xs 0) (slice_index xs 1) (slice_index xs 2) k (total zs)) e8
+    ∙ ap (λ (k : ℕ). head_by (slice_index xs 0) (slice_index xs 1) (slice_index xs 2) (word_at 8 xs) k) e ∙ sym (head-is xs)
 
 pub cond_true : {A : Type 0} (b : Bool) (x y : A) → b ≡ true → (if b then x else y) ≡ x
 cond_true b x y e = rw e refl
@@ -61,38 +73,46 @@ pub front_cut : (bs : List ℕ) (ending : IoKind) → 16 ≤ length bs → head_
 front_cut bs ending h p less = front_right bs ending h p ∙ cond_true _ _ _ (less_true _ _ less)
 
 pub front_there : (bs : List ℕ) (ending : IoKind) → 16 ≤ length bs → head_fault bs ≡ None → total bs ≤ length bs
-    → front_outcome bs ending ≡ message_by bs (kind_of (slice_index bs 1)) (reply_in None (field_bytes bs))
+    → front_outcome bs ending ≡ message_by bs (kind_of (slice_index bs 1)) (fields_found bs)
 front_there bs ending h p le = front_right bs ending h p ∙ cond_false _ _ _ (less_false _ _ le)
 
-field_bytes-append : (xs ys : List ℕ) → 16 ≤ length xs → total xs ≤ length xs → field_bytes (xs ++ ys) ≡ field_bytes xs
-field_bytes-append xs ys h le =
-    let fields = word_at-append 12 xs ys (omega arith) in
-    let long : word_at 12 xs ≤ length (drop 16 xs) = omega (arith, length-drop 16 xs) in
-    ap (λ n. take n (drop 16 (xs ++ ys))) fields ∙ ap (take (word_at 12 xs)) (drop-append-le 16 xs ys h) ∙ take-append-le (word_at 12 xs) (drop 16 xs) ys long
+fields_found-append : (xs ys : List ℕ) → 16 ≤ length xs → total xs ≤ length xs → fields_found (xs ++ ys) ≡ fields_found xs
+fields_found-append xs ys h le =
+    let n = length xs in
+    let zs = xs ++ ys in
+    let order = order-same n zs xs (same xs ys) (omega arith) in
+    let size : fields_len zs ≡ fields_len xs = word-same n 12 zs xs (same xs ys) (omega arith) in
+    let inside : 16 + fields_len zs ≤ n = omega (arith, size) in
+    let bytes = fields-same n zs xs (same xs ys) inside in
+    ap (λ (o : Endian). fields_in o (16 + fields_len zs) (field_bytes zs)) order ∙ ap (λ (k : ℕ). fields_in (order_at xs) (16 + k) (field_bytes zs)) size
+    ∙ ap (λ (l : List ℕ). fields_in (order_at xs) (16 + fields_len xs) l) bytes
 
-message_by-append : (xs ys : List ℕ) (kind : Option MessageType) (reply : Option (Option ℕ)) → 16 ≤ length xs → length xs ≡ total xs
-    → message_by (xs ++ ys) kind reply ≡ message_by xs kind reply
-message_by-append xs ys None reply h e = refl
+message_by-append : (xs ys : List ℕ) (kind : Option MessageType) (fields : Option Fields) → 16 ≤ length xs → length xs ≡ total xs
+    → message_by (xs ++ ys) kind fields ≡ message_by xs kind fields
+message_by-append xs ys None fields h e = refl
 message_by-append xs ys (Some kind) None h e = refl
-message_by-append xs ys (Some kind) (Some reply) h e =
-    let le : total xs ≤ length xs = omega arith in
+message_by-append xs ys (Some kind) (Some fields) h e =
+    let n = length xs in
+    let zs = xs ++ ys in
     let t = total-append xs ys h in
-    let w = word_at-append 8 xs ys (omega arith) in
-    let same : take (total (xs ++ ys)) (xs ++ ys) ≡ take (total xs) xs = ap (λ n. take n (xs ++ ys)) t ∙ take-append-le (total xs) xs ys le in
-    ap (λ b. Ok (record { bytes = b; position = 0; kind = kind; serial = word_at 8 (xs ++ ys); reply_serial = reply })) same
-    ∙ ap (λ n. Ok (record { bytes = take (total xs) xs; position = 0; kind = kind; serial = n; reply_serial = reply })) w
+    let own : take (total zs) zs ≡ take (total xs) xs = ap (λ (k : ℕ). take k zs) t ∙ take-append-le (total xs) xs ys (omega arith) in
+    ap (λ (b : List ℕ). Ok (seen b 0 kind (order_at zs) (slice_index zs 2) (word_at 8 zs) fields)) own
+    ∙ ap (λ (o : Endian). Ok (seen (take (total xs) xs) 0 kind o (slice_index zs 2) (word_at 8 zs) fields)) (order-same n zs xs (same xs ys) (omega arith))
+    ∙ ap (λ (k : ℕ). Ok (seen (take (total xs) xs) 0 kind (order_at xs) k (word_at 8 zs) fields)) (index-same n 2 zs xs (same xs ys) (omega arith))
+    ∙ ap (λ (k : ℕ). Ok (seen (take (total xs) xs) 0 kind (order_at xs) (slice_index xs 2) k fields)) (word-same n 8 zs xs (same xs ys) (omega arith))
 
 -- What stands at the front of a whole message and more is that message, whatever ends the bytes.
 pub front-append : (xs ys : List ℕ) (ending other : IoKind) → 16 ≤ length xs → head_fault xs ≡ None → length xs ≡ total xs
     → front_outcome (xs ++ ys) ending ≡ front_outcome xs other
 front-append xs ys ending other h p e =
-    let long : 16 ≤ length (xs ++ ys) = omega (arith, length-append xs ys) in
+    let zs = xs ++ ys in
+    let long : 16 ≤ length zs = omega (arith, length-append xs ys) in
     let t = total-append xs ys h in
     let le : total xs ≤ length xs = omega arith in
-    let there : total (xs ++ ys) ≤ length (xs ++ ys) = omega (arith, length-append xs ys) in
-    front_there (xs ++ ys) ending long (head_fault-append xs ys h ∙ p) there
-    ∙ ap (λ k. message_by (xs ++ ys) (kind_of k) (reply_in None (field_bytes (xs ++ ys)))) (index-append 1 xs ys (omega arith))
-    ∙ ap (λ f. message_by (xs ++ ys) (kind_of (slice_index xs 1)) (reply_in None f)) (field_bytes-append xs ys h le)
+    let there : total zs ≤ length zs = omega (arith, length-append xs ys) in
+    front_there zs ending long (head_fault-append xs ys h ∙ p) there
+    ∙ ap (λ (k : ℕ). message_by zs (kind_of k) (fields_found zs)) (index-same (length xs) 1 zs xs (same xs ys) (omega arith))
+    ∙ ap (λ (f : Option Fields). message_by zs (kind_of (slice_index xs 1)) f) (fields_found-append xs ys h le)
     ∙ message_by-append xs ys _ _ h e
     ∙ sym (front_there xs other h p le)
 

@@ -1,15 +1,16 @@
 -- How a read goes together from its steps.
 use Rattle.std.proofs.Common.{ℕ, ◌≡◌, ◌≢◌, ◌+◌, ◌-◌, ◌<◌, ◌≤◌, ◌^◌, ◌⊎◌, min, inl, inr, Bool, true, false, nat_le, nat_lt, not, if◌then◌else◌, List, [], ◌++◌, length, drop, le_refl, drop_of_length-le, Option, Some, None, IfSome, IfErr, Result, Ok, Err, refl, sym, ap, ◌∙◌, subst, arith, length-append, slice_index}
 use Rattle.std.proofs.lemmas.Bool.Decides.{nat_tests}
-use Rattle.std.specs.Prelude.{◌==◌, is_some}
+use Rattle.std.specs.Prelude.{is_some}
 use Rattle.std.proofs.Math.Seq.{drop-append_seam}
 use Rattle.std.specs.Io.KnownBytes.{Consumes}
 use Rattle.wire_framing.specs.Fill.{Fills, IsShort, FailsShort, FrontFails, IsSpent}
-use Rattle.wire_framing.specs.Receive.{IsReadError, HasCause, Receives, Spends, spent, ending_of}
+use Rattle.wire_framing.specs.Receive.{HasCause, Receives, Spends, spent}
 use Rattle.wire_framing.proofs.Steps.{Consumes-then, may_rise_after}
 use Rattle.wire_framing.proofs.Fronts.{cond_either, cond_true, cond_false, less_true, less_false, front_short, front_refused, front_cut, front-append, head_fault-append, total-append}
-use Rattle.wire_message.specs.Front.{Seen, total, field_bytes}
-use Rattle.wire_message.specs.Outcome.{kind_of, is_refused, head_fault, front_outcome, then_message, message_by, reply_in, placed, outcome, Tells}
+use Rattle.wire_message.specs.Front.{Seen, total}
+use Rattle.wire_message.specs.Field.{Fields}
+use Rattle.wire_message.specs.Outcome.{kind_of, is_order, is_refused, head_fault, front_outcome, then_message, message_by, fields_found, placed, outcome, Tells, ending_of, IsReadRefusal}
 use Rattle.wire_message.specs.declared.error.Error.{Error}
 use Rattle.wire_message.specs.declared.error.Error.TheVariants as errors
 use Rattle.wire_message.specs.declared.error.IoKind.{IoKind}
@@ -19,7 +20,7 @@ use Rattle.wire_message.specs.declared.kind.MessageType.{MessageType}
 
 -- why the bytes of a message didn't come
 abbrev pub Refuses : Error → Option (List ℕ) → Option (List ℕ) → Option Bool → ℕ → ℕ → Type 0
-Refuses e left left' stop f f' = IsReadError e × HasCause e f f' × IfSome left (FrontFails e stop) × Spends {A = Unit {0}} (Err e) left left'
+Refuses e left left' stop f f' = IsReadRefusal e × HasCause e f f' × IfSome left (FrontFails e stop) × Spends {A = Unit {0}} (Err e) left left'
 
 -- what is left is what stands behind the bytes that a read takes
 abbrev pub Behind : Option (List ℕ) → Option (List ℕ) → Type 0
@@ -84,7 +85,7 @@ rest_behind first (Some xs) (Some ys) left' l p q short gone = gone ∙ ap Some 
 
 -- an error of a read that needs no fault
 abbrev pub Fine : Error → Type 0
-Fine e = IsReadError e × ((f g : ℕ) → f ≤ g → HasCause e f g)
+Fine e = IsReadRefusal e × ((f g : ℕ) → f ≤ g → HasCause e f g)
 
 fine_order : Fine errors.IncorrectEndian
 fine_order = (tt, λ f g h. h)
@@ -102,20 +103,20 @@ head_fine : (bs : List ℕ) → IfSome (head_fault bs) Fine
 head_fine bs =
     let limit = if nat_lt 134217728 (total bs) then Some errors.ExcessData else None in
     let kind = if is_refused bs then Some (errors.Variant faults.Malformed) else limit in
-    cond_either (λ o. IfSome o Fine) (not (slice_index bs 0 == 108)) (Some errors.IncorrectEndian) kind fine_order
+    cond_either (λ o. IfSome o Fine) (not (is_order (slice_index bs 0))) (Some errors.IncorrectEndian) kind fine_order
     (cond_either (λ o. IfSome o Fine) (is_refused bs) (Some (errors.Variant faults.Malformed)) limit fine_refused
     (cond_either (λ o. IfSome o Fine) (nat_lt 134217728 (total bs)) (Some errors.ExcessData) None fine_excess tt))
 
-message_fine : (bs : List ℕ) (kind : Option MessageType) (reply : Option (Option ℕ)) → IfErr (message_by bs kind reply) Fine
-message_fine bs None reply = (tt, λ f g h. h)
+message_fine : (bs : List ℕ) (kind : Option MessageType) (fields : Option Fields) → IfErr (message_by bs kind fields) Fine
+message_fine bs None fields = (tt, λ f g h. h)
 message_fine bs (Some kind) None = (tt, λ f g h. h)
-message_fine bs (Some kind) (Some reply) = tt
+message_fine bs (Some kind) (Some fields) = tt
 
 then_fine : (bs : List ℕ) (o : Option Error) → IfSome o Fine → IfErr (then_message bs kinds.Ended o) Fine
 then_fine bs None h =
-    let found = message_by bs (kind_of (slice_index bs 1)) (reply_in None (field_bytes bs)) in
+    let found = message_by bs (kind_of (slice_index bs 1)) (fields_found bs) in
     cond_either (λ r. IfErr {T = Seen} r Fine) (nat_lt (length bs) (total bs)) (Err (errors.InputOutput kinds.Ended)) found fine_ended
-    (message_fine bs (kind_of (slice_index bs 1)) (reply_in None (field_bytes bs)))
+    (message_fine bs (kind_of (slice_index bs 1)) (fields_found bs))
 then_fine bs (Some e) h = h
 
 front_fine : (bs : List ℕ) → IfErr (front_outcome bs kinds.Ended) Fine
@@ -306,12 +307,12 @@ pub body_failed : (own : List ℕ) (e : Error) (count : ℕ) (left left' : Optio
 body_failed own e count left left' stop l p w q h m =
     whole_failed e count stop left h (front_failed own e left left' stop l p w q (untold {A = Seen × ℕ} (λ x. x.0) e _ m))
 
-body_cause : (own : List ℕ) (e : Error) (f f' : ℕ) → f ≤ f' → (e ≡ errors.Memory) ⊎ (front_outcome own kinds.Ended ≡ Err e) → IsReadError e × HasCause e f f'
-body_cause own e f f' le (inl m) = subst (λ x. IsReadError x × HasCause x f f') (sym m) (tt, le)
+body_cause : (own : List ℕ) (e : Error) (f f' : ℕ) → f ≤ f' → (e ≡ errors.Memory) ⊎ (front_outcome own kinds.Ended ≡ Err e) → IsReadRefusal e × HasCause e f f'
+body_cause own e f f' le (inl m) = subst (λ x. IsReadRefusal x × HasCause x f f') (sym m) (tt, le)
 body_cause own e f f' le (inr m) = let fine = fine_front own e m in (fine.0, fine.1 f f' le)
 
 pub body_takes : (own : List ℕ) (e : Error) (f f' : ℕ) → f ≤ f'
-    → Tells {A = Seen × ℕ} {B = Seen} (λ x. x.0) (Err e) (front_outcome own kinds.Ended) → IsReadError e × HasCause e f f'
+    → Tells {A = Seen × ℕ} {B = Seen} (λ x. x.0) (Err e) (front_outcome own kinds.Ended) → IsReadRefusal e × HasCause e f f'
 body_takes own e f f' le m = body_cause own e f f' le (untold {A = Seen × ℕ} (λ x. x.0) e _ m)
 
 -- A message came.

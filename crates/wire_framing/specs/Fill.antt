@@ -2,8 +2,8 @@
 use Rattle.std.specs.Prelude.{ℕ, ◌≡◌, ◌≢◌, ◌<◌, ◌≤◌, ◌⊎◌, Bool, true, List, [], length, Option, Some, None, IfSome, Result, Ok, Err}
 use Rattle.std.specs.Io.KnownBytes.{Consumes}
 use Rattle.wire_framing.specs.Source.{MayRise}
-use Rattle.wire_framing.specs.Receive.{IsReadError, HasCause, Spends, ending_of}
-use Rattle.wire_message.specs.Outcome.{head_fault, front_outcome, Tells}
+use Rattle.wire_framing.specs.Receive.{HasCause, Spends}
+use Rattle.wire_message.specs.Outcome.{head_fault, front_outcome, Tells, ending_of, IsReadRefusal}
 use Rattle.wire_message.specs.Front.{Seen, total}
 use Rattle.wire_message.specs.declared.error.Error.{Error}
 use Rattle.wire_message.specs.declared.error.Error.TheVariants as errors
@@ -46,4 +46,4 @@ TakesWhole items (Ok v) left left' stop stop' faults faults' =
     Consumes left left' (items v) × (16 ≤ length (items v)) × (head_fault (items v) ≡ None) × (length (items v) ≡ total (items v))
     × (stop' ≡ stop) × (faults ≤ faults')
 TakesWhole items (Err e) left left' stop stop' faults faults' =
-    IsReadError e × HasCause e faults faults' × IfSome left (FrontFails e stop) × Spends {A = Unit {0}} (Err e) left left'
+    IsReadRefusal e × HasCause e faults faults' × IfSome left (FrontFails e stop) × Spends {A = Unit {0}} (Err e) left left'

@@ -1,19 +1,12 @@
 -- What one read of a message gives and takes (D-Bus Specification, "Message Protocol").
-use Rattle.std.specs.Prelude.{ℕ, ◌≡◌, ◌≤◌, ◌⊎◌, Bool, true, false, nat_lt, is_some, min, if◌then◌else◌, List, length, drop, IfSome, Option, Some, None, Result, Ok, Err}
+use Rattle.std.specs.Prelude.{ℕ, ◌≡◌, ◌≤◌, ◌⊎◌, Bool, nat_lt, is_some, min, if◌then◌else◌, List, length, drop, IfSome, Option, Some, None, Result, Ok, Err}
 use Rattle.std.specs.Io.KnownBytes.{Consumes}
 use Rattle.wire_framing.specs.Source.{MayRise}
 use Rattle.wire_message.specs.Front.{Seen, Front, total}
-use Rattle.wire_message.specs.Outcome.{outcome, head_fault, Tells}
+use Rattle.wire_message.specs.Outcome.{outcome, head_fault, Tells, ending_of, IsReadRefusal}
 use Rattle.wire_message.specs.declared.error.Error.{Error}
 use Rattle.wire_message.specs.declared.error.Error.TheVariants as errors
-use Rattle.wire_message.specs.declared.error.IoKind.{IoKind}
 use Rattle.wire_message.specs.declared.error.IoKind.TheVariants as kinds
-use Rattle.wire_signature.specs.declared.error.VariantError.TheVariants as faults
-
--- what comes after the last byte: a failing call, or the end
-abbrev pub ending_of : Bool → IoKind
-ending_of true = kinds.Fault
-ending_of false = kinds.Ended
 
 -- What a read answers where `bytes` are left and `count` messages were read before. Where nothing is told of a failing
 -- call, one may come at any time; it is then the answer.
@@ -21,16 +14,6 @@ abbrev pub Receives : Option Bool → ℕ → List ℕ → Result Seen Error →
 Receives (Some stop) count bytes result = Tells (λ m. m) result (outcome count bytes (ending_of stop))
 Receives None count bytes result =
     Tells (λ m. m) result (outcome count bytes kinds.Ended) ⊎ (result ≡ Err (errors.InputOutput kinds.Fault))
-
--- the errors of a read
-abbrev pub IsReadError : Error → Type 0
-IsReadError (errors.InputOutput kinds.Ended) = Unit {0}
-IsReadError (errors.InputOutput kinds.Fault) = Unit {0}
-IsReadError (errors.Variant faults.Malformed) = Unit {0}
-IsReadError errors.IncorrectEndian = Unit {0}
-IsReadError errors.ExcessData = Unit {0}
-IsReadError errors.Memory = Unit {0}
-IsReadError e = ⊥
 
 -- A fault is answered only where the source's count of faults rose.
 abbrev pub HasCause : Error → ℕ → ℕ → Type 0
@@ -42,7 +25,7 @@ HasCause e faults faults' = faults ≤ faults'
 abbrev pub Takes : ℕ → Result Seen Error → Option (List ℕ) → Option (List ℕ) → Option Bool → Option Bool → ℕ → ℕ → Type 0
 Takes position (Ok m) left left' stop stop' faults faults' =
     Front m.bytes m (length m.bytes) × (m.position ≡ position) × Consumes left left' m.bytes × (stop' ≡ stop) × (faults ≤ faults')
-Takes position (Err e) left left' stop stop' faults faults' = IsReadError e × HasCause e faults faults'
+Takes position (Err e) left left' stop stop' faults faults' = IsReadRefusal e × HasCause e faults faults'
 
 -- How many of the bytes left a read takes: those of a head, where fewer are there or the head is refused; else those of the
 -- message that it announces.

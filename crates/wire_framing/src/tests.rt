@@ -131,7 +131,7 @@ fn refuses(rt: HostRuntime) -> Result<(), Fail> {
     refused(
         &rt,
         alloc,
-        &[&changed(0, b'B')[..16]],
+        &[&changed(0, b'b')[..16]],
         true,
         Error::IncorrectEndian,
     )?;

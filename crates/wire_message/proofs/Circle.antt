@@ -2,7 +2,7 @@
 use Rattle.std.proofs.Common.{◌≡◌, ℕ, ◌+◌, ◌-◌, ◌%◌, ◌≤◌, ◌<◌, zero, suc, refl, sym, ◌∙◌, ap, arith, Bool, true, false, inl, inr}
 use Rattle.std.proofs.Math.Nat.{mod-add-mod, add-mod_right, mod-eq_of_lt, eq-or-lt_of_le}
 use Rattle.std.proofs.lemmas.Bool.{cases_lt}
-use Rattle.wire_message.specs.Circle.{serial_after, IsNext, AllTaken}
+use Rattle.wire_message.specs.Circle.{serial_after, IsNext, AllTaken, taken_among}
 
 -- after `tried` candidates: the last of them is the candidate, and each was taken
 pub record Tried (taken : ℕ → Bool) (last tried candidate : ℕ) : Type 0 where
@@ -66,4 +66,62 @@ tried_more taken last tried candidate serial h t below e is_taken = record {
   ];
 }
 
+-- ---- how many were tried
+
+among-grows : (taken : ℕ → Bool) (n k : ℕ) → ((j : ℕ) → 1 ≤ j → j ≤ k → taken (n + j) ≡ true) → taken_among taken n + k ≤ taken_among taken (n + k)
+unfolding taken_among
+among-grows taken n zero h = let e : n + 0 ≡ n = omega arith in rw e (omega arith)
+among-grows taken n (suc k) h =
+    let so_far = among-grows taken n k (λ j one le. h j one (omega arith)) in
+    let e : n + suc k ≡ suc (n + k) = omega arith in
+    let last : taken (suc (n + k)) ≡ true = ap taken (sym e) ∙ h (suc k) (omega arith) (omega arith) in
+    rw (e, last) (omega arith)
+
+among-more : (taken : ℕ → Bool) (n k : ℕ) → taken_among taken n ≤ taken_among taken (n + k)
+unfolding taken_among
+among-more taken n zero = let e : n + 0 ≡ n = omega arith in rw e (omega arith)
+among-more taken n (suc k) =
+    let e : n + suc k ≡ suc (n + k) = omega arith in
+    let so_far = among-more taken n k in
+    rw e (omega arith)
+
+among-up : (taken : ℕ → Bool) (n m : ℕ) → n ≤ m → taken_among taken n ≤ taken_among taken m
+among-up taken n m h = let e : n + (m - n) ≡ m = omega arith in rw e at (among-more taken n (m - n))
+
+-- each serial from `n` on to `m` is taken
+among-all : (taken : ℕ → Bool) (n m : ℕ) → n ≤ m → ((serial : ℕ) → n < serial → serial ≤ m → taken serial ≡ true) → taken_among taken n + (m - n) ≤ taken_among taken m
+among-all taken n m h all =
+    let e : n + (m - n) ≡ m = omega arith in
+    rw e at (among-grows taken n (m - n) (λ j one le. all (n + j) (omega arith) (omega arith)))
+
+-- the serials that were tried are among those that are taken
+pub tried-among : (taken : ℕ → Bool) (last tried candidate : ℕ) → last ≤ 4294967295 → Tried taken last tried candidate → tried ≤ taken_among taken 4294967295
+tried-among taken last tried candidate h t =
+    let behind : (serial : ℕ) → last < serial → serial ≤ last + tried → serial ≤ 4294967295 → taken serial ≡ true =
+    λ serial less le most. ap taken (sym (place_after last serial (omega arith) most less)) ∙ t.taken_all (serial - last) (omega arith) (omega arith) in
+    elim (cases_lt (4294967295 - last) tried) [
+      | inl more ↦
+          let before : (serial : ℕ) → 0 < serial → serial ≤ tried - (4294967295 - last) → taken serial ≡ true =
+          λ serial one le. ap taken (sym (place_before last serial one (omega (arith, t.within)) h)) ∙ t.taken_all (serial + 4294967295 - last) (omega arith) (omega arith) in
+          let first = among-all taken 0 (tried - (4294967295 - last)) (omega arith) before in
+          let up = among-up taken (tried - (4294967295 - last)) last (omega (arith, t.within)) in
+          let rest = among-all taken last 4294967295 h (λ serial less le. behind serial less (omega arith) le) in
+          omega arith
+      | inr within ↦
+          let some = among-all taken last (last + tried) (omega arith) (λ serial less le. behind serial less le (omega arith)) in
+          let up = among-up taken (last + tried) 4294967295 (omega arith) in
+          omega arith
+    ]
+
 pub ruleset round = (tried_more)
+
+-- a search after so many candidates, each a step
+pub record Searched (taken : ℕ → Bool) (last tried candidate before steps : ℕ) : Type 0 where
+  pub tries : Tried taken last tried candidate
+  pub cost : steps ≡ before + tried
+
+-- where none is taken, none is counted
+pub among-none : (n : ℕ) → taken_among (λ serial. false) n ≡ 0
+unfolding taken_among
+among-none zero = refl
+among-none (suc n) = let e = among-none n in omega arith

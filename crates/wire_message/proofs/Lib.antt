@@ -1,4 +1,13 @@
-pub mod CallLength
-pub mod Circle
-pub mod Fields
+pub mod Areas
+pub mod Stepping
+pub mod FieldLaws
+pub mod Lists
 pub mod Grammar
+pub mod Moved
+pub mod Circle
+pub mod Adding
+pub mod Building
+pub mod Law
+pub mod Setting
+pub mod Valid
+pub mod Strings

@@ -1,5 +1,5 @@
 -- Serials go round a circle (D-Bus Specification, "Message Format": a serial isn't 0).
-use Rattle.std.specs.Prelude.{ℕ, ◌≡◌, ◌+◌, ◌-◌, ◌%◌, ◌<◌, ◌≤◌, Bool, true, false, Result, Ok, Err}
+use Rattle.std.specs.Prelude.{ℕ, zero, suc, ◌≡◌, ◌+◌, ◌-◌, ◌%◌, ◌<◌, ◌≤◌, Bool, true, false, if◌then◌else◌, Result, Ok, Err}
 use Rattle.wire_message.specs.declared.error.Error.{Error}
 use Rattle.wire_message.specs.declared.error.Error.TheVariants as errors
 
@@ -25,3 +25,8 @@ abbrev pub Draws : (ℕ → Bool) → ℕ → ℕ → Result ℕ Error → Type 
 Draws taken old new (Ok serial) = IsNext taken old serial × (new ≡ serial)
 Draws taken old new (Err errors.SerialsSpent) = AllTaken taken × (new ≡ old)
 Draws taken old new (Err error) = ⊥
+
+-- how many of the serials from 1 to n are taken
+unfoldable pub taken_among : (ℕ → Bool) → ℕ → ℕ
+taken_among taken zero = 0
+taken_among taken (suc n) = taken_among taken n + (if taken (suc n) then 1 else 0)

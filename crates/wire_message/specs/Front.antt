@@ -1,9 +1,11 @@
 -- The header grammar: a message at the front of some bytes (D-Bus Specification, "Message Protocol", "Message Format").
--- So far in little byte order alone, and of the header fields with the reply serial alone.
-use Rattle.std.specs.Prelude.{ℕ, ◌≡◌, ◌+◌, ◌<◌, ◌≤◌, ◌^◌, List, [], ◌∷◌, length, take, drop, slice_index, Option, Some, None}
-use Rattle.std.specs.List.{flat_map, AllByRecursion}
-use Rattle.std.specs.Int.{w32, to_le_bytes}
-use Rattle.wire_message.specs.Numbers.{word_at, pad_to_8}
+use Rattle.std.specs.Prelude.{ℕ, ◌≡◌, ◌+◌, ◌<◌, ◌≤◌, ◌==◌, if◌then◌else◌, List, length, take, drop, slice_index, Option}
+use Rattle.std.specs.List.{AllByRecursion}
+use Rattle.std.specs.Int.{w32}
+use Rattle.wire_number.specs.declared.endian.Endian.{Endian}
+use Rattle.wire_number.specs.declared.endian.Endian.TheVariants.{Little, Big}
+use Rattle.wire_number.specs.Number.{number_at, pad}
+use Rattle.wire_message.specs.Field.{Fields, no_fields, Field, IsField, fields_text, gathered}
 use Rattle.wire_message.specs.declared.kind.MessageType.{MessageType}
 use Rattle.wire_message.specs.declared.kind.MessageType.TheVariants as types
 
@@ -13,8 +15,52 @@ pub record Seen : Type 0 where
   pub bytes : List ℕ
   pub position : ℕ
   pub kind : MessageType
+  pub order : Endian
+  pub flags : ℕ
   pub serial : ℕ
+  pub path : Option (List ℕ)
+  pub interface : Option (List ℕ)
+  pub member : Option (List ℕ)
+  pub error_name : Option (List ℕ)
   pub reply_serial : Option ℕ
+  pub destination : Option (List ℕ)
+  pub sender : Option (List ℕ)
+  pub signature : Option (List ℕ)
+  pub unix_fds : Option ℕ
+
+-- a message of these parts
+abbrev pub seen : List ℕ → ℕ → MessageType → Endian → ℕ → ℕ → Fields → Seen
+seen bytes position kind order flags serial fields = record {
+  bytes = bytes;
+  position = position;
+  kind = kind;
+  order = order;
+  flags = flags;
+  serial = serial;
+  path = fields.path;
+  interface = fields.interface;
+  member = fields.member;
+  error_name = fields.error_name;
+  reply_serial = fields.reply_serial;
+  destination = fields.destination;
+  sender = fields.sender;
+  signature = fields.signature;
+  unix_fds = fields.unix_fds;
+}
+
+-- its header fields
+abbrev pub fields_of : Seen → Fields
+fields_of m = record {
+  path = m.path;
+  interface = m.interface;
+  member = m.member;
+  error_name = m.error_name;
+  reply_serial = m.reply_serial;
+  destination = m.destination;
+  sender = m.sender;
+  signature = m.signature;
+  unix_fds = m.unix_fds;
+}
 
 -- the message type's byte
 abbrev pub kind_code : MessageType → ℕ
@@ -23,22 +69,18 @@ kind_code types.MethodReturn = 2
 kind_code types.Error = 3
 kind_code types.Signal = 4
 
--- A header field (D-Bus Specification, "Header Fields").
-pub data Field : Type 0 where
-  ReplySerial : (serial : ℕ) → Field
+-- the byte order's byte: `l` or `B`
+abbrev pub order_code : Endian → ℕ
+order_code Little = 108
+order_code Big = 66
 
--- A field's bytes: its code, the signature of its value, its value. It begins at a multiple of 8, and has 8 bytes.
-abbrev pub field_text : Field → List ℕ
-field_text (ReplySerial serial) = 5 ∷ 1 ∷ 117 ∷ 0 ∷ to_le_bytes w32 serial
+-- The byte order that the first byte names: big for `B`, else little.
+unfoldable pub order_at : List ℕ → Endian
+order_at bytes = if slice_index bytes 0 == 66 then Big else Little
 
--- a reply serial isn't 0
-abbrev pub IsField : Field → Type 0
-IsField (ReplySerial serial) = (0 < serial) × (serial < 2 ^ 32)
-
--- the reply serial of the last field that has one, else the one given
-abbrev pub last_reply : Option ℕ → List Field → Option ℕ
-last_reply serial [] = serial
-last_reply serial (ReplySerial n ∷ fields) = last_reply (Some n) fields
+-- the number in the four bytes from a place on, in the message's order
+abbrev pub word_at : ℕ → List ℕ → ℕ
+word_at place bytes = number_at w32 (order_at bytes) place bytes
 
 -- the length of the field array, and of the body
 abbrev pub fields_len : List ℕ → ℕ
@@ -47,13 +89,21 @@ fields_len bytes = word_at 12 bytes
 abbrev pub body_len : List ℕ → ℕ
 body_len bytes = word_at 4 bytes
 
+-- the length of the header with its padding
+abbrev pub header_len : List ℕ → ℕ
+header_len bytes = 16 + fields_len bytes + pad (16 + fields_len bytes) 8
+
 -- the length of the message whose first 16 bytes these begin with
 abbrev pub total : List ℕ → ℕ
-total bytes = 16 + fields_len bytes + pad_to_8 (16 + fields_len bytes) + body_len bytes
+total bytes = header_len bytes + body_len bytes
 
--- the bytes of the field array
+-- the bytes of the field array, which begins at 16
 abbrev pub field_bytes : List ℕ → List ℕ
 field_bytes bytes = take (fields_len bytes) (drop 16 bytes)
+
+-- the body's bytes: those that follow the header
+abbrev pub body_bytes : List ℕ → List ℕ
+body_bytes bytes = take (body_len bytes) (drop (header_len bytes) bytes)
 
 -- The message `m` stands on the first `n` of the bytes.
 pub record Front (bytes : List ℕ) (m : Seen) (n : ℕ) : Type 0 where
@@ -62,9 +112,10 @@ pub record Front (bytes : List ℕ) (m : Seen) (n : ℕ) : Type 0 where
   pub head : 16 ≤ length bytes
   pub whole : n ≡ total bytes
   pub limit : n ≤ 134217728
-  pub order : slice_index bytes 0 ≡ 108
+  pub order : slice_index bytes 0 ≡ order_code m.order
   pub type : slice_index bytes 1 ≡ kind_code m.kind
-  pub flags : slice_index bytes 2 ≤ 7
+  pub flags : slice_index bytes 2 ≡ m.flags
+  pub known : m.flags ≤ 7
   pub serial : m.serial ≡ word_at 8 bytes
   pub not_zero : 0 < m.serial
-  pub fields : (fs : List Field) × AllByRecursion IsField fs × (field_bytes bytes ≡ flat_map field_text fs) × (m.reply_serial ≡ last_reply None fs)
+  pub fields : (fs : List Field) × AllByRecursion IsField fs × (field_bytes bytes ≡ fields_text m.order 16 fs) × (fields_of m ≡ gathered no_fields fs)

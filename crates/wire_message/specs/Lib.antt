@@ -1,6 +1,8 @@
-pub mod Numbers
+pub mod Field
 pub mod Front
+pub mod Reading
+pub mod Places
 pub mod Circle
-pub mod Call
+pub mod Draft
 pub mod Outcome
 pub mod Texts

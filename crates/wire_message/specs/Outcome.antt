@@ -1,7 +1,8 @@
 -- What a read takes from the bytes that are left (D-Bus Specification, "Message Protocol").
-use Rattle.std.specs.Prelude.{ℕ, ◌≡◌, ◌+◌, ◌^◌, ◌-◌, Bool, not, ◌||◌, ◌&&◌, ◌==◌, nat_lt, nat_le, is_none, if◌then◌else◌, List, [], ◌∷◌, length, take, slice_index, Option, Some, None, Result, Ok, Err}
-use Rattle.wire_message.specs.Numbers.{word_at}
-use Rattle.wire_message.specs.Front.{Seen, total, field_bytes}
+use Rattle.std.specs.Prelude.{ℕ, ◌≡◌, ◌+◌, ◌^◌, ◌-◌, Bool, true, false, not, ◌||◌, ◌==◌, nat_lt, nat_le, is_none, if◌then◌else◌, List, length, take, slice_index, Option, Some, None, Result, Ok, Err}
+use Rattle.wire_message.specs.Field.{Fields}
+use Rattle.wire_message.specs.Front.{Seen, seen, order_at, word_at, fields_len, total, field_bytes}
+use Rattle.wire_message.specs.Reading.{fields_in}
 use Rattle.wire_message.specs.declared.kind.MessageType.{MessageType}
 use Rattle.wire_message.specs.declared.kind.MessageType.TheVariants as types
 use Rattle.wire_message.specs.declared.error.Error.{Error}
@@ -19,6 +20,10 @@ kind_of code =
     else if code == 4 then Some types.Signal
     else None
 
+-- the first byte names a byte order
+abbrev pub is_order : ℕ → Bool
+is_order byte = (byte == 108) || (byte == 66)
+
 -- a header that is refused by its type, its flags or its serial
 abbrev pub is_refused : List ℕ → Bool
 is_refused bytes = is_none (kind_of (slice_index bytes 1)) || nat_lt 7 (slice_index bytes 2) || (word_at 8 bytes == 0)
@@ -26,39 +31,25 @@ is_refused bytes = is_none (kind_of (slice_index bytes 1)) || nat_lt 7 (slice_in
 -- what is wrong with the first 16 bytes: the first case that holds
 abbrev pub head_fault : List ℕ → Option Error
 head_fault bytes =
-    if not (slice_index bytes 0 == 108) then Some errors.IncorrectEndian
+    if not (is_order (slice_index bytes 0)) then Some errors.IncorrectEndian
     else if is_refused bytes then Some (errors.Variant faults.Malformed)
     else if nat_lt 134217728 (total bytes) then Some errors.ExcessData
     else None
 
--- The reply serial in the eight bytes of a header field: field 5, of type u, not 0.
-abbrev pub reply_of : List ℕ → Option ℕ
-reply_of bytes =
-    if (slice_index bytes 0 == 5) && (slice_index bytes 1 == 1) && (slice_index bytes 2 == 117) && (slice_index bytes 3 == 0)
-    && not (word_at 4 bytes == 0)
-    then Some (word_at 4 bytes) else None
+-- what the bytes say of the header fields, if they are a field array
+abbrev pub fields_found : List ℕ → Option Fields
+fields_found bytes = fields_in (order_at bytes) (16 + fields_len bytes) (field_bytes bytes)
 
-abbrev pub then_field : Option ℕ → (ℕ → Option (Option ℕ)) → Option (Option ℕ)
-then_field None more = None
-then_field (Some serial) more = more serial
-
--- The reply serial of a field array, the one given where it has none; nothing where the bytes are no field array.
-abbrev pub reply_in : Option ℕ → List ℕ → Option (Option ℕ)
-reply_in last [] = Some last
-reply_in last (a ∷ b ∷ c ∷ d ∷ e ∷ f ∷ g ∷ h ∷ rest) =
-    then_field (reply_of (a ∷ b ∷ c ∷ d ∷ e ∷ f ∷ g ∷ h ∷ [])) (λ serial. reply_in (Some serial) rest)
-reply_in last bytes = None
-
-abbrev pub message_by : List ℕ → Option MessageType → Option (Option ℕ) → Result Seen Error
-message_by bytes (Some kind) (Some reply) =
-    Ok (record { bytes = take (total bytes) bytes; position = 0; kind = kind; serial = word_at 8 bytes; reply_serial = reply })
-message_by bytes kind reply = Err (errors.Variant faults.Malformed)
+abbrev pub message_by : List ℕ → Option MessageType → Option Fields → Result Seen Error
+message_by bytes (Some kind) (Some fields) =
+    Ok (seen (take (total bytes) bytes) 0 kind (order_at bytes) (slice_index bytes 2) (word_at 8 bytes) fields)
+message_by bytes kind fields = Err (errors.Variant faults.Malformed)
 
 abbrev pub then_message : List ℕ → IoKind → Option Error → Result Seen Error
 then_message bytes ending (Some error) = Err error
 then_message bytes ending None =
     if nat_lt (length bytes) (total bytes) then Err (errors.InputOutput ending)
-    else message_by bytes (kind_of (slice_index bytes 1)) (reply_in None (field_bytes bytes))
+    else message_by bytes (kind_of (slice_index bytes 1)) (fields_found bytes)
 
 -- The message at the front of the bytes, or what a reader finds in its place; after the bytes comes the ending.
 abbrev pub front_outcome : List ℕ → IoKind → Result Seen Error
@@ -87,3 +78,24 @@ abbrev pub Tells : {A B : Type 0} → (A → B) → Result A Error → Result B 
 Tells view (Ok x) found = found ≡ Ok (view x)
 Tells view (Err errors.Memory) found = Unit {0}
 Tells view (Err error) found = found ≡ Err error
+
+-- ---- what a read may answer
+
+-- what comes after the last byte: a failing call, or the end
+abbrev pub ending_of : Bool → IoKind
+ending_of true = kinds.Fault
+ending_of false = kinds.Ended
+
+-- the errors of a read
+abbrev pub IsReadError : Error → Type 0
+IsReadError (errors.InputOutput kinds.Ended) = Unit {0}
+IsReadError (errors.InputOutput kinds.Fault) = Unit {0}
+IsReadError (errors.Variant faults.Malformed) = Unit {0}
+IsReadError errors.IncorrectEndian = Unit {0}
+IsReadError errors.ExcessData = Unit {0}
+IsReadError error = ⊥
+
+-- one of them, or want of memory
+abbrev pub IsReadRefusal : Error → Type 0
+IsReadRefusal errors.Memory = Unit {0}
+IsReadRefusal error = IsReadError error

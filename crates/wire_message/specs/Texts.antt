@@ -1,5 +1,10 @@
 -- The texts that are printed.
-use Rattle.std.specs.Prelude.{ℕ, List, ◌++◌, codes}
+use Rattle.std.specs.Prelude.{ℕ, Bool, false, not, ◌&&◌, ◌==◌, if◌then◌else◌, List, [], ◌∷◌, ◌++◌, codes, Option, Some, None, option_and_then}
+use Rattle.std.specs.List.{list_any}
+use Rattle.std.specs.Str.{is_utf8}
+use Rattle.wire_number.specs.declared.endian.Endian.{Endian}
+use Rattle.wire_number.specs.Text.{long_text_at}
+use Rattle.wire_message.specs.Front.{Seen, body_bytes}
 use Rattle.wire_message.specs.declared.kind.MessageType.{MessageType}
 use Rattle.wire_message.specs.declared.kind.MessageType.TheVariants as types
 use Rattle.wire_message.specs.declared.error.Error.{Error}
@@ -11,12 +16,55 @@ use Rattle.wire_names.specs.declared.error.NamesError.TheVariants as names
 use Rattle.wire_signature.specs.declared.error.VariantError.{VariantError}
 use Rattle.wire_signature.specs.declared.error.VariantError.TheVariants as faults
 
--- A message is printed by its type: so far its other fields aren't.
+-- ---- a message
+
 abbrev pub kind_text : MessageType → List ℕ
 kind_text types.MethodCall = codes "Method call"
 kind_text types.MethodReturn = codes "Method return"
 kind_text types.Error = codes "Error"
 kind_text types.Signal = codes "Signal"
+
+-- a part that is left out where it is absent
+abbrev pub part_text : List ℕ → Option (List ℕ) → List ℕ
+part_text before None = []
+part_text before (Some text) = before ++ text
+
+-- the member of a call or a signal, the name of an error
+abbrev pub name_by : MessageType → Seen → Option (List ℕ)
+name_by types.MethodCall m = m.member
+name_by types.MethodReturn m = None
+name_by types.Error m = m.error_name
+name_by types.Signal m = m.member
+
+-- UTF-8 without a zero byte (D-Bus Specification, "String-like types")
+abbrev pub is_string : List ℕ → Bool
+is_string text = not (list_any (λ b. b == 0) text) && is_utf8 text
+
+-- the string at the front of some bytes
+unfoldable pub first_string : Endian → List ℕ → Option (List ℕ)
+first_string order bytes = option_and_then (λ x. if is_string x.0 then Some x.0 else None) (long_text_at order bytes)
+
+-- the first type is `s`
+abbrev pub begins_with_string : Option (List ℕ) → Bool
+begins_with_string None = false
+begins_with_string (Some []) = false
+begins_with_string (Some (letter ∷ rest)) = letter == 115
+
+-- The first argument, where it is a string and can be read.
+unfoldable pub first_argument : Seen → Option (List ℕ)
+first_argument m = if begins_with_string m.signature then first_string m.order (body_bytes m.bytes) else None
+
+-- what an error says beside its name
+abbrev pub detail_by : MessageType → Seen → Option (List ℕ)
+detail_by types.Error m = first_argument m
+detail_by kind m = None
+
+-- What is printed of a message, as `Method call M from S`, `Method return from S`, `Error N: D from S`, `Signal M from S`.
+unfoldable pub message_line : Seen → List ℕ
+message_line m =
+    kind_text m.kind ++ part_text (codes " ") (name_by m.kind m) ++ part_text (codes ": ") (detail_by m.kind m) ++ part_text (codes " from ") m.sender
+
+-- ---- errors
 
 -- the kinds' names
 abbrev pub io_text : IoKind → List ℕ
@@ -48,6 +96,7 @@ abbrev pub error_text : Error → List ℕ
 error_text (errors.InputOutput kind) = codes "I/O error: " ++ io_text kind
 error_text (errors.Variant kind) = codes "variant error: " ++ variant_text kind
 error_text (errors.Names kind) = codes "invalid " ++ names_text kind
+error_text errors.InvalidMatchRule = codes "Invalid match rule string"
 error_text errors.IncorrectEndian = codes "incorrect endian"
 error_text errors.ExcessData = codes "excess data"
 error_text errors.SerialsSpent = codes "SerialsSpent"

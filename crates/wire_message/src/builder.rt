@@ -1,128 +1,242 @@
-ghost use Rattle.std.specs.Prelude.{ℕ, ◌≡◌, ◌+◌, ◌<◌, ◌≤◌, ◌^◌, ◌++◌, ◌∷◌, [], List, length, replicate, OnOk, IfOk, Ok, Err};
-ghost use Rattle.std.specs.Int.{w32, to_le_bytes};
-ghost use Rattle.wire_message.specs.Numbers.{padded};
-ghost use Rattle.wire_message.specs.Call.{text_value, path_field, member_field, call_fields as call_fields_text, call_text, Draft, Builds};
+ghost use Rattle.std.specs.Prelude.{ℕ, ◌≡◌, ◌+◌, ◌<◌, ◌≤◌, ◌^◌, ◌++◌, ◌∷◌, [], List, length, Some, None, Ok, Err, IfOk, OnOk, IsTrue, IfSome};
+ghost use Rattle.std.specs.Int.RustNames.{bit_and, bit_or};
+ghost use Rattle.wire_number.specs.declared.endian.Endian.TheVariants.{Little};
+ghost use Rattle.wire_names.specs.BusName.{text_of};
+ghost use Rattle.wire_message.specs.Front.{order_code};
+ghost use Rattle.wire_message.specs.Circle.{taken_among};
+ghost use Rattle.wire_message.specs.Draft.{Draft, AreFields, IsDraft, AreShort, header_fields, header_text, message_text, call_draft, has_long_text, Writes, Makes, Builds, ReadsAgain};
+ghost use Rattle.wire_message.specs.declared.kind.MessageType.TheVariants as types;
 
 use crate::error::{Error, Result};
-use crate::kind::MessageType;
-use crate::message::Message;
+use crate::flags::Flags;
+use crate::front::{MESSAGE_LIMIT, places_of};
+use crate::kind::{MessageType, type_code};
+use crate::message::{Message, Parts};
 use crate::serials::{Serials, Taken};
-use std::alloc::{AllocError, Global};
-use std::marker::Model;
+use crate::steps::Steps;
+use crate::writing::{HeaderFields, field_array};
+use std::alloc::Global;
+use std::marker::{Brand, Model};
 use std::sync::ArcSlice;
-use wire_names::{MemberName, ObjectPath};
-
-/// The greatest length of a message in bytes (D-Bus Specification, "Message Format").
-const MESSAGE_LIMIT: usize = 134_217_728;
+use std::sync::ledger::{Blank, Ledger};
+use wire_names::{BusName, InterfaceName, MemberName, ObjectPath, UniqueName};
+use wire_number::{Endian, put_padding, put_word};
+use wire_signature::VariantError;
 
 /// A message that isn't built yet.
 #[derive(Drop)]
 pub struct Builder<'a> {
-    path: &'a str,
-    member: &'a str,
+    kind: MessageType,
+    order: Endian,
+    flags: u8,
+    fields: HeaderFields<'a>,
 }
 
 impl<'a> Model for Builder<'a> {
-    ghost use Rattle.wire_message.specs.Call.{Draft};
+    ghost use Rattle.wire_message.specs.Draft.{Draft, IsDraft, header_fields};
 
     ghost Value = { Draft };
 
-    ghost view = { λ b. record { path = b.path.now; member = b.member.now } };
+    ghost view = { λ b. record { kind = b.kind; order = b.order; flags = b.flags; fields = header_fields b.fields } };
+
+    ghost invariant = { λ b. IsDraft (record { kind = b.kind; order = b.order; flags = b.flags; fields = header_fields b.fields }) };
 }
 
-/// Adds a text: its length in four bytes, its bytes, a zero byte (D-Bus Specification, "Marshaling").
-fn put_text(out: &mut Vec<u8>, text: &[u8]) -> std::result::Result<(), AllocError>
-    requires { length text.now < 2 ^ 32 }
-    ensures { OnOk result (out.new.items ≡ out.old.items ++ text_value text.now) }
+/// The byte of a byte order.
+fn order_byte(order: Endian) -> u8
+    ensures { result ≡ order_code order }
 {
-    out.extend_from_slice(&(text.len() as u32).to_le_bytes())?;
-    out.extend_from_slice(text)?;
-    out.push(0)?;
-    Ok(())
-}
-
-/// Adds zeros up to a multiple of 8.
-fn pad(out: &mut Vec<u8>) -> std::result::Result<(), AllocError>
-    ensures { OnOk result (out.new.items ≡ padded out.old.items) }
-{
-    let zeros = [0u8; 8];
-    let count = (8 - out.len() % 8) % 8;
-    out.extend_from_slice(&zeros[..count])?;
-    Ok(())
-}
-
-/// The header fields of a method call.
-fn call_fields(
-    alloc: Global,
-    path: &[u8],
-    member: &[u8],
-) -> std::result::Result<Vec<u8>, AllocError>
-    requires path { length path.now < 2 ^ 32 }
-    requires member { length member.now < 2 ^ 32 }
-    ensures { IfOk result (λ v. v.items ≡ call_fields_text path.now member.now) }
-{
-    let mut fields = Vec::new(alloc);
-    fields.extend_from_slice(&[1, 1, b'o', 0])?;
-    put_text(&mut fields, path)?;
-    pad(&mut fields)?;
-    fields.extend_from_slice(&[3, 1, b's', 0])?;
-    put_text(&mut fields, member)?;
-    Ok(fields)
-}
-
-/// A method call with an empty body.
-#[tactic(auto, unfolding(crate::specs::Call::call_text))]
-fn call_text_of(
-    alloc: Global,
-    serial: u32,
-    path: &[u8],
-    member: &[u8],
-) -> std::result::Result<Vec<u8>, AllocError>
-    requires path { length path.now ≤ 134217728 }
-    requires member { length member.now ≤ 134217728 }
-    ensures { IfOk result (λ v. v.items ≡ call_text serial path.now member.now) }
-{
-    let fields = call_fields(alloc, path, member)?;
-    let mut text = Vec::new(alloc);
-    text.extend_from_slice(&[b'l', 1, 0, 1])?;
-    text.extend_from_slice(&0u32.to_le_bytes())?;
-    text.extend_from_slice(&serial.to_le_bytes())?;
-    text.extend_from_slice(&(fields.len() as u32).to_le_bytes())?;
-    text.extend_from_slice(fields.as_slice())?;
-    pad(&mut text)?;
-    Ok(text)
+    match order {
+        Endian::Little => b'l',
+        Endian::Big => b'B',
+    }
 }
 
 impl Message {
-    /// A method call of a member at a path, without a body.
+    /// A method call of a member at a path (D-Bus Specification, "Types of messages"): little order, no flags.
     pub fn method_call<'a>(path: &ObjectPath<'a>, member: &MemberName<'a>) -> Builder<'a>
-        ensures { result ≡ record { path = path.now; member = member.now } }
+        ensures { result ≡ call_draft path.now member.now }
     {
         Builder {
-            path: path.as_str(),
-            member: member.as_str(),
+            kind: MessageType::MethodCall,
+            order: Endian::Little,
+            flags: 0,
+            fields: HeaderFields {
+                path: Some(path.as_str()),
+                interface: None,
+                member: Some(member.as_str()),
+                error_name: None,
+                reply_serial: None,
+                destination: None,
+                sender: None,
+                signature: None,
+                unix_fds: None,
+            },
         }
     }
 }
 
+/// Whether the path alone passes the limit of a message.
+fn has_long_path(fields: &HeaderFields<'_>) -> bool
+    ensures { result ≡ has_long_text (header_fields fields.now).path }
+{
+    match fields.path {
+        Some(path) => path.len() > MESSAGE_LIMIT,
+        None => false,
+    }
+}
+
 impl<'a> Builder<'a> {
-    /// The message, with the next serial. SerialsSpent comes exactly where each serial is pending, else ExcessData exactly
-    /// where the message would pass 134,217,728 bytes. A serial is drawn only with the message.
-    #[tactic(auto, using(crate::proofs::CallLength::call_length), unfolding(crate::specs::Call::call_message))]
-    pub fn build<T: Taken>(self, alloc: Global, serials: &mut Serials, taken: &T) -> Result<Message>
-        ensures { Builds (T.is_taken taken.now) self.entry serials.old serials.new result }
+    /// In that byte order.
+    pub fn endian(self, order: Endian) -> Builder<'a>
+        ensures { result ≡ record self.entry { order = order } }
     {
-        let mut drawn = *serials;
-        let serial = drawn.next(taken)?;
-        if self.path.len() > MESSAGE_LIMIT || self.member.len() > MESSAGE_LIMIT {
+        Builder { order, ..self }
+    }
+
+    /// With these flags beside those that it has; bits above 0x4 are left out.
+    pub fn with_flags(self, flags: Flags) -> Result<Builder<'a>>
+        ensures { result ≡ Ok (record self.entry { flags = bit_or self.entry.flags (bit_and flags.0 7) }) }
+    {
+        let known = flags.0 & 7;
+        Ok(Builder {
+            flags: self.flags | known,
+            ..self
+        })
+    }
+
+    /// With that interface (D-Bus Specification, "Header Fields", `INTERFACE`).
+    pub fn interface(self, interface: &InterfaceName<'a>) -> Builder<'a>
+        ensures { result ≡ record self.entry { fields = record self.entry.fields { interface = Some interface.now } } }
+    {
+        let fields = HeaderFields {
+            interface: Some(interface.as_str()),
+            ..self.fields
+        };
+        Builder { fields, ..self }
+    }
+
+    /// With that destination (D-Bus Specification, "Header Fields", `DESTINATION`).
+    pub fn destination(self, destination: &BusName<'a>) -> Builder<'a>
+        ensures { result ≡ record self.entry { fields = record self.entry.fields { destination = Some (text_of destination.now) } } }
+    {
+        let fields = HeaderFields {
+            destination: Some(destination.as_str()),
+            ..self.fields
+        };
+        Builder { fields, ..self }
+    }
+
+    /// With that sender (D-Bus Specification, "Header Fields", `SENDER`).
+    pub fn sender(self, sender: &UniqueName<'a>) -> Builder<'a>
+        ensures { result ≡ record self.entry { fields = record self.entry.fields { sender = Some sender.now } } }
+    {
+        let fields = HeaderFields {
+            sender: Some(sender.as_str()),
+            ..self.fields
+        };
+        Builder { fields, ..self }
+    }
+
+    /// The bytes of the message with that serial and body, if it doesn't pass its limit.
+    #[tactic(auto, unfolding(crate::specs::Draft::message_text, crate::specs::Draft::header_text))]
+    fn text(&self, alloc: Global, serial: u32, body: &[u8]) -> Result<Vec<u8>>
+        requires { length body.now < 2 ^ 32 }
+        ensures written { Writes (λ v. v.items) result (message_text self.now serial body.now) }
+        ensures valid { IsDraft self.now }
+    {
+        if has_long_path(&self.fields) {
             return Err(Error::ExcessData);
         }
-        let text = call_text_of(alloc, serial, self.path.as_bytes(), self.member.as_bytes())?;
+        let fields = field_array(alloc, self.order, &self.fields)?;
+        if fields.len() > MESSAGE_LIMIT {
+            return Err(Error::ExcessData);
+        }
+        let mut text = Vec::new(alloc);
+        text.extend_from_slice(&[order_byte(self.order), type_code(self.kind), self.flags, 1])?;
+        put_word(&mut text, self.order, body.len() as u32)?;
+        put_word(&mut text, self.order, serial)?;
+        put_word(&mut text, self.order, fields.len() as u32)?;
+        text.extend_from_slice(fields.as_slice())?;
+        let place = text.len();
+        put_padding(&mut text, place, 8)?;
+        text.extend_from_slice(body)?;
+        Ok(text)
+    }
+
+    /// The message with that serial and without a body, if it doesn't pass its limit.
+    fn with_serial(&self, alloc: Global, serial: u32) -> Result<Message>
+        requires { 0 < serial }
+        ensures made { Makes self.now serial [] result }
+        ensures again { IfOk result ReadsAgain }
+    {
+        let text = self.text(alloc, serial, &[])?;
         if text.len() > MESSAGE_LIMIT {
             return Err(Error::ExcessData);
         }
+        // What was written is a field array, so its places are found.
+        let Some(places) = places_of(text.as_slice()) else {
+            return Err(Error::Variant(VariantError::Malformed));
+        };
+        let parts = Parts {
+            kind: self.kind,
+            order: self.order,
+            flags: self.flags,
+            serial,
+            places,
+        };
         let bytes = ArcSlice::from_vec(text)?;
+        Ok(Message::from_parts(bytes, parts))
+    }
+
+    /// The message, with the next serial. SerialsSpent comes exactly where each serial is pending, else ExcessData exactly
+    /// where the message would pass 134,217,728 bytes (D-Bus Specification, "Message Format"). A serial is drawn only with the
+    /// message. A step is a serial that is looked at.
+    pub fn build<T: Taken, L: Ledger>(
+        self,
+        alloc: Global,
+        serials: &mut Serials,
+        taken: &T,
+        steps: &mut Steps<L>,
+    ) -> Result<Message>
+        ensures built { Builds (T.is_taken taken.now) self.entry [] serials.old serials.new result }
+        ensures again { IfOk result ReadsAgain }
+        ensures cost { steps.new ≤ steps.old + taken_among (T.is_taken taken.now) 4294967295 + 2 }
+    {
+        let mut drawn = *serials;
+        let serial = drawn.next(taken, steps)?;
+        let message = self.with_serial(alloc, serial)?;
         *serials = drawn;
-        Ok(Message::from_parts(bytes, MessageType::MethodCall, serial, None))
+        Ok(message)
+    }
+
+    fn build_from<T: Taken, L: Ledger>(
+        self,
+        alloc: Global,
+        serials: &mut Serials,
+        taken: &T,
+        blank: Blank,
+    ) -> Result<Message>
+        requires name { blank.name ≡ L.name }
+        requires parts { blank.parts ≡ L.parts }
+        requires some { 0 < blank.parts }
+        ensures built { Builds (T.is_taken taken.now) self.entry [] serials.old serials.new result }
+        ensures again { IfOk result ReadsAgain }
+    {
+        let mut steps = Steps::<L>::start(blank);
+        self.build(alloc, serials, taken, &mut steps)
+    }
+
+    /// As `build`, for a caller that counts no steps.
+    pub fn build_uncounted<T: Taken>(
+        self,
+        alloc: Global,
+        serials: &mut Serials,
+        taken: &T,
+    ) -> Result<Message>
+        ensures built { Builds (T.is_taken taken.now) self.entry [] serials.old serials.new result }
+        ensures again { IfOk result ReadsAgain }
+    {
+        self.build_from::<T, Brand>(alloc, serials, taken, Blank::new(1))
     }
 }

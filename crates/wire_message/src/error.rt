@@ -31,6 +31,8 @@ pub enum Error {
     Variant(VariantError),
     /// A text is no name of its kind.
     Names(NamesError),
+    /// A match rule's text, or a part of a rule, is outside the grammar of match rules.
+    InvalidMatchRule,
     /// The first byte names no byte order that is read.
     IncorrectEndian,
     /// A message would pass 134,217,728 bytes.
@@ -115,6 +117,7 @@ impl fmt::Display for Error {
             Error::InputOutput(kind) => write!(f, "I/O error: {kind}"),
             Error::Variant(kind) => write!(f, "variant error: {}", variant_name(kind)),
             Error::Names(kind) => write!(f, "invalid {}", names_name(kind)),
+            Error::InvalidMatchRule => f.write_str("Invalid match rule string"),
             Error::IncorrectEndian => f.write_str("incorrect endian"),
             Error::ExcessData => f.write_str("excess data"),
             Error::SerialsSpent => f.write_str("SerialsSpent"),

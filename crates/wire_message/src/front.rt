@@ -1,30 +1,45 @@
-ghost use Rattle.std.specs.Prelude.{ℕ, ◌≡◌, ◌+◌, List, length, take, drop, slice_index, Ok, Err, Option, Some, None, IfOk, IsSome, ◌≤◌};
-ghost use Rattle.std.specs.Int.{w32, from_le_bytes};
-ghost use Rattle.wire_message.specs.Numbers.{word_at, pad_to_8};
-ghost use Rattle.wire_message.specs.Front.{Seen, Front, total as total_len, field_bytes};
-ghost use Rattle.wire_message.specs.Outcome.{kind_of, reply_in, reply_of, head_fault, front_outcome, message_by, Tells, TellsTotal};
+ghost use Rattle.std.specs.Prelude.{ℕ, ◌≡◌, ◌+◌, ◌<◌, ◌≤◌, ◌^◌, List, length, take, slice_index, Ok, Err, option_map, None, IfOk, IfSome};
+ghost use Rattle.wire_number.specs.Number.{pad};
+ghost use Rattle.wire_message.specs.Field.{Fields};
+ghost use Rattle.wire_message.specs.Front.{Seen, Front, order_at, word_at, fields_len, header_len as header_length, total as total_len, field_bytes};
+ghost use Rattle.wire_message.specs.Outcome.{kind_of, fields_found, head_fault, front_outcome, message_by, Tells, TellsTotal};
+ghost use Rattle.wire_message.specs.Places.{found_fields, AreSpans};
 ghost use Rattle.wire_message.specs.declared.error.IoKind.TheVariants.{Ended};
 
 use crate::error::{Error, IoKind, Result};
 use crate::kind::message_type;
-use crate::message::Message;
+use crate::message::{Message, Parts};
+use crate::places::Places;
+use crate::reading::places_in;
 use std::alloc::Global;
 use std::sync::ArcSlice;
+use wire_number::{Endian, padding_for_8_bytes, read_u32};
 use wire_signature::VariantError;
 
 /// The greatest length of a message in bytes (D-Bus Specification, "Message Format").
-const MESSAGE_LIMIT: u64 = 134_217_728;
+pub(crate) const MESSAGE_LIMIT: usize = 134_217_728;
 
-fn word(bytes: &[u8], place: usize) -> u32
-    requires { place + 4 ≤ length bytes.now }
-    ensures { result ≡ word_at place bytes.now }
+/// The byte order of the first byte: big for `B`, else little.
+#[tactic(auto, unfolding(crate::specs::Front::order_at))]
+fn byte_order(bytes: &[u8]) -> Endian
+    requires { 1 ≤ length bytes.now }
+    ensures { result ≡ order_at bytes.now }
 {
-    u32::from_le_bytes([
-        bytes[place],
-        bytes[place + 1],
-        bytes[place + 2],
-        bytes[place + 3],
-    ])
+    if bytes[0] == b'B' {
+        Endian::Big
+    } else {
+        Endian::Little
+    }
+}
+
+/// The length of the header with its padding.
+pub(crate) fn header_len(bytes: &[u8]) -> usize
+    requires { 16 ≤ length bytes.now }
+    ensures length { result ≡ header_length bytes.now }
+    ensures small { result < 2 ^ 33 }
+{
+    let end = 16 + read_u32(byte_order(bytes), bytes, 12) as usize;
+    end + padding_for_8_bytes(end)
 }
 
 /// As `total_of`, of bytes that are at least 16.
@@ -32,15 +47,14 @@ fn head_of(bytes: &[u8]) -> Result<u32>
     requires { 16 ≤ length bytes.now }
     ensures { TellsTotal result bytes.now }
 {
-    if bytes[0] != b'l' {
+    if bytes[0] != b'l' && bytes[0] != b'B' {
         return Err(Error::IncorrectEndian);
     }
-    if message_type(bytes[1]).is_none() || bytes[2] > 7 || word(bytes, 8) == 0 {
+    let order = byte_order(bytes);
+    if message_type(bytes[1]).is_none() || bytes[2] > 7 || read_u32(order, bytes, 8) == 0 {
         return Err(Error::Variant(VariantError::Malformed));
     }
-    let fields = u64::from(word(bytes, 12));
-    let padding = (8 - (16 + fields) % 8) % 8;
-    let total = 16 + fields + padding + u64::from(word(bytes, 4));
+    let total = header_len(bytes) + read_u32(order, bytes, 4) as usize;
     if total > MESSAGE_LIMIT {
         return Err(Error::ExcessData);
     }
@@ -48,64 +62,50 @@ fn head_of(bytes: &[u8]) -> Result<u32>
 }
 
 /// The length in bytes of the message that begins with these 16 (D-Bus Specification, "Message Format"). The first
-/// that holds: IncorrectEndian, where the first byte isn't `l`; Variant, where the message type isn't 1 to 4, a flag above
-/// 0x4 is set or the serial is 0; ExcessData, where the length passes 134,217,728.
+/// that holds: IncorrectEndian, where the first byte is neither `l` nor `B`; Variant, where the message type isn't 1 to 4, a
+/// flag above 0x4 is set or the serial is 0; ExcessData, where the length passes 134,217,728.
 pub fn total_of(first: &[u8; 16]) -> Result<u32>
     ensures { TellsTotal result first.now }
 {
     head_of(first)
 }
 
-/// The reply serial in the eight bytes of a header field.
-fn reply_field(bytes: &[u8]) -> Option<u32>
-    requires { length bytes.now ≡ 8 }
-    ensures { result ≡ reply_of bytes.now }
+/// Where the header fields stand; None where the bytes of the fields are no field array.
+pub(crate) fn places_of(bytes: &[u8]) -> Option<Places>
+    requires head { 16 ≤ length bytes.now }
+    requires there { 16 + fields_len bytes.now ≤ length bytes.now }
+    ensures found { option_map (found_fields bytes.now) result ≡ fields_found bytes.now }
+    ensures spans { IfSome result (AreSpans (16 + fields_len bytes.now)) }
 {
-    let serial = word(bytes, 4);
-    if bytes[0] == 5 && bytes[1] == 1 && bytes[2] == b'u' && bytes[3] == 0 && serial != 0 {
-        Some(serial)
-    } else {
-        None
-    }
-}
-
-/// The reply serial of a field array; None where the bytes are no field array.
-#[tactic(auto, using(crate::proofs::Fields::field_laws))]
-fn reply_serial(area: &[u8]) -> Option<Option<u32>>
-    ensures { result ≡ reply_in None area.now }
-{
-    let mut rest = area;
-    let mut last = None;
-    while rest.len() >= 8 {
-        let (front, after) = rest.split_at(8);
-        match reply_field(front) {
-            Some(serial) => {
-                last = Some(serial);
-                rest = after;
-            }
-            None => return None,
-        }
-    }
-    if rest.is_empty() { Some(last) } else { None }
+    let order = byte_order(bytes);
+    let end = 16 + read_u32(order, bytes, 12) as usize;
+    places_in(order, bytes, end)
 }
 
 /// The message on the first bytes, whose head is right and whose total is there.
-#[tactic(auto, using(crate::proofs::Fields::field_laws))]
 fn message_on(alloc: Global, bytes: &[u8], total: usize) -> Result<Message>
     requires length { 16 ≤ length bytes.now }
+    requires right { head_fault bytes.now ≡ None }
     requires there { total ≤ length bytes.now }
     requires whole { total ≡ total_len bytes.now }
-    ensures { Tells (λ m. m) result (message_by bytes.now (kind_of (slice_index bytes.now 1)) (reply_in None (field_bytes bytes.now))) }
+    ensures { Tells (λ m. m) result (message_by bytes.now (kind_of (slice_index bytes.now 1)) (fields_found bytes.now)) }
 {
-    let fields = word(bytes, 12) as usize;
     let Some(kind) = message_type(bytes[1]) else {
         return Err(Error::Variant(VariantError::Malformed));
     };
-    let Some(reply) = reply_serial(&bytes[16..16 + fields]) else {
+    let Some(places) = places_of(bytes) else {
         return Err(Error::Variant(VariantError::Malformed));
     };
+    let order = byte_order(bytes);
+    let parts = Parts {
+        kind,
+        order,
+        flags: bytes[2],
+        serial: read_u32(order, bytes, 8),
+        places,
+    };
     let own = ArcSlice::from_slice(alloc, &bytes[..total])?;
-    Ok(Message::from_parts(own, kind, word(bytes, 8), reply))
+    Ok(Message::from_parts(own, parts))
 }
 
 /// The message that stands on the front of the bytes, and its length.

@@ -1,8 +1,9 @@
 ghost use Rattle.std.specs.Prelude.{◌≡◌};
+ghost use Rattle.wire_message.specs.Front.{kind_code};
 ghost use Rattle.wire_message.specs.Outcome.{kind_of};
 
 /// What a message is (D-Bus Specification, "Message Format").
-#[derive(Clone, Copy, PartialEq, Eq, Debug)]
+#[derive(Clone, Copy, PartialEq, Eq, Hash, Debug)]
 pub enum MessageType {
     MethodCall,
     MethodReturn,
@@ -20,5 +21,17 @@ pub fn message_type(code: u8) -> Option<MessageType>
         3 => Some(MessageType::Error),
         4 => Some(MessageType::Signal),
         _ => None,
+    }
+}
+
+/// The byte of a message type.
+pub(crate) fn type_code(kind: MessageType) -> u8
+    ensures { result ≡ kind_code kind }
+{
+    match kind {
+        MessageType::MethodCall => 1,
+        MessageType::MethodReturn => 2,
+        MessageType::Error => 3,
+        MessageType::Signal => 4,
     }
 }

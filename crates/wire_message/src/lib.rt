@@ -3,19 +3,30 @@
 #![tactic(auto)]
 
 mod builder;
+mod display;
 mod error;
+mod field;
+mod flags;
 mod front;
+mod header;
 mod kind;
 mod laws;
 mod message;
+mod places;
+mod reading;
 mod serials;
+mod steps;
 #[cfg(test)]
 mod tests;
+mod writing;
 
 pub use builder::Builder;
 pub use error::{Error, IoKind, Result};
+pub use flags::Flags;
 pub use front::{header_front, total_of};
+pub use header::Header;
 pub use kind::MessageType;
 pub use laws::one_message;
 pub use message::Message;
 pub use serials::{Serials, Taken};
+pub use steps::Steps;

@@ -1,50 +1,57 @@
-ghost use Rattle.std.specs.Prelude.{ℕ, ◌≡◌, IfOk, List, length, Some};
+ghost use Rattle.std.specs.Prelude.{ℕ, ◌≡◌, ◌≤◌, IfOk, List, length, Some, option_map, IfSome, is_none};
 ghost use Rattle.std.specs.Arc.{arc_slice_items};
-ghost use Rattle.wire_message.specs.Front.{Seen};
-ghost use Rattle.wire_message.specs.Texts.{kind_text};
+ghost use Rattle.wire_message.specs.Front.{Seen, seen, Front, body_bytes};
+ghost use Rattle.wire_message.specs.Places.{found_fields, span_text, IsSpan, Stands};
 
+use crate::front::header_len;
 use crate::kind::MessageType;
+use crate::places::{Places, Span};
 use std::alloc::AllocError;
-use std::fmt;
 use std::marker::Model;
 use std::sync::ArcSlice;
+use wire_number::Endian;
+
+/// What a message's header says.
+#[derive(Clone, Copy, Debug)]
+pub(crate) struct Parts {
+    pub(crate) kind: MessageType,
+    pub(crate) order: Endian,
+    pub(crate) flags: u8,
+    pub(crate) serial: u32,
+    pub(crate) places: Places,
+}
 
 /// A message on its own bytes, with its position among the messages that a peer read, from 1 on (0 where it wasn't
 /// read). A clone shares the bytes.
 #[derive(Drop)]
 pub struct Message {
-    bytes: ArcSlice<u8>,
+    pub(crate) bytes: ArcSlice<u8>,
     position: u64,
-    kind: MessageType,
-    serial: u32,
-    reply_serial: Option<u32>,
+    pub(crate) parts: Parts,
 }
 
 impl Model for Message {
     ghost use Rattle.std.specs.Arc.{arc_slice_items};
-    ghost use Rattle.wire_message.specs.Front.{Seen};
+    ghost use Rattle.wire_message.specs.Front.{Seen, seen};
+    ghost use Rattle.wire_message.specs.Places.{found_fields, Stands};
 
     ghost Value = { Seen };
 
-    ghost view = { λ m. record { bytes = arc_slice_items m.bytes; position = m.position; kind = m.kind; serial = m.serial; reply_serial = m.reply_serial } };
+    ghost view = { λ m. seen (arc_slice_items m.bytes) m.position m.parts.kind m.parts.order m.parts.flags m.parts.serial (found_fields (arc_slice_items m.bytes) m.parts.places) };
+
+    ghost invariant = { λ m. Stands (arc_slice_items m.bytes) m.parts.kind m.parts.order m.parts.flags m.parts.serial m.parts.places };
 }
 
 impl Message {
     /// The parts of a message as one.
-    pub(crate) fn from_parts(
-        bytes: ArcSlice<u8>,
-        kind: MessageType,
-        serial: u32,
-        reply_serial: Option<u32>,
-    ) -> Message
-        ensures { result ≡ record { bytes = arc_slice_items bytes; position = 0; kind = kind; serial = serial; reply_serial = reply_serial } }
+    pub(crate) fn from_parts(bytes: ArcSlice<u8>, parts: Parts) -> Message
+        requires { Stands (arc_slice_items bytes) parts.kind parts.order parts.flags parts.serial parts.places }
+        ensures { result ≡ seen (arc_slice_items bytes) 0 parts.kind parts.order parts.flags parts.serial (found_fields (arc_slice_items bytes) parts.places) }
     {
         Message {
             bytes,
             position: 0,
-            kind,
-            serial,
-            reply_serial,
+            parts,
         }
     }
 
@@ -59,21 +66,21 @@ impl Message {
     pub fn message_type(&self) -> MessageType
         ensures { result ≡ self.now.kind }
     {
-        self.kind
+        self.parts.kind
     }
 
     /// The message's serial.
     pub fn serial_num(&self) -> u32
         ensures { result ≡ self.now.serial }
     {
-        self.serial
+        self.parts.serial
     }
 
     /// The serial of the call that the message answers.
     pub fn reply_serial(&self) -> Option<u32>
         ensures { result ≡ self.now.reply_serial }
     {
-        self.reply_serial
+        self.parts.places.reply_serial
     }
 
     /// The position among the messages that the peer read, from 1 on; 0 where the message wasn't read.
@@ -90,9 +97,7 @@ impl Message {
         Message {
             position,
             bytes: self.bytes,
-            kind: self.kind,
-            serial: self.serial,
-            reply_serial: self.reply_serial,
+            parts: self.parts,
         }
     }
 
@@ -103,23 +108,7 @@ impl Message {
         Ok(Message {
             bytes: self.bytes.clone()?,
             position: self.position,
-            kind: self.kind,
-            serial: self.serial,
-            reply_serial: self.reply_serial,
+            parts: self.parts,
         })
-    }
-}
-
-/// The type of the message, as `Method call`.
-impl fmt::Display for Message {
-    ghost output = { λ m. Some (kind_text m.kind) };
-
-    fn fmt<W: fmt::Write>(&self, f: &mut fmt::Formatter<W>) -> fmt::Result {
-        match self.kind {
-            MessageType::MethodCall => f.write_str("Method call"),
-            MessageType::MethodReturn => f.write_str("Method return"),
-            MessageType::Error => f.write_str("Error"),
-            MessageType::Signal => f.write_str("Signal"),
-        }
     }
 }

@@ -1,8 +1,10 @@
-ghost use Rattle.std.specs.Prelude.{ℕ, ◌≡◌, ◌+◌, ◌%◌, Bool, IfSome, IfNone};
-ghost use Rattle.wire_message.specs.Circle.{Draws, IsNext, AllTaken};
+ghost use Rattle.std.specs.Prelude.{ℕ, ◌≡◌, ◌+◌, ◌≤◌, ◌%◌, Bool, IfSome, IfNone};
+ghost use Rattle.wire_message.specs.Circle.{Draws, IsNext, AllTaken, taken_among};
 
 use crate::error::{Error, Result};
+use crate::steps::Steps;
 use std::marker::Model;
+use std::sync::ledger::Ledger;
 
 /// Which serials are pending, so that none of them is drawn.
 pub trait Taken {
@@ -11,6 +13,10 @@ pub trait Taken {
     /// Whether the serial is pending.
     fn taken(&self, serial: u32) -> bool
         ensures { result ≡ is_taken self.now serial };
+
+    /// How many of the serials from 1 to 4,294,967,295 are pending.
+    fn count(&self) -> u64
+        ensures { result ≡ taken_among (is_taken self.now) 4294967295 };
 }
 
 /// Draws serials: each is the first after the last one drawn, round the circle from 1 to 4,294,967,295, that isn't
@@ -36,11 +42,13 @@ impl Serials {
         Serials { last: 0 }
     }
 
-    /// Draws the next serial. SerialsSpent exactly where each of the 4,294,967,295 is pending; then nothing was drawn.
-    pub fn next<T: Taken>(&mut self, taken: &T) -> Result<u32>
+    /// Draws the next serial. SerialsSpent exactly where each of the 4,294,967,295 is pending; then nothing was drawn. A step
+    /// is a serial that is looked at; there are at most two more than serials that are pending.
+    pub fn next<T: Taken, L: Ledger>(&mut self, taken: &T, steps: &mut Steps<L>) -> Result<u32>
         ensures drawn { Draws (T.is_taken taken.now) self.old self.new result }
+        ensures cost { steps.new ≤ steps.old + taken_among (T.is_taken taken.now) 4294967295 + 2 }
     {
-        match next_after(self.last, taken) {
+        match next_after(self.last, taken, steps) {
             Some(serial) => {
                 self.last = serial;
                 Ok(serial)
@@ -59,12 +67,14 @@ fn after(serial: u32) -> u32
 
 /// The first serial after the last one drawn that isn't pending.
 #[tactic(auto, using(crate::proofs::Circle::round))]
-fn next_after<T: Taken>(last: u32, taken: &T) -> Option<u32>
+fn next_after<T: Taken, L: Ledger>(last: u32, taken: &T, steps: &mut Steps<L>) -> Option<u32>
     ensures next { IfSome result (IsNext (T.is_taken taken.now) last) }
     ensures none { IfNone result (AllTaken (T.is_taken taken.now)) }
+    ensures cost { steps.new ≤ steps.old + taken_among (T.is_taken taken.now) 4294967295 + 2 }
 {
     let mut candidate = last;
     for _ in 0..u32::MAX {
+        steps.tick();
         candidate = after(candidate);
         if !taken.taken(candidate) {
             return Some(candidate);

@@ -38,6 +38,21 @@ impl<'a> TryFrom<&'a str> for BusName<'a> {
 }
 
 impl<'a> BusName<'a> {
+    /// Reads bytes, which may be no UTF-8, without taking memory.
+    ///
+    /// # Errors
+    ///
+    /// [`NamesError::Bus`] exactly outside the grammar.
+    pub fn try_from_bytes(bytes: &'a [u8]) -> Result<BusName<'a>, NamesError>
+        ensures value { OkIff result (IsBusName bytes.now) (bus_name_of bytes.now) }
+        ensures error { IfErr result (λ e. e ≡ Bus) }
+    {
+        match str::from_utf8(bytes) {
+            Ok(text) => BusName::try_from(text),
+            Err(_) => Err(NamesError::Bus),
+        }
+    }
+
     #[tactic(auto, unfolding(crate::specs::Names::is_bus_name))]
     pub fn as_str(&self) -> &'a str
         ensures value { result.now ≡ text_of self.now }

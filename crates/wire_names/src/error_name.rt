@@ -48,6 +48,21 @@ impl<'a> TryFrom<&'a str> for ErrorName<'a> {
 }
 
 impl<'a> ErrorName<'a> {
+    /// Reads bytes, which may be no UTF-8, without taking memory.
+    ///
+    /// # Errors
+    ///
+    /// [`NamesError::Error`] exactly outside the grammar.
+    pub fn try_from_bytes(bytes: &'a [u8]) -> Result<ErrorName<'a>, NamesError>
+        ensures value { OkIff result (IsErrorName bytes.now) bytes.now }
+        ensures error { IfErr result (λ e. e ≡ Error) }
+    {
+        match str::from_utf8(bytes) {
+            Ok(text) => ErrorName::try_from(text),
+            Err(_) => Err(NamesError::Error),
+        }
+    }
+
     pub fn as_str(&self) -> &'a str
         ensures value { result.now ≡ self.now }
         ensures valid { IsErrorName self.now }

@@ -48,6 +48,21 @@ impl<'a> TryFrom<&'a str> for InterfaceName<'a> {
 }
 
 impl<'a> InterfaceName<'a> {
+    /// Reads bytes, which may be no UTF-8, without taking memory.
+    ///
+    /// # Errors
+    ///
+    /// [`NamesError::Interface`] exactly outside the grammar.
+    pub fn try_from_bytes(bytes: &'a [u8]) -> Result<InterfaceName<'a>, NamesError>
+        ensures value { OkIff result (IsInterfaceName bytes.now) bytes.now }
+        ensures error { IfErr result (λ e. e ≡ Interface) }
+    {
+        match str::from_utf8(bytes) {
+            Ok(text) => InterfaceName::try_from(text),
+            Err(_) => Err(NamesError::Interface),
+        }
+    }
+
     pub fn as_str(&self) -> &'a str
         ensures value { result.now ≡ self.now }
         ensures valid { IsInterfaceName self.now }

@@ -48,6 +48,21 @@ impl<'a> TryFrom<&'a str> for UniqueName<'a> {
 }
 
 impl<'a> UniqueName<'a> {
+    /// Reads bytes, which may be no UTF-8, without taking memory.
+    ///
+    /// # Errors
+    ///
+    /// [`NamesError::Unique`] exactly outside the grammar.
+    pub fn try_from_bytes(bytes: &'a [u8]) -> Result<UniqueName<'a>, NamesError>
+        ensures value { OkIff result (IsUniqueName bytes.now) bytes.now }
+        ensures error { IfErr result (λ e. e ≡ Unique) }
+    {
+        match str::from_utf8(bytes) {
+            Ok(text) => UniqueName::try_from(text),
+            Err(_) => Err(NamesError::Unique),
+        }
+    }
+
     pub fn as_str(&self) -> &'a str
         ensures value { result.now ≡ self.now }
         ensures valid { IsUniqueName self.now }

@@ -1,4 +1,4 @@
-use Rattle.std.proofs.Common.{arith, take, length, refl, sym, ◌∙◌, ap, add-zero, ◌≡◌, ◌≤◌, None}
+use Rattle.std.proofs.Common.{arith, take, length, refl, sym, ◌∙◌, add-zero, ◌≡◌}
 use Rattle.std.proofs.lemmas.List.{length-take-le}
 use Rattle.peer_run.proofs.Lanes.{count-at_most, counted}
 use Rattle.peer_run.proofs.peer.count.Goals as goal

@@ -1,4 +1,3 @@
-use Rattle.std.proofs.Common.{◌≡◌}
 use Rattle.peer_run.proofs.Ends.{if_ok3}
 use Rattle.peer_run.proofs.run.answer_to.Goals as goal
 

@@ -1,6 +1,6 @@
-use Rattle.std.proofs.Common.{◌≡◌, List, [], ◌∷◌, ◌++◌, map, reverse, take, refl, sym, ◌∙◌, ap, subst, arith}
+use Rattle.std.proofs.Common.{[], ◌∷◌, ◌++◌, map, take, sym, ◌∙◌, ap, arith}
 use Rattle.std.proofs.lemmas.List.{take_more, reverse-append, map_push}
-use Rattle.peer_run.specs.Runs.{Stands, command_of}
+use Rattle.peer_run.specs.Runs.{command_of}
 use Rattle.peer_run.proofs.run.run_peer.Goals as goal
 
 pub loop-command-preserved : goal.loop-command-preserved

@@ -1,5 +1,4 @@
 use Rattle.std.proofs.Common.{◌≡◌, ◌≤◌, map, reverse, take}
-use Rattle.peer_run.specs.Stands.{Inlet, Outlet}
 use Rattle.peer_run.specs.Runs.{Stands, command_of}
 use Rattle.peer_run.proofs.run.run_peer.Given as goal
 

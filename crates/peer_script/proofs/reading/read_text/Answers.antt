@@ -1,14 +1,13 @@
 use Rattle.std.proofs.Common.{arith, sym, ◌∙◌}
 use Rattle.std.specs.declared.alloc.AllocError.{AllocError}
 use Rattle.peer_script.specs.Reading.{said}
-use Rattle.peer_script.proofs.Read.{taken, refused, outside, nothing_read, nothing_told, may_come, may_not_come}
+use Rattle.peer_script.proofs.Read.{taken, refused, outside, nothing_read, may_come, may_not_come}
 use Rattle.peer_script.proofs.reading.read_text.Goals as goal
 
 pub loop-line-init : goal.loop-line-init
 loop-line-init c =
     record {
       said = nothing_read c.args.text.now c.new.result.items c.new-2.result.items c.new.ensures.items c.new-2.ensures.items;
-      bytes_alone = nothing_told c.new.result.items c.new.ensures.items;
       numbered = omega arith;
     }
 
@@ -28,7 +27,6 @@ loop-line-preserved c =
     let came = may_come AllocError c.in_ok-take_line.field-0 _ c.take_line.new.progress _ c.if-not-branch.false c.in_ok-take_line.ensures in
     record {
       said = taken _ c.loop-line.progress.stage (said c.loop-line.progress) c.loop-line.number c.in-Some.line.now c.loop-line.rest.now c.in-Some.more.now c.in-Some-2.line _ c.loop-line.invariant.said c.in-Some.ensures.0
-          (sym c.in_ok-line.ensures ∙ c.in-Some-2.is) came.0;
-      bytes_alone = came.1;
+          (sym c.in_ok-line.ensures ∙ c.in-Some-2.is) came;
       numbered = omega (arith, c.in-Some.ensures.1);
     }

@@ -1,5 +1,4 @@
-use Rattle.std.proofs.Common.{◌≡◌, ◌+◌, ◌≤◌, false, length}
-use Rattle.wire_framing.specs.Memory.{told_stop}
+use Rattle.std.proofs.Common.{◌≡◌, ◌+◌, ◌≤◌, length}
 use Rattle.peer_script.specs.Script.{parts}
 use Rattle.peer_script.specs.Reading.{read_lines, script_of, said}
 use Rattle.peer_script.proofs.reading.read_text.Given as goal
@@ -8,7 +7,6 @@ abbrev pub invariant-loop-line : goal.invariant-loop-line
 invariant-loop-line l =
     record {
       said : script_of l.text ≡ read_lines (record { stage = l.progress.stage; script = said l.progress }) l.number (parts l.rest);
-      bytes_alone : told_stop l.progress.pieces.items ≡ false;
       numbered : l.number + length l.rest ≤ 1 + length l.text;
     }
 

@@ -1,11 +1,23 @@
-use Rattle.std.proofs.Common.{arith, slice_index, ◌≡◌, ◌+◌, ◌-◌}
-use Rattle.wire_message.specs.Numbers.{word_at}
-use Rattle.wire_message.specs.Outcome.{kind_of}
-use Rattle.wire_message.proofs.Fields.{message_by-refused}
+use Rattle.std.proofs.Common.{arith, refl, ◌+◌, ◌≤◌, ◌∙◌, sym, ap, Ok, slice_index}
+use Rattle.std.specs.Int.{w32}
+use Rattle.wire_number.specs.declared.endian.Endian.{Endian}
+use Rattle.wire_number.specs.Number.{number_at}
+use Rattle.wire_message.specs.Front.{fields_len}
+use Rattle.wire_message.proofs.Moved.{message-made, message-stands}
 use Rattle.wire_message.proofs.front.message_on.Goals as goal
 
--- where the bytes of the fields are no field array
-pub returns-in_default-reply_serial : goal.returns-in_default-reply_serial
-returns-in_default-reply_serial c =
-    let e : 16 + c.word-fields.result - 16 ≡ word_at 12 c.args.bytes.now = omega arith in
-    message_by-refused c.args.bytes.now (kind_of (slice_index c.args.bytes.now 1)) c.reply_serial.result _ c.in_default-reply_serial.is c.reply_serial.ensures e
+pub from_parts-requires : goal.from_parts-requires
+from_parts-requires c =
+    let bytes = c.args.bytes.now in
+    message-stands bytes _ c.args.total c.in-Some.kind c.in-Some-places_of.places c.byte_order-order.result (slice_index bytes 2) c.read_u32.result
+    (λ i. omega (arith, c.type_inv.bytes i)) c.requires.length c.requires.right c.requires.there c.requires.whole
+    c.in-Some.ensures c.in-Some-places_of.ensures.found c.in-Some-places_of.ensures.spans c.in_ok-own.ensures.ok c.byte_order-order.ensures refl
+    (c.read_u32.ensures ∙ ap (λ (o : Endian). number_at w32 o 8 bytes) c.byte_order-order.ensures)
+
+pub returns : goal.returns
+returns c =
+    let bytes = c.args.bytes.now in
+    let inside : 16 + fields_len bytes ≤ c.args.total = omega (arith, c.requires.whole) in
+    message-made bytes _ c.args.total c.in-Some.kind c.in-Some-places_of.places c.byte_order-order.result (slice_index bytes 2) c.read_u32.result
+    inside c.requires.whole c.in-Some.ensures c.in-Some-places_of.ensures.found c.in-Some-places_of.ensures.spans c.in_ok-own.ensures.ok c.byte_order-order.ensures refl
+    (c.read_u32.ensures ∙ ap (λ (o : Endian). number_at w32 o 8 bytes) c.byte_order-order.ensures) ∙ ap Ok (sym c.from_parts.ensures)

@@ -1,13 +1,21 @@
 use Rattle.std.proofs.Common.{arith, sym, ◌∙◌, ◌≡◌}
-use Rattle.wire_message.proofs.Circle.{next-of, round_all}
+use Rattle.wire_message.proofs.Circle.{next-of, round_all, tried-among}
 use Rattle.wire_message.proofs.serials.next_after.Goals as goal
 
 -- the candidate isn't pending
 pub returns-then-not-taken-clause-next : goal.returns-then-not-taken-clause-next
-returns-then-not-taken-clause-next g c = next-of (g.T.Taken.is_taken c.args.taken.now) c.args.last c.loop.counter c.loop.candidate _ (omega arith) c.loop.invariant c.loop-test.true c.after-candidate.ensures (sym c.taken.ensures ∙ c.if-not-taken.true)
+returns-then-not-taken-clause-next g c = next-of (g.T.Taken.is_taken c.args.taken.now) c.args.last c.loop.counter c.loop.candidate _ (omega arith) c.loop.invariant.tries c.loop-test.true c.after-candidate.ensures (sym c.taken.ensures ∙ c.if-not-taken.true)
+
+pub returns-then-not-taken-clause-cost : goal.returns-then-not-taken-clause-cost
+returns-then-not-taken-clause-cost g c =
+    omega (arith, c.loop.invariant.cost, tried-among (g.T.Taken.is_taken c.args.taken.now) c.args.last c.loop.counter c.loop.candidate (omega arith) c.loop.invariant.tries)
 
 -- the whole round was pending
 pub returns-clause-none : goal.returns-clause-none
 returns-clause-none g c =
     let e : c.loop.counter ≡ 4294967295 = omega arith in
-    round_all (g.T.Taken.is_taken c.args.taken.now) c.args.last c.loop.candidate (omega arith) (rw e at c.loop.invariant)
+    round_all (g.T.Taken.is_taken c.args.taken.now) c.args.last c.loop.candidate (omega arith) (rw e at c.loop.invariant.tries)
+
+pub returns-clause-cost : goal.returns-clause-cost
+returns-clause-cost g c =
+    omega (arith, c.loop.invariant.cost, tried-among (g.T.Taken.is_taken c.args.taken.now) c.args.last c.loop.counter c.loop.candidate (omega arith) c.loop.invariant.tries)

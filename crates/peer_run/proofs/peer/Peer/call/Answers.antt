@@ -1,14 +1,12 @@
-use Rattle.std.proofs.Common.{◌≡◌, ℕ, List, refl, sym, ◌∙◌, ap, subst, true, Ok, Err, Result}
+use Rattle.std.proofs.Common.{◌≡◌, refl, sym, ◌∙◌, ap, subst, true, Ok, Err}
 use Rattle.std.proofs.lemmas.Result.{IfOk-weaker}
 use Rattle.wire_names.specs.Names.{is_object_path, is_member_name}
-use Rattle.wire_message.specs.declared.error.Error.TheVariants as errors
-use Rattle.peer_route.specs.declared.answer.Answer.TheVariants as answers
-use Rattle.peer_route.specs.declared.words.Words.TheVariants as words
+use Rattle.wire_message.specs.Draft.{call_draft}
 use Rattle.peer_route.specs.Trail.{trail}
 use Rattle.peer_route.specs.Left.{Issues}
-use Rattle.peer_run.specs.Stands.{PeerView, Inlet, Outlet, Follows, Reads, Writes, entry}
+use Rattle.peer_run.specs.Stands.{PeerView, Outlet, Follows}
 use Rattle.peer_run.proofs.CallStep.{reads_call}
-use Rattle.peer_run.proofs.CallEnds.{follows_bad_path, follows_bad_member, follows_unissued, writes_unissued, reads_unissued, unsent_ok, sending}
+use Rattle.peer_run.proofs.CallEnds.{follows_bad_path, follows_bad_member, follows_unissued, writes_unissued, unsent_ok, sending}
 use Rattle.peer_run.proofs.peer.Peer.call.Goals as goal
 
 pub returns-in-Err-clause-follows : goal.returns-in-Err-clause-follows
@@ -28,17 +26,17 @@ returns-in-Ok-issue-clause-follows g c =
     let member_is : c.in-Ok-try_from_bytes.member ≡ c.args.member.now = c.in-Ok-try_from_bytes.ensures.value.1 ∙ c.as_slice-2.ensures.value in
     let good_path : is_object_path c.args.path.now ≡ true = rw (c.as_slice.ensures.value) at c.in-Ok.ensures.value.0 in
     let good_member : is_member_name c.args.member.now ≡ true = rw (c.as_slice-2.ensures.value) at c.in-Ok-try_from_bytes.ensures.value.0 in
-    let p : PeerView = record { core = c.self.inside.route; names = c.self.inside.names.items } in
-    let q : PeerView = record { core = c.issue.new.self; names = c.self.inside.names.items } in
+    let draft_is : c.method_call.result ≡ call_draft c.args.path.now c.args.member.now =
+    c.method_call.ensures ∙ ap (λ x. call_draft x c.in-Ok-try_from_bytes.member) path_is ∙ ap (call_draft c.args.path.now) member_is in
+    let p : PeerView = record { core = c.self.inside.route; names = c.self.inside.names.items; streams = c.self.inside.streams.items } in
+    let q : PeerView = record { core = c.issue.new.self; names = c.self.inside.names.items; streams = c.self.inside.streams.items } in
     let now_out : Outlet = record { held = g.W.Sink.held c.args.sink.now; room = g.W.Sink.room c.args.sink.now; faults = g.W.Sink.faults c.args.sink.now } in
     let after_out : Outlet = record { held = g.W.Sink.held c.send.new.sink; room = g.W.Sink.room c.send.new.sink; faults = g.W.Sink.faults c.send.new.sink } in
     IfOk-weaker c.send.result _ _ (λ answer sent es f.
     let k : Follows p es = subst (λ v. Follows v es) (sym c.self.view_is) f in
-    let issues : Issues p.core q.core c.args.path.now c.args.member.now (trail es).events (Ok c.in-Ok-issue.issued) =
-    subst (λ m. Issues p.core q.core c.args.path.now m (trail es).events (Ok c.in-Ok-issue.issued)) member_is
-    (subst (λ x. Issues p.core q.core x c.in-Ok-try_from_bytes.member (trail es).events (Ok c.in-Ok-issue.issued)) path_is
-    (c.in-Ok-issue.ensures.issues (trail es).events k.left)) in
-    let done = sending p q c.send.new.self es c.args.lane c.args.path.now c.args.member.now c.in-Ok-issue.issued now_out after_out answer good_path good_member k issues refl sent in
+    let issues : Issues p.core q.core (call_draft c.args.path.now c.args.member.now) (trail es).events (Ok c.in-Ok-issue.issued) =
+    subst (λ d. Issues p.core q.core d (trail es).events (Ok c.in-Ok-issue.issued)) draft_is (c.in-Ok-issue.ensures.issues (trail es).events k.left) in
+    let done = sending p q c.send.new.self es c.args.lane c.args.path.now c.args.member.now c.in-Ok-issue.issued now_out after_out answer good_path good_member k issues refl refl sent in
     done.follows) c.send.ensures.sent
 
 pub returns-in-Ok-issue-clause-reads : goal.returns-in-Ok-issue-clause-reads
@@ -47,17 +45,17 @@ returns-in-Ok-issue-clause-reads g c =
     let member_is : c.in-Ok-try_from_bytes.member ≡ c.args.member.now = c.in-Ok-try_from_bytes.ensures.value.1 ∙ c.as_slice-2.ensures.value in
     let good_path : is_object_path c.args.path.now ≡ true = rw (c.as_slice.ensures.value) at c.in-Ok.ensures.value.0 in
     let good_member : is_member_name c.args.member.now ≡ true = rw (c.as_slice-2.ensures.value) at c.in-Ok-try_from_bytes.ensures.value.0 in
-    let p : PeerView = record { core = c.self.inside.route; names = c.self.inside.names.items } in
-    let q : PeerView = record { core = c.issue.new.self; names = c.self.inside.names.items } in
+    let draft_is : c.method_call.result ≡ call_draft c.args.path.now c.args.member.now =
+    c.method_call.ensures ∙ ap (λ x. call_draft x c.in-Ok-try_from_bytes.member) path_is ∙ ap (call_draft c.args.path.now) member_is in
+    let p : PeerView = record { core = c.self.inside.route; names = c.self.inside.names.items; streams = c.self.inside.streams.items } in
+    let q : PeerView = record { core = c.issue.new.self; names = c.self.inside.names.items; streams = c.self.inside.streams.items } in
     let now_out : Outlet = record { held = g.W.Sink.held c.args.sink.now; room = g.W.Sink.room c.args.sink.now; faults = g.W.Sink.faults c.args.sink.now } in
     let after_out : Outlet = record { held = g.W.Sink.held c.send.new.sink; room = g.W.Sink.room c.send.new.sink; faults = g.W.Sink.faults c.send.new.sink } in
     IfOk-weaker c.send.result _ _ (λ answer sent start now es f r.
     let k : Follows p es = subst (λ v. Follows v es) (sym c.self.view_is) f in
-    let issues : Issues p.core q.core c.args.path.now c.args.member.now (trail es).events (Ok c.in-Ok-issue.issued) =
-    subst (λ m. Issues p.core q.core c.args.path.now m (trail es).events (Ok c.in-Ok-issue.issued)) member_is
-    (subst (λ x. Issues p.core q.core x c.in-Ok-try_from_bytes.member (trail es).events (Ok c.in-Ok-issue.issued)) path_is
-    (c.in-Ok-issue.ensures.issues (trail es).events k.left)) in
-    let done = sending p q c.send.new.self es c.args.lane c.args.path.now c.args.member.now c.in-Ok-issue.issued now_out after_out answer good_path good_member k issues refl sent in
+    let issues : Issues p.core q.core (call_draft c.args.path.now c.args.member.now) (trail es).events (Ok c.in-Ok-issue.issued) =
+    subst (λ d. Issues p.core q.core d (trail es).events (Ok c.in-Ok-issue.issued)) draft_is (c.in-Ok-issue.ensures.issues (trail es).events k.left) in
+    let done = sending p q c.send.new.self es c.args.lane c.args.path.now c.args.member.now c.in-Ok-issue.issued now_out after_out answer good_path good_member k issues refl refl sent in
     reads_call start now es c.args.lane c.args.path.now c.args.member.now answer done.reads r) c.send.ensures.sent
 
 pub returns-in-Ok-issue-clause-writes : goal.returns-in-Ok-issue-clause-writes
@@ -66,17 +64,17 @@ returns-in-Ok-issue-clause-writes g c =
     let member_is : c.in-Ok-try_from_bytes.member ≡ c.args.member.now = c.in-Ok-try_from_bytes.ensures.value.1 ∙ c.as_slice-2.ensures.value in
     let good_path : is_object_path c.args.path.now ≡ true = rw (c.as_slice.ensures.value) at c.in-Ok.ensures.value.0 in
     let good_member : is_member_name c.args.member.now ≡ true = rw (c.as_slice-2.ensures.value) at c.in-Ok-try_from_bytes.ensures.value.0 in
-    let p : PeerView = record { core = c.self.inside.route; names = c.self.inside.names.items } in
-    let q : PeerView = record { core = c.issue.new.self; names = c.self.inside.names.items } in
+    let draft_is : c.method_call.result ≡ call_draft c.args.path.now c.args.member.now =
+    c.method_call.ensures ∙ ap (λ x. call_draft x c.in-Ok-try_from_bytes.member) path_is ∙ ap (call_draft c.args.path.now) member_is in
+    let p : PeerView = record { core = c.self.inside.route; names = c.self.inside.names.items; streams = c.self.inside.streams.items } in
+    let q : PeerView = record { core = c.issue.new.self; names = c.self.inside.names.items; streams = c.self.inside.streams.items } in
     let now_out : Outlet = record { held = g.W.Sink.held c.args.sink.now; room = g.W.Sink.room c.args.sink.now; faults = g.W.Sink.faults c.args.sink.now } in
     let after_out : Outlet = record { held = g.W.Sink.held c.send.new.sink; room = g.W.Sink.room c.send.new.sink; faults = g.W.Sink.faults c.send.new.sink } in
     IfOk-weaker c.send.result _ _ (λ answer sent start es f w.
     let k : Follows p es = subst (λ v. Follows v es) (sym c.self.view_is) f in
-    let issues : Issues p.core q.core c.args.path.now c.args.member.now (trail es).events (Ok c.in-Ok-issue.issued) =
-    subst (λ m. Issues p.core q.core c.args.path.now m (trail es).events (Ok c.in-Ok-issue.issued)) member_is
-    (subst (λ x. Issues p.core q.core x c.in-Ok-try_from_bytes.member (trail es).events (Ok c.in-Ok-issue.issued)) path_is
-    (c.in-Ok-issue.ensures.issues (trail es).events k.left)) in
-    let done = sending p q c.send.new.self es c.args.lane c.args.path.now c.args.member.now c.in-Ok-issue.issued now_out after_out answer good_path good_member k issues refl sent in
+    let issues : Issues p.core q.core (call_draft c.args.path.now c.args.member.now) (trail es).events (Ok c.in-Ok-issue.issued) =
+    subst (λ d. Issues p.core q.core d (trail es).events (Ok c.in-Ok-issue.issued)) draft_is (c.in-Ok-issue.ensures.issues (trail es).events k.left) in
+    let done = sending p q c.send.new.self es c.args.lane c.args.path.now c.args.member.now c.in-Ok-issue.issued now_out after_out answer good_path good_member k issues refl refl sent in
     done.writes start w) c.send.ensures.sent
 
 pub returns-in-Err-issue-clause-follows : goal.returns-in-Err-issue-clause-follows
@@ -85,15 +83,15 @@ returns-in-Err-issue-clause-follows g c =
     let member_is : c.in-Ok-try_from_bytes.member ≡ c.args.member.now = c.in-Ok-try_from_bytes.ensures.value.1 ∙ c.as_slice-2.ensures.value in
     let good_path : is_object_path c.args.path.now ≡ true = rw (c.as_slice.ensures.value) at c.in-Ok.ensures.value.0 in
     let good_member : is_member_name c.args.member.now ≡ true = rw (c.as_slice-2.ensures.value) at c.in-Ok-try_from_bytes.ensures.value.0 in
-    let p : PeerView = record { core = c.self.inside.route; names = c.self.inside.names.items } in
-    let q : PeerView = record { core = c.issue.new.self; names = c.self.inside.names.items } in
+    let draft_is : c.method_call.result ≡ call_draft c.args.path.now c.args.member.now =
+    c.method_call.ensures ∙ ap (λ x. call_draft x c.in-Ok-try_from_bytes.member) path_is ∙ ap (call_draft c.args.path.now) member_is in
+    let p : PeerView = record { core = c.self.inside.route; names = c.self.inside.names.items; streams = c.self.inside.streams.items } in
+    let q : PeerView = record { core = c.issue.new.self; names = c.self.inside.names.items; streams = c.self.inside.streams.items } in
     IfOk-weaker c.not_issued.result _ _ (λ answer e es f.
     let k : Follows p es = subst (λ v. Follows v es) (sym c.self.view_is) f in
-    let issues : Issues p.core q.core c.args.path.now c.args.member.now (trail es).events (Err c.in-Err-issue.error) =
-    subst (λ m. Issues p.core q.core c.args.path.now m (trail es).events (Err c.in-Err-issue.error)) member_is
-    (subst (λ x. Issues p.core q.core x c.in-Ok-try_from_bytes.member (trail es).events (Err c.in-Err-issue.error)) path_is
-    (c.in-Err-issue.ensures.issues (trail es).events k.left)) in
-    follows_unissued p q es c.args.lane c.args.path.now c.args.member.now c.in-Err-issue.error answer good_path good_member k issues e refl) (unsent_ok c.in-Err-issue.error c.not_issued.result c.not_issued.ensures)
+    let issues : Issues p.core q.core (call_draft c.args.path.now c.args.member.now) (trail es).events (Err c.in-Err-issue.error) =
+    subst (λ d. Issues p.core q.core d (trail es).events (Err c.in-Err-issue.error)) draft_is (c.in-Err-issue.ensures.issues (trail es).events k.left) in
+    follows_unissued p q es c.args.lane c.args.path.now c.args.member.now c.in-Err-issue.error answer good_path good_member k issues e refl refl) (unsent_ok c.in-Err-issue.error c.not_issued.result c.not_issued.ensures)
 
 pub returns-in-Err-issue-clause-writes : goal.returns-in-Err-issue-clause-writes
 returns-in-Err-issue-clause-writes g c =
@@ -101,12 +99,12 @@ returns-in-Err-issue-clause-writes g c =
     let member_is : c.in-Ok-try_from_bytes.member ≡ c.args.member.now = c.in-Ok-try_from_bytes.ensures.value.1 ∙ c.as_slice-2.ensures.value in
     let good_path : is_object_path c.args.path.now ≡ true = rw (c.as_slice.ensures.value) at c.in-Ok.ensures.value.0 in
     let good_member : is_member_name c.args.member.now ≡ true = rw (c.as_slice-2.ensures.value) at c.in-Ok-try_from_bytes.ensures.value.0 in
-    let p : PeerView = record { core = c.self.inside.route; names = c.self.inside.names.items } in
-    let q : PeerView = record { core = c.issue.new.self; names = c.self.inside.names.items } in
+    let draft_is : c.method_call.result ≡ call_draft c.args.path.now c.args.member.now =
+    c.method_call.ensures ∙ ap (λ x. call_draft x c.in-Ok-try_from_bytes.member) path_is ∙ ap (call_draft c.args.path.now) member_is in
+    let p : PeerView = record { core = c.self.inside.route; names = c.self.inside.names.items; streams = c.self.inside.streams.items } in
+    let q : PeerView = record { core = c.issue.new.self; names = c.self.inside.names.items; streams = c.self.inside.streams.items } in
     IfOk-weaker c.not_issued.result _ _ (λ answer e start es f w.
     let k : Follows p es = subst (λ v. Follows v es) (sym c.self.view_is) f in
-    let issues : Issues p.core q.core c.args.path.now c.args.member.now (trail es).events (Err c.in-Err-issue.error) =
-    subst (λ m. Issues p.core q.core c.args.path.now m (trail es).events (Err c.in-Err-issue.error)) member_is
-    (subst (λ x. Issues p.core q.core x c.in-Ok-try_from_bytes.member (trail es).events (Err c.in-Err-issue.error)) path_is
-    (c.in-Err-issue.ensures.issues (trail es).events k.left)) in
+    let issues : Issues p.core q.core (call_draft c.args.path.now c.args.member.now) (trail es).events (Err c.in-Err-issue.error) =
+    subst (λ d. Issues p.core q.core d (trail es).events (Err c.in-Err-issue.error)) draft_is (c.in-Err-issue.ensures.issues (trail es).events k.left) in
     writes_unissued p q start _ es c.args.lane c.args.path.now c.args.member.now c.in-Err-issue.error answer good_path good_member k issues e w) (unsent_ok c.in-Err-issue.error c.not_issued.result c.not_issued.ensures)

@@ -1,0 +1,43 @@
+-- A refusal leaves everything as it was.
+use Rattle.std.proofs.Common.{◌≡◌, ℕ, refl, ◌∙◌, ap, List, [], ◌∷◌, ◌++◌, Option, Some, None, append-nil}
+use Rattle.wire_message.specs.declared.error.Error.{Error}
+use Rattle.peer_route.specs.declared.words.Words.{Words}
+use Rattle.peer_route.specs.declared.words.Words.TheVariants as words
+use Rattle.peer_route.specs.declared.answer.Answer.TheVariants as answers
+use Rattle.peer_route.specs.declared.answer.Entry.{Entry}
+use Rattle.peer_route.specs.History.{closing}
+use Rattle.peer_route.specs.Trail.{Trail, place, trail, more, read_events, poll_spends, drop_spends, take_does, events_of}
+
+read_refused : (o : Option Error) (error : Error) → read_events o (answers.Refused error) ≡ []
+read_refused None error = refl
+read_refused (Some other) error = refl
+
+poll_refused : (p : Option ℕ) (error : Error) → poll_spends p (answers.Refused error) ≡ []
+poll_refused None error = refl
+poll_refused (Some k) error = refl
+
+drop_refused : (p : Option ℕ) (error : Error) → drop_spends p (answers.Refused error) ≡ []
+drop_refused None error = refl
+drop_refused (Some k) error = refl
+
+take_refused : (p : Option ℕ) (error : Error) → take_does p (answers.Refused error) ≡ []
+take_refused None error = refl
+take_refused (Some k) error = refl
+
+no_events : (t : Trail) (lane : ℕ) (w : Words) (error : Error) → events_of t.events t.names t.streams lane w (answers.Refused error) ≡ []
+no_events t lane (words.Call path member) error = refl
+no_events t lane words.Read error = read_refused (closing t.events) error
+no_events t lane (words.Poll n) error = poll_refused (place 0 lane n t.names) error
+no_events t lane (words.Drop n) error = drop_refused (place 0 lane n t.names) error
+no_events t lane words.Stream error = refl
+no_events t lane (words.Take n) error = take_refused (place 0 lane n t.streams) error
+
+refused_keeps : (t : Trail) (lane : ℕ) (w : Words) (error : Error) → more t (record { lane = lane; words = w; answer = answers.Refused error }) ≡ t
+refused_keeps t lane w error =
+    ap (λ xs. record { events = xs ++ t.events; names = t.names ++ []; streams = t.streams ++ [] }) (no_events t lane w error)
+    ∙ ap (λ ns. record { events = t.events; names = ns; streams = t.streams ++ [] }) (append-nil t.names)
+    ∙ ap (λ ns. record { events = t.events; names = t.names; streams = ns }) (append-nil t.streams)
+
+pub refused_changes_nothing : (older : List Entry) (e : Entry) (error : Error) → e.answer ≡ answers.Refused error → trail (e ∷ older) ≡ trail older
+refused_changes_nothing older e error a =
+    ap (λ x. more (trail older) (record { lane = e.lane; words = e.words; answer = x })) a ∙ refused_keeps (trail older) e.lane e.words error

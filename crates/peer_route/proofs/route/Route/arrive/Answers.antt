@@ -1,0 +1,27 @@
+-- The message went to the call that waits for it, and to each stream.
+use Rattle.std.proofs.Common.{rules, sym, ◌+◌, ◌∙◌, subst, ◌∷◌, ◌≡◌, List, Option, Some, None, map, IfSome, IfNone}
+use Rattle.peer_route.specs.History.{Event, Took, closing}
+use Rattle.peer_route.specs.Left.{View, Left, LeftCalls, queued}
+use Rattle.peer_route.proofs.Core.{left_took}
+use Rattle.peer_route.proofs.StreamsMade.{streams_took}
+use Rattle.peer_route.proofs.route.Route.arrive.Goals as goal
+
+-- whether a call took the message or not
+either : {A : Type 0} (o : Option A) (P : Type 0) → IfNone o P → IfSome o (λ m. P) → P
+either None P none some = none
+either (Some m) P none some = some
+
+pub returns-clause-left : goal.returns-clause-left
+returns-clause-left c h left =
+    let P : View → Type 0 = λ v. LeftCalls v.calls h in
+    let Q : View → Type 0 = λ v. Left (record v { calls = c.complete_call.new.self; streams = map (queued c.args.message) v.streams; read = v.read + 1 }) (Took c.args.message ∷ h) in
+    let was = subst P (sym c.self.view_is) left.calls in
+    let open_ : closing h ≡ None = sym left.calls.closing ∙ c.requires.is_open in
+    let calls : LeftCalls c.complete_call.new.self (Took c.args.message ∷ h) =
+    either c.complete_call.result ((h : List Event) → LeftCalls c.self.inside.calls h → closing h ≡ None → LeftCalls c.complete_call.new.self (Took c.args.message ∷ h))
+    c.complete_call.ensures.none c.complete_call.ensures.left h was open_ in
+    let all : c.arrive.new.self ≡ map (queued c.args.message) c.self.inside.streams = search rules in
+    rw all
+    (subst Q (sym c.self.view_is)
+    (left_took c.args.self.now c.complete_call.new.self (map (queued c.args.message) c.args.self.now.streams) c.args.message h left calls
+    (streams_took c.args.message c.args.self.now.streams h left.streams)))

@@ -1,0 +1,89 @@
+-- What the laws of streams, of busy reads and of what was sent say, in words of their own.
+use Rattle.std.specs.Prelude.{ℕ, ⊤, ◌≡◌, ◌==◌, ◌<◌, ◌&&◌, Bool, true, false, List, [], ◌∷◌, ◌++◌, length, map, drop, slice_get, Some, None}
+use Rattle.wire_message.specs.Front.{Seen}
+use Rattle.wire_message.specs.Draft.{call_draft, built}
+use Rattle.wire_message.specs.declared.error.Error.{Error}
+use Rattle.peer_route.specs.declared.words.Words.{Words}
+use Rattle.peer_route.specs.declared.words.Words.TheVariants as words
+use Rattle.peer_route.specs.declared.answer.Answer.{Answer}
+use Rattle.peer_route.specs.declared.answer.Answer.TheVariants as answers
+use Rattle.peer_route.specs.declared.answer.Entry.{Entry}
+use Rattle.peer_route.specs.History.{Event, read, closing}
+use Rattle.peer_route.specs.Streams.{Stream, streams, held, capacity}
+use Rattle.peer_route.specs.Trail.{Trail, place, trail}
+
+-- ---- streams
+
+abbrev pub positions : List Seen → List ℕ
+positions ms = map (λ m. m.position) ms
+
+abbrev pub is_take : ℕ → Words → Bool
+is_take number (words.Take n) = n == number
+is_take number (words.Call path member) = false
+is_take number words.Read = false
+is_take number (words.Poll n) = false
+is_take number (words.Drop n) = false
+is_take number words.Stream = false
+
+abbrev pub item_by : Bool → Answer → List ℕ
+item_by true (answers.Item position) = position ∷ []
+item_by b answer = []
+
+-- the positions of the items that the lane's stream with this number gave, oldest first; the entries are newest first
+abbrev pub items_given : ℕ → ℕ → List Entry → List ℕ
+items_given lane number [] = []
+items_given lane number (e ∷ es) = items_given lane number es ++ item_by ((e.lane == lane) && is_take number e.words) e.answer
+
+-- The entry made the lane's stream with this number. What it gave since, and behind that what it holds, are the positions
+-- of all messages that were read since, in order.
+pub record Yields (newer : List Entry) (e : Entry) (older : List Entry) (number : ℕ) : Type 0 where
+  pub k : ℕ
+  pub stream : Stream
+  pub named : place 0 e.lane number (trail (newer ++ e ∷ older)).streams ≡ Some k
+  pub made : slice_get (streams (trail (newer ++ e ∷ older)).events) k ≡ Some stream
+  pub items : items_given e.lane number newer ++ positions (held (trail (newer ++ e ∷ older)).events stream)
+      ≡ positions (drop (length (read (trail older).events)) (read (trail (newer ++ e ∷ older)).events))
+
+-- where the entry is this lane's take of this number, its answer is that the stream is over
+abbrev pub IsEnded : ℕ → ℕ → Entry → Type 0
+IsEnded lane number e = e.lane ≡ lane → e.words ≡ words.Take number → e.answer ≡ answers.Ended
+
+-- the answer says that the stream gave all
+abbrev pub IsLast : Answer → Type 0
+IsLast (answers.Closed error) = ⊤
+IsLast answers.Ended = ⊤
+IsLast answer = ⊥
+
+-- The lane's number names a stream that holds nothing, and this was the first error that closed the peer.
+pub record IsDrained (t : Trail) (lane number : ℕ) (error : Error) : Type 0 where
+  pub k : ℕ
+  pub stream : Stream
+  pub named : place 0 lane number t.streams ≡ Some k
+  pub made : slice_get (streams t.events) k ≡ Some stream
+  pub nothing : held t.events stream ≡ []
+  pub first : closing t.events ≡ Some error
+
+-- the peer is open, and the stream with this number holds more than its capacity
+pub record HoldsTooMany (h : List Event) : Type 0 where
+  pub is_open : closing h ≡ None
+  pub k : ℕ
+  pub stream : Stream
+  pub made : slice_get (streams h) k ≡ Some stream
+  pub over : capacity < length (held h stream)
+
+-- ---- what was sent
+
+-- the message of an entry whose answer says that it was sent
+abbrev pub sent_by : Words → Answer → List Seen
+sent_by (words.Call path member) (answers.Called call serial) = built (call_draft path member) serial [] ∷ []
+sent_by w answer = []
+
+-- the messages that the entries say were sent, oldest first; the entries are newest first
+abbrev pub all_sent : List Entry → List Seen
+all_sent [] = []
+all_sent (e ∷ es) = all_sent es ++ sent_by e.words e.answer
+
+-- what was put, by whether a write failed: the messages that were sent, in order; after a failed write one more, which failed
+abbrev pub IsPutOf : Bool → List Seen → List Seen → Type 0
+IsPutOf false put sent = put ≡ sent
+IsPutOf true put sent = (m : Seen) × (put ≡ sent ++ m ∷ [])

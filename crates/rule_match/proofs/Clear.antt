@@ -1,0 +1,144 @@
+-- Texts in a grammar have no comma.
+use Rattle.std.proofs.Common.{◌≡◌, refl, ℕ, List, [], ◌∷◌, Bool, true, false, ◌&&◌, ◌||◌, not, cond, nat_le, length, codes, arith}
+use Rattle.std.specs.Prelude.{◌==◌}
+use Rattle.std.specs.List.{list_all, slice_split, onto_first}
+use Rattle.std.proofs.lemmas.Bool.Decides.{nat_tests}
+use Rattle.std.proofs.lemmas.Slice.Eq.{bytes_eq-Decides}
+use Rattle.wire_names.specs.Names.{elements, is_element, is_element_byte, is_dotted, is_connection, is_short, is_the_bus, is_unique_name, is_well_known_name, is_interface_name, is_member_name, is_object_path, is_path_element, is_unique_element, is_well_known_element, is_interface_element, IsUniqueName, IsWellKnownName, IsInterfaceName, IsMemberName, IsObjectPath}
+use Rattle.rule_match.specs.Namespace.{is_namespace, has_namespace_elements, IsNamespace}
+use Rattle.rule_match.specs.Again.{has_no_comma}
+use Rattle.rule_match.proofs.Both.{first_true, second_true, both_true}
+
+abbrev no_comma : ℕ → Bool
+no_comma b = not (b == 44)
+
+clear_byte : (hyphen : Bool) (b : ℕ) → is_element_byte hyphen b ≡ true → no_comma b ≡ true
+clear_byte true b h = grind (arith, nat_tests)
+clear_byte false b h = grind (arith, nat_tests)
+
+clear_bytes : (hyphen : Bool) (bs : List ℕ) → list_all (is_element_byte hyphen) bs ≡ true → list_all no_comma bs ≡ true
+clear_bytes hyphen [] h = refl
+clear_bytes hyphen (b ∷ bs) h =
+    both_true (no_comma b) (list_all no_comma bs) (clear_byte hyphen b (first_true (is_element_byte hyphen b) (list_all (is_element_byte hyphen) bs) h))
+    (clear_bytes hyphen bs (second_true (is_element_byte hyphen b) (list_all (is_element_byte hyphen) bs) h))
+
+clear_element : (hyphen digit : Bool) (element : List ℕ) → is_element hyphen digit element ≡ true → list_all no_comma element ≡ true
+unfolding is_element
+clear_element hyphen digit element h =
+    clear_bytes hyphen element (second_true (nat_le 1 (length element)) (list_all (is_element_byte hyphen) element) (first_true (nat_le 1 (length element) && list_all (is_element_byte hyphen) element) _ h))
+
+clear_elements : (hyphen digit : Bool) (parts : List (List ℕ)) → list_all (is_element hyphen digit) parts ≡ true → list_all (list_all no_comma) parts ≡ true
+clear_elements hyphen digit [] h = refl
+clear_elements hyphen digit (part ∷ parts) h =
+    both_true (list_all no_comma part) (list_all (list_all no_comma) parts) (clear_element hyphen digit part (first_true (is_element hyphen digit part) (list_all (is_element hyphen digit) parts) h))
+    (clear_elements hyphen digit parts (second_true (is_element hyphen digit part) (list_all (is_element hyphen digit) parts) h))
+
+clear_first : (x : ℕ) (parts : List (List ℕ)) → list_all (list_all no_comma) (onto_first x parts) ≡ true → (no_comma x ≡ true) × (list_all (list_all no_comma) parts ≡ true)
+clear_first x [] h = (first_true (no_comma x) true (first_true (no_comma x && true) true h), refl)
+clear_first x (part ∷ parts) h =
+    let first = first_true (no_comma x && list_all no_comma part) (list_all (list_all no_comma) parts) h in (
+      first_true (no_comma x) (list_all no_comma part) first,
+      both_true (list_all no_comma part) (list_all (list_all no_comma) parts) (second_true (no_comma x) (list_all no_comma part) first) (second_true (no_comma x && list_all no_comma part) (list_all (list_all no_comma) parts) h),
+    )
+
+clear_joined : (p : ℕ → Bool) (xs : List ℕ) → ((x : ℕ) → p x ≡ true → no_comma x ≡ true) → list_all (list_all no_comma) (slice_split p xs) ≡ true → list_all no_comma xs ≡ true
+clear_joined p [] sep h = refl
+clear_joined p (x ∷ xs) sep h =
+    elim (p x) as (λ v. p x ≡ v → list_all (list_all no_comma) (cond v ([] ∷ slice_split p xs) (onto_first x (slice_split p xs))) ≡ true → (no_comma x && list_all no_comma xs) ≡ true) [
+      | true ↦ λ at k. both_true (no_comma x) (list_all no_comma xs) (sep x at) (clear_joined p xs sep k)
+      | false ↦ λ at k. let two = clear_first x (slice_split p xs) k in both_true (no_comma x) (list_all no_comma xs) two.0 (clear_joined p xs sep two.1)
+    ] refl h
+
+clear_dot : (x : ℕ) → (x == 46) ≡ true → no_comma x ≡ true
+clear_dot x h = grind (arith, nat_tests)
+
+clear_slash : (x : ℕ) → (x == 47) ≡ true → no_comma x ≡ true
+clear_slash x h = grind (arith, nat_tests)
+
+clear_colon : (x : ℕ) → (x == 58) ≡ true → no_comma x ≡ true
+clear_colon x h = grind (arith, nat_tests)
+
+clear_parts : (hyphen digit : Bool) (text : List ℕ) → list_all (is_element hyphen digit) (elements 46 text) ≡ true → list_all no_comma text ≡ true
+clear_parts hyphen digit text h = clear_joined (λ x. x == 46) text clear_dot (clear_elements hyphen digit (elements 46 text) h)
+
+clear_dotted : (hyphen digit : Bool) (text : List ℕ) → is_dotted (is_element hyphen digit) text ≡ true → list_all no_comma text ≡ true
+unfolding is_dotted
+clear_dotted hyphen digit text h = clear_parts hyphen digit text (second_true (nat_le 2 (length (elements 46 text))) (list_all (is_element hyphen digit) (elements 46 text)) h)
+
+clear_connection : (text : List ℕ) → is_connection text ≡ true → list_all no_comma text ≡ true
+unfolding is_connection
+clear_connection [] h = refl
+clear_connection (b ∷ rest) h =
+    both_true (no_comma b) (list_all no_comma rest) (clear_colon b (first_true (b == 58) (is_dotted is_unique_element rest) h))
+    (clear_dotted true true rest (second_true (b == 58) (is_dotted is_unique_element rest) h))
+
+either : (a b c : Bool) → (a ≡ true → c ≡ true) → (b ≡ true → c ≡ true) → (a || b) ≡ true → c ≡ true
+either true b c f g h = f refl
+either false b c f g h = g h
+
+clear_the_bus : (text : List ℕ) → is_the_bus text ≡ true → list_all no_comma text ≡ true
+clear_the_bus text h =
+    let same : text ≡ codes "org.freedesktop.DBus" = (bytes_eq-Decides text (codes "org.freedesktop.DBus")).0 h in
+    rw same
+
+module _ (text : List ℕ) where
+  unique : IsUniqueName text → list_all no_comma text ≡ true
+  unfolding is_unique_name
+  unique h = either (is_the_bus text) (is_connection text) (list_all no_comma text) (clear_the_bus text) (clear_connection text) (second_true (is_short text) (is_the_bus text || is_connection text) h)
+
+  well_known : IsWellKnownName text → list_all no_comma text ≡ true
+  unfolding is_well_known_name
+  well_known h = clear_dotted true false text (second_true (is_short text) (is_dotted is_well_known_element text) h)
+
+  interface : IsInterfaceName text → list_all no_comma text ≡ true
+  unfolding is_interface_name
+  interface h = clear_dotted false false text (second_true (is_short text) (is_dotted is_interface_element text) h)
+
+  member : IsMemberName text → list_all no_comma text ≡ true
+  unfolding is_member_name
+  member h = clear_element false false text (second_true (is_short text) (is_interface_element text) h)
+
+clear_rest : (rest : List ℕ) → (nat_le (length rest) 0 || list_all is_path_element (elements 47 rest)) ≡ true → list_all no_comma rest ≡ true
+clear_rest [] h = refl
+clear_rest (b ∷ bs) h =
+    let some : nat_le (length (b ∷ bs)) 0 ≡ false = grind (arith, nat_tests) in
+    clear_joined (λ x. x == 47) (b ∷ bs) clear_slash (clear_elements false true (elements 47 (b ∷ bs)) (rw some at h))
+
+path : (text : List ℕ) → IsObjectPath text → list_all no_comma text ≡ true
+unfolding is_object_path
+path [] h = refl
+path (b ∷ rest) h =
+    both_true (no_comma b) (list_all no_comma rest) (clear_slash b (first_true (b == 47) _ h))
+    (clear_rest rest (second_true (b == 47) (nat_le (length rest) 0 || list_all is_path_element (elements 47 rest)) h))
+
+has_elements : (text : List ℕ) → has_namespace_elements text ≡ true → list_all no_comma text ≡ true
+has_elements [] h = refl
+has_elements (b ∷ rest) h =
+    elim (b == 58) as (λ v. (b == 58) ≡ v → cond v (list_all is_unique_element (elements 46 rest)) (list_all is_well_known_element (elements 46 (b ∷ rest))) ≡ true → list_all no_comma (b ∷ rest) ≡ true) [
+      | true ↦ λ e k. both_true (no_comma b) (list_all no_comma rest) (clear_colon b e) (clear_parts true true rest k)
+      | false ↦ λ e k. clear_parts true false (b ∷ rest) k
+    ] refl h
+
+namespace : (text : List ℕ) → IsNamespace text → list_all no_comma text ≡ true
+unfolding is_namespace
+namespace text h = has_elements text (second_true (nat_le (length text) 255) (has_namespace_elements text) h)
+
+-- the same, in the words of what is promised
+module _ (text : List ℕ) where
+  pub unique_clear : IsUniqueName text → has_no_comma text ≡ true
+  unique_clear h = unique text h
+
+  pub well_known_clear : IsWellKnownName text → has_no_comma text ≡ true
+  well_known_clear h = well_known text h
+
+  pub interface_clear : IsInterfaceName text → has_no_comma text ≡ true
+  interface_clear h = interface text h
+
+  pub member_clear : IsMemberName text → has_no_comma text ≡ true
+  member_clear h = member text h
+
+  pub path_clear : IsObjectPath text → has_no_comma text ≡ true
+  path_clear h = path text h
+
+  pub namespace_clear : IsNamespace text → has_no_comma text ≡ true
+  namespace_clear h = namespace text h

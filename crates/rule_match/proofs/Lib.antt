@@ -1,0 +1,13 @@
+pub mod Both
+pub mod Placing
+pub mod Kept
+pub mod Positions
+pub mod After
+pub mod Printed
+pub mod Made
+pub mod Read
+pub mod Quotes
+pub mod Clear
+pub mod Reread
+pub mod Same
+pub mod Again

@@ -1,0 +1,16 @@
+-- Components one behind the other, with a comma before each but the first.
+use Rattle.std.specs.Prelude.{ℕ, Bool, true, false, List, [], ◌∷◌, ◌++◌}
+
+abbrev pub separator : Bool → List ℕ
+separator true = []
+separator false = 44 ∷ []
+
+-- behind others, unless they are the first
+abbrev pub joined : Bool → List (List ℕ) → List ℕ
+joined first [] = []
+joined first (x ∷ xs) = (separator first ++ x) ++ joined false xs
+
+-- whether what follows is still the first
+abbrev pub still_first : Bool → List (List ℕ) → Bool
+still_first first [] = first
+still_first first (x ∷ xs) = false

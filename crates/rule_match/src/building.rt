@@ -1,0 +1,244 @@
+//! Building a rule, part by part.
+use crate::arguments::{Argument, Arguments};
+use crate::component::{is_namespace, is_plain};
+use crate::part::Part;
+use crate::place::PathSpec;
+use crate::rule::MatchRule;
+use std::alloc::{AllocError, Global};
+use std::marker::Model;
+use wire_message::{Error, MessageType};
+use wire_names::{
+    OwnedBusName, OwnedInterfaceName, OwnedMemberName, OwnedObjectPath, OwnedUniqueName, Text,
+};
+
+/// The number of arguments that a rule can speak of.
+const ARGUMENTS: u8 = 64;
+
+/// A rule that is being built. A call that sets a part again replaces it.
+#[derive(Debug, Drop)]
+pub struct Builder {
+    rule: MatchRule,
+}
+
+impl Model for Builder {
+    ghost use Rattle.rule_match.specs.Rule.{Rule};
+
+    ghost Value = { Rule };
+
+    ghost view = { λ b. b.rule };
+}
+
+impl Builder {
+    ghost use Rattle.std.specs.Prelude.{◌≡◌, ◌⊎◌, ◌<◌, ◌&&◌, nat_lt, Some, Ok, Err, IfOk, IsTrue, if◌then◌else◌};
+    ghost use Rattle.rule_match.specs.declared.place.PathSpec.TheVariants.{Path, PathNamespace};
+    ghost use Rattle.rule_match.specs.Arguments.{put, index_after, is_argument, is_path_argument, is_plain};
+    ghost use Rattle.rule_match.specs.Namespace.{is_namespace};
+    ghost use Rattle.rule_match.specs.Part.{argument};
+    ghost use Rattle.rule_match.specs.Rule.{no_parts};
+    ghost use Rattle.rule_match.specs.Building.{with_part, IsPart, Sets};
+
+    pub(crate) fn new(alloc: Global) -> Builder
+        ensures { result ≡ no_parts }
+    {
+        Builder {
+            rule: MatchRule {
+                kind: None,
+                sender: None,
+                interface: None,
+                member: None,
+                path: None,
+                destination: None,
+                args: Arguments::new(alloc),
+                arg_paths: Arguments::new(alloc),
+                arg0ns: None,
+            },
+        }
+    }
+
+    /// The rule as built.
+    pub fn build(self) -> MatchRule
+        ensures { result ≡ self }
+    {
+        self.rule
+    }
+
+    pub fn msg_type(self, kind: MessageType) -> Builder
+        ensures { result ≡ record self { kind = Some kind } }
+    {
+        let mut rule = self.rule;
+        rule.kind = Some(kind);
+        Builder { rule }
+    }
+
+    /// A unique name is to be the message's own sender; a well-known one refuses no message.
+    pub fn sender(self, name: OwnedBusName) -> Builder
+        ensures { result ≡ record self { sender = Some name } }
+    {
+        let mut rule = self.rule;
+        rule.sender = Some(name);
+        Builder { rule }
+    }
+
+    pub fn interface(self, name: OwnedInterfaceName) -> Builder
+        ensures { result ≡ record self { interface = Some name } }
+    {
+        let mut rule = self.rule;
+        rule.interface = Some(name);
+        Builder { rule }
+    }
+
+    pub fn member(self, name: OwnedMemberName) -> Builder
+        ensures { result ≡ record self { member = Some name } }
+    {
+        let mut rule = self.rule;
+        rule.member = Some(name);
+        Builder { rule }
+    }
+
+    /// Replaces a path namespace too.
+    pub fn path(self, path: OwnedObjectPath) -> Builder
+        ensures { result ≡ record self { path = Some (Path path) } }
+    {
+        let mut rule = self.rule;
+        rule.path = Some(PathSpec::Path(path));
+        Builder { rule }
+    }
+
+    /// This path and all below it. Replaces a path too.
+    pub fn path_namespace(self, path: OwnedObjectPath) -> Builder
+        ensures { result ≡ record self { path = Some (PathNamespace path) } }
+    {
+        let mut rule = self.rule;
+        rule.path = Some(PathSpec::PathNamespace(path));
+        Builder { rule }
+    }
+
+    pub fn destination(self, name: OwnedUniqueName) -> Builder
+        ensures { result ≡ record self { destination = Some name } }
+    {
+        let mut rule = self.rule;
+        rule.destination = Some(name);
+        Builder { rule }
+    }
+
+    fn put_arg(self, argument: Argument) -> Result<Builder, AllocError>
+        requires { IsTrue (is_argument argument) }
+        ensures { IfOk result (λ b. b ≡ record self { args = put argument self.args }) }
+    {
+        let mut rule = self.rule;
+        rule.args.put(argument)?;
+        Ok(Builder { rule })
+    }
+
+    fn put_arg_path(self, argument: Argument) -> Result<Builder, AllocError>
+        requires { IsTrue (is_path_argument argument) }
+        ensures { IfOk result (λ b. b ≡ record self { arg_paths = put argument self.arg_paths }) }
+    {
+        let mut rule = self.rule;
+        rule.arg_paths.put(argument)?;
+        Ok(Builder { rule })
+    }
+
+    /// The argument of that index, from 0 on, is to be that string. Replaces one of the same index.
+    ///
+    /// # Errors
+    ///
+    /// `InvalidMatchRule` exactly for an index of 64 or more and for a text with a 0 byte; `Memory` for want of memory.
+    pub fn arg(self, index: u8, text: Text) -> Result<Builder, Error>
+        ensures { Sets result (nat_lt index 64 && is_plain text) (record self { args = put (argument index text) self.args }) }
+    {
+        if index < ARGUMENTS && is_plain(text.as_str()) {
+            Ok(self.put_arg(Argument { index, text })?)
+        } else {
+            Err(Error::InvalidMatchRule)
+        }
+    }
+
+    /// The argument behind the last one that is set is to be that string; the first where none is.
+    ///
+    /// # Errors
+    ///
+    /// `InvalidMatchRule` exactly where that index is 64, and for a text with a 0 byte; `Memory` for want of memory.
+    pub fn add_arg(self, text: Text) -> Result<Builder, Error>
+        ensures { Sets result (nat_lt (index_after self.args) 64 && is_plain text) (record self { args = put (argument (index_after self.args) text) self.args }) }
+    {
+        match self.rule.args.index_after() {
+            Some(index) => self.arg(index, text),
+            None => Err(Error::InvalidMatchRule),
+        }
+    }
+
+    /// The argument of that index is to be that object path. Replaces one of the same index.
+    ///
+    /// # Errors
+    ///
+    /// `InvalidMatchRule` exactly for an index of 64 or more; `Memory` for want of memory.
+    pub fn arg_path(self, index: u8, path: OwnedObjectPath) -> Result<Builder, Error>
+        ensures { Sets result (nat_lt index 64) (record self { arg_paths = put (argument index path) self.arg_paths }) }
+    {
+        if index < ARGUMENTS {
+            let text = path.into_text();
+            Ok(self.put_arg_path(Argument { index, text })?)
+        } else {
+            Err(Error::InvalidMatchRule)
+        }
+    }
+
+    /// The argument behind the last path argument that is set is to be that object path; the first where none is.
+    ///
+    /// # Errors
+    ///
+    /// `InvalidMatchRule` exactly where that index is 64; `Memory` for want of memory.
+    pub fn add_arg_path(self, path: OwnedObjectPath) -> Result<Builder, Error>
+        ensures { Sets result (nat_lt (index_after self.arg_paths) 64) (record self { arg_paths = put (argument (index_after self.arg_paths) path) self.arg_paths }) }
+    {
+        match self.rule.arg_paths.index_after() {
+            Some(index) => self.arg_path(index, path),
+            None => Err(Error::InvalidMatchRule),
+        }
+    }
+
+    fn set_namespace(self, name: Text) -> Builder
+        requires { IsTrue (is_namespace name) }
+        ensures { result ≡ record self { arg0ns = Some name } }
+    {
+        let mut rule = self.rule;
+        rule.arg0ns = Some(name);
+        Builder { rule }
+    }
+
+    /// The first argument is to be a bus name in that namespace: that name, or one that has it and a dot in front.
+    ///
+    /// # Errors
+    ///
+    /// `InvalidMatchRule` exactly where the text is no bus name and no element of one (D-Bus Specification, "Valid Names").
+    pub fn arg0ns(self, name: Text) -> Result<Builder, Error>
+        ensures { result ≡ (if is_namespace name then Ok (record self { arg0ns = Some name }) else Err Error.InvalidMatchRule) }
+    {
+        if is_namespace(name.as_str()) {
+            Ok(self.set_namespace(name))
+        } else {
+            Err(Error::InvalidMatchRule)
+        }
+    }
+
+    /// The rule with a part more.
+    #[tactic(auto, unfolding(crate::specs::Building::with_part))]
+    pub(crate) fn with(self, part: Part) -> Result<Builder, AllocError>
+        requires { IsPart part }
+        ensures { IfOk result (λ b. b ≡ with_part part self) }
+    {
+        match part {
+            Part::Kind(kind) => Ok(self.msg_type(kind)),
+            Part::Sender(name) => Ok(self.sender(name)),
+            Part::Interface(name) => Ok(self.interface(name)),
+            Part::Member(name) => Ok(self.member(name)),
+            Part::Path(path) => Ok(self.path(path)),
+            Part::PathNamespace(path) => Ok(self.path_namespace(path)),
+            Part::Destination(name) => Ok(self.destination(name)),
+            Part::Arg(argument) => self.put_arg(argument),
+            Part::ArgPath(argument) => self.put_arg_path(argument),
+            Part::Arg0Namespace(name) => Ok(self.set_namespace(name)),
+        }
+    }
+}

@@ -1,0 +1,286 @@
+//! Reading a rule's text, component by component.
+ghost use Rattle.std.specs.Prelude.{◌≡◌, ◌<◌, map, true, IfOk, option_map};
+ghost use Rattle.std.specs.List.{list_all};
+ghost use Rattle.wire_names.specs.Names.{elements, is_element, is_element_byte, begins_with_digit};
+ghost use Rattle.rule_match.specs.Arguments.{is_plain};
+ghost use Rattle.rule_match.specs.Namespace.{has_namespace_elements, is_namespace};
+ghost use Rattle.rule_match.specs.Key.{same};
+ghost use Rattle.rule_match.specs.Part.{kind_of, part_of};
+ghost use Rattle.rule_match.specs.Text.{components, between_quotes, component, said, made, rule_in};
+ghost use Rattle.rule_match.specs.Building.{IsPart, IsKey, Gives};
+
+use crate::arguments::Argument;
+use crate::key::{Key, key_of, same};
+use crate::part::Part;
+use crate::rule::MatchRule;
+use std::alloc::{AllocError, Global};
+use wire_message::{Error, MessageType};
+use wire_names::{BusName, InterfaceName, MemberName, ObjectPath, Text, UniqueName};
+
+/// The most bytes of a namespace.
+const LONGEST_NAMESPACE: usize = 255;
+
+fn is_element_byte(byte: u8) -> bool
+    ensures { result ≡ is_element_byte true byte }
+{
+    byte.is_ascii_alphanumeric() || byte == b'_' || byte == b'-'
+}
+
+fn begins_with_digit(element: &[u8]) -> bool
+    ensures { result ≡ begins_with_digit element.now }
+{
+    match element {
+        [first, ..] => first.is_ascii_digit(),
+        [] => false,
+    }
+}
+
+fn has_element_bytes(element: &[u8]) -> bool
+    ensures { result ≡ list_all (is_element_byte true) element.now }
+{
+    element.iter().all(|byte| is_element_byte(*byte))
+}
+
+#[tactic(auto, unfolding(wire_names::specs::Names::is_element))]
+fn is_element(element: &[u8], digit: bool) -> bool
+    ensures { result ≡ is_element true digit element.now }
+{
+    !element.is_empty() && has_element_bytes(element) && (digit || !begins_with_digit(element))
+}
+
+fn are_elements(text: &[u8], digit: bool) -> bool
+    ensures { result ≡ list_all (is_element true digit) (elements 46 text.now) }
+{
+    text.split(|byte| *byte == b'.')
+        .all(|element| is_element(element, digit))
+}
+
+fn has_namespace_elements(text: &[u8]) -> bool
+    ensures { result ≡ has_namespace_elements text.now }
+{
+    match text {
+        [b':', rest @ ..] => are_elements(rest, true),
+        [] => false,
+        _ => are_elements(text, false),
+    }
+}
+
+/// Whether a text is a bus name, but for the need of a second element.
+#[tactic(auto, unfolding(crate::specs::Namespace::is_namespace))]
+pub(crate) fn is_namespace(text: &str) -> bool
+    ensures { result ≡ is_namespace text.now }
+{
+    text.len() <= LONGEST_NAMESPACE && has_namespace_elements(text.as_bytes())
+}
+
+/// Whether a text has no 0 byte.
+pub(crate) fn is_plain(text: &str) -> bool
+    ensures { result ≡ is_plain text.now }
+{
+    text.as_bytes().iter().all(|byte| *byte != 0)
+}
+
+fn kind_of(word: &[u8]) -> Option<MessageType>
+    ensures { result ≡ kind_of word.now }
+{
+    if same(word, b"signal") {
+        Some(MessageType::Signal)
+    } else if same(word, b"method_call") {
+        Some(MessageType::MethodCall)
+    } else if same(word, b"method_return") {
+        Some(MessageType::MethodReturn)
+    } else if same(word, b"error") {
+        Some(MessageType::Error)
+    } else {
+        None
+    }
+}
+
+#[tactic(auto, unfolding(crate::specs::Part::part_of))]
+fn kind_part(value: &str) -> Result<Part, Error>
+    ensures part { result ≡ part_of Key.Type value.now }
+    ensures valid { IfOk result IsPart }
+{
+    match kind_of(value.as_bytes()) {
+        Some(kind) => Ok(Part::Kind(kind)),
+        None => Err(Error::InvalidMatchRule),
+    }
+}
+
+#[tactic(auto, unfolding(crate::specs::Part::part_of))]
+fn sender_part(alloc: Global, value: &str) -> Result<Part, Error>
+    ensures part { Gives result (part_of Key.Sender value.now) }
+    ensures valid { IfOk result IsPart }
+{
+    match BusName::try_from(value) {
+        Ok(name) => Ok(Part::Sender(name.to_owned(alloc)?)),
+        Err(e) => Err(Error::Names(e)),
+    }
+}
+
+#[tactic(auto, unfolding(crate::specs::Part::part_of))]
+fn interface_part(alloc: Global, value: &str) -> Result<Part, Error>
+    ensures part { Gives result (part_of Key.Interface value.now) }
+    ensures valid { IfOk result IsPart }
+{
+    match InterfaceName::try_from(value) {
+        Ok(name) => Ok(Part::Interface(name.to_owned(alloc)?)),
+        Err(e) => Err(Error::Names(e)),
+    }
+}
+
+#[tactic(auto, unfolding(crate::specs::Part::part_of))]
+fn member_part(alloc: Global, value: &str) -> Result<Part, Error>
+    ensures part { Gives result (part_of Key.Member value.now) }
+    ensures valid { IfOk result IsPart }
+{
+    match MemberName::try_from(value) {
+        Ok(name) => Ok(Part::Member(name.to_owned(alloc)?)),
+        Err(e) => Err(Error::Names(e)),
+    }
+}
+
+#[tactic(auto, unfolding(crate::specs::Part::part_of))]
+fn path_part(alloc: Global, value: &str) -> Result<Part, Error>
+    ensures part { Gives result (part_of Key.Path value.now) }
+    ensures valid { IfOk result IsPart }
+{
+    match ObjectPath::try_from(value) {
+        Ok(path) => Ok(Part::Path(path.to_owned(alloc)?)),
+        Err(e) => Err(Error::Names(e)),
+    }
+}
+
+#[tactic(auto, unfolding(crate::specs::Part::part_of))]
+fn path_namespace_part(alloc: Global, value: &str) -> Result<Part, Error>
+    ensures part { Gives result (part_of Key.PathNamespace value.now) }
+    ensures valid { IfOk result IsPart }
+{
+    match ObjectPath::try_from(value) {
+        Ok(path) => Ok(Part::PathNamespace(path.to_owned(alloc)?)),
+        Err(e) => Err(Error::Names(e)),
+    }
+}
+
+#[tactic(auto, unfolding(crate::specs::Part::part_of))]
+fn destination_part(alloc: Global, value: &str) -> Result<Part, Error>
+    ensures part { Gives result (part_of Key.Destination value.now) }
+    ensures valid { IfOk result IsPart }
+{
+    match UniqueName::try_from(value) {
+        Ok(name) => Ok(Part::Destination(name.to_owned(alloc)?)),
+        Err(e) => Err(Error::Names(e)),
+    }
+}
+
+#[tactic(auto, unfolding(crate::specs::Part::part_of))]
+fn namespace_part(alloc: Global, value: &str) -> Result<Part, Error>
+    ensures part { Gives result (part_of Key.Arg0Namespace value.now) }
+    ensures valid { IfOk result IsPart }
+{
+    if is_namespace(value) {
+        Ok(Part::Arg0Namespace(Text::from_str(alloc, value)?))
+    } else {
+        Err(Error::InvalidMatchRule)
+    }
+}
+
+#[tactic(auto, unfolding(crate::specs::Part::part_of))]
+fn arg_part(alloc: Global, index: u8, value: &str) -> Result<Part, Error>
+    requires { index < 64 }
+    ensures part { Gives result (part_of (Key.Argument index) value.now) }
+    ensures valid { IfOk result IsPart }
+{
+    if is_plain(value) {
+        let text = Text::from_str(alloc, value)?;
+        Ok(Part::Arg(Argument { index, text }))
+    } else {
+        Err(Error::InvalidMatchRule)
+    }
+}
+
+#[tactic(auto, unfolding(crate::specs::Part::part_of))]
+fn arg_path_part(alloc: Global, index: u8, value: &str) -> Result<Part, Error>
+    requires { index < 64 }
+    ensures part { Gives result (part_of (Key.ArgumentPath index) value.now) }
+    ensures valid { IfOk result IsPart }
+{
+    match ObjectPath::try_from(value) {
+        Ok(path) => {
+            let text = Text::from_str(alloc, path.as_str())?;
+            Ok(Part::ArgPath(Argument { index, text }))
+        }
+        Err(e) => Err(Error::Names(e)),
+    }
+}
+
+/// What a value is under its key.
+fn part_of(alloc: Global, key: Key, value: &str) -> Result<Part, Error>
+    requires { IsKey key }
+    ensures part { Gives result (part_of key value.now) }
+    ensures valid { IfOk result IsPart }
+{
+    match key {
+        Key::Type => kind_part(value),
+        Key::Sender => sender_part(alloc, value),
+        Key::Interface => interface_part(alloc, value),
+        Key::Member => member_part(alloc, value),
+        Key::Path => path_part(alloc, value),
+        Key::PathNamespace => path_namespace_part(alloc, value),
+        Key::Destination => destination_part(alloc, value),
+        Key::Arg0Namespace => namespace_part(alloc, value),
+        Key::Argument(index) => arg_part(alloc, index, value),
+        Key::ArgumentPath(index) => arg_path_part(alloc, index, value),
+    }
+}
+
+/// What stands between a quote in front and a quote at the end.
+fn between_quotes(text: &str) -> Option<&str>
+    ensures { option_map (λ t. t.now) result ≡ between_quotes text.now }
+{
+    match text.strip_prefix('\'') {
+        Some(rest) => rest.strip_suffix('\''),
+        None => None,
+    }
+}
+
+#[tactic(auto, unfolding(crate::specs::Text::component))]
+fn component(alloc: Global, text: &str) -> Result<Part, Error>
+    ensures part { Gives result (component text.now) }
+    ensures valid { IfOk result IsPart }
+{
+    let Some((key, value)) = text.split_once('=') else {
+        return Err(Error::InvalidMatchRule);
+    };
+    match (key_of(key.as_bytes()), between_quotes(value)) {
+        (Some(key), Some(value)) => part_of(alloc, key, value),
+        _ => Err(Error::InvalidMatchRule),
+    }
+}
+
+/// What stands before, between and after the commas.
+fn components(alloc: Global, text: &str) -> Result<Vec<&str>, AllocError>
+    ensures { IfOk result (λ parts. map (λ part. part.now) parts.items ≡ components text.now) }
+{
+    text.split(',').collect(alloc)
+}
+
+/// The rule that components make.
+fn rule_of(alloc: Global, parts: &[&str]) -> Result<MatchRule, Error>
+    ensures { Gives result (made (said (map (λ part. part.now) parts.now))) }
+{
+    let mut builder = MatchRule::builder(alloc);
+    for part in parts {
+        builder = builder.with(component(alloc, part)?)?;
+    }
+    Ok(builder.build())
+}
+
+/// The rule that a text is.
+#[tactic(auto, unfolding(crate::specs::Text::rule_in))]
+pub(crate) fn rule_in(alloc: Global, text: &str) -> Result<MatchRule, Error>
+    ensures { Gives result (rule_in text.now) }
+{
+    let parts = components(alloc, text)?;
+    rule_of(alloc, parts.as_slice())
+}

@@ -1,0 +1,85 @@
+//! Laws of rules.
+ghost use Rattle.std.specs.Prelude.{◌≡◌, Ok, IfSome};
+ghost use Rattle.wire_names.specs.Names.{IsUniqueName, IsInterfaceName, IsMemberName, IsObjectPath};
+ghost use Rattle.rule_match.specs.Again.{IsReadable};
+ghost use Rattle.rule_match.specs.Rule.{Rule, IsRule, HasNames, IsSender, place_text};
+ghost use Rattle.rule_match.specs.Text.{rule_in, rule_text};
+
+use crate::place::PathSpec;
+use crate::rule::MatchRule;
+use wire_names::{
+    OwnedBusName, OwnedInterfaceName, OwnedMemberName, OwnedUniqueName, only_the_bus_is_both,
+};
+
+/// A rule's text is read as that rule again, where the rule has a part, no text of its string arguments holds a comma, and
+/// its sender isn't the bus's own name as a well-known one.
+pub fn rules_are_read_again()
+    ensures { (r : Rule) → IsRule r → HasNames r → IsReadable r → rule_in (rule_text r) ≡ Ok r }
+{
+    only_the_bus_is_both();
+}
+
+fn sender_holds(name: &Option<OwnedBusName>)
+    ensures { IfSome name.now IsSender }
+{
+    match name {
+        Some(OwnedBusName::Unique(name)) => {
+            let _ = name.as_str();
+        }
+        Some(OwnedBusName::WellKnown(name)) => {
+            let _ = name.as_str();
+        }
+        None => {}
+    }
+}
+
+fn interface_holds(name: &Option<OwnedInterfaceName>)
+    ensures { IfSome name.now IsInterfaceName }
+{
+    if let Some(name) = name {
+        let _ = name.as_str();
+    }
+}
+
+fn member_holds(name: &Option<OwnedMemberName>)
+    ensures { IfSome name.now IsMemberName }
+{
+    if let Some(name) = name {
+        let _ = name.as_str();
+    }
+}
+
+fn place_holds(place: &Option<PathSpec>)
+    ensures { IfSome place.now (λ p. IsObjectPath (place_text p)) }
+{
+    match place {
+        Some(PathSpec::Path(path)) => {
+            let _ = path.as_str();
+        }
+        Some(PathSpec::PathNamespace(path)) => {
+            let _ = path.as_str();
+        }
+        None => {}
+    }
+}
+
+fn destination_holds(name: &Option<OwnedUniqueName>)
+    ensures { IfSome name.now IsUniqueName }
+{
+    if let Some(name) = name {
+        let _ = name.as_str();
+    }
+}
+
+/// Every rule is in its grammar: its arguments have ascending indices below 64 and no 0 byte, its namespace is one, and its
+/// names and its path are in theirs.
+pub fn rules_hold_their_grammar(rule: &MatchRule)
+    ensures arguments { IsRule rule.now }
+    ensures names { HasNames rule.now }
+{
+    sender_holds(&rule.sender);
+    interface_holds(&rule.interface);
+    member_holds(&rule.member);
+    place_holds(&rule.path);
+    destination_holds(&rule.destination);
+}

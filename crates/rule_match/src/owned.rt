@@ -1,0 +1,56 @@
+ghost use Rattle.std.specs.Prelude.{◌≡◌};
+ghost use Rattle.rule_match.specs.Text.{rule_in};
+ghost use Rattle.rule_match.specs.Building.{Gives};
+
+use crate::rule::MatchRule;
+use std::alloc::Global;
+use std::marker::Model;
+use wire_message::Error;
+
+/// A [`MatchRule`] as a value of its own.
+#[derive(Debug, Drop, PartialEq, Eq, Hash)]
+pub struct OwnedMatchRule {
+    rule: MatchRule,
+}
+
+impl Model for OwnedMatchRule {
+    ghost use Rattle.rule_match.specs.Rule.{Rule};
+
+    ghost Value = { Rule };
+
+    ghost view = { λ o. o.rule };
+
+    ghost inverse = { λ r. record { rule = r } };
+}
+
+impl OwnedMatchRule {
+    /// The rule that a text is, as [`MatchRule::try_from`].
+    pub fn try_from(alloc: Global, text: &str) -> Result<OwnedMatchRule, Error>
+        ensures { Gives result (rule_in text.now) }
+    {
+        match MatchRule::try_from(alloc, text) {
+            Ok(rule) => Ok(OwnedMatchRule { rule }),
+            Err(e) => Err(e),
+        }
+    }
+
+    /// The same rule.
+    pub fn from(rule: MatchRule) -> OwnedMatchRule
+        ensures { result ≡ rule }
+    {
+        OwnedMatchRule { rule }
+    }
+
+    /// Gives the rule back.
+    pub fn into_inner(self) -> MatchRule
+        ensures { result ≡ self }
+    {
+        self.rule
+    }
+
+    pub fn inner(&self) -> &MatchRule
+        ensures { result.now ≡ self.now }
+    {
+        &self.rule
+    }
+}

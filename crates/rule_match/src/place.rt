@@ -1,0 +1,40 @@
+ghost use Rattle.std.specs.Prelude.{◌≡◌, IfOk};
+ghost use Rattle.rule_match.specs.Rule.{place_text};
+
+use std::alloc::{AllocError, Global};
+use wire_names::OwnedObjectPath;
+
+/// The path that a rule wants: one path, or a path and all below it.
+#[derive(Debug, Drop, PartialEq, Eq, Hash)]
+pub enum PathSpec {
+    Path(OwnedObjectPath),
+    PathNamespace(OwnedObjectPath),
+}
+
+impl PathSpec {
+    pub fn as_str(&self) -> &str
+        ensures { result.now ≡ place_text self.now }
+    {
+        match self {
+            PathSpec::Path(path) => path.as_str(),
+            PathSpec::PathNamespace(path) => path.as_str(),
+        }
+    }
+
+    /// Copies the text.
+    pub fn try_clone(&self, alloc: Global) -> Result<PathSpec, AllocError>
+        ensures { IfOk result (λ place. place ≡ self.now) }
+    {
+        match self {
+            PathSpec::Path(path) => Ok(PathSpec::Path(path.try_clone(alloc)?)),
+            PathSpec::PathNamespace(path) => Ok(PathSpec::PathNamespace(path.try_clone(alloc)?)),
+        }
+    }
+
+    /// The same path: it owns its text.
+    pub fn into_owned(self) -> PathSpec
+        ensures { result ≡ self }
+    {
+        self
+    }
+}

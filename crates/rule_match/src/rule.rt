@@ -1,0 +1,262 @@
+//! The rule itself.
+ghost use Rattle.std.specs.Prelude.{◌≡◌, IfOk, codes};
+
+use crate::arguments::{Argument, Arguments};
+use crate::building::Builder;
+use crate::component::rule_in;
+use crate::place::PathSpec;
+use std::alloc::{AllocError, Global};
+use std::marker::Model;
+use wire_message::{Error, MessageType};
+use wire_names::{
+    InterfaceName, OwnedBusName, OwnedInterfaceName, OwnedMemberName, OwnedUniqueName, Text,
+    UniqueName,
+};
+
+/// Which messages are wanted: those that match each part that is there (D-Bus Specification, "Match Rules"). A rule owns
+/// its texts.
+#[derive(Debug, Drop, PartialEq, Eq, Hash)]
+pub struct MatchRule {
+    pub(crate) kind: Option<MessageType>,
+    pub(crate) sender: Option<OwnedBusName>,
+    pub(crate) interface: Option<OwnedInterfaceName>,
+    pub(crate) member: Option<OwnedMemberName>,
+    pub(crate) path: Option<PathSpec>,
+    pub(crate) destination: Option<OwnedUniqueName>,
+    pub(crate) args: Arguments,
+    pub(crate) arg_paths: Arguments,
+    pub(crate) arg0ns: Option<Text>,
+}
+
+impl Model for MatchRule {
+    ghost use Rattle.rule_match.specs.Rule.{Rule, IsRule};
+
+    ghost Value = { Rule };
+
+    ghost use Rattle.rule_match.specs.RuleView.{rule_seen, rule_fields};
+
+    ghost view = { rule_seen };
+
+    ghost invariant = { λ m. IsRule (rule_seen m) };
+
+    ghost inverse = { rule_fields };
+}
+
+fn sender_copy(
+    alloc: Global,
+    name: &Option<OwnedBusName>,
+) -> Result<Option<OwnedBusName>, AllocError>
+    ensures { IfOk result (λ copy. copy ≡ name.now) }
+{
+    match name {
+        Some(name) => Ok(Some(name.try_clone(alloc)?)),
+        None => Ok(None),
+    }
+}
+
+fn interface_copy(
+    alloc: Global,
+    name: &Option<OwnedInterfaceName>,
+) -> Result<Option<OwnedInterfaceName>, AllocError>
+    ensures { IfOk result (λ copy. copy ≡ name.now) }
+{
+    match name {
+        Some(name) => Ok(Some(name.try_clone(alloc)?)),
+        None => Ok(None),
+    }
+}
+
+fn member_copy(
+    alloc: Global,
+    name: &Option<OwnedMemberName>,
+) -> Result<Option<OwnedMemberName>, AllocError>
+    ensures { IfOk result (λ copy. copy ≡ name.now) }
+{
+    match name {
+        Some(name) => Ok(Some(name.try_clone(alloc)?)),
+        None => Ok(None),
+    }
+}
+
+fn place_copy(alloc: Global, place: &Option<PathSpec>) -> Result<Option<PathSpec>, AllocError>
+    ensures { IfOk result (λ copy. copy ≡ place.now) }
+{
+    match place {
+        Some(place) => Ok(Some(place.try_clone(alloc)?)),
+        None => Ok(None),
+    }
+}
+
+fn destination_copy(
+    alloc: Global,
+    name: &Option<OwnedUniqueName>,
+) -> Result<Option<OwnedUniqueName>, AllocError>
+    ensures { IfOk result (λ copy. copy ≡ name.now) }
+{
+    match name {
+        Some(name) => Ok(Some(name.try_clone(alloc)?)),
+        None => Ok(None),
+    }
+}
+
+fn namespace_copy(alloc: Global, name: &Option<Text>) -> Result<Option<Text>, AllocError>
+    ensures { IfOk result (λ copy. copy ≡ name.now) }
+{
+    match name {
+        Some(name) => Ok(Some(name.try_clone(alloc)?)),
+        None => Ok(None),
+    }
+}
+
+/// The name of the bus, which is its interface's name too.
+const BUS: &str = "org.freedesktop.DBus";
+
+#[tactic(auto, unfolding(wire_names::specs::Names::is_unique_name))]
+fn bus_name() -> UniqueName<'static>
+    ensures { result ≡ codes "org.freedesktop.DBus" }
+{
+    match UniqueName::try_from(BUS) {
+        Ok(name) => name,
+        Err(_) => unreachable!(),
+    }
+}
+
+#[tactic(auto, unfolding(wire_names::specs::Names::is_interface_name, wire_names::specs::Names::is_dotted, wire_names::specs::Names::is_element))]
+fn bus_interface() -> InterfaceName<'static>
+    ensures { result ≡ codes "org.freedesktop.DBus" }
+{
+    match InterfaceName::try_from(BUS) {
+        Ok(name) => name,
+        Err(_) => unreachable!(),
+    }
+}
+
+impl MatchRule {
+    ghost use Rattle.std.specs.Prelude.{◌≡◌, IfOk, option_map};
+    ghost use Rattle.rule_match.specs.Rule.{no_parts, bus_signal};
+    ghost use Rattle.rule_match.specs.Text.{rule_in};
+    ghost use Rattle.rule_match.specs.Building.{Gives};
+
+    /// A builder for a rule of no parts, which wants every message.
+    pub fn builder(alloc: Global) -> Builder
+        ensures { result ≡ no_parts }
+    {
+        Builder::new(alloc)
+    }
+
+    /// A builder for the rule of the bus's own signals of that name.
+    #[tactic(auto, unfolding(crate::specs::Rule::bus_signal))]
+    pub fn fdo_signal_builder(alloc: Global, name: OwnedMemberName) -> Result<Builder, AllocError>
+        ensures { IfOk result (λ b. b ≡ bus_signal name) }
+    {
+        let sender = bus_name().to_owned(alloc)?;
+        let interface = bus_interface().to_owned(alloc)?;
+        Ok(
+            Builder::new(alloc)
+                .msg_type(MessageType::Signal)
+                .sender(OwnedBusName::Unique(sender))
+                .interface(interface)
+                .member(name),
+        )
+    }
+
+    /// The rule that a text is: components between commas, each a key, `=` and a value between quotes; of the values of a
+    /// key the last counts.
+    ///
+    /// # Errors
+    ///
+    /// The fault of the leftmost component outside the grammar: `Names` of the kind of name or path that a value is to be;
+    /// `InvalidMatchRule` for any other. `Memory` for want of memory.
+    pub fn try_from(alloc: Global, text: &str) -> Result<MatchRule, Error>
+        ensures { Gives result (rule_in text.now) }
+    {
+        rule_in(alloc, text)
+    }
+
+    /// The message type that is wanted.
+    pub fn msg_type(&self) -> Option<MessageType>
+        ensures { result ≡ self.now.kind }
+    {
+        self.kind
+    }
+
+    /// The sender that is wanted.
+    pub fn sender(&self) -> Option<&OwnedBusName>
+        ensures { option_map (λ name. name.now) result ≡ self.now.sender }
+    {
+        self.sender.as_ref()
+    }
+
+    /// The interface that is wanted.
+    pub fn interface(&self) -> Option<&OwnedInterfaceName>
+        ensures { option_map (λ name. name.now) result ≡ self.now.interface }
+    {
+        self.interface.as_ref()
+    }
+
+    /// The member that is wanted.
+    pub fn member(&self) -> Option<&OwnedMemberName>
+        ensures { option_map (λ name. name.now) result ≡ self.now.member }
+    {
+        self.member.as_ref()
+    }
+
+    /// The path that is wanted, or the path that all wanted ones are at or below.
+    pub fn path_spec(&self) -> Option<&PathSpec>
+        ensures { option_map (λ place. place.now) result ≡ self.now.path }
+    {
+        self.path.as_ref()
+    }
+
+    /// The destination that is wanted.
+    pub fn destination(&self) -> Option<&OwnedUniqueName>
+        ensures { option_map (λ name. name.now) result ≡ self.now.destination }
+    {
+        self.destination.as_ref()
+    }
+
+    /// The string arguments that are wanted, in the order of their indices.
+    pub fn args(&self) -> &[Argument]
+        ensures { result.now ≡ self.now.args }
+    {
+        self.args.as_slice()
+    }
+
+    /// The arguments that are to be these object paths, in the order of their indices.
+    pub fn arg_paths(&self) -> &[Argument]
+        ensures { result.now ≡ self.now.arg_paths }
+    {
+        self.arg_paths.as_slice()
+    }
+
+    /// The namespace that the first argument is wanted in.
+    pub fn arg0ns(&self) -> Option<&Text>
+        ensures { option_map (λ name. name.now) result ≡ self.now.arg0ns }
+    {
+        self.arg0ns.as_ref()
+    }
+
+    /// A copy, for want of memory an error.
+    pub fn to_owned(&self, alloc: Global) -> Result<MatchRule, AllocError>
+        ensures { IfOk result (λ copy. copy ≡ self.now) }
+    {
+        Ok(MatchRule {
+            kind: self.kind,
+            sender: sender_copy(alloc, &self.sender)?,
+            interface: interface_copy(alloc, &self.interface)?,
+            member: member_copy(alloc, &self.member)?,
+            path: place_copy(alloc, &self.path)?,
+            destination: destination_copy(alloc, &self.destination)?,
+            args: self.args.try_clone(alloc)?,
+            arg_paths: self.arg_paths.try_clone(alloc)?,
+            arg0ns: namespace_copy(alloc, &self.arg0ns)?,
+        })
+    }
+
+    /// The same rule: it owns its texts.
+    pub fn into_owned(self) -> MatchRule
+        ensures { result ≡ self }
+    {
+        self
+    }
+}

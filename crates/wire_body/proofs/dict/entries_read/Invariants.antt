@@ -1,0 +1,10 @@
+use Rattle.std.proofs.Common.{◌≡◌, map}
+use Rattle.wire_tree.specs.Datum.{entries_of, AreEntries}
+use Rattle.wire_tree.specs.DatumView.{pair_of}
+use Rattle.wire_body.specs.Kinds.{both}
+use Rattle.wire_body.proofs.dict.entries_read.Given as goal
+
+abbrev pub invariant-loop-key : goal.invariant-loop-key
+invariant-loop-key g l =
+    (l.entries.items ≡ map (both g.K.Argument.read g.V.Argument.read) (map pair_of l.yielded))
+    × AreEntries g.K.Key.basic g.V.Argument.kind (entries_of (map pair_of l.key-iterator.rest.items))

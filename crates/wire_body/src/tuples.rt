@@ -1,0 +1,443 @@
+//! Tuples of arguments as bodies.
+ghost use Rattle.std.specs.Prelude.{◌∷◌, [], refl};
+ghost use Rattle.wire_body.specs.Chained.{first_of, rest_of, same_cons};
+
+use crate::argument::Argument;
+use crate::arguments::Arguments;
+use crate::chain::Then;
+use crate::message::{FromBody, ToBody};
+use std::alloc::{AllocError, Global};
+use wire_signature::VariantError;
+use wire_tree::Value;
+
+impl<A: Argument> ToBody for (A,) {
+    ghost kinds = { A.kind ∷ [] };
+
+    ghost datums = { λ x. A.datum x.0 ∷ [] };
+
+    ghost read = { λ ds. record { 0 = A.read (first_of ds) } };
+
+    ghost all_have_fields = { (A.has_fields, tt) };
+
+    ghost of_kinds = { λ x. (same_cons _ _ _ _ (A.of_kind x.0) refl) };
+
+    fn write_kinds(out: &mut String) -> Result<(), AllocError> {
+        Then::<A, ()>::write_kinds(out)
+    }
+
+    fn into_values(self, alloc: Global) -> Result<Vec<Value>, VariantError> {
+        let (first,) = self;
+        let all = Then { first, rest: () };
+        all.into_values(alloc)
+    }
+}
+
+impl<A: Argument> FromBody for (A,) {
+    fn from_arguments(alloc: Global, arguments: Arguments) -> Result<(A,), VariantError> {
+        let all = Then::<A, ()>::from_arguments(alloc, arguments)?;
+        Ok((all.first,))
+    }
+}
+
+impl<A: Argument, B: Argument> ToBody for (A, B) {
+    ghost kinds = { A.kind ∷ B.kind ∷ [] };
+
+    ghost datums = { λ x. A.datum x.0 ∷ B.datum x.1 ∷ [] };
+
+    ghost read = { λ ds. (A.read (first_of ds), B.read (first_of (rest_of ds))) };
+
+    ghost all_have_fields = { (A.has_fields, (B.has_fields, tt)) };
+
+    ghost of_kinds = { λ x. (same_cons _ _ _ _ (A.of_kind x.0) (same_cons _ _ _ _ (B.of_kind x.1) refl)) };
+
+    fn write_kinds(out: &mut String) -> Result<(), AllocError> {
+        Then::<A, Then<B, ()>>::write_kinds(out)
+    }
+
+    fn into_values(self, alloc: Global) -> Result<Vec<Value>, VariantError> {
+        let (first, second) = self;
+        let all = Then {
+            first: first,
+            rest: Then {
+                first: second,
+                rest: (),
+            },
+        };
+        all.into_values(alloc)
+    }
+}
+
+impl<A: Argument, B: Argument> FromBody for (A, B) {
+    fn from_arguments(alloc: Global, arguments: Arguments) -> Result<(A, B), VariantError> {
+        let all = Then::<A, Then<B, ()>>::from_arguments(alloc, arguments)?;
+        Ok((all.first, all.rest.first))
+    }
+}
+
+impl<A: Argument, B: Argument, C: Argument> ToBody for (A, B, C) {
+    ghost kinds = { A.kind ∷ B.kind ∷ C.kind ∷ [] };
+
+    ghost datums = { λ x. A.datum x.0 ∷ B.datum x.1 ∷ C.datum x.2 ∷ [] };
+
+    ghost read = { λ ds. (A.read (first_of ds), B.read (first_of (rest_of ds)), C.read (first_of (rest_of (rest_of ds)))) };
+
+    ghost all_have_fields = { (A.has_fields, (B.has_fields, (C.has_fields, tt))) };
+
+    ghost of_kinds = { λ x. (same_cons _ _ _ _ (A.of_kind x.0) (same_cons _ _ _ _ (B.of_kind x.1) (same_cons _ _ _ _ (C.of_kind x.2) refl))) };
+
+    fn write_kinds(out: &mut String) -> Result<(), AllocError> {
+        Then::<A, Then<B, Then<C, ()>>>::write_kinds(out)
+    }
+
+    fn into_values(self, alloc: Global) -> Result<Vec<Value>, VariantError> {
+        let (first, second, third) = self;
+        let all = Then {
+            first: first,
+            rest: Then {
+                first: second,
+                rest: Then {
+                    first: third,
+                    rest: (),
+                },
+            },
+        };
+        all.into_values(alloc)
+    }
+}
+
+impl<A: Argument, B: Argument, C: Argument> FromBody for (A, B, C) {
+    fn from_arguments(alloc: Global, arguments: Arguments) -> Result<(A, B, C), VariantError> {
+        let all = Then::<A, Then<B, Then<C, ()>>>::from_arguments(alloc, arguments)?;
+        Ok((all.first, all.rest.first, all.rest.rest.first))
+    }
+}
+
+impl<A: Argument, B: Argument, C: Argument, D: Argument> ToBody for (A, B, C, D) {
+    ghost kinds = { A.kind ∷ B.kind ∷ C.kind ∷ D.kind ∷ [] };
+
+    ghost datums = { λ x. A.datum x.0 ∷ B.datum x.1 ∷ C.datum x.2 ∷ D.datum x.3 ∷ [] };
+
+    ghost read = { λ ds. (A.read (first_of ds), B.read (first_of (rest_of ds)), C.read (first_of (rest_of (rest_of ds))), D.read (first_of (rest_of (rest_of (rest_of ds))))) };
+
+    ghost all_have_fields = { (A.has_fields, (B.has_fields, (C.has_fields, (D.has_fields, tt)))) };
+
+    ghost of_kinds = { λ x. (same_cons _ _ _ _ (A.of_kind x.0) (same_cons _ _ _ _ (B.of_kind x.1) (same_cons _ _ _ _ (C.of_kind x.2) (same_cons _ _ _ _ (D.of_kind x.3) refl)))) };
+
+    fn write_kinds(out: &mut String) -> Result<(), AllocError> {
+        Then::<A, Then<B, Then<C, Then<D, ()>>>>::write_kinds(out)
+    }
+
+    fn into_values(self, alloc: Global) -> Result<Vec<Value>, VariantError> {
+        let (first, second, third, fourth) = self;
+        let all = Then {
+            first: first,
+            rest: Then {
+                first: second,
+                rest: Then {
+                    first: third,
+                    rest: Then {
+                        first: fourth,
+                        rest: (),
+                    },
+                },
+            },
+        };
+        all.into_values(alloc)
+    }
+}
+
+impl<A: Argument, B: Argument, C: Argument, D: Argument> FromBody for (A, B, C, D) {
+    fn from_arguments(alloc: Global, arguments: Arguments) -> Result<(A, B, C, D), VariantError> {
+        let all = Then::<A, Then<B, Then<C, Then<D, ()>>>>::from_arguments(alloc, arguments)?;
+        Ok((
+            all.first,
+            all.rest.first,
+            all.rest.rest.first,
+            all.rest.rest.rest.first,
+        ))
+    }
+}
+
+impl<A: Argument, B: Argument, C: Argument, D: Argument, E: Argument> ToBody for (A, B, C, D, E) {
+    ghost kinds = { A.kind ∷ B.kind ∷ C.kind ∷ D.kind ∷ E.kind ∷ [] };
+
+    ghost datums = { λ x. A.datum x.0 ∷ B.datum x.1 ∷ C.datum x.2 ∷ D.datum x.3 ∷ E.datum x.4 ∷ [] };
+
+    ghost read = { λ ds. (A.read (first_of ds), B.read (first_of (rest_of ds)), C.read (first_of (rest_of (rest_of ds))), D.read (first_of (rest_of (rest_of (rest_of ds)))), E.read (first_of (rest_of (rest_of (rest_of (rest_of ds)))))) };
+
+    ghost all_have_fields = { (A.has_fields, (B.has_fields, (C.has_fields, (D.has_fields, (E.has_fields, tt))))) };
+
+    ghost of_kinds = { λ x. (same_cons _ _ _ _ (A.of_kind x.0) (same_cons _ _ _ _ (B.of_kind x.1) (same_cons _ _ _ _ (C.of_kind x.2) (same_cons _ _ _ _ (D.of_kind x.3) (same_cons _ _ _ _ (E.of_kind x.4) refl))))) };
+
+    fn write_kinds(out: &mut String) -> Result<(), AllocError> {
+        Then::<A, Then<B, Then<C, Then<D, Then<E, ()>>>>>::write_kinds(out)
+    }
+
+    fn into_values(self, alloc: Global) -> Result<Vec<Value>, VariantError> {
+        let (first, second, third, fourth, fifth) = self;
+        let all = Then {
+            first: first,
+            rest: Then {
+                first: second,
+                rest: Then {
+                    first: third,
+                    rest: Then {
+                        first: fourth,
+                        rest: Then {
+                            first: fifth,
+                            rest: (),
+                        },
+                    },
+                },
+            },
+        };
+        all.into_values(alloc)
+    }
+}
+
+impl<A: Argument, B: Argument, C: Argument, D: Argument, E: Argument> FromBody for (A, B, C, D, E) {
+    fn from_arguments(
+        alloc: Global,
+        arguments: Arguments,
+    ) -> Result<(A, B, C, D, E), VariantError> {
+        let all = Then::<A, Then<B, Then<C, Then<D, Then<E, ()>>>>>::from_arguments(
+            alloc, arguments,
+        )?;
+        Ok((
+            all.first,
+            all.rest.first,
+            all.rest.rest.first,
+            all.rest.rest.rest.first,
+            all.rest.rest.rest.rest.first,
+        ))
+    }
+}
+
+impl<A: Argument, B: Argument, C: Argument, D: Argument, E: Argument, F: Argument> ToBody
+    for (A, B, C, D, E, F) {
+    ghost kinds = { A.kind ∷ B.kind ∷ C.kind ∷ D.kind ∷ E.kind ∷ F.kind ∷ [] };
+
+    ghost datums = { λ x. A.datum x.0 ∷ B.datum x.1 ∷ C.datum x.2 ∷ D.datum x.3 ∷ E.datum x.4 ∷ F.datum x.5 ∷ [] };
+
+    ghost read = { λ ds. (A.read (first_of ds), B.read (first_of (rest_of ds)), C.read (first_of (rest_of (rest_of ds))), D.read (first_of (rest_of (rest_of (rest_of ds)))), E.read (first_of (rest_of (rest_of (rest_of (rest_of ds))))), F.read (first_of (rest_of (rest_of (rest_of (rest_of (rest_of ds))))))) };
+
+    ghost all_have_fields = { (A.has_fields, (B.has_fields, (C.has_fields, (D.has_fields, (E.has_fields, (F.has_fields, tt)))))) };
+
+    ghost of_kinds = { λ x. (same_cons _ _ _ _ (A.of_kind x.0) (same_cons _ _ _ _ (B.of_kind x.1) (same_cons _ _ _ _ (C.of_kind x.2) (same_cons _ _ _ _ (D.of_kind x.3) (same_cons _ _ _ _ (E.of_kind x.4) (same_cons _ _ _ _ (F.of_kind x.5) refl)))))) };
+
+    fn write_kinds(out: &mut String) -> Result<(), AllocError> {
+        Then::<A, Then<B, Then<C, Then<D, Then<E, Then<F, ()>>>>>>::write_kinds(out)
+    }
+
+    fn into_values(self, alloc: Global) -> Result<Vec<Value>, VariantError> {
+        let (first, second, third, fourth, fifth, sixth) = self;
+        let all = Then {
+            first: first,
+            rest: Then {
+                first: second,
+                rest: Then {
+                    first: third,
+                    rest: Then {
+                        first: fourth,
+                        rest: Then {
+                            first: fifth,
+                            rest: Then {
+                                first: sixth,
+                                rest: (),
+                            },
+                        },
+                    },
+                },
+            },
+        };
+        all.into_values(alloc)
+    }
+}
+
+impl<A: Argument, B: Argument, C: Argument, D: Argument, E: Argument, F: Argument> FromBody
+    for (A, B, C, D, E, F) {
+    fn from_arguments(
+        alloc: Global,
+        arguments: Arguments,
+    ) -> Result<(A, B, C, D, E, F), VariantError> {
+        let all = Then::<A, Then<B, Then<C, Then<D, Then<E, Then<F, ()>>>>>>::from_arguments(
+            alloc, arguments,
+        )?;
+        Ok((
+            all.first,
+            all.rest.first,
+            all.rest.rest.first,
+            all.rest.rest.rest.first,
+            all.rest.rest.rest.rest.first,
+            all.rest.rest.rest.rest.rest.first,
+        ))
+    }
+}
+
+impl<
+    A: Argument,
+    B: Argument,
+    C: Argument,
+    D: Argument,
+    E: Argument,
+    F: Argument,
+    G: Argument,
+> ToBody for (A, B, C, D, E, F, G) {
+    ghost kinds = { A.kind ∷ B.kind ∷ C.kind ∷ D.kind ∷ E.kind ∷ F.kind ∷ G.kind ∷ [] };
+
+    ghost datums = { λ x. A.datum x.0 ∷ B.datum x.1 ∷ C.datum x.2 ∷ D.datum x.3 ∷ E.datum x.4 ∷ F.datum x.5 ∷ G.datum x.6 ∷ [] };
+
+    ghost read = { λ ds. (A.read (first_of ds), B.read (first_of (rest_of ds)), C.read (first_of (rest_of (rest_of ds))), D.read (first_of (rest_of (rest_of (rest_of ds)))), E.read (first_of (rest_of (rest_of (rest_of (rest_of ds))))), F.read (first_of (rest_of (rest_of (rest_of (rest_of (rest_of ds)))))), G.read (first_of (rest_of (rest_of (rest_of (rest_of (rest_of (rest_of ds)))))))) };
+
+    ghost all_have_fields = { (A.has_fields, (B.has_fields, (C.has_fields, (D.has_fields, (E.has_fields, (F.has_fields, (G.has_fields, tt))))))) };
+
+    ghost of_kinds = { λ x. (same_cons _ _ _ _ (A.of_kind x.0) (same_cons _ _ _ _ (B.of_kind x.1) (same_cons _ _ _ _ (C.of_kind x.2) (same_cons _ _ _ _ (D.of_kind x.3) (same_cons _ _ _ _ (E.of_kind x.4) (same_cons _ _ _ _ (F.of_kind x.5) (same_cons _ _ _ _ (G.of_kind x.6) refl))))))) };
+
+    fn write_kinds(out: &mut String) -> Result<(), AllocError> {
+        Then::<A, Then<B, Then<C, Then<D, Then<E, Then<F, Then<G, ()>>>>>>>::write_kinds(out)
+    }
+
+    fn into_values(self, alloc: Global) -> Result<Vec<Value>, VariantError> {
+        let (first, second, third, fourth, fifth, sixth, seventh) = self;
+        let all = Then {
+            first: first,
+            rest: Then {
+                first: second,
+                rest: Then {
+                    first: third,
+                    rest: Then {
+                        first: fourth,
+                        rest: Then {
+                            first: fifth,
+                            rest: Then {
+                                first: sixth,
+                                rest: Then {
+                                    first: seventh,
+                                    rest: (),
+                                },
+                            },
+                        },
+                    },
+                },
+            },
+        };
+        all.into_values(alloc)
+    }
+}
+
+impl<
+    A: Argument,
+    B: Argument,
+    C: Argument,
+    D: Argument,
+    E: Argument,
+    F: Argument,
+    G: Argument,
+> FromBody for (A, B, C, D, E, F, G) {
+    fn from_arguments(
+        alloc: Global,
+        arguments: Arguments,
+    ) -> Result<(A, B, C, D, E, F, G), VariantError> {
+        let all = Then::<
+            A,
+            Then<B, Then<C, Then<D, Then<E, Then<F, Then<G, ()>>>>>>,
+        >::from_arguments(alloc, arguments)?;
+        Ok((
+            all.first,
+            all.rest.first,
+            all.rest.rest.first,
+            all.rest.rest.rest.first,
+            all.rest.rest.rest.rest.first,
+            all.rest.rest.rest.rest.rest.first,
+            all.rest.rest.rest.rest.rest.rest.first,
+        ))
+    }
+}
+
+impl<
+    A: Argument,
+    B: Argument,
+    C: Argument,
+    D: Argument,
+    E: Argument,
+    F: Argument,
+    G: Argument,
+    H: Argument,
+> ToBody for (A, B, C, D, E, F, G, H) {
+    ghost kinds = { A.kind ∷ B.kind ∷ C.kind ∷ D.kind ∷ E.kind ∷ F.kind ∷ G.kind ∷ H.kind ∷ [] };
+
+    ghost datums = { λ x. A.datum x.0 ∷ B.datum x.1 ∷ C.datum x.2 ∷ D.datum x.3 ∷ E.datum x.4 ∷ F.datum x.5 ∷ G.datum x.6 ∷ H.datum x.7 ∷ [] };
+
+    ghost read = { λ ds. (A.read (first_of ds), B.read (first_of (rest_of ds)), C.read (first_of (rest_of (rest_of ds))), D.read (first_of (rest_of (rest_of (rest_of ds)))), E.read (first_of (rest_of (rest_of (rest_of (rest_of ds))))), F.read (first_of (rest_of (rest_of (rest_of (rest_of (rest_of ds)))))), G.read (first_of (rest_of (rest_of (rest_of (rest_of (rest_of (rest_of ds))))))), H.read (first_of (rest_of (rest_of (rest_of (rest_of (rest_of (rest_of (rest_of ds))))))))) };
+
+    ghost all_have_fields = { (A.has_fields, (B.has_fields, (C.has_fields, (D.has_fields, (E.has_fields, (F.has_fields, (G.has_fields, (H.has_fields, tt)))))))) };
+
+    ghost of_kinds = { λ x. (same_cons _ _ _ _ (A.of_kind x.0) (same_cons _ _ _ _ (B.of_kind x.1) (same_cons _ _ _ _ (C.of_kind x.2) (same_cons _ _ _ _ (D.of_kind x.3) (same_cons _ _ _ _ (E.of_kind x.4) (same_cons _ _ _ _ (F.of_kind x.5) (same_cons _ _ _ _ (G.of_kind x.6) (same_cons _ _ _ _ (H.of_kind x.7) refl)))))))) };
+
+    fn write_kinds(out: &mut String) -> Result<(), AllocError> {
+        Then::<A, Then<B, Then<C, Then<D, Then<E, Then<F, Then<G, Then<H, ()>>>>>>>>::write_kinds(
+            out,
+        )
+    }
+
+    fn into_values(self, alloc: Global) -> Result<Vec<Value>, VariantError> {
+        let (first, second, third, fourth, fifth, sixth, seventh, eighth) = self;
+        let all = Then {
+            first: first,
+            rest: Then {
+                first: second,
+                rest: Then {
+                    first: third,
+                    rest: Then {
+                        first: fourth,
+                        rest: Then {
+                            first: fifth,
+                            rest: Then {
+                                first: sixth,
+                                rest: Then {
+                                    first: seventh,
+                                    rest: Then {
+                                        first: eighth,
+                                        rest: (),
+                                    },
+                                },
+                            },
+                        },
+                    },
+                },
+            },
+        };
+        all.into_values(alloc)
+    }
+}
+
+impl<
+    A: Argument,
+    B: Argument,
+    C: Argument,
+    D: Argument,
+    E: Argument,
+    F: Argument,
+    G: Argument,
+    H: Argument,
+> FromBody for (A, B, C, D, E, F, G, H) {
+    fn from_arguments(
+        alloc: Global,
+        arguments: Arguments,
+    ) -> Result<(A, B, C, D, E, F, G, H), VariantError> {
+        let all = Then::<
+            A,
+            Then<B, Then<C, Then<D, Then<E, Then<F, Then<G, Then<H, ()>>>>>>>,
+        >::from_arguments(alloc, arguments)?;
+        Ok((
+            all.first,
+            all.rest.first,
+            all.rest.rest.first,
+            all.rest.rest.rest.first,
+            all.rest.rest.rest.rest.first,
+            all.rest.rest.rest.rest.rest.first,
+            all.rest.rest.rest.rest.rest.rest.first,
+            all.rest.rest.rest.rest.rest.rest.rest.first,
+        ))
+    }
+}

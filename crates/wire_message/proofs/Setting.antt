@@ -1,0 +1,36 @@
+-- What a builder may hold, it may hold after each setter.
+use Rattle.std.proofs.Common.{ℕ, ◌≤◌, List, Some, arith}
+use Rattle.std.specs.Int.Bits.{bit_and, bit_or}
+use Rattle.std.proofs.lemmas.Nat.{and_le_r, or_lt}
+use Rattle.wire_names.specs.Names.{IsObjectPath, IsMemberName, IsInterfaceName, IsBusName, IsUniqueName}
+use Rattle.wire_message.specs.Field.{is_text}
+use Rattle.wire_message.specs.Draft.{Draft, IsDraft, call_draft}
+
+pub set-interface : (draft : Draft) (text : List ℕ) → IsDraft draft → IsInterfaceName text → IsDraft (record draft { fields = record draft.fields { interface = Some text } })
+unfolding is_text
+set-interface draft text d h =
+    let f = d.fields in
+    record { flags = d.flags; fields = record { path = f.path; interface = h; member = f.member; error_name = f.error_name; reply_serial = f.reply_serial; destination = f.destination; sender = f.sender; signature = f.signature; unix_fds = f.unix_fds } }
+
+pub set-destination : (draft : Draft) (text : List ℕ) → IsDraft draft → IsBusName text → IsDraft (record draft { fields = record draft.fields { destination = Some text } })
+unfolding is_text
+set-destination draft text d h =
+    let f = d.fields in
+    record { flags = d.flags; fields = record { path = f.path; interface = f.interface; member = f.member; error_name = f.error_name; reply_serial = f.reply_serial; destination = h; sender = f.sender; signature = f.signature; unix_fds = f.unix_fds } }
+
+pub set-sender : (draft : Draft) (text : List ℕ) → IsDraft draft → IsUniqueName text → IsDraft (record draft { fields = record draft.fields { sender = Some text } })
+unfolding is_text
+set-sender draft text d h =
+    let f = d.fields in
+    record { flags = d.flags; fields = record { path = f.path; interface = f.interface; member = f.member; error_name = f.error_name; reply_serial = f.reply_serial; destination = f.destination; sender = h; signature = f.signature; unix_fds = f.unix_fds } }
+
+pub first-call : (path member : List ℕ) → IsObjectPath path → IsMemberName member → IsDraft (call_draft path member)
+unfolding is_text
+first-call path member p m =
+    record { flags = omega arith; fields = record { path = p; interface = tt; member = m; error_name = tt; reply_serial = tt; destination = tt; sender = tt; signature = tt; unix_fds = tt } }
+
+known : (a b : ℕ) → a ≤ 7 → bit_or a (bit_and b 7) ≤ 7
+known a b h = let low = or_lt 3 a (bit_and b 7) (omega arith) (omega (arith, and_le_r b 7)) in omega arith
+
+pub set-flags : (draft : Draft) (more : ℕ) → IsDraft draft → IsDraft (record draft { flags = bit_or draft.flags (bit_and more 7) })
+set-flags draft more d = record { flags = known draft.flags more d.flags; fields = d.fields }

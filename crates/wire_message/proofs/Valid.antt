@@ -1,0 +1,94 @@
+-- The header fields of a message that stands on its bytes are each in its grammar.
+use Rattle.std.proofs.Common.{◌≡◌, ℕ, ◌<◌, List, [], ◌∷◌, Option, Some, None, refl, sym, subst, Bool, true, false, ◌^◌}
+use Rattle.std.specs.Prelude.{IfSome, IsTrue, option_map}
+use Rattle.std.specs.List.{AllByRecursion}
+use Rattle.std.proofs.lemmas.Bool.{ltb-true}
+use Rattle.wire_number.specs.declared.endian.Endian.{Endian}
+use Rattle.wire_names.specs.Names.{IsObjectPath, IsInterfaceName, IsMemberName, IsErrorName, IsBusName, IsUniqueName}
+use Rattle.wire_message.specs.declared.field.FieldCode.{FieldCode}
+use Rattle.wire_message.specs.declared.field.FieldCode.TheVariants as codes
+use Rattle.wire_message.specs.declared.kind.MessageType.{MessageType}
+use Rattle.wire_message.specs.declared.places.Span.{Span}
+use Rattle.wire_message.specs.declared.places.Places.{Places}
+use Rattle.wire_message.specs.Field.{Fields, no_fields, Value, Text, Number, Field, IsField, is_text, is_number, with_field, with_text, with_number, gathered}
+use Rattle.wire_message.specs.Places.{found_fields, span_text, Stands}
+use Rattle.wire_message.specs.Draft.{AreFields}
+
+not-so : {A : Type 0} → IsTrue false → A
+not-so h = absurd cc
+
+is-true : (b : Bool) → IsTrue b → b ≡ true
+is-true true h = refl
+is-true false h = not-so h
+
+with_text-valid : (code : FieldCode) (text : List ℕ) (fields : Fields) → IsTrue (is_text code text) → AreFields fields → AreFields (with_text code text fields)
+unfolding is_text
+with_text-valid codes.Path text fields h f = record { path = h; interface = f.interface; member = f.member; error_name = f.error_name; reply_serial = f.reply_serial; destination = f.destination; sender = f.sender; signature = f.signature; unix_fds = f.unix_fds }
+with_text-valid codes.Interface text fields h f = record { path = f.path; interface = h; member = f.member; error_name = f.error_name; reply_serial = f.reply_serial; destination = f.destination; sender = f.sender; signature = f.signature; unix_fds = f.unix_fds }
+with_text-valid codes.Member text fields h f = record { path = f.path; interface = f.interface; member = h; error_name = f.error_name; reply_serial = f.reply_serial; destination = f.destination; sender = f.sender; signature = f.signature; unix_fds = f.unix_fds }
+with_text-valid codes.ErrorName text fields h f = record { path = f.path; interface = f.interface; member = f.member; error_name = h; reply_serial = f.reply_serial; destination = f.destination; sender = f.sender; signature = f.signature; unix_fds = f.unix_fds }
+with_text-valid codes.Destination text fields h f = record { path = f.path; interface = f.interface; member = f.member; error_name = f.error_name; reply_serial = f.reply_serial; destination = h; sender = f.sender; signature = f.signature; unix_fds = f.unix_fds }
+with_text-valid codes.Sender text fields h f = record { path = f.path; interface = f.interface; member = f.member; error_name = f.error_name; reply_serial = f.reply_serial; destination = f.destination; sender = h; signature = f.signature; unix_fds = f.unix_fds }
+with_text-valid codes.Signature text fields h f = record { path = f.path; interface = f.interface; member = f.member; error_name = f.error_name; reply_serial = f.reply_serial; destination = f.destination; sender = f.sender; signature = h; unix_fds = f.unix_fds }
+with_text-valid codes.ReplySerial text fields h f = not-so h
+with_text-valid codes.UnixFds text fields h f = not-so h
+
+with_number-valid : (code : FieldCode) (number : ℕ) (fields : Fields) → IsTrue (is_number code number) → number < 2 ^ 32 → AreFields fields → AreFields (with_number code number fields)
+unfolding is_number
+with_number-valid codes.ReplySerial number fields h k f = record { path = f.path; interface = f.interface; member = f.member; error_name = f.error_name; reply_serial = (ltb-true 0 number (is-true _ h), k); destination = f.destination; sender = f.sender; signature = f.signature; unix_fds = f.unix_fds }
+with_number-valid codes.UnixFds number fields h k f = record { path = f.path; interface = f.interface; member = f.member; error_name = f.error_name; reply_serial = f.reply_serial; destination = f.destination; sender = f.sender; signature = f.signature; unix_fds = k }
+with_number-valid codes.Path number fields h k f = not-so h
+with_number-valid codes.Interface number fields h k f = not-so h
+with_number-valid codes.Member number fields h k f = not-so h
+with_number-valid codes.ErrorName number fields h k f = not-so h
+with_number-valid codes.Destination number fields h k f = not-so h
+with_number-valid codes.Sender number fields h k f = not-so h
+with_number-valid codes.Signature number fields h k f = not-so h
+
+with_value-valid : (code : FieldCode) (value : Value) (fields : Fields) → IsField (record { code = code; value = value }) → AreFields fields → AreFields (with_field (record { code = code; value = value }) fields)
+unfolding with_field
+with_value-valid code (Text text) fields h f = with_text-valid code text fields h.0 f
+with_value-valid code (Number number) fields h f = with_number-valid code number fields h.0 h.1 f
+
+gathered-valid : (fields : Fields) (fs : List Field) → AllByRecursion IsField fs → AreFields fields → AreFields (gathered fields fs)
+unfolding gathered
+gathered-valid fields [] h f = f
+gathered-valid fields (field ∷ fs) h f = gathered-valid (with_field field fields) fs h.1 (with_value-valid field.code field.value fields h.0 f)
+
+none-valid : AreFields no_fields
+none-valid = record { path = tt; interface = tt; member = tt; error_name = tt; reply_serial = tt; destination = tt; sender = tt; signature = tt; unix_fds = tt }
+
+pub stands-valid : (bytes : List ℕ) (kind : MessageType) (order : Endian) (flags serial : ℕ) (places : Places) → Stands bytes kind order flags serial places → AreFields (found_fields bytes places)
+stands-valid bytes kind order flags serial places s =
+    let fs = s.front.fields in
+    subst AreFields (sym fs.3) (gathered-valid no_fields fs.0 fs.1 none-valid)
+
+-- ---- a text that was lent
+
+pub at-some : (bytes : List ℕ) (span : Option Span) (text : List ℕ) (P : List ℕ → Type 0) → Some text ≡ option_map (span_text bytes) span → IfSome (option_map (span_text bytes) span) P → P text
+at-some bytes None text P e h = absurd cc
+at-some bytes (Some span) text P e h = let same : span_text bytes span ≡ text = cc in subst P same h
+
+pub path-text : (text : List ℕ) → IsTrue (is_text codes.Path text) → IsObjectPath text
+unfolding is_text
+path-text text h = h
+
+pub interface-text : (text : List ℕ) → IsTrue (is_text codes.Interface text) → IsInterfaceName text
+unfolding is_text
+interface-text text h = h
+
+pub member-text : (text : List ℕ) → IsTrue (is_text codes.Member text) → IsMemberName text
+unfolding is_text
+member-text text h = h
+
+pub error-text : (text : List ℕ) → IsTrue (is_text codes.ErrorName text) → IsErrorName text
+unfolding is_text
+error-text text h = h
+
+pub bus-text : (text : List ℕ) → IsTrue (is_text codes.Destination text) → IsBusName text
+unfolding is_text
+bus-text text h = h
+
+pub unique-text : (text : List ℕ) → IsTrue (is_text codes.Sender text) → IsUniqueName text
+unfolding is_text
+unique-text text h = h

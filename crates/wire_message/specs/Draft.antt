@@ -1,0 +1,133 @@
+-- A message as bytes, from what a builder holds (D-Bus Specification, "Message Format").
+use Rattle.std.specs.Prelude.{ℕ, ◌≡◌, ◌<◌, ◌≤◌, Bool, false, nat_lt, List, [], ◌∷◌, ◌++◌, length, Option, Some, None, option_map, IfSome, IsTrue, ◌^◌, Result, Ok, Err}
+use Rattle.std.specs.Int.{w32}
+use Rattle.wire_number.specs.declared.endian.Endian.{Endian}
+use Rattle.wire_number.specs.declared.endian.Endian.TheVariants.{Little}
+use Rattle.wire_number.specs.Number.{number_text, padded}
+use Rattle.wire_message.specs.Field.{Fields, no_fields, is_text, fields_text, field_list}
+use Rattle.wire_message.specs.Front.{Seen, seen, Front, kind_code, order_code}
+use Rattle.wire_signature.specs.declared.basic.BasicType.{BasicType}
+use Rattle.wire_signature.specs.declared.basic.BasicType.TheVariants as basics
+use Rattle.wire_message.specs.declared.writing.HeaderFields.{HeaderFields}
+use Rattle.wire_message.specs.Circle.{IsNext, AllTaken}
+use Rattle.wire_message.specs.declared.field.FieldCode.TheVariants as codes
+use Rattle.wire_message.specs.declared.kind.MessageType.{MessageType}
+use Rattle.wire_message.specs.declared.kind.MessageType.TheVariants as types
+use Rattle.wire_message.specs.declared.error.Error.{Error}
+use Rattle.wire_message.specs.declared.error.Error.TheVariants as errors
+
+-- what a builder holds
+pub record Draft : Type 0 where
+  pub kind : MessageType
+  pub order : Endian
+  pub flags : ℕ
+  pub fields : Fields
+
+-- the bytes of the fields that it has, in the order of their codes
+abbrev pub draft_fields : Draft → List ℕ
+draft_fields draft = fields_text draft.order 16 (field_list draft.fields)
+
+-- Byte order, message type, flags, version 1, the body's length, the serial, the fields' length, the fields, zeros up to a
+-- multiple of 8.
+unfoldable pub header_text : Draft → ℕ → ℕ → List ℕ
+header_text draft body_length serial =
+    padded 8 (order_code draft.order ∷ kind_code draft.kind ∷ draft.flags ∷ 1 ∷ number_text w32 draft.order body_length
+    ++ number_text w32 draft.order serial ++ number_text w32 draft.order (length (draft_fields draft)) ++ draft_fields draft)
+
+-- the header and the body
+unfoldable pub message_text : Draft → ℕ → List ℕ → List ℕ
+message_text draft serial body = header_text draft (length body) serial ++ body
+
+-- the message that stands on it
+unfoldable pub built : Draft → ℕ → List ℕ → Seen
+built draft serial body = seen (message_text draft serial body) 0 draft.kind draft.order draft.flags serial draft.fields
+
+-- each field that is there is in its grammar
+pub record AreFields (fields : Fields) : Type 0 where
+  pub path : IfSome fields.path (λ text. IsTrue (is_text codes.Path text))
+  pub interface : IfSome fields.interface (λ text. IsTrue (is_text codes.Interface text))
+  pub member : IfSome fields.member (λ text. IsTrue (is_text codes.Member text))
+  pub error_name : IfSome fields.error_name (λ text. IsTrue (is_text codes.ErrorName text))
+  pub reply_serial : IfSome fields.reply_serial (λ number. (0 < number) × (number < 2 ^ 32))
+  pub destination : IfSome fields.destination (λ text. IsTrue (is_text codes.Destination text))
+  pub sender : IfSome fields.sender (λ text. IsTrue (is_text codes.Sender text))
+  pub signature : IfSome fields.signature (λ text. IsTrue (is_text codes.Signature text))
+  pub unix_fds : IfSome fields.unix_fds (λ number. number < 2 ^ 32)
+
+-- what a builder may hold
+pub record IsDraft (draft : Draft) : Type 0 where
+  pub flags : draft.flags ≤ 7
+  pub fields : AreFields draft.fields
+
+-- what a text of a type may have at most, for its length to be written
+abbrev pub IsShortText : BasicType → List ℕ → Type 0
+IsShortText basics.Signature text = length text < 256
+IsShortText type text = length text < 2 ^ 32
+
+pub record AreShort (fields : Fields) : Type 0 where
+  pub path : IfSome fields.path (λ text. length text < 2 ^ 32)
+  pub interface : IfSome fields.interface (λ text. length text < 2 ^ 32)
+  pub member : IfSome fields.member (λ text. length text < 2 ^ 32)
+  pub error_name : IfSome fields.error_name (λ text. length text < 2 ^ 32)
+  pub destination : IfSome fields.destination (λ text. length text < 2 ^ 32)
+  pub sender : IfSome fields.sender (λ text. length text < 2 ^ 32)
+  pub signature : IfSome fields.signature (λ text. length text < 256)
+
+-- the header fields of the code
+abbrev pub header_fields : HeaderFields → Fields
+header_fields fields = record {
+  path = option_map (λ t. t.now) fields.path;
+  interface = option_map (λ t. t.now) fields.interface;
+  member = option_map (λ t. t.now) fields.member;
+  error_name = option_map (λ t. t.now) fields.error_name;
+  reply_serial = fields.reply_serial;
+  destination = option_map (λ t. t.now) fields.destination;
+  sender = option_map (λ t. t.now) fields.sender;
+  signature = option_map (λ t. t.now) fields.signature;
+  unix_fds = fields.unix_fds;
+}
+
+-- a text that alone passes the limit of a message
+abbrev pub has_long_text : Option (List ℕ) → Bool
+has_long_text None = false
+has_long_text (Some text) = nat_lt 134217728 (length text)
+
+-- Bytes were written, or their length passes the limit of a message.
+abbrev pub Writes : {A : Type 0} → (A → List ℕ) → Result A Error → List ℕ → Type 0
+Writes items (Ok v) text = items v ≡ text
+Writes items (Err errors.ExcessData) text = 134217728 < length text
+Writes items (Err errors.Memory) text = Unit {0}
+Writes items (Err error) text = ⊥
+
+-- The message with this serial was made, or it would pass its limit.
+abbrev pub Makes : Draft → ℕ → List ℕ → Result Seen Error → Type 0
+Makes draft serial body (Ok m) = (m ≡ built draft serial body) × (length m.bytes ≤ 134217728)
+Makes draft serial body (Err errors.ExcessData) = 134217728 < length (message_text draft serial body)
+Makes draft serial body (Err errors.Memory) = Unit {0}
+Makes draft serial body (Err error) = ⊥
+
+-- What building gives: the message with the next serial, which is drawn then alone; SerialsSpent where each serial is taken;
+-- else ExcessData where the message would pass 134,217,728 bytes.
+abbrev pub Builds : (ℕ → Bool) → Draft → List ℕ → ℕ → ℕ → Result Seen Error → Type 0
+Builds taken draft body old new (Ok m) =
+    IsNext taken old m.serial × (new ≡ m.serial) × (length m.bytes ≤ 134217728) × (m ≡ built draft m.serial body)
+Builds taken draft body old new (Err errors.SerialsSpent) = AllTaken taken × (new ≡ old)
+Builds taken draft body old new (Err errors.ExcessData) =
+    (serial : ℕ) × IsNext taken old serial × (134217728 < length (message_text draft serial body)) × (new ≡ old)
+Builds taken draft body old new (Err errors.Memory) = new ≡ old
+Builds taken draft body old new (Err error) = ⊥
+
+-- A message is read again from its bytes, whatever follows them.
+abbrev pub ReadsAgain : Seen → Type 0
+ReadsAgain m = (more : List ℕ) → Front (m.bytes ++ more) m (length m.bytes)
+
+-- ---- a method call of little order, without flags and body
+
+abbrev pub call_draft : List ℕ → List ℕ → Draft
+call_draft path member = record { kind = types.MethodCall; order = Little; flags = 0; fields = record no_fields { path = Some path; member = Some member } }
+
+unfoldable pub call_text : ℕ → List ℕ → List ℕ → List ℕ
+call_text serial path member = message_text (call_draft path member) serial []
+
+unfoldable pub call_message : ℕ → List ℕ → List ℕ → Seen
+call_message serial path member = built (call_draft path member) serial []

@@ -1,0 +1,170 @@
+-- Header fields (D-Bus Specification, "Message Format", "Header Fields").
+use Rattle.std.specs.Prelude.{ℕ, ◌+◌, ◌<◌, ◌^◌, nat_lt, Bool, true, false, List, [], ◌∷◌, ◌++◌, length, Option, Some, None, IsTrue, is_some}
+use Rattle.std.specs.Int.{w32}
+use Rattle.wire_number.specs.declared.endian.Endian.{Endian}
+use Rattle.wire_number.specs.Number.{number_text, padding}
+use Rattle.wire_number.specs.Text.{long_text, short_text}
+use Rattle.wire_names.specs.Names.{is_object_path, is_interface_name, is_member_name, is_error_name, is_bus_name, is_unique_name}
+use Rattle.wire_signature.specs.declared.basic.BasicType.{BasicType}
+use Rattle.wire_signature.specs.declared.basic.BasicType.TheVariants as basics
+use Rattle.wire_signature.specs.Shape.{letter}
+use Rattle.wire_signature.specs.Parsing.{types_in}
+use Rattle.wire_message.specs.declared.field.FieldCode.{FieldCode}
+use Rattle.wire_message.specs.declared.field.FieldCode.TheVariants as codes
+
+-- the nine fields of a header, each there or not
+pub record Fields : Type 0 where
+  pub path : Option (List ℕ)
+  pub interface : Option (List ℕ)
+  pub member : Option (List ℕ)
+  pub error_name : Option (List ℕ)
+  pub reply_serial : Option ℕ
+  pub destination : Option (List ℕ)
+  pub sender : Option (List ℕ)
+  pub signature : Option (List ℕ)
+  pub unix_fds : Option ℕ
+
+abbrev pub no_fields : Fields
+no_fields = record {
+  path = None;
+  interface = None;
+  member = None;
+  error_name = None;
+  reply_serial = None;
+  destination = None;
+  sender = None;
+  signature = None;
+  unix_fds = None;
+}
+
+-- ---- one field
+
+-- what a field holds
+pub data Value : Type 0 where
+  Text : (text : List ℕ) → Value
+  Number : (number : ℕ) → Value
+
+pub record Field : Type 0 where
+  pub code : FieldCode
+  pub value : Value
+
+-- a field's code as a byte
+abbrev pub code_byte : FieldCode → ℕ
+code_byte codes.Path = 1
+code_byte codes.Interface = 2
+code_byte codes.Member = 3
+code_byte codes.ErrorName = 4
+code_byte codes.ReplySerial = 5
+code_byte codes.Destination = 6
+code_byte codes.Sender = 7
+code_byte codes.Signature = 8
+code_byte codes.UnixFds = 9
+
+-- the type of a field's value
+abbrev pub field_type : FieldCode → BasicType
+field_type codes.Path = basics.ObjectPath
+field_type codes.ReplySerial = basics.Uint32
+field_type codes.Signature = basics.Signature
+field_type codes.UnixFds = basics.Uint32
+field_type code = basics.String
+
+-- The text is in the grammar of the field: a path, an interface's, a member's, an error's name; a bus name as destination;
+-- a unique name as sender; a signature.
+unfoldable pub is_text : FieldCode → List ℕ → Bool
+is_text codes.Path text = is_object_path text
+is_text codes.Interface text = is_interface_name text
+is_text codes.Member text = is_member_name text
+is_text codes.ErrorName text = is_error_name text
+is_text codes.Destination text = is_bus_name text
+is_text codes.Sender text = is_unique_name text
+is_text codes.Signature text = is_some (types_in text)
+is_text codes.ReplySerial text = false
+is_text codes.UnixFds text = false
+
+-- a reply serial isn't 0
+unfoldable pub is_number : FieldCode → ℕ → Bool
+is_number codes.ReplySerial number = nat_lt 0 number
+is_number codes.UnixFds number = true
+is_number code number = false
+
+-- a value that the field may have
+abbrev pub is_value : FieldCode → Value → Bool
+is_value code (Text text) = is_text code text
+is_value code (Number number) = is_number code number
+
+-- what has four bytes of length, or four bytes
+abbrev pub IsShort : Value → Type 0
+IsShort (Text text) = length text < 2 ^ 32
+IsShort (Number number) = number < 2 ^ 32
+
+abbrev pub IsField : Field → Type 0
+IsField field = IsTrue (is_value field.code field.value) × IsShort field.value
+
+-- ---- its bytes
+
+-- a value's bytes, by its type
+abbrev pub text_bytes : Endian → BasicType → List ℕ → List ℕ
+text_bytes order basics.Signature text = short_text text
+text_bytes order type text = long_text order text
+
+abbrev pub value_bytes : Endian → BasicType → Value → List ℕ
+value_bytes order type (Text text) = text_bytes order type text
+value_bytes order type (Number number) = number_text w32 order number
+
+-- a field's code, and the signature of its value
+abbrev pub code_bytes : FieldCode → List ℕ
+code_bytes code = code_byte code ∷ 1 ∷ letter (field_type code) ∷ 0 ∷ []
+
+-- A field is a struct of a byte and a variant: its code, the signature of its value, its value. It begins at a multiple of 8,
+-- so that no padding stands in it.
+unfoldable pub field_text : Endian → Field → List ℕ
+field_text order field = code_bytes field.code ++ value_bytes order (field_type field.code) field.value
+
+-- Fields one behind the other from a place on, each behind zeros up to a multiple of 8.
+unfoldable pub fields_text : Endian → ℕ → List Field → List ℕ
+fields_text order place [] = []
+fields_text order place (field ∷ fields) =
+    (padding place 8 ++ field_text order field)
+    ++ fields_text order (place + length (padding place 8 ++ field_text order field)) fields
+
+-- ---- what fields say
+
+-- a field more: its value stands for an earlier one of its code
+abbrev pub with_text : FieldCode → List ℕ → Fields → Fields
+with_text codes.Path text fields = record fields { path = Some text }
+with_text codes.Interface text fields = record fields { interface = Some text }
+with_text codes.Member text fields = record fields { member = Some text }
+with_text codes.ErrorName text fields = record fields { error_name = Some text }
+with_text codes.Destination text fields = record fields { destination = Some text }
+with_text codes.Sender text fields = record fields { sender = Some text }
+with_text codes.Signature text fields = record fields { signature = Some text }
+with_text code text fields = fields
+
+abbrev pub with_number : FieldCode → ℕ → Fields → Fields
+with_number codes.ReplySerial number fields = record fields { reply_serial = Some number }
+with_number codes.UnixFds number fields = record fields { unix_fds = Some number }
+with_number code number fields = fields
+
+unfoldable pub with_field : Field → Fields → Fields
+with_field field fields = elim field.value [ Text text ↦ with_text field.code text fields | Number number ↦ with_number field.code number fields ]
+
+-- What a list of fields says beside what is given: the last field of a code counts.
+unfoldable pub gathered : Fields → List Field → Fields
+gathered fields [] = fields
+gathered fields (field ∷ more) = gathered (with_field field fields) more
+
+-- The fields that are there, in the order of their codes.
+abbrev pub text_field : FieldCode → Option (List ℕ) → List Field
+text_field code None = []
+text_field code (Some text) = record { code = code; value = Text text } ∷ []
+
+abbrev pub number_field : FieldCode → Option ℕ → List Field
+number_field code None = []
+number_field code (Some number) = record { code = code; value = Number number } ∷ []
+
+unfoldable pub field_list : Fields → List Field
+field_list fields =
+    text_field codes.Path fields.path ++ (text_field codes.Interface fields.interface ++ (text_field codes.Member fields.member
+    ++ (text_field codes.ErrorName fields.error_name ++ (number_field codes.ReplySerial fields.reply_serial
+    ++ (text_field codes.Destination fields.destination ++ (text_field codes.Sender fields.sender
+    ++ (text_field codes.Signature fields.signature ++ number_field codes.UnixFds fields.unix_fds)))))))

@@ -1,0 +1,163 @@
+//! What is printed of a message.
+ghost use Rattle.std.specs.Prelude.{◌≡◌, ◌==◌, ◌≤◌, Some, None, if◌then◌else◌, length, option_map};
+ghost use Rattle.std.specs.List.{list_any};
+ghost use Rattle.wire_message.specs.Front.{body_bytes, total as total_len};
+ghost use Rattle.wire_message.specs.Texts.{kind_text, part_text, name_by, is_string, first_string as string_found, begins_with_string, first_argument as argument_found, detail_by, message_line};
+
+use crate::front::header_len;
+use crate::kind::MessageType;
+use crate::message::Message;
+use std::fmt;
+use wire_number::{Endian, read_text};
+
+/// A part of a message's line, left out where it is absent.
+#[derive(Clone, Copy)]
+struct Part<'a> {
+    before: &'static str,
+    text: Option<&'a str>,
+}
+
+impl<'a> fmt::Display for Part<'a> {
+    ghost output = { λ p. Some (part_text p.before.now (option_map (λ t. t.now) p.text)) };
+
+    fn fmt<W: fmt::Write>(&self, f: &mut fmt::Formatter<W>) -> fmt::Result {
+        match self.text {
+            Some(text) => write!(f, "{}{}", self.before, text),
+            None => Ok(()),
+        }
+    }
+}
+
+/// The name of a message type.
+fn kind_name(kind: MessageType) -> &'static str
+    ensures { result.now ≡ kind_text kind }
+{
+    match kind {
+        MessageType::MethodCall => "Method call",
+        MessageType::MethodReturn => "Method return",
+        MessageType::Error => "Error",
+        MessageType::Signal => "Signal",
+    }
+}
+
+fn has_zero(bytes: &[u8]) -> bool
+    ensures { result ≡ list_any (λ b. b == 0) bytes.now }
+{
+    bytes.iter().any(|byte| *byte == 0)
+}
+
+/// The bytes as a string, if they are one.
+fn string_of(bytes: &[u8]) -> Option<&str>
+    ensures { option_map (λ t. t.now) result ≡ (if is_string bytes.now then Some bytes.now else None) }
+{
+    if has_zero(bytes) {
+        return None;
+    }
+    match str::from_utf8(bytes) {
+        Ok(text) => Some(text),
+        Err(_) => None,
+    }
+}
+
+/// The string at the front of some bytes.
+#[tactic(auto, unfolding(crate::specs::Texts::first_string))]
+fn first_string(order: Endian, bytes: &[u8]) -> Option<&str>
+    ensures { option_map (λ t. t.now) result ≡ string_found order bytes.now }
+{
+    let (text, _) = read_text(order, bytes)?;
+    string_of(text)
+}
+
+/// The bytes behind the header of a whole message.
+fn body_of(bytes: &[u8]) -> &[u8]
+    requires head { 16 ≤ length bytes.now }
+    requires whole { length bytes.now ≡ total_len bytes.now }
+    ensures { result.now ≡ body_bytes bytes.now }
+{
+    &bytes[header_len(bytes)..]
+}
+
+impl Message {
+    /// The member of a call or a signal, the name of an error.
+    fn shown_name(&self) -> Option<&str>
+        ensures { option_map (λ t. t.now) result ≡ name_by self.now.kind self.now }
+    {
+        let header = self.header();
+        match header.message_type() {
+            MessageType::MethodCall | MessageType::Signal => Some(header.member()?.as_str()),
+            MessageType::Error => Some(header.error_name()?.as_str()),
+            MessageType::MethodReturn => None,
+        }
+    }
+
+    /// The body's bytes.
+    fn body_bytes(&self) -> &[u8]
+        ensures { result.now ≡ body_bytes self.now.bytes }
+    {
+        let _parts = &self.parts;
+        body_of(self.bytes.as_slice())
+    }
+
+    /// Whether the signature's first type is a string.
+    fn begins_with_string(&self) -> bool
+        ensures { result ≡ begins_with_string self.now.signature }
+    {
+        match self.header().signature() {
+            Some([letter, ..]) => *letter == b's',
+            _ => false,
+        }
+    }
+
+    /// The first argument, where it is a string and can be read.
+    #[tactic(auto, unfolding(crate::specs::Texts::first_argument))]
+    fn first_argument(&self) -> Option<&str>
+        ensures { option_map (λ t. t.now) result ≡ argument_found self.now }
+    {
+        if self.begins_with_string() {
+            first_string(self.header().endian(), self.body_bytes())
+        } else {
+            None
+        }
+    }
+
+    /// What an error says beside its name.
+    fn detail(&self) -> Option<&str>
+        ensures { option_map (λ t. t.now) result ≡ detail_by self.now.kind self.now }
+    {
+        match self.message_type() {
+            MessageType::Error => self.first_argument(),
+            _ => None,
+        }
+    }
+
+    /// The sender.
+    fn shown_sender(&self) -> Option<&str>
+        ensures { option_map (λ t. t.now) result ≡ self.now.sender }
+    {
+        Some(self.header().sender()?.as_str())
+    }
+}
+
+/// `Method call M from S`, `Method return from S`, `Error N: D from S`, `Signal M from S`, each part left out where it is
+/// absent; D is the first argument where it is a string that can be read.
+impl fmt::Display for Message {
+    ghost output = { λ m. Some (message_line m) };
+
+    #[tactic(auto, unfolding(crate::specs::Texts::message_line))]
+    fn fmt<W: fmt::Write>(&self, f: &mut fmt::Formatter<W>) -> fmt::Result {
+        let name = Part {
+            before: " ",
+            text: self.shown_name(),
+        };
+        let detail = Part {
+            before: ": ",
+            text: self.detail(),
+        };
+        let sender = Part {
+            before: " from ",
+            text: self.shown_sender(),
+        };
+        let kind = kind_name(self.message_type());
+        write!(f, "{kind}{name}{detail}{sender}")
+    }
+}

@@ -1,0 +1,4 @@
+pub mod Multiples
+pub mod Numbers
+pub mod Texts
+pub mod Zeros

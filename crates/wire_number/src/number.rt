@@ -1,0 +1,33 @@
+//! Numbers of four bytes.
+ghost use Rattle.std.specs.Prelude.{◌≡◌, ◌≤◌, ◌+◌, length};
+ghost use Rattle.std.specs.Int.{w32};
+ghost use Rattle.wire_number.specs.Number.{number, number_text, number_at};
+
+use crate::endian::Endian;
+
+/// The number in the four bytes from a place on (D-Bus Specification, "Marshaling", `UINT32`).
+pub fn read_u32(order: Endian, bytes: &[u8], place: usize) -> u32
+    requires { place + 4 ≤ length bytes.now }
+    ensures { result ≡ number_at w32 order place bytes.now }
+{
+    let four = [
+        bytes[place],
+        bytes[place + 1],
+        bytes[place + 2],
+        bytes[place + 3],
+    ];
+    match order {
+        Endian::Little => u32::from_le_bytes(four),
+        Endian::Big => u32::from_be_bytes(four),
+    }
+}
+
+/// The four bytes of a number (D-Bus Specification, "Marshaling", `UINT32`).
+pub fn write_u32(order: Endian, value: u32) -> [u8; 4]
+    ensures { result ≡ number_text w32 order value }
+{
+    match order {
+        Endian::Little => value.to_le_bytes(),
+        Endian::Big => value.to_be_bytes(),
+    }
+}

@@ -1,0 +1,404 @@
+-- A value that is read stands there: the bytes that were read are its spelling, and it is within the limits.
+use Rattle.std.proofs.Common.{◌≡◌, ℕ, zero, suc, ◌+◌, ◌≤◌, nat_le, if◌then◌else◌, List, [], ◌∷◌, ◌++◌, length, replicate, Option, Some, None, refl, sym, ◌∙◌, ap, subst, arith}
+use Rattle.std.specs.Int.{w32}
+use Rattle.std.proofs.lemmas.Bool.{leb-true}
+use Rattle.std.proofs.lemmas.List.{length-replicate}
+use Rattle.wire_number.specs.declared.endian.Endian.{Endian}
+use Rattle.wire_number.specs.Number.{number_text, pad, padding}
+use Rattle.wire_signature.specs.declared.basic.BasicType.{BasicType}
+use Rattle.wire_signature.specs.declared.basic.BasicType.TheVariants as basics
+use Rattle.wire_signature.specs.Shape.{Shape, basic, variant as any, array as array_of, dict as dict_of, struct as struct_of, Shapes, no_shapes, shapes, alignment, IsType, TypeText, type_text}
+use Rattle.wire_signature.specs.Parsing.{type_in}
+use Rattle.wire_signature.proofs.Exact.{type_in-takes}
+use Rattle.wire_tree.specs.Datum.{Num, byte, boolean, int16, uint16, int32, uint32, int64, uint64, double, unix_fd, Txt, string, object_path, signature, Datum, num, text, array, dict, struct, variant, data_of, entries_of, num_type, text_type, type_of, types_of, IsSound, AreSound, AreElements, AreEntries}
+use Rattle.wire_spelling.specs.Spelling.{text_form, aligned, first_place, array_form, spelling, spellings, entry_spellings, depth, depths, entry_depths, ArraysFit, AllFit, EntriesFit}
+use Rattle.wire_spelling.specs.Reading.{Cursor, Parse, made, bytes_at, align_at, number_at, num_at, raw_at, text_at, num_value_at, text_value_at, basic_at, none_at, more_at, many_at, elements_at, array_at, variant_at, fields_at, struct_at, pair_at, leaf_at, value_step, value_at, entry_at}
+use Rattle.wire_spelling.proofs.Steps.{at, AreBytes, Reads, reads_then, Takes, IsNumber, bind_some, map_some, guard_some, some_is, bytes_take, align_takes, number_takes, length-number_text}
+use Rattle.wire_spelling.proofs.LeafLaws.{IsNum, num_takes, IsRaw, raw_takes, IsText, text_takes}
+
+-- a value of a type, with at most so many containers open at once, that stands there
+pub record IsValue (room : ℕ) (order : Endian) (t : Shape) (c : Cursor) (y : Datum × Cursor) : Type 0 where
+  pub reads : Reads c (spelling order c.place y.0) y.1
+  pub kind : type_of y.0 ≡ t
+  pub sound : IsSound y.0
+  pub within : depth y.0 ≤ room
+  pub fit : ArraysFit order c.place y.0
+
+-- what a reader of values gives
+abbrev pub IsReader : ℕ → Endian → (Shape → Cursor → Parse Datum) → Type 0
+IsReader room order read = (t : Shape) (c : Cursor) (y : Datum × Cursor) → read t c ≡ Some y → AreBytes c.rest → IsValue room order t c y
+
+value_as : (room : ℕ) (order : Endian) (t : Shape) (c : Cursor) (x y : Datum × Cursor) → x ≡ y → IsValue room order t c x → IsValue room order t c y
+value_as room order t c x y e h = subst (λ (y : Datum × Cursor). IsValue room order t c y) e h
+
+-- ---- basic types
+
+num_value : (room : ℕ) (n : Num) (order : Endian) (c : Cursor) (y : Datum × Cursor) → num_value_at n order c ≡ Some y → AreBytes c.rest
+    → IsValue room order (basic (num_type n)) c y
+unfolding ArraysFit
+num_value room n order c y e low =
+    let x = map_some (λ x. (num n x.0, x.1)) (num_at n order c) y e in
+    let k : IsNum n order c x.0 = num_takes n order c x.0 x.1 low in
+    value_as room order (basic (num_type n)) c (num n x.0.0, x.0.1) y x.2
+    (record { reads = k.reads; kind = refl; sound = k.sound; within = omega arith; fit = tt })
+
+text_value : (room : ℕ) (t : Txt) (order : Endian) (c : Cursor) (y : Datum × Cursor) → text_value_at t order c ≡ Some y → AreBytes c.rest
+    → IsValue room order (basic (text_type t)) c y
+unfolding ArraysFit
+text_value room t order c y e low =
+    let x = map_some (λ x. (text t x.0, x.1)) (text_at t order c) y e in
+    let k : IsText t order c x.0 = text_takes t order c x.0 x.1 low in
+    value_as room order (basic (text_type t)) c (text t x.0.0, x.0.1) y x.2
+    (record { reads = k.reads; kind = refl; sound = k.sound; within = omega arith; fit = tt })
+
+pub basic_takes : (room : ℕ) (order : Endian) (b : BasicType) (c : Cursor) (y : Datum × Cursor) → basic_at b order c ≡ Some y → AreBytes c.rest
+    → IsValue room order (basic b) c y
+basic_takes room order basics.Byte c y e low = num_value room byte order c y e low
+basic_takes room order basics.Boolean c y e low = num_value room boolean order c y e low
+basic_takes room order basics.Int16 c y e low = num_value room int16 order c y e low
+basic_takes room order basics.Uint16 c y e low = num_value room uint16 order c y e low
+basic_takes room order basics.Int32 c y e low = num_value room int32 order c y e low
+basic_takes room order basics.Uint32 c y e low = num_value room uint32 order c y e low
+basic_takes room order basics.Int64 c y e low = num_value room int64 order c y e low
+basic_takes room order basics.Uint64 c y e low = num_value room uint64 order c y e low
+basic_takes room order basics.Double c y e low = num_value room double order c y e low
+basic_takes room order basics.String c y e low = text_value room string order c y e low
+basic_takes room order basics.ObjectPath c y e low = text_value room object_path order c y e low
+basic_takes room order basics.Signature c y e low = text_value room signature order c y e low
+basic_takes room order basics.UnixFd c y e low = num_value room unix_fd order c y e low
+
+-- ---- arrays
+
+-- the bytes of an array's elements, between its length and what follows
+pub record AreTheElements (order : Endian) (boundary : ℕ) (c : Cursor) (x : Cursor × Cursor) : Type 0 where
+  pub start : x.0.place ≡ first_place c.place boundary
+  pub reads : Reads c (array_form order c.place boundary x.0.rest) x.1
+  pub bytes : AreBytes x.0.rest
+  pub short : length x.0.rest ≤ 67108864
+
+pub elements_take : (order : Endian) (boundary : ℕ) (c : Cursor) (x : Cursor × Cursor) → elements_at order boundary c ≡ Some x → AreBytes c.rest
+    → AreTheElements order boundary c x
+unfolding elements_at
+elements_take order boundary c y e low =
+    let p = bind_some (align_at 4 c) _ y e in
+    let n = bind_some (number_at w32 order p.0) _ y p.2 in
+    let f = bind_some (if nat_le n.0.0 67108864 then align_at boundary n.0.1 else None) _ y n.2 in
+    let x = bind_some (bytes_at n.0.0 f.0) (λ x. Some (at f.0.place x.0, x.1)) y f.2 in
+    let g = guard_some (nat_le n.0.0 67108864) (align_at boundary n.0.1) f.0 f.1 in
+    let front : Reads c (padding c.place 4) p.0 = align_takes 4 c p.0 p.1 low in
+    let k : IsNumber w32 order p.0 n.0 = number_takes w32 order p.0 n.0 tt n.1 front.bytes in
+    let pads : Reads n.0.1 (padding n.0.1.place boundary) f.0 = align_takes boundary n.0.1 f.0 g.1 k.reads.bytes in
+    let b : Takes n.0.0 f.0 x.0.0 x.0.1 = bytes_take n.0.0 f.0 x.0 x.1 pads.bytes in
+    let before : n.0.1.place ≡ aligned c.place 4 + 4 =
+    omega (arith, front.place_is, k.reads.place_is, length-replicate {A = ℕ} (pad c.place 4) 0, length-number_text w32 order n.0.0) in
+    let digits : Reads p.0 (number_text w32 order (length x.0.0)) n.0.1 = subst (λ (m : ℕ). Reads p.0 (number_text w32 order m) n.0.1) (sym b.long) k.reads in
+    let gap : Reads n.0.1 (padding (aligned c.place 4 + 4) boundary) f.0 = subst (λ (m : ℕ). Reads n.0.1 (padding m boundary) f.0) before pads in
+    let start : f.0.place ≡ first_place c.place boundary =
+    pads.place_is ∙ ap (λ k. n.0.1.place + k) (length-replicate (pad n.0.1.place boundary) 0) ∙ ap (λ m. aligned m boundary) before in
+    let whole : Reads c (array_form order c.place boundary x.0.0) x.0.1 =
+    reads_then c p.0 x.0.1 _ _ front (reads_then p.0 n.0.1 x.0.1 _ _ digits (reads_then n.0.1 f.0 x.0.1 _ _ gap b.reads)) in
+    subst (λ (y : Cursor × Cursor). AreTheElements order boundary c y) (some_is (at f.0.place x.0.0, x.0.1) y x.2)
+    (record { start = start; reads = whole; bytes = b.low; short = omega (arith, b.long, leb-true n.0.0 67108864 g.0) })
+
+-- elements of a type that fill the bytes
+pub record AreItems (room : ℕ) (order : Endian) (t : Shape) (c : Cursor) (ds : List Datum) : Type 0 where
+  pub text_is : c.rest ≡ spellings order c.place (data_of ds)
+  pub sound : AreElements t (data_of ds)
+  pub within : depths (data_of ds) ≤ room
+  pub fit : AllFit order c.place (data_of ds)
+
+no_items : (room : ℕ) (order : Endian) (t : Shape) (c : Cursor) → c.rest ≡ [] → AreItems room order t c []
+unfolding spellings AllFit
+no_items room order t c e = record { text_is = e; sound = tt; within = omega arith; fit = tt }
+
+more_items : (room : ℕ) (order : Endian) (t : Shape) (c : Cursor) (x : Datum × Cursor) (ds : List Datum) → IsValue room order t c x → AreItems room order t x.1 ds
+    → AreItems room order t c (x.0 ∷ ds)
+unfolding spellings AllFit
+more_items room order t c x ds one others = record {
+  text_is = one.reads.text_is ∙ ap (λ r. spelling order c.place x.0 ++ r) (others.text_is ∙ ap (λ p. spellings order p (data_of ds)) one.reads.place_is);
+  sound = ((one.sound, one.kind), others.sound);
+  within = (let i : depth x.0 ≤ room = one.within in let j : depths (data_of ds) ≤ room = others.within in omega arith);
+  fit = (one.fit, subst (λ (p : ℕ). AllFit order p (data_of ds)) one.reads.place_is others.fit);
+}
+
+none_is : {A : Type 0} (bs : List ℕ) (xs : List A) → none_at bs ≡ Some xs → (bs ≡ []) × ([] ≡ xs)
+none_is [] xs e = (refl, some_is [] xs e)
+none_is (b ∷ bs) xs e = absurd (cc)
+
+more_hold : {A : Type 0} (P : Cursor → List A → Type 0) (read : Cursor → Parse A) (others : Cursor → Option (List A))
+    → ((c : Cursor) → c.rest ≡ [] → P c [])
+    → ((c : Cursor) (x : A × Cursor) (xs : List A) → read c ≡ Some x → AreBytes c.rest → P x.1 xs → P c (x.0 ∷ xs))
+    → ((c : Cursor) (x : A × Cursor) → read c ≡ Some x → AreBytes c.rest → AreBytes x.1.rest)
+    → ((c : Cursor) (xs : List A) → others c ≡ Some xs → AreBytes c.rest → P c xs)
+    → (c : Cursor) (bs : List ℕ) → c.rest ≡ bs → (xs : List A) → more_at others read c bs ≡ Some xs → AreBytes c.rest → P c xs
+more_hold {A} P read others none more bytes hold c [] r xs e low = subst (λ (xs : List A). P c xs) (some_is [] xs e) (none c r)
+more_hold {A} P read others none more bytes hold c (b ∷ bs) r xs e low =
+    let x = bind_some (read c) _ xs e in
+    let y = bind_some (others x.0.1) (λ ys. Some (x.0.0 ∷ ys)) xs x.2 in
+    subst (λ (xs : List A). P c xs) (some_is (x.0.0 ∷ y.0) xs y.2)
+    (more c x.0 y.0 x.1 low (hold x.0.1 y.0 y.1 (bytes c x.0 x.1 low)))
+
+-- What holds of nothing where no bytes are left, and of one more where it holds of the others, holds of what is read.
+pub many_hold : {A : Type 0} (P : Cursor → List A → Type 0) (read : Cursor → Parse A)
+    → ((c : Cursor) → c.rest ≡ [] → P c [])
+    → ((c : Cursor) (x : A × Cursor) (xs : List A) → read c ≡ Some x → AreBytes c.rest → P x.1 xs → P c (x.0 ∷ xs))
+    → ((c : Cursor) (x : A × Cursor) → read c ≡ Some x → AreBytes c.rest → AreBytes x.1.rest)
+    → (n : ℕ) (c : Cursor) (xs : List A) → many_at n read c ≡ Some xs → AreBytes c.rest → P c xs
+unfolding many_at
+many_hold {A} P read none more bytes zero c xs e low =
+    let k = none_is c.rest xs e in subst (λ (xs : List A). P c xs) k.1 (none c k.0)
+many_hold {A} P read none more bytes (suc n) c xs e low =
+    more_hold P read (many_at n read) none more bytes (many_hold P read none more bytes n) c c.rest refl xs e low
+
+pub items_take : (room : ℕ) (order : Endian) (t : Shape) (read : Shape → Cursor → Parse Datum) → IsReader room order read
+    → (n : ℕ) (c : Cursor) (ds : List Datum) → many_at n (read t) c ≡ Some ds → AreBytes c.rest → AreItems room order t c ds
+items_take room order t read reads n c ds e low =
+    many_hold (AreItems room order t) (read t) (no_items room order t)
+    (λ c x ds f l others. more_items room order t c x ds (reads t c x f l) others)
+    (λ c x f l. (reads t c x f l).reads.bytes)
+    n c ds e low
+
+array_value : (room : ℕ) (order : Endian) (t : Shape) (read : Shape → Cursor → Parse Datum) → IsReader room order read
+    → (c : Cursor) (y : Datum × Cursor) → made (λ ds. array t (data_of ds)) (array_at (alignment t) (read t) order c) ≡ Some y → AreBytes c.rest
+    → IsValue (suc room) order (array_of t) c y
+unfolding array_at spelling ArraysFit
+array_value room order t read reads c y e low =
+    let z = map_some (λ x. (array t (data_of x.0), x.1)) (array_at (alignment t) (read t) order c) y e in
+    let x = bind_some (elements_at order (alignment t) c) _ z.0 z.1 in
+    let xs = bind_some (many_at (length x.0.0.rest) (read t) x.0.0) (λ xs. Some (xs, x.0.1)) z.0 x.2 in
+    let k : AreTheElements order (alignment t) c x.0 = elements_take order (alignment t) c x.0 x.1 low in
+    let i : AreItems room order t x.0.0 xs.0 = items_take room order t read reads (length x.0.0.rest) x.0.0 xs.0 xs.1 k.bytes in
+    let body : x.0.0.rest ≡ spellings order (first_place c.place (alignment t)) (data_of xs.0) = i.text_is ∙ ap (λ p. spellings order p (data_of xs.0)) k.start in
+    let got : z.0 ≡ (xs.0, x.0.1) = sym (some_is (xs.0, x.0.1) z.0 xs.2) in
+    value_as (suc room) order (array_of t) c (array t (data_of xs.0), x.0.1) y (ap (λ (x : List Datum × Cursor). (array t (data_of x.0), x.1)) (sym got) ∙ z.2)
+    (record {
+      reads = subst (λ (r : List ℕ). Reads c (array_form order c.place (alignment t) r) x.0.1) body k.reads;
+      kind = refl;
+      sound = i.sound;
+      within = (let j : depths (data_of xs.0) ≤ room = i.within in omega arith);
+      fit = (subst (λ (r : List ℕ). length r ≤ 67108864) body k.short, subst (λ (p : ℕ). AllFit order p (data_of xs.0)) k.start i.fit);
+    })
+
+-- ---- dict entries
+
+-- a key and a value that stand there behind their padding
+pub record IsPair (room : ℕ) (order : Endian) (k : BasicType) (v : Shape) (c : Cursor) (y : (Datum × Datum) × Cursor) : Type 0 where
+  pub front : Cursor
+  pub middle : Cursor
+  pub pads : Reads c (padding c.place 8) front
+  pub key : IsValue 0 order (basic k) front (y.0.0, middle)
+  pub value : IsValue room order v middle (y.0.1, y.1)
+
+pub pair_takes : (room : ℕ) (order : Endian) (k : BasicType) (v : Shape) (read : Shape → Cursor → Parse Datum) → IsReader room order read
+    → (c : Cursor) (y : (Datum × Datum) × Cursor) → pair_at read order k v c ≡ Some y → AreBytes c.rest → IsPair room order k v c y
+unfolding pair_at
+pair_takes room order k v read reads c y e low =
+    let p = bind_some (align_at 8 c) _ y e in
+    let a = bind_some (basic_at k order p.0) _ y p.2 in
+    let b = bind_some (read v a.0.1) (λ b. Some ((a.0.0, b.0), b.1)) y a.2 in
+    let pads : Reads c (padding c.place 8) p.0 = align_takes 8 c p.0 p.1 low in
+    let key : IsValue 0 order (basic k) p.0 a.0 = basic_takes 0 order k p.0 a.0 a.1 pads.bytes in
+    let value : IsValue room order v a.0.1 b.0 = reads v a.0.1 b.0 b.1 key.reads.bytes in
+    subst (λ (y : (Datum × Datum) × Cursor). IsPair room order k v c y) (some_is ((a.0.0, b.0.0), b.0.1) y b.2)
+    (record { front = p.0; middle = a.0.1; pads = pads; key = key; value = value })
+
+-- dict entries that fill the bytes; an entry counts as a container
+pub record ArePairs (room : ℕ) (order : Endian) (k : BasicType) (v : Shape) (c : Cursor) (es : List (Datum × Datum)) : Type 0 where
+  pub text_is : c.rest ≡ entry_spellings order c.place (entries_of es)
+  pub sound : AreEntries k v (entries_of es)
+  pub within : entry_depths (entries_of es) ≤ room
+  pub fit : EntriesFit order c.place (entries_of es)
+
+no_pairs : (room : ℕ) (order : Endian) (k : BasicType) (v : Shape) (c : Cursor) → c.rest ≡ [] → ArePairs room order k v c []
+unfolding entry_spellings EntriesFit
+no_pairs room order k v c e = record { text_is = e; sound = tt; within = omega arith; fit = tt }
+
+front_place : (c f : Cursor) → Reads c (padding c.place 8) f → f.place ≡ aligned c.place 8
+front_place c f h = h.place_is ∙ ap (λ n. c.place + n) (length-replicate (pad c.place 8) 0)
+
+more_pairs : (room : ℕ) (order : Endian) (k : BasicType) (v : Shape) (c : Cursor) (x : (Datum × Datum) × Cursor) (es : List (Datum × Datum))
+    → IsPair room order k v c x → ArePairs (suc room) order k v x.1 es → ArePairs (suc room) order k v c (x.0 ∷ es)
+unfolding entry_spellings EntriesFit
+more_pairs room order k v c x es one others =
+    let a : Datum = x.0.0 in
+    let b : Datum = x.0.1 in
+    let at_key : one.front.place ≡ aligned c.place 8 = front_place c one.front one.pads in
+    let at_value : one.middle.place ≡ aligned c.place 8 + length (spelling order (aligned c.place 8) a) =
+    one.key.reads.place_is ∙ ap (λ p. p + length (spelling order p a)) at_key in
+    let at_end : x.1.place ≡ one.middle.place + length (spelling order one.middle.place b) = one.value.reads.place_is in
+    let chain_from : ℕ → List ℕ = λ p. spelling order p b ++ entry_spellings order (p + length (spelling order p b)) (entries_of es) in
+    let tail : one.middle.rest ≡ chain_from one.middle.place =
+    one.value.reads.text_is ∙ ap (λ r. spelling order one.middle.place b ++ r) (others.text_is ∙ ap (λ p. entry_spellings order p (entries_of es)) at_end) in
+    let rest : one.front.rest ≡ spelling order (aligned c.place 8) a ++ chain_from (aligned c.place 8 + length (spelling order (aligned c.place 8) a)) =
+    one.key.reads.text_is ∙ ap (λ p. spelling order p a ++ one.middle.rest) at_key
+    ∙ ap (λ r. spelling order (aligned c.place 8) a ++ r) (tail ∙ ap chain_from at_value) in
+    record {
+      text_is = one.pads.text_is ∙ ap (λ r. padding c.place 8 ++ r) rest;
+      sound = ((one.key.sound, one.key.kind), (one.value.sound, one.value.kind), others.sound);
+      within = (let i : depth a ≤ 0 = one.key.within in let j : depth b ≤ room = one.value.within in let l : entry_depths (entries_of es) ≤ suc room = others.within in omega arith);
+      fit = (
+        subst (λ (p : ℕ). ArraysFit order p a) at_key one.key.fit,
+        subst (λ (p : ℕ). ArraysFit order p b) at_value one.value.fit,
+        subst (λ (p : ℕ). EntriesFit order (p + length (spelling order p b)) (entries_of es)) at_value
+            (subst (λ (p : ℕ). EntriesFit order p (entries_of es)) at_end others.fit),
+      );
+    }
+
+-- what a reader of dict entries gives
+abbrev pub IsPairReader : ℕ → Endian → (BasicType → Shape → Cursor → Parse (Datum × Datum)) → Type 0
+IsPairReader room order read =
+    (k : BasicType) (v : Shape) (c : Cursor) (y : (Datum × Datum) × Cursor) → read k v c ≡ Some y → AreBytes c.rest
+    → (lower : ℕ) × (suc lower ≡ room) × IsPair lower order k v c y
+
+pair_more : (room : ℕ) (order : Endian) (k : BasicType) (v : Shape) (c : Cursor) (x : (Datum × Datum) × Cursor) (es : List (Datum × Datum))
+    → (lower : ℕ) × (suc lower ≡ room) × IsPair lower order k v c x → ArePairs room order k v x.1 es → ArePairs room order k v c (x.0 ∷ es)
+pair_more room order k v c x es one others =
+    subst (λ (r : ℕ). ArePairs r order k v x.1 es → ArePairs r order k v c (x.0 ∷ es)) one.1
+    (more_pairs one.0 order k v c x es one.2) others
+
+pub pairs_take : (room : ℕ) (order : Endian) (k : BasicType) (v : Shape) (read : BasicType → Shape → Cursor → Parse (Datum × Datum)) → IsPairReader room order read
+    → (n : ℕ) (c : Cursor) (es : List (Datum × Datum)) → many_at n (read k v) c ≡ Some es → AreBytes c.rest → ArePairs room order k v c es
+pairs_take room order k v read reads n c es e low =
+    many_hold (ArePairs room order k v) (read k v) (no_pairs room order k v)
+    (λ c x es f l others. pair_more room order k v c x es (reads k v c x f l) others)
+    (λ c x f l. (reads k v c x f l).2.value.reads.bytes)
+    n c es e low
+
+dict_value : (room : ℕ) (order : Endian) (k : BasicType) (v : Shape) (read : BasicType → Shape → Cursor → Parse (Datum × Datum)) → IsPairReader room order read
+    → (c : Cursor) (y : Datum × Cursor) → made (λ es. dict k v (entries_of es)) (array_at 8 (read k v) order c) ≡ Some y → AreBytes c.rest
+    → IsValue (suc room) order (dict_of k v) c y
+unfolding array_at spelling ArraysFit
+dict_value room order k v read reads c y e low =
+    let z = map_some (λ x. (dict k v (entries_of x.0), x.1)) (array_at 8 (read k v) order c) y e in
+    let x = bind_some (elements_at order 8 c) _ z.0 z.1 in
+    let xs = bind_some (many_at (length x.0.0.rest) (read k v) x.0.0) (λ xs. Some (xs, x.0.1)) z.0 x.2 in
+    let el : AreTheElements order 8 c x.0 = elements_take order 8 c x.0 x.1 low in
+    let i : ArePairs room order k v x.0.0 xs.0 = pairs_take room order k v read reads (length x.0.0.rest) x.0.0 xs.0 xs.1 el.bytes in
+    let body : x.0.0.rest ≡ entry_spellings order (first_place c.place 8) (entries_of xs.0) = i.text_is ∙ ap (λ p. entry_spellings order p (entries_of xs.0)) el.start in
+    let got : z.0 ≡ (xs.0, x.0.1) = sym (some_is (xs.0, x.0.1) z.0 xs.2) in
+    value_as (suc room) order (dict_of k v) c (dict k v (entries_of xs.0), x.0.1) y (ap (λ (x : List (Datum × Datum) × Cursor). (dict k v (entries_of x.0), x.1)) (sym got) ∙ z.2)
+    (record {
+      reads = subst (λ (r : List ℕ). Reads c (array_form order c.place 8 r) x.0.1) body el.reads;
+      kind = refl;
+      sound = i.sound;
+      within = (let j : entry_depths (entries_of xs.0) ≤ room = i.within in omega arith);
+      fit = (subst (λ (r : List ℕ). length r ≤ 67108864) body el.short, subst (λ (p : ℕ). EntriesFit order p (entries_of xs.0)) el.start i.fit);
+    })
+
+-- ---- structs
+
+-- values of these types, one behind the other
+pub record AreFields (room : ℕ) (order : Endian) (ts : Shapes) (c : Cursor) (y : List Datum × Cursor) : Type 0 where
+  pub reads : Reads c (spellings order c.place (data_of y.0)) y.1
+  pub kinds : types_of (data_of y.0) ≡ ts
+  pub sound : AreSound (data_of y.0)
+  pub within : depths (data_of y.0) ≤ room
+  pub fit : AllFit order c.place (data_of y.0)
+
+no_fields : (room : ℕ) (order : Endian) (c : Cursor) → AreBytes c.rest → AreFields room order no_shapes c ([], c)
+unfolding spellings AllFit
+no_fields room order c low =
+    record { reads = record { text_is = refl; place_is = omega arith; bytes = low }; kinds = refl; sound = tt; within = omega arith; fit = tt }
+
+more_fields : (room : ℕ) (order : Endian) (t : Shape) (ts : Shapes) (c : Cursor) (x : Datum × Cursor) (y : List Datum × Cursor)
+    → IsValue room order t c x → AreFields room order ts x.1 y → AreFields room order (shapes t ts) c (x.0 ∷ y.0, y.1)
+unfolding spellings AllFit
+more_fields room order t ts c x y one others = record {
+  reads = reads_then c x.1 y.1 _ _ one.reads
+      (subst (λ (p : ℕ). Reads x.1 (spellings order p (data_of y.0)) y.1) one.reads.place_is others.reads);
+  kinds = ap (λ u. shapes u (types_of (data_of y.0))) one.kind ∙ ap (shapes t) others.kinds;
+  sound = (one.sound, others.sound);
+  within = (let i : depth x.0 ≤ room = one.within in let j : depths (data_of y.0) ≤ room = others.within in omega arith);
+  fit = (one.fit, subst (λ (p : ℕ). AllFit order p (data_of y.0)) one.reads.place_is others.fit);
+}
+
+pub fields_take : (room : ℕ) (order : Endian) (read : Shape → Cursor → Parse Datum) → IsReader room order read
+    → (ts : Shapes) (c : Cursor) (y : List Datum × Cursor) → fields_at read ts c ≡ Some y → AreBytes c.rest → AreFields room order ts c y
+unfolding fields_at
+fields_take room order read reads no_shapes c y e low =
+    subst (λ (y : List Datum × Cursor). AreFields room order no_shapes c y) (some_is ([], c) y e) (no_fields room order c low)
+fields_take room order read reads (shapes t ts) c y e low =
+    let x = bind_some (read t c) _ y e in
+    let z = map_some (λ z. (x.0.0 ∷ z.0, z.1)) (fields_at read ts x.0.1) y x.2 in
+    let k : IsValue room order t c x.0 = reads t c x.0 x.1 low in
+    subst (λ (y : List Datum × Cursor). AreFields room order (shapes t ts) c y) z.2
+    (more_fields room order t ts c x.0 z.0 k (fields_take room order read reads ts x.0.1 z.0 z.1 k.reads.bytes))
+
+struct_value : (room : ℕ) (order : Endian) (read : Shape → Cursor → Parse Datum) → IsReader room order read
+    → (ts : Shapes) (c : Cursor) (y : Datum × Cursor) → made (λ ds. struct (data_of ds)) (struct_at read ts c) ≡ Some y → AreBytes c.rest
+    → IsValue (suc room) order (struct_of ts) c y
+unfolding struct_at spelling ArraysFit
+struct_value room order read reads ts c y e low =
+    let z = map_some (λ x. (struct (data_of x.0), x.1)) (struct_at read ts c) y e in
+    let p = bind_some (align_at 8 c) (fields_at read ts) z.0 z.1 in
+    let pads : Reads c (padding c.place 8) p.0 = align_takes 8 c p.0 p.1 low in
+    let k : AreFields room order ts p.0 z.0 = fields_take room order read reads ts p.0 z.0 p.2 pads.bytes in
+    let start : p.0.place ≡ aligned c.place 8 = front_place c p.0 pads in
+    value_as (suc room) order (struct_of ts) c (struct (data_of z.0.0), z.0.1) y z.2
+    (record {
+      reads = reads_then c p.0 z.0.1 _ _ pads (subst (λ (q : ℕ). Reads p.0 (spellings order q (data_of z.0.0)) z.0.1) start k.reads);
+      kind = ap struct_of k.kinds;
+      sound = k.sound;
+      within = (let j : depths (data_of z.0.0) ≤ room = k.within in omega arith);
+      fit = subst (λ (q : ℕ). AllFit order q (data_of z.0.0)) start k.fit;
+    })
+
+-- ---- variants
+
+pub pad_one : (p : ℕ) → pad p 1 ≡ 0
+pad_one p = omega arith
+
+variant_value : (room : ℕ) (order : Endian) (read : Shape → Cursor → Parse Datum) → IsReader room order read
+    → (c : Cursor) (y : Datum × Cursor) → variant_at read order c ≡ Some y → AreBytes c.rest → IsValue (suc room) order any c y
+unfolding variant_at spelling ArraysFit
+variant_value room order read reads c y e low =
+    let s = bind_some (raw_at signature order c) _ y e in
+    let t = bind_some (type_in s.0.0) (λ t. made variant (read t s.0.1)) y s.2 in
+    let x = map_some (λ x. (variant x.0, x.1)) (read t.0 s.0.1) y t.2 in
+    let k : IsRaw signature order c s.0 = raw_takes signature order c s.0 s.1 low in
+    let spelled : TypeText t.0 s.0.0 = type_in-takes s.0.0 t.0 t.1 in
+    let v : IsValue room order t.0 s.0.1 x.0 = reads t.0 s.0.1 x.0 x.1 k.reads.bytes in
+    let d : Datum = x.0.0 in
+    let type_is : s.0.0 ≡ type_text (type_of d) = spelled.text ∙ ap type_text (sym v.kind) in
+    let unpadded : Reads c (text_form order signature s.0.0) s.0.1 =
+    subst (λ (n : ℕ). Reads c (replicate n 0 ++ text_form order signature s.0.0) s.0.1) (pad_one c.place) k.reads in
+    let sign : Reads c (text_form order signature (type_text (type_of d))) s.0.1 = subst (λ (r : List ℕ). Reads c (text_form order signature r) s.0.1) type_is unpadded in
+    value_as (suc room) order any c (variant d, x.0.1) y x.2
+    (record {
+      reads = reads_then c s.0.1 x.0.1 _ _ sign (subst (λ (q : ℕ). Reads s.0.1 (spelling order q d) x.0.1) sign.place_is v.reads);
+      kind = refl;
+      sound = (v.sound, subst IsType (sym v.kind) spelled.valid);
+      within = (let j : depth d ≤ room = v.within in omega arith);
+      fit = subst (λ (q : ℕ). ArraysFit order q d) sign.place_is v.fit;
+    })
+
+-- ---- all values
+
+leaf_value : (order : Endian) (t : Shape) (c : Cursor) (y : Datum × Cursor) → leaf_at order t c ≡ Some y → AreBytes c.rest → IsValue 0 order t c y
+leaf_value order (basic b) c y e low = basic_takes 0 order b c y e low
+leaf_value order any c y e low = absurd (cc)
+leaf_value order (array_of t) c y e low = absurd (cc)
+leaf_value order (dict_of k v) c y e low = absurd (cc)
+leaf_value order (struct_of ts) c y e low = absurd (cc)
+
+step_value : (room : ℕ) (order : Endian) (read : Shape → Cursor → Parse Datum) (pairs : BasicType → Shape → Cursor → Parse (Datum × Datum))
+    → IsReader room order read → IsPairReader room order pairs
+    → (t : Shape) (c : Cursor) (y : Datum × Cursor) → value_step read pairs order t c ≡ Some y → AreBytes c.rest → IsValue (suc room) order t c y
+step_value room order read pairs reads pair_reads (basic b) c y e low = basic_takes (suc room) order b c y e low
+step_value room order read pairs reads pair_reads any c y e low = variant_value room order read reads c y e low
+step_value room order read pairs reads pair_reads (array_of t) c y e low = array_value room order t read reads c y e low
+step_value room order read pairs reads pair_reads (dict_of k v) c y e low = dict_value room order k v pairs pair_reads c y e low
+step_value room order read pairs reads pair_reads (struct_of ts) c y e low = struct_value room order read reads ts c y e low
+
+mutual
+  unfolding value_at entry_at
+
+  pub value_takes : (room : ℕ) (order : Endian) → IsReader room order (value_at room order)
+  value_takes zero order t c y e low = leaf_value order t c y e low
+  value_takes (suc room) order t c y e low =
+      step_value room order (value_at room order) (entry_at room order) (value_takes room order) (entry_takes room order) t c y e low
+
+  pub entry_takes : (room : ℕ) (order : Endian) → IsPairReader room order (entry_at room order)
+  entry_takes zero order k v c y e low = absurd (cc)
+  entry_takes (suc room) order k v c y e low =
+      (room, refl, pair_takes room order k v (value_at room order) (value_takes room order) c y e low)

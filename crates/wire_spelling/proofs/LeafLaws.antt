@@ -1,0 +1,165 @@
+-- Numbers and texts: what is read is spelled so, and what is spelled is read.
+use Rattle.std.proofs.Common.{◌≡◌, ℕ, ◌+◌, ◌<◌, Bool, true, ◌&&◌, nat_lt, if◌then◌else◌, List, [], ◌∷◌, ◌++◌, length, Some, None, is_some, refl, sym, ◌∙◌, ap, subst, arith, append_assoc, length-append}
+use Rattle.std.specs.List.{list_all}
+use Rattle.std.specs.Int.{Width, byte_len}
+use Rattle.std.specs.Str.{is_utf8}
+use Rattle.std.proofs.lemmas.Str.{IsUtf8-from_is_utf8, is_utf8-from_IsUtf8}
+use Rattle.std.proofs.lemmas.Bool.{ltb-true, lt-ltb}
+use Rattle.std.proofs.lemmas.List.{length-replicate}
+use Rattle.std.proofs.lemmas.List.Sums.{AllPass-from_list_all, list_all-from_AllPass}
+use Rattle.wire_number.specs.declared.endian.Endian.{Endian}
+use Rattle.wire_number.specs.Number.{number_text, pad, padding}
+use Rattle.wire_signature.specs.Shape.{basic_alignment}
+use Rattle.wire_signature.specs.Parsing.{types_in}
+use Rattle.wire_signature.proofs.Exact.{is_some-types_in}
+use Rattle.wire_tree.specs.Datum.{Num, byte, boolean, int16, uint16, int32, uint32, int64, uint64, double, unix_fd, Txt, string, object_path, signature, num, text, bound, num_type, text_type, IsTextOf}
+use Rattle.wire_spelling.specs.Spelling.{width_of, length_width, text_form, spelling}
+use Rattle.wire_spelling.specs.Reading.{Cursor, ◌>>=◌, bytes_at, zeros, align_at, number_at, num_at, raw_at, is_text_of, text_at}
+use Rattle.wire_spelling.proofs.Steps.{at, AreBytes, Reads, reads_then, Takes, IsNumber, IsShort, limit, bind_some, both_true, guard_some, guarded, bound_some, some_is, bytes_take, bytes_again, zeros_take, zeros_again, align_takes, align_again, number_takes, number_again, length-number_text}
+
+short_num : (n : Num) → IsShort (width_of n)
+short_num byte = tt
+short_num boolean = tt
+short_num int16 = tt
+short_num uint16 = tt
+short_num int32 = tt
+short_num uint32 = tt
+short_num int64 = tt
+short_num uint64 = tt
+short_num double = tt
+short_num unix_fd = tt
+
+within_width : (n : Num) (v : ℕ) → v < bound n → v < limit (width_of n)
+within_width byte v h = h
+within_width boolean v h = omega arith
+within_width int16 v h = h
+within_width uint16 v h = h
+within_width int32 v h = h
+within_width uint32 v h = h
+within_width int64 v h = h
+within_width uint64 v h = h
+within_width double v h = h
+within_width unix_fd v h = h
+
+short_text : (t : Txt) → IsShort (length_width t)
+short_text string = tt
+short_text object_path = tt
+short_text signature = tt
+
+-- a number that stands there
+pub record IsNum (n : Num) (order : Endian) (c : Cursor) (y : ℕ × Cursor) : Type 0 where
+  pub reads : Reads c (spelling order c.place (num n y.0)) y.1
+  pub sound : y.0 < bound n
+
+pub num_takes : (n : Num) (order : Endian) (c : Cursor) (y : ℕ × Cursor) → num_at n order c ≡ Some y → AreBytes c.rest → IsNum n order c y
+unfolding num_at spelling
+num_takes n order c y e low =
+    let p = bind_some (align_at (basic_alignment (num_type n)) c) _ y e in
+    let x = bind_some (number_at (width_of n) order p.0) (λ x. if nat_lt x.0 (bound n) then Some x else None) y p.2 in
+    let g = guard_some (nat_lt x.0.0 (bound n)) (Some x.0) y x.2 in
+    let front : Reads c (padding c.place (basic_alignment (num_type n))) p.0 = align_takes (basic_alignment (num_type n)) c p.0 p.1 low in
+    let k : IsNumber (width_of n) order p.0 x.0 = number_takes (width_of n) order p.0 x.0 (short_num n) x.1 front.bytes in
+    subst (λ (y : ℕ × Cursor). IsNum n order c y) (some_is x.0 y g.1)
+    (record { reads = reads_then c p.0 x.0.1 _ _ front k.reads; sound = ltb-true x.0.0 (bound n) g.0 })
+
+-- padding and what stands behind it
+pub length-padded : (p boundary : ℕ) (body : List ℕ) → length (padding p boundary ++ body) ≡ pad p boundary + length body
+length-padded p boundary body = length-append (padding p boundary) body ∙ ap (λ k. k + length body) (length-replicate (pad p boundary) 0)
+
+pub num_again : (n : Num) (order : Endian) (v p : ℕ) (rest : List ℕ) → v < bound n
+    → num_at n order (at p (spelling order p (num n v) ++ rest)) ≡ Some (v, at (p + length (spelling order p (num n v))) rest)
+unfolding num_at spelling
+num_again n order v p rest h =
+    let a : ℕ = basic_alignment (num_type n) in
+    let digits : List ℕ = number_text (width_of n) order v in
+    let long : p + pad p a + byte_len (width_of n) ≡ p + length (padding p a ++ digits) = omega (arith, length-padded p a digits, length-number_text (width_of n) order v) in
+    ap (num_at n order) (ap (at p) (append_assoc (padding p a) digits rest))
+    ∙ bound_some _ _ _ (align_again a p (digits ++ rest))
+    ∙ bound_some _ _ _ (number_again (width_of n) order v (p + pad p a) rest (within_width n v h))
+    ∙ guarded (nat_lt v (bound n)) _ (lt-ltb v (bound n) h)
+    ∙ ap (λ k. Some (v, at k rest)) long
+
+-- ---- texts
+
+-- bytes with their length and the 0 byte behind them
+pub record IsRaw (t : Txt) (order : Endian) (c : Cursor) (y : List ℕ × Cursor) : Type 0 where
+  pub reads : Reads c (padding c.place (basic_alignment (text_type t)) ++ text_form order t y.0) y.1
+  pub below : length y.0 < limit (length_width t)
+
+pub raw_takes : (t : Txt) (order : Endian) (c : Cursor) (y : List ℕ × Cursor) → raw_at t order c ≡ Some y → AreBytes c.rest → IsRaw t order c y
+unfolding raw_at
+raw_takes t order c y e low =
+    let p = bind_some (align_at (basic_alignment (text_type t)) c) _ y e in
+    let n = bind_some (number_at (length_width t) order p.0) _ y p.2 in
+    let x = bind_some (bytes_at n.0.0 n.0.1) _ y n.2 in
+    let z = bind_some (bytes_at 1 x.0.1 >>= zeros) (λ end. Some (x.0.0, end)) y x.2 in
+    let front : Reads c (padding c.place (basic_alignment (text_type t))) p.0 = align_takes (basic_alignment (text_type t)) c p.0 p.1 low in
+    let k : IsNumber (length_width t) order p.0 n.0 = number_takes (length_width t) order p.0 n.0 (short_text t) n.1 front.bytes in
+    let b : Takes n.0.0 n.0.1 x.0.0 x.0.1 = bytes_take n.0.0 n.0.1 x.0 x.1 k.reads.bytes in
+    let end : Reads x.0.1 (0 ∷ []) z.0 = zeros_take 1 x.0.1 z.0 z.1 b.reads.bytes in
+    let digits : Reads p.0 (number_text (length_width t) order (length x.0.0)) n.0.1 =
+    subst (λ (m : ℕ). Reads p.0 (number_text (length_width t) order m) n.0.1) (sym b.long) k.reads in
+    let body : Reads p.0 (text_form order t x.0.0) z.0 = reads_then p.0 n.0.1 z.0 _ _ digits (reads_then n.0.1 x.0.1 z.0 _ _ b.reads end) in
+    subst (λ (y : List ℕ × Cursor). IsRaw t order c y) (some_is (x.0.0, z.0) y z.2)
+    (record { reads = reads_then c p.0 z.0 _ _ front body; below = omega (arith, k.below, b.long) })
+
+pub raw_again : (t : Txt) (order : Endian) (bs : List ℕ) (p : ℕ) (rest : List ℕ) → length bs < limit (length_width t)
+    → raw_at t order (at p ((padding p (basic_alignment (text_type t)) ++ text_form order t bs) ++ rest))
+    ≡ Some (bs, at (p + length (padding p (basic_alignment (text_type t)) ++ text_form order t bs)) rest)
+unfolding raw_at
+raw_again t order bs p rest h =
+    let a : ℕ = basic_alignment (text_type t) in
+    let w : Width = length_width t in
+    let digits : List ℕ = number_text w order (length bs) in
+    let long : p + pad p a + byte_len w + length bs + 1 ≡ p + length (padding p a ++ text_form order t bs) =
+    omega (arith, length-padded p a (text_form order t bs), length-append digits (bs ++ 0 ∷ []), length-append bs (0 ∷ []), length-number_text w order (length bs)) in
+    let regrouped : (padding p a ++ text_form order t bs) ++ rest ≡ padding p a ++ (digits ++ (bs ++ (0 ∷ rest))) =
+    append_assoc (padding p a) (text_form order t bs) rest
+    ∙ ap (λ r. padding p a ++ r) (append_assoc digits (bs ++ 0 ∷ []) rest ∙ ap (λ r. digits ++ r) (append_assoc bs (0 ∷ []) rest)) in
+    ap (raw_at t order) (ap (at p) regrouped)
+    ∙ bound_some _ _ _ (align_again a p (digits ++ (bs ++ (0 ∷ rest))))
+    ∙ bound_some _ _ _ (number_again w order (length bs) (p + pad p a) (bs ++ (0 ∷ rest)) h)
+    ∙ bound_some _ _ _ (bytes_again (length bs) (p + pad p a + byte_len w) bs (0 ∷ rest) refl)
+    ∙ bound_some _ _ _ (zeros_again 1 (p + pad p a + byte_len w + length bs) rest)
+    ∙ ap (λ k. Some (bs, at k rest)) long
+
+-- a text as the test has it
+text_is : (t : Txt) (bs : List ℕ) → is_text_of t bs ≡ true → length bs < limit (length_width t) → IsTextOf t bs
+text_is string bs e h =
+    let two = both_true (is_utf8 bs) (list_all (λ b. nat_lt 0 b) bs) e in
+    (IsUtf8-from_is_utf8 bs two.0, λ k d i. ltb-true 0 _ (AllPass-from_list_all (λ b. nat_lt 0 b) bs two.1 k d i), omega arith)
+text_is object_path bs e h = (e, omega arith)
+text_is signature bs e h = (is_some-types_in (is_some (types_in bs)) bs refl).0 e
+
+both_are : (a b : Bool) → a ≡ true → b ≡ true → (a && b) ≡ true
+both_are a b h k = cc
+
+pub is_text : (t : Txt) (bs : List ℕ) → IsTextOf t bs → is_text_of t bs ≡ true
+is_text string bs h =
+    both_are (is_utf8 bs) _ (is_utf8-from_IsUtf8 bs h.0) (list_all-from_AllPass (λ b. nat_lt 0 b) bs (λ k d i. lt-ltb 0 _ (h.1 k d i)))
+is_text object_path bs h = h.0
+is_text signature bs h = (is_some-types_in (is_some (types_in bs)) bs refl).1 h
+
+text_below : (t : Txt) (bs : List ℕ) → IsTextOf t bs → length bs < limit (length_width t)
+text_below string bs h = omega (arith, h.2)
+text_below object_path bs h = omega (arith, h.1)
+text_below signature bs h = omega (arith, ap length h.1.text, h.1.valid.within)
+
+pub record IsText (t : Txt) (order : Endian) (c : Cursor) (y : List ℕ × Cursor) : Type 0 where
+  pub reads : Reads c (spelling order c.place (text t y.0)) y.1
+  pub sound : IsTextOf t y.0
+
+pub text_takes : (t : Txt) (order : Endian) (c : Cursor) (y : List ℕ × Cursor) → text_at t order c ≡ Some y → AreBytes c.rest → IsText t order c y
+unfolding text_at spelling
+text_takes t order c y e low =
+    let x = bind_some (raw_at t order c) _ y e in
+    let g = guard_some (is_text_of t x.0.0) (Some x.0) y x.2 in
+    let k : IsRaw t order c x.0 = raw_takes t order c x.0 x.1 low in
+    subst (λ (y : List ℕ × Cursor). IsText t order c y) (some_is x.0 y g.1)
+    (record { reads = k.reads; sound = text_is t x.0.0 g.0 k.below })
+
+pub text_again : (t : Txt) (order : Endian) (bs : List ℕ) (p : ℕ) (rest : List ℕ) → IsTextOf t bs
+    → text_at t order (at p (spelling order p (text t bs) ++ rest)) ≡ Some (bs, at (p + length (spelling order p (text t bs))) rest)
+unfolding text_at spelling
+text_again t order bs p rest h =
+    bound_some _ _ _ (raw_again t order bs p rest (text_below t bs h)) ∙ guarded (is_text_of t bs) _ (is_text t bs h)

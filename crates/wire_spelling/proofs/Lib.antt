@@ -1,0 +1,11 @@
+pub mod Steps
+pub mod LeafLaws
+pub mod FoundValues
+pub mod ReadAgain
+pub mod Shift
+pub mod Loops
+pub mod OneType
+pub mod Ascii
+pub mod WalkSame
+pub mod Exact
+pub mod Boundaries

@@ -1,0 +1,41 @@
+use Rattle.std.proofs.Common.{arith}
+use Rattle.wire_spelling.specs.ReaderView.{cursor_of}
+use Rattle.wire_spelling.proofs.Steps.{bytes_from}
+use Rattle.wire_spelling.proofs.Exact.{first_is_type, long_first, no_first, spells_type, walked_from, walked_nothing}
+use Rattle.wire_spelling.proofs.skipping.skip_by_text.Goals as goal
+
+pub returns-in_err-first_type-clause-none : goal.returns-in_err-first_type-clause-none
+returns-in_err-first_type-clause-none c = rw c.from_residual.ensures (no_first _ _ _ _ c.in_err-first_type.ensures.none)
+
+pub returns-then-branch-gt-MAX_LENGTH-clause-none : goal.returns-then-branch-gt-MAX_LENGTH-clause-none
+returns-then-branch-gt-MAX_LENGTH-clause-none c =
+    long_first _ _ _ _ c.in_ok-first_type.field-0 c.in_ok-first_type.ensures.found c.if-branch-gt-MAX_LENGTH.true
+
+pub returns-in_err-after-clause-none : goal.returns-in_err-after-clause-none
+returns-in_err-after-clause-none c =
+    rw c.from_residual-in_err-after.ensures (walked_nothing _ _ _ _ _ c.new-reader.ensures c.in_err-after.ensures)
+
+pub overflow_sub-result : goal.overflow_sub-result
+overflow_sub-result c =
+    let b = c.in_ok-first_type.ensures.found in
+    (walked_from _ _ b.first _ _ (cursor_of c.new-reader.result) (c.in_ok-after.field-0-0.now, cursor_of c.in_ok-after.after) c.new-reader.ensures
+    (first_is_type _ _ b (omega arith)) (b.rest, b.text) (bytes_from c.args.bytes.now (λ i. omega (arith, c.type_inv.bytes i))) c.in_ok-after.ensures).1.before
+
+pub returns-clause-found : goal.returns-clause-found
+returns-clause-found c =
+    let b = c.in_ok-first_type.ensures.found in
+    let k = walked_from _ _ b.first _ _ (cursor_of c.new-reader.result) (c.in_ok-after.field-0-0.now, cursor_of c.in_ok-after.after) c.new-reader.ensures
+    (first_is_type _ _ b (omega arith)) (b.rest, b.text) (bytes_from c.args.bytes.now (λ i. omega (arith, c.type_inv.bytes i))) c.in_ok-after.ensures in
+    (b.first, k.0, (b.rest, b.text), k.1.found)
+
+pub returns-clause-within : goal.returns-clause-within
+returns-clause-within c =
+    let b = c.in_ok-first_type.ensures.found in
+    (walked_from _ _ b.first _ _ (cursor_of c.new-reader.result) (c.in_ok-after.field-0-0.now, cursor_of c.in_ok-after.after) c.new-reader.ensures
+    (first_is_type _ _ b (omega arith)) (b.rest, b.text) (bytes_from c.args.bytes.now (λ i. omega (arith, c.type_inv.bytes i))) c.in_ok-after.ensures).1.within
+
+pub returns-clause-only : goal.returns-clause-only
+returns-clause-only c =
+    λ t k d front rest s e.
+    ((walked_from _ _ t _ _ (cursor_of c.new-reader.result) (c.in_ok-after.field-0-0.now, cursor_of c.in_ok-after.after) c.new-reader.ensures
+    (spells_type _ _ t d front s) k (bytes_from c.args.bytes.now (λ i. omega (arith, c.type_inv.bytes i))) c.in_ok-after.ensures).1.only d front rest s e).1

@@ -1,0 +1,5 @@
+pub mod Spelling
+pub mod Reading
+pub mod Walking
+pub mod ReaderView
+pub mod Promises

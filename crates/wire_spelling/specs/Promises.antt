@@ -1,0 +1,34 @@
+-- What decoding and encoding promise.
+use Rattle.std.specs.Prelude.{◌≡◌, ℕ, List, ◌++◌, length}
+use Rattle.wire_number.specs.declared.endian.Endian.{Endian}
+use Rattle.wire_signature.specs.declared.error.VariantError.{VariantError}
+use Rattle.wire_signature.specs.declared.error.VariantError.TheVariants as errors
+use Rattle.wire_signature.specs.Shape.{Shape, type_text}
+use Rattle.wire_tree.specs.Datum.{Datum}
+use Rattle.wire_spelling.specs.Spelling.{Spells}
+
+-- no front of the bytes spells a value of the type
+abbrev pub SpellNothing : Endian → ℕ → Shape → List ℕ → Type 0
+SpellNothing order place t bytes = (d : Datum) (front rest : List ℕ) → Spells order place t d front → bytes ≡ front ++ rest → ⊥
+
+-- Whatever front of the bytes spells a value of the type, it is so long.
+abbrev pub SpellOnly : Endian → ℕ → Shape → List ℕ → ℕ → Type 0
+SpellOnly order place t bytes count =
+    (d : Datum) (front rest : List ℕ) → Spells order place t d front → bytes ≡ front ++ rest → count ≡ length front
+
+-- the same, with the value
+abbrev pub SpellOnlyThe : Endian → ℕ → Shape → List ℕ → Datum × ℕ → Type 0
+SpellOnlyThe order place t bytes x =
+    (d : Datum) (front rest : List ℕ) → Spells order place t d front → bytes ≡ front ++ rest → (x.0 ≡ d) × (x.1 ≡ length front)
+
+-- What an error of decoding says: `Malformed` that no front of the bytes spells a value. Want of memory tells nothing.
+abbrev pub Explains : VariantError → Endian → ℕ → Shape → List ℕ → Type 0
+Explains errors.Signature order place t bytes = ⊥
+Explains errors.Depth order place t bytes = ⊥
+Explains errors.Malformed order place t bytes = SpellNothing order place t bytes
+Explains errors.SignatureMismatch order place t bytes = ⊥
+Explains errors.Memory order place t bytes = Unit {0}
+
+-- The text begins with that of the type.
+abbrev pub StandsFirst : Shape → List ℕ → Type 0
+StandsFirst t text = (rest : List ℕ) × (text ≡ type_text t ++ rest)

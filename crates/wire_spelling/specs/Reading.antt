@@ -1,0 +1,192 @@
+-- Reading bytes from left to right: the value that stands at the front, and what stands behind it. The laws in
+-- proofs/Exact.antt tie it to the spellings of values.
+use Rattle.std.specs.Prelude.{ℕ, zero, suc, ◌+◌, ◌==◌, ◌&&◌, nat_le, nat_lt, if◌then◌else◌, Bool, List, [], ◌∷◌, length, take, drop, Option, Some, None, is_some, option_and_then, option_map}
+use Rattle.std.specs.List.{list_all}
+use Rattle.std.specs.Int.{Width, w32, byte_len}
+use Rattle.std.specs.Str.{is_utf8}
+use Rattle.wire_number.specs.declared.endian.Endian.{Endian}
+use Rattle.wire_number.specs.Number.{number, pad}
+use Rattle.wire_names.specs.Names.{is_object_path}
+use Rattle.wire_signature.specs.declared.basic.BasicType.{BasicType}
+use Rattle.wire_signature.specs.declared.basic.BasicType.TheVariants as basics
+use Rattle.wire_signature.specs.Shape.{Shape, basic, variant as any, array as array_of, dict as dict_of, struct as struct_of, Shapes, no_shapes, shapes, alignment, basic_alignment}
+use Rattle.wire_signature.specs.Parsing.{type_in, types_in}
+use Rattle.wire_tree.specs.Datum.{Num, byte, boolean, int16, uint16, int32, uint32, int64, uint64, double, unix_fd, Txt, string, object_path, signature, Datum, num, text, array, dict, struct, variant, data_of, entries_of, bound, num_type, text_type}
+use Rattle.wire_spelling.specs.Spelling.{width_of, length_width}
+
+-- a place, and the bytes from there on
+pub record Cursor : Type 0 where
+  pub place : ℕ
+  pub rest : List ℕ
+
+-- what was read, and the cursor behind it
+abbrev pub Parse : Type 0 → Type 0
+Parse A = Option (A × Cursor)
+
+infixl 10 ◌>>=◌
+abbrev pub ◌>>=◌ : {A B : Type 0} → Option A → (A → Option B) → Option B
+found >>= f = option_and_then f found
+
+-- what was read is made into something else
+abbrev pub made : {A B : Type 0} → (A → B) → Parse A → Parse B
+made f found = option_map (λ x. (f x.0, x.1)) found
+
+-- the cursor behind what was read
+abbrev pub behind : {A : Type 0} → Parse A → Option Cursor
+behind found = option_map (λ x. x.1) found
+
+-- the next so many bytes
+abbrev pub bytes_at : ℕ → Cursor → Parse (List ℕ)
+bytes_at n c =
+    if nat_le n (length c.rest) then Some (take n c.rest, record { place = c.place + n; rest = drop n c.rest }) else None
+
+-- behind bytes that are all 0
+abbrev pub zeros : List ℕ × Cursor → Option Cursor
+zeros x = if list_all (λ b. b == 0) x.0 then Some x.1 else None
+
+-- behind so many bytes, which are all 0
+abbrev pub zeros_at : ℕ → Cursor → Option Cursor
+zeros_at n c = bytes_at n c >>= zeros
+
+-- behind the padding up to a boundary
+unfoldable pub align_at : ℕ → Cursor → Option Cursor
+align_at boundary c = zeros_at (pad c.place boundary) c
+
+-- a number that begins here
+unfoldable pub number_at : Width → Endian → Cursor → Parse ℕ
+number_at w order c = made (number w order) (bytes_at (byte_len w) c)
+
+-- a number of the type, behind its padding
+unfoldable pub num_at : Num → Endian → Cursor → Parse ℕ
+num_at n order c = do
+  p ← align_at (basic_alignment (num_type n)) c
+  x ← number_at (width_of n) order p
+  if nat_lt x.0 (bound n) then Some x else None
+
+-- a length and so many bytes, behind their padding, with a 0 byte at their end
+unfoldable pub raw_at : Txt → Endian → Cursor → Parse (List ℕ)
+raw_at t order c = do
+  p ← align_at (basic_alignment (text_type t)) c
+  n ← number_at (length_width t) order p
+  x ← bytes_at n.0 n.1
+  end ← zeros_at 1 x.1
+  Some (x.0, end)
+
+-- whether bytes are a text of the type
+abbrev pub is_text_of : Txt → List ℕ → Bool
+is_text_of string bytes = is_utf8 bytes && list_all (λ b. nat_lt 0 b) bytes
+is_text_of object_path bytes = is_object_path bytes
+is_text_of signature bytes = is_some (types_in bytes)
+
+-- a text of the type
+unfoldable pub text_at : Txt → Endian → Cursor → Parse (List ℕ)
+text_at t order c = do
+  x ← raw_at t order c
+  if is_text_of t x.0 then Some x else None
+
+abbrev pub num_value_at : Num → Endian → Cursor → Parse Datum
+num_value_at n order c = made (num n) (num_at n order c)
+
+abbrev pub text_value_at : Txt → Endian → Cursor → Parse Datum
+text_value_at t order c = made (text t) (text_at t order c)
+
+-- a value of a basic type
+abbrev pub basic_at : BasicType → Endian → Cursor → Parse Datum
+basic_at basics.Byte order c = num_value_at byte order c
+basic_at basics.Boolean order c = num_value_at boolean order c
+basic_at basics.Int16 order c = num_value_at int16 order c
+basic_at basics.Uint16 order c = num_value_at uint16 order c
+basic_at basics.Int32 order c = num_value_at int32 order c
+basic_at basics.Uint32 order c = num_value_at uint32 order c
+basic_at basics.Int64 order c = num_value_at int64 order c
+basic_at basics.Uint64 order c = num_value_at uint64 order c
+basic_at basics.Double order c = num_value_at double order c
+basic_at basics.String order c = text_value_at string order c
+basic_at basics.ObjectPath order c = text_value_at object_path order c
+basic_at basics.Signature order c = text_value_at signature order c
+basic_at basics.UnixFd order c = num_value_at unix_fd order c
+
+-- nothing, where no bytes are left
+abbrev pub none_at : {A : Type 0} → List ℕ → Option (List A)
+none_at [] = Some []
+none_at (b ∷ bs) = None
+
+-- one more before the others, unless no bytes are left
+abbrev pub more_at : {A : Type 0} → (Cursor → Option (List A)) → (Cursor → Parse A) → Cursor → List ℕ → Option (List A)
+more_at others read c [] = Some []
+more_at others read c (b ∷ bs) = do
+  x ← read c
+  xs ← others x.1
+  Some (x.0 ∷ xs)
+
+-- what stands up to the end of the bytes, at most so many
+unfoldable pub many_at : {A : Type 0} → ℕ → (Cursor → Parse A) → Cursor → Option (List A)
+many_at zero read c = none_at c.rest
+many_at (suc count) read c = more_at (many_at count read) read c c.rest
+
+-- the bytes of an array's elements, at their place, and the cursor behind them
+unfoldable pub elements_at : Endian → ℕ → Cursor → Option (Cursor × Cursor)
+elements_at order boundary c = do
+  p ← align_at 4 c
+  n ← number_at w32 order p
+  first ← if nat_le n.0 67108864 then align_at boundary n.1 else None
+  x ← bytes_at n.0 first
+  Some (record { place = first.place; rest = x.0 }, x.1)
+
+-- an array of elements that begin on a boundary
+unfoldable pub array_at : {A : Type 0} → ℕ → (Cursor → Parse A) → Endian → Cursor → Parse (List A)
+array_at boundary read order c = do
+  x ← elements_at order boundary c
+  xs ← many_at (length x.0.rest) read x.0
+  Some (xs, x.1)
+
+-- a variant: the signature of one type, and a value of it
+unfoldable pub variant_at : (Shape → Cursor → Parse Datum) → Endian → Cursor → Parse Datum
+variant_at read order c = do
+  s ← raw_at signature order c
+  t ← type_in s.0
+  made variant (read t s.1)
+
+-- values of these types, one behind the other
+unfoldable pub fields_at : (Shape → Cursor → Parse Datum) → Shapes → Cursor → Parse (List Datum)
+fields_at read no_shapes c = Some ([], c)
+fields_at read (shapes t ts) c = do
+  x ← read t c
+  made (λ ds. x.0 ∷ ds) (fields_at read ts x.1)
+
+unfoldable pub struct_at : (Shape → Cursor → Parse Datum) → Shapes → Cursor → Parse (List Datum)
+struct_at read ts c = align_at 8 c >>= fields_at read ts
+
+-- a dict entry
+unfoldable pub pair_at : (Shape → Cursor → Parse Datum) → Endian → BasicType → Shape → Cursor → Parse (Datum × Datum)
+pair_at read order k v c = do
+  p ← align_at 8 c
+  key ← basic_at k order p
+  value ← read v key.1
+  Some ((key.0, value.0), value.1)
+
+-- a value where no container may be opened any more
+abbrev pub leaf_at : Endian → Shape → Cursor → Parse Datum
+leaf_at order (basic b) c = basic_at b order c
+leaf_at order any c = None
+leaf_at order (array_of t) c = None
+leaf_at order (dict_of k v) c = None
+leaf_at order (struct_of ts) c = None
+
+-- a value; `read` reads the values inside, and `entry` dict entries
+abbrev pub value_step : (Shape → Cursor → Parse Datum) → (BasicType → Shape → Cursor → Parse (Datum × Datum)) → Endian → Shape → Cursor → Parse Datum
+value_step read entry order (basic b) c = basic_at b order c
+value_step read entry order any c = variant_at read order c
+value_step read entry order (array_of t) c = made (λ ds. array t (data_of ds)) (array_at (alignment t) (read t) order c)
+value_step read entry order (dict_of k v) c = made (λ es. dict k v (entries_of es)) (array_at 8 (entry k v) order c)
+value_step read entry order (struct_of ts) c = made (λ ds. struct (data_of ds)) (struct_at read ts c)
+
+-- A value of a type, where so many containers may still be opened.
+unfoldable mutual
+  pub value_at : ℕ → Endian → Shape → Cursor → Parse Datum
+  value_at zero order t c = leaf_at order t c
+  value_at (suc room) order t c = value_step (value_at room order) (entry_at room order) order t c
+
+  pub entry_at : ℕ → Endian → BasicType → Shape → Cursor → Parse (Datum × Datum)
+  entry_at zero order k v c = None
+  entry_at (suc room) order k v c = pair_at (value_at room order) order k v c

@@ -1,0 +1,124 @@
+-- The bytes of a value (D-Bus Specification, "Marshaling (Wire Format)"). Places are counted from the message's first byte.
+use Rattle.std.specs.Prelude.{◌≡◌, ℕ, ◌+◌, ◌≤◌, max, List, [], ◌∷◌, ◌++◌, length}
+use Rattle.std.specs.Int.{Width, w8, w16, w32, w64}
+use Rattle.wire_number.specs.declared.endian.Endian.{Endian}
+use Rattle.wire_number.specs.Number.{number_text, pad, padding}
+use Rattle.wire_signature.specs.Shape.{Shape, alignment, basic_alignment, type_text}
+use Rattle.wire_tree.specs.Datum.{Num, byte, boolean, int16, uint16, int32, uint32, int64, uint64, double, unix_fd, Txt, string, object_path, signature, Datum, num, text, array, dict, struct, variant, Data, no_data, items, Entries, no_entries, entry, type_of, num_type, text_type, IsFormed}
+
+-- the width of a number of the type
+abbrev pub width_of : Num → Width
+width_of byte = w8
+width_of boolean = w32
+width_of int16 = w16
+width_of uint16 = w16
+width_of int32 = w32
+width_of uint32 = w32
+width_of int64 = w64
+width_of uint64 = w64
+width_of double = w64
+width_of unix_fd = w32
+
+-- the next place on a boundary
+abbrev pub aligned : ℕ → ℕ → ℕ
+aligned place boundary = place + pad place boundary
+
+-- Texts that stand one behind the other: a text, and what begins at the place where it ends.
+abbrev pub chain : ℕ → List ℕ → (ℕ → List ℕ) → List ℕ
+chain place first others = first ++ others (place + length first)
+
+-- the width of a text's length: one byte for a signature, a `UINT32` for others
+abbrev pub length_width : Txt → Width
+length_width string = w32
+length_width object_path = w32
+length_width signature = w8
+
+-- A text: its length, its bytes, and a 0 byte that the length leaves out (D-Bus Specification, "Marshaling", `STRING`,
+-- `OBJECT_PATH`, `SIGNATURE`).
+abbrev pub text_form : Endian → Txt → List ℕ → List ℕ
+text_form order t bytes = number_text (length_width t) order (length bytes) ++ (bytes ++ 0 ∷ [])
+
+-- where an array's first element would begin, padding included
+abbrev pub first_place : ℕ → ℕ → ℕ
+first_place place boundary = aligned (aligned place 4 + 4) boundary
+
+-- An array: the length of its elements, the padding before the first (which the length leaves out, and which stands there
+-- also where there is none), and the elements (D-Bus Specification, "Marshaling", `ARRAY`).
+abbrev pub array_form : Endian → ℕ → ℕ → List ℕ → List ℕ
+array_form order place boundary elements =
+    padding place 4 ++ (number_text w32 order (length elements) ++ (padding (aligned place 4 + 4) boundary ++ elements))
+
+-- The one spelling of a value that begins at a place: zero bytes up to its boundary, and then its form. A variant is the
+-- signature of one type and a value of it; a struct and a dict entry begin on a multiple of 8 (D-Bus Specification,
+-- "Marshaling").
+unfoldable mutual
+  pub spelling : Endian → ℕ → Datum → List ℕ
+  spelling order place (num n v) = padding place (basic_alignment (num_type n)) ++ number_text (width_of n) order v
+  spelling order place (text t bytes) = padding place (basic_alignment (text_type t)) ++ text_form order t bytes
+  spelling order place (array t ds) = array_form order place (alignment t) (spellings order (first_place place (alignment t)) ds)
+  spelling order place (dict k v es) = array_form order place 8 (entry_spellings order (first_place place 8) es)
+  spelling order place (struct ds) = padding place 8 ++ spellings order (aligned place 8) ds
+  spelling order place (variant d) = chain place (text_form order signature (type_text (type_of d))) (λ behind. spelling order behind d)
+
+  -- of values that stand one behind the other
+  pub spellings : Endian → ℕ → Data → List ℕ
+  spellings order place no_data = []
+  spellings order place (items d ds) = chain place (spelling order place d) (λ behind. spellings order behind ds)
+
+  -- of dict entries
+  pub entry_spellings : Endian → ℕ → Entries → List ℕ
+  entry_spellings order place no_entries = []
+  entry_spellings order place (entry k v es) =
+      padding place 8
+      ++ chain (aligned place 8) (spelling order (aligned place 8) k) (λ middle. chain middle (spelling order middle v) (λ behind. entry_spellings order behind es))
+
+-- How many containers are open at once in a value: arrays, dict entries beside their array, structs and variants
+-- (D-Bus Specification, "Valid Signatures" and "Message Protocol": at most 64 of them).
+abbrev mutual
+  pub depth : Datum → ℕ
+  depth (num n v) = 0
+  depth (text t bytes) = 0
+  depth (array t ds) = depths ds + 1
+  depth (dict k v es) = entry_depths es + 1
+  depth (struct ds) = depths ds + 1
+  depth (variant d) = depth d + 1
+
+  pub depths : Data → ℕ
+  depths no_data = 0
+  depths (items d ds) = max (depth d) (depths ds)
+
+  pub entry_depths : Entries → ℕ
+  entry_depths no_entries = 0
+  entry_depths (entry k v es) = max (max (depth k) (depth v) + 1) (entry_depths es)
+
+-- The elements of each array take at most 67,108,864 bytes (D-Bus Specification, "Marshaling", `ARRAY`).
+unfoldable mutual
+  pub ArraysFit : Endian → ℕ → Datum → Type 0
+  ArraysFit order place (num n v) = Unit {0}
+  ArraysFit order place (text t bytes) = Unit {0}
+  ArraysFit order place (array t ds) =
+      (length (spellings order (first_place place (alignment t)) ds) ≤ 67108864) × AllFit order (first_place place (alignment t)) ds
+  ArraysFit order place (dict k v es) =
+      (length (entry_spellings order (first_place place 8) es) ≤ 67108864) × EntriesFit order (first_place place 8) es
+  ArraysFit order place (struct ds) = AllFit order (aligned place 8) ds
+  ArraysFit order place (variant d) = ArraysFit order (place + length (text_form order signature (type_text (type_of d)))) d
+
+  pub AllFit : Endian → ℕ → Data → Type 0
+  AllFit order place no_data = Unit {0}
+  AllFit order place (items d ds) = ArraysFit order place d × AllFit order (place + length (spelling order place d)) ds
+
+  pub EntriesFit : Endian → ℕ → Entries → Type 0
+  EntriesFit order place no_entries = Unit {0}
+  EntriesFit order place (entry k v es) =
+      ArraysFit order (aligned place 8) k
+      × ArraysFit order (aligned place 8 + length (spelling order (aligned place 8) k)) v
+      × EntriesFit order (aligned place 8 + length (spelling order (aligned place 8) k) + length (spelling order (aligned place 8 + length (spelling order (aligned place 8) k)) v)) es
+
+-- Bytes that begin at a place spell a value of a type: it is formed, of that type, within the limits, and they are its
+-- spelling (D-Bus Specification, "Marshaling (Wire Format)").
+pub record Spells (order : Endian) (place : ℕ) (t : Shape) (d : Datum) (bytes : List ℕ) : Type 0 where
+  pub kind : type_of d ≡ t
+  pub formed : IsFormed d
+  pub within : depth d ≤ 64
+  pub fit : ArraysFit order place d
+  pub text : bytes ≡ spelling order place d

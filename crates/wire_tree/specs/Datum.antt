@@ -1,0 +1,188 @@
+-- Values of D-Bus as plain data (D-Bus Specification, "Type System").
+use Rattle.std.specs.Prelude.{◌≡◌, ℕ, ◌+◌, ◌<◌, ◌≤◌, List, [], ◌∷◌, length, All, IsUtf8}
+use Rattle.wire_names.specs.Names.{IsObjectPath}
+use Rattle.wire_signature.specs.declared.basic.BasicType.{BasicType}
+use Rattle.wire_signature.specs.declared.basic.BasicType.TheVariants as basics
+use Rattle.wire_signature.specs.Shape.{Shape, basic, array as array_of, dict as dict_of, struct as struct_of, variant as any, Shapes, no_shapes, shapes, IsType, SignatureText}
+
+-- the types whose values are numbers of a fixed width (D-Bus Specification, "Basic types", "Fixed types")
+pub data Num : Type 0 where
+  byte : Num
+  boolean : Num
+  int16 : Num
+  uint16 : Num
+  int32 : Num
+  uint32 : Num
+  int64 : Num
+  uint64 : Num
+  double : Num
+  unix_fd : Num
+
+-- the types whose values are texts (D-Bus Specification, "Basic types", "String-like types")
+pub data Txt : Type 0 where
+  string : Txt
+  object_path : Txt
+  signature : Txt
+
+-- A value: a number by its bits, signed ones in two's complement and a double by its 64 raw bits; a text by its bytes; an
+-- array by its elements' type and its elements; a dict by its keys' type, its values' type and its entries; a struct by
+-- its fields; a variant by the value that it holds.
+mutual
+  pub data Datum : Type 0 where
+    num : Num → ℕ → Datum
+    text : Txt → List ℕ → Datum
+    array : Shape → Data → Datum
+    dict : BasicType → Shape → Entries → Datum
+    struct : Data → Datum
+    variant : Datum → Datum
+
+  pub data Data : Type 0 where
+    no_data : Data
+    items : Datum → Data → Data
+
+  -- keys and values, in their order
+  pub data Entries : Type 0 where
+    no_entries : Entries
+    entry : Datum → Datum → Entries → Entries
+
+abbrev pub data_of : List Datum → Data
+data_of [] = no_data
+data_of (d ∷ ds) = items d (data_of ds)
+
+abbrev pub list_of : Data → List Datum
+list_of no_data = []
+list_of (items d ds) = d ∷ list_of ds
+
+abbrev pub entries_of : List (Datum × Datum) → Entries
+entries_of [] = no_entries
+entries_of (e ∷ es) = entry e.0 e.1 (entries_of es)
+
+abbrev pub pairs_of : Entries → List (Datum × Datum)
+pairs_of no_entries = []
+pairs_of (entry k v es) = (k, v) ∷ pairs_of es
+
+abbrev pub num_type : Num → BasicType
+num_type byte = basics.Byte
+num_type boolean = basics.Boolean
+num_type int16 = basics.Int16
+num_type uint16 = basics.Uint16
+num_type int32 = basics.Int32
+num_type uint32 = basics.Uint32
+num_type int64 = basics.Int64
+num_type uint64 = basics.Uint64
+num_type double = basics.Double
+num_type unix_fd = basics.UnixFd
+
+abbrev pub text_type : Txt → BasicType
+text_type string = basics.String
+text_type object_path = basics.ObjectPath
+text_type signature = basics.Signature
+
+-- how many bytes a number of the type takes (D-Bus Specification, "Summary of D-Bus marshaling")
+abbrev pub width : Num → ℕ
+width byte = 1
+width boolean = 4
+width int16 = 2
+width uint16 = 2
+width int32 = 4
+width uint32 = 4
+width int64 = 8
+width uint64 = 8
+width double = 8
+width unix_fd = 4
+
+-- the type of a value
+abbrev mutual
+  pub type_of : Datum → Shape
+  type_of (num n v) = basic (num_type n)
+  type_of (text t bytes) = basic (text_type t)
+  type_of (array t ds) = array_of t
+  type_of (dict k v es) = dict_of k v
+  type_of (struct ds) = struct_of (types_of ds)
+  type_of (variant d) = any
+
+  pub types_of : Data → Shapes
+  types_of no_data = no_shapes
+  types_of (items d ds) = shapes (type_of d) (types_of ds)
+
+-- the first number that a type hasn't: a boolean is 0 or 1
+abbrev pub bound : Num → ℕ
+bound byte = 256
+bound boolean = 2
+bound int16 = 65536
+bound uint16 = 65536
+bound int32 = 4294967296
+bound uint32 = 4294967296
+bound int64 = 18446744073709551616
+bound uint64 = 18446744073709551616
+bound double = 18446744073709551616
+bound unix_fd = 4294967296
+
+abbrev pub HasNoZero : List ℕ → Type 0
+HasNoZero bytes = All (λ b. 0 < b) bytes
+
+-- A text of the type: UTF-8 without a 0 byte; a path and a signature in their grammars; a length that 32 bits hold
+-- (D-Bus Specification, "String-like types", "Valid Object Paths", "Valid Signatures").
+abbrev pub IsTextOf : Txt → List ℕ → Type 0
+IsTextOf string bytes = IsUtf8 bytes × HasNoZero bytes × (length bytes ≤ 4294967295)
+IsTextOf object_path bytes = IsObjectPath bytes × (length bytes ≤ 4294967295)
+IsTextOf signature bytes = (ts : List Shape) × SignatureText ts bytes
+
+-- Each number is in its type's range, each text is one of its type, each element has its array's type, each key and value
+-- that of its dict, and what each variant holds is of a type that a signature may hold.
+abbrev mutual
+  pub IsSound : Datum → Type 0
+  IsSound (num n v) = v < bound n
+  IsSound (text t bytes) = IsTextOf t bytes
+  IsSound (array t ds) = AreElements t ds
+  IsSound (dict k v es) = AreEntries k v es
+  IsSound (struct ds) = AreSound ds
+  IsSound (variant d) = IsSound d × IsType (type_of d)
+
+  -- the fields of a struct
+  pub AreSound : Data → Type 0
+  AreSound no_data = Unit {0}
+  AreSound (items d ds) = IsSound d × AreSound ds
+
+  -- the elements of an array
+  pub AreElements : Shape → Data → Type 0
+  AreElements t no_data = Unit {0}
+  AreElements t (items d ds) = (IsSound d × (type_of d ≡ t)) × AreElements t ds
+
+  -- the entries of a dict
+  pub AreEntries : BasicType → Shape → Entries → Type 0
+  AreEntries k v no_entries = Unit {0}
+  AreEntries k v (entry a b es) =
+      (IsSound a × (type_of a ≡ basic k)) × (IsSound b × (type_of b ≡ v)) × AreEntries k v es
+
+-- one number
+abbrev pub IsNumber : Datum → Type 0
+IsNumber (num n v) = Unit {0}
+IsNumber (text t bytes) = ⊥
+IsNumber (array t ds) = ⊥
+IsNumber (dict k v es) = ⊥
+IsNumber (struct ds) = ⊥
+IsNumber (variant d) = ⊥
+
+-- A value that a message may hold: sound, and of a type that a signature may hold, so without an empty struct.
+pub record IsFormed (d : Datum) : Type 0 where
+  pub type : IsType (type_of d)
+  pub sound : IsSound d
+
+-- how many values stand in a value, itself among them; a list of them counts one
+abbrev mutual
+  pub size_of : Datum → ℕ
+  size_of (num n v) = 1
+  size_of (text t bytes) = 1
+  size_of (array t ds) = sizes_of ds + 1
+  size_of (dict k v es) = sizes_in es + 1
+  size_of (struct ds) = sizes_of ds + 1
+  size_of (variant d) = size_of d + 1
+
+  pub sizes_of : Data → ℕ
+  sizes_of no_data = 1
+  sizes_of (items d ds) = size_of d + sizes_of ds
+
+  pub sizes_in : Entries → ℕ
+  sizes_in no_entries = 1
+  sizes_in (entry a b es) = size_of a + size_of b + sizes_in es

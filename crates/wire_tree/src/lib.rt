@@ -1,0 +1,18 @@
+//! Values of D-Bus (D-Bus Specification, "Type System").
+#![tactic(auto)]
+
+pub use crate::laws::{equal_is_one, variants_hold_values};
+pub use crate::tree::{Entries, Inner, Tree, Trees};
+pub use crate::typed::write_type;
+pub use crate::value::Value;
+
+mod copy;
+mod hash;
+mod laws;
+mod same;
+mod sound;
+#[cfg(test)]
+mod tests;
+mod tree;
+mod typed;
+mod value;

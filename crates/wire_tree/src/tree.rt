@@ -1,0 +1,196 @@
+//! Values as trees.
+use std::alloc::{AllocError, Global};
+use std::marker::Model;
+use wire_names::Text;
+use wire_signature::{BasicType, ValueType};
+
+/// A value as a caller makes it, of any of the types (D-Bus Specification, "Type System"). Whether a message may hold it
+/// is for [`crate::Value::from_tree`] to say.
+///
+/// Drop recurses with the tree: one that is made by hand, millions of levels deep, exhausts the stack.
+#[cycle(tree)]
+#[derive(Drop)]
+pub enum Tree {
+    U8(u8),
+    Bool(bool),
+    I16(i16),
+    U16(u16),
+    I32(i32),
+    U32(u32),
+    I64(i64),
+    U64(u64),
+    /// The 64 raw bits of a double.
+    F64(u64),
+    Str(Text),
+    /// An object path.
+    Path(Text),
+    /// A signature.
+    Sig(Text),
+    /// The index of a file descriptor in its message's list.
+    Fd(u32),
+    /// An array of elements of this type.
+    Array(ValueType, Trees),
+    /// An array of dict entries of these types of keys and values.
+    Dict(BasicType, ValueType, Entries),
+    Struct(Trees),
+    /// A value with its type.
+    Variant(Inner),
+}
+
+/// Trees in their order.
+#[cycle(tree)]
+#[derive(Drop)]
+pub struct Trees {
+    items: Vec<Tree>,
+}
+
+/// Keys and values in their order.
+#[cycle(tree)]
+#[derive(Drop)]
+pub struct Entries {
+    pairs: Vec<(Tree, Tree)>,
+}
+
+/// The tree that a variant holds.
+#[cycle(tree)]
+#[derive(Drop)]
+pub struct Inner {
+    tree: Box<Tree>,
+}
+
+impl Model for Trees {
+    ghost use Rattle.std.specs.Prelude.{List, map};
+    ghost use Rattle.std.specs.Coded.{coded_list};
+    ghost use Rattle.wire_tree.specs.Datum.{Datum, data_of, sizes_of};
+    ghost use Rattle.wire_tree.specs.DatumCode.{datum_code};
+
+    ghost Value = { List Datum };
+
+    ghost coded = { coded_list datum_code };
+
+    ghost use Rattle.wire_tree.specs.DatumView.{datum_of};
+
+    ghost view = { λ t. map datum_of t.items.items };
+
+    ghost size = { λ ds. sizes_of (data_of ds) };
+
+    ghost use Rattle.wire_tree.specs.DatumFalls.{most_le-sizes_of};
+
+    ghost size_decreases = { λ a h. most_le-sizes_of a.items.items };
+}
+
+impl Model for Entries {
+    ghost use Rattle.std.specs.Prelude.{List, map};
+    ghost use Rattle.std.specs.Coded.{coded_list, coded×};
+    ghost use Rattle.wire_tree.specs.Datum.{Datum, entries_of, sizes_in};
+    ghost use Rattle.wire_tree.specs.DatumCode.{datum_code};
+
+    ghost Value = { List (Datum × Datum) };
+
+    ghost coded = { coded_list (coded× datum_code datum_code) };
+
+    ghost use Rattle.wire_tree.specs.DatumView.{pair_of};
+
+    ghost view = { λ t. map pair_of t.pairs.items };
+
+    ghost size = { λ es. sizes_in (entries_of es) };
+
+    ghost use Rattle.wire_tree.specs.DatumFalls.{pairs_le-sizes_in};
+
+    ghost size_decreases = { λ a h. pairs_le-sizes_in a.pairs.items };
+}
+
+impl Model for Inner {
+    ghost use Rattle.wire_tree.specs.Datum.{Datum, size_of};
+    ghost use Rattle.wire_tree.specs.DatumCode.{datum_code};
+
+    ghost Value = { Datum };
+
+    ghost coded = { datum_code };
+
+    ghost use Rattle.wire_tree.specs.DatumView.{datum_of};
+
+    ghost view = { λ t. datum_of t.tree.value };
+
+    ghost size = { size_of };
+
+    ghost use Rattle.wire_tree.specs.DatumFalls.{deep_le-size_of};
+
+    ghost size_decreases = { λ a h. deep_le-size_of a.tree.value };
+}
+
+impl Trees {
+    ghost use Rattle.std.specs.Prelude.{◌≡◌, map};
+    ghost use Rattle.wire_tree.specs.DatumView.{datum_of};
+
+    /// Takes the `Vec` itself, with no memory of its own.
+    pub fn from_vec(items: Vec<Tree>) -> Trees
+        ensures { result ≡ map datum_of items.items }
+    {
+        Trees { items }
+    }
+
+    pub fn as_slice(&self) -> &[Tree]
+        ensures { map datum_of result.now ≡ self.now }
+    {
+        self.items.as_slice()
+    }
+
+    /// Gives the `Vec` back.
+    pub fn into_vec(self) -> Vec<Tree>
+        ensures { map datum_of result.items ≡ self }
+    {
+        self.items
+    }
+}
+
+impl Entries {
+    ghost use Rattle.std.specs.Prelude.{◌≡◌, map};
+    ghost use Rattle.wire_tree.specs.DatumView.{datum_of, pair_of};
+
+    /// Takes the `Vec` itself, with no memory of its own.
+    pub fn from_vec(pairs: Vec<(Tree, Tree)>) -> Entries
+        ensures { result ≡ map pair_of pairs.items }
+    {
+        Entries { pairs }
+    }
+
+    pub fn as_slice(&self) -> &[(Tree, Tree)]
+        ensures { map pair_of result.now ≡ self.now }
+    {
+        self.pairs.as_slice()
+    }
+
+    /// Gives the `Vec` back.
+    pub fn into_vec(self) -> Vec<(Tree, Tree)>
+        ensures { map pair_of result.items ≡ self }
+    {
+        self.pairs
+    }
+}
+
+impl Inner {
+    ghost use Rattle.std.specs.Prelude.{◌≡◌, IfOk};
+    ghost use Rattle.wire_tree.specs.DatumView.{datum_of};
+
+    /// Moves the tree to the heap. On want of memory the tree is given up.
+    pub fn new(alloc: Global, tree: Tree) -> Result<Inner, AllocError>
+        ensures { IfOk result (λ inner. inner ≡ datum_of tree) }
+    {
+        let tree = Box::new(alloc, tree)?;
+        Ok(Inner { tree })
+    }
+
+    pub fn as_tree(&self) -> &Tree
+        ensures { datum_of result.now ≡ self.now }
+    {
+        &self.tree
+    }
+
+    /// Gives the tree back.
+    pub fn into_tree(self) -> Tree
+        ensures { datum_of result ≡ self }
+    {
+        Box::into_inner(self.tree)
+    }
+}

@@ -1,0 +1,5 @@
+pub mod Signs
+pub mod Appends
+pub mod Writes
+pub mod DepthLaws
+pub mod EncodeLaws

@@ -1,0 +1,47 @@
+-- What writing does.
+use Rattle.std.specs.Prelude.{◌≡◌, ℕ, ◌<◌, ◌≤◌, List, ◌++◌, Result, Ok, Err}
+use Rattle.wire_number.specs.declared.endian.Endian.{Endian}
+use Rattle.wire_signature.specs.declared.error.VariantError.TheVariants as errors
+use Rattle.wire_tree.specs.Datum.{Datum, type_of, IsSound, Entries, no_entries, entry}
+use Rattle.wire_spelling.specs.Spelling.{ArraysFit, Spells, depth}
+use Rattle.wire_value.specs.declared.error.EncodeError.{EncodeError}
+use Rattle.wire_value.specs.declared.error.EncodeError.TheVariants.{Variant, ExcessData, Memory}
+
+-- A writing is refused for an excess where what was to be written does not fit. Want of memory tells nothing.
+abbrev pub Refused : EncodeError → Type 0 → Type 0
+Refused (Variant e) fits = ⊥
+Refused ExcessData fits = fits → ⊥
+Refused Memory fits = Unit {0}
+
+-- A writing appended a text, and what it wrote fits.
+abbrev pub Wrote : {A : Type 0} → Result A EncodeError → List ℕ → Type 0 → List ℕ → List ℕ → Type 0
+Wrote (Ok done) body fits old new = (new ≡ old ++ body) × fits
+Wrote (Err e) body fits old new = Refused e fits
+
+-- Why encoding was refused: `Depth` exactly where more than 64 containers are open at once, `ExcessData` exactly where no
+-- such depth is there and the elements of an array take too many bytes. Each leaves the output as before.
+abbrev pub NotEncoded : EncodeError → Endian → ℕ → Datum → List ℕ → List ℕ → Type 0
+NotEncoded (Variant errors.Signature) order place d old new = ⊥
+NotEncoded (Variant errors.Depth) order place d old new = (64 < depth d) × (new ≡ old)
+NotEncoded (Variant errors.Malformed) order place d old new = ⊥
+NotEncoded (Variant errors.SignatureMismatch) order place d old new = ⊥
+NotEncoded (Variant errors.Memory) order place d old new = ⊥
+NotEncoded ExcessData order place d old new = (depth d ≤ 64) × (ArraysFit order place d → ⊥) × (new ≡ old)
+NotEncoded Memory order place d old new = new ≡ old
+
+-- What encoding did: a spelling of the value was appended, or it was refused.
+abbrev pub Encoded : {A : Type 0} → Result A EncodeError → Endian → ℕ → Datum → List ℕ → List ℕ → Type 0
+Encoded (Ok done) order place d old new = (bytes : List ℕ) × Spells order place (type_of d) d bytes × (new ≡ old ++ bytes)
+Encoded (Err e) order place d old new = NotEncoded e order place d old new
+
+-- keys and values that are sound
+abbrev pub ArePairsSound : Entries → Type 0
+ArePairsSound no_entries = Unit {0}
+ArePairsSound (entry k v es) = IsSound k × IsSound v × ArePairsSound es
+
+-- The length of an array's elements was put where it belongs, unless they are too long.
+abbrev pub Closed : {A : Type 0} → Result A EncodeError → ℕ → List ℕ → List ℕ → Type 0
+Closed (Ok done) long expected new = (new ≡ expected) × (long ≤ 67108864)
+Closed (Err (Variant e)) long expected new = ⊥
+Closed (Err ExcessData) long expected new = 67108864 < long
+Closed (Err Memory) long expected new = ⊥

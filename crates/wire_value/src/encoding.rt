@@ -1,0 +1,33 @@
+//! The bytes of values.
+ghost use Rattle.wire_value.specs.Writing.{Encoded};
+
+use crate::depth::is_within;
+use crate::error::EncodeError;
+use crate::write::write_value;
+use wire_number::Endian;
+use wire_signature::VariantError;
+use wire_spelling::MAX_DEPTH;
+use wire_tree::Value;
+
+/// Appends the one spelling of a value to an output, as bytes that begin at the place `at`, counted in bytes from the
+/// message's first (D-Bus Specification, "Marshaling (Wire Format)"). The signature of the value's type is no part of it.
+///
+/// # Errors
+///
+/// On any error the output is as before.
+/// [`EncodeError::Variant`] of `Depth` exactly where more than 64 containers are open at once in the value.
+/// [`EncodeError::ExcessData`] exactly where no such depth is there and the elements of an array take more than
+/// 67,108,864 bytes. [`EncodeError::Memory`] for want of memory.
+pub fn encode(order: Endian, at: usize, value: &Value, out: &mut Vec<u8>) -> Result<(), EncodeError>
+    ensures { Encoded result order at value.now out.old.items out.new.items }
+{
+    let tree = value.tree();
+    if !is_within(MAX_DEPTH, tree) {
+        return Err(EncodeError::Variant(VariantError::Depth));
+    }
+    let alloc = *out.allocator();
+    let mut text = Vec::new(alloc);
+    write_value(alloc, order, at % 8, &mut text, tree)?;
+    out.extend_from_slice(text.as_slice())?;
+    Ok(())
+}

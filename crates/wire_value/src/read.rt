@@ -1,0 +1,255 @@
+//! Reading values by their types. `room` is how many containers may still be opened.
+ghost use Rattle.std.specs.Prelude.{◌≡◌, length, map};
+ghost use Rattle.wire_signature.specs.Parsing.{type_in};
+ghost use Rattle.wire_signature.specs.Shape.{alignment, shapes_of};
+ghost use Rattle.wire_tree.specs.Datum.{array as array_datum, data_of, dict as dict_datum, entries_of, struct as struct_datum};
+ghost use Rattle.wire_tree.specs.DatumView.{datum_of, pair_of};
+ghost use Rattle.wire_spelling.specs.Reading.{array_at, entry_at, fields_at, leaf_at, made, many_at, struct_at, value_at, value_step, variant_at};
+ghost use Rattle.wire_spelling.specs.ReaderView.{Gives, cursor_of};
+
+use crate::basics::read_basic;
+use std::alloc::Global;
+use wire_number::Endian;
+use wire_signature::{BasicType, TypeNode, ValueType, VariantError};
+use wire_spelling::{Reader, boundary, utf8};
+use wire_tree::{Entries, Inner, Tree, Trees};
+
+/// The single complete type that bytes are the text of.
+#[tactic(auto, using(wire_spelling::proofs::Ascii::no_types))]
+fn read_type(alloc: Global, bytes: &[u8]) -> Result<ValueType, VariantError>
+    ensures { Gives (λ t. t) result (type_in bytes.now) }
+{
+    let text = utf8(bytes).ok_or(VariantError::Malformed)?;
+    match ValueType::try_from(alloc, text) {
+        Ok(value_type) => Ok(value_type),
+        Err(VariantError::Memory) => Err(VariantError::Memory),
+        Err(_) => Err(VariantError::Malformed),
+    }
+}
+
+/// A value, where no container may be opened any more.
+fn read_leaf<'a>(
+    alloc: Global,
+    order: Endian,
+    value_type: &ValueType,
+    reader: Reader<'a>,
+) -> Result<(Tree, Reader<'a>), VariantError>
+    ensures { Gives (λ x. (datum_of x.0, cursor_of x.1)) result (leaf_at order value_type.now (cursor_of reader.entry)) }
+{
+    match value_type.node() {
+        TypeNode::Basic(basic) => read_basic(alloc, order, *basic, reader),
+        _ => Err(VariantError::Malformed),
+    }
+}
+
+/// A value of the type, and what stands behind it.
+#[cycle(read)]
+#[tactic(auto, unfolding(wire_spelling::specs::Reading::value_at))]
+pub(crate) fn read_value<'a>(
+    alloc: Global,
+    order: Endian,
+    room: usize,
+    value_type: &ValueType,
+    reader: Reader<'a>,
+) -> Result<(Tree, Reader<'a>), VariantError>
+    ensures { Gives (λ x. (datum_of x.0, cursor_of x.1)) result (value_at room order value_type.now (cursor_of reader.entry)) }
+{
+    if room == 0 {
+        read_leaf(alloc, order, value_type, reader)
+    } else {
+        read_kind(alloc, order, room - 1, value_type, reader)
+    }
+}
+
+/// A value of the type, where a container may be opened.
+#[cycle(read)]
+fn read_kind<'a>(
+    alloc: Global,
+    order: Endian,
+    room: usize,
+    value_type: &ValueType,
+    reader: Reader<'a>,
+) -> Result<(Tree, Reader<'a>), VariantError>
+    ensures { Gives (λ x. (datum_of x.0, cursor_of x.1)) result (value_step (value_at room order) (entry_at room order) order value_type.now (cursor_of reader.entry)) }
+{
+    match value_type.node() {
+        TypeNode::Basic(basic) => read_basic(alloc, order, *basic, reader),
+        TypeNode::Variant => read_variant(alloc, order, room, reader),
+        TypeNode::Array(element) => read_array(alloc, order, room, element, reader),
+        TypeNode::Dict(key, value) => read_dict(alloc, order, room, *key, value, reader),
+        TypeNode::Struct(fields) => read_struct(alloc, order, room, fields, reader),
+    }
+}
+
+/// A variant: the signature of one type, and a value of it.
+#[cycle(read)]
+#[tactic(auto, unfolding(wire_spelling::specs::Reading::variant_at))]
+fn read_variant<'a>(
+    alloc: Global,
+    order: Endian,
+    room: usize,
+    reader: Reader<'a>,
+) -> Result<(Tree, Reader<'a>), VariantError>
+    ensures { Gives (λ x. (datum_of x.0, cursor_of x.1)) result (variant_at (value_at room order) order (cursor_of reader.entry)) }
+{
+    let (bytes, inner) = reader.short_text(order).ok_or(VariantError::Malformed)?;
+    let value_type = read_type(alloc, bytes)?;
+    let (tree, after) = read_value(alloc, order, room, &value_type, inner)?;
+    Ok((Tree::Variant(Inner::new(alloc, tree)?), after))
+}
+
+/// An array.
+#[cycle(read)]
+#[tactic(auto, unfolding(wire_spelling::specs::Reading::array_at))]
+fn read_array<'a>(
+    alloc: Global,
+    order: Endian,
+    room: usize,
+    element: &ValueType,
+    reader: Reader<'a>,
+) -> Result<(Tree, Reader<'a>), VariantError>
+    ensures { Gives (λ x. (datum_of x.0, cursor_of x.1)) result (made (λ ds. array_datum element.now (data_of ds)) (array_at (alignment element.now) (value_at room order element.now) order (cursor_of reader.entry))) }
+{
+    let (elements, after) = reader
+        .elements(order, boundary(element))
+        .ok_or(VariantError::Malformed)?;
+    let items = read_items(alloc, order, room, element, elements)?;
+    let element = element.try_clone(alloc)?;
+    Ok((Tree::Array(element, Trees::from_vec(items)), after))
+}
+
+/// All elements of an array, which fill the bytes.
+#[cycle(read)]
+fn read_items<'a>(
+    alloc: Global,
+    order: Endian,
+    room: usize,
+    element: &ValueType,
+    elements: Reader<'a>,
+) -> Result<Vec<Tree>, VariantError>
+    ensures { Gives (λ v. map datum_of v.items) result (many_at (length elements.entry.rest.now) (value_at room order element.now) (cursor_of elements.entry)) }
+{
+    let mut items = Vec::new(alloc);
+    let mut left = elements;
+    for _ in 0..elements.rest.len() {
+        if left.rest.is_empty() {
+            return Ok(items);
+        }
+        let (item, after) = read_value(alloc, order, room, element, left)?;
+        items.push(item)?;
+        left = after;
+    }
+    if left.rest.is_empty() {
+        Ok(items)
+    } else {
+        Err(VariantError::Malformed)
+    }
+}
+
+/// An array of dict entries.
+#[cycle(read)]
+#[tactic(auto, unfolding(wire_spelling::specs::Reading::array_at))]
+fn read_dict<'a>(
+    alloc: Global,
+    order: Endian,
+    room: usize,
+    key: BasicType,
+    value: &ValueType,
+    reader: Reader<'a>,
+) -> Result<(Tree, Reader<'a>), VariantError>
+    ensures { Gives (λ x. (datum_of x.0, cursor_of x.1)) result (made (λ es. dict_datum key value.now (entries_of es)) (array_at 8 (entry_at room order key value.now) order (cursor_of reader.entry))) }
+{
+    let (entries, after) = reader.elements(order, 8).ok_or(VariantError::Malformed)?;
+    let pairs = read_entries(alloc, order, room, key, value, entries)?;
+    let value = value.try_clone(alloc)?;
+    Ok((Tree::Dict(key, value, Entries::from_vec(pairs)), after))
+}
+
+/// All entries of a dict, which fill the bytes.
+#[cycle(read)]
+fn read_entries<'a>(
+    alloc: Global,
+    order: Endian,
+    room: usize,
+    key: BasicType,
+    value: &ValueType,
+    entries: Reader<'a>,
+) -> Result<Vec<(Tree, Tree)>, VariantError>
+    ensures { Gives (λ v. map pair_of v.items) result (many_at (length entries.entry.rest.now) (entry_at room order key value.now) (cursor_of entries.entry)) }
+{
+    let mut pairs = Vec::new(alloc);
+    let mut left = entries;
+    for _ in 0..entries.rest.len() {
+        if left.rest.is_empty() {
+            return Ok(pairs);
+        }
+        let (pair, after) = read_entry(alloc, order, room, key, value, left)?;
+        pairs.push(pair)?;
+        left = after;
+    }
+    if left.rest.is_empty() {
+        Ok(pairs)
+    } else {
+        Err(VariantError::Malformed)
+    }
+}
+
+/// A dict entry, which counts as a container.
+#[cycle(read)]
+#[tactic(auto, unfolding(wire_spelling::specs::Reading::entry_at, wire_spelling::specs::Reading::pair_at))]
+fn read_entry<'a>(
+    alloc: Global,
+    order: Endian,
+    room: usize,
+    key: BasicType,
+    value: &ValueType,
+    reader: Reader<'a>,
+) -> Result<((Tree, Tree), Reader<'a>), VariantError>
+    ensures { Gives (λ x. (pair_of x.0, cursor_of x.1)) result (entry_at room order key value.now (cursor_of reader.entry)) }
+{
+    if room == 0 {
+        return Err(VariantError::Malformed);
+    }
+    let first = reader.align(8).ok_or(VariantError::Malformed)?;
+    let (key, middle) = read_basic(alloc, order, key, first)?;
+    let (value, after) = read_value(alloc, order, room - 1, value, middle)?;
+    Ok(((key, value), after))
+}
+
+/// A struct.
+#[cycle(read)]
+#[tactic(auto, unfolding(wire_spelling::specs::Reading::struct_at))]
+fn read_struct<'a>(
+    alloc: Global,
+    order: Endian,
+    room: usize,
+    fields: &[ValueType],
+    reader: Reader<'a>,
+) -> Result<(Tree, Reader<'a>), VariantError>
+    ensures { Gives (λ x. (datum_of x.0, cursor_of x.1)) result (made (λ ds. struct_datum (data_of ds)) (struct_at (value_at room order) (shapes_of fields.now) (cursor_of reader.entry))) }
+{
+    let first = reader.align(8).ok_or(VariantError::Malformed)?;
+    let (items, after) = read_fields(alloc, order, room, fields, first)?;
+    Ok((Tree::Struct(Trees::from_vec(items)), after))
+}
+
+/// The fields of a struct.
+#[cycle(read)]
+fn read_fields<'a>(
+    alloc: Global,
+    order: Endian,
+    room: usize,
+    fields: &[ValueType],
+    reader: Reader<'a>,
+) -> Result<(Vec<Tree>, Reader<'a>), VariantError>
+    ensures { Gives (λ x. (map datum_of x.0.items, cursor_of x.1)) result (fields_at (value_at room order) (shapes_of fields.now) (cursor_of reader.entry)) }
+{
+    let mut items = Vec::new(alloc);
+    let mut stand = reader;
+    for each in fields {
+        let (item, after) = read_value(alloc, order, room, each, stand)?;
+        items.push(item)?;
+        stand = after;
+    }
+    Ok((items, stand))
+}
