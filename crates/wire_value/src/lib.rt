@@ -1,10 +1,14 @@
-//! Values of D-Bus from their bytes and to them (D-Bus Specification, "Marshaling (Wire Format)"). Names, types, trees
-//! and what walks over bytes without memory stand in crates below, and are found here too.
+//! Values of D-Bus from their bytes and to them (D-Bus Specification, "Marshaling (Wire Format)"). Names, types, trees,
+//! bodies of arguments and what walks over bytes without memory stand in crates below, and are found here too.
 #![tactic(auto)]
 
 pub use crate::decoding::decode;
 pub use crate::encoding::encode;
 pub use crate::error::EncodeError;
+pub use wire_body::{
+    Argument, Arguments, Array, Body, Dict, Double, Fd, FromBody, Key, ToBody, from,
+    there_and_back, to,
+};
 pub use wire_names::{
     BusName, Bytes, ErrorName, InterfaceName, MemberName, NamesError, ObjectPath, OwnedBusName,
     OwnedErrorName, OwnedInterfaceName, OwnedMemberName, OwnedObjectPath, OwnedUniqueName,

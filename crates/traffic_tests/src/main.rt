@@ -1,0 +1,33 @@
+//! Reads recorded messages, one line of hex digits each, and prints what their headers and bodies say. Each body is
+//! written again, and `same` stands where that gave the bytes that were read.
+#![tactic(auto)]
+
+mod arguments;
+mod head;
+mod leaf;
+mod show;
+
+use std::alloc::Global;
+use std::io;
+use wire_message::header_front;
+
+/// What the message says, one line for its header, one for each argument, and one for the bytes written again.
+fn described(alloc: Global, digits: &str) -> anyhow::Result<String> {
+    let bytes = hex::decode(alloc, digits)?;
+    let (message, _) = header_front(alloc, bytes.as_slice())?;
+    let mut out = String::new(alloc);
+    head::write_head(&mut out, &message)?;
+    arguments::write_arguments(alloc, &mut out, &message)?;
+    Ok(out)
+}
+
+fn main(rt: HostRuntime) -> io::Result<()> {
+    let alloc = rt.alloc();
+    for line in rt.lines(alloc) {
+        match described(alloc, line?.as_str()) {
+            Ok(text) => print!(rt; "{text}")?,
+            Err(error) => println!(rt; "refused: {error}")?,
+        }
+    }
+    Ok(())
+}

@@ -1,0 +1,67 @@
+//! Values as text: what stands in a container is followed by a blank.
+use crate::leaf::write_quoted;
+use std::alloc::{AllocError, Global};
+use wire_value::{Tree, write_type};
+
+/// Writes the values, each with a blank behind it.
+#[cycle(show)]
+fn show_all(alloc: Global, out: &mut String, trees: &[Tree]) -> Result<(), AllocError> {
+    for each in trees {
+        show(alloc, out, each)?;
+        out.push(' ')?;
+    }
+    Ok(())
+}
+
+/// Writes keys and values, each pair with a blank behind it.
+#[cycle(show)]
+fn show_pairs(alloc: Global, out: &mut String, pairs: &[(Tree, Tree)]) -> Result<(), AllocError> {
+    for each in pairs {
+        show(alloc, out, &each.0)?;
+        out.push(':')?;
+        show(alloc, out, &each.1)?;
+        out.push(' ')?;
+    }
+    Ok(())
+}
+
+/// Writes a value.
+#[cycle(show)]
+pub(crate) fn show(alloc: Global, out: &mut String, tree: &Tree) -> Result<(), AllocError> {
+    match tree {
+        Tree::U8(x) => write!(out, "{x}"),
+        Tree::Bool(x) => write!(out, "{x}"),
+        Tree::I16(x) => write!(out, "{x}"),
+        Tree::U16(x) => write!(out, "{x}"),
+        Tree::I32(x) => write!(out, "{x}"),
+        Tree::U32(x) | Tree::Fd(x) => write!(out, "{x}"),
+        Tree::I64(x) => write!(out, "{x}"),
+        Tree::U64(x) => write!(out, "{x}"),
+        Tree::F64(bits) => write!(out, "{bits:016x}"),
+        Tree::Str(text) | Tree::Path(text) | Tree::Sig(text) => {
+            write_quoted(out, text.as_str().as_bytes())
+        }
+        Tree::Array(_, elements) => {
+            out.push('[')?;
+            show_all(alloc, out, elements.as_slice())?;
+            out.push(']')
+        }
+        Tree::Dict(_, _, entries) => {
+            out.push('{')?;
+            show_pairs(alloc, out, entries.as_slice())?;
+            out.push('}')
+        }
+        Tree::Struct(fields) => {
+            out.push('(')?;
+            show_all(alloc, out, fields.as_slice())?;
+            out.push(')')
+        }
+        Tree::Variant(inner) => {
+            out.push('<')?;
+            write_type(out, alloc, inner.as_tree())?;
+            out.push(' ')?;
+            show(alloc, out, inner.as_tree())?;
+            out.push('>')
+        }
+    }
+}
