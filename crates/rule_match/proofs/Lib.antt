@@ -1,8 +1,4 @@
-pub mod Both
-pub mod Placing
 pub mod Kept
-pub mod Positions
-pub mod After
 pub mod Printed
 pub mod Made
 pub mod Read

@@ -1,8 +1,6 @@
 pub mod Rule
 pub mod RuleView
 pub mod Building
-pub mod Arguments
-pub mod SameArgument
 pub mod Namespace
 pub mod Key
 pub mod Part

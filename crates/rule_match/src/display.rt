@@ -6,7 +6,7 @@ ghost use Rattle.rule_match.specs.Text.{component_text, argument_text, part_text
 ghost use Rattle.rule_match.specs.Printing.{separator, joined};
 ghost use Rattle.rule_match.specs.declared.part.Part.TheVariants as parts;
 
-use crate::arguments::Argument;
+use rule_arguments::Argument;
 use crate::place::PathSpec;
 use crate::rule::MatchRule;
 use std::fmt;

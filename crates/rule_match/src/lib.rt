@@ -1,14 +1,13 @@
 //! Match rules: which messages a peer wants to see (D-Bus Specification, "Message Bus Message Routing", "Match Rules").
 #![tactic(auto)]
 
-pub use crate::arguments::Argument;
 pub use crate::building::Builder;
 pub use crate::laws::{rules_are_read_again, rules_hold_their_grammar};
 pub use crate::owned::OwnedMatchRule;
 pub use crate::place::PathSpec;
 pub use crate::rule::MatchRule;
+pub use rule_arguments::Argument;
 
-mod arguments;
 mod building;
 mod component;
 mod display;

@@ -1,7 +1,7 @@
 //! The rule itself.
 ghost use Rattle.std.specs.Prelude.{◌≡◌, IfOk, codes};
 
-use crate::arguments::{Argument, Arguments};
+use rule_arguments::{Argument, Arguments};
 use crate::building::Builder;
 use crate::component::rule_in;
 use crate::place::PathSpec;

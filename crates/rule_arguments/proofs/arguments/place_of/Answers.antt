@@ -2,9 +2,9 @@ use Rattle.std.proofs.Common.{◌∙◌, ap, rules, tests, nat_le, length}
 use Rattle.std.specs.Prelude.{unwrap_or}
 use Rattle.std.proofs.lemmas.Iterator.{YieldsList-from_slice}
 use Rattle.std.proofs.lemmas.Iterator.Search.{position_from_yields_List}
-use Rattle.rule_match.specs.declared.arguments.Argument.{Argument}
-use Rattle.rule_match.proofs.Positions.{place_told}
-use Rattle.rule_match.proofs.arguments.place_of.Goals as goal
+use Rattle.rule_arguments.specs.declared.arguments.Argument.{Argument}
+use Rattle.rule_arguments.proofs.Positions.{place_told}
+use Rattle.rule_arguments.proofs.arguments.place_of.Goals as goal
 
 pub returns-clause-place : goal.returns-clause-place
 returns-clause-place c =

@@ -1,5 +1,5 @@
-use Rattle.rule_match.proofs.After.{last_after}
-use Rattle.rule_match.proofs.arguments.Arguments.index_after.Goals as goal
+use Rattle.rule_arguments.proofs.After.{last_after}
+use Rattle.rule_arguments.proofs.arguments.Arguments.index_after.Goals as goal
 
 pub returns-in-len1-up : goal.returns-in-len1-up
 returns-in-len1-up c =

@@ -1,7 +1,7 @@
 -- The index after the greatest.
 use Rattle.std.proofs.Common.{◌≡◌, refl, sym, ap, ◌∙◌, ◌+◌, ◌-◌, ◌≤◌, List, [], ◌∷◌, length, get_or, arith}
-use Rattle.rule_match.specs.declared.arguments.Argument.{Argument}
-use Rattle.rule_match.specs.Arguments.{index_after}
+use Rattle.rule_arguments.specs.declared.arguments.Argument.{Argument}
+use Rattle.rule_arguments.specs.Arguments.{index_after}
 
 pub after_last : (a : Argument) (rest : List Argument) (d : Argument) → index_after (a ∷ rest) ≡ (get_or (a ∷ rest) (length rest) d).index + 1
 after_last a [] d = refl

@@ -6,7 +6,7 @@ use Rattle.std.specs.Hash as fed
 use Rattle.std.specs.Hash.{Alike, HashWrites, on_Alike, same_Alike, and-Alike}
 use Rattle.std.proofs.lemmas.Bool.Decides.{Decides-eqb}
 use Rattle.std.proofs.lemmas.Slice.Eq.{bytes_eq-Decides}
-use Rattle.rule_match.specs.declared.arguments.Argument.{Argument}
+use Rattle.rule_arguments.specs.declared.arguments.Argument.{Argument}
 
 abbrev pub same_argument : Argument → Argument → Bool
 same_argument a b = nat_eq a.index b.index && pointwise nat_eq a.text b.text

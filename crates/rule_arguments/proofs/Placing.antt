@@ -2,9 +2,9 @@
 use Rattle.std.proofs.Common.{◌≡◌, ◌≢◌, refl, sym, ap, ℕ, suc, ◌<◌, List, [], ◌∷◌, true, false, nat_lt, nat_le, length, set, get_or, arith}
 use Rattle.std.specs.List.{filter, list_all, position_or_len, insert}
 use Rattle.std.proofs.lemmas.Bool.Decides.{nat_tests}
-use Rattle.rule_match.specs.declared.arguments.Argument.{Argument}
-use Rattle.rule_match.specs.Arguments.{is_ascending, put}
-use Rattle.rule_match.proofs.Both.{first_true, second_true, both_true}
+use Rattle.rule_arguments.specs.declared.arguments.Argument.{Argument}
+use Rattle.rule_arguments.specs.Arguments.{is_ascending, put}
+use Rattle.rule_arguments.proofs.Both.{first_true, second_true, both_true}
 
 -- where all indices are above one, none is below it
 none_below : (n : ℕ) (args : List Argument) → list_all (λ b. nat_lt n b.index) args ≡ true → filter (λ b. nat_lt b.index n) args ≡ []

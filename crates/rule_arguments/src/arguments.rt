@@ -2,8 +2,8 @@
 ghost use Rattle.std.specs.Prelude.{◌≡◌, ◌<◌, ◌≤◌, ◌≢◌, nat_le, length, slice_index_or, false, IfOk, OnOk, IsTrue, []};
 ghost use Rattle.std.specs.List.{position_or_len};
 ghost use Rattle.std.specs.Option.{SomeIff};
-ghost use Rattle.rule_match.specs.declared.arguments.Argument.{Argument};
-ghost use Rattle.rule_match.specs.Arguments.{put, is_ascending, index_after};
+ghost use Rattle.rule_arguments.specs.declared.arguments.Argument.{Argument};
+ghost use Rattle.rule_arguments.specs.Arguments.{put, is_ascending, index_after};
 
 use std::alloc::{AllocError, Global};
 use std::hash::{Hash, Hasher};
@@ -18,7 +18,7 @@ pub struct Argument {
 }
 
 impl PartialEq for Argument {
-    ghost use Rattle.rule_match.specs.SameArgument.{same_argument, same_argument_equiv};
+    ghost use Rattle.rule_arguments.specs.SameArgument.{same_argument, same_argument_equiv};
     ghost use Rattle.std.specs.Cmp.{partial_equiv_from_equiv};
 
     ghost eq = { same_argument };
@@ -31,7 +31,7 @@ impl PartialEq for Argument {
 }
 
 impl Eq for Argument {
-    ghost use Rattle.rule_match.specs.SameArgument.{same_argument_equiv};
+    ghost use Rattle.rule_arguments.specs.SameArgument.{same_argument_equiv};
 
     ghost laws = { same_argument_equiv };
 }
@@ -39,7 +39,7 @@ impl Eq for Argument {
 impl Hash for Argument {
     ghost use Rattle.std.specs.Prelude.{◌++◌};
     ghost use Rattle.std.specs.Hash as fed;
-    ghost use Rattle.rule_match.specs.SameArgument.{argument_fed, argument_alike};
+    ghost use Rattle.rule_arguments.specs.SameArgument.{argument_fed, argument_alike};
 
     ghost hash_input = { argument_fed };
 
@@ -52,7 +52,7 @@ impl Hash for Argument {
 }
 
 impl Argument {
-    pub(crate) fn try_clone(&self, alloc: Global) -> Result<Argument, AllocError>
+    pub fn try_clone(&self, alloc: Global) -> Result<Argument, AllocError>
         ensures { IfOk result (λ a. a ≡ self.now) }
     {
         Ok(Argument {
@@ -107,13 +107,13 @@ fn put_among(arguments: &mut Vec<Argument>, argument: Argument) -> Result<(), Al
 
 /// Arguments of ascending indices.
 #[derive(Debug, Drop)]
-pub(crate) struct Arguments {
+pub struct Arguments {
     items: Vec<Argument>,
 }
 
 impl Model for Arguments {
     ghost use Rattle.std.specs.Prelude.{List};
-    ghost use Rattle.rule_match.specs.declared.arguments.Argument.{Argument};
+    ghost use Rattle.rule_arguments.specs.declared.arguments.Argument.{Argument};
 
     ghost Value = { List Argument };
 
@@ -121,7 +121,7 @@ impl Model for Arguments {
 }
 
 impl Arguments {
-    pub(crate) fn new(alloc: Global) -> Arguments
+    pub fn new(alloc: Global) -> Arguments
         ensures { result ≡ [] }
     {
         Arguments {
@@ -129,14 +129,14 @@ impl Arguments {
         }
     }
 
-    pub(crate) fn as_slice(&self) -> &[Argument]
+    pub fn as_slice(&self) -> &[Argument]
         ensures { result.now ≡ self.now }
     {
         self.items.as_slice()
     }
 
     /// Puts an argument at its place, in place of one of its own index.
-    pub(crate) fn put(&mut self, argument: Argument) -> Result<(), AllocError>
+    pub fn put(&mut self, argument: Argument) -> Result<(), AllocError>
         requires { IsTrue (is_ascending self.old) }
         ensures { OnOk result (self.new ≡ put argument self.old) }
     {
@@ -144,7 +144,7 @@ impl Arguments {
     }
 
     /// The index after the greatest, where a byte holds it; 0 where there is none.
-    pub(crate) fn index_after(&self) -> Option<u8>
+    pub fn index_after(&self) -> Option<u8>
         ensures { SomeIff result (index_after self.now < 256) (index_after self.now) }
     {
         match self.items.as_slice() {
@@ -154,7 +154,7 @@ impl Arguments {
     }
 
     /// Copies the texts.
-    pub(crate) fn try_clone(&self, alloc: Global) -> Result<Arguments, AllocError>
+    pub fn try_clone(&self, alloc: Global) -> Result<Arguments, AllocError>
         ensures { IfOk result (λ a. a ≡ self.now) }
     {
         let items = copies_of(alloc, self.items.as_slice())?;
@@ -163,7 +163,7 @@ impl Arguments {
 }
 
 impl PartialEq for Arguments {
-    ghost use Rattle.rule_match.specs.SameArgument.{same_argument, same_argument_equiv};
+    ghost use Rattle.rule_arguments.specs.SameArgument.{same_argument, same_argument_equiv};
     ghost use Rattle.std.specs.Cmp.{on_per, partial_equiv_from_equiv};
     ghost use Rattle.std.specs.Cmp.Lexicographic.{pointwise, lists_equiv};
 
@@ -177,7 +177,7 @@ impl PartialEq for Arguments {
 }
 
 impl Eq for Arguments {
-    ghost use Rattle.rule_match.specs.SameArgument.{same_argument_equiv};
+    ghost use Rattle.rule_arguments.specs.SameArgument.{same_argument_equiv};
     ghost use Rattle.std.specs.Cmp.{on_equiv};
     ghost use Rattle.std.specs.Cmp.Lexicographic.{lists_equiv};
 
@@ -187,7 +187,7 @@ impl Eq for Arguments {
 impl Hash for Arguments {
     ghost use Rattle.std.specs.Hash as fed;
     ghost use Rattle.std.specs.Hash.{items_Alike};
-    ghost use Rattle.rule_match.specs.SameArgument.{argument_fed, argument_alike};
+    ghost use Rattle.rule_arguments.specs.SameArgument.{argument_fed, argument_alike};
 
     ghost hash_input = { fed.slice argument_fed };
 

@@ -2,7 +2,7 @@
 use Rattle.std.specs.Prelude.{ℕ, ◌+◌, zero, suc, Bool, true, ◌&&◌, ◌==◌, not, nat_lt, List, [], ◌∷◌, ◌++◌, Option, Some, None}
 use Rattle.std.specs.List.{list_all, filter}
 use Rattle.wire_names.specs.Names.{is_object_path}
-use Rattle.rule_match.specs.declared.arguments.Argument.{Argument}
+use Rattle.rule_arguments.specs.declared.arguments.Argument.{Argument}
 
 -- each index is smaller than those behind it
 abbrev pub is_ascending : List Argument → Bool

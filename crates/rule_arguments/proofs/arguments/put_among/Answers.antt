@@ -1,7 +1,7 @@
 use Rattle.std.proofs.Common.{◌≡◌, ◌∙◌, nat_le}
 use Rattle.std.specs.List.{position_or_len}
-use Rattle.rule_match.proofs.Placing.{put_same, put_new}
-use Rattle.rule_match.proofs.arguments.put_among.Goals as goal
+use Rattle.rule_arguments.proofs.Placing.{put_same, put_new}
+use Rattle.rule_arguments.proofs.arguments.put_among.Goals as goal
 
 pub returns-then-has_index : goal.returns-then-has_index
 returns-then-has_index c =
