@@ -7,3 +7,4 @@ pub mod Part
 pub mod Text
 pub mod Printing
 pub mod Again
+pub mod Matching

@@ -13,6 +13,7 @@ mod component;
 mod display;
 mod key;
 mod laws;
+mod matching;
 mod owned;
 mod part;
 mod place;
