@@ -1,20 +1,19 @@
 -- What is left at the front of a body is what a rule wants of the whole.
-use Rattle.std.proofs.Common.{◌≡◌, refl, sym, ◌∙◌, ap, subst, ℕ, zero, suc, ◌+◌, ◌-◌, ◌≤◌, Bool, false, true, ◌&&◌, ◌||◌, nat_lt, List, [], ◌∷◌, ◌++◌, length, Option, Some, None, is_none, slice_get, IfSome, IsTrue, ◌↔◌, arith, append_assoc}
+use Rattle.std.proofs.Common.{◌≡◌, refl, sym, ◌∙◌, ap, subst, ℕ, zero, suc, ◌+◌, ◌-◌, ◌≤◌, Bool, false, true, ◌&&◌, nat_lt, List, [], ◌∷◌, ◌++◌, length, Option, Some, None, is_none, slice_get, IfSome, arith, append_assoc}
 use Rattle.std.specs.List.{list_all, AllByRecursion}
 use Rattle.std.proofs.lemmas.Bool.Decides.{nat_tests}
 use Rattle.wire_number.specs.declared.endian.Endian.{Endian}
 use Rattle.wire_names.specs.Names.{IsBusName}
 use Rattle.wire_signature.specs.Shape.{Shape, shapes_of, types_text, array_depths, struct_depths, AllHaveFields, IsType, SignatureText}
 use Rattle.wire_signature.proofs.Exact.{SignatureText-one}
-use Rattle.wire_tree.specs.Datum.{Datum, Txt, string, object_path, signature, num, text, array, dict, struct, variant}
-use Rattle.wire_spelling.specs.Spelling.{Spells}
+use Rattle.wire_tree.specs.Datum.{Datum, string, object_path, signature, num, text, array, dict, struct, variant}
 use Rattle.wire_spelling.proofs.Steps.{at, some_is}
 use Rattle.wire_spelling.proofs.Exact.{spells_type, same_front}
 use Rattle.rule_arguments.specs.declared.arguments.Argument.{Argument}
 use Rattle.rule_arguments.specs.Below.{IsAtOrBelow}
 use Rattle.rule_arguments.specs.Body.{SpellEach, AreArguments, HasArgument}
 use Rattle.rule_arguments.specs.Wanted.{Wanted, HasString, HasPath, HasNameIn, ArgumentsMatch}
-use Rattle.rule_arguments.specs.Passing.{same, is_at_or_below, is_string, is_path, names_in, is_name_in, has_at, has_from, namespace_from, pass_from, is_nothing, Left}
+use Rattle.rule_arguments.specs.Passing.{is_string, is_path, is_name_in, has_at, has_from, namespace_from, pass_from, is_nothing, Left}
 use Rattle.rule_arguments.proofs.Both.{first_true, second_true, both_true}
 use Rattle.rule_arguments.proofs.Texts.{same_is, is_same, below_from_test, test_from_below}
 use Rattle.rule_arguments.proofs.Steps.{same_rest}
@@ -110,18 +109,21 @@ module _ (order : Endian) (named body : List ℕ) (w : Wanted) where
   whole l valid =
       let k : AreShallow l.shapes = each_shallow order 0 l.shapes l.values l.front l.spelled in
       let long : length named ≡ length (types_text (shapes_of l.shapes)) = ap length l.named in
-      let short : length named ≡ length (types_text (shapes_of valid.0)) = ap length valid.1.text in
-      (l.values, record {
-        types = l.shapes;
-        front = l.front;
-        rest = l.rest;
-        named = record {
-          valid = record { arrays = k.arrays; structs = k.structs; fields = k.fields; within = omega (arith, long, short, valid.1.valid.within) };
-          text = l.named;
-        };
-        text = l.text;
-        values = l.spelled;
-      }, l.pass)
+      let short : length named ≡ length (types_text (shapes_of valid.0)) = ap length valid.1.text in (
+        l.values,
+        record {
+          types = l.shapes;
+          front = l.front;
+          rest = l.rest;
+          named = record {
+            valid = record { arrays = k.arrays; structs = k.structs; fields = k.fields; within = omega (arith, long, short, valid.1.valid.within) };
+            text = l.named;
+          };
+          text = l.text;
+          values = l.spelled;
+        },
+        l.pass,
+      )
 
   strings : (ds : List Datum) → AreArguments order named body ds → (args : List Argument)
       → list_all (λ (a : Argument). has_from (is_string a.text) a.index 0 ds) args ≡ true → AllByRecursion (HasString order named body) args
@@ -203,17 +205,19 @@ module _ (order : Endian) (named body : List ℕ) (w : Wanted) where
   left_matched some m =
       let x = some_arguments w.args w.arg_paths w.arg0ns some m.args m.arg_paths m.arg0ns in
       let ds = x.0 in
-      let are = x.1 in
-      ((are.types, are.named), record {
-        shapes = are.types;
-        values = ds;
-        front = are.front;
-        rest = are.rest;
-        named = are.named.text;
-        text = are.text;
-        spelled = are.values;
-        pass = both_true _ _ (strings_again ds are w.args m.args) (both_true _ _ (paths_again ds are w.arg_paths m.arg_paths) (namespace_again ds are w.arg0ns m.arg0ns));
-      })
+      let are = x.1 in (
+        (are.types, are.named),
+        record {
+          shapes = are.types;
+          values = ds;
+          front = are.front;
+          rest = are.rest;
+          named = are.named.text;
+          text = are.text;
+          spelled = are.values;
+          pass = both_true _ _ (strings_again ds are w.args m.args) (both_true _ _ (paths_again ds are w.arg_paths m.arg_paths) (namespace_again ds are w.arg0ns m.arg0ns));
+        },
+      )
 
   nothing_at : (args paths : List Argument) (n : Option (List ℕ)) → (is_none (slice_get args 0) && (is_none (slice_get paths 0) && is_none n)) ≡ true
       → AllByRecursion (HasString order named body) args × AllByRecursion (HasPath order named body) paths × IfSome n (HasNameIn order named body)

@@ -1,16 +1,15 @@
 -- From what is left of the arguments to what is left behind the next.
-use Rattle.std.proofs.Common.{◌≡◌, refl, sym, ◌∙◌, ap, subst, ℕ, suc, ◌+◌, ◌<◌, false, true, ◌&&◌, List, [], ◌∷◌, ◌++◌, length, Some, arith, append_assoc, length-append, drop}
+use Rattle.std.proofs.Common.{◌≡◌, refl, sym, ◌∙◌, ap, subst, ℕ, suc, ◌+◌, ◌<◌, false, true, List, [], ◌∷◌, ◌++◌, length, arith, append_assoc, length-append, drop}
 use Rattle.std.proofs.Math.Seq.{drop-append_seam}
 use Rattle.wire_number.specs.declared.endian.Endian.{Endian}
 use Rattle.wire_signature.specs.Shape.{Shape, basic, variant, array, dict, struct, shapes_of, type_text, types_text, IsType}
-use Rattle.wire_signature.specs.declared.basic.BasicType.TheVariants as basics
 use Rattle.wire_signature.specs.Parsing.{first_at}
 use Rattle.wire_signature.proofs.Takes.{Takes}
 use Rattle.wire_signature.proofs.Exact.{first_again}
 use Rattle.wire_tree.specs.Datum.{Datum}
 use Rattle.wire_spelling.specs.Spelling.{Spells}
 use Rattle.wire_spelling.specs.Reading.{Cursor}
-use Rattle.wire_spelling.proofs.Steps.{at, some_is}
+use Rattle.wire_spelling.proofs.Steps.{some_is}
 use Rattle.wire_spelling.proofs.Exact.{spells_type, same_front}
 use Rattle.rule_arguments.specs.Body.{SpellEach}
 use Rattle.rule_arguments.specs.Wanted.{Wanted}

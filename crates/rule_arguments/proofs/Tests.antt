@@ -1,11 +1,11 @@
 -- Tests of the arguments from an index on, by the first of them and those behind it.
-use Rattle.std.proofs.Common.{◌≡◌, ◌≢◌, refl, sym, ◌∙◌, ap, ℕ, zero, suc, ◌-◌, ◌+◌, ◌<◌, ◌≤◌, Bool, true, false, not, ◌&&◌, ◌||◌, ◌==◌, nat_lt, List, [], ◌∷◌, Option, Some, None, arith}
+use Rattle.std.proofs.Common.{◌≡◌, refl, ◌∙◌, ap, ℕ, zero, suc, ◌-◌, ◌+◌, ◌<◌, Bool, true, false, ◌&&◌, ◌||◌, ◌==◌, nat_lt, List, [], ◌∷◌, Option, Some, None, arith}
 use Rattle.std.specs.List.{list_all}
 use Rattle.std.proofs.lemmas.Bool.Decides.{nat_tests}
 use Rattle.wire_tree.specs.Datum.{Datum}
 use Rattle.rule_arguments.specs.declared.arguments.Argument.{Argument}
 use Rattle.rule_arguments.specs.Wanted.{Wanted}
-use Rattle.rule_arguments.specs.Passing.{if_at, has_at, has_from, is_string, is_path, is_name_in, namespace_at, namespace_from, namespace_below, passes, pass_from, all_below}
+use Rattle.rule_arguments.specs.Passing.{if_at, has_from, is_string, is_path, is_name_in, namespace_at, namespace_from, namespace_below, passes, pass_from, all_below}
 
 -- ---- one test
 
@@ -65,7 +65,7 @@ namespace_step None i d ds = refl
 namespace_step (Some n) i d ds = from_step (is_name_in n) 0 i d ds
 
 three : (a b c x y z : Bool) → ((a && x) && ((b && y) && (c && z))) ≡ ((a && (b && c)) && (x && (y && z)))
-three true true c x y z = 
+three true true c x y z =
     elim c as (λ c. (x && (y && (c && z))) ≡ (c && (x && (y && z)))) [
       | true ↦ refl
       | false ↦ elim x as (λ x. (x && (y && false)) ≡ false) [ true ↦ elim y as (λ y. (y && false) ≡ false) [ true ↦ refl | false ↦ refl ] | false ↦ refl ]
@@ -78,18 +78,18 @@ pub pass_step : (i : ℕ) (w : Wanted) (d : Datum) (ds : List Datum) → pass_fr
 unfolding passes pass_from
 pass_step i w d ds =
     let args = all_step (λ (a : Argument). has_from (is_string a.text) a.index i (d ∷ ds)) (λ (a : Argument). if_at a.index i (is_string a.text d))
-        (λ (a : Argument). has_from (is_string a.text) a.index (suc i) ds) (λ a. from_step (is_string a.text) a.index i d ds) w.args in
+    (λ (a : Argument). has_from (is_string a.text) a.index (suc i) ds) (λ a. from_step (is_string a.text) a.index i d ds) w.args in
     let paths = all_step (λ (a : Argument). has_from (is_path a.text) a.index i (d ∷ ds)) (λ (a : Argument). if_at a.index i (is_path a.text d))
-        (λ (a : Argument). has_from (is_path a.text) a.index (suc i) ds) (λ a. from_step (is_path a.text) a.index i d ds) w.arg_paths in
+    (λ (a : Argument). has_from (is_path a.text) a.index (suc i) ds) (λ a. from_step (is_path a.text) a.index i d ds) w.arg_paths in
     ap (λ v. v && (list_all (λ (a : Argument). has_from (is_path a.text) a.index i (d ∷ ds)) w.arg_paths && namespace_from w.arg0ns i (d ∷ ds))) args
     ∙ ap (λ v. (list_all (λ (a : Argument). if_at a.index i (is_string a.text d)) w.args && list_all (λ (a : Argument). has_from (is_string a.text) a.index (suc i) ds) w.args)
-          && (v && namespace_from w.arg0ns i (d ∷ ds))) paths
+    && (v && namespace_from w.arg0ns i (d ∷ ds))) paths
     ∙ ap (λ v. (list_all (λ (a : Argument). if_at a.index i (is_string a.text d)) w.args && list_all (λ (a : Argument). has_from (is_string a.text) a.index (suc i) ds) w.args)
-          && ((list_all (λ (a : Argument). if_at a.index i (is_path a.text d)) w.arg_paths && list_all (λ (a : Argument). has_from (is_path a.text) a.index (suc i) ds) w.arg_paths) && v))
-      (namespace_step w.arg0ns i d ds)
+    && ((list_all (λ (a : Argument). if_at a.index i (is_path a.text d)) w.arg_paths && list_all (λ (a : Argument). has_from (is_path a.text) a.index (suc i) ds) w.arg_paths) && v))
+    (namespace_step w.arg0ns i d ds)
     ∙ three (list_all (λ (a : Argument). if_at a.index i (is_string a.text d)) w.args) (list_all (λ (a : Argument). if_at a.index i (is_path a.text d)) w.arg_paths)
-      (namespace_at w.arg0ns i d) (list_all (λ (a : Argument). has_from (is_string a.text) a.index (suc i) ds) w.args)
-      (list_all (λ (a : Argument). has_from (is_path a.text) a.index (suc i) ds) w.arg_paths) (namespace_from w.arg0ns (suc i) ds)
+    (namespace_at w.arg0ns i d) (list_all (λ (a : Argument). has_from (is_string a.text) a.index (suc i) ds) w.args)
+    (list_all (λ (a : Argument). has_from (is_path a.text) a.index (suc i) ds) w.arg_paths) (namespace_from w.arg0ns (suc i) ds)
 
 -- no argument is left
 namespace_end : (n : Option (List ℕ)) (i : ℕ) → namespace_from n i [] ≡ namespace_below n i

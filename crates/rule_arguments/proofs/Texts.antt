@@ -1,5 +1,5 @@
 -- Texts compared by elements.
-use Rattle.std.proofs.Common.{◌≡◌, refl, sym, ◌∙◌, ap, ℕ, Bool, true, false, ◌&&◌, ◌==◌, nat_eq, inl, inr, List, [], ◌∷◌, ◌++◌, take, drop, length, IsTrue, ◌↔◌, append-nil, arith}
+use Rattle.std.proofs.Common.{◌≡◌, refl, sym, ◌∙◌, ap, ℕ, Bool, true, ◌==◌, inl, inr, List, [], ◌∷◌, ◌++◌, take, drop, length, IsTrue, ◌↔◌, append-nil, arith}
 use Rattle.std.proofs.lemmas.List.{take-append-drop}
 use Rattle.std.proofs.Math.Seq.{drop-append_seam, take-append_seam}
 use Rattle.std.proofs.lemmas.Bool.{eqb-true}

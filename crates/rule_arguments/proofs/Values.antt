@@ -1,5 +1,5 @@
 -- A value that stands at a cursor, and whether it passes.
-use Rattle.std.proofs.Common.{◌≡◌, ◌≢◌, refl, sym, ◌∙◌, ap, subst, ℕ, zero, suc, ◌+◌, ◌-◌, ◌≤◌, false, true, List, [], ◌∷◌, ◌++◌, length, take, drop, Option, Some, None, arith, slice_index}
+use Rattle.std.proofs.Common.{◌≡◌, ◌≢◌, refl, sym, ◌∙◌, ap, ℕ, zero, suc, ◌+◌, ◌≤◌, false, true, List, [], ◌++◌, length, take, drop, Option, Some, None, arith, slice_index}
 use Rattle.std.proofs.lemmas.List.{take-append-drop, drop_at, length-take-le}
 use Rattle.wire_number.specs.declared.endian.Endian.{Endian}
 use Rattle.wire_signature.specs.declared.basic.BasicType.{BasicType}
@@ -8,7 +8,7 @@ use Rattle.wire_signature.specs.Shape.{Shape, basic, type_text, IsType, BeginsWi
 use Rattle.wire_signature.proofs.Exact.{begins_again}
 use Rattle.wire_tree.specs.Datum.{Datum, Txt, string, object_path, signature, num, text, array, dict, struct, variant, text_type, type_of}
 use Rattle.wire_spelling.specs.Spelling.{Spells, spelling}
-use Rattle.wire_spelling.specs.Reading.{Cursor, Parse, made, text_at, text_value_at, basic_at, value_at}
+use Rattle.wire_spelling.specs.Reading.{Cursor, made, text_at, text_value_at, basic_at, value_at}
 use Rattle.wire_spelling.specs.Promises.{StandsFirst, SpellNothing}
 use Rattle.wire_spelling.proofs.Steps.{at, AreBytes, some_is}
 use Rattle.wire_spelling.proofs.FoundValues.{IsValue, value_takes}
@@ -168,5 +168,5 @@ other_passes order types c i w n count b no_string no_path within pass found =
       place = ap (λ m. c.place + m) (sym long);
       spelled = s;
       pass = other_same d (λ e. first_byte basics.String t types k.0 115 k.1 refl no_string (sym s.kind ∙ e))
-             (λ e. first_byte basics.ObjectPath t types k.0 111 k.1 refl no_path (sym s.kind ∙ e)) i w ∙ pass;
+          (λ e. first_byte basics.ObjectPath t types k.0 111 k.1 refl no_path (sym s.kind ∙ e)) i w ∙ pass;
     }

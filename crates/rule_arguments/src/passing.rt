@@ -28,12 +28,7 @@ fn tell_bytes(bytes: &[u8])
 
 impl<'w> WantedArguments<'w> {
     /// Past a string, where it passes.
-    fn past_string<'a>(
-        &self,
-        order: Endian,
-        index: usize,
-        reader: Reader<'a>,
-    ) -> Option<Reader<'a>>
+    fn past_string<'a>(&self, order: Endian, index: usize, reader: Reader<'a>) -> Option<Reader<'a>>
         ensures found { IfSome result (λ after. PassedValue order (basic basics.String) (cursor_of reader.entry) index self.now (cursor_of after)) }
         ensures none { IfNone result (NoValuePasses order (basic basics.String) (cursor_of reader.entry) index self.now) }
     {
@@ -47,12 +42,7 @@ impl<'w> WantedArguments<'w> {
     }
 
     /// Past an object path, where it passes.
-    fn past_path<'a>(
-        &self,
-        order: Endian,
-        index: usize,
-        reader: Reader<'a>,
-    ) -> Option<Reader<'a>>
+    fn past_path<'a>(&self, order: Endian, index: usize, reader: Reader<'a>) -> Option<Reader<'a>>
         ensures found { IfSome result (λ after. PassedValue order (basic basics.ObjectPath) (cursor_of reader.entry) index self.now (cursor_of after)) }
         ensures none { IfNone result (NoValuePasses order (basic basics.ObjectPath) (cursor_of reader.entry) index self.now) }
     {

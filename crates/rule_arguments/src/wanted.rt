@@ -31,9 +31,8 @@ impl<'a> Model for WantedArguments<'a> {
 fn are_all(arguments: &[Argument], index: usize, text: &str) -> bool
     ensures { result ≡ list_all (λ (a : Argument). if_at a.index index (same text.now a.text)) arguments.now }
 {
-    arguments
-        .iter()
-        .all(|argument| usize::from(argument.index) != index || text == argument.text.as_str())
+    arguments.iter().all(|argument| usize::from(argument.index) != index
+        || text == argument.text.as_str())
 }
 
 /// Whether no argument is wanted at that index.

@@ -7,3 +7,4 @@ pub mod Clear
 pub mod Reread
 pub mod Same
 pub mod Again
+pub mod Own

@@ -1,9 +1,9 @@
 //! Building a rule, part by part.
-use rule_arguments::{Argument, Arguments};
 use crate::component::{is_namespace, is_plain};
 use crate::part::Part;
 use crate::place::PathSpec;
 use crate::rule::MatchRule;
+use rule_arguments::{Argument, Arguments};
 use std::alloc::{AllocError, Global};
 use std::marker::Model;
 use wire_message::{Error, MessageType};
@@ -53,6 +53,13 @@ impl Builder {
                 arg0ns: None,
             },
         }
+    }
+
+    /// A builder that goes on from a rule.
+    pub(crate) fn of(rule: MatchRule) -> Builder
+        ensures { result ≡ rule }
+    {
+        Builder { rule }
     }
 
     /// The rule as built.

@@ -9,10 +9,10 @@ ghost use Rattle.rule_match.specs.Part.{kind_of, part_of};
 ghost use Rattle.rule_match.specs.Text.{components, between_quotes, component, said, made, rule_in};
 ghost use Rattle.rule_match.specs.Building.{IsPart, IsKey, Gives};
 
-use rule_arguments::Argument;
 use crate::key::{Key, key_of, same};
 use crate::part::Part;
 use crate::rule::MatchRule;
+use rule_arguments::Argument;
 use std::alloc::{AllocError, Global};
 use wire_message::{Error, MessageType};
 use wire_names::{BusName, InterfaceName, MemberName, ObjectPath, Text, UniqueName};

@@ -2,7 +2,9 @@
 #![tactic(auto)]
 
 pub use crate::building::Builder;
-pub use crate::laws::{rules_are_read_again, rules_hold_their_grammar};
+pub use crate::laws::{
+    a_message_matches_its_header, rules_are_read_again, rules_hold_their_grammar,
+};
 pub use crate::owned::OwnedMatchRule;
 pub use crate::place::PathSpec;
 pub use crate::rule::MatchRule;
@@ -11,8 +13,11 @@ pub use rule_arguments::Argument;
 mod building;
 mod component;
 mod display;
+mod header;
 mod key;
 mod laws;
+#[cfg(test)]
+mod match_tests;
 mod matching;
 mod owned;
 mod part;

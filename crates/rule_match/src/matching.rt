@@ -9,7 +9,9 @@ use crate::place::PathSpec;
 use crate::rule::MatchRule;
 use rule_arguments::{WantedArguments, is_at_or_below};
 use wire_message::{Header, Message, MessageType};
-use wire_names::{BusName, OwnedBusName, OwnedInterfaceName, OwnedMemberName, OwnedUniqueName, Text};
+use wire_names::{
+    BusName, OwnedBusName, OwnedInterfaceName, OwnedMemberName, OwnedUniqueName, Text,
+};
 use wire_number::{Endian, padding_for_8_bytes, read_u32};
 
 /// The bytes before the header fields.
@@ -94,7 +96,7 @@ fn is_destination(wanted: &Option<OwnedUniqueName>, header: &Header<'_>) -> bool
     };
     match header.destination() {
         Some(BusName::Unique(name)) => same_text(name.as_str(), wanted.as_str()),
-        Some(BusName::WellKnown(_)) | None => true,
+        _ => true,
     }
 }
 

@@ -11,12 +11,16 @@ returns-then-is_empty c =
 
 pub returns-then-is_signature : goal.returns-then-is_signature
 returns-then-is_signature c =
-    let some : is_nothing c.args.self.now ≡ false = sym c.is_empty.ensures ∙ c.if-is_empty.false in
-    (λ h. matched c.args.order c.args.signature.now c.args.body.now c.args.self.now (c.pass_all.ensures.0 h) (c.is_signature.ensures.valid.0 c.if-is_signature.true), λ m.
-    c.pass_all.ensures.1 (left_matched c.args.order c.args.signature.now c.args.body.now c.args.self.now some m).1)
+    let some : is_nothing c.args.self.now ≡ false = sym c.is_empty.ensures ∙ c.if-is_empty.false in (
+      λ h. matched c.args.order c.args.signature.now c.args.body.now c.args.self.now (c.pass_all.ensures.0 h) (c.is_signature.ensures.valid.0 c.if-is_signature.true),
+      λ m.
+          c.pass_all.ensures.1 (left_matched c.args.order c.args.signature.now c.args.body.now c.args.self.now some m).1,
+    )
 
 pub returns-else-is_signature : goal.returns-else-is_signature
 returns-else-is_signature c =
-    let some : is_nothing c.args.self.now ≡ false = sym c.is_empty.ensures ∙ c.if-is_empty.false in
-    (λ h. absurd (false≢true (sym c.if-is_signature.false ∙ h)), λ m.
-    c.is_signature.ensures.valid.1 (left_matched c.args.order c.args.signature.now c.args.body.now c.args.self.now some m).0)
+    let some : is_nothing c.args.self.now ≡ false = sym c.is_empty.ensures ∙ c.if-is_empty.false in (
+      λ h. absurd (false≢true (sym c.if-is_signature.false ∙ h)),
+      λ m.
+          c.is_signature.ensures.valid.1 (left_matched c.args.order c.args.signature.now c.args.body.now c.args.self.now some m).0,
+    )

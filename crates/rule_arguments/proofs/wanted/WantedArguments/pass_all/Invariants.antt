@@ -1,4 +1,4 @@
-use Rattle.std.proofs.Common.{◌≡◌, ◌+◌, ◌≤◌, length}
+use Rattle.std.proofs.Common.{◌+◌, ◌≤◌, length}
 use Rattle.wire_spelling.specs.ReaderView.{cursor_of}
 use Rattle.wire_spelling.proofs.Steps.{at}
 use Rattle.rule_arguments.specs.Passing.{Left}
