@@ -1,8 +1,4 @@
-pub mod Both
-pub mod Placing
 pub mod Kept
-pub mod Positions
-pub mod After
 pub mod Printed
 pub mod Made
 pub mod Read
@@ -11,3 +7,4 @@ pub mod Clear
 pub mod Reread
 pub mod Same
 pub mod Again
+pub mod Own

@@ -1,11 +1,10 @@
 pub mod Rule
 pub mod RuleView
 pub mod Building
-pub mod Arguments
-pub mod SameArgument
 pub mod Namespace
 pub mod Key
 pub mod Part
 pub mod Text
 pub mod Printing
 pub mod Again
+pub mod Matching

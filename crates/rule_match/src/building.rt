@@ -1,9 +1,9 @@
 //! Building a rule, part by part.
-use crate::arguments::{Argument, Arguments};
 use crate::component::{is_namespace, is_plain};
 use crate::part::Part;
 use crate::place::PathSpec;
 use crate::rule::MatchRule;
+use rule_arguments::{Argument, Arguments};
 use std::alloc::{AllocError, Global};
 use std::marker::Model;
 use wire_message::{Error, MessageType};
@@ -31,7 +31,7 @@ impl Model for Builder {
 impl Builder {
     ghost use Rattle.std.specs.Prelude.{◌≡◌, ◌⊎◌, ◌<◌, ◌&&◌, nat_lt, Some, Ok, Err, IfOk, IsTrue, if◌then◌else◌};
     ghost use Rattle.rule_match.specs.declared.place.PathSpec.TheVariants.{Path, PathNamespace};
-    ghost use Rattle.rule_match.specs.Arguments.{put, index_after, is_argument, is_path_argument, is_plain};
+    ghost use Rattle.rule_arguments.specs.Arguments.{put, index_after, is_argument, is_path_argument, is_plain};
     ghost use Rattle.rule_match.specs.Namespace.{is_namespace};
     ghost use Rattle.rule_match.specs.Part.{argument};
     ghost use Rattle.rule_match.specs.Rule.{no_parts};
@@ -53,6 +53,13 @@ impl Builder {
                 arg0ns: None,
             },
         }
+    }
+
+    /// A builder that goes on from a rule.
+    pub(crate) fn of(rule: MatchRule) -> Builder
+        ensures { result ≡ rule }
+    {
+        Builder { rule }
     }
 
     /// The rule as built.

@@ -2,17 +2,17 @@
 ghost use Rattle.std.specs.Prelude.{◌≡◌, ◌<◌, map, true, IfOk, option_map};
 ghost use Rattle.std.specs.List.{list_all};
 ghost use Rattle.wire_names.specs.Names.{elements, is_element, is_element_byte, begins_with_digit};
-ghost use Rattle.rule_match.specs.Arguments.{is_plain};
+ghost use Rattle.rule_arguments.specs.Arguments.{is_plain};
 ghost use Rattle.rule_match.specs.Namespace.{has_namespace_elements, is_namespace};
 ghost use Rattle.rule_match.specs.Key.{same};
 ghost use Rattle.rule_match.specs.Part.{kind_of, part_of};
 ghost use Rattle.rule_match.specs.Text.{components, between_quotes, component, said, made, rule_in};
 ghost use Rattle.rule_match.specs.Building.{IsPart, IsKey, Gives};
 
-use crate::arguments::Argument;
 use crate::key::{Key, key_of, same};
 use crate::part::Part;
 use crate::rule::MatchRule;
+use rule_arguments::Argument;
 use std::alloc::{AllocError, Global};
 use wire_message::{Error, MessageType};
 use wire_names::{BusName, InterfaceName, MemberName, ObjectPath, Text, UniqueName};

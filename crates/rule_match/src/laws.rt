@@ -1,7 +1,9 @@
 //! Laws of rules.
 ghost use Rattle.std.specs.Prelude.{◌≡◌, Ok, IfSome};
+ghost use Rattle.wire_message.specs.Front.{Seen};
 ghost use Rattle.wire_names.specs.Names.{IsUniqueName, IsInterfaceName, IsMemberName, IsObjectPath};
 ghost use Rattle.rule_match.specs.Again.{IsReadable};
+ghost use Rattle.rule_match.specs.Matching.{Matches, header_rule};
 ghost use Rattle.rule_match.specs.Rule.{Rule, IsRule, HasNames, IsSender, place_text};
 ghost use Rattle.rule_match.specs.Text.{rule_in, rule_text};
 
@@ -83,3 +85,8 @@ pub fn rules_hold_their_grammar(rule: &MatchRule)
     place_holds(&rule.path);
     destination_holds(&rule.destination);
 }
+
+/// A message matches the rule of its own header.
+pub fn a_message_matches_its_header()
+    ensures { (m : Seen) → Matches (header_rule m) m }
+{}

@@ -1,19 +1,24 @@
 //! Match rules: which messages a peer wants to see (D-Bus Specification, "Message Bus Message Routing", "Match Rules").
 #![tactic(auto)]
 
-pub use crate::arguments::Argument;
 pub use crate::building::Builder;
-pub use crate::laws::{rules_are_read_again, rules_hold_their_grammar};
+pub use crate::laws::{
+    a_message_matches_its_header, rules_are_read_again, rules_hold_their_grammar,
+};
 pub use crate::owned::OwnedMatchRule;
 pub use crate::place::PathSpec;
 pub use crate::rule::MatchRule;
+pub use rule_arguments::Argument;
 
-mod arguments;
 mod building;
 mod component;
 mod display;
+mod header;
 mod key;
 mod laws;
+#[cfg(test)]
+mod match_tests;
+mod matching;
 mod owned;
 mod part;
 mod place;

@@ -1,5 +1,5 @@
 //! What one component of a rule's text says.
-use crate::arguments::Argument;
+use rule_arguments::Argument;
 use wire_message::MessageType;
 use wire_names::{
     OwnedBusName, OwnedInterfaceName, OwnedMemberName, OwnedObjectPath, OwnedUniqueName, Text,

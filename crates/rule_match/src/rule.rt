@@ -1,10 +1,10 @@
 //! The rule itself.
 ghost use Rattle.std.specs.Prelude.{◌≡◌, IfOk, codes};
 
-use crate::arguments::{Argument, Arguments};
 use crate::building::Builder;
 use crate::component::rule_in;
 use crate::place::PathSpec;
+use rule_arguments::{Argument, Arguments};
 use std::alloc::{AllocError, Global};
 use std::marker::Model;
 use wire_message::{Error, MessageType};

@@ -1,0 +1,30 @@
+-- The arguments of a message: the values that a front of its body spells by its signature (D-Bus Specification, "Message
+-- Format"). Where no front does, there are none.
+use Rattle.std.specs.Prelude.{◌≡◌, ℕ, ◌+◌, List, [], ◌∷◌, ◌++◌, length, Some, slice_get}
+use Rattle.wire_number.specs.declared.endian.Endian.{Endian}
+use Rattle.wire_signature.specs.Shape.{Shape, SignatureText}
+use Rattle.wire_tree.specs.Datum.{Datum}
+use Rattle.wire_spelling.specs.Spelling.{Spells}
+
+-- Bytes that begin at a place spell values, one of each type, one behind the other.
+abbrev pub SpellEach : Endian → ℕ → List Shape → List Datum → List ℕ → Type 0
+SpellEach order place [] [] bytes = bytes ≡ []
+SpellEach order place [] (d ∷ ds) bytes = ⊥
+SpellEach order place (t ∷ ts) [] bytes = ⊥
+SpellEach order place (t ∷ ts) (d ∷ ds) bytes =
+    (first : List ℕ) × (others : List ℕ) × (bytes ≡ first ++ others) × Spells order place t d first × SpellEach order (place + length first) ts ds others
+
+-- A body, whose types a signature names, has these arguments.
+pub record AreArguments (order : Endian) (signature body : List ℕ) (ds : List Datum) : Type 0 where
+  pub types : List Shape
+  pub front : List ℕ
+  pub rest : List ℕ
+  pub named : SignatureText types signature
+  pub text : body ≡ front ++ rest
+  pub values : SpellEach order 0 types ds front
+
+-- It has this argument at an index, from 0 on.
+pub record HasArgument (order : Endian) (signature body : List ℕ) (index : ℕ) (d : Datum) : Type 0 where
+  pub arguments : List Datum
+  pub are : AreArguments order signature body arguments
+  pub there : slice_get arguments index ≡ Some d

@@ -1,0 +1,83 @@
+//! The rule of a header.
+ghost use Rattle.std.specs.Prelude.{◌≡◌, IfOk, option_map};
+ghost use Rattle.wire_names.specs.declared.bus.OwnedBusName.TheVariants.{Unique};
+ghost use Rattle.rule_match.specs.declared.place.PathSpec.TheVariants as places;
+ghost use Rattle.rule_match.specs.Matching.{header_rule, unique_only};
+
+use crate::building::Builder;
+use crate::place::PathSpec;
+use crate::rule::MatchRule;
+use rule_arguments::Arguments;
+use std::alloc::{AllocError, Global};
+use wire_message::Header;
+use wire_names::{BusName, OwnedBusName, OwnedInterfaceName, OwnedMemberName, OwnedUniqueName};
+
+fn sender_of(alloc: Global, header: &Header<'_>) -> Result<Option<OwnedBusName>, AllocError>
+    ensures { IfOk result (λ name. name ≡ option_map Unique header.now.sender) }
+{
+    match header.sender() {
+        Some(name) => Ok(Some(OwnedBusName::Unique(name.to_owned(alloc)?))),
+        None => Ok(None),
+    }
+}
+
+fn interface_of(
+    alloc: Global,
+    header: &Header<'_>,
+) -> Result<Option<OwnedInterfaceName>, AllocError>
+    ensures { IfOk result (λ name. name ≡ header.now.interface) }
+{
+    match header.interface() {
+        Some(name) => Ok(Some(name.to_owned(alloc)?)),
+        None => Ok(None),
+    }
+}
+
+fn member_of(alloc: Global, header: &Header<'_>) -> Result<Option<OwnedMemberName>, AllocError>
+    ensures { IfOk result (λ name. name ≡ header.now.member) }
+{
+    match header.member() {
+        Some(name) => Ok(Some(name.to_owned(alloc)?)),
+        None => Ok(None),
+    }
+}
+
+fn place_of(alloc: Global, header: &Header<'_>) -> Result<Option<PathSpec>, AllocError>
+    ensures { IfOk result (λ place. place ≡ option_map places.Path header.now.path) }
+{
+    match header.path() {
+        Some(path) => Ok(Some(PathSpec::Path(path.to_owned(alloc)?))),
+        None => Ok(None),
+    }
+}
+
+fn destination_of(alloc: Global, header: &Header<'_>) -> Result<Option<OwnedUniqueName>, AllocError>
+    ensures { IfOk result (λ name. name ≡ unique_only header.now.destination) }
+{
+    match header.destination() {
+        Some(BusName::Unique(name)) => Ok(Some(name.to_owned(alloc)?)),
+        Some(BusName::WellKnown(_)) | None => Ok(None),
+    }
+}
+
+impl Builder {
+    /// A builder for the rule of a header: its type, sender, interface, member and path, and its destination where that is a
+    /// unique name.
+    #[tactic(auto, unfolding(crate::specs::Matching::header_rule))]
+    pub fn from(alloc: Global, header: &Header<'_>) -> Result<Builder, AllocError>
+        ensures { IfOk result (λ b. b ≡ header_rule header.now) }
+    {
+        let rule = MatchRule {
+            kind: Some(header.message_type()),
+            sender: sender_of(alloc, header)?,
+            interface: interface_of(alloc, header)?,
+            member: member_of(alloc, header)?,
+            path: place_of(alloc, header)?,
+            destination: destination_of(alloc, header)?,
+            args: Arguments::new(alloc),
+            arg_paths: Arguments::new(alloc),
+            arg0ns: None,
+        };
+        Ok(Builder::of(rule))
+    }
+}

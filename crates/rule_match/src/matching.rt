@@ -1,0 +1,194 @@
+//! Whether a message matches a rule.
+ghost use Rattle.std.specs.Prelude.{◌≡◌, ◌<◌, ◌↔◌, ◌⊎◌, length, Some, IfSome, IsTrue, codes, option_map};
+ghost use Rattle.wire_message.specs.Front.{body_bytes, order_at};
+ghost use Rattle.rule_arguments.specs.Below.{IsAtOrBelow};
+ghost use Rattle.rule_arguments.specs.Wanted.{ArgumentsMatch};
+ghost use Rattle.rule_match.specs.Matching.{HeaderMatches, IsDestination, IsPlace, IsSender, Matches, signature_text, wanted_of};
+
+use crate::place::PathSpec;
+use crate::rule::MatchRule;
+use rule_arguments::{WantedArguments, is_at_or_below};
+use wire_message::{Header, Message, MessageType};
+use wire_names::{
+    BusName, OwnedBusName, OwnedInterfaceName, OwnedMemberName, OwnedUniqueName, Text,
+};
+use wire_number::{Endian, padding_for_8_bytes, read_u32};
+
+/// The bytes before the header fields.
+const HEAD: usize = 16;
+
+fn same_text(text: &str, other: &str) -> bool
+    ensures { IsTrue result ↔ (text.now ≡ other.now) }
+{
+    text == other
+}
+
+fn is_kind(wanted: Option<MessageType>, header: &Header<'_>) -> bool
+    ensures { IsTrue result ↔ IfSome wanted (λ kind. header.now.kind ≡ kind) }
+{
+    match wanted {
+        Some(kind) => header.message_type() == kind,
+        None => true,
+    }
+}
+
+fn is_sender(wanted: &Option<OwnedBusName>, header: &Header<'_>) -> bool
+    ensures { IsTrue result ↔ IfSome wanted.now (IsSender header.now.sender) }
+{
+    let Some(OwnedBusName::Unique(wanted)) = wanted else {
+        return true;
+    };
+    match header.sender() {
+        Some(name) => same_text(name.as_str(), wanted.as_str()),
+        None => false,
+    }
+}
+
+fn is_interface(wanted: &Option<OwnedInterfaceName>, header: &Header<'_>) -> bool
+    ensures { IsTrue result ↔ IfSome wanted.now (λ name. header.now.interface ≡ Some name) }
+{
+    let Some(wanted) = wanted else {
+        return true;
+    };
+    match header.interface() {
+        Some(name) => same_text(name.as_str(), wanted.as_str()),
+        None => false,
+    }
+}
+
+fn is_member(wanted: &Option<OwnedMemberName>, header: &Header<'_>) -> bool
+    ensures { IsTrue result ↔ IfSome wanted.now (λ name. header.now.member ≡ Some name) }
+{
+    let Some(wanted) = wanted else {
+        return true;
+    };
+    match header.member() {
+        Some(name) => same_text(name.as_str(), wanted.as_str()),
+        None => false,
+    }
+}
+
+/// Whether a path is the namespace's or below it.
+fn is_within(namespace: &str, path: &str) -> bool
+    ensures { IsTrue result ↔ ((namespace.now ≡ codes "/") ⊎ IsAtOrBelow 47 namespace.now path.now) }
+{
+    same_text(namespace, "/") || is_at_or_below(b'/', namespace, path)
+}
+
+fn is_place(wanted: &Option<PathSpec>, header: &Header<'_>) -> bool
+    ensures { IsTrue result ↔ IfSome wanted.now (IsPlace header.now.path) }
+{
+    let Some(wanted) = wanted else {
+        return true;
+    };
+    match (wanted, header.path()) {
+        (PathSpec::Path(wanted), Some(path)) => same_text(path.as_str(), wanted.as_str()),
+        (PathSpec::PathNamespace(wanted), Some(path)) => is_within(wanted.as_str(), path.as_str()),
+        (_, None) => false,
+    }
+}
+
+fn is_destination(wanted: &Option<OwnedUniqueName>, header: &Header<'_>) -> bool
+    ensures { IsTrue result ↔ IfSome wanted.now (IsDestination header.now.destination) }
+{
+    let Some(wanted) = wanted else {
+        return true;
+    };
+    match header.destination() {
+        Some(BusName::Unique(name)) => same_text(name.as_str(), wanted.as_str()),
+        _ => true,
+    }
+}
+
+/// The byte order that the first byte names.
+#[tactic(auto, unfolding(wire_message::specs::Front::order_at))]
+fn order_of(bytes: &[u8]) -> Endian
+    requires { 0 < length bytes.now }
+    ensures { result ≡ order_at bytes.now }
+{
+    if bytes[0] == b'B' {
+        Endian::Big
+    } else {
+        Endian::Little
+    }
+}
+
+/// The body of a message's bytes.
+fn body_of(bytes: &[u8]) -> &[u8]
+    ensures { result.now ≡ body_bytes bytes.now }
+{
+    if bytes.len() < HEAD {
+        return b"";
+    }
+    let order = order_of(bytes);
+    let fields = HEAD + read_u32(order, bytes, 12) as usize;
+    let start = fields + padding_for_8_bytes(fields);
+    if start >= bytes.len() {
+        return b"";
+    }
+    let length = read_u32(order, bytes, 4) as usize;
+    let body = &bytes[start..];
+    &body[..length.min(body.len())]
+}
+
+/// The text of a body's signature.
+fn signature_of<'a>(header: &Header<'a>) -> &'a [u8]
+    ensures { result.now ≡ signature_text header.now }
+{
+    match header.signature() {
+        Some(text) => text,
+        None => b"",
+    }
+}
+
+fn namespace_of(name: &Option<Text>) -> Option<&str>
+    ensures { option_map (λ name. name.now) result ≡ name.now }
+{
+    match name {
+        Some(name) => Some(name.as_str()),
+        None => None,
+    }
+}
+
+impl MatchRule {
+    /// Whether the message's arguments are those that are wanted.
+    fn match_arguments(&self, message: &Message) -> bool
+        ensures { IsTrue result ↔ ArgumentsMatch message.now.order (signature_text message.now) (body_bytes message.now.bytes) (wanted_of self.now) }
+    {
+        let wanted = WantedArguments::new(
+            self.args.as_slice(),
+            self.arg_paths.as_slice(),
+            namespace_of(&self.arg0ns),
+        );
+        let header = message.header();
+        wanted.match_body(
+            header.endian(),
+            signature_of(&header),
+            body_of(message.data()),
+        )
+    }
+
+    /// Whether the message's header has what is wanted of it.
+    fn match_header(&self, header: &Header<'_>) -> bool
+        ensures { IsTrue result ↔ HeaderMatches self.now header.now }
+    {
+        is_kind(self.kind, header)
+            && is_sender(&self.sender, header)
+            && is_interface(&self.interface, header)
+            && is_member(&self.member, header)
+            && is_place(&self.path, header)
+            && is_destination(&self.destination, header)
+    }
+
+    /// Whether the message matches each part of the rule that is there. It takes no memory, and looks at the message's body
+    /// only where its header matches and the rule wants something of its arguments; then once.
+    ///
+    /// A unique sender is to be the header's own, and a well-known one refuses no message. A path namespace accepts its path
+    /// and all below it, by whole elements. A destination refuses only messages with another unique one. Arguments are those
+    /// that the body spells by its signature; where it can't be read so, it has none.
+    pub fn matches(&self, message: &Message) -> bool
+        ensures { IsTrue result ↔ Matches self.now message.now }
+    {
+        self.match_header(&message.header()) && self.match_arguments(message)
+    }
+}
