@@ -8,3 +8,4 @@ pub mod Reread
 pub mod Same
 pub mod Again
 pub mod Own
+pub mod Equal

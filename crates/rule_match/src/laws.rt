@@ -1,5 +1,5 @@
 //! Laws of rules.
-ghost use Rattle.std.specs.Prelude.{◌≡◌, Ok, IfSome};
+ghost use Rattle.std.specs.Prelude.{◌≡◌, ◌↔◌, Ok, IfSome, IsTrue};
 ghost use Rattle.wire_message.specs.Front.{Seen};
 ghost use Rattle.wire_names.specs.Names.{IsUniqueName, IsInterfaceName, IsMemberName, IsObjectPath};
 ghost use Rattle.rule_match.specs.Again.{IsReadable};
@@ -90,3 +90,10 @@ pub fn rules_hold_their_grammar(rule: &MatchRule)
 pub fn a_message_matches_its_header()
     ensures { (m : Seen) → Matches (header_rule m) m }
 {}
+
+/// Whether two rules are one, which is what `==` decides; equal rules are hashed alike, so they are one key of a map.
+pub fn is_one_rule(rule: &MatchRule, other: &MatchRule) -> bool
+    ensures { IsTrue result ↔ (rule.now ≡ other.now) }
+{
+    rule == other
+}
