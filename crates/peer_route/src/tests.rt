@@ -6,7 +6,7 @@ use crate::{
 };
 use std::alloc::Global;
 use std::test::Fail;
-use wire_message::{Error, IoKind, Message, Taken, header_front};
+use wire_message::{Error, Flags, IoKind, Message, Taken, header_front};
 use wire_names::{MemberName, ObjectPath};
 
 /// A method return with serial 1 that answers serial 1 (D-Bus Specification, "Message Format").
@@ -44,7 +44,7 @@ fn one_call_is_answered_once(rt: HostRuntime) -> Result<(), Fail> {
         Issued {
             index: 0,
             serial: 1,
-            call: 0
+            call: Some(0)
         }
     );
     assert_eq!(rt; route.outbox_len(), 1);
@@ -80,7 +80,7 @@ fn closing_answers_and_a_fault_does_not(rt: HostRuntime) -> Result<(), Fail> {
         Issued {
             index: 1,
             serial: 2,
-            call: 1
+            call: Some(1)
         }
     );
     assert_eq!(rt; route.outbox_done(), 0);
@@ -159,18 +159,41 @@ fn a_dropped_call_is_unknown(rt: HostRuntime) -> Result<(), Fail> {
         &ObjectPath::try_from("/")?,
         &MemberName::try_from("do")?,
     ))?;
+    let call = issued.call.ok_or("no call")?;
     route.wrote(0);
-    route.drop_call(issued.call)?;
+    route.drop_call(call)?;
     route.arrive(reply(rt.alloc())?)?;
-    assert_eq!(rt; route.poll(issued.call).err(), Some(Error::UnknownHandle));
-    assert_eq!(rt;
-        route.drop_call(issued.call).err(),
-        Some(Error::UnknownHandle)
-    );
+    assert_eq!(rt; route.poll(call).err(), Some(Error::UnknownHandle));
+    assert_eq!(rt; route.drop_call(call).err(), Some(Error::UnknownHandle));
     let mut calls = PendingMethodCalls::new(rt.alloc());
     let call = calls.register_call(7)?;
     calls.drop_call(call)?;
     assert_eq!(rt; calls.poll(call).err(), Some(Error::UnknownHandle));
+    Ok(())
+}
+
+#[test]
+fn a_call_without_reply_is_no_call(rt: HostRuntime) -> Result<(), Fail> {
+    let mut route = Route::new(rt.alloc());
+    let path = ObjectPath::try_from("/")?;
+    let member = MemberName::try_from("do")?;
+    let builder = Message::method_call(&path, &member).with_flags(Flags::NoReplyExpected)?;
+    let first = route.issue(builder)?;
+    assert_eq!(rt;
+        first,
+        Issued {
+            index: 0,
+            serial: 1,
+            call: None
+        }
+    );
+    route.wrote(0);
+    assert_eq!(rt; route.poll(0).err(), Some(Error::UnknownHandle));
+    let second = route.issue(Message::method_call(&path, &member))?;
+    assert_eq!(rt; second.call, Some(0));
+    route.wrote(1);
+    route.arrive(reply(rt.alloc())?)?;
+    assert!(rt; matches!(route.poll(0)?, Polled::NotYet));
     Ok(())
 }
 
