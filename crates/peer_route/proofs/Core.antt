@@ -1,30 +1,25 @@
 -- The core after each event.
-use Rattle.std.proofs.Common.{◌≡◌, ℕ, ◌+◌, ◌<◌, ◌≤◌, ◌==◌, is_some, ◌&&◌, is_none, if◌then◌else◌, refl, sym, ◌∙◌, ap, subst, arith, IfOk, Bool, true, false, not, List, [], ◌∷◌, ◌++◌, length, map, find, get_or, set, Option, Some, None, Result, Ok, Err, length-append}
+use Rattle.std.proofs.Common.{◌≡◌, ℕ, ◌+◌, ◌<◌, ◌==◌, is_some, ◌&&◌, is_none, if◌then◌else◌, refl, sym, ◌∙◌, ap, subst, Bool, true, false, not, List, [], ◌∷◌, ◌++◌, length, map, get_or, set, Option, Some, None, Result, Ok, Err, length-append}
 use Rattle.std.specs.List.{list_any, position, slice_get}
 use Rattle.std.specs.Option.{option_map}
-use Rattle.std.proofs.Math.Seq.{drop-length}
-use Rattle.std.proofs.lemmas.List.{map-append, length-map, length_push, set-set, set-get_or}
+use Rattle.std.proofs.lemmas.List.{set-set, set-get_or}
 use Rattle.std.proofs.lemmas.Bool.{true≢false, false≢true}
 use Rattle.std.proofs.lemmas.List.Quantifiers.{position-Some}
 use Rattle.std.proofs.lemmas.Option.{slice_get-map, slice_get_read, none-some}
 use Rattle.wire_message.specs.Front.{Seen}
-use Rattle.wire_message.specs.Draft.{built, message_text, Builds, Draft}
-use Rattle.wire_message.specs.Circle.{IsNext, AllTaken}
 use Rattle.wire_message.specs.declared.error.Error.{Error}
 use Rattle.wire_message.specs.declared.error.Error.TheVariants as errors
-use Rattle.wire_message.specs.declared.error.IoKind.TheVariants as kinds
 use Rattle.peer_route.specs.declared.polled.Polled.{Polled}
 use Rattle.peer_route.specs.declared.polled.Polled.TheVariants as polled
 use Rattle.peer_route.specs.declared.calls.Slot.{Slot}
-use Rattle.peer_route.specs.declared.route.Issued.{Issued}
 use Rattle.peer_route.specs.declared.calls.Slot.TheVariants as slots
-use Rattle.peer_route.specs.History.{Event, Took, Shut, Put, Wrote, Fault, Spent, Made, Plain, Did, Deed, Gave, Told, Call, edit, read, put, closing, done, is_failed, last_serial, is_reply, is_serial, calls, found, bears, is_gone, new_call, first_of, pending, waits_with, poll_answer, poll_events, polled_at, polled_by, drop_answer, drop_events, dropped_at}
+use Rattle.peer_route.specs.History.{Event, Took, Shut, Wrote, Fault, Spent, Made, Plain, Did, Deed, Gave, Told, Call, edit, read, closing, done, is_reply, is_serial, calls, found, bears, is_gone, first_of, pending, waits_with, poll_answer, poll_events, polled_at, polled_by, drop_answer, drop_events, dropped_at}
 use Rattle.peer_route.specs.Streams.{busy, take_answer, take_events}
-use Rattle.peer_route.specs.Left.{Held, is_over, after_take, held_gives, LeftStreams, is_busy, is_empty_slot, slot_of, slot_by, is_waiting, AreDistinct, CallsView, waiting_serial, is_number, LeftCalls, View, Left, Issues, Places, Waits, placed}
+use Rattle.peer_route.specs.Left.{Held, is_over, after_take, held_gives, LeftStreams, is_busy, is_empty_slot, slot_of, slot_by, is_waiting, AreDistinct, CallsView, waiting_serial, is_number, LeftCalls, View, Left}
 use Rattle.peer_route.proofs.Plain.{list_any-map, list_any-along, position-None, is_some-position}
 use Rattle.peer_route.proofs.CallsMade.{calls_early, places, places_rise, places-edit, places-fail}
-use Rattle.peer_route.proofs.StreamsMade.{streams_shut, streams_put, streams_wrote, streams_fault, streams_spent, streams_made, streams_taken, taken_gives, over_any}
-use Rattle.peer_route.proofs.Slots.{arrived, slots_took, arrived_nowhere, arrived_past, arrived_first, arrived_distinct, gone_distinct, slots_spent, slots_kept, slots_lost, distinct_push, waits-slot}
+use Rattle.peer_route.proofs.StreamsMade.{streams_shut, streams_wrote, streams_fault, streams_spent, streams_made, streams_taken, taken_gives, over_any}
+use Rattle.peer_route.proofs.Slots.{arrived, slots_took, arrived_nowhere, arrived_past, arrived_first, arrived_distinct, gone_distinct, slots_spent, slots_kept, slots_lost, waits-slot}
 
 -- ---- a message comes
 

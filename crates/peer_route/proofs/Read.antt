@@ -17,7 +17,7 @@ use Rattle.peer_route.specs.declared.answer.Entry.{Entry}
 use Rattle.peer_route.specs.History.{Event, Put, Call, read, closing, is_failed, calls, found, bears, is_gone, polled_by, polled_at, poll_answer}
 use Rattle.peer_route.specs.Streams.{busy}
 use Rattle.peer_route.specs.Trail.{Trail, place, trail, failed_put, call_events, read_events, poll_spends, drop_spends, stream_makes, take_does, events_of}
-use Rattle.peer_route.specs.Answers.{IsAnswer, IsReadOf, Legal, error_answer, reply_by, reply_answer, shown, poll_of}
+use Rattle.peer_route.specs.Answers.{IsAnswer, IsReadOf, Legal, error_answer, reply_by, shown, poll_of}
 use Rattle.peer_route.specs.Laws.{IsReplyAt, IsFirstReply, IsCutOff}
 use Rattle.peer_route.proofs.Once.{poll_is}
 

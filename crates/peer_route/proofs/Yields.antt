@@ -465,7 +465,7 @@ flow_all name (x ∷ newer) e older number legal w a =
 
 -- what was given and what is held
 pub yields : (name : Option (List ℕ)) (newer : List Entry) (e : Entry) (older : List Entry) (number : ℕ) → Legal name (newer ++ e ∷ older) → e.words ≡ words.Stream → e.answer ≡ answers.Streaming number
-    → Yields newer e older number
+    → Yields name newer e older number
 unfolding held matched
 yields name newer e older number legal w a =
     let f = flow_all name newer e older number legal w a in

@@ -33,15 +33,23 @@ abbrev pub is_outside : (List ℕ → Bool) → Option (List ℕ) → Bool
 is_outside grammar None = false
 is_outside grammar (Some text) = not (grammar text)
 
--- Why a call is refused, the first case that holds: its destination, its path, its interface or its member is outside its
--- grammar, each serial is pending, the message would pass its limit.
-unfoldable pub call_refusal : List Event → Draft → Option Error
-call_refusal h draft =
+-- the first of a call's words that is outside its grammar: its destination, its path, its interface, its member
+unfoldable pub words_refusal : Draft → Option Error
+words_refusal draft =
     if is_outside is_bus_name draft.fields.destination then Some (errors.Names names.Bus)
     else if is_outside is_object_path draft.fields.path then Some (errors.Names names.Path)
     else if is_outside is_interface_name draft.fields.interface then Some (errors.Names names.Interface)
     else if is_outside is_member_name draft.fields.member then Some (errors.Names names.Member)
-    else long_refusal (next_serial h) draft
+    else None
+
+abbrev pub refusal_by : Option Error → Option ℕ → Draft → Option Error
+refusal_by (Some error) serial draft = Some error
+refusal_by None serial draft = long_refusal serial draft
+
+-- Why a call is refused, the first case that holds: a word is outside its grammar, each serial is pending, the message would
+-- pass its limit.
+abbrev pub call_refusal : List Event → Draft → Option Error
+call_refusal h draft = refusal_by (words_refusal draft) (next_serial h) draft
 
 abbrev pub write_fault : Answer
 write_fault = answers.SendFailed (errors.InputOutput kinds.WriteFault)

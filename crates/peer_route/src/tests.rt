@@ -191,7 +191,6 @@ fn a_call_without_reply_is_no_call(rt: HostRuntime) -> Result<(), Fail> {
     assert_eq!(rt; route.poll(0).err(), Some(Error::UnknownHandle));
     let second = route.issue(Message::method_call(&path, &member))?;
     assert_eq!(rt; second.call, Some(0));
-    route.wrote(1);
     route.arrive(reply(rt.alloc())?)?;
     assert!(rt; matches!(route.poll(0)?, Polled::NotYet));
     Ok(())
