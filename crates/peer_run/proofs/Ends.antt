@@ -11,10 +11,10 @@ use Rattle.peer_run.specs.Runs.{Stands, Runs, command_of}
 use Rattle.peer_run.specs.Program.{source_bytes, source_breaks, IsRunOf}
 
 -- what stands to a history is a run of its commands
-pub runs_of : (start_in : Inlet) (start_out : Outlet) (p : PeerView) (end_in : Inlet) (end_out : Outlet) (commands : List Command) (entries : List Entry)
-    → Stands start_in start_out p end_in end_out (reverse entries) → map command_of entries ≡ commands
-    → Runs start_in start_out end_in end_out commands entries
-runs_of start_in start_out p end_in end_out commands entries s e = record {
+pub runs_of : (name : Option (List ℕ)) (start_in : Inlet) (start_out : Outlet) (p : PeerView) (end_in : Inlet) (end_out : Outlet) (commands : List Command) (entries : List Entry)
+    → Stands name start_in start_out p end_in end_out (reverse entries) → map command_of entries ≡ commands
+    → Runs name start_in start_out end_in end_out commands entries
+runs_of name start_in start_out p end_in end_out commands entries s e = record {
   legal = s.follows.legal;
   each = e;
   reads = s.reads.told;
@@ -33,9 +33,9 @@ sent_of room held h w =
 pub run_of : (start_in : Inlet) (start_out : Outlet) (end_in : Inlet) (end_out : Outlet) (s : Script) (entries : List Entry) (held : List ℕ)
     → start_in.left ≡ Some (source_bytes s.given) → start_in.stop ≡ Some (source_breaks s.given)
     → start_out.held ≡ Some [] → start_out.room ≡ Some s.outfault → end_out.held ≡ Some held
-    → Runs start_in start_out end_in end_out s.commands entries → IsRunOf s entries held
+    → Runs s.name start_in start_out end_in end_out s.commands entries → IsRunOf s entries held
 run_of start_in start_out end_in end_out s entries held left stop before room after r =
-    let h = (trail (reverse entries)).events in
+    let h = (trail s.name (reverse entries)).events in
     let reads = rw (left, stop) at r.reads in
     let writes = rw (before, room, after) at r.writes in
     let w = sent_of s.outfault held h writes in

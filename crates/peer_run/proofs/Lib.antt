@@ -1,3 +1,4 @@
+pub mod Flags
 pub mod Quiet
 pub mod Kept
 pub mod ReadStep
