@@ -1,5 +1,5 @@
 -- A call's end, from what issuing and sending gave.
-use Rattle.std.proofs.Common.{◌≡◌, ℕ, refl, sym, ◌∙◌, ap, subst, Bool, true, false, List, [], ◌∷◌, ◌++◌, length, Option, Some, None, is_some, Result, Ok, Err, IfOk, slice_get}
+use Rattle.std.proofs.Common.{◌≡◌, ◌≤◌, arith, inl, inr, ℕ, refl, sym, ◌∙◌, ap, subst, Bool, true, false, List, [], ◌∷◌, ◌++◌, length, Option, Some, None, is_some, Result, Ok, Err, IfOk, slice_get}
 use Rattle.wire_message.specs.Front.{Seen}
 use Rattle.wire_message.specs.Draft.{Draft, built}
 use Rattle.wire_message.specs.declared.error.Error.{Error}
@@ -19,7 +19,8 @@ use Rattle.peer_route.proofs.Steps.{refused-words, refused-spent, refused-long, 
 use Rattle.peer_run.specs.declared.call_words.CallWords.{CallWords}
 use Rattle.std.specs.Io.KnownBytes.{Appends}
 use Rattle.wire_framing.specs.Sink.{RoomFalls}
-use Rattle.wire_framing.specs.Send.{Part}
+use Rattle.wire_framing.specs.Send.{Part, Sends}
+use Rattle.wire_framing.specs.Source.{MayRise}
 use Rattle.peer_run.specs.CallWords.{words_of, draft_by}
 use Rattle.peer_run.specs.Stands.{PeerView, Inlet, Outlet, Follows, Reads, Writes, Sent, WentOut, WriteFailed, named, unsent_answer, NotIssued, IsReadFault, entry}
 use Rattle.peer_run.proofs.CallStep.{waits, follows_refused, follows_unsent, follows_sent, follows_failed, reads_call, writes_refused, writes_unsent, writes_sent, writes_failed}
@@ -126,6 +127,45 @@ waits_there v h m expects index e l = ap (λ xs. slice_get xs index) l.outbox �
 makes_call : (expects : Bool) (number : ℕ) → is_some (call_number expects number) ≡ expects
 makes_call true number = refl
 makes_call false number = refl
+
+-- a write that failed leaves a proper part
+pub not_out : (old new : PeerView) (lane : ℕ) (issued : Issued) (m : Seen) (now after : Outlet) (error : Error) → (error ≡ errors.Memory → ⊥)
+    → Sends {A = Unit {0}} (Err error) m.bytes now.held after.held now.room after.room now.faults after.faults
+    → new.names ≡ named (is_some issued.call) None old.names → new.streams ≡ old.streams → ((h : List events.Event) → Left old.core h → Left new.core (events.Fault ∷ h))
+    → Sent old new lane issued m now after (answers.SendFailed error)
+not_out old new lane issued m now after (errors.InputOutput kinds.WriteFault) never s names streams left = WriteFailed refl names streams left s.0 s.1 s.2 s.3
+not_out old new lane issued m now after (errors.InputOutput kinds.Ended) never s names streams left = absurd s
+not_out old new lane issued m now after (errors.InputOutput kinds.Fault) never s names streams left = absurd s
+not_out old new lane issued m now after (errors.InputOutput kinds.Closed) never s names streams left = absurd s
+not_out old new lane issued m now after (errors.InputOutput kinds.TimedOut) never s names streams left = absurd s
+not_out old new lane issued m now after (errors.Variant kind) never s names streams left = absurd s
+not_out old new lane issued m now after (errors.Names kind) never s names streams left = absurd s
+not_out old new lane issued m now after errors.InvalidMatchRule never s names streams left = absurd s
+not_out old new lane issued m now after errors.IncorrectEndian never s names streams left = absurd s
+not_out old new lane issued m now after errors.ExcessData never s names streams left = absurd s
+not_out old new lane issued m now after errors.SerialsSpent never s names streams left = absurd s
+not_out old new lane issued m now after errors.UnknownHandle never s names streams left = absurd s
+not_out old new lane issued m now after errors.Memory never s names streams left = absurd (never refl)
+
+may_grow : (a b : ℕ) → MayRise a b → a ≤ b
+may_grow a b (inl p) = omega (arith, p)
+may_grow a b (inr p) = omega (arith, p.0, p.1)
+
+pub failed_grows : (error : Error) (bytes : List ℕ) (held held' : Option (List ℕ)) (room room' : Option (Option ℕ)) (a b : ℕ) → (error ≡ errors.Memory → ⊥)
+    → Sends {A = Unit {0}} (Err error) bytes held held' room room' a b → a ≤ b
+failed_grows (errors.InputOutput kinds.WriteFault) bytes held held' room room' a b never s = may_grow a b s.3
+failed_grows (errors.InputOutput kinds.Ended) bytes held held' room room' a b never s = absurd s
+failed_grows (errors.InputOutput kinds.Fault) bytes held held' room room' a b never s = absurd s
+failed_grows (errors.InputOutput kinds.Closed) bytes held held' room room' a b never s = absurd s
+failed_grows (errors.InputOutput kinds.TimedOut) bytes held held' room room' a b never s = absurd s
+failed_grows (errors.Variant kind) bytes held held' room room' a b never s = absurd s
+failed_grows (errors.Names kind) bytes held held' room room' a b never s = absurd s
+failed_grows errors.InvalidMatchRule bytes held held' room room' a b never s = absurd s
+failed_grows errors.IncorrectEndian bytes held held' room room' a b never s = absurd s
+failed_grows errors.ExcessData bytes held held' room room' a b never s = absurd s
+failed_grows errors.SerialsSpent bytes held held' room room' a b never s = absurd s
+failed_grows errors.UnknownHandle bytes held held' room room' a b never s = absurd s
+failed_grows errors.Memory bytes held held' room room' a b never s = absurd (never refl)
 
 -- the two things that sending gives
 pub record Sending (name : Option (List ℕ)) (p q r : PeerView) (es : List Entry) (lane : ℕ) (ws : CallWords) (now after : Outlet) (a : Answer) : Type 0 where

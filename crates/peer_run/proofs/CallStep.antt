@@ -159,7 +159,7 @@ read_fails None a h = refl
 
 fails_by : (name : Option (List ℕ)) (es : List Entry) (lane : ℕ) (w : Words) (a : Answer) → IsAnswer (trail name es) lane w a
     → events.is_failed (trail name (entry lane w a ∷ es)).events ≡ true → IsWriteFault a ⊎ (events.is_failed (trail name es).events ≡ true)
-fails_by name es lane (words_of ws) a x f = call_fails (trail name es).events (trail name es).names lane ws a x f
+fails_by name es lane (words.Call destination path interface member flags) a x f = call_fails (trail name es).events _ _ _ _ a x f
 fails_by name es lane words.Read a x f = inr (sym (read_fails (events.closing (trail name es).events) a (trail name es).events) ∙ f)
 fails_by name es lane (words.Poll number) a x f = inr (sym (quiet_same (poll_spends (place 0 lane number (trail name es).names) a) (trail name es).events (poll_quiet (place 0 lane number (trail name es).names) a)).failed ∙ f)
 fails_by name es lane (words.Drop number) a x f = inr (sym (quiet_same (drop_spends (place 0 lane number (trail name es).names) a) (trail name es).events (drop_quiet (place 0 lane number (trail name es).names) a)).failed ∙ f)

@@ -76,7 +76,7 @@ fn member_name(text: &Bytes) -> Result<MemberName<'_>>
 
 /// With the destination that is given.
 fn with_destination<'a>(builder: Builder<'a>, destination: &Option<BusName<'a>>) -> Builder<'a>
-    requires { builder.entry.fields.destination ≡ None }
+    requires { builder.fields.destination ≡ None }
     ensures { result ≡ record builder.entry { fields = record builder.entry.fields { destination = option_map text_of destination.now } } }
 {
     match destination {
@@ -87,7 +87,7 @@ fn with_destination<'a>(builder: Builder<'a>, destination: &Option<BusName<'a>>)
 
 /// With the interface that is given.
 fn with_interface<'a>(builder: Builder<'a>, interface: &Option<InterfaceName<'a>>) -> Builder<'a>
-    requires { builder.entry.fields.interface ≡ None }
+    requires { builder.fields.interface ≡ None }
     ensures { result ≡ record builder.entry { fields = record builder.entry.fields { interface = interface.now } } }
 {
     match interface {
@@ -98,7 +98,7 @@ fn with_interface<'a>(builder: Builder<'a>, interface: &Option<InterfaceName<'a>
 
 /// With the sender that is given.
 fn with_sender<'a>(builder: Builder<'a>, name: &'a Option<OwnedUniqueName>) -> Builder<'a>
-    requires { builder.entry.fields.sender ≡ None }
+    requires { builder.fields.sender ≡ None }
     ensures { result ≡ record builder.entry { fields = record builder.entry.fields { sender = name.now } } }
 {
     match name {
@@ -127,7 +127,7 @@ fn flags_of(flags: CallFlags) -> Flags
 /// With those flags, and in that byte order.
 #[tactic(auto, using(crate::proofs::Flags::kept_flags))]
 fn with_letters<'a>(builder: Builder<'a>, flags: CallFlags) -> Result<Builder<'a>>
-    requires { builder.entry.flags ≡ 0 }
+    requires { builder.flags ≡ 0 }
     ensures { result ≡ Ok (record builder.entry { order = order_of flags.big; flags = flags_number flags }) }
 {
     let order = if flags.big {
@@ -142,7 +142,7 @@ impl<'a> CallWords<'a> {
     /// The call's message, sent by the peer of that name. Refused exactly where a word is outside its grammar, for the first
     /// such word.
     pub(crate) fn builder(self, name: &'a Option<OwnedUniqueName>) -> Result<Builder<'a>>
-        ensures { MakesDraft result (draft_by name.now self) }
+        ensures { MakesDraft result (draft_by name.now self.entry) }
     {
         let destination = bus_name(self.destination)?;
         let path = object_path(self.path)?;

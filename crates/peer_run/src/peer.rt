@@ -274,6 +274,16 @@ impl Peer {
         Ok(Answer::Called { call, serial })
     }
 
+    /// The call of a message whose write failed, if it makes one, is nobody's.
+    fn lost(&mut self, issued: Issued) -> Result<(), AllocError>
+        ensures { OnOk result (self.new ≡ record self.old { names = named (is_some issued.call) None self.old.names }) }
+    {
+        if issued.call.is_some() {
+            self.names.push(None)?;
+        }
+        Ok(())
+    }
+
     /// Writes the message that was issued, which stands at that place of the outbox.
     fn send<W: Sink>(&mut self, sink: &mut W, lane: u32, issued: Issued) -> Result<Answer, RunError>
         requires there { issued.index < length self.old.core.outbox }
@@ -284,7 +294,6 @@ impl Peer {
             (record { held = W.held sink.new; room = W.room sink.new; faults = W.faults sink.new }) answer) }
         ensures grows { W.faults sink.old ≤ W.faults sink.new }
     {
-        self.names.reserve(1)?;
         let Some(message) = self.route.outbox(issued.index) else {
             unreachable!()
         };
@@ -297,9 +306,7 @@ impl Peer {
                 Error::Memory => Err(RunError::Memory),
                 _ => {
                     self.route.write_fault(issued.index);
-                    if issued.call.is_some() {
-                        self.names.push(None)?;
-                    }
+                    self.lost(issued)?;
                     Ok(Answer::SendFailed(error))
                 }
             },
@@ -316,12 +323,12 @@ impl Peer {
     ) -> Result<Answer, RunError>
         requires { self.old.core.done ≡ length self.old.core.outbox }
         ensures follows { IfOk result (λ answer. (es : List Entry) → Follows name.now self.old es
-            → Follows name.now self.new (entry lane (words_of call) answer ∷ es)) }
+            → Follows name.now self.new (entry lane (words_of call.entry) answer ∷ es)) }
         ensures reads { IfOk result (λ answer. (start now : Inlet) (es : List Entry) → Follows name.now self.old es
-            → Reads name.now start now es → Reads name.now start now (entry lane (words_of call) answer ∷ es)) }
+            → Reads name.now start now es → Reads name.now start now (entry lane (words_of call.entry) answer ∷ es)) }
         ensures writes { IfOk result (λ answer. (start : Outlet) (es : List Entry) → Follows name.now self.old es
             → Writes name.now start (record { held = W.held sink.old; room = W.room sink.old; faults = W.faults sink.old }) es
-            → Writes name.now start (record { held = W.held sink.new; room = W.room sink.new; faults = W.faults sink.new }) (entry lane (words_of call) answer ∷ es)) }
+            → Writes name.now start (record { held = W.held sink.new; room = W.room sink.new; faults = W.faults sink.new }) (entry lane (words_of call.entry) answer ∷ es)) }
         ensures grows { W.faults sink.old ≤ W.faults sink.new }
     {
         let builder = match call.builder(name) {
