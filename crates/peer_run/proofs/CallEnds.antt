@@ -1,11 +1,10 @@
 -- A call's end, from what issuing and sending gave.
 use Rattle.std.proofs.Common.{◌≡◌, ◌≤◌, arith, inl, inr, ℕ, refl, sym, ◌∙◌, ap, subst, Bool, true, false, List, [], ◌∷◌, ◌++◌, length, Option, Some, None, is_some, Result, Ok, Err, IfOk, slice_get}
 use Rattle.wire_message.specs.Front.{Seen}
-use Rattle.wire_message.specs.Draft.{Draft, built}
+use Rattle.wire_message.specs.Draft.{built}
 use Rattle.wire_message.specs.declared.error.Error.{Error}
 use Rattle.wire_message.specs.declared.error.Error.TheVariants as errors
 use Rattle.wire_message.specs.declared.error.IoKind.TheVariants as kinds
-use Rattle.peer_route.specs.CallMessage.{draft_of, expects_reply}
 use Rattle.peer_route.specs.declared.answer.Answer.{Answer}
 use Rattle.peer_route.specs.declared.answer.Answer.TheVariants as answers
 use Rattle.peer_route.specs.declared.answer.Entry.{Entry}

@@ -4,7 +4,7 @@ use Rattle.std.proofs.lemmas.List.{append-nil, length_push, length-take-le}
 use Rattle.std.specs.Io.KnownBytes.{Appends}
 use Rattle.wire_message.specs.Front.{Seen}
 use Rattle.wire_message.specs.Draft.{Draft, built}
-use Rattle.peer_route.specs.CallMessage.{draft_of, expects_reply, flags_number}
+use Rattle.peer_route.specs.CallMessage.{expects_reply, flags_number}
 use Rattle.peer_run.specs.declared.call_words.CallWords.{CallWords}
 use Rattle.peer_run.specs.CallWords.{words_of, draft_by}
 use Rattle.wire_message.specs.declared.error.Error.{Error}

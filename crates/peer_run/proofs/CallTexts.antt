@@ -1,11 +1,9 @@
 -- A call's words, one after the other.
-use Rattle.std.proofs.Common.{◌≡◌, ℕ, refl, sym, ◌∙◌, ap, subst, Bool, true, false, not, List, Option, Some, None, Result, Ok, Err, is_some}
+use Rattle.std.proofs.Common.{◌≡◌, ℕ, refl, true, false, List, Option, Some, None}
 use Rattle.wire_names.specs.Names.{is_bus_name, is_object_path, is_interface_name, is_member_name}
 use Rattle.wire_names.specs.declared.error.NamesError.TheVariants as names
-use Rattle.wire_message.specs.Draft.{Draft}
 use Rattle.wire_message.specs.declared.error.Error.{Error}
 use Rattle.wire_message.specs.declared.error.Error.TheVariants as errors
-use Rattle.peer_route.specs.CallMessage.{draft_of}
 use Rattle.peer_route.specs.Answers.{is_outside, words_refusal}
 use Rattle.peer_run.specs.declared.call_words.CallWords.{CallWords}
 use Rattle.peer_run.specs.CallWords.{draft_by}

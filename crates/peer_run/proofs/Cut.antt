@@ -7,10 +7,9 @@ use Rattle.peer_route.specs.declared.words.Words.{Words}
 use Rattle.peer_route.specs.declared.words.Words.TheVariants as words
 use Rattle.peer_route.specs.declared.words.Command.{Command}
 use Rattle.peer_route.specs.declared.answer.Answer.{Answer}
-use Rattle.peer_route.specs.declared.answer.Answer.TheVariants as answers
 use Rattle.peer_route.specs.declared.answer.Entry.{Entry}
 use Rattle.peer_route.specs.History as events
-use Rattle.peer_route.specs.Trail.{trail, events_of, call_events, or_zero, next_serial, count}
+use Rattle.peer_route.specs.Trail.{trail, events_of, call_events}
 use Rattle.peer_route.specs.Answers.{Legal, IsAnswer, IsCalled, IsSent, IsReadOf, call_refusal, write_fault}
 use Rattle.peer_route.specs.Streams.{busy}
 use Rattle.peer_route.specs.Told.{ReadsTold, ReadTold, ReadOpenTold}

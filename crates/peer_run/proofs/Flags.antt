@@ -1,5 +1,5 @@
 -- The flags of a script's letters.
-use Rattle.std.proofs.Common.{◌≡◌, ℕ, ◌+◌, refl, Bool, true, false, if◌then◌else◌}
+use Rattle.std.proofs.Common.{◌≡◌, ◌+◌, refl, Bool, true, false, if◌then◌else◌}
 use Rattle.std.specs.Int.RustNames.{bit_and, bit_or}
 use Rattle.peer_route.specs.CallMessage.{bit, flags_number}
 use Rattle.peer_route.specs.declared.words.CallFlags.{CallFlags}

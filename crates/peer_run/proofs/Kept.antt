@@ -1,5 +1,5 @@
 -- What an entry leaves of the source or the sink that it doesn't touch.
-use Rattle.std.proofs.Common.{◌≡◌, ℕ, refl, sym, ◌∙◌, Bool, true, false, List, ◌∷◌, ◌++◌, Option, Some, None, IfSome, inl, inr}
+use Rattle.std.proofs.Common.{◌≡◌, ℕ, refl, sym, ◌∙◌, Bool, List, ◌∷◌, ◌++◌, Option, Some, None, IfSome, inl, inr}
 use Rattle.wire_message.specs.Front.{Seen}
 use Rattle.wire_message.specs.declared.error.Error.{Error}
 use Rattle.peer_route.specs.declared.words.Words.{Words}
@@ -8,7 +8,7 @@ use Rattle.peer_route.specs.declared.answer.Answer.{Answer}
 use Rattle.peer_route.specs.declared.answer.Answer.TheVariants as answers
 use Rattle.peer_route.specs.declared.answer.Entry.{Entry}
 use Rattle.peer_route.specs.History as events
-use Rattle.peer_route.specs.Trail.{trail, read_events, failed_put}
+use Rattle.peer_route.specs.Trail.{trail, read_events}
 use Rattle.peer_route.specs.Told.{ReadsTold, ReadTold, left_after}
 use Rattle.peer_run.specs.Stands.{Inlet, Outlet, Reads, Writes, IsRest, HoldsThen, HasReadFault, IsReadFault, HasWriteFault, IsWriteFault, entry}
 

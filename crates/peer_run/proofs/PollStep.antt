@@ -87,7 +87,7 @@ follows_poll name p q es lane number k r f here answer names streams left =
     follows_quiet name p q es lane (words.Poll number) (shown r) (poll_spends (Some k) (shown r)) f (ap (λ o. poll_spends o (shown r)) at)
     (poll_quiet (Some k) (shown r))
     (subst (λ xs. Left q.core (xs ++ (trail name es).events)) (sym (spends_shown k r)) left)
-    names (no_names (trail name es).events lane _ r) (streams ∙ sym (append-nil p.streams) ∙ ap (λ ns. p.streams ++ ns) (sym (no_streams lane r)))
+    names (no_names (trail name es).events lane (words.Poll number) r) (streams ∙ sym (append-nil p.streams) ∙ ap (λ ns. p.streams ++ ns) (sym (no_streams lane r)))
     (ap shown answer ∙ sym (ap (poll_of (trail name es).events) at))
 
 -- no call has the number

@@ -46,7 +46,7 @@ follows_drop name p q es lane number k r f here answer names streams_same left =
     follows_quiet name p q es lane (words.Drop number) (shown_drop r) (drop_spends (Some k) (shown_drop r)) f (ap (λ o. drop_spends o (shown_drop r)) at)
     (drop_quiet (Some k) (shown_drop r))
     (subst (λ xs. Left q.core (xs ++ (trail name es).events)) (sym (drop_shown_spends k r)) left)
-    names (drop_names (trail name es).events lane _ r) (streams_same ∙ sym (append-nil p.streams) ∙ ap (λ ns. p.streams ++ ns) (sym (drop_streams lane r)))
+    names (drop_names (trail name es).events lane (words.Drop number) r) (streams_same ∙ sym (append-nil p.streams) ∙ ap (λ ns. p.streams ++ ns) (sym (drop_streams lane r)))
     (ap (λ x. shown_drop x) answer ∙ sym (ap (drop_of (trail name es).events) at))
 
 pub follows_drop_unknown : (name : Option (List ℕ)) (p : PeerView) (es : List Entry) (lane number : ℕ) → Follows name p es → place 0 lane number p.names ≡ None
@@ -132,7 +132,7 @@ follows_take name p q es lane number k r f here answer names streams_same left =
     follows_quiet name p q es lane (words.Take number) (shown_take r) (take_does (Some k) (shown_take r)) f (ap (λ o. take_does o (shown_take r)) at)
     (take_quiet (Some k) (shown_take r))
     (subst (λ xs. Left q.core (xs ++ (trail name es).events)) (sym (take_shown_does k r)) left)
-    names (take_names (trail name es).events lane _ r) (streams_same ∙ sym (append-nil p.streams) ∙ ap (λ ns. p.streams ++ ns) (sym (take_streams lane r)))
+    names (take_names (trail name es).events lane (words.Take number) r) (streams_same ∙ sym (append-nil p.streams) ∙ ap (λ ns. p.streams ++ ns) (sym (take_streams lane r)))
     (ap shown_take answer ∙ sym (ap (take_of (trail name es).events) at))
 
 pub follows_take_unknown : (name : Option (List ℕ)) (p : PeerView) (es : List Entry) (lane number : ℕ) → Follows name p es → place 0 lane number p.streams ≡ None

@@ -1,4 +1,4 @@
-use Rattle.std.proofs.Common.{◌≡◌, ◌∙◌, ap, sym, refl}
+use Rattle.std.proofs.Common.{refl}
 use Rattle.std.proofs.lemmas.Result.{err_from_is_err_and}
 use Rattle.peer_run.proofs.CallTexts.{bad_destination, bad_path, bad_interface, bad_member, good_words}
 use Rattle.peer_run.proofs.call_words.CallWords.builder.Goals as goal

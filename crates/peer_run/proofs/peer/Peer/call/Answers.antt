@@ -7,7 +7,7 @@ use Rattle.peer_route.proofs.Sent.{trail-name}
 use Rattle.peer_run.specs.CallWords.{draft_by}
 use Rattle.peer_run.specs.Stands.{PeerView, Outlet, Follows}
 use Rattle.peer_run.proofs.CallStep.{reads_call}
-use Rattle.peer_run.proofs.CallEnds.{follows_bad_words, follows_unissued, writes_unissued, reads_unissued, unsent_ok, sending}
+use Rattle.peer_run.proofs.CallEnds.{follows_bad_words, follows_unissued, writes_unissued, unsent_ok, sending}
 use Rattle.peer_run.proofs.peer.Peer.call.Goals as goal
 
 pub returns-in-Err-clause-follows : goal.returns-in-Err-clause-follows

@@ -1,7 +1,6 @@
 use Rattle.std.proofs.Common.{◌≡◌, ◌∙◌, sym, ap, subst, Some, option_copied, slice_get, ◌∷◌}
 use Rattle.peer_route.specs.History.{Fault}
 use Rattle.peer_route.specs.Left.{Left}
-use Rattle.wire_message.specs.Front.{Seen}
 use Rattle.peer_route.specs.declared.answer.Answer.TheVariants.{SendFailed}
 use Rattle.peer_run.specs.Stands.{PeerView, Outlet, Sent}
 use Rattle.peer_run.proofs.CallEnds.{not_out, failed_grows}
