@@ -71,10 +71,7 @@ fn one_call_is_answered_once(rt: HostRuntime) -> Result<(), Fail> {
 #[test]
 fn a_message_is_written_once(rt: HostRuntime) -> Result<(), Fail> {
     let mut route = Route::new(rt.alloc());
-    route.issue(Message::method_call(
-        &ObjectPath::try_from("/")?,
-        &MemberName::try_from("do")?,
-    ))?;
+    route.issue(Message::method_call(&ObjectPath::try_from("/")?, &MemberName::try_from("do")?))?;
     assert_eq!(rt; route.outbox_done(), 0);
     assert!(rt; !route.is_failed());
     route.wrote(0);
@@ -86,10 +83,7 @@ fn a_message_is_written_once(rt: HostRuntime) -> Result<(), Fail> {
 #[test]
 fn a_reply_is_given_once(rt: HostRuntime) -> Result<(), Fail> {
     let mut route = Route::new(rt.alloc());
-    route.issue(Message::method_call(
-        &ObjectPath::try_from("/")?,
-        &MemberName::try_from("do")?,
-    ))?;
+    route.issue(Message::method_call(&ObjectPath::try_from("/")?, &MemberName::try_from("do")?))?;
     arrive(&mut route, rt.alloc())?;
     assert_eq!(rt; route.received(), 1);
     assert_eq!(rt; position(route.poll(0)?), Some(1));

@@ -10,7 +10,12 @@ pub(crate) struct Case {
 }
 
 /// The status of the program over these pieces of input, and what it wrote.
-pub(crate) fn run(rt: &HostRuntime, word: &str, pieces: &[Piece], sink: &mut MemorySink) -> Result<u8, Fail> {
+pub(crate) fn run(
+    rt: &HostRuntime,
+    word: &str,
+    pieces: &[Piece],
+    sink: &mut MemorySink,
+) -> Result<u8, Fail> {
     let mut words = Vec::new(rt.alloc());
     if !word.is_empty() {
         words.push(String::from_str(rt.alloc(), word)?)?;
@@ -39,8 +44,12 @@ fn each(rt: &HostRuntime, bytes: &[u8]) -> Result<Vec<Piece>, Fail> {
 fn ends(rt: &HostRuntime, case: &Case, pieces: &[Piece]) -> Result<(), Fail> {
     let mut sink = MemorySink::new(rt.alloc(), false);
     let status = run(rt, case.word, pieces, &mut sink)?;
-    assert_eq!(rt; status, case.status);
-    assert_eq!(rt; sink.bytes(), case.output.as_bytes());
+    if status != case.status {
+        return Err(Fail::new(format_args!("status {status} of {}", case.input)));
+    }
+    if sink.bytes() != case.output.as_bytes() {
+        return Err(Fail::new(format_args!("another output of {}", case.input)));
+    }
     Ok(())
 }
 
