@@ -1,30 +1,25 @@
 -- The core after each event.
-use Rattle.std.proofs.Common.{◌≡◌, ℕ, ◌+◌, ◌<◌, ◌≤◌, ◌==◌, is_some, ◌&&◌, is_none, if◌then◌else◌, refl, sym, ◌∙◌, ap, subst, arith, IfOk, Bool, true, false, not, List, [], ◌∷◌, ◌++◌, length, map, find, get_or, set, Option, Some, None, Result, Ok, Err, length-append}
+use Rattle.std.proofs.Common.{◌≡◌, ℕ, ◌+◌, ◌<◌, ◌==◌, is_some, ◌&&◌, is_none, if◌then◌else◌, refl, sym, ◌∙◌, ap, subst, Bool, true, false, not, List, [], ◌∷◌, ◌++◌, length, map, get_or, set, Option, Some, None, Result, Ok, Err, length-append}
 use Rattle.std.specs.List.{list_any, position, slice_get}
 use Rattle.std.specs.Option.{option_map}
-use Rattle.std.proofs.Math.Seq.{drop-length}
-use Rattle.std.proofs.lemmas.List.{map-append, length-map, length_push, set-set, set-get_or}
+use Rattle.std.proofs.lemmas.List.{set-set, set-get_or}
 use Rattle.std.proofs.lemmas.Bool.{true≢false, false≢true}
 use Rattle.std.proofs.lemmas.List.Quantifiers.{position-Some}
 use Rattle.std.proofs.lemmas.Option.{slice_get-map, slice_get_read, none-some}
 use Rattle.wire_message.specs.Front.{Seen}
-use Rattle.wire_message.specs.Draft.{built, message_text, Builds, Draft}
-use Rattle.wire_message.specs.Circle.{IsNext, AllTaken}
 use Rattle.wire_message.specs.declared.error.Error.{Error}
 use Rattle.wire_message.specs.declared.error.Error.TheVariants as errors
-use Rattle.wire_message.specs.declared.error.IoKind.TheVariants as kinds
 use Rattle.peer_route.specs.declared.polled.Polled.{Polled}
 use Rattle.peer_route.specs.declared.polled.Polled.TheVariants as polled
 use Rattle.peer_route.specs.declared.calls.Slot.{Slot}
-use Rattle.peer_route.specs.declared.route.Issued.{Issued}
 use Rattle.peer_route.specs.declared.calls.Slot.TheVariants as slots
-use Rattle.peer_route.specs.History.{Event, Took, Shut, Put, Wrote, Fault, Spent, Made, Plain, Did, Deed, Gave, Told, Call, edit, read, put, closing, done, is_failed, last_serial, is_reply, is_serial, calls, found, bears, is_gone, new_call, first_of, pending, waits_with, poll_answer, poll_events, polled_at, polled_by, drop_answer, drop_events, dropped_at}
+use Rattle.peer_route.specs.History.{Event, Took, Shut, Wrote, Fault, Spent, Made, Plain, Did, Deed, Gave, Told, Call, edit, read, closing, done, is_reply, is_serial, calls, found, bears, is_gone, first_of, pending, waits_with, poll_answer, poll_events, polled_at, polled_by, drop_answer, drop_events, dropped_at}
 use Rattle.peer_route.specs.Streams.{busy, take_answer, take_events}
-use Rattle.peer_route.specs.Left.{Held, is_over, after_take, held_gives, LeftStreams, is_busy, is_empty_slot, slot_of, slot_by, is_waiting, AreDistinct, CallsView, waiting_serial, is_number, LeftCalls, View, Left, Issues, Places, Waits, placed}
+use Rattle.peer_route.specs.Left.{Held, is_over, after_take, held_gives, LeftStreams, is_busy, is_empty_slot, slot_of, slot_by, is_waiting, AreDistinct, CallsView, waiting_serial, is_number, LeftCalls, View, Left}
 use Rattle.peer_route.proofs.Plain.{list_any-map, list_any-along, position-None, is_some-position}
 use Rattle.peer_route.proofs.CallsMade.{calls_early, places, places_rise, places-edit, places-fail}
-use Rattle.peer_route.proofs.StreamsMade.{streams_shut, streams_put, streams_wrote, streams_fault, streams_spent, streams_made, streams_taken, taken_gives, over_any}
-use Rattle.peer_route.proofs.Slots.{arrived, slots_took, arrived_nowhere, arrived_past, arrived_first, arrived_distinct, gone_distinct, slots_spent, slots_kept, slots_lost, distinct_push, waits-slot}
+use Rattle.peer_route.proofs.StreamsMade.{streams_shut, streams_wrote, streams_fault, streams_spent, streams_made, streams_taken, taken_gives, over_any}
+use Rattle.peer_route.proofs.Slots.{arrived, slots_took, arrived_nowhere, arrived_past, arrived_first, arrived_distinct, gone_distinct, slots_spent, slots_kept, slots_lost, waits-slot}
 
 -- ---- a message comes
 
@@ -109,37 +104,6 @@ pending-left v h left serial =
     (ap (λ b. is_none (closing h) && b)
     (list_any-along (waits_with h serial) (λ c. is_waiting serial (slot_of h c)) (waits-slot h serial) (calls h)
     ∙ sym (list_any-map (is_waiting serial) (slot_of h) (calls h)))))
-
-pub IsNext-along : (f g : ℕ → Bool) (last serial : ℕ) → ((n : ℕ) → f n ≡ g n) → IsNext f last serial → IsNext g last serial
-IsNext-along f g last serial e x = record {
-  place = x.place;
-  one = x.one;
-  round = x.round;
-  there = x.there;
-  free = sym (e serial) ∙ x.free;
-  first = λ k a b. sym (e _) ∙ x.first k a b;
-}
-
-pub AllTaken-along : (f g : ℕ → Bool) → ((n : ℕ) → f n ≡ g n) → AllTaken f → AllTaken g
-AllTaken-along f g e x serial a b = sym (e serial) ∙ x serial a b
-
--- ---- a call is issued
-
-slot_new : (h : List Event) (m : Seen) → slot_of h (record { index = length (put h); serial = m.serial; from = length (read h); spent = false; failed = false }) ≡ slots.Waiting m.serial
-unfolding slot_of found
-slot_new h m = ap (λ ms. slot_by m.serial (find (bears m.serial) ms)) (drop-length (read h))
-
-pub issued_calls : (m : Seen) (v new : CallsView) (h : List Event) → new.slots ≡ v.slots ++ slots.Waiting m.serial ∷ [] → new.closing ≡ v.closing
-    → waiting_serial v m.serial ≡ false → LeftCalls v h → LeftCalls new (Put m true ∷ h)
-unfolding slot_of found waiting_serial
-issued_calls m v new h e same free left = record {
-  slots = e ∙ ap (λ ss. ss ++ slots.Waiting m.serial ∷ []) left.slots ∙ sym (map-append (slot_of h) (calls h) (new_call h m ∷ []) ∙ ap (λ s. map (slot_of h) (calls h) ++ s ∷ []) (slot_new h m));
-  closing = same ∙ left.closing;
-  distinct = λ open_.
-      let was : v.closing ≡ None = sym same ∙ open_ in
-      let none : list_any (is_waiting m.serial) v.slots ≡ false = (rw was at free) in
-      subst AreDistinct (sym e) (distinct_push m.serial v.slots none (left.distinct was));
-}
 
 -- ---- what the code reads of its slots
 
@@ -286,93 +250,6 @@ left_polled v cv k (Ok (polled.Closed error)) h left after = left_spent v cv k h
 left_polled v cv k (Ok polled.NotYet) h left after = left_same v cv h left after
 left_polled v cv k (Ok polled.Ended) h left after = left_same v cv h left after
 left_polled v cv k (Err error) h left after = left_same v cv h left after
-
--- ---- issuing
-
-pub next_left : (v : View) (h : List Event) (serial : ℕ) → Left v h → IsNext (waiting_serial v.calls) v.last serial → IsNext (pending h) (last_serial h) serial
-next_left v h serial left next =
-    subst (λ last. IsNext (pending h) last serial) left.last
-    (IsNext-along (waiting_serial v.calls) (pending h) v.last serial (λ n. sym (pending-left v.calls h left.calls n)) next)
-
--- what building refuses, issuing does
-pub refused : (v : View) (draft : Draft) (new : ℕ) (h : List Event) (error : Error) → Left v h
-    → Builds (waiting_serial v.calls) draft [] v.last new (Err error) → Issues v v draft h (Err error)
-refused v draft new h errors.SerialsSpent left b = (AllTaken-along (waiting_serial v.calls) (pending h) (λ n. sym (pending-left v.calls h left.calls n)) b.0, refl)
-refused v draft new h errors.ExcessData left b = (b.0, next_left v h b.0 left b.1, b.2, refl)
-refused v draft new h errors.Memory left b = refl
-refused v draft new h (errors.InputOutput kind) left b = absurd b
-refused v draft new h (errors.Variant kind) left b = absurd b
-refused v draft new h (errors.Names kind) left b = absurd b
-refused v draft new h errors.InvalidMatchRule left b = absurd b
-refused v draft new h errors.IncorrectEndian left b = absurd b
-refused v draft new h errors.UnknownHandle left b = absurd b
-
-left_issued : (v : View) (m : Seen) (h : List Event) → Left v h → waiting_serial v.calls m.serial ≡ false → Left (placed v m m.serial) (Put m true ∷ h)
-left_issued v m h left free = record {
-  calls = issued_calls m v.calls (placed v m m.serial).calls h refl refl free left.calls;
-  streams = streams_put m true v.streams h left.streams;
-  read = left.read;
-  last = refl;
-  outbox = ap (λ ms. ms ++ m ∷ []) left.outbox;
-  places = ap (λ ns. ns ++ length v.outbox ∷ []) left.places ∙ ap (λ ms. places (calls h) ++ length ms ∷ []) left.outbox
-      ∙ sym (map-append (λ (c : Call). c.index) (calls h) (new_call h m ∷ []));
-  done = left.done;
-  failed = left.failed;
-}
-
--- the number of calls
-slots_len : (v : CallsView) (h : List Event) → LeftCalls v h → length v.slots ≡ length (calls h)
-slots_len v h left = ap length left.slots ∙ length-map (calls h) (slot_of h)
-
-built-bytes : (draft : Draft) (serial : ℕ) → (built draft serial []).bytes ≡ message_text draft serial []
-unfolding built
-built-bytes draft serial = refl
-
--- A message that was built with the next serial and placed is issued.
-pub issued : (v new : View) (draft : Draft) (m : Seen) (last : ℕ) (r : Result Issued Error) (h : List Event) → Left v h
-    → Builds (waiting_serial v.calls) draft [] v.last last (Ok m) → v.failed ≡ false → Places v new m last r
-    → Issues v new draft h r
-issued v new draft m last (Ok got) h left made fine p =
-    let P : ℕ → Type 0 = λ serial. IsNext (pending h) (last_serial h) serial × (length (message_text draft serial []) ≤ 134217728)
-    × (is_failed h ≡ false) × (got.index ≡ length (put h)) × (got.call ≡ length (calls h))
-    × Left new (Put (built draft serial []) true ∷ h) in
-    subst P (sym p.1) (
-      next_left v h m.serial left made.0,
-      subst (λ bs. length bs ≤ 134217728) (ap (λ (n : Seen). n.bytes) made.3 ∙ built-bytes draft m.serial) made.2,
-      sym left.failed ∙ fine,
-      p.0 ∙ ap length left.outbox,
-      p.2 ∙ slots_len v.calls h left.calls,
-      subst (λ w. Left w (Put (built draft m.serial []) true ∷ h)) (sym (p.3 ∙ ap (placed v m) made.1))
-          (subst (λ n. Left (placed v m m.serial) (Put n true ∷ h)) made.3 (left_issued v m h left made.0.free)),
-    )
-issued v new draft m last (Err errors.Memory) h left made fine p = p
-issued v new draft m last (Err errors.SerialsSpent) h left made fine p = absurd p
-issued v new draft m last (Err errors.ExcessData) h left made fine p = absurd p
-issued v new draft m last (Err (errors.InputOutput kind)) h left made fine p = absurd p
-issued v new draft m last (Err (errors.Variant kind)) h left made fine p = absurd p
-issued v new draft m last (Err (errors.Names kind)) h left made fine p = absurd p
-issued v new draft m last (Err errors.InvalidMatchRule) h left made fine p = absurd p
-issued v new draft m last (Err errors.IncorrectEndian) h left made fine p = absurd p
-issued v new draft m last (Err errors.UnknownHandle) h left made fine p = absurd p
-
--- a message that was placed waits at the end of the outbox
-pub placed_waits : (v new : View) (m : Seen) (last : ℕ) (r : Result Issued Error) → v.failed ≡ false → Places v new m last r → IfOk r (Waits v new)
-placed_waits v new m last (Ok got) fine p =
-    let len : length new.outbox ≡ length v.outbox + 1 = ap (λ (w : View). length w.outbox) p.3 ∙ length_push v.outbox m in
-    (p.0, omega (arith, p.0, len), ap (λ (w : View). w.done) p.3, fine, ap (λ (w : View). w.failed) p.3 ∙ fine)
-placed_waits v new m last (Err e) fine p = tt
-
--- where a write failed, a message that was built isn't placed
-pub refused_failed : (v : View) (draft : Draft) (m : Seen) (last : ℕ) (h : List Event) → Left v h
-    → Builds (waiting_serial v.calls) draft [] v.last last (Ok m) → v.failed ≡ true
-    → Issues v v draft h (Err (errors.InputOutput kinds.WriteFault))
-refused_failed v draft m last h left made failed = (
-  m.serial,
-  next_left v h m.serial left made.0,
-  subst (λ bs. length bs ≤ 134217728) (ap (λ (n : Seen). n.bytes) made.3 ∙ built-bytes draft m.serial) made.2,
-  sym left.failed ∙ failed,
-  refl,
-)
 
 -- ---- streams
 

@@ -47,8 +47,8 @@ closing_stays (Did j deed ∷ xs) h error e = closing_stays xs h error e
 
 -- a closed peer reads nothing more
 reads_none : (t : Trail) (lane : ℕ) (w : Words) (a : Answer) (error : Error) → closing t.events ≡ Some error
-    → read (events_of t.events t.names t.streams lane w a ++ t.events) ≡ read t.events
-reads_none t lane (words.Call path member) a error e = call_read t.events _ a
+    → read (events_of t lane w a ++ t.events) ≡ read t.events
+reads_none t lane (words.Call destination path interface member flags) a error e = call_read t.events _ a
 reads_none t lane words.Read a error e = ap (λ o. read (read_events o a ++ t.events)) e
 reads_none t lane (words.Poll n) a error e = poll_read t.events (place 0 lane n t.names) a
 reads_none t lane (words.Drop n) a error e = drop_read t.events (place 0 lane n t.names) a
@@ -73,8 +73,8 @@ take_quiet_by h k (Some j) a over is =
     same_eqb n = eq-eqb n n refl
 
 over_not : (t : Trail) (lane₂ : ℕ) (w : Words) (a : Answer) (k : ℕ) → IsAnswer t lane₂ w a → take_of t.events (Some k) ≡ answers.Ended
-    → NotOf k (events_of t.events t.names t.streams lane₂ w a)
-over_not t lane₂ (words.Call path member) a k is over = call_not k t.events _ a
+    → NotOf k (events_of t lane₂ w a)
+over_not t lane₂ (words.Call destination path interface member flags) a k is over = call_not k t.events _ a
 over_not t lane₂ words.Read a k is over = read_not k (closing t.events) a
 over_not t lane₂ (words.Poll n) a k is over = poll_not k (place 0 lane₂ n t.names) a
 over_not t lane₂ (words.Drop n) a k is over = drop_not k (place 0 lane₂ n t.names) a
@@ -86,7 +86,7 @@ held_same g h s e = held_drop g s ∙ ap (drop (s.from + s.taken)) e ∙ sym (he
 
 over_step : (t : Trail) (lane₂ : ℕ) (w : Words) (a : Answer) (lane number : ℕ) → IsAnswer t lane₂ w a → Over t lane number → Over (more t (entry lane₂ w a)) lane number
 over_step t lane₂ w a lane number is o =
-    let xs = events_of t.events t.names t.streams lane₂ w a in
+    let xs = events_of t lane₂ w a in
     record {
       k = o.k;
       stream = o.stream;
@@ -106,12 +106,12 @@ ended_entry t x lane number is o same w =
     take_is t x number is w ∙ ap (λ l. take_of t.events (place 0 l number t.streams)) same
     ∙ ap (take_of t.events) o.named ∙ over_gives t.events o.k o.stream o.error o.made o.nothing o.told o.shut
 
-over_later : (newer older : List Entry) (e : Entry) (lane number : ℕ) → Legal (newer ++ e ∷ older) → Over (trail (e ∷ older)) lane number
-    → Over (trail (newer ++ e ∷ older)) lane number × AllByRecursion (IsEnded lane number) newer
-over_later [] older e lane number legal o = (o, tt)
-over_later (x ∷ newer) older e lane number legal o =
-    let rest = over_later newer older e lane number legal.1 o in
-    let t = trail (newer ++ e ∷ older) in
+over_later : (name : Option (List ℕ)) (newer older : List Entry) (e : Entry) (lane number : ℕ) → Legal name (newer ++ e ∷ older) → Over (trail name (e ∷ older)) lane number
+    → Over (trail name (newer ++ e ∷ older)) lane number × AllByRecursion (IsEnded lane number) newer
+over_later name [] older e lane number legal o = (o, tt)
+over_later name (x ∷ newer) older e lane number legal o =
+    let rest = over_later name newer older e lane number legal.1 o in
+    let t = trail name (newer ++ e ∷ older) in
     (over_step t x.lane x.words x.answer lane number legal.0 rest.0, (ended_entry t x lane number legal.0 rest.0, rest.1))
 
 -- ---- how a stream comes to its end
@@ -152,9 +152,9 @@ unfolding take_answer
 last_named t lane number a None named is last = absurd (subst IsLast is last)
 last_named t lane number a (Some k) named is last = last_at t lane number a (Some k) (slice_get (streams t.events) k) k named refl is last
 
-last_of : (older : List Entry) (e : Entry) (number : ℕ) → Legal (e ∷ older) → e.words ≡ words.Take number → IsLast e.answer → LastOf (trail older) e.lane number e.answer
-last_of older e number legal w last =
-    last_named (trail older) e.lane number e.answer (place 0 e.lane number (trail older).streams) refl (take_is (trail older) e number legal.0 w) last
+last_of : (name : Option (List ℕ)) (older : List Entry) (e : Entry) (number : ℕ) → Legal name (e ∷ older) → e.words ≡ words.Take number → IsLast e.answer → LastOf (trail name older) e.lane number e.answer
+last_of name older e number legal w last =
+    last_named (trail name older) e.lane number e.answer (place 0 e.lane number (trail name older).streams) refl (take_is (trail name older) e number legal.0 w) last
 
 -- after the last answer the stream is over
 over_tells : (t : Trail) (lane number k : ℕ) (s : Stream) (a : Answer) → place 0 lane number t.streams ≡ Some k → slice_get (streams t.events) k ≡ Some s
@@ -185,15 +185,15 @@ over_tells t lane number k s a named made (Ends error nothing shut told is) =
       shut = closing_stays (take_does (place 0 lane number t.streams) a) t.events error shut;
     }
 
-over_after : (older : List Entry) (e : Entry) (number : ℕ) → Legal (e ∷ older) → e.words ≡ words.Take number → IsLast e.answer → Over (trail (e ∷ older)) e.lane number
-over_after older e number legal w last =
-    let l = last_of older e number legal w last in
+over_after : (name : Option (List ℕ)) (older : List Entry) (e : Entry) (number : ℕ) → Legal name (e ∷ older) → e.words ≡ words.Take number → IsLast e.answer → Over (trail name (e ∷ older)) e.lane number
+over_after name older e number legal w last =
+    let l = last_of name older e number legal w last in
     let x : entry e.lane (words.Take number) e.answer ≡ e = ap (λ y. entry e.lane y e.answer) (sym w) in
-    subst (λ y. Over (more (trail older) y) e.lane number) x (over_tells (trail older) e.lane number l.k l.stream e.answer l.named l.made l.last)
+    subst (λ y. Over (more (trail name older) y) e.lane number) x (over_tells (trail name older) e.lane number l.k l.stream e.answer l.named l.made l.last)
 
-pub ended : (newer older : List Entry) (e : Entry) (number : ℕ) → Legal (newer ++ e ∷ older) → e.words ≡ words.Take number → IsLast e.answer → AllByRecursion (IsEnded e.lane number) newer
-ended newer older e number legal w last =
-    (over_later newer older e e.lane number legal (over_after older e number (legal_from newer (e ∷ older) legal) w last)).1
+pub ended : (name : Option (List ℕ)) (newer older : List Entry) (e : Entry) (number : ℕ) → Legal name (newer ++ e ∷ older) → e.words ≡ words.Take number → IsLast e.answer → AllByRecursion (IsEnded e.lane number) newer
+ended name newer older e number legal w last =
+    (over_later name newer older e e.lane number legal (over_after name older e number (legal_from name newer (e ∷ older) legal) w last)).1
 
 drained_by : (t : Trail) (lane number : ℕ) (a : Answer) (error : Error) (l : LastOf t lane number a) → Last t.events l.k l.stream a → a ≡ answers.Closed error → IsDrained t lane number error
 drained_by t lane number a error l (Tells other nothing shut is) e =
@@ -201,10 +201,10 @@ drained_by t lane number a error l (Tells other nothing shut is) e =
     record { k = l.k; stream = l.stream; named = l.named; made = l.made; nothing = nothing; first = shut ∙ ap (λ x. Some x) same }
 drained_by t lane number a error l (Ends other nothing shut told is) e = let q : answers.Ended ≡ answers.Closed error = sym is ∙ e in cc
 
-pub drained : (older : List Entry) (e : Entry) (number : ℕ) (error : Error) → Legal (e ∷ older) → e.words ≡ words.Take number → e.answer ≡ answers.Closed error → IsDrained (trail older) e.lane number error
-drained older e number error legal w a =
-    let l = last_of older e number legal w (subst IsLast (sym a) tt) in
-    drained_by (trail older) e.lane number e.answer error l l.last a
+pub drained : (name : Option (List ℕ)) (older : List Entry) (e : Entry) (number : ℕ) (error : Error) → Legal name (e ∷ older) → e.words ≡ words.Take number → e.answer ≡ answers.Closed error → IsDrained (trail name older) e.lane number error
+drained name older e number error legal w a =
+    let l = last_of name older e number legal w (subst IsLast (sym a) tt) in
+    drained_by (trail name older) e.lane number e.answer error l l.last a
 
 -- ---- a stream that is made after the peer was closed
 
@@ -226,21 +226,21 @@ over_made t lane error e shut = record {
   shut = shut;
 }
 
-over_from_start : (older : List Entry) (e : Entry) (number : ℕ) (error : Error) → Legal (e ∷ older) → e.words ≡ words.Stream → e.answer ≡ answers.Streaming number → closing (trail older).events ≡ Some error
-    → Over (trail (e ∷ older)) e.lane number
-over_from_start older e number error legal w a shut =
-    let t = trail older in
+over_from_start : (name : Option (List ℕ)) (older : List Entry) (e : Entry) (number : ℕ) (error : Error) → Legal name (e ∷ older) → e.words ≡ words.Stream → e.answer ≡ answers.Streaming number → closing (trail name older).events ≡ Some error
+    → Over (trail name (e ∷ older)) e.lane number
+over_from_start name older e number error legal w a shut =
+    let t = trail name older in
     let is = stream_is t e legal.0 w in
     let n : count e.lane t.streams ≡ number = let same : answers.Streaming (count e.lane t.streams) ≡ answers.Streaming number = sym is ∙ a in cc in
     let x : entry e.lane words.Stream (answers.Streaming (count e.lane t.streams)) ≡ e =
     ap (λ y. entry e.lane y (answers.Streaming (count e.lane t.streams))) (sym w) ∙ ap (entry e.lane e.words) (sym is) in
-    subst (λ k. Over (trail (e ∷ older)) e.lane k) n
-    (subst (λ y. Over (more t y) e.lane (count e.lane t.streams)) x (over_made t e.lane error (lanes older legal.1) shut))
+    subst (λ k. Over (trail name (e ∷ older)) e.lane k) n
+    (subst (λ y. Over (more t y) e.lane (count e.lane t.streams)) x (over_made t e.lane error (lanes name older legal.1) shut))
 
-pub ended_from_start : (newer older : List Entry) (e : Entry) (number : ℕ) (error : Error) → Legal (newer ++ e ∷ older) → e.words ≡ words.Stream → e.answer ≡ answers.Streaming number
-    → closing (trail older).events ≡ Some error → AllByRecursion (IsEnded e.lane number) newer
-ended_from_start newer older e number error legal w a shut =
-    (over_later newer older e e.lane number legal (over_from_start older e number error (legal_from newer (e ∷ older) legal) w a shut)).1
+pub ended_from_start : (name : Option (List ℕ)) (newer older : List Entry) (e : Entry) (number : ℕ) (error : Error) → Legal name (newer ++ e ∷ older) → e.words ≡ words.Stream → e.answer ≡ answers.Streaming number
+    → closing (trail name older).events ≡ Some error → AllByRecursion (IsEnded e.lane number) newer
+ended_from_start name newer older e number error legal w a shut =
+    (over_later name newer older e e.lane number legal (over_from_start name older e number error (legal_from name newer (e ∷ older) legal) w a shut)).1
 
 -- ---- a busy read
 
@@ -283,10 +283,10 @@ too_many h open_ e =
     let at = any_at (is_full h) (streams h) (open_full (closing h) (list_any (is_full h) (streams h)) open_ e) in
     record { is_open = open_; k = at.0; stream = at.1; made = at.2; over = full_over h at.1 at.3 }
 
-pub busy_only : (older : List Entry) (e : Entry) → Legal (e ∷ older) → e.words ≡ words.Read → e.answer ≡ answers.Busy → HoldsTooMany (trail older).events
-busy_only older e legal w a =
-    let b = busy_by (closing (trail older).events) (busy (trail older).events) (length (read (trail older).events)) e.answer (read_is (trail older) e legal.0 w) a in
-    too_many (trail older).events b.0 b.1
+pub busy_only : (name : Option (List ℕ)) (older : List Entry) (e : Entry) → Legal name (e ∷ older) → e.words ≡ words.Read → e.answer ≡ answers.Busy → HoldsTooMany (trail name older).events
+busy_only name older e legal w a =
+    let b = busy_by (closing (trail name older).events) (busy (trail name older).events) (length (read (trail name older).events)) e.answer (read_is (trail name older) e legal.0 w) a in
+    too_many (trail name older).events b.0 b.1
 
 busy_of : (h : List Event) → HoldsTooMany h → busy h ≡ true
 unfolding busy
@@ -297,18 +297,18 @@ busy_answer (Some error) full n a e f is = cc
 busy_answer None true n a e f is = is
 busy_answer None false n a e f is = cc
 
-pub busy_there : (older : List Entry) (e : Entry) → Legal (e ∷ older) → e.words ≡ words.Read → HoldsTooMany (trail older).events → e.answer ≡ answers.Busy
-busy_there older e legal w many =
-    busy_answer (closing (trail older).events) (busy (trail older).events) (length (read (trail older).events)) e.answer many.is_open (busy_of (trail older).events many) (read_is (trail older) e legal.0 w)
+pub busy_there : (name : Option (List ℕ)) (older : List Entry) (e : Entry) → Legal name (e ∷ older) → e.words ≡ words.Read → HoldsTooMany (trail name older).events → e.answer ≡ answers.Busy
+busy_there name older e legal w many =
+    busy_answer (closing (trail name older).events) (busy (trail name older).events) (length (read (trail name older).events)) e.answer many.is_open (busy_of (trail name older).events many) (read_is (trail name older) e legal.0 w)
 
 busy_events : (o : Option Error) → read_events o answers.Busy ≡ []
 busy_events None = refl
 busy_events (Some error) = refl
 
 -- a busy read changes nothing
-pub busy_keeps : (older : List Entry) (e : Entry) → e.words ≡ words.Read → e.answer ≡ answers.Busy → (trail (e ∷ older)).events ≡ (trail older).events
-busy_keeps older e w a =
-    let t = trail older in
-    ap (λ x. events_of t.events t.names t.streams e.lane x e.answer ++ t.events) w
+pub busy_keeps : (name : Option (List ℕ)) (older : List Entry) (e : Entry) → e.words ≡ words.Read → e.answer ≡ answers.Busy → (trail name (e ∷ older)).events ≡ (trail name older).events
+busy_keeps name older e w a =
+    let t = trail name older in
+    ap (λ x. events_of t e.lane x e.answer ++ t.events) w
     ∙ ap (λ x. read_events (closing t.events) x ++ t.events) a
     ∙ ap (λ xs. xs ++ t.events) (busy_events (closing t.events))

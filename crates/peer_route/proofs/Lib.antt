@@ -4,6 +4,7 @@ pub mod CallsMade
 pub mod Slots
 pub mod StreamsMade
 pub mod Core
+pub mod Issuing
 pub mod NextSerial
 pub mod Steps
 pub mod Once

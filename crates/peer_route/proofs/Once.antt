@@ -127,19 +127,19 @@ final_over h (Some k) a e f =
 
 -- the entry that gave the answer leaves the call over
 over_now : (t : Trail) (e : Entry) (number : ℕ) → IsAnswer t e.lane e.words e.answer → e.words ≡ words.Poll number → IsFinal e.answer
-    → (k : ℕ) × (place 0 e.lane number t.names ≡ Some k) × (gone_at (calls (events_of t.events t.names t.streams e.lane e.words e.answer ++ t.events)) k ≡ true)
+    → (k : ℕ) × (place 0 e.lane number t.names ≡ Some k) × (gone_at (calls (events_of t e.lane e.words e.answer ++ t.events)) k ≡ true)
 over_now t e number a w f = rw w (final_over t.events (place 0 e.lane number t.names) e.answer (poll_is t e number a w) f)
 
-over_after : (e : Entry) (es : List Entry) (number : ℕ) → Legal (e ∷ es) → e.words ≡ words.Poll number → IsFinal e.answer → IsOver (trail (e ∷ es)) e.lane number
-over_after e es number legal w f =
-    let now = over_now (trail es) e number legal.0 w f in
-    (now.0, place_append 0 e.lane number (trail es).names (new_names (trail es).events e.lane e.answer) now.0 now.1, now.2)
+over_after : (name : Option (List ℕ)) (e : Entry) (es : List Entry) (number : ℕ) → Legal name (e ∷ es) → e.words ≡ words.Poll number → IsFinal e.answer → IsOver (trail name (e ∷ es)) e.lane number
+over_after name e es number legal w f =
+    let now = over_now (trail name es) e number legal.0 w f in
+    (now.0, place_append 0 e.lane number (trail name es).names (new_names (trail name es).events e.lane e.words e.answer) now.0 now.1, now.2)
 
-over_more : (e : Entry) (es : List Entry) (lane number : ℕ) → IsOver (trail es) lane number → IsOver (trail (e ∷ es)) lane number
-over_more e es lane number over = (
+over_more : (name : Option (List ℕ)) (e : Entry) (es : List Entry) (lane number : ℕ) → IsOver (trail name es) lane number → IsOver (trail name (e ∷ es)) lane number
+over_more name e es lane number over = (
   over.0,
-  place_append 0 lane number (trail es).names (new_names (trail es).events e.lane e.answer) over.0 over.1,
-  gone_events (events_of (trail es).events (trail es).names (trail es).streams e.lane e.words e.answer) (trail es).events over.0 over.2,
+  place_append 0 lane number (trail name es).names (new_names (trail name es).events e.lane e.words e.answer) over.0 over.1,
+  gone_events (events_of (trail name es) e.lane e.words e.answer) (trail name es).events over.0 over.2,
 )
 
 unknown_at : (t : Trail) (lane number : ℕ) → IsOver t lane number → poll_of t.events (place 0 lane number t.names) ≡ answers.Refused errors.UnknownHandle
@@ -148,29 +148,29 @@ unknown_at t lane number over = rw over.1 (gone_shown t.events over.0 over.2)
 unknown_drop_at : (t : Trail) (lane number : ℕ) → IsOver t lane number → drop_of t.events (place 0 lane number t.names) ≡ answers.Refused errors.UnknownHandle
 unknown_drop_at t lane number over = rw over.1 (gone_drop_shown t.events over.0 over.2)
 
-unknown_entry : (e : Entry) (es : List Entry) (lane number : ℕ) → IsOver (trail es) lane number → Legal (e ∷ es) → IsUnknown lane number e
-unknown_entry e es lane number over legal same (inl w) =
-    poll_is (trail es) e number legal.0 w
-    ∙ ap (λ l. poll_of (trail es).events (place 0 l number (trail es).names)) same
-    ∙ unknown_at (trail es) lane number over
-unknown_entry e es lane number over legal same (inr w) =
-    drop_is (trail es) e number legal.0 w
-    ∙ ap (λ l. drop_of (trail es).events (place 0 l number (trail es).names)) same
-    ∙ unknown_drop_at (trail es) lane number over
+unknown_entry : (name : Option (List ℕ)) (e : Entry) (es : List Entry) (lane number : ℕ) → IsOver (trail name es) lane number → Legal name (e ∷ es) → IsUnknown lane number e
+unknown_entry name e es lane number over legal same (inl w) =
+    poll_is (trail name es) e number legal.0 w
+    ∙ ap (λ l. poll_of (trail name es).events (place 0 l number (trail name es).names)) same
+    ∙ unknown_at (trail name es) lane number over
+unknown_entry name e es lane number over legal same (inr w) =
+    drop_is (trail name es) e number legal.0 w
+    ∙ ap (λ l. drop_of (trail name es).events (place 0 l number (trail name es).names)) same
+    ∙ unknown_drop_at (trail name es) lane number over
 
-unknown_later : (newer older : List Entry) (e : Entry) (number : ℕ) → Legal (newer ++ e ∷ older) → IsOver (trail (e ∷ older)) e.lane number
-    → IsOver (trail (newer ++ e ∷ older)) e.lane number × AllByRecursion (IsUnknown e.lane number) newer
-unknown_later [] older e number legal over = (over, tt)
-unknown_later (x ∷ newer) older e number legal over =
-    let rest = unknown_later newer older e number legal.1 over in
-    (over_more x (newer ++ e ∷ older) e.lane number rest.0, (unknown_entry x (newer ++ e ∷ older) e.lane number rest.0 legal, rest.1))
+unknown_later : (name : Option (List ℕ)) (newer older : List Entry) (e : Entry) (number : ℕ) → Legal name (newer ++ e ∷ older) → IsOver (trail name (e ∷ older)) e.lane number
+    → IsOver (trail name (newer ++ e ∷ older)) e.lane number × AllByRecursion (IsUnknown e.lane number) newer
+unknown_later name [] older e number legal over = (over, tt)
+unknown_later name (x ∷ newer) older e number legal over =
+    let rest = unknown_later name newer older e number legal.1 over in
+    (over_more name x (newer ++ e ∷ older) e.lane number rest.0, (unknown_entry name x (newer ++ e ∷ older) e.lane number rest.0 legal, rest.1))
 
-pub legal_from : (newer older : List Entry) → Legal (newer ++ older) → Legal older
-legal_from [] older legal = legal
-legal_from (x ∷ newer) older legal = legal_from newer older legal.1
+pub legal_from : (name : Option (List ℕ)) (newer older : List Entry) → Legal name (newer ++ older) → Legal name older
+legal_from name [] older legal = legal
+legal_from name (x ∷ newer) older legal = legal_from name newer older legal.1
 
-pub once : (newer older : List Entry) (e : Entry) (number : ℕ) → Legal (newer ++ e ∷ older) → e.words ≡ words.Poll number → IsFinal e.answer → AllByRecursion (IsUnknown e.lane number) newer
-once newer older e number legal w f = (unknown_later newer older e number legal (over_after e older number (legal_from newer (e ∷ older) legal) w f)).1
+pub once : (name : Option (List ℕ)) (newer older : List Entry) (e : Entry) (number : ℕ) → Legal name (newer ++ e ∷ older) → e.words ≡ words.Poll number → IsFinal e.answer → AllByRecursion (IsUnknown e.lane number) newer
+once name newer older e number legal w f = (unknown_later name newer older e number legal (over_after name e older number (legal_from name newer (e ∷ older) legal) w f)).1
 
 -- ---- a drop
 
@@ -184,13 +184,13 @@ dropped_over h None e = cc
 dropped_over h (Some k) e = (k, refl, dropped_made (calls h) k (slice_get (calls h) k) refl e)
 
 dropped_now : (t : Trail) (e : Entry) (number : ℕ) → IsAnswer t e.lane e.words e.answer → e.words ≡ words.Drop number → e.answer ≡ answers.Dropped
-    → (k : ℕ) × (place 0 e.lane number t.names ≡ Some k) × (gone_at (calls (events_of t.events t.names t.streams e.lane e.words e.answer ++ t.events)) k ≡ true)
+    → (k : ℕ) × (place 0 e.lane number t.names ≡ Some k) × (gone_at (calls (events_of t e.lane e.words e.answer ++ t.events)) k ≡ true)
 dropped_now t e number a w f = rw (w, f) (dropped_over t.events (place 0 e.lane number t.names) (sym (drop_is t e number a w) ∙ f))
 
-dropped_after : (e : Entry) (es : List Entry) (number : ℕ) → Legal (e ∷ es) → e.words ≡ words.Drop number → e.answer ≡ answers.Dropped → IsOver (trail (e ∷ es)) e.lane number
-dropped_after e es number legal w f =
-    let now = dropped_now (trail es) e number legal.0 w f in
-    (now.0, place_append 0 e.lane number (trail es).names (new_names (trail es).events e.lane e.answer) now.0 now.1, now.2)
+dropped_after : (name : Option (List ℕ)) (e : Entry) (es : List Entry) (number : ℕ) → Legal name (e ∷ es) → e.words ≡ words.Drop number → e.answer ≡ answers.Dropped → IsOver (trail name (e ∷ es)) e.lane number
+dropped_after name e es number legal w f =
+    let now = dropped_now (trail name es) e number legal.0 w f in
+    (now.0, place_append 0 e.lane number (trail name es).names (new_names (trail name es).events e.lane e.words e.answer) now.0 now.1, now.2)
 
-pub dropped : (newer older : List Entry) (e : Entry) (number : ℕ) → Legal (newer ++ e ∷ older) → e.words ≡ words.Drop number → e.answer ≡ answers.Dropped → AllByRecursion (IsUnknown e.lane number) newer
-dropped newer older e number legal w f = (unknown_later newer older e number legal (dropped_after e older number (legal_from newer (e ∷ older) legal) w f)).1
+pub dropped : (name : Option (List ℕ)) (newer older : List Entry) (e : Entry) (number : ℕ) → Legal name (newer ++ e ∷ older) → e.words ≡ words.Drop number → e.answer ≡ answers.Dropped → AllByRecursion (IsUnknown e.lane number) newer
+dropped name newer older e number legal w f = (unknown_later name newer older e number legal (dropped_after name e older number (legal_from name newer (e ∷ older) legal) w f)).1

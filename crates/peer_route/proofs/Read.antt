@@ -17,7 +17,7 @@ use Rattle.peer_route.specs.declared.answer.Entry.{Entry}
 use Rattle.peer_route.specs.History.{Event, Put, Call, read, closing, is_failed, calls, found, bears, is_gone, polled_by, polled_at, poll_answer}
 use Rattle.peer_route.specs.Streams.{busy}
 use Rattle.peer_route.specs.Trail.{Trail, place, trail, failed_put, call_events, read_events, poll_spends, drop_spends, stream_makes, take_does, events_of}
-use Rattle.peer_route.specs.Answers.{IsAnswer, IsReadOf, Legal, error_answer, reply_by, reply_answer, shown, poll_of}
+use Rattle.peer_route.specs.Answers.{IsAnswer, IsReadOf, Legal, error_answer, reply_by, shown, poll_of}
 use Rattle.peer_route.specs.Laws.{IsReplyAt, IsFirstReply, IsCutOff}
 use Rattle.peer_route.proofs.Once.{poll_is}
 
@@ -44,13 +44,14 @@ ranked_read h None false (answers.Got m) is r = ranked_push 0 (read h) m r (let 
 ranked_read h None false (answers.Closed error) is r = r
 ranked_read h None false a is r = absurd is
 
-failed_read : (b : Bool) (h : List Event) (m : Seen) → read (failed_put b (Put m true) ++ h) ≡ read h
-failed_read true h m = refl
-failed_read false h m = refl
+failed_read : (b : Bool) (h : List Event) (m : Seen) (expects : Bool) → read (failed_put b (Put m expects) ++ h) ≡ read h
+failed_read true h m expects = refl
+failed_read false h m expects = refl
 
 pub call_read : (h : List Event) (draft : Draft) (a : Answer) → read (call_events h draft a ++ h) ≡ read h
 call_read h draft (answers.Called call serial) = refl
-call_read h draft (answers.SendFailed error) = failed_read (is_failed h) h _
+call_read h draft (answers.Sent serial) = refl
+call_read h draft (answers.SendFailed error) = failed_read (is_failed h) h _ _
 call_read h draft a = refl
 
 pub poll_read : (h : List Event) (p : Option ℕ) (a : Answer) → read (poll_spends p a ++ h) ≡ read h
@@ -76,17 +77,17 @@ take_read h (Some k) (answers.Item position) = refl
 take_read h (Some k) (answers.Closed error) = refl
 take_read h (Some k) a = refl
 
-ranked_entry : (t : Trail) (lane : ℕ) (w : Words) (a : Answer) → IsAnswer t lane w a → Ranked 0 (read t.events) → Ranked 0 (read (events_of t.events t.names t.streams lane w a ++ t.events))
-ranked_entry t lane (words.Call path member) a is r = subst (Ranked 0) (sym (call_read t.events _ a)) r
+ranked_entry : (t : Trail) (lane : ℕ) (w : Words) (a : Answer) → IsAnswer t lane w a → Ranked 0 (read t.events) → Ranked 0 (read (events_of t lane w a ++ t.events))
+ranked_entry t lane (words.Call destination path interface member flags) a is r = subst (Ranked 0) (sym (call_read t.events _ a)) r
 ranked_entry t lane words.Read a is r = ranked_read t.events (closing t.events) (busy t.events) a is r
 ranked_entry t lane (words.Poll number) a is r = subst (Ranked 0) (sym (poll_read t.events (place 0 lane number t.names) a)) r
 ranked_entry t lane (words.Drop number) a is r = subst (Ranked 0) (sym (drop_read t.events (place 0 lane number t.names) a)) r
 ranked_entry t lane words.Stream a is r = subst (Ranked 0) (sym (stream_read t.events a)) r
 ranked_entry t lane (words.Take number) a is r = subst (Ranked 0) (sym (take_read t.events (place 0 lane number t.streams) a)) r
 
-ranked : (es : List Entry) → Legal es → Ranked 0 (read (trail es).events)
-ranked [] legal = tt
-ranked (e ∷ es) legal = ranked_entry (trail es) e.lane e.words e.answer legal.0 (ranked es legal.1)
+ranked : (name : Option (List ℕ)) (es : List Entry) → Legal name es → Ranked 0 (read (trail name es).events)
+ranked name [] legal = tt
+ranked name (e ∷ es) legal = ranked_entry (trail name es) e.lane e.words e.answer legal.0 (ranked name es legal.1)
 
 -- ---- what a search finds
 
@@ -192,9 +193,9 @@ first_by t lane number q a (Some k) r named e is =
       stands = at.1;
     }
 
-pub by_the_first : (older : List Entry) (e : Entry) (number q : ℕ) → Legal (e ∷ older) → e.words ≡ words.Poll number → IsReplyAt q e.answer → IsFirstReply (trail older) e.lane number q e.answer
-by_the_first older e number q legal w is =
-    first_by (trail older) e.lane number q e.answer (place 0 e.lane number (trail older).names) (ranked older legal.1) refl (poll_is (trail older) e number legal.0 w) is
+pub by_the_first : (name : Option (List ℕ)) (older : List Entry) (e : Entry) (number q : ℕ) → Legal name (e ∷ older) → e.words ≡ words.Poll number → IsReplyAt q e.answer → IsFirstReply (trail name older) e.lane number q e.answer
+by_the_first name older e number q legal w is =
+    first_by (trail name older) e.lane number q e.answer (place 0 e.lane number (trail name older).names) (ranked name older legal.1) refl (poll_is (trail name older) e number legal.0 w) is
 
 -- ---- the closing error
 
@@ -212,6 +213,6 @@ cut_by t lane number error (Some k) named e =
       first = c.3;
     }
 
-pub by_the_closing_error : (older : List Entry) (e : Entry) (number : ℕ) (error : Error) → Legal (e ∷ older) → e.words ≡ words.Poll number → e.answer ≡ answers.Closed error → IsCutOff (trail older) e.lane number error
-by_the_closing_error older e number error legal w closed =
-    cut_by (trail older) e.lane number error (place 0 e.lane number (trail older).names) refl (sym (poll_is (trail older) e number legal.0 w) ∙ closed)
+pub by_the_closing_error : (name : Option (List ℕ)) (older : List Entry) (e : Entry) (number : ℕ) (error : Error) → Legal name (e ∷ older) → e.words ≡ words.Poll number → e.answer ≡ answers.Closed error → IsCutOff (trail name older) e.lane number error
+by_the_closing_error name older e number error legal w closed =
+    cut_by (trail name older) e.lane number error (place 0 e.lane number (trail name older).names) refl (sym (poll_is (trail name older) e number legal.0 w) ∙ closed)

@@ -24,8 +24,8 @@ take_refused : (p : Option ℕ) (error : Error) → take_does p (answers.Refused
 take_refused None error = refl
 take_refused (Some k) error = refl
 
-no_events : (t : Trail) (lane : ℕ) (w : Words) (error : Error) → events_of t.events t.names t.streams lane w (answers.Refused error) ≡ []
-no_events t lane (words.Call path member) error = refl
+no_events : (t : Trail) (lane : ℕ) (w : Words) (error : Error) → events_of t lane w (answers.Refused error) ≡ []
+no_events t lane (words.Call destination path interface member flags) error = refl
 no_events t lane words.Read error = read_refused (closing t.events) error
 no_events t lane (words.Poll n) error = poll_refused (place 0 lane n t.names) error
 no_events t lane (words.Drop n) error = drop_refused (place 0 lane n t.names) error
@@ -34,10 +34,10 @@ no_events t lane (words.Take n) error = take_refused (place 0 lane n t.streams) 
 
 refused_keeps : (t : Trail) (lane : ℕ) (w : Words) (error : Error) → more t (record { lane = lane; words = w; answer = answers.Refused error }) ≡ t
 refused_keeps t lane w error =
-    ap (λ xs. record { events = xs ++ t.events; names = t.names ++ []; streams = t.streams ++ [] }) (no_events t lane w error)
-    ∙ ap (λ ns. record { events = t.events; names = ns; streams = t.streams ++ [] }) (append-nil t.names)
-    ∙ ap (λ ns. record { events = t.events; names = t.names; streams = ns }) (append-nil t.streams)
+    ap (λ xs. record { events = xs ++ t.events; names = t.names ++ []; streams = t.streams ++ []; name = t.name }) (no_events t lane w error)
+    ∙ ap (λ ns. record { events = t.events; names = ns; streams = t.streams ++ []; name = t.name }) (append-nil t.names)
+    ∙ ap (λ ns. record { events = t.events; names = t.names; streams = ns; name = t.name }) (append-nil t.streams)
 
-pub refused_changes_nothing : (older : List Entry) (e : Entry) (error : Error) → e.answer ≡ answers.Refused error → trail (e ∷ older) ≡ trail older
-refused_changes_nothing older e error a =
-    ap (λ x. more (trail older) (record { lane = e.lane; words = e.words; answer = x })) a ∙ refused_keeps (trail older) e.lane e.words error
+pub refused_changes_nothing : (name : Option (List ℕ)) (older : List Entry) (e : Entry) (error : Error) → e.answer ≡ answers.Refused error → trail name (e ∷ older) ≡ trail name older
+refused_changes_nothing name older e error a =
+    ap (λ x. more (trail name older) (record { lane = e.lane; words = e.words; answer = x })) a ∙ refused_keeps (trail name older) e.lane e.words error

@@ -1,42 +1,34 @@
 -- One entry more: what an answer of the core makes of a history.
-use Rattle.std.proofs.Common.{◌≡◌, ℕ, ◌≤◌, ◌<◌, refl, sym, ◌∙◌, ap, true, false, List, [], ◌∷◌, ◌++◌, length, drop, Some, None, length-append, append_assoc}
+use Rattle.std.proofs.Common.{◌≡◌, ℕ, ◌≤◌, ◌<◌, refl, sym, ◌∙◌, ap, List, [], ◌∷◌, ◌++◌, length, drop, Some, None, length-append, append_assoc}
 use Rattle.std.proofs.lemmas.List.{drop-drop, append-nil}
 use Rattle.std.proofs.Math.Seq.{drop-append_seam}
 use borrow.Author.Tests.{lt-ltb, le-ltb}
-use Rattle.wire_names.specs.Names.{is_object_path, is_member_name}
-use Rattle.wire_names.specs.declared.error.NamesError.TheVariants as names
 use Rattle.wire_message.specs.Front.{Seen}
-use Rattle.wire_message.specs.Draft.{call_draft, message_text}
+use Rattle.wire_message.specs.Draft.{Draft, message_text}
 use Rattle.wire_message.specs.Circle.{IsNext, AllTaken}
+use Rattle.wire_message.specs.declared.error.Error.{Error}
 use Rattle.wire_message.specs.declared.error.Error.TheVariants as errors
 use Rattle.peer_route.specs.History.{Event, Took, read, pending, last_serial}
-use Rattle.peer_route.specs.Answers.{call_refusal}
+use Rattle.peer_route.specs.Trail.{next_serial}
+use Rattle.peer_route.specs.Answers.{call_refusal, words_refusal, refusal_by}
 use Rattle.peer_route.specs.Told.{encodings, left_after}
 use Rattle.peer_route.proofs.NextSerial.{next_serial-next, next_serial-none}
 
 -- ---- why a call is refused
 
-pub call_refusal-path : (h : List Event) (path member : List ℕ) → is_object_path path ≡ false → call_refusal h path member ≡ Some (errors.Names names.Path)
-unfolding call_refusal
-call_refusal-path h path member e = rw e refl
+pub refused-words : (h : List Event) (draft : Draft) (error : Error) → words_refusal draft ≡ Some error → call_refusal h draft ≡ Some error
+refused-words h draft error w = ap (λ o. refusal_by o (next_serial h) draft) w
 
-pub call_refusal-member : (h : List Event) (path member : List ℕ) → is_object_path path ≡ true → is_member_name member ≡ false → call_refusal h path member ≡ Some (errors.Names names.Member)
-unfolding call_refusal
-call_refusal-member h path member p m = rw (p, m) refl
+pub refused-spent : (h : List Event) (draft : Draft) → words_refusal draft ≡ None → AllTaken (pending h) → call_refusal h draft ≡ Some errors.SerialsSpent
+refused-spent h draft w all = rw (w, next_serial-none h all) refl
 
-pub call_refusal-spent : (h : List Event) (path member : List ℕ) → is_object_path path ≡ true → is_member_name member ≡ true → AllTaken (pending h) → call_refusal h path member ≡ Some errors.SerialsSpent
-unfolding call_refusal
-call_refusal-spent h path member p m all = rw (p, m, next_serial-none h all) refl
+pub refused-long : (h : List Event) (draft : Draft) (serial : ℕ) → words_refusal draft ≡ None
+    → IsNext (pending h) (last_serial h) serial → 134217728 < length (message_text draft serial []) → call_refusal h draft ≡ Some errors.ExcessData
+refused-long h draft serial w next long = rw (w, next_serial-next h serial next, lt-ltb _ _ long) refl
 
-pub call_refusal-long : (h : List Event) (path member : List ℕ) (serial : ℕ) → is_object_path path ≡ true → is_member_name member ≡ true
-    → IsNext (pending h) (last_serial h) serial → 134217728 < length (message_text (call_draft path member) serial []) → call_refusal h path member ≡ Some errors.ExcessData
-unfolding call_refusal
-call_refusal-long h path member serial p m next long = rw (p, m, next_serial-next h serial next, lt-ltb _ _ long) refl
-
-pub call_refusal-none : (h : List Event) (path member : List ℕ) (serial : ℕ) → is_object_path path ≡ true → is_member_name member ≡ true
-    → IsNext (pending h) (last_serial h) serial → length (message_text (call_draft path member) serial []) ≤ 134217728 → call_refusal h path member ≡ None
-unfolding call_refusal
-call_refusal-none h path member serial p m next short = rw (p, m, next_serial-next h serial next, le-ltb _ _ short) refl
+pub not_refused : (h : List Event) (draft : Draft) (serial : ℕ) → words_refusal draft ≡ None
+    → IsNext (pending h) (last_serial h) serial → length (message_text draft serial []) ≤ 134217728 → call_refusal h draft ≡ None
+not_refused h draft serial w next short = rw (w, next_serial-next h serial next, le-ltb _ _ short) refl
 
 -- ---- bytes
 

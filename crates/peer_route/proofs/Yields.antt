@@ -18,7 +18,7 @@ use Rattle.peer_route.specs.declared.answer.Entry.{Entry}
 use Rattle.peer_route.specs.History.{Event, Took, Shut, Put, Wrote, Fault, Spent, Made, Did, Plain, read, closing, edit, is_failed, poll_answer, drop_answer}
 use Rattle.peer_route.specs.Streams.{Stream, streams, new_stream, give, tell, done_by, matched, held, busy, take_by, take_at, take_answer}
 use Rattle.peer_route.specs.Trail.{Trail, Names, place, count, trail, more, failed_put, call_events, read_events, poll_spends, drop_spends, stream_makes, take_does, events_of, new_streams}
-use Rattle.peer_route.specs.Answers.{IsAnswer, IsReadOf, IsCalled, Legal, call_refusal, error_answer, reply_by, shown, poll_of, shown_drop, drop_of, shown_take, take_of}
+use Rattle.peer_route.specs.Answers.{IsAnswer, IsReadOf, IsCalled, Legal, sent_answer, error_answer, reply_by, shown, poll_of, shown_drop, drop_of, shown_take, take_of}
 use Rattle.peer_route.specs.StreamLaws.{positions, is_take, item_by, items_given, Yields}
 use Rattle.peer_route.proofs.Once.{place_append}
 use Rattle.peer_route.proofs.Lanes.{apart}
@@ -78,13 +78,14 @@ read_grows (Spent call ∷ xs) h = read_grows xs h
 read_grows (Made making ∷ xs) h = read_grows xs h
 read_grows (Did j deed ∷ xs) h = read_grows xs h
 
-failed_not : (k : ℕ) (b : Bool) (m : Seen) → NotOf k (failed_put b (Put m true))
-failed_not k true m = tt
-failed_not k false m = tt
+failed_not : (k : ℕ) (b : Bool) (m : Seen) (expects : Bool) → NotOf k (failed_put b (Put m expects))
+failed_not k true m expects = tt
+failed_not k false m expects = tt
 
 pub call_not : (k : ℕ) (h : List Event) (draft : Draft) (a : Answer) → NotOf k (call_events h draft a)
 call_not k h draft (answers.Called call serial) = tt
-call_not k h draft (answers.SendFailed error) = failed_not k (is_failed h) _
+call_not k h draft (answers.Sent serial) = tt
+call_not k h draft (answers.SendFailed error) = failed_not k (is_failed h) _ _
 call_not k h draft a = tt
 
 pub read_not : (k : ℕ) (o : Option Error) (a : Answer) → NotOf k (read_events o a)
@@ -137,9 +138,9 @@ part_grows from n xs ys le =
     ap (take n) (drop-append-le from xs ys (omega arith)) ∙ take-append-le n (drop from xs) ys (omega (arith, length-drop from xs))
 
 kept : (t : Trail) (lane₂ : ℕ) (w : Words) (a : Answer) (lane number from : ℕ) (given : List ℕ) (f : Flow t lane number from given)
-    → NotOf f.k (events_of t.events t.names t.streams lane₂ w a) → Flow (more t (entry lane₂ w a)) lane number from given
+    → NotOf f.k (events_of t lane₂ w a) → Flow (more t (entry lane₂ w a)) lane number from given
 kept t lane₂ w a lane number from given f n =
-    let xs = events_of t.events t.names t.streams lane₂ w a in
+    let xs = events_of t lane₂ w a in
     let later = read_grows xs t.events in
     let within = f.within in
     record {
@@ -267,8 +268,8 @@ given_take t lane₂ n a lane number from given false c p q answer f =
 flow_step : (t : Trail) (lane₂ : ℕ) (w : Words) (a : Answer) (lane number from : ℕ) (given : List ℕ) → IsAnswer t lane₂ w a → Flow t lane number from given
     → Flow (more t (entry lane₂ w a)) lane number from (given ++ item_by ((lane₂ == lane) && is_take number w) a)
 flow_step t lane₂ (words.Take n) a lane number from given answer f = given_take t lane₂ n a lane number from given (lane₂ == lane) (n == number) refl refl answer f
-flow_step t lane₂ (words.Call path member) a lane number from given answer f =
-    flow_along _ lane number from given _ (given_none given (lane₂ == lane) a) (kept t lane₂ (words.Call path member) a lane number from given f (call_not f.k t.events _ a))
+flow_step t lane₂ (words.Call destination path interface member flags) a lane number from given answer f =
+    flow_along _ lane number from given _ (given_none given (lane₂ == lane) a) (kept t lane₂ (words.Call destination path interface member flags) a lane number from given f (call_not f.k t.events _ a))
 flow_step t lane₂ words.Read a lane number from given answer f =
     flow_along _ lane number from given _ (given_none given (lane₂ == lane) a) (kept t lane₂ words.Read a lane number from given f (read_not f.k (closing t.events) a))
 flow_step t lane₂ (words.Poll n) a lane number from given answer f =
@@ -280,11 +281,15 @@ flow_step t lane₂ words.Stream a lane number from given answer f =
 
 -- ---- each stream has a lane
 
-called_streams : (lane : ℕ) (r : Option Error) (failed : Bool) (call serial : ℕ) (a : Answer) → IsCalled r failed (answers.Called call serial) a → new_streams lane a ≡ []
-called_streams lane (Some error) failed call serial a is = ap (new_streams lane) is
-called_streams lane None true call serial a is = ap (new_streams lane) is
-called_streams lane None false call serial a (inl is) = ap (new_streams lane) is
-called_streams lane None false call serial a (inr is) = ap (new_streams lane) is
+sent_streams : (lane : ℕ) (expects : Bool) (call serial : ℕ) → new_streams lane (sent_answer expects call serial) ≡ []
+sent_streams lane true call serial = refl
+sent_streams lane false call serial = refl
+
+called_streams : (lane : ℕ) (r : Option Error) (failed expects : Bool) (call serial : ℕ) (a : Answer) → IsCalled r failed (sent_answer expects call serial) a → new_streams lane a ≡ []
+called_streams lane (Some error) failed expects call serial a is = ap (new_streams lane) is
+called_streams lane None true expects call serial a is = ap (new_streams lane) is
+called_streams lane None false expects call serial a (inl is) = ap (new_streams lane) is ∙ sent_streams lane expects call serial
+called_streams lane None false expects call serial a (inr is) = ap (new_streams lane) is
 
 read_streams : (lane : ℕ) (o : Option Error) (full : Bool) (n : ℕ) (a : Answer) → IsReadOf o full n a → new_streams lane a ≡ []
 read_streams lane (Some error) full n a is = ap (new_streams lane) is
@@ -342,13 +347,14 @@ edit-length (suc k) f (x ∷ xs) = ap (λ n. suc n) (edit-length k f xs)
 abbrev MakesNone : List Event → Type 0
 MakesNone xs = (h : List Event) → length (streams (xs ++ h)) ≡ length (streams h)
 
-failed_makes : (b : Bool) (m : Seen) → MakesNone (failed_put b (Put m true))
-failed_makes true m h = refl
-failed_makes false m h = refl
+failed_makes : (b : Bool) (m : Seen) (expects : Bool) → MakesNone (failed_put b (Put m expects))
+failed_makes true m expects h = refl
+failed_makes false m expects h = refl
 
 call_makes : (g : List Event) (draft : Draft) (a : Answer) → MakesNone (call_events g draft a)
 call_makes g draft (answers.Called call serial) h = refl
-call_makes g draft (answers.SendFailed error) h = failed_makes (is_failed g) _ h
+call_makes g draft (answers.Sent serial) h = refl
+call_makes g draft (answers.SendFailed error) h = failed_makes (is_failed g) _ _ h
 call_makes g draft a h = refl
 
 read_makes : (o : Option Error) (a : Answer) → MakesNone (read_events o a)
@@ -376,14 +382,14 @@ take_makes (Some j) (answers.Item position) h = edit-length j give (streams h)
 take_makes (Some j) (answers.Closed error) h = edit-length j tell (streams h)
 take_makes (Some j) a h = refl
 
-lane_none : (t : Trail) (lane : ℕ) (w : Words) (a : Answer) → MakesNone (events_of t.events t.names t.streams lane w a) → new_streams lane a ≡ []
+lane_none : (t : Trail) (lane : ℕ) (w : Words) (a : Answer) → MakesNone (events_of t lane w a) → new_streams lane a ≡ []
     → length t.streams ≡ length (streams t.events) → length (more t (entry lane w a)).streams ≡ length (streams (more t (entry lane w a)).events)
 lane_none t lane w a makes none e = ap (λ ns. length (t.streams ++ ns)) none ∙ ap length (append-nil t.streams) ∙ e ∙ sym (makes t.events)
 
 lanes_step : (t : Trail) (lane : ℕ) (w : Words) (a : Answer) → IsAnswer t lane w a → length t.streams ≡ length (streams t.events)
     → length (more t (entry lane w a)).streams ≡ length (streams (more t (entry lane w a)).events)
-lanes_step t lane (words.Call path member) a is e =
-    lane_none t lane (words.Call path member) a (call_makes t.events _ a) (called_streams lane (call_refusal t.events path member) (is_failed t.events) _ _ a is) e
+lanes_step t lane (words.Call destination path interface member flags) a is e =
+    lane_none t lane (words.Call destination path interface member flags) a (call_makes t.events _ a) (called_streams lane _ (is_failed t.events) _ _ _ a is) e
 lanes_step t lane words.Read a is e = lane_none t lane words.Read a (read_makes (closing t.events) a) (read_streams lane (closing t.events) (busy t.events) (length (read t.events)) a is) e
 lanes_step t lane (words.Poll n) a is e =
     lane_none t lane (words.Poll n) a (poll_makes (place 0 lane n t.names) a) (ap (new_streams lane) is ∙ poll_streams lane t.events (place 0 lane n t.names)) e
@@ -394,9 +400,9 @@ lanes_step t lane (words.Take n) a is e =
 lanes_step t lane words.Stream a is e =
     rw is (length-append t.streams (Some lane ∷ []) ∙ ap (λ n. n + 1) e ∙ sym (length-append (streams t.events) (new_stream t.events Plain ∷ [])))
 
-pub lanes : (es : List Entry) → Legal es → length (trail es).streams ≡ length (streams (trail es).events)
-lanes [] legal = refl
-lanes (e ∷ es) legal = lanes_step (trail es) e.lane e.words e.answer legal.0 (lanes es legal.1)
+pub lanes : (name : Option (List ℕ)) (es : List Entry) → Legal name es → length (trail name es).streams ≡ length (streams (trail name es).events)
+lanes name [] legal = refl
+lanes name (e ∷ es) legal = lanes_step (trail name es) e.lane e.words e.answer legal.0 (lanes name es legal.1)
 
 -- ---- a stream that was made
 
@@ -439,31 +445,31 @@ flow_new t lane e = record {
   given_is = refl;
 }
 
-pub flow_start : (e : Entry) (older : List Entry) (number : ℕ) → Legal (e ∷ older) → e.words ≡ words.Stream → e.answer ≡ answers.Streaming number
-    → Flow (trail (e ∷ older)) e.lane number (length (read (trail older).events)) []
-flow_start e older number legal w a =
-    let t = trail older in
+pub flow_start : (name : Option (List ℕ)) (e : Entry) (older : List Entry) (number : ℕ) → Legal name (e ∷ older) → e.words ≡ words.Stream → e.answer ≡ answers.Streaming number
+    → Flow (trail name (e ∷ older)) e.lane number (length (read (trail name older).events)) []
+flow_start name e older number legal w a =
+    let t = trail name older in
     let is = stream_is t e legal.0 w in
     let n : count e.lane t.streams ≡ number = let same : answers.Streaming (count e.lane t.streams) ≡ answers.Streaming number = sym is ∙ a in cc in
     let x : entry e.lane words.Stream (answers.Streaming (count e.lane t.streams)) ≡ e =
     ap (λ y. entry e.lane y (answers.Streaming (count e.lane t.streams))) (sym w) ∙ ap (entry e.lane e.words) (sym is) in
-    subst (λ k. Flow (trail (e ∷ older)) e.lane k (length (read t.events)) []) n
-    (subst (λ y. Flow (more t y) e.lane (count e.lane t.streams) (length (read t.events)) []) x (flow_new t e.lane (lanes older legal.1)))
+    subst (λ k. Flow (trail name (e ∷ older)) e.lane k (length (read t.events)) []) n
+    (subst (λ y. Flow (more t y) e.lane (count e.lane t.streams) (length (read t.events)) []) x (flow_new t e.lane (lanes name older legal.1)))
 
-flow_all : (newer : List Entry) (e : Entry) (older : List Entry) (number : ℕ) → Legal (newer ++ e ∷ older) → e.words ≡ words.Stream → e.answer ≡ answers.Streaming number
-    → Flow (trail (newer ++ e ∷ older)) e.lane number (length (read (trail older).events)) (items_given e.lane number newer)
-flow_all [] e older number legal w a = flow_start e older number legal w a
-flow_all (x ∷ newer) e older number legal w a =
-    flow_step (trail (newer ++ e ∷ older)) x.lane x.words x.answer e.lane number (length (read (trail older).events)) (items_given e.lane number newer)
-    legal.0 (flow_all newer e older number legal.1 w a)
+flow_all : (name : Option (List ℕ)) (newer : List Entry) (e : Entry) (older : List Entry) (number : ℕ) → Legal name (newer ++ e ∷ older) → e.words ≡ words.Stream → e.answer ≡ answers.Streaming number
+    → Flow (trail name (newer ++ e ∷ older)) e.lane number (length (read (trail name older).events)) (items_given e.lane number newer)
+flow_all name [] e older number legal w a = flow_start name e older number legal w a
+flow_all name (x ∷ newer) e older number legal w a =
+    flow_step (trail name (newer ++ e ∷ older)) x.lane x.words x.answer e.lane number (length (read (trail name older).events)) (items_given e.lane number newer)
+    legal.0 (flow_all name newer e older number legal.1 w a)
 
 -- what was given and what is held
-pub yields : (newer : List Entry) (e : Entry) (older : List Entry) (number : ℕ) → Legal (newer ++ e ∷ older) → e.words ≡ words.Stream → e.answer ≡ answers.Streaming number
-    → Yields newer e older number
+pub yields : (name : Option (List ℕ)) (newer : List Entry) (e : Entry) (older : List Entry) (number : ℕ) → Legal name (newer ++ e ∷ older) → e.words ≡ words.Stream → e.answer ≡ answers.Streaming number
+    → Yields name newer e older number
 unfolding held matched
-yields newer e older number legal w a =
-    let f = flow_all newer e older number legal w a in
-    let t = trail (newer ++ e ∷ older) in
+yields name newer e older number legal w a =
+    let f = flow_all name newer e older number legal w a in
+    let t = trail name (newer ++ e ∷ older) in
     record {
       k = f.k;
       stream = f.stream;

@@ -10,6 +10,7 @@ use Rattle.wire_message.specs.declared.error.IoKind.TheVariants as kinds
 use Rattle.peer_route.specs.declared.calls.Slot.{Slot}
 use Rattle.peer_route.specs.declared.calls.Slot.TheVariants as slots
 use Rattle.peer_route.specs.declared.route.Issued.{Issued}
+use Rattle.peer_route.specs.CallMessage.{expects_reply}
 use Rattle.peer_route.specs.Streams.{Stream, streams, held, capacity, take_by}
 use Rattle.peer_route.specs.declared.polled.Polled.{Polled}
 use Rattle.peer_route.specs.History.{Event, Put, Call, put, edit, is_failed, last_serial, found, bears, is_gone, pending}
@@ -148,19 +149,26 @@ pub record Left (v : View) (h : List Event) : Type 0 where
   pub done : v.done ≡ events.done h
   pub failed : v.failed ≡ is_failed h
 
--- the core with one more message in the outbox, and the call that waits for its reply
-abbrev pub placed : View → Seen → ℕ → View
-placed v m last = record v {
+-- the core with one more message in the outbox, and the call that waits for its reply, if it expects one
+abbrev pub placed : Bool → View → Seen → ℕ → View
+placed false v m last = record v { last = last; outbox = v.outbox ++ m ∷ [] }
+placed true v m last = record v {
   calls = record { slots = v.calls.slots ++ slots.Waiting m.serial ∷ []; closing = v.calls.closing };
   last = last;
   outbox = v.outbox ++ m ∷ [];
   places = v.places ++ length v.outbox ∷ [];
 }
 
+-- the number of the call that a message makes, if it expects a reply
+abbrev pub call_number : Bool → ℕ → Option ℕ
+call_number true number = Some number
+call_number false number = None
+
 -- What placing a message gives: its place, its serial and its call's number. Want of memory changes nothing.
 abbrev pub Places : View → View → Seen → ℕ → Result Issued Error → Type 0
 Places old new m last (Ok issued) =
-    (issued.index ≡ length old.outbox) × (issued.serial ≡ m.serial) × (issued.call ≡ length old.calls.slots) × (new ≡ placed old m last)
+    (issued.index ≡ length old.outbox) × (issued.serial ≡ m.serial)
+    × (issued.call ≡ call_number (expects_reply m.flags) (length old.calls.slots)) × (new ≡ placed (expects_reply m.flags) old m last)
 Places old new m last (Err errors.Memory) = new ≡ old
 Places old new m last (Err error) = ⊥
 
@@ -170,8 +178,8 @@ Issues old new draft h (Ok issued) =
     IsNext (pending h) (last_serial h) issued.serial
     × (length (message_text draft issued.serial []) ≤ 134217728)
     × (is_failed h ≡ false)
-    × (issued.index ≡ length (put h)) × (issued.call ≡ length (events.calls h))
-    × Left new (Put (built draft issued.serial []) true ∷ h)
+    × (issued.index ≡ length (put h)) × (issued.call ≡ call_number (expects_reply draft.flags) (length (events.calls h)))
+    × Left new (Put (built draft issued.serial []) (expects_reply draft.flags) ∷ h)
 -- each serial is pending
 Issues old new draft h (Err errors.SerialsSpent) = AllTaken (pending h) × (new ≡ old)
 -- else, the message would pass its limit

@@ -1,3 +1,4 @@
+pub mod CallMessage
 pub mod History
 pub mod Streams
 pub mod Trail

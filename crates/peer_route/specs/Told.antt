@@ -6,7 +6,6 @@ use Rattle.wire_message.specs.Front.{Seen}
 use Rattle.wire_message.specs.Outcome.{outcome, ending_of}
 use Rattle.wire_message.specs.declared.error.Error.{Error}
 use Rattle.wire_message.specs.declared.error.Error.TheVariants as errors
-use Rattle.wire_message.specs.declared.error.IoKind.{IoKind}
 use Rattle.wire_message.specs.declared.error.IoKind.TheVariants as kinds
 use Rattle.peer_route.specs.declared.words.Words.{Words}
 use Rattle.peer_route.specs.declared.words.Words.TheVariants as words
@@ -46,17 +45,17 @@ ReadOpenTold false stop bytes h answer = IsOutcome stop (length (read h)) (left_
 abbrev pub ReadTold : Option Bool → List ℕ → List Event → Option Error → Words → Answer → Type 0
 ReadTold stop bytes h None words.Read answer = ReadOpenTold (busy h) stop bytes h answer
 ReadTold stop bytes h (Some error) words.Read answer = ⊤
-ReadTold stop bytes h closed (words.Call path member) answer = ⊤
+ReadTold stop bytes h closed (words.Call destination path interface member flags) answer = ⊤
 ReadTold stop bytes h closed (words.Poll number) answer = ⊤
 ReadTold stop bytes h closed (words.Drop number) answer = ⊤
 ReadTold stop bytes h closed words.Stream answer = ⊤
 ReadTold stop bytes h closed (words.Take number) answer = ⊤
 
 -- Each read of an open peer that isn't busy is what stands at the front of the bytes that the reads before it left.
-abbrev pub ReadsTold : Option Bool → List ℕ → List Entry → Type 0
-ReadsTold stop bytes [] = ⊤
-ReadsTold stop bytes (e ∷ es) =
-    ReadTold stop bytes (trail es).events (closing (trail es).events) e.words e.answer × ReadsTold stop bytes es
+abbrev pub ReadsTold : Option (List ℕ) → Option Bool → List ℕ → List Entry → Type 0
+ReadsTold name stop bytes [] = ⊤
+ReadsTold name stop bytes (e ∷ es) =
+    ReadTold stop bytes (trail name es).events (closing (trail name es).events) e.words e.answer × ReadsTold name stop bytes es
 
 -- ---- the sink
 

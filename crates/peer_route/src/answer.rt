@@ -6,6 +6,8 @@ use wire_message::{Error, Message};
 pub enum Answer {
     /// The call was sent: its number in its lane, and its serial.
     Called { call: u64, serial: u32 },
+    /// The message was sent, with this serial; no reply is waited for.
+    Sent(u32),
     /// The command did nothing, for this reason.
     Refused(Error),
     /// The message wasn't sent, or not whole.

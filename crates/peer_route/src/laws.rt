@@ -1,5 +1,5 @@
 //! Laws of every history, each the contract of a function that does nothing.
-ghost use Rattle.std.specs.Prelude.{◌≡◌, ◌≢◌, ◌⊎◌, ℕ, List, ◌∷◌, ◌++◌, IfSome, Some, None, true, false, slice_get};
+ghost use Rattle.std.specs.Prelude.{◌≡◌, ◌≢◌, ◌⊎◌, ℕ, List, Option, ◌∷◌, ◌++◌, IfSome, Some, None, true, false, slice_get};
 ghost use Rattle.std.specs.List.{AllByRecursion};
 ghost use Rattle.wire_message.specs.Front.{Seen};
 ghost use Rattle.wire_message.specs.declared.error.Error.{Error};
@@ -16,25 +16,25 @@ use crate::words::Words;
 /// A call is answered once. Once a lane's poll of a number gave a reply, valid or not, or the closing error, each later
 /// poll or drop of that number by that lane is refused, as of a call that was never made. Histories are newest first.
 pub fn answered_once()
-    ensures { (newer older : List Entry) (e : Entry) (number : ℕ) → Legal (newer ++ e ∷ older) → e.words ≡ Words.Poll number → IsFinal e.answer → AllByRecursion (IsUnknown e.lane number) newer }
+    ensures { (name : Option (List ℕ)) (newer older : List Entry) (e : Entry) (number : ℕ) → Legal name (newer ++ e ∷ older) → e.words ≡ Words.Poll number → IsFinal e.answer → AllByRecursion (IsUnknown e.lane number) newer }
 {}
 
 /// A dropped call is unknown from then on: each later poll or drop of that number by that lane is refused, whatever comes.
 pub fn dropped_for_good()
-    ensures { (newer older : List Entry) (e : Entry) (number : ℕ) → Legal (newer ++ e ∷ older) → e.words ≡ Words.Drop number → e.answer ≡ Answer.Dropped → AllByRecursion (IsUnknown e.lane number) newer }
+    ensures { (name : Option (List ℕ)) (newer older : List Entry) (e : Entry) (number : ℕ) → Legal name (newer ++ e ∷ older) → e.words ≡ Words.Drop number → e.answer ≡ Answer.Dropped → AllByRecursion (IsUnknown e.lane number) newer }
 {}
 
 /// A reply answers the call whose serial it bears, and the first such reply does. Where a poll is answered with a position,
 /// the lane's number names a call, the first message read after it was put that bears its serial has this position, and
 /// the position is its place among the messages read, from 1 on (D-Bus Specification, "Message Format", `REPLY_SERIAL`).
 pub fn answered_by_the_first()
-    ensures { (older : List Entry) (e : Entry) (number q : ℕ) → Legal (e ∷ older) → e.words ≡ Words.Poll number → IsReplyAt q e.answer → IsFirstReply (trail older) e.lane number q e.answer }
+    ensures { (name : Option (List ℕ)) (older : List Entry) (e : Entry) (number q : ℕ) → Legal name (e ∷ older) → e.words ≡ Words.Poll number → IsReplyAt q e.answer → IsFirstReply (trail name older) e.lane number q e.answer }
 {}
 
 /// A call is answered with the error that closed the peer only where no reply came: no message read after the call was put
 /// bears its serial, and the error is the first that closed the peer.
 pub fn answered_by_the_closing_error()
-    ensures { (older : List Entry) (e : Entry) (number : ℕ) (error : Error) → Legal (e ∷ older) → e.words ≡ Words.Poll number → e.answer ≡ Answer.Closed error → IsCutOff (trail older) e.lane number error }
+    ensures { (name : Option (List ℕ)) (older : List Entry) (e : Entry) (number : ℕ) (error : Error) → Legal name (e ∷ older) → e.words ≡ Words.Poll number → e.answer ≡ Answer.Closed error → IsCutOff (trail name older) e.lane number error }
 {}
 
 /// A message that is read changes the answer of no call that it isn't for: none whose serial it doesn't bear, and none that
@@ -47,47 +47,47 @@ pub fn reply_changes_no_other()
 /// A poll or a drop changes the answer of no other call: neither of another number of its lane, nor of another lane.
 pub fn spent_changes_no_other()
     ensures event { (h : List Event) (j k : ℕ) → j ≢ k → poll_answer (Spent j ∷ h) k ≡ poll_answer h k }
-    ensures entry { (older : List Entry) (e : Entry) (number lane other : ℕ) → Legal (e ∷ older) → (e.words ≡ Words.Poll number) ⊎ (e.words ≡ Words.Drop number) → (lane ≡ e.lane → other ≢ number) → poll_now (trail (e ∷ older)) lane other ≡ poll_now (trail older) lane other }
+    ensures entry { (name : Option (List ℕ)) (older : List Entry) (e : Entry) (number lane other : ℕ) → Legal name (e ∷ older) → (e.words ≡ Words.Poll number) ⊎ (e.words ≡ Words.Drop number) → (lane ≡ e.lane → other ≢ number) → poll_now (trail name (e ∷ older)) lane other ≡ poll_now (trail name older) lane other }
 {}
 
 /// A stream gives exactly what was read since it was made. Where a lane's command made a stream, the positions of the items
 /// that the lane's takes of its number gave since, and behind them those of the messages that it holds, are the positions of
 /// all messages that were read since, in order: none is missed, given twice, or taken from before it was made.
 pub fn stream_gives_all()
-    ensures { (newer : List Entry) (e : Entry) (older : List Entry) (number : ℕ) → Legal (newer ++ e ∷ older) → e.words ≡ Words.Stream → e.answer ≡ Answer.Streaming number → Yields newer e older number }
+    ensures { (name : Option (List ℕ)) (newer : List Entry) (e : Entry) (older : List Entry) (number : ℕ) → Legal name (newer ++ e ∷ older) → e.words ≡ Words.Stream → e.answer ≡ Answer.Streaming number → Yields name newer e older number }
 {}
 
 /// A stream ends once and for good. Once a lane's take of a number gave the closing error, or said that the stream is over,
 /// each later take of that number by that lane says that it is over.
 pub fn stream_ends_once()
-    ensures { (newer older : List Entry) (e : Entry) (number : ℕ) → Legal (newer ++ e ∷ older) → e.words ≡ Words.Take number → IsLast e.answer → AllByRecursion (IsEnded e.lane number) newer }
+    ensures { (name : Option (List ℕ)) (newer older : List Entry) (e : Entry) (number : ℕ) → Legal name (newer ++ e ∷ older) → e.words ≡ Words.Take number → IsLast e.answer → AllByRecursion (IsEnded e.lane number) newer }
 {}
 
 /// A stream gives the closing error only where it holds nothing, and the error is the first that closed the peer.
 pub fn stream_gives_the_first_error()
-    ensures { (older : List Entry) (e : Entry) (number : ℕ) (error : Error) → Legal (e ∷ older) → e.words ≡ Words.Take number → e.answer ≡ Answer.Closed error → IsDrained (trail older) e.lane number error }
+    ensures { (name : Option (List ℕ)) (older : List Entry) (e : Entry) (number : ℕ) (error : Error) → Legal name (e ∷ older) → e.words ≡ Words.Take number → e.answer ≡ Answer.Closed error → IsDrained (trail name older) e.lane number error }
 {}
 
 /// A stream that is made after the peer was closed is over from the start.
 pub fn stream_after_closing_is_over()
-    ensures { (newer older : List Entry) (e : Entry) (number : ℕ) (error : Error) → Legal (newer ++ e ∷ older) → e.words ≡ Words.Stream → e.answer ≡ Answer.Streaming number
-        → closing (trail older).events ≡ Some error → AllByRecursion (IsEnded e.lane number) newer }
+    ensures { (name : Option (List ℕ)) (newer older : List Entry) (e : Entry) (number : ℕ) (error : Error) → Legal name (newer ++ e ∷ older) → e.words ≡ Words.Stream → e.answer ≡ Answer.Streaming number
+        → closing (trail name older).events ≡ Some error → AllByRecursion (IsEnded e.lane number) newer }
 {}
 
 /// A read is busy exactly where the peer is open and some stream holds more than 64 messages, and changes nothing then.
 pub fn busy_where_a_stream_is_full()
-    ensures only { (older : List Entry) (e : Entry) → Legal (e ∷ older) → e.words ≡ Words.Read → e.answer ≡ Answer.Busy → HoldsTooMany (trail older).events }
-    ensures there { (older : List Entry) (e : Entry) → Legal (e ∷ older) → e.words ≡ Words.Read → HoldsTooMany (trail older).events → e.answer ≡ Answer.Busy }
-    ensures same { (older : List Entry) (e : Entry) → e.words ≡ Words.Read → e.answer ≡ Answer.Busy → (trail (e ∷ older)).events ≡ (trail older).events }
+    ensures only { (name : Option (List ℕ)) (older : List Entry) (e : Entry) → Legal name (e ∷ older) → e.words ≡ Words.Read → e.answer ≡ Answer.Busy → HoldsTooMany (trail name older).events }
+    ensures there { (name : Option (List ℕ)) (older : List Entry) (e : Entry) → Legal name (e ∷ older) → e.words ≡ Words.Read → HoldsTooMany (trail name older).events → e.answer ≡ Answer.Busy }
+    ensures same { (name : Option (List ℕ)) (older : List Entry) (e : Entry) → e.words ≡ Words.Read → e.answer ≡ Answer.Busy → (trail name (e ∷ older)).events ≡ (trail name older).events }
 {}
 
-/// What is put in the outbox is what the answers say was sent: the messages of the calls that were answered with a number and
-/// a serial, in order; where a write failed, one message more, the last, whose write it was.
+/// What is put in the outbox is what the answers say was sent: the messages of the calls that were answered with a serial, in
+/// order; where a write failed, one message more, the last, whose write it was.
 pub fn put_is_what_was_sent()
-    ensures { (es : List Entry) → Legal es → IsPutOf (is_failed (trail es).events) (put (trail es).events) (all_sent es) }
+    ensures { (name : Option (List ℕ)) (es : List Entry) → Legal name es → IsPutOf (is_failed (trail name es).events) (put (trail name es).events) (all_sent name es) }
 {}
 
 /// A refused command leaves all as it was: what the entries leave is the same as before it.
 pub fn refused_changes_nothing()
-    ensures { (older : List Entry) (e : Entry) (error : Error) → e.answer ≡ Answer.Refused error → trail (e ∷ older) ≡ trail older }
+    ensures { (name : Option (List ℕ)) (older : List Entry) (e : Entry) (error : Error) → e.answer ≡ Answer.Refused error → trail name (e ∷ older) ≡ trail name older }
 {}

@@ -1,25 +1,27 @@
-ghost use Rattle.std.specs.Prelude.{ℕ, ◌≡◌, ◌+◌, ◌<◌, ◌≤◌, ◌^◌, ◌-◌, ◌==◌, [], ◌∷◌, ◌++◌, List, length, position, slice_get, option_copied, Some, None, Ok, Err, false, IfOk, IfErr, OnOk, OnErr};
+ghost use Rattle.std.specs.Prelude.{ℕ, ◌≡◌, ◌+◌, ◌<◌, ◌≤◌, ◌^◌, ◌-◌, ◌==◌, [], ◌∷◌, ◌++◌, List, length, position, slice_get, option_copied, Some, None, Ok, Err, true, false, IfOk, IfErr, OnOk, OnErr};
 ghost use Rattle.peer_route.specs.History.{Event, Took, Shut, Put, Wrote, Fault, Made, Plain, poll_answer, poll_events, drop_answer, drop_events};
 ghost use Rattle.peer_route.specs.Streams.{busy, take_answer, take_events};
-ghost use Rattle.peer_route.specs.Left.{Waits, is_busy, View, Left, Issues, Places};
+ghost use Rattle.peer_route.specs.CallMessage.{expects_reply};
+ghost use Rattle.peer_route.specs.Left.{Waits, is_busy, View, Left, Issues, Places, placed};
 ghost use Rattle.wire_message.specs.Front.{Seen};
 
 use crate::calls::PendingMethodCalls;
 use crate::polled::Polled;
 use crate::streams::{MessageStream, Streams};
+use bitflags::Flags as _;
 use std::alloc::{AllocError, AllocFailed, Global};
 use std::marker::Model;
-use wire_message::{Builder, Error, IoKind, Message, Result, Serials};
+use wire_message::{Builder, Error, Flags, IoKind, Message, Result, Serials};
 
-/// A method call that was put in the outbox.
+/// A message that was put in the outbox.
 #[derive(Clone, Copy, PartialEq, Eq, Debug)]
 pub struct Issued {
     /// Its place in the outbox, from 0 on.
     pub index: u64,
     /// Its serial.
     pub serial: u32,
-    /// Its number among the calls, from 0 on.
-    pub call: u64,
+    /// Its number among the calls, from 0 on; none where no reply is expected, so that nothing waits for one.
+    pub call: Option<u64>,
 }
 
 /// The core of a peer: its calls, what was read, what closed it, its serials and its outbox. It holds what a history
@@ -53,6 +55,14 @@ fn call_at(places: &[u64], index: u64) -> Option<usize>
     places.iter().position(|place| *place == index)
 }
 
+/// Whether the message's flags leave NoReplyExpected out, so that its call waits for a reply.
+#[tactic(auto, unfolding(crate::specs::CallMessage::expects_reply))]
+fn expects_reply(message: &Message) -> bool
+    ensures { result ≡ expects_reply message.now.flags }
+{
+    !message.header().flags().contains(Flags::NoReplyExpected)
+}
+
 impl Route {
     /// A peer that nothing happened to.
     pub fn new(alloc: Global) -> Route
@@ -71,8 +81,9 @@ impl Route {
         }
     }
 
-    /// Puts the message of a builder of a method call in the outbox, with the next serial. Refused, in this order: SerialsSpent exactly where each of
-    /// the 4,294,967,295 serials is pending; ExcessData exactly where the message would pass 134,217,728 bytes;
+    /// Puts the message of a builder of a method call in the outbox, with the next serial; a call waits for its reply, but
+    /// where the builder's flags have NoReplyExpected. Refused, in this order: SerialsSpent exactly where each of the
+    /// 4,294,967,295 serials is pending; ExcessData exactly where the message would pass 134,217,728 bytes;
     /// InputOutput(WriteFault) exactly where a write failed. A refusal changes nothing, and draws no serial.
     pub fn issue(&mut self, builder: Builder<'_>) -> Result<Issued>
         ensures issues { (h : List Event) → Left self.old h → Issues self.old self.new builder.entry h result }
@@ -86,24 +97,60 @@ impl Route {
         self.place(message, serials)
     }
 
-    /// Puts a method call in the outbox, and makes the call that waits for its reply. Want of memory changes nothing.
+    /// Puts a message in the outbox, and makes the call that waits for its reply, if it expects one. Want of memory changes
+    /// nothing.
     fn place(&mut self, message: Message, serials: Serials) -> Result<Issued>
         ensures { Places self.old self.new message serials result }
     {
-        self.outbox.reserve(1)?;
-        self.places.reserve(1)?;
-        let serial = message.serial_num();
         let index = self.outbox.len() as u64;
-        let call = self.calls.register_call(serial)?;
-        if self.places.push(index).is_err() || self.outbox.push(message).is_err() {
-            unreachable!()
-        }
-        self.serials = serials;
+        let serial = message.serial_num();
+        let call = if expects_reply(&message) {
+            Some(self.place_call(message, serials)?)
+        } else {
+            self.place_alone(message, serials)?;
+            None
+        };
         Ok(Issued {
             index,
             serial,
             call,
         })
+    }
+
+    /// Puts a message in the outbox, and makes the call that waits for its reply: the call's number. Want of memory changes
+    /// nothing.
+    fn place_call(
+        &mut self,
+        message: Message,
+        serials: Serials,
+    ) -> std::result::Result<u64, AllocError>
+        ensures number { IfOk result (λ call. call ≡ length self.old.calls.slots) }
+        ensures placed { OnOk result (self.new ≡ placed true self.old message serials) }
+        ensures same { OnErr result (self.new ≡ self.old) }
+    {
+        self.outbox.reserve(1)?;
+        self.places.reserve(1)?;
+        let index = self.outbox.len() as u64;
+        let call = self.calls.register_call(message.serial_num())?;
+        if self.places.push(index).is_err() || self.outbox.push(message).is_err() {
+            unreachable!()
+        }
+        self.serials = serials;
+        Ok(call)
+    }
+
+    /// Puts a message in the outbox that no call waits for. Want of memory changes nothing.
+    fn place_alone(
+        &mut self,
+        message: Message,
+        serials: Serials,
+    ) -> std::result::Result<(), AllocError>
+        ensures placed { OnOk result (self.new ≡ placed false self.old message serials) }
+        ensures same { OnErr result (self.new ≡ self.old) }
+    {
+        self.outbox.push(message)?;
+        self.serials = serials;
+        Ok(())
     }
 
     /// Takes a message that was read: the call that it answers gets it, and each stream. The peer is open and not busy, and
@@ -228,8 +275,8 @@ impl Route {
         self.done += 1;
     }
 
-    /// The write of the message at this place, the first that isn't done, failed: its call is gone. From now on `issue`
-    /// is refused.
+    /// The write of the message at this place, the first that isn't done, failed: its call, if it made one, is gone. From
+    /// now on `issue` is refused.
     pub fn write_fault(&mut self, index: u64)
         requires first { index ≡ self.old.done }
         requires there { index < length self.old.outbox }

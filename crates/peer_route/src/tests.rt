@@ -6,7 +6,7 @@ use crate::{
 };
 use std::alloc::Global;
 use std::test::Fail;
-use wire_message::{Error, IoKind, Message, Taken, header_front};
+use wire_message::{Error, Flags, IoKind, Message, Taken, header_front};
 use wire_names::{MemberName, ObjectPath};
 
 /// A method return with serial 1 that answers serial 1 (D-Bus Specification, "Message Format").
@@ -23,6 +23,19 @@ const CALL: [u8; 48] = [
 fn reply(alloc: Global) -> Result<Message, Error> {
     let (message, _) = header_front(alloc, &RETURN)?;
     Ok(message.at(1))
+}
+
+/// The reply arrives, where the peer takes a first message.
+fn arrive(route: &mut Route, alloc: Global) -> Result<(), Fail> {
+    let message = reply(alloc)?;
+    if route.closing().is_some() || route.busy() {
+        return Err(Fail::new("the peer takes nothing"));
+    }
+    if route.received() != 0 || message.recv_position() != 1 {
+        return Err(Fail::new("another message comes first"));
+    }
+    route.arrive(message)?;
+    Ok(())
 }
 
 fn position(polled: Polled<Message>) -> Option<u64> {
@@ -44,7 +57,7 @@ fn one_call_is_answered_once(rt: HostRuntime) -> Result<(), Fail> {
         Issued {
             index: 0,
             serial: 1,
-            call: 0
+            call: Some(0)
         }
     );
     assert_eq!(rt; route.outbox_len(), 1);
@@ -52,16 +65,26 @@ fn one_call_is_answered_once(rt: HostRuntime) -> Result<(), Fail> {
         route.outbox(0).ok_or("nothing was put")?.data(),
         CALL.as_slice()
     );
+    Ok(())
+}
+
+#[test]
+fn a_message_is_written_once(rt: HostRuntime) -> Result<(), Fail> {
+    let mut route = Route::new(rt.alloc());
+    route.issue(Message::method_call(&ObjectPath::try_from("/")?, &MemberName::try_from("do")?))?;
     assert_eq!(rt; route.outbox_done(), 0);
     assert!(rt; !route.is_failed());
     route.wrote(0);
     assert_eq!(rt; route.outbox_done(), 1);
     assert!(rt; matches!(route.poll(0)?, Polled::NotYet));
-    let message = reply(rt.alloc())?;
-    assert!(rt; route.closing().is_none());
-    assert_eq!(rt; route.received(), 0);
-    assert_eq!(rt; message.recv_position(), 1);
-    route.arrive(message)?;
+    Ok(())
+}
+
+#[test]
+fn a_reply_is_given_once(rt: HostRuntime) -> Result<(), Fail> {
+    let mut route = Route::new(rt.alloc());
+    route.issue(Message::method_call(&ObjectPath::try_from("/")?, &MemberName::try_from("do")?))?;
+    arrive(&mut route, rt.alloc())?;
     assert_eq!(rt; route.received(), 1);
     assert_eq!(rt; position(route.poll(0)?), Some(1));
     assert_eq!(rt; route.poll(0).err(), Some(Error::UnknownHandle));
@@ -69,7 +92,7 @@ fn one_call_is_answered_once(rt: HostRuntime) -> Result<(), Fail> {
 }
 
 #[test]
-fn closing_answers_and_a_fault_does_not(rt: HostRuntime) -> Result<(), Fail> {
+fn calls_are_numbered(rt: HostRuntime) -> Result<(), Fail> {
     let mut route = Route::new(rt.alloc());
     let path = ObjectPath::try_from("/")?;
     let member = MemberName::try_from("do")?;
@@ -80,9 +103,23 @@ fn closing_answers_and_a_fault_does_not(rt: HostRuntime) -> Result<(), Fail> {
         Issued {
             index: 1,
             serial: 2,
-            call: 1
+            call: Some(1)
         }
     );
+    route.close(Error::IncorrectEndian);
+    route.close(Error::ExcessData);
+    assert_eq!(rt; route.closing(), Some(Error::IncorrectEndian));
+    assert!(rt; matches!(route.poll(1)?, Polled::Closed(Error::IncorrectEndian)));
+    assert_eq!(rt; route.poll(1).err(), Some(Error::UnknownHandle));
+    Ok(())
+}
+
+#[test]
+fn a_fault_ends_its_call(rt: HostRuntime) -> Result<(), Fail> {
+    let mut route = Route::new(rt.alloc());
+    let path = ObjectPath::try_from("/")?;
+    let member = MemberName::try_from("do")?;
+    route.issue(Message::method_call(&path, &member))?;
     assert_eq!(rt; route.outbox_done(), 0);
     assert!(rt; 0 < route.outbox_len());
     route.write_fault(0);
@@ -91,12 +128,7 @@ fn closing_answers_and_a_fault_does_not(rt: HostRuntime) -> Result<(), Fail> {
         route.issue(Message::method_call(&path, &member)).err(),
         Some(Error::InputOutput(IoKind::WriteFault))
     );
-    route.close(Error::IncorrectEndian);
-    route.close(Error::ExcessData);
-    assert_eq!(rt; route.closing(), Some(Error::IncorrectEndian));
     assert_eq!(rt; route.poll(0).err(), Some(Error::UnknownHandle));
-    assert!(rt; matches!(route.poll(1)?, Polled::Closed(Error::IncorrectEndian)));
-    assert_eq!(rt; route.poll(1).err(), Some(Error::UnknownHandle));
     Ok(())
 }
 
@@ -110,6 +142,13 @@ fn a_reply_goes_to_its_call(rt: HostRuntime) -> Result<(), Fail> {
     assert!(rt; calls.complete_call(reply(rt.alloc())?).is_none());
     assert!(rt; !calls.taken(1));
     assert_eq!(rt; position(calls.poll(1)?), Some(1));
+    Ok(())
+}
+
+#[test]
+fn a_call_fails_with_the_peer(rt: HostRuntime) -> Result<(), Fail> {
+    let mut calls = PendingMethodCalls::new(rt.alloc());
+    assert_eq!(rt; calls.register_call(7)?, 0);
     calls.fail_all(Error::ExcessData);
     assert_eq!(rt; calls.closing(), Some(Error::ExcessData));
     assert!(rt; matches!(calls.poll(0)?, Polled::Closed(Error::ExcessData)));
@@ -139,7 +178,13 @@ fn a_stream_holds_what_came_after_it(rt: HostRuntime) -> Result<(), Fail> {
     for position in 2..67 {
         assert_eq!(rt; item(route.take(&stream)?)?, position);
     }
-    assert!(rt; matches!(route.take(&stream)?, Polled::NotYet));
+    Ok(())
+}
+
+#[test]
+fn a_stream_ends_with_the_peer(rt: HostRuntime) -> Result<(), Fail> {
+    let mut route = Route::new(rt.alloc());
+    let stream = route.open()?;
     route.close(Error::ExcessData);
     assert!(rt; matches!(route.take(&stream)?, Polled::Closed(Error::ExcessData)));
     assert!(rt; matches!(route.take(&stream)?, Polled::Ended));
@@ -159,18 +204,43 @@ fn a_dropped_call_is_unknown(rt: HostRuntime) -> Result<(), Fail> {
         &ObjectPath::try_from("/")?,
         &MemberName::try_from("do")?,
     ))?;
-    route.wrote(0);
-    route.drop_call(issued.call)?;
-    route.arrive(reply(rt.alloc())?)?;
-    assert_eq!(rt; route.poll(issued.call).err(), Some(Error::UnknownHandle));
-    assert_eq!(rt;
-        route.drop_call(issued.call).err(),
-        Some(Error::UnknownHandle)
-    );
+    let call = issued.call.ok_or("no call")?;
+    route.drop_call(call)?;
+    arrive(&mut route, rt.alloc())?;
+    assert_eq!(rt; route.poll(call).err(), Some(Error::UnknownHandle));
+    assert_eq!(rt; route.drop_call(call).err(), Some(Error::UnknownHandle));
+    Ok(())
+}
+
+#[test]
+fn a_dropped_call_is_no_call(rt: HostRuntime) -> Result<(), Fail> {
     let mut calls = PendingMethodCalls::new(rt.alloc());
     let call = calls.register_call(7)?;
     calls.drop_call(call)?;
     assert_eq!(rt; calls.poll(call).err(), Some(Error::UnknownHandle));
+    Ok(())
+}
+
+#[test]
+fn a_call_without_reply_is_no_call(rt: HostRuntime) -> Result<(), Fail> {
+    let mut route = Route::new(rt.alloc());
+    let path = ObjectPath::try_from("/")?;
+    let member = MemberName::try_from("do")?;
+    let builder = Message::method_call(&path, &member).with_flags(Flags::NoReplyExpected)?;
+    let first = route.issue(builder)?;
+    assert_eq!(rt;
+        first,
+        Issued {
+            index: 0,
+            serial: 1,
+            call: None
+        }
+    );
+    assert_eq!(rt; route.poll(0).err(), Some(Error::UnknownHandle));
+    let second = route.issue(Message::method_call(&path, &member))?;
+    assert_eq!(rt; second.call, Some(0));
+    arrive(&mut route, rt.alloc())?;
+    assert!(rt; matches!(route.poll(0)?, Polled::NotYet));
     Ok(())
 }
 

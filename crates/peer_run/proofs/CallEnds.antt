@@ -1,83 +1,84 @@
 -- A call's end, from what issuing and sending gave.
-use Rattle.std.proofs.Common.{◌≡◌, ℕ, refl, sym, ◌∙◌, ap, subst, Bool, true, false, List, [], ◌∷◌, ◌++◌, length, Some, None, Result, Ok, Err, IfOk, slice_get}
-use Rattle.wire_names.specs.Names.{is_object_path, is_member_name}
-use Rattle.wire_names.specs.declared.error.NamesError.TheVariants as kinds_of_name
+use Rattle.std.proofs.Common.{◌≡◌, ◌≤◌, arith, inl, inr, ℕ, refl, sym, ◌∙◌, ap, subst, Bool, true, false, List, [], ◌∷◌, ◌++◌, length, Option, Some, None, is_some, Result, Ok, Err, IfOk, slice_get}
 use Rattle.wire_message.specs.Front.{Seen}
-use Rattle.wire_message.specs.Draft.{call_draft, built}
+use Rattle.wire_message.specs.Draft.{built}
 use Rattle.wire_message.specs.declared.error.Error.{Error}
 use Rattle.wire_message.specs.declared.error.Error.TheVariants as errors
 use Rattle.wire_message.specs.declared.error.IoKind.TheVariants as kinds
-use Rattle.peer_route.specs.declared.words.Words.TheVariants as words
 use Rattle.peer_route.specs.declared.answer.Answer.{Answer}
 use Rattle.peer_route.specs.declared.answer.Answer.TheVariants as answers
 use Rattle.peer_route.specs.declared.answer.Entry.{Entry}
 use Rattle.peer_route.specs.declared.route.Issued.{Issued}
 use Rattle.peer_route.specs.History as events
 use Rattle.peer_route.specs.Trail.{trail, count}
-use Rattle.peer_route.specs.Answers.{write_fault}
-use Rattle.peer_route.specs.Left.{View, Left, Issues}
+use Rattle.peer_route.specs.Answers.{words_refusal, sent_answer, write_fault}
+use Rattle.peer_route.specs.Left.{View, Left, Issues, call_number}
 use Rattle.peer_route.proofs.NextSerial.{next_serial-next}
-use Rattle.peer_route.proofs.Steps.{call_refusal-path, call_refusal-member, call_refusal-spent, call_refusal-long, call_refusal-none}
-use Rattle.peer_run.specs.Stands.{PeerView, Inlet, Outlet, Follows, Reads, Writes, Sent, unsent_answer, NotIssued, IsReadFault, entry}
-use Rattle.peer_run.proofs.CallStep.{follows_refused, follows_unsent, follows_sent, follows_failed, reads_call, writes_refused, writes_unsent, writes_sent, writes_failed}
+use Rattle.peer_route.proofs.Steps.{refused-words, refused-spent, refused-long, not_refused}
+use Rattle.peer_run.specs.declared.call_words.CallWords.{CallWords}
+use Rattle.std.specs.Io.KnownBytes.{Appends}
+use Rattle.wire_framing.specs.Sink.{RoomFalls}
+use Rattle.wire_framing.specs.Send.{Part, Sends}
+use Rattle.wire_framing.specs.Source.{MayRise}
+use Rattle.peer_run.specs.CallWords.{words_of, draft_by}
+use Rattle.peer_run.specs.Stands.{PeerView, Inlet, Outlet, Follows, Reads, Writes, Sent, WentOut, WriteFailed, named, unsent_answer, NotIssued, IsReadFault, entry}
+use Rattle.peer_run.proofs.CallStep.{waits, follows_refused, follows_unsent, follows_sent, follows_failed, reads_call, writes_refused, writes_unsent, writes_sent, writes_failed}
 
-not_true : (b : Bool) → (b ≡ true → ⊥) → b ≡ false
-not_true true n = absurd (n refl)
-not_true false n = refl
+-- a word outside its grammar
+pub follows_bad_words : (name : Option (List ℕ)) (p : PeerView) (es : List Entry) (lane : ℕ) (ws : CallWords) (error : Error) → Follows name p es
+    → words_refusal (draft_by (trail name es).name ws) ≡ Some error → Follows name p (entry lane (words_of ws) (answers.Refused error) ∷ es)
+follows_bad_words name p es lane ws error f e = follows_refused name p es lane ws error f (refused-words (trail name es).events (draft_by (trail name es).name ws) error e)
 
--- a path outside its grammar
-pub follows_bad_path : (p : PeerView) (es : List Entry) (lane : ℕ) (path member : List ℕ) → Follows p es → (is_object_path path ≡ true → ⊥)
-    → Follows p (entry lane (words.Call path member) (answers.Refused (errors.Names kinds_of_name.Path)) ∷ es)
-follows_bad_path p es lane path member f n =
-    follows_refused p es lane path member (errors.Names kinds_of_name.Path) f (call_refusal-path (trail es).events path member (not_true (is_object_path path) n))
+pub writes_bad_words : (name : Option (List ℕ)) (start now : Outlet) (es : List Entry) (lane : ℕ) (ws : CallWords) (error : Error)
+    → Writes name start now es → Writes name start now (entry lane (words_of ws) (answers.Refused error) ∷ es)
+writes_bad_words name start now es lane ws error w = writes_refused name start now es lane ws error w
 
-pub follows_bad_member : (p : PeerView) (es : List Entry) (lane : ℕ) (path member : List ℕ) → Follows p es → is_object_path path ≡ true → (is_member_name member ≡ true → ⊥)
-    → Follows p (entry lane (words.Call path member) (answers.Refused (errors.Names kinds_of_name.Member)) ∷ es)
-follows_bad_member p es lane path member f e n =
-    follows_refused p es lane path member (errors.Names kinds_of_name.Member) f (call_refusal-member (trail es).events path member e (not_true (is_member_name member) n))
+pub reads_bad_words : (name : Option (List ℕ)) (start now : Inlet) (es : List Entry) (lane : ℕ) (ws : CallWords) (error : Error)
+    → Reads name start now es → Reads name start now (entry lane (words_of ws) (answers.Refused error) ∷ es)
+reads_bad_words name start now es lane ws error r = reads_call name start now es lane ws (answers.Refused error) (λ f. cc) r
 
 -- ---- nothing was issued
 
 -- what an error of issuing says of the entry
-record Unissued (p q : PeerView) (es : List Entry) (lane : ℕ) (path member : List ℕ) (a : Answer) : Type 0 where
-  follows : Follows p (entry lane (words.Call path member) a ∷ es)
+record Unissued (name : Option (List ℕ)) (p q : PeerView) (es : List Entry) (lane : ℕ) (ws : CallWords) (a : Answer) : Type 0 where
+  follows : Follows name p (entry lane (words_of ws) a ∷ es)
   same : q.core ≡ p.core
-  writes : (start now : Outlet) → Writes start now es → Writes start now (entry lane (words.Call path member) a ∷ es)
+  writes : (start now : Outlet) → Writes name start now es → Writes name start now (entry lane (words_of ws) a ∷ es)
 
 as_answer : (a b : Answer) (P : Answer → Type 0) → Some a ≡ Some b → P a → P b
 as_answer a b P e x = let f : a ≡ b = cc in subst P f x
 
-unissued : (p q : PeerView) (es : List Entry) (lane : ℕ) (path member : List ℕ) (error : Error) (a : Answer)
-    → is_object_path path ≡ true → is_member_name member ≡ true → Follows p es → Issues p.core q.core (call_draft path member) (trail es).events (Err error)
-    → unsent_answer error ≡ Some a → Unissued p q es lane path member a
-unissued p q es lane path member errors.SerialsSpent a x y f i e =
-    as_answer (answers.Refused errors.SerialsSpent) a (Unissued p q es lane path member) e (record {
-      follows = follows_refused p es lane path member errors.SerialsSpent f (call_refusal-spent (trail es).events path member x y i.0);
+unissued : (name : Option (List ℕ)) (p q : PeerView) (es : List Entry) (lane : ℕ) (ws : CallWords) (error : Error) (a : Answer)
+    → words_refusal (draft_by (trail name es).name ws) ≡ None → Follows name p es → Issues p.core q.core (draft_by (trail name es).name ws) (trail name es).events (Err error)
+    → unsent_answer error ≡ Some a → Unissued name p q es lane ws a
+unissued name p q es lane ws errors.SerialsSpent a x f i e =
+    as_answer (answers.Refused errors.SerialsSpent) a (Unissued name p q es lane ws) e (record {
+      follows = follows_refused name p es lane ws errors.SerialsSpent f (refused-spent (trail name es).events (draft_by (trail name es).name ws) x i.0);
       same = i.1;
-      writes = λ start now w. writes_refused start now es lane path member errors.SerialsSpent w;
+      writes = λ start now w. writes_refused name start now es lane ws errors.SerialsSpent w;
     })
-unissued p q es lane path member errors.ExcessData a x y f i e =
-    as_answer (answers.Refused errors.ExcessData) a (Unissued p q es lane path member) e (record {
-      follows = follows_refused p es lane path member errors.ExcessData f (call_refusal-long (trail es).events path member i.0 x y i.1 i.2);
+unissued name p q es lane ws errors.ExcessData a x f i e =
+    as_answer (answers.Refused errors.ExcessData) a (Unissued name p q es lane ws) e (record {
+      follows = follows_refused name p es lane ws errors.ExcessData f (refused-long (trail name es).events (draft_by (trail name es).name ws) i.0 x i.1 i.2);
       same = i.3;
-      writes = λ start now w. writes_refused start now es lane path member errors.ExcessData w;
+      writes = λ start now w. writes_refused name start now es lane ws errors.ExcessData w;
     })
-unissued p q es lane path member (errors.InputOutput kinds.WriteFault) a x y f i e =
-    as_answer write_fault a (Unissued p q es lane path member) e (record {
-      follows = follows_unsent p es lane path member f (call_refusal-none (trail es).events path member i.0 x y i.1 i.2) i.3;
+unissued name p q es lane ws (errors.InputOutput kinds.WriteFault) a x f i e =
+    as_answer write_fault a (Unissued name p q es lane ws) e (record {
+      follows = follows_unsent name p es lane ws f (not_refused (trail name es).events (draft_by (trail name es).name ws) i.0 x i.1 i.2) i.3;
       same = i.4;
-      writes = λ start now w. writes_unsent start now es lane path member f.legal i.3 w;
+      writes = λ start now w. writes_unsent name start now es lane ws f.legal i.3 w;
     })
-unissued p q es lane path member (errors.InputOutput kinds.Ended) a x y f i e = absurd i
-unissued p q es lane path member (errors.InputOutput kinds.Fault) a x y f i e = absurd i
-unissued p q es lane path member (errors.InputOutput kinds.Closed) a x y f i e = absurd i
-unissued p q es lane path member (errors.InputOutput kinds.TimedOut) a x y f i e = absurd i
-unissued p q es lane path member (errors.Variant kind) a x y f i e = absurd i
-unissued p q es lane path member (errors.Names kind) a x y f i e = absurd i
-unissued p q es lane path member errors.InvalidMatchRule a x y f i e = absurd i
-unissued p q es lane path member errors.IncorrectEndian a x y f i e = absurd i
-unissued p q es lane path member errors.UnknownHandle a x y f i e = absurd i
-unissued p q es lane path member errors.Memory a x y f i e = cc
+unissued name p q es lane ws (errors.InputOutput kinds.Ended) a x f i e = absurd i
+unissued name p q es lane ws (errors.InputOutput kinds.Fault) a x f i e = absurd i
+unissued name p q es lane ws (errors.InputOutput kinds.Closed) a x f i e = absurd i
+unissued name p q es lane ws (errors.InputOutput kinds.TimedOut) a x f i e = absurd i
+unissued name p q es lane ws (errors.Variant kind) a x f i e = absurd i
+unissued name p q es lane ws (errors.Names kind) a x f i e = absurd i
+unissued name p q es lane ws errors.InvalidMatchRule a x f i e = absurd i
+unissued name p q es lane ws errors.IncorrectEndian a x f i e = absurd i
+unissued name p q es lane ws errors.UnknownHandle a x f i e = absurd i
+unissued name p q es lane ws errors.Memory a x f i e = cc
 
 same_peer : (p q : PeerView) → q.core ≡ p.core → q.names ≡ p.names → q.streams ≡ p.streams → p ≡ q
 same_peer p q c n s =
@@ -85,17 +86,17 @@ same_peer p q c n s =
     ∙ ap (λ ns. record { core = q.core; names = ns; streams = p.streams }) (sym n)
     ∙ ap (λ ns. record { core = q.core; names = q.names; streams = ns }) (sym s)
 
-pub follows_unissued : (p q : PeerView) (es : List Entry) (lane : ℕ) (path member : List ℕ) (error : Error) (a : Answer)
-    → is_object_path path ≡ true → is_member_name member ≡ true → Follows p es → Issues p.core q.core (call_draft path member) (trail es).events (Err error)
-    → unsent_answer error ≡ Some a → q.names ≡ p.names → q.streams ≡ p.streams → Follows q (entry lane (words.Call path member) a ∷ es)
-follows_unissued p q es lane path member error a x y f i e n s =
-    let u = unissued p q es lane path member error a x y f i e in
-    subst (λ v. Follows v (entry lane (words.Call path member) a ∷ es)) (same_peer p q u.same n s) u.follows
+pub follows_unissued : (name : Option (List ℕ)) (p q : PeerView) (es : List Entry) (lane : ℕ) (ws : CallWords) (error : Error) (a : Answer)
+    → words_refusal (draft_by (trail name es).name ws) ≡ None → Follows name p es → Issues p.core q.core (draft_by (trail name es).name ws) (trail name es).events (Err error)
+    → unsent_answer error ≡ Some a → q.names ≡ p.names → q.streams ≡ p.streams → Follows name q (entry lane (words_of ws) a ∷ es)
+follows_unissued name p q es lane ws error a x f i e n s =
+    let u = unissued name p q es lane ws error a x f i e in
+    subst (λ v. Follows name v (entry lane (words_of ws) a ∷ es)) (same_peer p q u.same n s) u.follows
 
-pub writes_unissued : (p q : PeerView) (start now : Outlet) (es : List Entry) (lane : ℕ) (path member : List ℕ) (error : Error) (a : Answer)
-    → is_object_path path ≡ true → is_member_name member ≡ true → Follows p es → Issues p.core q.core (call_draft path member) (trail es).events (Err error)
-    → unsent_answer error ≡ Some a → Writes start now es → Writes start now (entry lane (words.Call path member) a ∷ es)
-writes_unissued p q start now es lane path member error a x y f i e w = (unissued p q es lane path member error a x y f i e).writes start now w
+pub writes_unissued : (name : Option (List ℕ)) (p q : PeerView) (start now : Outlet) (es : List Entry) (lane : ℕ) (ws : CallWords) (error : Error) (a : Answer)
+    → words_refusal (draft_by (trail name es).name ws) ≡ None → Follows name p es → Issues p.core q.core (draft_by (trail name es).name ws) (trail name es).events (Err error)
+    → unsent_answer error ≡ Some a → Writes name start now es → Writes name start now (entry lane (words_of ws) a ∷ es)
+writes_unissued name p q start now es lane ws error a x f i e w = (unissued name p q es lane ws error a x f i e).writes start now w
 
 never_read : (error : Error) (a : Answer) → unsent_answer error ≡ Some a → IsReadFault a → ⊥
 never_read (errors.InputOutput kind) a e f = cc
@@ -108,9 +109,9 @@ never_read errors.SerialsSpent a e f = cc
 never_read errors.UnknownHandle a e f = cc
 never_read errors.Memory a e f = cc
 
-pub reads_unissued : (start now : Inlet) (es : List Entry) (lane : ℕ) (path member : List ℕ) (error : Error) (a : Answer)
-    → unsent_answer error ≡ Some a → Reads start now es → Reads start now (entry lane (words.Call path member) a ∷ es)
-reads_unissued start now es lane path member error a e r = reads_call start now es lane path member a (never_read error a e) r
+pub reads_unissued : (name : Option (List ℕ)) (start now : Inlet) (es : List Entry) (lane : ℕ) (ws : CallWords) (error : Error) (a : Answer)
+    → unsent_answer error ≡ Some a → Reads name start now es → Reads name start now (entry lane (words_of ws) a ∷ es)
+reads_unissued name start now es lane ws error a e r = reads_call name start now es lane ws a (never_read error a e) r
 
 -- ---- a call was issued
 
@@ -119,48 +120,102 @@ at_end [] m = refl
 at_end (x ∷ xs) m = at_end xs m
 
 -- the message that was issued stands at its place of the outbox
-waits_there : (v : View) (h : List events.Event) (m : Seen) (index : ℕ) → index ≡ length (events.put h) → Left v (events.Put m true ∷ h) → slice_get v.outbox index ≡ Some m
-waits_there v h m index e l = ap (λ xs. slice_get xs index) l.outbox ∙ ap (slice_get (events.put h ++ m ∷ [])) e ∙ at_end (events.put h) m
+waits_there : (v : View) (h : List events.Event) (m : Seen) (expects : Bool) (index : ℕ) → index ≡ length (events.put h) → Left v (events.Put m expects ∷ h) → slice_get v.outbox index ≡ Some m
+waits_there v h m expects index e l = ap (λ xs. slice_get xs index) l.outbox ∙ ap (slice_get (events.put h ++ m ∷ [])) e ∙ at_end (events.put h) m
+
+makes_call : (expects : Bool) (number : ℕ) → is_some (call_number expects number) ≡ expects
+makes_call true number = refl
+makes_call false number = refl
+
+-- a write that failed leaves a proper part
+pub not_out : (old new : PeerView) (lane : ℕ) (issued : Issued) (m : Seen) (now after : Outlet) (error : Error) → (error ≡ errors.Memory → ⊥)
+    → Sends {A = Unit {0}} (Err error) m.bytes now.held after.held now.room after.room now.faults after.faults
+    → new.names ≡ named (is_some issued.call) None old.names → new.streams ≡ old.streams → ((h : List events.Event) → Left old.core h → Left new.core (events.Fault ∷ h))
+    → Sent old new lane issued m now after (answers.SendFailed error)
+not_out old new lane issued m now after (errors.InputOutput kinds.WriteFault) never s names streams left = WriteFailed refl names streams left s.0 s.1 s.2 s.3
+not_out old new lane issued m now after (errors.InputOutput kinds.Ended) never s names streams left = absurd s
+not_out old new lane issued m now after (errors.InputOutput kinds.Fault) never s names streams left = absurd s
+not_out old new lane issued m now after (errors.InputOutput kinds.Closed) never s names streams left = absurd s
+not_out old new lane issued m now after (errors.InputOutput kinds.TimedOut) never s names streams left = absurd s
+not_out old new lane issued m now after (errors.Variant kind) never s names streams left = absurd s
+not_out old new lane issued m now after (errors.Names kind) never s names streams left = absurd s
+not_out old new lane issued m now after errors.InvalidMatchRule never s names streams left = absurd s
+not_out old new lane issued m now after errors.IncorrectEndian never s names streams left = absurd s
+not_out old new lane issued m now after errors.ExcessData never s names streams left = absurd s
+not_out old new lane issued m now after errors.SerialsSpent never s names streams left = absurd s
+not_out old new lane issued m now after errors.UnknownHandle never s names streams left = absurd s
+not_out old new lane issued m now after errors.Memory never s names streams left = absurd (never refl)
+
+may_grow : (a b : ℕ) → MayRise a b → a ≤ b
+may_grow a b (inl p) = omega (arith, p)
+may_grow a b (inr p) = omega (arith, p.0, p.1)
+
+pub failed_grows : (error : Error) (bytes : List ℕ) (held held' : Option (List ℕ)) (room room' : Option (Option ℕ)) (a b : ℕ) → (error ≡ errors.Memory → ⊥)
+    → Sends {A = Unit {0}} (Err error) bytes held held' room room' a b → a ≤ b
+failed_grows (errors.InputOutput kinds.WriteFault) bytes held held' room room' a b never s = may_grow a b s.3
+failed_grows (errors.InputOutput kinds.Ended) bytes held held' room room' a b never s = absurd s
+failed_grows (errors.InputOutput kinds.Fault) bytes held held' room room' a b never s = absurd s
+failed_grows (errors.InputOutput kinds.Closed) bytes held held' room room' a b never s = absurd s
+failed_grows (errors.InputOutput kinds.TimedOut) bytes held held' room room' a b never s = absurd s
+failed_grows (errors.Variant kind) bytes held held' room room' a b never s = absurd s
+failed_grows (errors.Names kind) bytes held held' room room' a b never s = absurd s
+failed_grows errors.InvalidMatchRule bytes held held' room room' a b never s = absurd s
+failed_grows errors.IncorrectEndian bytes held held' room room' a b never s = absurd s
+failed_grows errors.ExcessData bytes held held' room room' a b never s = absurd s
+failed_grows errors.SerialsSpent bytes held held' room room' a b never s = absurd s
+failed_grows errors.UnknownHandle bytes held held' room room' a b never s = absurd s
+failed_grows errors.Memory bytes held held' room room' a b never s = absurd (never refl)
 
 -- the two things that sending gives
-pub record Sending (p q r : PeerView) (es : List Entry) (lane : ℕ) (path member : List ℕ) (now after : Outlet) (a : Answer) : Type 0 where
-  pub follows : Follows r (entry lane (words.Call path member) a ∷ es)
-  pub writes : (start : Outlet) → Writes start now es → Writes start after (entry lane (words.Call path member) a ∷ es)
+pub record Sending (name : Option (List ℕ)) (p q r : PeerView) (es : List Entry) (lane : ℕ) (ws : CallWords) (now after : Outlet) (a : Answer) : Type 0 where
+  pub follows : Follows name r (entry lane (words_of ws) a ∷ es)
+  pub writes : (start : Outlet) → Writes name start now es → Writes name start after (entry lane (words_of ws) a ∷ es)
   pub reads : IsReadFault a → ⊥
 
-pub sending : (p q r : PeerView) (es : List Entry) (lane : ℕ) (path member : List ℕ) (issued : Issued) (now after : Outlet) (a : Answer)
-    → is_object_path path ≡ true → is_member_name member ≡ true → Follows p es → Issues p.core q.core (call_draft path member) (trail es).events (Ok issued)
-    → q.names ≡ p.names → q.streams ≡ p.streams
-    → ((m : Seen) → slice_get q.core.outbox issued.index ≡ Some m → Sent q r lane issued.serial m now after a)
-    → Sending p q r es lane path member now after a
-sending p q r es lane path member issued now after (answers.Called call number) x y f i n t sent =
-    let h = (trail es).events in
-    let m = built (call_draft path member) issued.serial [] in
-    let s = sent m (waits_there q.core h m issued.index i.3 i.5) in
-    let none = call_refusal-none h path member issued.serial x y i.0 i.1 in
-    let is : answers.Called (count lane p.names) issued.serial ≡ answers.Called call number = rw (s.0, s.1, n) refl in
+never_sent : (expects : Bool) (number serial : ℕ) (a : Answer) → a ≡ sent_answer expects number serial → IsReadFault a → ⊥
+never_sent true number serial a e f = cc
+never_sent false number serial a e f = cc
+
+sending_by : (name : Option (List ℕ)) (p q r : PeerView) (es : List Entry) (lane : ℕ) (ws : CallWords) (issued : Issued) (now after : Outlet) (a : Answer) (m : Seen)
+    → words_refusal (draft_by (trail name es).name ws) ≡ None → Follows name p es → Issues p.core q.core (draft_by (trail name es).name ws) (trail name es).events (Ok issued)
+    → q.names ≡ p.names → q.streams ≡ p.streams → m ≡ built (draft_by (trail name es).name ws) issued.serial [] → is_some issued.call ≡ waits ws
+    → Sent q r lane issued m now after a → Sending name p q r es lane ws now after a
+sending_by name p q r es lane ws issued now after a m x f i n t is made (WentOut answer names streams left appends falls faults) =
+    let h = (trail name es).events in
+    let none = not_refused h (draft_by (trail name es).name ws) issued.serial x i.0 i.1 in
+    let to : sent_answer (waits ws) (count lane p.names) issued.serial ≡ a = sym (answer ∙ ap (λ b. sent_answer b (count lane q.names) issued.serial) made ∙ ap (λ ns. sent_answer (waits ws) (count lane ns) issued.serial) n) in
     record {
-      follows = subst (λ b. Follows r (entry lane (words.Call path member) b ∷ es)) is
-          (follows_sent p r es lane issued.serial path member f none i.2 (next_serial-next h issued.serial i.0) (s.2 ∙ ap (λ ns. ns ++ Some lane ∷ []) n) (s.7 ∙ t) (s.3 _ i.5));
-      writes = λ start w. subst (λ k. Writes start after (entry lane (words.Call path member) (answers.Called call k) ∷ es)) (sym (s.1))
-          (writes_sent start now after es lane call issued.serial path member i.2 s.4 s.5 s.6 w);
-      reads = λ e. cc;
+      follows = subst (λ b. Follows name r (entry lane (words_of ws) b ∷ es)) to
+          (follows_sent name p r es lane issued.serial ws f none i.2 (next_serial-next h issued.serial i.0)
+          (names ∙ ap (λ b. named b (Some lane) q.names) made ∙ ap (named (waits ws) (Some lane)) n) (streams ∙ t) (left _ i.5));
+      writes = λ start w. subst (λ b. Writes name start after (entry lane (words_of ws) b ∷ es)) to
+          (writes_sent name start now after es lane (count lane p.names) issued.serial ws i.2 (subst (λ k. Appends now.held after.held k.bytes) is appends)
+          (subst (λ (k : Seen). RoomFalls now.room after.room (length k.bytes)) is falls) faults w);
+      reads = never_sent (is_some issued.call) (count lane q.names) issued.serial a answer;
     }
-sending p q r es lane path member issued now after (answers.SendFailed error) x y f i n t sent =
-    let h = (trail es).events in
-    let m = built (call_draft path member) issued.serial [] in
-    let s = sent m (waits_there q.core h m issued.index i.3 i.5) in
-    let none = call_refusal-none h path member issued.serial x y i.0 i.1 in
+sending_by name p q r es lane ws issued now after a m x f i n t is made (WriteFailed answer names streams left k part breaks rises) =
+    let h = (trail name es).events in
+    let none = not_refused h (draft_by (trail name es).name ws) issued.serial x i.0 i.1 in
     let next = next_serial-next h issued.serial i.0 in
-    let is : write_fault ≡ answers.SendFailed error = rw (s.0) refl in
     record {
-      follows = subst (λ b. Follows r (entry lane (words.Call path member) b ∷ es)) is
-          (follows_failed p r es lane issued.serial path member f none i.2 next (s.1 ∙ ap (λ ns. ns ++ None ∷ []) n) (s.7 ∙ t) (s.2 _ i.5));
-      writes = λ start w. subst (λ b. Writes start after (entry lane (words.Call path member) b ∷ es)) is
-          (writes_failed start now after es lane issued.serial path member s.3 i.2 next s.4 s.5 s.6 w);
+      follows = subst (λ b. Follows name r (entry lane (words_of ws) b ∷ es)) (sym answer)
+          (follows_failed name p r es lane issued.serial ws f none i.2 next
+          (names ∙ ap (λ b. named b None q.names) made ∙ ap (named (waits ws) None) n) (streams ∙ t) (left _ i.5));
+      writes = λ start w. subst (λ b. Writes name start after (entry lane (words_of ws) b ∷ es)) (sym answer)
+          (writes_failed name start now after es lane issued.serial ws k i.2 next (subst (λ (j : Seen). Part j.bytes now.held after.held k) is part) breaks rises w);
       reads = λ e. cc;
     }
-sending p q r es lane path member issued now after a x y f i n t sent = absurd (sent _ (waits_there q.core (trail es).events (built (call_draft path member) issued.serial []) issued.index i.3 i.5))
+
+pub sending : (name : Option (List ℕ)) (p q r : PeerView) (es : List Entry) (lane : ℕ) (ws : CallWords) (issued : Issued) (now after : Outlet) (a : Answer)
+    → words_refusal (draft_by (trail name es).name ws) ≡ None → Follows name p es → Issues p.core q.core (draft_by (trail name es).name ws) (trail name es).events (Ok issued)
+    → q.names ≡ p.names → q.streams ≡ p.streams
+    → ((m : Seen) → slice_get q.core.outbox issued.index ≡ Some m → Sent q r lane issued m now after a)
+    → Sending name p q r es lane ws now after a
+sending name p q r es lane ws issued now after a x f i n t sent =
+    let h = (trail name es).events in
+    let m = built (draft_by (trail name es).name ws) issued.serial [] in
+    sending_by name p q r es lane ws issued now after a m x f i n t refl (ap is_some i.4 ∙ makes_call (waits ws) (length (events.calls h)))
+    (sent m (waits_there q.core h m (waits ws) issued.index i.3 i.5))
 
 -- what was answered where nothing was issued
 pub unsent_ok : {E : Type 0} (error : Error) (r : Result Answer E) → NotIssued error r → IfOk r (λ a. unsent_answer error ≡ Some a)

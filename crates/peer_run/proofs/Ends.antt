@@ -1,20 +1,64 @@
 -- From what a run keeps to what it gives.
-use Rattle.std.proofs.Common.{◌≡◌, ℕ, sym, subst, List, [], map, reverse, Option, Some, Result, Ok, Err, IfOk}
+use Rattle.std.proofs.Common.{◌≡◌, ℕ, refl, ◌-◌, ap, arith, Bool, false, IfSome, append-nil, sym, subst, List, [], map, reverse, Option, Some, None, Result, Ok, Err, IfOk}
 use Rattle.peer_route.specs.declared.words.Command.{Command}
 use Rattle.peer_route.specs.declared.answer.Entry.{Entry}
 use Rattle.peer_route.specs.History.{Event, put, is_failed}
 use Rattle.peer_route.specs.Trail.{trail}
-use Rattle.peer_route.specs.Told.{IsSentOf, WritesTold}
+use Rattle.peer_route.specs.Told.{IsSentOf, WritesTold, ReadsTold, left_after}
+use Rattle.wire_framing.specs.Sink.{RoomFalls}
 use Rattle.peer_script.specs.Script.{Script}
-use Rattle.peer_run.specs.Stands.{Inlet, Outlet, PeerView, Holds}
+use Rattle.peer_run.specs.Stands.{Inlet, Outlet, PeerView, Reads, Writes, Holds, HoldsThen, IsRest}
 use Rattle.peer_run.specs.Runs.{Stands, Runs, command_of}
 use Rattle.peer_run.specs.Program.{source_bytes, source_breaks, IsRunOf}
 
+-- ---- before the first command
+
+rest_all : (left : Option (List ℕ)) (stop : Option Bool) → IfSome left (λ bytes. IsRest None (left_after bytes []) stop left stop)
+rest_all None stop = tt
+rest_all (Some bytes) stop = (refl, refl)
+
+told_nothing : (name : Option (List ℕ)) (left : Option (List ℕ)) (stop : Option Bool) → IfSome left (λ bytes. ReadsTold name stop bytes [])
+told_nothing name None stop = tt
+told_nothing name (Some bytes) stop = tt
+
+-- nothing was read
+pub start_reads : (name : Option (List ℕ)) (start : Inlet) → Reads name start start []
+start_reads name start = record {
+  told = told_nothing name start.left start.stop;
+  rest = rest_all start.left start.stop;
+  cause = λ f. absurd f;
+  kept = omega arith;
+}
+
+writes_nothing : (room : Option (Option ℕ)) → WritesTold room false [] []
+writes_nothing None = tt
+writes_nothing (Some None) = refl
+writes_nothing (Some (Some k)) = omega arith
+
+holds_same_still : (room : Option (Option ℕ)) (held : Option (List ℕ)) → IfSome held (λ before. HoldsThen room before held [])
+holds_same_still room None = tt
+holds_same_still room (Some before) = record { sent = []; appended = sym (append-nil before); bytes = refl; told = writes_nothing room }
+
+room_still : (room : Option (Option ℕ)) → RoomFalls room room 0
+room_still None = tt
+room_still (Some None) = refl
+room_still (Some (Some k)) = (omega arith, let e : k ≡ k - 0 = omega arith in ap (λ n. Some (Some n)) e)
+
+-- nothing was written
+pub start_writes : (name : Option (List ℕ)) (start : Outlet) → Writes name start start []
+start_writes name start = record {
+  holds = holds_same_still start.room start.held;
+  room = room_still start.room;
+  cause = λ f. absurd f;
+  kept = omega arith;
+  only = λ f. refl;
+}
+
 -- what stands to a history is a run of its commands
-pub runs_of : (start_in : Inlet) (start_out : Outlet) (p : PeerView) (end_in : Inlet) (end_out : Outlet) (commands : List Command) (entries : List Entry)
-    → Stands start_in start_out p end_in end_out (reverse entries) → map command_of entries ≡ commands
-    → Runs start_in start_out end_in end_out commands entries
-runs_of start_in start_out p end_in end_out commands entries s e = record {
+pub runs_of : (name : Option (List ℕ)) (start_in : Inlet) (start_out : Outlet) (p : PeerView) (end_in : Inlet) (end_out : Outlet) (commands : List Command) (entries : List Entry)
+    → Stands name start_in start_out p end_in end_out (reverse entries) → map command_of entries ≡ commands
+    → Runs name start_in start_out end_in end_out commands entries
+runs_of name start_in start_out p end_in end_out commands entries s e = record {
   legal = s.follows.legal;
   each = e;
   reads = s.reads.told;
@@ -33,9 +77,9 @@ sent_of room held h w =
 pub run_of : (start_in : Inlet) (start_out : Outlet) (end_in : Inlet) (end_out : Outlet) (s : Script) (entries : List Entry) (held : List ℕ)
     → start_in.left ≡ Some (source_bytes s.given) → start_in.stop ≡ Some (source_breaks s.given)
     → start_out.held ≡ Some [] → start_out.room ≡ Some s.outfault → end_out.held ≡ Some held
-    → Runs start_in start_out end_in end_out s.commands entries → IsRunOf s entries held
+    → Runs s.name start_in start_out end_in end_out s.commands entries → IsRunOf s entries held
 run_of start_in start_out end_in end_out s entries held left stop before room after r =
-    let h = (trail (reverse entries)).events in
+    let h = (trail s.name (reverse entries)).events in
     let reads = rw (left, stop) at r.reads in
     let writes = rw (before, room, after) at r.writes in
     let w = sent_of s.outfault held h writes in

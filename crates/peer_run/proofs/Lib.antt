@@ -1,3 +1,5 @@
+pub mod Flags
+pub mod CallTexts
 pub mod Quiet
 pub mod Kept
 pub mod ReadStep

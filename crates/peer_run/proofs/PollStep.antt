@@ -10,6 +10,7 @@ use Rattle.wire_message.specs.declared.error.Error.TheVariants as errors
 use Rattle.wire_message.specs.declared.error.IoKind.TheVariants as kinds
 use Rattle.peer_route.specs.declared.polled.Polled.{Polled}
 use Rattle.peer_route.specs.declared.polled.Polled.TheVariants as polled
+use Rattle.peer_route.specs.declared.words.Words.{Words}
 use Rattle.peer_route.specs.declared.words.Words.TheVariants as words
 use Rattle.peer_route.specs.declared.answer.Answer.TheVariants as answers
 use Rattle.peer_route.specs.declared.answer.Entry.{Entry}
@@ -41,22 +42,22 @@ spends_shown k (Ok polled.Ended) = refl
 spends_shown k (Err error) = refl
 
 -- a poll makes no call
-no_names : (h : List events.Event) (lane : ℕ) (r : Result (Polled Seen) Error) → new_names h lane (shown r) ≡ []
-no_names h lane (Ok (polled.Now m)) = no_names_now m.kind
+no_names : (h : List events.Event) (lane : ℕ) (w : Words) (r : Result (Polled Seen) Error) → new_names h lane w (shown r) ≡ []
+no_names h lane w (Ok (polled.Now m)) = no_names_now m.kind
   where
-    no_names_now_error : (name : Option (List ℕ)) → new_names h lane (error_answer m name) ≡ []
+    no_names_now_error : (name : Option (List ℕ)) → new_names h lane w (error_answer m name) ≡ []
     no_names_now_error (Some name) = refl
     no_names_now_error None = refl
 
-    no_names_now : (kind : MessageType) → new_names h lane (reply_by m kind) ≡ []
+    no_names_now : (kind : MessageType) → new_names h lane w (reply_by m kind) ≡ []
     no_names_now types.MethodReturn = refl
     no_names_now types.MethodCall = refl
     no_names_now types.Error = no_names_now_error m.error_name
     no_names_now types.Signal = refl
-no_names h lane (Ok polled.NotYet) = refl
-no_names h lane (Ok (polled.Closed error)) = refl
-no_names h lane (Ok polled.Ended) = refl
-no_names h lane (Err error) = refl
+no_names h lane w (Ok polled.NotYet) = refl
+no_names h lane w (Ok (polled.Closed error)) = refl
+no_names h lane w (Ok polled.Ended) = refl
+no_names h lane w (Err error) = refl
 
 -- a poll makes no stream
 no_streams : (lane : ℕ) (r : Result (Polled Seen) Error) → new_streams lane (shown r) ≡ []
@@ -77,24 +78,24 @@ no_streams lane (Ok polled.Ended) = refl
 no_streams lane (Err error) = refl
 
 -- a call was polled
-pub follows_poll : (p q : PeerView) (es : List Entry) (lane number k : ℕ) (r : Result (Polled Seen) Error) → Follows p es
-    → place 0 lane number p.names ≡ Some k → r ≡ events.poll_answer (trail es).events k
-    → q.names ≡ p.names → q.streams ≡ p.streams → Left q.core (events.poll_events k r ++ (trail es).events)
-    → Follows q (entry lane (words.Poll number) (shown r) ∷ es)
-follows_poll p q es lane number k r f here answer names streams left =
-    let at : place 0 lane number (trail es).names ≡ Some k = ap (λ ns. place 0 lane number ns) (sym f.names) ∙ here in
-    follows_quiet p q es lane (words.Poll number) (shown r) (poll_spends (Some k) (shown r)) f (ap (λ o. poll_spends o (shown r)) at)
+pub follows_poll : (name : Option (List ℕ)) (p q : PeerView) (es : List Entry) (lane number k : ℕ) (r : Result (Polled Seen) Error) → Follows name p es
+    → place 0 lane number p.names ≡ Some k → r ≡ events.poll_answer (trail name es).events k
+    → q.names ≡ p.names → q.streams ≡ p.streams → Left q.core (events.poll_events k r ++ (trail name es).events)
+    → Follows name q (entry lane (words.Poll number) (shown r) ∷ es)
+follows_poll name p q es lane number k r f here answer names streams left =
+    let at : place 0 lane number (trail name es).names ≡ Some k = ap (λ ns. place 0 lane number ns) (sym f.names) ∙ here in
+    follows_quiet name p q es lane (words.Poll number) (shown r) (poll_spends (Some k) (shown r)) f (ap (λ o. poll_spends o (shown r)) at)
     (poll_quiet (Some k) (shown r))
-    (subst (λ xs. Left q.core (xs ++ (trail es).events)) (sym (spends_shown k r)) left)
-    names (no_names (trail es).events lane r) (streams ∙ sym (append-nil p.streams) ∙ ap (λ ns. p.streams ++ ns) (sym (no_streams lane r)))
-    (ap shown answer ∙ sym (ap (poll_of (trail es).events) at))
+    (subst (λ xs. Left q.core (xs ++ (trail name es).events)) (sym (spends_shown k r)) left)
+    names (no_names (trail name es).events lane (words.Poll number) r) (streams ∙ sym (append-nil p.streams) ∙ ap (λ ns. p.streams ++ ns) (sym (no_streams lane r)))
+    (ap shown answer ∙ sym (ap (poll_of (trail name es).events) at))
 
 -- no call has the number
-pub follows_unknown : (p : PeerView) (es : List Entry) (lane number : ℕ) → Follows p es → place 0 lane number p.names ≡ None
-    → Follows p (entry lane (words.Poll number) (answers.Refused errors.UnknownHandle) ∷ es)
-follows_unknown p es lane number f none =
-    let at : place 0 lane number (trail es).names ≡ None = ap (λ ns. place 0 lane number ns) (sym f.names) ∙ none in
-    follows_quiet p p es lane (words.Poll number) (answers.Refused errors.UnknownHandle) [] f (rw at refl) tt f.left refl refl (sym (append-nil p.streams)) (rw at refl)
+pub follows_unknown : (name : Option (List ℕ)) (p : PeerView) (es : List Entry) (lane number : ℕ) → Follows name p es → place 0 lane number p.names ≡ None
+    → Follows name p (entry lane (words.Poll number) (answers.Refused errors.UnknownHandle) ∷ es)
+follows_unknown name p es lane number f none =
+    let at : place 0 lane number (trail name es).names ≡ None = ap (λ ns. place 0 lane number ns) (sym f.names) ∙ none in
+    follows_quiet name p p es lane (words.Poll number) (answers.Refused errors.UnknownHandle) [] f (rw at refl) tt f.left refl refl (sym (append-nil p.streams)) (rw at refl)
 
 -- a poll's closing error is the peer's
 closed_at : (h : List events.Event) (c : Option events.Call) (error : Error) → events.polled_at h c ≡ Ok (polled.Closed error) → events.closing h ≡ Some error
@@ -148,29 +149,29 @@ no_write_shown (Ok (polled.Closed error)) e = cc
 no_write_shown (Ok polled.Ended) e = cc
 no_write_shown (Err error) e = cc
 
-pub reads_poll : (start now : Inlet) (es : List Entry) (lane number k : ℕ) (r : Result (Polled Seen) Error) → r ≡ events.poll_answer (trail es).events k
-    → Reads start now es → Reads start now (entry lane (words.Poll number) (shown r) ∷ es)
-reads_poll start now es lane number k r answer x =
-    reads_quiet start now es lane (words.Poll number) (shown r) (poll_quiet (place 0 lane number (trail es).names) (shown r))
+pub reads_poll : (name : Option (List ℕ)) (start now : Inlet) (es : List Entry) (lane number k : ℕ) (r : Result (Polled Seen) Error) → r ≡ events.poll_answer (trail name es).events k
+    → Reads name start now es → Reads name start now (entry lane (words.Poll number) (shown r) ∷ es)
+reads_poll name start now es lane number k r answer x =
+    reads_quiet name start now es lane (words.Poll number) (shown r) (poll_quiet (place 0 lane number (trail name es).names) (shown r))
     (λ stop bytes closing. told_poll stop bytes closing)
-    (λ f. fault_was_read es (poll_closed (trail es).events k (errors.InputOutput kinds.Fault) (sym answer ∙ fault_shown r f))) x
+    (λ f. fault_was_read name es (poll_closed (trail name es).events k (errors.InputOutput kinds.Fault) (sym answer ∙ fault_shown r f))) x
   where
-    told_poll : (stop : Option Bool) (bytes : List ℕ) (closing : Option Error) → ReadTold stop bytes (trail es).events closing (words.Poll number) (shown r)
+    told_poll : (stop : Option Bool) (bytes : List ℕ) (closing : Option Error) → ReadTold stop bytes (trail name es).events closing (words.Poll number) (shown r)
     told_poll stop bytes None = tt
     told_poll stop bytes (Some error) = tt
 
-pub writes_poll : (start now : Outlet) (es : List Entry) (lane number : ℕ) (r : Result (Polled Seen) Error)
-    → Writes start now es → Writes start now (entry lane (words.Poll number) (shown r) ∷ es)
-writes_poll start now es lane number r x =
-    writes_quiet start now es lane (words.Poll number) (shown r) (poll_quiet (place 0 lane number (trail es).names) (shown r)) (λ f. absurd (no_write_shown r f)) x
+pub writes_poll : (name : Option (List ℕ)) (start now : Outlet) (es : List Entry) (lane number : ℕ) (r : Result (Polled Seen) Error)
+    → Writes name start now es → Writes name start now (entry lane (words.Poll number) (shown r) ∷ es)
+writes_poll name start now es lane number r x =
+    writes_quiet name start now es lane (words.Poll number) (shown r) (poll_quiet (place 0 lane number (trail name es).names) (shown r)) (λ f. absurd (no_write_shown r f)) x
 
 -- an unknown number is shown as a poll's refusal is
-pub reads_unknown : (start now : Inlet) (es : List Entry) (lane number : ℕ) → Reads start now es
-    → Reads start now (entry lane (words.Poll number) (answers.Refused errors.UnknownHandle) ∷ es)
-reads_unknown start now es lane number x =
-    reads_quiet start now es lane (words.Poll number) (answers.Refused errors.UnknownHandle) (poll_quiet (place 0 lane number (trail es).names) (answers.Refused errors.UnknownHandle))
+pub reads_unknown : (name : Option (List ℕ)) (start now : Inlet) (es : List Entry) (lane number : ℕ) → Reads name start now es
+    → Reads name start now (entry lane (words.Poll number) (answers.Refused errors.UnknownHandle) ∷ es)
+reads_unknown name start now es lane number x =
+    reads_quiet name start now es lane (words.Poll number) (answers.Refused errors.UnknownHandle) (poll_quiet (place 0 lane number (trail name es).names) (answers.Refused errors.UnknownHandle))
     (λ stop bytes closing. told_refused stop bytes closing) (λ f. cc) x
   where
-    told_refused : (stop : Option Bool) (bytes : List ℕ) (closing : Option Error) → ReadTold stop bytes (trail es).events closing (words.Poll number) (answers.Refused errors.UnknownHandle)
+    told_refused : (stop : Option Bool) (bytes : List ℕ) (closing : Option Error) → ReadTold stop bytes (trail name es).events closing (words.Poll number) (answers.Refused errors.UnknownHandle)
     told_refused stop bytes None = tt
     told_refused stop bytes (Some error) = tt

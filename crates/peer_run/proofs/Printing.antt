@@ -27,21 +27,21 @@ told_breaks (Bytes v ∷ pieces) = told_breaks pieces
 told_breaks (Fault ∷ pieces) = refl
 
 -- all that is said of a run's history follows from the run
-polls_are : (s : Script) (h : List Entry) (sent : List ℕ) → Legal h → PollsAre s h sent
+polls_are : (s : Script) (h : List Entry) (sent : List ℕ) → Legal s.name h → PollsAre s h sent
 polls_are s h sent legal newer older e number is w =
-    let l : Legal (newer ++ e ∷ older) = subst Legal is legal in
-    let older_legal = legal_from newer (e ∷ older) l in
+    let l : Legal s.name (newer ++ e ∷ older) = subst (Legal s.name) is legal in
+    let older_legal = legal_from s.name newer (e ∷ older) l in
     record {
-      first = λ q at. by_the_first older e number q older_legal w at;
-      cut_off = λ error at. by_the_closing_error older e number error older_legal w at;
-      once = λ f. once newer older e number l w f;
+      first = λ q at. by_the_first s.name older e number q older_legal w at;
+      cut_off = λ error at. by_the_closing_error s.name older e number error older_legal w at;
+      once = λ f. once s.name newer older e number l w f;
     }
 
-streams_are : (s : Script) (h : List Entry) (sent : List ℕ) → Legal h → StreamsAre s h sent
+streams_are : (s : Script) (h : List Entry) (sent : List ℕ) → Legal s.name h → StreamsAre s h sent
 streams_are s h sent legal = record {
-  yields = λ newer older e number is w a. yields newer e older number (subst Legal is legal) w a;
-  ends = λ newer older e number is w last. ended newer older e number (subst Legal is legal) w last;
-  waits = λ newer older e is w many. busy_there older e (legal_from newer (e ∷ older) (subst Legal is legal)) w many;
+  yields = λ newer older e number is w a. yields s.name newer e older number (subst (Legal s.name) is legal) w a;
+  ends = λ newer older e number is w last. ended s.name newer older e number (subst (Legal s.name) is legal) w last;
+  waits = λ newer older e is w many. busy_there s.name older e (legal_from s.name newer (e ∷ older) (subst (Legal s.name) is legal)) w many;
 }
 
 whole_of : (s : Script) (entries : List Entry) (sent : List ℕ) → IsRunOf s entries sent → IsWhole s (reverse entries) sent
@@ -49,7 +49,7 @@ whole_of s entries sent r = record {
   reads = r.reads;
   polls = polls_are s (reverse entries) sent r.legal;
   streams = streams_are s (reverse entries) sent r.legal;
-  sends = record { bytes = r.bytes; room = r.room; put_is = put_sent (reverse entries) r.legal };
+  sends = record { bytes = r.bytes; room = r.room; put_is = put_sent s.name (reverse entries) r.legal };
 }
 
 -- a script was read, run and shown

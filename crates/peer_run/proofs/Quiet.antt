@@ -6,7 +6,7 @@ use Rattle.wire_message.specs.declared.error.Error.TheVariants as errors
 use Rattle.wire_message.specs.declared.error.IoKind.TheVariants as kinds
 use Rattle.wire_framing.specs.Source.{MayRise}
 use Rattle.wire_message.specs.Front.{Seen}
-use Rattle.wire_message.specs.Draft.{call_draft}
+use Rattle.wire_message.specs.Draft.{Draft}
 use Rattle.peer_route.specs.declared.words.Words.{Words}
 use Rattle.peer_route.specs.declared.words.Words.TheVariants as words
 use Rattle.peer_route.specs.declared.answer.Answer.{Answer}
@@ -39,10 +39,10 @@ rise_before a b c (inr p) h =
 -- ---- one entry more
 
 -- The peer follows a history with one entry more, where it is what the entry's events leave.
-pub follows_more : (p : PeerView) (es : List Entry) (e : Entry) (h : List events.Event)
-    → (trail (e ∷ es)).events ≡ h → Left p.core h → p.names ≡ (trail (e ∷ es)).names → p.streams ≡ (trail (e ∷ es)).streams → Legal es → IsAnswer (trail es) e.lane e.words e.answer
-    → p.core.read ≤ 2 ^ 64 - 2 → p.core.done ≡ length p.core.outbox → Follows p (e ∷ es)
-follows_more p es e h same left names streams legal answer within written = record {
+pub follows_more : (name : Option (List ℕ)) (p : PeerView) (es : List Entry) (e : Entry) (h : List events.Event)
+    → (trail name (e ∷ es)).events ≡ h → Left p.core h → p.names ≡ (trail name (e ∷ es)).names → p.streams ≡ (trail name (e ∷ es)).streams → Legal name es → IsAnswer (trail name es) e.lane e.words e.answer
+    → p.core.read ≤ 2 ^ 64 - 2 → p.core.done ≡ length p.core.outbox → Follows name p (e ∷ es)
+follows_more name p es e h same left names streams legal answer within written = record {
   left = subst (λ x. Left p.core x) (sym same) left;
   names = names;
   streams = streams;
@@ -63,14 +63,15 @@ read_closes None (answers.Closed error) h e f = inl (let g : events.first_of Non
 read_closes None (answers.Got m) h e f = inr f
 read_closes None a h e f = inr f
 
-put_closes : (failed : Bool) (m : Seen) (h : List events.Event) → events.closing (failed_put failed (events.Put m true) ++ h) ≡ events.closing h
-put_closes true m h = refl
-put_closes false m h = refl
+put_closes : (failed : Bool) (m : Seen) (expects : Bool) (h : List events.Event) → events.closing (failed_put failed (events.Put m expects) ++ h) ≡ events.closing h
+put_closes true m expects h = refl
+put_closes false m expects h = refl
 
-call_closes : (h : List events.Event) (path member : List ℕ) (a : Answer) → events.closing (call_events h (call_draft path member) a ++ h) ≡ events.closing h
-call_closes h path member (answers.Called call serial) = refl
-call_closes h path member (answers.SendFailed error) = put_closes (events.is_failed h) _ h
-call_closes h path member a = refl
+call_closes : (h : List events.Event) (draft : Draft) (a : Answer) → events.closing (call_events h draft a ++ h) ≡ events.closing h
+call_closes h draft (answers.Called call serial) = refl
+call_closes h draft (answers.Sent serial) = refl
+call_closes h draft (answers.SendFailed error) = put_closes (events.is_failed h) _ _ h
+call_closes h draft a = refl
 
 -- ---- events that read nothing and send nothing
 
@@ -127,22 +128,22 @@ take_quiet (Some k) (answers.Item position) = tt
 take_quiet (Some k) (answers.Closed error) = tt
 take_quiet (Some k) a = tt
 
-closes_by : (es : List Entry) (lane : ℕ) (w : Words) (a : Answer)
-    → ClosedByFault (events.closing (trail (entry lane w a ∷ es)).events) → IsReadFault a ⊎ ClosedByFault (events.closing (trail es).events)
-closes_by es lane (words.Call path member) a f = inr (sym (call_closes (trail es).events path member a) ∙ f)
-closes_by es lane words.Read a f = read_closes (events.closing (trail es).events) a (trail es).events refl f
-closes_by es lane (words.Poll number) a f = inr (sym (quiet_same (poll_spends (place 0 lane number (trail es).names) a) (trail es).events (poll_quiet (place 0 lane number (trail es).names) a)).closing ∙ f)
-closes_by es lane (words.Drop number) a f = inr (sym (quiet_same (drop_spends (place 0 lane number (trail es).names) a) (trail es).events (drop_quiet (place 0 lane number (trail es).names) a)).closing ∙ f)
-closes_by es lane words.Stream a f = inr (sym (quiet_same (stream_makes a) (trail es).events (stream_quiet a)).closing ∙ f)
-closes_by es lane (words.Take number) a f = inr (sym (quiet_same (take_does (place 0 lane number (trail es).streams) a) (trail es).events (take_quiet (place 0 lane number (trail es).streams) a)).closing ∙ f)
+closes_by : (name : Option (List ℕ)) (es : List Entry) (lane : ℕ) (w : Words) (a : Answer)
+    → ClosedByFault (events.closing (trail name (entry lane w a ∷ es)).events) → IsReadFault a ⊎ ClosedByFault (events.closing (trail name es).events)
+closes_by name es lane (words.Call destination path interface member flags) a f = inr (sym (call_closes (trail name es).events _ a) ∙ f)
+closes_by name es lane words.Read a f = read_closes (events.closing (trail name es).events) a (trail name es).events refl f
+closes_by name es lane (words.Poll number) a f = inr (sym (quiet_same (poll_spends (place 0 lane number (trail name es).names) a) (trail name es).events (poll_quiet (place 0 lane number (trail name es).names) a)).closing ∙ f)
+closes_by name es lane (words.Drop number) a f = inr (sym (quiet_same (drop_spends (place 0 lane number (trail name es).names) a) (trail name es).events (drop_quiet (place 0 lane number (trail name es).names) a)).closing ∙ f)
+closes_by name es lane words.Stream a f = inr (sym (quiet_same (stream_makes a) (trail name es).events (stream_quiet a)).closing ∙ f)
+closes_by name es lane (words.Take number) a f = inr (sym (quiet_same (take_does (place 0 lane number (trail name es).streams) a) (trail name es).events (take_quiet (place 0 lane number (trail name es).streams) a)).closing ∙ f)
 
 earlier : (A B C : Type 0) → A ⊎ B → (B → C) → A ⊎ C
 earlier A B C (inl a) f = inl a
 earlier A B C (inr b) f = inr (f b)
 
 -- A peer that a fault closed has an entry that says so.
-pub fault_was_read : (es : List Entry) → events.closing (trail es).events ≡ Some (errors.InputOutput kinds.Fault) → HasReadFault es
-fault_was_read [] e = cc
-fault_was_read (e ∷ es) f =
-    earlier (IsReadFault e.answer) (ClosedByFault (events.closing (trail es).events)) (HasReadFault es)
-    (closes_by es e.lane e.words e.answer f) (fault_was_read es)
+pub fault_was_read : (name : Option (List ℕ)) (es : List Entry) → events.closing (trail name es).events ≡ Some (errors.InputOutput kinds.Fault) → HasReadFault es
+fault_was_read name [] e = cc
+fault_was_read name (e ∷ es) f =
+    earlier (IsReadFault e.answer) (ClosedByFault (events.closing (trail name es).events)) (HasReadFault es)
+    (closes_by name es e.lane e.words e.answer f) (fault_was_read name es)

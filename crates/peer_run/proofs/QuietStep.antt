@@ -14,32 +14,32 @@ use Rattle.peer_run.specs.Stands.{PeerView, Inlet, Outlet, Follows, Reads, Write
 use Rattle.peer_run.proofs.Quiet.{AreQuiet, quiet_same, follows_more}
 use Rattle.peer_run.proofs.Kept.{reads_kept, writes_kept}
 
-pub follows_quiet : (p q : PeerView) (es : List Entry) (lane : ℕ) (w : Words) (a : Answer) (xs : List events.Event) → Follows p es
-    → events_of (trail es).events (trail es).names (trail es).streams lane w a ≡ xs → AreQuiet xs → Left q.core (xs ++ (trail es).events)
-    → q.names ≡ p.names → new_names (trail es).events lane a ≡ [] → q.streams ≡ p.streams ++ new_streams lane a → IsAnswer (trail es) lane w a
-    → Follows q (entry lane w a ∷ es)
-follows_quiet p q es lane w a xs f are quiet left names no_names streams answer =
-    let same = quiet_same xs (trail es).events quiet in
+pub follows_quiet : (name : Option (List ℕ)) (p q : PeerView) (es : List Entry) (lane : ℕ) (w : Words) (a : Answer) (xs : List events.Event) → Follows name p es
+    → events_of (trail name es) lane w a ≡ xs → AreQuiet xs → Left q.core (xs ++ (trail name es).events)
+    → q.names ≡ p.names → new_names (trail name es).events lane w a ≡ [] → q.streams ≡ p.streams ++ new_streams lane a → IsAnswer (trail name es) lane w a
+    → Follows name q (entry lane w a ∷ es)
+follows_quiet name p q es lane w a xs f are quiet left names no_names streams answer =
+    let same = quiet_same xs (trail name es).events quiet in
     let reads : q.core.read ≡ p.core.read = left.read ∙ ap length same.read ∙ sym f.left.read in
-    follows_more q es (entry lane w a) (xs ++ (trail es).events) (ap (λ ys. ys ++ (trail es).events) are) left
-    (names ∙ f.names ∙ sym (append-nil (trail es).names) ∙ ap (λ ns. (trail es).names ++ ns) (sym no_names))
+    follows_more name q es (entry lane w a) (xs ++ (trail name es).events) (ap (λ ys. ys ++ (trail name es).events) are) left
+    (names ∙ f.names ∙ sym (append-nil (trail name es).names) ∙ ap (λ ns. (trail name es).names ++ ns) (sym no_names))
     (streams ∙ ap (λ ns. ns ++ new_streams lane a) f.streams)
     f.legal answer (rw reads f.within)
     (left.done ∙ same.done ∙ sym f.left.done ∙ f.written ∙ ap length (f.left.outbox ∙ sym same.put ∙ sym left.outbox))
 
-pub reads_quiet : (start now : Inlet) (es : List Entry) (lane : ℕ) (w : Words) (a : Answer)
-    → AreQuiet (events_of (trail es).events (trail es).names (trail es).streams lane w a)
-    → ((stop : Option Bool) (bytes : List ℕ) (closing : Option Error) → ReadTold stop bytes (trail es).events closing w a)
+pub reads_quiet : (name : Option (List ℕ)) (start now : Inlet) (es : List Entry) (lane : ℕ) (w : Words) (a : Answer)
+    → AreQuiet (events_of (trail name es) lane w a)
+    → ((stop : Option Bool) (bytes : List ℕ) (closing : Option Error) → ReadTold stop bytes (trail name es).events closing w a)
     → (IsReadFault a → HasReadFault es)
-    → Reads start now es → Reads start now (entry lane w a ∷ es)
-reads_quiet start now es lane w a quiet told fault x =
-    let same = quiet_same (events_of (trail es).events (trail es).names (trail es).streams lane w a) (trail es).events quiet in
-    reads_kept start now es lane w a same.read same.closing (λ stop bytes. told stop bytes (events.closing (trail es).events)) fault x
+    → Reads name start now es → Reads name start now (entry lane w a ∷ es)
+reads_quiet name start now es lane w a quiet told fault x =
+    let same = quiet_same (events_of (trail name es) lane w a) (trail name es).events quiet in
+    reads_kept name start now es lane w a same.read same.closing (λ stop bytes. told stop bytes (events.closing (trail name es).events)) fault x
 
-pub writes_quiet : (start now : Outlet) (es : List Entry) (lane : ℕ) (w : Words) (a : Answer)
-    → AreQuiet (events_of (trail es).events (trail es).names (trail es).streams lane w a)
+pub writes_quiet : (name : Option (List ℕ)) (start now : Outlet) (es : List Entry) (lane : ℕ) (w : Words) (a : Answer)
+    → AreQuiet (events_of (trail name es) lane w a)
     → (IsWriteFault a → HasWriteFault es)
-    → Writes start now es → Writes start now (entry lane w a ∷ es)
-writes_quiet start now es lane w a quiet fault x =
-    let same = quiet_same (events_of (trail es).events (trail es).names (trail es).streams lane w a) (trail es).events quiet in
-    writes_kept start now es lane w a same.failed same.put fault x
+    → Writes name start now es → Writes name start now (entry lane w a ∷ es)
+writes_quiet name start now es lane w a quiet fault x =
+    let same = quiet_same (events_of (trail name es) lane w a) (trail name es).events quiet in
+    writes_kept name start now es lane w a same.failed same.put fault x

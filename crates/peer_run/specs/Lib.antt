@@ -1,3 +1,4 @@
+pub mod CallWords
 pub mod Stands
 pub mod Runs
 pub mod Program

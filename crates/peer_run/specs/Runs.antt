@@ -1,5 +1,5 @@
 -- What a run gives: a legal history of its commands, whose reads and writes are what the outside told.
-use Rattle.std.specs.Prelude.{◌≡◌, List, map, reverse, IfSome}
+use Rattle.std.specs.Prelude.{◌≡◌, ℕ, List, Option, map, reverse, IfSome}
 use Rattle.wire_framing.specs.Source.{MayRise}
 use Rattle.peer_route.specs.declared.words.Command.{Command}
 use Rattle.peer_route.specs.declared.answer.Entry.{Entry}
@@ -12,22 +12,22 @@ use Rattle.peer_run.specs.Stands.{Inlet, Outlet, PeerView, Follows, Reads, Write
 abbrev pub command_of : Entry → Command
 command_of e = record { lane = e.lane; words = e.words }
 
--- a peer, a source and a sink stand to a history, newest first
-pub record Stands (start_in : Inlet) (start_out : Outlet) (p : PeerView) (now_in : Inlet) (now_out : Outlet) (es : List Entry) : Type 0 where
-  pub follows : Follows p es
-  pub reads : Reads start_in now_in es
-  pub writes : Writes start_out now_out es
+-- a peer of this name, a source and a sink stand to a history, newest first
+pub record Stands (name : Option (List ℕ)) (start_in : Inlet) (start_out : Outlet) (p : PeerView) (now_in : Inlet) (now_out : Outlet) (es : List Entry) : Type 0 where
+  pub follows : Follows name p es
+  pub reads : Reads name start_in now_in es
+  pub writes : Writes name start_out now_out es
 
--- The entries, oldest first, are a run of these commands over a source and a sink that told this before it and after it.
-pub record Runs (start_in : Inlet) (start_out : Outlet) (end_in : Inlet) (end_out : Outlet) (commands : List Command) (entries : List Entry) : Type 0 where
+-- The entries, oldest first, are a run of these commands by a peer of this name over a source and a sink that told this before it and after it.
+pub record Runs (name : Option (List ℕ)) (start_in : Inlet) (start_out : Outlet) (end_in : Inlet) (end_out : Outlet) (commands : List Command) (entries : List Entry) : Type 0 where
   -- each answer is that of the entries before it
-  pub legal : Legal (reverse entries)
+  pub legal : Legal name (reverse entries)
   -- the entries' commands are those, each once and in order
   pub each : map command_of entries ≡ commands
   -- the reads are what stands in the source's bytes
-  pub reads : IfSome start_in.left (λ bytes. ReadsTold start_in.stop bytes (reverse entries))
+  pub reads : IfSome start_in.left (λ bytes. ReadsTold name start_in.stop bytes (reverse entries))
   -- the sink holds the encodings of what was put, up to its first fault
-  pub writes : IfSome start_out.held (λ before. HoldsThen start_out.room before end_out.held (trail (reverse entries)).events)
+  pub writes : IfSome start_out.held (λ before. HoldsThen start_out.room before end_out.held (trail name (reverse entries)).events)
   -- a fault is answered only where its count rose
   pub read_fault : HasReadFault (reverse entries) → MayRise start_in.faults end_in.faults
   pub write_fault : HasWriteFault (reverse entries) → MayRise start_out.faults end_out.faults

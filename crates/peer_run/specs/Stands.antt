@@ -1,5 +1,5 @@
 -- How a peer, a source and a sink stand to a history, newest first: what a run keeps from command to command.
-use Rattle.std.specs.Prelude.{ℕ, ⊤, ◌≡◌, ◌-◌, ◌^◌, ◌≤◌, ◌⊎◌, Bool, true, false, List, [], ◌∷◌, ◌++◌, length, Option, Some, None, IfSome, Result, Ok, Err}
+use Rattle.std.specs.Prelude.{ℕ, ⊤, ◌≡◌, ◌-◌, ◌^◌, ◌≤◌, ◌⊎◌, Bool, true, false, List, [], ◌∷◌, ◌++◌, length, Option, Some, None, is_some, IfSome, Result, Ok, Err}
 use Rattle.wire_message.specs.Front.{Seen}
 use Rattle.wire_message.specs.declared.error.Error.{Error}
 use Rattle.wire_message.specs.declared.error.Error.TheVariants as errors
@@ -15,7 +15,8 @@ use Rattle.peer_route.specs.declared.answer.Entry.{Entry}
 use Rattle.peer_route.specs.History.{Event, Wrote, Fault, put, is_failed}
 use Rattle.peer_route.specs.History as events
 use Rattle.peer_route.specs.Trail.{Names, trail, count}
-use Rattle.peer_route.specs.Answers.{Legal}
+use Rattle.peer_route.specs.declared.route.Issued.{Issued}
+use Rattle.peer_route.specs.Answers.{Legal, sent_answer, write_fault}
 use Rattle.peer_route.specs.Left.{View, Left}
 use Rattle.peer_route.specs.Told.{ReadsTold, IsSentOf, WritesTold, encodings, left_after}
 
@@ -42,11 +43,11 @@ pub record PeerView : Type 0 where
   pub streams : Names
 
 -- The peer is what the history leaves, and the history is legal.
-pub record Follows (p : PeerView) (es : List Entry) : Type 0 where
-  pub left : Left p.core (trail es).events
-  pub names : p.names ≡ (trail es).names
-  pub streams : p.streams ≡ (trail es).streams
-  pub legal : Legal es
+pub record Follows (name : Option (List ℕ)) (p : PeerView) (es : List Entry) : Type 0 where
+  pub left : Left p.core (trail name es).events
+  pub names : p.names ≡ (trail name es).names
+  pub streams : p.streams ≡ (trail name es).streams
+  pub legal : Legal name es
   pub within : p.core.read ≤ 2 ^ 64 - 2
   pub written : p.core.done ≡ length p.core.outbox
 
@@ -67,9 +68,9 @@ IsRest (Some error) rest before left stop = ⊤
 IsRest None rest before left stop = (left ≡ Some rest) × (stop ≡ before)
 
 -- What the source told at the start, and tells now, is what the history's reads say.
-pub record Reads (start now : Inlet) (es : List Entry) : Type 0 where
-  pub told : IfSome start.left (λ bytes. ReadsTold start.stop bytes es)
-  pub rest : IfSome start.left (λ bytes. IsRest (events.closing (trail es).events) (left_after bytes (trail es).events) start.stop now.left now.stop)
+pub record Reads (name : Option (List ℕ)) (start now : Inlet) (es : List Entry) : Type 0 where
+  pub told : IfSome start.left (λ bytes. ReadsTold name start.stop bytes es)
+  pub rest : IfSome start.left (λ bytes. IsRest (events.closing (trail name es).events) (left_after bytes (trail name es).events) start.stop now.left now.stop)
   pub cause : HasReadFault es → MayRise start.faults now.faults
   pub kept : start.faults ≤ now.faults
 
@@ -99,27 +100,31 @@ RoomFor true room now ms = ⊤
 RoomFor false room now ms = RoomFalls room now (length (encodings ms))
 
 -- What the sink held at the start, and holds now, is what the history put.
-pub record Writes (start now : Outlet) (es : List Entry) : Type 0 where
-  pub holds : IfSome start.held (λ before. HoldsThen start.room before now.held (trail es).events)
-  pub room : RoomFor (is_failed (trail es).events) start.room now.room (put (trail es).events)
+pub record Writes (name : Option (List ℕ)) (start now : Outlet) (es : List Entry) : Type 0 where
+  pub holds : IfSome start.held (λ before. HoldsThen start.room before now.held (trail name es).events)
+  pub room : RoomFor (is_failed (trail name es).events) start.room now.room (put (trail name es).events)
   pub cause : HasWriteFault es → MayRise start.faults now.faults
   pub kept : start.faults ≤ now.faults
   -- the count rose only by a write that failed
-  pub only : is_failed (trail es).events ≡ false → now.faults ≡ start.faults
+  pub only : is_failed (trail name es).events ≡ false → now.faults ≡ start.faults
 
--- The message was written, and is the lane's next call; or its write failed, and it is nobody's call.
-abbrev pub Sent : PeerView → PeerView → ℕ → ℕ → Seen → Outlet → Outlet → Answer → Type 0
-Sent old new lane serial m now after (answers.Called call number) =
-    (call ≡ count lane old.names) × (number ≡ serial) × (new.names ≡ old.names ++ Some lane ∷ [])
-    × ((h : List Event) → Left old.core h → Left new.core (Wrote ∷ h))
-    × Appends now.held after.held m.bytes × RoomFalls now.room after.room (length m.bytes) × (after.faults ≡ now.faults)
-    × (new.streams ≡ old.streams)
-Sent old new lane serial m now after (answers.SendFailed error) =
-    (error ≡ errors.InputOutput kinds.WriteFault) × (new.names ≡ old.names ++ None ∷ [])
-    × ((h : List Event) → Left old.core h → Left new.core (Fault ∷ h))
-    × (n : ℕ) × Part m.bytes now.held after.held n × RoomBreaks now.room after.room n × MayRise now.faults after.faults
-    × (new.streams ≡ old.streams)
-Sent old new lane serial m now after answer = ⊥
+-- whose the calls are with the one that a message makes, if it makes one
+abbrev pub named : Bool → Option ℕ → Names → Names
+named true owner names = names ++ owner ∷ []
+named false owner names = names
+
+-- The message that was issued was written, and is the lane's next call, if it makes one; or its write failed, and then its
+-- call is nobody's.
+pub data Sent (old new : PeerView) (lane : ℕ) (issued : Issued) (m : Seen) (now after : Outlet) (answer : Answer) : Type 0 where
+  WentOut : answer ≡ sent_answer (is_some issued.call) (count lane old.names) issued.serial
+      → new.names ≡ named (is_some issued.call) (Some lane) old.names → new.streams ≡ old.streams
+      → ((h : List Event) → Left old.core h → Left new.core (Wrote ∷ h))
+      → Appends now.held after.held m.bytes → RoomFalls now.room after.room (length m.bytes) → after.faults ≡ now.faults
+      → Sent old new lane issued m now after answer
+  WriteFailed : answer ≡ write_fault → new.names ≡ named (is_some issued.call) None old.names → new.streams ≡ old.streams
+      → ((h : List Event) → Left old.core h → Left new.core (Fault ∷ h))
+      → (n : ℕ) → Part m.bytes now.held after.held n → RoomBreaks now.room after.room n → MayRise now.faults after.faults
+      → Sent old new lane issued m now after answer
 
 -- a call that wasn't issued: its refusal, or an earlier failed write; not want of memory
 abbrev pub unsent_answer : Error → Option Answer

@@ -1,6 +1,7 @@
 //! A script's commands, run over a source and a sink; and the program around it.
 #![tactic(auto)]
 
+mod call_words;
 mod laws;
 mod main_call;
 mod peer;
@@ -9,7 +10,7 @@ mod run;
 pub use laws::cut_anyhow;
 pub use main_call::peer_main;
 pub use peer::RunError;
-pub use peer_route::{Answer, Command, Entry, Words};
+pub use peer_route::{Answer, CallFlags, Command, Entry, Words};
 pub use peer_script::{ScriptError, Setup, Transcript, Word, read_script, write_transcript};
 pub use run::run_peer;
 pub use wire_framing::{

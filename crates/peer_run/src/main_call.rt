@@ -2,7 +2,7 @@ ghost use Rattle.std.specs.Prelude.{ℕ, ◌≡◌, ◌≤◌, ◌<◌, ◌⊎�
 ghost use Rattle.std.specs.Io.KnownBytes.{Appends};
 ghost use Rattle.wire_framing.specs.Source.{MayRise};
 ghost use Rattle.peer_script.specs.Reading.{script_from};
-ghost use Rattle.peer_run.specs.Program.{IsRun, is_run, usage, input_fault, limit_text, line_text, Prints, ReadsAre, PollsAre, StreamsAre, SentIs, Refuses, IsDecided, Says, Shows, Ends};
+ghost use Rattle.peer_run.specs.Program.{IsRun, is_run, IsWhole, usage, input_fault, limit_text, line_text, Prints, ReadsAre, PollsAre, StreamsAre, SentIs, Refuses, IsDecided, Says, Shows, Ends};
 
 use crate::peer::RunError;
 use crate::run::run_peer;
@@ -59,7 +59,7 @@ fn sink_of(alloc: Global, outfault: Option<u64>) -> MemorySink
 
 /// Runs the commands over the setup's pieces and its sink, and prints the transcript.
 fn run_commands<O: Sink>(alloc: Global, setup: &Setup, commands: &[Command], output: &mut O) -> u8
-    ensures { Shows (script_from setup.now.outfault setup.now.pieces.items commands.now) (O.held output.old) (O.held output.new) (O.faults output.old) (O.faults output.new) result }
+    ensures { Shows (script_from setup.now.name setup.now.outfault setup.now.pieces.items commands.now) (O.held output.old) (O.held output.new) (O.faults output.old) (O.faults output.new) result }
 {
     let mut source = MemorySource::new(&setup.pieces);
     let mut sink = sink_of(alloc, setup.outfault);
@@ -117,6 +117,8 @@ pub fn peer_main<R, I: Source, O: Sink>(
     ensures streams { result ≡ 0 → IfSome (I.left input.old) (λ bytes. Prints StreamsAre bytes (O.held output.old) (O.held output.new)) }
     // the bytes sent, printed behind the entries, are the encodings of what was put, up to the sink's fault
     ensures sends { result ≡ 0 → IfSome (I.left input.old) (λ bytes. Prints SentIs bytes (O.held output.old) (O.held output.new)) }
+    // and the four hold of one history
+    ensures whole { result ≡ 0 → IfSome (I.left input.old) (λ bytes. Prints IsWhole bytes (O.held output.old) (O.held output.new)) }
     // 2: exactly where the words are no row of the program's table, memory and the output's faults aside
     ensures usage { result ≡ 2 → (¬ IsRun (map (λ word. string_bytes word) words.now)) × Appends (O.held output.old) (O.held output.new) usage }
     ensures no_row { ¬ IsRun (map (λ word. string_bytes word) words.now) → (result ≡ 2) ⊎ (result ≡ 1) ⊎ (result ≡ 5) }

@@ -1,17 +1,20 @@
-ghost use Rattle.std.specs.Prelude.{ℕ, ◌≡◌, ◌+◌, ◌≤◌, ◌<◌, ◌-◌, ◌^◌, slice_get, false, List, [], ◌∷◌, length, IfOk, Some, None};
+ghost use Rattle.std.specs.Prelude.{ℕ, ◌≡◌, ◌+◌, ◌≤◌, ◌<◌, ◌-◌, ◌^◌, slice_get, false, List, [], ◌∷◌, length, Option, IfOk, OnOk, Some, None, is_some};
 ghost use Rattle.peer_route.specs.declared.answer.Entry.{Entry};
 ghost use Rattle.peer_route.specs.declared.words.Words.TheVariants as words;
 ghost use Rattle.peer_route.specs.Trail as trails;
 ghost use Rattle.peer_route.specs.Answers as shows;
-ghost use Rattle.peer_run.specs.Stands.{PeerView, Inlet, Outlet, Follows, Reads, Writes, Sent, NotIssued, entry};
+ghost use Rattle.peer_route.specs.Answers.{sent_answer};
+ghost use Rattle.peer_run.specs.CallWords.{words_of};
+ghost use Rattle.peer_run.specs.Stands.{PeerView, Inlet, Outlet, Follows, Reads, Writes, Sent, NotIssued, named, entry};
 ghost use Rattle.wire_message.specs.Front.{Seen};
 
+use crate::call_words::CallWords;
 use peer_route::{Answer, Issued, MessageStream, Polled, Route};
 use std::alloc::{AllocError, AllocFailed, Global};
 use std::marker::Model;
 use wire_framing::{Sink, Source, receive_message, send_message};
 use wire_message::{Error, Message, MessageType};
-use wire_names::{Bytes, MemberName, ObjectPath};
+use wire_names::OwnedUniqueName;
 
 /// Why a run ended early.
 #[derive(Clone, Copy, PartialEq, Eq, Debug)]
@@ -153,7 +156,7 @@ fn not_issued(error: Error) -> Result<Answer, RunError>
 impl Peer {
     /// A peer that nothing happened to.
     pub(crate) fn new(alloc: Global) -> Peer
-        ensures { Follows result [] }
+        ensures { (name : Option (List ℕ)) → Follows name result [] }
     {
         Peer {
             route: Route::new(alloc),
@@ -170,13 +173,13 @@ impl Peer {
         source: &mut S,
     ) -> Result<Answer, RunError>
         requires { self.old.core.read ≤ 2 ^ 64 - 2 }
-        ensures follows { IfOk result (λ answer. (es : List Entry) (lane : ℕ) → Follows self.old es
-            → Follows self.new (entry lane words.Read answer ∷ es)) }
-        ensures reads { IfOk result (λ answer. (start : Inlet) (es : List Entry) (lane : ℕ) → Follows self.old es
-            → Reads start (record { left = S.left source.old; stop = S.stop source.old; faults = S.faults source.old }) es
-            → Reads start (record { left = S.left source.new; stop = S.stop source.new; faults = S.faults source.new }) (entry lane words.Read answer ∷ es)) }
-        ensures writes { IfOk result (λ answer. (start now : Outlet) (es : List Entry) (lane : ℕ) → Follows self.old es
-            → Writes start now es → Writes start now (entry lane words.Read answer ∷ es)) }
+        ensures follows { IfOk result (λ answer. (name : Option (List ℕ)) (es : List Entry) (lane : ℕ) → Follows name self.old es
+            → Follows name self.new (entry lane words.Read answer ∷ es)) }
+        ensures reads { IfOk result (λ answer. (name : Option (List ℕ)) (start : Inlet) (es : List Entry) (lane : ℕ) → Follows name self.old es
+            → Reads name start (record { left = S.left source.old; stop = S.stop source.old; faults = S.faults source.old }) es
+            → Reads name start (record { left = S.left source.new; stop = S.stop source.new; faults = S.faults source.new }) (entry lane words.Read answer ∷ es)) }
+        ensures writes { IfOk result (λ answer. (name : Option (List ℕ)) (start now : Outlet) (es : List Entry) (lane : ℕ) → Follows name self.old es
+            → Writes name start now es → Writes name start now (entry lane words.Read answer ∷ es)) }
         ensures grows { S.faults source.old ≤ S.faults source.new }
     {
         if let Some(error) = self.route.closing() {
@@ -203,11 +206,11 @@ impl Peer {
 
     /// The answer of the lane's call with this number.
     pub(crate) fn poll(&mut self, lane: u32, number: u64) -> Answer
-        ensures follows { (es : List Entry) → Follows self.old es → Follows self.new (entry lane (words.Poll number) result ∷ es) }
-        ensures reads { (start now : Inlet) (es : List Entry) → Follows self.old es
-            → Reads start now es → Reads start now (entry lane (words.Poll number) result ∷ es) }
-        ensures writes { (start now : Outlet) (es : List Entry) → Follows self.old es
-            → Writes start now es → Writes start now (entry lane (words.Poll number) result ∷ es) }
+        ensures follows { (name : Option (List ℕ)) (es : List Entry) → Follows name self.old es → Follows name self.new (entry lane (words.Poll number) result ∷ es) }
+        ensures reads { (name : Option (List ℕ)) (start now : Inlet) (es : List Entry) → Follows name self.old es
+            → Reads name start now es → Reads name start now (entry lane (words.Poll number) result ∷ es) }
+        ensures writes { (name : Option (List ℕ)) (start now : Outlet) (es : List Entry) → Follows name self.old es
+            → Writes name start now es → Writes name start now (entry lane (words.Poll number) result ∷ es) }
     {
         match place(&self.names, lane, number) {
             Some(call) => shown(self.route.poll(call)),
@@ -217,11 +220,11 @@ impl Peer {
 
     /// Drops the lane's call with this number.
     pub(crate) fn drop_call(&mut self, lane: u32, number: u64) -> Answer
-        ensures follows { (es : List Entry) → Follows self.old es → Follows self.new (entry lane (words.Drop number) result ∷ es) }
-        ensures reads { (start now : Inlet) (es : List Entry) → Follows self.old es
-            → Reads start now es → Reads start now (entry lane (words.Drop number) result ∷ es) }
-        ensures writes { (start now : Outlet) (es : List Entry) → Follows self.old es
-            → Writes start now es → Writes start now (entry lane (words.Drop number) result ∷ es) }
+        ensures follows { (name : Option (List ℕ)) (es : List Entry) → Follows name self.old es → Follows name self.new (entry lane (words.Drop number) result ∷ es) }
+        ensures reads { (name : Option (List ℕ)) (start now : Inlet) (es : List Entry) → Follows name self.old es
+            → Reads name start now es → Reads name start now (entry lane (words.Drop number) result ∷ es) }
+        ensures writes { (name : Option (List ℕ)) (start now : Outlet) (es : List Entry) → Follows name self.old es
+            → Writes name start now es → Writes name start now (entry lane (words.Drop number) result ∷ es) }
     {
         match place(&self.names, lane, number) {
             Some(call) => shown_drop(self.route.drop_call(call)),
@@ -231,11 +234,11 @@ impl Peer {
 
     /// Opens a stream for the lane.
     pub(crate) fn stream(&mut self, lane: u32) -> Result<Answer, RunError>
-        ensures follows { IfOk result (λ answer. (es : List Entry) → Follows self.old es → Follows self.new (entry lane words.Stream answer ∷ es)) }
-        ensures reads { IfOk result (λ answer. (start now : Inlet) (es : List Entry) → Follows self.old es
-            → Reads start now es → Reads start now (entry lane words.Stream answer ∷ es)) }
-        ensures writes { IfOk result (λ answer. (start now : Outlet) (es : List Entry) → Follows self.old es
-            → Writes start now es → Writes start now (entry lane words.Stream answer ∷ es)) }
+        ensures follows { IfOk result (λ answer. (name : Option (List ℕ)) (es : List Entry) → Follows name self.old es → Follows name self.new (entry lane words.Stream answer ∷ es)) }
+        ensures reads { IfOk result (λ answer. (name : Option (List ℕ)) (start now : Inlet) (es : List Entry) → Follows name self.old es
+            → Reads name start now es → Reads name start now (entry lane words.Stream answer ∷ es)) }
+        ensures writes { IfOk result (λ answer. (name : Option (List ℕ)) (start now : Outlet) (es : List Entry) → Follows name self.old es
+            → Writes name start now es → Writes name start now (entry lane words.Stream answer ∷ es)) }
     {
         let number = count(&self.streams, lane);
         let _ = self.route.open()?;
@@ -245,16 +248,40 @@ impl Peer {
 
     /// What the lane's stream with this number gives.
     pub(crate) fn take(&mut self, lane: u32, number: u64) -> Answer
-        ensures follows { (es : List Entry) → Follows self.old es → Follows self.new (entry lane (words.Take number) result ∷ es) }
-        ensures reads { (start now : Inlet) (es : List Entry) → Follows self.old es
-            → Reads start now es → Reads start now (entry lane (words.Take number) result ∷ es) }
-        ensures writes { (start now : Outlet) (es : List Entry) → Follows self.old es
-            → Writes start now es → Writes start now (entry lane (words.Take number) result ∷ es) }
+        ensures follows { (name : Option (List ℕ)) (es : List Entry) → Follows name self.old es → Follows name self.new (entry lane (words.Take number) result ∷ es) }
+        ensures reads { (name : Option (List ℕ)) (start now : Inlet) (es : List Entry) → Follows name self.old es
+            → Reads name start now es → Reads name start now (entry lane (words.Take number) result ∷ es) }
+        ensures writes { (name : Option (List ℕ)) (start now : Outlet) (es : List Entry) → Follows name self.old es
+            → Writes name start now es → Writes name start now (entry lane (words.Take number) result ∷ es) }
     {
         match place(&self.streams, lane, number) {
             Some(number) => shown_take(self.route.take(&MessageStream { number })),
             None => shown_take(Err(Error::UnknownHandle)),
         }
+    }
+
+    /// What is answered of a message that was written: its serial, and the lane's next number where it makes a call.
+    fn went_out(&mut self, lane: u32, issued: Issued) -> Result<Answer, AllocError>
+        ensures answer { IfOk result (λ answer. answer ≡ sent_answer (is_some issued.call) (trails.count lane self.old.names) issued.serial) }
+        ensures names { OnOk result (self.new ≡ record self.old { names = named (is_some issued.call) (Some lane) self.old.names }) }
+    {
+        let serial = issued.serial;
+        if issued.call.is_none() {
+            return Ok(Answer::Sent(serial));
+        }
+        let call = count(&self.names, lane);
+        self.names.push(Some(lane))?;
+        Ok(Answer::Called { call, serial })
+    }
+
+    /// The call of a message whose write failed, if it makes one, is nobody's.
+    fn lost(&mut self, issued: Issued) -> Result<(), AllocError>
+        ensures { OnOk result (self.new ≡ record self.old { names = named (is_some issued.call) None self.old.names }) }
+    {
+        if issued.call.is_some() {
+            self.names.push(None)?;
+        }
+        Ok(())
     }
 
     /// Writes the message that was issued, which stands at that place of the outbox.
@@ -263,62 +290,52 @@ impl Peer {
         requires due { issued.index ≡ self.old.core.done }
         requires fine { self.old.core.failed ≡ false }
         ensures sent { IfOk result (λ answer. (m : Seen) → slice_get self.old.core.outbox issued.index ≡ Some m
-            → Sent self.old self.new lane issued.serial m (record { held = W.held sink.old; room = W.room sink.old; faults = W.faults sink.old })
+            → Sent self.old self.new lane issued m (record { held = W.held sink.old; room = W.room sink.old; faults = W.faults sink.old })
             (record { held = W.held sink.new; room = W.room sink.new; faults = W.faults sink.new }) answer) }
         ensures grows { W.faults sink.old ≤ W.faults sink.new }
     {
-        self.names.reserve(1)?;
         let Some(message) = self.route.outbox(issued.index) else {
             unreachable!()
         };
         match send_message(sink, message) {
             Ok(()) => {
                 self.route.wrote(issued.index);
-                let call = count(&self.names, lane);
-                self.names.push(Some(lane))?;
-                Ok(Answer::Called {
-                    call,
-                    serial: issued.serial,
-                })
+                Ok(self.went_out(lane, issued)?)
             }
             Err(error) => match error {
                 Error::Memory => Err(RunError::Memory),
                 _ => {
                     self.route.write_fault(issued.index);
-                    self.names.push(None)?;
+                    self.lost(issued)?;
                     Ok(Answer::SendFailed(error))
                 }
             },
         }
     }
 
-    /// Sends a method call.
+    /// Sends a method call of the peer of that name.
     pub(crate) fn call<W: Sink>(
         &mut self,
         sink: &mut W,
         lane: u32,
-        path: &Bytes,
-        member: &Bytes,
+        name: &Option<OwnedUniqueName>,
+        call: CallWords<'_>,
     ) -> Result<Answer, RunError>
         requires { self.old.core.done ≡ length self.old.core.outbox }
-        ensures follows { IfOk result (λ answer. (es : List Entry) → Follows self.old es
-            → Follows self.new (entry lane (words.Call path.now member.now) answer ∷ es)) }
-        ensures reads { IfOk result (λ answer. (start now : Inlet) (es : List Entry) → Follows self.old es
-            → Reads start now es → Reads start now (entry lane (words.Call path.now member.now) answer ∷ es)) }
-        ensures writes { IfOk result (λ answer. (start : Outlet) (es : List Entry) → Follows self.old es
-            → Writes start (record { held = W.held sink.old; room = W.room sink.old; faults = W.faults sink.old }) es
-            → Writes start (record { held = W.held sink.new; room = W.room sink.new; faults = W.faults sink.new }) (entry lane (words.Call path.now member.now) answer ∷ es)) }
+        ensures follows { IfOk result (λ answer. (es : List Entry) → Follows name.now self.old es
+            → Follows name.now self.new (entry lane (words_of call.entry) answer ∷ es)) }
+        ensures reads { IfOk result (λ answer. (start now : Inlet) (es : List Entry) → Follows name.now self.old es
+            → Reads name.now start now es → Reads name.now start now (entry lane (words_of call.entry) answer ∷ es)) }
+        ensures writes { IfOk result (λ answer. (start : Outlet) (es : List Entry) → Follows name.now self.old es
+            → Writes name.now start (record { held = W.held sink.old; room = W.room sink.old; faults = W.faults sink.old }) es
+            → Writes name.now start (record { held = W.held sink.new; room = W.room sink.new; faults = W.faults sink.new }) (entry lane (words_of call.entry) answer ∷ es)) }
         ensures grows { W.faults sink.old ≤ W.faults sink.new }
     {
-        let path = match ObjectPath::try_from_bytes(path.as_slice()) {
-            Ok(path) => path,
-            Err(error) => return Ok(Answer::Refused(Error::Names(error))),
+        let builder = match call.builder(name) {
+            Ok(builder) => builder,
+            Err(error) => return Ok(Answer::Refused(error)),
         };
-        let member = match MemberName::try_from_bytes(member.as_slice()) {
-            Ok(member) => member,
-            Err(error) => return Ok(Answer::Refused(Error::Names(error))),
-        };
-        match self.route.issue(Message::method_call(&path, &member)) {
+        match self.route.issue(builder) {
             Ok(issued) => self.send(sink, lane, issued),
             Err(error) => not_issued(error),
         }

@@ -2,4 +2,8 @@
 #![tactic(auto)]
 
 #[cfg(test)]
-mod tests;
+mod cases;
+#[cfg(test)]
+mod harness;
+#[cfg(test)]
+mod sweeps;

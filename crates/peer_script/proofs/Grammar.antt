@@ -6,7 +6,7 @@ use Rattle.peer_script.specs.declared.line.Line.TheVariants.{Direct, OutFault, I
 use Rattle.peer_script.specs.declared.reading.Stage.{Stage}
 use Rattle.peer_script.specs.declared.reading.Stage.TheVariants.{Start, Head, Pieces, Commands, Over}
 use Rattle.peer_script.specs.Script.{Given, Gave, Broke, Script, ScriptText, line_of, parts, outfault_lines, given_line, sent_lines, script_lines}
-use Rattle.peer_script.specs.Reading.{Step, begun, with_outfault, more_given, more_command, take_line, end_of, then_read, read_lines, script_of}
+use Rattle.peer_script.specs.Reading.{Step, begun, with_name, with_outfault, more_given, more_command, take_line, end_of, then_read, read_lines, script_of}
 use Rattle.peer_script.proofs.Read.{lines_step}
 
 -- what may come behind `direct`
@@ -26,7 +26,7 @@ or_out out None = out
 or_out out (Some n) = Some n
 
 abbrev joined : Script → Option ℕ → List Given → List Command → Script
-joined s out gs cs = record { outfault = or_out s.outfault out; given = s.given ++ gs; commands = s.commands ++ cs }
+joined s out gs cs = record { name = s.name; outfault = or_out s.outfault out; given = s.given ++ gs; commands = s.commands ++ cs }
 
 -- the parts are the ended lines of these
 record Behind (stage : Stage) (s whole : Script) (ls : List (List ℕ)) : Type 0 where
@@ -44,8 +44,8 @@ record Behind (stage : Stage) (s whole : Script) (ls : List (List ℕ)) : Type 0
 
 joined_nothing : (s : Script) → s ≡ joined s None [] []
 joined_nothing s =
-    ap (λ l. record { outfault = s.outfault; given = l; commands = s.commands }) (sym (append-nil s.given))
-    ∙ ap (λ l. record { outfault = s.outfault; given = s.given ++ []; commands = l }) (sym (append-nil s.commands))
+    ap (λ l. record { name = s.name; outfault = s.outfault; given = l; commands = s.commands }) (sym (append-nil s.given))
+    ∙ ap (λ l. record { name = s.name; outfault = s.outfault; given = s.given ++ []; commands = l }) (sym (append-nil s.commands))
 
 fits_nothing : (stage : Stage) (s whole : Script) (n : ℕ) → end_of stage s n [] ≡ Ok whole → Fits stage None [] [] false
 fits_nothing Start s whole n e = absurd (cc)
@@ -95,7 +95,7 @@ given_first stage s whole line ls g e any r =
       ended = ap (λ l. line ∷ l) r.ended;
       each = ap (λ x. x ∷ map line_of r.lines) e ∙ ap (λ l. Some (given_line g) ∷ l) (r.each ∙ ap (λ o. map Some (body o r.gs r.cs r.sent)) r.fits);
       all = r.all ∙ ap (λ o. joined (more_given s g) o r.gs r.cs) r.fits
-          ∙ ap (λ l. record { outfault = s.outfault; given = l; commands = s.commands ++ r.cs }) (append_assoc s.given (g ∷ []) r.gs);
+          ∙ ap (λ l. record { name = s.name; outfault = s.outfault; given = l; commands = s.commands ++ r.cs }) (append_assoc s.given (g ∷ []) r.gs);
     }
 
 command_first : (stage : Stage) (s whole : Script) (line : List ℕ) (ls : List (List ℕ)) (command : Command) → line_of line ≡ Some (Do command)
@@ -112,7 +112,7 @@ command_first stage s whole line ls command e any r =
       each = ap (λ x. x ∷ map line_of r.lines) e ∙ ap (λ l. Some (Do command) ∷ l)
           (r.each ∙ ap (λ o. map Some (body o r.gs r.cs r.sent)) r.fits.0 ∙ ap (λ gs. map Some (body None gs r.cs r.sent)) r.fits.1);
       all = r.all ∙ ap (λ o. joined (more_command s command) o r.gs r.cs) r.fits.0 ∙ ap (λ gs. joined (more_command s command) None gs r.cs) r.fits.1
-          ∙ ap (λ l. record { outfault = s.outfault; given = s.given ++ []; commands = l }) (append_assoc s.commands (command ∷ []) r.cs);
+          ∙ ap (λ l. record { name = s.name; outfault = s.outfault; given = s.given ++ []; commands = l }) (append_assoc s.commands (command ∷ []) r.cs);
     }
 
 sent_last : (stage : Stage) (s whole : Script) (line : List ℕ) (ls : List (List ℕ)) → line_of line ≡ Some Sent
@@ -148,17 +148,17 @@ line_behind Pieces (Some (Do command)) s whole n line ls e more past h = command
 line_behind Pieces (Some Sent) s whole n line ls e more past h = sent_last Pieces s whole line ls e refl (more Over s h (λ x. cc))
 line_behind Commands (Some (Do command)) s whole n line ls e more past h = command_first Commands s whole line ls command e (λ cs b. (refl, refl)) (more Commands (more_command s command) h (λ x. cc))
 line_behind Commands (Some Sent) s whole n line ls e more past h = sent_last Commands s whole line ls e (refl, refl) (more Over s h (λ x. cc))
-line_behind Head (Some Direct) s whole n line ls e more past h = absurd (cc)
+line_behind Head (Some (Direct name)) s whole n line ls e more past h = absurd (cc)
 line_behind Head None s whole n line ls e more past h = absurd (cc)
-line_behind Pieces (Some Direct) s whole n line ls e more past h = absurd (cc)
+line_behind Pieces (Some (Direct name)) s whole n line ls e more past h = absurd (cc)
 line_behind Pieces (Some (OutFault count)) s whole n line ls e more past h = absurd (cc)
 line_behind Pieces None s whole n line ls e more past h = absurd (cc)
-line_behind Commands (Some Direct) s whole n line ls e more past h = absurd (cc)
+line_behind Commands (Some (Direct name)) s whole n line ls e more past h = absurd (cc)
 line_behind Commands (Some (OutFault count)) s whole n line ls e more past h = absurd (cc)
 line_behind Commands (Some (In piece)) s whole n line ls e more past h = absurd (cc)
 line_behind Commands (Some InFault) s whole n line ls e more past h = absurd (cc)
 line_behind Commands None s whole n line ls e more past h = absurd (cc)
-line_behind Over (Some Direct) s whole n line ls e more past h = absurd (cc)
+line_behind Over (Some (Direct name)) s whole n line ls e more past h = absurd (cc)
 line_behind Over (Some (OutFault count)) s whole n line ls e more past h = absurd (cc)
 line_behind Over (Some (In piece)) s whole n line ls e more past h = absurd (cc)
 line_behind Over (Some InFault) s whole n line ls e more past h = absurd (cc)
@@ -177,21 +177,21 @@ none_or : (out : Option ℕ) → or_out None out ≡ out
 none_or None = refl
 none_or (Some n) = refl
 
-text_behind : (bytes : List ℕ) (whole : Script) (line : List ℕ) (ls : List (List ℕ)) → parts bytes ≡ line ∷ ls → line_of line ≡ Some Direct
-    → Behind Head begun.script whole ls → ScriptText bytes whole
-text_behind bytes whole line ls p e r =
+text_behind : (bytes : List ℕ) (whole : Script) (name : Option (List ℕ)) (line : List ℕ) (ls : List (List ℕ)) → parts bytes ≡ line ∷ ls → line_of line ≡ Some (Direct name)
+    → Behind Head (with_name begun.script name) whole ls → ScriptText bytes whole
+text_behind bytes whole name line ls p e r =
     record {
       lines = line ∷ r.lines;
       sent = r.sent;
       ended = p ∙ ap (λ l. line ∷ l) r.ended;
-      each = ap (λ x. x ∷ map line_of r.lines) e ∙ ap (λ l. Some Direct ∷ l)
-          (r.each ∙ ap (λ o. map Some (body o r.gs r.cs r.sent)) (sym (none_or r.out)) ∙ ap (λ s. map Some (body s.outfault s.given s.commands r.sent)) (sym r.all));
+      each = ap (λ x. x ∷ map line_of r.lines) e ∙ ap (λ l. Some (Direct name) ∷ l) (r.each ∙ ap (λ o. map Some (body o r.gs r.cs r.sent)) (sym (none_or r.out)))
+          ∙ ap (λ s. Some (Direct s.name) ∷ map Some (body s.outfault s.given s.commands r.sent)) (sym r.all);
     }
 
 first_line : (o : Option Line) (bytes : List ℕ) (whole : Script) (line : List ℕ) (ls : List (List ℕ)) → parts bytes ≡ line ∷ ls → line_of line ≡ o
     → then_read (take_line Start begun.script o) 1 (λ q. read_lines q (1 + 1) ls) ≡ Ok whole → ScriptText bytes whole
 unfolding take_line
-first_line (Some Direct) bytes whole line ls p e h = text_behind bytes whole line ls p e (behind ls Head begun.script whole (1 + 1) h (λ x. cc))
+first_line (Some (Direct name)) bytes whole line ls p e h = text_behind bytes whole name line ls p e (behind ls Head (with_name begun.script name) whole (1 + 1) h (λ x. cc))
 first_line (Some (OutFault count)) bytes whole line ls p e h = absurd (cc)
 first_line (Some (In piece)) bytes whole line ls p e h = absurd (cc)
 first_line (Some InFault) bytes whole line ls p e h = absurd (cc)
@@ -278,12 +278,12 @@ read_commands (c ∷ cs) stage b s n (line ∷ lines) f e =
 read_given : (gs : List Given) (stage : Stage) (cs : List Command) (b : Bool) (s : Script) (n : ℕ) (lines : List (List ℕ)) → Fits stage None gs cs b → map line_of lines ≡ map Some (body None gs cs b)
     → read_lines (record { stage = stage; script = s }) n (lines ++ [] ∷ []) ≡ Ok (joined s None gs cs)
 read_given [] stage cs b s n lines f e =
-    read_commands cs stage b s n lines f e ∙ ap (λ l. Ok (record { outfault = s.outfault; given = l; commands = s.commands ++ cs })) (sym (append-nil s.given))
+    read_commands cs stage b s n lines f e ∙ ap (λ l. Ok (record { name = s.name; outfault = s.outfault; given = l; commands = s.commands ++ cs })) (sym (append-nil s.given))
 read_given (g ∷ gs) stage cs b s n [] f e = absurd (cc)
 read_given (g ∷ gs) stage cs b s n (line ∷ lines) f e =
     read_on stage s _ n line lines (record { stage = Pieces; script = more_given s g }) (takes_given stage s (line_of line) g gs cs b f cc)
     (read_given gs Pieces cs b (more_given s g) (n + 1) lines refl (cc)
-    ∙ ap (λ l. Ok (record { outfault = s.outfault; given = l; commands = s.commands ++ cs })) (append_assoc s.given (g ∷ []) gs))
+    ∙ ap (λ l. Ok (record { name = s.name; outfault = s.outfault; given = l; commands = s.commands ++ cs })) (append_assoc s.given (g ∷ []) gs))
 
 read_head : (out : Option ℕ) (gs : List Given) (cs : List Command) (b : Bool) (s : Script) (n : ℕ) (lines : List (List ℕ)) → map line_of lines ≡ map Some (body out gs cs b)
     → read_lines (record { stage = Head; script = s }) n (lines ++ [] ∷ []) ≡ Ok (joined s out gs cs)
@@ -293,16 +293,16 @@ read_head (Some count) gs cs b s n (line ∷ lines) e =
     read_on Head s _ n line lines (record { stage = Pieces; script = with_outfault s count }) (takes_out s (line_of line) count cc)
     (read_given gs Pieces cs b (with_outfault s count) (n + 1) lines refl (cc))
 
-takes_direct : (s : Script) (o : Option Line) → o ≡ Some Direct → take_line Start s o ≡ Some (record { stage = Head; script = s })
+takes_direct : (s : Script) (name : Option (List ℕ)) (o : Option Line) → o ≡ Some (Direct name) → take_line Start s o ≡ Some (record { stage = Head; script = with_name s name })
 unfolding take_line
-takes_direct s o e = ap (take_line Start s) e
+takes_direct s name o e = ap (take_line Start s) e
 
 from_lines : (lines : List (List ℕ)) (bytes : List ℕ) (s : Script) (b : Bool) → parts bytes ≡ lines ++ [] ∷ [] → map line_of lines ≡ map Some (script_lines s b)
     → read_lines begun 1 (parts bytes) ≡ Ok s
 from_lines [] bytes s b p e = absurd (cc)
 from_lines (line ∷ lines) bytes s b p e =
-    ap (read_lines begun 1) p ∙ read_on Start begun.script _ 1 line lines (record { stage = Head; script = begun.script }) (takes_direct begun.script (line_of line) cc)
-    (read_head s.outfault s.given s.commands b begun.script (1 + 1) lines cc) ∙ ap (λ o. Ok (record s { outfault = o })) (none_or s.outfault)
+    ap (read_lines begun 1) p ∙ read_on Start begun.script _ 1 line lines (record { stage = Head; script = with_name begun.script s.name }) (takes_direct begun.script s.name (line_of line) cc)
+    (read_head s.outfault s.given s.commands b (with_name begun.script s.name) (1 + 1) lines cc) ∙ ap (λ o. Ok (record s { outfault = o })) (none_or s.outfault)
 
 pub reading_of_text : (bytes : List ℕ) (s : Script) → ScriptText bytes s → script_of bytes ≡ Ok s
 unfolding script_of

@@ -7,4 +7,5 @@ pub mod Read
 pub mod Grammar
 pub mod Spelling
 pub mod Again
+pub mod Calls
 pub mod Reread

@@ -17,11 +17,14 @@ use Rattle.peer_route.specs.declared.answer.Answer.TheVariants as answers
 use Rattle.peer_route.specs.declared.answer.Entry.{Entry}
 use Rattle.peer_script.specs.declared.line.Line.{Line}
 use Rattle.peer_script.specs.declared.line.Line.TheVariants.{Direct, OutFault, In, InFault, Do, Sent}
-use Rattle.peer_script.specs.Word.{same, words_of, number_of, bytes_of, is_plain, hex_digit, hex_two, hex_word, text_byte, text_word}
+use Rattle.wire_names.specs.Names.{is_unique_name}
+use Rattle.peer_route.specs.declared.words.CallFlags.{CallFlags}
+use Rattle.peer_script.specs.Word.{same, words_of, number_of, bytes_of, text_of, is_plain, hex_digit, hex_two, hex_word, text_byte, text_word, optional_word, flag_letters, flags_word}
 use Rattle.peer_script.specs.Script.{Given, Gave, Broke, ScriptText, given_line, outfault_lines, parts, lane_words, command_words, command_line, head_line, line_of, script_lines}
-use Rattle.peer_script.specs.Transcript.{or_empty, shown_byte, shown_text, io_word, error_word, words_text, answer_text, entry_text, given_text, outfault_text, sent_word, transcript_text}
-use Rattle.peer_script.specs.Again.{command_of, SomeBytes, HasText, HasNumbers, CanBeRead, IsGiven, IsCount}
+use Rattle.peer_script.specs.Transcript.{or_empty, shown_byte, shown_text, io_word, error_word, words_text, answer_text, entry_text, given_text, direct_text, outfault_text, sent_word, transcript_text}
+use Rattle.peer_script.specs.Again.{command_of, SomeBytes, IsOptional, HasText, HasNumbers, CanBeRead, IsGiven, IsName, IsCount}
 use Rattle.peer_script.proofs.Spelling.{number_again, bytes_again, text_again, number_other, text_other, text_some, decimal_digits}
+use Rattle.peer_script.proofs.Calls.{optional_again, flags_again, dash_some}
 use Rattle.peer_script.proofs.Again.{word_byte, line_byte, both, joined, word_line, digits_word, line_part, spaced, IsWord, words_again, words_alone, before_again}
 
 -- ---- words
@@ -61,19 +64,35 @@ text_is_word text h =
 number_is_word : (n : ℕ) → n < 2 ^ 64 → IsWord (decimal n)
 number_is_word n h = record { bytes = digits_word (decimal n) (decimal_digits n h); some = decimal_nonempty n h; other = number_other n h }
 
+dash_is_word : IsWord (45 ∷ [])
+dash_is_word = record { bytes = refl; some = omega arith; other = refl }
+
+optional_is_word : (o : Option (List ℕ)) → IsOptional o → IsWord (optional_word o)
+optional_is_word None h = dash_is_word
+optional_is_word (Some text) h = text_is_word text h.some
+
+flags_are_word : (f : CallFlags) → IsWord (flags_word f)
+flags_are_word f = let read = flags_again f in record { bytes = read.bytes; some = dash_some (flag_letters f); other = read.other }
+
 -- ---- the words of a command
 
 entry_words : Words → List (List ℕ)
-entry_words (words.Call path member) = codes "call" ∷ (45 ∷ []) ∷ text_word path ∷ (45 ∷ []) ∷ text_word member ∷ (45 ∷ []) ∷ (45 ∷ []) ∷ []
+entry_words (words.Call destination path interface member flags) = codes "call" ∷ optional_word destination ∷ text_word path ∷ optional_word interface ∷ text_word member ∷ flags_word flags ∷ (45 ∷ []) ∷ []
 entry_words words.Read = codes "read" ∷ []
 entry_words (words.Poll number) = codes "poll" ∷ decimal number ∷ []
 entry_words (words.Drop number) = codes "drop" ∷ decimal number ∷ []
 entry_words words.Stream = codes "stream" ∷ []
 entry_words (words.Take number) = codes "take" ∷ decimal number ∷ []
 
+call_spaced : (d p i m f : List ℕ)
+    → 32 ∷ (codes "call " ++ d ++ 32 ∷ [] ++ p ++ 32 ∷ [] ++ i ++ 32 ∷ [] ++ m ++ 32 ∷ [] ++ f ++ codes " -")
+    ≡ flat_map spaced (codes "call" ∷ d ∷ p ∷ i ∷ m ∷ f ∷ (45 ∷ []) ∷ [])
+call_spaced d p i m f = simp append_assoc
+
 words_spaced : (w : Words) → 32 ∷ words_text w ≡ flat_map spaced (entry_words w)
 unfolding words_text entry_words
-words_spaced (words.Call path member) = simp append_assoc
+words_spaced (words.Call destination path interface member flags) =
+    call_spaced (optional_word destination) (text_word path) (optional_word interface) (text_word member) (flags_word flags)
 words_spaced words.Read = refl
 words_spaced (words.Poll number) = simp append-nil
 words_spaced (words.Drop number) = simp append-nil
@@ -82,10 +101,10 @@ words_spaced (words.Take number) = simp append-nil
 
 are_words : (w : Words) → HasText w → All IsWord (entry_words w)
 unfolding entry_words
-are_words (words.Call path member) h =
-    let absent : IsWord (45 ∷ []) = record { bytes = refl; some = omega arith; other = refl } in
+are_words (words.Call destination path interface member flags) h =
     let call : IsWord (codes "call") = record { bytes = refl; some = omega arith; other = refl } in
-    All-from_recursion IsWord (entry_words (words.Call path member)) (call, (absent, (text_is_word path h.0, (absent, (text_is_word member h.1, (absent, (absent, tt)))))))
+    All-from_recursion IsWord (entry_words (words.Call destination path interface member flags))
+    (call, (optional_is_word destination h.0, (text_is_word path h.1, (optional_is_word interface h.2, (text_is_word member h.3, (flags_are_word flags, (dash_is_word, tt)))))))
 are_words words.Read h =
     let name : IsWord (codes "read") = record { bytes = refl; some = omega arith; other = refl } in
     All-from_recursion IsWord (entry_words words.Read) (name, tt)
@@ -104,7 +123,8 @@ are_words (words.Take number) h =
 
 command_again : (w : Words) → HasText w → command_words (entry_words w) ≡ Some w
 unfolding entry_words command_words
-command_again (words.Call path member) h = rw (text_again path h.0.some h.0.bytes, text_again member h.1.some h.1.bytes) refl
+command_again (words.Call destination path interface member flags) h =
+    rw (optional_again destination h.0, text_again path h.1.some h.1.bytes, optional_again interface h.2, text_again member h.3.some h.3.bytes, (flags_again flags).again) refl
 command_again words.Read h = refl
 command_again (words.Poll number) h = rw (number_again number h) refl
 command_again (words.Drop number) h = rw (number_again number h) refl
@@ -132,7 +152,8 @@ head_none a b c (w ∷ ws) ds = refl
 
 no_head : (a : List ℕ) (w : Words) (c : List ℕ) (ds : List (List ℕ)) → head_line (a ∷ (entry_words w ++ c ∷ ds)) ≡ None
 unfolding entry_words
-no_head a (words.Call path member) c ds = head_none a (codes "call") c ((45 ∷ []) ∷ text_word path ∷ (45 ∷ []) ∷ text_word member ∷ (45 ∷ []) ∷ (45 ∷ []) ∷ []) ds
+no_head a (words.Call destination path interface member flags) c ds =
+    head_none a (codes "call") c (optional_word destination ∷ text_word path ∷ optional_word interface ∷ text_word member ∷ flags_word flags ∷ (45 ∷ []) ∷ []) ds
 no_head a words.Read c ds = head_none a (codes "read") c [] ds
 no_head a (words.Poll number) c ds = head_none a (codes "poll") c (decimal number ∷ []) ds
 no_head a (words.Drop number) c ds = head_none a (codes "drop") c (decimal number ∷ []) ds
@@ -202,6 +223,7 @@ answer_line (answers.Called call serial) h =
     let first = joined line_byte (codes "call ") (decimal call) refl (number_line call h.0) in
     let second = joined line_byte (codes "call " ++ decimal call) (codes " serial ") first refl in
     joined line_byte (codes "call " ++ decimal call ++ codes " serial ") (decimal serial) second (number_line serial h.1)
+answer_line (answers.Sent serial) h = joined line_byte (codes "sent ") (decimal serial) refl (number_line serial h)
 answer_line (answers.MethodError m) h =
     let first = joined line_byte (codes "methoderror ") (decimal m.position) refl (number_line m.position h.0) in
     let second = joined line_byte (codes "methoderror " ++ decimal m.position) (32 ∷ []) first refl in
@@ -296,9 +318,35 @@ dash_again : head_line (codes "sent" ∷ (45 ∷ []) ∷ []) ≡ Some Sent
 unfolding head_line
 dash_again = refl
 
-direct_again : line_of (codes "direct") ≡ Some Direct
+direct_alone : line_of (codes "direct") ≡ Some (Direct None)
 unfolding line_of head_line
-direct_again = refl
+direct_alone = refl
+
+name_again : (name word : List ℕ) → text_of word ≡ Some name → is_unique_name name ≡ true → head_line (codes "direct" ∷ word ∷ []) ≡ Some (Direct (Some name))
+unfolding head_line
+name_again name word e f = rw (e, f) refl
+
+direct_words : Option (List ℕ) → List ℕ
+direct_words None = codes "direct"
+direct_words (Some name) = codes "direct " ++ text_word name
+
+direct_ends : (name : Option (List ℕ)) (rest : List ℕ) → direct_text name ++ rest ≡ direct_words name ++ 10 ∷ rest
+unfolding direct_text direct_words
+direct_ends None rest = refl
+direct_ends (Some name) rest = append_assoc (codes "direct " ++ text_word name) (10 ∷ []) rest
+
+direct_bytes : (name : Option (List ℕ)) → IsName name → list_all line_byte (direct_words name) ≡ true
+unfolding direct_words
+direct_bytes None h = refl
+direct_bytes (Some name) h = joined line_byte (codes "direct ") (text_word name) refl (word_line (text_word name) (text_bytes name h.0.bytes))
+
+direct_again : (name : Option (List ℕ)) → IsName name → line_of (direct_words name) ≡ Some (Direct name)
+unfolding direct_words
+direct_again None h = direct_alone
+direct_again (Some name) h =
+    let direct : IsWord (codes "direct") = record { bytes = refl; some = omega arith; other = refl } in
+    head_again (codes "direct " ++ text_word name) (Direct (Some name))
+    (ap head_line (two_words (codes "direct") (text_word name) direct (text_is_word name h.0)) ∙ name_again name (text_word name) (text_again name h.0.some h.0.bytes) h.1)
 
 infault_again : line_of (codes "infault") ≡ Some InFault
 unfolding line_of head_line
@@ -389,43 +437,44 @@ lines_joined outs ins dos =
     sym (mapped Some ((outs ++ ins) ++ dos) (Sent ∷ []) ∙ ap (λ l. l ++ Some Sent ∷ []) (mapped Some (outs ++ ins) dos)
     ∙ ap (λ l. (l ++ map Some dos) ++ Some Sent ∷ []) (mapped Some outs ins) ∙ simp append_assoc)
 
-whole_ends : (d o gs es s w : List ℕ) → ((((((d ++ 10 ∷ []) ++ o) ++ gs) ++ es) ++ s) ++ w) ++ 10 ∷ [] ≡ d ++ 10 ∷ (o ++ (gs ++ (es ++ ((s ++ w) ++ 10 ∷ []))))
+whole_ends : (d o gs es s w : List ℕ) → (((((d ++ o) ++ gs) ++ es) ++ s) ++ w) ++ 10 ∷ [] ≡ d ++ (o ++ (gs ++ (es ++ ((s ++ w) ++ 10 ∷ []))))
 whole_ends d o gs es s w = simp append_assoc
 
-all_lines : Option ℕ → List Given → List Entry → List ℕ → List (List ℕ)
-all_lines out gs es sent = codes "direct" ∷ (outfault_words out ++ (map given_words gs ++ (map entry_line es ++ sent_text sent ∷ [])))
+all_lines : Option (List ℕ) → Option ℕ → List Given → List Entry → List ℕ → List (List ℕ)
+all_lines name out gs es sent = direct_words name ∷ (outfault_words out ++ (map given_words gs ++ (map entry_line es ++ sent_text sent ∷ [])))
 
-whole_parts : (out : Option ℕ) (gs : List Given) (es : List Entry) (sent : List ℕ) → IsCount out → All IsGiven gs → All CanBeRead es → All (λ b. b < 256) sent
-    → parts (transcript_text out gs es sent) ≡ all_lines out gs es sent ++ [] ∷ []
+whole_parts : (name : Option (List ℕ)) (out : Option ℕ) (gs : List Given) (es : List Entry) (sent : List ℕ) → IsName name → IsCount out → All IsGiven gs → All CanBeRead es → All (λ b. b < 256) sent
+    → parts (transcript_text name out gs es sent) ≡ all_lines name out gs es sent ++ [] ∷ []
 unfolding transcript_text all_lines sent_text
-whole_parts out gs es sent o p e s =
-    ap parts (whole_ends (codes "direct") (outfault_text out) (flat_map given_text gs) (flat_map entry_text es) (codes "sent ") (sent_word sent))
-    ∙ line_part (codes "direct") (outfault_text out ++ (flat_map given_text gs ++ (flat_map entry_text es ++ (sent_text sent ++ 10 ∷ [])))) refl
-    ∙ ap (λ l. codes "direct" ∷ l) (outfault_parts out (flat_map given_text gs ++ (flat_map entry_text es ++ (sent_text sent ++ 10 ∷ []))) o)
-    ∙ ap (λ l. codes "direct" ∷ (outfault_words out ++ l)) (given_parts gs (flat_map entry_text es ++ (sent_text sent ++ 10 ∷ [])) p)
-    ∙ ap (λ l. codes "direct" ∷ (outfault_words out ++ (map given_words gs ++ l))) (entries_parts es (sent_text sent ++ 10 ∷ []) e)
-    ∙ ap (λ l. codes "direct" ∷ (outfault_words out ++ (map given_words gs ++ (map entry_line es ++ l)))) (line_part (sent_text sent) [] (sent_bytes sent s))
-    ∙ ap (λ l. codes "direct" ∷ l) (simp append_assoc)
+whole_parts name out gs es sent n o p e s =
+    ap parts (whole_ends (direct_text name) (outfault_text out) (flat_map given_text gs) (flat_map entry_text es) (codes "sent ") (sent_word sent)
+    ∙ direct_ends name (outfault_text out ++ (flat_map given_text gs ++ (flat_map entry_text es ++ (sent_text sent ++ 10 ∷ [])))))
+    ∙ line_part (direct_words name) (outfault_text out ++ (flat_map given_text gs ++ (flat_map entry_text es ++ (sent_text sent ++ 10 ∷ [])))) (direct_bytes name n)
+    ∙ ap (λ l. direct_words name ∷ l) (outfault_parts out (flat_map given_text gs ++ (flat_map entry_text es ++ (sent_text sent ++ 10 ∷ []))) o)
+    ∙ ap (λ l. direct_words name ∷ (outfault_words out ++ l)) (given_parts gs (flat_map entry_text es ++ (sent_text sent ++ 10 ∷ [])) p)
+    ∙ ap (λ l. direct_words name ∷ (outfault_words out ++ (map given_words gs ++ l))) (entries_parts es (sent_text sent ++ 10 ∷ []) e)
+    ∙ ap (λ l. direct_words name ∷ (outfault_words out ++ (map given_words gs ++ (map entry_line es ++ l)))) (line_part (sent_text sent) [] (sent_bytes sent s))
+    ∙ ap (λ l. direct_words name ∷ l) (simp append_assoc)
 
-whole_lines : (out : Option ℕ) (gs : List Given) (es : List Entry) (sent : List ℕ) → IsCount out → All IsGiven gs → All CanBeRead es → All (λ b. b < 256) sent
-    → map line_of (all_lines out gs es sent) ≡ map Some (script_lines (record { outfault = out; given = gs; commands = map command_of es }) true)
+whole_lines : (name : Option (List ℕ)) (out : Option ℕ) (gs : List Given) (es : List Entry) (sent : List ℕ) → IsName name → IsCount out → All IsGiven gs → All CanBeRead es → All (λ b. b < 256) sent
+    → map line_of (all_lines name out gs es sent) ≡ map Some (script_lines (record { name = name; outfault = out; given = gs; commands = map command_of es }) true)
 unfolding all_lines
-whole_lines out gs es sent o p e s =
+whole_lines name out gs es sent n o p e s =
     let outs = outfault_lines out in
     let ins = map given_line gs in
     let dos = map Do (map command_of es) in
     let tail = map entry_line es ++ sent_text sent ∷ [] in
-    ap (λ x. x ∷ map line_of (outfault_words out ++ (map given_words gs ++ tail))) direct_again
-    ∙ ap (λ l. Some Direct ∷ l) (mapped line_of (outfault_words out) (map given_words gs ++ tail))
-    ∙ ap (λ l. Some Direct ∷ (l ++ map line_of (map given_words gs ++ tail))) (outfault_again out o)
-    ∙ ap (λ l. Some Direct ∷ (map Some outs ++ l)) (mapped line_of (map given_words gs) tail)
-    ∙ ap (λ l. Some Direct ∷ (map Some outs ++ (l ++ map line_of tail))) (all_given gs p)
-    ∙ ap (λ l. Some Direct ∷ (map Some outs ++ (map Some ins ++ l))) (mapped line_of (map entry_line es) (sent_text sent ∷ []))
-    ∙ ap (λ l. Some Direct ∷ (map Some outs ++ (map Some ins ++ (l ++ line_of (sent_text sent) ∷ [])))) (entries_again es e)
-    ∙ ap (λ x. Some Direct ∷ (map Some outs ++ (map Some ins ++ (map Some dos ++ x ∷ [])))) (sent_reads sent s)
-    ∙ ap (λ l. Some Direct ∷ l) (lines_joined outs ins dos)
+    ap (λ x. x ∷ map line_of (outfault_words out ++ (map given_words gs ++ tail))) (direct_again name n)
+    ∙ ap (λ l. Some (Direct name) ∷ l) (mapped line_of (outfault_words out) (map given_words gs ++ tail))
+    ∙ ap (λ l. Some (Direct name) ∷ (l ++ map line_of (map given_words gs ++ tail))) (outfault_again out o)
+    ∙ ap (λ l. Some (Direct name) ∷ (map Some outs ++ l)) (mapped line_of (map given_words gs) tail)
+    ∙ ap (λ l. Some (Direct name) ∷ (map Some outs ++ (l ++ map line_of tail))) (all_given gs p)
+    ∙ ap (λ l. Some (Direct name) ∷ (map Some outs ++ (map Some ins ++ l))) (mapped line_of (map entry_line es) (sent_text sent ∷ []))
+    ∙ ap (λ l. Some (Direct name) ∷ (map Some outs ++ (map Some ins ++ (l ++ line_of (sent_text sent) ∷ [])))) (entries_again es e)
+    ∙ ap (λ x. Some (Direct name) ∷ (map Some outs ++ (map Some ins ++ (map Some dos ++ x ∷ [])))) (sent_reads sent s)
+    ∙ ap (λ l. Some (Direct name) ∷ l) (lines_joined outs ins dos)
 
-pub transcript_again : (out : Option ℕ) (gs : List Given) (es : List Entry) (sent : List ℕ) → IsCount out → All IsGiven gs → All CanBeRead es → All (λ b. b < 256) sent
-    → ScriptText (transcript_text out gs es sent) (record { outfault = out; given = gs; commands = map command_of es })
-transcript_again out gs es sent o p e s =
-    record { lines = all_lines out gs es sent; sent = true; ended = whole_parts out gs es sent o p e s; each = whole_lines out gs es sent o p e s }
+pub transcript_again : (name : Option (List ℕ)) (out : Option ℕ) (gs : List Given) (es : List Entry) (sent : List ℕ) → IsName name → IsCount out → All IsGiven gs → All CanBeRead es → All (λ b. b < 256) sent
+    → ScriptText (transcript_text name out gs es sent) (record { name = name; outfault = out; given = gs; commands = map command_of es })
+transcript_again name out gs es sent n o p e s =
+    record { lines = all_lines name out gs es sent; sent = true; ended = whole_parts name out gs es sent n o p e s; each = whole_lines name out gs es sent n o p e s }

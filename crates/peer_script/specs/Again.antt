@@ -1,5 +1,5 @@
 -- Transcripts as scripts: the command of an entry, and the entries whose lines are read again.
-use Rattle.std.specs.Prelude.{ℕ, ◌≡◌, ◌<◌, ◌≤◌, ◌^◌, List, length, map, Ok, Option, Some, None}
+use Rattle.std.specs.Prelude.{ℕ, ◌≡◌, ◌<◌, ◌≤◌, ◌^◌, false, List, length, map, Ok, Option, Some, None}
 use Rattle.std.specs.List.{All}
 use Rattle.peer_route.specs.declared.words.Words.{Words}
 use Rattle.peer_route.specs.declared.words.Words.TheVariants as words
@@ -8,7 +8,8 @@ use Rattle.peer_route.specs.declared.answer.Answer.{Answer}
 use Rattle.peer_route.specs.declared.answer.Answer.TheVariants as answers
 use Rattle.peer_route.specs.declared.answer.Entry.{Entry}
 use Rattle.wire_message.specs.Texts.{message_line}
-use Rattle.peer_script.specs.Script.{Given, Gave, Broke}
+use Rattle.wire_names.specs.Names.{IsUniqueName}
+use Rattle.peer_script.specs.Script.{Given, Gave, Broke, is_absent}
 use Rattle.peer_script.specs.Reading.{script_of}
 use Rattle.peer_script.specs.Transcript.{or_empty, transcript_text}
 
@@ -21,8 +22,18 @@ pub record SomeBytes (text : List ℕ) : Type 0 where
   pub some : 0 < length text
   pub bytes : All (λ b. b < 256) text
 
+-- a text that isn't the word for none
+pub record Present (text : List ℕ) : Type 0 where
+  pub some : SomeBytes text
+  pub other : is_absent text ≡ false
+
+abbrev pub IsOptional : Option (List ℕ) → Type 0
+IsOptional None = Unit {0}
+IsOptional (Some text) = Present text
+
 abbrev pub HasText : Words → Type 0
-HasText (words.Call path member) = SomeBytes path × SomeBytes member
+HasText (words.Call destination path interface member flags) =
+    IsOptional destination × SomeBytes path × IsOptional interface × SomeBytes member
 HasText words.Read = Unit {0}
 HasText (words.Poll number) = number < 2 ^ 64
 HasText (words.Drop number) = number < 2 ^ 64
@@ -32,6 +43,7 @@ HasText (words.Take number) = number < 2 ^ 64
 -- the numbers of an answer are below 2^64, and its texts are bytes
 abbrev pub HasNumbers : Answer → Type 0
 HasNumbers (answers.Called call serial) = (call < 2 ^ 64) × (serial < 2 ^ 64)
+HasNumbers (answers.Sent serial) = serial < 2 ^ 64
 HasNumbers (answers.MethodError m) = (m.position < 2 ^ 64) × All (λ b. b < 256) (or_empty m.error_name)
 HasNumbers (answers.Got m) = (m.position < 2 ^ 64) × (length m.bytes < 2 ^ 64) × All (λ b. b < 256) (message_line m)
 HasNumbers (answers.Reply position) = position < 2 ^ 64
@@ -58,6 +70,11 @@ abbrev pub IsGiven : Given → Type 0
 IsGiven (Gave piece) = SomeBytes piece
 IsGiven Broke = Unit {0}
 
+-- a unique name of bytes, where there is one
+abbrev pub IsName : Option (List ℕ) → Type 0
+IsName None = Unit {0}
+IsName (Some name) = SomeBytes name × IsUniqueName name
+
 abbrev pub IsCount : Option ℕ → Type 0
 IsCount None = Unit {0}
 IsCount (Some count) = count < 2 ^ 64
@@ -65,7 +82,7 @@ IsCount (Some count) = count < 2 ^ 64
 -- The transcript is read again as the script of its header lines and of its entries' commands.
 abbrev pub TranscriptsAreRead : Type 0
 TranscriptsAreRead =
-    (outfault : Option ℕ) (given : List Given) (entries : List Entry) (sent : List ℕ)
-    → IsCount outfault → All IsGiven given → All CanBeRead entries → All (λ b. b < 256) sent
-    → script_of (transcript_text outfault given entries sent)
-    ≡ Ok (record { outfault = outfault; given = given; commands = map command_of entries })
+    (name : Option (List ℕ)) (outfault : Option ℕ) (given : List Given) (entries : List Entry) (sent : List ℕ)
+    → IsName name → IsCount outfault → All IsGiven given → All CanBeRead entries → All (λ b. b < 256) sent
+    → script_of (transcript_text name outfault given entries sent)
+    ≡ Ok (record { name = name; outfault = outfault; given = given; commands = map command_of entries })

@@ -19,7 +19,10 @@ pub record Step : Type 0 where
   pub script : Script
 
 abbrev pub begun : Step
-begun = record { stage = Start; script = record { outfault = None; given = []; commands = [] } }
+begun = record { stage = Start; script = record { name = None; outfault = None; given = []; commands = [] } }
+
+abbrev pub with_name : Script → Option (List ℕ) → Script
+with_name s name = record s { name = name }
 
 abbrev pub with_outfault : Script → ℕ → Script
 with_outfault s count = record s { outfault = Some count }
@@ -32,7 +35,7 @@ more_command s command = record s { commands = s.commands ++ command ∷ [] }
 
 -- one line more, where it may come at this stage
 unfoldable pub take_line : Stage → Script → Option Line → Option Step
-take_line Start s (Some Direct) = Some (record { stage = Head; script = s })
+take_line Start s (Some (Direct name)) = Some (record { stage = Head; script = with_name s name })
 take_line Head s (Some (OutFault count)) = Some (record { stage = Pieces; script = with_outfault s count })
 take_line Head s (Some (In piece)) = Some (record { stage = Pieces; script = more_given s (Gave piece) })
 take_line Pieces s (Some (In piece)) = Some (record { stage = Pieces; script = more_given s (Gave piece) })
@@ -85,12 +88,12 @@ abbrev pub given : List Piece → List Given
 given pieces = map given_of pieces
 
 -- the script that a setup's parts and commands are
-abbrev pub script_from : Option ℕ → List Piece → List Command → Script
-script_from outfault pieces commands = record { outfault = outfault; given = given pieces; commands = commands }
+abbrev pub script_from : Option (List ℕ) → Option ℕ → List Piece → List Command → Script
+script_from name outfault pieces commands = record { name = name; outfault = outfault; given = given pieces; commands = commands }
 
 -- what was read so far
 abbrev pub said : Progress → Script
-said p = script_from p.outfault p.pieces.items p.commands.items
+said p = script_from p.name p.outfault p.pieces.items p.commands.items
 
 -- The first line, without its end, and what stands behind that; or there is no end.
 abbrev pub SplitsLine : {A : Type 0} → (A → List ℕ) → (A → List ℕ) → List ℕ → Option A → Type 0

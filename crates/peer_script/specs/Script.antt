@@ -1,30 +1,34 @@
--- Script text: a list of lines, each ended by one byte 0x0a: `direct`, perhaps the bytes that the sink takes, what the
--- source gives, the commands, and perhaps one `sent` line, which is passed over.
+-- Script text: a list of lines, each ended by one byte 0x0a: `direct`, perhaps with the peer's unique name, perhaps the
+-- bytes that the sink takes, what the source gives, the commands, and perhaps one `sent` line, which is passed over.
 use Rattle.std.specs.Prelude.{ℕ, ◌≡◌, ◌+◌, Bool, true, false, ◌&&◌, ◌||◌, ◌==◌, nat_le, if◌then◌else◌, List, [], ◌∷◌, ◌++◌, map, codes, Option, Some, None, is_some}
-use Rattle.std.specs.List.{slice_split}
+use Rattle.std.specs.List.{slice_split, list_any}
+use Rattle.wire_names.specs.Names.{is_unique_name}
 use Rattle.peer_route.specs.declared.words.Words.{Words}
 use Rattle.peer_route.specs.declared.words.Words.TheVariants as words
+use Rattle.peer_route.specs.declared.words.CallFlags.{CallFlags}
 use Rattle.peer_route.specs.declared.words.Command.{Command}
 use Rattle.peer_script.specs.declared.line.Line.{Line}
 use Rattle.peer_script.specs.declared.line.Line.TheVariants.{Direct, OutFault, In, InFault, Do, Sent}
-use Rattle.peer_script.specs.Word.{same, words_of, number_of, bytes_of, text_of}
+use Rattle.peer_script.specs.Word.{same, words_of, number_of, bytes_of, text_of, flags_word}
 
 -- one line of the source: a piece of its bytes, or a read that fails there
 pub data Given : Type 0 where
   Gave : (piece : List ℕ) → Given
   Broke : Given
 
--- What a script says: after how many bytes the sink fails a write, where it does; what the source gives; the commands.
+-- What a script says: the peer's unique name, where it has one; after how many bytes the sink fails a write, where it
+-- does; what the source gives; the commands.
 pub record Script : Type 0 where
+  pub name : Option (List ℕ)
   pub outfault : Option ℕ
   pub given : List Given
   pub commands : List Command
 
 -- ---- a line
 
-abbrev pub call_of : Option (List ℕ) → Option (List ℕ) → Option Words
-call_of (Some path) (Some member) = Some (words.Call path member)
-call_of path member = None
+abbrev pub call_of : Option (Option (List ℕ)) → Option (List ℕ) → Option (Option (List ℕ)) → Option (List ℕ) → Option CallFlags → Option Words
+call_of (Some destination) (Some path) (Some interface) (Some member) (Some flags) = Some (words.Call destination path interface member flags)
+call_of destination path interface member flags = None
 
 abbrev pub numbered : (ℕ → Words) → Option ℕ → Option Words
 numbered command (Some number) = Some (command number)
@@ -34,7 +38,32 @@ numbered command None = None
 abbrev pub is_absent : List ℕ → Bool
 is_absent word = same word (45 ∷ [])
 
--- the words of a command, without its lane: `read`, `stream`, `poll C`, `drop C`, `take S`, `call - P - M - -`
+abbrev pub present : Option (List ℕ) → Option (Option (List ℕ))
+present (Some text) = Some (Some text)
+present None = None
+
+-- a text, or the word `-` where there is none
+abbrev pub optional_of : List ℕ → Option (Option (List ℕ))
+optional_of word = if is_absent word then Some None else present (text_of word)
+
+abbrev pub has_letter : ℕ → List ℕ → Bool
+has_letter letter word = list_any (λ b. b == letter) word
+
+-- the flags that the letters of a word name
+abbrev pub named_flags : List ℕ → CallFlags
+named_flags word =
+    record {
+      no_reply_expected = has_letter 110 word;
+      no_auto_start = has_letter 97 word;
+      allow_interactive_auth = has_letter 105 word;
+      big = has_letter 98 word;
+    }
+
+-- the flags whose one spelling a word is
+abbrev pub flags_of : List ℕ → Option CallFlags
+flags_of word = if same word (flags_word (named_flags word)) then Some (named_flags word) else None
+
+-- the words of a command, without its lane: `read`, `stream`, `poll C`, `drop C`, `take S`, `call D P I M F -`
 unfoldable pub command_words : List (List ℕ) → Option Words
 command_words (name ∷ []) =
     if same name (codes "read") then Some words.Read
@@ -46,8 +75,8 @@ command_words (name ∷ number ∷ []) =
     else if same name (codes "take") then numbered words.Take (number_of number)
     else None
 command_words (name ∷ destination ∷ path ∷ interface ∷ member ∷ flags ∷ body ∷ []) =
-    if same name (codes "call") && (is_absent destination && is_absent interface && is_absent flags && is_absent body)
-    then call_of (text_of path) (text_of member) else None
+    if same name (codes "call") && is_absent body
+    then call_of (optional_of destination) (text_of path) (optional_of interface) (text_of member) (flags_of flags) else None
 command_words others = None
 
 abbrev pub in_lane : ℕ → Option Words → Option Command
@@ -73,6 +102,11 @@ before_answer (a ∷ b ∷ c ∷ rest) = if (a == 32) && (b == 61) && (c == 32) 
 abbrev pub command_line : List ℕ → Option Command
 command_line line = lane_words (words_of (before_answer line))
 
+-- a name behind `direct` is a unique name
+abbrev pub direct_line : Option (List ℕ) → Option Line
+direct_line (Some name) = if is_unique_name name then Some (Direct (Some name)) else None
+direct_line None = None
+
 abbrev pub in_line : Option (List ℕ) → Option Line
 in_line (Some piece) = Some (In piece)
 in_line None = None
@@ -91,11 +125,12 @@ do_line None = None
 -- the header lines and the `sent` line, by their words
 unfoldable pub head_line : List (List ℕ) → Option Line
 head_line (name ∷ []) =
-    if same name (codes "direct") then Some Direct
+    if same name (codes "direct") then Some (Direct None)
     else if same name (codes "infault") then Some InFault
     else None
 head_line (name ∷ word ∷ []) =
-    if same name (codes "in") then in_line (bytes_of word)
+    if same name (codes "direct") then direct_line (text_of word)
+    else if same name (codes "in") then in_line (bytes_of word)
     else if same name (codes "outfault") then outfault_line (number_of word)
     else if same name (codes "sent") then sent_line word
     else None
@@ -135,7 +170,7 @@ sent_lines false = []
 
 -- the lines of a script, in their order
 abbrev pub script_lines : Script → Bool → List Line
-script_lines s sent = Direct ∷ outfault_lines s.outfault ++ map given_line s.given ++ map Do s.commands ++ sent_lines sent
+script_lines s sent = Direct s.name ∷ outfault_lines s.outfault ++ map given_line s.given ++ map Do s.commands ++ sent_lines sent
 
 -- The bytes are the text of this script: each line is ended, and the lines are `direct`, perhaps `outfault`, the source's
 -- lines, the commands, and perhaps one `sent`.

@@ -12,7 +12,7 @@ use Rattle.peer_route.specs.declared.words.Words.TheVariants as words
 use Rattle.peer_route.specs.declared.answer.Answer.{Answer}
 use Rattle.peer_route.specs.declared.answer.Answer.TheVariants as answers
 use Rattle.peer_route.specs.declared.answer.Entry.{Entry}
-use Rattle.peer_script.specs.Word.{hex_two, hex_word, text_word}
+use Rattle.peer_script.specs.Word.{hex_two, hex_word, text_word, optional_word, flags_word}
 use Rattle.peer_script.specs.Script.{Given, Gave, Broke}
 
 abbrev pub or_empty : Option (List ℕ) → List ℕ
@@ -46,7 +46,9 @@ error_word errors.UnknownHandle = codes "UnknownHandle"
 error_word errors.Memory = codes "Memory"
 
 unfoldable pub words_text : Words → List ℕ
-words_text (words.Call path member) = codes "call - " ++ text_word path ++ codes " - " ++ text_word member ++ codes " - -"
+words_text (words.Call destination path interface member flags) =
+    codes "call " ++ optional_word destination ++ 32 ∷ [] ++ text_word path ++ 32 ∷ [] ++ optional_word interface ++ 32 ∷ [] ++ text_word member
+    ++ 32 ∷ [] ++ flags_word flags ++ codes " -"
 words_text words.Read = codes "read"
 words_text (words.Poll number) = codes "poll " ++ decimal number
 words_text (words.Drop number) = codes "drop " ++ decimal number
@@ -55,6 +57,7 @@ words_text (words.Take number) = codes "take " ++ decimal number
 
 unfoldable pub answer_text : Answer → List ℕ
 answer_text (answers.Called call serial) = codes "call " ++ decimal call ++ codes " serial " ++ decimal serial
+answer_text (answers.Sent serial) = codes "sent " ++ decimal serial
 answer_text (answers.Refused error) = codes "refused " ++ error_word error
 answer_text (answers.SendFailed error) = codes "sendfailed " ++ error_word error
 answer_text (answers.Got m) = codes "got " ++ decimal m.position ++ 32 ∷ [] ++ decimal (length m.bytes) ++ 32 ∷ [] ++ shown_text (message_line m)
@@ -78,6 +81,10 @@ unfoldable pub given_text : Given → List ℕ
 given_text (Gave piece) = codes "in " ++ hex_word piece ++ 10 ∷ []
 given_text Broke = codes "infault" ++ 10 ∷ []
 
+unfoldable pub direct_text : Option (List ℕ) → List ℕ
+direct_text None = codes "direct" ++ 10 ∷ []
+direct_text (Some name) = codes "direct " ++ text_word name ++ 10 ∷ []
+
 unfoldable pub outfault_text : Option ℕ → List ℕ
 outfault_text None = []
 outfault_text (Some count) = codes "outfault " ++ decimal count ++ 10 ∷ []
@@ -87,7 +94,7 @@ abbrev pub sent_word : List ℕ → List ℕ
 sent_word [] = 45 ∷ []
 sent_word (b ∷ bs) = hex_word (b ∷ bs)
 
-unfoldable pub transcript_text : Option ℕ → List Given → List Entry → List ℕ → List ℕ
-transcript_text outfault given entries sent =
-    codes "direct" ++ 10 ∷ [] ++ outfault_text outfault ++ flat_map given_text given ++ flat_map entry_text entries
+unfoldable pub transcript_text : Option (List ℕ) → Option ℕ → List Given → List Entry → List ℕ → List ℕ
+transcript_text name outfault given entries sent =
+    direct_text name ++ outfault_text outfault ++ flat_map given_text given ++ flat_map entry_text entries
     ++ codes "sent " ++ sent_word sent ++ 10 ∷ []

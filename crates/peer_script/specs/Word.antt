@@ -1,8 +1,9 @@
 -- The words of a line: numbers, bytes in hexadecimal, and texts with escapes.
-use Rattle.std.specs.Prelude.{ℕ, ◌+◌, ◌-◌, ◌*◌, ◌^◌, ◌/◌, ◌%◌, Bool, false, not, ◌&&◌, ◌||◌, ◌==◌, nat_eq, nat_le, nat_lt, if◌then◌else◌, List, [], ◌∷◌, length, codes, Option, Some, None, fold}
+use Rattle.std.specs.Prelude.{ℕ, ◌+◌, ◌-◌, ◌*◌, ◌^◌, ◌/◌, ◌%◌, Bool, true, false, not, ◌&&◌, ◌||◌, ◌==◌, nat_eq, nat_le, nat_lt, if◌then◌else◌, List, [], ◌∷◌, ◌++◌, length, codes, Option, Some, None, fold}
 use Rattle.std.specs.List.{list_all, slice_split, flat_map}
 use Rattle.std.specs.Char.{is_ascii_digit}
 use Rattle.std.specs.Cmp.Lexicographic.{pointwise}
+use Rattle.peer_route.specs.declared.words.CallFlags.{CallFlags}
 
 -- two texts are the same
 abbrev pub same : List ℕ → List ℕ → Bool
@@ -103,3 +104,23 @@ text_byte b = if is_plain b then b ∷ [] else 92 ∷ hex_two b
 -- the one word of a text
 unfoldable pub text_word : List ℕ → List ℕ
 text_word text = if same text (61 ∷ []) then codes "\\3d" else flat_map text_byte text
+
+-- a text, or `-` where there is none
+abbrev pub optional_word : Option (List ℕ) → List ℕ
+optional_word None = 45 ∷ []
+optional_word (Some text) = text_word text
+
+abbrev pub flag_letter : ℕ → Bool → List ℕ
+flag_letter letter flag = if flag then letter ∷ [] else []
+
+-- the letters of flags: `n`, `a`, `i`, `b`, in this order
+abbrev pub flag_letters : CallFlags → List ℕ
+flag_letters f = flag_letter 110 f.no_reply_expected ++ flag_letter 97 f.no_auto_start ++ flag_letter 105 f.allow_interactive_auth ++ flag_letter 98 f.big
+
+abbrev pub or_dash : List ℕ → List ℕ
+or_dash [] = 45 ∷ []
+or_dash (b ∷ bs) = b ∷ bs
+
+-- the one word of flags: their letters, or `-` where none is set
+abbrev pub flags_word : CallFlags → List ℕ
+flags_word f = or_dash (flag_letters f)

@@ -9,6 +9,7 @@ mod reading;
 mod script;
 #[cfg(test)]
 mod tests;
+mod text;
 mod transcript;
 mod word;
 

@@ -1,12 +1,13 @@
 //! What a line is.
-ghost use Rattle.std.specs.Prelude.{◌≡◌, [], ◌∷◌, ◌&&◌, ◌++◌, length, take, map, IfOk, Some, None};
-ghost use Rattle.peer_script.specs.Script.{before_answer, lane_words, command_words, command_line, head_line, line_of, call_of, numbered, in_lane, in_line, outfault_line, sent_line, is_absent};
+ghost use Rattle.std.specs.Prelude.{◌≡◌, [], ◌∷◌, ◌++◌, length, take, map, IfOk, Some, None};
+ghost use Rattle.peer_script.specs.Script.{before_answer, lane_words, command_words, command_line, head_line, line_of, call_of, optional_of, has_letter, named_flags, flags_of, numbered, in_lane, direct_line, in_line, outfault_line, sent_line, is_absent};
 ghost use Rattle.peer_script.specs.Word.{number_of, text_of, bytes_of};
 
+use crate::text::put_flags;
 use crate::word::{bytes_of, number_of, same, text_of, words_of};
-use peer_route::{Command, Words};
+use peer_route::{CallFlags, Command, Words};
 use std::alloc::{AllocError, Global};
-use wire_names::Bytes;
+use wire_names::{Bytes, OwnedUniqueName, UniqueName};
 
 /// The greatest lane.
 const LAST_LANE: u64 = 63;
@@ -16,8 +17,8 @@ const ABSENT: &[u8] = b"-";
 /// What a line of a script is.
 #[derive(Drop)]
 pub(crate) enum Line {
-    /// The peer has no bus.
-    Direct,
+    /// The peer has no bus, and perhaps a unique name.
+    Direct(Option<OwnedUniqueName>),
     /// After how many bytes the sink fails a write.
     OutFault(u64),
     /// A piece of the source.
@@ -44,16 +45,88 @@ fn before_answer(line: &[u8]) -> &[u8]
     line
 }
 
-fn call_of(alloc: Global, path: &[u8], member: &[u8]) -> Result<Option<Words>, AllocError>
-    ensures { IfOk result (λ words. words ≡ call_of (text_of path.now) (text_of member.now)) }
+fn is_absent(word: &[u8]) -> bool
+    ensures { result ≡ is_absent word.now }
 {
+    same(word, ABSENT)
+}
+
+/// A text, or None in it where the word says that there is none.
+fn optional_of(alloc: Global, word: &[u8]) -> Result<Option<Option<Bytes>>, AllocError>
+    ensures { IfOk result (λ text. text ≡ optional_of word.now) }
+{
+    if is_absent(word) {
+        return Ok(Some(None));
+    }
+    match text_of(alloc, word)? {
+        Some(text) => Ok(Some(Some(text))),
+        None => Ok(None),
+    }
+}
+
+fn has_letter(letter: u8, word: &[u8]) -> bool
+    ensures { result ≡ has_letter letter word.now }
+{
+    word.contains(&letter)
+}
+
+fn named_flags(word: &[u8]) -> CallFlags
+    ensures { result ≡ named_flags word.now }
+{
+    CallFlags {
+        no_reply_expected: has_letter(b'n', word),
+        no_auto_start: has_letter(b'a', word),
+        allow_interactive_auth: has_letter(b'i', word),
+        big: has_letter(b'b', word),
+    }
+}
+
+/// The flags whose one spelling the word is.
+fn flags_of(alloc: Global, word: &[u8]) -> Result<Option<CallFlags>, AllocError>
+    ensures { IfOk result (λ flags. flags ≡ flags_of word.now) }
+{
+    let flags = named_flags(word);
+    let mut spelled = Vec::new(alloc);
+    put_flags(&mut spelled, flags)?;
+    if same(word, spelled.as_slice()) {
+        Ok(Some(flags))
+    } else {
+        Ok(None)
+    }
+}
+
+fn call_of(
+    alloc: Global,
+    destination: &[u8],
+    path: &[u8],
+    interface: &[u8],
+    member: &[u8],
+    flags: &[u8],
+) -> Result<Option<Words>, AllocError>
+    ensures { IfOk result (λ words. words ≡ call_of (optional_of destination.now) (text_of path.now) (optional_of interface.now) (text_of member.now) (flags_of flags.now)) }
+{
+    let Some(destination) = optional_of(alloc, destination)? else {
+        return Ok(None);
+    };
     let Some(path) = text_of(alloc, path)? else {
+        return Ok(None);
+    };
+    let Some(interface) = optional_of(alloc, interface)? else {
         return Ok(None);
     };
     let Some(member) = text_of(alloc, member)? else {
         return Ok(None);
     };
-    Ok(Some(Words::Call { path, member }))
+    match flags_of(alloc, flags)? {
+        Some(flags) => Ok(Some(Words::Call {
+            destination,
+            path,
+            interface,
+            member,
+            flags,
+        })),
+        None => Ok(None),
+    }
 }
 
 /// The words of one name.
@@ -86,15 +159,6 @@ fn numbered_command(name: &[u8], number: &[u8]) -> Option<Words>
     }
 }
 
-fn are_absent(destination: &[u8], interface: &[u8], flags: &[u8], body: &[u8]) -> bool
-    ensures { result ≡ (is_absent destination.now && is_absent interface.now && is_absent flags.now && is_absent body.now) }
-{
-    same(destination, ABSENT)
-        && same(interface, ABSENT)
-        && same(flags, ABSENT)
-        && same(body, ABSENT)
-}
-
 #[tactic(auto, unfolding(crate::specs::Script::command_words))]
 fn command_words(alloc: Global, words: &[&[u8]]) -> Result<Option<Words>, AllocError>
     ensures { IfOk result (λ w. w ≡ command_words (map (λ word. word.now) words.now)) }
@@ -103,8 +167,8 @@ fn command_words(alloc: Global, words: &[&[u8]]) -> Result<Option<Words>, AllocE
         [name] => Ok(lone_command(name)),
         [name, number] => Ok(numbered_command(name, number)),
         [name, destination, path, interface, member, flags, body] => {
-            if same(name, b"call") && are_absent(destination, interface, flags, body) {
-                call_of(alloc, path, member)
+            if same(name, b"call") && is_absent(body) {
+                call_of(alloc, destination, path, interface, member, flags)
             } else {
                 Ok(None)
             }
@@ -147,6 +211,19 @@ fn command_line(alloc: Global, line: &[u8]) -> Result<Option<Command>, AllocErro
     lane_words(alloc, words.as_slice())
 }
 
+/// The line of `direct` with a name, which must be a unique name.
+fn direct_line(alloc: Global, word: &[u8]) -> Result<Option<Line>, AllocError>
+    ensures { IfOk result (λ line. line ≡ direct_line (text_of word.now)) }
+{
+    let Some(text) = text_of(alloc, word)? else {
+        return Ok(None);
+    };
+    match UniqueName::try_from_bytes(text.as_slice()) {
+        Ok(name) => Ok(Some(Line::Direct(Some(name.to_owned(alloc)?)))),
+        Err(_) => Ok(None),
+    }
+}
+
 fn in_line(alloc: Global, word: &[u8]) -> Result<Option<Line>, AllocError>
     ensures { IfOk result (λ line. line ≡ in_line (bytes_of word.now)) }
 {
@@ -166,8 +243,40 @@ fn outfault_line(word: &[u8]) -> Option<Line>
 fn sent_line(alloc: Global, word: &[u8]) -> Result<Option<Line>, AllocError>
     ensures { IfOk result (λ line. line ≡ sent_line word.now) }
 {
-    if same(word, ABSENT) || bytes_of(alloc, word)?.is_some() {
+    if is_absent(word) || bytes_of(alloc, word)?.is_some() {
         Ok(Some(Line::Sent))
+    } else {
+        Ok(None)
+    }
+}
+
+/// The header line of one word.
+#[tactic(auto, unfolding(crate::specs::Script::head_line))]
+fn lone_head(name: &[u8]) -> Option<Line>
+    ensures { result ≡ head_line (name.now ∷ []) }
+{
+    if same(name, b"direct") {
+        Some(Line::Direct(None))
+    } else if same(name, b"infault") {
+        Some(Line::InFault)
+    } else {
+        None
+    }
+}
+
+/// The header line, or the line `sent`, of a name and a word.
+#[tactic(auto, unfolding(crate::specs::Script::head_line))]
+fn head_of(alloc: Global, name: &[u8], word: &[u8]) -> Result<Option<Line>, AllocError>
+    ensures { IfOk result (λ line. line ≡ head_line (name.now ∷ word.now ∷ [])) }
+{
+    if same(name, b"direct") {
+        direct_line(alloc, word)
+    } else if same(name, b"in") {
+        in_line(alloc, word)
+    } else if same(name, b"outfault") {
+        Ok(outfault_line(word))
+    } else if same(name, b"sent") {
+        sent_line(alloc, word)
     } else {
         Ok(None)
     }
@@ -178,26 +287,8 @@ fn head_line(alloc: Global, words: &[&[u8]]) -> Result<Option<Line>, AllocError>
     ensures { IfOk result (λ line. line ≡ head_line (map (λ word. word.now) words.now)) }
 {
     match words {
-        [name] => {
-            if same(name, b"direct") {
-                Ok(Some(Line::Direct))
-            } else if same(name, b"infault") {
-                Ok(Some(Line::InFault))
-            } else {
-                Ok(None)
-            }
-        }
-        [name, word] => {
-            if same(name, b"in") {
-                in_line(alloc, word)
-            } else if same(name, b"outfault") {
-                Ok(outfault_line(word))
-            } else if same(name, b"sent") {
-                sent_line(alloc, word)
-            } else {
-                Ok(None)
-            }
-        }
+        [name] => Ok(lone_head(name)),
+        [name, word] => head_of(alloc, name, word),
         _ => Ok(None),
     }
 }

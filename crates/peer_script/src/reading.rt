@@ -9,7 +9,7 @@ use crate::script::Setup;
 use peer_route::Command;
 use std::alloc::{AllocError, Global};
 use wire_framing::Piece;
-use wire_names::Bytes;
+use wire_names::{Bytes, OwnedUniqueName};
 
 /// How far a script has come.
 #[derive(Clone, Copy)]
@@ -30,17 +30,19 @@ pub(crate) enum Stage {
 #[derive(Drop)]
 struct Progress {
     stage: Stage,
+    name: Option<OwnedUniqueName>,
     outfault: Option<u64>,
     pieces: Vec<Piece>,
     commands: Vec<Command>,
 }
 
 #[tactic(auto, using(crate::proofs::Pieces::pushed), unfolding(crate::specs::Reading::take_line))]
-fn take_direct(progress: &mut Progress) -> Result<bool, AllocError>
-    ensures { TakesLine result progress.old progress.new lines.Direct }
+fn take_direct(progress: &mut Progress, name: Option<OwnedUniqueName>) -> Result<bool, AllocError>
+    ensures { TakesLine result progress.old progress.new (lines.Direct name) }
 {
     match progress.stage {
         Stage::Start => {
+            progress.name = name;
             progress.stage = Stage::Head;
             Ok(true)
         }
@@ -122,7 +124,7 @@ fn take_line(progress: &mut Progress, line: Line) -> Result<bool, AllocError>
     ensures { TakesLine result progress.old progress.new line }
 {
     match line {
-        Line::Direct => take_direct(progress),
+        Line::Direct(name) => take_direct(progress, name),
         Line::OutFault(count) => take_outfault(progress, count),
         Line::In(piece) => take_piece(progress, piece),
         Line::InFault => take_infault(progress),
@@ -157,10 +159,11 @@ fn may_end(stage: Stage) -> bool
 /// The script of a text.
 pub(crate) fn read_text(alloc: Global, text: &[u8]) -> Result<(Setup, Vec<Command>), ScriptError>
     requires { length text.now < 2 ^ 63 }
-    ensures { TellsText (λ x. script_from x.0.outfault x.0.pieces.items x.1.items) text.now result }
+    ensures { TellsText (λ x. script_from x.0.name x.0.outfault x.0.pieces.items x.1.items) text.now result }
 {
     let mut progress = Progress {
         stage: Stage::Start,
+        name: None,
         outfault: None,
         pieces: Vec::new(alloc),
         commands: Vec::new(alloc),
@@ -181,10 +184,16 @@ pub(crate) fn read_text(alloc: Global, text: &[u8]) -> Result<(Setup, Vec<Comman
         return Err(ScriptError::Line(number));
     }
     let Progress {
+        name,
         outfault,
         pieces,
         commands,
         ..
     } = progress;
-    Ok((Setup { outfault, pieces }, commands))
+    let setup = Setup {
+        name,
+        outfault,
+        pieces,
+    };
+    Ok((setup, commands))
 }

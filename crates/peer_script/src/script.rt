@@ -8,6 +8,7 @@ use crate::reading::read_text;
 use peer_route::Command;
 use std::alloc::Global;
 use wire_framing::{Piece, Source};
+use wire_names::OwnedUniqueName;
 
 /// The most bytes that a script has.
 const LIMIT: usize = 1_073_741_824;
@@ -21,6 +22,8 @@ const STEP: usize = 65_536;
 /// What stands in a script before its commands.
 #[derive(Drop)]
 pub struct Setup {
+    /// The peer's unique name, where it has one.
+    pub name: Option<OwnedUniqueName>,
     /// After how many bytes the peer's sink fails one write; None where it never does.
     pub outfault: Option<u64>,
     /// What the peer's source gives.
@@ -93,7 +96,7 @@ pub fn read_script<I: Source>(
     word: Word,
     input: &mut I,
 ) -> Result<(Setup, Vec<Command>), ScriptError>
-    ensures told { IfSome (I.left input.old) (λ bytes. TellsScript (λ x. script_from x.0.outfault x.0.pieces.items x.1.items) bytes result) }
+    ensures told { IfSome (I.left input.old) (λ bytes. TellsScript (λ x. script_from x.0.name x.0.outfault x.0.pieces.items x.1.items) bytes result) }
     ensures faults { FaultsTell result (I.stop input.old) (I.faults input.old) (I.faults input.new) }
 {
     let Word::Run = word;

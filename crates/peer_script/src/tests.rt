@@ -1,10 +1,10 @@
 use crate::{ScriptError, Setup, Transcript, Word, read_script, write_all, write_transcript};
-use peer_route::{Answer, Command, Entry, Words};
+use peer_route::{Answer, CallFlags, Command, Entry, Words};
 use std::alloc::Global;
 use std::test::Fail;
 use wire_framing::{MemorySink, MemorySource, Piece, Refusal};
 use wire_message::header_front;
-use wire_names::Bytes;
+use wire_names::{Bytes, OwnedUniqueName};
 
 /// A method return of serial 1 to the call of serial 1, without a body: 24 bytes.
 const RETURN: [u8; 24] = [
@@ -16,6 +16,13 @@ const SENT: [u8; 48] = [
     108, 1, 0, 1, 0, 0, 0, 0, 1, 0, 0, 0, 27, 0, 0, 0, 1, 1, 111, 0, 1, 0, 0, 0, 47, 0, 0, 0, 0, 0,
     0, 0, 3, 1, 115, 0, 2, 0, 0, 0, 100, 111, 0, 0, 0, 0, 0, 0,
 ];
+
+const NO_FLAGS: CallFlags = CallFlags {
+    no_reply_expected: false,
+    no_auto_start: false,
+    allow_interactive_auth: false,
+    big: false,
+};
 
 /// One call and its answer.
 const TRANSCRIPT: &[u8] = b"direct\n\
@@ -42,7 +49,7 @@ fn read_of(
 #[test]
 fn reads_scripts(rt: HostRuntime) -> Result<(), Fail> {
     let alloc = rt.alloc();
-    let table: [(&[u8], usize, usize); 11] = [
+    let table: [(&[u8], usize, usize); 14] = [
         (b"direct\n", 0, 0),
         (b"direct\nsent -\n", 0, 0),
         (b"direct\nsent 00\n", 0, 0),
@@ -55,6 +62,13 @@ fn reads_scripts(rt: HostRuntime) -> Result<(), Fail> {
         (b"direct\nread = \n", 0, 1),
         (b"direct\ncall - \\3d - a\\0a\\5c - -\n", 0, 1),
         (b"direct\npoll 18446744073709551615\n", 0, 1),
+        (b"direct org.freedesktop.DBus\noutfault 0\n", 0, 0),
+        (b"direct :1.42\n0 call a.b / a.c do naib -\n", 0, 1),
+        (
+            b"direct\ncall \\0a / - do ai -\ncall - - \\3d - b -\n",
+            0,
+            2,
+        ),
         (
             b"direct\noutfault 0\ninfault\nin 00\ninfault\n1 stream\ntake 0\ndrop 18446744073709551615\n",
             3,
@@ -78,7 +92,7 @@ fn reads_scripts(rt: HostRuntime) -> Result<(), Fail> {
 #[test]
 fn names_the_first_line_outside(rt: HostRuntime) -> Result<(), Fail> {
     let alloc = rt.alloc();
-    let table: [(&[u8], u64); 32] = [
+    let table: [(&[u8], u64); 42] = [
         (b"", 1),
         (b"direct", 1),
         (b"\n", 1),
@@ -108,6 +122,16 @@ fn names_the_first_line_outside(rt: HostRuntime) -> Result<(), Fail> {
         (b"direct\nread\ninfault\n", 3),
         (b"direct\nstream 0\n", 2),
         (b"direct\ninfault = x\n", 2),
+        (b"direct \n", 1),
+        (b"direct -\n", 1),
+        (b"direct a.b\n", 1),
+        (b"direct :1\n", 1),
+        (b"direct :1.2 :1.3\n", 1),
+        (b"direct\ncall = / - do - -\n", 2),
+        (b"direct\ncall - / - do bn -\n", 2),
+        (b"direct\ncall - / - do nn -\n", 2),
+        (b"direct\ncall - / - do n- -\n", 2),
+        (b"direct\ncall - / - do n s:00\n", 2),
         (b"direct\ncall - \\41 - do - -\n", 2),
         (b"direct\ncall - a\\3db - do - -\n", 2),
         (b"direct\ncall - \\5C - do - -\n", 2),
@@ -147,11 +171,32 @@ fn refuses_a_line_past_a_million(rt: HostRuntime) -> Result<(), Fail> {
     Ok(())
 }
 
-/// What a stream's commands and answers look like.
+/// A call with all words and all flags, for which no reply is waited for.
+fn whole_call(alloc: Global) -> Result<Entry, Fail> {
+    Ok(Entry {
+        lane: 1,
+        words: Words::Call {
+            destination: Some(Bytes::from_slice(alloc, b"a.b")?),
+            path: Bytes::from_slice(alloc, b"-")?,
+            interface: Some(Bytes::from_slice(alloc, b"=")?),
+            member: Bytes::from_slice(alloc, b"d o")?,
+            flags: CallFlags {
+                no_reply_expected: true,
+                no_auto_start: true,
+                allow_interactive_auth: true,
+                big: true,
+            },
+        },
+        answer: Answer::Sent(7),
+    })
+}
+
+/// What a stream's commands and answers look like, and a whole call.
 #[test]
 fn writes_each_answer(rt: HostRuntime) -> Result<(), Fail> {
     let alloc = rt.alloc();
     let mut entries = Vec::new(alloc);
+    entries.push(whole_call(alloc)?)?;
     for (words, answer) in [
         (Words::Drop(1), Answer::Dropped),
         (Words::Stream, Answer::Streaming(0)),
@@ -167,6 +212,7 @@ fn writes_each_answer(rt: HostRuntime) -> Result<(), Fail> {
         })?;
     }
     let setup = Setup {
+        name: Some(OwnedUniqueName::try_from(alloc, ":1.7")?),
         outfault: Some(9),
         pieces: vec![in alloc; Piece::Fault]?,
     };
@@ -175,7 +221,7 @@ fn writes_each_answer(rt: HostRuntime) -> Result<(), Fail> {
     assert!(rt; write_transcript(alloc, &setup, &transcript, b"", &mut sink).is_ok());
     assert_eq!(rt;
         sink.bytes(),
-        b"direct\noutfault 9\ninfault\n0 drop 1 = dropped\n0 stream = stream 0\n0 read = busy\n0 take 0 = item 1\n0 take 0 = empty\n0 take 0 = ended\nsent -\n".as_slice()
+        b"direct :1.7\noutfault 9\ninfault\n1 call a.b - \\3d d\\20o naib - = sent 7\n0 drop 1 = dropped\n0 stream = stream 0\n0 read = busy\n0 take 0 = item 1\n0 take 0 = empty\n0 take 0 = ended\nsent -\n".as_slice()
     );
     Ok(())
 }
@@ -187,7 +233,13 @@ fn entries_of(alloc: Global) -> Result<Vec<Entry>, Fail> {
     let mut entries = Vec::new(alloc);
     entries.push(Entry {
         lane: 0,
-        words: Words::Call { path, member },
+        words: Words::Call {
+            destination: None,
+            path,
+            interface: None,
+            member,
+            flags: NO_FLAGS,
+        },
         answer: Answer::Called { call: 0, serial: 1 },
     })?;
     entries.push(Entry {
@@ -209,6 +261,7 @@ fn writes_a_transcript(rt: HostRuntime) -> Result<(), Fail> {
     let mut pieces = Vec::new(alloc);
     pieces.push(Piece::Bytes(RETURN.to_vec(alloc)?))?;
     let setup = Setup {
+        name: None,
         outfault: None,
         pieces,
     };

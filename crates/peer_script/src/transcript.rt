@@ -2,90 +2,26 @@
 ghost use Rattle.std.specs.Prelude.{ℕ, ◌≡◌, ◌++◌, [], ◌∷◌, length, List, OnOk, false, ◌<◌, codes, decimal};
 ghost use Rattle.std.specs.List.{flat_map};
 ghost use Rattle.wire_message.specs.Texts.{message_line};
-ghost use Rattle.peer_script.specs.Word.{hex_digit, hex_two, hex_word, text_byte, text_word};
-ghost use Rattle.peer_script.specs.Transcript.{or_empty, shown_byte, shown_text, io_word, error_word, words_text, answer_text, entry_text, given_text, outfault_text, sent_word, transcript_text};
+ghost use Rattle.peer_script.specs.Word.{text_word, optional_word, flags_word};
+ghost use Rattle.peer_script.specs.Transcript.{or_empty, shown_byte, shown_text, io_word, error_word, words_text, answer_text, entry_text, given_text, direct_text, outfault_text, sent_word, transcript_text};
+ghost use Rattle.peer_route.specs.declared.words.Words.TheVariants as words;
 ghost use Rattle.peer_script.specs.Reading.{given_of, given};
 ghost use Rattle.peer_script.specs.Output.{WritesAll};
 
 use crate::output::write_all;
 use crate::script::Setup;
-use crate::word::{is_plain, same};
-use peer_route::{Answer, Entry, Words};
+use crate::text::{put, put_flags, put_hex, put_hex_byte, put_number, put_optional, put_text};
+use peer_route::{Answer, CallFlags, Entry, Words};
 use std::alloc::{AllocError, Global};
 use wire_framing::{Piece, Refusal, Sink};
 use wire_message::{Error, IoKind, Message};
+use wire_names::{Bytes, OwnedUniqueName};
 
 /// What commands were answered.
 #[derive(Drop)]
 pub struct Transcript {
     /// One entry for each command, in the order in which they ran.
     pub entries: Vec<Entry>,
-}
-
-fn put(text: &mut Vec<u8>, bytes: &[u8]) -> Result<(), AllocError>
-    ensures { OnOk result (text.new.items ≡ text.old.items ++ bytes.now) }
-{
-    text.extend_from_slice(bytes)
-}
-
-fn put_number(alloc: Global, text: &mut Vec<u8>, number: u64) -> Result<(), AllocError>
-    ensures { OnOk result (text.new.items ≡ text.old.items ++ decimal number) }
-{
-    let digits = number.to_string(alloc)?;
-    put(text, digits.as_bytes())
-}
-
-fn hex_digit(value: u8) -> u8
-    requires { value < 16 }
-    ensures { result ≡ hex_digit value }
-{
-    if value < 10 { b'0' + value } else { 87 + value }
-}
-
-fn put_hex_byte(text: &mut Vec<u8>, byte: u8) -> Result<(), AllocError>
-    ensures { OnOk result (text.new.items ≡ text.old.items ++ hex_two byte) }
-{
-    put(text, &[hex_digit(byte / 16), hex_digit(byte % 16)])
-}
-
-fn put_hex(text: &mut Vec<u8>, bytes: &[u8]) -> Result<(), AllocError>
-    ensures { OnOk result (text.new.items ≡ text.old.items ++ hex_word bytes.now) }
-{
-    for byte in bytes {
-        put_hex_byte(text, *byte)?;
-    }
-    Ok(())
-}
-
-fn put_text_byte(text: &mut Vec<u8>, byte: u8) -> Result<(), AllocError>
-    ensures { OnOk result (text.new.items ≡ text.old.items ++ text_byte byte) }
-{
-    if is_plain(byte) {
-        put(text, &[byte])
-    } else {
-        put(text, b"\\")?;
-        put_hex_byte(text, byte)
-    }
-}
-
-fn put_text_bytes(text: &mut Vec<u8>, bytes: &[u8]) -> Result<(), AllocError>
-    ensures { OnOk result (text.new.items ≡ text.old.items ++ flat_map text_byte bytes.now) }
-{
-    for byte in bytes {
-        put_text_byte(text, *byte)?;
-    }
-    Ok(())
-}
-
-#[tactic(auto, unfolding(crate::specs::Word::text_word))]
-fn put_text(text: &mut Vec<u8>, bytes: &[u8]) -> Result<(), AllocError>
-    ensures { OnOk result (text.new.items ≡ text.old.items ++ text_word bytes.now) }
-{
-    if same(bytes, b"=") {
-        put(text, b"\\3d")
-    } else {
-        put_text_bytes(text, bytes)
-    }
 }
 
 fn io_word(kind: IoKind) -> &'static [u8]
@@ -119,14 +55,28 @@ fn put_error(text: &mut Vec<u8>, error: Error) -> Result<(), AllocError>
     }
 }
 
-fn put_call(text: &mut Vec<u8>, path: &[u8], member: &[u8]) -> Result<(), AllocError>
-    ensures { OnOk result (text.new.items ≡ text.old.items ++ codes "call - " ++ text_word path.now ++ codes " - " ++ text_word member.now ++ codes " - -") }
+#[tactic(auto, unfolding(crate::specs::Transcript::words_text))]
+fn put_call(
+    text: &mut Vec<u8>,
+    destination: &Option<Bytes>,
+    path: &Bytes,
+    interface: &Option<Bytes>,
+    member: &Bytes,
+    flags: CallFlags,
+) -> Result<(), AllocError>
+    ensures { OnOk result (text.new.items ≡ text.old.items ++ words_text (words.Call destination.now path.now interface.now member.now flags)) }
 {
-    put(text, b"call - ")?;
-    put_text(text, path)?;
-    put(text, b" - ")?;
-    put_text(text, member)?;
-    put(text, b" - -")
+    put(text, b"call ")?;
+    put_optional(text, destination)?;
+    put(text, b" ")?;
+    put_text(text, path.as_slice())?;
+    put(text, b" ")?;
+    put_optional(text, interface)?;
+    put(text, b" ")?;
+    put_text(text, member.as_slice())?;
+    put(text, b" ")?;
+    put_flags(text, flags)?;
+    put(text, b" -")
 }
 
 #[tactic(auto, unfolding(crate::specs::Transcript::words_text))]
@@ -134,7 +84,13 @@ fn put_words(alloc: Global, text: &mut Vec<u8>, words: &Words) -> Result<(), All
     ensures { OnOk result (text.new.items ≡ text.old.items ++ words_text words.now) }
 {
     match words {
-        Words::Call { path, member } => put_call(text, path.as_slice(), member.as_slice()),
+        Words::Call {
+            destination,
+            path,
+            interface,
+            member,
+            flags,
+        } => put_call(text, destination, path, interface, member, *flags),
         Words::Read => put(text, b"read"),
         Words::Poll(number) => put_with_number(alloc, text, b"poll ", *number),
         Words::Drop(number) => put_with_number(alloc, text, b"drop ", *number),
@@ -221,6 +177,7 @@ fn put_answer(alloc: Global, text: &mut Vec<u8>, answer: &Answer) -> Result<(), 
 {
     match answer {
         Answer::Called { call, serial } => put_called(alloc, text, *call, *serial),
+        Answer::Sent(serial) => put_with_number(alloc, text, b"sent ", u64::from(*serial)),
         Answer::Refused(error) => put_with_error(text, b"refused ", *error),
         Answer::SendFailed(error) => put_with_error(text, b"sendfailed ", *error),
         Answer::Got(message) => put_got(alloc, text, message),
@@ -305,6 +262,20 @@ fn put_outfault(alloc: Global, text: &mut Vec<u8>, count: Option<u64>) -> Result
     }
 }
 
+#[tactic(auto, unfolding(crate::specs::Transcript::direct_text))]
+fn put_direct(text: &mut Vec<u8>, name: &Option<OwnedUniqueName>) -> Result<(), AllocError>
+    ensures { OnOk result (text.new.items ≡ text.old.items ++ direct_text name.now) }
+{
+    match name {
+        None => put(text, b"direct\n"),
+        Some(name) => {
+            put(text, b"direct ")?;
+            put_text(text, name.as_str().as_bytes())?;
+            put(text, b"\n")
+        }
+    }
+}
+
 #[tactic(auto, unfolding(crate::specs::Transcript::transcript_text))]
 fn put_transcript(
     alloc: Global,
@@ -313,9 +284,9 @@ fn put_transcript(
     entries: &[Entry],
     sent: &[u8],
 ) -> Result<(), AllocError>
-    ensures { OnOk result (text.new.items ≡ text.old.items ++ transcript_text setup.now.outfault (given setup.now.pieces.items) entries.now sent.now) }
+    ensures { OnOk result (text.new.items ≡ text.old.items ++ transcript_text setup.now.name setup.now.outfault (given setup.now.pieces.items) entries.now sent.now) }
 {
-    put(text, b"direct\n")?;
+    put_direct(text, &setup.name)?;
     put_outfault(alloc, text, setup.outfault)?;
     put_pieces(text, setup.pieces.as_slice())?;
     put_entries(alloc, text, entries)?;
@@ -334,7 +305,7 @@ pub fn write_transcript<O: Sink>(
     sent: &[u8],
     output: &mut O,
 ) -> Result<(), Refusal>
-    ensures text { WritesAll result (transcript_text setup.now.outfault (given setup.now.pieces.items) transcript.now.entries.items sent.now) (O.held output.old) (O.held output.new) (O.room output.old) (O.room output.new) (O.faults output.old) (O.faults output.new) }
+    ensures text { WritesAll result (transcript_text setup.now.name setup.now.outfault (given setup.now.pieces.items) transcript.now.entries.items sent.now) (O.held output.old) (O.held output.new) (O.room output.old) (O.room output.new) (O.faults output.old) (O.faults output.new) }
     ensures fds { O.takes output.new ≡ O.takes output.old }
 {
     let mut text = Vec::new(alloc);

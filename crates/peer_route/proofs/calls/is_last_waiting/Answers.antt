@@ -1,4 +1,4 @@
-use Rattle.std.proofs.Common.{◌≡◌, not, is_none, is_some, true, false, Bool, refl, sym, ◌∙◌, ap, arith}
+use Rattle.std.proofs.Common.{arith}
 use Rattle.peer_route.proofs.Waiting.{waits_last}
 use Rattle.peer_route.proofs.calls.is_last_waiting.Goals as goal
 

@@ -1,7 +1,18 @@
-use Rattle.std.proofs.Common.{[], ◌∷◌, ◌++◌, map, take, sym, ◌∙◌, ap, arith}
+use Rattle.std.proofs.Common.{[], ◌∷◌, ◌++◌, map, take, sym, ◌∙◌, ap, arith, refl}
 use Rattle.std.proofs.lemmas.List.{take_more, reverse-append, map_push}
 use Rattle.peer_run.specs.Runs.{command_of}
+use Rattle.peer_run.proofs.Ends.{start_reads, start_writes}
 use Rattle.peer_run.proofs.run.run_peer.Goals as goal
+
+pub loop-command-init : goal.loop-command-init
+loop-command-init g c =
+    let name = c.args.setup.now.name in
+    rw (c.new-entries.ensures.items) (record {
+      stands = record { follows = c.new-peer.ensures name; reads = start_reads name _; writes = start_writes name _ };
+      commands = refl;
+      source = omega arith;
+      sink = omega arith;
+    })
 
 pub loop-command-preserved : goal.loop-command-preserved
 loop-command-preserved g c =

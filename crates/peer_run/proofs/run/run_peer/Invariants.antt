@@ -4,7 +4,7 @@ use Rattle.peer_run.proofs.run.run_peer.Given as goal
 
 abbrev pub invariant-loop-command : goal.invariant-loop-command
 invariant-loop-command g l = record {
-  stands : Stands
+  stands : Stands l.fn.setup.name
       (record { left = g.S.Source.left l.initial.source; stop = g.S.Source.stop l.initial.source; faults = g.S.Source.faults l.initial.source })
       (record { held = g.W.Sink.held l.initial.sink; room = g.W.Sink.room l.initial.sink; faults = g.W.Sink.faults l.initial.sink })
       l.peer

@@ -2,8 +2,8 @@
 use Rattle.std.proofs.Common.{[], sym, ◌∙◌, ap, subst, Err, Ok}
 use Rattle.std.proofs.lemmas.Result.{err_from_is_err_and}
 use Rattle.wire_message.specs.Draft.{Builds}
-use Rattle.peer_route.specs.Left.{View, Issues, waiting_serial}
-use Rattle.peer_route.proofs.Core.{refused, refused_failed, issued, placed_waits}
+use Rattle.peer_route.specs.Left.{View, waiting_serial}
+use Rattle.peer_route.proofs.Issuing.{refused, refused_failed, issued, placed_waits}
 use Rattle.peer_route.proofs.route.Route.issue.Goals as goal
 
 pub returns-in_err-message-clause-issues : goal.returns-in_err-message-clause-issues
