@@ -33,20 +33,24 @@ list_exact : {A : Type 0} (eq : A → A → Bool) → IsExact eq → IsExact (po
 list_exact eq h [] [] = (λ _. refl, λ _. refl)
 list_exact eq h [] (y ∷ ys) = (λ e. absurd (cc), λ e. absurd (cc))
 list_exact eq h (x ∷ xs) [] = (λ e. absurd (cc), λ e. absurd (cc))
-list_exact eq h (x ∷ xs) (y ∷ ys) =
-    (λ e. ap (λ z. z ∷ xs) ((h x y).0 (first_true _ _ e)) ∙ ap (λ zs. y ∷ zs) ((list_exact eq h xs ys).0 (second_true (eq x y) _ e)), λ e.
-    both_true _ _ ((h x y).1 (cc)) ((list_exact eq h xs ys).1 (cc)))
+list_exact eq h (x ∷ xs) (y ∷ ys) = (
+  λ e. ap (λ z. z ∷ xs) ((h x y).0 (first_true _ _ e)) ∙ ap (λ zs. y ∷ zs) ((list_exact eq h xs ys).0 (second_true (eq x y) _ e)),
+  λ e.
+      both_true _ _ ((h x y).1 (cc)) ((list_exact eq h xs ys).1 (cc)),
+)
 
 text_exact : IsExact (pointwise nat_eq)
 text_exact x y = (same_is x y, is_same x y)
 
 argument_exact : IsExact same_argument
-argument_exact x y =
-    (λ e.
-    let index : x.index ≡ y.index = (Decides-eqb x.index y.index).0 (first_true _ _ e) in
-    let text : x.text ≡ y.text = same_is x.text y.text (second_true (nat_eq x.index y.index) _ e) in
-    λ j. record { index = index j; text = text j }, λ e.
-    both_true _ _ ((Decides-eqb x.index y.index).1 (ap (λ (a : Argument). a.index) e)) (is_same x.text y.text (ap (λ (a : Argument). a.text) e)))
+argument_exact x y = (
+  λ e.
+      let index : x.index ≡ y.index = (Decides-eqb x.index y.index).0 (first_true _ _ e) in
+      let text : x.text ≡ y.text = same_is x.text y.text (second_true (nat_eq x.index y.index) _ e) in
+      λ j. record { index = index j; text = text j },
+  λ e.
+      both_true _ _ ((Decides-eqb x.index y.index).1 (ap (λ (a : Argument). a.index) e)) (is_same x.text y.text (ap (λ (a : Argument). a.text) e)),
+)
 
 kind_exact : IsExact of_kinds.eq
 kind_exact MethodCall MethodCall = (λ _. refl, λ _. refl)
