@@ -205,9 +205,14 @@ pub not-found : (o : Option Fields) (fields : Fields) → None ≡ o → o ≡ S
 not-found o fields e f = cc
 
 -- the message with the serial that was drawn
-pub builds-ok : (taken : ℕ → Bool) (draft : Draft) (old new serial : ℕ) (m : Seen) → IsNext taken old serial → new ≡ serial → (m ≡ built draft serial []) × (length m.bytes ≤ 134217728)
-    → Builds taken draft [] old new (Ok m)
+pub builds-ok : (taken : ℕ → Bool) (draft : Draft) (body : List ℕ) (old new serial : ℕ) (m : Seen) → IsNext taken old serial → new ≡ serial
+    → (m ≡ built draft serial body) × (length m.bytes ≤ 134217728) → Builds taken draft body old new (Ok m)
 unfolding built
-builds-ok taken draft old new serial m next drawn made =
+builds-ok taken draft body old new serial m next drawn made =
     let same : m.serial ≡ serial = ap (λ (x : Seen). x.serial) made.0 in
-    (subst (λ (k : ℕ). IsNext taken old k) (sym same) next, drawn ∙ sym same, made.1, made.0 ∙ ap (λ (k : ℕ). built draft k []) (sym same))
+    (subst (λ (k : ℕ). IsNext taken old k) (sym same) next, drawn ∙ sym same, made.1, made.0 ∙ ap (λ (k : ℕ). built draft k body) (sym same))
+
+-- a body that alone passes the limit of a message
+pub body-long : (draft : Draft) (serial : ℕ) (body : List ℕ) → 134217728 < length body → 134217728 < length (message_text draft serial body)
+unfolding message_text
+body-long draft serial body h = omega (arith, length-append (header_text draft (length body) serial) body)

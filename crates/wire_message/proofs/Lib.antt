@@ -11,3 +11,5 @@ pub mod Law
 pub mod Setting
 pub mod Valid
 pub mod Strings
+pub mod Alone
+pub mod Heads

@@ -1,5 +1,7 @@
 -- What a builder may hold, it may hold after each setter.
-use Rattle.std.proofs.Common.{ℕ, ◌≤◌, List, Some, arith}
+use Rattle.std.proofs.Common.{ℕ, ◌≤◌, ◌<◌, ◌^◌, List, Option, Some, arith}
+use Rattle.std.specs.Prelude.{IfSome, IsTrue}
+use Rattle.wire_message.specs.declared.field.FieldCode.TheVariants as codes
 use Rattle.std.specs.Int.Bits.{bit_and, bit_or}
 use Rattle.std.proofs.lemmas.Nat.{and_le_r, or_lt}
 use Rattle.wire_names.specs.Names.{IsObjectPath, IsMemberName, IsInterfaceName, IsBusName, IsUniqueName}
@@ -23,6 +25,29 @@ unfolding is_text
 set-sender draft text d h =
     let f = d.fields in
     record { flags = d.flags; fields = record { path = f.path; interface = f.interface; member = f.member; error_name = f.error_name; reply_serial = f.reply_serial; destination = f.destination; sender = h; signature = f.signature; unix_fds = f.unix_fds } }
+
+pub set-path : (draft : Draft) (text : List ℕ) → IsDraft draft → IsObjectPath text → IsDraft (record draft { fields = record draft.fields { path = Some text } })
+unfolding is_text
+set-path draft text d h =
+    let f = d.fields in
+    record { flags = d.flags; fields = record { path = h; interface = f.interface; member = f.member; error_name = f.error_name; reply_serial = f.reply_serial; destination = f.destination; sender = f.sender; signature = f.signature; unix_fds = f.unix_fds } }
+
+pub set-member : (draft : Draft) (text : List ℕ) → IsDraft draft → IsMemberName text → IsDraft (record draft { fields = record draft.fields { member = Some text } })
+unfolding is_text
+set-member draft text d h =
+    let f = d.fields in
+    record { flags = d.flags; fields = record { path = f.path; interface = f.interface; member = h; error_name = f.error_name; reply_serial = f.reply_serial; destination = f.destination; sender = f.sender; signature = f.signature; unix_fds = f.unix_fds } }
+
+pub set-reply_serial : (draft : Draft) (serial : ℕ) → IsDraft draft → (0 < serial) × (serial < 2 ^ 32) → IsDraft (record draft { fields = record draft.fields { reply_serial = Some serial } })
+set-reply_serial draft serial d h =
+    let f = d.fields in
+    record { flags = d.flags; fields = record { path = f.path; interface = f.interface; member = f.member; error_name = f.error_name; reply_serial = h; destination = f.destination; sender = f.sender; signature = f.signature; unix_fds = f.unix_fds } }
+
+pub set-signature : (draft : Draft) (text : Option (List ℕ)) → IsDraft draft → IfSome text (λ t. IsTrue (is_text codes.Signature t))
+    → IsDraft (record draft { fields = record draft.fields { signature = text } })
+set-signature draft text d h =
+    let f = d.fields in
+    record { flags = d.flags; fields = record { path = f.path; interface = f.interface; member = f.member; error_name = f.error_name; reply_serial = f.reply_serial; destination = f.destination; sender = f.sender; signature = h; unix_fds = f.unix_fds } }
 
 pub first-call : (path member : List ℕ) → IsObjectPath path → IsMemberName member → IsDraft (call_draft path member)
 unfolding is_text

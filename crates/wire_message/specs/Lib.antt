@@ -6,3 +6,6 @@ pub mod Circle
 pub mod Draft
 pub mod Outcome
 pub mod Texts
+pub mod Primary
+pub mod Whole
+pub mod Signed

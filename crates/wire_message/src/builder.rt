@@ -26,10 +26,10 @@ use wire_signature::VariantError;
 /// A message that isn't built yet.
 #[derive(Drop)]
 pub struct Builder<'a> {
-    kind: MessageType,
-    order: Endian,
-    flags: u8,
-    fields: HeaderFields<'a>,
+    pub(crate) kind: MessageType,
+    pub(crate) order: Endian,
+    pub(crate) flags: u8,
+    pub(crate) fields: HeaderFields<'a>,
 }
 
 impl<'a> Model for Builder<'a> {
@@ -43,7 +43,7 @@ impl<'a> Model for Builder<'a> {
 }
 
 /// The byte of a byte order.
-fn order_byte(order: Endian) -> u8
+pub(crate) fn order_byte(order: Endian) -> u8
     ensures { result ≡ order_code order }
 {
     match order {
@@ -105,6 +105,40 @@ impl<'a> Builder<'a> {
         })
     }
 
+    /// With that path (D-Bus Specification, "Header Fields", `PATH`).
+    pub fn path(self, path: &ObjectPath<'a>) -> Builder<'a>
+        ensures { result ≡ record self.entry { fields = record self.entry.fields { path = Some path.now } } }
+    {
+        let fields = HeaderFields {
+            path: Some(path.as_str()),
+            ..self.fields
+        };
+        Builder { fields, ..self }
+    }
+
+    /// With that member (D-Bus Specification, "Header Fields", `MEMBER`).
+    pub fn member(self, member: &MemberName<'a>) -> Builder<'a>
+        ensures { result ≡ record self.entry { fields = record self.entry.fields { member = Some member.now } } }
+    {
+        let fields = HeaderFields {
+            member: Some(member.as_str()),
+            ..self.fields
+        };
+        Builder { fields, ..self }
+    }
+
+    /// With that reply serial (D-Bus Specification, "Header Fields", `REPLY_SERIAL`).
+    pub fn reply_serial(self, serial: u32) -> Builder<'a>
+        requires { 0 < serial }
+        ensures { result ≡ record self.entry { fields = record self.entry.fields { reply_serial = Some serial } } }
+    {
+        let fields = HeaderFields {
+            reply_serial: Some(serial),
+            ..self.fields
+        };
+        Builder { fields, ..self }
+    }
+
     /// With that interface (D-Bus Specification, "Header Fields", `INTERFACE`).
     pub fn interface(self, interface: &InterfaceName<'a>) -> Builder<'a>
         ensures { result ≡ record self.entry { fields = record self.entry.fields { interface = Some interface.now } } }
@@ -164,13 +198,16 @@ impl<'a> Builder<'a> {
         Ok(text)
     }
 
-    /// The message with that serial and without a body, if it doesn't pass its limit.
-    fn with_serial(&self, alloc: Global, serial: u32) -> Result<Message>
+    /// The message with that serial and body, if it doesn't pass its limit.
+    pub(crate) fn with_serial(&self, alloc: Global, serial: u32, body: &[u8]) -> Result<Message>
         requires { 0 < serial }
-        ensures made { Makes self.now serial [] result }
+        ensures made { Makes self.now serial body.now result }
         ensures again { IfOk result ReadsAgain }
     {
-        let text = self.text(alloc, serial, &[])?;
+        if body.len() > MESSAGE_LIMIT {
+            return Err(Error::ExcessData);
+        }
+        let text = self.text(alloc, serial, body)?;
         if text.len() > MESSAGE_LIMIT {
             return Err(Error::ExcessData);
         }
@@ -205,7 +242,7 @@ impl<'a> Builder<'a> {
     {
         let mut drawn = *serials;
         let serial = drawn.next(taken, steps)?;
-        let message = self.with_serial(alloc, serial)?;
+        let message = self.with_serial(alloc, serial, &[])?;
         *serials = drawn;
         Ok(message)
     }

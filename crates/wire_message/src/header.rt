@@ -13,7 +13,7 @@ use wire_number::Endian;
 /// The header of a message (D-Bus Specification, "Header Fields"). Its texts are the message's own bytes.
 #[derive(Drop)]
 pub struct Header<'a> {
-    message: &'a Message,
+    pub(crate) message: &'a Message,
 }
 
 impl<'a> Model for Header<'a> {

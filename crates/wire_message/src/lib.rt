@@ -4,6 +4,7 @@
 
 mod builder;
 mod display;
+mod endian_sig;
 mod error;
 mod field;
 mod flags;
@@ -13,14 +14,19 @@ mod kind;
 mod laws;
 mod message;
 mod places;
+mod primary;
+mod raw_body;
 mod reading;
+mod sequence;
 mod serials;
 mod steps;
 #[cfg(test)]
 mod tests;
+mod whole;
 mod writing;
 
 pub use builder::Builder;
+pub use endian_sig::{EndianSig, NATIVE_ENDIAN_SIG};
 pub use error::{Error, IoKind, Result};
 pub use flags::Flags;
 pub use front::{header_front, total_of};
@@ -28,5 +34,7 @@ pub use header::Header;
 pub use kind::MessageType;
 pub use laws::one_message;
 pub use message::Message;
+pub use primary::PrimaryHeader;
+pub use sequence::Sequence;
 pub use serials::{Serials, Taken};
 pub use steps::Steps;

@@ -6,7 +6,7 @@ use std::alloc::Global;
 use std::test::Fail;
 use wire_names::{BusName, InterfaceName, MemberName, NamesError, ObjectPath, UniqueName};
 use wire_number::Endian;
-use wire_signature::VariantError;
+use wire_signature::{Signature, VariantError};
 
 const MALFORMED: Error = Error::Variant(VariantError::Malformed);
 
@@ -139,6 +139,67 @@ fn fronts(rt: HostRuntime) -> std::result::Result<(), Fail> {
         );
     }
     Ok(())
+}
+
+// The return alone, then what the first 16 bytes of it say (D-Bus Specification, "Message Format").
+#[test]
+fn whole_messages(rt: HostRuntime) -> std::result::Result<(), Fail> {
+    let bytes = &RETURN[..24];
+    let big = Message::from_bytes(rt.alloc(), bytes, Endian::Big);
+    assert_eq!(rt; big.err(), Some(Error::IncorrectEndian));
+    let longer = Message::from_bytes(rt.alloc(), &RETURN, Endian::Little);
+    assert_eq!(rt; longer.err(), Some(Error::ExcessData));
+    let message = Message::from_bytes(rt.alloc(), bytes, Endian::Little)?;
+    assert_eq!(rt; message.data(), bytes);
+    let mut head = message.header().into_primary();
+    assert_eq!(rt;
+        (head.endian_sig(), head.msg_type()),
+        (NATIVE_ENDIAN_SIG, MessageType::MethodReturn)
+    );
+    assert_eq!(rt; (head.flags().bits(), head.protocol_version()), (0, 1));
+    assert_eq!(rt; (head.body_len(), head.serial_num()), (0, 1));
+    head.set_endian_sig(EndianSig::Big);
+    head.set_msg_type(MessageType::Signal);
+    head.set_flags(Flags::NoAutoStart);
+    head.set_protocol_version(2);
+    head.set_body_len(3);
+    head.set_serial_num(4);
+    assert_eq!(rt;
+        (head.endian_sig(), head.msg_type()),
+        (EndianSig::Big, MessageType::Signal)
+    );
+    assert_eq!(rt; (head.flags().bits(), head.protocol_version()), (2, 2));
+    assert_eq!(rt; (head.body_len(), head.serial_num()), (3, 4));
+    Ok(())
+}
+
+// A call of `do` at `/` with an array of four numbers (D-Bus Specification, "Marshaling", `ARRAY`).
+#[test]
+fn raw_bodies(rt: HostRuntime) -> std::result::Result<(), Fail> {
+    let body = b"\x10\x00\x00\x00\x01\x00\x00\x00\x02\x00\x00\x00\x03\x00\x00\x00\x04\x00\x00\x00";
+    let mut serials = Serials::new();
+    let signature = Signature::try_from(rt.alloc(), "ai")?;
+    let path = ObjectPath::try_from("/")?;
+    let member = MemberName::try_from("do")?;
+    let call = Message::method_call(&path, &member)
+        .path(&path)
+        .member(&member)
+        .reply_serial(7)
+        .build_raw_body_uncounted(rt.alloc(), &mut serials, &Nothing, body, &signature)?;
+    let want =
+        b"l\x01\x00\x01\x14\x00\x00\x00\x01\x00\x00\x00\x30\x00\x00\x00\x01\x01o\x00\x01\x00\x00\x00/\x00\x00\x00\x00\x00\x00\x00\x03\x01s\x00\x02\x00\x00\x00do\x00\x00\x00\x00\x00\x00\x05\x01u\x00\x07\x00\x00\x00\x08\x01g\x00\x02ai\x00\x10\x00\x00\x00\x01\x00\x00\x00\x02\x00\x00\x00\x03\x00\x00\x00\x04\x00\x00\x00";
+    assert_eq!(rt; call.data(), want.as_slice());
+    assert_eq!(rt; call.header().signature(), Some(b"ai".as_slice()));
+    Ok(())
+}
+
+#[test]
+fn sequences(rt: HostRuntime) {
+    assert_eq!(rt; Sequence::default(), Sequence(0));
+    assert!(rt; Sequence(7) < Sequence::LAST);
+    assert_eq!(rt; Sequence::LAST.0, 18_446_744_073_709_551_615);
+    assert_eq!(rt; EndianSig::try_from(b'B'), Ok(EndianSig::Big));
+    assert_eq!(rt; EndianSig::try_from(b'L'), Err(Error::IncorrectEndian));
 }
 
 // A call of `do` at `/`, with serial 1: a byte of the padding inside the fields, one of that behind them, and what comes

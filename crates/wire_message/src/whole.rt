@@ -1,0 +1,43 @@
+ghost use Rattle.std.specs.Prelude.{◌≡◌, ℕ, IfOk, Ok, length};
+ghost use Rattle.wire_message.specs.Front.{Front, Seen, order_code};
+ghost use Rattle.wire_message.specs.Outcome.{Tells};
+ghost use Rattle.wire_message.specs.Whole.{whole_outcome};
+
+use crate::builder::order_byte;
+use crate::error::{Error, IoKind, Result};
+use crate::front::header_front;
+use crate::message::Message;
+use std::alloc::Global;
+use wire_number::Endian;
+
+/// As `Message::from_bytes`.
+fn whole_of(alloc: Global, bytes: &[u8], order: Endian) -> Result<Message>
+    ensures { Tells (λ m. m) result (whole_outcome order bytes.now) }
+{
+    if bytes.len() < 16 {
+        return Err(Error::InputOutput(IoKind::Ended));
+    }
+    if bytes[0] != order_byte(order) {
+        return Err(Error::IncorrectEndian);
+    }
+    let (message, _) = header_front(alloc, bytes)?;
+    if message.data().len() == bytes.len() {
+        Ok(message)
+    } else {
+        Err(Error::ExcessData)
+    }
+}
+
+impl Message {
+    /// The message that the bytes are, not read yet. The first that holds: InputOutput(Ended), where fewer than 16 bytes are
+    /// there; IncorrectEndian, where the first byte doesn't name this byte order; what `header_front` refuses; ExcessData,
+    /// where bytes follow the message.
+    pub fn from_bytes(alloc: Global, bytes: &[u8], order: Endian) -> Result<Message>
+        ensures exact { Tells (λ m. m) result (whole_outcome order bytes.now) }
+        ensures found { IfOk result (λ m. Front bytes.now m (length bytes.now)) }
+        ensures order { IfOk result (λ m. m.order ≡ order) }
+        ensures only { (m : Seen) → m.position ≡ 0 → m.order ≡ order → Front bytes.now m (length bytes.now) → Tells (λ x. x) result (Ok m) }
+    {
+        whole_of(alloc, bytes, order)
+    }
+}
