@@ -25,14 +25,15 @@ fn reply(alloc: Global) -> Result<Message, Error> {
     Ok(message.at(1))
 }
 
-/// The reply arrives, where the peer takes a first message.
-fn arrive(route: &mut Route, alloc: Global) -> Result<(), Fail> {
-    let message = reply(alloc)?;
+/// The reply arrives at that position, where the peer takes a message, and none but this comes next.
+fn arrive(route: &mut Route, alloc: Global, position: u64) -> Result<(), Fail> {
+    let message = reply(alloc)?.at(position);
     if route.closing().is_some() || route.busy() {
         return Err(Fail::new("the peer takes nothing"));
     }
-    if route.received() != 0 || message.recv_position() != 1 {
-        return Err(Fail::new("another message comes first"));
+    let received = route.received();
+    if received > 1000 || position != received + 1 {
+        return Err(Fail::new("another message comes next"));
     }
     route.arrive(message)?;
     Ok(())
@@ -84,7 +85,7 @@ fn a_message_is_written_once(rt: HostRuntime) -> Result<(), Fail> {
 fn a_reply_is_given_once(rt: HostRuntime) -> Result<(), Fail> {
     let mut route = Route::new(rt.alloc());
     route.issue(Message::method_call(&ObjectPath::try_from("/")?, &MemberName::try_from("do")?))?;
-    arrive(&mut route, rt.alloc())?;
+    arrive(&mut route, rt.alloc(), 1)?;
     assert_eq!(rt; route.received(), 1);
     assert_eq!(rt; position(route.poll(0)?), Some(1));
     assert_eq!(rt; route.poll(0).err(), Some(Error::UnknownHandle));
@@ -166,13 +167,12 @@ fn item(polled: Polled<Message>) -> Result<u64, &'static str> {
 #[test]
 fn a_stream_holds_what_came_after_it(rt: HostRuntime) -> Result<(), Fail> {
     let mut route = Route::new(rt.alloc());
-    route.arrive(reply(rt.alloc())?)?;
+    arrive(&mut route, rt.alloc(), 1)?;
     let stream = route.open()?;
     assert_eq!(rt; stream, MessageStream { number: 0 });
     assert!(rt; matches!(route.take(&stream)?, Polled::NotYet));
     for position in 2..67 {
-        assert!(rt; !route.busy());
-        route.arrive(reply(rt.alloc())?.at(position))?;
+        arrive(&mut route, rt.alloc(), position)?;
     }
     assert!(rt; route.busy());
     for position in 2..67 {
@@ -206,7 +206,7 @@ fn a_dropped_call_is_unknown(rt: HostRuntime) -> Result<(), Fail> {
     ))?;
     let call = issued.call.ok_or("no call")?;
     route.drop_call(call)?;
-    arrive(&mut route, rt.alloc())?;
+    arrive(&mut route, rt.alloc(), 1)?;
     assert_eq!(rt; route.poll(call).err(), Some(Error::UnknownHandle));
     assert_eq!(rt; route.drop_call(call).err(), Some(Error::UnknownHandle));
     Ok(())
@@ -239,7 +239,7 @@ fn a_call_without_reply_is_no_call(rt: HostRuntime) -> Result<(), Fail> {
     assert_eq!(rt; route.poll(0).err(), Some(Error::UnknownHandle));
     let second = route.issue(Message::method_call(&path, &member))?;
     assert_eq!(rt; second.call, Some(0));
-    arrive(&mut route, rt.alloc())?;
+    arrive(&mut route, rt.alloc(), 1)?;
     assert!(rt; matches!(route.poll(0)?, Polled::NotYet));
     Ok(())
 }
