@@ -306,6 +306,7 @@ refused v draft new h (errors.Names kind) left b = absurd b
 refused v draft new h errors.InvalidMatchRule left b = absurd b
 refused v draft new h errors.IncorrectEndian left b = absurd b
 refused v draft new h errors.UnknownHandle left b = absurd b
+refused v draft new h errors.Unsupported left b = absurd b
 
 left_issued : (v : View) (m : Seen) (h : List Event) → Left v h → waiting_serial v.calls m.serial ≡ false → Left (placed v m m.serial) (Put m true ∷ h)
 left_issued v m h left free = record {
@@ -354,6 +355,7 @@ issued v new draft m last (Err (errors.Names kind)) h left made fine p = absurd 
 issued v new draft m last (Err errors.InvalidMatchRule) h left made fine p = absurd p
 issued v new draft m last (Err errors.IncorrectEndian) h left made fine p = absurd p
 issued v new draft m last (Err errors.UnknownHandle) h left made fine p = absurd p
+issued v new draft m last (Err errors.Unsupported) h left made fine p = absurd p
 
 -- a message that was placed waits at the end of the outbox
 pub placed_waits : (v new : View) (m : Seen) (last : ℕ) (r : Result Issued Error) → v.failed ≡ false → Places v new m last r → IfOk r (Waits v new)

@@ -77,6 +77,7 @@ unissued p q es lane path member (errors.Names kind) a x y f i e = absurd i
 unissued p q es lane path member errors.InvalidMatchRule a x y f i e = absurd i
 unissued p q es lane path member errors.IncorrectEndian a x y f i e = absurd i
 unissued p q es lane path member errors.UnknownHandle a x y f i e = absurd i
+unissued p q es lane path member errors.Unsupported a x y f i e = absurd i
 unissued p q es lane path member errors.Memory a x y f i e = cc
 
 same_peer : (p q : PeerView) → q.core ≡ p.core → q.names ≡ p.names → q.streams ≡ p.streams → p ≡ q
@@ -106,6 +107,7 @@ never_read errors.IncorrectEndian a e f = cc
 never_read errors.ExcessData a e f = cc
 never_read errors.SerialsSpent a e f = cc
 never_read errors.UnknownHandle a e f = cc
+never_read errors.Unsupported a e f = cc
 never_read errors.Memory a e f = cc
 
 pub reads_unissued : (start now : Inlet) (es : List Entry) (lane : ℕ) (path member : List ℕ) (error : Error) (a : Answer)
