@@ -1,12 +1,12 @@
 -- How the calls of a source go together, with how often it was asked and how wide its buffers were.
-use Rattle.std.proofs.Common.{ℕ, ◌≡◌, ◌+◌, ◌-◌, ◌<◌, ◌≤◌, ◌⊎◌, min, max, inl, inr, Bool, not, nat_lt, true, if◌then◌else◌, List, [], ◌++◌, length, take, drop, Option, Some, None, IfSome, Result, Ok, Err, refl, sym, ap, ◌∙◌, subst, arith, append_assoc, append-nil, length-append, slice_index}
+use Rattle.std.proofs.Common.{ℕ, ◌≡◌, ◌+◌, ◌-◌, ◌<◌, ◌≤◌, ◌⊎◌, inl, inr, Bool, not, nat_lt, if◌then◌else◌, List, ◌++◌, length, take, drop, Option, Some, None, IfSome, Ok, Err, sym, ap, ◌∙◌, subst, arith, append_assoc, length-append, slice_index}
 use Rattle.std.proofs.Math.Seq.{drop-append_seam, take-append_seam}
 use Rattle.std.proofs.lemmas.List.{length-take-le, take-append-drop, take_all, take-take, take-append-le}
 use borrow.Rule.Slice.PartMut.{put_mid, post_of}
 use Rattle.std.specs.Io.KnownBytes.{Consumes}
-use Rattle.wire_framing.specs.Source.{MayRise, IsEnd, FailsAt, Asks, Widens}
+use Rattle.wire_framing.specs.Source.{IsEnd, FailsAt, Asks, Widens}
 use Rattle.wire_framing.specs.Receive.{spent}
-use Rattle.wire_framing.specs.Kept.{Comes, FillsUp, IsRight, IsCut, Gathers, once_more}
+use Rattle.wire_framing.specs.Kept.{Comes, FillsUp, IsRight, IsCut, Gathers}
 use Rattle.wire_framing.proofs.Steps.{Went, Consumes-then, may_rise_after, filled_more}
 use Rattle.wire_framing.proofs.Fronts.{cond_either, head_fault-append, total-append}
 use Rattle.wire_framing.proofs.Whole.{spent_all, spent_refused, spent_right}

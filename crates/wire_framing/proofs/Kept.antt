@@ -1,14 +1,13 @@
 -- A read of a half, from its steps.
-use Rattle.std.proofs.Common.{ℕ, ◌≡◌, ◌+◌, ◌-◌, ◌<◌, ◌≤◌, ◌^◌, ◌⊎◌, inl, inr, Bool, true, List, [], ◌∷◌, ◌++◌, length, take, drop, Option, Some, None, IfSome, IfErr, IfOk, Result, Ok, Err, refl, sym, ap, ◌∙◌, subst, arith, append_assoc, append-nil, length-append, slice_index}
+use Rattle.std.proofs.Common.{ℕ, ◌≡◌, ◌+◌, ◌-◌, ◌<◌, ◌≤◌, ◌^◌, ◌⊎◌, inl, inr, Bool, List, [], ◌∷◌, ◌++◌, length, take, drop, Option, Some, None, IfSome, Result, Ok, Err, refl, sym, ap, ◌∙◌, subst, arith, append_assoc, append-nil, length-append, slice_index}
 use Rattle.std.proofs.lemmas.List.{length-take-le, take-append-drop, take_all}
 use Rattle.std.specs.Io.KnownBytes.{Consumes, prepend_known}
-use Rattle.wire_framing.specs.Source.{MayRise, IsEnd, FailsAt, Asks}
+use Rattle.wire_framing.specs.Source.{IsEnd, FailsAt, Asks}
 use Rattle.wire_framing.specs.Fill.{FrontFails}
 use Rattle.wire_framing.specs.Receive.{HasCause, Receives, spent}
-use Rattle.wire_framing.specs.Kept.{Comes, IsRight, IsCut, Gathers, once_more, rest_of, TakesKept}
-use Rattle.wire_framing.proofs.Asked.{asks_then, own_whole}
+use Rattle.wire_framing.specs.Kept.{Comes, IsCut, Gathers, rest_of, TakesKept}
 use Rattle.wire_framing.proofs.Fronts.{front_short, front_refused, front_cut, front_there, head_fault-append, total-append}
-use Rattle.wire_framing.proofs.Whole.{spent_right, whole_failed, front_failed, fine_head, untold, same_fails, ended_fails, memory_fails, message_told, body_takes}
+use Rattle.wire_framing.proofs.Whole.{spent_right, whole_failed, front_failed, fine_head, untold, same_fails, ended_fails, memory_fails, message_told}
 use Rattle.wire_message.specs.Front.{Seen, Front, total}
 use Rattle.wire_message.specs.Field.{Fields}
 use Rattle.wire_message.specs.Outcome.{kind_of, fields_found, message_by, head_fault, front_outcome, Tells, ending_of, IsReadRefusal}

@@ -1,5 +1,5 @@
 -- What the half of a connection that writes answers (D-Bus Specification, "Message Protocol").
-use Rattle.std.specs.Prelude.{ℕ, ◌≡◌, ◌<◌, ◌⊎◌, Bool, true, false, not, ◌&&◌, ◌==◌, List, length, Option, Some, None, Result, Ok, Err}
+use Rattle.std.specs.Prelude.{ℕ, ◌≡◌, ◌<◌, ◌⊎◌, Bool, false, not, ◌&&◌, ◌==◌, List, length, Option, Some, None, Result, Ok, Err}
 use Rattle.std.specs.Io.KnownBytes.{Appends}
 use Rattle.wire_framing.specs.Source.{MayRise}
 use Rattle.wire_framing.specs.Sink.{RoomFalls, RoomBreaks}

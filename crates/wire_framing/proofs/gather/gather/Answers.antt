@@ -1,4 +1,4 @@
-use Rattle.std.proofs.Common.{◌≡◌, ◌+◌, ◌≤◌, ◌<◌, ◌⊎◌, inr, ◌∙◌, sym, ap, subst, length, drop, None, Some, arith, length-append}
+use Rattle.std.proofs.Common.{◌≡◌, ◌+◌, ◌≤◌, ◌<◌, ◌⊎◌, inr, ◌∙◌, sym, ap, subst, length, drop, Some, arith, length-append}
 use Rattle.std.proofs.lemmas.Result.{err_from_is_err_and}
 use Rattle.wire_message.specs.Front.{total}
 use Rattle.wire_message.specs.Outcome.{head_fault}

@@ -1,4 +1,4 @@
-use Rattle.std.proofs.Common.{rules, ◌≡◌, ◌+◌, ◌++◌, ◌∙◌, sym, ap, subst, take, length, arith}
+use Rattle.std.proofs.Common.{rules, ◌≡◌, ◌+◌, ◌++◌, ◌∙◌, sym, ap, subst, take, arith}
 use Rattle.wire_framing.specs.Kept.{Comes}
 use Rattle.wire_framing.proofs.Asked.{grown_is, rest_is, resized_front, taken_front}
 use Rattle.wire_framing.proofs.gather.take_more.Goals as goal

@@ -1,4 +1,4 @@
-use Rattle.std.proofs.Common.{◌≡◌, ◌∙◌, ap, drop}
+use Rattle.std.proofs.Common.{◌∙◌, ap, drop}
 use Rattle.wire_framing.proofs.Kept.{given_up}
 use Rattle.wire_framing.proofs.read_half.give_up.Goals as goal
 

@@ -1,6 +1,6 @@
-use Rattle.std.proofs.Common.{◌≡◌, ◌∙◌, sym, ap, take, drop, length}
+use Rattle.std.proofs.Common.{◌∙◌, sym, ap, drop}
 use Rattle.std.proofs.lemmas.List.{length-take-le}
-use Rattle.wire_framing.proofs.Kept.{own_right, front_own, rest_as, tells_as}
+use Rattle.wire_framing.proofs.Kept.{own_right, rest_as, tells_as}
 use Rattle.wire_framing.proofs.read_half.take_message.Goals as goal
 
 pub returns-in-Ok-clause-rest : goal.returns-in-Ok-clause-rest

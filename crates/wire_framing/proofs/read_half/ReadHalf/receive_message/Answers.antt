@@ -1,4 +1,4 @@
-use Rattle.std.proofs.Common.{◌≡◌, ◌-◌, ◌^◌, ◌<◌, ◌∙◌, ap, arith, length, refl}
+use Rattle.std.proofs.Common.{◌-◌, ◌^◌, ◌<◌, ap, arith, refl}
 use Rattle.std.proofs.lemmas.Result.{err_from_is_err_and}
 use Rattle.wire_message.specs.Front.{Seen}
 use Rattle.wire_framing.proofs.Whole.{nothing_received}
