@@ -213,6 +213,7 @@ error_line (errors.Names kind) = refl
 error_line errors.InvalidMatchRule = refl
 error_line errors.IncorrectEndian = refl
 error_line errors.ExcessData = refl
+error_line errors.Unsupported = refl
 error_line errors.SerialsSpent = refl
 error_line errors.UnknownHandle = refl
 error_line errors.Memory = refl

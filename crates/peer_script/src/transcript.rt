@@ -49,6 +49,7 @@ fn put_error(text: &mut Vec<u8>, error: Error) -> Result<(), AllocError>
         Error::InvalidMatchRule => put(text, b"InvalidMatchRule"),
         Error::IncorrectEndian => put(text, b"IncorrectEndian"),
         Error::ExcessData => put(text, b"ExcessData"),
+        Error::Unsupported => put(text, b"Unsupported"),
         Error::SerialsSpent => put(text, b"SerialsSpent"),
         Error::UnknownHandle => put(text, b"UnknownHandle"),
         Error::Memory => put(text, b"Memory"),

@@ -31,15 +31,19 @@ spends_of errors.Memory left left' h = tt
 spends_of (errors.InputOutput kinds.Fault) left left' h = tt
 spends_of e left left' h = h
 
+pub spent_all : (xs : List ℕ) → length xs < 16 → spent xs ≡ length xs
+unfolding spent
+spent_all xs h = cond_true _ _ _ (less_true _ _ h)
+
 spent_short : (xs : List ℕ) → length xs < 16 → drop (spent xs) xs ≡ []
 unfolding spent
 spent_short xs h = ap (λ n. drop n xs) (cond_true _ _ _ (less_true _ _ h)) ∙ drop_of_length-le xs (le_refl (length xs))
 
-spent_refused : (xs : List ℕ) (e : Error) → 16 ≤ length xs → head_fault xs ≡ Some e → spent xs ≡ 16
+pub spent_refused : (xs : List ℕ) (e : Error) → 16 ≤ length xs → head_fault xs ≡ Some e → spent xs ≡ 16
 unfolding spent
 spent_refused xs e h p = cond_false _ _ _ (less_false _ _ h) ∙ ap (λ o. if is_some o then 16 else min (total xs) (length xs)) p
 
-spent_right : (xs : List ℕ) → 16 ≤ length xs → head_fault xs ≡ None → spent xs ≡ min (total xs) (length xs)
+pub spent_right : (xs : List ℕ) → 16 ≤ length xs → head_fault xs ≡ None → spent xs ≡ min (total xs) (length xs)
 unfolding spent
 spent_right xs h p = cond_false _ _ _ (less_false _ _ h) ∙ ap (λ o. if is_some o then 16 else min (total xs) (length xs)) p
 
@@ -124,7 +128,7 @@ front_fine bs =
     cond_either (λ r. IfErr {T = Seen} r Fine) (nat_lt (length bs) 16) (Err (errors.InputOutput kinds.Ended)) (then_message bs kinds.Ended (head_fault bs))
     fine_ended (then_fine bs (head_fault bs) (head_fine bs))
 
-fine_head : (bs : List ℕ) (e : Error) → head_fault bs ≡ Some e → Fine e
+pub fine_head : (bs : List ℕ) (e : Error) → head_fault bs ≡ Some e → Fine e
 fine_head bs e p = subst (λ o. IfSome o Fine) p (head_fine bs)
 
 fine_front : (bs : List ℕ) (e : Error) → front_outcome bs kinds.Ended ≡ Err e → Fine e
@@ -135,21 +139,21 @@ told view errors.Memory found p = tt
 told view (errors.InputOutput k) found p = p
 told view e found p = p
 
-untold : {A : Type 0} (view : A → Seen) (e : Error) (found : Result Seen Error) → Tells view (Err e) found → (e ≡ errors.Memory) ⊎ (found ≡ Err e)
+pub untold : {A : Type 0} (view : A → Seen) (e : Error) (found : Result Seen Error) → Tells view (Err e) found → (e ≡ errors.Memory) ⊎ (found ≡ Err e)
 untold view errors.Memory found p = inl refl
 untold view (errors.InputOutput k) found p = inr p
 untold view e found p = inr p
 
-same_fails : (e : Error) (stop : Option Bool) (xs : List ℕ) → ((ending : IoKind) → front_outcome xs ending ≡ Err e) → FrontFails e stop xs
+pub same_fails : (e : Error) (stop : Option Bool) (xs : List ℕ) → ((ending : IoKind) → front_outcome xs ending ≡ Err e) → FrontFails e stop xs
 same_fails e None xs h = inl (told (λ m. m) e _ (h kinds.Ended))
 same_fails e (Some stop) xs h = told (λ m. m) e _ (h (ending_of stop))
 
-memory_fails : (stop : Option Bool) (left : Option (List ℕ)) → IfSome left (FrontFails errors.Memory stop)
+pub memory_fails : (stop : Option Bool) (left : Option (List ℕ)) → IfSome left (FrontFails errors.Memory stop)
 memory_fails stop None = tt
 memory_fails None (Some xs) = inl tt
 memory_fails (Some stop) (Some xs) = tt
 
-ended_fails : (stop : Option Bool) (xs : List ℕ) → stop ≢ Some true → ((ending : IoKind) → front_outcome xs ending ≡ Err (errors.InputOutput ending)) → FrontFails (errors.InputOutput kinds.Ended) stop xs
+pub ended_fails : (stop : Option Bool) (xs : List ℕ) → stop ≢ Some true → ((ending : IoKind) → front_outcome xs ending ≡ Err (errors.InputOutput ending)) → FrontFails (errors.InputOutput kinds.Ended) stop xs
 ended_fails None xs never h = inl (h kinds.Ended)
 ended_fails (Some true) xs never h = absurd (never refl)
 ended_fails (Some false) xs never h = h kinds.Ended
@@ -271,7 +275,7 @@ outcome_error errors.Memory count bytes ending h p = tt
 outcome_error (errors.InputOutput k) count bytes ending h p = outcome_below count bytes ending h ∙ ap (placed (count + 1)) p
 outcome_error e count bytes ending h p = outcome_below count bytes ending h ∙ ap (placed (count + 1)) p
 
-error_received : (e : Error) (count : ℕ) (stop : Option Bool) (xs : List ℕ) → count < 2 ^ 64 - 2 → FrontFails e stop xs → Receives stop count xs (Err e)
+pub error_received : (e : Error) (count : ℕ) (stop : Option Bool) (xs : List ℕ) → count < 2 ^ 64 - 2 → FrontFails e stop xs → Receives stop count xs (Err e)
 error_received e count None xs h (inl p) = inl (outcome_error e count xs kinds.Ended h p)
 error_received e count None xs h (inr p) = inr (ap Err p)
 error_received e count (Some stop) xs h p = outcome_error e count xs (ending_of stop) h p
@@ -283,7 +287,7 @@ whole_failed e count stop None h p = tt
 whole_failed e count stop (Some xs) h p = error_received e count stop xs h p
 
 -- No message stands above the last position.
-full_received : (count : ℕ) (stop : Option Bool) (xs : List ℕ) → 2 ^ 64 - 2 ≤ count → Receives stop count xs (Err (errors.InputOutput kinds.Ended))
+pub full_received : (count : ℕ) (stop : Option Bool) (xs : List ℕ) → 2 ^ 64 - 2 ≤ count → Receives stop count xs (Err (errors.InputOutput kinds.Ended))
 full_received count None xs h = inl (outcome_above count xs kinds.Ended h)
 full_received count (Some stop) xs h = outcome_above count xs (ending_of stop) h
 
@@ -293,7 +297,7 @@ nothing_received count stop None h = tt
 nothing_received count stop (Some xs) h = full_received count stop xs h
 
 -- The bytes came, and are no message.
-front_failed : (own : List ℕ) (e : Error) (left left' : Option (List ℕ)) (stop : Option Bool) → 16 ≤ length own → head_fault own ≡ None → length own ≡ total own
+pub front_failed : (own : List ℕ) (e : Error) (left left' : Option (List ℕ)) (stop : Option Bool) → 16 ≤ length own → head_fault own ≡ None → length own ≡ total own
     → Consumes left left' own → (e ≡ errors.Memory) ⊎ (front_outcome own kinds.Ended ≡ Err e) → IfSome left (FrontFails e stop)
 front_failed own e left left' stop l p w q (inl m) = subst (λ x. IfSome left (FrontFails x stop)) (sym m) (memory_fails stop left)
 front_failed own e None left' stop l p w q (inr m) = tt
@@ -323,7 +327,7 @@ message_outcome own xs rest m seq ending l p w q s h e =
     outcome_below (seq - 1) xs ending h ∙ ap (λ b. placed (seq - 1 + 1) (front_outcome b ending)) q
     ∙ ap (placed (seq - 1 + 1)) (front-append own rest ending kinds.Ended l p w ∙ e) ∙ ap (λ k. Ok (record m { position = k })) n
 
-message_received : (own xs rest : List ℕ) (m : Seen) (seq : ℕ) (stop : Option Bool) → 16 ≤ length own → head_fault own ≡ None → length own ≡ total own
+pub message_received : (own xs rest : List ℕ) (m : Seen) (seq : ℕ) (stop : Option Bool) → 16 ≤ length own → head_fault own ≡ None → length own ≡ total own
     → xs ≡ own ++ rest → 0 < seq → seq - 1 < 2 ^ 64 - 2 → front_outcome own kinds.Ended ≡ Ok m → Receives stop (seq - 1) xs (Ok (record m { position = seq }))
 message_received own xs rest m seq None l p w q s h e = inl (message_outcome own xs rest m seq kinds.Ended l p w q s h e)
 message_received own xs rest m seq (Some stop) l p w q s h e = message_outcome own xs rest m seq (ending_of stop) l p w q s h e

@@ -4,3 +4,5 @@ pub mod Receive
 pub mod Send
 pub mod Fill
 pub mod Memory
+pub mod Kept
+pub mod Writing

@@ -1,6 +1,6 @@
 -- What a source of bytes answers, over what it tells of itself: the bytes that are left, whether a failing call comes
 -- after them, and how many calls have failed.
-use Rattle.std.specs.Prelude.{ℕ, ◌≡◌, ◌≢◌, ◌-◌, ◌<◌, ◌≤◌, ◌^◌, ◌⊎◌, Bool, true, List, [], length, take, Option, Some, None, Result, Ok, Err}
+use Rattle.std.specs.Prelude.{ℕ, ◌≡◌, ◌≢◌, ◌+◌, ◌-◌, max, ◌<◌, ◌≤◌, ◌^◌, ◌⊎◌, Bool, true, List, [], length, take, Option, Some, None, Result, Ok, Err}
 use Rattle.std.specs.Io.KnownBytes.{Consumes, Keeps, IsAtEnd}
 
 -- A count rose, or stands at its greatest value, where it stays.
@@ -24,3 +24,15 @@ Reads (Ok n) buf left left' stop stop' faults faults' =
     (n ≤ length buf) × Consumes left left' (take n buf) × (n ≡ 0 → 0 < length buf → IsEnd left' stop)
     × (stop' ≡ stop) × (faults ≤ faults')
 Reads (Err e) buf left left' stop stop' faults faults' = FailsAt stop stop' left left' × MayRise faults faults'
+
+-- A source that tells how often it was asked, was asked at most n times more.
+abbrev pub Asks : Option ℕ → Option ℕ → ℕ → Type 0
+Asks None asked' n = Unit {0}
+Asks (Some asked) None n = ⊥
+Asks (Some asked) (Some asked') n = asked' ≤ asked + n
+
+-- A source that tells the widest buffer that a read had, got none wider than that or than n bytes.
+abbrev pub Widens : Option ℕ → Option ℕ → ℕ → Type 0
+Widens None widest' n = Unit {0}
+Widens (Some widest) None n = ⊥
+Widens (Some widest) (Some widest') n = widest' ≤ max widest n

@@ -2,7 +2,11 @@
 //! (D-Bus Specification, "Message Protocol").
 #![tactic(auto)]
 
+mod gather;
+#[cfg(test)]
+mod half_tests;
 mod memory;
+mod read_half;
 mod receive;
 mod send;
 mod sink;
@@ -10,10 +14,13 @@ mod source;
 mod streams;
 #[cfg(test)]
 mod tests;
+mod write_half;
 
 pub use memory::{MemorySink, MemorySource, Piece};
+pub use read_half::ReadHalf;
 pub use receive::receive_message;
 pub use send::send_message;
 pub use sink::{Refusal, Sink};
 pub use source::{Failed, Source};
 pub use streams::{StdSink, StdSource};
+pub use write_half::{WriteHalf, Writing};

@@ -17,12 +17,15 @@ pub enum Piece {
     Fault,
 }
 
-/// A source over pieces in memory. It tells its bytes until its first failed call.
+/// A source over pieces in memory. It tells its bytes until its first failed call, how often it was asked, and its widest
+/// buffer.
 #[derive(Drop)]
 pub struct MemorySource<'a> {
     piece: &'a [u8],
     pieces: &'a [Piece],
     faults: u64,
+    asked: u64,
+    widest: usize,
 }
 
 impl<'a> MemorySource<'a> {
@@ -31,12 +34,30 @@ impl<'a> MemorySource<'a> {
         ensures left { source_left result ≡ Some (told_bytes pieces.now) }
         ensures stop { source_stop result ≡ Some (told_stop pieces.now) }
         ensures faults { result.faults ≡ 0 }
+        ensures asked { result.asked ≡ 0 }
+        ensures widest { result.widest ≡ 0 }
     {
         MemorySource {
             piece: &[],
             pieces,
             faults: 0,
+            asked: 0,
+            widest: 0,
         }
+    }
+
+    /// How often a read asked this source; a count stays at 2^64 - 1.
+    pub fn asked(&self) -> u64
+        ensures { result ≡ self.now.asked }
+    {
+        self.asked
+    }
+
+    /// The length of the widest buffer that a read had, 0 before the first.
+    pub fn widest(&self) -> usize
+        ensures { result ≡ self.now.widest }
+    {
+        self.widest
     }
 }
 
@@ -47,7 +68,13 @@ impl<'a> Source for MemorySource<'a> {
 
     ghost faults = { λ s. s.faults };
 
+    ghost asked = { λ s. Some s.asked };
+
+    ghost widest = { λ s. Some s.widest };
+
     fn read(&mut self, buf: &mut [u8]) -> Result<usize, Failed> {
+        self.asked = self.asked.saturating_add(1);
+        self.widest = self.widest.max(buf.len());
         while self.piece.is_empty() {
             let Some((piece, pieces)) = self.pieces.split_first() else {
                 return Ok(0);

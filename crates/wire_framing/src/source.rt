@@ -1,5 +1,5 @@
-ghost use Rattle.std.specs.Prelude.{ℕ, ◌≡◌, List, Bool, Option, None};
-ghost use Rattle.wire_framing.specs.Source.{Reads};
+ghost use Rattle.std.specs.Prelude.{ℕ, ◌≡◌, List, Bool, Option, None, length};
+ghost use Rattle.wire_framing.specs.Source.{Reads, Asks, Widens};
 
 /// A call of a source or a sink failed.
 #[derive(Clone, Copy, PartialEq, Eq, Debug)]
@@ -16,10 +16,18 @@ pub trait Source {
     // how many calls have failed; it never falls, and stays at 2^64 - 1
     ghost faults: { Self → ℕ };
 
+    // how often it was asked, where that is told
+    ghost asked: { Self → Option ℕ };
+
+    // the length of the widest buffer that a read had, where that is told
+    ghost widest: { Self → Option ℕ };
+
     /// Puts the next bytes at the buffer's front, and says how many; for a buffer that isn't empty 0 comes only at the
     /// end. Failed only where the count of faults rose.
     fn read(&mut self, buf: &mut [u8]) -> Result<usize, Failed>
-        ensures { Reads result buf.new (left self.old) (left self.new) (stop self.old) (stop self.new) (faults self.old) (faults self.new) };
+        ensures bytes { Reads result buf.new (left self.old) (left self.new) (stop self.old) (stop self.new) (faults self.old) (faults self.new) }
+        ensures asks { Asks (asked self.old) (asked self.new) 1 }
+        ensures width { Widens (widest self.old) (widest self.new) (length buf.new) };
 
     // a failing call is told of only where the bytes before it are
     ghost told_together: { (source : Self) → left source ≡ None → stop source ≡ None };

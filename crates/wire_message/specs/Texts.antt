@@ -99,6 +99,7 @@ error_text (errors.Names kind) = codes "invalid " ++ names_text kind
 error_text errors.InvalidMatchRule = codes "Invalid match rule string"
 error_text errors.IncorrectEndian = codes "incorrect endian"
 error_text errors.ExcessData = codes "excess data"
+error_text errors.Unsupported = codes "Connection support is lacking"
 error_text errors.SerialsSpent = codes "SerialsSpent"
 error_text errors.UnknownHandle = codes "UnknownHandle"
 error_text errors.Memory = codes "Memory"

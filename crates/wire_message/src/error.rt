@@ -37,6 +37,8 @@ pub enum Error {
     IncorrectEndian,
     /// A message would pass 134,217,728 bytes.
     ExcessData,
+    /// The message has file descriptors, and the sink takes none.
+    Unsupported,
     /// Each of the 4,294,967,295 serials is pending.
     SerialsSpent,
     /// A number names nothing, or nothing any more.
@@ -120,6 +122,7 @@ impl fmt::Display for Error {
             Error::InvalidMatchRule => f.write_str("Invalid match rule string"),
             Error::IncorrectEndian => f.write_str("incorrect endian"),
             Error::ExcessData => f.write_str("excess data"),
+            Error::Unsupported => f.write_str("Connection support is lacking"),
             Error::SerialsSpent => f.write_str("SerialsSpent"),
             Error::UnknownHandle => f.write_str("UnknownHandle"),
             Error::Memory => f.write_str("Memory"),

@@ -513,6 +513,7 @@ fn texts(rt: HostRuntime) -> std::result::Result<(), Fail> {
         (Error::InvalidMatchRule, "Invalid match rule string"),
         (Error::IncorrectEndian, "incorrect endian"),
         (Error::ExcessData, "excess data"),
+        (Error::Unsupported, "Connection support is lacking"),
         (Error::SerialsSpent, "SerialsSpent"),
         (Error::UnknownHandle, "UnknownHandle"),
         (Error::Memory, "Memory"),

@@ -6,7 +6,7 @@ use Rattle.peer_script.proofs.script.read_through.Goals as goal
 pub reading-preserved : goal.reading-preserved
 reading-preserved g c =
     let inv = c.reading.invariant in
-    let read = c.in-Ok.ensures in
+    let read = c.in-Ok.ensures.bytes in
     record {
       within = search rules;
       room = search rules;

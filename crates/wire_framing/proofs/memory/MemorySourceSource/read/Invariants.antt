@@ -8,6 +8,8 @@ invariant-loop-piece l =
       left : source_left l.self ≡ source_left l.initial.self;
       stop : source_stop l.self ≡ source_stop l.initial.self;
       faults : l.self.faults ≡ l.initial.self.faults;
+      asked : l.self.asked ≡ l.initial.self.asked;
+      widest : l.self.widest ≡ l.initial.self.widest;
     }
 
 abbrev pub decreases-loop-piece : goal.decreases-loop-piece

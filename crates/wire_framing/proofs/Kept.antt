@@ -1,0 +1,266 @@
+-- A read of a half, from its steps.
+use Rattle.std.proofs.Common.{ℕ, ◌≡◌, ◌+◌, ◌-◌, ◌<◌, ◌≤◌, ◌^◌, ◌⊎◌, inl, inr, Bool, List, [], ◌∷◌, ◌++◌, length, take, drop, Option, Some, None, IfSome, Result, Ok, Err, refl, sym, ap, ◌∙◌, subst, arith, append_assoc, append-nil, length-append, slice_index}
+use Rattle.std.proofs.lemmas.List.{length-take-le, take-append-drop, take_all}
+use Rattle.std.specs.Io.KnownBytes.{Consumes, prepend_known}
+use Rattle.wire_framing.specs.Source.{IsEnd, FailsAt, Asks}
+use Rattle.wire_framing.specs.Fill.{FrontFails}
+use Rattle.wire_framing.specs.Receive.{HasCause, Receives, spent}
+use Rattle.wire_framing.specs.Kept.{Comes, IsCut, Gathers, rest_of, TakesKept}
+use Rattle.wire_framing.proofs.Fronts.{front_short, front_refused, front_cut, front_there, head_fault-append, total-append}
+use Rattle.wire_framing.proofs.Whole.{spent_right, whole_failed, front_failed, fine_head, untold, same_fails, ended_fails, memory_fails, message_told}
+use Rattle.wire_message.specs.Front.{Seen, Front, total}
+use Rattle.wire_message.specs.Field.{Fields}
+use Rattle.wire_message.specs.Outcome.{kind_of, fields_found, message_by, head_fault, front_outcome, Tells, ending_of, IsReadRefusal}
+use Rattle.wire_message.specs.declared.kind.MessageType.{MessageType}
+use Rattle.wire_message.specs.declared.error.Error.{Error}
+use Rattle.wire_message.specs.declared.error.Error.TheVariants as errors
+use Rattle.wire_message.specs.declared.error.IoKind.{IoKind}
+use Rattle.wire_message.specs.declared.error.IoKind.TheVariants as kinds
+use Rattle.wire_signature.specs.declared.error.VariantError.TheVariants as faults
+
+-- ---- what is left behind what was kept
+
+pub prepended : (kept kept' got own : List ℕ) (left left' : Option (List ℕ)) → kept ++ got ≡ own ++ kept' → Consumes left left' got
+    → Consumes (prepend_known kept left) (prepend_known kept' left') own
+prepended kept kept' got own None left' e q = tt
+prepended kept kept' got own (Some xs) None e q = absurd q
+prepended kept kept' got own (Some xs) (Some ys) e q =
+    ap (λ l. kept ++ l) q ∙ sym (append_assoc kept got ys) ∙ ap (λ l. l ++ ys) e ∙ append_assoc own kept' ys
+
+all_first : (kept got xs ys : List ℕ) → xs ≡ got ++ ys → kept ++ xs ≡ (kept ++ got) ++ ys
+all_first kept got xs ys q = ap (λ l. kept ++ l) q ∙ sym (append_assoc kept got ys)
+
+all_of : (kept got xs ys : List ℕ) → xs ≡ got ++ ys → ys ≡ [] → kept ++ xs ≡ kept ++ got
+all_of kept got xs ys q e = ap (λ l. kept ++ l) (q ∙ ap (λ l. got ++ l) e ∙ append-nil got)
+
+-- ---- why no message came
+
+cut_front : (bytes : List ℕ) (ending : IoKind) → IsCut bytes → front_outcome bytes ending ≡ Err (errors.InputOutput ending)
+cut_front bytes ending (inl short) = front_short bytes ending short
+cut_front bytes ending (inr r) = front_cut bytes ending r.0.head r.0.right r.1
+
+told_ended : (kept got : List ℕ) (left left' : Option (List ℕ)) (stop : Option Bool) → IsCut (kept ++ got) → Consumes left left' got → IsEnd left' stop
+    → IfSome (prepend_known kept left) (FrontFails (errors.InputOutput kinds.Ended) stop)
+told_ended kept got None left' stop cut q end = tt
+told_ended kept got (Some xs) None stop cut q end = absurd q
+told_ended kept got (Some xs) (Some ys) stop cut q end =
+    ended_fails stop (kept ++ xs) end.1 (λ ending. ap (λ l. front_outcome l ending) (all_of kept got xs ys q end.0) ∙ cut_front (kept ++ got) ending cut)
+
+fault_at : (kept got xs : List ℕ) (mid left' : Option (List ℕ)) (stop : Bool) (stop' : Option Bool) → IsCut (kept ++ got) → Consumes (Some xs) mid got
+    → FailsAt (Some stop) stop' mid left' → FrontFails (errors.InputOutput kinds.Fault) (Some stop) (kept ++ xs)
+fault_at kept got xs None left' stop stop' cut q fails = absurd q
+fault_at kept got xs (Some ys) left' stop stop' cut q fails =
+    let none : ys ≡ [] = cc (fails.1) in
+    subst (λ s. front_outcome (kept ++ xs) (ending_of s) ≡ Err (errors.InputOutput kinds.Fault)) (sym fails.0)
+    (ap (λ l. front_outcome l kinds.Fault) (all_of kept got xs ys q none) ∙ cut_front (kept ++ got) kinds.Fault cut)
+
+told_fault : (kept got : List ℕ) (left mid left' : Option (List ℕ)) (stop stop' : Option Bool) → IsCut (kept ++ got) → Consumes left mid got → FailsAt stop stop' mid left'
+    → IfSome (prepend_known kept left) (FrontFails (errors.InputOutput kinds.Fault) stop)
+told_fault kept got None mid left' stop stop' cut q fails = tt
+told_fault kept got (Some xs) mid left' None stop' cut q fails = inr refl
+told_fault kept got (Some xs) mid left' (Some stop) stop' cut q fails = fault_at kept got xs mid left' stop stop' cut q fails
+
+told_refused : (e : Error) (kept got : List ℕ) (left left' : Option (List ℕ)) (stop : Option Bool) → 16 ≤ length (kept ++ got) → head_fault (kept ++ got) ≡ Some e
+    → Consumes left left' got → IfSome (prepend_known kept left) (FrontFails e stop)
+told_refused e kept got None left' stop h p q = tt
+told_refused e kept got (Some xs) None stop h p q = absurd q
+told_refused e kept got (Some xs) (Some ys) stop h p q =
+    let all = all_first kept got xs ys q in
+    let long : 16 ≤ length (kept ++ xs) = omega (arith, ap length all ∙ length-append (kept ++ got) ys) in
+    same_fails e stop (kept ++ xs) (λ ending. front_refused (kept ++ xs) ending e long (ap head_fault all ∙ head_fault-append (kept ++ got) ys h ∙ p))
+
+told_failed : (e : Error) (kept got : List ℕ) (left left' : Option (List ℕ)) (stop stop' : Option Bool) (f f' : ℕ) → Gathers (Err e) (kept ++ got)
+    → Comes {A = ℕ} (Err e) got left left' stop stop' f f' → IfSome (prepend_known kept left) (FrontFails e stop)
+told_failed (errors.InputOutput kinds.Ended) kept got left left' stop stop' f f' h c = told_ended kept got left left' stop h c.0 c.1
+told_failed (errors.InputOutput kinds.Fault) kept got left left' stop stop' f f' h c = told_fault kept got left c.0 left' stop stop' h c.1 c.2
+told_failed errors.Memory kept got left left' stop stop' f f' h c = memory_fails stop (prepend_known kept left)
+told_failed e kept got left left' stop stop' f f' h c = told_refused e kept got left left' stop h.0 h.1 c.0
+
+cause_failed : (e : Error) (bytes got : List ℕ) (left left' : Option (List ℕ)) (stop stop' : Option Bool) (f f' : ℕ) → Gathers (Err e) bytes
+    → Comes {A = ℕ} (Err e) got left left' stop stop' f f' → IsReadRefusal e × HasCause e f f'
+cause_failed (errors.InputOutput kinds.Ended) bytes got left left' stop stop' f f' h c = (tt, c.3)
+cause_failed (errors.InputOutput kinds.Fault) bytes got left left' stop stop' f f' h c = (tt, c.3)
+cause_failed errors.Memory bytes got left left' stop stop' f f' h c = (tt, c.2)
+cause_failed e bytes got left left' stop stop' f f' h c = let fine = fine_head bytes e h.1 in (fine.0, fine.1 f f' c.2)
+
+came_as : (e : Error) (got : List ℕ) (left left' : Option (List ℕ)) (stop stop' : Option Bool) (f f' : ℕ) → Comes {A = ℕ} (Err e) got left left' stop stop' f f'
+    → Comes {A = Seen} (Err e) got left left' stop stop' f f'
+came_as (errors.InputOutput kinds.Ended) got left left' stop stop' f f' c = c
+came_as (errors.InputOutput kinds.Fault) got left left' stop stop' f f' c = c
+came_as e got left left' stop stop' f f' c = c
+
+pub rest_as : (e : Error) (bytes : List ℕ) → rest_of {A = ℕ} (Err e) bytes ≡ rest_of {A = Seen} (Err e) bytes
+rest_as errors.Memory bytes = refl
+rest_as e bytes = refl
+
+no_more : (kept got : List ℕ) → kept ++ got ≡ kept → got ≡ []
+no_more kept [] e = refl
+no_more kept (b ∷ got) e = absurd (omega (arith, ap length e, length-append kept (b ∷ got)))
+
+asks_more : (a b : Option ℕ) (n m : ℕ) → n ≤ m → Asks a b n → Asks a b m
+asks_more None b n m le p = tt
+asks_more (Some x) None n m le p = absurd p
+asks_more (Some x) (Some y) n m le p = omega (arith, p)
+
+cause_by : (e : Error) (f f' : ℕ) → f ≤ f' → (e ≡ errors.Memory) ⊎ (e ≡ errors.Variant faults.Malformed) → IsReadRefusal e × HasCause e f f'
+cause_by e f f' le (inl p) = subst (λ (x : Error). IsReadRefusal x × HasCause x f f') (sym p) (tt, le)
+cause_by e f f' le (inr p) = subst (λ (x : Error). IsReadRefusal x × HasCause x f f') (sym p) (tt, le)
+
+own_of : (kept mid got : List ℕ) → mid ≡ kept ++ got → (mid ≡ kept) ⊎ (length mid ≤ spent mid) → (got ≡ []) ⊎ (length (kept ++ got) ≤ spent (kept ++ got))
+own_of kept mid got e (inl p) = inl (no_more kept got (sym e ∙ p))
+own_of kept mid got e (inr p) = inr (subst (λ l. length l ≤ spent l) e p)
+
+-- where there was memory, what a read costs was taken away
+pub given_up : (e : Error) (old new : List ℕ) → (e ≡ errors.Memory → ⊥) → new ≡ drop (spent old) old → new ≡ rest_of {A = ℕ} (Err e) old
+given_up errors.Memory old new m s = absurd (m refl)
+given_up e old new m s = s
+
+pub tells_as : (e : Error) (found : Result Seen Error) → Tells {A = Seen × ℕ} {B = Seen} (λ x. x.0) (Err e) found → Tells {A = Seen} {B = Seen} (λ m. m) (Err e) found
+tells_as errors.Memory found h = tt
+tells_as e found h = h
+
+-- Why no message came, is told of all the bytes.
+pub failed_told : (e : Error) (count : ℕ) (kept mid : List ℕ) (left left' : Option (List ℕ)) (stop stop' : Option Bool) (f f' : ℕ) → count < 2 ^ 64 - 2
+    → mid ≡ kept ++ drop (length kept) mid → Gathers (Err e) mid → Comes {A = ℕ} (Err e) (drop (length kept) mid) left left' stop stop' f f'
+    → IfSome (prepend_known kept left) (λ bytes. Receives stop count bytes (Err e))
+failed_told e count kept mid left left' stop stop' f f' below grown h c =
+    whole_failed e count stop (prepend_known kept left) below (told_failed e kept (drop (length kept) mid) left left' stop stop' f f' (subst (Gathers (Err e)) grown h) c)
+
+pub failed_cause : (e : Error) (mid got : List ℕ) (left left' : Option (List ℕ)) (stop stop' : Option Bool) (f f' : ℕ) → Gathers (Err e) mid
+    → Comes {A = ℕ} (Err e) got left left' stop stop' f f' → IsReadRefusal e × HasCause e f f'
+failed_cause e mid got left left' stop stop' f f' h c = cause_failed e mid got left left' stop stop' f f' h c
+
+pub failed_takes : (e : Error) (kept mid kept' : List ℕ) (left left' : Option (List ℕ)) (stop stop' : Option Bool) (f f' : ℕ) (a a' : Option ℕ)
+    → mid ≡ kept ++ drop (length kept) mid → (mid ≡ kept) ⊎ (length mid ≤ spent mid) → Comes {A = ℕ} (Err e) (drop (length kept) mid) left left' stop stop' f f'
+    → Asks a a' (length (drop (length kept) mid) + 1) → kept' ≡ rest_of {A = ℕ} (Err e) mid
+    → TakesKept (Err e) kept kept' left left' stop stop' f f' a a'
+failed_takes e kept mid kept' left left' stop stop' f f' a a' grown own c asks rest =
+    record {
+      got = drop (length kept) mid;
+      came = came_as e (drop (length kept) mid) left left' stop stop' f f' c;
+      own = own_of kept mid (drop (length kept) mid) grown own;
+      message = tt;
+      behind = rest ∙ rest_as e mid ∙ ap (rest_of {A = Seen} (Err e)) grown;
+      asks = asks;
+    }
+
+-- ---- a message
+
+pub record Own (own mid : List ℕ) : Type 0 where
+  pub head : 16 ≤ length own
+  pub right : head_fault own ≡ None
+  pub all : length own ≡ total own
+  pub spends : spent mid ≡ length own
+  pub front : mid ≡ own ++ drop (spent mid) mid
+
+pub own_right : (n : ℕ) (mid : List ℕ) → Gathers (Ok n) mid → Own (take n mid) mid
+own_right n mid g =
+    let own = take n mid in
+    let some : 16 ≤ n = omega (arith, g.1) in
+    let len : length own ≡ n = length-take-le n mid g.2 in
+    let head : 16 ≤ length own = omega arith in
+    let joined : own ++ drop n mid ≡ mid = take-append-drop n mid in
+    let all : total own ≡ total mid = sym (total-append own (drop n mid) head) ∙ ap total joined in
+    let right : head_fault own ≡ None = sym (head_fault-append own (drop n mid) head) ∙ ap head_fault joined ∙ g.0.right in
+    let spends : spent mid ≡ n = omega (arith, spent_right mid g.0.head g.0.right, g.1, g.2) in
+    record {
+      head = head;
+      right = right;
+      all = len ∙ g.1 ∙ sym all;
+      spends = spends ∙ sym len;
+      front = sym joined ∙ ap (λ k. own ++ drop k mid) (sym spends);
+    }
+
+pub front_own : (n k : ℕ) (mid : List ℕ) (m : Seen) → Gathers (Ok n) mid → Front (take n mid) m k → k ≡ length m.bytes → (m.bytes ≡ take n mid) × Front m.bytes m (length m.bytes)
+front_own n k mid m g f e =
+    let own = own_right n mid g in
+    let is : m.bytes ≡ take n mid = f.own ∙ ap (λ j. take j (take n mid)) (f.whole ∙ sym own.all) ∙ take_all (length (take n mid)) (take n mid) (omega arith) in
+    (is, subst (λ l. Front l m (length m.bytes)) (sym is) (subst (Front (take n mid) m) e f))
+
+own_error_by : (bytes : List ℕ) (kind : Option MessageType) (fields : Option Fields) (e : Error) → message_by bytes kind fields ≡ Err e → e ≡ errors.Variant faults.Malformed
+own_error_by bytes None fields e p = cc
+own_error_by bytes (Some kind) None e p = cc
+own_error_by bytes (Some kind) (Some fields) e p = absurd (cc)
+
+own_error : (own mid : List ℕ) (e : Error) → Own own mid → (e ≡ errors.Memory) ⊎ (front_outcome own kinds.Ended ≡ Err e) → (e ≡ errors.Memory) ⊎ (e ≡ errors.Variant faults.Malformed)
+own_error own mid e o (inl p) = inl p
+own_error own mid e o (inr p) =
+    inr (own_error_by own (kind_of (slice_index own 1)) (fields_found own) e (sym (front_there own kinds.Ended o.head o.right (omega (arith, o.all))) ∙ p))
+
+came_malformed : (e : Error) (n : ℕ) (got : List ℕ) (left left' : Option (List ℕ)) (stop stop' : Option Bool) (f f' : ℕ) → (e ≡ errors.Memory) ⊎ (e ≡ errors.Variant faults.Malformed)
+    → Comes {A = ℕ} (Ok n) got left left' stop stop' f f' → Comes {A = Seen} (Err e) got left left' stop stop' f f'
+came_malformed e n got left left' stop stop' f f' (inl p) c = subst (λ (x : Error). Comes {A = Seen} (Err x) got left left' stop stop' f f') (sym p) c
+came_malformed e n got left left' stop stop' f f' (inr p) c = subst (λ (x : Error). Comes {A = Seen} (Err x) got left left' stop stop' f f') (sym p) c
+
+pub unmade_told : (e : Error) (count n : ℕ) (kept mid : List ℕ) (left left' : Option (List ℕ)) (stop stop' : Option Bool) (f f' : ℕ) → count < 2 ^ 64 - 2
+    → mid ≡ kept ++ drop (length kept) mid → Gathers (Ok n) mid → Comes {A = ℕ} (Ok n) (drop (length kept) mid) left left' stop stop' f f'
+    → Tells {A = Seen} {B = Seen} (λ m. m) (Err e) (front_outcome (take n mid) kinds.Ended)
+    → IfSome (prepend_known kept left) (λ bytes. Receives stop count bytes (Err e))
+unmade_told e count n kept mid left left' stop stop' f f' below grown g c t =
+    let o = own_right n mid g in
+    whole_failed e count stop (prepend_known kept left) below
+    (front_failed (take n mid) e (prepend_known kept left) (prepend_known (drop (spent mid) mid) left') stop o.head o.right o.all
+    (prepended kept (drop (spent mid) mid) (drop (length kept) mid) (take n mid) left left' (sym grown ∙ o.front) c.0) (untold {A = Seen} (λ m. m) e _ t))
+
+pub unmade_cause : (e : Error) (n : ℕ) (mid got : List ℕ) (left left' : Option (List ℕ)) (stop stop' : Option Bool) (f f' : ℕ) → Gathers (Ok n) mid
+    → Comes {A = ℕ} (Ok n) got left left' stop stop' f f' → Tells {A = Seen} {B = Seen} (λ m. m) (Err e) (front_outcome (take n mid) kinds.Ended) → IsReadRefusal e × HasCause e f f'
+unmade_cause e n mid got left left' stop stop' f f' g c t = cause_by e f f' c.2 (own_error (take n mid) mid e (own_right n mid g) (untold {A = Seen} (λ m. m) e _ t))
+
+pub unmade_takes : (e : Error) (n : ℕ) (kept mid kept' : List ℕ) (left left' : Option (List ℕ)) (stop stop' : Option Bool) (f f' : ℕ) (a a' : Option ℕ)
+    → mid ≡ kept ++ drop (length kept) mid → Gathers (Ok n) mid → (mid ≡ kept) ⊎ (length mid ≤ spent mid) → Comes {A = ℕ} (Ok n) (drop (length kept) mid) left left' stop stop' f f'
+    → Asks a a' (length (drop (length kept) mid) + 0) → Tells {A = Seen} {B = Seen} (λ m. m) (Err e) (front_outcome (take n mid) kinds.Ended)
+    → kept' ≡ rest_of {A = Seen} (Err e) mid → TakesKept (Err e) kept kept' left left' stop stop' f f' a a'
+unmade_takes e n kept mid kept' left left' stop stop' f f' a a' grown g own c asks t rest =
+    record {
+      got = drop (length kept) mid;
+      came = came_malformed e n (drop (length kept) mid) left left' stop stop' f f' (own_error (take n mid) mid e (own_right n mid g) (untold {A = Seen} (λ m. m) e _ t)) c;
+      own = own_of kept mid (drop (length kept) mid) grown own;
+      message = tt;
+      behind = rest ∙ ap (rest_of {A = Seen} (Err e)) grown;
+      asks = asks_more a a' _ _ (omega arith) asks;
+    }
+
+pub made_told : (m placed : Seen) (seq n : ℕ) (kept mid : List ℕ) (left left' : Option (List ℕ)) (stop stop' : Option Bool) (f f' : ℕ) → 0 < seq → seq - 1 < 2 ^ 64 - 2
+    → mid ≡ kept ++ drop (length kept) mid → Gathers (Ok n) mid → Comes {A = ℕ} (Ok n) (drop (length kept) mid) left left' stop stop' f f'
+    → front_outcome (take n mid) kinds.Ended ≡ Ok m → placed ≡ record m { position = seq }
+    → IfSome (prepend_known kept left) (λ bytes. Receives stop (seq - 1) bytes (Ok placed))
+made_told m placed seq n kept mid left left' stop stop' f f' some below grown g c t at =
+    let o = own_right n mid g in
+    message_told (take n mid) m placed seq (prepend_known kept left) (prepend_known (drop (spent mid) mid) left') stop o.head o.right o.all
+    (prepended kept (drop (spent mid) mid) (drop (length kept) mid) (take n mid) left left' (sym grown ∙ o.front) c.0) some below t at
+
+pub made_takes : (m placed : Seen) (n : ℕ) (kept mid kept' : List ℕ) (left left' : Option (List ℕ)) (stop stop' : Option Bool) (f f' : ℕ) (a a' : Option ℕ)
+    → mid ≡ kept ++ drop (length kept) mid → Gathers (Ok n) mid → (mid ≡ kept) ⊎ (length mid ≤ spent mid) → Comes {A = ℕ} (Ok n) (drop (length kept) mid) left left' stop stop' f f'
+    → Asks a a' (length (drop (length kept) mid) + 0) → m.bytes ≡ take n mid → placed.bytes ≡ m.bytes
+    → kept' ≡ rest_of {A = Seen} (Ok m) mid → TakesKept (Ok placed) kept kept' left left' stop stop' f f' a a'
+made_takes m placed n kept mid kept' left left' stop stop' f f' a a' grown g own c asks is same rest =
+    let o = own_right n mid g in
+    let spends : spent mid ≡ n = o.spends ∙ length-take-le n mid g.2 in
+    record {
+      got = drop (length kept) mid;
+      came = c;
+      own = own_of kept mid (drop (length kept) mid) grown own;
+      message = same ∙ is ∙ ap (λ k. take k mid) (sym spends) ∙ ap (λ l. take (spent l) l) grown;
+      behind = rest ∙ ap (λ l. drop (spent l) l) grown;
+      asks = asks_more a a' _ _ (omega arith) asks;
+    }
+
+pub front_placed : (m placed : Seen) (seq : ℕ) → placed ≡ record m { position = seq } → Front m.bytes m (length m.bytes) → Front placed.bytes placed (length placed.bytes) × (placed.position ≡ seq)
+front_placed m placed seq e f =
+    subst (λ (x : Seen). Front x.bytes x (length x.bytes) × (x.position ≡ seq)) (sym e) (
+      record {
+        own = f.own;
+        there = f.there;
+        head = f.head;
+        whole = f.whole;
+        limit = f.limit;
+        order = f.order;
+        type = f.type;
+        flags = f.flags;
+        known = f.known;
+        serial = f.serial;
+        not_zero = f.not_zero;
+        fields = f.fields;
+      },
+      refl,
+    )

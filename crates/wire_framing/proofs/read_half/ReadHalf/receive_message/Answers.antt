@@ -1,0 +1,57 @@
+use Rattle.std.proofs.Common.{◌-◌, ◌^◌, ◌<◌, ap, arith, refl}
+use Rattle.std.proofs.lemmas.Result.{err_from_is_err_and}
+use Rattle.wire_message.specs.Front.{Seen}
+use Rattle.wire_framing.proofs.Whole.{nothing_received}
+use Rattle.wire_framing.proofs.Kept.{failed_told, failed_cause, unmade_told, unmade_cause, unmade_takes, front_own, front_placed, made_told, made_takes}
+use Rattle.wire_framing.proofs.read_half.ReadHalf.receive_message.Goals as goal
+
+pub returns-then-seq-eq18446744073709551615-clause-told : goal.returns-then-seq-eq18446744073709551615-clause-told
+returns-then-seq-eq18446744073709551615-clause-told g c = nothing_received _ _ _ (omega arith)
+
+pub returns-in_err-message-in-Ok-clause-told : goal.returns-in_err-message-in-Ok-clause-told
+returns-in_err-message-in-Ok-clause-told g c =
+    let p = err_from_is_err_and c.from_residual.result c.from_residual.ensures.1 in
+    let below : c.args.seq - 1 < 2 ^ 64 - 2 = omega arith in
+    let whole = c.in-Ok.ensures in
+    rw (p.1, p.2) (unmade_told c.in_err-message-in-Ok.field-0.0 (c.args.seq - 1) c.in-Ok.total _ _ _ _ _ _ _ _ below whole.grown whole.found whole.came c.in_err-message-in-Ok.ensures.exact)
+
+pub returns-in_err-message-in-Ok-clause-takes : goal.returns-in_err-message-in-Ok-clause-takes
+returns-in_err-message-in-Ok-clause-takes g c below =
+    let p = err_from_is_err_and c.from_residual.result c.from_residual.ensures.1 in
+    let whole = c.in-Ok.ensures in
+    let none = c.in_err-message-in-Ok.ensures in
+    rw (p.1, p.2) (unmade_takes c.in_err-message-in-Ok.field-0.0 c.in-Ok.total _ _ _ _ _ _ _ _ _ _ _ whole.grown whole.found whole.own whole.came whole.asks none.exact none.rest)
+
+pub returns-in_err-message-in-Ok-clause-error : goal.returns-in_err-message-in-Ok-clause-error
+returns-in_err-message-in-Ok-clause-error g c =
+    let p = err_from_is_err_and c.from_residual.result c.from_residual.ensures.1 in
+    let whole = c.in-Ok.ensures in
+    rw (p.1, p.2) (unmade_cause c.in_err-message-in-Ok.field-0.0 c.in-Ok.total _ _ _ _ _ _ _ _ whole.found whole.came c.in_err-message-in-Ok.ensures.exact)
+
+pub returns-in_ok-message-in-Ok-clause-told : goal.returns-in_ok-message-in-Ok-clause-told
+returns-in_ok-message-in-Ok-clause-told g c =
+    let below : c.args.seq - 1 < 2 ^ 64 - 2 = omega arith in
+    let whole = c.in-Ok.ensures in
+    made_told c.in_ok-message-in-Ok.message c.at.result c.args.seq c.in-Ok.total _ _ _ _ _ _ _ _ c.requires below whole.grown whole.found whole.came c.in_ok-message-in-Ok.ensures.exact c.at.ensures
+
+pub returns-in_ok-message-in-Ok-clause-takes : goal.returns-in_ok-message-in-Ok-clause-takes
+returns-in_ok-message-in-Ok-clause-takes g c below =
+    let whole = c.in-Ok.ensures in
+    let made = c.in_ok-message-in-Ok.ensures in
+    let own = front_own c.in-Ok.total _ _ c.in_ok-message-in-Ok.message whole.found made.front refl in
+    made_takes c.in_ok-message-in-Ok.message c.at.result c.in-Ok.total _ _ _ _ _ _ _ _ _ _ _ whole.grown whole.found whole.own whole.came whole.asks own.0 (ap (λ (x : Seen). x.bytes) c.at.ensures) made.rest
+
+pub returns-in_ok-message-in-Ok-clause-message : goal.returns-in_ok-message-in-Ok-clause-message
+returns-in_ok-message-in-Ok-clause-message g c =
+    let whole = c.in-Ok.ensures in
+    let made = c.in_ok-message-in-Ok.ensures in
+    let own = front_own c.in-Ok.total _ _ c.in_ok-message-in-Ok.message whole.found made.front refl in
+    front_placed c.in_ok-message-in-Ok.message c.at.result c.args.seq c.at.ensures own.1
+
+pub returns-in-Err-clause-told : goal.returns-in-Err-clause-told
+returns-in-Err-clause-told g c =
+    let below : c.args.seq - 1 < 2 ^ 64 - 2 = omega arith in
+    failed_told c.in-Err.error (c.args.seq - 1) _ _ _ _ _ _ _ _ below c.in-Err.ensures.grown c.in-Err.ensures.found c.in-Err.ensures.came
+
+pub returns-in-Err-clause-error : goal.returns-in-Err-clause-error
+returns-in-Err-clause-error g c = failed_cause c.in-Err.error _ _ _ _ _ _ _ _ c.in-Err.ensures.found c.in-Err.ensures.came

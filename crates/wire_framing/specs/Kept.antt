@@ -1,0 +1,67 @@
+-- What one read of a half gives and takes: of the bytes that were kept, and then of the source's (D-Bus Specification,
+-- "Message Protocol").
+use Rattle.std.specs.Prelude.{ℕ, ◌≡◌, ◌+◌, ◌<◌, ◌≤◌, ◌⊎◌, Bool, List, [], ◌++◌, length, take, drop, IfOk, Option, Some, None, Result, Ok, Err}
+use Rattle.std.specs.Io.KnownBytes.{Consumes}
+use Rattle.wire_framing.specs.Source.{MayRise, IsEnd, FailsAt, Asks}
+use Rattle.wire_framing.specs.Receive.{spent}
+use Rattle.wire_message.specs.Front.{Seen, total}
+use Rattle.wire_message.specs.Outcome.{head_fault}
+use Rattle.wire_message.specs.declared.error.Error.{Error}
+use Rattle.wire_message.specs.declared.error.Error.TheVariants as errors
+use Rattle.wire_message.specs.declared.error.IoKind.TheVariants as kinds
+
+-- The source gave these bytes. Ended: it has no more. Fault: a call failed behind them.
+abbrev pub Comes : {A : Type 0} → Result A Error → List ℕ → Option (List ℕ) → Option (List ℕ) → Option Bool → Option Bool → ℕ → ℕ → Type 0
+Comes (Err (errors.InputOutput kinds.Ended)) got left left' stop stop' faults faults' =
+    Consumes left left' got × IsEnd left' stop × (stop' ≡ stop) × (faults ≤ faults')
+Comes (Err (errors.InputOutput kinds.Fault)) got left left' stop stop' faults faults' =
+    (mid : Option (List ℕ)) × Consumes left mid got × FailsAt stop stop' mid left' × MayRise faults faults'
+Comes result got left left' stop stop' faults faults' = Consumes left left' got × (stop' ≡ stop) × (faults ≤ faults')
+
+-- What is kept after a read, of all the bytes that were there: what stands behind those that the read takes. At want of
+-- memory that is all.
+abbrev pub rest_of : {A : Type 0} → Result A Error → List ℕ → List ℕ
+rest_of (Err errors.Memory) all = all
+rest_of result all = drop (spent all) all
+
+-- What a read takes, with `kept` and `kept'` before and after it. `got` came from the source, which was asked at most once
+-- more than it gave bytes, and only as far as the message's own bytes go, `kept` being taken first.
+pub record TakesKept (result : Result Seen Error) (kept kept' : List ℕ) (left left' : Option (List ℕ)) (stop stop' : Option Bool) (faults faults' : ℕ) (asked asked' : Option ℕ) : Type 0 where
+  pub got : List ℕ
+  pub came : Comes result got left left' stop stop' faults faults'
+  pub own : (got ≡ []) ⊎ (length (kept ++ got) ≤ spent (kept ++ got))
+  pub message : IfOk result (λ m. m.bytes ≡ take (spent (kept ++ got)) (kept ++ got))
+  pub behind : kept' ≡ rest_of result (kept ++ got)
+  pub asks : Asks asked asked' (length got + 1)
+
+-- ---- the steps of a read
+
+-- one time more where the bytes didn't come
+abbrev pub once_more : {A : Type 0} → Result A Error → ℕ
+once_more (Ok done) = 0
+once_more (Err e) = 1
+
+-- There are as many bytes as were wanted; or fewer, and why.
+abbrev pub FillsUp : {A : Type 0} → Result A Error → ℕ → List ℕ → Type 0
+FillsUp (Ok done) wanted bytes = wanted ≤ length bytes
+FillsUp (Err (errors.InputOutput kinds.Ended)) wanted bytes = length bytes < wanted
+FillsUp (Err (errors.InputOutput kinds.Fault)) wanted bytes = length bytes < wanted
+FillsUp (Err errors.Memory) wanted bytes = length bytes < wanted
+FillsUp (Err e) wanted bytes = ⊥
+
+-- a head that is refused by nothing
+pub record IsRight (bytes : List ℕ) : Type 0 where
+  pub head : 16 ≤ length bytes
+  pub right : head_fault bytes ≡ None
+
+-- fewer bytes than a head, or than the message that it announces
+abbrev pub IsCut : List ℕ → Type 0
+IsCut bytes = (length bytes < 16) ⊎ (IsRight bytes × (length bytes < total bytes))
+
+-- The first message's bytes are all there, and how many they are; or why not.
+abbrev pub Gathers : Result ℕ Error → List ℕ → Type 0
+Gathers (Ok n) bytes = IsRight bytes × (n ≡ total bytes) × (n ≤ length bytes)
+Gathers (Err (errors.InputOutput kinds.Ended)) bytes = IsCut bytes
+Gathers (Err (errors.InputOutput kinds.Fault)) bytes = IsCut bytes
+Gathers (Err errors.Memory) bytes = Unit {0}
+Gathers (Err e) bytes = (16 ≤ length bytes) × (head_fault bytes ≡ Some e)

@@ -1,0 +1,120 @@
+ghost use Rattle.std.specs.Prelude.{ℕ, ◌≡◌, ◌≤◌, ◌<◌, ◌-◌, ◌^◌, length, take, drop, false, IfSome, IfOk, IfErr, Ok, Err};
+ghost use Rattle.std.specs.Io.KnownBytes.{prepend_known};
+ghost use Rattle.wire_framing.specs.Source.{Widens};
+ghost use Rattle.wire_framing.specs.Receive.{Receives, HasCause, spent};
+ghost use Rattle.wire_framing.specs.Kept.{TakesKept, Gathers, rest_of};
+ghost use Rattle.wire_message.specs.Front.{Seen, Front};
+ghost use Rattle.wire_message.specs.Outcome.{front_outcome, Tells, IsReadRefusal};
+ghost use Rattle.wire_message.specs.declared.error.IoKind.TheVariants.{Ended};
+
+use crate::gather::{cost, gather};
+use crate::source::Source;
+use std::alloc::Global;
+use wire_message::{Error, IoKind, Message, Result, header_front};
+
+/// The half of a connection that reads, over a source of bytes.
+#[derive(Drop)]
+pub struct ReadHalf<S> {
+    source: S,
+}
+
+/// Takes the first bytes away.
+fn shift(bytes: &mut Vec<u8>, count: usize)
+    requires { count ≤ length bytes.old.items }
+    ensures { bytes.new.items ≡ drop count bytes.old.items }
+{
+    bytes.drain(..count);
+}
+
+/// Takes away what a read that answers this error costs.
+fn give_up(bytes: &mut Vec<u8>, error: Error)
+    ensures { bytes.new.items ≡ rest_of {A = ℕ} (Err error) bytes.old.items }
+{
+    match error {
+        Error::Memory => {}
+        _ => {
+            let count = cost(bytes);
+            shift(bytes, count);
+        }
+    }
+}
+
+/// The message that the first `total` bytes are, which are taken away, unless there is no memory.
+fn take_message(alloc: Global, bytes: &mut Vec<u8>, total: usize) -> Result<Message>
+    requires { Gathers (Ok total) bytes.old.items }
+    ensures exact { Tells (λ m. m) result (front_outcome (take total bytes.old.items) Ended) }
+    ensures front { IfOk result (λ m. Front (take total bytes.old.items) m (length m.bytes)) }
+    ensures rest { bytes.new.items ≡ rest_of result bytes.old.items }
+{
+    match header_front(alloc, &bytes[..total]) {
+        Ok((message, _)) => {
+            shift(bytes, total);
+            Ok(message)
+        }
+        Err(error) => {
+            give_up(bytes, error);
+            Err(error)
+        }
+    }
+}
+
+impl<S: Source> ReadHalf<S> {
+    /// A half that reads this source.
+    pub fn new(source: S) -> ReadHalf<S>
+        ensures { result.source ≡ source }
+    {
+        ReadHalf { source }
+    }
+
+    /// Whether file descriptors come with the bytes: they never do.
+    pub fn can_pass_unix_fd(&self) -> bool
+        ensures { result ≡ false }
+    {
+        false
+    }
+
+    /// Gives the source back.
+    pub fn into_source(self) -> S
+        ensures { result ≡ self.source }
+    {
+        self.source
+    }
+
+    /// Takes one message, the `seq`-th, of the bytes that are kept and then of the source's, and no byte more: 16 bytes,
+    /// then the rest of the total that they say. The first that holds: InputOutput(Ended) with nothing taken, where `seq`
+    /// is 2^64 - 1; InputOutput(Ended) or (Fault), where the bytes end before 16 came; IncorrectEndian, Variant or
+    /// ExcessData, where the head is refused, which costs its 16 bytes; InputOutput, where the bytes end before the message
+    /// does; Variant, where a header field is outside its grammar (D-Bus Specification, "Message Format").
+    ///
+    /// A fault is answered only where the source's count of faults rose. At want of memory `kept` holds all that was there
+    /// and all that came, so that a later call reads on. The source is asked at most as often as it gives bytes, plus once,
+    /// and never for more than 65,536 bytes at once.
+    pub fn receive_message(
+        &mut self,
+        alloc: Global,
+        seq: u64,
+        kept: &mut Vec<u8>,
+    ) -> Result<Message>
+        requires { 0 < seq }
+        ensures told { IfSome (prepend_known kept.old.items (S.left self.old.source)) (λ bytes. Receives (S.stop self.old.source) (seq - 1) bytes result) }
+        ensures takes { seq < 2 ^ 64 - 1 → TakesKept result kept.old.items kept.new.items (S.left self.old.source) (S.left self.new.source) (S.stop self.old.source) (S.stop self.new.source) (S.faults self.old.source) (S.faults self.new.source) (S.asked self.old.source) (S.asked self.new.source) }
+        ensures message { IfOk result (λ m. Front m.bytes m (length m.bytes) × (m.position ≡ seq)) }
+        ensures error { IfErr result (λ e. IsReadRefusal e × HasCause e (S.faults self.old.source) (S.faults self.new.source)) }
+        ensures width { Widens (S.widest self.old.source) (S.widest self.new.source) 65536 }
+        ensures last { seq ≡ 2 ^ 64 - 1 → (self.new.source ≡ self.old.source) × (kept.new.items ≡ kept.old.items) × (result ≡ Err (Error.InputOutput Ended)) }
+    {
+        if seq == u64::MAX {
+            return Err(Error::InputOutput(IoKind::Ended));
+        }
+        match gather(&mut self.source, kept) {
+            Ok(total) => {
+                let message = take_message(alloc, kept, total)?;
+                Ok(message.at(seq))
+            }
+            Err(error) => {
+                give_up(kept, error);
+                Err(error)
+            }
+        }
+    }
+}
