@@ -34,6 +34,15 @@ fn put(text: &mut Vec<u8>, piece: &str) -> Result<(), Fail> {
     Ok(())
 }
 
+/// The digits of the first `count` bytes, and those behind them.
+fn cut(digits: &str, count: usize) -> Result<(&[u8], &[u8]), Fail> {
+    let bytes = digits.as_bytes();
+    if count > bytes.len() / 2 {
+        return Err("a place past the end".into());
+    }
+    Ok(bytes.split_at(2 * count))
+}
+
 /// What the program prints of a script that it runs.
 fn printed(rt: &HostRuntime, input: &[u8]) -> Result<Vec<u8>, Fail> {
     let pieces = whole(rt, input)?;
@@ -46,16 +55,16 @@ fn printed(rt: &HostRuntime, input: &[u8]) -> Result<Vec<u8>, Fail> {
 
 /// The header of a script whose source fails after `count` bytes of the message.
 fn broken_after(rt: &HostRuntime, count: usize) -> Result<Vec<u8>, Fail> {
-    let (before, after) = RETURN.split_at(2 * count);
+    let (before, after) = cut(RETURN, count)?;
     let mut text = Vec::new(rt.alloc());
     put(&mut text, "direct\n")?;
     if count > 0 {
         put(&mut text, "in ")?;
-        put(&mut text, before)?;
+        text.extend_from_slice(before)?;
         put(&mut text, "\n")?;
     }
     put(&mut text, "infault\nin ")?;
-    put(&mut text, after)?;
+    text.extend_from_slice(after)?;
     put(&mut text, "\n")?;
     Ok(text)
 }
@@ -92,14 +101,11 @@ fn a_sink_that_fails_after_each_byte(rt: HostRuntime) -> Result<(), Fail> {
             "0 call - / - do - - = sendfailed InputOutput.WriteFault\n",
         )?;
         put(&mut output, "0 poll 0 = refused UnknownHandle\nsent ")?;
-        put(
-            &mut output,
-            if count == 0 {
-                "-"
-            } else {
-                CALL.split_at(2 * count).0
-            },
-        )?;
+        if count == 0 {
+            put(&mut output, "-")?;
+        } else {
+            output.extend_from_slice(cut(CALL, count)?.0)?;
+        }
         put(&mut output, "\n")?;
         let text = printed(&rt, input.as_slice())?;
         assert_eq!(rt; text.as_slice(), output.as_slice());
