@@ -70,6 +70,7 @@ refused v draft new h errors.InvalidMatchRule left b = absurd b
 refused v draft new h errors.IncorrectEndian left b = absurd b
 refused v draft new h errors.UnknownHandle left b = absurd b
 refused v draft new h errors.Unsupported left b = absurd b
+refused v draft new h errors.InvalidField left b = absurd b
 
 -- a message that no call waits for leaves the calls as they were
 put_calls : (m : Seen) (v : CallsView) (h : List Event) → LeftCalls v h → LeftCalls v (Put m false ∷ h)
@@ -147,6 +148,7 @@ issued v new draft m last (Err errors.InvalidMatchRule) h left made fine p = abs
 issued v new draft m last (Err errors.IncorrectEndian) h left made fine p = absurd p
 issued v new draft m last (Err errors.UnknownHandle) h left made fine p = absurd p
 issued v new draft m last (Err errors.Unsupported) h left made fine p = absurd p
+issued v new draft m last (Err errors.InvalidField) h left made fine p = absurd p
 
 placed_outbox : (expects : Bool) (v : View) (m : Seen) (last : ℕ) → length (placed expects v m last).outbox ≡ length (v.outbox ++ m ∷ [])
 placed_outbox true v m last = refl

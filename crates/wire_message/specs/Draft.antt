@@ -1,6 +1,7 @@
 -- A message as bytes, from what a builder holds (D-Bus Specification, "Message Format").
-use Rattle.std.specs.Prelude.{ℕ, ◌≡◌, ◌<◌, ◌≤◌, Bool, false, nat_lt, List, [], ◌∷◌, ◌++◌, length, Option, Some, None, option_map, IfSome, IsTrue, ◌^◌, Result, Ok, Err}
+use Rattle.std.specs.Prelude.{ℕ, ◌≡◌, ◌<◌, ◌≤◌, ◌==◌, if◌then◌else◌, Bool, false, nat_lt, List, [], ◌∷◌, ◌++◌, length, Option, Some, None, option_map, IfSome, IsTrue, ◌^◌, Result, Ok, Err}
 use Rattle.std.specs.Int.{w32}
+use Rattle.std.specs.Int.RustNames.{bit_and, bit_or}
 use Rattle.wire_number.specs.declared.endian.Endian.{Endian}
 use Rattle.wire_number.specs.declared.endian.Endian.TheVariants.{Little}
 use Rattle.wire_number.specs.Number.{number_text, padded}
@@ -53,6 +54,17 @@ pub record AreFields (fields : Fields) : Type 0 where
   pub sender : IfSome fields.sender (λ text. IsTrue (is_text codes.Sender text))
   pub signature : IfSome fields.signature (λ text. IsTrue (is_text codes.Signature text))
   pub unix_fds : IfSome fields.unix_fds (λ number. number < 2 ^ 32)
+
+-- A message of this type can't have these flags: NoReplyExpected, which is 0x1, says that a method call wants no reply.
+abbrev pub are_misplaced : MessageType → ℕ → Bool
+are_misplaced types.MethodCall flags = false
+are_misplaced kind flags = bit_and flags 1 == 1
+
+-- The draft with these flags beside those that it has, where it can have them; flags above 0x4 are left out.
+abbrev pub flagged : Draft → ℕ → Result Draft Error
+flagged draft flags =
+    if are_misplaced draft.kind flags then Err errors.InvalidField
+    else Ok (record draft { flags = bit_or draft.flags (bit_and flags 7) })
 
 -- what a builder may hold
 pub record IsDraft (draft : Draft) : Type 0 where

@@ -1,10 +1,9 @@
 ghost use Rattle.std.specs.Prelude.{ℕ, ◌≡◌, ◌+◌, ◌<◌, ◌≤◌, ◌^◌, ◌++◌, ◌∷◌, [], List, length, Some, None, Ok, Err, IfOk, OnOk, IsTrue, IfSome};
-ghost use Rattle.std.specs.Int.RustNames.{bit_and, bit_or};
 ghost use Rattle.wire_number.specs.declared.endian.Endian.TheVariants.{Little};
 ghost use Rattle.wire_names.specs.BusName.{text_of};
 ghost use Rattle.wire_message.specs.Front.{order_code};
 ghost use Rattle.wire_message.specs.Circle.{taken_among};
-ghost use Rattle.wire_message.specs.Draft.{Draft, AreFields, IsDraft, AreShort, header_fields, header_text, message_text, call_draft, has_long_text, Writes, Makes, Builds, ReadsAgain};
+ghost use Rattle.wire_message.specs.Draft.{Draft, AreFields, IsDraft, AreShort, header_fields, header_text, message_text, call_draft, flagged, has_long_text, Writes, Makes, Builds, ReadsAgain};
 ghost use Rattle.wire_message.specs.declared.kind.MessageType.TheVariants as types;
 
 use crate::error::{Error, Result};
@@ -94,10 +93,14 @@ impl<'a> Builder<'a> {
         Builder { order, ..self }
     }
 
-    /// With these flags beside those that it has; bits above 0x4 are left out.
+    /// With these flags beside those that it has; bits above 0x4 are left out. InvalidField exactly for NoReplyExpected on a
+    /// message that isn't a method call (D-Bus Specification, "Message Format"); the builder is given up then.
     pub fn with_flags(self, flags: Flags) -> Result<Builder<'a>>
-        ensures { result ≡ Ok (record self.entry { flags = bit_or self.entry.flags (bit_and flags.0 7) }) }
+        ensures { result ≡ flagged self.entry flags.0 }
     {
+        if self.kind != MessageType::MethodCall && flags.0 & 1 == 1 {
+            return Err(Error::InvalidField);
+        }
         let known = flags.0 & 7;
         Ok(Builder {
             flags: self.flags | known,
