@@ -2,6 +2,7 @@
 //! (D-Bus Specification, "Message Protocol").
 #![tactic(auto)]
 
+mod bodies;
 mod builder;
 mod display;
 mod endian_sig;
@@ -21,6 +22,8 @@ mod replies;
 mod sequence;
 mod serials;
 mod steps;
+#[cfg(test)]
+mod reply_tests;
 #[cfg(test)]
 mod tests;
 mod whole;

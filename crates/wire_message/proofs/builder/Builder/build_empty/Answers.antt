@@ -1,6 +1,6 @@
 use Rattle.std.proofs.Common.{[]}
 use Rattle.wire_message.proofs.Law.{builds-ok}
-use Rattle.wire_message.proofs.builder.Builder.build.Goals as goal
+use Rattle.wire_message.proofs.builder.Builder.build_empty.Goals as goal
 
 pub returns-clause-built : goal.returns-clause-built
 returns-clause-built g c =
