@@ -1,5 +1,5 @@
 -- Building with a body of arguments: what each step refuses, building does.
-use Rattle.std.proofs.Common.{◌≡◌, ℕ, ◌<◌, ◌≤◌, Bool, List, length, Ok, Err, refl, inl, inr}
+use Rattle.std.proofs.Common.{◌≡◌, ℕ, ◌<◌, ◌≤◌, Bool, List, length, Option, Result, Ok, Err, refl, ap, subst, ◌∙◌, inl, inr}
 use Rattle.wire_number.specs.declared.endian.Endian.{Endian}
 use Rattle.wire_signature.specs.Shape.{Shape, IsSignature}
 use Rattle.wire_signature.specs.declared.error.VariantError.TheVariants as faults
@@ -10,7 +10,7 @@ use Rattle.wire_message.specs.Bodies.{body_text, TakesArguments, TakesBytes, Bui
 use Rattle.wire_message.specs.Circle.{IsSerial, last_after, Numbers}
 use Rattle.wire_message.specs.Draft.{Draft, built, Makes}
 use Rattle.wire_message.specs.Front.{Seen}
-use Rattle.wire_message.specs.Signed.{signed}
+use Rattle.wire_message.specs.Signed.{signed, signature_field}
 use Rattle.wire_message.specs.declared.error.Error.{Error}
 use Rattle.wire_message.specs.declared.error.Error.TheVariants as errors
 use Rattle.wire_message.proofs.Law.{builds-ok}
@@ -51,47 +51,68 @@ bad-arguments taken draft kinds values old serial errors.InvalidField s t = absu
 bad-arguments taken draft kinds values old serial errors.SerialsSpent s t = absurd t
 bad-arguments taken draft kinds values old serial errors.UnknownHandle s t = absurd t
 
+-- the same bytes, of the draft's order and the arguments' values
+pub bytes-told : {A : Type 0} (bytes : A → List ℕ) (r : Result A Error) (order own : Endian) (given values : List Datum) → order ≡ own → given ≡ values
+    → TakesBytes bytes r order given → TakesBytes bytes r own values
+bytes-told bytes r order own given values e f t =
+    subst (λ (ds : List Datum). TakesBytes bytes r own ds) f (subst (λ (o : Endian). TakesBytes bytes r o given) e t)
+
 pub bad-bytes : {A : Type 0} (bytes : A → List ℕ) (taken : ℕ → Bool) (draft : Draft) (kinds : List Shape) (values : List Datum) (old serial : ℕ) (e : Error)
-    → IsSerial taken draft.serial old serial → IsSignature kinds → AreAllSound values → TakesBytes bytes (Err e) draft.order values
+    → IsSerial taken draft.serial old serial → IsSignature kinds × AreAllSound values → TakesBytes bytes (Err e) draft.order values
     → BuildsBody taken draft kinds values old old (Err e)
-bad-bytes bytes taken draft kinds values old serial (errors.Variant faults.Depth) s g a t = ((serial, s), g, a, t, refl)
-bad-bytes bytes taken draft kinds values old serial errors.ExcessData s g a t = ((serial, s), g, a, t.0, inl t.1, refl)
-bad-bytes bytes taken draft kinds values old serial errors.Memory s g a t = refl
-bad-bytes bytes taken draft kinds values old serial (errors.Variant faults.Signature) s g a t = absurd t
-bad-bytes bytes taken draft kinds values old serial (errors.Variant faults.Malformed) s g a t = absurd t
-bad-bytes bytes taken draft kinds values old serial (errors.Variant faults.SignatureMismatch) s g a t = absurd t
-bad-bytes bytes taken draft kinds values old serial (errors.Variant faults.Memory) s g a t = absurd t
-bad-bytes bytes taken draft kinds values old serial (errors.InputOutput kind) s g a t = absurd t
-bad-bytes bytes taken draft kinds values old serial (errors.Names kind) s g a t = absurd t
-bad-bytes bytes taken draft kinds values old serial errors.InvalidMatchRule s g a t = absurd t
-bad-bytes bytes taken draft kinds values old serial errors.IncorrectEndian s g a t = absurd t
-bad-bytes bytes taken draft kinds values old serial errors.Unsupported s g a t = absurd t
-bad-bytes bytes taken draft kinds values old serial errors.InvalidField s g a t = absurd t
-bad-bytes bytes taken draft kinds values old serial errors.SerialsSpent s g a t = absurd t
-bad-bytes bytes taken draft kinds values old serial errors.UnknownHandle s g a t = absurd t
+bad-bytes bytes taken draft kinds values old serial (errors.Variant faults.Depth) s g t = ((serial, s), g.0, g.1, t, refl)
+bad-bytes bytes taken draft kinds values old serial errors.ExcessData s g t = ((serial, s), g.0, g.1, t.0, inl t.1, refl)
+bad-bytes bytes taken draft kinds values old serial errors.Memory s g t = refl
+bad-bytes bytes taken draft kinds values old serial (errors.Variant faults.Signature) s g t = absurd t
+bad-bytes bytes taken draft kinds values old serial (errors.Variant faults.Malformed) s g t = absurd t
+bad-bytes bytes taken draft kinds values old serial (errors.Variant faults.SignatureMismatch) s g t = absurd t
+bad-bytes bytes taken draft kinds values old serial (errors.Variant faults.Memory) s g t = absurd t
+bad-bytes bytes taken draft kinds values old serial (errors.InputOutput kind) s g t = absurd t
+bad-bytes bytes taken draft kinds values old serial (errors.Names kind) s g t = absurd t
+bad-bytes bytes taken draft kinds values old serial errors.InvalidMatchRule s g t = absurd t
+bad-bytes bytes taken draft kinds values old serial errors.IncorrectEndian s g t = absurd t
+bad-bytes bytes taken draft kinds values old serial errors.Unsupported s g t = absurd t
+bad-bytes bytes taken draft kinds values old serial errors.InvalidField s g t = absurd t
+bad-bytes bytes taken draft kinds values old serial errors.SerialsSpent s g t = absurd t
+bad-bytes bytes taken draft kinds values old serial errors.UnknownHandle s g t = absurd t
 
-pub too-long : (taken : ℕ → Bool) (draft : Draft) (kinds : List Shape) (values : List Datum) (old serial : ℕ) (e : Error)
-    → IsSerial taken draft.serial old serial → IsSignature kinds → AreAllSound values → depths (data_of values) ≤ 64 → AllFit draft.order 0 (data_of values)
+-- the draft with the body's signature
+pub signed-is : (draft d : Draft) (o : Option (List ℕ)) (ts own kinds : List Shape) → d ≡ record draft { fields = record draft.fields { signature = o } } → o ≡ signature_field ts
+    → ts ≡ own → own ≡ kinds → d ≡ signed draft kinds
+signed-is draft d o ts own kinds e f g h =
+    e ∙ ap (λ (x : Option (List ℕ)). record draft { fields = record draft.fields { signature = x } }) (f ∙ ap signature_field (g ∙ h))
+
+too-long-of : (taken : ℕ → Bool) (draft : Draft) (kinds : List Shape) (values : List Datum) (old serial : ℕ) (e : Error)
+    → IsSerial taken draft.serial old serial → IsSignature kinds × AreAllSound values → (depths (data_of values) ≤ 64) × AllFit draft.order 0 (data_of values)
     → Makes (signed draft kinds) serial (body_text draft.order values) (Err e) → BuildsBody taken draft kinds values old old (Err e)
-too-long taken draft kinds values old serial errors.ExcessData s g a w f t = ((serial, s), g, a, w, inr (f, (serial, s, t)), refl)
-too-long taken draft kinds values old serial errors.Memory s g a w f t = refl
-too-long taken draft kinds values old serial (errors.Variant faults.Signature) s g a w f t = absurd t
-too-long taken draft kinds values old serial (errors.Variant faults.Depth) s g a w f t = absurd t
-too-long taken draft kinds values old serial (errors.Variant faults.Malformed) s g a w f t = absurd t
-too-long taken draft kinds values old serial (errors.Variant faults.SignatureMismatch) s g a w f t = absurd t
-too-long taken draft kinds values old serial (errors.Variant faults.Memory) s g a w f t = absurd t
-too-long taken draft kinds values old serial (errors.InputOutput kind) s g a w f t = absurd t
-too-long taken draft kinds values old serial (errors.Names kind) s g a w f t = absurd t
-too-long taken draft kinds values old serial errors.InvalidMatchRule s g a w f t = absurd t
-too-long taken draft kinds values old serial errors.IncorrectEndian s g a w f t = absurd t
-too-long taken draft kinds values old serial errors.Unsupported s g a w f t = absurd t
-too-long taken draft kinds values old serial errors.InvalidField s g a w f t = absurd t
-too-long taken draft kinds values old serial errors.SerialsSpent s g a w f t = absurd t
-too-long taken draft kinds values old serial errors.UnknownHandle s g a w f t = absurd t
+too-long-of taken draft kinds values old serial errors.ExcessData s g w t = ((serial, s), g.0, g.1, w.0, inr (w.1, (serial, s, t)), refl)
+too-long-of taken draft kinds values old serial errors.Memory s g w t = refl
+too-long-of taken draft kinds values old serial (errors.Variant faults.Signature) s g w t = absurd t
+too-long-of taken draft kinds values old serial (errors.Variant faults.Depth) s g w t = absurd t
+too-long-of taken draft kinds values old serial (errors.Variant faults.Malformed) s g w t = absurd t
+too-long-of taken draft kinds values old serial (errors.Variant faults.SignatureMismatch) s g w t = absurd t
+too-long-of taken draft kinds values old serial (errors.Variant faults.Memory) s g w t = absurd t
+too-long-of taken draft kinds values old serial (errors.InputOutput kind) s g w t = absurd t
+too-long-of taken draft kinds values old serial (errors.Names kind) s g w t = absurd t
+too-long-of taken draft kinds values old serial errors.InvalidMatchRule s g w t = absurd t
+too-long-of taken draft kinds values old serial errors.IncorrectEndian s g w t = absurd t
+too-long-of taken draft kinds values old serial errors.Unsupported s g w t = absurd t
+too-long-of taken draft kinds values old serial errors.InvalidField s g w t = absurd t
+too-long-of taken draft kinds values old serial errors.SerialsSpent s g w t = absurd t
+too-long-of taken draft kinds values old serial errors.UnknownHandle s g w t = absurd t
 
-pub body-built : (taken : ℕ → Bool) (draft : Draft) (kinds : List Shape) (values : List Datum) (old new serial : ℕ) (m : Seen)
-    → IsSerial taken draft.serial old serial → new ≡ last_after draft.serial old serial → IsSignature kinds → AreAllSound values → depths (data_of values) ≤ 64
-    → AllFit draft.order 0 (data_of values) → (m ≡ built (signed draft kinds) serial (body_text draft.order values)) × (length m.bytes ≤ 134217728)
+pub too-long : (taken : ℕ → Bool) (draft d : Draft) (kinds : List Shape) (values : List Datum) (text : List ℕ) (old serial : ℕ) (e : Error) → d ≡ signed draft kinds → text ≡ body_text draft.order values
+    → IsSerial taken draft.serial old serial → IsSignature kinds × AreAllSound values → (depths (data_of values) ≤ 64) × AllFit draft.order 0 (data_of values)
+    → Makes d serial text (Err e) → BuildsBody taken draft kinds values old old (Err e)
+too-long taken draft d kinds values text old serial e same one s g w t =
+    too-long-of taken draft kinds values old serial e s g w
+    (subst (λ (x : Draft). Makes x serial (body_text draft.order values) (Err e)) same (subst (λ (b : List ℕ). Makes d serial b (Err e)) one t))
+
+pub body-built : (taken : ℕ → Bool) (draft d : Draft) (kinds : List Shape) (values : List Datum) (text : List ℕ) (old new serial : ℕ) (m : Seen) → d ≡ signed draft kinds → text ≡ body_text draft.order values
+    → IsSerial taken draft.serial old serial → new ≡ last_after draft.serial old serial → IsSignature kinds × AreAllSound values
+    → (depths (data_of values) ≤ 64) × AllFit draft.order 0 (data_of values) → (m ≡ built d serial text) × (length m.bytes ≤ 134217728)
     → BuildsBody taken draft kinds values old new (Ok m)
-body-built taken draft kinds values old new serial m s l g a w f made =
-    (record { signature = g; sound = a; within = w; fit = f }, builds-ok taken (signed draft kinds) (body_text draft.order values) old new serial m s l made)
+body-built taken draft d kinds values text old new serial m same one s l g w made =
+    let own : m ≡ built (signed draft kinds) serial (body_text draft.order values) =
+    made.0 ∙ ap (λ (x : Draft). built x serial text) same ∙ ap (λ (b : List ℕ). built (signed draft kinds) serial b) one in
+    (record { signature = g.0; sound = g.1; within = w.0; fit = w.1 }, builds-ok taken (signed draft kinds) (body_text draft.order values) old new serial m s l (own, made.1))

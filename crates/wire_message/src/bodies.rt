@@ -71,8 +71,9 @@ impl<'a> Builder<'a> {
         let serial = self.own_or_next(&mut drawn, taken, steps)?;
         let body = body_of(alloc, body)?;
         let bytes = bytes_of(alloc, self.order, &body)?;
-        let text = body.signature().to_text(alloc)?;
-        let field = field_of(body.signature(), text.as_str());
+        let signature = body.signature();
+        let text = signature.to_text(alloc)?;
+        let field = field_of(signature, text.as_str());
         let builder = self.with_signature(field);
         let message = builder.with_serial(alloc, serial, bytes.as_slice())?;
         *serials = drawn;
