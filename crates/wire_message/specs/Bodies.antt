@@ -34,15 +34,21 @@ TakesArguments (Err (errors.Variant faults.Malformed)) kinds values = IsSignatur
 TakesArguments (Err errors.Memory) kinds values = Unit {0}
 TakesArguments (Err error) kinds values = ⊥
 
--- What comes of writing values: Depth exactly where one opens more than 64 containers at once, ExcessData exactly where none
--- does and the elements of an array take too many bytes.
+-- Why there are no bytes of the values: Depth exactly where one opens more than 64 containers at once, ExcessData exactly where
+-- none does and the elements of an array take too many bytes.
+abbrev pub HasNoBytes : Error → Endian → List Datum → Type 0
+HasNoBytes (errors.Variant faults.Depth) order values = 64 < depths (data_of values)
+HasNoBytes errors.ExcessData order values = (depths (data_of values) ≤ 64) × (AllFit order 0 (data_of values) → ⊥)
+HasNoBytes errors.Memory order values = Unit {0}
+HasNoBytes error order values = ⊥
+
+-- the bytes of the values
+abbrev pub AreBytes : List ℕ → Endian → List Datum → Type 0
+AreBytes text order values = (text ≡ body_text order values) × (depths (data_of values) ≤ 64) × AllFit order 0 (data_of values)
+
 abbrev pub TakesBytes : {A : Type 0} → (A → List ℕ) → Result A Error → Endian → List Datum → Type 0
-TakesBytes bytes (Ok text) order values =
-    (bytes text ≡ body_text order values) × (depths (data_of values) ≤ 64) × AllFit order 0 (data_of values)
-TakesBytes bytes (Err (errors.Variant faults.Depth)) order values = 64 < depths (data_of values)
-TakesBytes bytes (Err errors.ExcessData) order values = (depths (data_of values) ≤ 64) × (AllFit order 0 (data_of values) → ⊥)
-TakesBytes bytes (Err errors.Memory) order values = Unit {0}
-TakesBytes bytes (Err error) order values = ⊥
+TakesBytes bytes (Ok text) order values = AreBytes (bytes text) order values
+TakesBytes bytes (Err error) order values = HasNoBytes error order values
 
 -- there is a serial for the message
 abbrev pub HasSerial : (ℕ → Bool) → Option ℕ → ℕ → Type 0
@@ -53,8 +59,8 @@ abbrev pub IsTooLong : (ℕ → Bool) → Draft → List Shape → List Datum �
 IsTooLong taken draft kinds values last =
     (AllFit draft.order 0 (data_of values) → ⊥)
     ⊎ (AllFit draft.order 0 (data_of values)
-      × ((serial : ℕ) × IsSerial taken draft.serial last serial
-      × (134217728 < length (message_text (signed draft kinds) serial (body_text draft.order values)))))
+    × ((serial : ℕ) × IsSerial taken draft.serial last serial
+    × (134217728 < length (message_text (signed draft kinds) serial (body_text draft.order values)))))
 
 -- What building with a body gives: the message of the draft with its signature and its bytes. Refused, in this order:
 -- SerialsSpent where no serial was set and each is taken, Signature and Malformed where the arguments are no body, Depth where a

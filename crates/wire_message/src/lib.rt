@@ -19,11 +19,11 @@ mod primary;
 mod raw_body;
 mod reading;
 mod replies;
+#[cfg(test)]
+mod reply_tests;
 mod sequence;
 mod serials;
 mod steps;
-#[cfg(test)]
-mod reply_tests;
 #[cfg(test)]
 mod tests;
 mod whole;

@@ -1,6 +1,6 @@
 //! Signals, replies, descriptors, messages built anew from a header.
-use crate::tests::Nothing;
 use super::*;
+use crate::tests::Nothing;
 use bitflags::Flags as _;
 use std::test::Fail;
 use wire_names::{ErrorName, InterfaceName, MemberName, ObjectPath, Text, UniqueName};
@@ -24,8 +24,14 @@ fn signals(rt: HostRuntime) -> std::result::Result<(), Fail> {
     let signature = Signature::try_from(rt.alloc(), "ai")?;
     let refused = Message::signal(&path, &interface, &member).with_flags(Flags::NoReplyExpected);
     assert_eq!(rt; refused.err(), Some(Error::InvalidField));
-    let signal = Message::signal(&path, &interface, &member)
-        .build_raw_body_uncounted(rt.alloc(), &mut serials, &Nothing, BODY, &signature, &[])?;
+    let signal = Message::signal(&path, &interface, &member).build_raw_body_uncounted(
+        rt.alloc(),
+        &mut serials,
+        &Nothing,
+        BODY,
+        &signature,
+        &[],
+    )?;
     let mut want = Vec::new(rt.alloc());
     want.extend_from_slice(HEAD)?;
     want.extend_from_slice(BODY)?;
@@ -51,9 +57,16 @@ fn descriptors(rt: HostRuntime) -> std::result::Result<(), Fail> {
         b"l\x01\x00\x01\x00\x00\x00\x00\x07\x00\x00\x00\x28\x00\x00\x00\x01\x01o\x00\x01\x00\x00\x00/\x00\x00\x00\x00\x00\x00\x00\x03\x01s\x00\x02\x00\x00\x00do\x00\x00\x00\x00\x00\x00\x09\x01u\x00\x02\x00\x00\x00";
     assert_eq!(rt; call.data(), want.as_slice());
     // Built anew from its header, it has no descriptors, and the same serial; none was drawn for either.
-    let again = Builder::from(call.header()).build_empty_uncounted(rt.alloc(), &mut serials, &Nothing)?;
+    let again = Builder::from(call.header()).build_empty_uncounted(
+        rt.alloc(),
+        &mut serials,
+        &Nothing,
+    )?;
     assert_eq!(rt; (again.serial_num(), again.header().unix_fds()), (7, None));
-    assert_eq!(rt; again.header().member().map(|name| name.as_str() == "do"), Some(true));
+    assert_eq!(rt;
+        again.header().member().map(|name| name.as_str() == "do"),
+        Some(true)
+    );
     let drawn = Message::method_call(&path, &member)
         .serial(9)
         .without_serial()
@@ -73,8 +86,16 @@ fn replies(rt: HostRuntime) -> std::result::Result<(), Fail> {
         .sender(&sender)
         .endian(Endian::Big)
         .build_uncounted(rt.alloc(), &mut serials, &Nothing, ())?;
-    assert_eq!(rt; format!(in rt.alloc(); "{call}")?.as_str(), "Method call do from :1.72");
-    let done = Message::method_return(&call.header()).build_uncounted(rt.alloc(), &mut serials, &Nothing, ())?;
+    assert_eq!(rt;
+        format!(in rt.alloc(); "{call}")?.as_str(),
+        "Method call do from :1.72"
+    );
+    let done = Message::method_return(&call.header()).build_uncounted(
+        rt.alloc(),
+        &mut serials,
+        &Nothing,
+        (),
+    )?;
     assert_eq!(rt; format!(in rt.alloc(); "{done}")?.as_str(), "Method return");
     assert_eq!(rt; (done.serial_num(), done.reply_serial()), (2, Some(1)));
     assert_eq!(rt; done.header().endian(), Endian::Big);

@@ -34,14 +34,18 @@ abbrev pub Encoded : {A : Type 0} → Result A EncodeError → Endian → ℕ �
 Encoded (Ok done) order place d old new = (bytes : List ℕ) × Spells order place (type_of d) d bytes × (new ≡ old ++ bytes)
 Encoded (Err e) order place d old new = NotEncoded e order place d old new
 
--- A body's bytes, the spellings of its values from place 0 on; else `Depth` exactly where a value opens more than 64
--- containers at once, `ExcessData` exactly where none does and the elements of an array take too many bytes.
+-- Why values are not encoded one behind the other from place 0 on: `Depth` exactly where one opens more than 64 containers at
+-- once, `ExcessData` exactly where none does and the elements of an array take too many bytes.
+abbrev pub AreNotEncoded : EncodeError → Endian → List Datum → Type 0
+AreNotEncoded (Variant errors.Depth) order ds = 64 < depths (data_of ds)
+AreNotEncoded (Variant error) order ds = ⊥
+AreNotEncoded ExcessData order ds = (depths (data_of ds) ≤ 64) × (AllFit order 0 (data_of ds) → ⊥)
+AreNotEncoded Memory order ds = Unit {0}
+
+-- A body's bytes, the spellings of its values from place 0 on, or why there are none.
 abbrev pub EncodedAll : {A : Type 0} → (A → List ℕ) → Result A EncodeError → Endian → List Datum → Type 0
 EncodedAll bytes (Ok text) order ds = (bytes text ≡ spellings order 0 (data_of ds)) × (depths (data_of ds) ≤ 64) × AllFit order 0 (data_of ds)
-EncodedAll bytes (Err (Variant errors.Depth)) order ds = 64 < depths (data_of ds)
-EncodedAll bytes (Err (Variant error)) order ds = ⊥
-EncodedAll bytes (Err ExcessData) order ds = (depths (data_of ds) ≤ 64) × (AllFit order 0 (data_of ds) → ⊥)
-EncodedAll bytes (Err Memory) order ds = Unit {0}
+EncodedAll bytes (Err e) order ds = AreNotEncoded e order ds
 
 -- keys and values that are sound
 abbrev pub ArePairsSound : Entries → Type 0

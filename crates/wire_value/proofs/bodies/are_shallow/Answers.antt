@@ -1,7 +1,7 @@
-use Rattle.std.proofs.Common.{◌≤◌, ap, arith, sym, ◌∙◌}
+use Rattle.std.proofs.Common.{◌≤◌, add-one, ap, arith, sym, ◌∙◌}
 use Rattle.wire_tree.specs.DatumView.{datum_of}
 use Rattle.wire_spelling.specs.Spelling.{depth}
-use Rattle.wire_value.proofs.Bodies.{depth_value, depth_more}
+use Rattle.wire_value.proofs.BodyLaws.{depth_value, depth_more}
 use Rattle.wire_value.proofs.bodies.are_shallow.Goals as goal
 
 pub returns-then-not-is_within : goal.returns-then-not-is_within
@@ -14,5 +14,6 @@ returns-then-not-is_within c = (
 
 pub loop-value-preserved : goal.loop-value-preserved
 loop-value-preserved c =
-    depth_more c.args.values.now c.loop-value.value-index c.value-item.result c.loop-value-test.true c.value-item.is c.loop-value.invariant
-    (omega (arith, ap depth c.tree.ensures.tree, c.is_within.ensures.0 c.if-not-is_within.false))
+    rw add-one
+    (depth_more c.args.values.now c.loop-value.value-index c.value-item.result c.loop-value-test.true c.value-item.is c.loop-value.invariant
+    (omega (arith, ap depth c.tree.ensures.tree, c.is_within.ensures.0 c.if-not-is_within.false)))

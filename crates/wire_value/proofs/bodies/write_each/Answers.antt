@@ -1,7 +1,7 @@
 use Rattle.std.proofs.Common.{arith}
 use Rattle.std.proofs.lemmas.Result.{err_from_is_err_and}
 use Rattle.wire_value.proofs.Writes.{write_start}
-use Rattle.wire_value.proofs.Bodies.{value_next, values_done, value_refused}
+use Rattle.wire_value.proofs.BodyLaws.{value_next, values_done, value_refused}
 use Rattle.wire_value.proofs.bodies.write_each.Goals as goal
 
 pub loop-value-init : goal.loop-value-init

@@ -1,12 +1,12 @@
 -- Building with a body of arguments: what each step refuses, building does.
-use Rattle.std.proofs.Common.{◌≡◌, ℕ, ◌<◌, ◌≤◌, Bool, List, length, Option, Result, Ok, Err, refl, ap, subst, ◌∙◌, inl, inr}
+use Rattle.std.proofs.Common.{◌≡◌, ℕ, ◌<◌, ◌≤◌, Bool, List, length, Option, Ok, Err, refl, ap, subst, ◌∙◌, inl, inr}
 use Rattle.wire_number.specs.declared.endian.Endian.{Endian}
 use Rattle.wire_signature.specs.Shape.{Shape, IsSignature}
 use Rattle.wire_signature.specs.declared.error.VariantError.TheVariants as faults
 use Rattle.wire_tree.specs.Datum.{Datum, data_of}
 use Rattle.wire_spelling.specs.Spelling.{AllFit, depths}
 use Rattle.wire_body.specs.Arguments.{AreAllSound}
-use Rattle.wire_message.specs.Bodies.{body_text, TakesArguments, TakesBytes, BuildsBody}
+use Rattle.wire_message.specs.Bodies.{body_text, TakesArguments, HasNoBytes, BuildsBody}
 use Rattle.wire_message.specs.Circle.{IsSerial, last_after, Numbers}
 use Rattle.wire_message.specs.Draft.{Draft, built, Makes}
 use Rattle.wire_message.specs.Front.{Seen}
@@ -51,30 +51,28 @@ bad-arguments taken draft kinds values old serial errors.InvalidField s t = absu
 bad-arguments taken draft kinds values old serial errors.SerialsSpent s t = absurd t
 bad-arguments taken draft kinds values old serial errors.UnknownHandle s t = absurd t
 
--- the same bytes, of the draft's order and the arguments' values
-pub bytes-told : {A : Type 0} (bytes : A → List ℕ) (r : Result A Error) (order own : Endian) (given values : List Datum) → order ≡ own → given ≡ values
-    → TakesBytes bytes r order given → TakesBytes bytes r own values
-bytes-told bytes r order own given values e f t =
-    subst (λ (ds : List Datum). TakesBytes bytes r own ds) f (subst (λ (o : Endian). TakesBytes bytes r o given) e t)
+-- the same of the draft's order and the arguments' values
+pub moved : (P : Endian → List Datum → Type 0) (order own : Endian) (given values : List Datum) → order ≡ own → given ≡ values → P order given → P own values
+moved P order own given values e f t = subst (λ (ds : List Datum). P own ds) f (subst (λ (o : Endian). P o given) e t)
 
-pub bad-bytes : {A : Type 0} (bytes : A → List ℕ) (taken : ℕ → Bool) (draft : Draft) (kinds : List Shape) (values : List Datum) (old serial : ℕ) (e : Error)
-    → IsSerial taken draft.serial old serial → IsSignature kinds × AreAllSound values → TakesBytes bytes (Err e) draft.order values
+pub bad-bytes : (taken : ℕ → Bool) (draft : Draft) (kinds : List Shape) (values : List Datum) (old serial : ℕ) (e : Error)
+    → IsSerial taken draft.serial old serial → IsSignature kinds × AreAllSound values → HasNoBytes e draft.order values
     → BuildsBody taken draft kinds values old old (Err e)
-bad-bytes bytes taken draft kinds values old serial (errors.Variant faults.Depth) s g t = ((serial, s), g.0, g.1, t, refl)
-bad-bytes bytes taken draft kinds values old serial errors.ExcessData s g t = ((serial, s), g.0, g.1, t.0, inl t.1, refl)
-bad-bytes bytes taken draft kinds values old serial errors.Memory s g t = refl
-bad-bytes bytes taken draft kinds values old serial (errors.Variant faults.Signature) s g t = absurd t
-bad-bytes bytes taken draft kinds values old serial (errors.Variant faults.Malformed) s g t = absurd t
-bad-bytes bytes taken draft kinds values old serial (errors.Variant faults.SignatureMismatch) s g t = absurd t
-bad-bytes bytes taken draft kinds values old serial (errors.Variant faults.Memory) s g t = absurd t
-bad-bytes bytes taken draft kinds values old serial (errors.InputOutput kind) s g t = absurd t
-bad-bytes bytes taken draft kinds values old serial (errors.Names kind) s g t = absurd t
-bad-bytes bytes taken draft kinds values old serial errors.InvalidMatchRule s g t = absurd t
-bad-bytes bytes taken draft kinds values old serial errors.IncorrectEndian s g t = absurd t
-bad-bytes bytes taken draft kinds values old serial errors.Unsupported s g t = absurd t
-bad-bytes bytes taken draft kinds values old serial errors.InvalidField s g t = absurd t
-bad-bytes bytes taken draft kinds values old serial errors.SerialsSpent s g t = absurd t
-bad-bytes bytes taken draft kinds values old serial errors.UnknownHandle s g t = absurd t
+bad-bytes taken draft kinds values old serial (errors.Variant faults.Depth) s g t = ((serial, s), g.0, g.1, t, refl)
+bad-bytes taken draft kinds values old serial errors.ExcessData s g t = ((serial, s), g.0, g.1, t.0, inl t.1, refl)
+bad-bytes taken draft kinds values old serial errors.Memory s g t = refl
+bad-bytes taken draft kinds values old serial (errors.Variant faults.Signature) s g t = absurd t
+bad-bytes taken draft kinds values old serial (errors.Variant faults.Malformed) s g t = absurd t
+bad-bytes taken draft kinds values old serial (errors.Variant faults.SignatureMismatch) s g t = absurd t
+bad-bytes taken draft kinds values old serial (errors.Variant faults.Memory) s g t = absurd t
+bad-bytes taken draft kinds values old serial (errors.InputOutput kind) s g t = absurd t
+bad-bytes taken draft kinds values old serial (errors.Names kind) s g t = absurd t
+bad-bytes taken draft kinds values old serial errors.InvalidMatchRule s g t = absurd t
+bad-bytes taken draft kinds values old serial errors.IncorrectEndian s g t = absurd t
+bad-bytes taken draft kinds values old serial errors.Unsupported s g t = absurd t
+bad-bytes taken draft kinds values old serial errors.InvalidField s g t = absurd t
+bad-bytes taken draft kinds values old serial errors.SerialsSpent s g t = absurd t
+bad-bytes taken draft kinds values old serial errors.UnknownHandle s g t = absurd t
 
 -- the draft with the body's signature
 pub signed-is : (draft d : Draft) (o : Option (List ℕ)) (ts own kinds : List Shape) → d ≡ record draft { fields = record draft.fields { signature = o } } → o ≡ signature_field ts

@@ -1,10 +1,10 @@
 -- The bytes and the depths of a body's values.
-use Rattle.std.proofs.Common.{◌≡◌, ℕ, zero, suc, ◌+◌, ◌<◌, ◌≤◌, max, List, [], ◌∷◌, ◌++◌, length, get_or, take, drop, drop-cons, add-one, sym, ◌∙◌, ap, subst, arith, refl, Bool, true, false, Err, ◌⊎◌, inl, inr}
+use Rattle.std.proofs.Common.{◌≡◌, ℕ, zero, suc, ◌+◌, ◌<◌, ◌≤◌, max, List, [], ◌∷◌, ◌++◌, length, get_or, take, drop, drop-cons, add-one, sym, ◌∙◌, ap, subst, arith, refl, Bool, true, false, ◌⊎◌, inl, inr}
 use Rattle.std.proofs.lemmas.Bool.{cases_lt}
 use Rattle.wire_number.specs.declared.endian.Endian.{Endian}
 use Rattle.wire_tree.specs.Datum.{Datum, Data, no_data, items, data_of}
 use Rattle.wire_spelling.specs.Spelling.{spelling, spellings, depth, depths, ArraysFit, AllFit}
-use Rattle.wire_value.specs.Writing.{Refused, EncodedAll}
+use Rattle.wire_value.specs.Writing.{Refused, AreNotEncoded}
 use Rattle.wire_value.specs.declared.error.EncodeError.{EncodeError}
 use Rattle.wire_value.specs.declared.error.EncodeError.TheVariants.{Variant, ExcessData, Memory}
 use Rattle.wire_value.proofs.Writes.{Writing, write_one, all_written, first_fits, refused}
@@ -17,11 +17,11 @@ depth_value (x ∷ xs) zero d h e = omega (arith, ap depth e)
 depth_value (x ∷ xs) (suc i) d h e = let k : depth d ≤ depths (data_of xs) = depth_value xs i d (omega arith) e in omega arith
 
 pub depth_more : (ds : List Datum) (i : ℕ) (d : Datum) → i < length ds → d ≡ get_or ds i d → depths (data_of (take i ds)) ≤ 64 → depth d ≤ 64
-    → depths (data_of (take (i + 1) ds)) ≤ 64
+    → depths (data_of (take (suc i) ds)) ≤ 64
 depth_more [] i d h e k l = absurd (omega arith)
 depth_more (x ∷ xs) zero d h e k l = omega (arith, ap depth e)
 depth_more (x ∷ xs) (suc i) d h e k l =
-    let m : depths (data_of (take (i + 1) xs)) ≤ 64 = depth_more xs i d (omega arith) e (omega arith) l in omega arith
+    let m : depths (data_of (take (suc i) xs)) ≤ 64 = depth_more xs i d (omega arith) e (omega arith) l in omega arith
 
 -- ---- bytes
 
@@ -69,13 +69,13 @@ pub body_deep : (ds es : List Datum) (b : Bool) → ds ≡ es → (depths (data_
 body_deep ds es b same f e =
     subst (λ (xs : List Datum). 64 < depths (data_of xs)) same (deeper (depths (data_of ds)) b f e (cases_lt 64 (depths (data_of ds))))
 
-pub body_refused : {A : Type 0} (bytes : A → List ℕ) (e : EncodeError) (order : Endian) (ds es : List Datum) (start : List ℕ) → ds ≡ es → start ≡ [] → depths (data_of ds) ≤ 64
-    → Refused e (AllFit order (0 + length start) (data_of ds)) → EncodedAll bytes (Err e) order es
-body_refused bytes (Variant v) order ds es start same none within h = absurd h
-body_refused bytes ExcessData order ds es start same none within h =
+pub body_refused : (e : EncodeError) (order : Endian) (ds es : List Datum) (start : List ℕ) → ds ≡ es → start ≡ [] → depths (data_of ds) ≤ 64
+    → Refused e (AllFit order (0 + length start) (data_of ds)) → AreNotEncoded e order es
+body_refused (Variant v) order ds es start same none within h = absurd h
+body_refused ExcessData order ds es start same none within h =
     subst (λ (xs : List Datum). (depths (data_of xs) ≤ 64) × (AllFit order 0 (data_of xs) → ⊥)) same
     (within, subst (λ (s : List ℕ). AllFit order (0 + length s) (data_of ds) → ⊥) none h)
-body_refused bytes Memory order ds es start same none within h = tt
+body_refused Memory order ds es start same none within h = tt
 
 pub body_written : (order : Endian) (ds es : List Datum) (start new : List ℕ) → ds ≡ es → start ≡ [] → depths (data_of ds) ≤ 64
     → (new ≡ start ++ spellings order (0 + length start) (data_of ds)) × AllFit order (0 + length start) (data_of ds)
