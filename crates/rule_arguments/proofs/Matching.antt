@@ -11,7 +11,8 @@ use Rattle.wire_spelling.proofs.Steps.{at, some_is}
 use Rattle.wire_spelling.proofs.Exact.{spells_type, same_front}
 use Rattle.rule_arguments.specs.declared.arguments.Argument.{Argument}
 use Rattle.rule_arguments.specs.Below.{IsAtOrBelow}
-use Rattle.rule_arguments.specs.Body.{SpellEach, AreArguments, HasArgument}
+use Rattle.wire_spelling.specs.Each.{SpellEach}
+use Rattle.rule_arguments.specs.Body.{AreArguments, HasArgument}
 use Rattle.rule_arguments.specs.Wanted.{Wanted, HasString, HasPath, HasNameIn, ArgumentsMatch}
 use Rattle.rule_arguments.specs.Passing.{is_string, is_path, is_name_in, has_at, has_from, namespace_from, pass_from, is_nothing, Left}
 use Rattle.rule_arguments.proofs.Both.{first_true, second_true, both_true}

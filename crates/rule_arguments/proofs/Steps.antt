@@ -11,7 +11,7 @@ use Rattle.wire_spelling.specs.Spelling.{Spells}
 use Rattle.wire_spelling.specs.Reading.{Cursor}
 use Rattle.wire_spelling.proofs.Steps.{some_is}
 use Rattle.wire_spelling.proofs.Exact.{spells_type, same_front}
-use Rattle.rule_arguments.specs.Body.{SpellEach}
+use Rattle.wire_spelling.specs.Each.{SpellEach}
 use Rattle.rule_arguments.specs.Wanted.{Wanted}
 use Rattle.rule_arguments.specs.Passing.{passes, pass_from, all_below, Left, Passed, PassedValue, NonePasses, NoValuePasses}
 use Rattle.rule_arguments.proofs.Both.{first_true, second_true, both_true}

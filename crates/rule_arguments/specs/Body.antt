@@ -1,18 +1,10 @@
 -- The arguments of a message: the values that a front of its body spells by its signature (D-Bus Specification, "Message
 -- Format"). Where no front does, there are none.
-use Rattle.std.specs.Prelude.{◌≡◌, ℕ, ◌+◌, List, [], ◌∷◌, ◌++◌, length, Some, slice_get}
+use Rattle.std.specs.Prelude.{◌≡◌, ℕ, List, ◌++◌, Some, slice_get}
 use Rattle.wire_number.specs.declared.endian.Endian.{Endian}
 use Rattle.wire_signature.specs.Shape.{Shape, SignatureText}
 use Rattle.wire_tree.specs.Datum.{Datum}
-use Rattle.wire_spelling.specs.Spelling.{Spells}
-
--- Bytes that begin at a place spell values, one of each type, one behind the other.
-abbrev pub SpellEach : Endian → ℕ → List Shape → List Datum → List ℕ → Type 0
-SpellEach order place [] [] bytes = bytes ≡ []
-SpellEach order place [] (d ∷ ds) bytes = ⊥
-SpellEach order place (t ∷ ts) [] bytes = ⊥
-SpellEach order place (t ∷ ts) (d ∷ ds) bytes =
-    (first : List ℕ) × (others : List ℕ) × (bytes ≡ first ++ others) × Spells order place t d first × SpellEach order (place + length first) ts ds others
+use Rattle.wire_spelling.specs.Each.{SpellEach}
 
 -- A body, whose types a signature names, has these arguments.
 pub record AreArguments (order : Endian) (signature body : List ℕ) (ds : List Datum) : Type 0 where

@@ -9,7 +9,7 @@ use Rattle.wire_tree.specs.Datum.{string, object_path, signature, Datum, num, te
 use Rattle.wire_spelling.specs.Spelling.{Spells}
 use Rattle.wire_spelling.specs.Reading.{Cursor}
 use Rattle.rule_arguments.specs.declared.arguments.Argument.{Argument}
-use Rattle.rule_arguments.specs.Body.{SpellEach}
+use Rattle.wire_spelling.specs.Each.{SpellEach}
 use Rattle.rule_arguments.specs.Wanted.{Wanted}
 
 -- two texts are the same

@@ -3,3 +3,4 @@ pub mod Reading
 pub mod Walking
 pub mod ReaderView
 pub mod Promises
+pub mod Each

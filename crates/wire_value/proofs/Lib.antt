@@ -4,3 +4,4 @@ pub mod Writes
 pub mod DepthLaws
 pub mod EncodeLaws
 mod BodyLaws
+pub mod Behind

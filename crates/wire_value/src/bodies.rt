@@ -1,16 +1,19 @@
-//! The bytes of a body's values.
-ghost use Rattle.std.specs.Prelude.{◌≡◌, ◌+◌, ◌<◌, ◌≤◌, ◌↔◌, IsTrue, length};
+//! The bytes of a body's values, and the values of its bytes.
+ghost use Rattle.std.specs.Prelude.{◌≡◌, ◌+◌, ◌<◌, ◌≤◌, ◌↔◌, IfErr, IfOk, IsTrue, length, take};
 ghost use Rattle.wire_tree.specs.Datum.{data_of};
 ghost use Rattle.wire_spelling.specs.Spelling.{AllFit, depths, spellings};
+ghost use Rattle.wire_spelling.specs.Each.{SpellEach};
+ghost use Rattle.wire_value.specs.Bodies.{Explains, HasOnlyBody};
 ghost use Rattle.wire_value.specs.Writing.{EncodedAll, Wrote};
 
+use crate::decoding::decode;
 use crate::depth::is_within;
 use crate::error::EncodeError;
 use crate::write::write_value;
 use std::alloc::Global;
 use wire_body::Body;
 use wire_number::Endian;
-use wire_signature::VariantError;
+use wire_signature::{Signature, VariantError};
 use wire_spelling::MAX_DEPTH;
 use wire_tree::Value;
 
@@ -61,4 +64,33 @@ pub fn encode_body(alloc: Global, order: Endian, body: &Body) -> Result<Vec<u8>,
     let mut text = Vec::new(alloc);
     write_each(alloc, order, 0, &mut text, values)?;
     Ok(text)
+}
+
+/// The values that a front of a message's body spells in that byte order, one of each type of the signature, and how many
+/// bytes they take (D-Bus Specification, "Message Format"). Of what stands behind them nothing is asked.
+///
+/// # Errors
+///
+/// [`VariantError::Malformed`] exactly where no front of the bytes spells a value of each type.
+/// [`VariantError::Memory`] for want of memory.
+pub fn decode_body(
+    alloc: Global,
+    order: Endian,
+    signature: &Signature,
+    bytes: &[u8],
+) -> Result<(Vec<Value>, usize), VariantError>
+    ensures found { IfOk result (λ x. SpellEach order 0 signature.now x.0.items (take x.1 bytes.now)) }
+    ensures within { IfOk result (λ x. x.1 ≤ length bytes.now) }
+    ensures only { IfOk result (λ x. HasOnlyBody order signature.now bytes.now x.0.items x.1) }
+    ensures error { IfErr result (λ e. Explains e order signature.now bytes.now) }
+{
+    let mut values = Vec::new(alloc);
+    let mut at = 0;
+    let types = signature.types();
+    for value_type in types {
+        let (value, count) = decode(alloc, order, at, value_type, &bytes[at..])?;
+        values.push(value)?;
+        at += count;
+    }
+    Ok((values, at))
 }

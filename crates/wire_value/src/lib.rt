@@ -2,7 +2,7 @@
 //! bodies of arguments and what walks over bytes without memory stand in crates below, and are found here too.
 #![tactic(auto)]
 
-pub use crate::bodies::encode_body;
+pub use crate::bodies::{decode_body, encode_body};
 pub use crate::decoding::decode;
 pub use crate::encoding::encode;
 pub use crate::error::EncodeError;
@@ -32,6 +32,8 @@ pub use wire_tree::{
 mod append;
 mod basics;
 mod bodies;
+#[cfg(test)]
+mod body_tests;
 mod decoding;
 mod depth;
 mod encoding;
