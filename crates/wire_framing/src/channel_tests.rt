@@ -1,6 +1,5 @@
-use crate::{Channel, ReadHalf, Reader, Socket, WriteHalf, Writer};
+use crate::{Channel, ReadHalf, Socket, Source};
 use std::alloc::Global;
-use std::process::Abort;
 use std::test::Fail;
 use std::thread;
 use wire_message::{Error, IoKind, Message, header_front};
@@ -14,17 +13,13 @@ const ENDED: Error = Error::InputOutput(IoKind::Ended);
 
 const CLOSED: Error = Error::InputOutput(IoKind::Closed);
 
-type Reads = ReadHalf<Reader<HostRuntime>>;
-
-type Writes = WriteHalf<Writer<HostRuntime>>;
-
 fn message_of(alloc: Global, bytes: &[u8]) -> Result<Message, Fail> {
     let (message, _) = header_front(alloc, bytes)?;
     Ok(message)
 }
 
 /// How many messages come before the end; each is the one that was sent.
-fn count_of(alloc: Global, half: &mut Reads) -> (u64, Option<Error>) {
+fn count_of<S: Source>(alloc: Global, half: &mut ReadHalf<S>) -> (u64, Option<Error>) {
     let mut kept = Vec::new(alloc);
     for position in 1..100u64 {
         match half.receive_message(alloc, position, &mut kept) {
