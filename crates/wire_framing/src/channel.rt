@@ -17,27 +17,45 @@ use std::sync::{Arc, Wait};
 /// One end of a connection within the process. What a pipe holds is told by no clause, since another thread may change it at
 /// any time.
 #[derive(Drop)]
-pub struct Channel<R: Wait> {
+pub struct Channel<R: Wait + Copy> {
     reader: Reader<R>,
     writer: Writer<R>,
 }
 
-/// The source of an end. A read waits until the other end wrote or closed, or until this end closed.
-#[derive(Drop)]
-pub struct Reader<R: Wait> {
+/// The source of an end. A read waits until the other end wrote or closed, or until this end closed. Once it is let go, what
+/// the other end writes is passed over.
+pub struct Reader<R: Wait + Copy> {
     rt: R,
     from: Arc<Pipe>,
 }
 
 /// The sink of an end. The bytes of one write enter the pipe at once, as one message; where 32 messages wait there, a write
-/// waits. It takes no file descriptors.
-#[derive(Drop)]
-pub struct Writer<R: Wait> {
+/// waits. It takes no file descriptors. Once it is let go, the other end reads what waits, and then the end.
+pub struct Writer<R: Wait + Copy> {
     rt: R,
     alloc: Global,
     to: Arc<Pipe>,
     // the other direction, which `close` shuts
     from: Arc<Pipe>,
+}
+
+impl<R: Wait + Copy> Drop for Reader<R> {
+    fn drop(self) {
+        let Reader { rt, from } = self;
+        from.shut(&rt);
+    }
+}
+
+impl<R: Wait + Copy> Drop for Writer<R> {
+    fn drop(self) {
+        let Writer {
+            rt,
+            alloc: _,
+            to,
+            from: _,
+        } = self;
+        to.end(&rt);
+    }
 }
 
 impl<R: Wait + Copy> Channel<R> {
@@ -75,7 +93,7 @@ impl<R: Wait + Copy> Channel<R> {
     }
 }
 
-impl<R: Wait> Socket for Channel<R> {
+impl<R: Wait + Copy> Socket for Channel<R> {
     type In = Reader<R>;
 
     type Out = Writer<R>;
@@ -89,7 +107,7 @@ impl<R: Wait> Socket for Channel<R> {
     }
 }
 
-impl<R: Wait> Source for Reader<R> {
+impl<R: Wait + Copy> Source for Reader<R> {
     ghost left = { λ s. no_bytes };
 
     ghost stop = { λ s. no_stop };
@@ -115,7 +133,7 @@ impl<R: Wait> Source for Reader<R> {
     }
 }
 
-impl<R: Wait> Sink for Writer<R> {
+impl<R: Wait + Copy> Sink for Writer<R> {
     ghost held = { λ s. no_bytes };
 
     ghost room = { λ s. no_room };

@@ -73,3 +73,20 @@ fn a_full_pipe_waits_for_its_reader(rt: HostRuntime) -> Result<(), Fail> {
     assert_eq!(rt; reader.join(&rt), (40, Some(ENDED)));
     Ok(())
 }
+
+#[test]
+fn halves_that_are_let_go(rt: HostRuntime) -> Result<(), Fail> {
+    let alloc = rt.alloc();
+    let message = message_of(alloc, &RETURN)?;
+    let (near, far) = Channel::pair(rt, alloc)?;
+    let (near_reads, mut near_writes) = near.split().take();
+    let (mut far_reads, mut far_writes) = far.split().take();
+    assert_eq!(rt; near_writes.send_message(&message), Ok(()));
+    drop(near_writes);
+    assert_eq!(rt; count_of(alloc, &mut far_reads), (1, Some(ENDED)));
+    drop(near_reads);
+    for _ in 0..40 {
+        assert_eq!(rt; far_writes.send_message(&message), Ok(()));
+    }
+    Ok(())
+}
