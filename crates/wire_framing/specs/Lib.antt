@@ -6,3 +6,5 @@ pub mod Fill
 pub mod Memory
 pub mod Kept
 pub mod Writing
+pub mod Halves
+pub mod Untold

@@ -2,25 +2,38 @@
 //! (D-Bus Specification, "Message Protocol").
 #![tactic(auto)]
 
+mod boxes;
+mod channel;
+#[cfg(test)]
+mod channel_tests;
 mod gather;
 #[cfg(test)]
 mod half_tests;
+mod lent;
 mod memory;
+mod pipe;
 mod read_half;
 mod receive;
 mod send;
 mod sink;
+mod socket;
+#[cfg(test)]
+mod socket_tests;
+mod sockets;
 mod source;
 mod streams;
 #[cfg(test)]
 mod tests;
 mod write_half;
 
+pub use channel::{Channel, Reader, Writer};
 pub use memory::{MemorySink, MemorySource, Piece};
 pub use read_half::ReadHalf;
 pub use receive::receive_message;
 pub use send::send_message;
 pub use sink::{Refusal, Sink};
+pub use socket::{BoxedSplit, Socket, Split};
+pub use sockets::{SocketSink, SocketSource, StreamSocket};
 pub use source::{Failed, Source};
 pub use streams::{StdSink, StdSource};
 pub use write_half::{WriteHalf, Writing};

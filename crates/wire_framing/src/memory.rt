@@ -1,7 +1,7 @@
 ghost use Rattle.std.specs.Prelude.{ℕ, ◌≡◌, ◌+◌, ◌≤◌, ◌<◌, List, [], ◌++◌, length, take, drop, Bool, ◌==◌, Some, None, OnOk, IfOk, IfErr, min};
 ghost use Rattle.std.specs.Option.{option_map_or};
 ghost use Rattle.wire_framing.specs.Sink.{Writes};
-ghost use Rattle.wire_framing.specs.Memory.{told_bytes, told_stop, source_left, source_stop, told_of_no_more};
+ghost use Rattle.wire_framing.specs.Memory.{told_bytes, told_stop, source_left, source_stop};
 ghost use Rattle.wire_framing.specs.declared.sink.Refusal.TheVariants.{Memory};
 
 use crate::sink::{Refusal, Sink};
@@ -72,6 +72,7 @@ impl<'a> Source for MemorySource<'a> {
 
     ghost widest = { λ s. Some s.widest };
 
+    #[tactic(auto, using(crate::specs::Memory::told_of_no_more))]
     fn read(&mut self, buf: &mut [u8]) -> Result<usize, Failed> {
         self.asked = self.asked.saturating_add(1);
         self.widest = self.widest.max(buf.len());
@@ -94,8 +95,6 @@ impl<'a> Source for MemorySource<'a> {
         self.piece = rest;
         Ok(count)
     }
-
-    ghost told_together = { λ s e. told_of_no_more (s.faults == 0) (s.piece.now ++ told_bytes s.pieces.now) (told_stop s.pieces.now) e };
 }
 
 /// A sink in memory. It tells its bytes, and where its one write fails.
@@ -176,6 +175,7 @@ impl Sink for MemorySink {
     fn write(&mut self, piece: &[u8]) -> Result<usize, Refusal>
         ensures bytes { Writes result piece.now (Some self.old.bytes.items) (Some self.new.bytes.items) (Some self.old.room) (Some self.new.room) self.old.faults self.new.faults }
         ensures fds { self.new.takes_fds ≡ self.old.takes_fds }
+        ensures together { Some self.old.bytes.items ≡ None → Some self.old.room ≡ None }
         ensures all { IfOk result (λ count. count ≡ option_map_or (λ room. min room (length piece.now)) self.old.room (length piece.now)) }
     {
         let Some(room) = self.room else {
@@ -203,6 +203,4 @@ impl Sink for MemorySink {
     fn takes_fds(&self) -> bool {
         self.takes_fds
     }
-
-    ghost told_together = { λ s e. Prim.cc };
 }

@@ -17,7 +17,8 @@ pub trait Sink {
     // the bytes that it holds, where that is told
     ghost held: { Self → Option (List ℕ) };
 
-    // the number of bytes that it still takes before the one write that fails, or that no write fails, where that is told
+    // the number of bytes that it still takes before the one write that fails, or that no write fails, where that is told: only
+    // where the bytes are
     ghost room: { Self → Option (Option ℕ) };
 
     // how many calls have failed; it never falls, and stays at 2^64 - 1
@@ -30,7 +31,8 @@ pub trait Sink {
     /// of faults rose; an error appends nothing.
     fn write(&mut self, piece: &[u8]) -> Result<usize, Refusal>
         ensures bytes { Writes result piece.now (held self.old) (held self.new) (room self.old) (room self.new) (faults self.old) (faults self.new) }
-        ensures fds { takes self.new ≡ takes self.old };
+        ensures fds { takes self.new ≡ takes self.old }
+        ensures together { held self.old ≡ None → room self.old ≡ None };
 
     /// Says that no more bytes come. Failed only where the count of faults rose, and never where room is told.
     fn close(&mut self) -> Result<(), Failed>
@@ -40,7 +42,4 @@ pub trait Sink {
     /// Whether the sink takes file descriptors.
     fn takes_fds(&self) -> bool
         ensures { result ≡ takes self.now };
-
-    // room is told only where the bytes are
-    ghost told_together: { (sink : Self) → held sink ≡ None → room sink ≡ None };
 }

@@ -10,7 +10,7 @@ pub trait Source {
     // the bytes that are left before the first failing call, or before the end, where that is told
     ghost left: { Self → Option (List ℕ) };
 
-    // whether a failing call comes after them, where that is told
+    // whether a failing call comes after them, where that is told: only where the bytes are
     ghost stop: { Self → Option Bool };
 
     // how many calls have failed; it never falls, and stays at 2^64 - 1
@@ -27,8 +27,6 @@ pub trait Source {
     fn read(&mut self, buf: &mut [u8]) -> Result<usize, Failed>
         ensures bytes { Reads result buf.new (left self.old) (left self.new) (stop self.old) (stop self.new) (faults self.old) (faults self.new) }
         ensures asks { Asks (asked self.old) (asked self.new) 1 }
-        ensures width { Widens (widest self.old) (widest self.new) (length buf.new) };
-
-    // a failing call is told of only where the bytes before it are
-    ghost told_together: { (source : Self) → left source ≡ None → stop source ≡ None };
+        ensures width { Widens (widest self.old) (widest self.new) (length buf.new) }
+        ensures together { left self.old ≡ None → stop self.old ≡ None };
 }

@@ -1,6 +1,7 @@
 //! The trusted edge: a reader as a source, a writer as a sink. They tell the bytes that the reader or the writer tells, and
 //! nothing of faults to come.
 ghost use Rattle.std.specs.Prelude.{◌≡◌, false, None, refl};
+ghost use Rattle.wire_framing.specs.Source.{MayRise};
 
 use crate::sink::{Refusal, Sink};
 use crate::source::{Failed, Source};
@@ -43,8 +44,6 @@ impl<R: Read> Source for StdSource<R> {
             }
         }
     }
-
-    ghost told_together = { λ s e. refl };
 }
 
 /// A sink over a writer, as `io::writer(&rt)`, which writes straight out. Each error of the writer but want of memory is a
@@ -62,6 +61,22 @@ impl<W: Write> StdSink<W> {
         ensures faults { result.faults ≡ 0 }
     {
         StdSink { writer, faults: 0 }
+    }
+
+    /// The writer.
+    pub(crate) fn writer(&self) -> &W
+        ensures { result.now ≡ self.now.writer }
+    {
+        &self.writer
+    }
+
+    /// Counts a call that failed.
+    pub(crate) fn fail(&mut self) -> Failed
+        ensures writer { self.new.writer ≡ self.old.writer }
+        ensures faults { MayRise self.old.faults self.new.faults }
+    {
+        self.faults = self.faults.saturating_add(1);
+        Failed
     }
 }
 
@@ -99,6 +114,4 @@ impl<W: Write> Sink for StdSink<W> {
     fn takes_fds(&self) -> bool {
         false
     }
-
-    ghost told_together = { λ s e. refl };
 }

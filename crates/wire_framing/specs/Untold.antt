@@ -1,0 +1,13 @@
+-- What a source or a sink tells that tells nothing of its bytes.
+use Rattle.std.specs.Prelude.{ℕ, Bool, List, Option, None}
+
+abbrev pub no_bytes : Option (List ℕ)
+no_bytes = None
+
+-- nothing of a failing call to come
+abbrev pub no_stop : Option Bool
+no_stop = None
+
+-- nothing of the room that is left
+abbrev pub no_room : Option (Option ℕ)
+no_room = None

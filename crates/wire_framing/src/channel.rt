@@ -1,0 +1,179 @@
+//! A connection within the process: two pipes, one for each direction.
+ghost use Rattle.std.specs.Prelude.{ℕ, ◌≡◌, ◌≤◌, List, Bool, Option, None, Some, length, false, IsOk, MatchResult, refl};
+ghost use Rattle.wire_framing.specs.Sink.{Writes, Closes};
+ghost use Rattle.wire_framing.specs.Source.{Reads, Asks, Widens};
+ghost use Rattle.wire_framing.specs.Untold.{no_bytes, no_stop, no_room};
+ghost use Rattle.wire_framing.specs.declared.sink.Refusal.TheVariants.{Memory};
+
+use crate::pipe::Pipe;
+use crate::read_half::ReadHalf;
+use crate::sink::{Refusal, Sink};
+use crate::socket::{Socket, Split};
+use crate::source::{Failed, Source};
+use crate::write_half::{WriteHalf, Writing};
+use std::alloc::{AllocError, Global};
+use std::sync::{Arc, Wait};
+
+/// One end of a connection within the process. What a pipe holds is told by no clause, since another thread may change it at
+/// any time.
+#[derive(Drop)]
+pub struct Channel<R: Wait + Copy> {
+    reader: Reader<R>,
+    writer: Writer<R>,
+}
+
+/// The source of an end. A read waits until the other end wrote or closed, or until this end closed. Once it is let go, what
+/// the other end writes is passed over.
+pub struct Reader<R: Wait + Copy> {
+    rt: R,
+    from: Arc<Pipe>,
+}
+
+/// The sink of an end. The bytes of one write enter the pipe at once, as one message; where 32 messages wait there, a write
+/// waits. It takes no file descriptors. Once it is let go, the other end reads what waits, and then the end.
+pub struct Writer<R: Wait + Copy> {
+    rt: R,
+    alloc: Global,
+    to: Arc<Pipe>,
+    // the other direction, which `close` shuts
+    from: Arc<Pipe>,
+}
+
+impl<R: Wait + Copy> Drop for Reader<R> {
+    fn drop(self) {
+        let Reader { rt, from } = self;
+        from.shut(&rt);
+    }
+}
+
+impl<R: Wait + Copy> Drop for Writer<R> {
+    fn drop(self) {
+        let Writer {
+            rt,
+            alloc: _,
+            to,
+            from: _,
+        } = self;
+        to.end(&rt);
+    }
+}
+
+impl<R: Wait + Copy> Channel<R> {
+    /// Two ends, each of which reads what the other writes.
+    ///
+    /// # Errors
+    ///
+    /// There is no memory.
+    pub fn pair(rt: R, alloc: Global) -> Result<(Channel<R>, Channel<R>), AllocError> {
+        let there = Arc::new(alloc, Pipe::new(alloc))?;
+        let back = Arc::new(alloc, Pipe::new(alloc))?;
+        let near = Channel::over(rt, alloc, Arc::try_clone(&there)?, Arc::try_clone(&back)?)?;
+        let far = Channel::over(rt, alloc, back, there)?;
+        Ok((near, far))
+    }
+
+    /// The end that writes to the one pipe and reads the other.
+    fn over(
+        rt: R,
+        alloc: Global,
+        to: Arc<Pipe>,
+        from: Arc<Pipe>,
+    ) -> Result<Channel<R>, AllocError> {
+        let reader = Reader {
+            rt,
+            from: Arc::try_clone(&from)?,
+        };
+        let writer = Writer {
+            rt,
+            alloc,
+            to,
+            from,
+        };
+        Ok(Channel { reader, writer })
+    }
+}
+
+impl<R: Wait + Copy> Socket for Channel<R> {
+    type In = Reader<R>;
+
+    type Out = Writer<R>;
+
+    ghost source = { λ c. c.reader };
+
+    ghost sink = { λ c. c.writer };
+
+    fn split(self) -> Split<ReadHalf<Reader<R>>, WriteHalf<Writer<R>>> {
+        Split::new(ReadHalf::new(self.reader), WriteHalf::new(self.writer))
+    }
+}
+
+impl<R: Wait + Copy> Source for Reader<R> {
+    ghost left = { λ s. no_bytes };
+
+    ghost stop = { λ s. no_stop };
+
+    ghost faults = { λ s. 0 };
+
+    ghost asked = { λ s. None };
+
+    ghost widest = { λ s. None };
+
+    /// A read never fails.
+    fn read(&mut self, buf: &mut [u8]) -> Result<usize, Failed>
+        ensures bytes { Reads result buf.new no_bytes no_bytes no_stop no_stop 0 0 }
+        ensures asks { Asks None None 1 }
+        ensures width { Widens None None (length buf.new) }
+        ensures together { no_bytes ≡ None → no_stop ≡ None }
+        ensures never_fails { IsOk result }
+    {
+        if buf.is_empty() {
+            return Ok(0);
+        }
+        Ok(self.from.read(&self.rt, buf))
+    }
+}
+
+impl<R: Wait + Copy> Sink for Writer<R> {
+    ghost held = { λ s. no_bytes };
+
+    ghost room = { λ s. no_room };
+
+    ghost faults = { λ s. 0 };
+
+    ghost takes = { λ s. false };
+
+    /// Takes the whole piece. Where an end is closed it is passed over. Fails only for want of memory.
+    fn write(&mut self, piece: &[u8]) -> Result<usize, Refusal>
+        ensures bytes { Writes result piece.now no_bytes no_bytes no_room no_room 0 0 }
+        ensures fds { false ≡ false }
+        ensures together { no_bytes ≡ None → no_room ≡ None }
+        ensures whole { MatchResult result (λ count. count ≡ length piece.now) (λ e. e ≡ Memory) }
+    {
+        if piece.is_empty() {
+            return Ok(0);
+        }
+        let Ok(message) = piece.to_vec(self.alloc) else {
+            return Err(Refusal::Memory);
+        };
+        match self.to.write(&self.rt, message) {
+            Ok(()) => Ok(piece.len()),
+            Err(_) => Err(Refusal::Memory),
+        }
+    }
+
+    /// Closes both directions: the other end reads what waits, and then the end; what it writes is passed over; this end's
+    /// own reads end at once. It never fails.
+    fn close(&mut self) -> Result<(), Failed>
+        ensures bytes { Closes result no_bytes no_bytes no_room no_room 0 0 }
+        ensures fds { false ≡ false }
+        ensures never_fails { IsOk result }
+    {
+        self.to.end(&self.rt);
+        self.from.shut(&self.rt);
+        Ok(())
+    }
+
+    fn takes_fds(&self) -> bool {
+        false
+    }
+}

@@ -1,0 +1,43 @@
+//! A source or a sink that is lent is one too.
+ghost use Rattle.std.specs.Prelude.{◌≡◌};
+
+use crate::sink::{Refusal, Sink};
+use crate::source::{Failed, Source};
+
+impl<S: Source> Source for &mut S {
+    ghost left = { λ s. S.left s.now };
+
+    ghost stop = { λ s. S.stop s.now };
+
+    ghost faults = { λ s. S.faults s.now };
+
+    ghost asked = { λ s. S.asked s.now };
+
+    ghost widest = { λ s. S.widest s.now };
+
+    fn read(&mut self, buf: &mut [u8]) -> Result<usize, Failed> {
+        (**self).read(buf)
+    }
+}
+
+impl<W: Sink> Sink for &mut W {
+    ghost held = { λ s. W.held s.now };
+
+    ghost room = { λ s. W.room s.now };
+
+    ghost faults = { λ s. W.faults s.now };
+
+    ghost takes = { λ s. W.takes s.now };
+
+    fn write(&mut self, piece: &[u8]) -> Result<usize, Refusal> {
+        (**self).write(piece)
+    }
+
+    fn close(&mut self) -> Result<(), Failed> {
+        (**self).close()
+    }
+
+    fn takes_fds(&self) -> bool {
+        (**self).takes_fds()
+    }
+}
