@@ -70,6 +70,7 @@ fn texts_are_read_and_printed(rt: HostRuntime) -> Result<(), Fail> {
         assert_eq!(rt; again.as_str(), printed);
         let owned = OwnedMatchRule::try_from(rt.alloc(), printed)?;
         assert!(rt; *owned.inner() == rule);
+        assert!(rt; *owned == rule && *owned.borrow() == rule && owned.equals(&rule));
     }
     Ok(())
 }
