@@ -168,12 +168,19 @@ const OTHERS: [&str; 6] = [
     "org.freedesktop.DBus.Error.Spawn.Failed.",
 ];
 
+/// The first of these names that isn't its kind's, or isn't read as it.
+fn first_wrong<'a>(rows: &[(Kind, &'a str)]) -> Option<&'a str> {
+    for (kind, name) in rows {
+        if kind.name() != *name || Kind::from_name(name) != Some(*kind) {
+            return Some(*name);
+        }
+    }
+    None
+}
+
 #[test]
 fn names_are_of_kinds(rt: HostRuntime) -> Result<(), Fail> {
-    for (kind, name) in NAMES {
-        assert_eq!(rt; kind.name(), name);
-        assert_eq!(rt; Kind::from_name(name), Some(kind), "{name}");
-    }
+    assert_eq!(rt; first_wrong(&NAMES), None);
     for text in OTHERS {
         assert_eq!(rt; Kind::from_name(text), None, "{text}");
     }
