@@ -57,11 +57,27 @@ next_left v h serial left next =
     subst (λ last. IsNext (pending h) last serial) left.last
     (IsNext-along (waiting_serial v.calls) (pending h) v.last serial (λ n. sym (pending-left v.calls h left.calls n)) next)
 
+-- what is built of a draft whose own serial was left out
+abbrev Made : View → Draft → ℕ → Seen → Type 0
+Made v draft new m =
+    IsNext (waiting_serial v.calls) v.last m.serial × (new ≡ m.serial) × (length m.bytes ≤ 134217728) × (m ≡ built draft m.serial [])
+
+same-built : (draft : Draft) (serial : ℕ) → built (record draft { serial = None }) serial [] ≡ built draft serial []
+unfolding built message_text header_text
+same-built draft serial = refl
+
+same-text : (draft : Draft) (serial : ℕ) → message_text (record draft { serial = None }) serial [] ≡ message_text draft serial []
+unfolding message_text header_text
+same-text draft serial = refl
+
+made-of : (v : View) (draft : Draft) (new : ℕ) (m : Seen) → Builds (waiting_serial v.calls) (record draft { serial = None }) [] v.last new (Ok m) → Made v draft new m
+made-of v draft new m b = (b.0, b.1, b.2, b.3 ∙ same-built draft m.serial)
+
 -- what building refuses, issuing does
 pub refused : (v : View) (draft : Draft) (new : ℕ) (h : List Event) (error : Error) → Left v h
-    → Builds (waiting_serial v.calls) draft [] v.last new (Err error) → Issues v v draft h (Err error)
+    → Builds (waiting_serial v.calls) (record draft { serial = None }) [] v.last new (Err error) → Issues v v draft h (Err error)
 refused v draft new h errors.SerialsSpent left b = (AllTaken-along (waiting_serial v.calls) (pending h) (λ n. sym (pending-left v.calls h left.calls n)) b.0, refl)
-refused v draft new h errors.ExcessData left b = (b.0, next_left v h b.0 left b.1, b.2, refl)
+refused v draft new h errors.ExcessData left b = (b.0, next_left v h b.0 left b.1, subst (λ text. 134217728 < length text) (same-text draft b.0) b.2, refl)
 refused v draft new h errors.Memory left b = refl
 refused v draft new h (errors.InputOutput kind) left b = absurd b
 refused v draft new h (errors.Variant kind) left b = absurd b
@@ -70,6 +86,7 @@ refused v draft new h errors.InvalidMatchRule left b = absurd b
 refused v draft new h errors.IncorrectEndian left b = absurd b
 refused v draft new h errors.UnknownHandle left b = absurd b
 refused v draft new h errors.Unsupported left b = absurd b
+refused v draft new h errors.InvalidField left b = absurd b
 
 -- a message that no call waits for leaves the calls as they were
 put_calls : (m : Seen) (v : CallsView) (h : List Event) → LeftCalls v h → LeftCalls v (Put m false ∷ h)
@@ -119,9 +136,10 @@ built-flags draft serial = refl
 
 -- A message that was built with the next serial and placed is issued.
 pub issued : (v new : View) (draft : Draft) (m : Seen) (last : ℕ) (r : Result Issued Error) (h : List Event) → Left v h
-    → Builds (waiting_serial v.calls) draft [] v.last last (Ok m) → v.failed ≡ false → Places v new m last r
+    → Builds (waiting_serial v.calls) (record draft { serial = None }) [] v.last last (Ok m) → v.failed ≡ false → Places v new m last r
     → Issues v new draft h r
-issued v new draft m last (Ok got) h left made fine p =
+issued v new draft m last (Ok got) h left made_bare fine p =
+    let made = made-of v draft last m made_bare in
     let P : ℕ → Type 0 = λ serial. IsNext (pending h) (last_serial h) serial × (length (message_text draft serial []) ≤ 134217728)
     × (is_failed h ≡ false) × (got.index ≡ length (put h)) × (got.call ≡ call_number (expects_reply draft.flags) (length (calls h)))
     × Left new (Put (built draft serial []) (expects_reply draft.flags) ∷ h) in
@@ -147,6 +165,7 @@ issued v new draft m last (Err errors.InvalidMatchRule) h left made fine p = abs
 issued v new draft m last (Err errors.IncorrectEndian) h left made fine p = absurd p
 issued v new draft m last (Err errors.UnknownHandle) h left made fine p = absurd p
 issued v new draft m last (Err errors.Unsupported) h left made fine p = absurd p
+issued v new draft m last (Err errors.InvalidField) h left made fine p = absurd p
 
 placed_outbox : (expects : Bool) (v : View) (m : Seen) (last : ℕ) → length (placed expects v m last).outbox ≡ length (v.outbox ++ m ∷ [])
 placed_outbox true v m last = refl
@@ -170,9 +189,10 @@ placed_waits v new m last (Err e) fine p = tt
 
 -- where a write failed, a message that was built isn't placed
 pub refused_failed : (v : View) (draft : Draft) (m : Seen) (last : ℕ) (h : List Event) → Left v h
-    → Builds (waiting_serial v.calls) draft [] v.last last (Ok m) → v.failed ≡ true
+    → Builds (waiting_serial v.calls) (record draft { serial = None }) [] v.last last (Ok m) → v.failed ≡ true
     → Issues v v draft h (Err (errors.InputOutput kinds.WriteFault))
-refused_failed v draft m last h left made failed = (
+refused_failed v draft m last h left made_bare failed =
+    let made = made-of v draft last m made_bare in (
   m.serial,
   next_left v h m.serial left made.0,
   subst (λ bs. length bs ≤ 134217728) (ap (λ (n : Seen). n.bytes) made.3 ∙ built-bytes draft m.serial) made.2,

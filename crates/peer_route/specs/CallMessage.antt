@@ -1,5 +1,5 @@
 -- The message of a call (D-Bus Specification, "Types of messages", "Method calls").
-use Rattle.std.specs.Prelude.{ℕ, ◌+◌, ◌==◌, Bool, true, false, not, List, Option, Some}
+use Rattle.std.specs.Prelude.{ℕ, ◌+◌, ◌==◌, Bool, true, false, not, List, Option, Some, None}
 use Rattle.std.specs.Int.RustNames.{bit_and}
 use Rattle.wire_number.specs.declared.endian.Endian.{Endian}
 use Rattle.wire_number.specs.declared.endian.Endian.TheVariants.{Little, Big}
@@ -32,6 +32,7 @@ draft_of name destination path interface member flags = record {
   kind = types.MethodCall;
   order = order_of flags.big;
   flags = flags_number flags;
+  serial = None;
   fields = record no_fields {
     path = Some path;
     interface = interface;

@@ -81,8 +81,8 @@ impl Route {
         }
     }
 
-    /// Puts the message of a builder of a method call in the outbox, with the next serial; a call waits for its reply, but
-    /// where the builder's flags have NoReplyExpected. Refused, in this order: SerialsSpent exactly where each of the
+    /// Puts the message of a builder of a method call in the outbox, with the next serial, also where the builder has one; a
+    /// call waits for its reply, but where the builder's flags have NoReplyExpected. Refused, in this order: SerialsSpent exactly where each of the
     /// 4,294,967,295 serials is pending; ExcessData exactly where the message would pass 134,217,728 bytes;
     /// InputOutput(WriteFault) exactly where a write failed. A refusal changes nothing, and draws no serial.
     pub fn issue(&mut self, builder: Builder<'_>) -> Result<Issued>
@@ -90,7 +90,10 @@ impl Route {
         ensures placed { IfOk result (Waits self.old self.new) }
     {
         let mut serials = self.serials;
-        let message = builder.build_uncounted(self.alloc, &mut serials, &self.calls)?;
+        let message =
+            builder
+                .without_serial()
+                .build_uncounted(self.alloc, &mut serials, &self.calls)?;
         if self.failed {
             return Err(Error::InputOutput(IoKind::WriteFault));
         }

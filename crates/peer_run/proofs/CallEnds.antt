@@ -79,6 +79,7 @@ unissued name p q es lane ws errors.InvalidMatchRule a x f i e = absurd i
 unissued name p q es lane ws errors.IncorrectEndian a x f i e = absurd i
 unissued name p q es lane ws errors.UnknownHandle a x f i e = absurd i
 unissued name p q es lane ws errors.Unsupported a x f i e = absurd i
+unissued name p q es lane ws errors.InvalidField a x f i e = absurd i
 unissued name p q es lane ws errors.Memory a x f i e = cc
 
 same_peer : (p q : PeerView) → q.core ≡ p.core → q.names ≡ p.names → q.streams ≡ p.streams → p ≡ q
@@ -109,6 +110,7 @@ never_read errors.ExcessData a e f = cc
 never_read errors.SerialsSpent a e f = cc
 never_read errors.UnknownHandle a e f = cc
 never_read errors.Unsupported a e f = cc
+never_read errors.InvalidField a e f = cc
 never_read errors.Memory a e f = cc
 
 pub reads_unissued : (name : Option (List ℕ)) (start now : Inlet) (es : List Entry) (lane : ℕ) (ws : CallWords) (error : Error) (a : Answer)
@@ -147,6 +149,7 @@ not_out old new lane issued m now after errors.ExcessData never s names streams 
 not_out old new lane issued m now after errors.SerialsSpent never s names streams left = absurd s
 not_out old new lane issued m now after errors.UnknownHandle never s names streams left = absurd s
 not_out old new lane issued m now after errors.Unsupported never s names streams left = absurd s
+not_out old new lane issued m now after errors.InvalidField never s names streams left = absurd s
 not_out old new lane issued m now after errors.Memory never s names streams left = absurd (never refl)
 
 may_grow : (a b : ℕ) → MayRise a b → a ≤ b
@@ -168,6 +171,7 @@ failed_grows errors.ExcessData bytes held held' room room' a b never s = absurd 
 failed_grows errors.SerialsSpent bytes held held' room room' a b never s = absurd s
 failed_grows errors.UnknownHandle bytes held held' room room' a b never s = absurd s
 failed_grows errors.Unsupported bytes held held' room room' a b never s = absurd s
+failed_grows errors.InvalidField bytes held held' room room' a b never s = absurd s
 failed_grows errors.Memory bytes held held' room room' a b never s = absurd (never refl)
 
 -- the two things that sending gives

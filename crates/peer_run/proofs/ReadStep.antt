@@ -105,6 +105,7 @@ is_read_error errors.ExcessData r n = tt
 is_read_error errors.SerialsSpent r n = absurd r
 is_read_error errors.UnknownHandle r n = absurd r
 is_read_error errors.Unsupported r n = absurd r
+is_read_error errors.InvalidField r n = absurd r
 is_read_error errors.Memory r n = absurd (n refl)
 
 -- the read ended the peer's messages
@@ -133,6 +134,7 @@ told_error errors.ExcessData found n t = t
 told_error errors.SerialsSpent found n t = t
 told_error errors.UnknownHandle found n t = t
 told_error errors.Unsupported found n t = t
+told_error errors.InvalidField found n t = t
 told_error errors.Memory found n t = absurd (n refl)
 
 -- what a read of a closed peer leaves
@@ -279,4 +281,5 @@ faults_rise errors.ExcessData faults faults' h = h
 faults_rise errors.SerialsSpent faults faults' h = h
 faults_rise errors.UnknownHandle faults faults' h = h
 faults_rise errors.Unsupported faults faults' h = h
+faults_rise errors.InvalidField faults faults' h = h
 faults_rise errors.Memory faults faults' h = h

@@ -4,6 +4,7 @@ ghost use Rattle.wire_names.specs.Names.{is_bus_name, is_interface_name, is_memb
 ghost use Rattle.wire_names.specs.BusName.{text_of};
 ghost use Rattle.wire_names.specs.declared.error.NamesError.TheVariants as names;
 ghost use Rattle.wire_message.specs.declared.error.Error.TheVariants as errors;
+ghost use Rattle.wire_message.specs.declared.kind.MessageType.TheVariants as types;
 ghost use Rattle.peer_route.specs.CallMessage.{flags_number, order_of};
 ghost use Rattle.peer_route.specs.Answers.{is_outside};
 ghost use Rattle.peer_run.specs.CallWords.{draft_by, MakesDraft};
@@ -127,7 +128,8 @@ fn flags_of(flags: CallFlags) -> Flags
 /// With those flags, and in that byte order.
 #[tactic(auto, using(crate::proofs::Flags::kept_flags))]
 fn with_letters<'a>(builder: Builder<'a>, flags: CallFlags) -> Result<Builder<'a>>
-    requires { builder.flags ≡ 0 }
+    requires call { builder.kind ≡ types.MethodCall }
+    requires none { builder.flags ≡ 0 }
     ensures { result ≡ Ok (record builder.entry { order = order_of flags.big; flags = flags_number flags }) }
 {
     let order = if flags.big {

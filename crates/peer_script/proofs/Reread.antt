@@ -214,6 +214,7 @@ error_line errors.InvalidMatchRule = refl
 error_line errors.IncorrectEndian = refl
 error_line errors.ExcessData = refl
 error_line errors.Unsupported = refl
+error_line errors.InvalidField = refl
 error_line errors.SerialsSpent = refl
 error_line errors.UnknownHandle = refl
 error_line errors.Memory = refl

@@ -50,6 +50,7 @@ fn put_error(text: &mut Vec<u8>, error: Error) -> Result<(), AllocError>
         Error::IncorrectEndian => put(text, b"IncorrectEndian"),
         Error::ExcessData => put(text, b"ExcessData"),
         Error::Unsupported => put(text, b"Unsupported"),
+        Error::InvalidField => put(text, b"InvalidField"),
         Error::SerialsSpent => put(text, b"SerialsSpent"),
         Error::UnknownHandle => put(text, b"UnknownHandle"),
         Error::Memory => put(text, b"Memory"),

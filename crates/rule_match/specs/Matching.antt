@@ -5,6 +5,7 @@ use Rattle.wire_names.specs.Names.{is_unique_name, IsUniqueName}
 use Rattle.wire_names.specs.declared.bus.OwnedBusName.{OwnedBusName}
 use Rattle.wire_names.specs.declared.bus.OwnedBusName.TheVariants.{Unique, WellKnown}
 use Rattle.wire_message.specs.Front.{Seen, body_bytes}
+use Rattle.wire_message.specs.Primary.{Head}
 use Rattle.wire_message.specs.declared.kind.MessageType.{MessageType}
 use Rattle.rule_arguments.specs.declared.arguments.Argument.{Argument}
 use Rattle.rule_arguments.specs.Below.{IsAtOrBelow}
@@ -51,14 +52,14 @@ unique_only None = None
 unique_only (Some name) = if is_unique_name name then Some name else None
 
 -- the rule of the type, sender, interface, member, path and unique destination of a header
-unfoldable pub header_rule : Seen → Rule
-header_rule m = record no_parts {
-  kind = Some m.kind;
-  sender = option_map Unique m.sender;
-  interface = m.interface;
-  member = m.member;
-  path = option_map Path m.path;
-  destination = unique_only m.destination;
+unfoldable pub header_rule : Head → Rule
+header_rule head = record no_parts {
+  kind = Some head.primary.msg_type;
+  sender = option_map Unique head.fields.sender;
+  interface = head.fields.interface;
+  member = head.fields.member;
+  path = option_map Path head.fields.path;
+  destination = unique_only head.fields.destination;
 }
 
 -- ---- by halves

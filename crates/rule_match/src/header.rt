@@ -13,7 +13,7 @@ use wire_message::Header;
 use wire_names::{BusName, OwnedBusName, OwnedInterfaceName, OwnedMemberName, OwnedUniqueName};
 
 fn sender_of(alloc: Global, header: &Header<'_>) -> Result<Option<OwnedBusName>, AllocError>
-    ensures { IfOk result (λ name. name ≡ option_map Unique header.now.sender) }
+    ensures { IfOk result (λ name. name ≡ option_map Unique header.now.fields.sender) }
 {
     match header.sender() {
         Some(name) => Ok(Some(OwnedBusName::Unique(name.to_owned(alloc)?))),
@@ -25,7 +25,7 @@ fn interface_of(
     alloc: Global,
     header: &Header<'_>,
 ) -> Result<Option<OwnedInterfaceName>, AllocError>
-    ensures { IfOk result (λ name. name ≡ header.now.interface) }
+    ensures { IfOk result (λ name. name ≡ header.now.fields.interface) }
 {
     match header.interface() {
         Some(name) => Ok(Some(name.to_owned(alloc)?)),
@@ -34,7 +34,7 @@ fn interface_of(
 }
 
 fn member_of(alloc: Global, header: &Header<'_>) -> Result<Option<OwnedMemberName>, AllocError>
-    ensures { IfOk result (λ name. name ≡ header.now.member) }
+    ensures { IfOk result (λ name. name ≡ header.now.fields.member) }
 {
     match header.member() {
         Some(name) => Ok(Some(name.to_owned(alloc)?)),
@@ -43,7 +43,7 @@ fn member_of(alloc: Global, header: &Header<'_>) -> Result<Option<OwnedMemberNam
 }
 
 fn place_of(alloc: Global, header: &Header<'_>) -> Result<Option<PathSpec>, AllocError>
-    ensures { IfOk result (λ place. place ≡ option_map places.Path header.now.path) }
+    ensures { IfOk result (λ place. place ≡ option_map places.Path header.now.fields.path) }
 {
     match header.path() {
         Some(path) => Ok(Some(PathSpec::Path(path.to_owned(alloc)?))),
@@ -52,7 +52,7 @@ fn place_of(alloc: Global, header: &Header<'_>) -> Result<Option<PathSpec>, Allo
 }
 
 fn destination_of(alloc: Global, header: &Header<'_>) -> Result<Option<OwnedUniqueName>, AllocError>
-    ensures { IfOk result (λ name. name ≡ unique_only header.now.destination) }
+    ensures { IfOk result (λ name. name ≡ unique_only header.now.fields.destination) }
 {
     match header.destination() {
         Some(BusName::Unique(name)) => Ok(Some(name.to_owned(alloc)?)),

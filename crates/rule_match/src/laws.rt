@@ -1,6 +1,7 @@
 //! Laws of rules.
 ghost use Rattle.std.specs.Prelude.{◌≡◌, ◌↔◌, Ok, IfSome, IsTrue};
 ghost use Rattle.wire_message.specs.Front.{Seen};
+ghost use Rattle.wire_message.specs.Primary.{head_of};
 ghost use Rattle.wire_names.specs.Names.{IsUniqueName, IsInterfaceName, IsMemberName, IsObjectPath};
 ghost use Rattle.rule_match.specs.Again.{IsReadable};
 ghost use Rattle.rule_match.specs.Matching.{Matches, header_rule};
@@ -88,7 +89,7 @@ pub fn rules_hold_their_grammar(rule: &MatchRule)
 
 /// A message matches the rule of its own header.
 pub fn a_message_matches_its_header()
-    ensures { (m : Seen) → Matches (header_rule m) m }
+    ensures { (m : Seen) → Matches (header_rule (head_of m)) m }
 {}
 
 /// Whether two rules are one, which is what `==` decides; equal rules are hashed alike, so they are one key of a map.

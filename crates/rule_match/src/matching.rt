@@ -1,5 +1,5 @@
 //! Whether a message matches a rule.
-ghost use Rattle.std.specs.Prelude.{◌≡◌, ◌<◌, ◌↔◌, ◌⊎◌, length, Some, IfSome, IsTrue, codes, option_map};
+ghost use Rattle.std.specs.Prelude.{◌≡◌, ◌<◌, ◌↔◌, ◌⊎◌, length, [], Some, IfSome, IsTrue, codes, option_map, unwrap_or};
 ghost use Rattle.wire_message.specs.Front.{body_bytes, order_at};
 ghost use Rattle.rule_arguments.specs.Below.{IsAtOrBelow};
 ghost use Rattle.rule_arguments.specs.Wanted.{ArgumentsMatch};
@@ -24,7 +24,7 @@ fn same_text(text: &str, other: &str) -> bool
 }
 
 fn is_kind(wanted: Option<MessageType>, header: &Header<'_>) -> bool
-    ensures { IsTrue result ↔ IfSome wanted (λ kind. header.now.kind ≡ kind) }
+    ensures { IsTrue result ↔ IfSome wanted (λ kind. header.now.primary.msg_type ≡ kind) }
 {
     match wanted {
         Some(kind) => header.message_type() == kind,
@@ -33,7 +33,7 @@ fn is_kind(wanted: Option<MessageType>, header: &Header<'_>) -> bool
 }
 
 fn is_sender(wanted: &Option<OwnedBusName>, header: &Header<'_>) -> bool
-    ensures { IsTrue result ↔ IfSome wanted.now (IsSender header.now.sender) }
+    ensures { IsTrue result ↔ IfSome wanted.now (IsSender header.now.fields.sender) }
 {
     let Some(OwnedBusName::Unique(wanted)) = wanted else {
         return true;
@@ -45,7 +45,7 @@ fn is_sender(wanted: &Option<OwnedBusName>, header: &Header<'_>) -> bool
 }
 
 fn is_interface(wanted: &Option<OwnedInterfaceName>, header: &Header<'_>) -> bool
-    ensures { IsTrue result ↔ IfSome wanted.now (λ name. header.now.interface ≡ Some name) }
+    ensures { IsTrue result ↔ IfSome wanted.now (λ name. header.now.fields.interface ≡ Some name) }
 {
     let Some(wanted) = wanted else {
         return true;
@@ -57,7 +57,7 @@ fn is_interface(wanted: &Option<OwnedInterfaceName>, header: &Header<'_>) -> boo
 }
 
 fn is_member(wanted: &Option<OwnedMemberName>, header: &Header<'_>) -> bool
-    ensures { IsTrue result ↔ IfSome wanted.now (λ name. header.now.member ≡ Some name) }
+    ensures { IsTrue result ↔ IfSome wanted.now (λ name. header.now.fields.member ≡ Some name) }
 {
     let Some(wanted) = wanted else {
         return true;
@@ -76,7 +76,7 @@ fn is_within(namespace: &str, path: &str) -> bool
 }
 
 fn is_place(wanted: &Option<PathSpec>, header: &Header<'_>) -> bool
-    ensures { IsTrue result ↔ IfSome wanted.now (IsPlace header.now.path) }
+    ensures { IsTrue result ↔ IfSome wanted.now (IsPlace header.now.fields.path) }
 {
     let Some(wanted) = wanted else {
         return true;
@@ -89,7 +89,7 @@ fn is_place(wanted: &Option<PathSpec>, header: &Header<'_>) -> bool
 }
 
 fn is_destination(wanted: &Option<OwnedUniqueName>, header: &Header<'_>) -> bool
-    ensures { IsTrue result ↔ IfSome wanted.now (IsDestination header.now.destination) }
+    ensures { IsTrue result ↔ IfSome wanted.now (IsDestination header.now.fields.destination) }
 {
     let Some(wanted) = wanted else {
         return true;
@@ -133,7 +133,7 @@ fn body_of(bytes: &[u8]) -> &[u8]
 
 /// The text of a body's signature.
 fn signature_of<'a>(header: &Header<'a>) -> &'a [u8]
-    ensures { result.now ≡ signature_text header.now }
+    ensures { result.now ≡ unwrap_or header.now.fields.signature [] }
 {
     match header.signature() {
         Some(text) => text,
@@ -152,6 +152,7 @@ fn namespace_of(name: &Option<Text>) -> Option<&str>
 
 impl MatchRule {
     /// Whether the message's arguments are those that are wanted.
+    #[tactic(auto, using(wire_message::proofs::Heads::order_named))]
     fn match_arguments(&self, message: &Message) -> bool
         ensures { IsTrue result ↔ ArgumentsMatch message.now.order (signature_text message.now) (body_bytes message.now.bytes) (wanted_of self.now) }
     {
@@ -169,15 +170,16 @@ impl MatchRule {
     }
 
     /// Whether the message's header has what is wanted of it.
-    fn match_header(&self, header: &Header<'_>) -> bool
-        ensures { IsTrue result ↔ HeaderMatches self.now header.now }
+    fn match_header(&self, message: &Message) -> bool
+        ensures { IsTrue result ↔ HeaderMatches self.now message.now }
     {
-        is_kind(self.kind, header)
-            && is_sender(&self.sender, header)
-            && is_interface(&self.interface, header)
-            && is_member(&self.member, header)
-            && is_place(&self.path, header)
-            && is_destination(&self.destination, header)
+        let header = message.header();
+        is_kind(self.kind, &header)
+            && is_sender(&self.sender, &header)
+            && is_interface(&self.interface, &header)
+            && is_member(&self.member, &header)
+            && is_place(&self.path, &header)
+            && is_destination(&self.destination, &header)
     }
 
     /// Whether the message matches each part of the rule that is there. It takes no memory, and looks at the message's body
@@ -189,6 +191,6 @@ impl MatchRule {
     pub fn matches(&self, message: &Message) -> bool
         ensures { IsTrue result ↔ Matches self.now message.now }
     {
-        self.match_header(&message.header()) && self.match_arguments(message)
+        self.match_header(message) && self.match_arguments(message)
     }
 }

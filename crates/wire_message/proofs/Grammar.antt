@@ -165,6 +165,7 @@ front-found bytes m fits long there no_faults e =
       known = h.flags;
       serial = refl;
       not_zero = h.not_zero;
+      fds = refl;
       fields = (s.list, s.each, s.text, s.all);
     })
 
@@ -208,6 +209,7 @@ front-made bytes m n f =
     ∙ ap (λ (o : Endian). Ok (seen m.bytes 0 m.kind o (slice_index bytes 2) (word_at 8 bytes) (fields_of m))) order
     ∙ ap (λ (k : ℕ). Ok (seen m.bytes 0 m.kind m.order k (word_at 8 bytes) (fields_of m))) f.flags
     ∙ ap (λ (k : ℕ). Ok (seen m.bytes 0 m.kind m.order m.flags k (fields_of m))) (sym f.serial)
+    ∙ ap (λ (ds : List ℕ). Ok (record m { position = 0; fds = ds })) (sym f.fds)
 
 front-head : (bytes : List ℕ) (m : Seen) (n : ℕ) → Front bytes m n → IsHead bytes
 front-head bytes m n f = record { order = order-right bytes m.order f.order; flags = rw f.flags f.known; not_zero = rw (← f.serial) f.not_zero; limit = rw (← f.whole) f.limit }

@@ -7,11 +7,11 @@ use Rattle.wire_number.specs.Number.{number, number_text, number_at, pad, paddin
 use Rattle.wire_number.proofs.Numbers.{number_text-length, number-again}
 use Rattle.wire_message.specs.declared.places.Places.{Places}
 use Rattle.wire_message.specs.Field.{Fields, field_list}
-use Rattle.wire_message.specs.Front.{Seen, seen, Front, kind_code, order_code, order_at, word_at, fields_len, total, field_bytes}
+use Rattle.wire_message.specs.Front.{Seen, seen, bare, Front, kind_code, order_code, order_at, word_at, fields_len, total, field_bytes}
 use Rattle.wire_message.specs.Outcome.{fields_found}
 use Rattle.wire_message.specs.Places.{found_fields, AreSpans, Stands}
-use Rattle.wire_message.specs.Draft.{Draft, draft_fields, header_text, message_text, built, IsDraft, Builds, ReadsAgain}
-use Rattle.wire_message.specs.Circle.{IsNext}
+use Rattle.wire_message.specs.Draft.{Draft, draft_fields, header_text, message_text, built, IsDraft, Builds, BuildsWith, ReadsAgain}
+use Rattle.wire_message.specs.Circle.{IsSerial, last_after}
 use Rattle.wire_message.proofs.Building.{list-valid, list-short, list-says, regroup, laid, front_of, eighth, twelfth, sixteenth}
 use Rattle.wire_message.proofs.Grammar.{order-again, front-fields}
 use Rattle.wire_message.proofs.Moved.{spans-more}
@@ -139,6 +139,7 @@ module _ (draft : Draft) (serial : ℕ) (body : List ℕ) where
         known = valid.flags;
         serial = sym word8;
         not_zero = some;
+        fds = refl;
         fields = (fs, each, fields, sym (list-says draft.fields));
       } in
       subst (λ (l : List ℕ). Front l m (length text)) (sym e) front
@@ -204,13 +205,33 @@ written-built draft serial body text own places m valid some below e limit f o q
 pub not-found : (o : Option Fields) (fields : Fields) → None ≡ o → o ≡ Some fields → ⊥
 not-found o fields e f = cc
 
--- the message with the serial that was drawn
-pub builds-ok : (taken : ℕ → Bool) (draft : Draft) (body : List ℕ) (old new serial : ℕ) (m : Seen) → IsNext taken old serial → new ≡ serial
+-- the message with the serial that it was given
+pub builds-ok : (taken : ℕ → Bool) (draft : Draft) (body : List ℕ) (old new serial : ℕ) (m : Seen) → IsSerial taken draft.serial old serial → new ≡ last_after draft.serial old serial
     → (m ≡ built draft serial body) × (length m.bytes ≤ 134217728) → Builds taken draft body old new (Ok m)
 unfolding built
-builds-ok taken draft body old new serial m next drawn made =
-    let same : m.serial ≡ serial = ap (λ (x : Seen). x.serial) made.0 in
-    (subst (λ (k : ℕ). IsNext taken old k) (sym same) next, drawn ∙ sym same, made.1, made.0 ∙ ap (λ (k : ℕ). built draft k body) (sym same))
+builds-ok taken draft body old new serial m given last made =
+    let same : m.serial ≡ serial = ap (λ (x : Seen). x.serial) made.0 in (
+      subst (λ (k : ℕ). IsSerial taken draft.serial old k) (sym same) given,
+      last ∙ ap (λ (k : ℕ). last_after draft.serial old k) (sym same),
+      made.1,
+      made.0 ∙ ap (λ (k : ℕ). built draft k body) (sym same),
+    )
+
+bare-built : (draft : Draft) (serial : ℕ) (body : List ℕ) (m : Seen) → m ≡ built draft serial body → bare m ≡ built draft serial body
+unfolding built
+bare-built draft serial body m e = ap (λ (x : Seen). bare x) e
+
+-- the same with descriptors
+pub builds-with : (taken : ℕ → Bool) (draft : Draft) (body fds : List ℕ) (old new serial : ℕ) (m r : Seen) → IsSerial taken draft.serial old serial → new ≡ last_after draft.serial old serial
+    → (m ≡ built draft serial body) × (length m.bytes ≤ 134217728) → r ≡ record m { fds = fds } → BuildsWith taken draft body fds old new (Ok r)
+builds-with taken draft body fds old new serial m r given last made e = (
+  builds-ok taken draft body old new serial (bare r) given last
+      (ap (λ (x : Seen). bare x) e ∙ bare-built draft serial body m made.0, subst (λ (x : Seen). length x.bytes ≤ 134217728) (sym e) made.1),
+  ap (λ (x : Seen). x.fds) e,
+)
+
+pub again-with : (fds : List ℕ) (m r : Seen) → r ≡ record m { fds = fds } → ReadsAgain m → ReadsAgain r
+again-with fds m r e h = subst (λ (x : Seen). ReadsAgain x) (sym e) h
 
 -- a body that alone passes the limit of a message
 pub body-long : (draft : Draft) (serial : ℕ) (body : List ℕ) → 134217728 < length body → 134217728 < length (message_text draft serial body)

@@ -61,6 +61,7 @@ front-moved xs ys m n f there e =
       known = f.known;
       serial = f.serial ∙ word-same n 8 xs ys e (omega arith);
       not_zero = f.not_zero;
+      fds = f.fds;
       fields = (f.fields.0, f.fields.1, sym (fields-same n xs ys e (omega (arith, f.whole))) ∙ f.fields.2, f.fields.3);
     }
 

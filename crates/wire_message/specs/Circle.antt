@@ -1,5 +1,5 @@
 -- Serials go round a circle (D-Bus Specification, "Message Format": a serial isn't 0).
-use Rattle.std.specs.Prelude.{ℕ, zero, suc, ◌≡◌, ◌+◌, ◌-◌, ◌%◌, ◌<◌, ◌≤◌, Bool, true, false, if◌then◌else◌, Result, Ok, Err}
+use Rattle.std.specs.Prelude.{ℕ, zero, suc, ◌≡◌, ◌+◌, ◌-◌, ◌%◌, ◌<◌, ◌≤◌, Bool, true, false, if◌then◌else◌, Option, Some, None, Result, Ok, Err}
 use Rattle.wire_message.specs.declared.error.Error.{Error}
 use Rattle.wire_message.specs.declared.error.Error.TheVariants as errors
 
@@ -25,6 +25,27 @@ abbrev pub Draws : (ℕ → Bool) → ℕ → ℕ → Result ℕ Error → Type 
 Draws taken old new (Ok serial) = IsNext taken old serial × (new ≡ serial)
 Draws taken old new (Err errors.SerialsSpent) = AllTaken taken × (new ≡ old)
 Draws taken old new (Err error) = ⊥
+
+-- A message has the serial that was set for it, else the next.
+abbrev pub IsSerial : (ℕ → Bool) → Option ℕ → ℕ → ℕ → Type 0
+IsSerial taken None last serial = IsNext taken last serial
+IsSerial taken (Some set) last serial = serial ≡ set
+
+-- The last serial drawn once a message has its serial: one that was set isn't drawn.
+abbrev pub last_after : Option ℕ → ℕ → ℕ → ℕ
+last_after None last serial = serial
+last_after (Some set) last serial = last
+
+-- None was set, and each is taken.
+abbrev pub NoSerial : (ℕ → Bool) → Option ℕ → Type 0
+NoSerial taken None = AllTaken taken
+NoSerial taken (Some set) = ⊥
+
+-- What asking for a message's serial gives; a refusal draws nothing.
+abbrev pub Numbers : (ℕ → Bool) → Option ℕ → ℕ → ℕ → Result ℕ Error → Type 0
+Numbers taken set old new (Ok serial) = IsSerial taken set old serial × (new ≡ last_after set old serial)
+Numbers taken set old new (Err errors.SerialsSpent) = NoSerial taken set × (new ≡ old)
+Numbers taken set old new (Err error) = ⊥
 
 -- how many of the serials from 1 to n are taken
 unfoldable pub taken_among : (ℕ → Bool) → ℕ → ℕ

@@ -1,26 +1,28 @@
 -- A message as bytes, from what a builder holds (D-Bus Specification, "Message Format").
-use Rattle.std.specs.Prelude.{ℕ, ◌≡◌, ◌<◌, ◌≤◌, Bool, false, nat_lt, List, [], ◌∷◌, ◌++◌, length, Option, Some, None, option_map, IfSome, IsTrue, ◌^◌, Result, Ok, Err}
+use Rattle.std.specs.Prelude.{ℕ, ◌≡◌, ◌<◌, ◌≤◌, ◌==◌, if◌then◌else◌, Bool, false, nat_lt, List, [], ◌∷◌, ◌++◌, length, Option, Some, None, option_map, IfSome, IsTrue, ◌^◌, Result, Ok, Err}
 use Rattle.std.specs.Int.{w32}
+use Rattle.std.specs.Int.RustNames.{bit_and, bit_or}
 use Rattle.wire_number.specs.declared.endian.Endian.{Endian}
 use Rattle.wire_number.specs.declared.endian.Endian.TheVariants.{Little}
 use Rattle.wire_number.specs.Number.{number_text, padded}
 use Rattle.wire_message.specs.Field.{Fields, no_fields, is_text, fields_text, field_list}
-use Rattle.wire_message.specs.Front.{Seen, seen, Front, kind_code, order_code}
+use Rattle.wire_message.specs.Front.{Seen, seen, bare, Front, kind_code, order_code}
 use Rattle.wire_signature.specs.declared.basic.BasicType.{BasicType}
 use Rattle.wire_signature.specs.declared.basic.BasicType.TheVariants as basics
 use Rattle.wire_message.specs.declared.writing.HeaderFields.{HeaderFields}
-use Rattle.wire_message.specs.Circle.{IsNext, AllTaken}
+use Rattle.wire_message.specs.Circle.{IsSerial, NoSerial, last_after}
 use Rattle.wire_message.specs.declared.field.FieldCode.TheVariants as codes
 use Rattle.wire_message.specs.declared.kind.MessageType.{MessageType}
 use Rattle.wire_message.specs.declared.kind.MessageType.TheVariants as types
 use Rattle.wire_message.specs.declared.error.Error.{Error}
 use Rattle.wire_message.specs.declared.error.Error.TheVariants as errors
 
--- what a builder holds
+-- What a builder holds: a serial where one was set.
 pub record Draft : Type 0 where
   pub kind : MessageType
   pub order : Endian
   pub flags : ℕ
+  pub serial : Option ℕ
   pub fields : Fields
 
 -- the bytes of the fields that it has, in the order of their codes
@@ -54,9 +56,21 @@ pub record AreFields (fields : Fields) : Type 0 where
   pub signature : IfSome fields.signature (λ text. IsTrue (is_text codes.Signature text))
   pub unix_fds : IfSome fields.unix_fds (λ number. number < 2 ^ 32)
 
+-- A message of this type can't have these flags: NoReplyExpected, which is 0x1, says that a method call wants no reply.
+abbrev pub are_misplaced : MessageType → ℕ → Bool
+are_misplaced types.MethodCall flags = false
+are_misplaced kind flags = bit_and flags 1 == 1
+
+-- The draft with these flags beside those that it has, where it can have them; flags above 0x4 are left out.
+abbrev pub flagged : Draft → ℕ → Result Draft Error
+flagged draft flags =
+    if are_misplaced draft.kind flags then Err errors.InvalidField
+    else Ok (record draft { flags = bit_or draft.flags (bit_and flags 7) })
+
 -- what a builder may hold
 pub record IsDraft (draft : Draft) : Type 0 where
   pub flags : draft.flags ≤ 7
+  pub serial : IfSome draft.serial (λ number. (0 < number) × (number < 2 ^ 32))
   pub fields : AreFields draft.fields
 
 -- what a text of a type may have at most, for its length to be written
@@ -106,25 +120,31 @@ Makes draft serial body (Err errors.ExcessData) = 134217728 < length (message_te
 Makes draft serial body (Err errors.Memory) = Unit {0}
 Makes draft serial body (Err error) = ⊥
 
--- What building gives: the message with the next serial, which is drawn then alone; SerialsSpent where each serial is taken;
--- else ExcessData where the message would pass 134,217,728 bytes.
+-- What building gives: the message with the serial that was set, else with the next, which is drawn then alone; SerialsSpent
+-- where none was set and each is taken; else ExcessData where the message would pass 134,217,728 bytes.
 abbrev pub Builds : (ℕ → Bool) → Draft → List ℕ → ℕ → ℕ → Result Seen Error → Type 0
 Builds taken draft body old new (Ok m) =
-    IsNext taken old m.serial × (new ≡ m.serial) × (length m.bytes ≤ 134217728) × (m ≡ built draft m.serial body)
-Builds taken draft body old new (Err errors.SerialsSpent) = AllTaken taken × (new ≡ old)
+    IsSerial taken draft.serial old m.serial × (new ≡ last_after draft.serial old m.serial) × (length m.bytes ≤ 134217728)
+    × (m ≡ built draft m.serial body)
+Builds taken draft body old new (Err errors.SerialsSpent) = NoSerial taken draft.serial × (new ≡ old)
 Builds taken draft body old new (Err errors.ExcessData) =
-    (serial : ℕ) × IsNext taken old serial × (134217728 < length (message_text draft serial body)) × (new ≡ old)
+    (serial : ℕ) × IsSerial taken draft.serial old serial × (134217728 < length (message_text draft serial body)) × (new ≡ old)
 Builds taken draft body old new (Err errors.Memory) = new ≡ old
 Builds taken draft body old new (Err error) = ⊥
 
--- A message is read again from its bytes, whatever follows them.
+-- The same of a message that descriptors go with: its bytes have their count alone.
+abbrev pub BuildsWith : (ℕ → Bool) → Draft → List ℕ → List ℕ → ℕ → ℕ → Result Seen Error → Type 0
+BuildsWith taken draft body fds old new (Ok m) = Builds taken draft body old new (Ok (bare m)) × (m.fds ≡ fds)
+BuildsWith taken draft body fds old new (Err error) = Builds taken draft body old new (Err error)
+
+-- A message is read again from its bytes, whatever follows them, but for the descriptors, which go beside them.
 abbrev pub ReadsAgain : Seen → Type 0
-ReadsAgain m = (more : List ℕ) → Front (m.bytes ++ more) m (length m.bytes)
+ReadsAgain m = (more : List ℕ) → Front (m.bytes ++ more) (bare m) (length m.bytes)
 
 -- ---- a method call of little order, without flags and body
 
 abbrev pub call_draft : List ℕ → List ℕ → Draft
-call_draft path member = record { kind = types.MethodCall; order = Little; flags = 0; fields = record no_fields { path = Some path; member = Some member } }
+call_draft path member = record { kind = types.MethodCall; order = Little; flags = 0; serial = None; fields = record no_fields { path = Some path; member = Some member } }
 
 unfoldable pub call_text : ℕ → List ℕ → List ℕ → List ℕ
 call_text serial path member = message_text (call_draft path member) serial []

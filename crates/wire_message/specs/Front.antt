@@ -1,5 +1,5 @@
 -- The header grammar: a message at the front of some bytes (D-Bus Specification, "Message Protocol", "Message Format").
-use Rattle.std.specs.Prelude.{ℕ, ◌≡◌, ◌+◌, ◌<◌, ◌≤◌, ◌==◌, if◌then◌else◌, List, length, take, drop, slice_index, Option}
+use Rattle.std.specs.Prelude.{ℕ, ◌≡◌, ◌+◌, ◌<◌, ◌≤◌, ◌==◌, if◌then◌else◌, List, [], length, take, drop, slice_index, Option}
 use Rattle.std.specs.List.{AllByRecursion}
 use Rattle.std.specs.Int.{w32}
 use Rattle.wire_number.specs.declared.endian.Endian.{Endian}
@@ -9,8 +9,8 @@ use Rattle.wire_message.specs.Field.{Fields, no_fields, Field, IsField, fields_t
 use Rattle.wire_message.specs.declared.kind.MessageType.{MessageType}
 use Rattle.wire_message.specs.declared.kind.MessageType.TheVariants as types
 
--- What contracts see of a message: its own bytes, its position among the messages read (0 for one that wasn't read), and
--- what its header says. A message that stands on its bytes (`Front`) is determined by them.
+-- What contracts see of a message: its own bytes, its position among the messages read (0 for one that wasn't read), what its
+-- header says, and the descriptors that go with it. A message that stands on its bytes (`Front`) is determined by them.
 pub record Seen : Type 0 where
   pub bytes : List ℕ
   pub position : ℕ
@@ -27,8 +27,9 @@ pub record Seen : Type 0 where
   pub sender : Option (List ℕ)
   pub signature : Option (List ℕ)
   pub unix_fds : Option ℕ
+  pub fds : List ℕ
 
--- a message of these parts
+-- a message of these parts, without descriptors
 abbrev pub seen : List ℕ → ℕ → MessageType → Endian → ℕ → ℕ → Fields → Seen
 seen bytes position kind order flags serial fields = record {
   bytes = bytes;
@@ -46,7 +47,12 @@ seen bytes position kind order flags serial fields = record {
   sender = fields.sender;
   signature = fields.signature;
   unix_fds = fields.unix_fds;
+  fds = [];
 }
+
+-- the message without its descriptors
+abbrev pub bare : Seen → Seen
+bare m = record m { fds = [] }
 
 -- its header fields
 abbrev pub fields_of : Seen → Fields
@@ -105,7 +111,7 @@ field_bytes bytes = take (fields_len bytes) (drop 16 bytes)
 abbrev pub body_bytes : List ℕ → List ℕ
 body_bytes bytes = take (body_len bytes) (drop (header_len bytes) bytes)
 
--- The message `m` stands on the first `n` of the bytes.
+-- The message `m` stands on the first `n` of the bytes. No descriptors go with bytes alone.
 pub record Front (bytes : List ℕ) (m : Seen) (n : ℕ) : Type 0 where
   pub own : m.bytes ≡ take n bytes
   pub there : n ≤ length bytes
@@ -118,4 +124,5 @@ pub record Front (bytes : List ℕ) (m : Seen) (n : ℕ) : Type 0 where
   pub known : m.flags ≤ 7
   pub serial : m.serial ≡ word_at 8 bytes
   pub not_zero : 0 < m.serial
+  pub fds : m.fds ≡ []
   pub fields : (fs : List Field) × AllByRecursion IsField fs × (field_bytes bytes ≡ fields_text m.order 16 fs) × (fields_of m ≡ gathered no_fields fs)

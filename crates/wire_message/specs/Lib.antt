@@ -9,3 +9,6 @@ pub mod Texts
 pub mod Primary
 pub mod Whole
 pub mod Signed
+pub mod Descriptors
+pub mod Drafts
+pub mod Lending

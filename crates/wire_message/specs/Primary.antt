@@ -2,7 +2,8 @@
 use Rattle.std.specs.Prelude.{ℕ, ◌≡◌, ◌≢◌, Result, Ok, Err, slice_index}
 use Rattle.wire_number.specs.declared.endian.Endian.{Endian}
 use Rattle.wire_number.specs.declared.endian.Endian.TheVariants as orders
-use Rattle.wire_message.specs.Front.{Seen, body_len}
+use Rattle.wire_message.specs.Field.{Fields}
+use Rattle.wire_message.specs.Front.{Seen, fields_of, body_len}
 use Rattle.wire_message.specs.declared.endian_sig.EndianSig.{EndianSig}
 use Rattle.wire_message.specs.declared.endian_sig.EndianSig.TheVariants as sigs
 use Rattle.wire_message.specs.declared.kind.MessageType.{MessageType}
@@ -49,6 +50,15 @@ primary_of m = record {
   body_len = body_len m.bytes;
   serial_num = m.serial;
 }
+
+-- What contracts see of a header: those, and the header fields (D-Bus Specification, "Header Fields").
+pub record Head : Type 0 where
+  pub primary : Primary
+  pub fields : Fields
+
+-- that of a message
+abbrev pub head_of : Seen → Head
+head_of m = record { primary = primary_of m; fields = fields_of m }
 
 -- those of a message that isn't made yet: little order, no flags, version 1
 abbrev pub new_primary : MessageType → ℕ → ℕ → Primary

@@ -1,10 +1,9 @@
 ghost use Rattle.std.specs.Prelude.{ℕ, ◌≡◌, ◌+◌, ◌<◌, ◌≤◌, ◌^◌, ◌++◌, ◌∷◌, [], List, length, Some, None, Ok, Err, IfOk, OnOk, IsTrue, IfSome};
-ghost use Rattle.std.specs.Int.RustNames.{bit_and, bit_or};
 ghost use Rattle.wire_number.specs.declared.endian.Endian.TheVariants.{Little};
 ghost use Rattle.wire_names.specs.BusName.{text_of};
 ghost use Rattle.wire_message.specs.Front.{order_code};
-ghost use Rattle.wire_message.specs.Circle.{taken_among};
-ghost use Rattle.wire_message.specs.Draft.{Draft, AreFields, IsDraft, AreShort, header_fields, header_text, message_text, call_draft, has_long_text, Writes, Makes, Builds, ReadsAgain};
+ghost use Rattle.wire_message.specs.Circle.{Numbers, taken_among};
+ghost use Rattle.wire_message.specs.Draft.{Draft, AreFields, IsDraft, AreShort, header_fields, header_text, message_text, call_draft, flagged, has_long_text, Writes, Makes, Builds, ReadsAgain};
 ghost use Rattle.wire_message.specs.declared.kind.MessageType.TheVariants as types;
 
 use crate::error::{Error, Result};
@@ -14,7 +13,7 @@ use crate::kind::{MessageType, type_code};
 use crate::message::{Message, Parts};
 use crate::serials::{Serials, Taken};
 use crate::steps::Steps;
-use crate::writing::{HeaderFields, field_array};
+use crate::writing::{HeaderFields, NO_FIELDS, field_array};
 use std::alloc::Global;
 use std::marker::{Brand, Model};
 use std::sync::ArcSlice;
@@ -29,6 +28,7 @@ pub struct Builder<'a> {
     pub(crate) kind: MessageType,
     pub(crate) order: Endian,
     pub(crate) flags: u8,
+    pub(crate) serial: Option<u32>,
     pub(crate) fields: HeaderFields<'a>,
 }
 
@@ -37,9 +37,9 @@ impl<'a> Model for Builder<'a> {
 
     ghost Value = { Draft };
 
-    ghost view = { λ b. record { kind = b.kind; order = b.order; flags = b.flags; fields = header_fields b.fields } };
+    ghost view = { λ b. record { kind = b.kind; order = b.order; flags = b.flags; serial = b.serial; fields = header_fields b.fields } };
 
-    ghost invariant = { λ b. IsDraft (record { kind = b.kind; order = b.order; flags = b.flags; fields = header_fields b.fields }) };
+    ghost invariant = { λ b. IsDraft (record { kind = b.kind; order = b.order; flags = b.flags; serial = b.serial; fields = header_fields b.fields }) };
 }
 
 /// The byte of a byte order.
@@ -61,16 +61,11 @@ impl Message {
             kind: MessageType::MethodCall,
             order: Endian::Little,
             flags: 0,
+            serial: None,
             fields: HeaderFields {
                 path: Some(path.as_str()),
-                interface: None,
                 member: Some(member.as_str()),
-                error_name: None,
-                reply_serial: None,
-                destination: None,
-                sender: None,
-                signature: None,
-                unix_fds: None,
+                ..NO_FIELDS
             },
         }
     }
@@ -94,10 +89,14 @@ impl<'a> Builder<'a> {
         Builder { order, ..self }
     }
 
-    /// With these flags beside those that it has; bits above 0x4 are left out.
+    /// With these flags beside those that it has; bits above 0x4 are left out. InvalidField exactly for NoReplyExpected on a
+    /// message that isn't a method call (D-Bus Specification, "Message Format"); the builder is given up then.
     pub fn with_flags(self, flags: Flags) -> Result<Builder<'a>>
-        ensures { result ≡ Ok (record self.entry { flags = bit_or self.entry.flags (bit_and flags.0 7) }) }
+        ensures { result ≡ flagged self.entry flags.0 }
     {
+        if self.kind != MessageType::MethodCall && flags.0 & 1 == 1 {
+            return Err(Error::InvalidField);
+        }
         let known = flags.0 & 7;
         Ok(Builder {
             flags: self.flags | known,
@@ -125,6 +124,27 @@ impl<'a> Builder<'a> {
             ..self.fields
         };
         Builder { fields, ..self }
+    }
+
+    /// With that serial; none is drawn for the message (D-Bus Specification, "Message Format").
+    pub fn serial(self, serial: u32) -> Builder<'a>
+        requires { 0 < serial }
+        ensures { result ≡ record self.entry { serial = Some serial } }
+    {
+        Builder {
+            serial: Some(serial),
+            ..self
+        }
+    }
+
+    /// Without a serial of its own: the message gets the next that is drawn.
+    pub fn without_serial(self) -> Builder<'a>
+        ensures { result ≡ record self.entry { serial = None } }
+    {
+        Builder {
+            serial: None,
+            ..self
+        }
     }
 
     /// With that reply serial (D-Bus Specification, "Header Fields", `REPLY_SERIAL`).
@@ -226,9 +246,27 @@ impl<'a> Builder<'a> {
         Ok(Message::from_parts(bytes, parts))
     }
 
-    /// The message, with the next serial. SerialsSpent comes exactly where each serial is pending, else ExcessData exactly
-    /// where the message would pass 134,217,728 bytes (D-Bus Specification, "Message Format"). A serial is drawn only with the
-    /// message. A step is a serial that is looked at.
+    /// The serial that was set, else the next, which is drawn.
+    pub(crate) fn own_or_next<T: Taken, L: Ledger>(
+        &self,
+        serials: &mut Serials,
+        taken: &T,
+        steps: &mut Steps<L>,
+    ) -> Result<u32>
+        ensures numbers { Numbers (T.is_taken taken.now) self.now.serial serials.old serials.new result }
+        ensures some { IfOk result (λ serial. 0 < serial) }
+        ensures cost { steps.new ≤ steps.old + taken_among (T.is_taken taken.now) 4294967295 + 2 }
+    {
+        match self.serial {
+            Some(serial) => Ok(serial),
+            None => serials.next(taken, steps),
+        }
+    }
+
+    /// The message, with the serial that was set, else with the next. SerialsSpent comes exactly where none was set and each
+    /// serial is pending, else ExcessData exactly where the message would pass 134,217,728 bytes (D-Bus Specification,
+    /// "Message Format"). A serial is drawn only with the message, and only where none was set. A step is a serial that is
+    /// looked at.
     pub fn build<T: Taken, L: Ledger>(
         self,
         alloc: Global,
@@ -241,7 +279,7 @@ impl<'a> Builder<'a> {
         ensures cost { steps.new ≤ steps.old + taken_among (T.is_taken taken.now) 4294967295 + 2 }
     {
         let mut drawn = *serials;
-        let serial = drawn.next(taken, steps)?;
+        let serial = self.own_or_next(&mut drawn, taken, steps)?;
         let message = self.with_serial(alloc, serial, &[])?;
         *serials = drawn;
         Ok(message)

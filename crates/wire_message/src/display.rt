@@ -114,7 +114,7 @@ impl Message {
         ensures { option_map (λ t. t.now) result ≡ argument_found self.now }
     {
         if self.begins_with_string() {
-            first_string(self.header().endian(), self.body_bytes())
+            first_string(self.parts.order, self.body_bytes())
         } else {
             None
         }

@@ -39,6 +39,8 @@ pub enum Error {
     ExcessData,
     /// The message has file descriptors, and the sink takes none.
     Unsupported,
+    /// A message of this type can't have this flag.
+    InvalidField,
     /// Each of the 4,294,967,295 serials is pending.
     SerialsSpent,
     /// A number names nothing, or nothing any more.
@@ -123,6 +125,7 @@ impl fmt::Display for Error {
             Error::IncorrectEndian => f.write_str("incorrect endian"),
             Error::ExcessData => f.write_str("excess data"),
             Error::Unsupported => f.write_str("Connection support is lacking"),
+            Error::InvalidField => f.write_str("invalid message field"),
             Error::SerialsSpent => f.write_str("SerialsSpent"),
             Error::UnknownHandle => f.write_str("UnknownHandle"),
             Error::Memory => f.write_str("Memory"),

@@ -1,27 +1,34 @@
-ghost use Rattle.std.specs.Prelude.{◌≡◌, IfSome, Option, Some, None, option_map, length, List, ℕ};
+ghost use Rattle.std.specs.Borrow.{sem};
+ghost use Rattle.std.specs.Prelude.{◌≡◌, ◌<◌, ◌^◌, IfSome, Option, Some, None, option_map, length, List, ℕ};
 ghost use Rattle.wire_names.specs.BusName.{bus_name_of};
+ghost use Rattle.wire_message.specs.Lending.{LendsPrimary};
+ghost use Rattle.wire_message.specs.Primary.{head_of, order_of};
 ghost use Rattle.wire_message.specs.Places.{IsSpan, span_text};
 
 use crate::flags::Flags;
 use crate::kind::MessageType;
 use crate::message::Message;
 use crate::places::Span;
+use crate::primary::PrimaryHeader;
 use std::marker::Model;
 use wire_names::{BusName, ErrorName, InterfaceName, MemberName, ObjectPath, UniqueName};
 use wire_number::Endian;
 
-/// The header of a message (D-Bus Specification, "Header Fields"). Its texts are the message's own bytes.
+/// The header of a message (D-Bus Specification, "Message Format", "Header Fields"): the part that each message has, as a copy
+/// that can be changed, and the header fields, whose texts are the message's own bytes.
 #[derive(Drop)]
 pub struct Header<'a> {
-    pub(crate) message: &'a Message,
+    primary: PrimaryHeader,
+    message: &'a Message,
 }
 
 impl<'a> Model for Header<'a> {
-    ghost use Rattle.wire_message.specs.Front.{Seen};
+    ghost use Rattle.wire_message.specs.Front.{fields_of};
+    ghost use Rattle.wire_message.specs.Primary.{Head};
 
-    ghost Value = { Seen };
+    ghost Value = { Head };
 
-    ghost view = { λ h. h.message.now };
+    ghost view = { λ h. record { primary = h.primary; fields = fields_of h.message.now } };
 }
 
 /// The bytes of a span.
@@ -38,39 +45,62 @@ fn part(bytes: &[u8], span: Option<Span>) -> Option<&[u8]>
 impl Message {
     /// The message's header.
     pub fn header(&self) -> Header<'_>
-        ensures { result ≡ self.now }
+        ensures { result ≡ head_of self.now }
     {
-        Header { message: self }
+        Header {
+            primary: self.primary_header(),
+            message: self,
+        }
     }
 }
 
 impl<'a> Header<'a> {
+    /// The part of the header that each message has.
+    pub fn primary(&self) -> &PrimaryHeader
+        ensures { result.now ≡ self.now.primary }
+    {
+        &self.primary
+    }
+
+    /// The same, to be changed: in this header, and not in the message's bytes.
+    pub fn primary_mut(&mut self) -> &mut PrimaryHeader
+        ensures* lends { sem 𝓛 (LendsPrimary self.entry result) }
+        ensures value { result.now ≡ self.old.primary }
+    {
+        &mut self.primary
+    }
+
+    /// The same, of a header that is given up.
+    pub fn into_primary(self) -> PrimaryHeader
+        ensures { result ≡ self.entry.primary }
+    {
+        self.primary
+    }
+
     /// What the message is.
     pub fn message_type(&self) -> MessageType
-        ensures { result ≡ self.now.kind }
+        ensures { result ≡ self.now.primary.msg_type }
     {
-        self.message.message_type()
+        self.primary.msg_type()
     }
 
     /// The byte order of the message's numbers.
     pub fn endian(&self) -> Endian
-        ensures { result ≡ self.now.order }
+        ensures { result ≡ order_of self.now.primary.endian_sig }
     {
-        let message = self.message;
-        message.parts.order
+        Endian::from(self.primary.endian_sig())
     }
 
     /// What the message asks of its reader.
     pub fn flags(&self) -> Flags
-        ensures { result.0 ≡ self.now.flags }
+        ensures { result.0 ≡ self.now.primary.flags }
     {
-        let message = self.message;
-        Flags(message.parts.flags)
+        self.primary.flags()
     }
 
     /// The object that the message is sent to, or a signal from.
     pub fn path(&self) -> Option<ObjectPath<'a>>
-        ensures { result ≡ self.now.path }
+        ensures { result ≡ self.now.fields.path }
     {
         let message = self.message;
         let text = part(message.bytes.as_slice(), message.parts.places.path)?;
@@ -82,7 +112,7 @@ impl<'a> Header<'a> {
 
     /// The interface that the member belongs to.
     pub fn interface(&self) -> Option<InterfaceName<'a>>
-        ensures { result ≡ self.now.interface }
+        ensures { result ≡ self.now.fields.interface }
     {
         let message = self.message;
         let text = part(message.bytes.as_slice(), message.parts.places.interface)?;
@@ -94,7 +124,7 @@ impl<'a> Header<'a> {
 
     /// The method or signal.
     pub fn member(&self) -> Option<MemberName<'a>>
-        ensures { result ≡ self.now.member }
+        ensures { result ≡ self.now.fields.member }
     {
         let message = self.message;
         let text = part(message.bytes.as_slice(), message.parts.places.member)?;
@@ -106,7 +136,7 @@ impl<'a> Header<'a> {
 
     /// The error, of an error reply.
     pub fn error_name(&self) -> Option<ErrorName<'a>>
-        ensures { result ≡ self.now.error_name }
+        ensures { result ≡ self.now.fields.error_name }
     {
         let message = self.message;
         let text = part(message.bytes.as_slice(), message.parts.places.error_name)?;
@@ -118,14 +148,16 @@ impl<'a> Header<'a> {
 
     /// The serial of the call that the message answers; it isn't 0.
     pub fn reply_serial(&self) -> Option<u32>
-        ensures { result ≡ self.now.reply_serial }
+        ensures value { result ≡ self.now.fields.reply_serial }
+        ensures some { IfSome result (λ serial. (0 < serial) × (serial < 2 ^ 32)) }
     {
-        self.message.reply_serial()
+        let message = self.message;
+        message.parts.places.reply_serial
     }
 
     /// The connection that the message is for.
     pub fn destination(&self) -> Option<BusName<'a>>
-        ensures { result ≡ option_map bus_name_of self.now.destination }
+        ensures { result ≡ option_map bus_name_of self.now.fields.destination }
     {
         let message = self.message;
         let text = part(message.bytes.as_slice(), message.parts.places.destination)?;
@@ -137,7 +169,7 @@ impl<'a> Header<'a> {
 
     /// The connection that sent the message.
     pub fn sender(&self) -> Option<UniqueName<'a>>
-        ensures { result ≡ self.now.sender }
+        ensures { result ≡ self.now.fields.sender }
     {
         let message = self.message;
         let text = part(message.bytes.as_slice(), message.parts.places.sender)?;
@@ -149,7 +181,7 @@ impl<'a> Header<'a> {
 
     /// The text of the body's signature.
     pub fn signature(&self) -> Option<&'a [u8]>
-        ensures { option_map (λ text. text.now) result ≡ self.now.signature }
+        ensures { option_map (λ text. text.now) result ≡ self.now.fields.signature }
     {
         let message = self.message;
         part(message.bytes.as_slice(), message.parts.places.signature)
@@ -157,7 +189,7 @@ impl<'a> Header<'a> {
 
     /// How many file descriptors go with the message.
     pub fn unix_fds(&self) -> Option<u32>
-        ensures { result ≡ self.now.unix_fds }
+        ensures { result ≡ self.now.fields.unix_fds }
     {
         let message = self.message;
         message.parts.places.unix_fds

@@ -17,6 +17,7 @@ mod places;
 mod primary;
 mod raw_body;
 mod reading;
+mod replies;
 mod sequence;
 mod serials;
 mod steps;

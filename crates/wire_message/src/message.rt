@@ -2,6 +2,7 @@ ghost use Rattle.std.specs.Prelude.{ℕ, ◌≡◌, ◌≤◌, IfOk, List, lengt
 ghost use Rattle.std.specs.Arc.{arc_slice_items};
 ghost use Rattle.wire_message.specs.Front.{Seen, seen, Front, body_bytes};
 ghost use Rattle.wire_message.specs.Places.{found_fields, span_text, IsSpan, Stands};
+ghost use Rattle.wire_message.specs.Descriptors.{numbers_in};
 
 use crate::front::header_len;
 use crate::kind::MessageType;
@@ -28,16 +29,18 @@ pub struct Message {
     pub(crate) bytes: ArcSlice<u8>,
     position: u64,
     pub(crate) parts: Parts,
+    fds: Option<ArcSlice<u32>>,
 }
 
 impl Model for Message {
     ghost use Rattle.std.specs.Arc.{arc_slice_items};
     ghost use Rattle.wire_message.specs.Front.{Seen, seen};
     ghost use Rattle.wire_message.specs.Places.{found_fields, Stands};
+    ghost use Rattle.wire_message.specs.Descriptors.{numbers_in};
 
     ghost Value = { Seen };
 
-    ghost view = { λ m. seen (arc_slice_items m.bytes) m.position m.parts.kind m.parts.order m.parts.flags m.parts.serial (found_fields (arc_slice_items m.bytes) m.parts.places) };
+    ghost view = { λ m. record (seen (arc_slice_items m.bytes) m.position m.parts.kind m.parts.order m.parts.flags m.parts.serial (found_fields (arc_slice_items m.bytes) m.parts.places)) { fds = numbers_in m.fds } };
 
     ghost invariant = { λ m. Stands (arc_slice_items m.bytes) m.parts.kind m.parts.order m.parts.flags m.parts.serial m.parts.places };
 }
@@ -52,6 +55,30 @@ impl Message {
             bytes,
             position: 0,
             parts,
+            fds: None,
+        }
+    }
+
+    /// The same message, with those descriptors in place of its own.
+    pub(crate) fn with_fds(self, fds: Option<ArcSlice<u32>>) -> Message
+        ensures { result ≡ record self { fds = numbers_in fds } }
+    {
+        Message {
+            fds,
+            bytes: self.bytes,
+            position: self.position,
+            parts: self.parts,
+        }
+    }
+
+    /// The numbers of the file descriptors that go with the message, as they were handed in when it was built; none of a
+    /// message that was read (D-Bus Specification, "Message Format").
+    pub fn fds(&self) -> &[u32]
+        ensures { result.now ≡ self.now.fds }
+    {
+        match &self.fds {
+            Some(fds) => fds.as_slice(),
+            None => &[],
         }
     }
 
@@ -98,6 +125,7 @@ impl Message {
             position,
             bytes: self.bytes,
             parts: self.parts,
+            fds: self.fds,
         }
     }
 
@@ -105,10 +133,15 @@ impl Message {
     pub fn try_clone(&self) -> std::result::Result<Message, AllocError>
         ensures { IfOk result (λ copy. copy ≡ self.now) }
     {
+        let fds = match &self.fds {
+            Some(fds) => Some(fds.clone()?),
+            None => None,
+        };
         Ok(Message {
             bytes: self.bytes.clone()?,
             position: self.position,
             parts: self.parts,
+            fds,
         })
     }
 }

@@ -3,7 +3,6 @@ ghost use Rattle.wire_message.specs.Primary.{new_primary, primary_of};
 
 use crate::endian_sig::{EndianSig, NATIVE_ENDIAN_SIG};
 use crate::flags::Flags;
-use crate::header::Header;
 use crate::kind::MessageType;
 use crate::message::Message;
 use std::marker::Model;
@@ -138,21 +137,5 @@ impl Message {
             body_len: read_u32(self.parts.order, bytes, 4),
             serial_num: self.parts.serial,
         }
-    }
-}
-
-impl<'a> Header<'a> {
-    /// The part of the header that each message has.
-    pub fn primary(&self) -> PrimaryHeader
-        ensures { result ≡ primary_of self.now }
-    {
-        self.message.primary_header()
-    }
-
-    /// As `primary`, of a header that is given up.
-    pub fn into_primary(self) -> PrimaryHeader
-        ensures { result ≡ primary_of self.entry }
-    {
-        self.primary()
     }
 }

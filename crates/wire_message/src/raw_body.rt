@@ -1,10 +1,11 @@
 //! Messages whose bodies are bytes.
-ghost use Rattle.std.specs.Prelude.{◌≡◌, ◌+◌, ◌<◌, ◌≤◌, IfOk, IfSome, IsTrue, option_map};
+ghost use Rattle.std.specs.Prelude.{◌≡◌, ◌+◌, ◌<◌, ◌≤◌, ◌^◌, IfOk, IfSome, IsTrue, length, option_map};
 ghost use Rattle.wire_signature.specs.Shape.{SignatureText};
 ghost use Rattle.wire_message.specs.Circle.{taken_among};
-ghost use Rattle.wire_message.specs.Draft.{Builds, ReadsAgain};
+ghost use Rattle.wire_message.specs.Draft.{BuildsWith, ReadsAgain};
 ghost use Rattle.wire_message.specs.Field.{is_text};
-ghost use Rattle.wire_message.specs.Signed.{signature_field, signed};
+ghost use Rattle.wire_message.specs.Descriptors.{numbers_in};
+ghost use Rattle.wire_message.specs.Signed.{counted, signature_field, signed};
 ghost use Rattle.wire_message.specs.declared.field.FieldCode.TheVariants as codes;
 
 use crate::builder::Builder;
@@ -13,8 +14,9 @@ use crate::message::Message;
 use crate::serials::{Serials, Taken};
 use crate::steps::Steps;
 use crate::writing::HeaderFields;
-use std::alloc::Global;
+use std::alloc::{AllocError, Global};
 use std::marker::Brand;
+use std::sync::ArcSlice;
 use std::sync::ledger::{Blank, Ledger};
 use wire_signature::Signature;
 
@@ -31,6 +33,16 @@ fn field_of<'a>(signature: &Signature, text: &'a str) -> Option<&'a str>
     }
 }
 
+/// The descriptors, shared by the message and its clones; None where there are none.
+fn shared_fds(alloc: Global, fds: &[u32]) -> std::result::Result<Option<ArcSlice<u32>>, AllocError>
+    ensures { IfOk result (λ shared. numbers_in shared ≡ fds.now) }
+{
+    if fds.is_empty() {
+        return Ok(None);
+    }
+    Ok(Some(ArcSlice::from_slice(alloc, fds)?))
+}
+
 impl<'a> Builder<'a> {
     /// With that signature (D-Bus Specification, "Header Fields", `SIGNATURE`).
     fn with_signature(self, signature: Option<&'a str>) -> Builder<'a>
@@ -44,8 +56,26 @@ impl<'a> Builder<'a> {
         Builder { fields, ..self }
     }
 
-    /// As `build`, with these bytes as the body and that signature. They are put as they are, and not compared: what they
-    /// spell is for the caller to know. An empty signature is left out.
+    /// With the count of those descriptors (D-Bus Specification, "Header Fields", `UNIX_FDS`); without one where there are none.
+    fn with_count(self, fds: &[u32]) -> Builder<'a>
+        requires { length fds.now < 2 ^ 32 }
+        ensures { result ≡ counted self.entry fds.now }
+    {
+        let unix_fds = if fds.is_empty() {
+            None
+        } else {
+            Some(fds.len() as u32)
+        };
+        let fields = HeaderFields {
+            unix_fds,
+            ..self.fields
+        };
+        Builder { fields, ..self }
+    }
+
+    /// As `build`, with these bytes as the body, that signature, and these descriptors. The bytes are put as they are, and not
+    /// compared with the signature: what they spell is for the caller to know. An empty signature is left out. The
+    /// descriptors go with the message; their count is written as its `UNIX_FDS` exactly where there are some.
     pub fn build_raw_body<T: Taken, L: Ledger>(
         self,
         alloc: Global,
@@ -53,19 +83,23 @@ impl<'a> Builder<'a> {
         taken: &T,
         body: &[u8],
         signature: &Signature,
+        fds: &[u32],
         steps: &mut Steps<L>,
     ) -> Result<Message>
-        ensures built { Builds (T.is_taken taken.now) (signed self.entry signature.now) body.now serials.old serials.new result }
+        requires { length fds.now < 2 ^ 32 }
+        ensures built { BuildsWith (T.is_taken taken.now) (counted (signed self.entry signature.now) fds.now) body.now fds.now serials.old serials.new result }
         ensures again { IfOk result ReadsAgain }
         ensures cost { steps.new ≤ steps.old + taken_among (T.is_taken taken.now) 4294967295 + 2 }
     {
         let mut drawn = *serials;
-        let serial = drawn.next(taken, steps)?;
+        let serial = self.own_or_next(&mut drawn, taken, steps)?;
         let text = signature.to_text(alloc)?;
         let field = field_of(signature, text.as_str());
-        let message = self.with_signature(field).with_serial(alloc, serial, body)?;
+        let shared = shared_fds(alloc, fds)?;
+        let builder = self.with_signature(field).with_count(fds);
+        let message = builder.with_serial(alloc, serial, body)?;
         *serials = drawn;
-        Ok(message)
+        Ok(message.with_fds(shared))
     }
 
     fn raw_from<T: Taken, L: Ledger>(
@@ -75,16 +109,18 @@ impl<'a> Builder<'a> {
         taken: &T,
         body: &[u8],
         signature: &Signature,
+        fds: &[u32],
         blank: Blank,
     ) -> Result<Message>
+        requires few { length fds.now < 2 ^ 32 }
         requires name { blank.name ≡ L.name }
         requires parts { blank.parts ≡ L.parts }
         requires some { 0 < blank.parts }
-        ensures built { Builds (T.is_taken taken.now) (signed self.entry signature.now) body.now serials.old serials.new result }
+        ensures built { BuildsWith (T.is_taken taken.now) (counted (signed self.entry signature.now) fds.now) body.now fds.now serials.old serials.new result }
         ensures again { IfOk result ReadsAgain }
     {
         let mut steps = Steps::<L>::start(blank);
-        self.build_raw_body(alloc, serials, taken, body, signature, &mut steps)
+        self.build_raw_body(alloc, serials, taken, body, signature, fds, &mut steps)
     }
 
     /// As `build_raw_body`, for a caller that counts no steps.
@@ -95,11 +131,13 @@ impl<'a> Builder<'a> {
         taken: &T,
         body: &[u8],
         signature: &Signature,
+        fds: &[u32],
     ) -> Result<Message>
-        ensures built { Builds (T.is_taken taken.now) (signed self.entry signature.now) body.now serials.old serials.new result }
+        requires { length fds.now < 2 ^ 32 }
+        ensures built { BuildsWith (T.is_taken taken.now) (counted (signed self.entry signature.now) fds.now) body.now fds.now serials.old serials.new result }
         ensures again { IfOk result ReadsAgain }
     {
         let blank = Blank::new(1);
-        self.raw_from::<T, Brand>(alloc, serials, taken, body, signature, blank)
+        self.raw_from::<T, Brand>(alloc, serials, taken, body, signature, fds, blank)
     }
 }

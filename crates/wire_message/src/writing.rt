@@ -24,6 +24,19 @@ pub(crate) struct HeaderFields<'a> {
     pub(crate) unix_fds: Option<u32>,
 }
 
+/// None of them is there.
+pub(crate) const NO_FIELDS: HeaderFields<'static> = HeaderFields {
+    path: None,
+    interface: None,
+    member: None,
+    error_name: None,
+    reply_serial: None,
+    destination: None,
+    sender: None,
+    signature: None,
+    unix_fds: None,
+};
+
 /// Adds a text as a value of the type.
 fn put_value(
     out: &mut Vec<u8>,

@@ -9,5 +9,5 @@ field_array-requires c =
 
 pub returns-then-has_long_path-clause-written : goal.returns-then-has_long_path-clause-written
 returns-then-has_long_path-clause-written c =
-    let draft : Draft = record { kind = c.self.inside.kind; order = c.self.inside.order; flags = c.self.inside.flags; fields = header_fields c.self.inside.fields } in
+    let draft : Draft = record { kind = c.self.inside.kind; order = c.self.inside.order; flags = c.self.inside.flags; serial = c.self.inside.serial; fields = header_fields c.self.inside.fields } in
     rw (← c.self.view_is) (path-long draft c.args.serial c.args.body.now (sym c.has_long_path.ensures ∙ c.if-has_long_path.true))

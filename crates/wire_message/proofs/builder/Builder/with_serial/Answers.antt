@@ -18,7 +18,7 @@ returns-in_default-clause-made c =
 
 pub from_parts-requires : goal.from_parts-requires
 from_parts-requires c =
-    let draft : Draft = record { kind = c.self.inside.kind; order = c.self.inside.order; flags = c.self.inside.flags; fields = header_fields c.self.inside.fields } in
+    let draft : Draft = record { kind = c.self.inside.kind; order = c.self.inside.order; flags = c.self.inside.flags; serial = c.self.inside.serial; fields = header_fields c.self.inside.fields } in
     let e = rw (← c.self.view_is) at (c.as_slice.ensures.value ∙ c.in_ok-text.ensures.written) in
     let limit : length c.as_slice.result.now ≤ 134217728 = omega arith in
     written-stands draft c.args.serial c.args.body.now c.as_slice.result.now _ c.in-Some.places c.self.invariant c.requires (omega arith) e limit c.in-Some.ensures.found c.in-Some.ensures.spans
@@ -26,7 +26,7 @@ from_parts-requires c =
 
 pub returns-clause-made : goal.returns-clause-made
 returns-clause-made c =
-    let draft : Draft = record { kind = c.self.inside.kind; order = c.self.inside.order; flags = c.self.inside.flags; fields = header_fields c.self.inside.fields } in
+    let draft : Draft = record { kind = c.self.inside.kind; order = c.self.inside.order; flags = c.self.inside.flags; serial = c.self.inside.serial; fields = header_fields c.self.inside.fields } in
     let e = rw (← c.self.view_is) at (c.as_slice.ensures.value ∙ c.in_ok-text.ensures.written) in
     let limit : length c.as_slice.result.now ≤ 134217728 = omega arith in
     rw (← c.self.view_is)
@@ -35,7 +35,7 @@ returns-clause-made c =
 
 pub returns-clause-again : goal.returns-clause-again
 returns-clause-again c =
-    let draft : Draft = record { kind = c.self.inside.kind; order = c.self.inside.order; flags = c.self.inside.flags; fields = header_fields c.self.inside.fields } in
+    let draft : Draft = record { kind = c.self.inside.kind; order = c.self.inside.order; flags = c.self.inside.flags; serial = c.self.inside.serial; fields = header_fields c.self.inside.fields } in
     let e = rw (← c.self.view_is) at (c.as_slice.ensures.value ∙ c.in_ok-text.ensures.written) in
     let limit : length c.as_slice.result.now ≤ 134217728 = omega arith in
     let made = written-built draft c.args.serial c.args.body.now c.as_slice.result.now _ c.in-Some.places c.from_parts.result c.self.invariant c.requires (omega arith) e limit c.in-Some.ensures.found

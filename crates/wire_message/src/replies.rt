@@ -1,0 +1,169 @@
+//! What builders begin with, but for method calls.
+ghost use Rattle.std.specs.Prelude.{◌≡◌, IfSome, IsTrue, option_map};
+ghost use Rattle.wire_names.specs.BusName.{text_of};
+ghost use Rattle.wire_message.specs.Field.{is_text};
+ghost use Rattle.wire_message.specs.Drafts.{signal_draft, reply_draft, error_draft, draft_from};
+ghost use Rattle.wire_message.specs.declared.field.FieldCode.TheVariants as codes;
+ghost use Rattle.wire_message.specs.declared.kind.MessageType.TheVariants as types;
+
+use crate::builder::Builder;
+use crate::header::Header;
+use crate::kind::MessageType;
+use crate::message::Message;
+use crate::writing::{HeaderFields, NO_FIELDS};
+use wire_names::{BusName, ErrorName, InterfaceName, MemberName, ObjectPath, UniqueName};
+use wire_number::Endian;
+
+#[tactic(auto, unfolding(crate::specs::Field::is_text))]
+fn path_text<'a>(path: &Option<ObjectPath<'a>>) -> Option<&'a str>
+    ensures text { option_map (λ t. t.now) result ≡ path.now }
+    ensures valid { IfSome result (λ t. IsTrue (is_text codes.Path t.now)) }
+{
+    match path {
+        Some(path) => Some(path.as_str()),
+        None => None,
+    }
+}
+
+#[tactic(auto, unfolding(crate::specs::Field::is_text))]
+fn interface_text<'a>(name: &Option<InterfaceName<'a>>) -> Option<&'a str>
+    ensures text { option_map (λ t. t.now) result ≡ name.now }
+    ensures valid { IfSome result (λ t. IsTrue (is_text codes.Interface t.now)) }
+{
+    match name {
+        Some(name) => Some(name.as_str()),
+        None => None,
+    }
+}
+
+#[tactic(auto, unfolding(crate::specs::Field::is_text))]
+fn member_text<'a>(name: &Option<MemberName<'a>>) -> Option<&'a str>
+    ensures text { option_map (λ t. t.now) result ≡ name.now }
+    ensures valid { IfSome result (λ t. IsTrue (is_text codes.Member t.now)) }
+{
+    match name {
+        Some(name) => Some(name.as_str()),
+        None => None,
+    }
+}
+
+#[tactic(auto, unfolding(crate::specs::Field::is_text))]
+fn error_text<'a>(name: &Option<ErrorName<'a>>) -> Option<&'a str>
+    ensures text { option_map (λ t. t.now) result ≡ name.now }
+    ensures valid { IfSome result (λ t. IsTrue (is_text codes.ErrorName t.now)) }
+{
+    match name {
+        Some(name) => Some(name.as_str()),
+        None => None,
+    }
+}
+
+#[tactic(auto, unfolding(crate::specs::Field::is_text))]
+fn destination_text<'a>(name: &Option<BusName<'a>>) -> Option<&'a str>
+    ensures text { option_map (λ t. t.now) result ≡ option_map text_of name.now }
+    ensures valid { IfSome result (λ t. IsTrue (is_text codes.Destination t.now)) }
+{
+    match name {
+        Some(name) => Some(name.as_str()),
+        None => None,
+    }
+}
+
+#[tactic(auto, unfolding(crate::specs::Field::is_text))]
+fn sender_text<'a>(name: &Option<UniqueName<'a>>) -> Option<&'a str>
+    ensures text { option_map (λ t. t.now) result ≡ name.now }
+    ensures valid { IfSome result (λ t. IsTrue (is_text codes.Sender t.now)) }
+{
+    match name {
+        Some(name) => Some(name.as_str()),
+        None => None,
+    }
+}
+
+/// An answer to the message of a header.
+fn reply<'a>(kind: MessageType, reply_to: &Header<'a>) -> Builder<'a>
+    ensures { result ≡ reply_draft kind reply_to.now }
+{
+    Builder {
+        kind,
+        order: reply_to.endian(),
+        flags: 0,
+        serial: None,
+        fields: HeaderFields {
+            reply_serial: Some(reply_to.primary().serial_num()),
+            destination: sender_text(&reply_to.sender()),
+            ..NO_FIELDS
+        },
+    }
+}
+
+impl Message {
+    /// A signal of an interface from an object (D-Bus Specification, "Types of messages"): little order, no flags.
+    pub fn signal<'a>(
+        path: &ObjectPath<'a>,
+        interface: &InterfaceName<'a>,
+        member: &MemberName<'a>,
+    ) -> Builder<'a>
+        ensures { result ≡ signal_draft path.now interface.now member.now }
+    {
+        Builder {
+            kind: MessageType::Signal,
+            order: Endian::Little,
+            flags: 0,
+            serial: None,
+            fields: HeaderFields {
+                path: Some(path.as_str()),
+                interface: Some(interface.as_str()),
+                member: Some(member.as_str()),
+                ..NO_FIELDS
+            },
+        }
+    }
+
+    /// The return of a method call (D-Bus Specification, "Types of messages"): in the call's byte order, without flags; the
+    /// call's serial is its reply serial, the call's sender its destination, where the call has one.
+    pub fn method_return<'a>(reply_to: &Header<'a>) -> Builder<'a>
+        ensures { result ≡ reply_draft types.MethodReturn reply_to.now }
+    {
+        reply(MessageType::MethodReturn, reply_to)
+    }
+
+    /// The answer to a method call by an error of that name, else as `method_return`.
+    pub fn error<'a>(reply_to: &Header<'a>, name: &ErrorName<'a>) -> Builder<'a>
+        ensures { result ≡ error_draft reply_to.now name.now }
+    {
+        let builder = reply(MessageType::Error, reply_to);
+        let fields = HeaderFields {
+            error_name: Some(name.as_str()),
+            ..builder.fields
+        };
+        Builder { fields, ..builder }
+    }
+}
+
+impl<'a> From<Header<'a>> for Builder<'a> {
+    ghost from_gives = { λ header builder. builder ≡ draft_from header };
+
+    /// What a header says, to be built anew: its type, byte order, flags and fields, and its serial as one that was set. The
+    /// signature and the count of descriptors are left out, as they belong to a body, and so are flags above 0x4. It takes no
+    /// memory.
+    fn from(header: Header<'a>) -> Builder<'a> {
+        Builder {
+            kind: header.message_type(),
+            order: header.endian(),
+            flags: header.flags().0 & 7,
+            serial: Some(header.primary().serial_num()),
+            fields: HeaderFields {
+                path: path_text(&header.path()),
+                interface: interface_text(&header.interface()),
+                member: member_text(&header.member()),
+                error_name: error_text(&header.error_name()),
+                reply_serial: header.reply_serial(),
+                destination: destination_text(&header.destination()),
+                sender: sender_text(&header.sender()),
+                signature: None,
+                unix_fds: None,
+            },
+        }
+    }
+}
