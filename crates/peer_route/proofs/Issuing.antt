@@ -1,10 +1,10 @@
 -- A message is issued: what the core is then, and why it may be refused.
-use Rattle.std.proofs.Common.{◌≡◌, ℕ, ◌+◌, ◌≤◌, refl, sym, ◌∙◌, ap, subst, arith, IfOk, Bool, true, false, List, [], ◌∷◌, ◌++◌, length, map, find, None, Result, Ok, Err}
+use Rattle.std.proofs.Common.{◌≡◌, ℕ, ◌+◌, ◌<◌, ◌≤◌, refl, sym, ◌∙◌, ap, subst, arith, IfOk, Bool, true, false, List, [], ◌∷◌, ◌++◌, length, map, find, None, Result, Ok, Err}
 use Rattle.std.specs.List.{list_any}
 use Rattle.std.proofs.Math.Seq.{drop-length}
 use Rattle.std.proofs.lemmas.List.{map-append, length-map, length_push}
 use Rattle.wire_message.specs.Front.{Seen}
-use Rattle.wire_message.specs.Draft.{built, message_text, Builds, Draft}
+use Rattle.wire_message.specs.Draft.{built, header_text, message_text, Builds, Draft}
 use Rattle.wire_message.specs.Circle.{IsNext, AllTaken}
 use Rattle.wire_message.specs.declared.error.Error.{Error}
 use Rattle.wire_message.specs.declared.error.Error.TheVariants as errors
@@ -193,9 +193,9 @@ pub refused_failed : (v : View) (draft : Draft) (m : Seen) (last : ℕ) (h : Lis
     → Issues v v draft h (Err (errors.InputOutput kinds.WriteFault))
 refused_failed v draft m last h left made_bare failed =
     let made = made-of v draft last m made_bare in (
-  m.serial,
-  next_left v h m.serial left made.0,
-  subst (λ bs. length bs ≤ 134217728) (ap (λ (n : Seen). n.bytes) made.3 ∙ built-bytes draft m.serial) made.2,
-  sym left.failed ∙ failed,
-  refl,
-)
+      m.serial,
+      next_left v h m.serial left made.0,
+      subst (λ bs. length bs ≤ 134217728) (ap (λ (n : Seen). n.bytes) made.3 ∙ built-bytes draft m.serial) made.2,
+      sym left.failed ∙ failed,
+      refl,
+    )

@@ -90,10 +90,9 @@ impl Route {
         ensures placed { IfOk result (Waits self.old self.new) }
     {
         let mut serials = self.serials;
-        let message =
-            builder
-                .without_serial()
-                .build_uncounted(self.alloc, &mut serials, &self.calls)?;
+        let message = builder
+            .without_serial()
+            .build_uncounted(self.alloc, &mut serials, &self.calls)?;
         if self.failed {
             return Err(Error::InputOutput(IoKind::WriteFault));
         }
