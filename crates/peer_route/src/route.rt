@@ -92,7 +92,7 @@ impl Route {
         let mut serials = self.serials;
         let message = builder
             .without_serial()
-            .build_uncounted(self.alloc, &mut serials, &self.calls)?;
+            .build_empty_uncounted(self.alloc, &mut serials, &self.calls)?;
         if self.failed {
             return Err(Error::InputOutput(IoKind::WriteFault));
         }

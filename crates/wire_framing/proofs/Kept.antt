@@ -260,6 +260,7 @@ front_placed m placed seq e f =
         known = f.known;
         serial = f.serial;
         not_zero = f.not_zero;
+        fds = f.fds;
         fields = f.fields;
       },
       refl,

@@ -7,7 +7,7 @@ use Rattle.wire_number.specs.Number.{number, number_text, number_at, pad, paddin
 use Rattle.wire_number.proofs.Numbers.{number_text-length, number-again}
 use Rattle.wire_message.specs.declared.places.Places.{Places}
 use Rattle.wire_message.specs.Field.{Fields, field_list}
-use Rattle.wire_message.specs.Front.{Seen, seen, bare, Front, kind_code, order_code, order_at, word_at, fields_len, total, field_bytes}
+use Rattle.wire_message.specs.Front.{Seen, seen, bare, fields_of, Front, kind_code, order_code, order_at, word_at, fields_len, total, field_bytes}
 use Rattle.wire_message.specs.Outcome.{fields_found}
 use Rattle.wire_message.specs.Places.{found_fields, AreSpans, Stands}
 use Rattle.wire_message.specs.Draft.{Draft, draft_fields, header_text, message_text, built, IsDraft, Builds, BuildsWith, ReadsAgain}
@@ -151,6 +151,18 @@ unfolding built
 built-again draft serial body m valid some below limit e =
     let short : length (message_text draft serial body) ≤ 134217728 = rw e at limit in
     subst (λ (x : Seen). ReadsAgain x) (sym e) (λ more. read-again draft serial body more valid some below short)
+
+pub draft-bytes : (draft : Draft) (serial : ℕ) (body : List ℕ) → (built draft serial body).bytes ≡ message_text draft serial body
+unfolding built
+draft-bytes draft serial body = refl
+
+pub draft-fields : (draft : Draft) (serial : ℕ) (body : List ℕ) → fields_of (built draft serial body) ≡ draft.fields
+unfolding built
+draft-fields draft serial body = refl
+
+pub draft-again : (draft : Draft) (serial : ℕ) (body : List ℕ) → IsDraft draft → 0 < serial → serial < 2 ^ 32 → length (message_text draft serial body) ≤ 134217728 → ReadsAgain (built draft serial body)
+draft-again draft serial body valid some below limit =
+    built-again draft serial body (built draft serial body) valid some below (rw (draft-bytes draft serial body) limit) refl
 
 own-front : (draft : Draft) (serial : ℕ) (body text : List ℕ) → IsDraft draft → 0 < serial → serial < 2 ^ 32 → text ≡ message_text draft serial body → length text ≤ 134217728
     → Front text (seen text 0 draft.kind draft.order draft.flags serial draft.fields) (length text)

@@ -13,3 +13,4 @@ pub mod Valid
 pub mod Strings
 pub mod Alone
 pub mod Heads
+pub mod BodyLaws

@@ -12,3 +12,4 @@ pub mod Signed
 pub mod Descriptors
 pub mod Drafts
 pub mod Lending
+pub mod Bodies

@@ -263,11 +263,11 @@ impl<'a> Builder<'a> {
         }
     }
 
-    /// The message, with the serial that was set, else with the next. SerialsSpent comes exactly where none was set and each
+    /// The message without a body, with the serial that was set, else with the next. SerialsSpent comes exactly where none was set and each
     /// serial is pending, else ExcessData exactly where the message would pass 134,217,728 bytes (D-Bus Specification,
     /// "Message Format"). A serial is drawn only with the message, and only where none was set. A step is a serial that is
     /// looked at.
-    pub fn build<T: Taken, L: Ledger>(
+    pub fn build_empty<T: Taken, L: Ledger>(
         self,
         alloc: Global,
         serials: &mut Serials,
@@ -285,7 +285,7 @@ impl<'a> Builder<'a> {
         Ok(message)
     }
 
-    fn build_from<T: Taken, L: Ledger>(
+    fn empty_from<T: Taken, L: Ledger>(
         self,
         alloc: Global,
         serials: &mut Serials,
@@ -299,11 +299,11 @@ impl<'a> Builder<'a> {
         ensures again { IfOk result ReadsAgain }
     {
         let mut steps = Steps::<L>::start(blank);
-        self.build(alloc, serials, taken, &mut steps)
+        self.build_empty(alloc, serials, taken, &mut steps)
     }
 
-    /// As `build`, for a caller that counts no steps.
-    pub fn build_uncounted<T: Taken>(
+    /// As `build_empty`, for a caller that counts no steps.
+    pub fn build_empty_uncounted<T: Taken>(
         self,
         alloc: Global,
         serials: &mut Serials,
@@ -312,6 +312,6 @@ impl<'a> Builder<'a> {
         ensures built { Builds (T.is_taken taken.now) self.entry [] serials.old serials.new result }
         ensures again { IfOk result ReadsAgain }
     {
-        self.build_from::<T, Brand>(alloc, serials, taken, Blank::new(1))
+        self.empty_from::<T, Brand>(alloc, serials, taken, Blank::new(1))
     }
 }

@@ -2,6 +2,7 @@
 //! (D-Bus Specification, "Message Protocol").
 #![tactic(auto)]
 
+mod bodies;
 mod builder;
 mod display;
 mod endian_sig;
@@ -18,6 +19,8 @@ mod primary;
 mod raw_body;
 mod reading;
 mod replies;
+#[cfg(test)]
+mod reply_tests;
 mod sequence;
 mod serials;
 mod steps;
@@ -33,7 +36,7 @@ pub use flags::Flags;
 pub use front::{header_front, total_of};
 pub use header::Header;
 pub use kind::MessageType;
-pub use laws::one_message;
+pub use laws::{built_messages_are_read_again, one_message};
 pub use message::Message;
 pub use primary::PrimaryHeader;
 pub use sequence::Sequence;

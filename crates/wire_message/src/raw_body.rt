@@ -21,7 +21,7 @@ use std::sync::ledger::{Blank, Ledger};
 use wire_signature::Signature;
 
 /// The text as a header field, where it isn't that of an empty signature.
-fn field_of<'a>(signature: &Signature, text: &'a str) -> Option<&'a str>
+pub(crate) fn field_of<'a>(signature: &Signature, text: &'a str) -> Option<&'a str>
     requires { SignatureText signature.now text.now }
     ensures text { option_map (λ t. t.now) result ≡ signature_field signature.now }
     ensures valid { IfSome result (λ t. IsTrue (is_text codes.Signature t.now)) }
@@ -45,7 +45,7 @@ fn shared_fds(alloc: Global, fds: &[u32]) -> std::result::Result<Option<ArcSlice
 
 impl<'a> Builder<'a> {
     /// With that signature (D-Bus Specification, "Header Fields", `SIGNATURE`).
-    fn with_signature(self, signature: Option<&'a str>) -> Builder<'a>
+    pub(crate) fn with_signature(self, signature: Option<&'a str>) -> Builder<'a>
         requires { IfSome signature (λ t. IsTrue (is_text codes.Signature t.now)) }
         ensures { result ≡ record self.entry { fields = record self.entry.fields { signature = option_map (λ t. t.now) signature.entry } } }
     {
@@ -73,7 +73,7 @@ impl<'a> Builder<'a> {
         Builder { fields, ..self }
     }
 
-    /// As `build`, with these bytes as the body, that signature, and these descriptors. The bytes are put as they are, and not
+    /// As `build_empty`, with these bytes as the body, that signature, and these descriptors. The bytes are put as they are, and not
     /// compared with the signature: what they spell is for the caller to know. An empty signature is left out. The
     /// descriptors go with the message; their count is written as its `UNIX_FDS` exactly where there are some.
     pub fn build_raw_body<T: Taken, L: Ledger>(

@@ -13,7 +13,7 @@ const MALFORMED: Error = Error::Variant(VariantError::Malformed);
 const ENDED: Error = Error::InputOutput(IoKind::Ended);
 
 /// No serial is pending.
-struct Nothing;
+pub(crate) struct Nothing;
 
 impl Taken for Nothing {
     ghost is_taken = { λ _ _. false };
@@ -228,7 +228,7 @@ fn calls(rt: HostRuntime) -> std::result::Result<(), Fail> {
     let mut serials = Serials::new();
     let path = ObjectPath::try_from("/")?;
     let member = MemberName::try_from("do")?;
-    let call = Message::method_call(&path, &member).build_uncounted(
+    let call = Message::method_call(&path, &member).build_empty_uncounted(
         rt.alloc(),
         &mut serials,
         &Nothing,
@@ -242,7 +242,7 @@ fn calls(rt: HostRuntime) -> std::result::Result<(), Fail> {
     // The same in big order, with the serial 2.
     let call = Message::method_call(&path, &member)
         .endian(Endian::Big)
-        .build_uncounted(rt.alloc(), &mut serials, &Nothing)?;
+        .build_empty_uncounted(rt.alloc(), &mut serials, &Nothing)?;
     let want =
         b"B\x01\x00\x01\x00\x00\x00\x00\x00\x00\x00\x02\x00\x00\x00\x1b\x01\x01o\x00\x00\x00\x00\x01/\x00\x00\x00\x00\x00\x00\x00\x03\x01s\x00\x00\x00\x00\x02do\x00\x00\x00\x00\x00\x00";
     assert_eq!(rt; call.data(), want.as_slice());
@@ -263,7 +263,7 @@ fn whole_calls(rt: HostRuntime) -> std::result::Result<(), Fail> {
         .interface(&interface)
         .destination(&destination)
         .sender(&sender)
-        .build_uncounted(rt.alloc(), &mut serials, &Nothing)?;
+        .build_empty_uncounted(rt.alloc(), &mut serials, &Nothing)?;
     assert_eq!(rt;
         line(rt.alloc(), &call)?.as_str(),
         "MethodCall Little 3 1 path /com/example/Corpus1 interface org.freedesktop.DBus.Peer member Ping destination :1.0 sender :1.72"
@@ -456,7 +456,7 @@ fn serials_go_round(rt: HostRuntime) -> std::result::Result<(), Fail> {
     let mut serials = Serials { last: u32::MAX };
     let path = ObjectPath::try_from("/")?;
     let member = MemberName::try_from("do")?;
-    let call = Message::method_call(&path, &member).build_uncounted(
+    let call = Message::method_call(&path, &member).build_empty_uncounted(
         rt.alloc(),
         &mut serials,
         &Nothing,

@@ -3,3 +3,4 @@ pub mod Appends
 pub mod Writes
 pub mod DepthLaws
 pub mod EncodeLaws
+mod BodyLaws

@@ -64,7 +64,7 @@ write_start order shift ds old = record { whole = refl; back = λ h. h; forth = 
 there : (shift : ℕ) (now next text : List ℕ) → next ≡ now ++ text → shift + length now + length text ≡ shift + length next
 there shift now next text e = omega (arith, ap length e, length-append now text)
 
-write_one : (order : Endian) (shift : ℕ) (ds : Data) (d : Datum) (left : Data) (old now next : List ℕ)
+pub write_one : (order : Endian) (shift : ℕ) (ds : Data) (d : Datum) (left : Data) (old now next : List ℕ)
     → Writing order shift ds (items d left) old now → next ≡ now ++ spelling order (shift + length now) d → ArraysFit order (shift + length now) d
     → Writing order shift ds left old next
 unfolding spellings AllFit
@@ -99,7 +99,7 @@ none_left [] (suc i) h = refl
 none_left (t ∷ ts) zero h = absurd (omega arith)
 none_left (t ∷ ts) (suc i) h = none_left ts i (omega arith)
 
-all_written : (order : Endian) (shift : ℕ) (ds : Data) (old now : List ℕ) → Writing order shift ds no_data old now
+pub all_written : (order : Endian) (shift : ℕ) (ds : Data) (old now : List ℕ) → Writing order shift ds no_data old now
     → (now ≡ old ++ spellings order (shift + length old) ds) × AllFit order (shift + length old) ds
 unfolding spellings AllFit
 all_written order shift ds old now w = (sym (append-nil now) ∙ w.whole, w.back tt)
@@ -110,7 +110,7 @@ pub write_done : (order : Endian) (shift : ℕ) (ds : Data) (ts : List Tree) (i 
 write_done order shift ds ts i old now w h =
     all_written order shift ds old now (subst (λ (es : Data). Writing order shift ds es old now) (none_left ts i h) w)
 
-first_fits : (order : Endian) (shift : ℕ) (ds : Data) (d : Datum) (left : Data) (old now : List ℕ) → Writing order shift ds (items d left) old now
+pub first_fits : (order : Endian) (shift : ℕ) (ds : Data) (d : Datum) (left : Data) (old now : List ℕ) → Writing order shift ds (items d left) old now
     → AllFit order (shift + length old) ds → ArraysFit order (shift + length now) d
 unfolding AllFit
 first_fits order shift ds d left old now w h = (w.forth h).0

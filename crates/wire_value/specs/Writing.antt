@@ -2,8 +2,8 @@
 use Rattle.std.specs.Prelude.{◌≡◌, ℕ, ◌<◌, ◌≤◌, List, ◌++◌, Result, Ok, Err}
 use Rattle.wire_number.specs.declared.endian.Endian.{Endian}
 use Rattle.wire_signature.specs.declared.error.VariantError.TheVariants as errors
-use Rattle.wire_tree.specs.Datum.{Datum, type_of, IsSound, Entries, no_entries, entry}
-use Rattle.wire_spelling.specs.Spelling.{ArraysFit, Spells, depth}
+use Rattle.wire_tree.specs.Datum.{Datum, data_of, type_of, IsSound, Entries, no_entries, entry}
+use Rattle.wire_spelling.specs.Spelling.{AllFit, ArraysFit, Spells, depth, depths, spellings}
 use Rattle.wire_value.specs.declared.error.EncodeError.{EncodeError}
 use Rattle.wire_value.specs.declared.error.EncodeError.TheVariants.{Variant, ExcessData, Memory}
 
@@ -33,6 +33,19 @@ NotEncoded Memory order place d old new = new ≡ old
 abbrev pub Encoded : {A : Type 0} → Result A EncodeError → Endian → ℕ → Datum → List ℕ → List ℕ → Type 0
 Encoded (Ok done) order place d old new = (bytes : List ℕ) × Spells order place (type_of d) d bytes × (new ≡ old ++ bytes)
 Encoded (Err e) order place d old new = NotEncoded e order place d old new
+
+-- Why values are not encoded one behind the other from place 0 on: `Depth` exactly where one opens more than 64 containers at
+-- once, `ExcessData` exactly where none does and the elements of an array take too many bytes.
+abbrev pub AreNotEncoded : EncodeError → Endian → List Datum → Type 0
+AreNotEncoded (Variant errors.Depth) order ds = 64 < depths (data_of ds)
+AreNotEncoded (Variant error) order ds = ⊥
+AreNotEncoded ExcessData order ds = (depths (data_of ds) ≤ 64) × (AllFit order 0 (data_of ds) → ⊥)
+AreNotEncoded Memory order ds = Unit {0}
+
+-- A body's bytes, the spellings of its values from place 0 on, or why there are none.
+abbrev pub EncodedAll : {A : Type 0} → (A → List ℕ) → Result A EncodeError → Endian → List Datum → Type 0
+EncodedAll bytes (Ok text) order ds = (bytes text ≡ spellings order 0 (data_of ds)) × (depths (data_of ds) ≤ 64) × AllFit order 0 (data_of ds)
+EncodedAll bytes (Err e) order ds = AreNotEncoded e order ds
 
 -- keys and values that are sound
 abbrev pub ArePairsSound : Entries → Type 0

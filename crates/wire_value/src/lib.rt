@@ -2,6 +2,7 @@
 //! bodies of arguments and what walks over bytes without memory stand in crates below, and are found here too.
 #![tactic(auto)]
 
+pub use crate::bodies::encode_body;
 pub use crate::decoding::decode;
 pub use crate::encoding::encode;
 pub use crate::error::EncodeError;
@@ -30,6 +31,7 @@ pub use wire_tree::{
 
 mod append;
 mod basics;
+mod bodies;
 mod decoding;
 mod depth;
 mod encoding;

@@ -1,0 +1,85 @@
+-- The bytes and the depths of a body's values.
+use Rattle.std.proofs.Common.{◌≡◌, ℕ, zero, suc, ◌+◌, ◌<◌, ◌≤◌, max, List, [], ◌∷◌, ◌++◌, length, get_or, take, drop, drop-cons, add-one, sym, ◌∙◌, ap, subst, arith, refl, Bool, true, false, ◌⊎◌, inl, inr}
+use Rattle.std.proofs.lemmas.Bool.{cases_lt}
+use Rattle.wire_number.specs.declared.endian.Endian.{Endian}
+use Rattle.wire_tree.specs.Datum.{Datum, Data, no_data, items, data_of}
+use Rattle.wire_spelling.specs.Spelling.{spelling, spellings, depth, depths, ArraysFit, AllFit}
+use Rattle.wire_value.specs.Writing.{Refused, AreNotEncoded}
+use Rattle.wire_value.specs.declared.error.EncodeError.{EncodeError}
+use Rattle.wire_value.specs.declared.error.EncodeError.TheVariants.{Variant, ExcessData, Memory}
+use Rattle.wire_value.proofs.Writes.{Writing, write_one, all_written, first_fits, refused}
+
+-- ---- depths
+
+pub depth_value : (ds : List Datum) (i : ℕ) (d : Datum) → i < length ds → d ≡ get_or ds i d → depth d ≤ depths (data_of ds)
+depth_value [] i d h e = absurd (omega arith)
+depth_value (x ∷ xs) zero d h e = omega (arith, ap depth e)
+depth_value (x ∷ xs) (suc i) d h e = let k : depth d ≤ depths (data_of xs) = depth_value xs i d (omega arith) e in omega arith
+
+pub depth_more : (ds : List Datum) (i : ℕ) (d : Datum) → i < length ds → d ≡ get_or ds i d → depths (data_of (take i ds)) ≤ 64 → depth d ≤ 64
+    → depths (data_of (take (suc i) ds)) ≤ 64
+depth_more [] i d h e k l = absurd (omega arith)
+depth_more (x ∷ xs) zero d h e k l = omega (arith, ap depth e)
+depth_more (x ∷ xs) (suc i) d h e k l =
+    let m : depths (data_of (take (suc i) xs)) ≤ 64 = depth_more xs i d (omega arith) e (omega arith) l in omega arith
+
+-- ---- bytes
+
+next_value : (ds : List Datum) (i : ℕ) (d : Datum) → i < length ds → d ≡ get_or ds i d → data_of (drop i ds) ≡ items d (data_of (drop (i + 1) ds))
+next_value ds i d h e =
+    let first : drop i ds ≡ d ∷ drop (i + 1) ds = rw add-one (drop-cons ds i d h ∙ ap (λ u. u ∷ drop (suc i) ds) (sym e)) in
+    ap data_of first
+
+-- `t` is the tree's value, and `d` that of the list
+pub value_next : (order : Endian) (shift : ℕ) (all : Data) (ds : List Datum) (i : ℕ) (d t : Datum) (old now next : List ℕ)
+    → Writing order shift all (data_of (drop i ds)) old now → i < length ds → d ≡ get_or ds i d → t ≡ d
+    → (next ≡ now ++ spelling order (shift + length now) t) × ArraysFit order (shift + length now) t
+    → Writing order shift all (data_of (drop (i + 1) ds)) old next
+value_next order shift all ds i d t old now next w h e same f =
+    let own = subst (λ (x : Datum). (next ≡ now ++ spelling order (shift + length now) x) × ArraysFit order (shift + length now) x) same f in
+    write_one order shift all d (data_of (drop (i + 1) ds)) old now next (subst (λ (es : Data). Writing order shift all es old now) (next_value ds i d h e) w) own.0 own.1
+
+no_value : (ds : List Datum) (i : ℕ) → length ds ≤ i → data_of (drop i ds) ≡ no_data
+no_value [] zero h = refl
+no_value [] (suc i) h = refl
+no_value (d ∷ ds) zero h = absurd (omega arith)
+no_value (d ∷ ds) (suc i) h = no_value ds i (omega arith)
+
+pub values_done : (order : Endian) (shift : ℕ) (all : Data) (ds : List Datum) (i : ℕ) (old now : List ℕ)
+    → Writing order shift all (data_of (drop i ds)) old now → length ds ≤ i
+    → (now ≡ old ++ spellings order (shift + length old) all) × AllFit order (shift + length old) all
+values_done order shift all ds i old now w h =
+    all_written order shift all old now (subst (λ (es : Data). Writing order shift all es old now) (no_value ds i h) w)
+
+pub value_refused : (order : Endian) (shift : ℕ) (all : Data) (ds : List Datum) (i : ℕ) (d t : Datum) (old now : List ℕ) (e : EncodeError)
+    → Writing order shift all (data_of (drop i ds)) old now → i < length ds → d ≡ get_or ds i d → t ≡ d
+    → Refused e (ArraysFit order (shift + length now) t) → Refused e (AllFit order (shift + length old) all)
+value_refused order shift all ds i d t old now e w h k same f =
+    let v = subst (λ (es : Data). Writing order shift all es old now) (next_value ds i d h k) w in
+    refused e _ _ (first_fits order shift all d (data_of (drop (i + 1) ds)) old now v)
+    (subst (λ (x : Datum). Refused e (ArraysFit order (shift + length now) x)) same f)
+
+-- ---- the whole body
+
+deeper : (n : ℕ) (b : Bool) → (n ≤ 64 → b ≡ true) → b ≡ false → (64 < n) ⊎ (n ≤ 64) → 64 < n
+deeper n b f e (inl h) = h
+deeper n b f e (inr h) = absurd (let same : false ≡ true = sym e ∙ f h in cc)
+
+pub body_deep : (ds es : List Datum) (b : Bool) → ds ≡ es → (depths (data_of ds) ≤ 64 → b ≡ true) → b ≡ false → 64 < depths (data_of es)
+body_deep ds es b same f e =
+    subst (λ (xs : List Datum). 64 < depths (data_of xs)) same (deeper (depths (data_of ds)) b f e (cases_lt 64 (depths (data_of ds))))
+
+pub body_refused : (e : EncodeError) (order : Endian) (ds es : List Datum) (start : List ℕ) → ds ≡ es → start ≡ [] → depths (data_of ds) ≤ 64
+    → Refused e (AllFit order (0 + length start) (data_of ds)) → AreNotEncoded e order es
+body_refused (Variant v) order ds es start same none within h = absurd h
+body_refused ExcessData order ds es start same none within h =
+    subst (λ (xs : List Datum). (depths (data_of xs) ≤ 64) × (AllFit order 0 (data_of xs) → ⊥)) same
+    (within, subst (λ (s : List ℕ). AllFit order (0 + length s) (data_of ds) → ⊥) none h)
+body_refused Memory order ds es start same none within h = tt
+
+pub body_written : (order : Endian) (ds es : List Datum) (start new : List ℕ) → ds ≡ es → start ≡ [] → depths (data_of ds) ≤ 64
+    → (new ≡ start ++ spellings order (0 + length start) (data_of ds)) × AllFit order (0 + length start) (data_of ds)
+    → (new ≡ spellings order 0 (data_of es)) × (depths (data_of es) ≤ 64) × AllFit order 0 (data_of es)
+body_written order ds es start new same none within w =
+    let own = subst (λ (s : List ℕ). (new ≡ s ++ spellings order (0 + length s) (data_of ds)) × AllFit order (0 + length s) (data_of ds)) none w in
+    subst (λ (xs : List Datum). (new ≡ spellings order 0 (data_of xs)) × (depths (data_of xs) ≤ 64) × AllFit order 0 (data_of xs)) same (own.0, within, own.1)
