@@ -89,14 +89,18 @@ fn a_header_is_built_anew(rt: HostRuntime) -> Result<(), Fail> {
     let alloc = rt.alloc();
     let mut serials = Serials::new();
     let read = Message::from_bytes(alloc, OUT_OF_ORDER, Endian::Big)?;
-    let built = Builder::from(read.header()).build_uncounted(alloc, &mut serials, &Nothing)?;
+    let built = Builder::from(read.header()).build_empty_uncounted(alloc, &mut serials, &Nothing)?;
     assert_eq!(rt; built.data(), IN_ORDER);
     assert!(rt; built.fds().is_empty());
 
     // Its serial was set, so none was drawn.
     let path = ObjectPath::try_from("/")?;
     let member = MemberName::try_from("do")?;
-    let call = Message::method_call(&path, &member).build_uncounted(alloc, &mut serials, &Nothing)?;
+    let call = Message::method_call(&path, &member).build_empty_uncounted(
+        alloc,
+        &mut serials,
+        &Nothing,
+    )?;
     assert_eq!(rt; call.serial_num(), 1);
     Ok(())
 }
@@ -114,7 +118,7 @@ fn only_calls_want_no_reply(rt: HostRuntime) -> Result<(), Fail> {
     let signal = Message::signal(&path, &interface, &member)
         .with_flags(Flags::NoAutoStart)?
         .serial(77)
-        .build_uncounted(alloc, &mut serials, &Nothing)?;
+        .build_empty_uncounted(alloc, &mut serials, &Nothing)?;
     assert_eq!(rt;
         (signal.message_type(), signal.serial_num()),
         (MessageType::Signal, 77)
@@ -123,7 +127,7 @@ fn only_calls_want_no_reply(rt: HostRuntime) -> Result<(), Fail> {
 
     let call = Message::method_call(&path, &member)
         .with_flags(Flags::NoReplyExpected)?
-        .build_uncounted(alloc, &mut serials, &Nothing)?;
+        .build_empty_uncounted(alloc, &mut serials, &Nothing)?;
     assert_eq!(rt;
         (call.header().flags(), call.serial_num()),
         (Flags::NoReplyExpected, 1)

@@ -18,7 +18,7 @@ fn a_signal_has_what_was_set(rt: HostRuntime) -> Result<(), Fail> {
     let signal = Message::signal(&path, &interface, &member)
         .sender(&sender)
         .serial(77)
-        .build_uncounted(alloc, &mut serials, &Nothing)?;
+        .build_empty_uncounted(alloc, &mut serials, &Nothing)?;
     assert_eq!(rt; signal.data(), SIGNAL);
     let header = signal.header();
     assert_eq!(rt; header.message_type(), MessageType::Signal);
@@ -71,7 +71,7 @@ fn a_changed_header_is_built(rt: HostRuntime) -> Result<(), Fail> {
     header.primary_mut().set_serial_num(78);
     assert_eq!(rt; header.primary().serial_num(), 78);
     assert_eq!(rt; message.serial_num(), 77);
-    let built = Builder::from(header).build_uncounted(alloc, &mut serials, &Nothing)?;
+    let built = Builder::from(header).build_empty_uncounted(alloc, &mut serials, &Nothing)?;
     assert_eq!(rt; built.serial_num(), 78);
     assert_eq!(rt;
         built.header().sender(),

@@ -23,7 +23,7 @@ fn a_return_goes_to_the_caller(rt: HostRuntime) -> Result<(), Fail> {
         format!(in alloc; "{call}")?.as_str(),
         "Method call do from :1.72"
     );
-    let reply = Message::method_return(&call.header()).build_uncounted(
+    let reply = Message::method_return(&call.header()).build_empty_uncounted(
         alloc,
         &mut serials,
         &Nothing,
@@ -69,7 +69,7 @@ fn a_call_from_nobody_is_answered(rt: HostRuntime) -> Result<(), Fail> {
     let alloc = rt.alloc();
     let mut serials = Serials::new();
     let call = Message::from_bytes(alloc, FROM_NOBODY, Endian::Big)?;
-    let reply = Message::method_return(&call.header()).build_uncounted(
+    let reply = Message::method_return(&call.header()).build_empty_uncounted(
         alloc,
         &mut serials,
         &Nothing,
