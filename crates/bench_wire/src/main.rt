@@ -1,9 +1,12 @@
-//! Makes values of about a size, writes them, reads them again, and says whether they came back. The first word is the
-//! size in bytes; where a second one is there, it is the type of the only value to make.
+//! Makes values of about a size, writes them, reads them again, and says whether they came back; then asks of rules and
+//! messages whether they match. The first word is the size in bytes, and the number of tests of a rule; where a second one
+//! is there, it is the type of the only value to make, or `rules` for these alone.
 #![tactic(auto)]
 
+mod matching;
 mod samples;
 
+use matching::matched;
 use samples::sample;
 use std::alloc::Global;
 use std::env;
@@ -42,6 +45,9 @@ fn main(rt: HostRuntime) -> anyhow::Result<()> {
         if only.as_ref().is_none_or(|word| word.as_str() == kind) {
             report(&rt, alloc, kind, size)?;
         }
+    }
+    if only.is_none_or(|word| word.as_str() == "rules") {
+        println!(rt; "rules {size} matched {}", matched(alloc, size)?)?;
     }
     Ok(())
 }

@@ -1,10 +1,12 @@
-ghost use Rattle.std.specs.Prelude.{◌≡◌};
+ghost use Rattle.std.specs.Prelude.{◌≡◌, ◌↔◌, IsTrue};
 ghost use Rattle.rule_match.specs.Text.{rule_in};
 ghost use Rattle.rule_match.specs.Building.{Gives};
 
+use crate::laws::is_one_rule;
 use crate::rule::MatchRule;
 use std::alloc::Global;
 use std::marker::Model;
+use std::ops::Deref;
 use wire_message::Error;
 
 /// A [`MatchRule`] as a value of its own.
@@ -52,5 +54,30 @@ impl OwnedMatchRule {
         ensures { result.now ≡ self.now }
     {
         &self.rule
+    }
+
+    /// The same as [`OwnedMatchRule::inner`].
+    pub fn borrow(&self) -> &MatchRule
+        ensures { result.now ≡ self.now }
+    {
+        self.inner()
+    }
+
+    /// Whether this is that rule.
+    pub fn equals(&self, rule: &MatchRule) -> bool
+        ensures { IsTrue result ↔ (self.now ≡ rule.now) }
+    {
+        is_one_rule(&self.rule, rule)
+    }
+}
+
+/// The rule's own calls are this one's too.
+impl Deref for OwnedMatchRule {
+    type Target = MatchRule;
+
+    ghost deref_gives = { λ owned rule. rule ≡ owned };
+
+    fn deref(&self) -> &MatchRule {
+        self.inner()
     }
 }

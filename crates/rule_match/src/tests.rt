@@ -32,7 +32,7 @@ const READ: [(&str, &str); 14] = [
 ];
 
 /// Texts outside the grammar, with the fault of the leftmost component. By hand from the D-Bus Specification.
-const REFUSED: [(&str, Error); 27] = [
+const REFUSED: [(&str, Error); 28] = [
     ("", Error::InvalidMatchRule),
     ("-", Error::InvalidMatchRule),
     ("arg0005='y'", Error::InvalidMatchRule),
@@ -54,6 +54,7 @@ const REFUSED: [(&str, Error); 27] = [
     ("eavesdrop='true'", Error::InvalidMatchRule),
     ("arg0namespace='a.'", Error::InvalidMatchRule),
     ("arg0namespace='1a'", Error::InvalidMatchRule),
+    ("sender='x'", Error::Names(NamesError::Bus)),
     ("sender='x',bogus", Error::Names(NamesError::Bus)),
     ("bogus,sender='x'", Error::InvalidMatchRule),
     ("interface='a'", Error::Names(NamesError::Interface)),
@@ -70,6 +71,7 @@ fn texts_are_read_and_printed(rt: HostRuntime) -> Result<(), Fail> {
         assert_eq!(rt; again.as_str(), printed);
         let owned = OwnedMatchRule::try_from(rt.alloc(), printed)?;
         assert!(rt; *owned.inner() == rule);
+        assert!(rt; *owned == rule && *owned.borrow() == rule && owned.equals(&rule));
     }
     Ok(())
 }

@@ -5,7 +5,7 @@ use wire_message::Message;
 use wire_value::{Endian, Signature, Value, VariantError, decode, encode, read_u32};
 
 /// The bytes of the body, which ends the message.
-fn body_of(message: &Message) -> &[u8] {
+pub(crate) fn body_of(message: &Message) -> &[u8] {
     let bytes = message.data();
     if bytes.len() < 16 {
         return &[];
@@ -18,7 +18,7 @@ fn body_of(message: &Message) -> &[u8] {
 }
 
 /// The types of the body's values.
-fn signature_of(alloc: Global, message: &Message) -> anyhow::Result<Signature> {
+pub(crate) fn signature_of(alloc: Global, message: &Message) -> anyhow::Result<Signature> {
     let text = message.header().signature().unwrap_or(&[]);
     Ok(Signature::try_from(alloc, str::from_utf8(text)?)?)
 }

@@ -1,0 +1,11 @@
+//! Messages as a user builds and reads them (D-Bus Specification, "Message Protocol").
+#![tactic(auto)]
+
+#[cfg(test)]
+mod building;
+#[cfg(test)]
+mod headers;
+#[cfg(test)]
+mod replies;
+#[cfg(test)]
+mod support;
