@@ -1,8 +1,11 @@
 //! A source or a sink that is lent is one too.
-ghost use Rattle.std.specs.Prelude.{◌≡◌};
+ghost use Rattle.std.specs.Prelude.{◌≡◌, ◌≤◌, ◌<◌, Some, IfOk, OnOk};
 
+use crate::read_half::ReadHalf;
 use crate::sink::{Refusal, Sink};
 use crate::source::{Failed, Source};
+use std::alloc::Global;
+use wire_message::Message;
 
 impl<S: Source> Source for &mut S {
     ghost left = { λ s. S.left s.now };
@@ -14,6 +17,8 @@ impl<S: Source> Source for &mut S {
     ghost asked = { λ s. S.asked s.now };
 
     ghost widest = { λ s. S.widest s.now };
+
+    ghost lent = { λ s. Some s.ghost_name };
 
     fn read(&mut self, buf: &mut [u8]) -> Result<usize, Failed> {
         (**self).read(buf)
@@ -29,6 +34,8 @@ impl<W: Sink> Sink for &mut W {
 
     ghost takes = { λ s. W.takes s.now };
 
+    ghost lent = { λ s. Some s.ghost_name };
+
     fn write(&mut self, piece: &[u8]) -> Result<usize, Refusal> {
         (**self).write(piece)
     }
@@ -40,4 +47,18 @@ impl<W: Sink> Sink for &mut W {
     fn takes_fds(&self) -> bool {
         (**self).takes_fds()
     }
+}
+
+/// Takes one message of a source that is lent.
+pub(crate) fn receive_lent<S: Source>(
+    alloc: Global,
+    source: &mut S,
+    seq: u64,
+    kept: &mut Vec<u8>,
+) -> wire_message::Result<Message>
+    requires { 0 < seq }
+    ensures { OnOk result (S.faults source.old ≤ S.faults source.new) }
+{
+    let mut half = ReadHalf::new(source);
+    half.receive_message(alloc, seq, kept)
 }
