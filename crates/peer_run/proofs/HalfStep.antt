@@ -1,0 +1,50 @@
+-- What a half made anew gives, as what a read and a send give.
+use Rattle.std.proofs.Common.{ℕ, ◌≡◌, ◌≢◌, ◌-◌, ◌^◌, ◌≤◌, ◌<◌, ◌⊎◌, inl, inr, refl, sym, ◌∙◌, ap, subst, arith, Bool, true, false, not, ◌&&◌, List, [], length, take, Option, Some, None, IfSome, IfOk, IfErr, Result, Ok, Err}
+use Rattle.std.proofs.lemmas.List.{take_all}
+use Rattle.std.specs.Io.KnownBytes.{Consumes, prepend_known}
+use Rattle.wire_framing.specs.Source.{MayRise}
+use Rattle.wire_framing.specs.Receive.{Receives, Takes, HasCause, spent}
+use Rattle.wire_framing.specs.Kept.{TakesKept}
+use Rattle.wire_framing.specs.Send as sent
+use Rattle.wire_framing.specs.Writing as half
+use Rattle.wire_framing.specs.declared.write_half.Writing.{Writing}
+use Rattle.wire_message.specs.Front.{Seen, Front}
+use Rattle.wire_message.specs.Outcome.{IsReadRefusal}
+use Rattle.wire_message.specs.declared.error.Error.{Error}
+use Rattle.wire_message.specs.declared.error.Error.TheVariants as errors
+use Rattle.wire_message.specs.declared.error.IoKind.TheVariants as kinds
+
+-- ---- a read that kept nothing before
+
+-- the bytes that are there are the source's own
+pub nothing_kept : (left : Option (List ℕ)) (stop : Option Bool) (count : ℕ) (result : Result Seen Error)
+    → IfSome (prepend_known [] left) (λ bytes. Receives stop count bytes result) → IfSome left (λ bytes. Receives stop count bytes result)
+nothing_kept None stop count result t = tt
+nothing_kept (Some bytes) stop count result t = t
+
+-- all that came is the message's own
+all_own : (got own : List ℕ) → (got ≡ []) ⊎ (length got ≤ spent got) → own ≡ take (spent got) got → got ≡ own
+all_own got own (inl none) is = sym (is ∙ take_all (spent got) got (rw none (omega arith)))
+all_own got own (inr fits) is = sym (is ∙ take_all (spent got) got fits)
+
+-- a message's bytes, and no more, are gone from the source
+pub takes_own : (seq : ℕ) (result : Result Seen Error) (kept' : List ℕ) (left left' : Option (List ℕ)) (stop stop' : Option Bool) (faults faults' : ℕ) (asked asked' : Option ℕ)
+    → seq ≤ 2 ^ 64 - 1 → (seq ≡ 2 ^ 64 - 1 → result ≡ Err (errors.InputOutput kinds.Ended))
+    → (seq < 2 ^ 64 - 1 → TakesKept result [] kept' left left' stop stop' faults faults' asked asked')
+    → IfOk result (λ m. Front m.bytes m (length m.bytes) × (m.position ≡ seq))
+    → IfErr result (λ e. IsReadRefusal e × HasCause e faults faults')
+    → Takes seq result left left' stop stop' faults faults'
+takes_own seq (Ok m) kept' left left' stop stop' faults faults' asked asked' within last takes message error =
+    let below : seq ≢ 2 ^ 64 - 1 = λ e. let z = last e in cc in
+    let t = takes (omega (arith, within, below)) in
+    (message.0, message.1, subst (Consumes left left') (all_own t.got m.bytes t.own t.message) t.came.0, t.came.1, t.came.2)
+takes_own seq (Err e) kept' left left' stop stop' faults faults' asked asked' within last takes message error = error
+
+-- ---- a send of a half that met nothing before
+
+pub sends_whole : (result : Result (Unit {0}) Error) (writing : Writing) (bytes : List ℕ) (held held' : Option (List ℕ)) (room room' : Option (Option ℕ)) (faults faults' : ℕ)
+    → half.Sends result writing bytes held held' room room' faults faults' → sent.Sends result bytes held held' room room' faults faults'
+sends_whole (Ok done) writing bytes held held' room room' faults faults' s = (s.0, s.1, s.2)
+sends_whole (Err (errors.InputOutput kinds.WriteFault)) writing bytes held held' room room' faults faults' s = (s.0, s.1, s.2, s.3)
+sends_whole (Err errors.Memory) writing bytes held held' room room' faults faults' s = (s.0, s.1, s.2, s.3)
+sends_whole (Err e) writing bytes held held' room room' faults faults' s = absurd s
