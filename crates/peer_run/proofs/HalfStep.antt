@@ -2,12 +2,9 @@
 use Rattle.std.proofs.Common.{ℕ, ◌≡◌, ◌≢◌, ◌-◌, ◌^◌, ◌≤◌, ◌<◌, ◌⊎◌, inl, inr, refl, sym, ◌∙◌, ap, subst, arith, Bool, true, false, not, ◌&&◌, List, [], length, take, Option, Some, None, IfSome, IfOk, IfErr, Result, Ok, Err}
 use Rattle.std.proofs.lemmas.List.{take_all}
 use Rattle.std.specs.Io.KnownBytes.{Consumes, prepend_known}
-use Rattle.wire_framing.specs.Source.{MayRise}
 use Rattle.wire_framing.specs.Receive.{Receives, Takes, HasCause, spent}
 use Rattle.wire_framing.specs.Kept.{TakesKept}
-use Rattle.wire_framing.specs.Send as sent
-use Rattle.wire_framing.specs.Writing as half
-use Rattle.wire_framing.specs.declared.write_half.Writing.{Writing}
+use Rattle.wire_framing.specs.Writing.{has_descriptors, is_unsupported}
 use Rattle.wire_message.specs.Front.{Seen, Front}
 use Rattle.wire_message.specs.Outcome.{IsReadRefusal}
 use Rattle.wire_message.specs.declared.error.Error.{Error}
@@ -42,9 +39,6 @@ takes_own seq (Err e) kept' left left' stop stop' faults faults' asked asked' wi
 
 -- ---- a send of a half that met nothing before
 
-pub sends_whole : (result : Result (Unit {0}) Error) (writing : Writing) (bytes : List ℕ) (held held' : Option (List ℕ)) (room room' : Option (Option ℕ)) (faults faults' : ℕ)
-    → half.Sends result writing bytes held held' room room' faults faults' → sent.Sends result bytes held held' room room' faults faults'
-sends_whole (Ok done) writing bytes held held' room room' faults faults' s = (s.0, s.1, s.2)
-sends_whole (Err (errors.InputOutput kinds.WriteFault)) writing bytes held held' room room' faults faults' s = (s.0, s.1, s.2, s.3)
-sends_whole (Err errors.Memory) writing bytes held held' room room' faults faults' s = (s.0, s.1, s.2, s.3)
-sends_whole (Err e) writing bytes held held' room room' faults faults' s = absurd s
+-- a message without descriptors is refused by no sink
+pub supported : (fds : Option ℕ) (takes : Bool) → has_descriptors fds ≡ false → is_unsupported fds takes ≡ false
+supported fds takes none = rw none refl

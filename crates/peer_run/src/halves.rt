@@ -29,6 +29,7 @@ pub(crate) fn send<W: Sink>(sink: &mut W, message: &Message) -> Result<()>
     ensures bytes { is_unsupported message.now.unix_fds (W.takes sink.old) ≡ false
         → Sends result message.now.bytes (W.held sink.old) (W.held sink.new) (W.room sink.old) (W.room sink.new) (W.faults sink.old) (W.faults sink.new) }
     ensures fds { W.takes sink.new ≡ W.takes sink.old }
+    ensures grows { W.faults sink.old ≤ W.faults sink.new }
 {
     let mut half = WriteHalf::new(sink);
     half.send_message(message)
