@@ -1,5 +1,5 @@
 -- A call's end, from what issuing and sending gave.
-use Rattle.std.proofs.Common.{◌≡◌, ◌≤◌, arith, inl, inr, ℕ, refl, sym, ◌∙◌, ap, subst, Bool, true, false, List, [], ◌∷◌, ◌++◌, length, Option, Some, None, is_some, Result, Ok, Err, IfOk, slice_get}
+use Rattle.std.proofs.Common.{◌≡◌, ℕ, refl, sym, ◌∙◌, ap, subst, Bool, true, false, List, [], ◌∷◌, ◌++◌, length, Option, Some, None, is_some, Result, Ok, Err, IfOk, slice_get}
 use Rattle.wire_message.specs.Front.{Seen}
 use Rattle.wire_message.specs.Draft.{built}
 use Rattle.wire_message.specs.declared.error.Error.{Error}

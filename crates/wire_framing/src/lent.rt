@@ -1,11 +1,8 @@
 //! A source or a sink that is lent is one too.
-ghost use Rattle.std.specs.Prelude.{◌≡◌, ◌≤◌, ◌<◌, Some, IfOk, OnOk};
+ghost use Rattle.std.specs.Prelude.{◌≡◌, Some};
 
-use crate::read_half::ReadHalf;
 use crate::sink::{Refusal, Sink};
 use crate::source::{Failed, Source};
-use std::alloc::Global;
-use wire_message::Message;
 
 impl<S: Source> Source for &mut S {
     ghost left = { λ s. S.left s.now };
@@ -47,18 +44,4 @@ impl<W: Sink> Sink for &mut W {
     fn takes_fds(&self) -> bool {
         (**self).takes_fds()
     }
-}
-
-/// Takes one message of a source that is lent.
-pub(crate) fn receive_lent<S: Source>(
-    alloc: Global,
-    source: &mut S,
-    seq: u64,
-    kept: &mut Vec<u8>,
-) -> wire_message::Result<Message>
-    requires { 0 < seq }
-    ensures { OnOk result (S.faults source.old ≤ S.faults source.new) }
-{
-    let mut half = ReadHalf::new(source);
-    half.receive_message(alloc, seq, kept)
 }

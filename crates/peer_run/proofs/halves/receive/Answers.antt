@@ -1,4 +1,4 @@
-use Rattle.std.proofs.Common.{◌≡◌, ◌-◌, ◌^◌, ◌≤◌, arith, ℕ, refl, sym, ap, subst}
+use Rattle.std.proofs.Common.{◌≡◌, arith}
 use Rattle.peer_run.proofs.HalfStep.{takes_own}
 use Rattle.peer_run.proofs.halves.receive.Goals as goal
 
