@@ -1,8 +1,8 @@
 -- What a half made anew gives, as what a read and a send give.
-use Rattle.std.proofs.Common.{ℕ, ◌≡◌, ◌≢◌, ◌-◌, ◌^◌, ◌≤◌, ◌<◌, ◌⊎◌, inl, inr, refl, sym, ◌∙◌, subst, arith, Bool, false, List, [], length, take, Option, Some, None, IfSome, IfOk, IfErr, Result, Ok, Err}
+use Rattle.std.proofs.Common.{ℕ, ◌≡◌, ◌≢◌, ◌-◌, ◌^◌, ◌≤◌, ◌<◌, ◌⊎◌, inl, inr, refl, sym, ◌∙◌, subst, arith, Bool, false, List, [], length, take, Option, IfOk, IfErr, Result, Ok, Err}
 use Rattle.std.proofs.lemmas.List.{take_all}
-use Rattle.std.specs.Io.KnownBytes.{Consumes, prepend_known}
-use Rattle.wire_framing.specs.Receive.{Receives, Takes, HasCause, spent}
+use Rattle.std.specs.Io.KnownBytes.{Consumes}
+use Rattle.wire_framing.specs.Receive.{Takes, HasCause, spent}
 use Rattle.wire_framing.specs.Kept.{TakesKept}
 use Rattle.wire_framing.specs.Writing.{has_descriptors, is_unsupported}
 use Rattle.wire_message.specs.Front.{Seen, Front}
@@ -12,12 +12,6 @@ use Rattle.wire_message.specs.declared.error.Error.TheVariants as errors
 use Rattle.wire_message.specs.declared.error.IoKind.TheVariants as kinds
 
 -- ---- a read that kept nothing before
-
--- the bytes that are there are the source's own
-pub nothing_kept : (left : Option (List ℕ)) (stop : Option Bool) (count : ℕ) (result : Result Seen Error)
-    → IfSome (prepend_known [] left) (λ bytes. Receives stop count bytes result) → IfSome left (λ bytes. Receives stop count bytes result)
-nothing_kept None stop count result t = tt
-nothing_kept (Some bytes) stop count result t = t
 
 -- all that came is the message's own
 all_own : (got own : List ℕ) → (got ≡ []) ⊎ (length got ≤ spent got) → own ≡ take (spent got) got → got ≡ own
