@@ -1,5 +1,5 @@
 -- A call's end, from what issuing and sending gave.
-use Rattle.std.proofs.Common.{◌≡◌, ◌≤◌, arith, inl, inr, ℕ, refl, sym, ◌∙◌, ap, subst, Bool, true, false, List, [], ◌∷◌, ◌++◌, length, Option, Some, None, is_some, Result, Ok, Err, IfOk, slice_get}
+use Rattle.std.proofs.Common.{◌≡◌, ℕ, refl, sym, ◌∙◌, ap, subst, Bool, true, false, List, [], ◌∷◌, ◌++◌, length, Option, Some, None, is_some, Result, Ok, Err, IfOk, slice_get}
 use Rattle.wire_message.specs.Front.{Seen}
 use Rattle.wire_message.specs.Draft.{built}
 use Rattle.wire_message.specs.declared.error.Error.{Error}
@@ -19,7 +19,7 @@ use Rattle.peer_run.specs.declared.call_words.CallWords.{CallWords}
 use Rattle.std.specs.Io.KnownBytes.{Appends}
 use Rattle.wire_framing.specs.Sink.{RoomFalls}
 use Rattle.wire_framing.specs.Send.{Part, Sends}
-use Rattle.wire_framing.specs.Source.{MayRise}
+use Rattle.wire_framing.specs.Writing.{has_descriptors}
 use Rattle.peer_run.specs.CallWords.{words_of, draft_by}
 use Rattle.peer_run.specs.Stands.{PeerView, Inlet, Outlet, Follows, Reads, Writes, Sent, WentOut, WriteFailed, named, unsent_answer, NotIssued, IsReadFault, entry}
 use Rattle.peer_run.proofs.CallStep.{waits, follows_refused, follows_unsent, follows_sent, follows_failed, reads_call, writes_refused, writes_unsent, writes_sent, writes_failed}
@@ -127,6 +127,11 @@ at_end (x ∷ xs) m = at_end xs m
 waits_there : (v : View) (h : List events.Event) (m : Seen) (expects : Bool) (index : ℕ) → index ≡ length (events.put h) → Left v (events.Put m expects ∷ h) → slice_get v.outbox index ≡ Some m
 waits_there v h m expects index e l = ap (λ xs. slice_get xs index) l.outbox ∙ ap (slice_get (events.put h ++ m ∷ [])) e ∙ at_end (events.put h) m
 
+-- no descriptors go with a call
+plain_call : (name : Option (List ℕ)) (serial : ℕ) (ws : CallWords) → has_descriptors (built (draft_by name ws) serial []).unix_fds ≡ false
+unfolding built
+plain_call name serial ws = refl
+
 makes_call : (expects : Bool) (number : ℕ) → is_some (call_number expects number) ≡ expects
 makes_call true number = refl
 makes_call false number = refl
@@ -151,28 +156,6 @@ not_out old new lane issued m now after errors.UnknownHandle never s names strea
 not_out old new lane issued m now after errors.Unsupported never s names streams left = absurd s
 not_out old new lane issued m now after errors.InvalidField never s names streams left = absurd s
 not_out old new lane issued m now after errors.Memory never s names streams left = absurd (never refl)
-
-may_grow : (a b : ℕ) → MayRise a b → a ≤ b
-may_grow a b (inl p) = omega (arith, p)
-may_grow a b (inr p) = omega (arith, p.0, p.1)
-
-pub failed_grows : (error : Error) (bytes : List ℕ) (held held' : Option (List ℕ)) (room room' : Option (Option ℕ)) (a b : ℕ) → (error ≡ errors.Memory → ⊥)
-    → Sends {A = Unit {0}} (Err error) bytes held held' room room' a b → a ≤ b
-failed_grows (errors.InputOutput kinds.WriteFault) bytes held held' room room' a b never s = may_grow a b s.3
-failed_grows (errors.InputOutput kinds.Ended) bytes held held' room room' a b never s = absurd s
-failed_grows (errors.InputOutput kinds.Fault) bytes held held' room room' a b never s = absurd s
-failed_grows (errors.InputOutput kinds.Closed) bytes held held' room room' a b never s = absurd s
-failed_grows (errors.InputOutput kinds.TimedOut) bytes held held' room room' a b never s = absurd s
-failed_grows (errors.Variant kind) bytes held held' room room' a b never s = absurd s
-failed_grows (errors.Names kind) bytes held held' room room' a b never s = absurd s
-failed_grows errors.InvalidMatchRule bytes held held' room room' a b never s = absurd s
-failed_grows errors.IncorrectEndian bytes held held' room room' a b never s = absurd s
-failed_grows errors.ExcessData bytes held held' room room' a b never s = absurd s
-failed_grows errors.SerialsSpent bytes held held' room room' a b never s = absurd s
-failed_grows errors.UnknownHandle bytes held held' room room' a b never s = absurd s
-failed_grows errors.Unsupported bytes held held' room room' a b never s = absurd s
-failed_grows errors.InvalidField bytes held held' room room' a b never s = absurd s
-failed_grows errors.Memory bytes held held' room room' a b never s = absurd (never refl)
 
 -- the two things that sending gives
 pub record Sending (name : Option (List ℕ)) (p q r : PeerView) (es : List Entry) (lane : ℕ) (ws : CallWords) (now after : Outlet) (a : Answer) : Type 0 where
@@ -217,13 +200,13 @@ sending_by name p q r es lane ws issued now after a m x f i n t is made (WriteFa
 pub sending : (name : Option (List ℕ)) (p q r : PeerView) (es : List Entry) (lane : ℕ) (ws : CallWords) (issued : Issued) (now after : Outlet) (a : Answer)
     → words_refusal (draft_by (trail name es).name ws) ≡ None → Follows name p es → Issues p.core q.core (draft_by (trail name es).name ws) (trail name es).events (Ok issued)
     → q.names ≡ p.names → q.streams ≡ p.streams
-    → ((m : Seen) → slice_get q.core.outbox issued.index ≡ Some m → Sent q r lane issued m now after a)
+    → ((m : Seen) → slice_get q.core.outbox issued.index ≡ Some m → has_descriptors m.unix_fds ≡ false → Sent q r lane issued m now after a)
     → Sending name p q r es lane ws now after a
 sending name p q r es lane ws issued now after a x f i n t sent =
     let h = (trail name es).events in
     let m = built (draft_by (trail name es).name ws) issued.serial [] in
     sending_by name p q r es lane ws issued now after a m x f i n t refl (ap is_some i.4 ∙ makes_call (waits ws) (length (events.calls h)))
-    (sent m (waits_there q.core h m (waits ws) issued.index i.3 i.5))
+    (sent m (waits_there q.core h m (waits ws) issued.index i.3 i.5) (plain_call (trail name es).name issued.serial ws))
 
 -- what was answered where nothing was issued
 pub unsent_ok : {E : Type 0} (error : Error) (r : Result Answer E) → NotIssued error r → IfOk r (λ a. unsent_answer error ≡ Some a)

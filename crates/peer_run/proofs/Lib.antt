@@ -11,4 +11,5 @@ pub mod Lanes
 pub mod CallEnds
 pub mod Ends
 pub mod Cut
+pub mod HalfStep
 pub mod Printing

@@ -2,6 +2,7 @@
 #![tactic(auto)]
 
 mod call_words;
+mod halves;
 mod laws;
 mod main_call;
 mod peer;

@@ -6,13 +6,15 @@ ghost use Rattle.peer_route.specs.Answers as shows;
 ghost use Rattle.peer_route.specs.Answers.{sent_answer};
 ghost use Rattle.peer_run.specs.CallWords.{words_of};
 ghost use Rattle.peer_run.specs.Stands.{PeerView, Inlet, Outlet, Follows, Reads, Writes, Sent, NotIssued, named, entry};
+ghost use Rattle.wire_framing.specs.Writing.{has_descriptors};
 ghost use Rattle.wire_message.specs.Front.{Seen};
 
 use crate::call_words::CallWords;
+use crate::halves::{receive, send};
 use peer_route::{Answer, Issued, MessageStream, Polled, Route};
 use std::alloc::{AllocError, AllocFailed, Global};
 use std::marker::Model;
-use wire_framing::{Sink, Source, receive_message, send_message};
+use wire_framing::{Sink, Source};
 use wire_message::{Error, Message, MessageType};
 use wire_names::OwnedUniqueName;
 
@@ -188,7 +190,7 @@ impl Peer {
         if self.route.busy() {
             return Ok(Answer::Busy);
         }
-        match receive_message(alloc, source, self.route.received() + 1) {
+        match receive(alloc, source, self.route.received() + 1) {
             Ok(message) => {
                 let copy = message.try_clone()?;
                 self.route.arrive(message)?;
@@ -289,7 +291,7 @@ impl Peer {
         requires there { issued.index < length self.old.core.outbox }
         requires due { issued.index ≡ self.old.core.done }
         requires fine { self.old.core.failed ≡ false }
-        ensures sent { IfOk result (λ answer. (m : Seen) → slice_get self.old.core.outbox issued.index ≡ Some m
+        ensures sent { IfOk result (λ answer. (m : Seen) → slice_get self.old.core.outbox issued.index ≡ Some m → has_descriptors m.unix_fds ≡ false
             → Sent self.old self.new lane issued m (record { held = W.held sink.old; room = W.room sink.old; faults = W.faults sink.old })
             (record { held = W.held sink.new; room = W.room sink.new; faults = W.faults sink.new }) answer) }
         ensures grows { W.faults sink.old ≤ W.faults sink.new }
@@ -297,7 +299,7 @@ impl Peer {
         let Some(message) = self.route.outbox(issued.index) else {
             unreachable!()
         };
-        match send_message(sink, message) {
+        match send(sink, message) {
             Ok(()) => {
                 self.route.wrote(issued.index);
                 Ok(self.went_out(lane, issued)?)

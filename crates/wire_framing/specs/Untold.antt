@@ -1,5 +1,6 @@
 -- What a source or a sink tells that tells nothing of its bytes.
 use Rattle.std.specs.Prelude.{ℕ, Bool, List, Option, None}
+use Rattle.std.specs.Borrow.{GName}
 
 abbrev pub no_bytes : Option (List ℕ)
 no_bytes = None
@@ -11,3 +12,7 @@ no_stop = None
 -- nothing of the room that is left
 abbrev pub no_room : Option (Option ℕ)
 no_room = None
+
+-- it is no lent one
+abbrev pub no_name : Option GName
+no_name = None

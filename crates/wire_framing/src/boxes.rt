@@ -15,6 +15,8 @@ impl Source for Box<dyn Source + Send + Drop> {
 
     ghost widest = { λ b. (Source-box b).widest b.value };
 
+    ghost lent = { λ b. (Source-box b).lent b.value };
+
     fn read(&mut self, buf: &mut [u8]) -> Result<usize, Failed> {
         (**self).read(buf)
     }
@@ -28,6 +30,8 @@ impl Sink for Box<dyn Sink + Send + Drop> {
     ghost faults = { λ b. (Sink-box b).faults b.value };
 
     ghost takes = { λ b. (Sink-box b).takes b.value };
+
+    ghost lent = { λ b. (Sink-box b).lent b.value };
 
     fn write(&mut self, piece: &[u8]) -> Result<usize, Refusal> {
         (**self).write(piece)

@@ -2,7 +2,7 @@
 ghost use Rattle.std.specs.Prelude.{ℕ, ◌≡◌, ◌≤◌, List, Bool, Option, None, Some, length, false, IsOk, MatchResult, refl};
 ghost use Rattle.wire_framing.specs.Sink.{Writes, Closes};
 ghost use Rattle.wire_framing.specs.Source.{Reads, Asks, Widens};
-ghost use Rattle.wire_framing.specs.Untold.{no_bytes, no_stop, no_room};
+ghost use Rattle.wire_framing.specs.Untold.{no_bytes, no_stop, no_room, no_name};
 ghost use Rattle.wire_framing.specs.declared.sink.Refusal.TheVariants.{Memory};
 
 use crate::pipe::Pipe;
@@ -123,6 +123,7 @@ impl<R: Wait + Copy> Source for Reader<R> {
         ensures bytes { Reads result buf.new no_bytes no_bytes no_stop no_stop 0 0 }
         ensures asks { Asks None None 1 }
         ensures width { Widens None None (length buf.new) }
+        ensures same { no_name ≡ no_name }
         ensures together { no_bytes ≡ None → no_stop ≡ None }
         ensures never_fails { IsOk result }
     {
@@ -146,6 +147,7 @@ impl<R: Wait + Copy> Sink for Writer<R> {
     fn write(&mut self, piece: &[u8]) -> Result<usize, Refusal>
         ensures bytes { Writes result piece.now no_bytes no_bytes no_room no_room 0 0 }
         ensures fds { false ≡ false }
+        ensures same { no_name ≡ no_name }
         ensures together { no_bytes ≡ None → no_room ≡ None }
         ensures whole { MatchResult result (λ count. count ≡ length piece.now) (λ e. e ≡ Memory) }
     {
@@ -166,6 +168,7 @@ impl<R: Wait + Copy> Sink for Writer<R> {
     fn close(&mut self) -> Result<(), Failed>
         ensures bytes { Closes result no_bytes no_bytes no_room no_room 0 0 }
         ensures fds { false ≡ false }
+        ensures same { no_name ≡ no_name }
         ensures never_fails { IsOk result }
     {
         self.to.end(&self.rt);

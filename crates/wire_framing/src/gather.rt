@@ -23,6 +23,7 @@ fn fill<S: Source>(source: &mut S, buf: &mut [u8]) -> (usize, Result<()>)
     ensures came { Comes result.1 (take result.0 buf.new) (S.left source.old) (S.left source.new) (S.stop source.old) (S.stop source.new) (S.faults source.old) (S.faults source.new) }
     ensures asks { Asks (S.asked source.old) (S.asked source.new) (result.0 + once_more result.1) }
     ensures width { Widens (S.widest source.old) (S.widest source.new) 65536 }
+    ensures same_source { S.lent source.new ≡ S.lent source.old }
 {
     let mut at = 0;
     while at < buf.len() {
@@ -46,6 +47,7 @@ fn take_more<S: Source>(source: &mut S, bytes: &mut Vec<u8>, count: usize) -> Re
     ensures came { Comes result (drop (length bytes.old.items) bytes.new.items) (S.left source.old) (S.left source.new) (S.stop source.old) (S.stop source.new) (S.faults source.old) (S.faults source.new) }
     ensures asks { Asks (S.asked source.old) (S.asked source.new) (length (drop (length bytes.old.items) bytes.new.items) + once_more result) }
     ensures width { Widens (S.widest source.old) (S.widest source.new) 65536 }
+    ensures same_source { S.lent source.new ≡ S.lent source.old }
 {
     let from = bytes.len();
     bytes.resize(from + count, 0)?;
@@ -63,6 +65,7 @@ fn take_until<S: Source>(source: &mut S, bytes: &mut Vec<u8>, total: usize) -> R
     ensures came { Comes result (drop (length bytes.old.items) bytes.new.items) (S.left source.old) (S.left source.new) (S.stop source.old) (S.stop source.new) (S.faults source.old) (S.faults source.new) }
     ensures asks { Asks (S.asked source.old) (S.asked source.new) (length (drop (length bytes.old.items) bytes.new.items) + once_more result) }
     ensures width { Widens (S.widest source.old) (S.widest source.new) 65536 }
+    ensures same_source { S.lent source.new ≡ S.lent source.old }
 {
     while bytes.len() < total {
         let count = STEP.min(total - bytes.len());
@@ -104,6 +107,7 @@ pub(crate) fn gather<S: Source>(source: &mut S, bytes: &mut Vec<u8>) -> Result<u
     ensures came { Comes result (drop (length bytes.old.items) bytes.new.items) (S.left source.old) (S.left source.new) (S.stop source.old) (S.stop source.new) (S.faults source.old) (S.faults source.new) }
     ensures asks { Asks (S.asked source.old) (S.asked source.new) (length (drop (length bytes.old.items) bytes.new.items) + once_more result) }
     ensures width { Widens (S.widest source.old) (S.widest source.new) 65536 }
+    ensures same_source { S.lent source.new ≡ S.lent source.old }
 {
     take_until(source, bytes, HEAD)?;
     let total = total_at(bytes)? as usize;

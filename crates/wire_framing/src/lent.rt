@@ -1,5 +1,5 @@
 //! A source or a sink that is lent is one too.
-ghost use Rattle.std.specs.Prelude.{◌≡◌};
+ghost use Rattle.std.specs.Prelude.{◌≡◌, Some};
 
 use crate::sink::{Refusal, Sink};
 use crate::source::{Failed, Source};
@@ -15,6 +15,8 @@ impl<S: Source> Source for &mut S {
 
     ghost widest = { λ s. S.widest s.now };
 
+    ghost lent = { λ s. Some s.ghost_name };
+
     fn read(&mut self, buf: &mut [u8]) -> Result<usize, Failed> {
         (**self).read(buf)
     }
@@ -28,6 +30,8 @@ impl<W: Sink> Sink for &mut W {
     ghost faults = { λ s. W.faults s.now };
 
     ghost takes = { λ s. W.takes s.now };
+
+    ghost lent = { λ s. Some s.ghost_name };
 
     fn write(&mut self, piece: &[u8]) -> Result<usize, Refusal> {
         (**self).write(piece)

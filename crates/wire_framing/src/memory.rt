@@ -1,5 +1,6 @@
 ghost use Rattle.std.specs.Prelude.{ℕ, ◌≡◌, ◌+◌, ◌≤◌, ◌<◌, List, [], ◌++◌, length, take, drop, Bool, ◌==◌, Some, None, OnOk, IfOk, IfErr, min};
 ghost use Rattle.std.specs.Option.{option_map_or};
+ghost use Rattle.wire_framing.specs.Untold.{no_name};
 ghost use Rattle.wire_framing.specs.Sink.{Writes};
 ghost use Rattle.wire_framing.specs.Memory.{told_bytes, told_stop, source_left, source_stop};
 ghost use Rattle.wire_framing.specs.declared.sink.Refusal.TheVariants.{Memory};
@@ -175,6 +176,7 @@ impl Sink for MemorySink {
     fn write(&mut self, piece: &[u8]) -> Result<usize, Refusal>
         ensures bytes { Writes result piece.now (Some self.old.bytes.items) (Some self.new.bytes.items) (Some self.old.room) (Some self.new.room) self.old.faults self.new.faults }
         ensures fds { self.new.takes_fds ≡ self.old.takes_fds }
+        ensures same { no_name ≡ no_name }
         ensures together { Some self.old.bytes.items ≡ None → Some self.old.room ≡ None }
         ensures all { IfOk result (λ count. count ≡ option_map_or (λ room. min room (length piece.now)) self.old.room (length piece.now)) }
     {

@@ -101,6 +101,7 @@ impl<S: Source> ReadHalf<S> {
         ensures message { IfOk result (λ m. Front m.bytes m (length m.bytes) × (m.position ≡ seq)) }
         ensures error { IfErr result (λ e. IsReadRefusal e × HasCause e (S.faults self.old.source) (S.faults self.new.source)) }
         ensures width { Widens (S.widest self.old.source) (S.widest self.new.source) 65536 }
+        ensures same { S.lent self.new.source ≡ S.lent self.old.source }
         ensures last { seq ≡ 2 ^ 64 - 1 → (self.new.source ≡ self.old.source) × (kept.new.items ≡ kept.old.items) × (result ≡ Err (Error.InputOutput Ended)) }
     {
         if seq == u64::MAX {

@@ -1,4 +1,5 @@
 ghost use Rattle.std.specs.Prelude.{ℕ, ◌≡◌, List, Bool, Option, None};
+ghost use Rattle.std.specs.Borrow.{GName};
 ghost use Rattle.wire_framing.specs.Sink.{Writes, Closes};
 
 use crate::source::Failed;
@@ -27,17 +28,22 @@ pub trait Sink {
     // whether it takes file descriptors
     ghost takes: { Self → Bool };
 
+    // the reference that it is, where it is a lent one
+    ghost lent: { Self → Option GName } = { λ s. None };
+
     /// Appends the piece's first bytes, and says how many: at least one, unless it is empty. Failed only where the count
     /// of faults rose; an error appends nothing.
     fn write(&mut self, piece: &[u8]) -> Result<usize, Refusal>
         ensures bytes { Writes result piece.now (held self.old) (held self.new) (room self.old) (room self.new) (faults self.old) (faults self.new) }
         ensures fds { takes self.new ≡ takes self.old }
+        ensures same { lent self.new ≡ lent self.old }
         ensures together { held self.old ≡ None → room self.old ≡ None };
 
     /// Says that no more bytes come. Failed only where the count of faults rose, and never where room is told.
     fn close(&mut self) -> Result<(), Failed>
         ensures bytes { Closes result (held self.old) (held self.new) (room self.old) (room self.new) (faults self.old) (faults self.new) }
-        ensures fds { takes self.new ≡ takes self.old };
+        ensures fds { takes self.new ≡ takes self.old }
+        ensures same { lent self.new ≡ lent self.old };
 
     /// Whether the sink takes file descriptors.
     fn takes_fds(&self) -> bool

@@ -62,6 +62,7 @@ fn write_all<W: Sink>(sink: &mut W, writing: &mut Writing, bytes: &[u8]) -> Resu
     requires { writing.old ≡ Writing.Fine }
     ensures bytes { Sends result writing.new bytes.now (W.held sink.old) (W.held sink.new) (W.room sink.old) (W.room sink.new) (W.faults sink.old) (W.faults sink.new) }
     ensures fds { W.takes sink.new ≡ W.takes sink.old }
+    ensures same { W.lent sink.new ≡ W.lent sink.old }
 {
     let mut at = 0;
     while at < bytes.len() {
@@ -130,6 +131,7 @@ impl<W: Sink> WriteHalf<W> {
         ensures sends { is_unsupported message.now.unix_fds (W.takes self.old.sink) ≡ false → cause self.old.writing ≡ None
             → Sends result self.new.writing message.now.bytes (W.held self.old.sink) (W.held self.new.sink) (W.room self.old.sink) (W.room self.new.sink) (W.faults self.old.sink) (W.faults self.new.sink) }
         ensures fds { W.takes self.new.sink ≡ W.takes self.old.sink }
+        ensures same { W.lent self.new.sink ≡ W.lent self.old.sink }
     {
         if has_descriptors(message) && !self.sink.takes_fds() {
             return Err(Error::Unsupported);
@@ -150,6 +152,7 @@ impl<W: Sink> WriteHalf<W> {
         ensures closed { self.new.writing ≡ closed self.old.writing }
         ensures error { IfErr result (λ e. e ≡ Error.InputOutput WriteFault) }
         ensures fds { W.takes self.new.sink ≡ W.takes self.old.sink }
+        ensures same { W.lent self.new.sink ≡ W.lent self.old.sink }
     {
         self.writing = closed(self.writing);
         match self.sink.close() {

@@ -1,4 +1,4 @@
-use Rattle.std.proofs.Common.{rules, arith, length}
+use Rattle.std.proofs.Common.{rules, arith, length, ◌∙◌}
 use Rattle.wire_framing.proofs.Asked.{asks_then, widens_then}
 use Rattle.wire_framing.proofs.Steps.{went_then, filled_more}
 use Rattle.wire_framing.proofs.gather.fill.Goals as goal
@@ -14,4 +14,5 @@ loop-at-preserved g c =
       went = went_then _ _ _ _ _ _ _ _ _ _ _ _ joined inv.went read.bytes.1 read.bytes.3 read.bytes.4;
       asks = asks_then _ _ _ c.loop-at.at 1 _ inv.asks read.asks (search rules);
       width = widens_then _ _ _ 65536 (length c.read.new.buf) 65536 inv.width read.width (omega arith) (search rules);
+      same = read.same ∙ inv.same;
     }

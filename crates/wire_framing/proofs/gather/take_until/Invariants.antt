@@ -11,6 +11,7 @@ invariant-loop-bytes g l =
       went : Went (drop (length l.initial.bytes.items) l.bytes.items) (g.S.Source.left l.initial.source) (g.S.Source.left l.source) (g.S.Source.stop l.initial.source) (g.S.Source.stop l.source) (g.S.Source.faults l.initial.source) (g.S.Source.faults l.source);
       asks : Asks (g.S.Source.asked l.initial.source) (g.S.Source.asked l.source) (length (drop (length l.initial.bytes.items) l.bytes.items));
       width : Widens (g.S.Source.widest l.initial.source) (g.S.Source.widest l.source) 65536;
+      same : g.S.Source.lent l.source ≡ g.S.Source.lent l.initial.source;
     }
 
 abbrev pub decreases-loop-bytes : goal.decreases-loop-bytes

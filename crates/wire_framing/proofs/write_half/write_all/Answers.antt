@@ -13,5 +13,6 @@ loop-at-preserved g c =
       room = room_then _ _ _ _ _ inv.room wrote.3;
       faults = wrote.4 ∙ inv.faults;
       fine = inv.fine;
+      same = c.in-Ok.ensures.same ∙ inv.same;
       fds = c.in-Ok.ensures.fds ∙ inv.fds;
     }

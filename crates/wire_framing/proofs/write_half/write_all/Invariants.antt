@@ -12,6 +12,7 @@ invariant-loop-at g l =
       room : RoomFalls (g.W.Sink.room l.initial.sink) (g.W.Sink.room l.sink) l.at;
       faults : g.W.Sink.faults l.sink ≡ g.W.Sink.faults l.initial.sink;
       fine : l.writing ≡ Fine;
+      same : g.W.Sink.lent l.sink ≡ g.W.Sink.lent l.initial.sink;
       fds : g.W.Sink.takes l.sink ≡ g.W.Sink.takes l.initial.sink;
     }
 
