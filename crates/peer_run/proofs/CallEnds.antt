@@ -143,7 +143,7 @@ pub not_out : (old new : PeerView) (lane : ℕ) (issued : Issued) (m : Seen) (no
     → Sends {A = Unit {0}} (Err error) writing m.bytes now.held after.held now.room after.room now.faults after.faults
     → new.names ≡ named (is_some issued.call) None old.names → new.streams ≡ old.streams → ((h : List events.Event) → Left old.core h → Left new.core (events.Fault ∷ h))
     → Sent old new lane issued m now after writing (answers.SendFailed error)
-not_out old new lane issued m now after writing (errors.InputOutput kinds.WriteFault) never s names streams left = WriteFailed refl names streams left s.0 s.1 s.2 s.3
+not_out old new lane issued m now after writing (errors.InputOutput kinds.WriteFault) never s names streams left = WriteFailed refl names streams left s.0 s.1 s.2 s.3 s.4
 not_out old new lane issued m now after writing (errors.InputOutput kinds.Ended) never s names streams left = absurd s
 not_out old new lane issued m now after writing (errors.InputOutput kinds.Fault) never s names streams left = absurd s
 not_out old new lane issued m now after writing (errors.InputOutput kinds.Closed) never s names streams left = absurd s
@@ -197,7 +197,7 @@ sending_by name p q r es lane ws issued now after writing a m x f i n t is made 
       reads = never_sent (is_some issued.call) (count lane q.names) issued.serial a answer;
       fine = λ e. still;
     }
-sending_by name p q r es lane ws issued now after writing a m x f i n t is made (WriteFailed answer names streams left k part breaks rises) =
+sending_by name p q r es lane ws issued now after writing a m x f i n t is made (WriteFailed answer names streams left k part breaks rises over) =
     let h = (trail name es).events in
     let none = not_refused h (draft_by (trail name es).name ws) issued.serial x i.0 i.1 in
     let next = next_serial-next h issued.serial i.0 in

@@ -9,7 +9,7 @@ use Rattle.std.specs.Io.KnownBytes.{Appends}
 use Rattle.wire_framing.specs.Sink.{RoomFalls, RoomBreaks}
 use Rattle.wire_framing.specs.Send.{Part}
 use Rattle.wire_framing.specs.declared.write_half.Writing.{Writing}
-use Rattle.wire_framing.specs.declared.write_half.Writing.TheVariants.{Fine}
+use Rattle.wire_framing.specs.declared.write_half.Writing.TheVariants.{Fine, Failed}
 use Rattle.peer_route.specs.declared.words.Words.{Words}
 use Rattle.peer_route.specs.declared.answer.Answer.{Answer}
 use Rattle.peer_route.specs.declared.answer.Answer.TheVariants as answers
@@ -120,7 +120,7 @@ named true owner names = names ++ owner ∷ []
 named false owner names = names
 
 -- The message that was issued was written, and is the lane's next call, if it makes one; or its write failed, and then its
--- call is nobody's.
+-- call is nobody's. `writing` is what the half that wrote has met.
 pub data Sent (old new : PeerView) (lane : ℕ) (issued : Issued) (m : Seen) (now after : Outlet) (writing : Writing) (answer : Answer) : Type 0 where
   WentOut : answer ≡ sent_answer (is_some issued.call) (count lane old.names) issued.serial
       → new.names ≡ named (is_some issued.call) (Some lane) old.names → new.streams ≡ old.streams
@@ -129,7 +129,7 @@ pub data Sent (old new : PeerView) (lane : ℕ) (issued : Issued) (m : Seen) (no
       → Sent old new lane issued m now after writing answer
   WriteFailed : answer ≡ write_fault → new.names ≡ named (is_some issued.call) None old.names → new.streams ≡ old.streams
       → ((h : List Event) → Left old.core h → Left new.core (Fault ∷ h))
-      → (n : ℕ) → Part m.bytes now.held after.held n → RoomBreaks now.room after.room n → MayRise now.faults after.faults
+      → (n : ℕ) → Part m.bytes now.held after.held n → RoomBreaks now.room after.room n → MayRise now.faults after.faults → writing ≡ Failed
       → Sent old new lane issued m now after writing answer
 
 -- a call that wasn't issued: its refusal, or an earlier failed write; not want of memory

@@ -293,7 +293,12 @@ impl Peer {
     }
 
     /// Writes the message that was issued, which stands at that place of the outbox.
-    fn send<W: Sink>(&mut self, half: &mut WriteHalf<W>, lane: u32, issued: Issued) -> Result<Answer, RunError>
+    fn send<W: Sink>(
+        &mut self,
+        half: &mut WriteHalf<W>,
+        lane: u32,
+        issued: Issued,
+    ) -> Result<Answer, RunError>
         requires there { issued.index < length self.old.core.outbox }
         requires due { issued.index ≡ self.old.core.done }
         requires fine { self.old.core.failed ≡ false }

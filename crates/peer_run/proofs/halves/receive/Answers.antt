@@ -1,4 +1,4 @@
-use Rattle.std.proofs.Common.{◌≡◌, ◌∙◌, arith}
+use Rattle.std.proofs.Common.{◌∙◌, arith}
 use Rattle.peer_run.proofs.HalfStep.{takes_own, keeps_ok, keeps_err}
 use Rattle.peer_run.proofs.halves.receive.Goals as goal
 
