@@ -5,6 +5,7 @@ use Rattle.std.proofs.lemmas.Bool.{cases_lt}
 use Rattle.std.specs.Io.KnownBytes.{Consumes}
 use Rattle.wire_framing.specs.Receive.{Takes, HasCause, spent}
 use Rattle.wire_framing.specs.Kept.{TakesKept, rest_of}
+use Rattle.wire_framing.specs.Writing.{has_descriptors, is_unsupported}
 use Rattle.wire_message.specs.Front.{Seen, Front}
 use Rattle.wire_message.specs.Draft.{Draft}
 use Rattle.wire_message.specs.Outcome.{IsReadRefusal}
@@ -78,6 +79,10 @@ keeps_err seq (Err e) kept' left left' stop stop' faults faults' asked asked' wi
     λ never. keeps_none seq (Err e) kept' left left' stop stop' faults faults' asked asked' (λ same. never (let is : e ≡ errors.Memory = cc in is)) within last takes
 
 -- ---- a send
+
+-- a message without descriptors is refused by no sink
+pub supported : (fds : Option ℕ) (takes : Bool) → has_descriptors fds ≡ false → is_unsupported fds takes ≡ false
+supported fds takes none = rw none refl
 
 put_before : (failed : Bool) (m : Seen) (expects : Bool) (h : List events.Event) → events.is_failed h ≡ failed
     → events.is_failed (failed_put failed (events.Put m expects) ++ h) ≡ false → events.is_failed h ≡ false

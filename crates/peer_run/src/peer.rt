@@ -1,4 +1,4 @@
-ghost use Rattle.std.specs.Prelude.{ℕ, ◌≡◌, ◌+◌, ◌≤◌, ◌<◌, ◌-◌, ◌^◌, slice_get, false, List, [], ◌∷◌, length, Option, IfOk, OnOk, Some, None, is_some};
+ghost use Rattle.std.specs.Prelude.{ℕ, ◌≡◌, ◌≢◌, ◌+◌, ◌≤◌, ◌<◌, ◌-◌, ◌^◌, slice_get, false, List, [], ◌∷◌, length, Option, IfSome, IfOk, IfErr, OnOk, Some, None, Err, is_some};
 ghost use Rattle.peer_route.specs.declared.answer.Entry.{Entry};
 ghost use Rattle.peer_route.specs.declared.words.Words.TheVariants as words;
 ghost use Rattle.peer_route.specs.Trail as trails;
@@ -7,12 +7,13 @@ ghost use Rattle.peer_route.specs.Answers as shows;
 ghost use Rattle.peer_route.specs.Answers.{sent_answer};
 ghost use Rattle.peer_run.specs.CallWords.{words_of};
 ghost use Rattle.peer_run.specs.Stands.{PeerView, Inlet, Outlet, Follows, Reads, Writes, Sent, NotIssued, IsFine, named, entry};
+ghost use Rattle.wire_framing.specs.Receive.{Receives, Takes};
 ghost use Rattle.wire_framing.specs.Writing.{has_descriptors};
 ghost use Rattle.wire_framing.specs.declared.write_half.Writing.TheVariants.{Fine};
 ghost use Rattle.wire_message.specs.Front.{Seen};
+ghost use Rattle.wire_message.specs.declared.error.IoKind.TheVariants.{Ended};
 
 use crate::call_words::CallWords;
-use crate::halves::{receive, send};
 use peer_route::{Answer, Issued, MessageStream, Polled, Route};
 use std::alloc::{AllocError, AllocFailed, Global};
 use std::marker::Model;
@@ -155,6 +156,26 @@ fn not_issued(error: Error) -> Result<Answer, RunError>
         Error::InputOutput(_) => Ok(Answer::SendFailed(error)),
         _ => Ok(Answer::Refused(error)),
     }
+}
+
+/// Takes one message, the `seq`-th, and no byte more, by a half that kept nothing (D-Bus Specification, "Message
+/// Protocol"). It then keeps nothing again, but for want of memory.
+fn receive<S: Source>(
+    alloc: Global,
+    half: &mut ReadHalf<S>,
+    kept: &mut Vec<u8>,
+    seq: u64,
+) -> wire_message::Result<Message>
+    requires first { 0 < seq }
+    requires empty { kept.old.items ≡ [] }
+    ensures told { IfSome (S.left half.old.source) (λ bytes. Receives (S.stop half.old.source) (seq - 1) bytes result) }
+    ensures takes { Takes seq result (S.left half.old.source) (S.left half.new.source) (S.stop half.old.source) (S.stop half.new.source) (S.faults half.old.source) (S.faults half.new.source) }
+    ensures last { seq ≡ 2 ^ 64 - 1 → result ≡ Err (Error.InputOutput Ended) }
+    ensures took { IfOk result (λ m. kept.new.items ≡ []) }
+    ensures ended { IfErr result (λ e. e ≢ Error.Memory → kept.new.items ≡ []) }
+    ensures same { S.lent half.new.source ≡ S.lent half.old.source }
+{
+    half.receive_message(alloc, seq, kept)
 }
 
 impl Peer {
@@ -311,7 +332,7 @@ impl Peer {
         let Some(message) = self.route.outbox(issued.index) else {
             unreachable!()
         };
-        match send(half, message) {
+        match half.send_message(message) {
             Ok(()) => {
                 self.route.wrote(issued.index);
                 Ok(self.went_out(lane, issued)?)

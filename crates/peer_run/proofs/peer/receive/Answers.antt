@@ -1,6 +1,6 @@
 use Rattle.std.proofs.Common.{◌∙◌, arith}
 use Rattle.peer_run.proofs.HalfStep.{takes_own, keeps_ok, keeps_err}
-use Rattle.peer_run.proofs.halves.receive.Goals as goal
+use Rattle.peer_run.proofs.peer.receive.Goals as goal
 
 pub returns-clause-takes : goal.returns-clause-takes
 returns-clause-takes g c =
