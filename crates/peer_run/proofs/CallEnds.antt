@@ -10,7 +10,7 @@ use Rattle.peer_route.specs.declared.answer.Answer.TheVariants as answers
 use Rattle.peer_route.specs.declared.answer.Entry.{Entry}
 use Rattle.peer_route.specs.declared.route.Issued.{Issued}
 use Rattle.peer_route.specs.History as events
-use Rattle.peer_route.specs.Trail.{trail, count}
+use Rattle.peer_route.specs.Trail.{trail, count, next_serial}
 use Rattle.peer_route.specs.Answers.{words_refusal, sent_answer, write_fault}
 use Rattle.peer_route.specs.Left.{View, Left, Issues, call_number}
 use Rattle.peer_route.proofs.NextSerial.{next_serial-next}
@@ -18,10 +18,12 @@ use Rattle.peer_route.proofs.Steps.{refused-words, refused-spent, refused-long, 
 use Rattle.peer_run.specs.declared.call_words.CallWords.{CallWords}
 use Rattle.std.specs.Io.KnownBytes.{Appends}
 use Rattle.wire_framing.specs.Sink.{RoomFalls}
-use Rattle.wire_framing.specs.Send.{Part, Sends}
-use Rattle.wire_framing.specs.Writing.{has_descriptors}
+use Rattle.wire_framing.specs.Send.{Part}
+use Rattle.wire_framing.specs.Writing.{has_descriptors, Sends}
+use Rattle.wire_framing.specs.declared.write_half.Writing.{Writing}
+use Rattle.wire_framing.specs.declared.write_half.Writing.TheVariants.{Fine}
 use Rattle.peer_run.specs.CallWords.{words_of, draft_by}
-use Rattle.peer_run.specs.Stands.{PeerView, Inlet, Outlet, Follows, Reads, Writes, Sent, WentOut, WriteFailed, named, unsent_answer, NotIssued, IsReadFault, entry}
+use Rattle.peer_run.specs.Stands.{PeerView, Inlet, Outlet, Follows, Reads, Writes, Sent, WentOut, WriteFailed, named, unsent_answer, NotIssued, IsReadFault, IsFine, entry}
 use Rattle.peer_run.proofs.CallStep.{waits, follows_refused, follows_unsent, follows_sent, follows_failed, reads_call, writes_refused, writes_unsent, writes_sent, writes_failed}
 
 -- a word outside its grammar
@@ -137,41 +139,51 @@ makes_call true number = refl
 makes_call false number = refl
 
 -- a write that failed leaves a proper part
-pub not_out : (old new : PeerView) (lane : ℕ) (issued : Issued) (m : Seen) (now after : Outlet) (error : Error) → (error ≡ errors.Memory → ⊥)
-    → Sends {A = Unit {0}} (Err error) m.bytes now.held after.held now.room after.room now.faults after.faults
+pub not_out : (old new : PeerView) (lane : ℕ) (issued : Issued) (m : Seen) (now after : Outlet) (writing : Writing) (error : Error) → (error ≡ errors.Memory → ⊥)
+    → Sends {A = Unit {0}} (Err error) writing m.bytes now.held after.held now.room after.room now.faults after.faults
     → new.names ≡ named (is_some issued.call) None old.names → new.streams ≡ old.streams → ((h : List events.Event) → Left old.core h → Left new.core (events.Fault ∷ h))
-    → Sent old new lane issued m now after (answers.SendFailed error)
-not_out old new lane issued m now after (errors.InputOutput kinds.WriteFault) never s names streams left = WriteFailed refl names streams left s.0 s.1 s.2 s.3
-not_out old new lane issued m now after (errors.InputOutput kinds.Ended) never s names streams left = absurd s
-not_out old new lane issued m now after (errors.InputOutput kinds.Fault) never s names streams left = absurd s
-not_out old new lane issued m now after (errors.InputOutput kinds.Closed) never s names streams left = absurd s
-not_out old new lane issued m now after (errors.InputOutput kinds.TimedOut) never s names streams left = absurd s
-not_out old new lane issued m now after (errors.Variant kind) never s names streams left = absurd s
-not_out old new lane issued m now after (errors.Names kind) never s names streams left = absurd s
-not_out old new lane issued m now after errors.InvalidMatchRule never s names streams left = absurd s
-not_out old new lane issued m now after errors.IncorrectEndian never s names streams left = absurd s
-not_out old new lane issued m now after errors.ExcessData never s names streams left = absurd s
-not_out old new lane issued m now after errors.SerialsSpent never s names streams left = absurd s
-not_out old new lane issued m now after errors.UnknownHandle never s names streams left = absurd s
-not_out old new lane issued m now after errors.Unsupported never s names streams left = absurd s
-not_out old new lane issued m now after errors.InvalidField never s names streams left = absurd s
-not_out old new lane issued m now after errors.Memory never s names streams left = absurd (never refl)
+    → Sent old new lane issued m now after writing (answers.SendFailed error)
+not_out old new lane issued m now after writing (errors.InputOutput kinds.WriteFault) never s names streams left = WriteFailed refl names streams left s.0 s.1 s.2 s.3 s.4
+not_out old new lane issued m now after writing (errors.InputOutput kinds.Ended) never s names streams left = absurd s
+not_out old new lane issued m now after writing (errors.InputOutput kinds.Fault) never s names streams left = absurd s
+not_out old new lane issued m now after writing (errors.InputOutput kinds.Closed) never s names streams left = absurd s
+not_out old new lane issued m now after writing (errors.InputOutput kinds.TimedOut) never s names streams left = absurd s
+not_out old new lane issued m now after writing (errors.Variant kind) never s names streams left = absurd s
+not_out old new lane issued m now after writing (errors.Names kind) never s names streams left = absurd s
+not_out old new lane issued m now after writing errors.InvalidMatchRule never s names streams left = absurd s
+not_out old new lane issued m now after writing errors.IncorrectEndian never s names streams left = absurd s
+not_out old new lane issued m now after writing errors.ExcessData never s names streams left = absurd s
+not_out old new lane issued m now after writing errors.SerialsSpent never s names streams left = absurd s
+not_out old new lane issued m now after writing errors.UnknownHandle never s names streams left = absurd s
+not_out old new lane issued m now after writing errors.Unsupported never s names streams left = absurd s
+not_out old new lane issued m now after writing errors.InvalidField never s names streams left = absurd s
+not_out old new lane issued m now after writing errors.Memory never s names streams left = absurd (never refl)
 
--- the two things that sending gives
-pub record Sending (name : Option (List ℕ)) (p q r : PeerView) (es : List Entry) (lane : ℕ) (ws : CallWords) (now after : Outlet) (a : Answer) : Type 0 where
+-- what sending gives
+pub record Sending (name : Option (List ℕ)) (p q r : PeerView) (es : List Entry) (lane : ℕ) (ws : CallWords) (now after : Outlet) (writing : Writing) (a : Answer) : Type 0 where
   pub follows : Follows name r (entry lane (words_of ws) a ∷ es)
   pub writes : (start : Outlet) → Writes name start now es → Writes name start after (entry lane (words_of ws) a ∷ es)
   pub reads : IsReadFault a → ⊥
+  pub fine : IsFine (trail name (entry lane (words_of ws) a ∷ es)).events writing
 
 never_sent : (expects : Bool) (number serial : ℕ) (a : Answer) → a ≡ sent_answer expects number serial → IsReadFault a → ⊥
 never_sent true number serial a e f = cc
 never_sent false number serial a e f = cc
 
-sending_by : (name : Option (List ℕ)) (p q r : PeerView) (es : List Entry) (lane : ℕ) (ws : CallWords) (issued : Issued) (now after : Outlet) (a : Answer) (m : Seen)
+-- after a failed write the history has failed
+failed_then : (name : Option (List ℕ)) (es : List Entry) (lane : ℕ) (ws : CallWords) (serial : ℕ) (a : Answer) → a ≡ write_fault → events.is_failed (trail name es).events ≡ false
+    → next_serial (trail name es).events ≡ Some serial → events.is_failed (trail name (entry lane (words_of ws) a ∷ es)).events ≡ false → ⊥
+failed_then name es lane ws serial a answer fine next f =
+    let m = built (draft_by (trail name es).name ws) serial [] in
+    let same : (trail name (entry lane (words_of ws) write_fault ∷ es)).events ≡ events.Fault ∷ events.Put m (waits ws) ∷ (trail name es).events = rw (fine, next) refl in
+    let g : true ≡ false = sym (ap events.is_failed same) ∙ sym (ap (λ b. events.is_failed (trail name (entry lane (words_of ws) b ∷ es)).events) answer) ∙ f in
+    cc
+
+sending_by : (name : Option (List ℕ)) (p q r : PeerView) (es : List Entry) (lane : ℕ) (ws : CallWords) (issued : Issued) (now after : Outlet) (writing : Writing) (a : Answer) (m : Seen)
     → words_refusal (draft_by (trail name es).name ws) ≡ None → Follows name p es → Issues p.core q.core (draft_by (trail name es).name ws) (trail name es).events (Ok issued)
     → q.names ≡ p.names → q.streams ≡ p.streams → m ≡ built (draft_by (trail name es).name ws) issued.serial [] → is_some issued.call ≡ waits ws
-    → Sent q r lane issued m now after a → Sending name p q r es lane ws now after a
-sending_by name p q r es lane ws issued now after a m x f i n t is made (WentOut answer names streams left appends falls faults) =
+    → Sent q r lane issued m now after writing a → Sending name p q r es lane ws now after writing a
+sending_by name p q r es lane ws issued now after writing a m x f i n t is made (WentOut answer names streams left appends falls faults still) =
     let h = (trail name es).events in
     let none = not_refused h (draft_by (trail name es).name ws) issued.serial x i.0 i.1 in
     let to : sent_answer (waits ws) (count lane p.names) issued.serial ≡ a = sym (answer ∙ ap (λ b. sent_answer b (count lane q.names) issued.serial) made ∙ ap (λ ns. sent_answer (waits ws) (count lane ns) issued.serial) n) in
@@ -183,8 +195,9 @@ sending_by name p q r es lane ws issued now after a m x f i n t is made (WentOut
           (writes_sent name start now after es lane (count lane p.names) issued.serial ws i.2 (subst (λ k. Appends now.held after.held k.bytes) is appends)
           (subst (λ (k : Seen). RoomFalls now.room after.room (length k.bytes)) is falls) faults w);
       reads = never_sent (is_some issued.call) (count lane q.names) issued.serial a answer;
+      fine = λ e. still;
     }
-sending_by name p q r es lane ws issued now after a m x f i n t is made (WriteFailed answer names streams left k part breaks rises) =
+sending_by name p q r es lane ws issued now after writing a m x f i n t is made (WriteFailed answer names streams left k part breaks rises over) =
     let h = (trail name es).events in
     let none = not_refused h (draft_by (trail name es).name ws) issued.serial x i.0 i.1 in
     let next = next_serial-next h issued.serial i.0 in
@@ -195,18 +208,19 @@ sending_by name p q r es lane ws issued now after a m x f i n t is made (WriteFa
       writes = λ start w. subst (λ b. Writes name start after (entry lane (words_of ws) b ∷ es)) (sym answer)
           (writes_failed name start now after es lane issued.serial ws k i.2 next (subst (λ (j : Seen). Part j.bytes now.held after.held k) is part) breaks rises w);
       reads = λ e. cc;
+      fine = λ e. absurd (failed_then name es lane ws issued.serial a answer i.2 next e);
     }
 
-pub sending : (name : Option (List ℕ)) (p q r : PeerView) (es : List Entry) (lane : ℕ) (ws : CallWords) (issued : Issued) (now after : Outlet) (a : Answer)
+pub sending : (name : Option (List ℕ)) (p q r : PeerView) (es : List Entry) (lane : ℕ) (ws : CallWords) (issued : Issued) (now after : Outlet) (before writing : Writing) (a : Answer)
     → words_refusal (draft_by (trail name es).name ws) ≡ None → Follows name p es → Issues p.core q.core (draft_by (trail name es).name ws) (trail name es).events (Ok issued)
-    → q.names ≡ p.names → q.streams ≡ p.streams
-    → ((m : Seen) → slice_get q.core.outbox issued.index ≡ Some m → has_descriptors m.unix_fds ≡ false → Sent q r lane issued m now after a)
-    → Sending name p q r es lane ws now after a
-sending name p q r es lane ws issued now after a x f i n t sent =
+    → IsFine (trail name es).events before → q.names ≡ p.names → q.streams ≡ p.streams
+    → ((m : Seen) → slice_get q.core.outbox issued.index ≡ Some m → has_descriptors m.unix_fds ≡ false → before ≡ Fine → Sent q r lane issued m now after writing a)
+    → Sending name p q r es lane ws now after writing a
+sending name p q r es lane ws issued now after before writing a x f i fine n t sent =
     let h = (trail name es).events in
     let m = built (draft_by (trail name es).name ws) issued.serial [] in
-    sending_by name p q r es lane ws issued now after a m x f i n t refl (ap is_some i.4 ∙ makes_call (waits ws) (length (events.calls h)))
-    (sent m (waits_there q.core h m (waits ws) issued.index i.3 i.5) (plain_call (trail name es).name issued.serial ws))
+    sending_by name p q r es lane ws issued now after writing a m x f i n t refl (ap is_some i.4 ∙ makes_call (waits ws) (length (events.calls h)))
+    (sent m (waits_there q.core h m (waits ws) issued.index i.3 i.5) (plain_call (trail name es).name issued.serial ws) (fine i.2))
 
 -- what was answered where nothing was issued
 pub unsent_ok : {E : Type 0} (error : Error) (r : Result Answer E) → NotIssued error r → IfOk r (λ a. unsent_answer error ≡ Some a)

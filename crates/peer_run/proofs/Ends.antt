@@ -6,6 +6,7 @@ use Rattle.peer_route.specs.History.{Event, put, is_failed}
 use Rattle.peer_route.specs.Trail.{trail}
 use Rattle.peer_route.specs.Told.{IsSentOf, WritesTold, ReadsTold, left_after}
 use Rattle.wire_framing.specs.Sink.{RoomFalls}
+use Rattle.wire_framing.specs.declared.write_half.Writing.{Writing}
 use Rattle.peer_script.specs.Script.{Script}
 use Rattle.peer_run.specs.Stands.{Inlet, Outlet, PeerView, Reads, Writes, Holds, HoldsThen, IsRest}
 use Rattle.peer_run.specs.Runs.{Stands, Runs, command_of}
@@ -55,10 +56,10 @@ start_writes name start = record {
 }
 
 -- what stands to a history is a run of its commands
-pub runs_of : (name : Option (List ℕ)) (start_in : Inlet) (start_out : Outlet) (p : PeerView) (end_in : Inlet) (end_out : Outlet) (commands : List Command) (entries : List Entry)
-    → Stands name start_in start_out p end_in end_out (reverse entries) → map command_of entries ≡ commands
+pub runs_of : (name : Option (List ℕ)) (start_in : Inlet) (start_out : Outlet) (p : PeerView) (end_in : Inlet) (end_out : Outlet) (writing : Writing) (commands : List Command) (entries : List Entry)
+    → Stands name start_in start_out p end_in end_out writing (reverse entries) → map command_of entries ≡ commands
     → Runs name start_in start_out end_in end_out commands entries
-runs_of name start_in start_out p end_in end_out commands entries s e = record {
+runs_of name start_in start_out p end_in end_out writing commands entries s e = record {
   legal = s.follows.legal;
   each = e;
   reads = s.reads.told;

@@ -1,17 +1,28 @@
--- What a half made anew gives, as what a read and a send give.
-use Rattle.std.proofs.Common.{ℕ, ◌≡◌, ◌≢◌, ◌-◌, ◌^◌, ◌≤◌, ◌<◌, ◌⊎◌, inl, inr, refl, sym, ◌∙◌, subst, arith, Bool, false, List, [], length, take, Option, IfOk, IfErr, Result, Ok, Err}
-use Rattle.std.proofs.lemmas.List.{take_all}
+-- What the halves of a run keep from command to command.
+use Rattle.std.proofs.Common.{ℕ, ◌≡◌, ◌≢◌, ◌-◌, ◌^◌, ◌≤◌, ◌<◌, ◌⊎◌, inl, inr, refl, sym, ◌∙◌, subst, arith, Bool, true, false, List, [], ◌∷◌, ◌++◌, length, take, drop, Option, Some, None, IfOk, IfErr, Result, Ok, Err}
+use Rattle.std.proofs.lemmas.List.{take_all, drop_all}
+use Rattle.std.proofs.lemmas.Bool.{cases_lt}
 use Rattle.std.specs.Io.KnownBytes.{Consumes}
 use Rattle.wire_framing.specs.Receive.{Takes, HasCause, spent}
-use Rattle.wire_framing.specs.Kept.{TakesKept}
+use Rattle.wire_framing.specs.Kept.{TakesKept, rest_of}
 use Rattle.wire_framing.specs.Writing.{has_descriptors, is_unsupported}
 use Rattle.wire_message.specs.Front.{Seen, Front}
+use Rattle.wire_message.specs.Draft.{Draft}
 use Rattle.wire_message.specs.Outcome.{IsReadRefusal}
 use Rattle.wire_message.specs.declared.error.Error.{Error}
 use Rattle.wire_message.specs.declared.error.Error.TheVariants as errors
 use Rattle.wire_message.specs.declared.error.IoKind.TheVariants as kinds
+use Rattle.peer_route.specs.declared.words.Words.{Words}
+use Rattle.peer_route.specs.declared.words.Words.TheVariants as words
+use Rattle.peer_route.specs.declared.answer.Answer.{Answer}
+use Rattle.peer_route.specs.declared.answer.Answer.TheVariants as answers
+use Rattle.peer_route.specs.declared.answer.Entry.{Entry}
+use Rattle.peer_route.specs.History as events
+use Rattle.peer_route.specs.Trail.{trail, read_events, call_events, failed_put, poll_spends, drop_spends, stream_makes, take_does, place}
+use Rattle.peer_run.specs.Stands.{entry}
+use Rattle.peer_run.proofs.Quiet.{quiet_same, poll_quiet, drop_quiet, stream_quiet, take_quiet}
 
--- ---- a read that kept nothing before
+-- ---- a read
 
 -- all that came is the message's own
 all_own : (got own : List ℕ) → (got ≡ []) ⊎ (length got ≤ spent got) → own ≡ take (spent got) got → got ≡ own
@@ -31,8 +42,71 @@ takes_own seq (Ok m) kept' left left' stop stop' faults faults' asked asked' wit
     (message.0, message.1, subst (Consumes left left') (all_own t.got m.bytes t.own t.message) t.came.0, t.came.1, t.came.2)
 takes_own seq (Err e) kept' left left' stop stop' faults faults' asked asked' within last takes message error = error
 
--- ---- a send of a half that met nothing before
+none_behind : (got : List ℕ) → (got ≡ []) ⊎ (length got ≤ spent got) → drop (spent got) got ≡ []
+none_behind got (inl none) = drop_all (spent got) got (rw none (omega arith))
+none_behind got (inr fits) = drop_all (spent got) got fits
+
+rest_is : (result : Result Seen Error) (all : List ℕ) → result ≢ Err errors.Memory → rest_of result all ≡ drop (spent all) all
+rest_is (Ok m) all never = refl
+rest_is (Err errors.Memory) all never = absurd (never refl)
+rest_is (Err e) all never = refl
+
+-- nothing is kept again, but for want of memory
+keeps_none : (seq : ℕ) (result : Result Seen Error) (kept' : List ℕ) (left left' : Option (List ℕ)) (stop stop' : Option Bool) (faults faults' : ℕ) (asked asked' : Option ℕ)
+    → result ≢ Err errors.Memory → seq ≤ 2 ^ 64 - 1 → (seq ≡ 2 ^ 64 - 1 → kept' ≡ [])
+    → (seq < 2 ^ 64 - 1 → TakesKept result [] kept' left left' stop stop' faults faults' asked asked')
+    → kept' ≡ []
+keeps_none seq result kept' left left' stop stop' faults faults' asked asked' never within last takes =
+    elim (cases_lt seq (2 ^ 64 - 1)) as (λ _. kept' ≡ []) [
+      | inl below ↦ let t = takes below in t.behind ∙ rest_is result t.got never ∙ none_behind t.got t.own
+      | inr above ↦ last (omega (arith, above, within))
+    ]
+
+pub keeps_ok : (seq : ℕ) (result : Result Seen Error) (kept' : List ℕ) (left left' : Option (List ℕ)) (stop stop' : Option Bool) (faults faults' : ℕ) (asked asked' : Option ℕ)
+    → seq ≤ 2 ^ 64 - 1 → (seq ≡ 2 ^ 64 - 1 → kept' ≡ [])
+    → (seq < 2 ^ 64 - 1 → TakesKept result [] kept' left left' stop stop' faults faults' asked asked')
+    → IfOk result (λ m. kept' ≡ [])
+keeps_ok seq (Ok m) kept' left left' stop stop' faults faults' asked asked' within last takes =
+    keeps_none seq (Ok m) kept' left left' stop stop' faults faults' asked asked' (λ e. cc) within last takes
+keeps_ok seq (Err e) kept' left left' stop stop' faults faults' asked asked' within last takes = tt
+
+pub keeps_err : (seq : ℕ) (result : Result Seen Error) (kept' : List ℕ) (left left' : Option (List ℕ)) (stop stop' : Option Bool) (faults faults' : ℕ) (asked asked' : Option ℕ)
+    → seq ≤ 2 ^ 64 - 1 → (seq ≡ 2 ^ 64 - 1 → kept' ≡ [])
+    → (seq < 2 ^ 64 - 1 → TakesKept result [] kept' left left' stop stop' faults faults' asked asked')
+    → IfErr result (λ e. e ≢ errors.Memory → kept' ≡ [])
+keeps_err seq (Ok m) kept' left left' stop stop' faults faults' asked asked' within last takes = tt
+keeps_err seq (Err e) kept' left left' stop stop' faults faults' asked asked' within last takes =
+    λ never. keeps_none seq (Err e) kept' left left' stop stop' faults faults' asked asked' (λ same. never (let is : e ≡ errors.Memory = cc in is)) within last takes
+
+-- ---- a send
 
 -- a message without descriptors is refused by no sink
 pub supported : (fds : Option ℕ) (takes : Bool) → has_descriptors fds ≡ false → is_unsupported fds takes ≡ false
 supported fds takes none = rw none refl
+
+put_before : (failed : Bool) (m : Seen) (expects : Bool) (h : List events.Event) → events.is_failed h ≡ failed
+    → events.is_failed (failed_put failed (events.Put m expects) ++ h) ≡ false → events.is_failed h ≡ false
+put_before true m expects h e f = f
+put_before false m expects h e f = e
+
+call_before : (h : List events.Event) (draft : Draft) (a : Answer) → events.is_failed (call_events h draft a ++ h) ≡ false → events.is_failed h ≡ false
+call_before h draft (answers.Called call serial) f = f
+call_before h draft (answers.Sent serial) f = f
+call_before h draft (answers.SendFailed error) f = put_before (events.is_failed h) _ _ h refl f
+call_before h draft a f = f
+
+read_before : (closing : Option Error) (a : Answer) (h : List events.Event) → events.is_failed (read_events closing a ++ h) ≡ false → events.is_failed h ≡ false
+read_before (Some error) a h f = f
+read_before None (answers.Got m) h f = f
+read_before None (answers.Closed error) h f = f
+read_before None a h f = f
+
+-- where no write failed, none had failed an entry before
+pub fine_before : (name : Option (List ℕ)) (es : List Entry) (lane : ℕ) (w : Words) (a : Answer)
+    → events.is_failed (trail name (entry lane w a ∷ es)).events ≡ false → events.is_failed (trail name es).events ≡ false
+fine_before name es lane (words.Call destination path interface member flags) a f = call_before (trail name es).events _ a f
+fine_before name es lane words.Read a f = read_before (events.closing (trail name es).events) a (trail name es).events f
+fine_before name es lane (words.Poll number) a f = sym (quiet_same (poll_spends (place 0 lane number (trail name es).names) a) (trail name es).events (poll_quiet (place 0 lane number (trail name es).names) a)).failed ∙ f
+fine_before name es lane (words.Drop number) a f = sym (quiet_same (drop_spends (place 0 lane number (trail name es).names) a) (trail name es).events (drop_quiet (place 0 lane number (trail name es).names) a)).failed ∙ f
+fine_before name es lane words.Stream a f = sym (quiet_same (stream_makes a) (trail name es).events (stream_quiet a)).failed ∙ f
+fine_before name es lane (words.Take number) a f = sym (quiet_same (take_does (place 0 lane number (trail name es).streams) a) (trail name es).events (take_quiet (place 0 lane number (trail name es).streams) a)).failed ∙ f

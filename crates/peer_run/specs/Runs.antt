@@ -1,22 +1,24 @@
 -- What a run gives: a legal history of its commands, whose reads and writes are what the outside told.
 use Rattle.std.specs.Prelude.{◌≡◌, ℕ, List, Option, map, reverse, IfSome}
 use Rattle.wire_framing.specs.Source.{MayRise}
+use Rattle.wire_framing.specs.declared.write_half.Writing.{Writing}
 use Rattle.peer_route.specs.declared.words.Command.{Command}
 use Rattle.peer_route.specs.declared.answer.Entry.{Entry}
 use Rattle.peer_route.specs.Trail.{trail}
 use Rattle.peer_route.specs.Answers.{Legal}
 use Rattle.peer_route.specs.Told.{ReadsTold}
-use Rattle.peer_run.specs.Stands.{Inlet, Outlet, PeerView, Follows, Reads, Writes, HasReadFault, HasWriteFault, HoldsThen}
+use Rattle.peer_run.specs.Stands.{Inlet, Outlet, PeerView, Follows, Reads, Writes, HasReadFault, HasWriteFault, HoldsThen, IsFine}
 
 -- the command of an entry
 abbrev pub command_of : Entry → Command
 command_of e = record { lane = e.lane; words = e.words }
 
--- a peer of this name, a source and a sink stand to a history, newest first
-pub record Stands (name : Option (List ℕ)) (start_in : Inlet) (start_out : Outlet) (p : PeerView) (now_in : Inlet) (now_out : Outlet) (es : List Entry) : Type 0 where
+-- a peer of this name, a source, a sink and the half that writes to it stand to a history, newest first
+pub record Stands (name : Option (List ℕ)) (start_in : Inlet) (start_out : Outlet) (p : PeerView) (now_in : Inlet) (now_out : Outlet) (writing : Writing) (es : List Entry) : Type 0 where
   pub follows : Follows name p es
   pub reads : Reads name start_in now_in es
   pub writes : Writes name start_out now_out es
+  pub fine : IsFine (trail name es).events writing
 
 -- The entries, oldest first, are a run of these commands by a peer of this name over a source and a sink that told this before it and after it.
 pub record Runs (name : Option (List ℕ)) (start_in : Inlet) (start_out : Outlet) (end_in : Inlet) (end_out : Outlet) (commands : List Command) (entries : List Entry) : Type 0 where

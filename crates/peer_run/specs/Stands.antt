@@ -8,6 +8,8 @@ use Rattle.wire_framing.specs.Source.{MayRise}
 use Rattle.std.specs.Io.KnownBytes.{Appends}
 use Rattle.wire_framing.specs.Sink.{RoomFalls, RoomBreaks}
 use Rattle.wire_framing.specs.Send.{Part}
+use Rattle.wire_framing.specs.declared.write_half.Writing.{Writing}
+use Rattle.wire_framing.specs.declared.write_half.Writing.TheVariants.{Fine, Failed}
 use Rattle.peer_route.specs.declared.words.Words.{Words}
 use Rattle.peer_route.specs.declared.answer.Answer.{Answer}
 use Rattle.peer_route.specs.declared.answer.Answer.TheVariants as answers
@@ -108,23 +110,27 @@ pub record Writes (name : Option (List ℕ)) (start now : Outlet) (es : List Ent
   -- the count rose only by a write that failed
   pub only : is_failed (trail name es).events ≡ false → now.faults ≡ start.faults
 
+-- the half that writes met nothing, where no write of the history failed
+abbrev pub IsFine : List Event → Writing → Type 0
+IsFine h writing = is_failed h ≡ false → writing ≡ Fine
+
 -- whose the calls are with the one that a message makes, if it makes one
 abbrev pub named : Bool → Option ℕ → Names → Names
 named true owner names = names ++ owner ∷ []
 named false owner names = names
 
 -- The message that was issued was written, and is the lane's next call, if it makes one; or its write failed, and then its
--- call is nobody's.
-pub data Sent (old new : PeerView) (lane : ℕ) (issued : Issued) (m : Seen) (now after : Outlet) (answer : Answer) : Type 0 where
+-- call is nobody's. `writing` is what the half that wrote has met.
+pub data Sent (old new : PeerView) (lane : ℕ) (issued : Issued) (m : Seen) (now after : Outlet) (writing : Writing) (answer : Answer) : Type 0 where
   WentOut : answer ≡ sent_answer (is_some issued.call) (count lane old.names) issued.serial
       → new.names ≡ named (is_some issued.call) (Some lane) old.names → new.streams ≡ old.streams
       → ((h : List Event) → Left old.core h → Left new.core (Wrote ∷ h))
-      → Appends now.held after.held m.bytes → RoomFalls now.room after.room (length m.bytes) → after.faults ≡ now.faults
-      → Sent old new lane issued m now after answer
+      → Appends now.held after.held m.bytes → RoomFalls now.room after.room (length m.bytes) → after.faults ≡ now.faults → writing ≡ Fine
+      → Sent old new lane issued m now after writing answer
   WriteFailed : answer ≡ write_fault → new.names ≡ named (is_some issued.call) None old.names → new.streams ≡ old.streams
       → ((h : List Event) → Left old.core h → Left new.core (Fault ∷ h))
-      → (n : ℕ) → Part m.bytes now.held after.held n → RoomBreaks now.room after.room n → MayRise now.faults after.faults
-      → Sent old new lane issued m now after answer
+      → (n : ℕ) → Part m.bytes now.held after.held n → RoomBreaks now.room after.room n → MayRise now.faults after.faults → writing ≡ Failed
+      → Sent old new lane issued m now after writing answer
 
 -- a call that wasn't issued: its refusal, or an earlier failed write; not want of memory
 abbrev pub unsent_answer : Error → Option Answer

@@ -2,7 +2,6 @@
 #![tactic(auto)]
 
 mod call_words;
-mod halves;
 mod laws;
 mod main_call;
 mod peer;

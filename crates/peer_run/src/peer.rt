@@ -1,20 +1,23 @@
-ghost use Rattle.std.specs.Prelude.{ℕ, ◌≡◌, ◌+◌, ◌≤◌, ◌<◌, ◌-◌, ◌^◌, slice_get, false, List, [], ◌∷◌, length, Option, IfOk, OnOk, Some, None, is_some};
+ghost use Rattle.std.specs.Prelude.{ℕ, ◌≡◌, ◌≢◌, ◌+◌, ◌≤◌, ◌<◌, ◌-◌, ◌^◌, slice_get, false, List, [], ◌∷◌, length, Option, IfSome, IfOk, IfErr, OnOk, Some, None, Err, is_some};
 ghost use Rattle.peer_route.specs.declared.answer.Entry.{Entry};
 ghost use Rattle.peer_route.specs.declared.words.Words.TheVariants as words;
 ghost use Rattle.peer_route.specs.Trail as trails;
+ghost use Rattle.peer_route.specs.Trail.{trail};
 ghost use Rattle.peer_route.specs.Answers as shows;
 ghost use Rattle.peer_route.specs.Answers.{sent_answer};
 ghost use Rattle.peer_run.specs.CallWords.{words_of};
-ghost use Rattle.peer_run.specs.Stands.{PeerView, Inlet, Outlet, Follows, Reads, Writes, Sent, NotIssued, named, entry};
+ghost use Rattle.peer_run.specs.Stands.{PeerView, Inlet, Outlet, Follows, Reads, Writes, Sent, NotIssued, IsFine, named, entry};
+ghost use Rattle.wire_framing.specs.Receive.{Receives, Takes};
 ghost use Rattle.wire_framing.specs.Writing.{has_descriptors};
+ghost use Rattle.wire_framing.specs.declared.write_half.Writing.TheVariants.{Fine};
 ghost use Rattle.wire_message.specs.Front.{Seen};
+ghost use Rattle.wire_message.specs.declared.error.IoKind.TheVariants.{Ended};
 
 use crate::call_words::CallWords;
-use crate::halves::{receive, send};
 use peer_route::{Answer, Issued, MessageStream, Polled, Route};
 use std::alloc::{AllocError, AllocFailed, Global};
 use std::marker::Model;
-use wire_framing::{Sink, Source};
+use wire_framing::{ReadHalf, Sink, Source, WriteHalf};
 use wire_message::{Error, Message, MessageType};
 use wire_names::OwnedUniqueName;
 
@@ -155,6 +158,26 @@ fn not_issued(error: Error) -> Result<Answer, RunError>
     }
 }
 
+/// Takes one message, the `seq`-th, and no byte more, by a half that kept nothing (D-Bus Specification, "Message
+/// Protocol"). It then keeps nothing again, but for want of memory.
+fn receive<S: Source>(
+    alloc: Global,
+    half: &mut ReadHalf<S>,
+    kept: &mut Vec<u8>,
+    seq: u64,
+) -> wire_message::Result<Message>
+    requires first { 0 < seq }
+    requires empty { kept.old.items ≡ [] }
+    ensures told { IfSome (S.left half.old.source) (λ bytes. Receives (S.stop half.old.source) (seq - 1) bytes result) }
+    ensures takes { Takes seq result (S.left half.old.source) (S.left half.new.source) (S.stop half.old.source) (S.stop half.new.source) (S.faults half.old.source) (S.faults half.new.source) }
+    ensures last { seq ≡ 2 ^ 64 - 1 → result ≡ Err (Error.InputOutput Ended) }
+    ensures took { IfOk result (λ m. kept.new.items ≡ []) }
+    ensures ended { IfErr result (λ e. e ≢ Error.Memory → kept.new.items ≡ []) }
+    ensures same { S.lent half.new.source ≡ S.lent half.old.source }
+{
+    half.receive_message(alloc, seq, kept)
+}
+
 impl Peer {
     /// A peer that nothing happened to.
     pub(crate) fn new(alloc: Global) -> Peer
@@ -172,17 +195,21 @@ impl Peer {
     pub(crate) fn read<S: Source>(
         &mut self,
         alloc: Global,
-        source: &mut S,
+        half: &mut ReadHalf<S>,
+        kept: &mut Vec<u8>,
     ) -> Result<Answer, RunError>
-        requires { self.old.core.read ≤ 2 ^ 64 - 2 }
+        requires within { self.old.core.read ≤ 2 ^ 64 - 2 }
+        requires empty { kept.old.items ≡ [] }
         ensures follows { IfOk result (λ answer. (name : Option (List ℕ)) (es : List Entry) (lane : ℕ) → Follows name self.old es
             → Follows name self.new (entry lane words.Read answer ∷ es)) }
         ensures reads { IfOk result (λ answer. (name : Option (List ℕ)) (start : Inlet) (es : List Entry) (lane : ℕ) → Follows name self.old es
-            → Reads name start (record { left = S.left source.old; stop = S.stop source.old; faults = S.faults source.old }) es
-            → Reads name start (record { left = S.left source.new; stop = S.stop source.new; faults = S.faults source.new }) (entry lane words.Read answer ∷ es)) }
+            → Reads name start (record { left = S.left half.old.source; stop = S.stop half.old.source; faults = S.faults half.old.source }) es
+            → Reads name start (record { left = S.left half.new.source; stop = S.stop half.new.source; faults = S.faults half.new.source }) (entry lane words.Read answer ∷ es)) }
         ensures writes { IfOk result (λ answer. (name : Option (List ℕ)) (start now : Outlet) (es : List Entry) (lane : ℕ) → Follows name self.old es
             → Writes name start now es → Writes name start now (entry lane words.Read answer ∷ es)) }
-        ensures grows { S.faults source.old ≤ S.faults source.new }
+        ensures grows { S.faults half.old.source ≤ S.faults half.new.source }
+        ensures empty { IfOk result (λ answer. kept.new.items ≡ []) }
+        ensures same { S.lent half.new.source ≡ S.lent half.old.source }
     {
         if let Some(error) = self.route.closing() {
             return Ok(Answer::Closed(error));
@@ -190,7 +217,7 @@ impl Peer {
         if self.route.busy() {
             return Ok(Answer::Busy);
         }
-        match receive(alloc, source, self.route.received() + 1) {
+        match receive(alloc, half, kept, self.route.received() + 1) {
             Ok(message) => {
                 let copy = message.try_clone()?;
                 self.route.arrive(message)?;
@@ -287,19 +314,25 @@ impl Peer {
     }
 
     /// Writes the message that was issued, which stands at that place of the outbox.
-    fn send<W: Sink>(&mut self, sink: &mut W, lane: u32, issued: Issued) -> Result<Answer, RunError>
+    fn send<W: Sink>(
+        &mut self,
+        half: &mut WriteHalf<W>,
+        lane: u32,
+        issued: Issued,
+    ) -> Result<Answer, RunError>
         requires there { issued.index < length self.old.core.outbox }
         requires due { issued.index ≡ self.old.core.done }
         requires fine { self.old.core.failed ≡ false }
-        ensures sent { IfOk result (λ answer. (m : Seen) → slice_get self.old.core.outbox issued.index ≡ Some m → has_descriptors m.unix_fds ≡ false
-            → Sent self.old self.new lane issued m (record { held = W.held sink.old; room = W.room sink.old; faults = W.faults sink.old })
-            (record { held = W.held sink.new; room = W.room sink.new; faults = W.faults sink.new }) answer) }
-        ensures grows { W.faults sink.old ≤ W.faults sink.new }
+        ensures sent { IfOk result (λ answer. (m : Seen) → slice_get self.old.core.outbox issued.index ≡ Some m → has_descriptors m.unix_fds ≡ false → half.old.writing ≡ Fine
+            → Sent self.old self.new lane issued m (record { held = W.held half.old.sink; room = W.room half.old.sink; faults = W.faults half.old.sink })
+            (record { held = W.held half.new.sink; room = W.room half.new.sink; faults = W.faults half.new.sink }) half.new.writing answer) }
+        ensures grows { W.faults half.old.sink ≤ W.faults half.new.sink }
+        ensures same { W.lent half.new.sink ≡ W.lent half.old.sink }
     {
         let Some(message) = self.route.outbox(issued.index) else {
             unreachable!()
         };
-        match send(sink, message) {
+        match half.send_message(message) {
             Ok(()) => {
                 self.route.wrote(issued.index);
                 Ok(self.went_out(lane, issued)?)
@@ -318,27 +351,30 @@ impl Peer {
     /// Sends a method call of the peer of that name.
     pub(crate) fn call<W: Sink>(
         &mut self,
-        sink: &mut W,
+        half: &mut WriteHalf<W>,
         lane: u32,
         name: &Option<OwnedUniqueName>,
         call: CallWords<'_>,
     ) -> Result<Answer, RunError>
         requires { self.old.core.done ≡ length self.old.core.outbox }
-        ensures follows { IfOk result (λ answer. (es : List Entry) → Follows name.now self.old es
+        ensures follows { IfOk result (λ answer. (es : List Entry) → Follows name.now self.old es → IsFine (trail name.now es).events half.old.writing
             → Follows name.now self.new (entry lane (words_of call.entry) answer ∷ es)) }
-        ensures reads { IfOk result (λ answer. (start now : Inlet) (es : List Entry) → Follows name.now self.old es
+        ensures reads { IfOk result (λ answer. (start now : Inlet) (es : List Entry) → Follows name.now self.old es → IsFine (trail name.now es).events half.old.writing
             → Reads name.now start now es → Reads name.now start now (entry lane (words_of call.entry) answer ∷ es)) }
-        ensures writes { IfOk result (λ answer. (start : Outlet) (es : List Entry) → Follows name.now self.old es
-            → Writes name.now start (record { held = W.held sink.old; room = W.room sink.old; faults = W.faults sink.old }) es
-            → Writes name.now start (record { held = W.held sink.new; room = W.room sink.new; faults = W.faults sink.new }) (entry lane (words_of call.entry) answer ∷ es)) }
-        ensures grows { W.faults sink.old ≤ W.faults sink.new }
+        ensures fine { IfOk result (λ answer. (es : List Entry) → Follows name.now self.old es
+            → IsFine (trail name.now es).events half.old.writing → IsFine (trail name.now (entry lane (words_of call.entry) answer ∷ es)).events half.new.writing) }
+        ensures writes { IfOk result (λ answer. (start : Outlet) (es : List Entry) → Follows name.now self.old es → IsFine (trail name.now es).events half.old.writing
+            → Writes name.now start (record { held = W.held half.old.sink; room = W.room half.old.sink; faults = W.faults half.old.sink }) es
+            → Writes name.now start (record { held = W.held half.new.sink; room = W.room half.new.sink; faults = W.faults half.new.sink }) (entry lane (words_of call.entry) answer ∷ es)) }
+        ensures grows { W.faults half.old.sink ≤ W.faults half.new.sink }
+        ensures same { W.lent half.new.sink ≡ W.lent half.old.sink }
     {
         let builder = match call.builder(name) {
             Ok(builder) => builder,
             Err(error) => return Ok(Answer::Refused(error)),
         };
         match self.route.issue(builder) {
-            Ok(issued) => self.send(sink, lane, issued),
+            Ok(issued) => self.send(half, lane, issued),
             Err(error) => not_issued(error),
         }
     }

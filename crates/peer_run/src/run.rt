@@ -8,29 +8,34 @@ use crate::peer::{Peer, RunError};
 use peer_route::{Answer, Command, Entry, Words};
 use peer_script::{Setup, Transcript};
 use std::alloc::Global;
-use wire_framing::{Sink, Source};
+use wire_framing::{ReadHalf, Sink, Source, WriteHalf};
 use wire_names::OwnedUniqueName;
 
-/// The answer of a lane's words.
+/// The answer of a command.
 fn answer_to<S: Source, W: Sink>(
     alloc: Global,
     name: &Option<OwnedUniqueName>,
     peer: &mut Peer,
-    source: &mut S,
-    sink: &mut W,
-    lane: u32,
-    words: &Words,
+    reader: &mut ReadHalf<S>,
+    kept: &mut Vec<u8>,
+    writer: &mut WriteHalf<W>,
+    command: &Command,
 ) -> Result<Answer, RunError>
     requires within { peer.old.core.read ≤ 2 ^ 64 - 2 }
+    requires empty { kept.old.items ≡ [] }
     requires written { peer.old.core.done ≡ length peer.old.core.outbox }
     ensures stands { IfOk result (λ answer. (start_in : Inlet) (start_out : Outlet) (es : List Entry)
-        → Stands name.now start_in start_out peer.old (record { left = S.left source.old; stop = S.stop source.old; faults = S.faults source.old }) (record { held = W.held sink.old; room = W.room sink.old; faults = W.faults sink.old }) es
-        → Stands name.now start_in start_out peer.new (record { left = S.left source.new; stop = S.stop source.new; faults = S.faults source.new }) (record { held = W.held sink.new; room = W.room sink.new; faults = W.faults sink.new }) (entry lane words.now answer ∷ es)) }
-    ensures source_grows { S.faults source.old ≤ S.faults source.new }
-    ensures sink_grows { W.faults sink.old ≤ W.faults sink.new }
+        → Stands name.now start_in start_out peer.old (record { left = S.left reader.old.source; stop = S.stop reader.old.source; faults = S.faults reader.old.source }) (record { held = W.held writer.old.sink; room = W.room writer.old.sink; faults = W.faults writer.old.sink }) writer.old.writing es
+        → Stands name.now start_in start_out peer.new (record { left = S.left reader.new.source; stop = S.stop reader.new.source; faults = S.faults reader.new.source }) (record { held = W.held writer.new.sink; room = W.room writer.new.sink; faults = W.faults writer.new.sink }) writer.new.writing (entry command.now.lane command.now.words answer ∷ es)) }
+    ensures empty { IfOk result (λ x. kept.new.items ≡ []) }
+    ensures same_source { S.lent reader.new.source ≡ S.lent reader.old.source }
+    ensures same_sink { W.lent writer.new.sink ≡ W.lent writer.old.sink }
+    ensures source_grows { S.faults reader.old.source ≤ S.faults reader.new.source }
+    ensures sink_grows { W.faults writer.old.sink ≤ W.faults writer.new.sink }
 {
-    match words {
-        Words::Read => peer.read(alloc, source),
+    let lane = command.lane;
+    match &command.words {
+        Words::Read => peer.read(alloc, reader, kept),
         Words::Poll(number) => Ok(peer.poll(lane, *number)),
         Words::Drop(number) => Ok(peer.drop_call(lane, *number)),
         Words::Stream => peer.stream(lane),
@@ -49,7 +54,7 @@ fn answer_to<S: Source, W: Sink>(
                 member,
                 flags: *flags,
             };
-            peer.call(sink, lane, name, call)
+            peer.call(writer, lane, name, call)
         }
     }
 }
@@ -59,24 +64,28 @@ fn step<S: Source, W: Sink>(
     alloc: Global,
     name: &Option<OwnedUniqueName>,
     peer: &mut Peer,
-    source: &mut S,
-    sink: &mut W,
+    reader: &mut ReadHalf<S>,
+    kept: &mut Vec<u8>,
+    writer: &mut WriteHalf<W>,
     command: &Command,
 ) -> Result<Entry, RunError>
     requires within { peer.old.core.read ≤ 2 ^ 64 - 2 }
+    requires empty { kept.old.items ≡ [] }
     requires written { peer.old.core.done ≡ length peer.old.core.outbox }
     ensures command { IfOk result (λ e. command_of e ≡ command.now) }
     ensures stands { IfOk result (λ e. (start_in : Inlet) (start_out : Outlet) (es : List Entry)
-        → Stands name.now start_in start_out peer.old (record { left = S.left source.old; stop = S.stop source.old; faults = S.faults source.old }) (record { held = W.held sink.old; room = W.room sink.old; faults = W.faults sink.old }) es
-        → Stands name.now start_in start_out peer.new (record { left = S.left source.new; stop = S.stop source.new; faults = S.faults source.new }) (record { held = W.held sink.new; room = W.room sink.new; faults = W.faults sink.new }) (e ∷ es)) }
-    ensures source_grows { S.faults source.old ≤ S.faults source.new }
-    ensures sink_grows { W.faults sink.old ≤ W.faults sink.new }
+        → Stands name.now start_in start_out peer.old (record { left = S.left reader.old.source; stop = S.stop reader.old.source; faults = S.faults reader.old.source }) (record { held = W.held writer.old.sink; room = W.room writer.old.sink; faults = W.faults writer.old.sink }) writer.old.writing es
+        → Stands name.now start_in start_out peer.new (record { left = S.left reader.new.source; stop = S.stop reader.new.source; faults = S.faults reader.new.source }) (record { held = W.held writer.new.sink; room = W.room writer.new.sink; faults = W.faults writer.new.sink }) writer.new.writing (e ∷ es)) }
+    ensures empty { IfOk result (λ x. kept.new.items ≡ []) }
+    ensures same_source { S.lent reader.new.source ≡ S.lent reader.old.source }
+    ensures same_sink { W.lent writer.new.sink ≡ W.lent writer.old.sink }
+    ensures source_grows { S.faults reader.old.source ≤ S.faults reader.new.source }
+    ensures sink_grows { W.faults writer.old.sink ≤ W.faults writer.new.sink }
 {
-    let lane = command.lane;
     let words = command.words.try_clone(alloc)?;
-    let answer = answer_to(alloc, name, peer, source, sink, lane, &words)?;
+    let answer = answer_to(alloc, name, peer, reader, kept, writer, command)?;
     Ok(Entry {
-        lane,
+        lane: command.lane,
         words,
         answer,
     })
@@ -84,7 +93,8 @@ fn step<S: Source, W: Sink>(
 
 /// Runs the commands over a source and a sink, as the peer of the setup's name, and gives their entries: a legal history of
 /// the commands, each once and in order, whose reads are what stands at the front of the source's bytes and whose messages are what the sink got, up to
-/// its first fault. Fails only for want of memory; the source and the sink are then in any state.
+/// its first fault. All reads go through one half over the source, all sends through one over the sink. Fails only for want of
+/// memory; the source and the sink are then in any state.
 pub fn run_peer<S: Source, W: Sink>(
     alloc: Global,
     setup: &Setup,
@@ -102,9 +112,20 @@ pub fn run_peer<S: Source, W: Sink>(
     ensures sink_grows { W.faults sink.old ≤ W.faults sink.new }
 {
     let mut peer = Peer::new(alloc);
+    let mut reader = ReadHalf::new(source);
+    let mut kept = Vec::new(alloc);
+    let mut writer = WriteHalf::new(sink);
     let mut entries = Vec::new(alloc);
     for command in commands {
-        let entry = step(alloc, &setup.name, &mut peer, source, sink, command)?;
+        let entry = step(
+            alloc,
+            &setup.name,
+            &mut peer,
+            &mut reader,
+            &mut kept,
+            &mut writer,
+            command,
+        )?;
         entries.push(entry)?;
     }
     Ok(Transcript { entries })

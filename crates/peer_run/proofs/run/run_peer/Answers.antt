@@ -8,10 +8,14 @@ pub loop-command-init : goal.loop-command-init
 loop-command-init g c =
     let name = c.args.setup.now.name in
     rw (c.new-entries.ensures.items) (record {
-      stands = record { follows = c.new-peer.ensures name; reads = start_reads name _; writes = start_writes name _ };
+      stands = rw (c.new-reader.ensures, c.new-writer.ensures.sink)
+          (record { follows = c.new-peer.ensures name; reads = start_reads name _; writes = start_writes name _; fine = λ e. c.new-writer.ensures.fine });
       commands = refl;
-      source = omega arith;
-      sink = omega arith;
+      empty = c.new-kept.ensures.items;
+      from = refl;
+      to = refl;
+      source = rw (c.new-reader.ensures) (omega arith);
+      sink = rw (c.new-writer.ensures.sink) (omega arith);
     })
 
 pub loop-command-preserved : goal.loop-command-preserved
@@ -25,6 +29,9 @@ loop-command-preserved g c =
           ∙ ap (λ xs. xs ++ command_of c.in_ok-entry.entry ∷ []) inv.commands
           ∙ ap (λ x. take c.loop-command.command-index c.args.commands.now ++ x ∷ []) item
           ∙ sym (take_more c.args.commands.now c.loop-command.command-index c.command-item.result c.loop-command-test.true);
+      empty = c.in_ok-entry.ensures.empty;
+      from = cc (c.in_ok-entry.ensures.same_source) ∙ inv.from;
+      to = cc (c.in_ok-entry.ensures.same_sink) ∙ inv.to;
       source = omega (arith, inv.source, c.in_ok-entry.ensures.source_grows);
       sink = omega (arith, inv.sink, c.in_ok-entry.ensures.sink_grows);
     }

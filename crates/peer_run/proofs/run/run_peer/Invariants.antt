@@ -1,17 +1,21 @@
-use Rattle.std.proofs.Common.{◌≡◌, ◌≤◌, map, reverse, take}
+use Rattle.std.proofs.Common.{◌≡◌, ◌≤◌, [], map, reverse, take}
 use Rattle.peer_run.specs.Runs.{Stands, command_of}
 use Rattle.peer_run.proofs.run.run_peer.Given as goal
 
 abbrev pub invariant-loop-command : goal.invariant-loop-command
 invariant-loop-command g l = record {
   stands : Stands l.fn.setup.name
-      (record { left = g.S.Source.left l.initial.source; stop = g.S.Source.stop l.initial.source; faults = g.S.Source.faults l.initial.source })
-      (record { held = g.W.Sink.held l.initial.sink; room = g.W.Sink.room l.initial.sink; faults = g.W.Sink.faults l.initial.sink })
+      (record { left = g.S.Source.left l.fn.source; stop = g.S.Source.stop l.fn.source; faults = g.S.Source.faults l.fn.source })
+      (record { held = g.W.Sink.held l.fn.sink; room = g.W.Sink.room l.fn.sink; faults = g.W.Sink.faults l.fn.sink })
       l.peer
-      (record { left = g.S.Source.left l.source; stop = g.S.Source.stop l.source; faults = g.S.Source.faults l.source })
-      (record { held = g.W.Sink.held l.sink; room = g.W.Sink.room l.sink; faults = g.W.Sink.faults l.sink })
+      (record { left = g.S.Source.left l.reader.source.now; stop = g.S.Source.stop l.reader.source.now; faults = g.S.Source.faults l.reader.source.now })
+      (record { held = g.W.Sink.held l.writer.sink.now; room = g.W.Sink.room l.writer.sink.now; faults = g.W.Sink.faults l.writer.sink.now })
+      l.writer.writing
       (reverse l.entries.items);
   commands : map command_of l.entries.items ≡ take l.command-index l.commands;
-  source : g.S.Source.faults l.initial.source ≤ g.S.Source.faults l.source;
-  sink : g.W.Sink.faults l.initial.sink ≤ g.W.Sink.faults l.sink;
+  empty : l.kept.items ≡ [];
+  from : l.reader.source.ghost_name ≡ l.initial.reader.source.ghost_name;
+  to : l.writer.sink.ghost_name ≡ l.initial.writer.sink.ghost_name;
+  source : g.S.Source.faults l.fn.source ≤ g.S.Source.faults l.reader.source.now;
+  sink : g.W.Sink.faults l.fn.sink ≤ g.W.Sink.faults l.writer.sink.now;
 }

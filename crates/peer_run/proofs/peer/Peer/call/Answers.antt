@@ -11,7 +11,7 @@ use Rattle.peer_run.proofs.CallEnds.{follows_bad_words, follows_unissued, writes
 use Rattle.peer_run.proofs.peer.Peer.call.Goals as goal
 
 pub returns-in-Err-clause-follows : goal.returns-in-Err-clause-follows
-returns-in-Err-clause-follows g c es f =
+returns-in-Err-clause-follows g c es f fine =
     let name = c.args.name.now in
     follows_bad_words name c.args.self.now es c.args.lane c.args.call c.in-Err.error f
     (subst (λ n. words_refusal (draft_by n c.args.call) ≡ Some c.in-Err.error) (sym (trail-name name es)) c.in-Err.ensures)
@@ -22,15 +22,15 @@ returns-in-Ok-issue-clause-follows g c =
     let ws = c.args.call in
     let p : PeerView = record { core = c.self.inside.route; names = c.self.inside.names.items; streams = c.self.inside.streams.items } in
     let q : PeerView = record { core = c.issue.new.self; names = c.self.inside.names.items; streams = c.self.inside.streams.items } in
-    let now_out : Outlet = record { held = g.W.Sink.held c.args.sink.now; room = g.W.Sink.room c.args.sink.now; faults = g.W.Sink.faults c.args.sink.now } in
-    let after_out : Outlet = record { held = g.W.Sink.held c.send.new.sink; room = g.W.Sink.room c.send.new.sink; faults = g.W.Sink.faults c.send.new.sink } in
-    IfOk-weaker c.send.result _ _ (λ answer sent es f.
+    let now_out : Outlet = record { held = g.W.Sink.held c.args.half.now.sink; room = g.W.Sink.room c.args.half.now.sink; faults = g.W.Sink.faults c.args.half.now.sink } in
+    let after_out : Outlet = record { held = g.W.Sink.held c.send.new.half.sink; room = g.W.Sink.room c.send.new.half.sink; faults = g.W.Sink.faults c.send.new.half.sink } in
+    IfOk-weaker c.send.result _ _ (λ answer sent es f fine.
     let k : Follows name p es = subst (λ v. Follows name v es) (sym c.self.view_is) f in
     let same = sym (trail-name name es) in
     let words = subst (λ n. words_refusal (draft_by n ws) ≡ None) same c.in-Ok.ensures.1 in
     let issues : Issues p.core q.core (draft_by (trail name es).name ws) (trail name es).events (Ok c.in-Ok-issue.issued) =
     subst (λ d. Issues p.core q.core d (trail name es).events (Ok c.in-Ok-issue.issued)) (c.in-Ok.ensures.0 ∙ ap (λ n. draft_by n ws) same) (c.in-Ok-issue.ensures.issues (trail name es).events k.left) in
-    let done = sending name p q c.send.new.self es c.args.lane ws c.in-Ok-issue.issued now_out after_out answer words k issues refl refl sent in
+    let done = sending name p q c.send.new.self es c.args.lane ws c.in-Ok-issue.issued now_out after_out c.args.half.now.writing c.send.new.half.writing answer words k issues fine refl refl sent in
     done.follows) c.send.ensures.sent
 
 pub returns-in-Ok-issue-clause-reads : goal.returns-in-Ok-issue-clause-reads
@@ -39,16 +39,33 @@ returns-in-Ok-issue-clause-reads g c =
     let ws = c.args.call in
     let p : PeerView = record { core = c.self.inside.route; names = c.self.inside.names.items; streams = c.self.inside.streams.items } in
     let q : PeerView = record { core = c.issue.new.self; names = c.self.inside.names.items; streams = c.self.inside.streams.items } in
-    let now_out : Outlet = record { held = g.W.Sink.held c.args.sink.now; room = g.W.Sink.room c.args.sink.now; faults = g.W.Sink.faults c.args.sink.now } in
-    let after_out : Outlet = record { held = g.W.Sink.held c.send.new.sink; room = g.W.Sink.room c.send.new.sink; faults = g.W.Sink.faults c.send.new.sink } in
-    IfOk-weaker c.send.result _ _ (λ answer sent start now es f r.
+    let now_out : Outlet = record { held = g.W.Sink.held c.args.half.now.sink; room = g.W.Sink.room c.args.half.now.sink; faults = g.W.Sink.faults c.args.half.now.sink } in
+    let after_out : Outlet = record { held = g.W.Sink.held c.send.new.half.sink; room = g.W.Sink.room c.send.new.half.sink; faults = g.W.Sink.faults c.send.new.half.sink } in
+    IfOk-weaker c.send.result _ _ (λ answer sent start now es f fine r.
     let k : Follows name p es = subst (λ v. Follows name v es) (sym c.self.view_is) f in
     let same = sym (trail-name name es) in
     let words = subst (λ n. words_refusal (draft_by n ws) ≡ None) same c.in-Ok.ensures.1 in
     let issues : Issues p.core q.core (draft_by (trail name es).name ws) (trail name es).events (Ok c.in-Ok-issue.issued) =
     subst (λ d. Issues p.core q.core d (trail name es).events (Ok c.in-Ok-issue.issued)) (c.in-Ok.ensures.0 ∙ ap (λ n. draft_by n ws) same) (c.in-Ok-issue.ensures.issues (trail name es).events k.left) in
-    let done = sending name p q c.send.new.self es c.args.lane ws c.in-Ok-issue.issued now_out after_out answer words k issues refl refl sent in
+    let done = sending name p q c.send.new.self es c.args.lane ws c.in-Ok-issue.issued now_out after_out c.args.half.now.writing c.send.new.half.writing answer words k issues fine refl refl sent in
     reads_call name start now es c.args.lane ws answer done.reads r) c.send.ensures.sent
+
+pub returns-in-Ok-issue-clause-fine : goal.returns-in-Ok-issue-clause-fine
+returns-in-Ok-issue-clause-fine g c =
+    let name = c.args.name.now in
+    let ws = c.args.call in
+    let p : PeerView = record { core = c.self.inside.route; names = c.self.inside.names.items; streams = c.self.inside.streams.items } in
+    let q : PeerView = record { core = c.issue.new.self; names = c.self.inside.names.items; streams = c.self.inside.streams.items } in
+    let now_out : Outlet = record { held = g.W.Sink.held c.args.half.now.sink; room = g.W.Sink.room c.args.half.now.sink; faults = g.W.Sink.faults c.args.half.now.sink } in
+    let after_out : Outlet = record { held = g.W.Sink.held c.send.new.half.sink; room = g.W.Sink.room c.send.new.half.sink; faults = g.W.Sink.faults c.send.new.half.sink } in
+    IfOk-weaker c.send.result _ _ (λ answer sent es f fine.
+    let k : Follows name p es = subst (λ v. Follows name v es) (sym c.self.view_is) f in
+    let same = sym (trail-name name es) in
+    let words = subst (λ n. words_refusal (draft_by n ws) ≡ None) same c.in-Ok.ensures.1 in
+    let issues : Issues p.core q.core (draft_by (trail name es).name ws) (trail name es).events (Ok c.in-Ok-issue.issued) =
+    subst (λ d. Issues p.core q.core d (trail name es).events (Ok c.in-Ok-issue.issued)) (c.in-Ok.ensures.0 ∙ ap (λ n. draft_by n ws) same) (c.in-Ok-issue.ensures.issues (trail name es).events k.left) in
+    let done = sending name p q c.send.new.self es c.args.lane ws c.in-Ok-issue.issued now_out after_out c.args.half.now.writing c.send.new.half.writing answer words k issues fine refl refl sent in
+    done.fine) c.send.ensures.sent
 
 pub returns-in-Ok-issue-clause-writes : goal.returns-in-Ok-issue-clause-writes
 returns-in-Ok-issue-clause-writes g c =
@@ -56,15 +73,15 @@ returns-in-Ok-issue-clause-writes g c =
     let ws = c.args.call in
     let p : PeerView = record { core = c.self.inside.route; names = c.self.inside.names.items; streams = c.self.inside.streams.items } in
     let q : PeerView = record { core = c.issue.new.self; names = c.self.inside.names.items; streams = c.self.inside.streams.items } in
-    let now_out : Outlet = record { held = g.W.Sink.held c.args.sink.now; room = g.W.Sink.room c.args.sink.now; faults = g.W.Sink.faults c.args.sink.now } in
-    let after_out : Outlet = record { held = g.W.Sink.held c.send.new.sink; room = g.W.Sink.room c.send.new.sink; faults = g.W.Sink.faults c.send.new.sink } in
-    IfOk-weaker c.send.result _ _ (λ answer sent start es f w.
+    let now_out : Outlet = record { held = g.W.Sink.held c.args.half.now.sink; room = g.W.Sink.room c.args.half.now.sink; faults = g.W.Sink.faults c.args.half.now.sink } in
+    let after_out : Outlet = record { held = g.W.Sink.held c.send.new.half.sink; room = g.W.Sink.room c.send.new.half.sink; faults = g.W.Sink.faults c.send.new.half.sink } in
+    IfOk-weaker c.send.result _ _ (λ answer sent start es f fine w.
     let k : Follows name p es = subst (λ v. Follows name v es) (sym c.self.view_is) f in
     let same = sym (trail-name name es) in
     let words = subst (λ n. words_refusal (draft_by n ws) ≡ None) same c.in-Ok.ensures.1 in
     let issues : Issues p.core q.core (draft_by (trail name es).name ws) (trail name es).events (Ok c.in-Ok-issue.issued) =
     subst (λ d. Issues p.core q.core d (trail name es).events (Ok c.in-Ok-issue.issued)) (c.in-Ok.ensures.0 ∙ ap (λ n. draft_by n ws) same) (c.in-Ok-issue.ensures.issues (trail name es).events k.left) in
-    let done = sending name p q c.send.new.self es c.args.lane ws c.in-Ok-issue.issued now_out after_out answer words k issues refl refl sent in
+    let done = sending name p q c.send.new.self es c.args.lane ws c.in-Ok-issue.issued now_out after_out c.args.half.now.writing c.send.new.half.writing answer words k issues fine refl refl sent in
     done.writes start w) c.send.ensures.sent
 
 pub returns-in-Err-issue-clause-follows : goal.returns-in-Err-issue-clause-follows
@@ -73,7 +90,7 @@ returns-in-Err-issue-clause-follows g c =
     let ws = c.args.call in
     let p : PeerView = record { core = c.self.inside.route; names = c.self.inside.names.items; streams = c.self.inside.streams.items } in
     let q : PeerView = record { core = c.issue.new.self; names = c.self.inside.names.items; streams = c.self.inside.streams.items } in
-    IfOk-weaker c.not_issued.result _ _ (λ answer e es f.
+    IfOk-weaker c.not_issued.result _ _ (λ answer e es f fine.
     let k : Follows name p es = subst (λ v. Follows name v es) (sym c.self.view_is) f in
     let same = sym (trail-name name es) in
     let words = subst (λ n. words_refusal (draft_by n ws) ≡ None) same c.in-Ok.ensures.1 in
@@ -87,7 +104,7 @@ returns-in-Err-issue-clause-writes g c =
     let ws = c.args.call in
     let p : PeerView = record { core = c.self.inside.route; names = c.self.inside.names.items; streams = c.self.inside.streams.items } in
     let q : PeerView = record { core = c.issue.new.self; names = c.self.inside.names.items; streams = c.self.inside.streams.items } in
-    IfOk-weaker c.not_issued.result _ _ (λ answer e start es f w.
+    IfOk-weaker c.not_issued.result _ _ (λ answer e start es f fine w.
     let k : Follows name p es = subst (λ v. Follows name v es) (sym c.self.view_is) f in
     let same = sym (trail-name name es) in
     let words = subst (λ n. words_refusal (draft_by n ws) ≡ None) same c.in-Ok.ensures.1 in

@@ -16,7 +16,7 @@ returns-in_ok-arrive-in-Ok-clause-follows g c name es lane f =
     let none : c.self.inside.route.calls.closing ≡ None = sym c.closing.ensures ∙ c.in_default.is in
     let takes = c.in-Ok.ensures.takes in
     let seq : c.received.result ≡ c.self.inside.route.read = c.received.ensures in
-    let below : c.received.result + 1 ≢ 2 ^ 64 - 1 = λ e. let z = (c.in-Ok.ensures.last e).1 in cc in
+    let below : c.received.result + 1 ≢ 2 ^ 64 - 1 = λ e. let z = c.in-Ok.ensures.last e in cc in
     rw (c.in_ok-copy-in-Ok.ensures)
     (follows_got name _ _ es lane c.in-Ok.message none (sym (c.busy.ensures.busy (trail name es).events k.left) ∙ c.if-busy.false) k takes.0 (takes.1 ∙ ap (λ n. n + 1) seq) (omega (arith, seq, below, k.within)) refl refl
     (c.in_ok-arrive-in-Ok.ensures.left (trail name es).events k.left))
@@ -47,4 +47,6 @@ returns-in_default-error g c =
           (rw seq at c.in-Err.ensures.told) takes.1 grown r;
       writes = λ name start now es lane f w. writes_closed name start now es lane c.in-Err.error w;
       grows = grown;
+      empty = c.in-Err.ensures.ended c.in_default-error.not-Memory;
+      same = c.in-Err.ensures.same;
     }

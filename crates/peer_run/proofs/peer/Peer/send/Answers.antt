@@ -1,4 +1,5 @@
-use Rattle.std.proofs.Common.{◌≡◌, ◌∙◌, sym, ap, subst, Some, option_copied, slice_get, ◌∷◌}
+use Rattle.std.proofs.Common.{◌≡◌, arith, refl, ◌∙◌, sym, ap, subst, Some, option_copied, slice_get, ◌∷◌}
+use Rattle.std.proofs.lemmas.Grind.{common_steps}
 use Rattle.peer_route.specs.History.{Fault}
 use Rattle.peer_route.specs.Left.{Left}
 use Rattle.peer_route.specs.declared.answer.Answer.TheVariants.{SendFailed}
@@ -11,22 +12,23 @@ use Rattle.peer_run.proofs.peer.Peer.send.Goals as goal
 
 pub returns-in_ok-lost-in_default-error : goal.returns-in_ok-lost-in_default-error
 returns-in_ok-lost-in_default-error g c =
-    let now_out : Outlet = record { held = g.W.Sink.held c.args.sink.now; room = g.W.Sink.room c.args.sink.now; faults = g.W.Sink.faults c.args.sink.now } in
-    let after_out : Outlet = record { held = g.W.Sink.held c.send.new.sink; room = g.W.Sink.room c.send.new.sink; faults = g.W.Sink.faults c.send.new.sink } in
+    let now_out : Outlet = record { held = g.W.Sink.held c.args.half.now.sink; room = g.W.Sink.room c.args.half.now.sink; faults = g.W.Sink.faults c.args.half.now.sink } in
+    let after_out : Outlet = record { held = g.W.Sink.held c.send_message.new.self.sink; room = g.W.Sink.room c.send_message.new.self.sink; faults = g.W.Sink.faults c.send_message.new.self.sink } in
     let p : PeerView = record { core = c.self.inside.route; names = c.self.inside.names.items; streams = c.self.inside.streams.items } in
     let here = c.in-Some.message.now in
     record {
-      sent = λ m at plain.
+      sent = λ m at plain fine.
           let there : Some here ≡ Some m = ap option_copied (sym c.in-Some.is) ∙ c.outbox.ensures ∙ ap (λ (v : PeerView). slice_get v.core.outbox c.args.issued.index) c.self.view_is ∙ at in
           let same : here ≡ m = cc in
-          let takes = g.W.Sink.takes c.args.sink.now in
-          let bytes = c.in-Err.ensures.bytes (supported here.unix_fds takes (ap (λ (k : Seen). has_descriptors k.unix_fds) same ∙ plain)) in
+          let takes = g.W.Sink.takes c.args.half.now.sink in
+          let bytes = c.in-Err.ensures.sends (supported here.unix_fds takes (ap (λ (k : Seen). has_descriptors k.unix_fds) same ∙ plain)) (rw fine refl) in
           let lost = c.in_ok-lost-in_default-error.ensures in
           let answer = SendFailed c.in-Err.error in
-          subst (λ v. Sent v c.lost.new.self c.args.lane c.args.issued m now_out after_out answer) c.self.view_is
-          (subst (λ k. Sent p c.lost.new.self c.args.lane c.args.issued k now_out after_out answer) same
-          (not_out p c.lost.new.self c.args.lane c.args.issued here now_out after_out c.in-Err.error c.in_default-error.not-Memory bytes
+          subst (λ v. Sent v c.lost.new.self c.args.lane c.args.issued m now_out after_out c.send_message.new.self.writing answer) c.self.view_is
+          (subst (λ k. Sent p c.lost.new.self c.args.lane c.args.issued k now_out after_out c.send_message.new.self.writing answer) same
+          (not_out p c.lost.new.self c.args.lane c.args.issued here now_out after_out c.send_message.new.self.writing c.in-Err.error c.in_default-error.not-Memory bytes
           (ap (λ (v : PeerView). v.names) lost) (ap (λ (v : PeerView). v.streams) lost)
           (λ h left. subst (λ (v : PeerView). Left v.core (Fault ∷ h)) (sym lost) (c.write_fault.ensures h left))));
-      grows = c.in-Err.ensures.grows;
+      grows = grind (arith, common_steps);
+      same = c.in-Err.ensures.same;
     }
