@@ -22,4 +22,4 @@ pub use laws::{
 pub use polled::Polled;
 pub use route::{Issued, Route};
 pub use streams::MessageStream;
-pub use words::{CallFlags, Command, Words};
+pub use words::{CallFlags, Command, Outgoing, Words};

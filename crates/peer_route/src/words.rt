@@ -14,23 +14,49 @@ pub struct CallFlags {
     pub allow_interactive_auth: bool,
     /// `b`: the message is in big order.
     pub big: bool,
+    /// `d`: the message carries the list of the one descriptor 0.
+    pub descriptor: bool,
+}
+
+/// The words of a method call or of a signal.
+#[derive(Drop)]
+pub struct Outgoing {
+    /// The connection that it is for, if one is named.
+    pub destination: Option<Bytes>,
+    /// The object that is called, or that the signal comes from.
+    pub path: Bytes,
+    /// The interface of the member, if one is named.
+    pub interface: Option<Bytes>,
+    /// The method or the signal.
+    pub member: Bytes,
+    /// The message's flags, its byte order, and whether it carries a descriptor.
+    pub flags: CallFlags,
+    /// The word of its body, if it has one.
+    pub body: Option<Bytes>,
 }
 
 /// What a command asks for. Texts are kept as they stand: one outside its grammar is refused when the command runs.
 #[derive(Drop)]
 pub enum Words {
-    /// A method call of a member at an object path, without a body.
-    Call {
-        /// The connection that it is for, if one is named.
-        destination: Option<Bytes>,
-        /// The object.
-        path: Bytes,
-        /// The interface of the member, if one is named.
-        interface: Option<Bytes>,
-        /// The method.
-        member: Bytes,
-        /// The message's flags and its byte order.
-        flags: CallFlags,
+    /// A method call of a member at an object path.
+    Call(Outgoing),
+    /// A signal from an object path.
+    Signal(Outgoing),
+    /// A method return to the message that the lane's stream with this number gave last.
+    Reply {
+        /// The stream's number, from 0 on.
+        stream: u64,
+        /// The word of its body, if it has one.
+        body: Option<Bytes>,
+    },
+    /// An error to the message that the lane's stream with this number gave last.
+    Error {
+        /// The stream's number, from 0 on.
+        stream: u64,
+        /// The error's name.
+        name: Bytes,
+        /// The word of its body, if it has one.
+        body: Option<Bytes>,
     },
     /// Take the next message from the source.
     Read,
@@ -54,24 +80,38 @@ fn clone_text(text: &Option<Bytes>, alloc: Global) -> Result<Option<Bytes>, Allo
     }
 }
 
+impl Outgoing {
+    /// The same words again.
+    pub fn try_clone(&self, alloc: Global) -> Result<Outgoing, AllocError>
+        ensures { IfOk result (λ words. words ≡ self.now) }
+    {
+        Ok(Outgoing {
+            destination: clone_text(&self.destination, alloc)?,
+            path: self.path.try_clone(alloc)?,
+            interface: clone_text(&self.interface, alloc)?,
+            member: self.member.try_clone(alloc)?,
+            flags: self.flags,
+            body: clone_text(&self.body, alloc)?,
+        })
+    }
+}
+
 impl Words {
     /// The same words again.
     pub fn try_clone(&self, alloc: Global) -> Result<Words, AllocError>
         ensures { IfOk result (λ words. words ≡ self.now) }
     {
         Ok(match self {
-            Words::Call {
-                destination,
-                path,
-                interface,
-                member,
-                flags,
-            } => Words::Call {
-                destination: clone_text(destination, alloc)?,
-                path: path.try_clone(alloc)?,
-                interface: clone_text(interface, alloc)?,
-                member: member.try_clone(alloc)?,
-                flags: *flags,
+            Words::Call(words) => Words::Call(words.try_clone(alloc)?),
+            Words::Signal(words) => Words::Signal(words.try_clone(alloc)?),
+            Words::Reply { stream, body } => Words::Reply {
+                stream: *stream,
+                body: clone_text(body, alloc)?,
+            },
+            Words::Error { stream, name, body } => Words::Error {
+                stream: *stream,
+                name: name.try_clone(alloc)?,
+                body: clone_text(body, alloc)?,
             },
             Words::Read => Words::Read,
             Words::Poll(number) => Words::Poll(*number),
