@@ -13,13 +13,14 @@ use Rattle.peer_route.specs.declared.answer.Entry.{Entry}
 use Rattle.peer_route.specs.History.{Event, Took, Shut, Put, Wrote, Fault, Spent, Made, Did, Plain, Told, read, closing, first_of}
 use Rattle.peer_route.specs.Streams.{Stream, streams, new_stream, tell, matched, held, busy, is_full, capacity, take_by, take_at, take_answer}
 use Rattle.peer_route.specs.Left.{Held, held_of}
+use Rattle.peer_route.specs.Parcel.{Setting}
 use Rattle.peer_route.specs.Trail.{Trail, place, count, trail, more, read_events, take_does, events_of, new_streams}
 use Rattle.peer_route.specs.Answers.{IsAnswer, IsReadOf, Legal, shown_take, take_of}
 use Rattle.peer_route.specs.StreamLaws.{IsEnded, IsLast, IsDrained, HoldsTooMany}
 use Rattle.peer_route.proofs.Once.{place_append, legal_from}
-use Rattle.peer_route.proofs.Read.{call_read, poll_read, drop_read, stream_read, take_read}
+use Rattle.peer_route.proofs.Read.{send_read, poll_read, drop_read, stream_read, take_read}
 use Rattle.peer_route.proofs.StreamsMade.{held_drop, held_new}
-use Rattle.peer_route.proofs.Yields.{NotOf, entry, stream_stays, edit_here, call_not, read_not, poll_not, drop_not, stream_not, take_not, answered, stream_is, place_new, get_new, lanes}
+use Rattle.peer_route.proofs.Yields.{NotOf, entry, stream_stays, edit_here, send_not, read_not, poll_not, drop_not, stream_not, take_not, answered, stream_is, place_new, get_new, lanes}
 
 -- ---- a stream that is over
 
@@ -48,7 +49,10 @@ closing_stays (Did j deed ∷ xs) h error e = closing_stays xs h error e
 -- a closed peer reads nothing more
 reads_none : (t : Trail) (lane : ℕ) (w : Words) (a : Answer) (error : Error) → closing t.events ≡ Some error
     → read (events_of t lane w a ++ t.events) ≡ read t.events
-reads_none t lane (words.Call destination path interface member flags) a error e = call_read t.events _ a
+reads_none t lane (words.Call out) a error e = send_read t.events _ a
+reads_none t lane (words.Signal out) a error e = send_read t.events _ a
+reads_none t lane (words.Reply stream body) a error e = send_read t.events _ a
+reads_none t lane (words.Error stream name body) a error e = send_read t.events _ a
 reads_none t lane words.Read a error e = ap (λ o. read (read_events o a ++ t.events)) e
 reads_none t lane (words.Poll n) a error e = poll_read t.events (place 0 lane n t.names) a
 reads_none t lane (words.Drop n) a error e = drop_read t.events (place 0 lane n t.names) a
@@ -74,7 +78,10 @@ take_quiet_by h k (Some j) a over is =
 
 over_not : (t : Trail) (lane₂ : ℕ) (w : Words) (a : Answer) (k : ℕ) → IsAnswer t lane₂ w a → take_of t.events (Some k) ≡ answers.Ended
     → NotOf k (events_of t lane₂ w a)
-over_not t lane₂ (words.Call destination path interface member flags) a k is over = call_not k t.events _ a
+over_not t lane₂ (words.Call out) a k is over = send_not k t.events _ a
+over_not t lane₂ (words.Signal out) a k is over = send_not k t.events _ a
+over_not t lane₂ (words.Reply stream body) a k is over = send_not k t.events _ a
+over_not t lane₂ (words.Error stream name body) a k is over = send_not k t.events _ a
 over_not t lane₂ words.Read a k is over = read_not k (closing t.events) a
 over_not t lane₂ (words.Poll n) a k is over = poll_not k (place 0 lane₂ n t.names) a
 over_not t lane₂ (words.Drop n) a k is over = drop_not k (place 0 lane₂ n t.names) a
@@ -106,12 +113,12 @@ ended_entry t x lane number is o same w =
     take_is t x number is w ∙ ap (λ l. take_of t.events (place 0 l number t.streams)) same
     ∙ ap (take_of t.events) o.named ∙ over_gives t.events o.k o.stream o.error o.made o.nothing o.told o.shut
 
-over_later : (name : Option (List ℕ)) (newer older : List Entry) (e : Entry) (lane number : ℕ) → Legal name (newer ++ e ∷ older) → Over (trail name (e ∷ older)) lane number
-    → Over (trail name (newer ++ e ∷ older)) lane number × AllByRecursion (IsEnded lane number) newer
-over_later name [] older e lane number legal o = (o, tt)
-over_later name (x ∷ newer) older e lane number legal o =
-    let rest = over_later name newer older e lane number legal.1 o in
-    let t = trail name (newer ++ e ∷ older) in
+over_later : (setting : Setting) (newer older : List Entry) (e : Entry) (lane number : ℕ) → Legal setting (newer ++ e ∷ older) → Over (trail setting (e ∷ older)) lane number
+    → Over (trail setting (newer ++ e ∷ older)) lane number × AllByRecursion (IsEnded lane number) newer
+over_later setting [] older e lane number legal o = (o, tt)
+over_later setting (x ∷ newer) older e lane number legal o =
+    let rest = over_later setting newer older e lane number legal.1 o in
+    let t = trail setting (newer ++ e ∷ older) in
     (over_step t x.lane x.words x.answer lane number legal.0 rest.0, (ended_entry t x lane number legal.0 rest.0, rest.1))
 
 -- ---- how a stream comes to its end
@@ -152,9 +159,9 @@ unfolding take_answer
 last_named t lane number a None named is last = absurd (subst IsLast is last)
 last_named t lane number a (Some k) named is last = last_at t lane number a (Some k) (slice_get (streams t.events) k) k named refl is last
 
-last_of : (name : Option (List ℕ)) (older : List Entry) (e : Entry) (number : ℕ) → Legal name (e ∷ older) → e.words ≡ words.Take number → IsLast e.answer → LastOf (trail name older) e.lane number e.answer
-last_of name older e number legal w last =
-    last_named (trail name older) e.lane number e.answer (place 0 e.lane number (trail name older).streams) refl (take_is (trail name older) e number legal.0 w) last
+last_of : (setting : Setting) (older : List Entry) (e : Entry) (number : ℕ) → Legal setting (e ∷ older) → e.words ≡ words.Take number → IsLast e.answer → LastOf (trail setting older) e.lane number e.answer
+last_of setting older e number legal w last =
+    last_named (trail setting older) e.lane number e.answer (place 0 e.lane number (trail setting older).streams) refl (take_is (trail setting older) e number legal.0 w) last
 
 -- after the last answer the stream is over
 over_tells : (t : Trail) (lane number k : ℕ) (s : Stream) (a : Answer) → place 0 lane number t.streams ≡ Some k → slice_get (streams t.events) k ≡ Some s
@@ -185,15 +192,15 @@ over_tells t lane number k s a named made (Ends error nothing shut told is) =
       shut = closing_stays (take_does (place 0 lane number t.streams) a) t.events error shut;
     }
 
-over_after : (name : Option (List ℕ)) (older : List Entry) (e : Entry) (number : ℕ) → Legal name (e ∷ older) → e.words ≡ words.Take number → IsLast e.answer → Over (trail name (e ∷ older)) e.lane number
-over_after name older e number legal w last =
-    let l = last_of name older e number legal w last in
+over_after : (setting : Setting) (older : List Entry) (e : Entry) (number : ℕ) → Legal setting (e ∷ older) → e.words ≡ words.Take number → IsLast e.answer → Over (trail setting (e ∷ older)) e.lane number
+over_after setting older e number legal w last =
+    let l = last_of setting older e number legal w last in
     let x : entry e.lane (words.Take number) e.answer ≡ e = ap (λ y. entry e.lane y e.answer) (sym w) in
-    subst (λ y. Over (more (trail name older) y) e.lane number) x (over_tells (trail name older) e.lane number l.k l.stream e.answer l.named l.made l.last)
+    subst (λ y. Over (more (trail setting older) y) e.lane number) x (over_tells (trail setting older) e.lane number l.k l.stream e.answer l.named l.made l.last)
 
-pub ended : (name : Option (List ℕ)) (newer older : List Entry) (e : Entry) (number : ℕ) → Legal name (newer ++ e ∷ older) → e.words ≡ words.Take number → IsLast e.answer → AllByRecursion (IsEnded e.lane number) newer
-ended name newer older e number legal w last =
-    (over_later name newer older e e.lane number legal (over_after name older e number (legal_from name newer (e ∷ older) legal) w last)).1
+pub ended : (setting : Setting) (newer older : List Entry) (e : Entry) (number : ℕ) → Legal setting (newer ++ e ∷ older) → e.words ≡ words.Take number → IsLast e.answer → AllByRecursion (IsEnded e.lane number) newer
+ended setting newer older e number legal w last =
+    (over_later setting newer older e e.lane number legal (over_after setting older e number (legal_from setting newer (e ∷ older) legal) w last)).1
 
 drained_by : (t : Trail) (lane number : ℕ) (a : Answer) (error : Error) (l : LastOf t lane number a) → Last t.events l.k l.stream a → a ≡ answers.Closed error → IsDrained t lane number error
 drained_by t lane number a error l (Tells other nothing shut is) e =
@@ -201,10 +208,10 @@ drained_by t lane number a error l (Tells other nothing shut is) e =
     record { k = l.k; stream = l.stream; named = l.named; made = l.made; nothing = nothing; first = shut ∙ ap (λ x. Some x) same }
 drained_by t lane number a error l (Ends other nothing shut told is) e = let q : answers.Ended ≡ answers.Closed error = sym is ∙ e in cc
 
-pub drained : (name : Option (List ℕ)) (older : List Entry) (e : Entry) (number : ℕ) (error : Error) → Legal name (e ∷ older) → e.words ≡ words.Take number → e.answer ≡ answers.Closed error → IsDrained (trail name older) e.lane number error
-drained name older e number error legal w a =
-    let l = last_of name older e number legal w (subst IsLast (sym a) tt) in
-    drained_by (trail name older) e.lane number e.answer error l l.last a
+pub drained : (setting : Setting) (older : List Entry) (e : Entry) (number : ℕ) (error : Error) → Legal setting (e ∷ older) → e.words ≡ words.Take number → e.answer ≡ answers.Closed error → IsDrained (trail setting older) e.lane number error
+drained setting older e number error legal w a =
+    let l = last_of setting older e number legal w (subst IsLast (sym a) tt) in
+    drained_by (trail setting older) e.lane number e.answer error l l.last a
 
 -- ---- a stream that is made after the peer was closed
 
@@ -226,21 +233,21 @@ over_made t lane error e shut = record {
   shut = shut;
 }
 
-over_from_start : (name : Option (List ℕ)) (older : List Entry) (e : Entry) (number : ℕ) (error : Error) → Legal name (e ∷ older) → e.words ≡ words.Stream → e.answer ≡ answers.Streaming number → closing (trail name older).events ≡ Some error
-    → Over (trail name (e ∷ older)) e.lane number
-over_from_start name older e number error legal w a shut =
-    let t = trail name older in
+over_from_start : (setting : Setting) (older : List Entry) (e : Entry) (number : ℕ) (error : Error) → Legal setting (e ∷ older) → e.words ≡ words.Stream → e.answer ≡ answers.Streaming number → closing (trail setting older).events ≡ Some error
+    → Over (trail setting (e ∷ older)) e.lane number
+over_from_start setting older e number error legal w a shut =
+    let t = trail setting older in
     let is = stream_is t e legal.0 w in
     let n : count e.lane t.streams ≡ number = let same : answers.Streaming (count e.lane t.streams) ≡ answers.Streaming number = sym is ∙ a in cc in
     let x : entry e.lane words.Stream (answers.Streaming (count e.lane t.streams)) ≡ e =
     ap (λ y. entry e.lane y (answers.Streaming (count e.lane t.streams))) (sym w) ∙ ap (entry e.lane e.words) (sym is) in
-    subst (λ k. Over (trail name (e ∷ older)) e.lane k) n
-    (subst (λ y. Over (more t y) e.lane (count e.lane t.streams)) x (over_made t e.lane error (lanes name older legal.1) shut))
+    subst (λ k. Over (trail setting (e ∷ older)) e.lane k) n
+    (subst (λ y. Over (more t y) e.lane (count e.lane t.streams)) x (over_made t e.lane error (lanes setting older legal.1) shut))
 
-pub ended_from_start : (name : Option (List ℕ)) (newer older : List Entry) (e : Entry) (number : ℕ) (error : Error) → Legal name (newer ++ e ∷ older) → e.words ≡ words.Stream → e.answer ≡ answers.Streaming number
-    → closing (trail name older).events ≡ Some error → AllByRecursion (IsEnded e.lane number) newer
-ended_from_start name newer older e number error legal w a shut =
-    (over_later name newer older e e.lane number legal (over_from_start name older e number error (legal_from name newer (e ∷ older) legal) w a shut)).1
+pub ended_from_start : (setting : Setting) (newer older : List Entry) (e : Entry) (number : ℕ) (error : Error) → Legal setting (newer ++ e ∷ older) → e.words ≡ words.Stream → e.answer ≡ answers.Streaming number
+    → closing (trail setting older).events ≡ Some error → AllByRecursion (IsEnded e.lane number) newer
+ended_from_start setting newer older e number error legal w a shut =
+    (over_later setting newer older e e.lane number legal (over_from_start setting older e number error (legal_from setting newer (e ∷ older) legal) w a shut)).1
 
 -- ---- a busy read
 
@@ -283,10 +290,10 @@ too_many h open_ e =
     let at = any_at (is_full h) (streams h) (open_full (closing h) (list_any (is_full h) (streams h)) open_ e) in
     record { is_open = open_; k = at.0; stream = at.1; made = at.2; over = full_over h at.1 at.3 }
 
-pub busy_only : (name : Option (List ℕ)) (older : List Entry) (e : Entry) → Legal name (e ∷ older) → e.words ≡ words.Read → e.answer ≡ answers.Busy → HoldsTooMany (trail name older).events
-busy_only name older e legal w a =
-    let b = busy_by (closing (trail name older).events) (busy (trail name older).events) (length (read (trail name older).events)) e.answer (read_is (trail name older) e legal.0 w) a in
-    too_many (trail name older).events b.0 b.1
+pub busy_only : (setting : Setting) (older : List Entry) (e : Entry) → Legal setting (e ∷ older) → e.words ≡ words.Read → e.answer ≡ answers.Busy → HoldsTooMany (trail setting older).events
+busy_only setting older e legal w a =
+    let b = busy_by (closing (trail setting older).events) (busy (trail setting older).events) (length (read (trail setting older).events)) e.answer (read_is (trail setting older) e legal.0 w) a in
+    too_many (trail setting older).events b.0 b.1
 
 busy_of : (h : List Event) → HoldsTooMany h → busy h ≡ true
 unfolding busy
@@ -297,18 +304,18 @@ busy_answer (Some error) full n a e f is = cc
 busy_answer None true n a e f is = is
 busy_answer None false n a e f is = cc
 
-pub busy_there : (name : Option (List ℕ)) (older : List Entry) (e : Entry) → Legal name (e ∷ older) → e.words ≡ words.Read → HoldsTooMany (trail name older).events → e.answer ≡ answers.Busy
-busy_there name older e legal w many =
-    busy_answer (closing (trail name older).events) (busy (trail name older).events) (length (read (trail name older).events)) e.answer many.is_open (busy_of (trail name older).events many) (read_is (trail name older) e legal.0 w)
+pub busy_there : (setting : Setting) (older : List Entry) (e : Entry) → Legal setting (e ∷ older) → e.words ≡ words.Read → HoldsTooMany (trail setting older).events → e.answer ≡ answers.Busy
+busy_there setting older e legal w many =
+    busy_answer (closing (trail setting older).events) (busy (trail setting older).events) (length (read (trail setting older).events)) e.answer many.is_open (busy_of (trail setting older).events many) (read_is (trail setting older) e legal.0 w)
 
 busy_events : (o : Option Error) → read_events o answers.Busy ≡ []
 busy_events None = refl
 busy_events (Some error) = refl
 
 -- a busy read changes nothing
-pub busy_keeps : (name : Option (List ℕ)) (older : List Entry) (e : Entry) → e.words ≡ words.Read → e.answer ≡ answers.Busy → (trail name (e ∷ older)).events ≡ (trail name older).events
-busy_keeps name older e w a =
-    let t = trail name older in
+pub busy_keeps : (setting : Setting) (older : List Entry) (e : Entry) → e.words ≡ words.Read → e.answer ≡ answers.Busy → (trail setting (e ∷ older)).events ≡ (trail setting older).events
+busy_keeps setting older e w a =
+    let t = trail setting older in
     ap (λ x. events_of t e.lane x e.answer ++ t.events) w
     ∙ ap (λ x. read_events (closing t.events) x ++ t.events) a
     ∙ ap (λ xs. xs ++ t.events) (busy_events (closing t.events))

@@ -1,10 +1,15 @@
 -- A message is issued: what the core is then, and why it may be refused.
-use Rattle.std.proofs.Common.{◌≡◌, ℕ, ◌+◌, ◌<◌, ◌≤◌, refl, sym, ◌∙◌, ap, subst, arith, IfOk, Bool, true, false, List, [], ◌∷◌, ◌++◌, length, map, find, None, Result, Ok, Err}
+use Rattle.std.proofs.Common.{◌≡◌, ℕ, ◌+◌, ◌<◌, ◌≤◌, refl, sym, ◌∙◌, ap, subst, arith, inl, inr, IfOk, Bool, true, false, List, [], ◌∷◌, ◌++◌, length, map, find, None, Result, Ok, Err}
 use Rattle.std.specs.List.{list_any}
 use Rattle.std.proofs.Math.Seq.{drop-length}
 use Rattle.std.proofs.lemmas.List.{map-append, length-map, length_push}
-use Rattle.wire_message.specs.Front.{Seen}
-use Rattle.wire_message.specs.Draft.{built, header_text, message_text, Builds, Draft}
+use Rattle.wire_tree.specs.Datum.{type_of}
+use Rattle.wire_signature.specs.declared.error.VariantError.TheVariants as faults
+use Rattle.wire_message.specs.Front.{Seen, bare}
+use Rattle.wire_message.specs.Draft.{built, header_text, message_text, Draft}
+use Rattle.wire_message.specs.Signed.{signed, counted}
+use Rattle.wire_message.specs.Bodies.{body_text, HasSerial, BuildsValues}
+use Rattle.wire_message.specs.Bodies as Bodies
 use Rattle.wire_message.specs.Circle.{IsNext, AllTaken}
 use Rattle.wire_message.specs.declared.error.Error.{Error}
 use Rattle.wire_message.specs.declared.error.Error.TheVariants as errors
@@ -12,8 +17,9 @@ use Rattle.wire_message.specs.declared.error.IoKind.TheVariants as kinds
 use Rattle.peer_route.specs.declared.route.Issued.{Issued}
 use Rattle.peer_route.specs.declared.calls.Slot.TheVariants as slots
 use Rattle.peer_route.specs.History.{Event, Put, Call, read, put, is_failed, last_serial, calls, found, bears, new_call, pending}
-use Rattle.peer_route.specs.Left.{slot_of, slot_by, is_waiting, AreDistinct, CallsView, waiting_serial, LeftCalls, View, Left, Issues, Places, Waits, placed, call_number}
-use Rattle.peer_route.specs.CallMessage.{expects_reply}
+use Rattle.peer_route.specs.Left.{slot_of, slot_by, is_waiting, AreDistinct, CallsView, waiting_serial, LeftCalls, View, Left, AreWritable, IsTooLong, Issues, Places, Waits, placed, call_number}
+use Rattle.peer_route.specs.Parcel.{Parcel, message_of}
+use Rattle.peer_route.specs.CallMessage.{expects_reply, expects}
 use Rattle.peer_route.proofs.Core.{pending-left}
 use Rattle.peer_route.proofs.CallsMade.{places}
 use Rattle.peer_route.proofs.StreamsMade.{streams_put}
@@ -57,36 +63,65 @@ next_left v h serial left next =
     subst (λ last. IsNext (pending h) last serial) left.last
     (IsNext-along (waiting_serial v.calls) (pending h) v.last serial (λ n. sym (pending-left v.calls h left.calls n)) next)
 
--- what is built of a draft whose own serial was left out
-abbrev Made : View → Draft → ℕ → Seen → Type 0
-Made v draft new m =
-    IsNext (waiting_serial v.calls) v.last m.serial × (new ≡ m.serial) × (length m.bytes ≤ 134217728) × (m ≡ built draft m.serial [])
+-- the parcel whose draft's own serial was left out
+abbrev unset : Draft → Draft
+unset draft = record draft { serial = None }
 
-same-built : (draft : Draft) (serial : ℕ) → built (record draft { serial = None }) serial [] ≡ built draft serial []
-unfolding built message_text header_text
-same-built draft serial = refl
+-- what building the parcel's message gives
+abbrev pub BuildsParcel : View → Parcel → ℕ → Result Seen Error → Type 0
+BuildsParcel v parcel new r = BuildsValues (waiting_serial v.calls) (counted (unset parcel.draft) parcel.fds) parcel.values parcel.fds v.last new r
 
-same-text : (draft : Draft) (serial : ℕ) → message_text (record draft { serial = None }) serial [] ≡ message_text draft serial []
-unfolding message_text header_text
-same-text draft serial = refl
+-- what is built of it
+abbrev Made : View → Parcel → ℕ → Seen → Type 0
+Made v parcel new m =
+    IsNext (waiting_serial v.calls) v.last m.serial × (new ≡ m.serial) × (length m.bytes ≤ 134217728) × (m ≡ message_of parcel m.serial) × AreWritable parcel
 
-made-of : (v : View) (draft : Draft) (new : ℕ) (m : Seen) → Builds (waiting_serial v.calls) (record draft { serial = None }) [] v.last new (Ok m) → Made v draft new m
-made-of v draft new m b = (b.0, b.1, b.2, b.3 ∙ same-built draft m.serial)
+same-built : (parcel : Parcel) (serial : ℕ)
+    → record (built (signed (counted (unset parcel.draft) parcel.fds) (map type_of parcel.values)) serial (body_text parcel.draft.order parcel.values)) { fds = parcel.fds } ≡ message_of parcel serial
+unfolding message_of built message_text header_text
+same-built parcel serial = refl
+
+same-text : (parcel : Parcel) (serial : ℕ)
+    → message_text (signed (counted (unset parcel.draft) parcel.fds) (map type_of parcel.values)) serial (body_text parcel.draft.order parcel.values) ≡ (message_of parcel serial).bytes
+unfolding message_of built message_text header_text
+same-text parcel serial = refl
+
+with-fds : (m n : Seen) (fds : List ℕ) → bare m ≡ n → m.fds ≡ fds → m ≡ record n { fds = fds }
+with-fds m n fds e f = ap (λ xs. record (bare m) { fds = xs }) f ∙ ap (λ (k : Seen). record k { fds = fds }) e
+
+made-of : (v : View) (parcel : Parcel) (new : ℕ) (m : Seen) → BuildsParcel v parcel new (Ok m) → Made v parcel new m
+made-of v parcel new m b =
+    let w = b.2.0 in
+    (w.0, w.1, w.2, with-fds m _ parcel.fds w.3 b.2.1 ∙ same-built parcel m.serial, (b.0, b.1))
+
+too_long : (v : View) (parcel : Parcel) (h : List Event) → Left v h → HasSerial (waiting_serial v.calls) None v.last
+    → Bodies.IsTooLong (waiting_serial v.calls) (counted (unset parcel.draft) parcel.fds) (map type_of parcel.values) parcel.values v.last
+    → (serial : ℕ) × IsNext (pending h) (last_serial h) serial × IsTooLong parcel serial
+too_long v parcel h left some (inl unfit) = (some.0, next_left v h some.0 left some.1, inl unfit)
+too_long v parcel h left some (inr long) = (
+  long.1.0,
+  next_left v h long.1.0 left long.1.1,
+  inr (long.0, subst (λ text. 134217728 < length text) (same-text parcel long.1.0) long.1.2),
+)
 
 -- what building refuses, issuing does
-pub refused : (v : View) (draft : Draft) (new : ℕ) (h : List Event) (error : Error) → Left v h
-    → Builds (waiting_serial v.calls) (record draft { serial = None }) [] v.last new (Err error) → Issues v v draft h (Err error)
-refused v draft new h errors.SerialsSpent left b = (AllTaken-along (waiting_serial v.calls) (pending h) (λ n. sym (pending-left v.calls h left.calls n)) b.0, refl)
-refused v draft new h errors.ExcessData left b = (b.0, next_left v h b.0 left b.1, subst (λ text. 134217728 < length text) (same-text draft b.0) b.2, refl)
-refused v draft new h errors.Memory left b = refl
-refused v draft new h (errors.InputOutput kind) left b = absurd b
-refused v draft new h (errors.Variant kind) left b = absurd b
-refused v draft new h (errors.Names kind) left b = absurd b
-refused v draft new h errors.InvalidMatchRule left b = absurd b
-refused v draft new h errors.IncorrectEndian left b = absurd b
-refused v draft new h errors.UnknownHandle left b = absurd b
-refused v draft new h errors.Unsupported left b = absurd b
-refused v draft new h errors.InvalidField left b = absurd b
+pub refused : (v : View) (parcel : Parcel) (new : ℕ) (h : List Event) (error : Error) → Left v h
+    → BuildsParcel v parcel new (Err error) → Issues v v parcel h (Err error)
+refused v parcel new h errors.SerialsSpent left b = (AllTaken-along (waiting_serial v.calls) (pending h) (λ n. sym (pending-left v.calls h left.calls n)) b.0, refl)
+refused v parcel new h errors.ExcessData left b = let t = too_long v parcel h left b.0 b.2 in (t.0, t.1, b.1, t.2, refl)
+refused v parcel new h (errors.Variant faults.Depth) left b = (b.0.0, next_left v h b.0.0 left b.0.1, b.1, refl)
+refused v parcel new h errors.Memory left b = refl
+refused v parcel new h (errors.InputOutput kind) left b = absurd b
+refused v parcel new h (errors.Variant faults.Signature) left b = absurd b
+refused v parcel new h (errors.Variant faults.Malformed) left b = absurd b
+refused v parcel new h (errors.Variant faults.SignatureMismatch) left b = absurd b
+refused v parcel new h (errors.Variant faults.Memory) left b = absurd b
+refused v parcel new h (errors.Names kind) left b = absurd b
+refused v parcel new h errors.InvalidMatchRule left b = absurd b
+refused v parcel new h errors.IncorrectEndian left b = absurd b
+refused v parcel new h errors.UnknownHandle left b = absurd b
+refused v parcel new h errors.Unsupported left b = absurd b
+refused v parcel new h errors.InvalidField left b = absurd b
 
 -- a message that no call waits for leaves the calls as they were
 put_calls : (m : Seen) (v : CallsView) (h : List Event) → LeftCalls v h → LeftCalls v (Put m false ∷ h)
@@ -126,46 +161,54 @@ left_put false v m h left free = left_alone v m h left
 slots_len : (v : CallsView) (h : List Event) → LeftCalls v h → length v.slots ≡ length (calls h)
 slots_len v h left = ap length left.slots ∙ length-map (calls h) (slot_of h)
 
-built-bytes : (draft : Draft) (serial : ℕ) → (built draft serial []).bytes ≡ message_text draft serial []
-unfolding built
-built-bytes draft serial = refl
+message-kind : (parcel : Parcel) (serial : ℕ) → (message_of parcel serial).kind ≡ parcel.draft.kind
+unfolding message_of built
+message-kind parcel serial = refl
 
-built-flags : (draft : Draft) (serial : ℕ) → (built draft serial []).flags ≡ draft.flags
-unfolding built
-built-flags draft serial = refl
+message-flags : (parcel : Parcel) (serial : ℕ) → (message_of parcel serial).flags ≡ parcel.draft.flags
+unfolding message_of built
+message-flags parcel serial = refl
+
+-- a message that was built waits for a reply exactly where its draft says so
+same-expects : (parcel : Parcel) (m : Seen) (serial : ℕ) → m ≡ message_of parcel serial → expects_reply m.kind m.flags ≡ expects (Ok parcel)
+same-expects parcel m serial e =
+    ap (λ (n : Seen). expects_reply n.kind n.flags) e ∙ ap (λ k. expects_reply k (message_of parcel serial).flags) (message-kind parcel serial)
+    ∙ ap (expects_reply parcel.draft.kind) (message-flags parcel serial)
 
 -- A message that was built with the next serial and placed is issued.
-pub issued : (v new : View) (draft : Draft) (m : Seen) (last : ℕ) (r : Result Issued Error) (h : List Event) → Left v h
-    → Builds (waiting_serial v.calls) (record draft { serial = None }) [] v.last last (Ok m) → v.failed ≡ false → Places v new m last r
-    → Issues v new draft h r
-issued v new draft m last (Ok got) h left made_bare fine p =
-    let made = made-of v draft last m made_bare in
-    let P : ℕ → Type 0 = λ serial. IsNext (pending h) (last_serial h) serial × (length (message_text draft serial []) ≤ 134217728)
-    × (is_failed h ≡ false) × (got.index ≡ length (put h)) × (got.call ≡ call_number (expects_reply draft.flags) (length (calls h)))
-    × Left new (Put (built draft serial []) (expects_reply draft.flags) ∷ h) in
-    let flags : m.flags ≡ draft.flags = ap (λ (n : Seen). n.flags) made.3 ∙ built-flags draft m.serial in
+pub issued : (v new : View) (parcel : Parcel) (m : Seen) (last : ℕ) (r : Result Issued Error) (h : List Event) → Left v h
+    → BuildsParcel v parcel last (Ok m) → v.failed ≡ false → Places v new m last r
+    → Issues v new parcel h r
+issued v new parcel m last (Ok got) h left made_bare fine p =
+    let made = made-of v parcel last m made_bare in
+    let b = expects (Ok parcel) in
+    let P : ℕ → Type 0 = λ serial. IsNext (pending h) (last_serial h) serial × AreWritable parcel × (length (message_of parcel serial).bytes ≤ 134217728)
+    × (is_failed h ≡ false) × (got.index ≡ length (put h)) × (got.call ≡ call_number b (length (calls h)))
+    × Left new (Put (message_of parcel serial) b ∷ h) in
+    let same : expects_reply m.kind m.flags ≡ b = same-expects parcel m m.serial made.3 in
     subst P (sym p.1) (
       next_left v h m.serial left made.0,
-      subst (λ bs. length bs ≤ 134217728) (ap (λ (n : Seen). n.bytes) made.3 ∙ built-bytes draft m.serial) made.2,
+      made.4,
+      subst (λ (n : Seen). length n.bytes ≤ 134217728) made.3 made.2,
       sym left.failed ∙ fine,
       p.0 ∙ ap length left.outbox,
-      p.2 ∙ ap (λ n. call_number (expects_reply n) (length v.calls.slots)) flags ∙ ap (call_number (expects_reply draft.flags)) (slots_len v.calls h left.calls),
-      subst (λ w. Left w (Put (built draft m.serial []) (expects_reply draft.flags) ∷ h))
-          (sym (p.3 ∙ ap (λ n. placed (expects_reply n) v m last) flags ∙ ap (placed (expects_reply draft.flags) v m) made.1))
-          (subst (λ n. Left (placed (expects_reply draft.flags) v m m.serial) (Put n (expects_reply draft.flags) ∷ h)) made.3
-          (left_put (expects_reply draft.flags) v m h left made.0.free)),
+      p.2 ∙ ap (λ x. call_number x (length v.calls.slots)) same ∙ ap (call_number b) (slots_len v.calls h left.calls),
+      subst (λ w. Left w (Put (message_of parcel m.serial) b ∷ h))
+          (sym (p.3 ∙ ap (λ x. placed x v m last) same ∙ ap (placed b v m) made.1))
+          (subst (λ n. Left (placed b v m m.serial) (Put n b ∷ h)) made.3
+          (left_put b v m h left made.0.free)),
     )
-issued v new draft m last (Err errors.Memory) h left made fine p = p
-issued v new draft m last (Err errors.SerialsSpent) h left made fine p = absurd p
-issued v new draft m last (Err errors.ExcessData) h left made fine p = absurd p
-issued v new draft m last (Err (errors.InputOutput kind)) h left made fine p = absurd p
-issued v new draft m last (Err (errors.Variant kind)) h left made fine p = absurd p
-issued v new draft m last (Err (errors.Names kind)) h left made fine p = absurd p
-issued v new draft m last (Err errors.InvalidMatchRule) h left made fine p = absurd p
-issued v new draft m last (Err errors.IncorrectEndian) h left made fine p = absurd p
-issued v new draft m last (Err errors.UnknownHandle) h left made fine p = absurd p
-issued v new draft m last (Err errors.Unsupported) h left made fine p = absurd p
-issued v new draft m last (Err errors.InvalidField) h left made fine p = absurd p
+issued v new parcel m last (Err errors.Memory) h left made fine p = p
+issued v new parcel m last (Err errors.SerialsSpent) h left made fine p = absurd p
+issued v new parcel m last (Err errors.ExcessData) h left made fine p = absurd p
+issued v new parcel m last (Err (errors.InputOutput kind)) h left made fine p = absurd p
+issued v new parcel m last (Err (errors.Variant kind)) h left made fine p = absurd p
+issued v new parcel m last (Err (errors.Names kind)) h left made fine p = absurd p
+issued v new parcel m last (Err errors.InvalidMatchRule) h left made fine p = absurd p
+issued v new parcel m last (Err errors.IncorrectEndian) h left made fine p = absurd p
+issued v new parcel m last (Err errors.UnknownHandle) h left made fine p = absurd p
+issued v new parcel m last (Err errors.Unsupported) h left made fine p = absurd p
+issued v new parcel m last (Err errors.InvalidField) h left made fine p = absurd p
 
 placed_outbox : (expects : Bool) (v : View) (m : Seen) (last : ℕ) → length (placed expects v m last).outbox ≡ length (v.outbox ++ m ∷ [])
 placed_outbox true v m last = refl
@@ -182,20 +225,21 @@ placed_failed false v m last = refl
 -- a message that was placed waits at the end of the outbox
 pub placed_waits : (v new : View) (m : Seen) (last : ℕ) (r : Result Issued Error) → v.failed ≡ false → Places v new m last r → IfOk r (Waits v new)
 placed_waits v new m last (Ok got) fine p =
-    let b = expects_reply m.flags in
+    let b = expects_reply m.kind m.flags in
     let len : length new.outbox ≡ length v.outbox + 1 = ap (λ (w : View). length w.outbox) p.3 ∙ placed_outbox b v m last ∙ length_push v.outbox m in
     (p.0, omega (arith, p.0, len), ap (λ (w : View). w.done) p.3 ∙ placed_done b v m last, fine, ap (λ (w : View). w.failed) p.3 ∙ placed_failed b v m last ∙ fine)
 placed_waits v new m last (Err e) fine p = tt
 
 -- where a write failed, a message that was built isn't placed
-pub refused_failed : (v : View) (draft : Draft) (m : Seen) (last : ℕ) (h : List Event) → Left v h
-    → Builds (waiting_serial v.calls) (record draft { serial = None }) [] v.last last (Ok m) → v.failed ≡ true
-    → Issues v v draft h (Err (errors.InputOutput kinds.WriteFault))
-refused_failed v draft m last h left made_bare failed =
-    let made = made-of v draft last m made_bare in (
+pub refused_failed : (v : View) (parcel : Parcel) (m : Seen) (last : ℕ) (h : List Event) → Left v h
+    → BuildsParcel v parcel last (Ok m) → v.failed ≡ true
+    → Issues v v parcel h (Err (errors.InputOutput kinds.WriteFault))
+refused_failed v parcel m last h left made_bare failed =
+    let made = made-of v parcel last m made_bare in (
       m.serial,
       next_left v h m.serial left made.0,
-      subst (λ bs. length bs ≤ 134217728) (ap (λ (n : Seen). n.bytes) made.3 ∙ built-bytes draft m.serial) made.2,
+      made.4,
+      subst (λ (n : Seen). length n.bytes ≤ 134217728) made.3 made.2,
       sym left.failed ∙ failed,
       refl,
     )

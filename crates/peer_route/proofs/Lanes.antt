@@ -14,7 +14,8 @@ use Rattle.peer_route.specs.declared.answer.Answer.{Answer}
 use Rattle.peer_route.specs.declared.answer.Answer.TheVariants as answers
 use Rattle.peer_route.specs.declared.answer.Entry.{Entry}
 use Rattle.peer_route.specs.History.{Event, poll_answer, drop_answer}
-use Rattle.peer_route.specs.Trail.{Trail, Names, place, count, trail, poll_spends, drop_spends, events_of, new_names}
+use Rattle.peer_route.specs.Parcel.{Setting, Asked}
+use Rattle.peer_route.specs.Trail.{Trail, Names, place, count, asks, trail, poll_spends, drop_spends, events_of, new_names}
 use Rattle.peer_route.specs.Answers.{IsAnswer, Legal, error_answer, reply_by, shown, poll_of, shown_drop, drop_of}
 use Rattle.peer_route.specs.Laws.{poll_now}
 use Rattle.peer_route.proofs.Once.{poll_is, drop_is}
@@ -79,45 +80,45 @@ apart names lane number lane₂ number₂ j k p q differ same =
 
 -- ---- a poll makes no call
 
-error_names : (h : List Event) (lane : ℕ) (w : Words) (m : Seen) (name : Option (List ℕ)) → new_names h lane w (error_answer m name) ≡ []
+error_names : (h : List Event) (lane : ℕ) (w : Option Asked) (m : Seen) (name : Option (List ℕ)) → new_names h lane w (error_answer m name) ≡ []
 error_names h lane w m (Some name) = refl
 error_names h lane w m None = refl
 
-reply_names : (h : List Event) (lane : ℕ) (w : Words) (m : Seen) (kind : MessageType) → new_names h lane w (reply_by m kind) ≡ []
+reply_names : (h : List Event) (lane : ℕ) (w : Option Asked) (m : Seen) (kind : MessageType) → new_names h lane w (reply_by m kind) ≡ []
 reply_names h lane w m types.MethodReturn = refl
 reply_names h lane w m types.MethodCall = refl
 reply_names h lane w m types.Error = error_names h lane w m m.error_name
 reply_names h lane w m types.Signal = refl
 
-shown_names : (h : List Event) (lane : ℕ) (w : Words) (r : Result (Polled Seen) Error) → new_names h lane w (shown r) ≡ []
+shown_names : (h : List Event) (lane : ℕ) (w : Option Asked) (r : Result (Polled Seen) Error) → new_names h lane w (shown r) ≡ []
 shown_names h lane w (Ok (polled.Now m)) = reply_names h lane w m m.kind
 shown_names h lane w (Ok polled.NotYet) = refl
 shown_names h lane w (Ok (polled.Closed error)) = refl
 shown_names h lane w (Ok polled.Ended) = refl
 shown_names h lane w (Err error) = refl
 
-poll_names : (h : List Event) (lane : ℕ) (w : Words) (p : Option ℕ) → new_names h lane w (poll_of h p) ≡ []
+poll_names : (h : List Event) (lane : ℕ) (w : Option Asked) (p : Option ℕ) → new_names h lane w (poll_of h p) ≡ []
 poll_names h lane w None = refl
 poll_names h lane w (Some k) = shown_names h lane w (poll_answer h k)
 
-names_kept : (t : Trail) (e : Entry) (number : ℕ) → IsAnswer t e.lane e.words e.answer → e.words ≡ words.Poll number → t.names ++ new_names t.events e.lane e.words e.answer ≡ t.names
+names_kept : (t : Trail) (e : Entry) (number : ℕ) → IsAnswer t e.lane e.words e.answer → e.words ≡ words.Poll number → t.names ++ new_names t.events e.lane (asks t e.lane e.words) e.answer ≡ t.names
 names_kept t e number a w =
-    ap (λ x. t.names ++ new_names t.events e.lane e.words x) (poll_is t e number a w)
-    ∙ ap (λ ns. t.names ++ ns) (poll_names t.events e.lane e.words (place 0 e.lane number t.names))
+    ap (λ x. t.names ++ new_names t.events e.lane (asks t e.lane e.words) x) (poll_is t e number a w)
+    ∙ ap (λ ns. t.names ++ ns) (poll_names t.events e.lane (asks t e.lane e.words) (place 0 e.lane number t.names))
     ∙ append-nil t.names
 
-drop_shown_names : (h : List Event) (lane : ℕ) (w : Words) (r : Result (Unit {0}) Error) → new_names h lane w (shown_drop r) ≡ []
+drop_shown_names : (h : List Event) (lane : ℕ) (w : Option Asked) (r : Result (Unit {0}) Error) → new_names h lane w (shown_drop r) ≡ []
 drop_shown_names h lane w (Ok done) = refl
 drop_shown_names h lane w (Err error) = refl
 
-drop_names : (h : List Event) (lane : ℕ) (w : Words) (p : Option ℕ) → new_names h lane w (drop_of h p) ≡ []
+drop_names : (h : List Event) (lane : ℕ) (w : Option Asked) (p : Option ℕ) → new_names h lane w (drop_of h p) ≡ []
 drop_names h lane w None = refl
 drop_names h lane w (Some k) = drop_shown_names h lane w (drop_answer h k)
 
-names_kept_drop : (t : Trail) (e : Entry) (number : ℕ) → IsAnswer t e.lane e.words e.answer → e.words ≡ words.Drop number → t.names ++ new_names t.events e.lane e.words e.answer ≡ t.names
+names_kept_drop : (t : Trail) (e : Entry) (number : ℕ) → IsAnswer t e.lane e.words e.answer → e.words ≡ words.Drop number → t.names ++ new_names t.events e.lane (asks t e.lane e.words) e.answer ≡ t.names
 names_kept_drop t e number a w =
-    ap (λ x. t.names ++ new_names t.events e.lane e.words x) (drop_is t e number a w)
-    ∙ ap (λ ns. t.names ++ ns) (drop_names t.events e.lane e.words (place 0 e.lane number t.names))
+    ap (λ x. t.names ++ new_names t.events e.lane (asks t e.lane e.words) x) (drop_is t e number a w)
+    ∙ ap (λ ns. t.names ++ ns) (drop_names t.events e.lane (asks t e.lane e.words) (place 0 e.lane number t.names))
     ∙ append-nil t.names
 
 -- ---- what a poll leaves
@@ -143,15 +144,15 @@ drops_other h p None a ne = refl
 drops_other h None (Some k) a ne = refl
 drops_other h (Some j) (Some k) a ne = drops_by h j k a (ne j k refl refl)
 
-pub poll_other : (name : Option (List ℕ)) (older : List Entry) (e : Entry) (number lane other : ℕ) → Legal name (e ∷ older) → (e.words ≡ words.Poll number) ⊎ (e.words ≡ words.Drop number) → (lane ≡ e.lane → other ≢ number)
-    → poll_now (trail name (e ∷ older)) lane other ≡ poll_now (trail name older) lane other
-poll_other name older e number lane other legal (inl w) differ =
-    let t = trail name older in
+pub poll_other : (setting : Setting) (older : List Entry) (e : Entry) (number lane other : ℕ) → Legal setting (e ∷ older) → (e.words ≡ words.Poll number) ⊎ (e.words ≡ words.Drop number) → (lane ≡ e.lane → other ≢ number)
+    → poll_now (trail setting (e ∷ older)) lane other ≡ poll_now (trail setting older) lane other
+poll_other setting older e number lane other legal (inl w) differ =
+    let t = trail setting older in
     ap (λ (ns : Names). poll_of (events_of t e.lane e.words e.answer ++ t.events) (place 0 lane other ns)) (names_kept t e number legal.0 w)
     ∙ ap (λ (x : Words). poll_of (events_of t e.lane x e.answer ++ t.events) (place 0 lane other t.names)) w
     ∙ spends_other t.events (place 0 e.lane number t.names) (place 0 lane other t.names) e.answer (λ j k p q. apart t.names e.lane number lane other j k p q differ)
-poll_other name older e number lane other legal (inr w) differ =
-    let t = trail name older in
+poll_other setting older e number lane other legal (inr w) differ =
+    let t = trail setting older in
     ap (λ (ns : Names). poll_of (events_of t e.lane e.words e.answer ++ t.events) (place 0 lane other ns)) (names_kept_drop t e number legal.0 w)
     ∙ ap (λ (x : Words). poll_of (events_of t e.lane x e.answer ++ t.events) (place 0 lane other t.names)) w
     ∙ drops_other t.events (place 0 e.lane number t.names) (place 0 lane other t.names) e.answer (λ j k p q. apart t.names e.lane number lane other j k p q differ)

@@ -7,7 +7,8 @@ use Rattle.peer_route.specs.declared.answer.Answer.{Answer}
 use Rattle.peer_route.specs.declared.answer.Answer.TheVariants as answers
 use Rattle.peer_route.specs.declared.answer.Entry.{Entry}
 use Rattle.peer_route.specs.History.{Event, Took, Shut, Put, Wrote, Fault, Spent, Made, Did, Call, calls, new_call, edit, spend, fail_at, done, is_gone, polled_at, poll_answer, dropped_at, drop_answer}
-use Rattle.peer_route.specs.Trail.{Trail, Names, place, trail, poll_spends, drop_spends, events_of, new_names}
+use Rattle.peer_route.specs.Parcel.{Setting}
+use Rattle.peer_route.specs.Trail.{Trail, Names, place, asks, trail, poll_spends, drop_spends, events_of, new_names}
 use Rattle.peer_route.specs.Answers.{IsAnswer, Legal, shown, poll_of, shown_drop, drop_of}
 use Rattle.peer_route.specs.Laws.{IsFinal, IsUnknown}
 
@@ -130,16 +131,16 @@ over_now : (t : Trail) (e : Entry) (number : ℕ) → IsAnswer t e.lane e.words 
     → (k : ℕ) × (place 0 e.lane number t.names ≡ Some k) × (gone_at (calls (events_of t e.lane e.words e.answer ++ t.events)) k ≡ true)
 over_now t e number a w f = rw w (final_over t.events (place 0 e.lane number t.names) e.answer (poll_is t e number a w) f)
 
-over_after : (name : Option (List ℕ)) (e : Entry) (es : List Entry) (number : ℕ) → Legal name (e ∷ es) → e.words ≡ words.Poll number → IsFinal e.answer → IsOver (trail name (e ∷ es)) e.lane number
-over_after name e es number legal w f =
-    let now = over_now (trail name es) e number legal.0 w f in
-    (now.0, place_append 0 e.lane number (trail name es).names (new_names (trail name es).events e.lane e.words e.answer) now.0 now.1, now.2)
+over_after : (setting : Setting) (e : Entry) (es : List Entry) (number : ℕ) → Legal setting (e ∷ es) → e.words ≡ words.Poll number → IsFinal e.answer → IsOver (trail setting (e ∷ es)) e.lane number
+over_after setting e es number legal w f =
+    let now = over_now (trail setting es) e number legal.0 w f in
+    (now.0, place_append 0 e.lane number (trail setting es).names (new_names (trail setting es).events e.lane (asks (trail setting es) e.lane e.words) e.answer) now.0 now.1, now.2)
 
-over_more : (name : Option (List ℕ)) (e : Entry) (es : List Entry) (lane number : ℕ) → IsOver (trail name es) lane number → IsOver (trail name (e ∷ es)) lane number
-over_more name e es lane number over = (
+over_more : (setting : Setting) (e : Entry) (es : List Entry) (lane number : ℕ) → IsOver (trail setting es) lane number → IsOver (trail setting (e ∷ es)) lane number
+over_more setting e es lane number over = (
   over.0,
-  place_append 0 lane number (trail name es).names (new_names (trail name es).events e.lane e.words e.answer) over.0 over.1,
-  gone_events (events_of (trail name es) e.lane e.words e.answer) (trail name es).events over.0 over.2,
+  place_append 0 lane number (trail setting es).names (new_names (trail setting es).events e.lane (asks (trail setting es) e.lane e.words) e.answer) over.0 over.1,
+  gone_events (events_of (trail setting es) e.lane e.words e.answer) (trail setting es).events over.0 over.2,
 )
 
 unknown_at : (t : Trail) (lane number : ℕ) → IsOver t lane number → poll_of t.events (place 0 lane number t.names) ≡ answers.Refused errors.UnknownHandle
@@ -148,29 +149,29 @@ unknown_at t lane number over = rw over.1 (gone_shown t.events over.0 over.2)
 unknown_drop_at : (t : Trail) (lane number : ℕ) → IsOver t lane number → drop_of t.events (place 0 lane number t.names) ≡ answers.Refused errors.UnknownHandle
 unknown_drop_at t lane number over = rw over.1 (gone_drop_shown t.events over.0 over.2)
 
-unknown_entry : (name : Option (List ℕ)) (e : Entry) (es : List Entry) (lane number : ℕ) → IsOver (trail name es) lane number → Legal name (e ∷ es) → IsUnknown lane number e
-unknown_entry name e es lane number over legal same (inl w) =
-    poll_is (trail name es) e number legal.0 w
-    ∙ ap (λ l. poll_of (trail name es).events (place 0 l number (trail name es).names)) same
-    ∙ unknown_at (trail name es) lane number over
-unknown_entry name e es lane number over legal same (inr w) =
-    drop_is (trail name es) e number legal.0 w
-    ∙ ap (λ l. drop_of (trail name es).events (place 0 l number (trail name es).names)) same
-    ∙ unknown_drop_at (trail name es) lane number over
+unknown_entry : (setting : Setting) (e : Entry) (es : List Entry) (lane number : ℕ) → IsOver (trail setting es) lane number → Legal setting (e ∷ es) → IsUnknown lane number e
+unknown_entry setting e es lane number over legal same (inl w) =
+    poll_is (trail setting es) e number legal.0 w
+    ∙ ap (λ l. poll_of (trail setting es).events (place 0 l number (trail setting es).names)) same
+    ∙ unknown_at (trail setting es) lane number over
+unknown_entry setting e es lane number over legal same (inr w) =
+    drop_is (trail setting es) e number legal.0 w
+    ∙ ap (λ l. drop_of (trail setting es).events (place 0 l number (trail setting es).names)) same
+    ∙ unknown_drop_at (trail setting es) lane number over
 
-unknown_later : (name : Option (List ℕ)) (newer older : List Entry) (e : Entry) (number : ℕ) → Legal name (newer ++ e ∷ older) → IsOver (trail name (e ∷ older)) e.lane number
-    → IsOver (trail name (newer ++ e ∷ older)) e.lane number × AllByRecursion (IsUnknown e.lane number) newer
-unknown_later name [] older e number legal over = (over, tt)
-unknown_later name (x ∷ newer) older e number legal over =
-    let rest = unknown_later name newer older e number legal.1 over in
-    (over_more name x (newer ++ e ∷ older) e.lane number rest.0, (unknown_entry name x (newer ++ e ∷ older) e.lane number rest.0 legal, rest.1))
+unknown_later : (setting : Setting) (newer older : List Entry) (e : Entry) (number : ℕ) → Legal setting (newer ++ e ∷ older) → IsOver (trail setting (e ∷ older)) e.lane number
+    → IsOver (trail setting (newer ++ e ∷ older)) e.lane number × AllByRecursion (IsUnknown e.lane number) newer
+unknown_later setting [] older e number legal over = (over, tt)
+unknown_later setting (x ∷ newer) older e number legal over =
+    let rest = unknown_later setting newer older e number legal.1 over in
+    (over_more setting x (newer ++ e ∷ older) e.lane number rest.0, (unknown_entry setting x (newer ++ e ∷ older) e.lane number rest.0 legal, rest.1))
 
-pub legal_from : (name : Option (List ℕ)) (newer older : List Entry) → Legal name (newer ++ older) → Legal name older
-legal_from name [] older legal = legal
-legal_from name (x ∷ newer) older legal = legal_from name newer older legal.1
+pub legal_from : (setting : Setting) (newer older : List Entry) → Legal setting (newer ++ older) → Legal setting older
+legal_from setting [] older legal = legal
+legal_from setting (x ∷ newer) older legal = legal_from setting newer older legal.1
 
-pub once : (name : Option (List ℕ)) (newer older : List Entry) (e : Entry) (number : ℕ) → Legal name (newer ++ e ∷ older) → e.words ≡ words.Poll number → IsFinal e.answer → AllByRecursion (IsUnknown e.lane number) newer
-once name newer older e number legal w f = (unknown_later name newer older e number legal (over_after name e older number (legal_from name newer (e ∷ older) legal) w f)).1
+pub once : (setting : Setting) (newer older : List Entry) (e : Entry) (number : ℕ) → Legal setting (newer ++ e ∷ older) → e.words ≡ words.Poll number → IsFinal e.answer → AllByRecursion (IsUnknown e.lane number) newer
+once setting newer older e number legal w f = (unknown_later setting newer older e number legal (over_after setting e older number (legal_from setting newer (e ∷ older) legal) w f)).1
 
 -- ---- a drop
 
@@ -187,10 +188,10 @@ dropped_now : (t : Trail) (e : Entry) (number : ℕ) → IsAnswer t e.lane e.wor
     → (k : ℕ) × (place 0 e.lane number t.names ≡ Some k) × (gone_at (calls (events_of t e.lane e.words e.answer ++ t.events)) k ≡ true)
 dropped_now t e number a w f = rw (w, f) (dropped_over t.events (place 0 e.lane number t.names) (sym (drop_is t e number a w) ∙ f))
 
-dropped_after : (name : Option (List ℕ)) (e : Entry) (es : List Entry) (number : ℕ) → Legal name (e ∷ es) → e.words ≡ words.Drop number → e.answer ≡ answers.Dropped → IsOver (trail name (e ∷ es)) e.lane number
-dropped_after name e es number legal w f =
-    let now = dropped_now (trail name es) e number legal.0 w f in
-    (now.0, place_append 0 e.lane number (trail name es).names (new_names (trail name es).events e.lane e.words e.answer) now.0 now.1, now.2)
+dropped_after : (setting : Setting) (e : Entry) (es : List Entry) (number : ℕ) → Legal setting (e ∷ es) → e.words ≡ words.Drop number → e.answer ≡ answers.Dropped → IsOver (trail setting (e ∷ es)) e.lane number
+dropped_after setting e es number legal w f =
+    let now = dropped_now (trail setting es) e number legal.0 w f in
+    (now.0, place_append 0 e.lane number (trail setting es).names (new_names (trail setting es).events e.lane (asks (trail setting es) e.lane e.words) e.answer) now.0 now.1, now.2)
 
-pub dropped : (name : Option (List ℕ)) (newer older : List Entry) (e : Entry) (number : ℕ) → Legal name (newer ++ e ∷ older) → e.words ≡ words.Drop number → e.answer ≡ answers.Dropped → AllByRecursion (IsUnknown e.lane number) newer
-dropped name newer older e number legal w f = (unknown_later name newer older e number legal (dropped_after name e older number (legal_from name newer (e ∷ older) legal) w f)).1
+pub dropped : (setting : Setting) (newer older : List Entry) (e : Entry) (number : ℕ) → Legal setting (newer ++ e ∷ older) → e.words ≡ words.Drop number → e.answer ≡ answers.Dropped → AllByRecursion (IsUnknown e.lane number) newer
+dropped setting newer older e number legal w f = (unknown_later setting newer older e number legal (dropped_after setting e older number (legal_from setting newer (e ∷ older) legal) w f)).1

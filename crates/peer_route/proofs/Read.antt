@@ -16,7 +16,8 @@ use Rattle.peer_route.specs.declared.answer.Answer.TheVariants as answers
 use Rattle.peer_route.specs.declared.answer.Entry.{Entry}
 use Rattle.peer_route.specs.History.{Event, Put, Call, read, closing, is_failed, calls, found, bears, is_gone, polled_by, polled_at, poll_answer}
 use Rattle.peer_route.specs.Streams.{busy}
-use Rattle.peer_route.specs.Trail.{Trail, place, trail, failed_put, call_events, read_events, poll_spends, drop_spends, stream_makes, take_does, events_of}
+use Rattle.peer_route.specs.Parcel.{Setting, Asked}
+use Rattle.peer_route.specs.Trail.{Trail, place, trail, failed_put, send_events, read_events, poll_spends, drop_spends, stream_makes, take_does, events_of}
 use Rattle.peer_route.specs.Answers.{IsAnswer, IsReadOf, Legal, error_answer, reply_by, shown, poll_of}
 use Rattle.peer_route.specs.Laws.{IsReplyAt, IsFirstReply, IsCutOff}
 use Rattle.peer_route.proofs.Once.{poll_is}
@@ -48,11 +49,12 @@ failed_read : (b : Bool) (h : List Event) (m : Seen) (expects : Bool) → read (
 failed_read true h m expects = refl
 failed_read false h m expects = refl
 
-pub call_read : (h : List Event) (draft : Draft) (a : Answer) → read (call_events h draft a ++ h) ≡ read h
-call_read h draft (answers.Called call serial) = refl
-call_read h draft (answers.Sent serial) = refl
-call_read h draft (answers.SendFailed error) = failed_read (is_failed h) h _ _
-call_read h draft a = refl
+pub send_read : (h : List Event) (asked : Asked) (a : Answer) → read (send_events h asked a ++ h) ≡ read h
+send_read h (Ok parcel) (answers.Called call serial) = refl
+send_read h (Ok parcel) (answers.Sent serial) = refl
+send_read h (Ok parcel) (answers.SendFailed error) = failed_read (is_failed h) h _ _
+send_read h (Ok parcel) a = refl
+send_read h (Err error) a = refl
 
 pub poll_read : (h : List Event) (p : Option ℕ) (a : Answer) → read (poll_spends p a ++ h) ≡ read h
 poll_read h None a = refl
@@ -78,16 +80,19 @@ take_read h (Some k) (answers.Closed error) = refl
 take_read h (Some k) a = refl
 
 ranked_entry : (t : Trail) (lane : ℕ) (w : Words) (a : Answer) → IsAnswer t lane w a → Ranked 0 (read t.events) → Ranked 0 (read (events_of t lane w a ++ t.events))
-ranked_entry t lane (words.Call destination path interface member flags) a is r = subst (Ranked 0) (sym (call_read t.events _ a)) r
+ranked_entry t lane (words.Call out) a is r = subst (Ranked 0) (sym (send_read t.events _ a)) r
+ranked_entry t lane (words.Signal out) a is r = subst (Ranked 0) (sym (send_read t.events _ a)) r
+ranked_entry t lane (words.Reply stream body) a is r = subst (Ranked 0) (sym (send_read t.events _ a)) r
+ranked_entry t lane (words.Error stream name body) a is r = subst (Ranked 0) (sym (send_read t.events _ a)) r
 ranked_entry t lane words.Read a is r = ranked_read t.events (closing t.events) (busy t.events) a is r
 ranked_entry t lane (words.Poll number) a is r = subst (Ranked 0) (sym (poll_read t.events (place 0 lane number t.names) a)) r
 ranked_entry t lane (words.Drop number) a is r = subst (Ranked 0) (sym (drop_read t.events (place 0 lane number t.names) a)) r
 ranked_entry t lane words.Stream a is r = subst (Ranked 0) (sym (stream_read t.events a)) r
 ranked_entry t lane (words.Take number) a is r = subst (Ranked 0) (sym (take_read t.events (place 0 lane number t.streams) a)) r
 
-ranked : (name : Option (List ℕ)) (es : List Entry) → Legal name es → Ranked 0 (read (trail name es).events)
-ranked name [] legal = tt
-ranked name (e ∷ es) legal = ranked_entry (trail name es) e.lane e.words e.answer legal.0 (ranked name es legal.1)
+ranked : (setting : Setting) (es : List Entry) → Legal setting es → Ranked 0 (read (trail setting es).events)
+ranked setting [] legal = tt
+ranked setting (e ∷ es) legal = ranked_entry (trail setting es) e.lane e.words e.answer legal.0 (ranked setting es legal.1)
 
 -- ---- what a search finds
 
@@ -193,9 +198,9 @@ first_by t lane number q a (Some k) r named e is =
       stands = at.1;
     }
 
-pub by_the_first : (name : Option (List ℕ)) (older : List Entry) (e : Entry) (number q : ℕ) → Legal name (e ∷ older) → e.words ≡ words.Poll number → IsReplyAt q e.answer → IsFirstReply (trail name older) e.lane number q e.answer
-by_the_first name older e number q legal w is =
-    first_by (trail name older) e.lane number q e.answer (place 0 e.lane number (trail name older).names) (ranked name older legal.1) refl (poll_is (trail name older) e number legal.0 w) is
+pub by_the_first : (setting : Setting) (older : List Entry) (e : Entry) (number q : ℕ) → Legal setting (e ∷ older) → e.words ≡ words.Poll number → IsReplyAt q e.answer → IsFirstReply (trail setting older) e.lane number q e.answer
+by_the_first setting older e number q legal w is =
+    first_by (trail setting older) e.lane number q e.answer (place 0 e.lane number (trail setting older).names) (ranked setting older legal.1) refl (poll_is (trail setting older) e number legal.0 w) is
 
 -- ---- the closing error
 
@@ -213,6 +218,6 @@ cut_by t lane number error (Some k) named e =
       first = c.3;
     }
 
-pub by_the_closing_error : (name : Option (List ℕ)) (older : List Entry) (e : Entry) (number : ℕ) (error : Error) → Legal name (e ∷ older) → e.words ≡ words.Poll number → e.answer ≡ answers.Closed error → IsCutOff (trail name older) e.lane number error
-by_the_closing_error name older e number error legal w closed =
-    cut_by (trail name older) e.lane number error (place 0 e.lane number (trail name older).names) refl (sym (poll_is (trail name older) e number legal.0 w) ∙ closed)
+pub by_the_closing_error : (setting : Setting) (older : List Entry) (e : Entry) (number : ℕ) (error : Error) → Legal setting (e ∷ older) → e.words ≡ words.Poll number → e.answer ≡ answers.Closed error → IsCutOff (trail setting older) e.lane number error
+by_the_closing_error setting older e number error legal w closed =
+    cut_by (trail setting older) e.lane number error (place 0 e.lane number (trail setting older).names) refl (sym (poll_is (trail setting older) e number legal.0 w) ∙ closed)

@@ -1,12 +1,13 @@
 -- A refusal leaves everything as it was.
-use Rattle.std.proofs.Common.{◌≡◌, ℕ, refl, ◌∙◌, ap, List, [], ◌∷◌, ◌++◌, Option, Some, None, append-nil}
+use Rattle.std.proofs.Common.{◌≡◌, ℕ, refl, ◌∙◌, ap, List, [], ◌∷◌, ◌++◌, Option, Some, None, Result, Ok, Err, append-nil}
 use Rattle.wire_message.specs.declared.error.Error.{Error}
 use Rattle.peer_route.specs.declared.words.Words.{Words}
 use Rattle.peer_route.specs.declared.words.Words.TheVariants as words
 use Rattle.peer_route.specs.declared.answer.Answer.TheVariants as answers
 use Rattle.peer_route.specs.declared.answer.Entry.{Entry}
-use Rattle.peer_route.specs.History.{closing}
-use Rattle.peer_route.specs.Trail.{Trail, place, trail, more, read_events, poll_spends, drop_spends, take_does, events_of}
+use Rattle.peer_route.specs.History.{Event, closing}
+use Rattle.peer_route.specs.Parcel.{Setting, Asked}
+use Rattle.peer_route.specs.Trail.{Trail, place, trail, more, send_events, read_events, poll_spends, drop_spends, take_does, events_of}
 
 read_refused : (o : Option Error) (error : Error) → read_events o (answers.Refused error) ≡ []
 read_refused None error = refl
@@ -24,8 +25,15 @@ take_refused : (p : Option ℕ) (error : Error) → take_does p (answers.Refused
 take_refused None error = refl
 take_refused (Some k) error = refl
 
+send_refused : (h : List Event) (asked : Asked) (error : Error) → send_events h asked (answers.Refused error) ≡ []
+send_refused h (Ok parcel) error = refl
+send_refused h (Err e) error = refl
+
 no_events : (t : Trail) (lane : ℕ) (w : Words) (error : Error) → events_of t lane w (answers.Refused error) ≡ []
-no_events t lane (words.Call destination path interface member flags) error = refl
+no_events t lane (words.Call out) error = send_refused t.events _ error
+no_events t lane (words.Signal out) error = send_refused t.events _ error
+no_events t lane (words.Reply stream body) error = send_refused t.events _ error
+no_events t lane (words.Error stream name body) error = send_refused t.events _ error
 no_events t lane words.Read error = read_refused (closing t.events) error
 no_events t lane (words.Poll n) error = poll_refused (place 0 lane n t.names) error
 no_events t lane (words.Drop n) error = drop_refused (place 0 lane n t.names) error
@@ -34,10 +42,10 @@ no_events t lane (words.Take n) error = take_refused (place 0 lane n t.streams) 
 
 refused_keeps : (t : Trail) (lane : ℕ) (w : Words) (error : Error) → more t (record { lane = lane; words = w; answer = answers.Refused error }) ≡ t
 refused_keeps t lane w error =
-    ap (λ xs. record { events = xs ++ t.events; names = t.names ++ []; streams = t.streams ++ []; name = t.name }) (no_events t lane w error)
-    ∙ ap (λ ns. record { events = t.events; names = ns; streams = t.streams ++ []; name = t.name }) (append-nil t.names)
-    ∙ ap (λ ns. record { events = t.events; names = t.names; streams = ns; name = t.name }) (append-nil t.streams)
+    ap (λ xs. record { events = xs ++ t.events; names = t.names ++ []; streams = t.streams ++ []; setting = t.setting }) (no_events t lane w error)
+    ∙ ap (λ ns. record { events = t.events; names = ns; streams = t.streams ++ []; setting = t.setting }) (append-nil t.names)
+    ∙ ap (λ ns. record { events = t.events; names = t.names; streams = ns; setting = t.setting }) (append-nil t.streams)
 
-pub refused_changes_nothing : (name : Option (List ℕ)) (older : List Entry) (e : Entry) (error : Error) → e.answer ≡ answers.Refused error → trail name (e ∷ older) ≡ trail name older
-refused_changes_nothing name older e error a =
-    ap (λ x. more (trail name older) (record { lane = e.lane; words = e.words; answer = x })) a ∙ refused_keeps (trail name older) e.lane e.words error
+pub refused_changes_nothing : (setting : Setting) (older : List Entry) (e : Entry) (error : Error) → e.answer ≡ answers.Refused error → trail setting (e ∷ older) ≡ trail setting older
+refused_changes_nothing setting older e error a =
+    ap (λ x. more (trail setting older) (record { lane = e.lane; words = e.words; answer = x })) a ∙ refused_keeps (trail setting older) e.lane e.words error

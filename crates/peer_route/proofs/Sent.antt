@@ -1,7 +1,6 @@
 -- What was put is what the answers say was sent.
-use Rattle.std.proofs.Common.{◌≡◌, inl, inr, ℕ, refl, sym, ◌∙◌, ap, Bool, true, false, List, [], ◌∷◌, ◌++◌, Option, Some, None, append-nil, subst}
+use Rattle.std.proofs.Common.{◌≡◌, inl, inr, ℕ, refl, sym, ◌∙◌, ap, Bool, true, false, List, [], ◌∷◌, ◌++◌, Option, Some, None, Result, Ok, Err, append-nil, subst}
 use Rattle.wire_message.specs.Front.{Seen}
-use Rattle.wire_message.specs.Draft.{Draft, built}
 use Rattle.wire_message.specs.declared.error.Error.{Error}
 use Rattle.peer_route.specs.declared.words.Words.{Words}
 use Rattle.peer_route.specs.declared.words.Words.TheVariants as words
@@ -9,8 +8,9 @@ use Rattle.peer_route.specs.declared.answer.Answer.{Answer}
 use Rattle.peer_route.specs.declared.answer.Answer.TheVariants as answers
 use Rattle.peer_route.specs.declared.answer.Entry.{Entry}
 use Rattle.peer_route.specs.History.{Event, closing, put, is_failed}
-use Rattle.peer_route.specs.Trail.{Trail, place, trail, call_events, read_events, poll_spends, drop_spends, stream_makes, take_does, events_of, next_serial, or_zero}
-use Rattle.peer_route.specs.Answers.{IsAnswer, IsCalled, Legal, sent_answer, write_fault}
+use Rattle.peer_route.specs.Parcel.{Setting, Parcel, Asked, message_of}
+use Rattle.peer_route.specs.Trail.{Trail, place, asks, trail, send_events, read_events, poll_spends, drop_spends, stream_makes, take_does, events_of, next_serial, or_zero}
+use Rattle.peer_route.specs.Answers.{IsAnswer, IsCalled, IsSendOf, Legal, sent_answer, write_fault}
 use Rattle.peer_route.specs.StreamLaws.{sent_of, sent_by, all_sent, IsPutOf}
 
 -- what events that send nothing leave
@@ -51,44 +51,51 @@ take_none (Some j) (answers.Closed error) h = record { put_same = refl; failed_s
 take_none (Some j) a h = record { put_same = refl; failed_same = refl }
 
 -- after a failed write nothing was put
-put_failed : (h : List Event) (draft : Draft) (sent : List Seen) → is_failed h ≡ true → IsPutOf true (put h) sent
-    → IsPutOf (is_failed (call_events h draft write_fault ++ h)) (put (call_events h draft write_fault ++ h)) (sent ++ [])
-put_failed h draft sent f p = rw f (rw (f, append-nil sent) p)
+put_failed : (h : List Event) (asked : Asked) (sent : List Seen) → is_failed h ≡ true → IsPutOf true (put h) sent
+    → IsPutOf (is_failed (send_events h asked write_fault ++ h)) (put (send_events h asked write_fault ++ h)) (sent ++ [])
+put_failed h (Ok parcel) sent f p = rw f (rw (f, append-nil sent) p)
+put_failed h (Err error) sent f p = rw (f, append-nil sent) p
 
 -- a message that went out
-put_sent_now : (h : List Event) (draft : Draft) (expects : Bool) (call serial : ℕ) (sent : List Seen) → is_failed h ≡ false → put h ≡ sent
-    → IsPutOf (is_failed (call_events h draft (sent_answer expects call serial) ++ h)) (put (call_events h draft (sent_answer expects call serial) ++ h))
-    (sent ++ sent_of draft (sent_answer expects call serial))
-put_sent_now h draft true call serial sent f p = rw f (ap (λ ms. ms ++ built draft serial [] ∷ []) p)
-put_sent_now h draft false call serial sent f p = rw f (ap (λ ms. ms ++ built draft serial [] ∷ []) p)
+put_sent_now : (h : List Event) (parcel : Parcel) (expects : Bool) (call serial : ℕ) (sent : List Seen) → is_failed h ≡ false → put h ≡ sent
+    → IsPutOf (is_failed (send_events h (Ok parcel) (sent_answer expects call serial) ++ h)) (put (send_events h (Ok parcel) (sent_answer expects call serial) ++ h))
+    (sent ++ sent_of (Ok parcel) (sent_answer expects call serial))
+put_sent_now h parcel true call serial sent f p = rw f (ap (λ ms. ms ++ message_of parcel serial ∷ []) p)
+put_sent_now h parcel false call serial sent f p = rw f (ap (λ ms. ms ++ message_of parcel serial ∷ []) p)
 
--- a call that was sent, failed or refused
-called : (h : List Event) (draft : Draft) (r : Option Error) (b expects : Bool) (call serial : ℕ) (a : Answer) (sent : List Seen) → is_failed h ≡ b
+-- a message that was sent, failed or was refused, where there was one
+sent_parcel : (h : List Event) (parcel : Parcel) (r : Option Error) (b expects : Bool) (call serial : ℕ) (a : Answer) (sent : List Seen) → is_failed h ≡ b
     → IsCalled r b (sent_answer expects call serial) a → IsPutOf b (put h) sent
-    → IsPutOf (is_failed (call_events h draft a ++ h)) (put (call_events h draft a ++ h)) (sent ++ sent_of draft a)
-called h draft (Some error) b expects call serial a sent f is p = rw is (rw (f, append-nil sent) p)
-called h draft None true expects call serial a sent f is p = rw is (put_failed h draft sent f p)
-called h draft None false expects call serial a sent f (inl is) p = rw is (put_sent_now h draft expects call serial sent f p)
-called h draft None false expects call serial a sent f (inr is) p =
-    rw is (rw f (built draft (or_zero (next_serial h)) [], ap (λ ms. ms ++ built draft (or_zero (next_serial h)) [] ∷ []) (p ∙ sym (append-nil sent))))
+    → IsPutOf (is_failed (send_events h (Ok parcel) a ++ h)) (put (send_events h (Ok parcel) a ++ h)) (sent ++ sent_of (Ok parcel) a)
+sent_parcel h parcel (Some error) b expects call serial a sent f is p = rw is (rw (f, append-nil sent) p)
+sent_parcel h parcel None true expects call serial a sent f is p = rw is (put_failed h (Ok parcel) sent f p)
+sent_parcel h parcel None false expects call serial a sent f (inl is) p = rw is (put_sent_now h parcel expects call serial sent f p)
+sent_parcel h parcel None false expects call serial a sent f (inr is) p =
+    rw is (rw f (message_of parcel (or_zero (next_serial h)), ap (λ ms. ms ++ message_of parcel (or_zero (next_serial h)) ∷ []) (p ∙ sym (append-nil sent))))
+
+-- and where there was none
+sent_asked : (t : Trail) (lane : ℕ) (asked : Asked) (a : Answer) (sent : List Seen) → IsSendOf t lane asked a → IsPutOf (is_failed t.events) (put t.events) sent
+    → IsPutOf (is_failed (send_events t.events asked a ++ t.events)) (put (send_events t.events asked a ++ t.events)) (sent ++ sent_by (Some asked) a)
+sent_asked t lane (Ok parcel) a sent is p = sent_parcel t.events parcel _ (is_failed t.events) _ _ _ a sent refl is p
+sent_asked t lane (Err error) a sent is p = rw is (rw (append-nil sent) p)
 
 sent_step : (t : Trail) (lane : ℕ) (w : Words) (a : Answer) (sent : List Seen) → IsAnswer t lane w a → IsPutOf (is_failed t.events) (put t.events) sent
-    → IsPutOf (is_failed (events_of t lane w a ++ t.events)) (put (events_of t lane w a ++ t.events)) (sent ++ sent_by t.name w a)
-sent_step t lane (words.Call destination path interface member flags) a sent is p = called t.events _ _ (is_failed t.events) _ _ _ a sent refl is p
+    → IsPutOf (is_failed (events_of t lane w a ++ t.events)) (put (events_of t lane w a ++ t.events)) (sent ++ sent_by (asks t lane w) a)
+sent_step t lane (words.Call out) a sent is p = sent_asked t lane _ a sent is p
+sent_step t lane (words.Signal out) a sent is p = sent_asked t lane _ a sent is p
+sent_step t lane (words.Reply stream body) a sent is p = sent_asked t lane _ a sent is p
+sent_step t lane (words.Error stream name body) a sent is p = sent_asked t lane _ a sent is p
 sent_step t lane words.Read a sent is p = none_sent _ t.events sent (read_none (closing t.events) a t.events) p
 sent_step t lane (words.Poll n) a sent is p = none_sent _ t.events sent (poll_none (place 0 lane n t.names) a t.events) p
 sent_step t lane (words.Drop n) a sent is p = none_sent _ t.events sent (drop_none (place 0 lane n t.names) a t.events) p
 sent_step t lane words.Stream a sent is p = none_sent _ t.events sent (stream_none a t.events) p
 sent_step t lane (words.Take n) a sent is p = none_sent _ t.events sent (take_none (place 0 lane n t.streams) a t.events) p
 
--- entries keep the peer's name
-pub trail-name : (name : Option (List ℕ)) (es : List Entry) → (trail name es).name ≡ name
-trail-name name [] = refl
-trail-name name (e ∷ es) = trail-name name es
+-- entries keep what the peer was given at its start
+pub trail_setting : (setting : Setting) (es : List Entry) → (trail setting es).setting ≡ setting
+trail_setting setting [] = refl
+trail_setting setting (e ∷ es) = trail_setting setting es
 
-pub put_sent : (name : Option (List ℕ)) (es : List Entry) → Legal name es → IsPutOf (is_failed (trail name es).events) (put (trail name es).events) (all_sent name es)
-put_sent name [] legal = refl
-put_sent name (e ∷ es) legal =
-    let h = (trail name (e ∷ es)).events in
-    subst (λ n. IsPutOf (is_failed h) (put h) (all_sent name es ++ sent_by n e.words e.answer)) (trail-name name es)
-    (sent_step (trail name es) e.lane e.words e.answer (all_sent name es) legal.0 (put_sent name es legal.1))
+pub put_sent : (setting : Setting) (es : List Entry) → Legal setting es → IsPutOf (is_failed (trail setting es).events) (put (trail setting es).events) (all_sent setting es)
+put_sent setting [] legal = refl
+put_sent setting (e ∷ es) legal = sent_step (trail setting es) e.lane e.words e.answer (all_sent setting es) legal.0 (put_sent setting es legal.1)

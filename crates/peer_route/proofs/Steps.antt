@@ -1,34 +1,34 @@
 -- One entry more: what an answer of the core makes of a history.
-use Rattle.std.proofs.Common.{◌≡◌, ℕ, ◌≤◌, ◌<◌, refl, sym, ◌∙◌, ap, List, [], ◌∷◌, ◌++◌, length, drop, Some, None, length-append, append_assoc}
+use Rattle.std.proofs.Common.{◌≡◌, ℕ, ◌≤◌, ◌<◌, refl, sym, ◌∙◌, ap, List, [], ◌∷◌, ◌++◌, length, drop, Some, None, Ok, Err, length-append, append_assoc}
 use Rattle.std.proofs.lemmas.List.{drop-drop, append-nil}
 use Rattle.std.proofs.Math.Seq.{drop-append_seam}
 use borrow.Author.Tests.{lt-ltb, le-ltb}
 use Rattle.wire_message.specs.Front.{Seen}
-use Rattle.wire_message.specs.Draft.{Draft, message_text}
 use Rattle.wire_message.specs.Circle.{IsNext, AllTaken}
 use Rattle.wire_message.specs.declared.error.Error.{Error}
 use Rattle.wire_message.specs.declared.error.Error.TheVariants as errors
+use Rattle.peer_route.specs.Parcel.{Parcel, Asked, message_of}
 use Rattle.peer_route.specs.History.{Event, Took, read, pending, last_serial}
 use Rattle.peer_route.specs.Trail.{next_serial}
-use Rattle.peer_route.specs.Answers.{call_refusal, words_refusal, refusal_by}
+use Rattle.peer_route.specs.Answers.{send_refusal}
 use Rattle.peer_route.specs.Told.{encodings, left_after}
 use Rattle.peer_route.proofs.NextSerial.{next_serial-next, next_serial-none}
 
--- ---- why a call is refused
+-- ---- why a message is refused
 
-pub refused-words : (h : List Event) (draft : Draft) (error : Error) → words_refusal draft ≡ Some error → call_refusal h draft ≡ Some error
-refused-words h draft error w = ap (λ o. refusal_by o (next_serial h) draft) w
+pub refused-asked : (h : List Event) (asked : Asked) (error : Error) → asked ≡ Err error → send_refusal h asked ≡ Some error
+refused-asked h asked error w = ap (send_refusal h) w
 
-pub refused-spent : (h : List Event) (draft : Draft) → words_refusal draft ≡ None → AllTaken (pending h) → call_refusal h draft ≡ Some errors.SerialsSpent
-refused-spent h draft w all = rw (w, next_serial-none h all) refl
+pub refused-spent : (h : List Event) (asked : Asked) (parcel : Parcel) → asked ≡ Ok parcel → AllTaken (pending h) → send_refusal h asked ≡ Some errors.SerialsSpent
+refused-spent h asked parcel w all = rw (w, next_serial-none h all) refl
 
-pub refused-long : (h : List Event) (draft : Draft) (serial : ℕ) → words_refusal draft ≡ None
-    → IsNext (pending h) (last_serial h) serial → 134217728 < length (message_text draft serial []) → call_refusal h draft ≡ Some errors.ExcessData
-refused-long h draft serial w next long = rw (w, next_serial-next h serial next, lt-ltb _ _ long) refl
+pub refused-long : (h : List Event) (asked : Asked) (parcel : Parcel) (serial : ℕ) → asked ≡ Ok parcel
+    → IsNext (pending h) (last_serial h) serial → 134217728 < length (message_of parcel serial).bytes → send_refusal h asked ≡ Some errors.ExcessData
+refused-long h asked parcel serial w next long = rw (w, next_serial-next h serial next, lt-ltb _ _ long) refl
 
-pub not_refused : (h : List Event) (draft : Draft) (serial : ℕ) → words_refusal draft ≡ None
-    → IsNext (pending h) (last_serial h) serial → length (message_text draft serial []) ≤ 134217728 → call_refusal h draft ≡ None
-not_refused h draft serial w next short = rw (w, next_serial-next h serial next, le-ltb _ _ short) refl
+pub not_refused : (h : List Event) (asked : Asked) (parcel : Parcel) (serial : ℕ) → asked ≡ Ok parcel
+    → IsNext (pending h) (last_serial h) serial → length (message_of parcel serial).bytes ≤ 134217728 → send_refusal h asked ≡ None
+not_refused h asked parcel serial w next short = rw (w, next_serial-next h serial next, le-ltb _ _ short) refl
 
 -- ---- bytes
 

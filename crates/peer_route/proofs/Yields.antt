@@ -17,7 +17,8 @@ use Rattle.peer_route.specs.declared.answer.Answer.TheVariants as answers
 use Rattle.peer_route.specs.declared.answer.Entry.{Entry}
 use Rattle.peer_route.specs.History.{Event, Took, Shut, Put, Wrote, Fault, Spent, Made, Did, Plain, read, closing, edit, is_failed, poll_answer, drop_answer}
 use Rattle.peer_route.specs.Streams.{Stream, streams, new_stream, give, tell, done_by, matched, held, busy, take_by, take_at, take_answer}
-use Rattle.peer_route.specs.Trail.{Trail, Names, place, count, trail, more, failed_put, call_events, read_events, poll_spends, drop_spends, stream_makes, take_does, events_of, new_streams}
+use Rattle.peer_route.specs.Parcel.{Setting, Asked}
+use Rattle.peer_route.specs.Trail.{Trail, Names, place, count, trail, more, failed_put, send_events, read_events, poll_spends, drop_spends, stream_makes, take_does, events_of, new_streams}
 use Rattle.peer_route.specs.Answers.{IsAnswer, IsReadOf, IsCalled, Legal, sent_answer, error_answer, reply_by, shown, poll_of, shown_drop, drop_of, shown_take, take_of}
 use Rattle.peer_route.specs.StreamLaws.{positions, is_take, item_by, items_given, Yields}
 use Rattle.peer_route.proofs.Once.{place_append}
@@ -82,11 +83,12 @@ failed_not : (k : ℕ) (b : Bool) (m : Seen) (expects : Bool) → NotOf k (faile
 failed_not k true m expects = tt
 failed_not k false m expects = tt
 
-pub call_not : (k : ℕ) (h : List Event) (draft : Draft) (a : Answer) → NotOf k (call_events h draft a)
-call_not k h draft (answers.Called call serial) = tt
-call_not k h draft (answers.Sent serial) = tt
-call_not k h draft (answers.SendFailed error) = failed_not k (is_failed h) _ _
-call_not k h draft a = tt
+pub send_not : (k : ℕ) (h : List Event) (asked : Asked) (a : Answer) → NotOf k (send_events h asked a)
+send_not k h (Ok parcel) (answers.Called call serial) = tt
+send_not k h (Ok parcel) (answers.Sent serial) = tt
+send_not k h (Ok parcel) (answers.SendFailed error) = failed_not k (is_failed h) _ _
+send_not k h (Ok parcel) a = tt
+send_not k h (Err error) a = tt
 
 pub read_not : (k : ℕ) (o : Option Error) (a : Answer) → NotOf k (read_events o a)
 read_not k (Some error) a = tt
@@ -268,8 +270,14 @@ given_take t lane₂ n a lane number from given false c p q answer f =
 flow_step : (t : Trail) (lane₂ : ℕ) (w : Words) (a : Answer) (lane number from : ℕ) (given : List ℕ) → IsAnswer t lane₂ w a → Flow t lane number from given
     → Flow (more t (entry lane₂ w a)) lane number from (given ++ item_by ((lane₂ == lane) && is_take number w) a)
 flow_step t lane₂ (words.Take n) a lane number from given answer f = given_take t lane₂ n a lane number from given (lane₂ == lane) (n == number) refl refl answer f
-flow_step t lane₂ (words.Call destination path interface member flags) a lane number from given answer f =
-    flow_along _ lane number from given _ (given_none given (lane₂ == lane) a) (kept t lane₂ (words.Call destination path interface member flags) a lane number from given f (call_not f.k t.events _ a))
+flow_step t lane₂ (words.Call out) a lane number from given answer f =
+    flow_along _ lane number from given _ (given_none given (lane₂ == lane) a) (kept t lane₂ (words.Call out) a lane number from given f (send_not f.k t.events _ a))
+flow_step t lane₂ (words.Signal out) a lane number from given answer f =
+    flow_along _ lane number from given _ (given_none given (lane₂ == lane) a) (kept t lane₂ (words.Signal out) a lane number from given f (send_not f.k t.events _ a))
+flow_step t lane₂ (words.Reply stream body) a lane number from given answer f =
+    flow_along _ lane number from given _ (given_none given (lane₂ == lane) a) (kept t lane₂ (words.Reply stream body) a lane number from given f (send_not f.k t.events _ a))
+flow_step t lane₂ (words.Error stream name body) a lane number from given answer f =
+    flow_along _ lane number from given _ (given_none given (lane₂ == lane) a) (kept t lane₂ (words.Error stream name body) a lane number from given f (send_not f.k t.events _ a))
 flow_step t lane₂ words.Read a lane number from given answer f =
     flow_along _ lane number from given _ (given_none given (lane₂ == lane) a) (kept t lane₂ words.Read a lane number from given f (read_not f.k (closing t.events) a))
 flow_step t lane₂ (words.Poll n) a lane number from given answer f =
@@ -351,11 +359,12 @@ failed_makes : (b : Bool) (m : Seen) (expects : Bool) → MakesNone (failed_put 
 failed_makes true m expects h = refl
 failed_makes false m expects h = refl
 
-call_makes : (g : List Event) (draft : Draft) (a : Answer) → MakesNone (call_events g draft a)
-call_makes g draft (answers.Called call serial) h = refl
-call_makes g draft (answers.Sent serial) h = refl
-call_makes g draft (answers.SendFailed error) h = failed_makes (is_failed g) _ _ h
-call_makes g draft a h = refl
+send_makes : (g : List Event) (asked : Asked) (a : Answer) → MakesNone (send_events g asked a)
+send_makes g (Ok parcel) (answers.Called call serial) h = refl
+send_makes g (Ok parcel) (answers.Sent serial) h = refl
+send_makes g (Ok parcel) (answers.SendFailed error) h = failed_makes (is_failed g) _ _ h
+send_makes g (Ok parcel) a h = refl
+send_makes g (Err error) a h = refl
 
 read_makes : (o : Option Error) (a : Answer) → MakesNone (read_events o a)
 read_makes (Some error) a h = refl
@@ -388,8 +397,14 @@ lane_none t lane w a makes none e = ap (λ ns. length (t.streams ++ ns)) none �
 
 lanes_step : (t : Trail) (lane : ℕ) (w : Words) (a : Answer) → IsAnswer t lane w a → length t.streams ≡ length (streams t.events)
     → length (more t (entry lane w a)).streams ≡ length (streams (more t (entry lane w a)).events)
-lanes_step t lane (words.Call destination path interface member flags) a is e =
-    lane_none t lane (words.Call destination path interface member flags) a (call_makes t.events _ a) (called_streams lane _ (is_failed t.events) _ _ _ a is) e
+lanes_step t lane (words.Call out) a is e =
+    lane_none t lane (words.Call out) a (send_makes t.events _ a) (called_streams lane _ (is_failed t.events) _ _ _ a is) e
+lanes_step t lane (words.Signal out) a is e =
+    lane_none t lane (words.Signal out) a (send_makes t.events _ a) (called_streams lane _ (is_failed t.events) _ _ _ a is) e
+lanes_step t lane (words.Reply stream body) a is e =
+    lane_none t lane (words.Reply stream body) a (send_makes t.events _ a) (called_streams lane _ (is_failed t.events) _ _ _ a is) e
+lanes_step t lane (words.Error stream name body) a is e =
+    lane_none t lane (words.Error stream name body) a (send_makes t.events _ a) (called_streams lane _ (is_failed t.events) _ _ _ a is) e
 lanes_step t lane words.Read a is e = lane_none t lane words.Read a (read_makes (closing t.events) a) (read_streams lane (closing t.events) (busy t.events) (length (read t.events)) a is) e
 lanes_step t lane (words.Poll n) a is e =
     lane_none t lane (words.Poll n) a (poll_makes (place 0 lane n t.names) a) (ap (new_streams lane) is ∙ poll_streams lane t.events (place 0 lane n t.names)) e
@@ -400,9 +415,9 @@ lanes_step t lane (words.Take n) a is e =
 lanes_step t lane words.Stream a is e =
     rw is (length-append t.streams (Some lane ∷ []) ∙ ap (λ n. n + 1) e ∙ sym (length-append (streams t.events) (new_stream t.events Plain ∷ [])))
 
-pub lanes : (name : Option (List ℕ)) (es : List Entry) → Legal name es → length (trail name es).streams ≡ length (streams (trail name es).events)
-lanes name [] legal = refl
-lanes name (e ∷ es) legal = lanes_step (trail name es) e.lane e.words e.answer legal.0 (lanes name es legal.1)
+pub lanes : (setting : Setting) (es : List Entry) → Legal setting es → length (trail setting es).streams ≡ length (streams (trail setting es).events)
+lanes setting [] legal = refl
+lanes setting (e ∷ es) legal = lanes_step (trail setting es) e.lane e.words e.answer legal.0 (lanes setting es legal.1)
 
 -- ---- a stream that was made
 
@@ -445,31 +460,31 @@ flow_new t lane e = record {
   given_is = refl;
 }
 
-pub flow_start : (name : Option (List ℕ)) (e : Entry) (older : List Entry) (number : ℕ) → Legal name (e ∷ older) → e.words ≡ words.Stream → e.answer ≡ answers.Streaming number
-    → Flow (trail name (e ∷ older)) e.lane number (length (read (trail name older).events)) []
-flow_start name e older number legal w a =
-    let t = trail name older in
+pub flow_start : (setting : Setting) (e : Entry) (older : List Entry) (number : ℕ) → Legal setting (e ∷ older) → e.words ≡ words.Stream → e.answer ≡ answers.Streaming number
+    → Flow (trail setting (e ∷ older)) e.lane number (length (read (trail setting older).events)) []
+flow_start setting e older number legal w a =
+    let t = trail setting older in
     let is = stream_is t e legal.0 w in
     let n : count e.lane t.streams ≡ number = let same : answers.Streaming (count e.lane t.streams) ≡ answers.Streaming number = sym is ∙ a in cc in
     let x : entry e.lane words.Stream (answers.Streaming (count e.lane t.streams)) ≡ e =
     ap (λ y. entry e.lane y (answers.Streaming (count e.lane t.streams))) (sym w) ∙ ap (entry e.lane e.words) (sym is) in
-    subst (λ k. Flow (trail name (e ∷ older)) e.lane k (length (read t.events)) []) n
-    (subst (λ y. Flow (more t y) e.lane (count e.lane t.streams) (length (read t.events)) []) x (flow_new t e.lane (lanes name older legal.1)))
+    subst (λ k. Flow (trail setting (e ∷ older)) e.lane k (length (read t.events)) []) n
+    (subst (λ y. Flow (more t y) e.lane (count e.lane t.streams) (length (read t.events)) []) x (flow_new t e.lane (lanes setting older legal.1)))
 
-flow_all : (name : Option (List ℕ)) (newer : List Entry) (e : Entry) (older : List Entry) (number : ℕ) → Legal name (newer ++ e ∷ older) → e.words ≡ words.Stream → e.answer ≡ answers.Streaming number
-    → Flow (trail name (newer ++ e ∷ older)) e.lane number (length (read (trail name older).events)) (items_given e.lane number newer)
-flow_all name [] e older number legal w a = flow_start name e older number legal w a
-flow_all name (x ∷ newer) e older number legal w a =
-    flow_step (trail name (newer ++ e ∷ older)) x.lane x.words x.answer e.lane number (length (read (trail name older).events)) (items_given e.lane number newer)
-    legal.0 (flow_all name newer e older number legal.1 w a)
+flow_all : (setting : Setting) (newer : List Entry) (e : Entry) (older : List Entry) (number : ℕ) → Legal setting (newer ++ e ∷ older) → e.words ≡ words.Stream → e.answer ≡ answers.Streaming number
+    → Flow (trail setting (newer ++ e ∷ older)) e.lane number (length (read (trail setting older).events)) (items_given e.lane number newer)
+flow_all setting [] e older number legal w a = flow_start setting e older number legal w a
+flow_all setting (x ∷ newer) e older number legal w a =
+    flow_step (trail setting (newer ++ e ∷ older)) x.lane x.words x.answer e.lane number (length (read (trail setting older).events)) (items_given e.lane number newer)
+    legal.0 (flow_all setting newer e older number legal.1 w a)
 
 -- what was given and what is held
-pub yields : (name : Option (List ℕ)) (newer : List Entry) (e : Entry) (older : List Entry) (number : ℕ) → Legal name (newer ++ e ∷ older) → e.words ≡ words.Stream → e.answer ≡ answers.Streaming number
-    → Yields name newer e older number
+pub yields : (setting : Setting) (newer : List Entry) (e : Entry) (older : List Entry) (number : ℕ) → Legal setting (newer ++ e ∷ older) → e.words ≡ words.Stream → e.answer ≡ answers.Streaming number
+    → Yields setting newer e older number
 unfolding held matched
-yields name newer e older number legal w a =
-    let f = flow_all name newer e older number legal w a in
-    let t = trail name (newer ++ e ∷ older) in
+yields setting newer e older number legal w a =
+    let f = flow_all setting newer e older number legal w a in
+    let t = trail setting (newer ++ e ∷ older) in
     record {
       k = f.k;
       stream = f.stream;

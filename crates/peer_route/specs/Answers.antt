@@ -1,9 +1,6 @@
 -- One entry's answer, from the entries before it; and a whole history whose answers are these.
 use Rattle.std.specs.Prelude.{ℕ, ⊤, ◌≡◌, ◌+◌, ◌-◌, ◌^◌, ◌<◌, ◌⊎◌, Bool, true, false, not, nat_lt, if◌then◌else◌, List, [], ◌∷◌, length, Option, Some, None, Result, Ok, Err}
-use Rattle.wire_names.specs.Names.{is_bus_name, is_object_path, is_interface_name, is_member_name}
-use Rattle.wire_names.specs.declared.error.NamesError.TheVariants as names
 use Rattle.wire_message.specs.Front.{Seen, Front}
-use Rattle.wire_message.specs.Draft.{Draft, message_text}
 use Rattle.wire_message.specs.Outcome.{IsReadError}
 use Rattle.wire_message.specs.declared.kind.MessageType.{MessageType}
 use Rattle.wire_message.specs.declared.kind.MessageType.TheVariants as types
@@ -17,39 +14,23 @@ use Rattle.peer_route.specs.declared.words.Words.TheVariants as words
 use Rattle.peer_route.specs.declared.answer.Answer.{Answer}
 use Rattle.peer_route.specs.declared.answer.Answer.TheVariants as answers
 use Rattle.peer_route.specs.declared.answer.Entry.{Entry}
-use Rattle.peer_route.specs.CallMessage.{draft_of, expects_reply}
+use Rattle.peer_route.specs.Parcel.{Setting, Parcel, Asked, message_of}
+use Rattle.peer_route.specs.CallMessage.{expects, call_asked, signal_asked, reply_asked, error_asked}
 use Rattle.peer_route.specs.History.{Event, read, closing, is_failed, poll_answer, drop_answer}
 use Rattle.peer_route.specs.Streams.{busy, take_answer}
-use Rattle.peer_route.specs.Trail.{Trail, trail, place, count, next_serial, or_zero}
+use Rattle.peer_route.specs.Trail.{Trail, trail, place, count, given, next_serial, or_zero}
 
--- ---- a call
+-- ---- a message that is sent
 
-abbrev pub long_refusal : Option ℕ → Draft → Option Error
-long_refusal None draft = Some errors.SerialsSpent
-long_refusal (Some serial) draft = if nat_lt 134217728 (length (message_text draft serial [])) then Some errors.ExcessData else None
+abbrev pub long_refusal : Option ℕ → Parcel → Option Error
+long_refusal None parcel = Some errors.SerialsSpent
+long_refusal (Some serial) parcel = if nat_lt 134217728 (length (message_of parcel serial).bytes) then Some errors.ExcessData else None
 
--- the text is there, and outside its grammar
-abbrev pub is_outside : (List ℕ → Bool) → Option (List ℕ) → Bool
-is_outside grammar None = false
-is_outside grammar (Some text) = not (grammar text)
-
--- the first of a call's words that is outside its grammar: its destination, its path, its interface, its member
-unfoldable pub words_refusal : Draft → Option Error
-words_refusal draft =
-    if is_outside is_bus_name draft.fields.destination then Some (errors.Names names.Bus)
-    else if is_outside is_object_path draft.fields.path then Some (errors.Names names.Path)
-    else if is_outside is_interface_name draft.fields.interface then Some (errors.Names names.Interface)
-    else if is_outside is_member_name draft.fields.member then Some (errors.Names names.Member)
-    else None
-
-abbrev pub refusal_by : Option Error → Option ℕ → Draft → Option Error
-refusal_by (Some error) serial draft = Some error
-refusal_by None serial draft = long_refusal serial draft
-
--- Why a call is refused, the first case that holds: a word is outside its grammar, each serial is pending, the message would
--- pass its limit.
-abbrev pub call_refusal : List Event → Draft → Option Error
-call_refusal h draft = refusal_by (words_refusal draft) (next_serial h) draft
+-- Why a command that sends is refused, the first case that holds: there is nothing to send, for that reason; each serial is
+-- pending; the message would pass its limit. An array of its body never does: the body's word spells it.
+abbrev pub send_refusal : List Event → Asked → Option Error
+send_refusal h (Err error) = Some error
+send_refusal h (Ok parcel) = long_refusal (next_serial h) parcel
 
 abbrev pub write_fault : Answer
 write_fault = answers.SendFailed (errors.InputOutput kinds.WriteFault)
@@ -68,10 +49,10 @@ abbrev pub sent_answer : Bool → ℕ → ℕ → Answer
 sent_answer true call serial = answers.Called call serial
 sent_answer false call serial = answers.Sent serial
 
-abbrev pub IsCallOf : Trail → ℕ → Draft → Answer → Type 0
-IsCallOf t lane draft answer =
-    IsCalled (call_refusal t.events draft) (is_failed t.events)
-    (sent_answer (expects_reply draft.flags) (count lane t.names) (or_zero (next_serial t.events))) answer
+abbrev pub IsSendOf : Trail → ℕ → Asked → Answer → Type 0
+IsSendOf t lane asked answer =
+    IsCalled (send_refusal t.events asked) (is_failed t.events)
+    (sent_answer (expects asked) (count lane t.names) (or_zero (next_serial t.events))) answer
 
 -- ---- a read
 
@@ -142,15 +123,18 @@ take_of h (Some k) = shown_take (take_answer h k)
 
 -- The answer of a lane's command after this trail.
 abbrev pub IsAnswer : Trail → ℕ → Words → Answer → Type 0
-IsAnswer t lane (words.Call destination path interface member flags) answer =
-    IsCallOf t lane (draft_of t.name destination path interface member flags) answer
+IsAnswer t lane (words.Call w) answer = IsSendOf t lane (call_asked t.setting w) answer
+IsAnswer t lane (words.Signal w) answer = IsSendOf t lane (signal_asked t.setting w) answer
+IsAnswer t lane (words.Reply stream body) answer = IsSendOf t lane (reply_asked t.setting (given t lane stream) body) answer
+IsAnswer t lane (words.Error stream name body) answer =
+    IsSendOf t lane (error_asked t.setting (given t lane stream) name body) answer
 IsAnswer t lane words.Read answer = IsReadOf (closing t.events) (busy t.events) (length (read t.events)) answer
 IsAnswer t lane (words.Poll number) answer = answer ≡ poll_of t.events (place 0 lane number t.names)
 IsAnswer t lane (words.Drop number) answer = answer ≡ drop_of t.events (place 0 lane number t.names)
 IsAnswer t lane words.Stream answer = answer ≡ answers.Streaming (count lane t.streams)
 IsAnswer t lane (words.Take number) answer = answer ≡ take_of t.events (place 0 lane number t.streams)
 
--- Each entry's answer is that of the entries before it, by the peer's name. The history is newest first.
-abbrev pub Legal : Option (List ℕ) → List Entry → Type 0
-Legal name [] = ⊤
-Legal name (e ∷ es) = IsAnswer (trail name es) e.lane e.words e.answer × Legal name es
+-- Each entry's answer is that of the entries before it, by the peer's setting. The history is newest first.
+abbrev pub Legal : Setting → List Entry → Type 0
+Legal setting [] = ⊤
+Legal setting (e ∷ es) = IsAnswer (trail setting es) e.lane e.words e.answer × Legal setting es

@@ -1,12 +1,27 @@
--- The message of a call (D-Bus Specification, "Types of messages", "Method calls").
-use Rattle.std.specs.Prelude.{ℕ, ◌+◌, ◌==◌, Bool, true, false, not, List, Option, Some, None}
+-- What the commands that send a message ask for (D-Bus Specification, "Types of messages").
+use Rattle.std.specs.Prelude.{ℕ, ◌+◌, ◌==◌, ◌&&◌, Bool, true, false, not, if◌then◌else◌, List, [], ◌∷◌, Option, Some, None, unwrap_or, Result, Ok, Err}
 use Rattle.std.specs.Int.RustNames.{bit_and}
 use Rattle.wire_number.specs.declared.endian.Endian.{Endian}
 use Rattle.wire_number.specs.declared.endian.Endian.TheVariants.{Little, Big}
+use Rattle.wire_names.specs.Names.{is_bus_name, is_object_path, is_interface_name, is_member_name, is_error_name}
+use Rattle.wire_names.specs.declared.error.NamesError.TheVariants as names
+use Rattle.wire_signature.specs.declared.error.VariantError.TheVariants as faults
+use Rattle.wire_tree.specs.Datum.{Datum}
 use Rattle.wire_message.specs.Field.{no_fields}
-use Rattle.wire_message.specs.Draft.{Draft}
+use Rattle.wire_message.specs.Front.{Seen}
+use Rattle.wire_message.specs.Primary.{head_of}
+use Rattle.wire_message.specs.Draft.{Draft, are_misplaced}
+use Rattle.wire_message.specs.Drafts.{reply_draft, error_draft}
+use Rattle.wire_message.specs.declared.kind.MessageType.{MessageType}
 use Rattle.wire_message.specs.declared.kind.MessageType.TheVariants as types
+use Rattle.wire_message.specs.declared.error.Error.{Error}
+use Rattle.wire_message.specs.declared.error.Error.TheVariants as errors
 use Rattle.peer_route.specs.declared.words.CallFlags.{CallFlags}
+use Rattle.peer_route.specs.declared.words.Outgoing.{Outgoing}
+use Rattle.peer_route.specs.BodyWord.{body_values}
+use Rattle.peer_route.specs.Parcel.{Setting, Parcel, Asked}
+
+-- ---- flags
 
 abbrev pub bit : ℕ → Bool → ℕ
 bit n true = n
@@ -17,27 +32,112 @@ bit n false = 0
 unfoldable pub flags_number : CallFlags → ℕ
 flags_number flags = bit 1 flags.no_reply_expected + bit 2 flags.no_auto_start + bit 4 flags.allow_interactive_auth
 
--- A call whose message has these flags waits for a reply: NoReplyExpected isn't among them.
-unfoldable pub expects_reply : ℕ → Bool
-expects_reply flags = not (bit_and flags 1 == 1)
+-- A message of this type and these flags is answered: it is a method call, and NoReplyExpected isn't among its flags.
+unfoldable pub expects_reply : MessageType → ℕ → Bool
+expects_reply types.MethodCall flags = not (bit_and flags 1 == 1)
+expects_reply kind flags = false
+
+-- what is asked to be sent is a call that waits for a reply
+abbrev pub expects : Asked → Bool
+expects (Ok parcel) = expects_reply parcel.draft.kind parcel.draft.flags
+expects (Err error) = false
 
 abbrev pub order_of : Bool → Endian
 order_of true = Big
 order_of false = Little
 
--- The message of a call of a member at a path, without a body: in big order exactly where it is asked for, with those flags,
--- and with the interface and the destination that are given. Its sender is the peer's name, where the peer has one.
-abbrev pub draft_of : Option (List ℕ) → Option (List ℕ) → List ℕ → Option (List ℕ) → List ℕ → CallFlags → Draft
-draft_of name destination path interface member flags = record {
-  kind = types.MethodCall;
-  order = order_of flags.big;
-  flags = flags_number flags;
+-- the list of descriptors: the one number 0 where it is asked for
+abbrev pub fds_of : Bool → List ℕ
+fds_of true = 0 ∷ []
+fds_of false = []
+
+-- ---- refusals
+
+-- the text is there, and outside its grammar
+abbrev pub is_outside : (List ℕ → Bool) → Option (List ℕ) → Bool
+is_outside grammar None = false
+is_outside grammar (Some text) = not (grammar text)
+
+-- the first of a message's words that is outside its grammar: its destination, its path, its interface, its member
+unfoldable pub words_refusal : Draft → Option Error
+words_refusal draft =
+    if is_outside is_bus_name draft.fields.destination then Some (errors.Names names.Bus)
+    else if is_outside is_object_path draft.fields.path then Some (errors.Names names.Path)
+    else if is_outside is_interface_name draft.fields.interface then Some (errors.Names names.Interface)
+    else if is_outside is_member_name draft.fields.member then Some (errors.Names names.Member)
+    else None
+
+-- the same of an error's name
+unfoldable pub name_refusal : List ℕ → Option Error
+name_refusal text = if is_error_name text then None else Some (errors.Names names.Error)
+
+-- the values of a body's word; without a word there are none
+abbrev pub values_in : Option (List ℕ) → Option (List Datum)
+values_in None = Some []
+values_in (Some word) = body_values word
+
+-- What is sent, or why nothing is, the first case that holds: a name or a path is outside its grammar; the body's word is none;
+-- the flags can't stand on a message of this type; there are descriptors, and the sink takes none.
+abbrev pub asked_of : Option Error → Option (List Datum) → Bool → Bool → Draft → List ℕ → Asked
+asked_of (Some error) values misplaced unsupported draft fds = Err error
+asked_of None None misplaced unsupported draft fds = Err (errors.Variant faults.Malformed)
+asked_of None (Some values) true unsupported draft fds = Err errors.InvalidField
+asked_of None (Some values) false true draft fds = Err errors.Unsupported
+asked_of None (Some values) false false draft fds = Ok (record { draft = draft; values = values; fds = fds })
+
+-- ---- calls and signals
+
+-- The message of a member at a path: in big order exactly where it is asked for, with those flags, and with the destination
+-- that is given. Its sender is the peer's name, where the peer has one.
+abbrev pub member_draft : MessageType → Setting → Outgoing → Option (List ℕ) → Draft
+member_draft kind setting words interface = record {
+  kind = kind;
+  order = order_of words.flags.big;
+  flags = flags_number words.flags;
   serial = None;
   fields = record no_fields {
-    path = Some path;
+    path = Some words.path;
     interface = interface;
-    member = Some member;
-    destination = destination;
-    sender = name;
+    member = Some words.member;
+    destination = words.destination;
+    sender = setting.name;
   };
 }
+
+abbrev pub member_asked : Setting → Outgoing → Draft → Asked
+member_asked setting words draft =
+    asked_of (words_refusal draft) (values_in words.body) (are_misplaced draft.kind draft.flags)
+    (words.flags.descriptor && not setting.takes_fds) draft (fds_of words.flags.descriptor)
+
+-- a method call, with the interface that is given
+abbrev pub call_draft : Setting → Outgoing → Draft
+call_draft setting words = member_draft types.MethodCall setting words words.interface
+
+abbrev pub call_asked : Setting → Outgoing → Asked
+call_asked setting words = member_asked setting words (call_draft setting words)
+
+-- A signal. It must have an interface: none is refused as the empty text, which is no interface.
+abbrev pub signal_draft : Setting → Outgoing → Draft
+signal_draft setting words = member_draft types.Signal setting words (Some (unwrap_or words.interface []))
+
+abbrev pub signal_asked : Setting → Outgoing → Asked
+signal_asked setting words = member_asked setting words (signal_draft setting words)
+
+-- ---- replies
+
+-- sent by the peer of that name
+abbrev pub sent_from : Option (List ℕ) → Draft → Draft
+sent_from name draft = record draft { fields = record draft.fields { sender = name } }
+
+-- The method return to a message, of whatever type: in its byte order, with its serial as the reply serial, and its sender as
+-- the destination. Without a message there is nothing to answer.
+abbrev pub reply_asked : Setting → Option Seen → Option (List ℕ) → Asked
+reply_asked setting None word = Err errors.UnknownHandle
+reply_asked setting (Some m) word =
+    asked_of None (values_in word) false false (sent_from setting.name (reply_draft types.MethodReturn (head_of m))) []
+
+-- the same by an error of that name
+abbrev pub error_asked : Setting → Option Seen → List ℕ → Option (List ℕ) → Asked
+error_asked setting None name word = Err errors.UnknownHandle
+error_asked setting (Some m) name word =
+    asked_of (name_refusal name) (values_in word) false false (sent_from setting.name (error_draft (head_of m) name)) []

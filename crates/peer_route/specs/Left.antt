@@ -1,8 +1,7 @@
 -- What a history leaves of a peer: all that the answers to come depend on.
-use Rattle.std.specs.Prelude.{ℕ, zero, suc, ⊤, ◌≡◌, ◌+◌, ◌<◌, ◌≤◌, nat_lt, nat_le, not, Bool, true, false, ◌&&◌, ◌==◌, if◌then◌else◌, is_none, List, [], ◌∷◌, ◌++◌, length, map, Option, Some, None, Result, Ok, Err}
+use Rattle.std.specs.Prelude.{ℕ, zero, suc, ⊤, ◌≡◌, ◌+◌, ◌<◌, ◌≤◌, ◌⊎◌, nat_lt, nat_le, not, Bool, true, false, ◌&&◌, ◌==◌, if◌then◌else◌, is_none, List, [], ◌∷◌, ◌++◌, length, map, Option, Some, None, Result, Ok, Err}
 use Rattle.std.specs.List.{list_any, AllByRecursion}
 use Rattle.wire_message.specs.Front.{Seen}
-use Rattle.wire_message.specs.Draft.{Draft, built, message_text}
 use Rattle.wire_message.specs.Circle.{IsNext, AllTaken}
 use Rattle.wire_message.specs.declared.error.Error.{Error}
 use Rattle.wire_message.specs.declared.error.Error.TheVariants as errors
@@ -10,7 +9,11 @@ use Rattle.wire_message.specs.declared.error.IoKind.TheVariants as kinds
 use Rattle.peer_route.specs.declared.calls.Slot.{Slot}
 use Rattle.peer_route.specs.declared.calls.Slot.TheVariants as slots
 use Rattle.peer_route.specs.declared.route.Issued.{Issued}
-use Rattle.peer_route.specs.CallMessage.{expects_reply}
+use Rattle.wire_tree.specs.Datum.{data_of}
+use Rattle.wire_spelling.specs.Spelling.{AllFit, depths}
+use Rattle.wire_signature.specs.declared.error.VariantError.TheVariants as faults
+use Rattle.peer_route.specs.Parcel.{Parcel, message_of}
+use Rattle.peer_route.specs.CallMessage.{expects_reply, expects}
 use Rattle.peer_route.specs.Streams.{Stream, streams, held, capacity, take_by}
 use Rattle.peer_route.specs.declared.polled.Polled.{Polled}
 use Rattle.peer_route.specs.History.{Event, Put, Call, put, edit, is_failed, last_serial, found, bears, is_gone, pending}
@@ -168,29 +171,44 @@ call_number false number = None
 abbrev pub Places : View → View → Seen → ℕ → Result Issued Error → Type 0
 Places old new m last (Ok issued) =
     (issued.index ≡ length old.outbox) × (issued.serial ≡ m.serial)
-    × (issued.call ≡ call_number (expects_reply m.flags) (length old.calls.slots)) × (new ≡ placed (expects_reply m.flags) old m last)
+    × (issued.call ≡ call_number (expects_reply m.kind m.flags) (length old.calls.slots)) × (new ≡ placed (expects_reply m.kind m.flags) old m last)
 Places old new m last (Err errors.Memory) = new ≡ old
 Places old new m last (Err error) = ⊥
 
--- What issuing a method call gives, by the history before it. Nothing changes but on Ok, when the message is put.
-abbrev pub Issues : View → View → Draft → List Event → Result Issued Error → Type 0
-Issues old new draft h (Ok issued) =
+-- each array of the values is within its limit in the message's order, and no value opens more than 64 containers at once
+abbrev pub AreWritable : Parcel → Type 0
+AreWritable parcel = (depths (data_of parcel.values) ≤ 64) × AllFit parcel.draft.order 0 (data_of parcel.values)
+
+-- an array passes its limit, or else the message does
+abbrev pub IsTooLong : Parcel → ℕ → Type 0
+IsTooLong parcel serial =
+    (AllFit parcel.draft.order 0 (data_of parcel.values) → ⊥)
+    ⊎ (AllFit parcel.draft.order 0 (data_of parcel.values) × (134217728 < length (message_of parcel serial).bytes))
+
+-- What issuing a message gives, by the history before it. Nothing changes but on Ok, when the message is put.
+abbrev pub Issues : View → View → Parcel → List Event → Result Issued Error → Type 0
+Issues old new parcel h (Ok issued) =
     IsNext (pending h) (last_serial h) issued.serial
-    × (length (message_text draft issued.serial []) ≤ 134217728)
+    × AreWritable parcel
+    × (length (message_of parcel issued.serial).bytes ≤ 134217728)
     × (is_failed h ≡ false)
-    × (issued.index ≡ length (put h)) × (issued.call ≡ call_number (expects_reply draft.flags) (length (events.calls h)))
-    × Left new (Put (built draft issued.serial []) (expects_reply draft.flags) ∷ h)
+    × (issued.index ≡ length (put h)) × (issued.call ≡ call_number (expects (Ok parcel)) (length (events.calls h)))
+    × Left new (Put (message_of parcel issued.serial) (expects (Ok parcel)) ∷ h)
 -- each serial is pending
-Issues old new draft h (Err errors.SerialsSpent) = AllTaken (pending h) × (new ≡ old)
--- else, the message would pass its limit
-Issues old new draft h (Err errors.ExcessData) =
-    (serial : ℕ) × IsNext (pending h) (last_serial h) serial × (134217728 < length (message_text draft serial [])) × (new ≡ old)
+Issues old new parcel h (Err errors.SerialsSpent) = AllTaken (pending h) × (new ≡ old)
+-- else, a value opens too many containers at once
+Issues old new parcel h (Err (errors.Variant faults.Depth)) =
+    (serial : ℕ) × IsNext (pending h) (last_serial h) serial × (64 < depths (data_of parcel.values)) × (new ≡ old)
+-- else, an array or the message would pass its limit
+Issues old new parcel h (Err errors.ExcessData) =
+    (serial : ℕ) × IsNext (pending h) (last_serial h) serial × (depths (data_of parcel.values) ≤ 64) × IsTooLong parcel serial
+    × (new ≡ old)
 -- else, an earlier write failed
-Issues old new draft h (Err (errors.InputOutput kinds.WriteFault)) =
-    (serial : ℕ) × IsNext (pending h) (last_serial h) serial × (length (message_text draft serial []) ≤ 134217728)
-    × (is_failed h ≡ true) × (new ≡ old)
-Issues old new draft h (Err errors.Memory) = new ≡ old
-Issues old new draft h (Err error) = ⊥
+Issues old new parcel h (Err (errors.InputOutput kinds.WriteFault)) =
+    (serial : ℕ) × IsNext (pending h) (last_serial h) serial × AreWritable parcel
+    × (length (message_of parcel serial).bytes ≤ 134217728) × (is_failed h ≡ true) × (new ≡ old)
+Issues old new parcel h (Err errors.Memory) = new ≡ old
+Issues old new parcel h (Err error) = ⊥
 
 -- A message that was issued waits at the end of the outbox, and no write failed.
 abbrev pub Waits : View → View → Issued → Type 0

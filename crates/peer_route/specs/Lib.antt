@@ -1,3 +1,5 @@
+pub mod Parcel
+pub mod BodyWord
 pub mod CallMessage
 pub mod History
 pub mod Streams

@@ -1,17 +1,16 @@
 -- What the laws of streams, of busy reads and of what was sent say, in words of their own.
-use Rattle.std.specs.Prelude.{ℕ, ⊤, ◌≡◌, ◌==◌, ◌<◌, ◌&&◌, Bool, true, false, List, [], ◌∷◌, ◌++◌, length, map, drop, slice_get, Option, Some, None}
+use Rattle.std.specs.Prelude.{ℕ, ⊤, ◌≡◌, ◌==◌, ◌<◌, ◌&&◌, Bool, true, false, List, [], ◌∷◌, ◌++◌, length, map, drop, slice_get, Option, Some, None, Result, Ok}
 use Rattle.wire_message.specs.Front.{Seen}
-use Rattle.wire_message.specs.Draft.{Draft, built}
 use Rattle.wire_message.specs.declared.error.Error.{Error}
 use Rattle.peer_route.specs.declared.words.Words.{Words}
 use Rattle.peer_route.specs.declared.words.Words.TheVariants as words
 use Rattle.peer_route.specs.declared.answer.Answer.{Answer}
 use Rattle.peer_route.specs.declared.answer.Answer.TheVariants as answers
 use Rattle.peer_route.specs.declared.answer.Entry.{Entry}
-use Rattle.peer_route.specs.CallMessage.{draft_of}
+use Rattle.peer_route.specs.Parcel.{Setting, Asked, message_of}
 use Rattle.peer_route.specs.History.{Event, read, closing}
 use Rattle.peer_route.specs.Streams.{Stream, streams, held, capacity}
-use Rattle.peer_route.specs.Trail.{Trail, place, trail}
+use Rattle.peer_route.specs.Trail.{Trail, place, asks, trail}
 
 -- ---- streams
 
@@ -20,7 +19,10 @@ positions ms = map (λ m. m.position) ms
 
 abbrev pub is_take : ℕ → Words → Bool
 is_take number (words.Take n) = n == number
-is_take number (words.Call destination path interface member flags) = false
+is_take number (words.Call w) = false
+is_take number (words.Signal w) = false
+is_take number (words.Reply stream body) = false
+is_take number (words.Error stream name body) = false
 is_take number words.Read = false
 is_take number (words.Poll n) = false
 is_take number (words.Drop n) = false
@@ -37,13 +39,13 @@ items_given lane number (e ∷ es) = items_given lane number es ++ item_by ((e.l
 
 -- The entry made the lane's stream with this number. What it gave since, and behind that what it holds, are the positions
 -- of all messages that were read since, in order.
-pub record Yields (name : Option (List ℕ)) (newer : List Entry) (e : Entry) (older : List Entry) (number : ℕ) : Type 0 where
+pub record Yields (setting : Setting) (newer : List Entry) (e : Entry) (older : List Entry) (number : ℕ) : Type 0 where
   pub k : ℕ
   pub stream : Stream
-  pub named : place 0 e.lane number (trail name (newer ++ e ∷ older)).streams ≡ Some k
-  pub made : slice_get (streams (trail name (newer ++ e ∷ older)).events) k ≡ Some stream
-  pub items : items_given e.lane number newer ++ positions (held (trail name (newer ++ e ∷ older)).events stream)
-      ≡ positions (drop (length (read (trail name older).events)) (read (trail name (newer ++ e ∷ older)).events))
+  pub named : place 0 e.lane number (trail setting (newer ++ e ∷ older)).streams ≡ Some k
+  pub made : slice_get (streams (trail setting (newer ++ e ∷ older)).events) k ≡ Some stream
+  pub items : items_given e.lane number newer ++ positions (held (trail setting (newer ++ e ∷ older)).events stream)
+      ≡ positions (drop (length (read (trail setting older).events)) (read (trail setting (newer ++ e ∷ older)).events))
 
 -- where the entry is this lane's take of this number, its answer is that the stream is over
 abbrev pub IsEnded : ℕ → ℕ → Entry → Type 0
@@ -74,22 +76,21 @@ pub record HoldsTooMany (h : List Event) : Type 0 where
 
 -- ---- what was sent
 
--- a call's message, where the answer says that it was sent
-abbrev pub sent_of : Draft → Answer → List Seen
-sent_of draft (answers.Called call serial) = built draft serial [] ∷ []
-sent_of draft (answers.Sent serial) = built draft serial [] ∷ []
-sent_of draft answer = []
+-- the message that was asked to be sent, where the answer says that it was
+abbrev pub sent_of : Asked → Answer → List Seen
+sent_of (Ok parcel) (answers.Called call serial) = message_of parcel serial ∷ []
+sent_of (Ok parcel) (answers.Sent serial) = message_of parcel serial ∷ []
+sent_of asked answer = []
 
 -- the message of an entry whose answer says that it was sent
-abbrev pub sent_by : Option (List ℕ) → Words → Answer → List Seen
-sent_by name (words.Call destination path interface member flags) answer =
-    sent_of (draft_of name destination path interface member flags) answer
-sent_by name w answer = []
+abbrev pub sent_by : Option Asked → Answer → List Seen
+sent_by None answer = []
+sent_by (Some asked) answer = sent_of asked answer
 
--- the messages that the entries of a peer of this name say were sent, oldest first; the entries are newest first
-abbrev pub all_sent : Option (List ℕ) → List Entry → List Seen
-all_sent name [] = []
-all_sent name (e ∷ es) = all_sent name es ++ sent_by name e.words e.answer
+-- the messages that the entries of a peer of this setting say were sent, oldest first; the entries are newest first
+abbrev pub all_sent : Setting → List Entry → List Seen
+all_sent setting [] = []
+all_sent setting (e ∷ es) = all_sent setting es ++ sent_by (asks (trail setting es) e.lane e.words) e.answer
 
 -- what was put, by whether a write failed: the messages that were sent, in order; after a failed write one more, which failed
 abbrev pub IsPutOf : Bool → List Seen → List Seen → Type 0

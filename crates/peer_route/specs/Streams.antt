@@ -1,5 +1,5 @@
 -- The streams of a history: the messages that each matches, those that it holds still, and what it gives next.
-use Rattle.std.specs.Prelude.{ℕ, ◌+◌, Bool, true, false, ◌&&◌, nat_lt, is_none, is_some, List, [], ◌∷◌, ◌++◌, length, drop, slice_get, Option, Some, None, Result, Ok, Err}
+use Rattle.std.specs.Prelude.{ℕ, zero, suc, ◌+◌, Bool, true, false, ◌&&◌, nat_lt, is_none, is_some, List, [], ◌∷◌, ◌++◌, length, drop, slice_get, Option, Some, None, Result, Ok, Err}
 use Rattle.std.specs.List.{list_any}
 use Rattle.wire_message.specs.Front.{Seen}
 use Rattle.wire_message.specs.declared.error.Error.{Error}
@@ -44,6 +44,15 @@ streams (Spent call ∷ h) = streams h
 -- The messages that are the stream's: all that were read at positions above its start, in order.
 unfoldable pub matched : List Event → Stream → List Seen
 matched h s = drop s.from (read h)
+
+-- the item at a place, counted from 1 on; none at 0
+abbrev pub item_at : List Seen → ℕ → Option Seen
+item_at ms zero = None
+item_at ms (suc n) = slice_get ms n
+
+-- The message that the stream gave last; none where it gave none.
+unfoldable pub gave_last : List Event → Stream → Option Seen
+gave_last h s = item_at (matched h s) s.taken
 
 -- Those that it didn't give yet.
 unfoldable pub held : List Event → Stream → List Seen

@@ -12,6 +12,7 @@ use Rattle.peer_route.specs.declared.words.Words.TheVariants as words
 use Rattle.peer_route.specs.declared.answer.Answer.{Answer}
 use Rattle.peer_route.specs.declared.answer.Answer.TheVariants as answers
 use Rattle.peer_route.specs.declared.answer.Entry.{Entry}
+use Rattle.peer_route.specs.Parcel.{Setting}
 use Rattle.peer_route.specs.History.{Event, read, closing, put, is_failed}
 use Rattle.peer_route.specs.Streams.{busy}
 use Rattle.peer_route.specs.Trail.{trail}
@@ -45,17 +46,20 @@ ReadOpenTold false stop bytes h answer = IsOutcome stop (length (read h)) (left_
 abbrev pub ReadTold : Option Bool → List ℕ → List Event → Option Error → Words → Answer → Type 0
 ReadTold stop bytes h None words.Read answer = ReadOpenTold (busy h) stop bytes h answer
 ReadTold stop bytes h (Some error) words.Read answer = ⊤
-ReadTold stop bytes h closed (words.Call destination path interface member flags) answer = ⊤
+ReadTold stop bytes h closed (words.Call w) answer = ⊤
+ReadTold stop bytes h closed (words.Signal w) answer = ⊤
+ReadTold stop bytes h closed (words.Reply stream body) answer = ⊤
+ReadTold stop bytes h closed (words.Error stream name body) answer = ⊤
 ReadTold stop bytes h closed (words.Poll number) answer = ⊤
 ReadTold stop bytes h closed (words.Drop number) answer = ⊤
 ReadTold stop bytes h closed words.Stream answer = ⊤
 ReadTold stop bytes h closed (words.Take number) answer = ⊤
 
 -- Each read of an open peer that isn't busy is what stands at the front of the bytes that the reads before it left.
-abbrev pub ReadsTold : Option (List ℕ) → Option Bool → List ℕ → List Entry → Type 0
-ReadsTold name stop bytes [] = ⊤
-ReadsTold name stop bytes (e ∷ es) =
-    ReadTold stop bytes (trail name es).events (closing (trail name es).events) e.words e.answer × ReadsTold name stop bytes es
+abbrev pub ReadsTold : Setting → Option Bool → List ℕ → List Entry → Type 0
+ReadsTold setting stop bytes [] = ⊤
+ReadsTold setting stop bytes (e ∷ es) =
+    ReadTold stop bytes (trail setting es).events (closing (trail setting es).events) e.words e.answer × ReadsTold setting stop bytes es
 
 -- ---- the sink
 

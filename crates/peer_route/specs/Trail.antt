@@ -1,15 +1,17 @@
 -- What entries are as events, and what a lane's numbers name.
-use Rattle.std.specs.Prelude.{ℕ, zero, suc, ◌+◌, ◌==◌, Bool, true, false, if◌then◌else◌, List, [], ◌∷◌, ◌++◌, Option, Some, None}
-use Rattle.wire_message.specs.Draft.{Draft, built}
+use Rattle.std.specs.Prelude.{ℕ, zero, suc, ◌+◌, ◌==◌, Bool, true, false, if◌then◌else◌, List, [], ◌∷◌, ◌++◌, slice_get, Option, Some, None, Result, Ok, Err}
 use Rattle.wire_message.specs.Circle.{serial_after}
+use Rattle.wire_message.specs.Front.{Seen}
 use Rattle.wire_message.specs.declared.error.Error.{Error}
 use Rattle.peer_route.specs.declared.words.Words.{Words}
 use Rattle.peer_route.specs.declared.words.Words.TheVariants as words
 use Rattle.peer_route.specs.declared.answer.Answer.{Answer}
 use Rattle.peer_route.specs.declared.answer.Answer.TheVariants as answers
 use Rattle.peer_route.specs.declared.answer.Entry.{Entry}
-use Rattle.peer_route.specs.CallMessage.{draft_of, expects_reply, flags_number}
+use Rattle.peer_route.specs.Parcel.{Setting, Asked, message_of}
+use Rattle.peer_route.specs.CallMessage.{expects, call_asked, signal_asked, reply_asked, error_asked}
 use Rattle.peer_route.specs.History.{Event, Took, Shut, Put, Wrote, Fault, Spent, Made, Plain, Did, Gave, Told, closing, is_failed, last_serial, pending}
+use Rattle.peer_route.specs.Streams.{Stream, streams, gave_last}
 
 -- ---- serials
 
@@ -46,12 +48,38 @@ count lane [] = 0
 count lane (None ∷ names) = count lane names
 count lane (Some l ∷ names) = if l == lane then count lane names + 1 else count lane names
 
--- what entries leave: events, newest first; whose the calls and the streams are; and the peer's own name, if it has one
+-- what entries leave: events, newest first; whose the calls and the streams are; and what the peer was given at its start
 pub record Trail : Type 0 where
   pub events : List Event
   pub names : Names
   pub streams : Names
-  pub name : Option (List ℕ)
+  pub setting : Setting
+
+-- ---- what is asked to be sent
+
+abbrev pub given_by : List Event → Option Stream → Option Seen
+given_by h None = None
+given_by h (Some s) = gave_last h s
+
+abbrev pub given_at : List Event → Option ℕ → Option Seen
+given_at h None = None
+given_at h (Some k) = given_by h (slice_get (streams h) k)
+
+-- The message that a lane's stream gave last; none where the number names no stream, or the stream gave none.
+abbrev pub given : Trail → ℕ → ℕ → Option Seen
+given t lane number = given_at t.events (place 0 lane number t.streams)
+
+-- What a lane's command asks to be sent; none where it is no command that sends.
+abbrev pub asks : Trail → ℕ → Words → Option Asked
+asks t lane (words.Call w) = Some (call_asked t.setting w)
+asks t lane (words.Signal w) = Some (signal_asked t.setting w)
+asks t lane (words.Reply stream body) = Some (reply_asked t.setting (given t lane stream) body)
+asks t lane (words.Error stream name body) = Some (error_asked t.setting (given t lane stream) name body)
+asks t lane words.Read = None
+asks t lane (words.Poll number) = None
+asks t lane (words.Drop number) = None
+asks t lane words.Stream = None
+asks t lane (words.Take number) = None
 
 -- ---- events of an entry
 
@@ -61,12 +89,13 @@ failed_put true put = []
 failed_put false put = Fault ∷ put ∷ []
 
 -- a message that went out, with a call that waits for its reply or without one; or one that didn't
-abbrev pub call_events : List Event → Draft → Answer → List Event
-call_events h draft (answers.Called call serial) = Wrote ∷ Put (built draft serial []) true ∷ []
-call_events h draft (answers.Sent serial) = Wrote ∷ Put (built draft serial []) false ∷ []
-call_events h draft (answers.SendFailed error) =
-    failed_put (is_failed h) (Put (built draft (or_zero (next_serial h)) []) (expects_reply draft.flags))
-call_events h draft answer = []
+abbrev pub send_events : List Event → Asked → Answer → List Event
+send_events h (Ok parcel) (answers.Called call serial) = Wrote ∷ Put (message_of parcel serial) true ∷ []
+send_events h (Ok parcel) (answers.Sent serial) = Wrote ∷ Put (message_of parcel serial) false ∷ []
+send_events h (Ok parcel) (answers.SendFailed error) =
+    failed_put (is_failed h) (Put (message_of parcel (or_zero (next_serial h))) (expects (Ok parcel)))
+send_events h (Ok parcel) answer = []
+send_events h (Err error) answer = []
 
 -- a read of an open peer takes a message or closes it
 abbrev pub read_events : Option Error → Answer → List Event
@@ -95,22 +124,22 @@ take_does (Some k) (answers.Closed error) = Did k Told ∷ []
 take_does k answer = []
 
 abbrev pub events_of : Trail → ℕ → Words → Answer → List Event
-events_of t lane (words.Call destination path interface member flags) answer =
-    call_events t.events (draft_of t.name destination path interface member flags) answer
+events_of t lane (words.Call w) answer = send_events t.events (call_asked t.setting w) answer
+events_of t lane (words.Signal w) answer = send_events t.events (signal_asked t.setting w) answer
+events_of t lane (words.Reply stream body) answer =
+    send_events t.events (reply_asked t.setting (given t lane stream) body) answer
+events_of t lane (words.Error stream name body) answer =
+    send_events t.events (error_asked t.setting (given t lane stream) name body) answer
 events_of t lane words.Read answer = read_events (closing t.events) answer
 events_of t lane (words.Poll number) answer = poll_spends (place 0 lane number t.names) answer
 events_of t lane (words.Drop number) answer = drop_spends (place 0 lane number t.names) answer
 events_of t lane words.Stream answer = stream_makes answer
 events_of t lane (words.Take number) answer = take_does (place 0 lane number t.streams) answer
 
--- the words are those of a call that waits for a reply
-abbrev pub wants_reply : Words → Bool
-wants_reply (words.Call destination path interface member flags) = expects_reply (flags_number flags)
-wants_reply words.Read = false
-wants_reply (words.Poll number) = false
-wants_reply (words.Drop number) = false
-wants_reply words.Stream = false
-wants_reply (words.Take number) = false
+-- the command sends a call that waits for a reply
+abbrev pub wants_reply : Option Asked → Bool
+wants_reply None = false
+wants_reply (Some asked) = expects asked
 
 -- a call whose own write failed is nobody's; one that waits for no reply is no call, and one after a failed write neither
 abbrev pub failed_name : Bool → Bool → Names
@@ -119,10 +148,10 @@ failed_name false true = None ∷ []
 failed_name false false = []
 
 -- the call that an entry made, and its lane
-abbrev pub new_names : List Event → ℕ → Words → Answer → Names
-new_names h lane w (answers.Called call serial) = Some lane ∷ []
-new_names h lane w (answers.SendFailed error) = failed_name (is_failed h) (wants_reply w)
-new_names h lane w answer = []
+abbrev pub new_names : List Event → ℕ → Option Asked → Answer → Names
+new_names h lane asked (answers.Called call serial) = Some lane ∷ []
+new_names h lane asked (answers.SendFailed error) = failed_name (is_failed h) (wants_reply asked)
+new_names h lane asked answer = []
 
 -- the stream that an entry made, and its lane
 abbrev pub new_streams : ℕ → Answer → Names
@@ -132,12 +161,12 @@ new_streams lane answer = []
 abbrev pub more : Trail → Entry → Trail
 more t e = record {
   events = events_of t e.lane e.words e.answer ++ t.events;
-  names = t.names ++ new_names t.events e.lane e.words e.answer;
+  names = t.names ++ new_names t.events e.lane (asks t e.lane e.words) e.answer;
   streams = t.streams ++ new_streams e.lane e.answer;
-  name = t.name;
+  setting = t.setting;
 }
 
--- what the entries, newest first, of a peer of this name leave
-abbrev pub trail : Option (List ℕ) → List Entry → Trail
-trail name [] = record { events = []; names = []; streams = []; name = name }
-trail name (e ∷ es) = more (trail name es) e
+-- what the entries, newest first, of a peer of this setting leave
+abbrev pub trail : Setting → List Entry → Trail
+trail setting [] = record { events = []; names = []; streams = []; setting = setting }
+trail setting (e ∷ es) = more (trail setting es) e

@@ -5,6 +5,7 @@ ghost use Rattle.wire_message.specs.Front.{Seen};
 ghost use Rattle.wire_message.specs.declared.error.Error.{Error};
 ghost use Rattle.peer_route.specs.declared.answer.Entry.{Entry};
 ghost use Rattle.peer_route.specs.History.{Event, Took, Spent, calls, closing, is_failed, is_serial, pending, poll_answer, put};
+ghost use Rattle.peer_route.specs.Parcel.{Setting};
 ghost use Rattle.peer_route.specs.Trail.{trail};
 ghost use Rattle.peer_route.specs.Answers.{Legal};
 ghost use Rattle.peer_route.specs.StreamLaws.{Yields, IsEnded, IsLast, IsDrained, HoldsTooMany, IsPutOf, all_sent};
@@ -16,25 +17,25 @@ use crate::words::Words;
 /// A call is answered once. Once a lane's poll of a number gave a reply, valid or not, or the closing error, each later
 /// poll or drop of that number by that lane is refused, as of a call that was never made. Histories are newest first.
 pub fn answered_once()
-    ensures { (name : Option (List ℕ)) (newer older : List Entry) (e : Entry) (number : ℕ) → Legal name (newer ++ e ∷ older) → e.words ≡ Words.Poll number → IsFinal e.answer → AllByRecursion (IsUnknown e.lane number) newer }
+    ensures { (setting : Setting) (newer older : List Entry) (e : Entry) (number : ℕ) → Legal setting (newer ++ e ∷ older) → e.words ≡ Words.Poll number → IsFinal e.answer → AllByRecursion (IsUnknown e.lane number) newer }
 {}
 
 /// A dropped call is unknown from then on: each later poll or drop of that number by that lane is refused, whatever comes.
 pub fn dropped_for_good()
-    ensures { (name : Option (List ℕ)) (newer older : List Entry) (e : Entry) (number : ℕ) → Legal name (newer ++ e ∷ older) → e.words ≡ Words.Drop number → e.answer ≡ Answer.Dropped → AllByRecursion (IsUnknown e.lane number) newer }
+    ensures { (setting : Setting) (newer older : List Entry) (e : Entry) (number : ℕ) → Legal setting (newer ++ e ∷ older) → e.words ≡ Words.Drop number → e.answer ≡ Answer.Dropped → AllByRecursion (IsUnknown e.lane number) newer }
 {}
 
 /// A reply answers the call whose serial it bears, and the first such reply does. Where a poll is answered with a position,
 /// the lane's number names a call, the first message read after it was put that bears its serial has this position, and
 /// the position is its place among the messages read, from 1 on (D-Bus Specification, "Message Format", `REPLY_SERIAL`).
 pub fn answered_by_the_first()
-    ensures { (name : Option (List ℕ)) (older : List Entry) (e : Entry) (number q : ℕ) → Legal name (e ∷ older) → e.words ≡ Words.Poll number → IsReplyAt q e.answer → IsFirstReply (trail name older) e.lane number q e.answer }
+    ensures { (setting : Setting) (older : List Entry) (e : Entry) (number q : ℕ) → Legal setting (e ∷ older) → e.words ≡ Words.Poll number → IsReplyAt q e.answer → IsFirstReply (trail setting older) e.lane number q e.answer }
 {}
 
 /// A call is answered with the error that closed the peer only where no reply came: no message read after the call was put
 /// bears its serial, and the error is the first that closed the peer.
 pub fn answered_by_the_closing_error()
-    ensures { (name : Option (List ℕ)) (older : List Entry) (e : Entry) (number : ℕ) (error : Error) → Legal name (e ∷ older) → e.words ≡ Words.Poll number → e.answer ≡ Answer.Closed error → IsCutOff (trail name older) e.lane number error }
+    ensures { (setting : Setting) (older : List Entry) (e : Entry) (number : ℕ) (error : Error) → Legal setting (e ∷ older) → e.words ≡ Words.Poll number → e.answer ≡ Answer.Closed error → IsCutOff (trail setting older) e.lane number error }
 {}
 
 /// A message that is read changes the answer of no call that it isn't for: none whose serial it doesn't bear, and none that
@@ -47,47 +48,47 @@ pub fn reply_changes_no_other()
 /// A poll or a drop changes the answer of no other call: neither of another number of its lane, nor of another lane.
 pub fn spent_changes_no_other()
     ensures event { (h : List Event) (j k : ℕ) → j ≢ k → poll_answer (Spent j ∷ h) k ≡ poll_answer h k }
-    ensures entry { (name : Option (List ℕ)) (older : List Entry) (e : Entry) (number lane other : ℕ) → Legal name (e ∷ older) → (e.words ≡ Words.Poll number) ⊎ (e.words ≡ Words.Drop number) → (lane ≡ e.lane → other ≢ number) → poll_now (trail name (e ∷ older)) lane other ≡ poll_now (trail name older) lane other }
+    ensures entry { (setting : Setting) (older : List Entry) (e : Entry) (number lane other : ℕ) → Legal setting (e ∷ older) → (e.words ≡ Words.Poll number) ⊎ (e.words ≡ Words.Drop number) → (lane ≡ e.lane → other ≢ number) → poll_now (trail setting (e ∷ older)) lane other ≡ poll_now (trail setting older) lane other }
 {}
 
 /// A stream gives exactly what was read since it was made. Where a lane's command made a stream, the positions of the items
 /// that the lane's takes of its number gave since, and behind them those of the messages that it holds, are the positions of
 /// all messages that were read since, in order: none is missed, given twice, or taken from before it was made.
 pub fn stream_gives_all()
-    ensures { (name : Option (List ℕ)) (newer : List Entry) (e : Entry) (older : List Entry) (number : ℕ) → Legal name (newer ++ e ∷ older) → e.words ≡ Words.Stream → e.answer ≡ Answer.Streaming number → Yields name newer e older number }
+    ensures { (setting : Setting) (newer : List Entry) (e : Entry) (older : List Entry) (number : ℕ) → Legal setting (newer ++ e ∷ older) → e.words ≡ Words.Stream → e.answer ≡ Answer.Streaming number → Yields setting newer e older number }
 {}
 
 /// A stream ends once and for good. Once a lane's take of a number gave the closing error, or said that the stream is over,
 /// each later take of that number by that lane says that it is over.
 pub fn stream_ends_once()
-    ensures { (name : Option (List ℕ)) (newer older : List Entry) (e : Entry) (number : ℕ) → Legal name (newer ++ e ∷ older) → e.words ≡ Words.Take number → IsLast e.answer → AllByRecursion (IsEnded e.lane number) newer }
+    ensures { (setting : Setting) (newer older : List Entry) (e : Entry) (number : ℕ) → Legal setting (newer ++ e ∷ older) → e.words ≡ Words.Take number → IsLast e.answer → AllByRecursion (IsEnded e.lane number) newer }
 {}
 
 /// A stream gives the closing error only where it holds nothing, and the error is the first that closed the peer.
 pub fn stream_gives_the_first_error()
-    ensures { (name : Option (List ℕ)) (older : List Entry) (e : Entry) (number : ℕ) (error : Error) → Legal name (e ∷ older) → e.words ≡ Words.Take number → e.answer ≡ Answer.Closed error → IsDrained (trail name older) e.lane number error }
+    ensures { (setting : Setting) (older : List Entry) (e : Entry) (number : ℕ) (error : Error) → Legal setting (e ∷ older) → e.words ≡ Words.Take number → e.answer ≡ Answer.Closed error → IsDrained (trail setting older) e.lane number error }
 {}
 
 /// A stream that is made after the peer was closed is over from the start.
 pub fn stream_after_closing_is_over()
-    ensures { (name : Option (List ℕ)) (newer older : List Entry) (e : Entry) (number : ℕ) (error : Error) → Legal name (newer ++ e ∷ older) → e.words ≡ Words.Stream → e.answer ≡ Answer.Streaming number
-        → closing (trail name older).events ≡ Some error → AllByRecursion (IsEnded e.lane number) newer }
+    ensures { (setting : Setting) (newer older : List Entry) (e : Entry) (number : ℕ) (error : Error) → Legal setting (newer ++ e ∷ older) → e.words ≡ Words.Stream → e.answer ≡ Answer.Streaming number
+        → closing (trail setting older).events ≡ Some error → AllByRecursion (IsEnded e.lane number) newer }
 {}
 
 /// A read is busy exactly where the peer is open and some stream holds more than 64 messages, and changes nothing then.
 pub fn busy_where_a_stream_is_full()
-    ensures only { (name : Option (List ℕ)) (older : List Entry) (e : Entry) → Legal name (e ∷ older) → e.words ≡ Words.Read → e.answer ≡ Answer.Busy → HoldsTooMany (trail name older).events }
-    ensures there { (name : Option (List ℕ)) (older : List Entry) (e : Entry) → Legal name (e ∷ older) → e.words ≡ Words.Read → HoldsTooMany (trail name older).events → e.answer ≡ Answer.Busy }
-    ensures same { (name : Option (List ℕ)) (older : List Entry) (e : Entry) → e.words ≡ Words.Read → e.answer ≡ Answer.Busy → (trail name (e ∷ older)).events ≡ (trail name older).events }
+    ensures only { (setting : Setting) (older : List Entry) (e : Entry) → Legal setting (e ∷ older) → e.words ≡ Words.Read → e.answer ≡ Answer.Busy → HoldsTooMany (trail setting older).events }
+    ensures there { (setting : Setting) (older : List Entry) (e : Entry) → Legal setting (e ∷ older) → e.words ≡ Words.Read → HoldsTooMany (trail setting older).events → e.answer ≡ Answer.Busy }
+    ensures same { (setting : Setting) (older : List Entry) (e : Entry) → e.words ≡ Words.Read → e.answer ≡ Answer.Busy → (trail setting (e ∷ older)).events ≡ (trail setting older).events }
 {}
 
 /// What is put in the outbox is what the answers say was sent: the messages of the calls that were answered with a serial, in
 /// order; where a write failed, one message more, the last, whose write it was.
 pub fn put_is_what_was_sent()
-    ensures { (name : Option (List ℕ)) (es : List Entry) → Legal name es → IsPutOf (is_failed (trail name es).events) (put (trail name es).events) (all_sent name es) }
+    ensures { (setting : Setting) (es : List Entry) → Legal setting es → IsPutOf (is_failed (trail setting es).events) (put (trail setting es).events) (all_sent setting es) }
 {}
 
 /// A refused command leaves all as it was: what the entries leave is the same as before it.
 pub fn refused_changes_nothing()
-    ensures { (name : Option (List ℕ)) (older : List Entry) (e : Entry) (error : Error) → e.answer ≡ Answer.Refused error → trail name (e ∷ older) ≡ trail name older }
+    ensures { (setting : Setting) (older : List Entry) (e : Entry) (error : Error) → e.answer ≡ Answer.Refused error → trail setting (e ∷ older) ≡ trail setting older }
 {}

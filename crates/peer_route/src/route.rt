@@ -11,7 +11,8 @@ use crate::streams::{MessageStream, Streams};
 use bitflags::Flags as _;
 use std::alloc::{AllocError, AllocFailed, Global};
 use std::marker::Model;
-use wire_message::{Builder, Error, Flags, IoKind, Message, Result, Serials};
+use wire_body::Body;
+use wire_message::{Builder, Error, Flags, IoKind, Message, MessageType, Result, Serials};
 
 /// A message that was put in the outbox.
 #[derive(Clone, Copy, PartialEq, Eq, Debug)]
@@ -55,12 +56,15 @@ fn call_at(places: &[u64], index: u64) -> Option<usize>
     places.iter().position(|place| *place == index)
 }
 
-/// Whether the message's flags leave NoReplyExpected out, so that its call waits for a reply.
+/// Whether the message is a method call whose flags leave NoReplyExpected out, so that it waits for a reply.
 #[tactic(auto, unfolding(crate::specs::CallMessage::expects_reply))]
 fn expects_reply(message: &Message) -> bool
-    ensures { result ≡ expects_reply message.now.flags }
+    ensures { result ≡ expects_reply message.now.kind message.now.flags }
 {
-    !message.header().flags().contains(Flags::NoReplyExpected)
+    match message.message_type() {
+        MessageType::MethodCall => !message.header().flags().contains(Flags::NoReplyExpected),
+        MessageType::MethodReturn | MessageType::Error | MessageType::Signal => false,
+    }
 }
 
 impl Route {
@@ -81,18 +85,29 @@ impl Route {
         }
     }
 
-    /// Puts the message of a builder of a method call in the outbox, with the next serial, also where the builder has one; a
-    /// call waits for its reply, but where the builder's flags have NoReplyExpected. Refused, in this order: SerialsSpent exactly where each of the
-    /// 4,294,967,295 serials is pending; ExcessData exactly where the message would pass 134,217,728 bytes;
-    /// InputOutput(WriteFault) exactly where a write failed. A refusal changes nothing, and draws no serial.
-    pub fn issue(&mut self, builder: Builder<'_>) -> Result<Issued>
-        ensures issues { (h : List Event) → Left self.old h → Issues self.old self.new builder.entry h result }
+    /// Puts the message of a builder in the outbox, with these values as its body, these descriptors, and the next serial, also
+    /// where the builder has one. A method call waits for its reply, but where its flags have NoReplyExpected. The descriptors'
+    /// count is written as the message's `UNIX_FDS` exactly where there are some (D-Bus Specification, "Header Fields").
+    ///
+    /// # Errors
+    ///
+    /// The first that holds: SerialsSpent exactly where each of the 4,294,967,295 serials is pending; Variant of `Depth` exactly
+    /// where a value opens more than 64 containers at once; ExcessData exactly where the elements of an array would take more
+    /// than 67,108,864 bytes, or the message more than 134,217,728; InputOutput(WriteFault) exactly where a write failed. An
+    /// error changes nothing, and draws no serial.
+    pub fn issue(&mut self, builder: Builder<'_>, body: &Body, fds: &[u32]) -> Result<Issued>
+        requires { length fds.now < 2 ^ 32 }
+        ensures issues { (h : List Event) → Left self.old h → Issues self.old self.new (record { draft = builder.entry; values = body.now; fds = fds.now }) h result }
         ensures placed { IfOk result (Waits self.old self.new) }
     {
         let mut serials = self.serials;
-        let message = builder
-            .without_serial()
-            .build_empty_uncounted(self.alloc, &mut serials, &self.calls)?;
+        let message = builder.without_serial().build_body_uncounted(
+            self.alloc,
+            &mut serials,
+            &self.calls,
+            body,
+            fds,
+        )?;
         if self.failed {
             return Err(Error::InputOutput(IoKind::WriteFault));
         }

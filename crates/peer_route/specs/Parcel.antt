@@ -1,0 +1,32 @@
+-- What a command asks to be sent, and the message that this makes (D-Bus Specification, "Message Format").
+use Rattle.std.specs.Prelude.{ℕ, Bool, List, map, Option, Result}
+use Rattle.wire_tree.specs.Datum.{Datum, type_of}
+use Rattle.wire_message.specs.Draft.{Draft, built}
+use Rattle.wire_message.specs.Bodies.{body_text}
+use Rattle.wire_message.specs.Signed.{signed, counted}
+use Rattle.wire_message.specs.Front.{Seen}
+use Rattle.wire_message.specs.declared.error.Error.{Error}
+
+-- What a peer is given at its start: its unique name, if it has one, and whether its sink takes file descriptors.
+pub record Setting : Type 0 where
+  pub name : Option (List ℕ)
+  pub takes_fds : Bool
+
+-- a message to be sent: what its header says, the values of its body, and the file descriptors that go with it
+pub record Parcel : Type 0 where
+  pub draft : Draft
+  pub values : List Datum
+  pub fds : List ℕ
+
+-- what a command asks to be sent, or why it is refused
+abbrev pub Asked : Type 0
+Asked = Result Parcel Error
+
+-- the header with the signature of the values and the count of the descriptors
+abbrev pub whole_draft : Parcel → Draft
+whole_draft parcel = signed (counted parcel.draft parcel.fds) (map type_of parcel.values)
+
+-- The message with this serial: its body is the spelling of the values in the message's own byte order.
+unfoldable pub message_of : Parcel → ℕ → Seen
+message_of parcel serial =
+    record (built (whole_draft parcel) serial (body_text parcel.draft.order parcel.values)) { fds = parcel.fds }
