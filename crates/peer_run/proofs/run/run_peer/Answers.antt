@@ -9,7 +9,7 @@ loop-command-init g c =
     let name = c.args.setup.now.name in
     rw (c.new-entries.ensures.items) (record {
       stands = rw (c.new-reader.ensures, c.new-writer.ensures.sink)
-          (record { follows = c.new-peer.ensures name; reads = start_reads name _; writes = start_writes name _; fine = λ e. c.new-writer.ensures.fine });
+          (record { follows = c.new-peer.ensures setting; reads = start_reads setting _; writes = start_writes setting _; fine = λ e. c.new-writer.ensures.fine });
       commands = refl;
       empty = c.new-kept.ensures.items;
       from = refl;
