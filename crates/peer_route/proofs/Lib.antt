@@ -1,3 +1,5 @@
+pub mod Spelled
+pub mod BodyWords
 pub mod Plain
 pub mod Queues
 pub mod CallsMade

@@ -1,5 +1,6 @@
-pub mod Parcel
+pub mod Hex
 pub mod BodyWord
+pub mod Parcel
 pub mod CallMessage
 pub mod History
 pub mod Streams

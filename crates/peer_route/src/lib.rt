@@ -2,7 +2,9 @@
 #![tactic(auto)]
 
 mod answer;
+mod body_word;
 mod calls;
+mod hex;
 mod laws;
 mod polled;
 mod route;
@@ -12,7 +14,9 @@ mod tests;
 mod words;
 
 pub use answer::{Answer, Entry};
+pub use body_word::{body_words_are_read, read_body};
 pub use calls::PendingMethodCalls;
+pub use hex::{hex_byte, read_hex};
 pub use laws::{
     answered_by_the_closing_error, answered_by_the_first, answered_once,
     busy_where_a_stream_is_full, dropped_for_good, put_is_what_was_sent, refused_changes_nothing,

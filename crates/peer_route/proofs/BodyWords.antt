@@ -1,0 +1,242 @@
+-- The values of a body's word are those of which it is the word.
+use Rattle.std.proofs.Common.{ℕ, ◌≡◌, ◌+◌, ◌-◌, ◌<◌, ◌≤◌, ◌==◌, Bool, true, false, not, ◌&&◌, nat_lt, List, [], ◌∷◌, ◌++◌, length, take, drop, get_or, map, Option, Some, None, option_map, refl, sym, ap, ◌∙◌, subst, arith, append_assoc, append-nil, length-append}
+use Rattle.std.specs.List.{list_all, position, position_or_len, All}
+use Rattle.std.proofs.Math.Seq.{take-append_seam, drop-append-add}
+use Rattle.std.proofs.lemmas.Bool.Decides.{nat_tests}
+use Rattle.std.proofs.lemmas.List.{take-append-drop, take_all, drop_more}
+use Rattle.std.proofs.lemmas.List.Elements.{All-head, All-tail}
+use Rattle.std.proofs.lemmas.List.Folds.{list_all-append}
+use Rattle.std.proofs.lemmas.List.Quantifiers.{position-Some}
+use Rattle.wire_number.specs.declared.endian.Endian.{Endian}
+use Rattle.wire_number.specs.declared.endian.Endian.TheVariants.{Little}
+use Rattle.wire_signature.specs.declared.basic.BasicType.{BasicType}
+use Rattle.wire_signature.specs.declared.basic.BasicType.TheVariants as basics
+use Rattle.wire_signature.specs.Shape.{Shape, basic, variant, array, dict, struct, Shapes, no_shapes, shapes, shapes_of, letter, type_text, types_text, array_depths, struct_depths, AllHaveFields, IsType, IsSignature, SignatureText}
+use Rattle.wire_signature.specs.Parsing.{types_in}
+use Rattle.wire_signature.proofs.Exact.{types_in-takes, types_in-again}
+use Rattle.wire_tree.specs.Datum.{Datum, type_of}
+use Rattle.wire_spelling.specs.Spelling.{spelling, Spells}
+use Rattle.wire_spelling.specs.Each.{SpellEach}
+use Rattle.wire_spelling.specs.Reading.{Cursor, Parse, made, ◌>>=◌, value_at, fields_at}
+use Rattle.wire_spelling.proofs.Steps.{at, AreBytes, bind_some, map_some, some_is}
+use Rattle.wire_spelling.proofs.FoundValues.{IsValue, value_takes}
+use Rattle.wire_spelling.proofs.Exact.{value_only}
+use Rattle.peer_route.specs.Hex.{hex_word, bytes_of}
+use Rattle.peer_route.specs.BodyWord.{IsBodyWord, at_colon, with_nothing_behind, spelled_values, values_of, body_values}
+use Rattle.peer_route.proofs.Spelled.{Digits, digits_are, bytes_again}
+
+-- ---- values, one of each type
+
+first_by : (t : Shape) (ts : List Shape) → array_depths (shapes_of (t ∷ ts)) ≤ 32 → struct_depths (shapes_of (t ∷ ts)) ≤ 32 → AllHaveFields (shapes_of (t ∷ ts))
+    → length (types_text (shapes_of (t ∷ ts))) ≤ 255 → IsType t × IsSignature ts
+first_by t ts a s f w =
+    let long = length-append (type_text t) (types_text (shapes_of ts)) in (
+      record { arrays = omega arith; structs = omega arith; fields = f.0; within = omega arith },
+      record { arrays = omega arith; structs = omega arith; fields = f.1; within = omega arith },
+    )
+
+first_type : (t : Shape) (ts : List Shape) → IsSignature (t ∷ ts) → IsType t × IsSignature ts
+first_type t ts h = first_by t ts h.arrays h.structs h.fields h.within
+
+-- what stands at the front of bytes, and what is left behind it
+record Front (order : Endian) (ts : List Shape) (p : ℕ) (bytes : List ℕ) (y : List Datum × Cursor) : Type 0 where
+  front : List ℕ
+  whole : bytes ≡ front ++ y.1.rest
+  spelled : SpellEach order p ts y.0 front
+
+spells_by : (order : Endian) (p : ℕ) (t : Shape) (bytes : List ℕ) (x : Datum × Cursor) → IsType t → IsValue 64 order t (at p bytes) x → Spells order p t x.0 (spelling order p x.0)
+spells_by order p t bytes x valid k = record {
+  kind = k.kind;
+  formed = record { type = subst IsType (sym k.kind) valid; sound = k.sound };
+  within = k.within;
+  fit = k.fit;
+  text = refl;
+}
+
+more_front : (order : Endian) (t : Shape) (ts : List Shape) (p : ℕ) (bytes : List ℕ) (x : Datum × Cursor) (z : List Datum × Cursor) → IsType t
+    → IsValue 64 order t (at p bytes) x → Front order ts x.1.place x.1.rest z → Front order (t ∷ ts) p bytes (x.0 ∷ z.0, z.1)
+more_front order t ts p bytes x z valid k f = record {
+  front = spelling order p x.0 ++ f.front;
+  whole = k.reads.text_is ∙ ap (λ r. spelling order p x.0 ++ r) f.whole ∙ sym (append_assoc (spelling order p x.0) f.front z.1.rest);
+  spelled = (spelling order p x.0, f.front, refl, spells_by order p t bytes x valid k,
+    subst (λ (n : ℕ). SpellEach order n ts z.0 f.front) k.reads.place_is f.spelled);
+}
+
+each_found : (order : Endian) (ts : List Shape) (p : ℕ) (bytes : List ℕ) (y : List Datum × Cursor) → IsSignature ts → AreBytes bytes
+    → fields_at (value_at 64 order) (shapes_of ts) (at p bytes) ≡ Some y → Front order ts p bytes y
+unfolding fields_at
+each_found order [] p bytes y h low e =
+    subst (λ (y : List Datum × Cursor). Front order [] p bytes y) (some_is ([], at p bytes) y e) (record { front = []; whole = refl; spelled = refl })
+each_found order (t ∷ ts) p bytes y h low e =
+    let x = bind_some (value_at 64 order t (at p bytes)) _ y e in
+    let z = map_some (λ z. (x.0.0 ∷ z.0, z.1)) (fields_at (value_at 64 order) (shapes_of ts) x.0.1) y x.2 in
+    let k : IsValue 64 order t (at p bytes) x.0 = value_takes 64 order t (at p bytes) x.0 x.1 low in
+    let one = first_type t ts h in
+    subst (λ (y : List Datum × Cursor). Front order (t ∷ ts) p bytes y) z.2
+    (more_front order t ts p bytes x.0 z.0 one.0 k (each_found order ts x.0.1.place x.0.1.rest z.0 one.1 k.reads.bytes z.1))
+
+none_again : (order : Endian) (p : ℕ) (front rest : List ℕ) → front ≡ [] → fields_at (value_at 64 order) no_shapes (at p (front ++ rest)) ≡ Some ([], at (p + length front) rest)
+unfolding fields_at
+none_again order p front rest s =
+    let here : p ≡ p + length front = omega (arith, ap length s) in
+    ap (λ f. Some ([], at p (f ++ rest))) s ∙ ap (λ n. Some ([], at n rest)) here
+
+each_again : (order : Endian) (ts : List Shape) (p : ℕ) (ds : List Datum) (front rest : List ℕ) → SpellEach order p ts ds front
+    → fields_at (value_at 64 order) (shapes_of ts) (at p (front ++ rest)) ≡ Some (ds, at (p + length front) rest)
+unfolding fields_at
+each_again order [] p [] front rest s = none_again order p front rest s
+each_again order [] p (d ∷ ds) front rest s = absurd s
+each_again order (t ∷ ts) p [] front rest s = absurd s
+each_again order (t ∷ ts) p (d ∷ ds) front rest s =
+    let there : p + length s.0 + length s.1 ≡ p + length front = omega (arith, ap length s.2, length-append s.0 s.1) in
+    ap (λ b. fields_at (value_at 64 order) (shapes t (shapes_of ts)) (at p b)) (ap (λ f. f ++ rest) s.2 ∙ append_assoc s.0 s.1 rest)
+    ∙ ap (λ o. o >>= (λ x. made (λ (vs : List Datum). x.0 ∷ vs) (fields_at (value_at 64 order) (shapes_of ts) x.1))) (value_only order p t d s.0 (s.1 ++ rest) s.3)
+    ∙ ap (λ o. made (λ (vs : List Datum). d ∷ vs) o) (each_again order ts (p + length s.0) ds s.1 rest s.4)
+    ∙ ap (λ n. Some (d ∷ ds, at n rest)) there
+
+-- ---- and nothing behind them
+
+pub values_again : (ts : List Shape) (ds : List Datum) (bytes : List ℕ) → SpellEach Little 0 ts ds bytes → spelled_values ts bytes ≡ Some ds
+unfolding spelled_values
+values_again ts ds bytes s =
+    ap (λ o. o >>= (λ found. with_nothing_behind found found.1.rest))
+    (ap (λ b. fields_at (value_at 64 Little) (shapes_of ts) (at 0 b)) (sym (append-nil bytes)) ∙ each_again Little ts 0 ds bytes [] s)
+
+nothing_behind : (found : List Datum × Cursor) (rest : List ℕ) (ds : List Datum) → with_nothing_behind found rest ≡ Some ds → (rest ≡ []) × (found.0 ≡ ds)
+nothing_behind found [] ds e = (refl, some_is found.0 ds e)
+nothing_behind found (b ∷ bs) ds e = absurd (cc)
+
+pub values_found : (ts : List Shape) (bytes : List ℕ) (ds : List Datum) → IsSignature ts → AreBytes bytes → spelled_values ts bytes ≡ Some ds → SpellEach Little 0 ts ds bytes
+unfolding spelled_values
+values_found ts bytes ds h low e =
+    let x = bind_some (fields_at (value_at 64 Little) (shapes_of ts) (at 0 bytes)) (λ found. with_nothing_behind found found.1.rest) ds e in
+    let n = nothing_behind x.0 x.0.1.rest ds x.2 in
+    let f = each_found Little ts 0 bytes x.0 h low x.1 in
+    subst (λ (vs : List Datum). SpellEach Little 0 ts vs bytes) n.1
+    (subst (λ (b : List ℕ). SpellEach Little 0 ts x.0.0 b) (sym (f.whole ∙ ap (λ r. f.front ++ r) n.0 ∙ append-nil f.front)) f.spelled)
+
+-- bytes that spell nothing have no values
+pub values_none : (ts : List Shape) (bytes : List ℕ) → IsSignature ts → AreBytes bytes → ((ds : List Datum) → SpellEach Little 0 ts ds bytes → ⊥) → spelled_values ts bytes ≡ None
+values_none ts bytes h low never = nothing (spelled_values ts bytes) refl where
+  nothing : (found : Option (List Datum)) → spelled_values ts bytes ≡ found → found ≡ None
+  nothing None e = refl
+  nothing (Some ds) e = absurd (never ds (values_found ts bytes ds h low e))
+
+-- ---- the first colon
+
+abbrev no_colon : ℕ → Bool
+no_colon b = not (b == 58)
+
+abbrev is_colon : ℕ → Bool
+is_colon b = b == 58
+
+both : (a b : Bool) → (a && b) ≡ true → (a ≡ true) × (b ≡ true)
+both true b h = (refl, h)
+both false b h = absurd (cc)
+
+passed : (s h : List ℕ) → list_all no_colon s ≡ true → position_or_len is_colon (s ++ 58 ∷ h) ≡ length s
+passed [] h e = refl
+passed (b ∷ s) h e =
+    let k = both (no_colon b) (list_all no_colon s) e in
+    let i = passed s h k.1 in
+    grind (arith, nat_tests, k.0, i)
+
+colon_there : (s h : List ℕ) → list_all no_colon s ≡ true → position is_colon (s ++ 58 ∷ h) ≡ Some (length s)
+colon_there s h e =
+    let long : nat_lt (length s) (length (s ++ 58 ∷ h)) ≡ true = grind (arith, nat_tests, length-append s (58 ∷ h)) in
+    rw (passed s h e, long) refl
+
+colon_again : (s h : List ℕ) → list_all no_colon s ≡ true → at_colon (s ++ 58 ∷ h) ≡ Some (s, h)
+colon_again s h e =
+    ap (option_map (λ i. (take i (s ++ 58 ∷ h), drop (i + 1) (s ++ 58 ∷ h)))) (colon_there s h e)
+    ∙ ap (λ f. Some (f, drop (length s + 1) (s ++ 58 ∷ h))) (take-append_seam s (58 ∷ h))
+    ∙ ap (λ r. Some (s, r)) (drop-append-add s (58 ∷ h) 1)
+
+is_58 : (b : ℕ) → is_colon b ≡ true → b ≡ 58
+is_58 b e = grind (arith, nat_tests)
+
+colon_found : (word : List ℕ) (x : List ℕ × List ℕ) → at_colon word ≡ Some x → word ≡ x.0 ++ 58 ∷ x.1
+colon_found word x e =
+    let k = map_some (λ i. (take i word, drop (i + 1) word)) (position is_colon word) x e in
+    let p = position-Some is_colon word k.0 58 k.1 in
+    sym (take-append-drop k.0 word) ∙ ap (λ r. take k.0 word ++ r) (drop_more word k.0 58 p.0)
+    ∙ ap (λ b. take k.0 word ++ b ∷ drop (k.0 + 1) word) (is_58 (get_or word k.0 58) p.1)
+    ∙ ap (λ y. y.0 ++ 58 ∷ y.1) k.2
+
+all_both : (xs ys : List ℕ) → list_all no_colon xs ≡ true → list_all no_colon ys ≡ true → list_all no_colon (xs ++ ys) ≡ true
+all_both xs ys e f = list_all-append no_colon xs ys ∙ rw (e, f) refl
+
+letter_no_colon : (b : BasicType) → no_colon (letter b) ≡ true
+letter_no_colon basics.Byte = refl
+letter_no_colon basics.Boolean = refl
+letter_no_colon basics.Int16 = refl
+letter_no_colon basics.Uint16 = refl
+letter_no_colon basics.Int32 = refl
+letter_no_colon basics.Uint32 = refl
+letter_no_colon basics.Int64 = refl
+letter_no_colon basics.Uint64 = refl
+letter_no_colon basics.Double = refl
+letter_no_colon basics.String = refl
+letter_no_colon basics.ObjectPath = refl
+letter_no_colon basics.Signature = refl
+letter_no_colon basics.UnixFd = refl
+
+letter_alone : (b : BasicType) (rest : List ℕ) → list_all no_colon rest ≡ true → list_all no_colon (letter b ∷ rest) ≡ true
+letter_alone b rest e = rw (letter_no_colon b, e) refl
+
+mutual
+  type_no_colon : (t : Shape) → list_all no_colon (type_text t) ≡ true
+  type_no_colon (basic b) = letter_alone b [] refl
+  type_no_colon variant = refl
+  type_no_colon (array t) = type_no_colon t
+  type_no_colon (dict k v) = letter_alone k (type_text v ++ 125 ∷ []) (all_both (type_text v) (125 ∷ []) (type_no_colon v) refl)
+  type_no_colon (struct ts) = all_both (types_text ts) (41 ∷ []) (types_no_colon ts) refl
+
+  types_no_colon : (ts : Shapes) → list_all no_colon (types_text ts) ≡ true
+  types_no_colon no_shapes = refl
+  types_no_colon (shapes t ts) = all_both (type_text t) (types_text ts) (type_no_colon t) (types_no_colon ts)
+
+-- ---- words
+
+are_bytes : (xs : List ℕ) → All (λ b. b < 256) xs → AreBytes xs
+are_bytes [] h = tt
+are_bytes (x ∷ xs) h = (All-head (λ b. b < 256) x xs h, are_bytes xs (All-tail (λ b. b < 256) x xs h))
+
+values_by : (o : Option (List Shape)) (r : Option (List ℕ)) (values : List Datum) → values_of o r ≡ Some values
+    → (types : List Shape) × (bytes : List ℕ) × (o ≡ Some types) × (r ≡ Some bytes) × (spelled_values types bytes ≡ Some values)
+values_by None r values e = absurd (cc)
+values_by (Some types) None values e = absurd (cc)
+values_by (Some types) (Some bytes) values e = (types, bytes, refl, refl, e)
+
+-- the values of a word are spelled by it
+pub word_found : (word : List ℕ) (values : List Datum) → body_values word ≡ Some values → IsBodyWord word values
+unfolding body_values
+word_found word values e =
+    let x = bind_some (at_colon word) (λ parts. values_of (types_in parts.0) (bytes_of parts.1)) values e in
+    let k = values_by (types_in x.0.0) (bytes_of x.0.1) values x.2 in
+    let s : SignatureText k.0 x.0.0 = types_in-takes x.0.0 k.0 k.2 in
+    let d = digits_are x.0.1 k.1 k.3 in
+    record {
+      types = k.0;
+      signature = x.0.0;
+      bytes = k.1;
+      text = s;
+      spelled = values_found k.0 k.1 values s.valid (are_bytes k.1 d.0.low) k.4;
+      some = d.1;
+      low = d.0.low;
+      whole = colon_found word x.0 x.1 ∙ ap (λ r. x.0.0 ++ 58 ∷ r) d.0.written;
+    }
+
+parts_again : (types : List Shape) (signature bytes : List ℕ) (values : List Datum) → SignatureText types signature → SpellEach Little 0 types values bytes → 0 < length bytes
+    → All (λ b. b < 256) bytes → values_of (types_in signature) (bytes_of (hex_word bytes)) ≡ Some values
+parts_again types signature bytes values s k some low =
+    ap (λ o. values_of o (bytes_of (hex_word bytes))) (types_in-again types signature s) ∙ ap (values_of (Some types)) (bytes_again bytes some low)
+    ∙ values_again types values bytes k
+
+pub word_again : (word : List ℕ) (values : List Datum) → IsBodyWord word values → body_values word ≡ Some values
+unfolding body_values
+word_again word values w =
+    let none : list_all no_colon w.signature ≡ true = ap (list_all no_colon) w.text.text ∙ types_no_colon (shapes_of w.types) in
+    ap (λ l. at_colon l >>= (λ parts. values_of (types_in parts.0) (bytes_of parts.1))) w.whole
+    ∙ ap (λ o. o >>= (λ parts. values_of (types_in parts.0) (bytes_of parts.1))) (colon_again w.signature (hex_word w.bytes) none)
+    ∙ parts_again w.types w.signature w.bytes values w.text w.spelled w.some w.low

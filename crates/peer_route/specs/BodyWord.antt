@@ -1,0 +1,56 @@
+-- The word of a body: the text of its signature, a colon, and its values in hexadecimal.
+use Rattle.std.specs.Prelude.{ℕ, ◌≡◌, ◌+◌, ◌<◌, ◌==◌, List, [], ◌∷◌, ◌++◌, length, take, drop, Option, Some, None, option_map, option_and_then, Result, Ok, Err}
+use Rattle.std.specs.List.{position, All}
+use Rattle.wire_number.specs.declared.endian.Endian.TheVariants.{Little}
+use Rattle.wire_signature.specs.Shape.{Shape, shapes_of, SignatureText}
+use Rattle.wire_signature.specs.Parsing.{types_in}
+use Rattle.wire_signature.specs.declared.error.VariantError.TheVariants as faults
+use Rattle.wire_tree.specs.Datum.{Datum}
+use Rattle.wire_spelling.specs.Each.{SpellEach}
+use Rattle.wire_spelling.specs.Reading.{Cursor, value_at, fields_at}
+use Rattle.wire_message.specs.declared.error.Error.{Error}
+use Rattle.wire_message.specs.declared.error.Error.TheVariants as errors
+use Rattle.peer_route.specs.Hex.{hex_word, bytes_of}
+
+-- The word of a body with these values: the signature of their types, a colon, and two digits for each byte of their
+-- spellings in little order, of which there is at least one (D-Bus Specification, "Message Format", "Marshaling (Wire
+-- Format)").
+pub record IsBodyWord (word : List ℕ) (values : List Datum) : Type 0 where
+  pub types : List Shape
+  pub signature : List ℕ
+  pub bytes : List ℕ
+  pub text : SignatureText types signature
+  pub spelled : SpellEach Little 0 types values bytes
+  pub some : 0 < length bytes
+  pub low : All (λ b. b < 256) bytes
+  pub whole : word ≡ signature ++ 58 ∷ hex_word bytes
+
+-- what stands before the first colon, and what stands behind it
+abbrev pub at_colon : List ℕ → Option (List ℕ × List ℕ)
+at_colon word = option_map (λ i. (take i word, drop (i + 1) word)) (position (λ b. b == 58) word)
+
+-- the values, where nothing stands behind them
+abbrev pub with_nothing_behind : List Datum × Cursor → List ℕ → Option (List Datum)
+with_nothing_behind found [] = Some found.0
+with_nothing_behind found (b ∷ bs) = None
+
+-- the values that bytes are in little order, one of each type
+unfoldable pub spelled_values : List Shape → List ℕ → Option (List Datum)
+spelled_values types bytes =
+    option_and_then (λ found. with_nothing_behind found found.1.rest) (fields_at (value_at 64 Little) (shapes_of types) (record { place = 0; rest = bytes }))
+
+abbrev pub values_of : Option (List Shape) → Option (List ℕ) → Option (List Datum)
+values_of (Some types) (Some bytes) = spelled_values types bytes
+values_of types bytes = None
+
+-- The values of a body's word; None where a word is none of a body. The law beside `read_body` says which they are.
+unfoldable pub body_values : List ℕ → Option (List Datum)
+body_values word = option_and_then (λ parts. values_of (types_in parts.0) (bytes_of parts.1)) (at_colon word)
+
+-- What reading a body's word promises: the values of the word; Malformed exactly where it is none of a body. Want of memory
+-- tells nothing.
+abbrev pub ReadsBody : Result (List Datum) Error → Option (List Datum) → Type 0
+ReadsBody (Ok body) found = found ≡ Some body
+ReadsBody (Err (errors.Variant faults.Malformed)) found = found ≡ None
+ReadsBody (Err errors.Memory) found = Unit {0}
+ReadsBody (Err error) found = ⊥
