@@ -11,7 +11,7 @@ use Rattle.peer_route.specs.declared.polled.Polled.TheVariants as polled
 use Rattle.peer_route.specs.History.{Event, Took, Made, Did, Plain, Gave, Told, read, closing, edit}
 use Rattle.peer_route.specs.Streams.{Stream, streams, new_stream, give, tell, matched, held, item_at, gave_last, all_given, take_by, take_at, take_answer, take_events}
 use Rattle.peer_route.specs.Left.{IsWithin, LeftStreams, View, Left}
-use Rattle.peer_route.specs.Trail.{given_by, given_at}
+use Rattle.peer_route.specs.Trail.{given_by, given_at, kept_by, kept_at}
 use Rattle.peer_route.proofs.StreamsMade.{edit-map, edit-same}
 
 -- what is asked of a history that read the same messages and has the same streams is the same
@@ -98,15 +98,6 @@ unfolding take_answer
 given_taken h k = given_take_at h k (slice_get (streams h) k) refl
 
 -- ---- what a number names
-
--- what is kept for a stream, where there is one
-abbrev pub kept_by : Option (Option Seen) → Option Seen
-kept_by None = None
-kept_by (Some o) = o
-
-abbrev pub kept_at : List (Option Seen) → Option ℕ → Option Seen
-kept_at gs None = None
-kept_at gs (Some k) = kept_by (slice_get gs k)
 
 by_stream : (h : List Event) (o : Option Stream) → kept_by (option_map (gave_last h) o) ≡ given_by h o
 by_stream h None = refl

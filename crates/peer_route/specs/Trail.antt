@@ -65,6 +65,15 @@ abbrev pub given_at : List Event → Option ℕ → Option Seen
 given_at h None = None
 given_at h (Some k) = given_by h (slice_get (streams h) k)
 
+-- the same, where it is kept for each stream
+abbrev pub kept_by : Option (Option Seen) → Option Seen
+kept_by None = None
+kept_by (Some o) = o
+
+abbrev pub kept_at : List (Option Seen) → Option ℕ → Option Seen
+kept_at gs None = None
+kept_at gs (Some k) = kept_by (slice_get gs k)
+
 -- The message that a lane's stream gave last; none where the number names no stream, or the stream gave none.
 abbrev pub given : Trail → ℕ → ℕ → Option Seen
 given t lane number = given_at t.events (place 0 lane number t.streams)

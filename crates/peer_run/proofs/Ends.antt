@@ -9,9 +9,9 @@ use Rattle.peer_route.specs.Told.{IsSentOf, WritesTold, ReadsTold, left_after}
 use Rattle.wire_framing.specs.Sink.{RoomFalls}
 use Rattle.wire_framing.specs.declared.write_half.Writing.{Writing}
 use Rattle.peer_script.specs.Script.{Script}
-use Rattle.peer_run.specs.Stands.{Inlet, Outlet, PeerView, Reads, Writes, Holds, HoldsThen, IsRest}
+use Rattle.peer_run.specs.Stands.{Inlet, Outlet, PeerView, Reads, Writes, Holds, HoldsThen, IsRest, setting_by}
 use Rattle.peer_run.specs.Runs.{Stands, Runs, command_of}
-use Rattle.peer_run.specs.Program.{source_bytes, source_breaks, IsRunOf}
+use Rattle.peer_run.specs.Program.{setting_of, source_bytes, source_breaks, IsRunOf}
 
 -- ---- before the first command
 
@@ -76,12 +76,14 @@ sent_of room held h w =
     (subst (λ bytes. IsSentOf h bytes) same w.bytes, subst (λ bytes. WritesTold (Some room) (is_failed h) (put h) bytes) same w.told)
 
 -- a run over what a script gives, in memory, is a run of the script
-pub run_of : (start_in : Inlet) (start_out : Outlet) (end_in : Inlet) (end_out : Outlet) (s : Script) (entries : List Entry) (held : List ℕ)
+pub run_of : (start_in : Inlet) (start_out : Outlet) (end_in : Inlet) (end_out : Outlet) (s : Script) (takes : Bool) (entries : List Entry) (held : List ℕ)
     → start_in.left ≡ Some (source_bytes s.given) → start_in.stop ≡ Some (source_breaks s.given)
-    → start_out.held ≡ Some [] → start_out.room ≡ Some s.outfault → end_out.held ≡ Some held
-    → Runs s.name start_in start_out end_in end_out s.commands entries → IsRunOf s entries held
-run_of start_in start_out end_in end_out s entries held left stop before room after r =
-    let h = (trail s.name (reverse entries)).events in
+    → start_out.held ≡ Some [] → start_out.room ≡ Some s.outfault → end_out.held ≡ Some held → takes ≡ s.fds
+    → Runs (setting_by s.name takes) start_in start_out end_in end_out s.commands entries → IsRunOf s entries held
+run_of start_in start_out end_in end_out s takes entries held left stop before room after fds run =
+    let h = (trail (setting_of s) (reverse entries)).events in
+    let r : Runs (setting_of s) start_in start_out end_in end_out s.commands entries =
+    subst (λ b. Runs (setting_by s.name b) start_in start_out end_in end_out s.commands entries) fds run in
     let reads = rw (left, stop) at r.reads in
     let writes = rw (before, room, after) at r.writes in
     let w = sent_of s.outfault held h writes in

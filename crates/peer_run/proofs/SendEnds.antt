@@ -11,7 +11,7 @@ use Rattle.peer_route.specs.declared.answer.Answer.TheVariants as answers
 use Rattle.peer_route.specs.declared.answer.Entry.{Entry}
 use Rattle.peer_route.specs.declared.route.Issued.{Issued}
 use Rattle.peer_route.specs.History as events
-use Rattle.peer_route.specs.Trail.{Trail, asks, trail, count, next_serial}
+use Rattle.peer_route.specs.Trail.{Trail, asks, asks_with, kept_at, place, trail, count, next_serial}
 use Rattle.peer_route.specs.Answers.{send_refusal, sent_answer, write_fault}
 use Rattle.peer_route.specs.CallMessage.{expects}
 use Rattle.peer_route.specs.declared.words.Words.{Words}
@@ -24,11 +24,13 @@ use Rattle.wire_framing.specs.Send.{Part}
 use Rattle.wire_framing.specs.Writing.{is_unsupported, Sends}
 use Rattle.wire_framing.specs.declared.write_half.Writing.{Writing}
 use Rattle.wire_framing.specs.declared.write_half.Writing.TheVariants.{Fine}
-use Rattle.peer_run.specs.Stands.{PeerView, Inlet, Outlet, Follows, Reads, Writes, Sent, WentOut, WriteFailed, named, unsent_answer, NotIssued, IsReadFault, IsFine, entry}
+use Rattle.peer_run.specs.Stands.{PeerView, Inlet, Outlet, Follows, Reads, Writes, Sent, Sending, WentOut, WriteFailed, named, unsent_answer, NotIssued, IsRefusal, IsReadFault, IsFine, entry}
 use Rattle.wire_message.specs.Draft.{built}
-use Rattle.wire_message.specs.Signed.{counted}
+use Rattle.wire_message.specs.Signed.{counted, fds_field}
+use Rattle.peer_route.proofs.Asked.{CanGo, are_refused, asked_goes}
+use Rattle.peer_run.specs.CallWords.{MakesAsked}
 use Rattle.peer_run.proofs.HalfStep.{fine_before}
-use Rattle.peer_run.proofs.SendStep.{IsSending, sending_is, entry_events, fault_events, follows_refused, follows_unsent, follows_sent, follows_failed, reads_send, writes_refused, writes_unsent, writes_sent, writes_failed}
+use Rattle.peer_run.proofs.SendStep.{IsSending, sending_is, asks_kept, entry_events, fault_events, follows_refused, follows_unsent, follows_sent, follows_failed, reads_send, writes_refused, writes_unsent, writes_sent, writes_failed}
 
 -- ---- nothing was issued
 
@@ -150,13 +152,6 @@ not_out old new lane issued m now after writing errors.Unsupported never s names
 not_out old new lane issued m now after writing errors.InvalidField never s names streams given left = absurd s
 not_out old new lane issued m now after writing errors.Memory never s names streams given left = absurd (never refl)
 
--- what a command that sends gives
-pub record Sending (setting : Setting) (r : PeerView) (es : List Entry) (lane : ℕ) (w : Words) (now after : Outlet) (writing : Writing) (a : Answer) : Type 0 where
-  pub follows : Follows setting r (entry lane w a ∷ es)
-  pub writes : (start : Outlet) → Writes setting start now es → Writes setting start after (entry lane w a ∷ es)
-  pub reads : (start now_in : Inlet) → Reads setting start now_in es → Reads setting start now_in (entry lane w a ∷ es)
-  pub fine : IsFine (trail setting (entry lane w a ∷ es)).events writing
-
 never_sent : (expects_one : Bool) (number serial : ℕ) (a : Answer) → a ≡ sent_answer expects_one number serial → IsReadFault a → ⊥
 never_sent true number serial a e f = cc
 never_sent false number serial a e f = cc
@@ -256,3 +251,89 @@ not_asked setting p es lane w error a now writing wants f e fine =
 pub unsent_ok : {E : Type 0} (error : Error) (r : Result Answer E) → NotIssued error r → IfOk r (λ a. unsent_answer error ≡ Some a)
 unsent_ok error (Ok a) n = n
 unsent_ok error (Err e) n = tt
+
+-- ---- a command that sends, whole
+
+-- what a letter that was made asks for
+made_letter : (asked : Option Asked) (parcel : Parcel) → MakesAsked (Ok parcel) asked → asked ≡ Some (Ok parcel)
+made_letter None parcel m = absurd m
+made_letter (Some asked) parcel m = ap Some m
+
+no_letter : (asked : Option Asked) (error : Error) → (error ≡ errors.Memory → ⊥) → MakesAsked (Err error) asked → asked ≡ Some (Err error)
+no_letter None error n m = absurd m
+no_letter (Some asked) (errors.InputOutput kind) n m = ap Some m
+no_letter (Some asked) (errors.Variant kind) n m = ap Some m
+no_letter (Some asked) (errors.Names kind) n m = ap Some m
+no_letter (Some asked) errors.InvalidMatchRule n m = ap Some m
+no_letter (Some asked) errors.IncorrectEndian n m = ap Some m
+no_letter (Some asked) errors.ExcessData n m = ap Some m
+no_letter (Some asked) errors.SerialsSpent n m = ap Some m
+no_letter (Some asked) errors.UnknownHandle n m = ap Some m
+no_letter (Some asked) errors.Unsupported n m = ap Some m
+no_letter (Some asked) errors.InvalidField n m = ap Some m
+no_letter (Some asked) errors.Memory n m = absurd (n refl)
+
+-- what is asked for by what the peer keeps
+abbrev kept_asks : Setting → PeerView → ℕ → Words → Option Asked
+kept_asks setting p lane w = asks_with setting (λ n. kept_at p.given (place 0 lane n p.streams)) w
+
+can_take : (fds : List ℕ) (takes : Bool) → are_refused fds takes ≡ false → is_unsupported (fds_field fds) takes ≡ false
+can_take [] takes e = refl
+can_take (fd ∷ fds) takes e = e
+
+-- the letter was issued, and sent or not
+pub letter_sent : (setting : Setting) (p q r : PeerView) (es : List Entry) (lane : ℕ) (w : Words) (parcel : Parcel) (issued : Issued) (now after : Outlet) (before writing : Writing) (a : Answer)
+    → MakesAsked (Ok parcel) (kept_asks setting p lane w) → Follows setting p es → Issues p.core q.core parcel (trail setting es).events (Ok issued)
+    → IsFine (trail setting es).events before → q.names ≡ p.names → q.streams ≡ p.streams → q.given ≡ p.given
+    → ((m : Seen) → slice_get q.core.outbox issued.index ≡ Some m → is_unsupported m.unix_fds setting.takes_fds ≡ false → before ≡ Fine → Sent q r lane issued m now after writing a)
+    → Sending setting r es lane w now after writing a
+letter_sent setting p q r es lane w parcel issued now after before writing a made f i fine n t g sent =
+    let is = made_letter (kept_asks setting p lane w) parcel made in
+    let goes = asked_goes setting (λ k. kept_at p.given (place 0 lane k p.streams)) w parcel is in
+    sending setting p q r es lane w parcel issued now after setting.takes_fds before writing a (sym (asks_kept setting p es lane w f) ∙ is)
+    (can_take parcel.fds setting.takes_fds goes.taken) f i fine n t g sent
+
+-- the letter wasn't issued
+pub letter_not_sent : (setting : Setting) (p q : PeerView) (es : List Entry) (lane : ℕ) (w : Words) (parcel : Parcel) (error : Error) (a : Answer) (now : Outlet) (writing : Writing)
+    → MakesAsked (Ok parcel) (kept_asks setting p lane w) → Follows setting p es → Issues p.core q.core parcel (trail setting es).events (Err error)
+    → unsent_answer error ≡ Some a → q.names ≡ p.names → q.streams ≡ p.streams → q.given ≡ p.given → IsFine (trail setting es).events writing
+    → Sending setting q es lane w now now writing a
+letter_not_sent setting p q es lane w parcel error a now writing made f i e n t g fine =
+    let is = made_letter (kept_asks setting p lane w) parcel made in
+    let goes = asked_goes setting (λ k. kept_at p.given (place 0 lane k p.streams)) w parcel is in
+    not_sending setting p q es lane w parcel error a now writing (sym (asks_kept setting p es lane w f) ∙ is) goes.written f i e n t g fine
+
+not_memory : {E : Type 0} (error : Error) (a : Answer) → IsRefusal {E = E} error (Ok a) → error ≡ errors.Memory → ⊥
+not_memory errors.Memory a is e = is
+not_memory (errors.InputOutput kind) a is e = cc
+not_memory (errors.Variant kind) a is e = cc
+not_memory (errors.Names kind) a is e = cc
+not_memory errors.InvalidMatchRule a is e = cc
+not_memory errors.IncorrectEndian a is e = cc
+not_memory errors.ExcessData a is e = cc
+not_memory errors.SerialsSpent a is e = cc
+not_memory errors.UnknownHandle a is e = cc
+not_memory errors.Unsupported a is e = cc
+not_memory errors.InvalidField a is e = cc
+
+refusal_is : {E : Type 0} (error : Error) (a : Answer) → (error ≡ errors.Memory → ⊥) → IsRefusal {E = E} error (Ok a) → a ≡ answers.Refused error
+refusal_is errors.Memory a n is = absurd (n refl)
+refusal_is (errors.InputOutput kind) a n is = is
+refusal_is (errors.Variant kind) a n is = is
+refusal_is (errors.Names kind) a n is = is
+refusal_is errors.InvalidMatchRule a n is = is
+refusal_is errors.IncorrectEndian a n is = is
+refusal_is errors.ExcessData a n is = is
+refusal_is errors.SerialsSpent a n is = is
+refusal_is errors.UnknownHandle a n is = is
+refusal_is errors.Unsupported a n is = is
+refusal_is errors.InvalidField a n is = is
+
+-- no letter was made
+pub letter_refused : {E : Type 0} (setting : Setting) (p : PeerView) (es : List Entry) (lane : ℕ) (w : Words) (error : Error) (r : Result Answer E) (now : Outlet) (writing : Writing)
+    → MakesAsked (Err error) (kept_asks setting p lane w) → IsRefusal error r → Follows setting p es → IsFine (trail setting es).events writing
+    → IfOk r (λ a. Sending setting p es lane w now now writing a)
+letter_refused {E} setting p es lane w error (Ok a) now writing made is f fine =
+    let never = not_memory {E} error a is in
+    not_asked setting p es lane w error a now writing (sym (asks_kept setting p es lane w f) ∙ no_letter (kept_asks setting p lane w) error never made) f (refusal_is {E} error a never is) fine
+letter_refused setting p es lane w error (Err e) now writing made is f fine = tt

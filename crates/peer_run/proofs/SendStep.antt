@@ -16,13 +16,15 @@ use Rattle.peer_route.specs.declared.answer.Answer.{Answer}
 use Rattle.peer_route.specs.declared.answer.Answer.TheVariants as answers
 use Rattle.peer_route.specs.declared.answer.Entry.{Entry}
 use Rattle.peer_route.specs.History as events
-use Rattle.peer_route.specs.Trail.{Trail, Names, asks, given, trail, events_of, send_events, failed_put, failed_name, new_names, new_streams, read_events, poll_spends, drop_spends, stream_makes, take_does, place, count, next_serial, or_zero}
+use Rattle.peer_route.specs.Trail.{Trail, Names, asks, asks_with, kept_at, given, trail, events_of, send_events, failed_put, failed_name, new_names, new_streams, read_events, poll_spends, drop_spends, stream_makes, take_does, place, count, next_serial, or_zero}
 use Rattle.peer_route.specs.Answers.{Legal, IsAnswer, IsCalled, IsSendOf, send_refusal, sent_answer, write_fault}
 use Rattle.peer_route.specs.Told.{ReadTold, WritesTold, encodings}
+use Rattle.peer_route.specs.Streams.{all_given}
 use Rattle.peer_route.specs.Left.{Left}
 use Rattle.peer_route.proofs.Steps.{encodings-append}
 use Rattle.peer_route.proofs.Refused.{send_refused}
-use Rattle.peer_route.proofs.Given.{given_same}
+use Rattle.peer_route.proofs.Sent.{trail_setting}
+use Rattle.peer_route.proofs.Given.{given_same, kept_given}
 use Rattle.peer_run.specs.Stands.{PeerView, Inlet, Outlet, Follows, Reads, Writes, Holds, HoldsThen, RoomFor, IsReadFault, HasWriteFault, IsWriteFault, named, entry}
 use Rattle.peer_run.proofs.Quiet.{follows_more, quiet_same, poll_quiet, drop_quiet, stream_quiet, take_quiet, rise_after, rise_before}
 use Rattle.peer_run.proofs.Kept.{reads_kept, writes_kept}
@@ -70,6 +72,28 @@ sending_is t lane (words.Poll number) asked e = cc
 sending_is t lane (words.Drop number) asked e = cc
 sending_is t lane words.Stream asked e = cc
 sending_is t lane (words.Take number) asked e = cc
+
+-- ---- what the peer keeps
+
+asks_along : (setting : Setting) (f g : ℕ → Option Seen) (w : Words) → ((n : ℕ) → f n ≡ g n) → asks_with setting f w ≡ asks_with setting g w
+asks_along setting f g (words.Call out) e = refl
+asks_along setting f g (words.Signal out) e = refl
+asks_along setting f g (words.Reply stream body) e = ap (λ m. Some (reply_asked setting m body)) (e stream)
+asks_along setting f g (words.Error stream text body) e = ap (λ m. Some (error_asked setting m text body)) (e stream)
+asks_along setting f g words.Read e = refl
+asks_along setting f g (words.Poll number) e = refl
+asks_along setting f g (words.Drop number) e = refl
+asks_along setting f g words.Stream e = refl
+asks_along setting f g (words.Take number) e = refl
+
+-- what a command asks of what the peer keeps, it asks of the history
+pub asks_kept : (setting : Setting) (p : PeerView) (es : List Entry) (lane : ℕ) (w : Words) → Follows setting p es
+    → asks_with setting (λ n. kept_at p.given (place 0 lane n p.streams)) w ≡ asks (trail setting es) lane w
+asks_kept setting p es lane w f =
+    let t = trail setting es in
+    asks_along setting (λ n. kept_at p.given (place 0 lane n p.streams)) (λ n. given t lane n) w
+    (λ n. ap (λ gs. kept_at gs (place 0 lane n p.streams)) f.given ∙ ap (λ ns. kept_at (all_given t.events) (place 0 lane n ns)) f.streams ∙ kept_given t.events (place 0 lane n t.streams))
+    ∙ ap (λ s. asks_with s (λ n. given t lane n) w) (sym (trail_setting setting es))
 
 -- the events of such an entry, in front of those before it
 pub entry_events : (setting : Setting) (es : List Entry) (lane : ℕ) (w : Words) (asked : Asked) (a : Answer) → IsSending (trail setting es) lane w asked

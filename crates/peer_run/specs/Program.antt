@@ -114,7 +114,7 @@ pub record Prints (Such : Script → List Entry → List ℕ → Type 0) (input 
   pub legal : Legal (setting_of script) (reverse entries)
   pub each : map command_of entries ≡ script.commands
   pub such : Such script (reverse entries) sent
-  pub gained : Appends before after (transcript_text script.name script.outfault script.given entries sent)
+  pub gained : Appends before after (transcript_text script.name script.fds script.outfault script.given entries sent)
 
 -- The input passes a limit, or is no script text; what the output gained says so, with the first line outside.
 abbrev pub Refuses : List ℕ → Option (List ℕ) → Option (List ℕ) → Type 0
@@ -152,7 +152,7 @@ pub record IsRunOf (s : Script) (entries : List Entry) (sent : List ℕ) : Type 
 -- A script's commands were run, and its transcript was printed; or not, as above.
 pub data Shows (s : Script) (before after : Option (List ℕ)) (faults faults' : ℕ) (result : ℕ) : Type 0 where
   Shown : (entries : List Entry) (sent : List ℕ) → IsRunOf s entries sent → result ≡ 0
-      → Appends before after (transcript_text s.name s.outfault s.given entries sent) → faults' ≡ faults → Shows s before after faults faults' result
+      → Appends before after (transcript_text s.name s.fds s.outfault s.given entries sent) → faults' ≡ faults → Shows s before after faults faults' result
   ShownPart : result ≡ 5 → MayRise faults faults' → Shows s before after faults faults' result
   ShownNot : result ≡ 1 → faults' ≡ faults → Shows s before after faults faults' result
 

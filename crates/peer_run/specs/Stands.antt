@@ -11,6 +11,7 @@ use Rattle.wire_framing.specs.Send.{Part}
 use Rattle.wire_framing.specs.declared.write_half.Writing.{Writing}
 use Rattle.wire_framing.specs.declared.write_half.Writing.TheVariants.{Fine, Failed}
 use Rattle.peer_route.specs.declared.words.Words.{Words}
+use Rattle.peer_route.specs.declared.words.Words.TheVariants as words
 use Rattle.peer_route.specs.declared.answer.Answer.{Answer}
 use Rattle.peer_route.specs.declared.answer.Answer.TheVariants as answers
 use Rattle.peer_route.specs.declared.answer.Entry.{Entry}
@@ -145,3 +146,32 @@ unsent_answer error = Some (answers.Refused error)
 abbrev pub NotIssued : {E : Type 0} → Error → Result Answer E → Type 0
 NotIssued error (Ok answer) = unsent_answer error ≡ Some answer
 NotIssued error (Err e) = unsent_answer error ≡ None
+
+-- words that were refused; not want of memory
+abbrev pub IsRefusal : {E : Type 0} → Error → Result Answer E → Type 0
+IsRefusal errors.Memory (Ok answer) = ⊥
+IsRefusal error (Ok answer) = answer ≡ answers.Refused error
+IsRefusal error (Err e) = error ≡ errors.Memory
+
+-- the command is one that sends a message
+abbrev pub sends : Words → Bool
+sends (words.Call w) = true
+sends (words.Signal w) = true
+sends (words.Reply stream body) = true
+sends (words.Error stream name body) = true
+sends words.Read = false
+sends (words.Poll number) = false
+sends (words.Drop number) = false
+sends words.Stream = false
+sends (words.Take number) = false
+
+-- a peer of this name, whose sink takes file descriptors or takes none
+abbrev pub setting_by : Option (List ℕ) → Bool → Setting
+setting_by name takes = record { name = name; takes_fds = takes }
+
+-- what a command that sends leaves, by what the sink told before it and after it
+pub record Sending (setting : Setting) (p : PeerView) (es : List Entry) (lane : ℕ) (w : Words) (now after : Outlet) (writing : Writing) (answer : Answer) : Type 0 where
+  pub follows : Follows setting p (entry lane w answer ∷ es)
+  pub writes : (start : Outlet) → Writes setting start now es → Writes setting start after (entry lane w answer ∷ es)
+  pub reads : (start now_in : Inlet) → Reads setting start now_in es → Reads setting start now_in (entry lane w answer ∷ es)
+  pub fine : IsFine (trail setting (entry lane w answer ∷ es)).events writing

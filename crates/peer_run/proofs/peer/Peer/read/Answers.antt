@@ -18,7 +18,7 @@ returns-in_ok-arrive-in-Ok-clause-follows g c setting es lane f =
     let seq : c.received.result ≡ c.self.inside.route.read = c.received.ensures in
     let below : c.received.result + 1 ≢ 2 ^ 64 - 1 = λ e. let z = c.in-Ok.ensures.last e in cc in
     rw (c.in_ok-copy-in-Ok.ensures)
-    (follows_got setting _ _ es lane c.in-Ok.message none (sym (c.busy.ensures.busy (trail setting es).events k.left) ∙ c.if-busy.false) k takes.0 (takes.1 ∙ ap (λ n. n + 1) seq) (omega (arith, seq, below, k.within)) refl refl
+    (follows_got setting _ _ es lane c.in-Ok.message none (sym (c.busy.ensures.busy (trail setting es).events k.left) ∙ c.if-busy.false) k takes.0 (takes.1 ∙ ap (λ n. n + 1) seq) (omega (arith, seq, below, k.within)) refl refl refl
     (c.in_ok-arrive-in-Ok.ensures.left (trail setting es).events k.left))
 
 pub returns-in_ok-arrive-in-Ok-clause-reads : goal.returns-in_ok-arrive-in-Ok-clause-reads
@@ -39,7 +39,7 @@ returns-in_default-error g c =
     record {
       follows = λ setting es lane f.
           let k : Follows setting _ es = rw (← c.self.view_is) at f in
-          follows_shut setting _ _ es lane c.in-Err.error none (sym (c.busy.ensures.busy (trail setting es).events k.left) ∙ c.if-busy.false) k takes.0 c.in_default-error.not-Memory refl refl
+          follows_shut setting _ _ es lane c.in-Err.error none (sym (c.busy.ensures.busy (trail setting es).events k.left) ∙ c.if-busy.false) k takes.0 c.in_default-error.not-Memory refl refl refl
           (c.close.ensures (trail setting es).events k.left);
       reads = λ setting start es lane f r.
           let k : Follows setting _ es = rw (← c.self.view_is) at f in

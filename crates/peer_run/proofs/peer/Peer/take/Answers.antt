@@ -6,8 +6,8 @@ use Rattle.peer_run.proofs.peer.Peer.take.Goals as goal
 
 pub returns-in-Some-clause-follows : goal.returns-in-Some-clause-follows
 returns-in-Some-clause-follows c setting es f =
-    let p : PeerView = record { core = c.self.inside.route; names = c.self.inside.names.items; streams = c.self.inside.streams.items } in
-    let q : PeerView = record { core = c.take.new.self; names = c.self.inside.names.items; streams = c.self.inside.streams.items } in
+    let p : PeerView = record { core = c.self.inside.route; names = c.self.inside.names.items; streams = c.self.inside.streams.items; given = c.self.inside.given.items } in
+    let q : PeerView = record { core = c.take.new.self; names = c.self.inside.names.items; streams = c.self.inside.streams.items; given = c.self.inside.given.items } in
     let g : Follows setting p es = rw (← c.self.view_is) at f in
     rw (c.shown_take.ensures)
     (follows_take setting p q es c.args.lane c.args.number c.in-Some.number c.take.result g
