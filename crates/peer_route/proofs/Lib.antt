@@ -5,6 +5,9 @@ pub mod Queues
 pub mod CallsMade
 pub mod Slots
 pub mod StreamsMade
+pub mod Given
+pub mod AnyOrder
+pub mod Asked
 pub mod Core
 pub mod Issuing
 pub mod NextSerial

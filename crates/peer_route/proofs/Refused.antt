@@ -25,7 +25,7 @@ take_refused : (p : Option ℕ) (error : Error) → take_does p (answers.Refused
 take_refused None error = refl
 take_refused (Some k) error = refl
 
-send_refused : (h : List Event) (asked : Asked) (error : Error) → send_events h asked (answers.Refused error) ≡ []
+pub send_refused : (h : List Event) (asked : Asked) (error : Error) → send_events h asked (answers.Refused error) ≡ []
 send_refused h (Ok parcel) error = refl
 send_refused h (Err e) error = refl
 

@@ -1,5 +1,5 @@
 -- The streams of a history: the messages that each matches, those that it holds still, and what it gives next.
-use Rattle.std.specs.Prelude.{ℕ, zero, suc, ◌+◌, Bool, true, false, ◌&&◌, nat_lt, is_none, is_some, List, [], ◌∷◌, ◌++◌, length, drop, slice_get, Option, Some, None, Result, Ok, Err}
+use Rattle.std.specs.Prelude.{ℕ, zero, suc, ◌+◌, Bool, true, false, ◌&&◌, nat_lt, is_none, is_some, List, [], ◌∷◌, ◌++◌, length, drop, map, slice_get, Option, Some, None, Result, Ok, Err}
 use Rattle.std.specs.List.{list_any}
 use Rattle.wire_message.specs.Front.{Seen}
 use Rattle.wire_message.specs.declared.error.Error.{Error}
@@ -53,6 +53,10 @@ item_at ms (suc n) = slice_get ms n
 -- The message that the stream gave last; none where it gave none.
 unfoldable pub gave_last : List Event → Stream → Option Seen
 gave_last h s = item_at (matched h s) s.taken
+
+-- for each stream, the message that it gave last
+abbrev pub all_given : List Event → List (Option Seen)
+all_given h = map (gave_last h) (streams h)
 
 -- Those that it didn't give yet.
 unfoldable pub held : List Event → Stream → List Seen

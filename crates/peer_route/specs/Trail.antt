@@ -65,21 +65,33 @@ abbrev pub given_at : List Event → Option ℕ → Option Seen
 given_at h None = None
 given_at h (Some k) = given_by h (slice_get (streams h) k)
 
+-- the same, where it is kept for each stream
+abbrev pub kept_by : Option (Option Seen) → Option Seen
+kept_by None = None
+kept_by (Some o) = o
+
+abbrev pub kept_at : List (Option Seen) → Option ℕ → Option Seen
+kept_at gs None = None
+kept_at gs (Some k) = kept_by (slice_get gs k)
+
 -- The message that a lane's stream gave last; none where the number names no stream, or the stream gave none.
 abbrev pub given : Trail → ℕ → ℕ → Option Seen
 given t lane number = given_at t.events (place 0 lane number t.streams)
 
--- What a lane's command asks to be sent; none where it is no command that sends.
+-- What a command asks to be sent, by the message that each stream of its lane gave last; none where it is no command that sends.
+abbrev pub asks_with : Setting → (ℕ → Option Seen) → Words → Option Asked
+asks_with setting given (words.Call w) = Some (call_asked setting w)
+asks_with setting given (words.Signal w) = Some (signal_asked setting w)
+asks_with setting given (words.Reply stream body) = Some (reply_asked setting (given stream) body)
+asks_with setting given (words.Error stream name body) = Some (error_asked setting (given stream) name body)
+asks_with setting given words.Read = None
+asks_with setting given (words.Poll number) = None
+asks_with setting given (words.Drop number) = None
+asks_with setting given words.Stream = None
+asks_with setting given (words.Take number) = None
+
 abbrev pub asks : Trail → ℕ → Words → Option Asked
-asks t lane (words.Call w) = Some (call_asked t.setting w)
-asks t lane (words.Signal w) = Some (signal_asked t.setting w)
-asks t lane (words.Reply stream body) = Some (reply_asked t.setting (given t lane stream) body)
-asks t lane (words.Error stream name body) = Some (error_asked t.setting (given t lane stream) name body)
-asks t lane words.Read = None
-asks t lane (words.Poll number) = None
-asks t lane (words.Drop number) = None
-asks t lane words.Stream = None
-asks t lane (words.Take number) = None
+asks t lane w = asks_with t.setting (λ number. given t lane number) w
 
 -- ---- events of an entry
 

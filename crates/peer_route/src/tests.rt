@@ -6,6 +6,7 @@ use crate::{
 };
 use std::alloc::Global;
 use std::test::Fail;
+use wire_body::Body;
 use wire_message::{Error, Flags, IoKind, Message, Taken, header_front};
 use wire_names::{MemberName, ObjectPath};
 
@@ -39,6 +40,18 @@ fn arrive(route: &mut Route, alloc: Global, position: u64) -> Result<(), Fail> {
     Ok(())
 }
 
+/// The body without values.
+fn nothing(alloc: Global) -> Result<Body, Error> {
+    Body::from_values(alloc, Vec::new(alloc)).map_err(Error::Variant)
+}
+
+/// Issues the method call of `do` at `/`.
+fn call(route: &mut Route, alloc: Global) -> Result<Issued, Error> {
+    let path = ObjectPath::try_from("/").map_err(Error::Names)?;
+    let member = MemberName::try_from("do").map_err(Error::Names)?;
+    route.issue(Message::method_call(&path, &member), &nothing(alloc)?, &[])
+}
+
 fn position(polled: Polled<Message>) -> Option<u64> {
     match polled {
         Polled::Now(message) => Some(message.recv_position()),
@@ -49,10 +62,7 @@ fn position(polled: Polled<Message>) -> Option<u64> {
 #[test]
 fn one_call_is_answered_once(rt: HostRuntime) -> Result<(), Fail> {
     let mut route = Route::new(rt.alloc());
-    let issued = route.issue(Message::method_call(
-        &ObjectPath::try_from("/")?,
-        &MemberName::try_from("do")?,
-    ))?;
+    let issued = call(&mut route, rt.alloc())?;
     assert_eq!(rt;
         issued,
         Issued {
@@ -72,7 +82,7 @@ fn one_call_is_answered_once(rt: HostRuntime) -> Result<(), Fail> {
 #[test]
 fn a_message_is_written_once(rt: HostRuntime) -> Result<(), Fail> {
     let mut route = Route::new(rt.alloc());
-    route.issue(Message::method_call(&ObjectPath::try_from("/")?, &MemberName::try_from("do")?))?;
+    call(&mut route, rt.alloc())?;
     assert_eq!(rt; route.outbox_done(), 0);
     assert!(rt; !route.is_failed());
     route.wrote(0);
@@ -84,7 +94,7 @@ fn a_message_is_written_once(rt: HostRuntime) -> Result<(), Fail> {
 #[test]
 fn a_reply_is_given_once(rt: HostRuntime) -> Result<(), Fail> {
     let mut route = Route::new(rt.alloc());
-    route.issue(Message::method_call(&ObjectPath::try_from("/")?, &MemberName::try_from("do")?))?;
+    call(&mut route, rt.alloc())?;
     arrive(&mut route, rt.alloc(), 1)?;
     assert_eq!(rt; route.received(), 1);
     assert_eq!(rt; position(route.poll(0)?), Some(1));
@@ -95,10 +105,8 @@ fn a_reply_is_given_once(rt: HostRuntime) -> Result<(), Fail> {
 #[test]
 fn calls_are_numbered(rt: HostRuntime) -> Result<(), Fail> {
     let mut route = Route::new(rt.alloc());
-    let path = ObjectPath::try_from("/")?;
-    let member = MemberName::try_from("do")?;
-    route.issue(Message::method_call(&path, &member))?;
-    let second = route.issue(Message::method_call(&path, &member))?;
+    call(&mut route, rt.alloc())?;
+    let second = call(&mut route, rt.alloc())?;
     assert_eq!(rt;
         second,
         Issued {
@@ -118,15 +126,13 @@ fn calls_are_numbered(rt: HostRuntime) -> Result<(), Fail> {
 #[test]
 fn a_fault_ends_its_call(rt: HostRuntime) -> Result<(), Fail> {
     let mut route = Route::new(rt.alloc());
-    let path = ObjectPath::try_from("/")?;
-    let member = MemberName::try_from("do")?;
-    route.issue(Message::method_call(&path, &member))?;
+    call(&mut route, rt.alloc())?;
     assert_eq!(rt; route.outbox_done(), 0);
     assert!(rt; 0 < route.outbox_len());
     route.write_fault(0);
     assert!(rt; route.is_failed());
     assert_eq!(rt;
-        route.issue(Message::method_call(&path, &member)).err(),
+        call(&mut route, rt.alloc()).err(),
         Some(Error::InputOutput(IoKind::WriteFault))
     );
     assert_eq!(rt; route.poll(0).err(), Some(Error::UnknownHandle));
@@ -200,10 +206,7 @@ fn a_stream_ends_with_the_peer(rt: HostRuntime) -> Result<(), Fail> {
 #[test]
 fn a_dropped_call_is_unknown(rt: HostRuntime) -> Result<(), Fail> {
     let mut route = Route::new(rt.alloc());
-    let issued = route.issue(Message::method_call(
-        &ObjectPath::try_from("/")?,
-        &MemberName::try_from("do")?,
-    ))?;
+    let issued = call(&mut route, rt.alloc())?;
     let call = issued.call.ok_or("no call")?;
     route.drop_call(call)?;
     arrive(&mut route, rt.alloc(), 1)?;
@@ -227,7 +230,7 @@ fn a_call_without_reply_is_no_call(rt: HostRuntime) -> Result<(), Fail> {
     let path = ObjectPath::try_from("/")?;
     let member = MemberName::try_from("do")?;
     let builder = Message::method_call(&path, &member).with_flags(Flags::NoReplyExpected)?;
-    let first = route.issue(builder)?;
+    let first = route.issue(builder, &nothing(rt.alloc())?, &[])?;
     assert_eq!(rt;
         first,
         Issued {
@@ -237,7 +240,7 @@ fn a_call_without_reply_is_no_call(rt: HostRuntime) -> Result<(), Fail> {
         }
     );
     assert_eq!(rt; route.poll(0).err(), Some(Error::UnknownHandle));
-    let second = route.issue(Message::method_call(&path, &member))?;
+    let second = call(&mut route, rt.alloc())?;
     assert_eq!(rt; second.call, Some(0));
     arrive(&mut route, rt.alloc(), 1)?;
     assert!(rt; matches!(route.poll(0)?, Polled::NotYet));

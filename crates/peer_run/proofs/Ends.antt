@@ -1,5 +1,6 @@
 -- From what a run keeps to what it gives.
 use Rattle.std.proofs.Common.{◌≡◌, ℕ, refl, ◌-◌, ap, arith, Bool, false, IfSome, append-nil, sym, subst, List, [], map, reverse, Option, Some, None, Result, Ok, Err, IfOk}
+use Rattle.peer_route.specs.Parcel.{Setting}
 use Rattle.peer_route.specs.declared.words.Command.{Command}
 use Rattle.peer_route.specs.declared.answer.Entry.{Entry}
 use Rattle.peer_route.specs.History.{Event, put, is_failed}
@@ -8,9 +9,9 @@ use Rattle.peer_route.specs.Told.{IsSentOf, WritesTold, ReadsTold, left_after}
 use Rattle.wire_framing.specs.Sink.{RoomFalls}
 use Rattle.wire_framing.specs.declared.write_half.Writing.{Writing}
 use Rattle.peer_script.specs.Script.{Script}
-use Rattle.peer_run.specs.Stands.{Inlet, Outlet, PeerView, Reads, Writes, Holds, HoldsThen, IsRest}
+use Rattle.peer_run.specs.Stands.{Inlet, Outlet, PeerView, Reads, Writes, Holds, HoldsThen, IsRest, setting_by}
 use Rattle.peer_run.specs.Runs.{Stands, Runs, command_of}
-use Rattle.peer_run.specs.Program.{source_bytes, source_breaks, IsRunOf}
+use Rattle.peer_run.specs.Program.{setting_of, source_bytes, source_breaks, IsRunOf}
 
 -- ---- before the first command
 
@@ -18,14 +19,14 @@ rest_all : (left : Option (List ℕ)) (stop : Option Bool) → IfSome left (λ b
 rest_all None stop = tt
 rest_all (Some bytes) stop = (refl, refl)
 
-told_nothing : (name : Option (List ℕ)) (left : Option (List ℕ)) (stop : Option Bool) → IfSome left (λ bytes. ReadsTold name stop bytes [])
-told_nothing name None stop = tt
-told_nothing name (Some bytes) stop = tt
+told_nothing : (setting : Setting) (left : Option (List ℕ)) (stop : Option Bool) → IfSome left (λ bytes. ReadsTold setting stop bytes [])
+told_nothing setting None stop = tt
+told_nothing setting (Some bytes) stop = tt
 
 -- nothing was read
-pub start_reads : (name : Option (List ℕ)) (start : Inlet) → Reads name start start []
-start_reads name start = record {
-  told = told_nothing name start.left start.stop;
+pub start_reads : (setting : Setting) (start : Inlet) → Reads setting start start []
+start_reads setting start = record {
+  told = told_nothing setting start.left start.stop;
   rest = rest_all start.left start.stop;
   cause = λ f. absurd f;
   kept = omega arith;
@@ -46,8 +47,8 @@ room_still (Some None) = refl
 room_still (Some (Some k)) = (omega arith, let e : k ≡ k - 0 = omega arith in ap (λ n. Some (Some n)) e)
 
 -- nothing was written
-pub start_writes : (name : Option (List ℕ)) (start : Outlet) → Writes name start start []
-start_writes name start = record {
+pub start_writes : (setting : Setting) (start : Outlet) → Writes setting start start []
+start_writes setting start = record {
   holds = holds_same_still start.room start.held;
   room = room_still start.room;
   cause = λ f. absurd f;
@@ -56,10 +57,10 @@ start_writes name start = record {
 }
 
 -- what stands to a history is a run of its commands
-pub runs_of : (name : Option (List ℕ)) (start_in : Inlet) (start_out : Outlet) (p : PeerView) (end_in : Inlet) (end_out : Outlet) (writing : Writing) (commands : List Command) (entries : List Entry)
-    → Stands name start_in start_out p end_in end_out writing (reverse entries) → map command_of entries ≡ commands
-    → Runs name start_in start_out end_in end_out commands entries
-runs_of name start_in start_out p end_in end_out writing commands entries s e = record {
+pub runs_of : (setting : Setting) (start_in : Inlet) (start_out : Outlet) (p : PeerView) (end_in : Inlet) (end_out : Outlet) (writing : Writing) (commands : List Command) (entries : List Entry)
+    → Stands setting start_in start_out p end_in end_out writing (reverse entries) → map command_of entries ≡ commands
+    → Runs setting start_in start_out end_in end_out commands entries
+runs_of setting start_in start_out p end_in end_out writing commands entries s e = record {
   legal = s.follows.legal;
   each = e;
   reads = s.reads.told;
@@ -75,12 +76,14 @@ sent_of room held h w =
     (subst (λ bytes. IsSentOf h bytes) same w.bytes, subst (λ bytes. WritesTold (Some room) (is_failed h) (put h) bytes) same w.told)
 
 -- a run over what a script gives, in memory, is a run of the script
-pub run_of : (start_in : Inlet) (start_out : Outlet) (end_in : Inlet) (end_out : Outlet) (s : Script) (entries : List Entry) (held : List ℕ)
+pub run_of : (start_in : Inlet) (start_out : Outlet) (end_in : Inlet) (end_out : Outlet) (s : Script) (takes : Bool) (entries : List Entry) (held : List ℕ)
     → start_in.left ≡ Some (source_bytes s.given) → start_in.stop ≡ Some (source_breaks s.given)
-    → start_out.held ≡ Some [] → start_out.room ≡ Some s.outfault → end_out.held ≡ Some held
-    → Runs s.name start_in start_out end_in end_out s.commands entries → IsRunOf s entries held
-run_of start_in start_out end_in end_out s entries held left stop before room after r =
-    let h = (trail s.name (reverse entries)).events in
+    → start_out.held ≡ Some [] → start_out.room ≡ Some s.outfault → end_out.held ≡ Some held → takes ≡ s.fds
+    → Runs (setting_by s.name takes) start_in start_out end_in end_out s.commands entries → IsRunOf s entries held
+run_of start_in start_out end_in end_out s takes entries held left stop before room after fds run =
+    let h = (trail (setting_of s) (reverse entries)).events in
+    let r : Runs (setting_of s) start_in start_out end_in end_out s.commands entries =
+    subst (λ b. Runs (setting_by s.name b) start_in start_out end_in end_out s.commands entries) fds run in
     let reads = rw (left, stop) at r.reads in
     let writes = rw (before, room, after) at r.writes in
     let w = sent_of s.outfault held h writes in

@@ -5,20 +5,19 @@ use Rattle.std.proofs.lemmas.Bool.{cases_lt}
 use Rattle.std.specs.Io.KnownBytes.{Consumes}
 use Rattle.wire_framing.specs.Receive.{Takes, HasCause, spent}
 use Rattle.wire_framing.specs.Kept.{TakesKept, rest_of}
-use Rattle.wire_framing.specs.Writing.{has_descriptors, is_unsupported}
 use Rattle.wire_message.specs.Front.{Seen, Front}
-use Rattle.wire_message.specs.Draft.{Draft}
 use Rattle.wire_message.specs.Outcome.{IsReadRefusal}
 use Rattle.wire_message.specs.declared.error.Error.{Error}
 use Rattle.wire_message.specs.declared.error.Error.TheVariants as errors
 use Rattle.wire_message.specs.declared.error.IoKind.TheVariants as kinds
+use Rattle.peer_route.specs.Parcel.{Setting, Asked}
 use Rattle.peer_route.specs.declared.words.Words.{Words}
 use Rattle.peer_route.specs.declared.words.Words.TheVariants as words
 use Rattle.peer_route.specs.declared.answer.Answer.{Answer}
 use Rattle.peer_route.specs.declared.answer.Answer.TheVariants as answers
 use Rattle.peer_route.specs.declared.answer.Entry.{Entry}
 use Rattle.peer_route.specs.History as events
-use Rattle.peer_route.specs.Trail.{trail, read_events, call_events, failed_put, poll_spends, drop_spends, stream_makes, take_does, place}
+use Rattle.peer_route.specs.Trail.{trail, read_events, send_events, failed_put, poll_spends, drop_spends, stream_makes, take_does, place}
 use Rattle.peer_run.specs.Stands.{entry}
 use Rattle.peer_run.proofs.Quiet.{quiet_same, poll_quiet, drop_quiet, stream_quiet, take_quiet}
 
@@ -80,20 +79,17 @@ keeps_err seq (Err e) kept' left left' stop stop' faults faults' asked asked' wi
 
 -- ---- a send
 
--- a message without descriptors is refused by no sink
-pub supported : (fds : Option ℕ) (takes : Bool) → has_descriptors fds ≡ false → is_unsupported fds takes ≡ false
-supported fds takes none = rw none refl
-
 put_before : (failed : Bool) (m : Seen) (expects : Bool) (h : List events.Event) → events.is_failed h ≡ failed
     → events.is_failed (failed_put failed (events.Put m expects) ++ h) ≡ false → events.is_failed h ≡ false
 put_before true m expects h e f = f
 put_before false m expects h e f = e
 
-call_before : (h : List events.Event) (draft : Draft) (a : Answer) → events.is_failed (call_events h draft a ++ h) ≡ false → events.is_failed h ≡ false
-call_before h draft (answers.Called call serial) f = f
-call_before h draft (answers.Sent serial) f = f
-call_before h draft (answers.SendFailed error) f = put_before (events.is_failed h) _ _ h refl f
-call_before h draft a f = f
+send_before : (h : List events.Event) (asked : Asked) (a : Answer) → events.is_failed (send_events h asked a ++ h) ≡ false → events.is_failed h ≡ false
+send_before h (Ok parcel) (answers.Called call serial) f = f
+send_before h (Ok parcel) (answers.Sent serial) f = f
+send_before h (Ok parcel) (answers.SendFailed error) f = put_before (events.is_failed h) _ _ h refl f
+send_before h (Ok parcel) a f = f
+send_before h (Err error) a f = f
 
 read_before : (closing : Option Error) (a : Answer) (h : List events.Event) → events.is_failed (read_events closing a ++ h) ≡ false → events.is_failed h ≡ false
 read_before (Some error) a h f = f
@@ -102,11 +98,14 @@ read_before None (answers.Closed error) h f = f
 read_before None a h f = f
 
 -- where no write failed, none had failed an entry before
-pub fine_before : (name : Option (List ℕ)) (es : List Entry) (lane : ℕ) (w : Words) (a : Answer)
-    → events.is_failed (trail name (entry lane w a ∷ es)).events ≡ false → events.is_failed (trail name es).events ≡ false
-fine_before name es lane (words.Call destination path interface member flags) a f = call_before (trail name es).events _ a f
-fine_before name es lane words.Read a f = read_before (events.closing (trail name es).events) a (trail name es).events f
-fine_before name es lane (words.Poll number) a f = sym (quiet_same (poll_spends (place 0 lane number (trail name es).names) a) (trail name es).events (poll_quiet (place 0 lane number (trail name es).names) a)).failed ∙ f
-fine_before name es lane (words.Drop number) a f = sym (quiet_same (drop_spends (place 0 lane number (trail name es).names) a) (trail name es).events (drop_quiet (place 0 lane number (trail name es).names) a)).failed ∙ f
-fine_before name es lane words.Stream a f = sym (quiet_same (stream_makes a) (trail name es).events (stream_quiet a)).failed ∙ f
-fine_before name es lane (words.Take number) a f = sym (quiet_same (take_does (place 0 lane number (trail name es).streams) a) (trail name es).events (take_quiet (place 0 lane number (trail name es).streams) a)).failed ∙ f
+pub fine_before : (setting : Setting) (es : List Entry) (lane : ℕ) (w : Words) (a : Answer)
+    → events.is_failed (trail setting (entry lane w a ∷ es)).events ≡ false → events.is_failed (trail setting es).events ≡ false
+fine_before setting es lane (words.Call out) a f = send_before (trail setting es).events _ a f
+fine_before setting es lane (words.Signal out) a f = send_before (trail setting es).events _ a f
+fine_before setting es lane (words.Reply stream body) a f = send_before (trail setting es).events _ a f
+fine_before setting es lane (words.Error stream error_name body) a f = send_before (trail setting es).events _ a f
+fine_before setting es lane words.Read a f = read_before (events.closing (trail setting es).events) a (trail setting es).events f
+fine_before setting es lane (words.Poll number) a f = sym (quiet_same (poll_spends (place 0 lane number (trail setting es).names) a) (trail setting es).events (poll_quiet (place 0 lane number (trail setting es).names) a)).failed ∙ f
+fine_before setting es lane (words.Drop number) a f = sym (quiet_same (drop_spends (place 0 lane number (trail setting es).names) a) (trail setting es).events (drop_quiet (place 0 lane number (trail setting es).names) a)).failed ∙ f
+fine_before setting es lane words.Stream a f = sym (quiet_same (stream_makes a) (trail setting es).events (stream_quiet a)).failed ∙ f
+fine_before setting es lane (words.Take number) a f = sym (quiet_same (take_does (place 0 lane number (trail setting es).streams) a) (trail setting es).events (take_quiet (place 0 lane number (trail setting es).streams) a)).failed ∙ f

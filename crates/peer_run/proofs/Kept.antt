@@ -2,6 +2,7 @@
 use Rattle.std.proofs.Common.{◌≡◌, ℕ, refl, sym, ◌∙◌, Bool, List, ◌∷◌, ◌++◌, Option, Some, None, IfSome, inl, inr}
 use Rattle.wire_message.specs.Front.{Seen}
 use Rattle.wire_message.specs.declared.error.Error.{Error}
+use Rattle.peer_route.specs.Parcel.{Setting}
 use Rattle.peer_route.specs.declared.words.Words.{Words}
 use Rattle.peer_route.specs.declared.words.Words.TheVariants as words
 use Rattle.peer_route.specs.declared.answer.Answer.{Answer}
@@ -15,26 +16,26 @@ use Rattle.peer_run.specs.Stands.{Inlet, Outlet, Reads, Writes, IsRest, HoldsThe
 -- ---- the source
 
 -- what an entry that reads nothing leaves of the source
-pub reads_kept : (name : Option (List ℕ)) (start now : Inlet) (es : List Entry) (lane : ℕ) (w : Words) (a : Answer)
-    → events.read (trail name (entry lane w a ∷ es)).events ≡ events.read (trail name es).events
-    → events.closing (trail name (entry lane w a ∷ es)).events ≡ events.closing (trail name es).events
-    → ((stop : Option Bool) (bytes : List ℕ) → ReadTold stop bytes (trail name es).events (events.closing (trail name es).events) w a)
+pub reads_kept : (setting : Setting) (start now : Inlet) (es : List Entry) (lane : ℕ) (w : Words) (a : Answer)
+    → events.read (trail setting (entry lane w a ∷ es)).events ≡ events.read (trail setting es).events
+    → events.closing (trail setting (entry lane w a ∷ es)).events ≡ events.closing (trail setting es).events
+    → ((stop : Option Bool) (bytes : List ℕ) → ReadTold stop bytes (trail setting es).events (events.closing (trail setting es).events) w a)
     → (IsReadFault a → HasReadFault es)
-    → Reads name start now es → Reads name start now (entry lane w a ∷ es)
-reads_kept name start now es lane w a same_read same_closing told fault r = record {
+    → Reads setting start now es → Reads setting start now (entry lane w a ∷ es)
+reads_kept setting start now es lane w a same_read same_closing told fault r = record {
   told = told_kept start.left r.told;
   rest = rest_kept start.left r.rest;
   cause = λ f. r.cause (fault_kept f);
   kept = r.kept;
 }
   where
-    told_kept : (left : Option (List ℕ)) → IfSome left (λ bytes. ReadsTold name start.stop bytes es) → IfSome left (λ bytes. ReadsTold name start.stop bytes (entry lane w a ∷ es))
+    told_kept : (left : Option (List ℕ)) → IfSome left (λ bytes. ReadsTold setting start.stop bytes es) → IfSome left (λ bytes. ReadsTold setting start.stop bytes (entry lane w a ∷ es))
     told_kept None t = tt
     told_kept (Some bytes) t = (told start.stop bytes, t)
 
     rest_kept : (left : Option (List ℕ))
-        → IfSome left (λ bytes. IsRest (events.closing (trail name es).events) (left_after bytes (trail name es).events) start.stop now.left now.stop)
-        → IfSome left (λ bytes. IsRest (events.closing (trail name (entry lane w a ∷ es)).events) (left_after bytes (trail name (entry lane w a ∷ es)).events) start.stop now.left now.stop)
+        → IfSome left (λ bytes. IsRest (events.closing (trail setting es).events) (left_after bytes (trail setting es).events) start.stop now.left now.stop)
+        → IfSome left (λ bytes. IsRest (events.closing (trail setting (entry lane w a ∷ es)).events) (left_after bytes (trail setting (entry lane w a ∷ es)).events) start.stop now.left now.stop)
     rest_kept None t = tt
     rest_kept (Some bytes) t = rw (same_closing, same_read) t
 
@@ -50,12 +51,12 @@ holds_same room before None h g f p w = w
 holds_same room before (Some after) h g f p w = record { sent = w.sent; appended = w.appended; bytes = rw (f, p) w.bytes; told = rw (f, p) w.told }
 
 -- what an entry that sends nothing leaves of the sink
-pub writes_kept : (name : Option (List ℕ)) (start now : Outlet) (es : List Entry) (lane : ℕ) (w : Words) (a : Answer)
-    → events.is_failed (trail name (entry lane w a ∷ es)).events ≡ events.is_failed (trail name es).events
-    → events.put (trail name (entry lane w a ∷ es)).events ≡ events.put (trail name es).events
+pub writes_kept : (setting : Setting) (start now : Outlet) (es : List Entry) (lane : ℕ) (w : Words) (a : Answer)
+    → events.is_failed (trail setting (entry lane w a ∷ es)).events ≡ events.is_failed (trail setting es).events
+    → events.put (trail setting (entry lane w a ∷ es)).events ≡ events.put (trail setting es).events
     → (IsWriteFault a → HasWriteFault es)
-    → Writes name start now es → Writes name start now (entry lane w a ∷ es)
-writes_kept name start now es lane w a same_failed same_put fault r = record {
+    → Writes setting start now es → Writes setting start now (entry lane w a ∷ es)
+writes_kept setting start now es lane w a same_failed same_put fault r = record {
   holds = holds_kept start.held r.holds;
   room = rw (same_failed, same_put) r.room;
   cause = λ f. r.cause (fault_kept f);
@@ -63,10 +64,10 @@ writes_kept name start now es lane w a same_failed same_put fault r = record {
   only = λ f. r.only (sym same_failed ∙ f);
 }
   where
-    holds_kept : (held : Option (List ℕ)) → IfSome held (λ before. HoldsThen start.room before now.held (trail name es).events)
-        → IfSome held (λ before. HoldsThen start.room before now.held (trail name (entry lane w a ∷ es)).events)
+    holds_kept : (held : Option (List ℕ)) → IfSome held (λ before. HoldsThen start.room before now.held (trail setting es).events)
+        → IfSome held (λ before. HoldsThen start.room before now.held (trail setting (entry lane w a ∷ es)).events)
     holds_kept None t = tt
-    holds_kept (Some before) t = holds_same start.room before now.held (trail name es).events (trail name (entry lane w a ∷ es)).events same_failed same_put t
+    holds_kept (Some before) t = holds_same start.room before now.held (trail setting es).events (trail setting (entry lane w a ∷ es)).events same_failed same_put t
 
     fault_kept : HasWriteFault (entry lane w a ∷ es) → HasWriteFault es
     fault_kept (inl f) = fault f
@@ -80,17 +81,17 @@ read_puts None (answers.Got m) h = (refl, refl)
 read_puts None (answers.Closed error) h = (refl, refl)
 read_puts None a h = (refl, refl)
 
-pub writes_closed : (name : Option (List ℕ)) (start now : Outlet) (es : List Entry) (lane : ℕ) (error : Error) → Writes name start now es → Writes name start now (entry lane words.Read (answers.Closed error) ∷ es)
-writes_closed name start now es lane error r =
-    let p = read_puts (events.closing (trail name es).events) (answers.Closed error) (trail name es).events in
-    writes_kept name start now es lane words.Read (answers.Closed error) p.0 p.1 (λ f. cc) r
+pub writes_closed : (setting : Setting) (start now : Outlet) (es : List Entry) (lane : ℕ) (error : Error) → Writes setting start now es → Writes setting start now (entry lane words.Read (answers.Closed error) ∷ es)
+writes_closed setting start now es lane error r =
+    let p = read_puts (events.closing (trail setting es).events) (answers.Closed error) (trail setting es).events in
+    writes_kept setting start now es lane words.Read (answers.Closed error) p.0 p.1 (λ f. cc) r
 
-pub writes_got : (name : Option (List ℕ)) (start now : Outlet) (es : List Entry) (lane : ℕ) (m : Seen) → Writes name start now es → Writes name start now (entry lane words.Read (answers.Got m) ∷ es)
-writes_got name start now es lane m r =
-    let p = read_puts (events.closing (trail name es).events) (answers.Got m) (trail name es).events in
-    writes_kept name start now es lane words.Read (answers.Got m) p.0 p.1 (λ f. cc) r
+pub writes_got : (setting : Setting) (start now : Outlet) (es : List Entry) (lane : ℕ) (m : Seen) → Writes setting start now es → Writes setting start now (entry lane words.Read (answers.Got m) ∷ es)
+writes_got setting start now es lane m r =
+    let p = read_puts (events.closing (trail setting es).events) (answers.Got m) (trail setting es).events in
+    writes_kept setting start now es lane words.Read (answers.Got m) p.0 p.1 (λ f. cc) r
 
-pub writes_busy : (name : Option (List ℕ)) (start now : Outlet) (es : List Entry) (lane : ℕ) → Writes name start now es → Writes name start now (entry lane words.Read answers.Busy ∷ es)
-writes_busy name start now es lane r =
-    let p = read_puts (events.closing (trail name es).events) answers.Busy (trail name es).events in
-    writes_kept name start now es lane words.Read answers.Busy p.0 p.1 (λ f. cc) r
+pub writes_busy : (setting : Setting) (start now : Outlet) (es : List Entry) (lane : ℕ) → Writes setting start now es → Writes setting start now (entry lane words.Read answers.Busy ∷ es)
+writes_busy setting start now es lane r =
+    let p = read_puts (events.closing (trail setting es).events) answers.Busy (trail setting es).events in
+    writes_kept setting start now es lane words.Read answers.Busy p.0 p.1 (λ f. cc) r

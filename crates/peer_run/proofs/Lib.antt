@@ -6,9 +6,9 @@ pub mod ReadStep
 pub mod QuietStep
 pub mod PollStep
 pub mod StreamStep
-pub mod CallStep
+pub mod SendStep
 pub mod Lanes
-pub mod CallEnds
+pub mod SendEnds
 pub mod Ends
 pub mod Cut
 pub mod HalfStep

@@ -8,17 +8,21 @@ use Rattle.wire_message.specs.declared.kind.MessageType.TheVariants as types
 use Rattle.wire_message.specs.declared.error.Error.{Error}
 use Rattle.wire_message.specs.declared.error.Error.TheVariants as errors
 use Rattle.wire_message.specs.declared.error.IoKind.TheVariants as kinds
+use Rattle.peer_route.specs.Parcel.{Setting, Asked}
 use Rattle.peer_route.specs.declared.polled.Polled.{Polled}
 use Rattle.peer_route.specs.declared.polled.Polled.TheVariants as polled
 use Rattle.peer_route.specs.declared.words.Words.{Words}
 use Rattle.peer_route.specs.declared.words.Words.TheVariants as words
+use Rattle.peer_route.specs.declared.answer.Answer.{Answer}
 use Rattle.peer_route.specs.declared.answer.Answer.TheVariants as answers
 use Rattle.peer_route.specs.declared.answer.Entry.{Entry}
 use Rattle.peer_route.specs.History as events
 use Rattle.peer_route.specs.Trail.{trail, poll_spends, place, new_names, new_streams}
 use Rattle.peer_route.specs.Answers.{shown, error_answer, reply_by, poll_of}
 use Rattle.peer_route.specs.Told.{ReadTold}
+use Rattle.peer_route.specs.Streams.{all_given}
 use Rattle.peer_route.specs.Left.{Left}
+use Rattle.peer_route.proofs.Given.{given_same}
 use Rattle.peer_run.specs.Stands.{PeerView, Inlet, Outlet, Follows, Reads, Writes, IsReadFault, IsWriteFault, entry}
 use Rattle.peer_run.proofs.Quiet.{poll_quiet, fault_was_read}
 use Rattle.peer_run.proofs.QuietStep.{follows_quiet, reads_quiet, writes_quiet}
@@ -42,7 +46,7 @@ spends_shown k (Ok polled.Ended) = refl
 spends_shown k (Err error) = refl
 
 -- a poll makes no call
-no_names : (h : List events.Event) (lane : ℕ) (w : Words) (r : Result (Polled Seen) Error) → new_names h lane w (shown r) ≡ []
+no_names : (h : List events.Event) (lane : ℕ) (w : Option Asked) (r : Result (Polled Seen) Error) → new_names h lane w (shown r) ≡ []
 no_names h lane w (Ok (polled.Now m)) = no_names_now m.kind
   where
     no_names_now_error : (name : Option (List ℕ)) → new_names h lane w (error_answer m name) ≡ []
@@ -77,25 +81,35 @@ no_streams lane (Ok (polled.Closed error)) = refl
 no_streams lane (Ok polled.Ended) = refl
 no_streams lane (Err error) = refl
 
+-- a poll changes nothing of the streams
+given_spent : (p : Option ℕ) (a : Answer) (h : List events.Event) → all_given (poll_spends p a ++ h) ≡ all_given h
+given_spent None a h = refl
+given_spent (Some k) (answers.Reply position) h = given_same (events.Spent k ∷ h) h refl refl
+given_spent (Some k) (answers.InvalidReply position) h = given_same (events.Spent k ∷ h) h refl refl
+given_spent (Some k) (answers.MethodError m) h = given_same (events.Spent k ∷ h) h refl refl
+given_spent (Some k) (answers.Closed error) h = given_same (events.Spent k ∷ h) h refl refl
+given_spent (Some k) a h = refl
+
 -- a call was polled
-pub follows_poll : (name : Option (List ℕ)) (p q : PeerView) (es : List Entry) (lane number k : ℕ) (r : Result (Polled Seen) Error) → Follows name p es
-    → place 0 lane number p.names ≡ Some k → r ≡ events.poll_answer (trail name es).events k
-    → q.names ≡ p.names → q.streams ≡ p.streams → Left q.core (events.poll_events k r ++ (trail name es).events)
-    → Follows name q (entry lane (words.Poll number) (shown r) ∷ es)
-follows_poll name p q es lane number k r f here answer names streams left =
-    let at : place 0 lane number (trail name es).names ≡ Some k = ap (λ ns. place 0 lane number ns) (sym f.names) ∙ here in
-    follows_quiet name p q es lane (words.Poll number) (shown r) (poll_spends (Some k) (shown r)) f (ap (λ o. poll_spends o (shown r)) at)
+pub follows_poll : (setting : Setting) (p q : PeerView) (es : List Entry) (lane number k : ℕ) (r : Result (Polled Seen) Error) → Follows setting p es
+    → place 0 lane number p.names ≡ Some k → r ≡ events.poll_answer (trail setting es).events k
+    → q.names ≡ p.names → q.streams ≡ p.streams → q.given ≡ p.given → Left q.core (events.poll_events k r ++ (trail setting es).events)
+    → Follows setting q (entry lane (words.Poll number) (shown r) ∷ es)
+follows_poll setting p q es lane number k r f here answer names streams given left =
+    let at : place 0 lane number (trail setting es).names ≡ Some k = ap (λ ns. place 0 lane number ns) (sym f.names) ∙ here in
+    follows_quiet setting p q es lane (words.Poll number) (shown r) (poll_spends (Some k) (shown r)) f (ap (λ o. poll_spends o (shown r)) at)
     (poll_quiet (Some k) (shown r))
-    (subst (λ xs. Left q.core (xs ++ (trail name es).events)) (sym (spends_shown k r)) left)
-    names (no_names (trail name es).events lane (words.Poll number) r) (streams ∙ sym (append-nil p.streams) ∙ ap (λ ns. p.streams ++ ns) (sym (no_streams lane r)))
-    (ap shown answer ∙ sym (ap (poll_of (trail name es).events) at))
+    (subst (λ xs. Left q.core (xs ++ (trail setting es).events)) (sym (spends_shown k r)) left)
+    names (no_names (trail setting es).events lane None r) (streams ∙ sym (append-nil p.streams) ∙ ap (λ ns. p.streams ++ ns) (sym (no_streams lane r)))
+    (given ∙ f.given ∙ sym (given_spent (Some k) (shown r) (trail setting es).events))
+    (ap shown answer ∙ sym (ap (poll_of (trail setting es).events) at))
 
 -- no call has the number
-pub follows_unknown : (name : Option (List ℕ)) (p : PeerView) (es : List Entry) (lane number : ℕ) → Follows name p es → place 0 lane number p.names ≡ None
-    → Follows name p (entry lane (words.Poll number) (answers.Refused errors.UnknownHandle) ∷ es)
-follows_unknown name p es lane number f none =
-    let at : place 0 lane number (trail name es).names ≡ None = ap (λ ns. place 0 lane number ns) (sym f.names) ∙ none in
-    follows_quiet name p p es lane (words.Poll number) (answers.Refused errors.UnknownHandle) [] f (rw at refl) tt f.left refl refl (sym (append-nil p.streams)) (rw at refl)
+pub follows_unknown : (setting : Setting) (p : PeerView) (es : List Entry) (lane number : ℕ) → Follows setting p es → place 0 lane number p.names ≡ None
+    → Follows setting p (entry lane (words.Poll number) (answers.Refused errors.UnknownHandle) ∷ es)
+follows_unknown setting p es lane number f none =
+    let at : place 0 lane number (trail setting es).names ≡ None = ap (λ ns. place 0 lane number ns) (sym f.names) ∙ none in
+    follows_quiet setting p p es lane (words.Poll number) (answers.Refused errors.UnknownHandle) [] f (rw at refl) tt f.left refl refl (sym (append-nil p.streams)) f.given (rw at refl)
 
 -- a poll's closing error is the peer's
 closed_at : (h : List events.Event) (c : Option events.Call) (error : Error) → events.polled_at h c ≡ Ok (polled.Closed error) → events.closing h ≡ Some error
@@ -149,29 +163,29 @@ no_write_shown (Ok (polled.Closed error)) e = cc
 no_write_shown (Ok polled.Ended) e = cc
 no_write_shown (Err error) e = cc
 
-pub reads_poll : (name : Option (List ℕ)) (start now : Inlet) (es : List Entry) (lane number k : ℕ) (r : Result (Polled Seen) Error) → r ≡ events.poll_answer (trail name es).events k
-    → Reads name start now es → Reads name start now (entry lane (words.Poll number) (shown r) ∷ es)
-reads_poll name start now es lane number k r answer x =
-    reads_quiet name start now es lane (words.Poll number) (shown r) (poll_quiet (place 0 lane number (trail name es).names) (shown r))
+pub reads_poll : (setting : Setting) (start now : Inlet) (es : List Entry) (lane number k : ℕ) (r : Result (Polled Seen) Error) → r ≡ events.poll_answer (trail setting es).events k
+    → Reads setting start now es → Reads setting start now (entry lane (words.Poll number) (shown r) ∷ es)
+reads_poll setting start now es lane number k r answer x =
+    reads_quiet setting start now es lane (words.Poll number) (shown r) (poll_quiet (place 0 lane number (trail setting es).names) (shown r))
     (λ stop bytes closing. told_poll stop bytes closing)
-    (λ f. fault_was_read name es (poll_closed (trail name es).events k (errors.InputOutput kinds.Fault) (sym answer ∙ fault_shown r f))) x
+    (λ f. fault_was_read setting es (poll_closed (trail setting es).events k (errors.InputOutput kinds.Fault) (sym answer ∙ fault_shown r f))) x
   where
-    told_poll : (stop : Option Bool) (bytes : List ℕ) (closing : Option Error) → ReadTold stop bytes (trail name es).events closing (words.Poll number) (shown r)
+    told_poll : (stop : Option Bool) (bytes : List ℕ) (closing : Option Error) → ReadTold stop bytes (trail setting es).events closing (words.Poll number) (shown r)
     told_poll stop bytes None = tt
     told_poll stop bytes (Some error) = tt
 
-pub writes_poll : (name : Option (List ℕ)) (start now : Outlet) (es : List Entry) (lane number : ℕ) (r : Result (Polled Seen) Error)
-    → Writes name start now es → Writes name start now (entry lane (words.Poll number) (shown r) ∷ es)
-writes_poll name start now es lane number r x =
-    writes_quiet name start now es lane (words.Poll number) (shown r) (poll_quiet (place 0 lane number (trail name es).names) (shown r)) (λ f. absurd (no_write_shown r f)) x
+pub writes_poll : (setting : Setting) (start now : Outlet) (es : List Entry) (lane number : ℕ) (r : Result (Polled Seen) Error)
+    → Writes setting start now es → Writes setting start now (entry lane (words.Poll number) (shown r) ∷ es)
+writes_poll setting start now es lane number r x =
+    writes_quiet setting start now es lane (words.Poll number) (shown r) (poll_quiet (place 0 lane number (trail setting es).names) (shown r)) (λ f. absurd (no_write_shown r f)) x
 
 -- an unknown number is shown as a poll's refusal is
-pub reads_unknown : (name : Option (List ℕ)) (start now : Inlet) (es : List Entry) (lane number : ℕ) → Reads name start now es
-    → Reads name start now (entry lane (words.Poll number) (answers.Refused errors.UnknownHandle) ∷ es)
-reads_unknown name start now es lane number x =
-    reads_quiet name start now es lane (words.Poll number) (answers.Refused errors.UnknownHandle) (poll_quiet (place 0 lane number (trail name es).names) (answers.Refused errors.UnknownHandle))
+pub reads_unknown : (setting : Setting) (start now : Inlet) (es : List Entry) (lane number : ℕ) → Reads setting start now es
+    → Reads setting start now (entry lane (words.Poll number) (answers.Refused errors.UnknownHandle) ∷ es)
+reads_unknown setting start now es lane number x =
+    reads_quiet setting start now es lane (words.Poll number) (answers.Refused errors.UnknownHandle) (poll_quiet (place 0 lane number (trail setting es).names) (answers.Refused errors.UnknownHandle))
     (λ stop bytes closing. told_refused stop bytes closing) (λ f. cc) x
   where
-    told_refused : (stop : Option Bool) (bytes : List ℕ) (closing : Option Error) → ReadTold stop bytes (trail name es).events closing (words.Poll number) (answers.Refused errors.UnknownHandle)
+    told_refused : (stop : Option Bool) (bytes : List ℕ) (closing : Option Error) → ReadTold stop bytes (trail setting es).events closing (words.Poll number) (answers.Refused errors.UnknownHandle)
     told_refused stop bytes None = tt
     told_refused stop bytes (Some error) = tt

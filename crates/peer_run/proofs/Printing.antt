@@ -13,7 +13,7 @@ use Rattle.peer_route.proofs.Drained.{ended, busy_there}
 use Rattle.peer_route.proofs.Sent.{put_sent}
 use Rattle.peer_script.specs.Script.{Script, line_count}
 use Rattle.peer_script.specs.Reading.{IsWithin, given, script_of}
-use Rattle.peer_run.specs.Program.{Says, Said, SaidPart, SaidNot, Shows, Shown, ShownPart, ShownNot, Ends, Done, NoScript, OutputFailed, NoMemory, Prints, Refuses, IsRunOf, IsWhole, PollsAre, StreamsAre, source_bytes, source_breaks, limit_text}
+use Rattle.peer_run.specs.Program.{setting_of, Says, Said, SaidPart, SaidNot, Shows, Shown, ShownPart, ShownNot, Ends, Done, NoScript, OutputFailed, NoMemory, Prints, Refuses, IsRunOf, IsWhole, PollsAre, StreamsAre, source_bytes, source_breaks, limit_text}
 
 -- pieces tell what a script gives
 pub told_given : (pieces : List Piece) → told_bytes pieces ≡ source_bytes (given pieces)
@@ -27,21 +27,21 @@ told_breaks (Bytes v ∷ pieces) = told_breaks pieces
 told_breaks (Fault ∷ pieces) = refl
 
 -- all that is said of a run's history follows from the run
-polls_are : (s : Script) (h : List Entry) (sent : List ℕ) → Legal s.name h → PollsAre s h sent
+polls_are : (s : Script) (h : List Entry) (sent : List ℕ) → Legal (setting_of s) h → PollsAre s h sent
 polls_are s h sent legal newer older e number is w =
-    let l : Legal s.name (newer ++ e ∷ older) = subst (Legal s.name) is legal in
-    let older_legal = legal_from s.name newer (e ∷ older) l in
+    let l : Legal (setting_of s) (newer ++ e ∷ older) = subst (Legal (setting_of s)) is legal in
+    let older_legal = legal_from (setting_of s) newer (e ∷ older) l in
     record {
-      first = λ q at. by_the_first s.name older e number q older_legal w at;
-      cut_off = λ error at. by_the_closing_error s.name older e number error older_legal w at;
-      once = λ f. once s.name newer older e number l w f;
+      first = λ q at. by_the_first (setting_of s) older e number q older_legal w at;
+      cut_off = λ error at. by_the_closing_error (setting_of s) older e number error older_legal w at;
+      once = λ f. once (setting_of s) newer older e number l w f;
     }
 
-streams_are : (s : Script) (h : List Entry) (sent : List ℕ) → Legal s.name h → StreamsAre s h sent
+streams_are : (s : Script) (h : List Entry) (sent : List ℕ) → Legal (setting_of s) h → StreamsAre s h sent
 streams_are s h sent legal = record {
-  yields = λ newer older e number is w a. yields s.name newer e older number (subst (Legal s.name) is legal) w a;
-  ends = λ newer older e number is w last. ended s.name newer older e number (subst (Legal s.name) is legal) w last;
-  waits = λ newer older e is w many. busy_there s.name older e (legal_from s.name newer (e ∷ older) (subst (Legal s.name) is legal)) w many;
+  yields = λ newer older e number is w a. yields (setting_of s) newer e older number (subst (Legal (setting_of s)) is legal) w a;
+  ends = λ newer older e number is w last. ended (setting_of s) newer older e number (subst (Legal (setting_of s)) is legal) w last;
+  waits = λ newer older e is w many. busy_there (setting_of s) older e (legal_from (setting_of s) newer (e ∷ older) (subst (Legal (setting_of s)) is legal)) w many;
 }
 
 whole_of : (s : Script) (entries : List Entry) (sent : List ℕ) → IsRunOf s entries sent → IsWhole s (reverse entries) sent
@@ -49,7 +49,7 @@ whole_of s entries sent r = record {
   reads = r.reads;
   polls = polls_are s (reverse entries) sent r.legal;
   streams = streams_are s (reverse entries) sent r.legal;
-  sends = record { bytes = r.bytes; room = r.room; put_is = put_sent s.name (reverse entries) r.legal };
+  sends = record { bytes = r.bytes; room = r.room; put_is = put_sent (setting_of s) (reverse entries) r.legal };
 }
 
 -- a script was read, run and shown

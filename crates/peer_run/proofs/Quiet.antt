@@ -1,20 +1,21 @@
 -- Counts that rise, and what later entries keep of earlier ones.
-use Rattle.std.proofs.Common.{◌≡◌, ℕ, ◌-◌, ◌^◌, ◌≤◌, refl, sym, ◌∙◌, subst, arith, Bool, true, false, List, [], ◌∷◌, ◌++◌, length, Option, Some, None, ◌⊎◌, inl, inr}
+use Rattle.std.proofs.Common.{◌≡◌, ℕ, ◌-◌, ◌^◌, ◌≤◌, refl, sym, ◌∙◌, ap, subst, arith, Bool, true, false, List, [], ◌∷◌, ◌++◌, length, Option, Some, None, Result, Ok, Err, ◌⊎◌, inl, inr}
 use Rattle.std.proofs.lemmas.Bool.{cases_lt}
 use Rattle.wire_message.specs.declared.error.Error.{Error}
 use Rattle.wire_message.specs.declared.error.Error.TheVariants as errors
 use Rattle.wire_message.specs.declared.error.IoKind.TheVariants as kinds
 use Rattle.wire_framing.specs.Source.{MayRise}
 use Rattle.wire_message.specs.Front.{Seen}
-use Rattle.wire_message.specs.Draft.{Draft}
+use Rattle.peer_route.specs.Parcel.{Setting, Asked}
 use Rattle.peer_route.specs.declared.words.Words.{Words}
 use Rattle.peer_route.specs.declared.words.Words.TheVariants as words
 use Rattle.peer_route.specs.declared.answer.Answer.{Answer}
 use Rattle.peer_route.specs.declared.answer.Answer.TheVariants as answers
 use Rattle.peer_route.specs.declared.answer.Entry.{Entry}
 use Rattle.peer_route.specs.History as events
-use Rattle.peer_route.specs.Trail.{trail, read_events, call_events, failed_put, poll_spends, drop_spends, stream_makes, take_does, place}
+use Rattle.peer_route.specs.Trail.{trail, read_events, send_events, failed_put, poll_spends, drop_spends, stream_makes, take_does, place}
 use Rattle.peer_route.specs.Answers.{Legal, IsAnswer}
+use Rattle.peer_route.specs.Streams.{all_given}
 use Rattle.peer_route.specs.Left.{Left}
 use Rattle.peer_run.specs.Stands.{PeerView, Follows, HasReadFault, IsReadFault, entry}
 
@@ -39,13 +40,14 @@ rise_before a b c (inr p) h =
 -- ---- one entry more
 
 -- The peer follows a history with one entry more, where it is what the entry's events leave.
-pub follows_more : (name : Option (List ℕ)) (p : PeerView) (es : List Entry) (e : Entry) (h : List events.Event)
-    → (trail name (e ∷ es)).events ≡ h → Left p.core h → p.names ≡ (trail name (e ∷ es)).names → p.streams ≡ (trail name (e ∷ es)).streams → Legal name es → IsAnswer (trail name es) e.lane e.words e.answer
-    → p.core.read ≤ 2 ^ 64 - 2 → p.core.done ≡ length p.core.outbox → Follows name p (e ∷ es)
-follows_more name p es e h same left names streams legal answer within written = record {
+pub follows_more : (setting : Setting) (p : PeerView) (es : List Entry) (e : Entry) (h : List events.Event)
+    → (trail setting (e ∷ es)).events ≡ h → Left p.core h → p.names ≡ (trail setting (e ∷ es)).names → p.streams ≡ (trail setting (e ∷ es)).streams → p.given ≡ all_given h → Legal setting es → IsAnswer (trail setting es) e.lane e.words e.answer
+    → p.core.read ≤ 2 ^ 64 - 2 → p.core.done ≡ length p.core.outbox → Follows setting p (e ∷ es)
+follows_more setting p es e h same left names streams given legal answer within written = record {
   left = subst (λ x. Left p.core x) (sym same) left;
   names = names;
   streams = streams;
+  given = given ∙ ap all_given (sym same);
   legal = (answer, legal);
   within = within;
   written = written;
@@ -67,11 +69,12 @@ put_closes : (failed : Bool) (m : Seen) (expects : Bool) (h : List events.Event)
 put_closes true m expects h = refl
 put_closes false m expects h = refl
 
-call_closes : (h : List events.Event) (draft : Draft) (a : Answer) → events.closing (call_events h draft a ++ h) ≡ events.closing h
-call_closes h draft (answers.Called call serial) = refl
-call_closes h draft (answers.Sent serial) = refl
-call_closes h draft (answers.SendFailed error) = put_closes (events.is_failed h) _ _ h
-call_closes h draft a = refl
+send_closes : (h : List events.Event) (asked : Asked) (a : Answer) → events.closing (send_events h asked a ++ h) ≡ events.closing h
+send_closes h (Ok parcel) (answers.Called call serial) = refl
+send_closes h (Ok parcel) (answers.Sent serial) = refl
+send_closes h (Ok parcel) (answers.SendFailed error) = put_closes (events.is_failed h) _ _ h
+send_closes h (Ok parcel) a = refl
+send_closes h (Err error) a = refl
 
 -- ---- events that read nothing and send nothing
 
@@ -128,22 +131,25 @@ take_quiet (Some k) (answers.Item position) = tt
 take_quiet (Some k) (answers.Closed error) = tt
 take_quiet (Some k) a = tt
 
-closes_by : (name : Option (List ℕ)) (es : List Entry) (lane : ℕ) (w : Words) (a : Answer)
-    → ClosedByFault (events.closing (trail name (entry lane w a ∷ es)).events) → IsReadFault a ⊎ ClosedByFault (events.closing (trail name es).events)
-closes_by name es lane (words.Call destination path interface member flags) a f = inr (sym (call_closes (trail name es).events _ a) ∙ f)
-closes_by name es lane words.Read a f = read_closes (events.closing (trail name es).events) a (trail name es).events refl f
-closes_by name es lane (words.Poll number) a f = inr (sym (quiet_same (poll_spends (place 0 lane number (trail name es).names) a) (trail name es).events (poll_quiet (place 0 lane number (trail name es).names) a)).closing ∙ f)
-closes_by name es lane (words.Drop number) a f = inr (sym (quiet_same (drop_spends (place 0 lane number (trail name es).names) a) (trail name es).events (drop_quiet (place 0 lane number (trail name es).names) a)).closing ∙ f)
-closes_by name es lane words.Stream a f = inr (sym (quiet_same (stream_makes a) (trail name es).events (stream_quiet a)).closing ∙ f)
-closes_by name es lane (words.Take number) a f = inr (sym (quiet_same (take_does (place 0 lane number (trail name es).streams) a) (trail name es).events (take_quiet (place 0 lane number (trail name es).streams) a)).closing ∙ f)
+closes_by : (setting : Setting) (es : List Entry) (lane : ℕ) (w : Words) (a : Answer)
+    → ClosedByFault (events.closing (trail setting (entry lane w a ∷ es)).events) → IsReadFault a ⊎ ClosedByFault (events.closing (trail setting es).events)
+closes_by setting es lane (words.Call out) a f = inr (sym (send_closes (trail setting es).events _ a) ∙ f)
+closes_by setting es lane (words.Signal out) a f = inr (sym (send_closes (trail setting es).events _ a) ∙ f)
+closes_by setting es lane (words.Reply stream body) a f = inr (sym (send_closes (trail setting es).events _ a) ∙ f)
+closes_by setting es lane (words.Error stream error_name body) a f = inr (sym (send_closes (trail setting es).events _ a) ∙ f)
+closes_by setting es lane words.Read a f = read_closes (events.closing (trail setting es).events) a (trail setting es).events refl f
+closes_by setting es lane (words.Poll number) a f = inr (sym (quiet_same (poll_spends (place 0 lane number (trail setting es).names) a) (trail setting es).events (poll_quiet (place 0 lane number (trail setting es).names) a)).closing ∙ f)
+closes_by setting es lane (words.Drop number) a f = inr (sym (quiet_same (drop_spends (place 0 lane number (trail setting es).names) a) (trail setting es).events (drop_quiet (place 0 lane number (trail setting es).names) a)).closing ∙ f)
+closes_by setting es lane words.Stream a f = inr (sym (quiet_same (stream_makes a) (trail setting es).events (stream_quiet a)).closing ∙ f)
+closes_by setting es lane (words.Take number) a f = inr (sym (quiet_same (take_does (place 0 lane number (trail setting es).streams) a) (trail setting es).events (take_quiet (place 0 lane number (trail setting es).streams) a)).closing ∙ f)
 
 earlier : (A B C : Type 0) → A ⊎ B → (B → C) → A ⊎ C
 earlier A B C (inl a) f = inl a
 earlier A B C (inr b) f = inr (f b)
 
 -- A peer that a fault closed has an entry that says so.
-pub fault_was_read : (name : Option (List ℕ)) (es : List Entry) → events.closing (trail name es).events ≡ Some (errors.InputOutput kinds.Fault) → HasReadFault es
-fault_was_read name [] e = cc
-fault_was_read name (e ∷ es) f =
-    earlier (IsReadFault e.answer) (ClosedByFault (events.closing (trail name es).events)) (HasReadFault es)
-    (closes_by name es e.lane e.words e.answer f) (fault_was_read name es)
+pub fault_was_read : (setting : Setting) (es : List Entry) → events.closing (trail setting es).events ≡ Some (errors.InputOutput kinds.Fault) → HasReadFault es
+fault_was_read setting [] e = cc
+fault_was_read setting (e ∷ es) f =
+    earlier (IsReadFault e.answer) (ClosedByFault (events.closing (trail setting es).events)) (HasReadFault es)
+    (closes_by setting es e.lane e.words e.answer f) (fault_was_read setting es)

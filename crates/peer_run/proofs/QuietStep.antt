@@ -2,44 +2,47 @@
 use Rattle.std.proofs.Common.{◌≡◌, ℕ, sym, ◌∙◌, ap, Bool, List, [], ◌∷◌, ◌++◌, length, Option}
 use Rattle.std.proofs.lemmas.List.{append-nil}
 use Rattle.wire_message.specs.declared.error.Error.{Error}
+use Rattle.peer_route.specs.Parcel.{Setting}
 use Rattle.peer_route.specs.declared.words.Words.{Words}
 use Rattle.peer_route.specs.declared.answer.Answer.{Answer}
 use Rattle.peer_route.specs.declared.answer.Entry.{Entry}
 use Rattle.peer_route.specs.History as events
-use Rattle.peer_route.specs.Trail.{trail, events_of, new_names, new_streams}
+use Rattle.peer_route.specs.Trail.{trail, asks, events_of, new_names, new_streams}
 use Rattle.peer_route.specs.Answers.{IsAnswer}
 use Rattle.peer_route.specs.Told.{ReadTold}
+use Rattle.peer_route.specs.Streams.{all_given}
 use Rattle.peer_route.specs.Left.{Left}
 use Rattle.peer_run.specs.Stands.{PeerView, Inlet, Outlet, Follows, Reads, Writes, HasReadFault, IsReadFault, HasWriteFault, IsWriteFault, entry}
 use Rattle.peer_run.proofs.Quiet.{AreQuiet, quiet_same, follows_more}
 use Rattle.peer_run.proofs.Kept.{reads_kept, writes_kept}
 
-pub follows_quiet : (name : Option (List ℕ)) (p q : PeerView) (es : List Entry) (lane : ℕ) (w : Words) (a : Answer) (xs : List events.Event) → Follows name p es
-    → events_of (trail name es) lane w a ≡ xs → AreQuiet xs → Left q.core (xs ++ (trail name es).events)
-    → q.names ≡ p.names → new_names (trail name es).events lane w a ≡ [] → q.streams ≡ p.streams ++ new_streams lane a → IsAnswer (trail name es) lane w a
-    → Follows name q (entry lane w a ∷ es)
-follows_quiet name p q es lane w a xs f are quiet left names no_names streams answer =
-    let same = quiet_same xs (trail name es).events quiet in
+pub follows_quiet : (setting : Setting) (p q : PeerView) (es : List Entry) (lane : ℕ) (w : Words) (a : Answer) (xs : List events.Event) → Follows setting p es
+    → events_of (trail setting es) lane w a ≡ xs → AreQuiet xs → Left q.core (xs ++ (trail setting es).events)
+    → q.names ≡ p.names → new_names (trail setting es).events lane (asks (trail setting es) lane w) a ≡ [] → q.streams ≡ p.streams ++ new_streams lane a
+    → q.given ≡ all_given (xs ++ (trail setting es).events) → IsAnswer (trail setting es) lane w a
+    → Follows setting q (entry lane w a ∷ es)
+follows_quiet setting p q es lane w a xs f are quiet left names no_names streams given answer =
+    let same = quiet_same xs (trail setting es).events quiet in
     let reads : q.core.read ≡ p.core.read = left.read ∙ ap length same.read ∙ sym f.left.read in
-    follows_more name q es (entry lane w a) (xs ++ (trail name es).events) (ap (λ ys. ys ++ (trail name es).events) are) left
-    (names ∙ f.names ∙ sym (append-nil (trail name es).names) ∙ ap (λ ns. (trail name es).names ++ ns) (sym no_names))
+    follows_more setting q es (entry lane w a) (xs ++ (trail setting es).events) (ap (λ ys. ys ++ (trail setting es).events) are) left
+    (names ∙ f.names ∙ sym (append-nil (trail setting es).names) ∙ ap (λ ns. (trail setting es).names ++ ns) (sym no_names))
     (streams ∙ ap (λ ns. ns ++ new_streams lane a) f.streams)
-    f.legal answer (rw reads f.within)
+    given f.legal answer (rw reads f.within)
     (left.done ∙ same.done ∙ sym f.left.done ∙ f.written ∙ ap length (f.left.outbox ∙ sym same.put ∙ sym left.outbox))
 
-pub reads_quiet : (name : Option (List ℕ)) (start now : Inlet) (es : List Entry) (lane : ℕ) (w : Words) (a : Answer)
-    → AreQuiet (events_of (trail name es) lane w a)
-    → ((stop : Option Bool) (bytes : List ℕ) (closing : Option Error) → ReadTold stop bytes (trail name es).events closing w a)
+pub reads_quiet : (setting : Setting) (start now : Inlet) (es : List Entry) (lane : ℕ) (w : Words) (a : Answer)
+    → AreQuiet (events_of (trail setting es) lane w a)
+    → ((stop : Option Bool) (bytes : List ℕ) (closing : Option Error) → ReadTold stop bytes (trail setting es).events closing w a)
     → (IsReadFault a → HasReadFault es)
-    → Reads name start now es → Reads name start now (entry lane w a ∷ es)
-reads_quiet name start now es lane w a quiet told fault x =
-    let same = quiet_same (events_of (trail name es) lane w a) (trail name es).events quiet in
-    reads_kept name start now es lane w a same.read same.closing (λ stop bytes. told stop bytes (events.closing (trail name es).events)) fault x
+    → Reads setting start now es → Reads setting start now (entry lane w a ∷ es)
+reads_quiet setting start now es lane w a quiet told fault x =
+    let same = quiet_same (events_of (trail setting es) lane w a) (trail setting es).events quiet in
+    reads_kept setting start now es lane w a same.read same.closing (λ stop bytes. told stop bytes (events.closing (trail setting es).events)) fault x
 
-pub writes_quiet : (name : Option (List ℕ)) (start now : Outlet) (es : List Entry) (lane : ℕ) (w : Words) (a : Answer)
-    → AreQuiet (events_of (trail name es) lane w a)
+pub writes_quiet : (setting : Setting) (start now : Outlet) (es : List Entry) (lane : ℕ) (w : Words) (a : Answer)
+    → AreQuiet (events_of (trail setting es) lane w a)
     → (IsWriteFault a → HasWriteFault es)
-    → Writes name start now es → Writes name start now (entry lane w a ∷ es)
-writes_quiet name start now es lane w a quiet fault x =
-    let same = quiet_same (events_of (trail name es) lane w a) (trail name es).events quiet in
-    writes_kept name start now es lane w a same.failed same.put fault x
+    → Writes setting start now es → Writes setting start now (entry lane w a ∷ es)
+writes_quiet setting start now es lane w a quiet fault x =
+    let same = quiet_same (events_of (trail setting es) lane w a) (trail setting es).events quiet in
+    writes_kept setting start now es lane w a same.failed same.put fault x

@@ -10,6 +10,7 @@ use Rattle.wire_message.specs.declared.error.IoKind.TheVariants as kinds
 use Rattle.wire_signature.specs.declared.error.VariantError.TheVariants as faults
 use Rattle.wire_framing.specs.Source.{MayRise}
 use Rattle.wire_framing.specs.Receive as receive
+use Rattle.peer_route.specs.Parcel.{Setting}
 use Rattle.peer_route.specs.declared.words.Words.TheVariants as words
 use Rattle.peer_route.specs.declared.answer.Answer.{Answer}
 use Rattle.peer_route.specs.declared.answer.Answer.TheVariants as answers
@@ -19,6 +20,7 @@ use Rattle.peer_route.specs.Streams.{busy}
 use Rattle.peer_route.specs.Trail.{trail}
 use Rattle.peer_route.specs.Told.{ReadsTold, IsOutcome, answer_of, left_after}
 use Rattle.peer_route.specs.Left.{Left}
+use Rattle.peer_route.proofs.Given.{given_same, given_took}
 use Rattle.peer_route.proofs.Steps.{left_after-took}
 use Rattle.peer_run.specs.Stands.{PeerView, Inlet, Follows, Reads, IsRest, HasReadFault, entry}
 use Rattle.peer_run.proofs.Kept.{reads_kept}
@@ -26,64 +28,65 @@ use Rattle.peer_run.proofs.Quiet.{rise_after, rise_before, follows_more, fault_w
 
 -- ---- the events of a read
 
-at_closed : (name : Option (List ℕ)) (es : List Entry) (lane : ℕ) (a : Answer) (error : Error) → events.closing (trail name es).events ≡ Some error
-    → (trail name (entry lane words.Read a ∷ es)).events ≡ (trail name es).events
-at_closed name es lane a error e = rw e refl
+at_closed : (setting : Setting) (es : List Entry) (lane : ℕ) (a : Answer) (error : Error) → events.closing (trail setting es).events ≡ Some error
+    → (trail setting (entry lane words.Read a ∷ es)).events ≡ (trail setting es).events
+at_closed setting es lane a error e = rw e refl
 
-at_got : (name : Option (List ℕ)) (es : List Entry) (lane : ℕ) (m : Seen) → events.closing (trail name es).events ≡ None
-    → (trail name (entry lane words.Read (answers.Got m) ∷ es)).events ≡ events.Took m ∷ (trail name es).events
-at_got name es lane m e = rw e refl
+at_got : (setting : Setting) (es : List Entry) (lane : ℕ) (m : Seen) → events.closing (trail setting es).events ≡ None
+    → (trail setting (entry lane words.Read (answers.Got m) ∷ es)).events ≡ events.Took m ∷ (trail setting es).events
+at_got setting es lane m e = rw e refl
 
-at_shut : (name : Option (List ℕ)) (es : List Entry) (lane : ℕ) (error : Error) → events.closing (trail name es).events ≡ None
-    → (trail name (entry lane words.Read (answers.Closed error) ∷ es)).events ≡ events.Shut error ∷ (trail name es).events
-at_shut name es lane error e = rw e refl
+at_shut : (setting : Setting) (es : List Entry) (lane : ℕ) (error : Error) → events.closing (trail setting es).events ≡ None
+    → (trail setting (entry lane words.Read (answers.Closed error) ∷ es)).events ≡ events.Shut error ∷ (trail setting es).events
+at_shut setting es lane error e = rw e refl
 
-pub closing_of : (name : Option (List ℕ)) (p : PeerView) (es : List Entry) (closing : Option Error) → Follows name p es → p.core.calls.closing ≡ closing → events.closing (trail name es).events ≡ closing
-closing_of name p es closing f e = sym f.left.calls.closing ∙ e
+pub closing_of : (setting : Setting) (p : PeerView) (es : List Entry) (closing : Option Error) → Follows setting p es → p.core.calls.closing ≡ closing → events.closing (trail setting es).events ≡ closing
+closing_of setting p es closing f e = sym f.left.calls.closing ∙ e
 
 -- ---- the peer
 
 -- a peer that is closed gives its error again
-pub follows_closed : (name : Option (List ℕ)) (p : PeerView) (es : List Entry) (lane : ℕ) (error : Error) → p.core.calls.closing ≡ Some error
-    → Follows name p es → Follows name p (entry lane words.Read (answers.Closed error) ∷ es)
-follows_closed name p es lane error e f =
-    let c : events.closing (trail name es).events ≡ Some error = closing_of name p es (Some error) f e in
-    follows_more name p es (entry lane words.Read (answers.Closed error)) (trail name es).events (at_closed name es lane (answers.Closed error) error c) f.left
-    (f.names ∙ sym (append-nil (trail name es).names)) (f.streams ∙ sym (append-nil (trail name es).streams)) f.legal (rw c refl) f.within f.written
+pub follows_closed : (setting : Setting) (p : PeerView) (es : List Entry) (lane : ℕ) (error : Error) → p.core.calls.closing ≡ Some error
+    → Follows setting p es → Follows setting p (entry lane words.Read (answers.Closed error) ∷ es)
+follows_closed setting p es lane error e f =
+    let c : events.closing (trail setting es).events ≡ Some error = closing_of setting p es (Some error) f e in
+    follows_more setting p es (entry lane words.Read (answers.Closed error)) (trail setting es).events (at_closed setting es lane (answers.Closed error) error c) f.left
+    (f.names ∙ sym (append-nil (trail setting es).names)) (f.streams ∙ sym (append-nil (trail setting es).streams)) f.given f.legal (rw c refl) f.within f.written
 
 -- a message was taken
-pub follows_got : (name : Option (List ℕ)) (p q : PeerView) (es : List Entry) (lane : ℕ) (m : Seen) → p.core.calls.closing ≡ None → busy (trail name es).events ≡ false → Follows name p es
+pub follows_got : (setting : Setting) (p q : PeerView) (es : List Entry) (lane : ℕ) (m : Seen) → p.core.calls.closing ≡ None → busy (trail setting es).events ≡ false → Follows setting p es
     → Front m.bytes m (length m.bytes) → m.position ≡ p.core.read + 1 → p.core.read < 2 ^ 64 - 2
-    → q.names ≡ p.names → q.streams ≡ p.streams → Left q.core (events.Took m ∷ (trail name es).events)
-    → Follows name q (entry lane words.Read (answers.Got m) ∷ es)
-follows_got name p q es lane m e free f front position below names streams left =
-    let c : events.closing (trail name es).events ≡ None = closing_of name p es None f e in
-    let count : length (events.read (trail name es).events) ≡ p.core.read = sym f.left.read in
-    let more : q.core.read ≡ p.core.read + 1 = left.read ∙ length_push (events.read (trail name es).events) m ∙ ap (λ n. n + 1) count in
-    follows_more name q es (entry lane words.Read (answers.Got m)) (events.Took m ∷ (trail name es).events) (at_got name es lane m c) left
-    (names ∙ f.names ∙ sym (append-nil (trail name es).names)) (streams ∙ f.streams ∙ sym (append-nil (trail name es).streams)) f.legal
+    → q.names ≡ p.names → q.streams ≡ p.streams → q.given ≡ p.given → Left q.core (events.Took m ∷ (trail setting es).events)
+    → Follows setting q (entry lane words.Read (answers.Got m) ∷ es)
+follows_got setting p q es lane m e free f front position below names streams given left =
+    let c : events.closing (trail setting es).events ≡ None = closing_of setting p es None f e in
+    let count : length (events.read (trail setting es).events) ≡ p.core.read = sym f.left.read in
+    let more : q.core.read ≡ p.core.read + 1 = left.read ∙ length_push (events.read (trail setting es).events) m ∙ ap (λ n. n + 1) count in
+    follows_more setting q es (entry lane words.Read (answers.Got m)) (events.Took m ∷ (trail setting es).events) (at_got setting es lane m c) left
+    (names ∙ f.names ∙ sym (append-nil (trail setting es).names)) (streams ∙ f.streams ∙ sym (append-nil (trail setting es).streams))
+    (given ∙ f.given ∙ sym (given_took m p.core (trail setting es).events f.left)) f.legal
     (rw (c, free) (front, position ∙ ap (λ n. n + 1) (sym count), rw count below))
     (omega (arith, more))
     (left.done ∙ sym f.left.done ∙ f.written ∙ ap length (f.left.outbox ∙ sym left.outbox))
 
 -- a stream was full
-at_busy : (name : Option (List ℕ)) (es : List Entry) (lane : ℕ) → events.closing (trail name es).events ≡ None
-    → (trail name (entry lane words.Read answers.Busy ∷ es)).events ≡ (trail name es).events
-at_busy name es lane e = rw e refl
+at_busy : (setting : Setting) (es : List Entry) (lane : ℕ) → events.closing (trail setting es).events ≡ None
+    → (trail setting (entry lane words.Read answers.Busy ∷ es)).events ≡ (trail setting es).events
+at_busy setting es lane e = rw e refl
 
-pub follows_busy : (name : Option (List ℕ)) (p : PeerView) (es : List Entry) (lane : ℕ) → p.core.calls.closing ≡ None → busy (trail name es).events ≡ true
-    → Follows name p es → Follows name p (entry lane words.Read answers.Busy ∷ es)
-follows_busy name p es lane e full f =
-    let c : events.closing (trail name es).events ≡ None = closing_of name p es None f e in
-    follows_more name p es (entry lane words.Read answers.Busy) (trail name es).events (at_busy name es lane c) f.left
-    (f.names ∙ sym (append-nil (trail name es).names)) (f.streams ∙ sym (append-nil (trail name es).streams)) f.legal (rw (c, full) refl) f.within f.written
+pub follows_busy : (setting : Setting) (p : PeerView) (es : List Entry) (lane : ℕ) → p.core.calls.closing ≡ None → busy (trail setting es).events ≡ true
+    → Follows setting p es → Follows setting p (entry lane words.Read answers.Busy ∷ es)
+follows_busy setting p es lane e full f =
+    let c : events.closing (trail setting es).events ≡ None = closing_of setting p es None f e in
+    follows_more setting p es (entry lane words.Read answers.Busy) (trail setting es).events (at_busy setting es lane c) f.left
+    (f.names ∙ sym (append-nil (trail setting es).names)) (f.streams ∙ sym (append-nil (trail setting es).streams)) f.given f.legal (rw (c, full) refl) f.within f.written
 
 -- a busy read takes nothing
-pub reads_busy : (name : Option (List ℕ)) (start now : Inlet) (es : List Entry) (lane : ℕ) → events.closing (trail name es).events ≡ None → busy (trail name es).events ≡ true
-    → Reads name start now es → Reads name start now (entry lane words.Read answers.Busy ∷ es)
-reads_busy name start now es lane c full r =
-    let same = at_busy name es lane c in
-    reads_kept name start now es lane words.Read answers.Busy (ap events.read same) (ap events.closing same)
+pub reads_busy : (setting : Setting) (start now : Inlet) (es : List Entry) (lane : ℕ) → events.closing (trail setting es).events ≡ None → busy (trail setting es).events ≡ true
+    → Reads setting start now es → Reads setting start now (entry lane words.Read answers.Busy ∷ es)
+reads_busy setting start now es lane c full r =
+    let same = at_busy setting es lane c in
+    reads_kept setting start now es lane words.Read answers.Busy (ap events.read same) (ap events.closing same)
     (λ stop bytes. rw (c, full) tt) (λ f. cc) r
 
 -- a read's error, which isn't want of memory
@@ -109,15 +112,16 @@ is_read_error errors.InvalidField r n = absurd r
 is_read_error errors.Memory r n = absurd (n refl)
 
 -- the read ended the peer's messages
-pub follows_shut : (name : Option (List ℕ)) (p q : PeerView) (es : List Entry) (lane : ℕ) (error : Error) → p.core.calls.closing ≡ None → busy (trail name es).events ≡ false → Follows name p es
+pub follows_shut : (setting : Setting) (p q : PeerView) (es : List Entry) (lane : ℕ) (error : Error) → p.core.calls.closing ≡ None → busy (trail setting es).events ≡ false → Follows setting p es
     → IsReadRefusal error → error ≢ errors.Memory
-    → q.names ≡ p.names → q.streams ≡ p.streams → Left q.core (events.Shut error ∷ (trail name es).events)
-    → Follows name q (entry lane words.Read (answers.Closed error) ∷ es)
-follows_shut name p q es lane error e free f r n names streams left =
-    let c : events.closing (trail name es).events ≡ None = closing_of name p es None f e in
+    → q.names ≡ p.names → q.streams ≡ p.streams → q.given ≡ p.given → Left q.core (events.Shut error ∷ (trail setting es).events)
+    → Follows setting q (entry lane words.Read (answers.Closed error) ∷ es)
+follows_shut setting p q es lane error e free f r n names streams given left =
+    let c : events.closing (trail setting es).events ≡ None = closing_of setting p es None f e in
     let same : q.core.read ≡ p.core.read = left.read ∙ sym f.left.read in
-    follows_more name q es (entry lane words.Read (answers.Closed error)) (events.Shut error ∷ (trail name es).events) (at_shut name es lane error c) left
-    (names ∙ f.names ∙ sym (append-nil (trail name es).names)) (streams ∙ f.streams ∙ sym (append-nil (trail name es).streams)) f.legal
+    follows_more setting q es (entry lane words.Read (answers.Closed error)) (events.Shut error ∷ (trail setting es).events) (at_shut setting es lane error c) left
+    (names ∙ f.names ∙ sym (append-nil (trail setting es).names)) (streams ∙ f.streams ∙ sym (append-nil (trail setting es).streams))
+    (given ∙ f.given ∙ sym (given_same (events.Shut error ∷ (trail setting es).events) (trail setting es).events refl refl)) f.legal
     (rw (c, free) (is_read_error error r n))
     (rw same f.within)
     (left.done ∙ sym f.left.done ∙ f.written ∙ ap length (f.left.outbox ∙ sym left.outbox))
@@ -138,29 +142,29 @@ told_error errors.InvalidField found n t = t
 told_error errors.Memory found n t = absurd (n refl)
 
 -- what a read of a closed peer leaves
-pub reads_closed : (name : Option (List ℕ)) (start now : Inlet) (es : List Entry) (lane : ℕ) (error : Error) → events.closing (trail name es).events ≡ Some error
-    → Reads name start now es → Reads name start now (entry lane words.Read (answers.Closed error) ∷ es)
-reads_closed name start now es lane error c r = record {
+pub reads_closed : (setting : Setting) (start now : Inlet) (es : List Entry) (lane : ℕ) (error : Error) → events.closing (trail setting es).events ≡ Some error
+    → Reads setting start now es → Reads setting start now (entry lane words.Read (answers.Closed error) ∷ es)
+reads_closed setting start now es lane error c r = record {
   told = told_closed start.left start.stop c r.told;
   rest = rest_closed start.left c r.rest;
   cause = λ f. r.cause (earlier_fault c f);
   kept = r.kept;
 }
   where
-    told_closed : (left : Option (List ℕ)) (stop : Option Bool) → events.closing (trail name es).events ≡ Some error
-        → IfSome left (λ bytes. ReadsTold name stop bytes es)
-        → IfSome left (λ bytes. ReadsTold name stop bytes (entry lane words.Read (answers.Closed error) ∷ es))
+    told_closed : (left : Option (List ℕ)) (stop : Option Bool) → events.closing (trail setting es).events ≡ Some error
+        → IfSome left (λ bytes. ReadsTold setting stop bytes es)
+        → IfSome left (λ bytes. ReadsTold setting stop bytes (entry lane words.Read (answers.Closed error) ∷ es))
     told_closed None stop e t = tt
     told_closed (Some bytes) stop e t = (rw e tt, t)
 
-    rest_closed : (left : Option (List ℕ)) → events.closing (trail name es).events ≡ Some error
-        → IfSome left (λ bytes. IsRest (events.closing (trail name es).events) (left_after bytes (trail name es).events) start.stop now.left now.stop)
-        → IfSome left (λ bytes. IsRest (events.closing (trail name (entry lane words.Read (answers.Closed error) ∷ es)).events) (left_after bytes (trail name (entry lane words.Read (answers.Closed error) ∷ es)).events) start.stop now.left now.stop)
+    rest_closed : (left : Option (List ℕ)) → events.closing (trail setting es).events ≡ Some error
+        → IfSome left (λ bytes. IsRest (events.closing (trail setting es).events) (left_after bytes (trail setting es).events) start.stop now.left now.stop)
+        → IfSome left (λ bytes. IsRest (events.closing (trail setting (entry lane words.Read (answers.Closed error) ∷ es)).events) (left_after bytes (trail setting (entry lane words.Read (answers.Closed error) ∷ es)).events) start.stop now.left now.stop)
     rest_closed None e t = tt
-    rest_closed (Some bytes) e t = rw (at_closed name es lane (answers.Closed error) error e, e) tt
+    rest_closed (Some bytes) e t = rw (at_closed setting es lane (answers.Closed error) error e, e) tt
 
-    earlier_fault : events.closing (trail name es).events ≡ Some error → HasReadFault (entry lane words.Read (answers.Closed error) ∷ es) → HasReadFault es
-    earlier_fault e (inl f) = fault_was_read name es (e ∙ cc)
+    earlier_fault : events.closing (trail setting es).events ≡ Some error → HasReadFault (entry lane words.Read (answers.Closed error) ∷ es) → HasReadFault es
+    earlier_fault e (inl f) = fault_was_read setting es (e ∙ cc)
     earlier_fault e (inr f) = f
 
 -- what was received is the outcome of the bytes that were left
@@ -180,41 +184,41 @@ consumed_left : (rest : List ℕ) (left : Option (List ℕ)) (taken : List ℕ) 
 consumed_left rest None taken c = absurd c
 consumed_left rest (Some ys) taken c = (ys, refl, c)
 
-got_told : (name : Option (List ℕ)) (start_left : Option (List ℕ)) (start_stop : Option Bool) (now : Inlet) (count : ℕ) (es : List Entry) (lane : ℕ) (m : Seen)
-    → events.closing (trail name es).events ≡ None → busy (trail name es).events ≡ false → length (events.read (trail name es).events) ≡ count
+got_told : (setting : Setting) (start_left : Option (List ℕ)) (start_stop : Option Bool) (now : Inlet) (count : ℕ) (es : List Entry) (lane : ℕ) (m : Seen)
+    → events.closing (trail setting es).events ≡ None → busy (trail setting es).events ≡ false → length (events.read (trail setting es).events) ≡ count
     → IfSome now.left (λ bytes. receive.Receives now.stop count bytes (Ok m))
-    → IfSome start_left (λ bytes. IsRest (events.closing (trail name es).events) (left_after bytes (trail name es).events) start_stop now.left now.stop)
-    → IfSome start_left (λ bytes. ReadsTold name start_stop bytes es)
-    → IfSome start_left (λ bytes. ReadsTold name start_stop bytes (entry lane words.Read (answers.Got m) ∷ es))
-got_told name None start_stop now count es lane m c free n received rest told = tt
-got_told name (Some bytes) start_stop now count es lane m c free n received rest told =
-    let open_rest : (now.left ≡ Some (left_after bytes (trail name es).events)) × (now.stop ≡ start_stop) = rw c at rest in
-    let here : receive.Receives start_stop count (left_after bytes (trail name es).events) (Ok m) = rw (open_rest.0, open_rest.1) at received in
-    (rw (c, free, n) (got_outcome start_stop count (left_after bytes (trail name es).events) m here), told)
+    → IfSome start_left (λ bytes. IsRest (events.closing (trail setting es).events) (left_after bytes (trail setting es).events) start_stop now.left now.stop)
+    → IfSome start_left (λ bytes. ReadsTold setting start_stop bytes es)
+    → IfSome start_left (λ bytes. ReadsTold setting start_stop bytes (entry lane words.Read (answers.Got m) ∷ es))
+got_told setting None start_stop now count es lane m c free n received rest told = tt
+got_told setting (Some bytes) start_stop now count es lane m c free n received rest told =
+    let open_rest : (now.left ≡ Some (left_after bytes (trail setting es).events)) × (now.stop ≡ start_stop) = rw c at rest in
+    let here : receive.Receives start_stop count (left_after bytes (trail setting es).events) (Ok m) = rw (open_rest.0, open_rest.1) at received in
+    (rw (c, free, n) (got_outcome start_stop count (left_after bytes (trail setting es).events) m here), told)
 
-got_rest : (name : Option (List ℕ)) (start_left : Option (List ℕ)) (start_stop : Option Bool) (now after : Inlet) (es : List Entry) (lane : ℕ) (m : Seen)
-    → events.closing (trail name es).events ≡ None → Consumes now.left after.left m.bytes → after.stop ≡ now.stop
-    → IfSome start_left (λ bytes. IsRest (events.closing (trail name es).events) (left_after bytes (trail name es).events) start_stop now.left now.stop)
-    → IfSome start_left (λ bytes. IsRest (events.closing (trail name (entry lane words.Read (answers.Got m) ∷ es)).events)
-    (left_after bytes (trail name (entry lane words.Read (answers.Got m) ∷ es)).events) start_stop after.left after.stop)
-got_rest name None start_stop now after es lane m c consumed stops rest = tt
-got_rest name (Some bytes) start_stop now after es lane m c consumed stops rest =
-    let open_rest : (now.left ≡ Some (left_after bytes (trail name es).events)) × (now.stop ≡ start_stop) = rw c at rest in
-    let taken : Consumes (Some (left_after bytes (trail name es).events)) after.left m.bytes = rw (open_rest.0) at consumed in
-    let left = consumed_left (left_after bytes (trail name es).events) after.left m.bytes taken in
-    let next : left_after bytes (events.Took m ∷ (trail name es).events) ≡ left.0 = left_after-took bytes left.0 (trail name es).events m left.2 in
-    rw (at_got name es lane m c, c) (left.1 ∙ ap Some (sym next), stops ∙ open_rest.1)
+got_rest : (setting : Setting) (start_left : Option (List ℕ)) (start_stop : Option Bool) (now after : Inlet) (es : List Entry) (lane : ℕ) (m : Seen)
+    → events.closing (trail setting es).events ≡ None → Consumes now.left after.left m.bytes → after.stop ≡ now.stop
+    → IfSome start_left (λ bytes. IsRest (events.closing (trail setting es).events) (left_after bytes (trail setting es).events) start_stop now.left now.stop)
+    → IfSome start_left (λ bytes. IsRest (events.closing (trail setting (entry lane words.Read (answers.Got m) ∷ es)).events)
+    (left_after bytes (trail setting (entry lane words.Read (answers.Got m) ∷ es)).events) start_stop after.left after.stop)
+got_rest setting None start_stop now after es lane m c consumed stops rest = tt
+got_rest setting (Some bytes) start_stop now after es lane m c consumed stops rest =
+    let open_rest : (now.left ≡ Some (left_after bytes (trail setting es).events)) × (now.stop ≡ start_stop) = rw c at rest in
+    let taken : Consumes (Some (left_after bytes (trail setting es).events)) after.left m.bytes = rw (open_rest.0) at consumed in
+    let left = consumed_left (left_after bytes (trail setting es).events) after.left m.bytes taken in
+    let next : left_after bytes (events.Took m ∷ (trail setting es).events) ≡ left.0 = left_after-took bytes left.0 (trail setting es).events m left.2 in
+    rw (at_got setting es lane m c, c) (left.1 ∙ ap Some (sym next), stops ∙ open_rest.1)
 
 -- what a message leaves of the source's bytes
-pub reads_got : (name : Option (List ℕ)) (start now after : Inlet) (p : PeerView) (es : List Entry) (lane : ℕ) (m : Seen) → Follows name p es → p.core.calls.closing ≡ None → busy (trail name es).events ≡ false
+pub reads_got : (setting : Setting) (start now after : Inlet) (p : PeerView) (es : List Entry) (lane : ℕ) (m : Seen) → Follows setting p es → p.core.calls.closing ≡ None → busy (trail setting es).events ≡ false
     → IfSome now.left (λ bytes. receive.Receives now.stop p.core.read bytes (Ok m))
     → Consumes now.left after.left m.bytes → after.stop ≡ now.stop → now.faults ≤ after.faults
-    → Reads name start now es → Reads name start after (entry lane words.Read (answers.Got m) ∷ es)
-reads_got name start now after p es lane m f e free received consumed stops grows r =
-    let c : events.closing (trail name es).events ≡ None = closing_of name p es None f e in
+    → Reads setting start now es → Reads setting start after (entry lane words.Read (answers.Got m) ∷ es)
+reads_got setting start now after p es lane m f e free received consumed stops grows r =
+    let c : events.closing (trail setting es).events ≡ None = closing_of setting p es None f e in
     record {
-      told = got_told name start.left start.stop now p.core.read es lane m c free (sym f.left.read) received r.rest r.told;
-      rest = got_rest name start.left start.stop now after es lane m c consumed stops r.rest;
+      told = got_told setting start.left start.stop now p.core.read es lane m c free (sym f.left.read) received r.rest r.told;
+      rest = got_rest setting start.left start.stop now after es lane m c consumed stops r.rest;
       cause = λ has. rise_before start.faults now.faults after.faults (r.cause (not_got has)) grows;
       kept = omega (arith, r.kept, grows);
     }
@@ -223,35 +227,35 @@ reads_got name start now after p es lane m f e free received consumed stops grow
     not_got (inl h) = cc
     not_got (inr h) = h
 
-shut_told : (name : Option (List ℕ)) (start_left : Option (List ℕ)) (start_stop : Option Bool) (now : Inlet) (count : ℕ) (es : List Entry) (lane : ℕ) (error : Error)
-    → events.closing (trail name es).events ≡ None → busy (trail name es).events ≡ false → length (events.read (trail name es).events) ≡ count → error ≢ errors.Memory
+shut_told : (setting : Setting) (start_left : Option (List ℕ)) (start_stop : Option Bool) (now : Inlet) (count : ℕ) (es : List Entry) (lane : ℕ) (error : Error)
+    → events.closing (trail setting es).events ≡ None → busy (trail setting es).events ≡ false → length (events.read (trail setting es).events) ≡ count → error ≢ errors.Memory
     → IfSome now.left (λ bytes. receive.Receives now.stop count bytes (Err error))
-    → IfSome start_left (λ bytes. IsRest (events.closing (trail name es).events) (left_after bytes (trail name es).events) start_stop now.left now.stop)
-    → IfSome start_left (λ bytes. ReadsTold name start_stop bytes es)
-    → IfSome start_left (λ bytes. ReadsTold name start_stop bytes (entry lane words.Read (answers.Closed error) ∷ es))
-shut_told name None start_stop now count es lane error c free n not received rest told = tt
-shut_told name (Some bytes) start_stop now count es lane error c free n not received rest told =
-    let open_rest : (now.left ≡ Some (left_after bytes (trail name es).events)) × (now.stop ≡ start_stop) = rw c at rest in
-    let here : receive.Receives start_stop count (left_after bytes (trail name es).events) (Err error) = rw (open_rest.0, open_rest.1) at received in
-    (rw (c, free, n) (shut_outcome start_stop count (left_after bytes (trail name es).events) error not here), told)
+    → IfSome start_left (λ bytes. IsRest (events.closing (trail setting es).events) (left_after bytes (trail setting es).events) start_stop now.left now.stop)
+    → IfSome start_left (λ bytes. ReadsTold setting start_stop bytes es)
+    → IfSome start_left (λ bytes. ReadsTold setting start_stop bytes (entry lane words.Read (answers.Closed error) ∷ es))
+shut_told setting None start_stop now count es lane error c free n not received rest told = tt
+shut_told setting (Some bytes) start_stop now count es lane error c free n not received rest told =
+    let open_rest : (now.left ≡ Some (left_after bytes (trail setting es).events)) × (now.stop ≡ start_stop) = rw c at rest in
+    let here : receive.Receives start_stop count (left_after bytes (trail setting es).events) (Err error) = rw (open_rest.0, open_rest.1) at received in
+    (rw (c, free, n) (shut_outcome start_stop count (left_after bytes (trail setting es).events) error not here), told)
 
-shut_rest : (name : Option (List ℕ)) (start_left : Option (List ℕ)) (start_stop : Option Bool) (after : Inlet) (es : List Entry) (lane : ℕ) (error : Error)
-    → events.closing (trail name es).events ≡ None
-    → IfSome start_left (λ bytes. IsRest (events.closing (trail name (entry lane words.Read (answers.Closed error) ∷ es)).events)
-    (left_after bytes (trail name (entry lane words.Read (answers.Closed error) ∷ es)).events) start_stop after.left after.stop)
-shut_rest name None start_stop after es lane error c = tt
-shut_rest name (Some bytes) start_stop after es lane error c = rw (at_shut name es lane error c, c) tt
+shut_rest : (setting : Setting) (start_left : Option (List ℕ)) (start_stop : Option Bool) (after : Inlet) (es : List Entry) (lane : ℕ) (error : Error)
+    → events.closing (trail setting es).events ≡ None
+    → IfSome start_left (λ bytes. IsRest (events.closing (trail setting (entry lane words.Read (answers.Closed error) ∷ es)).events)
+    (left_after bytes (trail setting (entry lane words.Read (answers.Closed error) ∷ es)).events) start_stop after.left after.stop)
+shut_rest setting None start_stop after es lane error c = tt
+shut_rest setting (Some bytes) start_stop after es lane error c = rw (at_shut setting es lane error c, c) tt
 
 -- what an error leaves of the source
-pub reads_shut : (name : Option (List ℕ)) (start now after : Inlet) (p : PeerView) (es : List Entry) (lane : ℕ) (error : Error) → Follows name p es → p.core.calls.closing ≡ None → busy (trail name es).events ≡ false
+pub reads_shut : (setting : Setting) (start now after : Inlet) (p : PeerView) (es : List Entry) (lane : ℕ) (error : Error) → Follows setting p es → p.core.calls.closing ≡ None → busy (trail setting es).events ≡ false
     → error ≢ errors.Memory → IfSome now.left (λ bytes. receive.Receives now.stop p.core.read bytes (Err error))
     → receive.HasCause error now.faults after.faults → now.faults ≤ after.faults
-    → Reads name start now es → Reads name start after (entry lane words.Read (answers.Closed error) ∷ es)
-reads_shut name start now after p es lane error f e free not received cause grows r =
-    let c : events.closing (trail name es).events ≡ None = closing_of name p es None f e in
+    → Reads setting start now es → Reads setting start after (entry lane words.Read (answers.Closed error) ∷ es)
+reads_shut setting start now after p es lane error f e free not received cause grows r =
+    let c : events.closing (trail setting es).events ≡ None = closing_of setting p es None f e in
     record {
-      told = shut_told name start.left start.stop now p.core.read es lane error c free (sym f.left.read) not received r.rest r.told;
-      rest = shut_rest name start.left start.stop after es lane error c;
+      told = shut_told setting start.left start.stop now p.core.read es lane error c free (sym f.left.read) not received r.rest r.told;
+      rest = shut_rest setting start.left start.stop after es lane error c;
       cause = shut_cause;
       kept = omega (arith, r.kept, grows);
     }

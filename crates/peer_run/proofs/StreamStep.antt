@@ -6,6 +6,7 @@ use Rattle.wire_message.specs.Front.{Seen}
 use Rattle.wire_message.specs.declared.error.Error.{Error}
 use Rattle.wire_message.specs.declared.error.Error.TheVariants as errors
 use Rattle.wire_message.specs.declared.error.IoKind.TheVariants as kinds
+use Rattle.peer_route.specs.Parcel.{Setting, Asked}
 use Rattle.peer_route.specs.declared.polled.Polled.{Polled}
 use Rattle.peer_route.specs.declared.polled.Polled.TheVariants as polled
 use Rattle.peer_route.specs.declared.words.Words.{Words}
@@ -19,6 +20,7 @@ use Rattle.peer_route.specs.Trail.{trail, drop_spends, take_does, place, count, 
 use Rattle.peer_route.specs.Answers.{shown_drop, drop_of, shown_take, take_of}
 use Rattle.peer_route.specs.Told.{ReadTold}
 use Rattle.peer_route.specs.Left.{Left}
+use Rattle.peer_route.proofs.Given.{given_same, given_made, given_after, given_taken}
 use Rattle.peer_run.specs.Stands.{PeerView, Inlet, Outlet, Follows, Reads, Writes, IsReadFault, IsWriteFault, entry}
 use Rattle.peer_run.proofs.Quiet.{drop_quiet, stream_quiet, take_quiet, fault_was_read}
 use Rattle.peer_run.proofs.QuietStep.{follows_quiet, reads_quiet, writes_quiet}
@@ -29,7 +31,7 @@ drop_shown_spends : (k : ℕ) (r : Result (Unit {0}) Error) → drop_spends (Som
 drop_shown_spends k (Ok done) = refl
 drop_shown_spends k (Err error) = refl
 
-drop_names : (h : List events.Event) (lane : ℕ) (w : Words) (r : Result (Unit {0}) Error) → new_names h lane w (shown_drop r) ≡ []
+drop_names : (h : List events.Event) (lane : ℕ) (w : Option Asked) (r : Result (Unit {0}) Error) → new_names h lane w (shown_drop r) ≡ []
 drop_names h lane w (Ok done) = refl
 drop_names h lane w (Err error) = refl
 
@@ -37,27 +39,34 @@ drop_streams : (lane : ℕ) (r : Result (Unit {0}) Error) → new_streams lane (
 drop_streams lane (Ok done) = refl
 drop_streams lane (Err error) = refl
 
-pub follows_drop : (name : Option (List ℕ)) (p q : PeerView) (es : List Entry) (lane number k : ℕ) (r : Result (Unit {0}) Error) → Follows name p es
-    → place 0 lane number p.names ≡ Some k → r ≡ events.drop_answer (trail name es).events k
-    → q.names ≡ p.names → q.streams ≡ p.streams → Left q.core (events.drop_events k r ++ (trail name es).events)
-    → Follows name q (entry lane (words.Drop number) (shown_drop r) ∷ es)
-follows_drop name p q es lane number k r f here answer names streams_same left =
-    let at : place 0 lane number (trail name es).names ≡ Some k = ap (λ ns. place 0 lane number ns) (sym f.names) ∙ here in
-    follows_quiet name p q es lane (words.Drop number) (shown_drop r) (drop_spends (Some k) (shown_drop r)) f (ap (λ o. drop_spends o (shown_drop r)) at)
+-- a drop changes nothing of the streams
+given_dropped : (p : Option ℕ) (a : Answer) (h : List events.Event) → streams.all_given (drop_spends p a ++ h) ≡ streams.all_given h
+given_dropped None a h = refl
+given_dropped (Some k) answers.Dropped h = given_same (events.Spent k ∷ h) h refl refl
+given_dropped (Some k) a h = refl
+
+pub follows_drop : (setting : Setting) (p q : PeerView) (es : List Entry) (lane number k : ℕ) (r : Result (Unit {0}) Error) → Follows setting p es
+    → place 0 lane number p.names ≡ Some k → r ≡ events.drop_answer (trail setting es).events k
+    → q.names ≡ p.names → q.streams ≡ p.streams → q.given ≡ p.given → Left q.core (events.drop_events k r ++ (trail setting es).events)
+    → Follows setting q (entry lane (words.Drop number) (shown_drop r) ∷ es)
+follows_drop setting p q es lane number k r f here answer names streams_same given left =
+    let at : place 0 lane number (trail setting es).names ≡ Some k = ap (λ ns. place 0 lane number ns) (sym f.names) ∙ here in
+    follows_quiet setting p q es lane (words.Drop number) (shown_drop r) (drop_spends (Some k) (shown_drop r)) f (ap (λ o. drop_spends o (shown_drop r)) at)
     (drop_quiet (Some k) (shown_drop r))
-    (subst (λ xs. Left q.core (xs ++ (trail name es).events)) (sym (drop_shown_spends k r)) left)
-    names (drop_names (trail name es).events lane (words.Drop number) r) (streams_same ∙ sym (append-nil p.streams) ∙ ap (λ ns. p.streams ++ ns) (sym (drop_streams lane r)))
-    (ap (λ x. shown_drop x) answer ∙ sym (ap (drop_of (trail name es).events) at))
+    (subst (λ xs. Left q.core (xs ++ (trail setting es).events)) (sym (drop_shown_spends k r)) left)
+    names (drop_names (trail setting es).events lane None r) (streams_same ∙ sym (append-nil p.streams) ∙ ap (λ ns. p.streams ++ ns) (sym (drop_streams lane r)))
+    (given ∙ f.given ∙ sym (given_dropped (Some k) (shown_drop r) (trail setting es).events))
+    (ap (λ x. shown_drop x) answer ∙ sym (ap (drop_of (trail setting es).events) at))
 
-pub follows_drop_unknown : (name : Option (List ℕ)) (p : PeerView) (es : List Entry) (lane number : ℕ) → Follows name p es → place 0 lane number p.names ≡ None
-    → Follows name p (entry lane (words.Drop number) (answers.Refused errors.UnknownHandle) ∷ es)
-follows_drop_unknown name p es lane number f none =
-    let at : place 0 lane number (trail name es).names ≡ None = ap (λ ns. place 0 lane number ns) (sym f.names) ∙ none in
-    follows_quiet name p p es lane (words.Drop number) (answers.Refused errors.UnknownHandle) [] f (rw at refl) tt f.left refl refl (sym (append-nil p.streams)) (rw at refl)
+pub follows_drop_unknown : (setting : Setting) (p : PeerView) (es : List Entry) (lane number : ℕ) → Follows setting p es → place 0 lane number p.names ≡ None
+    → Follows setting p (entry lane (words.Drop number) (answers.Refused errors.UnknownHandle) ∷ es)
+follows_drop_unknown setting p es lane number f none =
+    let at : place 0 lane number (trail setting es).names ≡ None = ap (λ ns. place 0 lane number ns) (sym f.names) ∙ none in
+    follows_quiet setting p p es lane (words.Drop number) (answers.Refused errors.UnknownHandle) [] f (rw at refl) tt f.left refl refl (sym (append-nil p.streams)) f.given (rw at refl)
 
-told_drop : (name : Option (List ℕ)) (es : List Entry) (number : ℕ) (a : Answer) (stop : Option Bool) (bytes : List ℕ) (closing : Option Error) → ReadTold stop bytes (trail name es).events closing (words.Drop number) a
-told_drop name es number a stop bytes None = tt
-told_drop name es number a stop bytes (Some error) = tt
+told_drop : (setting : Setting) (es : List Entry) (number : ℕ) (a : Answer) (stop : Option Bool) (bytes : List ℕ) (closing : Option Error) → ReadTold stop bytes (trail setting es).events closing (words.Drop number) a
+told_drop setting es number a stop bytes None = tt
+told_drop setting es number a stop bytes (Some error) = tt
 
 drop_no_fault : (r : Result (Unit {0}) Error) → IsReadFault (shown_drop r) → ⊥
 drop_no_fault (Ok done) e = cc
@@ -67,38 +76,38 @@ drop_no_write : (r : Result (Unit {0}) Error) → IsWriteFault (shown_drop r) �
 drop_no_write (Ok done) e = cc
 drop_no_write (Err error) e = cc
 
-pub reads_drop : (name : Option (List ℕ)) (start now : Inlet) (es : List Entry) (lane number : ℕ) (r : Result (Unit {0}) Error) → Reads name start now es
-    → Reads name start now (entry lane (words.Drop number) (shown_drop r) ∷ es)
-reads_drop name start now es lane number r x =
-    reads_quiet name start now es lane (words.Drop number) (shown_drop r) (drop_quiet (place 0 lane number (trail name es).names) (shown_drop r))
-    (told_drop name es number (shown_drop r)) (λ e. absurd (drop_no_fault r e)) x
+pub reads_drop : (setting : Setting) (start now : Inlet) (es : List Entry) (lane number : ℕ) (r : Result (Unit {0}) Error) → Reads setting start now es
+    → Reads setting start now (entry lane (words.Drop number) (shown_drop r) ∷ es)
+reads_drop setting start now es lane number r x =
+    reads_quiet setting start now es lane (words.Drop number) (shown_drop r) (drop_quiet (place 0 lane number (trail setting es).names) (shown_drop r))
+    (told_drop setting es number (shown_drop r)) (λ e. absurd (drop_no_fault r e)) x
 
-pub writes_drop : (name : Option (List ℕ)) (start now : Outlet) (es : List Entry) (lane number : ℕ) (r : Result (Unit {0}) Error) → Writes name start now es
-    → Writes name start now (entry lane (words.Drop number) (shown_drop r) ∷ es)
-writes_drop name start now es lane number r x =
-    writes_quiet name start now es lane (words.Drop number) (shown_drop r) (drop_quiet (place 0 lane number (trail name es).names) (shown_drop r))
+pub writes_drop : (setting : Setting) (start now : Outlet) (es : List Entry) (lane number : ℕ) (r : Result (Unit {0}) Error) → Writes setting start now es
+    → Writes setting start now (entry lane (words.Drop number) (shown_drop r) ∷ es)
+writes_drop setting start now es lane number r x =
+    writes_quiet setting start now es lane (words.Drop number) (shown_drop r) (drop_quiet (place 0 lane number (trail setting es).names) (shown_drop r))
     (λ e. absurd (drop_no_write r e)) x
 
 -- ---- a stream
 
-pub follows_stream : (name : Option (List ℕ)) (p q : PeerView) (es : List Entry) (lane : ℕ) → Follows name p es
-    → q.names ≡ p.names → q.streams ≡ p.streams ++ Some lane ∷ [] → Left q.core (events.Made events.Plain ∷ (trail name es).events)
-    → Follows name q (entry lane words.Stream (answers.Streaming (count lane p.streams)) ∷ es)
-follows_stream name p q es lane f names made left =
-    follows_quiet name p q es lane words.Stream (answers.Streaming (count lane p.streams)) (events.Made events.Plain ∷ []) f refl tt left
-    names refl made (ap (λ ns. answers.Streaming (count lane ns)) f.streams)
+pub follows_stream : (setting : Setting) (p q : PeerView) (es : List Entry) (lane : ℕ) → Follows setting p es
+    → q.names ≡ p.names → q.streams ≡ p.streams ++ Some lane ∷ [] → q.given ≡ p.given ++ None ∷ [] → Left q.core (events.Made events.Plain ∷ (trail setting es).events)
+    → Follows setting q (entry lane words.Stream (answers.Streaming (count lane p.streams)) ∷ es)
+follows_stream setting p q es lane f names made given left =
+    follows_quiet setting p q es lane words.Stream (answers.Streaming (count lane p.streams)) (events.Made events.Plain ∷ []) f refl tt left
+    names refl made (given ∙ ap (λ gs. gs ++ None ∷ []) f.given ∙ sym (given_made (trail setting es).events)) (ap (λ ns. answers.Streaming (count lane ns)) f.streams)
 
-told_stream : (name : Option (List ℕ)) (es : List Entry) (a : Answer) (stop : Option Bool) (bytes : List ℕ) (closing : Option Error) → ReadTold stop bytes (trail name es).events closing words.Stream a
-told_stream name es a stop bytes None = tt
-told_stream name es a stop bytes (Some error) = tt
+told_stream : (setting : Setting) (es : List Entry) (a : Answer) (stop : Option Bool) (bytes : List ℕ) (closing : Option Error) → ReadTold stop bytes (trail setting es).events closing words.Stream a
+told_stream setting es a stop bytes None = tt
+told_stream setting es a stop bytes (Some error) = tt
 
-pub reads_stream : (name : Option (List ℕ)) (start now : Inlet) (es : List Entry) (lane number : ℕ) → Reads name start now es → Reads name start now (entry lane words.Stream (answers.Streaming number) ∷ es)
-reads_stream name start now es lane number x =
-    reads_quiet name start now es lane words.Stream (answers.Streaming number) (stream_quiet (answers.Streaming number)) (told_stream name es (answers.Streaming number)) (λ e. cc) x
+pub reads_stream : (setting : Setting) (start now : Inlet) (es : List Entry) (lane number : ℕ) → Reads setting start now es → Reads setting start now (entry lane words.Stream (answers.Streaming number) ∷ es)
+reads_stream setting start now es lane number x =
+    reads_quiet setting start now es lane words.Stream (answers.Streaming number) (stream_quiet (answers.Streaming number)) (told_stream setting es (answers.Streaming number)) (λ e. cc) x
 
-pub writes_stream : (name : Option (List ℕ)) (start now : Outlet) (es : List Entry) (lane number : ℕ) → Writes name start now es → Writes name start now (entry lane words.Stream (answers.Streaming number) ∷ es)
-writes_stream name start now es lane number x =
-    writes_quiet name start now es lane words.Stream (answers.Streaming number) (stream_quiet (answers.Streaming number)) (λ e. cc) x
+pub writes_stream : (setting : Setting) (start now : Outlet) (es : List Entry) (lane number : ℕ) → Writes setting start now es → Writes setting start now (entry lane words.Stream (answers.Streaming number) ∷ es)
+writes_stream setting start now es lane number x =
+    writes_quiet setting start now es lane words.Stream (answers.Streaming number) (stream_quiet (answers.Streaming number)) (λ e. cc) x
 
 -- ---- a take
 
@@ -109,7 +118,7 @@ take_shown_does k (Ok (polled.Closed error)) = refl
 take_shown_does k (Ok polled.Ended) = refl
 take_shown_does k (Err error) = refl
 
-take_names : (h : List events.Event) (lane : ℕ) (w : Words) (r : Result (Polled Seen) Error) → new_names h lane w (shown_take r) ≡ []
+take_names : (h : List events.Event) (lane : ℕ) (w : Option Asked) (r : Result (Polled Seen) Error) → new_names h lane w (shown_take r) ≡ []
 take_names h lane w (Ok (polled.Now m)) = refl
 take_names h lane w (Ok polled.NotYet) = refl
 take_names h lane w (Ok (polled.Closed error)) = refl
@@ -123,27 +132,34 @@ take_streams lane (Ok (polled.Closed error)) = refl
 take_streams lane (Ok polled.Ended) = refl
 take_streams lane (Err error) = refl
 
-pub follows_take : (name : Option (List ℕ)) (p q : PeerView) (es : List Entry) (lane number k : ℕ) (r : Result (Polled Seen) Error) → Follows name p es
-    → place 0 lane number p.streams ≡ Some k → r ≡ streams.take_answer (trail name es).events k
-    → q.names ≡ p.names → q.streams ≡ p.streams → Left q.core (streams.take_events k r ++ (trail name es).events)
-    → Follows name q (entry lane (words.Take number) (shown_take r) ∷ es)
-follows_take name p q es lane number k r f here answer names streams_same left =
-    let at : place 0 lane number (trail name es).streams ≡ Some k = ap (λ ns. place 0 lane number ns) (sym f.streams) ∙ here in
-    follows_quiet name p q es lane (words.Take number) (shown_take r) (take_does (Some k) (shown_take r)) f (ap (λ o. take_does o (shown_take r)) at)
+given_now : (h : List events.Event) (k : ℕ) (r : Result (Polled Seen) Error) → r ≡ streams.take_answer h k
+    → given_after k r (streams.all_given h) ≡ streams.all_given (take_does (Some k) (shown_take r) ++ h)
+given_now h k r answer =
+    ap (λ (x : Result (Polled Seen) Error). given_after k x (streams.all_given h)) answer ∙ sym (given_taken h k)
+    ∙ ap (λ (x : Result (Polled Seen) Error). streams.all_given (streams.take_events k x ++ h)) (sym answer) ∙ ap (λ xs. streams.all_given (xs ++ h)) (sym (take_shown_does k r))
+
+pub follows_take : (setting : Setting) (p q : PeerView) (es : List Entry) (lane number k : ℕ) (r : Result (Polled Seen) Error) → Follows setting p es
+    → place 0 lane number p.streams ≡ Some k → r ≡ streams.take_answer (trail setting es).events k
+    → q.names ≡ p.names → q.streams ≡ p.streams → q.given ≡ given_after k r p.given → Left q.core (streams.take_events k r ++ (trail setting es).events)
+    → Follows setting q (entry lane (words.Take number) (shown_take r) ∷ es)
+follows_take setting p q es lane number k r f here answer names streams_same given left =
+    let at : place 0 lane number (trail setting es).streams ≡ Some k = ap (λ ns. place 0 lane number ns) (sym f.streams) ∙ here in
+    follows_quiet setting p q es lane (words.Take number) (shown_take r) (take_does (Some k) (shown_take r)) f (ap (λ o. take_does o (shown_take r)) at)
     (take_quiet (Some k) (shown_take r))
-    (subst (λ xs. Left q.core (xs ++ (trail name es).events)) (sym (take_shown_does k r)) left)
-    names (take_names (trail name es).events lane (words.Take number) r) (streams_same ∙ sym (append-nil p.streams) ∙ ap (λ ns. p.streams ++ ns) (sym (take_streams lane r)))
-    (ap shown_take answer ∙ sym (ap (take_of (trail name es).events) at))
+    (subst (λ xs. Left q.core (xs ++ (trail setting es).events)) (sym (take_shown_does k r)) left)
+    names (take_names (trail setting es).events lane None r) (streams_same ∙ sym (append-nil p.streams) ∙ ap (λ ns. p.streams ++ ns) (sym (take_streams lane r)))
+    (given ∙ ap (given_after k r) f.given ∙ given_now (trail setting es).events k r answer)
+    (ap shown_take answer ∙ sym (ap (take_of (trail setting es).events) at))
 
-pub follows_take_unknown : (name : Option (List ℕ)) (p : PeerView) (es : List Entry) (lane number : ℕ) → Follows name p es → place 0 lane number p.streams ≡ None
-    → Follows name p (entry lane (words.Take number) (answers.Refused errors.UnknownHandle) ∷ es)
-follows_take_unknown name p es lane number f none =
-    let at : place 0 lane number (trail name es).streams ≡ None = ap (λ ns. place 0 lane number ns) (sym f.streams) ∙ none in
-    follows_quiet name p p es lane (words.Take number) (answers.Refused errors.UnknownHandle) [] f (rw at refl) tt f.left refl refl (sym (append-nil p.streams)) (rw at refl)
+pub follows_take_unknown : (setting : Setting) (p : PeerView) (es : List Entry) (lane number : ℕ) → Follows setting p es → place 0 lane number p.streams ≡ None
+    → Follows setting p (entry lane (words.Take number) (answers.Refused errors.UnknownHandle) ∷ es)
+follows_take_unknown setting p es lane number f none =
+    let at : place 0 lane number (trail setting es).streams ≡ None = ap (λ ns. place 0 lane number ns) (sym f.streams) ∙ none in
+    follows_quiet setting p p es lane (words.Take number) (answers.Refused errors.UnknownHandle) [] f (rw at refl) tt f.left refl refl (sym (append-nil p.streams)) f.given (rw at refl)
 
-told_take : (name : Option (List ℕ)) (es : List Entry) (number : ℕ) (a : Answer) (stop : Option Bool) (bytes : List ℕ) (closing : Option Error) → ReadTold stop bytes (trail name es).events closing (words.Take number) a
-told_take name es number a stop bytes None = tt
-told_take name es number a stop bytes (Some error) = tt
+told_take : (setting : Setting) (es : List Entry) (number : ℕ) (a : Answer) (stop : Option Bool) (bytes : List ℕ) (closing : Option Error) → ReadTold stop bytes (trail setting es).events closing (words.Take number) a
+told_take setting es number a stop bytes None = tt
+told_take setting es number a stop bytes (Some error) = tt
 
 -- a take's closing error is the peer's
 closed_by : (items : List Seen) (closing : Option Error) (told : Bool) (error : Error) → streams.take_by items closing told ≡ polled.Closed error → closing ≡ Some error
@@ -174,21 +190,21 @@ take_no_write (Ok (polled.Closed error)) e = cc
 take_no_write (Ok polled.Ended) e = cc
 take_no_write (Err error) e = cc
 
-pub reads_take : (name : Option (List ℕ)) (start now : Inlet) (es : List Entry) (lane number k : ℕ) (r : Result (Polled Seen) Error) → r ≡ streams.take_answer (trail name es).events k
-    → Reads name start now es → Reads name start now (entry lane (words.Take number) (shown_take r) ∷ es)
-reads_take name start now es lane number k r answer x =
-    reads_quiet name start now es lane (words.Take number) (shown_take r) (take_quiet (place 0 lane number (trail name es).streams) (shown_take r))
-    (told_take name es number (shown_take r))
-    (λ e. fault_was_read name es (take_closed (trail name es).events k (errors.InputOutput kinds.Fault) (sym answer ∙ take_fault r e))) x
+pub reads_take : (setting : Setting) (start now : Inlet) (es : List Entry) (lane number k : ℕ) (r : Result (Polled Seen) Error) → r ≡ streams.take_answer (trail setting es).events k
+    → Reads setting start now es → Reads setting start now (entry lane (words.Take number) (shown_take r) ∷ es)
+reads_take setting start now es lane number k r answer x =
+    reads_quiet setting start now es lane (words.Take number) (shown_take r) (take_quiet (place 0 lane number (trail setting es).streams) (shown_take r))
+    (told_take setting es number (shown_take r))
+    (λ e. fault_was_read setting es (take_closed (trail setting es).events k (errors.InputOutput kinds.Fault) (sym answer ∙ take_fault r e))) x
 
-pub reads_take_unknown : (name : Option (List ℕ)) (start now : Inlet) (es : List Entry) (lane number : ℕ) → Reads name start now es
-    → Reads name start now (entry lane (words.Take number) (answers.Refused errors.UnknownHandle) ∷ es)
-reads_take_unknown name start now es lane number x =
-    reads_quiet name start now es lane (words.Take number) (answers.Refused errors.UnknownHandle)
-    (take_quiet (place 0 lane number (trail name es).streams) (answers.Refused errors.UnknownHandle)) (told_take name es number (answers.Refused errors.UnknownHandle)) (λ e. cc) x
+pub reads_take_unknown : (setting : Setting) (start now : Inlet) (es : List Entry) (lane number : ℕ) → Reads setting start now es
+    → Reads setting start now (entry lane (words.Take number) (answers.Refused errors.UnknownHandle) ∷ es)
+reads_take_unknown setting start now es lane number x =
+    reads_quiet setting start now es lane (words.Take number) (answers.Refused errors.UnknownHandle)
+    (take_quiet (place 0 lane number (trail setting es).streams) (answers.Refused errors.UnknownHandle)) (told_take setting es number (answers.Refused errors.UnknownHandle)) (λ e. cc) x
 
-pub writes_take : (name : Option (List ℕ)) (start now : Outlet) (es : List Entry) (lane number : ℕ) (r : Result (Polled Seen) Error) → Writes name start now es
-    → Writes name start now (entry lane (words.Take number) (shown_take r) ∷ es)
-writes_take name start now es lane number r x =
-    writes_quiet name start now es lane (words.Take number) (shown_take r) (take_quiet (place 0 lane number (trail name es).streams) (shown_take r))
+pub writes_take : (setting : Setting) (start now : Outlet) (es : List Entry) (lane number : ℕ) (r : Result (Polled Seen) Error) → Writes setting start now es
+    → Writes setting start now (entry lane (words.Take number) (shown_take r) ∷ es)
+writes_take setting start now es lane number r x =
+    writes_quiet setting start now es lane (words.Take number) (shown_take r) (take_quiet (place 0 lane number (trail setting es).streams) (shown_take r))
     (λ e. absurd (take_no_write r e)) x

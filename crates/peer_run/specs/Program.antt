@@ -7,6 +7,7 @@ use Rattle.peer_route.specs.declared.words.Words.TheVariants as words
 use Rattle.peer_route.specs.declared.answer.Answer.TheVariants as answers
 use Rattle.peer_route.specs.declared.answer.Entry.{Entry}
 use Rattle.peer_route.specs.History.{put, is_failed}
+use Rattle.peer_route.specs.Parcel.{Setting}
 use Rattle.peer_route.specs.Trail.{trail}
 use Rattle.peer_route.specs.Answers.{Legal}
 use Rattle.peer_route.specs.Told.{ReadsTold, IsSentOf, WritesTold}
@@ -54,46 +55,50 @@ source_breaks [] = false
 source_breaks (Gave piece ∷ given) = source_breaks given
 source_breaks (Broke ∷ given) = true
 
+-- what a script gives its peer at its start
+abbrev pub setting_of : Script → Setting
+setting_of s = record { name = s.name; takes_fds = s.fds }
+
 -- Reads take the messages that stand in the source's bytes, in order, however these are cut; a busy read and a read of a
 -- closed peer take nothing.
 abbrev pub ReadsAre : Script → List Entry → List ℕ → Type 0
-ReadsAre s h sent = ReadsTold s.name (Some (source_breaks s.given)) (source_bytes s.given) h
+ReadsAre s h sent = ReadsTold (setting_of s) (Some (source_breaks s.given)) (source_bytes s.given) h
 
 -- what a poll of a lane's call gives: its answer, by the entries before it; and what comes after its last word
-pub record IsPolled (name : Option (List ℕ)) (newer : List Entry) (e : Entry) (older : List Entry) (number : ℕ) : Type 0 where
-  pub first : (q : ℕ) → IsReplyAt q e.answer → IsFirstReply (trail name older) e.lane number q e.answer
-  pub cut_off : (error : Error) → e.answer ≡ answers.Closed error → IsCutOff (trail name older) e.lane number error
+pub record IsPolled (setting : Setting) (newer : List Entry) (e : Entry) (older : List Entry) (number : ℕ) : Type 0 where
+  pub first : (q : ℕ) → IsReplyAt q e.answer → IsFirstReply (trail setting older) e.lane number q e.answer
+  pub cut_off : (error : Error) → e.answer ≡ answers.Closed error → IsCutOff (trail setting older) e.lane number error
   pub once : IsFinal e.answer → AllByRecursion (IsUnknown e.lane number) newer
 
 -- A polled call is answered at most once: by the first later reply that bears its serial, else by the error that closed the
 -- peer.
 abbrev pub PollsAre : Script → List Entry → List ℕ → Type 0
-PollsAre s h sent = (newer older : List Entry) (e : Entry) (number : ℕ) → h ≡ newer ++ e ∷ older → e.words ≡ words.Poll number → IsPolled s.name newer e older number
+PollsAre s h sent = (newer older : List Entry) (e : Entry) (number : ℕ) → h ≡ newer ++ e ∷ older → e.words ≡ words.Poll number → IsPolled (setting_of s) newer e older number
 
 -- what a stream's entries say, from the one that made it on
-abbrev pub StreamsYield : Option (List ℕ) → List Entry → Type 0
-StreamsYield name h = (newer older : List Entry) (e : Entry) (number : ℕ) → h ≡ newer ++ e ∷ older → e.words ≡ words.Stream → e.answer ≡ answers.Streaming number → Yields name newer e older number
+abbrev pub StreamsYield : Setting → List Entry → Type 0
+StreamsYield setting h = (newer older : List Entry) (e : Entry) (number : ℕ) → h ≡ newer ++ e ∷ older → e.words ≡ words.Stream → e.answer ≡ answers.Streaming number → Yields setting newer e older number
 
 abbrev pub StreamsEnd : List Entry → Type 0
 StreamsEnd h = (newer older : List Entry) (e : Entry) (number : ℕ) → h ≡ newer ++ e ∷ older → e.words ≡ words.Take number → IsLast e.answer → AllByRecursion (IsEnded e.lane number) newer
 
-abbrev pub FullStreamsWait : Option (List ℕ) → List Entry → Type 0
-FullStreamsWait name h = (newer older : List Entry) (e : Entry) → h ≡ newer ++ e ∷ older → e.words ≡ words.Read → HoldsTooMany (trail name older).events → e.answer ≡ answers.Busy
+abbrev pub FullStreamsWait : Setting → List Entry → Type 0
+FullStreamsWait setting h = (newer older : List Entry) (e : Entry) → h ≡ newer ++ e ∷ older → e.words ≡ words.Read → HoldsTooMany (trail setting older).events → e.answer ≡ answers.Busy
 
 -- Each stream gives exactly the messages that were read since it was made, in order; it ends once; and where one holds more
 -- than its capacity, reads wait.
 pub record StreamsAre (s : Script) (h : List Entry) (sent : List ℕ) : Type 0 where
-  pub yields : StreamsYield s.name h
+  pub yields : StreamsYield (setting_of s) h
   pub ends : StreamsEnd h
-  pub waits : FullStreamsWait s.name h
+  pub waits : FullStreamsWait (setting_of s) h
 
 -- The bytes sent are the encodings of the messages that were put, in order, up to the sink's fault, perhaps with a proper
 -- prefix of one more; where the sink has room for so many bytes, exactly the first message that ends past them fails; and
 -- what was put is what the answers say was sent.
 pub record SentIs (s : Script) (h : List Entry) (sent : List ℕ) : Type 0 where
-  pub bytes : IsSentOf (trail s.name h).events sent
-  pub room : WritesTold (Some s.outfault) (is_failed (trail s.name h).events) (put (trail s.name h).events) sent
-  pub put_is : IsPutOf (is_failed (trail s.name h).events) (put (trail s.name h).events) (all_sent s.name h)
+  pub bytes : IsSentOf (trail (setting_of s) h).events sent
+  pub room : WritesTold (Some s.outfault) (is_failed (trail (setting_of s) h).events) (put (trail (setting_of s) h).events) sent
+  pub put_is : IsPutOf (is_failed (trail (setting_of s) h).events) (put (trail (setting_of s) h).events) (all_sent (setting_of s) h)
 
 -- ---- what is printed
 
@@ -106,10 +111,10 @@ pub record Prints (Such : Script → List Entry → List ℕ → Type 0) (input 
   pub read : script_of input ≡ Ok script
   pub entries : List Entry
   pub sent : List ℕ
-  pub legal : Legal script.name (reverse entries)
+  pub legal : Legal (setting_of script) (reverse entries)
   pub each : map command_of entries ≡ script.commands
   pub such : Such script (reverse entries) sent
-  pub gained : Appends before after (transcript_text script.name script.outfault script.given entries sent)
+  pub gained : Appends before after (transcript_text script.name script.fds script.outfault script.given entries sent)
 
 -- The input passes a limit, or is no script text; what the output gained says so, with the first line outside.
 abbrev pub Refuses : List ℕ → Option (List ℕ) → Option (List ℕ) → Type 0
@@ -138,16 +143,16 @@ pub data Says (status : ℕ) (text : List ℕ) (before after : Option (List ℕ)
 
 -- the entries, oldest first, are a run of the script whose sink holds these bytes
 pub record IsRunOf (s : Script) (entries : List Entry) (sent : List ℕ) : Type 0 where
-  pub legal : Legal s.name (reverse entries)
+  pub legal : Legal (setting_of s) (reverse entries)
   pub each : map command_of entries ≡ s.commands
   pub reads : ReadsAre s (reverse entries) sent
-  pub bytes : IsSentOf (trail s.name (reverse entries)).events sent
-  pub room : WritesTold (Some s.outfault) (is_failed (trail s.name (reverse entries)).events) (put (trail s.name (reverse entries)).events) sent
+  pub bytes : IsSentOf (trail (setting_of s) (reverse entries)).events sent
+  pub room : WritesTold (Some s.outfault) (is_failed (trail (setting_of s) (reverse entries)).events) (put (trail (setting_of s) (reverse entries)).events) sent
 
 -- A script's commands were run, and its transcript was printed; or not, as above.
 pub data Shows (s : Script) (before after : Option (List ℕ)) (faults faults' : ℕ) (result : ℕ) : Type 0 where
   Shown : (entries : List Entry) (sent : List ℕ) → IsRunOf s entries sent → result ≡ 0
-      → Appends before after (transcript_text s.name s.outfault s.given entries sent) → faults' ≡ faults → Shows s before after faults faults' result
+      → Appends before after (transcript_text s.name s.fds s.outfault s.given entries sent) → faults' ≡ faults → Shows s before after faults faults' result
   ShownPart : result ≡ 5 → MayRise faults faults' → Shows s before after faults faults' result
   ShownNot : result ≡ 1 → faults' ≡ faults → Shows s before after faults faults' result
 

@@ -4,6 +4,7 @@ use Rattle.wire_framing.specs.Source.{MayRise}
 use Rattle.wire_framing.specs.declared.write_half.Writing.{Writing}
 use Rattle.peer_route.specs.declared.words.Command.{Command}
 use Rattle.peer_route.specs.declared.answer.Entry.{Entry}
+use Rattle.peer_route.specs.Parcel.{Setting}
 use Rattle.peer_route.specs.Trail.{trail}
 use Rattle.peer_route.specs.Answers.{Legal}
 use Rattle.peer_route.specs.Told.{ReadsTold}
@@ -13,23 +14,23 @@ use Rattle.peer_run.specs.Stands.{Inlet, Outlet, PeerView, Follows, Reads, Write
 abbrev pub command_of : Entry → Command
 command_of e = record { lane = e.lane; words = e.words }
 
--- a peer of this name, a source, a sink and the half that writes to it stand to a history, newest first
-pub record Stands (name : Option (List ℕ)) (start_in : Inlet) (start_out : Outlet) (p : PeerView) (now_in : Inlet) (now_out : Outlet) (writing : Writing) (es : List Entry) : Type 0 where
-  pub follows : Follows name p es
-  pub reads : Reads name start_in now_in es
-  pub writes : Writes name start_out now_out es
-  pub fine : IsFine (trail name es).events writing
+-- a peer of this setting, a source, a sink and the half that writes to it stand to a history, newest first
+pub record Stands (setting : Setting) (start_in : Inlet) (start_out : Outlet) (p : PeerView) (now_in : Inlet) (now_out : Outlet) (writing : Writing) (es : List Entry) : Type 0 where
+  pub follows : Follows setting p es
+  pub reads : Reads setting start_in now_in es
+  pub writes : Writes setting start_out now_out es
+  pub fine : IsFine (trail setting es).events writing
 
--- The entries, oldest first, are a run of these commands by a peer of this name over a source and a sink that told this before it and after it.
-pub record Runs (name : Option (List ℕ)) (start_in : Inlet) (start_out : Outlet) (end_in : Inlet) (end_out : Outlet) (commands : List Command) (entries : List Entry) : Type 0 where
+-- The entries, oldest first, are a run of these commands by a peer of this setting over a source and a sink that told this before it and after it.
+pub record Runs (setting : Setting) (start_in : Inlet) (start_out : Outlet) (end_in : Inlet) (end_out : Outlet) (commands : List Command) (entries : List Entry) : Type 0 where
   -- each answer is that of the entries before it
-  pub legal : Legal name (reverse entries)
+  pub legal : Legal setting (reverse entries)
   -- the entries' commands are those, each once and in order
   pub each : map command_of entries ≡ commands
   -- the reads are what stands in the source's bytes
-  pub reads : IfSome start_in.left (λ bytes. ReadsTold name start_in.stop bytes (reverse entries))
+  pub reads : IfSome start_in.left (λ bytes. ReadsTold setting start_in.stop bytes (reverse entries))
   -- the sink holds the encodings of what was put, up to its first fault
-  pub writes : IfSome start_out.held (λ before. HoldsThen start_out.room before end_out.held (trail name (reverse entries)).events)
+  pub writes : IfSome start_out.held (λ before. HoldsThen start_out.room before end_out.held (trail setting (reverse entries)).events)
   -- a fault is answered only where its count rose
   pub read_fault : HasReadFault (reverse entries) → MayRise start_in.faults end_in.faults
   pub write_fault : HasWriteFault (reverse entries) → MayRise start_out.faults end_out.faults

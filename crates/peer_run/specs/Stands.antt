@@ -11,11 +11,14 @@ use Rattle.wire_framing.specs.Send.{Part}
 use Rattle.wire_framing.specs.declared.write_half.Writing.{Writing}
 use Rattle.wire_framing.specs.declared.write_half.Writing.TheVariants.{Fine, Failed}
 use Rattle.peer_route.specs.declared.words.Words.{Words}
+use Rattle.peer_route.specs.declared.words.Words.TheVariants as words
 use Rattle.peer_route.specs.declared.answer.Answer.{Answer}
 use Rattle.peer_route.specs.declared.answer.Answer.TheVariants as answers
 use Rattle.peer_route.specs.declared.answer.Entry.{Entry}
 use Rattle.peer_route.specs.History.{Event, Wrote, Fault, put, is_failed}
 use Rattle.peer_route.specs.History as events
+use Rattle.peer_route.specs.Parcel.{Setting}
+use Rattle.peer_route.specs.Streams.{all_given}
 use Rattle.peer_route.specs.Trail.{Names, trail, count}
 use Rattle.peer_route.specs.declared.route.Issued.{Issued}
 use Rattle.peer_route.specs.Answers.{Legal, sent_answer, write_fault}
@@ -38,18 +41,20 @@ pub record Outlet : Type 0 where
 abbrev pub entry : ℕ → Words → Answer → Entry
 entry lane w answer = record { lane = lane; words = w; answer = answer }
 
--- what contracts see of a peer: its core, and whose its calls and its streams are
+-- what contracts see of a peer: its core, whose its calls and its streams are, and for each stream the message that it gave last
 pub record PeerView : Type 0 where
   pub core : View
   pub names : Names
   pub streams : Names
+  pub given : List (Option Seen)
 
 -- The peer is what the history leaves, and the history is legal.
-pub record Follows (name : Option (List ℕ)) (p : PeerView) (es : List Entry) : Type 0 where
-  pub left : Left p.core (trail name es).events
-  pub names : p.names ≡ (trail name es).names
-  pub streams : p.streams ≡ (trail name es).streams
-  pub legal : Legal name es
+pub record Follows (setting : Setting) (p : PeerView) (es : List Entry) : Type 0 where
+  pub left : Left p.core (trail setting es).events
+  pub names : p.names ≡ (trail setting es).names
+  pub streams : p.streams ≡ (trail setting es).streams
+  pub given : p.given ≡ all_given (trail setting es).events
+  pub legal : Legal setting es
   pub within : p.core.read ≤ 2 ^ 64 - 2
   pub written : p.core.done ≡ length p.core.outbox
 
@@ -70,9 +75,9 @@ IsRest (Some error) rest before left stop = ⊤
 IsRest None rest before left stop = (left ≡ Some rest) × (stop ≡ before)
 
 -- What the source told at the start, and tells now, is what the history's reads say.
-pub record Reads (name : Option (List ℕ)) (start now : Inlet) (es : List Entry) : Type 0 where
-  pub told : IfSome start.left (λ bytes. ReadsTold name start.stop bytes es)
-  pub rest : IfSome start.left (λ bytes. IsRest (events.closing (trail name es).events) (left_after bytes (trail name es).events) start.stop now.left now.stop)
+pub record Reads (setting : Setting) (start now : Inlet) (es : List Entry) : Type 0 where
+  pub told : IfSome start.left (λ bytes. ReadsTold setting start.stop bytes es)
+  pub rest : IfSome start.left (λ bytes. IsRest (events.closing (trail setting es).events) (left_after bytes (trail setting es).events) start.stop now.left now.stop)
   pub cause : HasReadFault es → MayRise start.faults now.faults
   pub kept : start.faults ≤ now.faults
 
@@ -102,13 +107,13 @@ RoomFor true room now ms = ⊤
 RoomFor false room now ms = RoomFalls room now (length (encodings ms))
 
 -- What the sink held at the start, and holds now, is what the history put.
-pub record Writes (name : Option (List ℕ)) (start now : Outlet) (es : List Entry) : Type 0 where
-  pub holds : IfSome start.held (λ before. HoldsThen start.room before now.held (trail name es).events)
-  pub room : RoomFor (is_failed (trail name es).events) start.room now.room (put (trail name es).events)
+pub record Writes (setting : Setting) (start now : Outlet) (es : List Entry) : Type 0 where
+  pub holds : IfSome start.held (λ before. HoldsThen start.room before now.held (trail setting es).events)
+  pub room : RoomFor (is_failed (trail setting es).events) start.room now.room (put (trail setting es).events)
   pub cause : HasWriteFault es → MayRise start.faults now.faults
   pub kept : start.faults ≤ now.faults
   -- the count rose only by a write that failed
-  pub only : is_failed (trail name es).events ≡ false → now.faults ≡ start.faults
+  pub only : is_failed (trail setting es).events ≡ false → now.faults ≡ start.faults
 
 -- the half that writes met nothing, where no write of the history failed
 abbrev pub IsFine : List Event → Writing → Type 0
@@ -123,11 +128,11 @@ named false owner names = names
 -- call is nobody's. `writing` is what the half that wrote has met.
 pub data Sent (old new : PeerView) (lane : ℕ) (issued : Issued) (m : Seen) (now after : Outlet) (writing : Writing) (answer : Answer) : Type 0 where
   WentOut : answer ≡ sent_answer (is_some issued.call) (count lane old.names) issued.serial
-      → new.names ≡ named (is_some issued.call) (Some lane) old.names → new.streams ≡ old.streams
+      → new.names ≡ named (is_some issued.call) (Some lane) old.names → new.streams ≡ old.streams → new.given ≡ old.given
       → ((h : List Event) → Left old.core h → Left new.core (Wrote ∷ h))
       → Appends now.held after.held m.bytes → RoomFalls now.room after.room (length m.bytes) → after.faults ≡ now.faults → writing ≡ Fine
       → Sent old new lane issued m now after writing answer
-  WriteFailed : answer ≡ write_fault → new.names ≡ named (is_some issued.call) None old.names → new.streams ≡ old.streams
+  WriteFailed : answer ≡ write_fault → new.names ≡ named (is_some issued.call) None old.names → new.streams ≡ old.streams → new.given ≡ old.given
       → ((h : List Event) → Left old.core h → Left new.core (Fault ∷ h))
       → (n : ℕ) → Part m.bytes now.held after.held n → RoomBreaks now.room after.room n → MayRise now.faults after.faults → writing ≡ Failed
       → Sent old new lane issued m now after writing answer
@@ -141,3 +146,32 @@ unsent_answer error = Some (answers.Refused error)
 abbrev pub NotIssued : {E : Type 0} → Error → Result Answer E → Type 0
 NotIssued error (Ok answer) = unsent_answer error ≡ Some answer
 NotIssued error (Err e) = unsent_answer error ≡ None
+
+-- words that were refused; not want of memory
+abbrev pub IsRefusal : {E : Type 0} → Error → Result Answer E → Type 0
+IsRefusal errors.Memory (Ok answer) = ⊥
+IsRefusal error (Ok answer) = answer ≡ answers.Refused error
+IsRefusal error (Err e) = error ≡ errors.Memory
+
+-- the command is one that sends a message
+abbrev pub sends : Words → Bool
+sends (words.Call w) = true
+sends (words.Signal w) = true
+sends (words.Reply stream body) = true
+sends (words.Error stream name body) = true
+sends words.Read = false
+sends (words.Poll number) = false
+sends (words.Drop number) = false
+sends words.Stream = false
+sends (words.Take number) = false
+
+-- a peer of this name, whose sink takes file descriptors or takes none
+abbrev pub setting_by : Option (List ℕ) → Bool → Setting
+setting_by name takes = record { name = name; takes_fds = takes }
+
+-- what a command that sends leaves, by what the sink told before it and after it
+pub record Sending (setting : Setting) (p : PeerView) (es : List Entry) (lane : ℕ) (w : Words) (now after : Outlet) (writing : Writing) (answer : Answer) : Type 0 where
+  pub follows : Follows setting p (entry lane w answer ∷ es)
+  pub writes : (start : Outlet) → Writes setting start now es → Writes setting start after (entry lane w answer ∷ es)
+  pub reads : (start now_in : Inlet) → Reads setting start now_in es → Reads setting start now_in (entry lane w answer ∷ es)
+  pub fine : IsFine (trail setting (entry lane w answer ∷ es)).events writing

@@ -1,6 +1,7 @@
 ghost use Rattle.std.specs.Prelude.{◌≡◌, ℕ, Bool, false, List, Option, map, Some};
 ghost use Rattle.peer_route.specs.declared.answer.Entry.{Entry};
 ghost use Rattle.peer_route.specs.History.{is_failed};
+ghost use Rattle.peer_route.specs.Parcel.{Setting};
 ghost use Rattle.peer_route.specs.Trail.{trail};
 ghost use Rattle.peer_route.specs.Answers.{Legal};
 ghost use Rattle.peer_route.specs.Told.{ReadsTold};
@@ -10,7 +11,7 @@ ghost use Rattle.peer_run.specs.Runs.{command_of};
 /// told by the same bytes and the same ending and none of whose writes failed, are one history.
 #[tactic(auto, using(crate::proofs::Cut::same_history))]
 pub fn cut_anyhow()
-    ensures { (name : Option (List ℕ)) (es fs : List Entry) (stop : Bool) (bytes : List ℕ) → map command_of es ≡ map command_of fs → Legal name es → Legal name fs
-        → ReadsTold name (Some stop) bytes es → ReadsTold name (Some stop) bytes fs
-        → is_failed (trail name es).events ≡ false → is_failed (trail name fs).events ≡ false → es ≡ fs }
+    ensures { (setting : Setting) (es fs : List Entry) (stop : Bool) (bytes : List ℕ) → map command_of es ≡ map command_of fs → Legal setting es → Legal setting fs
+        → ReadsTold setting (Some stop) bytes es → ReadsTold setting (Some stop) bytes fs
+        → is_failed (trail setting es).events ≡ false → is_failed (trail setting fs).events ≡ false → es ≡ fs }
 {}

@@ -46,23 +46,24 @@ fn word_of(words: &[String]) -> Option<Word>
     }
 }
 
-/// A sink that fails where the setup says.
-fn sink_of(alloc: Global, outfault: Option<u64>) -> MemorySink
+/// A sink that fails, and takes file descriptors, where the setup says so.
+fn sink_of(alloc: Global, outfault: Option<u64>, takes_fds: bool) -> MemorySink
     ensures bytes { result.bytes.items ≡ [] }
     ensures room { result.room ≡ outfault }
+    ensures fds { result.takes_fds ≡ takes_fds }
 {
     match outfault {
-        Some(count) => MemorySink::with_fault(alloc, count, false),
-        None => MemorySink::new(alloc, false),
+        Some(count) => MemorySink::with_fault(alloc, count, takes_fds),
+        None => MemorySink::new(alloc, takes_fds),
     }
 }
 
 /// Runs the commands over the setup's pieces and its sink, and prints the transcript.
 fn run_commands<O: Sink>(alloc: Global, setup: &Setup, commands: &[Command], output: &mut O) -> u8
-    ensures { Shows (script_from setup.now.name setup.now.outfault setup.now.pieces.items commands.now) (O.held output.old) (O.held output.new) (O.faults output.old) (O.faults output.new) result }
+    ensures { Shows (script_from setup.now.name setup.now.fds setup.now.outfault setup.now.pieces.items commands.now) (O.held output.old) (O.held output.new) (O.faults output.old) (O.faults output.new) result }
 {
     let mut source = MemorySource::new(&setup.pieces);
-    let mut sink = sink_of(alloc, setup.outfault);
+    let mut sink = sink_of(alloc, setup.outfault, setup.fds);
     match run_peer(alloc, setup, &mut source, &mut sink, commands) {
         Ok(transcript) => match write_transcript(alloc, setup, &transcript, sink.bytes(), output) {
             Ok(()) => DONE,

@@ -1,20 +1,21 @@
-ghost use Rattle.std.specs.Prelude.{ℕ, ◌≡◌, ◌≢◌, ◌+◌, ◌≤◌, ◌<◌, ◌-◌, ◌^◌, slice_get, false, List, [], ◌∷◌, length, Option, IfSome, IfOk, IfErr, OnOk, Some, None, Err, is_some};
+ghost use Rattle.std.specs.Prelude.{ℕ, ◌≡◌, ◌≢◌, ◌+◌, ◌≤◌, ◌<◌, ◌-◌, ◌^◌, slice_get, slice_set, true, false, List, [], ◌∷◌, length, Option, IfSome, IfOk, IfErr, OnOk, Some, None, Err, is_some, option_map};
 ghost use Rattle.peer_route.specs.declared.answer.Entry.{Entry};
 ghost use Rattle.peer_route.specs.declared.words.Words.TheVariants as words;
+ghost use Rattle.peer_route.specs.Parcel.{Setting};
 ghost use Rattle.peer_route.specs.Trail as trails;
-ghost use Rattle.peer_route.specs.Trail.{trail};
+ghost use Rattle.peer_route.specs.Trail.{trail, asks_with, kept_at};
 ghost use Rattle.peer_route.specs.Answers as shows;
 ghost use Rattle.peer_route.specs.Answers.{sent_answer};
-ghost use Rattle.peer_run.specs.CallWords.{words_of};
-ghost use Rattle.peer_run.specs.Stands.{PeerView, Inlet, Outlet, Follows, Reads, Writes, Sent, NotIssued, IsFine, named, entry};
+ghost use Rattle.peer_run.specs.CallWords.{MakesAsked};
+ghost use Rattle.peer_run.specs.Stands.{PeerView, Inlet, Outlet, Follows, Reads, Writes, Sent, Sending, NotIssued, IsRefusal, IsFine, setting_by, sends, named, entry};
 ghost use Rattle.wire_framing.specs.Receive.{Receives, Takes};
-ghost use Rattle.wire_framing.specs.Writing.{has_descriptors};
+ghost use Rattle.wire_framing.specs.Writing.{is_unsupported};
 ghost use Rattle.wire_framing.specs.declared.write_half.Writing.TheVariants.{Fine};
 ghost use Rattle.wire_message.specs.Front.{Seen};
 ghost use Rattle.wire_message.specs.declared.error.IoKind.TheVariants.{Ended};
 
-use crate::call_words::CallWords;
-use peer_route::{Answer, Issued, MessageStream, Polled, Route};
+use crate::call_words::{Letter, call_letter, error_letter, reply_letter, signal_letter};
+use peer_route::{Answer, Issued, MessageStream, Polled, Route, Words};
 use std::alloc::{AllocError, AllocFailed, Global};
 use std::marker::Model;
 use wire_framing::{ReadHalf, Sink, Source, WriteHalf};
@@ -42,12 +43,13 @@ impl<T: Drop> From<AllocFailed<T>> for RunError {
 
 #[allow(dead_code)]
 /// A peer's core, and whose its calls and its streams are: for each, by its number, its lane; none where a call's message
-/// failed.
+/// failed. For each stream, by its number, the message that it gave last is kept.
 #[derive(Drop)]
 pub(crate) struct Peer {
     route: Route,
     names: Vec<Option<u32>>,
     streams: Vec<Option<u32>>,
+    given: Vec<Option<Message>>,
 }
 
 impl Model for Peer {
@@ -56,7 +58,7 @@ impl Model for Peer {
 
     ghost Value = { PeerView };
 
-    ghost view = { λ p. record { core = p.route; names = p.names.items; streams = p.streams.items } };
+    ghost view = { λ p. record { core = p.route; names = p.names.items; streams = p.streams.items; given = p.given.items } };
 }
 
 /// How many of the calls, or of the streams, belong to the lane.
@@ -158,6 +160,70 @@ fn not_issued(error: Error) -> Result<Answer, RunError>
     }
 }
 
+/// What is answered where a command's words are refused.
+fn refused(error: Error) -> Result<Answer, RunError>
+    ensures { IsRefusal error result }
+{
+    match error {
+        Error::Memory => Err(RunError::Memory),
+        _ => Ok(Answer::Refused(error)),
+    }
+}
+
+/// The message that the lane's stream with this number gave last.
+fn given_last<'a>(
+    given: &'a [Option<Message>],
+    streams: &[Option<u32>],
+    lane: u32,
+    number: u64,
+) -> Option<&'a Message>
+    ensures { option_map (λ m. m.now) result ≡ kept_at given.now (trails.place 0 lane number streams.now) }
+{
+    let place = place(streams, lane, number)?;
+    match given.get(place as usize)? {
+        Some(message) => Some(message),
+        None => None,
+    }
+}
+
+/// What a command that sends asks for.
+fn letter_of<'a>(
+    alloc: Global,
+    given: &'a [Option<Message>],
+    streams: &[Option<u32>],
+    lane: u32,
+    name: &'a Option<OwnedUniqueName>,
+    takes_fds: bool,
+    words: &'a Words,
+) -> wire_message::Result<Letter<'a>>
+    requires { sends words.now ≡ true }
+    ensures { MakesAsked result (asks_with (setting_by name.now takes_fds) (λ number. kept_at given.now (trails.place 0 lane number streams.now)) words.now) }
+{
+    match words {
+        Words::Call(words) => call_letter(alloc, words, name, takes_fds),
+        Words::Signal(words) => signal_letter(alloc, words, name, takes_fds),
+        Words::Reply { stream, body } => {
+            let Some(message) = given_last(given, streams, lane, *stream) else {
+                return Err(Error::UnknownHandle);
+            };
+            reply_letter(alloc, message, name, body)
+        }
+        Words::Error {
+            stream,
+            name: error_name,
+            body,
+        } => {
+            let Some(message) = given_last(given, streams, lane, *stream) else {
+                return Err(Error::UnknownHandle);
+            };
+            error_letter(alloc, message, name, error_name, body)
+        }
+        Words::Read | Words::Poll(_) | Words::Drop(_) | Words::Stream | Words::Take(_) => {
+            unreachable!()
+        }
+    }
+}
+
 /// Takes one message, the `seq`-th, and no byte more, by a half that kept nothing (D-Bus Specification, "Message
 /// Protocol"). It then keeps nothing again, but for want of memory.
 fn receive<S: Source>(
@@ -181,12 +247,13 @@ fn receive<S: Source>(
 impl Peer {
     /// A peer that nothing happened to.
     pub(crate) fn new(alloc: Global) -> Peer
-        ensures { (name : Option (List ℕ)) → Follows name result [] }
+        ensures { (setting : Setting) → Follows setting result [] }
     {
         Peer {
             route: Route::new(alloc),
             names: Vec::new(alloc),
             streams: Vec::new(alloc),
+            given: Vec::new(alloc),
         }
     }
 
@@ -200,13 +267,13 @@ impl Peer {
     ) -> Result<Answer, RunError>
         requires within { self.old.core.read ≤ 2 ^ 64 - 2 }
         requires empty { kept.old.items ≡ [] }
-        ensures follows { IfOk result (λ answer. (name : Option (List ℕ)) (es : List Entry) (lane : ℕ) → Follows name self.old es
-            → Follows name self.new (entry lane words.Read answer ∷ es)) }
-        ensures reads { IfOk result (λ answer. (name : Option (List ℕ)) (start : Inlet) (es : List Entry) (lane : ℕ) → Follows name self.old es
-            → Reads name start (record { left = S.left half.old.source; stop = S.stop half.old.source; faults = S.faults half.old.source }) es
-            → Reads name start (record { left = S.left half.new.source; stop = S.stop half.new.source; faults = S.faults half.new.source }) (entry lane words.Read answer ∷ es)) }
-        ensures writes { IfOk result (λ answer. (name : Option (List ℕ)) (start now : Outlet) (es : List Entry) (lane : ℕ) → Follows name self.old es
-            → Writes name start now es → Writes name start now (entry lane words.Read answer ∷ es)) }
+        ensures follows { IfOk result (λ answer. (setting : Setting) (es : List Entry) (lane : ℕ) → Follows setting self.old es
+            → Follows setting self.new (entry lane words.Read answer ∷ es)) }
+        ensures reads { IfOk result (λ answer. (setting : Setting) (start : Inlet) (es : List Entry) (lane : ℕ) → Follows setting self.old es
+            → Reads setting start (record { left = S.left half.old.source; stop = S.stop half.old.source; faults = S.faults half.old.source }) es
+            → Reads setting start (record { left = S.left half.new.source; stop = S.stop half.new.source; faults = S.faults half.new.source }) (entry lane words.Read answer ∷ es)) }
+        ensures writes { IfOk result (λ answer. (setting : Setting) (start now : Outlet) (es : List Entry) (lane : ℕ) → Follows setting self.old es
+            → Writes setting start now es → Writes setting start now (entry lane words.Read answer ∷ es)) }
         ensures grows { S.faults half.old.source ≤ S.faults half.new.source }
         ensures empty { IfOk result (λ answer. kept.new.items ≡ []) }
         ensures same { S.lent half.new.source ≡ S.lent half.old.source }
@@ -235,11 +302,11 @@ impl Peer {
 
     /// The answer of the lane's call with this number.
     pub(crate) fn poll(&mut self, lane: u32, number: u64) -> Answer
-        ensures follows { (name : Option (List ℕ)) (es : List Entry) → Follows name self.old es → Follows name self.new (entry lane (words.Poll number) result ∷ es) }
-        ensures reads { (name : Option (List ℕ)) (start now : Inlet) (es : List Entry) → Follows name self.old es
-            → Reads name start now es → Reads name start now (entry lane (words.Poll number) result ∷ es) }
-        ensures writes { (name : Option (List ℕ)) (start now : Outlet) (es : List Entry) → Follows name self.old es
-            → Writes name start now es → Writes name start now (entry lane (words.Poll number) result ∷ es) }
+        ensures follows { (setting : Setting) (es : List Entry) → Follows setting self.old es → Follows setting self.new (entry lane (words.Poll number) result ∷ es) }
+        ensures reads { (setting : Setting) (start now : Inlet) (es : List Entry) → Follows setting self.old es
+            → Reads setting start now es → Reads setting start now (entry lane (words.Poll number) result ∷ es) }
+        ensures writes { (setting : Setting) (start now : Outlet) (es : List Entry) → Follows setting self.old es
+            → Writes setting start now es → Writes setting start now (entry lane (words.Poll number) result ∷ es) }
     {
         match place(&self.names, lane, number) {
             Some(call) => shown(self.route.poll(call)),
@@ -249,11 +316,11 @@ impl Peer {
 
     /// Drops the lane's call with this number.
     pub(crate) fn drop_call(&mut self, lane: u32, number: u64) -> Answer
-        ensures follows { (name : Option (List ℕ)) (es : List Entry) → Follows name self.old es → Follows name self.new (entry lane (words.Drop number) result ∷ es) }
-        ensures reads { (name : Option (List ℕ)) (start now : Inlet) (es : List Entry) → Follows name self.old es
-            → Reads name start now es → Reads name start now (entry lane (words.Drop number) result ∷ es) }
-        ensures writes { (name : Option (List ℕ)) (start now : Outlet) (es : List Entry) → Follows name self.old es
-            → Writes name start now es → Writes name start now (entry lane (words.Drop number) result ∷ es) }
+        ensures follows { (setting : Setting) (es : List Entry) → Follows setting self.old es → Follows setting self.new (entry lane (words.Drop number) result ∷ es) }
+        ensures reads { (setting : Setting) (start now : Inlet) (es : List Entry) → Follows setting self.old es
+            → Reads setting start now es → Reads setting start now (entry lane (words.Drop number) result ∷ es) }
+        ensures writes { (setting : Setting) (start now : Outlet) (es : List Entry) → Follows setting self.old es
+            → Writes setting start now es → Writes setting start now (entry lane (words.Drop number) result ∷ es) }
     {
         match place(&self.names, lane, number) {
             Some(call) => shown_drop(self.route.drop_call(call)),
@@ -263,28 +330,44 @@ impl Peer {
 
     /// Opens a stream for the lane.
     pub(crate) fn stream(&mut self, lane: u32) -> Result<Answer, RunError>
-        ensures follows { IfOk result (λ answer. (name : Option (List ℕ)) (es : List Entry) → Follows name self.old es → Follows name self.new (entry lane words.Stream answer ∷ es)) }
-        ensures reads { IfOk result (λ answer. (name : Option (List ℕ)) (start now : Inlet) (es : List Entry) → Follows name self.old es
-            → Reads name start now es → Reads name start now (entry lane words.Stream answer ∷ es)) }
-        ensures writes { IfOk result (λ answer. (name : Option (List ℕ)) (start now : Outlet) (es : List Entry) → Follows name self.old es
-            → Writes name start now es → Writes name start now (entry lane words.Stream answer ∷ es)) }
+        ensures follows { IfOk result (λ answer. (setting : Setting) (es : List Entry) → Follows setting self.old es → Follows setting self.new (entry lane words.Stream answer ∷ es)) }
+        ensures reads { IfOk result (λ answer. (setting : Setting) (start now : Inlet) (es : List Entry) → Follows setting self.old es
+            → Reads setting start now es → Reads setting start now (entry lane words.Stream answer ∷ es)) }
+        ensures writes { IfOk result (λ answer. (setting : Setting) (start now : Outlet) (es : List Entry) → Follows setting self.old es
+            → Writes setting start now es → Writes setting start now (entry lane words.Stream answer ∷ es)) }
     {
         let number = count(&self.streams, lane);
         let _ = self.route.open()?;
         self.streams.push(Some(lane))?;
+        self.given.push(None)?;
         Ok(Answer::Streaming(number))
+    }
+
+    /// Keeps the message that the stream with this number gave, and tells its position.
+    fn give(&mut self, stream: u64, message: Message) -> Answer
+        ensures answer { result ≡ Answer.Item message.position }
+        ensures kept { self.new ≡ record self.old { given = slice_set self.old.given stream (Some message) } }
+    {
+        let position = message.recv_position();
+        if let Some(slot) = self.given.get_mut(stream as usize) {
+            *slot = Some(message);
+        }
+        Answer::Item(position)
     }
 
     /// What the lane's stream with this number gives.
     pub(crate) fn take(&mut self, lane: u32, number: u64) -> Answer
-        ensures follows { (name : Option (List ℕ)) (es : List Entry) → Follows name self.old es → Follows name self.new (entry lane (words.Take number) result ∷ es) }
-        ensures reads { (name : Option (List ℕ)) (start now : Inlet) (es : List Entry) → Follows name self.old es
-            → Reads name start now es → Reads name start now (entry lane (words.Take number) result ∷ es) }
-        ensures writes { (name : Option (List ℕ)) (start now : Outlet) (es : List Entry) → Follows name self.old es
-            → Writes name start now es → Writes name start now (entry lane (words.Take number) result ∷ es) }
+        ensures follows { (setting : Setting) (es : List Entry) → Follows setting self.old es → Follows setting self.new (entry lane (words.Take number) result ∷ es) }
+        ensures reads { (setting : Setting) (start now : Inlet) (es : List Entry) → Follows setting self.old es
+            → Reads setting start now es → Reads setting start now (entry lane (words.Take number) result ∷ es) }
+        ensures writes { (setting : Setting) (start now : Outlet) (es : List Entry) → Follows setting self.old es
+            → Writes setting start now es → Writes setting start now (entry lane (words.Take number) result ∷ es) }
     {
         match place(&self.streams, lane, number) {
-            Some(number) => shown_take(self.route.take(&MessageStream { number })),
+            Some(number) => match self.route.take(&MessageStream { number }) {
+                Ok(Polled::Now(message)) => self.give(number, message),
+                other => shown_take(other),
+            },
             None => shown_take(Err(Error::UnknownHandle)),
         }
     }
@@ -323,10 +406,11 @@ impl Peer {
         requires there { issued.index < length self.old.core.outbox }
         requires due { issued.index ≡ self.old.core.done }
         requires fine { self.old.core.failed ≡ false }
-        ensures sent { IfOk result (λ answer. (m : Seen) → slice_get self.old.core.outbox issued.index ≡ Some m → has_descriptors m.unix_fds ≡ false → half.old.writing ≡ Fine
+        ensures sent { IfOk result (λ answer. (m : Seen) → slice_get self.old.core.outbox issued.index ≡ Some m → is_unsupported m.unix_fds (W.takes half.old.sink) ≡ false → half.old.writing ≡ Fine
             → Sent self.old self.new lane issued m (record { held = W.held half.old.sink; room = W.room half.old.sink; faults = W.faults half.old.sink })
             (record { held = W.held half.new.sink; room = W.room half.new.sink; faults = W.faults half.new.sink }) half.new.writing answer) }
         ensures grows { W.faults half.old.sink ≤ W.faults half.new.sink }
+        ensures takes { W.takes half.new.sink ≡ W.takes half.old.sink }
         ensures same { W.lent half.new.sink ≡ W.lent half.old.sink }
     {
         let Some(message) = self.route.outbox(issued.index) else {
@@ -348,32 +432,44 @@ impl Peer {
         }
     }
 
-    /// Sends a method call of the peer of that name.
-    pub(crate) fn call<W: Sink>(
+    /// Sends what the command of the peer of that name asks for; it is one that sends.
+    pub(crate) fn send_words<W: Sink>(
         &mut self,
+        alloc: Global,
         half: &mut WriteHalf<W>,
         lane: u32,
         name: &Option<OwnedUniqueName>,
-        call: CallWords<'_>,
+        words: &Words,
     ) -> Result<Answer, RunError>
-        requires { self.old.core.done ≡ length self.old.core.outbox }
-        ensures follows { IfOk result (λ answer. (es : List Entry) → Follows name.now self.old es → IsFine (trail name.now es).events half.old.writing
-            → Follows name.now self.new (entry lane (words_of call.entry) answer ∷ es)) }
-        ensures reads { IfOk result (λ answer. (start now : Inlet) (es : List Entry) → Follows name.now self.old es → IsFine (trail name.now es).events half.old.writing
-            → Reads name.now start now es → Reads name.now start now (entry lane (words_of call.entry) answer ∷ es)) }
-        ensures fine { IfOk result (λ answer. (es : List Entry) → Follows name.now self.old es
-            → IsFine (trail name.now es).events half.old.writing → IsFine (trail name.now (entry lane (words_of call.entry) answer ∷ es)).events half.new.writing) }
-        ensures writes { IfOk result (λ answer. (start : Outlet) (es : List Entry) → Follows name.now self.old es → IsFine (trail name.now es).events half.old.writing
-            → Writes name.now start (record { held = W.held half.old.sink; room = W.room half.old.sink; faults = W.faults half.old.sink }) es
-            → Writes name.now start (record { held = W.held half.new.sink; room = W.room half.new.sink; faults = W.faults half.new.sink }) (entry lane (words_of call.entry) answer ∷ es)) }
+        requires sends { sends words.now ≡ true }
+        requires written { self.old.core.done ≡ length self.old.core.outbox }
+        ensures sent { IfOk result (λ answer. (es : List Entry) → Follows (setting_by name.now (W.takes half.old.sink)) self.old es → IsFine (trail (setting_by name.now (W.takes half.old.sink)) es).events half.old.writing
+            → Sending (setting_by name.now (W.takes half.old.sink)) self.new es lane words.now (record { held = W.held half.old.sink; room = W.room half.old.sink; faults = W.faults half.old.sink })
+            (record { held = W.held half.new.sink; room = W.room half.new.sink; faults = W.faults half.new.sink }) half.new.writing answer) }
         ensures grows { W.faults half.old.sink ≤ W.faults half.new.sink }
+        ensures takes { W.takes half.new.sink ≡ W.takes half.old.sink }
         ensures same { W.lent half.new.sink ≡ W.lent half.old.sink }
     {
-        let builder = match call.builder(name) {
-            Ok(builder) => builder,
-            Err(error) => return Ok(Answer::Refused(error)),
+        let takes_fds = half.can_pass_unix_fd();
+        let letter = letter_of(
+            alloc,
+            self.given.as_slice(),
+            self.streams.as_slice(),
+            lane,
+            name,
+            takes_fds,
+            words,
+        );
+        let Letter {
+            builder,
+            body,
+            descriptor,
+        } = match letter {
+            Ok(letter) => letter,
+            Err(error) => return refused(error),
         };
-        match self.route.issue(builder) {
+        let fds: &[u32] = if descriptor { &[0] } else { &[] };
+        match self.route.issue(builder, &body, fds) {
             Ok(issued) => self.send(half, lane, issued),
             Err(error) => not_issued(error),
         }

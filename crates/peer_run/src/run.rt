@@ -1,9 +1,8 @@
 ghost use Rattle.std.specs.Prelude.{ℕ, ◌≡◌, ◌≤◌, ◌-◌, ◌^◌, length, List, [], ◌∷◌, IfOk};
 ghost use Rattle.peer_route.specs.declared.answer.Entry.{Entry};
-ghost use Rattle.peer_run.specs.Stands.{Inlet, Outlet, entry};
+ghost use Rattle.peer_run.specs.Stands.{Inlet, Outlet, setting_by, entry};
 ghost use Rattle.peer_run.specs.Runs.{Stands, Runs, command_of};
 
-use crate::call_words::CallWords;
 use crate::peer::{Peer, RunError};
 use peer_route::{Answer, Command, Entry, Words};
 use peer_script::{Setup, Transcript};
@@ -25,11 +24,12 @@ fn answer_to<S: Source, W: Sink>(
     requires empty { kept.old.items ≡ [] }
     requires written { peer.old.core.done ≡ length peer.old.core.outbox }
     ensures stands { IfOk result (λ answer. (start_in : Inlet) (start_out : Outlet) (es : List Entry)
-        → Stands name.now start_in start_out peer.old (record { left = S.left reader.old.source; stop = S.stop reader.old.source; faults = S.faults reader.old.source }) (record { held = W.held writer.old.sink; room = W.room writer.old.sink; faults = W.faults writer.old.sink }) writer.old.writing es
-        → Stands name.now start_in start_out peer.new (record { left = S.left reader.new.source; stop = S.stop reader.new.source; faults = S.faults reader.new.source }) (record { held = W.held writer.new.sink; room = W.room writer.new.sink; faults = W.faults writer.new.sink }) writer.new.writing (entry command.now.lane command.now.words answer ∷ es)) }
+        → Stands (setting_by name.now (W.takes writer.old.sink)) start_in start_out peer.old (record { left = S.left reader.old.source; stop = S.stop reader.old.source; faults = S.faults reader.old.source }) (record { held = W.held writer.old.sink; room = W.room writer.old.sink; faults = W.faults writer.old.sink }) writer.old.writing es
+        → Stands (setting_by name.now (W.takes writer.old.sink)) start_in start_out peer.new (record { left = S.left reader.new.source; stop = S.stop reader.new.source; faults = S.faults reader.new.source }) (record { held = W.held writer.new.sink; room = W.room writer.new.sink; faults = W.faults writer.new.sink }) writer.new.writing (entry command.now.lane command.now.words answer ∷ es)) }
     ensures empty { IfOk result (λ x. kept.new.items ≡ []) }
     ensures same_source { S.lent reader.new.source ≡ S.lent reader.old.source }
     ensures same_sink { W.lent writer.new.sink ≡ W.lent writer.old.sink }
+    ensures takes { W.takes writer.new.sink ≡ W.takes writer.old.sink }
     ensures source_grows { S.faults reader.old.source ≤ S.faults reader.new.source }
     ensures sink_grows { W.faults writer.old.sink ≤ W.faults writer.new.sink }
 {
@@ -40,21 +40,8 @@ fn answer_to<S: Source, W: Sink>(
         Words::Drop(number) => Ok(peer.drop_call(lane, *number)),
         Words::Stream => peer.stream(lane),
         Words::Take(number) => Ok(peer.take(lane, *number)),
-        Words::Call {
-            destination,
-            path,
-            interface,
-            member,
-            flags,
-        } => {
-            let call = CallWords {
-                destination,
-                path,
-                interface,
-                member,
-                flags: *flags,
-            };
-            peer.call(writer, lane, name, call)
+        Words::Call(_) | Words::Signal(_) | Words::Reply { .. } | Words::Error { .. } => {
+            peer.send_words(alloc, writer, lane, name, &command.words)
         }
     }
 }
@@ -74,11 +61,12 @@ fn step<S: Source, W: Sink>(
     requires written { peer.old.core.done ≡ length peer.old.core.outbox }
     ensures command { IfOk result (λ e. command_of e ≡ command.now) }
     ensures stands { IfOk result (λ e. (start_in : Inlet) (start_out : Outlet) (es : List Entry)
-        → Stands name.now start_in start_out peer.old (record { left = S.left reader.old.source; stop = S.stop reader.old.source; faults = S.faults reader.old.source }) (record { held = W.held writer.old.sink; room = W.room writer.old.sink; faults = W.faults writer.old.sink }) writer.old.writing es
-        → Stands name.now start_in start_out peer.new (record { left = S.left reader.new.source; stop = S.stop reader.new.source; faults = S.faults reader.new.source }) (record { held = W.held writer.new.sink; room = W.room writer.new.sink; faults = W.faults writer.new.sink }) writer.new.writing (e ∷ es)) }
+        → Stands (setting_by name.now (W.takes writer.old.sink)) start_in start_out peer.old (record { left = S.left reader.old.source; stop = S.stop reader.old.source; faults = S.faults reader.old.source }) (record { held = W.held writer.old.sink; room = W.room writer.old.sink; faults = W.faults writer.old.sink }) writer.old.writing es
+        → Stands (setting_by name.now (W.takes writer.old.sink)) start_in start_out peer.new (record { left = S.left reader.new.source; stop = S.stop reader.new.source; faults = S.faults reader.new.source }) (record { held = W.held writer.new.sink; room = W.room writer.new.sink; faults = W.faults writer.new.sink }) writer.new.writing (e ∷ es)) }
     ensures empty { IfOk result (λ x. kept.new.items ≡ []) }
     ensures same_source { S.lent reader.new.source ≡ S.lent reader.old.source }
     ensures same_sink { W.lent writer.new.sink ≡ W.lent writer.old.sink }
+    ensures takes { W.takes writer.new.sink ≡ W.takes writer.old.sink }
     ensures source_grows { S.faults reader.old.source ≤ S.faults reader.new.source }
     ensures sink_grows { W.faults writer.old.sink ≤ W.faults writer.new.sink }
 {
@@ -92,7 +80,7 @@ fn step<S: Source, W: Sink>(
 }
 
 /// Runs the commands over a source and a sink, as the peer of the setup's name, and gives their entries: a legal history of
-/// the commands, each once and in order, whose reads are what stands at the front of the source's bytes and whose messages are what the sink got, up to
+/// the commands of a peer of that name, whose sink takes file descriptors where it says so, each once and in order, whose reads are what stands at the front of the source's bytes and whose messages are what the sink got, up to
 /// its first fault. All reads go through one half over the source, all sends through one over the sink. Fails only for want of
 /// memory; the source and the sink are then in any state.
 pub fn run_peer<S: Source, W: Sink>(
@@ -102,7 +90,7 @@ pub fn run_peer<S: Source, W: Sink>(
     sink: &mut W,
     commands: &[Command],
 ) -> Result<Transcript, RunError>
-    ensures run { IfOk result (λ t. Runs setup.now.name
+    ensures run { IfOk result (λ t. Runs (setting_by setup.now.name (W.takes sink.old))
         (record { left = S.left source.old; stop = S.stop source.old; faults = S.faults source.old })
         (record { held = W.held sink.old; room = W.room sink.old; faults = W.faults sink.old })
         (record { left = S.left source.new; stop = S.stop source.new; faults = S.faults source.new })

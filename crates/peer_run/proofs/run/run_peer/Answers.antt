@@ -1,16 +1,18 @@
-use Rattle.std.proofs.Common.{[], ◌∷◌, ◌++◌, map, take, sym, ◌∙◌, ap, arith, refl}
+use Rattle.std.proofs.Common.{[], ◌∷◌, ◌++◌, map, take, sym, ◌∙◌, ap, arith, refl, subst}
 use Rattle.std.proofs.lemmas.List.{take_more, reverse-append, map_push}
-use Rattle.peer_run.specs.Runs.{command_of}
+use Rattle.peer_run.specs.Runs.{Stands, command_of}
+use Rattle.peer_run.specs.Stands.{setting_by}
 use Rattle.peer_run.proofs.Ends.{start_reads, start_writes}
 use Rattle.peer_run.proofs.run.run_peer.Goals as goal
 
 pub loop-command-init : goal.loop-command-init
 loop-command-init g c =
-    let name = c.args.setup.now.name in
+    let setting = setting_by c.args.setup.now.name (g.W.Sink.takes c.args.sink.now) in
     rw (c.new-entries.ensures.items) (record {
       stands = rw (c.new-reader.ensures, c.new-writer.ensures.sink)
-          (record { follows = c.new-peer.ensures name; reads = start_reads name _; writes = start_writes name _; fine = λ e. c.new-writer.ensures.fine });
+          (record { follows = c.new-peer.ensures setting; reads = start_reads setting _; writes = start_writes setting _; fine = λ e. c.new-writer.ensures.fine });
       commands = refl;
+      takes = rw (c.new-writer.ensures.sink) refl;
       empty = c.new-kept.ensures.items;
       from = refl;
       to = refl;
@@ -24,11 +26,12 @@ loop-command-preserved g c =
     let item = c.in_ok-entry.ensures.command ∙ c.command-item.is in
     record {
       stands = rw (c.in_ok-push.ensures.items, reverse-append c.loop-command.entries.items (c.in_ok-entry.entry ∷ []))
-          (c.in_ok-entry.ensures.stands _ _ _ inv.stands);
+          (subst (λ b. Stands (setting_by c.args.setup.now.name b) _ _ _ _ _ _ _) inv.takes (c.in_ok-entry.ensures.stands _ _ _ (subst (λ b. Stands (setting_by c.args.setup.now.name b) _ _ _ _ _ _ _) (sym inv.takes) inv.stands)));
       commands = ap (map command_of) (c.in_ok-push.ensures.items) ∙ map_push command_of c.loop-command.entries.items c.in_ok-entry.entry
           ∙ ap (λ xs. xs ++ command_of c.in_ok-entry.entry ∷ []) inv.commands
           ∙ ap (λ x. take c.loop-command.command-index c.args.commands.now ++ x ∷ []) item
           ∙ sym (take_more c.args.commands.now c.loop-command.command-index c.command-item.result c.loop-command-test.true);
+      takes = c.in_ok-entry.ensures.takes ∙ inv.takes;
       empty = c.in_ok-entry.ensures.empty;
       from = cc (c.in_ok-entry.ensures.same_source) ∙ inv.from;
       to = cc (c.in_ok-entry.ensures.same_sink) ∙ inv.to;

@@ -1,10 +1,11 @@
 use Rattle.std.proofs.Common.{◌≡◌, ◌≤◌, [], map, reverse, take}
+use Rattle.peer_run.specs.Stands.{setting_by}
 use Rattle.peer_run.specs.Runs.{Stands, command_of}
 use Rattle.peer_run.proofs.run.run_peer.Given as goal
 
 abbrev pub invariant-loop-command : goal.invariant-loop-command
 invariant-loop-command g l = record {
-  stands : Stands l.fn.setup.name
+  stands : Stands (setting_by l.fn.setup.name (g.W.Sink.takes l.fn.sink))
       (record { left = g.S.Source.left l.fn.source; stop = g.S.Source.stop l.fn.source; faults = g.S.Source.faults l.fn.source })
       (record { held = g.W.Sink.held l.fn.sink; room = g.W.Sink.room l.fn.sink; faults = g.W.Sink.faults l.fn.sink })
       l.peer
@@ -13,6 +14,7 @@ invariant-loop-command g l = record {
       l.writer.writing
       (reverse l.entries.items);
   commands : map command_of l.entries.items ≡ take l.command-index l.commands;
+  takes : g.W.Sink.takes l.writer.sink.now ≡ g.W.Sink.takes l.fn.sink;
   empty : l.kept.items ≡ [];
   from : l.reader.source.ghost_name ≡ l.initial.reader.source.ghost_name;
   to : l.writer.sink.ghost_name ≡ l.initial.writer.sink.ghost_name;

@@ -5,11 +5,11 @@ use Rattle.peer_run.proofs.StreamStep.{follows_drop}
 use Rattle.peer_run.proofs.peer.Peer.drop_call.Goals as goal
 
 pub returns-in-Some-clause-follows : goal.returns-in-Some-clause-follows
-returns-in-Some-clause-follows c name es f =
-    let p : PeerView = record { core = c.self.inside.route; names = c.self.inside.names.items; streams = c.self.inside.streams.items } in
-    let q : PeerView = record { core = c.drop_call.new.self; names = c.self.inside.names.items; streams = c.self.inside.streams.items } in
-    let g : Follows name p es = rw (← c.self.view_is) at f in
+returns-in-Some-clause-follows c setting es f =
+    let p : PeerView = record { core = c.self.inside.route; names = c.self.inside.names.items; streams = c.self.inside.streams.items; given = c.self.inside.given.items } in
+    let q : PeerView = record { core = c.drop_call.new.self; names = c.self.inside.names.items; streams = c.self.inside.streams.items; given = c.self.inside.given.items } in
+    let g : Follows setting p es = rw (← c.self.view_is) at f in
     rw (c.shown_drop.ensures)
-    (follows_drop name p q es c.args.lane c.args.number c.in-Some.call c.drop_call.result g
+    (follows_drop setting p q es c.args.lane c.args.number c.in-Some.call c.drop_call.result g
     (ap (place 0 c.args.lane c.args.number) (sym c.deref.ensures.value) ∙ sym c.place.ensures ∙ c.in-Some.is)
-    (c.drop_call.ensures.answer (trail name es).events g.left) refl refl (c.drop_call.ensures.left (trail name es).events g.left))
+    (c.drop_call.ensures.answer (trail setting es).events g.left) refl refl refl (c.drop_call.ensures.left (trail setting es).events g.left))

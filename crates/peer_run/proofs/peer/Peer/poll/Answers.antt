@@ -5,16 +5,16 @@ use Rattle.peer_run.proofs.PollStep.{follows_poll, reads_poll}
 use Rattle.peer_run.proofs.peer.Peer.poll.Goals as goal
 
 pub returns-in-Some-clause-reads : goal.returns-in-Some-clause-reads
-returns-in-Some-clause-reads c name start now es f r =
-    let g : Follows name _ es = rw (← c.self.view_is) at f in
-    rw (c.shown.ensures) (reads_poll name start now es c.args.lane c.args.number c.in-Some.call c.poll.result (c.poll.ensures.answer (trail name es).events g.left) r)
+returns-in-Some-clause-reads c setting start now es f r =
+    let g : Follows setting _ es = rw (← c.self.view_is) at f in
+    rw (c.shown.ensures) (reads_poll setting start now es c.args.lane c.args.number c.in-Some.call c.poll.result (c.poll.ensures.answer (trail setting es).events g.left) r)
 
 pub returns-in-Some-clause-follows : goal.returns-in-Some-clause-follows
-returns-in-Some-clause-follows c name es f =
-    let p : PeerView = record { core = c.self.inside.route; names = c.self.inside.names.items; streams = c.self.inside.streams.items } in
-    let q : PeerView = record { core = c.poll.new.self; names = c.self.inside.names.items; streams = c.self.inside.streams.items } in
-    let g : Follows name p es = rw (← c.self.view_is) at f in
+returns-in-Some-clause-follows c setting es f =
+    let p : PeerView = record { core = c.self.inside.route; names = c.self.inside.names.items; streams = c.self.inside.streams.items; given = c.self.inside.given.items } in
+    let q : PeerView = record { core = c.poll.new.self; names = c.self.inside.names.items; streams = c.self.inside.streams.items; given = c.self.inside.given.items } in
+    let g : Follows setting p es = rw (← c.self.view_is) at f in
     rw (c.shown.ensures)
-    (follows_poll name p q es c.args.lane c.args.number c.in-Some.call c.poll.result g
+    (follows_poll setting p q es c.args.lane c.args.number c.in-Some.call c.poll.result g
     (ap (place 0 c.args.lane c.args.number) (sym c.deref.ensures.value) ∙ sym c.place.ensures ∙ c.in-Some.is)
-    (c.poll.ensures.answer (trail name es).events g.left) refl refl (c.poll.ensures.left (trail name es).events g.left))
+    (c.poll.ensures.answer (trail setting es).events g.left) refl refl refl (c.poll.ensures.left (trail setting es).events g.left))

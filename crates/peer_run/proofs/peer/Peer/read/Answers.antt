@@ -6,29 +6,29 @@ use Rattle.peer_run.proofs.ReadStep.{closing_of, follows_got, follows_shut, read
 use Rattle.peer_run.proofs.peer.Peer.read.Goals as goal
 
 pub returns-in-Some-clause-reads : goal.returns-in-Some-clause-reads
-returns-in-Some-clause-reads g c name start es lane f r =
-    let k : Follows name _ es = rw (← c.self.view_is) at f in
-    reads_closed name start _ es lane c.in-Some.error (closing_of name _ es (Some c.in-Some.error) k (sym c.closing.ensures ∙ c.in-Some.is)) r
+returns-in-Some-clause-reads g c setting start es lane f r =
+    let k : Follows setting _ es = rw (← c.self.view_is) at f in
+    reads_closed setting start _ es lane c.in-Some.error (closing_of setting _ es (Some c.in-Some.error) k (sym c.closing.ensures ∙ c.in-Some.is)) r
 
 pub returns-in_ok-arrive-in-Ok-clause-follows : goal.returns-in_ok-arrive-in-Ok-clause-follows
-returns-in_ok-arrive-in-Ok-clause-follows g c name es lane f =
-    let k : Follows name _ es = rw (← c.self.view_is) at f in
+returns-in_ok-arrive-in-Ok-clause-follows g c setting es lane f =
+    let k : Follows setting _ es = rw (← c.self.view_is) at f in
     let none : c.self.inside.route.calls.closing ≡ None = sym c.closing.ensures ∙ c.in_default.is in
     let takes = c.in-Ok.ensures.takes in
     let seq : c.received.result ≡ c.self.inside.route.read = c.received.ensures in
     let below : c.received.result + 1 ≢ 2 ^ 64 - 1 = λ e. let z = c.in-Ok.ensures.last e in cc in
     rw (c.in_ok-copy-in-Ok.ensures)
-    (follows_got name _ _ es lane c.in-Ok.message none (sym (c.busy.ensures.busy (trail name es).events k.left) ∙ c.if-busy.false) k takes.0 (takes.1 ∙ ap (λ n. n + 1) seq) (omega (arith, seq, below, k.within)) refl refl
-    (c.in_ok-arrive-in-Ok.ensures.left (trail name es).events k.left))
+    (follows_got setting _ _ es lane c.in-Ok.message none (sym (c.busy.ensures.busy (trail setting es).events k.left) ∙ c.if-busy.false) k takes.0 (takes.1 ∙ ap (λ n. n + 1) seq) (omega (arith, seq, below, k.within)) refl refl refl
+    (c.in_ok-arrive-in-Ok.ensures.left (trail setting es).events k.left))
 
 pub returns-in_ok-arrive-in-Ok-clause-reads : goal.returns-in_ok-arrive-in-Ok-clause-reads
-returns-in_ok-arrive-in-Ok-clause-reads g c name start es lane f r =
-    let k : Follows name _ es = rw (← c.self.view_is) at f in
+returns-in_ok-arrive-in-Ok-clause-reads g c setting start es lane f r =
+    let k : Follows setting _ es = rw (← c.self.view_is) at f in
     let none : c.self.inside.route.calls.closing ≡ None = sym c.closing.ensures ∙ c.in_default.is in
     let takes = c.in-Ok.ensures.takes in
     let seq : c.received.result + 1 - 1 ≡ c.self.inside.route.read = omega (arith, c.received.ensures) in
     rw (c.in_ok-copy-in-Ok.ensures)
-    (reads_got name start _ _ _ es lane c.in-Ok.message k none (sym (c.busy.ensures.busy (trail name es).events k.left) ∙ c.if-busy.false) (rw seq at c.in-Ok.ensures.told) takes.2 takes.3 takes.4 r)
+    (reads_got setting start _ _ _ es lane c.in-Ok.message k none (sym (c.busy.ensures.busy (trail setting es).events k.left) ∙ c.if-busy.false) (rw seq at c.in-Ok.ensures.told) takes.2 takes.3 takes.4 r)
 
 pub returns-in_default-error : goal.returns-in_default-error
 returns-in_default-error g c =
@@ -37,15 +37,15 @@ returns-in_default-error g c =
     let seq : c.received.result + 1 - 1 ≡ c.self.inside.route.read = omega (arith, c.received.ensures) in
     let grown = faults_rise c.in-Err.error _ _ takes.1 in
     record {
-      follows = λ name es lane f.
-          let k : Follows name _ es = rw (← c.self.view_is) at f in
-          follows_shut name _ _ es lane c.in-Err.error none (sym (c.busy.ensures.busy (trail name es).events k.left) ∙ c.if-busy.false) k takes.0 c.in_default-error.not-Memory refl refl
-          (c.close.ensures (trail name es).events k.left);
-      reads = λ name start es lane f r.
-          let k : Follows name _ es = rw (← c.self.view_is) at f in
-          reads_shut name start _ _ _ es lane c.in-Err.error k none (sym (c.busy.ensures.busy (trail name es).events k.left) ∙ c.if-busy.false) c.in_default-error.not-Memory
+      follows = λ setting es lane f.
+          let k : Follows setting _ es = rw (← c.self.view_is) at f in
+          follows_shut setting _ _ es lane c.in-Err.error none (sym (c.busy.ensures.busy (trail setting es).events k.left) ∙ c.if-busy.false) k takes.0 c.in_default-error.not-Memory refl refl refl
+          (c.close.ensures (trail setting es).events k.left);
+      reads = λ setting start es lane f r.
+          let k : Follows setting _ es = rw (← c.self.view_is) at f in
+          reads_shut setting start _ _ _ es lane c.in-Err.error k none (sym (c.busy.ensures.busy (trail setting es).events k.left) ∙ c.if-busy.false) c.in_default-error.not-Memory
           (rw seq at c.in-Err.ensures.told) takes.1 grown r;
-      writes = λ name start now es lane f w. writes_closed name start now es lane c.in-Err.error w;
+      writes = λ setting start now es lane f w. writes_closed setting start now es lane c.in-Err.error w;
       grows = grown;
       empty = c.in-Err.ensures.ended c.in_default-error.not-Memory;
       same = c.in-Err.ensures.same;

@@ -5,8 +5,7 @@ use Rattle.peer_route.specs.Left.{Left}
 use Rattle.peer_route.specs.declared.answer.Answer.TheVariants.{SendFailed}
 use Rattle.peer_run.specs.Stands.{PeerView, Outlet, Sent}
 use Rattle.peer_run.proofs.CallEnds.{not_out}
-use Rattle.peer_run.proofs.HalfStep.{supported}
-use Rattle.wire_framing.specs.Writing.{has_descriptors}
+use Rattle.wire_framing.specs.Writing.{is_unsupported}
 use Rattle.wire_message.specs.Front.{Seen}
 use Rattle.peer_run.proofs.peer.Peer.send.Goals as goal
 
@@ -14,21 +13,22 @@ pub returns-in_ok-lost-in_default-error : goal.returns-in_ok-lost-in_default-err
 returns-in_ok-lost-in_default-error g c =
     let now_out : Outlet = record { held = g.W.Sink.held c.args.half.now.sink; room = g.W.Sink.room c.args.half.now.sink; faults = g.W.Sink.faults c.args.half.now.sink } in
     let after_out : Outlet = record { held = g.W.Sink.held c.send_message.new.self.sink; room = g.W.Sink.room c.send_message.new.self.sink; faults = g.W.Sink.faults c.send_message.new.self.sink } in
-    let p : PeerView = record { core = c.self.inside.route; names = c.self.inside.names.items; streams = c.self.inside.streams.items } in
+    let p : PeerView = record { core = c.self.inside.route; names = c.self.inside.names.items; streams = c.self.inside.streams.items; given = c.self.inside.given.items } in
     let here = c.in-Some.message.now in
     record {
       sent = λ m at plain fine.
           let there : Some here ≡ Some m = ap option_copied (sym c.in-Some.is) ∙ c.outbox.ensures ∙ ap (λ (v : PeerView). slice_get v.core.outbox c.args.issued.index) c.self.view_is ∙ at in
           let same : here ≡ m = cc in
           let takes = g.W.Sink.takes c.args.half.now.sink in
-          let bytes = c.in-Err.ensures.sends (supported here.unix_fds takes (ap (λ (k : Seen). has_descriptors k.unix_fds) same ∙ plain)) (rw fine refl) in
+          let bytes = c.in-Err.ensures.sends (ap (λ (k : Seen). is_unsupported k.unix_fds takes) same ∙ plain) (rw fine refl) in
           let lost = c.in_ok-lost-in_default-error.ensures in
           let answer = SendFailed c.in-Err.error in
           subst (λ v. Sent v c.lost.new.self c.args.lane c.args.issued m now_out after_out c.send_message.new.self.writing answer) c.self.view_is
           (subst (λ k. Sent p c.lost.new.self c.args.lane c.args.issued k now_out after_out c.send_message.new.self.writing answer) same
           (not_out p c.lost.new.self c.args.lane c.args.issued here now_out after_out c.send_message.new.self.writing c.in-Err.error c.in_default-error.not-Memory bytes
-          (ap (λ (v : PeerView). v.names) lost) (ap (λ (v : PeerView). v.streams) lost)
+          (ap (λ (v : PeerView). v.names) lost) (ap (λ (v : PeerView). v.streams) lost) (ap (λ (v : PeerView). v.given) lost)
           (λ h left. subst (λ (v : PeerView). Left v.core (Fault ∷ h)) (sym lost) (c.write_fault.ensures h left))));
       grows = grind (arith, common_steps);
+      takes = c.in-Err.ensures.fds;
       same = c.in-Err.ensures.same;
     }

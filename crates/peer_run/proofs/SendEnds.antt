@@ -1,0 +1,339 @@
+-- How a command that sends ends, from what issuing and sending gave.
+use Rattle.std.proofs.Common.{◌≡◌, ◌<◌, ℕ, arith, inl, inr, refl, sym, ◌∙◌, ap, subst, Bool, true, false, List, [], ◌∷◌, ◌++◌, length, Option, Some, None, is_some, Result, Ok, Err, IfOk, slice_get}
+use Rattle.wire_message.specs.Front.{Seen}
+use Rattle.wire_message.specs.declared.error.Error.{Error}
+use Rattle.wire_message.specs.declared.error.Error.TheVariants as errors
+use Rattle.wire_message.specs.declared.error.IoKind.TheVariants as kinds
+use Rattle.wire_signature.specs.declared.error.VariantError.TheVariants as faults
+use Rattle.peer_route.specs.Parcel.{Setting, Parcel, Asked, message_of}
+use Rattle.peer_route.specs.declared.answer.Answer.{Answer}
+use Rattle.peer_route.specs.declared.answer.Answer.TheVariants as answers
+use Rattle.peer_route.specs.declared.answer.Entry.{Entry}
+use Rattle.peer_route.specs.declared.route.Issued.{Issued}
+use Rattle.peer_route.specs.History as events
+use Rattle.peer_route.specs.Trail.{Trail, asks, asks_with, kept_at, place, trail, count, next_serial}
+use Rattle.peer_route.specs.Answers.{send_refusal, sent_answer, write_fault}
+use Rattle.peer_route.specs.CallMessage.{expects}
+use Rattle.peer_route.specs.declared.words.Words.{Words}
+use Rattle.peer_route.specs.Left.{View, Left, AreWritable, IsTooLong, Issues, call_number}
+use Rattle.peer_route.proofs.NextSerial.{next_serial-next}
+use Rattle.peer_route.proofs.Steps.{refused-asked, refused-spent, refused-long, not_refused}
+use Rattle.std.specs.Io.KnownBytes.{Appends}
+use Rattle.wire_framing.specs.Sink.{RoomFalls}
+use Rattle.wire_framing.specs.Send.{Part}
+use Rattle.wire_framing.specs.Writing.{is_unsupported, Sends}
+use Rattle.wire_framing.specs.declared.write_half.Writing.{Writing}
+use Rattle.wire_framing.specs.declared.write_half.Writing.TheVariants.{Fine}
+use Rattle.peer_run.specs.Stands.{PeerView, Inlet, Outlet, Follows, Reads, Writes, Sent, Sending, WentOut, WriteFailed, named, unsent_answer, NotIssued, IsRefusal, IsReadFault, IsFine, entry}
+use Rattle.wire_message.specs.Draft.{built}
+use Rattle.wire_message.specs.Signed.{counted, fds_field}
+use Rattle.peer_route.proofs.Asked.{CanGo, are_refused, asked_goes}
+use Rattle.peer_run.specs.CallWords.{MakesAsked}
+use Rattle.peer_run.proofs.HalfStep.{fine_before}
+use Rattle.peer_run.proofs.SendStep.{IsSending, sending_is, asks_kept, entry_events, fault_events, follows_refused, follows_unsent, follows_sent, follows_failed, reads_send, writes_refused, writes_unsent, writes_sent, writes_failed}
+
+-- ---- nothing was issued
+
+-- what an error says of the entry
+record Unissued (setting : Setting) (p : PeerView) (es : List Entry) (lane : ℕ) (w : Words) (a : Answer) : Type 0 where
+  follows : Follows setting p (entry lane w a ∷ es)
+  writes : (start now : Outlet) → Writes setting start now es → Writes setting start now (entry lane w a ∷ es)
+
+as_answer : (a b : Answer) (P : Answer → Type 0) → Some a ≡ Some b → P a → P b
+as_answer a b P e x = let f : a ≡ b = cc in subst P f x
+
+unissued_refused : (setting : Setting) (p : PeerView) (es : List Entry) (lane : ℕ) (w : Words) (asked : Asked) (error : Error) → IsSending (trail setting es) lane w asked → Follows setting p es
+    → send_refusal (trail setting es).events asked ≡ Some error → Unissued setting p es lane w (answers.Refused error)
+unissued_refused setting p es lane w asked error k f r = record {
+  follows = follows_refused setting p es lane w asked error k f r;
+  writes = λ start now x. writes_refused setting start now es lane w asked error k x;
+}
+
+-- what is asked for is refused for its words
+pub refused_words : (setting : Setting) (p : PeerView) (es : List Entry) (lane : ℕ) (w : Words) (error : Error) → asks (trail setting es) lane w ≡ Some (Err error) → Follows setting p es
+    → Unissued setting p es lane w (answers.Refused error)
+refused_words setting p es lane w error wants f =
+    unissued_refused setting p es lane w (Err error) error (sending_is (trail setting es) lane w (Err error) wants) f refl
+
+-- what has an array or a message past its limit, where the arrays are within theirs
+long_of : (parcel : Parcel) (serial : ℕ) → AreWritable parcel → IsTooLong parcel serial → 134217728 < length (message_of parcel serial).bytes
+long_of parcel serial fit (inl unfit) = absurd (unfit fit.1)
+long_of parcel serial fit (inr long) = long.1
+
+unissued : (setting : Setting) (p q : PeerView) (es : List Entry) (lane : ℕ) (w : Words) (parcel : Parcel) (error : Error) (a : Answer)
+    → IsSending (trail setting es) lane w (Ok parcel) → AreWritable parcel → Follows setting p es → Issues p.core q.core parcel (trail setting es).events (Err error)
+    → unsent_answer error ≡ Some a → (q.core ≡ p.core) × Unissued setting p es lane w a
+unissued setting p q es lane w parcel errors.SerialsSpent a k fit f i e =
+    (i.1, as_answer (answers.Refused errors.SerialsSpent) a (Unissued setting p es lane w) e
+    (unissued_refused setting p es lane w (Ok parcel) errors.SerialsSpent k f (refused-spent (trail setting es).events (Ok parcel) parcel refl i.0)))
+unissued setting p q es lane w parcel errors.ExcessData a k fit f i e =
+    (i.4, as_answer (answers.Refused errors.ExcessData) a (Unissued setting p es lane w) e
+    (unissued_refused setting p es lane w (Ok parcel) errors.ExcessData k f
+    (refused-long (trail setting es).events (Ok parcel) parcel i.0 refl i.1 (long_of parcel i.0 fit i.3))))
+unissued setting p q es lane w parcel (errors.InputOutput kinds.WriteFault) a k fit f i e =
+    (i.5, as_answer write_fault a (Unissued setting p es lane w) e (record {
+      follows = follows_unsent setting p es lane w (Ok parcel) k f (not_refused (trail setting es).events (Ok parcel) parcel i.0 refl i.1 i.3) i.4;
+      writes = λ start now x. writes_unsent setting start now es lane w (Ok parcel) k f.legal i.4 x;
+    }))
+unissued setting p q es lane w parcel (errors.Variant faults.Depth) a k fit f i e = absurd (let d = fit.0 in let n = i.2 in omega (arith, d, n))
+unissued setting p q es lane w parcel (errors.InputOutput kinds.Ended) a k fit f i e = absurd i
+unissued setting p q es lane w parcel (errors.InputOutput kinds.Fault) a k fit f i e = absurd i
+unissued setting p q es lane w parcel (errors.InputOutput kinds.Closed) a k fit f i e = absurd i
+unissued setting p q es lane w parcel (errors.InputOutput kinds.TimedOut) a k fit f i e = absurd i
+unissued setting p q es lane w parcel (errors.Variant faults.Signature) a k fit f i e = absurd i
+unissued setting p q es lane w parcel (errors.Variant faults.Malformed) a k fit f i e = absurd i
+unissued setting p q es lane w parcel (errors.Variant faults.SignatureMismatch) a k fit f i e = absurd i
+unissued setting p q es lane w parcel (errors.Variant faults.Memory) a k fit f i e = absurd i
+unissued setting p q es lane w parcel (errors.Names kind) a k fit f i e = absurd i
+unissued setting p q es lane w parcel errors.InvalidMatchRule a k fit f i e = absurd i
+unissued setting p q es lane w parcel errors.IncorrectEndian a k fit f i e = absurd i
+unissued setting p q es lane w parcel errors.UnknownHandle a k fit f i e = absurd i
+unissued setting p q es lane w parcel errors.Unsupported a k fit f i e = absurd i
+unissued setting p q es lane w parcel errors.InvalidField a k fit f i e = absurd i
+unissued setting p q es lane w parcel errors.Memory a k fit f i e = cc
+
+same_peer : (p q : PeerView) → q.core ≡ p.core → q.names ≡ p.names → q.streams ≡ p.streams → q.given ≡ p.given → p ≡ q
+same_peer p q c n s g =
+    ap (λ (v : View). record { core = v; names = p.names; streams = p.streams; given = p.given }) (sym c)
+    ∙ ap (λ ns. record { core = q.core; names = ns; streams = p.streams; given = p.given }) (sym n)
+    ∙ ap (λ ns. record { core = q.core; names = q.names; streams = ns; given = p.given }) (sym s)
+    ∙ ap (λ gs. record { core = q.core; names = q.names; streams = q.streams; given = gs }) (sym g)
+
+never_read : (error : Error) (a : Answer) → unsent_answer error ≡ Some a → IsReadFault a → ⊥
+never_read (errors.InputOutput kind) a e f = cc
+never_read (errors.Variant kind) a e f = cc
+never_read (errors.Names kind) a e f = cc
+never_read errors.InvalidMatchRule a e f = cc
+never_read errors.IncorrectEndian a e f = cc
+never_read errors.ExcessData a e f = cc
+never_read errors.SerialsSpent a e f = cc
+never_read errors.UnknownHandle a e f = cc
+never_read errors.Unsupported a e f = cc
+never_read errors.InvalidField a e f = cc
+never_read errors.Memory a e f = cc
+
+-- ---- a message was issued
+
+at_end : (xs : List Seen) (m : Seen) → slice_get (xs ++ m ∷ []) (length xs) ≡ Some m
+at_end [] m = refl
+at_end (x ∷ xs) m = at_end xs m
+
+-- the message that was issued stands at its place of the outbox
+waits_there : (v : View) (h : List events.Event) (m : Seen) (expects : Bool) (index : ℕ) → index ≡ length (events.put h) → Left v (events.Put m expects ∷ h) → slice_get v.outbox index ≡ Some m
+waits_there v h m expects index e l = ap (λ xs. slice_get xs index) l.outbox ∙ ap (slice_get (events.put h ++ m ∷ [])) e ∙ at_end (events.put h) m
+
+-- the sink takes what goes with the message
+can_send : (parcel : Parcel) (serial : ℕ) (takes : Bool) → is_unsupported (counted parcel.draft parcel.fds).fields.unix_fds takes ≡ false → is_unsupported (message_of parcel serial).unix_fds takes ≡ false
+unfolding message_of built
+can_send parcel serial takes e = e
+
+makes_call : (expects : Bool) (number : ℕ) → is_some (call_number expects number) ≡ expects
+makes_call true number = refl
+makes_call false number = refl
+
+-- a write that failed leaves a proper part
+pub not_out : (old new : PeerView) (lane : ℕ) (issued : Issued) (m : Seen) (now after : Outlet) (writing : Writing) (error : Error) → (error ≡ errors.Memory → ⊥)
+    → Sends {A = Unit {0}} (Err error) writing m.bytes now.held after.held now.room after.room now.faults after.faults
+    → new.names ≡ named (is_some issued.call) None old.names → new.streams ≡ old.streams → new.given ≡ old.given → ((h : List events.Event) → Left old.core h → Left new.core (events.Fault ∷ h))
+    → Sent old new lane issued m now after writing (answers.SendFailed error)
+not_out old new lane issued m now after writing (errors.InputOutput kinds.WriteFault) never s names streams given left = WriteFailed refl names streams given left s.0 s.1 s.2 s.3 s.4
+not_out old new lane issued m now after writing (errors.InputOutput kinds.Ended) never s names streams given left = absurd s
+not_out old new lane issued m now after writing (errors.InputOutput kinds.Fault) never s names streams given left = absurd s
+not_out old new lane issued m now after writing (errors.InputOutput kinds.Closed) never s names streams given left = absurd s
+not_out old new lane issued m now after writing (errors.InputOutput kinds.TimedOut) never s names streams given left = absurd s
+not_out old new lane issued m now after writing (errors.Variant kind) never s names streams given left = absurd s
+not_out old new lane issued m now after writing (errors.Names kind) never s names streams given left = absurd s
+not_out old new lane issued m now after writing errors.InvalidMatchRule never s names streams given left = absurd s
+not_out old new lane issued m now after writing errors.IncorrectEndian never s names streams given left = absurd s
+not_out old new lane issued m now after writing errors.ExcessData never s names streams given left = absurd s
+not_out old new lane issued m now after writing errors.SerialsSpent never s names streams given left = absurd s
+not_out old new lane issued m now after writing errors.UnknownHandle never s names streams given left = absurd s
+not_out old new lane issued m now after writing errors.Unsupported never s names streams given left = absurd s
+not_out old new lane issued m now after writing errors.InvalidField never s names streams given left = absurd s
+not_out old new lane issued m now after writing errors.Memory never s names streams given left = absurd (never refl)
+
+never_sent : (expects_one : Bool) (number serial : ℕ) (a : Answer) → a ≡ sent_answer expects_one number serial → IsReadFault a → ⊥
+never_sent true number serial a e f = cc
+never_sent false number serial a e f = cc
+
+-- after a failed write the history has failed
+failed_then : (setting : Setting) (es : List Entry) (lane : ℕ) (w : Words) (parcel : Parcel) (serial : ℕ) (a : Answer) → IsSending (trail setting es) lane w (Ok parcel) → a ≡ write_fault → events.is_failed (trail setting es).events ≡ false
+    → next_serial (trail setting es).events ≡ Some serial → events.is_failed (trail setting (entry lane w a ∷ es)).events ≡ false → ⊥
+failed_then setting es lane w parcel serial a k answer fine next f =
+    let m = message_of parcel serial in
+    let same : (trail setting (entry lane w write_fault ∷ es)).events ≡ events.Fault ∷ events.Put m (expects (Ok parcel)) ∷ (trail setting es).events =
+    entry_events setting es lane w (Ok parcel) write_fault k ∙ fault_events (trail setting es).events parcel serial fine next in
+    let g : true ≡ false = sym (ap events.is_failed same) ∙ sym (ap (λ b. events.is_failed (trail setting (entry lane w b ∷ es)).events) answer) ∙ f in
+    cc
+
+sending_by : (setting : Setting) (p q r : PeerView) (es : List Entry) (lane : ℕ) (w : Words) (parcel : Parcel) (issued : Issued) (now after : Outlet) (writing : Writing) (a : Answer) (m : Seen)
+    → IsSending (trail setting es) lane w (Ok parcel) → Follows setting p es → Issues p.core q.core parcel (trail setting es).events (Ok issued)
+    → q.names ≡ p.names → q.streams ≡ p.streams → q.given ≡ p.given → m ≡ message_of parcel issued.serial → is_some issued.call ≡ expects (Ok parcel)
+    → Sent q r lane issued m now after writing a → Sending setting r es lane w now after writing a
+sending_by setting p q r es lane w parcel issued now after writing a m k f i n t g is made (WentOut answer names streams given left appends falls faults still) =
+    let h = (trail setting es).events in
+    let b = expects (Ok parcel) in
+    let none = not_refused h (Ok parcel) parcel issued.serial refl i.0 i.2 in
+    let to : sent_answer b (count lane p.names) issued.serial ≡ a = sym (answer ∙ ap (λ x. sent_answer x (count lane q.names) issued.serial) made ∙ ap (λ ns. sent_answer b (count lane ns) issued.serial) n) in
+    record {
+      follows = subst (λ x. Follows setting r (entry lane w x ∷ es)) to
+          (follows_sent setting p r es lane issued.serial w parcel k f none i.3 (next_serial-next h issued.serial i.0)
+          (names ∙ ap (λ x. named x (Some lane) q.names) made ∙ ap (named b (Some lane)) n) (streams ∙ t) (given ∙ g) (left _ i.6));
+      writes = λ start x. subst (λ y. Writes setting start after (entry lane w y ∷ es)) to
+          (writes_sent setting start now after es lane (count lane p.names) issued.serial w parcel k i.3 (subst (λ j. Appends now.held after.held j.bytes) is appends)
+          (subst (λ (j : Seen). RoomFalls now.room after.room (length j.bytes)) is falls) faults x);
+      reads = λ start now_in x. reads_send setting start now_in es lane w (Ok parcel) a k (never_sent (is_some issued.call) (count lane q.names) issued.serial a answer) x;
+      fine = λ e. still;
+    }
+sending_by setting p q r es lane w parcel issued now after writing a m k f i n t g is made (WriteFailed answer names streams given left j part breaks rises over) =
+    let h = (trail setting es).events in
+    let b = expects (Ok parcel) in
+    let none = not_refused h (Ok parcel) parcel issued.serial refl i.0 i.2 in
+    let next = next_serial-next h issued.serial i.0 in
+    record {
+      follows = subst (λ x. Follows setting r (entry lane w x ∷ es)) (sym answer)
+          (follows_failed setting p r es lane issued.serial w parcel k f none i.3 next
+          (names ∙ ap (λ x. named x None q.names) made ∙ ap (named b None) n) (streams ∙ t) (given ∙ g) (left _ i.6));
+      writes = λ start x. subst (λ y. Writes setting start after (entry lane w y ∷ es)) (sym answer)
+          (writes_failed setting start now after es lane issued.serial w parcel j k i.3 next (subst (λ (s : Seen). Part s.bytes now.held after.held j) is part) breaks rises x);
+      reads = λ start now_in x. reads_send setting start now_in es lane w (Ok parcel) a k (λ e. cc) x;
+      fine = λ e. absurd (failed_then setting es lane w parcel issued.serial a k answer i.3 next e);
+    }
+
+-- a message was issued, and sent or not
+pub sending : (setting : Setting) (p q r : PeerView) (es : List Entry) (lane : ℕ) (w : Words) (parcel : Parcel) (issued : Issued) (now after : Outlet) (takes : Bool) (before writing : Writing) (a : Answer)
+    → asks (trail setting es) lane w ≡ Some (Ok parcel) → is_unsupported (counted parcel.draft parcel.fds).fields.unix_fds takes ≡ false
+    → Follows setting p es → Issues p.core q.core parcel (trail setting es).events (Ok issued)
+    → IsFine (trail setting es).events before → q.names ≡ p.names → q.streams ≡ p.streams → q.given ≡ p.given
+    → ((m : Seen) → slice_get q.core.outbox issued.index ≡ Some m → is_unsupported m.unix_fds takes ≡ false → before ≡ Fine → Sent q r lane issued m now after writing a)
+    → Sending setting r es lane w now after writing a
+sending setting p q r es lane w parcel issued now after takes before writing a wants can f i fine n t g sent =
+    let h = (trail setting es).events in
+    let m = message_of parcel issued.serial in
+    let k = sending_is (trail setting es) lane w (Ok parcel) wants in
+    let b = expects (Ok parcel) in
+    sending_by setting p q r es lane w parcel issued now after writing a m k f i n t g refl (ap is_some i.5 ∙ makes_call b (length (events.calls h)))
+    (sent m (waits_there q.core h m b issued.index i.4 i.6) (can_send parcel issued.serial takes can) (fine i.3))
+
+-- ---- nothing was sent
+
+nothing_sent : (setting : Setting) (p q : PeerView) (es : List Entry) (lane : ℕ) (w : Words) (asked : Asked) (now : Outlet) (writing : Writing) (a : Answer) → IsSending (trail setting es) lane w asked
+    → p ≡ q → Unissued setting p es lane w a → (IsReadFault a → ⊥) → IsFine (trail setting (entry lane w a ∷ es)).events writing
+    → Sending setting q es lane w now now writing a
+nothing_sent setting p q es lane w asked now writing a k same u never fine = record {
+  follows = subst (λ v. Follows setting v (entry lane w a ∷ es)) same u.follows;
+  writes = λ start x. u.writes start now x;
+  reads = λ start now_in x. reads_send setting start now_in es lane w asked a k never x;
+  fine = fine;
+}
+
+-- a message wasn't issued
+pub not_sending : (setting : Setting) (p q : PeerView) (es : List Entry) (lane : ℕ) (w : Words) (parcel : Parcel) (error : Error) (a : Answer) (now : Outlet) (writing : Writing)
+    → asks (trail setting es) lane w ≡ Some (Ok parcel) → AreWritable parcel → Follows setting p es → Issues p.core q.core parcel (trail setting es).events (Err error)
+    → unsent_answer error ≡ Some a → q.names ≡ p.names → q.streams ≡ p.streams → q.given ≡ p.given → IsFine (trail setting es).events writing
+    → Sending setting q es lane w now now writing a
+not_sending setting p q es lane w parcel error a now writing wants fit f i e n t g fine =
+    let k = sending_is (trail setting es) lane w (Ok parcel) wants in
+    let u = unissued setting p q es lane w parcel error a k fit f i e in
+    nothing_sent setting p q es lane w (Ok parcel) now writing a k (same_peer p q u.0 n t g) u.1 (never_read error a e) (λ x. fine (fine_before setting es lane w a x))
+
+-- the words were refused
+pub not_asked : (setting : Setting) (p : PeerView) (es : List Entry) (lane : ℕ) (w : Words) (error : Error) (a : Answer) (now : Outlet) (writing : Writing)
+    → asks (trail setting es) lane w ≡ Some (Err error) → Follows setting p es → a ≡ answers.Refused error → IsFine (trail setting es).events writing
+    → Sending setting p es lane w now now writing a
+not_asked setting p es lane w error a now writing wants f e fine =
+    let k = sending_is (trail setting es) lane w (Err error) wants in
+    subst (λ x. Sending setting p es lane w now now writing x) (sym e)
+    (nothing_sent setting p p es lane w (Err error) now writing (answers.Refused error) k refl (refused_words setting p es lane w error wants f) (λ x. cc)
+    (λ x. fine (fine_before setting es lane w (answers.Refused error) x)))
+
+-- what was answered where nothing was issued
+pub unsent_ok : {E : Type 0} (error : Error) (r : Result Answer E) → NotIssued error r → IfOk r (λ a. unsent_answer error ≡ Some a)
+unsent_ok error (Ok a) n = n
+unsent_ok error (Err e) n = tt
+
+-- ---- a command that sends, whole
+
+-- what a letter that was made asks for
+made_letter : (asked : Option Asked) (parcel : Parcel) → MakesAsked (Ok parcel) asked → asked ≡ Some (Ok parcel)
+made_letter None parcel m = absurd m
+made_letter (Some asked) parcel m = ap Some m
+
+no_letter : (asked : Option Asked) (error : Error) → (error ≡ errors.Memory → ⊥) → MakesAsked (Err error) asked → asked ≡ Some (Err error)
+no_letter None error n m = absurd m
+no_letter (Some asked) (errors.InputOutput kind) n m = ap Some m
+no_letter (Some asked) (errors.Variant kind) n m = ap Some m
+no_letter (Some asked) (errors.Names kind) n m = ap Some m
+no_letter (Some asked) errors.InvalidMatchRule n m = ap Some m
+no_letter (Some asked) errors.IncorrectEndian n m = ap Some m
+no_letter (Some asked) errors.ExcessData n m = ap Some m
+no_letter (Some asked) errors.SerialsSpent n m = ap Some m
+no_letter (Some asked) errors.UnknownHandle n m = ap Some m
+no_letter (Some asked) errors.Unsupported n m = ap Some m
+no_letter (Some asked) errors.InvalidField n m = ap Some m
+no_letter (Some asked) errors.Memory n m = absurd (n refl)
+
+-- what is asked for by what the peer keeps
+abbrev kept_asks : Setting → PeerView → ℕ → Words → Option Asked
+kept_asks setting p lane w = asks_with setting (λ n. kept_at p.given (place 0 lane n p.streams)) w
+
+can_take : (fds : List ℕ) (takes : Bool) → are_refused fds takes ≡ false → is_unsupported (fds_field fds) takes ≡ false
+can_take [] takes e = refl
+can_take (fd ∷ fds) takes e = e
+
+-- the letter was issued, and sent or not
+pub letter_sent : (setting : Setting) (p q r : PeerView) (es : List Entry) (lane : ℕ) (w : Words) (parcel : Parcel) (issued : Issued) (now after : Outlet) (before writing : Writing) (a : Answer)
+    → MakesAsked (Ok parcel) (kept_asks setting p lane w) → Follows setting p es → Issues p.core q.core parcel (trail setting es).events (Ok issued)
+    → IsFine (trail setting es).events before → q.names ≡ p.names → q.streams ≡ p.streams → q.given ≡ p.given
+    → ((m : Seen) → slice_get q.core.outbox issued.index ≡ Some m → is_unsupported m.unix_fds setting.takes_fds ≡ false → before ≡ Fine → Sent q r lane issued m now after writing a)
+    → Sending setting r es lane w now after writing a
+letter_sent setting p q r es lane w parcel issued now after before writing a made f i fine n t g sent =
+    let is = made_letter (kept_asks setting p lane w) parcel made in
+    let goes = asked_goes setting (λ k. kept_at p.given (place 0 lane k p.streams)) w parcel is in
+    sending setting p q r es lane w parcel issued now after setting.takes_fds before writing a (sym (asks_kept setting p es lane w f) ∙ is)
+    (can_take parcel.fds setting.takes_fds goes.taken) f i fine n t g sent
+
+-- the letter wasn't issued
+pub letter_not_sent : (setting : Setting) (p q : PeerView) (es : List Entry) (lane : ℕ) (w : Words) (parcel : Parcel) (error : Error) (a : Answer) (now : Outlet) (writing : Writing)
+    → MakesAsked (Ok parcel) (kept_asks setting p lane w) → Follows setting p es → Issues p.core q.core parcel (trail setting es).events (Err error)
+    → unsent_answer error ≡ Some a → q.names ≡ p.names → q.streams ≡ p.streams → q.given ≡ p.given → IsFine (trail setting es).events writing
+    → Sending setting q es lane w now now writing a
+letter_not_sent setting p q es lane w parcel error a now writing made f i e n t g fine =
+    let is = made_letter (kept_asks setting p lane w) parcel made in
+    let goes = asked_goes setting (λ k. kept_at p.given (place 0 lane k p.streams)) w parcel is in
+    not_sending setting p q es lane w parcel error a now writing (sym (asks_kept setting p es lane w f) ∙ is) goes.written f i e n t g fine
+
+not_memory : {E : Type 0} (error : Error) (a : Answer) → IsRefusal {E = E} error (Ok a) → error ≡ errors.Memory → ⊥
+not_memory errors.Memory a is e = is
+not_memory (errors.InputOutput kind) a is e = cc
+not_memory (errors.Variant kind) a is e = cc
+not_memory (errors.Names kind) a is e = cc
+not_memory errors.InvalidMatchRule a is e = cc
+not_memory errors.IncorrectEndian a is e = cc
+not_memory errors.ExcessData a is e = cc
+not_memory errors.SerialsSpent a is e = cc
+not_memory errors.UnknownHandle a is e = cc
+not_memory errors.Unsupported a is e = cc
+not_memory errors.InvalidField a is e = cc
+
+refusal_is : {E : Type 0} (error : Error) (a : Answer) → (error ≡ errors.Memory → ⊥) → IsRefusal {E = E} error (Ok a) → a ≡ answers.Refused error
+refusal_is errors.Memory a n is = absurd (n refl)
+refusal_is (errors.InputOutput kind) a n is = is
+refusal_is (errors.Variant kind) a n is = is
+refusal_is (errors.Names kind) a n is = is
+refusal_is errors.InvalidMatchRule a n is = is
+refusal_is errors.IncorrectEndian a n is = is
+refusal_is errors.ExcessData a n is = is
+refusal_is errors.SerialsSpent a n is = is
+refusal_is errors.UnknownHandle a n is = is
+refusal_is errors.Unsupported a n is = is
+refusal_is errors.InvalidField a n is = is
+
+-- no letter was made
+pub letter_refused : {E : Type 0} (setting : Setting) (p : PeerView) (es : List Entry) (lane : ℕ) (w : Words) (error : Error) (r : Result Answer E) (now : Outlet) (writing : Writing)
+    → MakesAsked (Err error) (kept_asks setting p lane w) → IsRefusal error r → Follows setting p es → IsFine (trail setting es).events writing
+    → IfOk r (λ a. Sending setting p es lane w now now writing a)
+letter_refused {E} setting p es lane w error (Ok a) now writing made is f fine =
+    let never = not_memory {E} error a is in
+    not_asked setting p es lane w error a now writing (sym (asks_kept setting p es lane w f) ∙ no_letter (kept_asks setting p lane w) error never made) f (refusal_is {E} error a never is) fine
+letter_refused setting p es lane w error (Err e) now writing made is f fine = tt
