@@ -1,5 +1,5 @@
 pub mod Flags
-pub mod CallTexts
+pub mod Letters
 pub mod Quiet
 pub mod Kept
 pub mod ReadStep

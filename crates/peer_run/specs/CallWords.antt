@@ -1,21 +1,45 @@
--- The words of a call as the code has them, and the message that they ask for.
-use Rattle.std.specs.Prelude.{ℕ, ◌≡◌, List, Option, Some, None, Result, Ok, Err}
-use Rattle.wire_message.specs.Draft.{Draft}
+-- What the words of a command make: a message to be sent, or why none is.
+use Rattle.std.specs.Prelude.{ℕ, ◌≡◌, ◌==◌, ◌&&◌, not, Bool, if◌then◌else◌, List, Option, Some, None, Result, Ok, Err}
+use Rattle.std.specs.Int.RustNames.{bit_and}
+use Rattle.wire_number.specs.declared.endian.Endian.TheVariants.{Little}
+use Rattle.wire_tree.specs.Datum.{Datum}
+use Rattle.wire_message.specs.Draft.{Draft, are_misplaced}
 use Rattle.wire_message.specs.declared.error.Error.{Error}
-use Rattle.peer_route.specs.declared.words.Words.{Words}
-use Rattle.peer_route.specs.declared.words.Words.TheVariants as words
-use Rattle.peer_route.specs.CallMessage.{draft_of}
-use Rattle.peer_route.specs.Answers.{words_refusal}
-use Rattle.peer_run.specs.declared.call_words.CallWords.{CallWords}
+use Rattle.wire_message.specs.declared.error.Error.TheVariants as errors
+use Rattle.peer_route.specs.declared.words.CallFlags.{CallFlags}
+use Rattle.peer_route.specs.Parcel.{Parcel, Asked}
+use Rattle.peer_route.specs.CallMessage.{flags_number, order_of, fds_of, words_refusal, asked_of}
 
-abbrev pub words_of : CallWords → Words
-words_of c = words.Call c.destination.now c.path.now c.interface.now c.member.now c.flags
+-- What is made is what is asked to be sent, and a refusal is the one that is due. Want of memory tells nothing.
+abbrev pub MakesParcel : Result Parcel Error → Asked → Type 0
+MakesParcel (Ok parcel) asked = asked ≡ Ok parcel
+MakesParcel (Err errors.Memory) asked = Unit {0}
+MakesParcel (Err error) asked = asked ≡ Err error
 
--- the message of the call of a peer of this name
-abbrev pub draft_by : Option (List ℕ) → CallWords → Draft
-draft_by name c = draft_of name c.destination.now c.path.now c.interface.now c.member.now c.flags
+-- the same of a command that sends
+abbrev pub MakesAsked : Result Parcel Error → Option Asked → Type 0
+MakesAsked result None = ⊥
+MakesAsked result (Some asked) = MakesParcel result asked
 
--- What a call's words give: its message, where each is in its grammar; else why they are refused.
+-- ---- on the way
+
+-- a header before its letters are looked at
+abbrev pub unflagged : Draft → Draft
+unflagged draft = record draft { order = Little; flags = 0 }
+
+-- The header of words of which each is in its grammar; else why they are refused.
 abbrev pub MakesDraft : Result Draft Error → Draft → Type 0
-MakesDraft (Ok made) draft = (made ≡ draft) × (words_refusal draft ≡ None)
+MakesDraft (Ok made) draft = (made ≡ unflagged draft) × (words_refusal draft ≡ None)
 MakesDraft (Err error) draft = words_refusal draft ≡ Some error
+
+-- the header with those flags and in that byte order, where its type can have them
+abbrev pub lettered : Draft → CallFlags → Result Draft Error
+lettered draft flags =
+    if are_misplaced draft.kind (flags_number flags) then Err errors.InvalidField
+    else Ok (record draft { order = order_of flags.big; flags = flags_number flags })
+
+-- what is asked for once the words and the body are read
+abbrev pub letters_asked : Draft → List Datum → CallFlags → Bool → Asked
+letters_asked draft values flags takes_fds =
+    asked_of None (Some values) (are_misplaced draft.kind (flags_number flags)) (flags.descriptor && not takes_fds)
+    (record draft { order = order_of flags.big; flags = flags_number flags }) (fds_of flags.descriptor)

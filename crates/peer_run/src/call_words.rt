@@ -1,28 +1,41 @@
-//! The message that a call's words ask for.
-ghost use Rattle.std.specs.Prelude.{◌≡◌, IfOk, IfErr, true, false, Some, None, Ok, Err, option_map, if◌then◌else◌};
-ghost use Rattle.wire_names.specs.Names.{is_bus_name, is_interface_name, is_member_name, is_object_path};
+//! The messages that the words of commands ask for.
+ghost use Rattle.std.specs.Prelude.{◌≡◌, IfOk, IfErr, true, false, Some, None, Ok, Err, option_map, unwrap_or, if◌then◌else◌, []};
+ghost use Rattle.wire_names.specs.Names.{is_bus_name, is_error_name, is_interface_name, is_member_name, is_object_path};
 ghost use Rattle.wire_names.specs.BusName.{text_of};
 ghost use Rattle.wire_names.specs.declared.error.NamesError.TheVariants as names;
 ghost use Rattle.wire_message.specs.declared.error.Error.TheVariants as errors;
 ghost use Rattle.wire_message.specs.declared.kind.MessageType.TheVariants as types;
-ghost use Rattle.peer_route.specs.CallMessage.{flags_number, order_of};
-ghost use Rattle.peer_route.specs.Answers.{is_outside};
-ghost use Rattle.peer_run.specs.CallWords.{draft_by, MakesDraft};
+ghost use Rattle.peer_route.specs.Parcel.{Setting};
+ghost use Rattle.peer_route.specs.BodyWord.{ReadsBody};
+ghost use Rattle.peer_route.specs.CallMessage.{flags_number, order_of, is_outside, name_refusal, values_in, call_draft, call_asked, signal_draft, signal_asked, reply_asked, error_asked};
+ghost use Rattle.peer_run.specs.CallWords.{MakesDraft, MakesParcel, lettered, letters_asked};
 
 use bitflags::Flags as _;
-use peer_route::CallFlags;
+use peer_route::{CallFlags, Outgoing, read_body};
+use std::alloc::Global;
+use std::marker::Model;
+use wire_body::Body;
 use wire_message::{Builder, Error, Flags, Message, Result};
-use wire_names::{BusName, Bytes, InterfaceName, MemberName, ObjectPath, OwnedUniqueName};
+use wire_names::{
+    BusName, Bytes, ErrorName, InterfaceName, MemberName, NamesError, ObjectPath, OwnedUniqueName,
+};
 use wire_number::Endian;
+use wire_signature::VariantError;
 
-/// The words of a call, as a script has them.
-#[derive(Clone, Copy)]
-pub(crate) struct CallWords<'a> {
-    pub(crate) destination: &'a Option<Bytes>,
-    pub(crate) path: &'a Bytes,
-    pub(crate) interface: &'a Option<Bytes>,
-    pub(crate) member: &'a Bytes,
-    pub(crate) flags: CallFlags,
+/// A message to be sent: its header, the values of its body, and whether the descriptor 0 goes with it.
+pub(crate) struct Letter<'a> {
+    pub(crate) builder: Builder<'a>,
+    pub(crate) body: Body,
+    pub(crate) descriptor: bool,
+}
+
+impl<'a> Model for Letter<'a> {
+    ghost use Rattle.peer_route.specs.Parcel.{Parcel};
+    ghost use Rattle.peer_route.specs.CallMessage.{fds_of};
+
+    ghost Value = { Parcel };
+
+    ghost view = { λ l. record { draft = l.builder; values = l.body; fds = fds_of l.descriptor } };
 }
 
 /// The bus name of a text, if there is a text.
@@ -53,6 +66,20 @@ fn interface_name(text: &Option<Bytes>) -> Result<Option<InterfaceName<'_>>>
     }
 }
 
+/// The interface name of a text that must be there.
+fn needed_interface(text: &Option<Bytes>) -> Result<InterfaceName<'_>>
+    ensures ok { IfOk result (λ name. (text.now ≡ Some name) × (is_interface_name name ≡ true)) }
+    ensures err { IfErr result (λ e. (e ≡ errors.Names names.Interface) × (is_interface_name (unwrap_or text.now []) ≡ false)) }
+{
+    match text {
+        None => Err(Error::Names(NamesError::Interface)),
+        Some(text) => match InterfaceName::try_from_bytes(text.as_slice()) {
+            Ok(name) => Ok(name),
+            Err(error) => Err(Error::Names(error)),
+        },
+    }
+}
+
 /// The object path of a text.
 fn object_path(text: &Bytes) -> Result<ObjectPath<'_>>
     ensures ok { IfOk result (λ path. (path ≡ text.now) × (is_object_path text.now ≡ true)) }
@@ -72,6 +99,42 @@ fn member_name(text: &Bytes) -> Result<MemberName<'_>>
     match MemberName::try_from_bytes(text.as_slice()) {
         Ok(name) => Ok(name),
         Err(error) => Err(Error::Names(error)),
+    }
+}
+
+/// The error name of a text.
+#[tactic(auto, unfolding(peer_route::specs::CallMessage::name_refusal))]
+fn error_name(text: &Bytes) -> Result<ErrorName<'_>>
+    ensures ok { IfOk result (λ name. (name ≡ text.now) × (name_refusal text.now ≡ None)) }
+    ensures err { IfErr result (λ e. name_refusal text.now ≡ Some e) }
+{
+    match ErrorName::try_from_bytes(text.as_slice()) {
+        Ok(name) => Ok(name),
+        Err(error) => Err(Error::Names(error)),
+    }
+}
+
+/// The body of a word; without a word it is empty.
+fn body_in(alloc: Global, word: &Option<Bytes>) -> Result<Body>
+    ensures { ReadsBody result (values_in word.now) }
+{
+    match word {
+        Some(word) => read_body(alloc, word),
+        None => empty_body(alloc),
+    }
+}
+
+/// The body without values.
+fn empty_body(alloc: Global) -> Result<Body>
+    ensures { ReadsBody result (Some []) }
+{
+    match Body::from_values(alloc, Vec::new(alloc)) {
+        Ok(body) => Ok(body),
+        Err(error) => {
+            // No types are a signature, so that nothing but memory was wanting.
+            prove!(matches!(&error, VariantError::Memory));
+            Err(Error::Memory)
+        }
     }
 }
 
@@ -125,33 +188,138 @@ fn flags_of(flags: CallFlags) -> Flags
         .union(flag_if(flags.allow_interactive_auth, Flags::AllowInteractiveAuth))
 }
 
-/// With those flags, and in that byte order.
-#[tactic(auto, using(crate::proofs::Flags::kept_flags))]
-fn with_letters<'a>(builder: Builder<'a>, flags: CallFlags) -> Result<Builder<'a>>
-    requires call { builder.kind ≡ types.MethodCall }
-    requires none { builder.flags ≡ 0 }
-    ensures { result ≡ Ok (record builder.entry { order = order_of flags.big; flags = flags_number flags }) }
+fn order_of(big: bool) -> Endian
+    ensures { result ≡ order_of big }
 {
-    let order = if flags.big {
-        Endian::Big
-    } else {
-        Endian::Little
-    };
-    builder.endian(order).with_flags(flags_of(flags))
+    if big { Endian::Big } else { Endian::Little }
 }
 
-impl<'a> CallWords<'a> {
-    /// The call's message, sent by the peer of that name. Refused exactly where a word is outside its grammar, for the first
-    /// such word.
-    pub(crate) fn builder(self, name: &'a Option<OwnedUniqueName>) -> Result<Builder<'a>>
-        ensures { MakesDraft result (draft_by name.now self.entry) }
-    {
-        let destination = bus_name(self.destination)?;
-        let path = object_path(self.path)?;
-        let interface = interface_name(self.interface)?;
-        let member = member_name(self.member)?;
-        let builder = with_destination(Message::method_call(&path, &member), &destination);
-        let builder = with_sender(with_interface(builder, &interface), name);
-        with_letters(builder, self.flags)
+/// With those flags, and in that byte order, where its type can have them.
+fn with_letters<'a>(builder: Builder<'a>, flags: CallFlags) -> Result<Builder<'a>>
+    requires none { builder.flags ≡ 0 }
+    ensures { result ≡ lettered builder.entry flags }
+{
+    builder.endian(order_of(flags.big)).with_flags(flags_of(flags))
+}
+
+/// The message with those letters and that body: refused where its type can't have the flags, then where it carries a
+/// descriptor and the sink takes none.
+fn with_body<'a>(
+    builder: Builder<'a>,
+    body: Body,
+    flags: CallFlags,
+    takes_fds: bool,
+) -> Result<Letter<'a>>
+    requires none { builder.flags ≡ 0 }
+    ensures { MakesParcel result (letters_asked builder.entry body flags takes_fds) }
+{
+    let builder = with_letters(builder, flags)?;
+    if flags.descriptor && !takes_fds {
+        return Err(Error::Unsupported);
     }
+    Ok(Letter {
+        builder,
+        body,
+        descriptor: flags.descriptor,
+    })
+}
+
+/// The header of a call, before its letters are looked at. Refused exactly where a word is outside its grammar, for the
+/// first such word.
+fn call_builder<'a>(
+    words: &'a Outgoing,
+    name: &'a Option<OwnedUniqueName>,
+    takes_fds: bool,
+) -> Result<Builder<'a>>
+    ensures { MakesDraft result (call_draft (record { name = name.now; takes_fds = takes_fds }) words.now) }
+{
+    let destination = bus_name(&words.destination)?;
+    let path = object_path(&words.path)?;
+    let interface = interface_name(&words.interface)?;
+    let member = member_name(&words.member)?;
+    let builder = with_destination(Message::method_call(&path, &member), &destination);
+    Ok(with_sender(with_interface(builder, &interface), name))
+}
+
+/// The header of a signal, before its letters are looked at. Refused exactly where a word is outside its grammar, for the
+/// first such word.
+fn signal_builder<'a>(
+    words: &'a Outgoing,
+    name: &'a Option<OwnedUniqueName>,
+    takes_fds: bool,
+) -> Result<Builder<'a>>
+    ensures { MakesDraft result (signal_draft (record { name = name.now; takes_fds = takes_fds }) words.now) }
+{
+    let destination = bus_name(&words.destination)?;
+    let path = object_path(&words.path)?;
+    let interface = needed_interface(&words.interface)?;
+    let member = member_name(&words.member)?;
+    let builder = with_destination(Message::signal(&path, &interface, &member), &destination);
+    Ok(with_sender(builder, name))
+}
+
+/// The method call of these words, sent by the peer of that name to a sink that takes descriptors or none.
+pub(crate) fn call_letter<'a>(
+    alloc: Global,
+    words: &'a Outgoing,
+    name: &'a Option<OwnedUniqueName>,
+    takes_fds: bool,
+) -> Result<Letter<'a>>
+    ensures { MakesParcel result (call_asked (record { name = name.now; takes_fds = takes_fds }) words.now) }
+{
+    let builder = call_builder(words, name, takes_fds)?;
+    let body = body_in(alloc, &words.body)?;
+    with_body(builder, body, words.flags, takes_fds)
+}
+
+/// The signal of these words, sent by the peer of that name to a sink that takes descriptors or none.
+pub(crate) fn signal_letter<'a>(
+    alloc: Global,
+    words: &'a Outgoing,
+    name: &'a Option<OwnedUniqueName>,
+    takes_fds: bool,
+) -> Result<Letter<'a>>
+    ensures { MakesParcel result (signal_asked (record { name = name.now; takes_fds = takes_fds }) words.now) }
+{
+    let builder = signal_builder(words, name, takes_fds)?;
+    let body = body_in(alloc, &words.body)?;
+    with_body(builder, body, words.flags, takes_fds)
+}
+
+/// The method return to a message, with the body of that word.
+pub(crate) fn reply_letter<'a>(
+    alloc: Global,
+    message: &'a Message,
+    name: &'a Option<OwnedUniqueName>,
+    body: &Option<Bytes>,
+) -> Result<Letter<'a>>
+    ensures { MakesParcel result (reply_asked (record { name = name.now; takes_fds = false }) (Some message.now) body.now) }
+{
+    let body = body_in(alloc, body)?;
+    let builder = with_sender(Message::method_return(&message.header()), name);
+    Ok(Letter {
+        builder,
+        body,
+        descriptor: false,
+    })
+}
+
+/// The error of that name to a message, with the body of that word.
+pub(crate) fn error_letter<'a>(
+    alloc: Global,
+    message: &'a Message,
+    name: &'a Option<OwnedUniqueName>,
+    error: &'a Bytes,
+    body: &Option<Bytes>,
+) -> Result<Letter<'a>>
+    ensures { MakesParcel result (error_asked (record { name = name.now; takes_fds = false }) (Some message.now) error.now body.now) }
+{
+    let error = error_name(error)?;
+    let body = body_in(alloc, body)?;
+    let builder = with_sender(Message::error(&message.header(), &error), name);
+    Ok(Letter {
+        builder,
+        body,
+        descriptor: false,
+    })
 }

@@ -35,49 +35,67 @@ pub record ReadFlags (f : CallFlags) : Type 0 where
   pub bytes : list_all word_byte (flags_word f) ≡ true
   pub other : same (flags_word f) (61 ∷ []) ≡ false
 
-flags_read : (n a i b : Bool) → ReadFlags (record { no_reply_expected = n; no_auto_start = a; allow_interactive_auth = i; big = b })
-flags_read false false false false = record { again = refl; bytes = refl; other = refl }
-flags_read false false false true = record { again = refl; bytes = refl; other = refl }
-flags_read false false true false = record { again = refl; bytes = refl; other = refl }
-flags_read false false true true = record { again = refl; bytes = refl; other = refl }
-flags_read false true false false = record { again = refl; bytes = refl; other = refl }
-flags_read false true false true = record { again = refl; bytes = refl; other = refl }
-flags_read false true true false = record { again = refl; bytes = refl; other = refl }
-flags_read false true true true = record { again = refl; bytes = refl; other = refl }
-flags_read true false false false = record { again = refl; bytes = refl; other = refl }
-flags_read true false false true = record { again = refl; bytes = refl; other = refl }
-flags_read true false true false = record { again = refl; bytes = refl; other = refl }
-flags_read true false true true = record { again = refl; bytes = refl; other = refl }
-flags_read true true false false = record { again = refl; bytes = refl; other = refl }
-flags_read true true false true = record { again = refl; bytes = refl; other = refl }
-flags_read true true true false = record { again = refl; bytes = refl; other = refl }
-flags_read true true true true = record { again = refl; bytes = refl; other = refl }
+flags_read : (n a i b d : Bool) → ReadFlags (record { no_reply_expected = n; no_auto_start = a; allow_interactive_auth = i; big = b; descriptor = d })
+flags_read false false false false false = record { again = refl; bytes = refl; other = refl }
+flags_read false false false false true = record { again = refl; bytes = refl; other = refl }
+flags_read false false false true false = record { again = refl; bytes = refl; other = refl }
+flags_read false false false true true = record { again = refl; bytes = refl; other = refl }
+flags_read false false true false false = record { again = refl; bytes = refl; other = refl }
+flags_read false false true false true = record { again = refl; bytes = refl; other = refl }
+flags_read false false true true false = record { again = refl; bytes = refl; other = refl }
+flags_read false false true true true = record { again = refl; bytes = refl; other = refl }
+flags_read false true false false false = record { again = refl; bytes = refl; other = refl }
+flags_read false true false false true = record { again = refl; bytes = refl; other = refl }
+flags_read false true false true false = record { again = refl; bytes = refl; other = refl }
+flags_read false true false true true = record { again = refl; bytes = refl; other = refl }
+flags_read false true true false false = record { again = refl; bytes = refl; other = refl }
+flags_read false true true false true = record { again = refl; bytes = refl; other = refl }
+flags_read false true true true false = record { again = refl; bytes = refl; other = refl }
+flags_read false true true true true = record { again = refl; bytes = refl; other = refl }
+flags_read true false false false false = record { again = refl; bytes = refl; other = refl }
+flags_read true false false false true = record { again = refl; bytes = refl; other = refl }
+flags_read true false false true false = record { again = refl; bytes = refl; other = refl }
+flags_read true false false true true = record { again = refl; bytes = refl; other = refl }
+flags_read true false true false false = record { again = refl; bytes = refl; other = refl }
+flags_read true false true false true = record { again = refl; bytes = refl; other = refl }
+flags_read true false true true false = record { again = refl; bytes = refl; other = refl }
+flags_read true false true true true = record { again = refl; bytes = refl; other = refl }
+flags_read true true false false false = record { again = refl; bytes = refl; other = refl }
+flags_read true true false false true = record { again = refl; bytes = refl; other = refl }
+flags_read true true false true false = record { again = refl; bytes = refl; other = refl }
+flags_read true true false true true = record { again = refl; bytes = refl; other = refl }
+flags_read true true true false false = record { again = refl; bytes = refl; other = refl }
+flags_read true true true false true = record { again = refl; bytes = refl; other = refl }
+flags_read true true true true false = record { again = refl; bytes = refl; other = refl }
+flags_read true true true true true = record { again = refl; bytes = refl; other = refl }
 
 pub flags_again : (f : CallFlags) → ReadFlags f
-flags_again f = flags_read f.no_reply_expected f.no_auto_start f.allow_interactive_auth f.big
+flags_again f = flags_read f.no_reply_expected f.no_auto_start f.allow_interactive_auth f.big f.descriptor
 
 pub dash_some : (letters : List ℕ) → 0 < length (or_dash letters)
 dash_some [] = omega arith
 dash_some (b ∷ bs) = omega arith
 
-no_letters_by : (n a i b : Bool) → (n || a || i || b) ≡ false → or_dash (flag_letter 110 n ++ flag_letter 97 a ++ flag_letter 105 i ++ flag_letter 98 b) ≡ 45 ∷ []
-no_letters_by true a i b h = absurd (cc)
-no_letters_by false true i b h = absurd (cc)
-no_letters_by false false true b h = absurd (cc)
-no_letters_by false false false true h = absurd (cc)
-no_letters_by false false false false h = refl
+no_letters_by : (n a i b d : Bool) → (n || a || i || b || d) ≡ false → or_dash (flag_letter 110 n ++ flag_letter 97 a ++ flag_letter 105 i ++ flag_letter 98 b ++ flag_letter 100 d) ≡ 45 ∷ []
+no_letters_by true a i b d h = absurd (cc)
+no_letters_by false true i b d h = absurd (cc)
+no_letters_by false false true b d h = absurd (cc)
+no_letters_by false false false true d h = absurd (cc)
+no_letters_by false false false false true h = absurd (cc)
+no_letters_by false false false false false h = refl
 
-letters_by : (n a i b : Bool) → (n || a || i || b) ≡ true
-    → or_dash (flag_letter 110 n ++ flag_letter 97 a ++ flag_letter 105 i ++ flag_letter 98 b) ≡ flag_letter 110 n ++ flag_letter 97 a ++ flag_letter 105 i ++ flag_letter 98 b
-letters_by true a i b h = refl
-letters_by false true i b h = refl
-letters_by false false true b h = refl
-letters_by false false false true h = refl
-letters_by false false false false h = absurd (cc)
+letters_by : (n a i b d : Bool) → (n || a || i || b || d) ≡ true
+    → or_dash (flag_letter 110 n ++ flag_letter 97 a ++ flag_letter 105 i ++ flag_letter 98 b ++ flag_letter 100 d) ≡ flag_letter 110 n ++ flag_letter 97 a ++ flag_letter 105 i ++ flag_letter 98 b ++ flag_letter 100 d
+letters_by true a i b d h = refl
+letters_by false true i b d h = refl
+letters_by false false true b d h = refl
+letters_by false false false true d h = refl
+letters_by false false false false true h = refl
+letters_by false false false false false h = absurd (cc)
 
 -- where no flag is set, their word is `-`
-pub no_letters : (f : CallFlags) → (f.no_reply_expected || f.no_auto_start || f.allow_interactive_auth || f.big) ≡ false → flags_word f ≡ 45 ∷ []
-no_letters f h = no_letters_by f.no_reply_expected f.no_auto_start f.allow_interactive_auth f.big h
+pub no_letters : (f : CallFlags) → (f.no_reply_expected || f.no_auto_start || f.allow_interactive_auth || f.big || f.descriptor) ≡ false → flags_word f ≡ 45 ∷ []
+no_letters f h = no_letters_by f.no_reply_expected f.no_auto_start f.allow_interactive_auth f.big f.descriptor h
 
-pub some_letters : (f : CallFlags) → (f.no_reply_expected || f.no_auto_start || f.allow_interactive_auth || f.big) ≡ true → flags_word f ≡ flag_letters f
-some_letters f h = letters_by f.no_reply_expected f.no_auto_start f.allow_interactive_auth f.big h
+pub some_letters : (f : CallFlags) → (f.no_reply_expected || f.no_auto_start || f.allow_interactive_auth || f.big || f.descriptor) ≡ true → flags_word f ≡ flag_letters f
+some_letters f h = letters_by f.no_reply_expected f.no_auto_start f.allow_interactive_auth f.big f.descriptor h

@@ -1,4 +1,3 @@
-pub mod Spelled
 pub mod Digits
 pub mod Lines
 pub mod Pieces
@@ -8,4 +7,5 @@ pub mod Grammar
 pub mod Spelling
 pub mod Again
 pub mod Calls
+pub mod Commands
 pub mod Reread

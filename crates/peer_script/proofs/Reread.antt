@@ -3,133 +3,28 @@ use Rattle.std.proofs.Common.{ℕ, ◌≡◌, ◌/◌, ◌%◌, ◌^◌, ◌<◌
 use Rattle.std.specs.List.{list_all, flat_map, All}
 use Rattle.std.proofs.lemmas.Bool.Decides.{nat_tests}
 use Rattle.std.proofs.lemmas.List.Elements.{All-head, All-tail, All-from_recursion}
-use Rattle.std.proofs.lemmas.Fmt.{decimal_nonempty}
 use Rattle.wire_message.specs.Texts.{message_line}
 use Rattle.wire_message.specs.declared.error.Error.{Error}
 use Rattle.wire_message.specs.declared.error.Error.TheVariants as errors
 use Rattle.wire_message.specs.declared.error.IoKind.{IoKind}
 use Rattle.wire_message.specs.declared.error.IoKind.TheVariants as kinds
 use Rattle.peer_route.specs.declared.words.Words.{Words}
-use Rattle.peer_route.specs.declared.words.Words.TheVariants as words
 use Rattle.peer_route.specs.declared.words.Command.{Command}
 use Rattle.peer_route.specs.declared.answer.Answer.{Answer}
 use Rattle.peer_route.specs.declared.answer.Answer.TheVariants as answers
 use Rattle.peer_route.specs.declared.answer.Entry.{Entry}
 use Rattle.peer_script.specs.declared.line.Line.{Line}
-use Rattle.peer_script.specs.declared.line.Line.TheVariants.{Direct, OutFault, In, InFault, Do, Sent}
+use Rattle.peer_script.specs.declared.line.Line.TheVariants.{Direct, Fds, OutFault, In, InFault, Do, Sent}
 use Rattle.wire_names.specs.Names.{is_unique_name}
-use Rattle.peer_route.specs.declared.words.CallFlags.{CallFlags}
-use Rattle.peer_script.specs.Word.{same, words_of, number_of, bytes_of, text_of, is_plain, hex_digit, hex_two, hex_word, text_byte, text_word, optional_word, flag_letters, flags_word}
-use Rattle.peer_script.specs.Script.{Given, Gave, Broke, ScriptText, given_line, outfault_lines, parts, lane_words, command_words, command_line, head_line, line_of, script_lines}
-use Rattle.peer_script.specs.Transcript.{or_empty, shown_byte, shown_text, io_word, error_word, words_text, answer_text, entry_text, given_text, direct_text, outfault_text, sent_word, transcript_text}
-use Rattle.peer_script.specs.Again.{command_of, SomeBytes, IsOptional, HasText, HasNumbers, CanBeRead, IsGiven, IsName, IsCount}
-use Rattle.peer_script.proofs.Spelling.{number_again, bytes_again, text_again, number_other, text_other, text_some, decimal_digits}
-use Rattle.peer_script.proofs.Calls.{optional_again, flags_again, dash_some}
+use Rattle.peer_script.specs.Word.{same, words_of, number_of, text_of, text_word}
+use Rattle.peer_route.specs.Hex.{bytes_of, hex_digit, hex_two, hex_word}
+use Rattle.peer_script.specs.Script.{Given, Gave, Broke, ScriptText, given_line, fds_lines, outfault_lines, parts, lane_words, command_words, command_line, head_line, line_of, script_lines}
+use Rattle.peer_script.specs.Transcript.{or_empty, shown_byte, shown_text, io_word, error_word, words_text, answer_text, entry_text, given_text, direct_text, fds_text, outfault_text, sent_word, transcript_text}
+use Rattle.peer_script.specs.Again.{command_of, HasNumbers, CanBeRead, IsGiven, IsName, IsCount}
+use Rattle.peer_route.proofs.Spelled.{bytes_again}
+use Rattle.peer_script.proofs.Spelling.{number_again, text_again, decimal_digits}
+use Rattle.peer_script.proofs.Commands.{digit_byte, hex_bytes, text_bytes, text_is_word, number_is_word, entry_words, words_spaced, are_words, command_again, no_head}
 use Rattle.peer_script.proofs.Again.{word_byte, line_byte, both, joined, word_line, digits_word, line_part, spaced, IsWord, words_again, words_alone, before_again}
-
--- ---- words
-
-digit_byte : (k : ℕ) → k < 16 → word_byte (hex_digit k) ≡ true
-digit_byte k h = grind (arith, nat_tests)
-
-hex_bytes : (bytes : List ℕ) → All (λ b. b < 256) bytes → list_all word_byte (hex_word bytes) ≡ true
-hex_bytes [] h = refl
-hex_bytes (b ∷ bytes) h =
-    let small = All-head (λ b. b < 256) b bytes h in
-    both _ _ (digit_byte (b / 16) (omega arith))
-    (both _ _ (digit_byte (b % 16) (omega arith)) (hex_bytes bytes (All-tail (λ b. b < 256) b bytes h)))
-
-byte_word : (b : ℕ) (v : Bool) → b < 256 → is_plain b ≡ v → list_all word_byte (if v then b ∷ [] else 92 ∷ hex_two b) ≡ true
-byte_word b true h e = grind (arith, nat_tests)
-byte_word b false h e = both _ _ (digit_byte (b / 16) (omega arith)) (both _ _ (digit_byte (b % 16) (omega arith)) refl)
-
-bytes_word : (text : List ℕ) → All (λ b. b < 256) text → list_all word_byte (flat_map text_byte text) ≡ true
-bytes_word [] h = refl
-bytes_word (b ∷ text) h =
-    joined word_byte (text_byte b) (flat_map text_byte text) (byte_word b (is_plain b) (All-head (λ b. b < 256) b text h) refl) (bytes_word text (All-tail (λ b. b < 256) b text h))
-
-text_bytes_by : (text : List ℕ) (v : Bool) → All (λ b. b < 256) text → list_all word_byte (if v then codes "\\3d" else flat_map text_byte text) ≡ true
-text_bytes_by text true h = refl
-text_bytes_by text false h = bytes_word text h
-
-text_bytes : (text : List ℕ) → All (λ b. b < 256) text → list_all word_byte (text_word text) ≡ true
-unfolding text_word
-text_bytes text h = text_bytes_by text (same text (61 ∷ [])) h
-
-text_is_word : (text : List ℕ) → SomeBytes text → IsWord (text_word text)
-text_is_word text h =
-    let again = text_again text h.some h.bytes in
-    record { bytes = text_bytes text h.bytes; some = text_some (text_word text) text again; other = text_other (text_word text) text again }
-
-number_is_word : (n : ℕ) → n < 2 ^ 64 → IsWord (decimal n)
-number_is_word n h = record { bytes = digits_word (decimal n) (decimal_digits n h); some = decimal_nonempty n h; other = number_other n h }
-
-dash_is_word : IsWord (45 ∷ [])
-dash_is_word = record { bytes = refl; some = omega arith; other = refl }
-
-optional_is_word : (o : Option (List ℕ)) → IsOptional o → IsWord (optional_word o)
-optional_is_word None h = dash_is_word
-optional_is_word (Some text) h = text_is_word text h.some
-
-flags_are_word : (f : CallFlags) → IsWord (flags_word f)
-flags_are_word f = let read = flags_again f in record { bytes = read.bytes; some = dash_some (flag_letters f); other = read.other }
-
--- ---- the words of a command
-
-entry_words : Words → List (List ℕ)
-entry_words (words.Call destination path interface member flags) = codes "call" ∷ optional_word destination ∷ text_word path ∷ optional_word interface ∷ text_word member ∷ flags_word flags ∷ (45 ∷ []) ∷ []
-entry_words words.Read = codes "read" ∷ []
-entry_words (words.Poll number) = codes "poll" ∷ decimal number ∷ []
-entry_words (words.Drop number) = codes "drop" ∷ decimal number ∷ []
-entry_words words.Stream = codes "stream" ∷ []
-entry_words (words.Take number) = codes "take" ∷ decimal number ∷ []
-
-call_spaced : (d p i m f : List ℕ)
-    → 32 ∷ (codes "call " ++ d ++ 32 ∷ [] ++ p ++ 32 ∷ [] ++ i ++ 32 ∷ [] ++ m ++ 32 ∷ [] ++ f ++ codes " -")
-    ≡ flat_map spaced (codes "call" ∷ d ∷ p ∷ i ∷ m ∷ f ∷ (45 ∷ []) ∷ [])
-call_spaced d p i m f = simp append_assoc
-
-words_spaced : (w : Words) → 32 ∷ words_text w ≡ flat_map spaced (entry_words w)
-unfolding words_text entry_words
-words_spaced (words.Call destination path interface member flags) =
-    call_spaced (optional_word destination) (text_word path) (optional_word interface) (text_word member) (flags_word flags)
-words_spaced words.Read = refl
-words_spaced (words.Poll number) = simp append-nil
-words_spaced (words.Drop number) = simp append-nil
-words_spaced words.Stream = refl
-words_spaced (words.Take number) = simp append-nil
-
-are_words : (w : Words) → HasText w → All IsWord (entry_words w)
-unfolding entry_words
-are_words (words.Call destination path interface member flags) h =
-    let call : IsWord (codes "call") = record { bytes = refl; some = omega arith; other = refl } in
-    All-from_recursion IsWord (entry_words (words.Call destination path interface member flags))
-    (call, (optional_is_word destination h.0, (text_is_word path h.1, (optional_is_word interface h.2, (text_is_word member h.3, (flags_are_word flags, (dash_is_word, tt)))))))
-are_words words.Read h =
-    let name : IsWord (codes "read") = record { bytes = refl; some = omega arith; other = refl } in
-    All-from_recursion IsWord (entry_words words.Read) (name, tt)
-are_words words.Stream h =
-    let name : IsWord (codes "stream") = record { bytes = refl; some = omega arith; other = refl } in
-    All-from_recursion IsWord (entry_words words.Stream) (name, tt)
-are_words (words.Poll number) h =
-    let name : IsWord (codes "poll") = record { bytes = refl; some = omega arith; other = refl } in
-    All-from_recursion IsWord (entry_words (words.Poll number)) (name, (number_is_word number h, tt))
-are_words (words.Drop number) h =
-    let name : IsWord (codes "drop") = record { bytes = refl; some = omega arith; other = refl } in
-    All-from_recursion IsWord (entry_words (words.Drop number)) (name, (number_is_word number h, tt))
-are_words (words.Take number) h =
-    let name : IsWord (codes "take") = record { bytes = refl; some = omega arith; other = refl } in
-    All-from_recursion IsWord (entry_words (words.Take number)) (name, (number_is_word number h, tt))
-
-command_again : (w : Words) → HasText w → command_words (entry_words w) ≡ Some w
-unfolding entry_words command_words
-command_again (words.Call destination path interface member flags) h =
-    rw (optional_again destination h.0, text_again path h.1.some h.1.bytes, optional_again interface h.2, text_again member h.3.some h.3.bytes, (flags_again flags).again) refl
-command_again words.Read h = refl
-command_again (words.Poll number) h = rw (number_again number h) refl
-command_again (words.Drop number) h = rw (number_again number h) refl
-command_again words.Stream h = refl
-command_again (words.Take number) h = rw (number_again number h) refl
 
 -- ---- the line of an entry
 
@@ -144,21 +39,6 @@ line_ends d w f a rest e =
 entry_ends : (e : Entry) (rest : List ℕ) → entry_text e ++ rest ≡ entry_line e ++ 10 ∷ rest
 unfolding entry_text entry_line
 entry_ends e rest = line_ends (decimal e.lane) (words_text e.words) (flat_map spaced (entry_words e.words)) (answer_text e.answer) rest (words_spaced e.words)
-
-head_none : (a b c : List ℕ) (ws ds : List (List ℕ)) → head_line (a ∷ b ∷ (ws ++ c ∷ ds)) ≡ None
-unfolding head_line
-head_none a b c [] ds = refl
-head_none a b c (w ∷ ws) ds = refl
-
-no_head : (a : List ℕ) (w : Words) (c : List ℕ) (ds : List (List ℕ)) → head_line (a ∷ (entry_words w ++ c ∷ ds)) ≡ None
-unfolding entry_words
-no_head a (words.Call destination path interface member flags) c ds =
-    head_none a (codes "call") c (optional_word destination ∷ text_word path ∷ optional_word interface ∷ text_word member ∷ flags_word flags ∷ (45 ∷ []) ∷ []) ds
-no_head a words.Read c ds = head_none a (codes "read") c [] ds
-no_head a (words.Poll number) c ds = head_none a (codes "poll") c (decimal number ∷ []) ds
-no_head a (words.Drop number) c ds = head_none a (codes "drop") c (decimal number ∷ []) ds
-no_head a words.Stream c ds = head_none a (codes "stream") c [] ds
-no_head a (words.Take number) c ds = head_none a (codes "take") c (decimal number ∷ []) ds
 
 lane_again : (lane : ℕ) (word : List ℕ) (rest : List (List ℕ)) (w : Words) → number_of word ≡ Some lane → nat_le lane 63 ≡ true → command_words rest ≡ Some w
     → lane_words (word ∷ rest) ≡ Some (record { lane = lane; words = w })
@@ -376,7 +256,33 @@ all_given (g ∷ gs) h =
     ap (λ x. x ∷ map line_of (map given_words gs)) (given_again g (All-head IsGiven g gs h))
     ∙ ap (λ l. Some (given_line g) ∷ l) (all_given gs (All-tail IsGiven g gs h))
 
--- ---- the line of the sink
+-- ---- the lines of the sink
+
+fds_words : Bool → List (List ℕ)
+fds_words true = codes "fds" ∷ []
+fds_words false = []
+
+fds_ends : (rest : List ℕ) → fds_text true ++ rest ≡ codes "fds" ++ 10 ∷ rest
+unfolding fds_text
+fds_ends rest = refl
+
+no_fds : (rest : List ℕ) → fds_text false ++ rest ≡ rest
+unfolding fds_text
+no_fds rest = refl
+
+fds_parts : (fds : Bool) (rest : List ℕ) → parts (fds_text fds ++ rest) ≡ fds_words fds ++ parts rest
+unfolding fds_words
+fds_parts true rest = ap parts (fds_ends rest) ∙ line_part (codes "fds") rest refl
+fds_parts false rest = ap parts (no_fds rest)
+
+fds_alone : line_of (codes "fds") ≡ Some Fds
+unfolding line_of head_line
+fds_alone = refl
+
+fds_again : (fds : Bool) → map line_of (fds_words fds) ≡ map Some (fds_lines fds)
+unfolding fds_words
+fds_again true = ap (λ x. x ∷ []) fds_alone
+fds_again false = refl
 
 outfault_words : Option ℕ → List (List ℕ)
 outfault_words None = []
@@ -434,49 +340,63 @@ mapped : {A B : Type 0} (f : A → B) (xs ys : List A) → map f (xs ++ ys) ≡ 
 mapped f [] ys = refl
 mapped f (x ∷ xs) ys = ap (λ l. f x ∷ l) (mapped f xs ys)
 
-lines_joined : (outs ins dos : List Line) → map Some outs ++ (map Some ins ++ (map Some dos ++ Some Sent ∷ [])) ≡ map Some (outs ++ ins ++ dos ++ Sent ∷ [])
-lines_joined outs ins dos =
-    sym (mapped Some ((outs ++ ins) ++ dos) (Sent ∷ []) ∙ ap (λ l. l ++ Some Sent ∷ []) (mapped Some (outs ++ ins) dos)
-    ∙ ap (λ l. (l ++ map Some dos) ++ Some Sent ∷ []) (mapped Some outs ins) ∙ simp append_assoc)
+lines_joined : (fs outs ins dos : List Line) → map Some fs ++ (map Some outs ++ (map Some ins ++ (map Some dos ++ Some Sent ∷ []))) ≡ map Some (fs ++ outs ++ ins ++ dos ++ Sent ∷ [])
+lines_joined fs outs ins dos =
+    sym (mapped Some (((fs ++ outs) ++ ins) ++ dos) (Sent ∷ []) ∙ ap (λ l. l ++ Some Sent ∷ []) (mapped Some ((fs ++ outs) ++ ins) dos)
+    ∙ ap (λ l. (l ++ map Some dos) ++ Some Sent ∷ []) (mapped Some (fs ++ outs) ins)
+    ∙ ap (λ l. ((l ++ map Some ins) ++ map Some dos) ++ Some Sent ∷ []) (mapped Some fs outs) ∙ simp append_assoc)
 
-whole_ends : (d o gs es s w : List ℕ) → (((((d ++ o) ++ gs) ++ es) ++ s) ++ w) ++ 10 ∷ [] ≡ d ++ (o ++ (gs ++ (es ++ ((s ++ w) ++ 10 ∷ []))))
-whole_ends d o gs es s w = simp append_assoc
+whole_ends : (d f o gs es s w : List ℕ) → ((((((d ++ f) ++ o) ++ gs) ++ es) ++ s) ++ w) ++ 10 ∷ [] ≡ d ++ (f ++ (o ++ (gs ++ (es ++ ((s ++ w) ++ 10 ∷ [])))))
+whole_ends d f o gs es s w = simp append_assoc
 
-all_lines : Option (List ℕ) → Option ℕ → List Given → List Entry → List ℕ → List (List ℕ)
-all_lines name out gs es sent = direct_words name ∷ (outfault_words out ++ (map given_words gs ++ (map entry_line es ++ sent_text sent ∷ [])))
+all_lines : Option (List ℕ) → Bool → Option ℕ → List Given → List Entry → List ℕ → List (List ℕ)
+all_lines name fds out gs es sent =
+    direct_words name ∷ (fds_words fds ++ (outfault_words out ++ (map given_words gs ++ (map entry_line es ++ sent_text sent ∷ []))))
 
-whole_parts : (name : Option (List ℕ)) (out : Option ℕ) (gs : List Given) (es : List Entry) (sent : List ℕ) → IsName name → IsCount out → All IsGiven gs → All CanBeRead es → All (λ b. b < 256) sent
-    → parts (transcript_text name out gs es sent) ≡ all_lines name out gs es sent ++ [] ∷ []
+whole_parts : (name : Option (List ℕ)) (fds : Bool) (out : Option ℕ) (gs : List Given) (es : List Entry) (sent : List ℕ) → IsName name → IsCount out → All IsGiven gs → All CanBeRead es
+    → All (λ b. b < 256) sent → parts (transcript_text name fds out gs es sent) ≡ all_lines name fds out gs es sent ++ [] ∷ []
 unfolding transcript_text all_lines sent_text
-whole_parts name out gs es sent n o p e s =
-    ap parts (whole_ends (direct_text name) (outfault_text out) (flat_map given_text gs) (flat_map entry_text es) (codes "sent ") (sent_word sent)
-    ∙ direct_ends name (outfault_text out ++ (flat_map given_text gs ++ (flat_map entry_text es ++ (sent_text sent ++ 10 ∷ [])))))
-    ∙ line_part (direct_words name) (outfault_text out ++ (flat_map given_text gs ++ (flat_map entry_text es ++ (sent_text sent ++ 10 ∷ [])))) (direct_bytes name n)
-    ∙ ap (λ l. direct_words name ∷ l) (outfault_parts out (flat_map given_text gs ++ (flat_map entry_text es ++ (sent_text sent ++ 10 ∷ []))) o)
-    ∙ ap (λ l. direct_words name ∷ (outfault_words out ++ l)) (given_parts gs (flat_map entry_text es ++ (sent_text sent ++ 10 ∷ [])) p)
-    ∙ ap (λ l. direct_words name ∷ (outfault_words out ++ (map given_words gs ++ l))) (entries_parts es (sent_text sent ++ 10 ∷ []) e)
-    ∙ ap (λ l. direct_words name ∷ (outfault_words out ++ (map given_words gs ++ (map entry_line es ++ l)))) (line_part (sent_text sent) [] (sent_bytes sent s))
+whole_parts name fds out gs es sent n o p e s =
+    let last = sent_text sent ++ 10 ∷ [] in
+    let entries = flat_map entry_text es ++ last in
+    let source = flat_map given_text gs ++ entries in
+    let sink = outfault_text out ++ source in
+    ap parts (whole_ends (direct_text name) (fds_text fds) (outfault_text out) (flat_map given_text gs) (flat_map entry_text es) (codes "sent ") (sent_word sent)
+    ∙ direct_ends name (fds_text fds ++ sink))
+    ∙ line_part (direct_words name) (fds_text fds ++ sink) (direct_bytes name n)
+    ∙ ap (λ l. direct_words name ∷ l) (fds_parts fds sink)
+    ∙ ap (λ l. direct_words name ∷ (fds_words fds ++ l)) (outfault_parts out source o)
+    ∙ ap (λ l. direct_words name ∷ (fds_words fds ++ (outfault_words out ++ l))) (given_parts gs entries p)
+    ∙ ap (λ l. direct_words name ∷ (fds_words fds ++ (outfault_words out ++ (map given_words gs ++ l)))) (entries_parts es last e)
+    ∙ ap (λ l. direct_words name ∷ (fds_words fds ++ (outfault_words out ++ (map given_words gs ++ (map entry_line es ++ l))))) (line_part (sent_text sent) [] (sent_bytes sent s))
     ∙ ap (λ l. direct_words name ∷ l) (simp append_assoc)
 
-whole_lines : (name : Option (List ℕ)) (out : Option ℕ) (gs : List Given) (es : List Entry) (sent : List ℕ) → IsName name → IsCount out → All IsGiven gs → All CanBeRead es → All (λ b. b < 256) sent
-    → map line_of (all_lines name out gs es sent) ≡ map Some (script_lines (record { name = name; outfault = out; given = gs; commands = map command_of es }) true)
+whole_lines : (name : Option (List ℕ)) (fds : Bool) (out : Option ℕ) (gs : List Given) (es : List Entry) (sent : List ℕ) → IsName name → IsCount out → All IsGiven gs → All CanBeRead es
+    → All (λ b. b < 256) sent
+    → map line_of (all_lines name fds out gs es sent) ≡ map Some (script_lines (record { name = name; fds = fds; outfault = out; given = gs; commands = map command_of es }) true)
 unfolding all_lines
-whole_lines name out gs es sent n o p e s =
+whole_lines name fds out gs es sent n o p e s =
+    let fs = fds_lines fds in
     let outs = outfault_lines out in
     let ins = map given_line gs in
     let dos = map Do (map command_of es) in
-    let tail = map entry_line es ++ sent_text sent ∷ [] in
-    ap (λ x. x ∷ map line_of (outfault_words out ++ (map given_words gs ++ tail))) (direct_again name n)
-    ∙ ap (λ l. Some (Direct name) ∷ l) (mapped line_of (outfault_words out) (map given_words gs ++ tail))
-    ∙ ap (λ l. Some (Direct name) ∷ (l ++ map line_of (map given_words gs ++ tail))) (outfault_again out o)
-    ∙ ap (λ l. Some (Direct name) ∷ (map Some outs ++ l)) (mapped line_of (map given_words gs) tail)
-    ∙ ap (λ l. Some (Direct name) ∷ (map Some outs ++ (l ++ map line_of tail))) (all_given gs p)
-    ∙ ap (λ l. Some (Direct name) ∷ (map Some outs ++ (map Some ins ++ l))) (mapped line_of (map entry_line es) (sent_text sent ∷ []))
-    ∙ ap (λ l. Some (Direct name) ∷ (map Some outs ++ (map Some ins ++ (l ++ line_of (sent_text sent) ∷ [])))) (entries_again es e)
-    ∙ ap (λ x. Some (Direct name) ∷ (map Some outs ++ (map Some ins ++ (map Some dos ++ x ∷ [])))) (sent_reads sent s)
-    ∙ ap (λ l. Some (Direct name) ∷ l) (lines_joined outs ins dos)
+    let last = map entry_line es ++ sent_text sent ∷ [] in
+    let source = map given_words gs ++ last in
+    let sink = outfault_words out ++ source in
+    ap (λ x. x ∷ map line_of (fds_words fds ++ sink)) (direct_again name n)
+    ∙ ap (λ l. Some (Direct name) ∷ l) (mapped line_of (fds_words fds) sink)
+    ∙ ap (λ l. Some (Direct name) ∷ (l ++ map line_of sink)) (fds_again fds)
+    ∙ ap (λ l. Some (Direct name) ∷ (map Some fs ++ l)) (mapped line_of (outfault_words out) source)
+    ∙ ap (λ l. Some (Direct name) ∷ (map Some fs ++ (l ++ map line_of source))) (outfault_again out o)
+    ∙ ap (λ l. Some (Direct name) ∷ (map Some fs ++ (map Some outs ++ l))) (mapped line_of (map given_words gs) last)
+    ∙ ap (λ l. Some (Direct name) ∷ (map Some fs ++ (map Some outs ++ (l ++ map line_of last)))) (all_given gs p)
+    ∙ ap (λ l. Some (Direct name) ∷ (map Some fs ++ (map Some outs ++ (map Some ins ++ l)))) (mapped line_of (map entry_line es) (sent_text sent ∷ []))
+    ∙ ap (λ l. Some (Direct name) ∷ (map Some fs ++ (map Some outs ++ (map Some ins ++ (l ++ line_of (sent_text sent) ∷ []))))) (entries_again es e)
+    ∙ ap (λ x. Some (Direct name) ∷ (map Some fs ++ (map Some outs ++ (map Some ins ++ (map Some dos ++ x ∷ []))))) (sent_reads sent s)
+    ∙ ap (λ l. Some (Direct name) ∷ l) (lines_joined fs outs ins dos)
 
-pub transcript_again : (name : Option (List ℕ)) (out : Option ℕ) (gs : List Given) (es : List Entry) (sent : List ℕ) → IsName name → IsCount out → All IsGiven gs → All CanBeRead es → All (λ b. b < 256) sent
-    → ScriptText (transcript_text name out gs es sent) (record { name = name; outfault = out; given = gs; commands = map command_of es })
-transcript_again name out gs es sent n o p e s =
-    record { lines = all_lines name out gs es sent; sent = true; ended = whole_parts name out gs es sent n o p e s; each = whole_lines name out gs es sent n o p e s }
+pub transcript_again : (name : Option (List ℕ)) (fds : Bool) (out : Option ℕ) (gs : List Given) (es : List Entry) (sent : List ℕ) → IsName name → IsCount out → All IsGiven gs → All CanBeRead es
+    → All (λ b. b < 256) sent
+    → ScriptText (transcript_text name fds out gs es sent) (record { name = name; fds = fds; outfault = out; given = gs; commands = map command_of es })
+transcript_again name fds out gs es sent n o p e s =
+    record { lines = all_lines name fds out gs es sent; sent = true; ended = whole_parts name fds out gs es sent n o p e s; each = whole_lines name fds out gs es sent n o p e s }

@@ -1,4 +1,4 @@
--- What is spelled is read again: numbers, bytes and texts.
+-- What is spelled is read again: numbers and texts.
 use Rattle.std.proofs.Common.{ℕ, zero, suc, ◌≡◌, ◌+◌, ◌-◌, ◌*◌, ◌^◌, ◌/◌, ◌%◌, ◌<◌, Bool, true, false, not, ◌||◌, ◌==◌, nat_lt, nat_le, if◌then◌else◌, List, [], ◌∷◌, ◌++◌, length, get_or, Option, Some, None, codes, decimal, fold, refl, sym, ap, ◌∙◌, arith, rules}
 use Rattle.std.specs.List.{list_all, flat_map, All}
 use Rattle.std.specs.Char.{is_ascii_digit}
@@ -7,7 +7,9 @@ use Rattle.std.proofs.lemmas.List.Elements.{All-head, All-tail}
 use Rattle.std.proofs.lemmas.Str.Parse.{IsNumeralModel, numerals_by_fold}
 use Rattle.std.proofs.lemmas.Fmt.{digits_decimal, digits_value-decimal, decimal_nonempty, first_decimal, decimal_digit}
 use Rattle.std.specs.Cmp.Lexicographic.{bytes_decides}
-use Rattle.peer_script.specs.Word.{same, digits_value, begins_with_zero, number_of, hex_value, hex_byte, hex_pairs, bytes_of, onto, is_plain, plain_byte, escaped, unescaped, text_of, hex_digit, hex_two, hex_word, text_byte, text_word}
+use Rattle.peer_route.proofs.Spelled.{byte_again}
+use Rattle.peer_script.specs.Word.{same, digits_value, begins_with_zero, number_of, is_plain, plain_byte, escaped, unescaped, text_of, text_byte, text_word}
+use Rattle.peer_route.specs.Hex.{hex_value, hex_byte, hex_pairs, bytes_of, onto, hex_digit, hex_two, hex_word}
 
 -- ---- numbers
 
@@ -31,25 +33,6 @@ pub number_again : (n : ℕ) → n < 2 ^ 64 → number_of (decimal n) ≡ Some n
 number_again n h =
     let long = decimal_nonempty n h in
     number_by n (decimal n) (grind (arith, nat_tests)) (digits_decimal own n h) (no_zero n h) (digits_value-decimal own n h) (grind (arith, nat_tests))
-
--- ---- bytes
-
-digit_again : (k : ℕ) → k < 16 → hex_value (hex_digit k) ≡ Some k
-digit_again k h = grind (arith, nat_tests)
-
-byte_again : (b : ℕ) → b < 256 → hex_byte (hex_value (hex_digit (b / 16))) (hex_value (hex_digit (b % 16))) ≡ Some b
-byte_again b h =
-    let high = digit_again (b / 16) (omega arith) in
-    let low = digit_again (b % 16) (omega arith) in
-    rw (high, low) (ap Some (omega arith))
-
-pairs_again : (bytes : List ℕ) → All (λ b. b < 256) bytes → hex_pairs (hex_word bytes) ≡ Some bytes
-pairs_again [] h = refl
-pairs_again (b ∷ bytes) h = rw (byte_again b (All-head (λ b. b < 256) b bytes h), pairs_again bytes (All-tail (λ b. b < 256) b bytes h)) refl
-
-pub bytes_again : (bytes : List ℕ) → 0 < length bytes → All (λ b. b < 256) bytes → bytes_of (hex_word bytes) ≡ Some bytes
-bytes_again [] few h = absurd (omega arith)
-bytes_again (b ∷ bytes) few h = pairs_again (b ∷ bytes) h
 
 -- ---- texts
 

@@ -1,6 +1,7 @@
 -- Transcripts as scripts: the command of an entry, and the entries whose lines are read again.
-use Rattle.std.specs.Prelude.{ℕ, ◌≡◌, ◌<◌, ◌≤◌, ◌^◌, false, List, length, map, Ok, Option, Some, None}
+use Rattle.std.specs.Prelude.{ℕ, ◌≡◌, ◌<◌, ◌≤◌, ◌^◌, Bool, false, List, length, map, Ok, Option, Some, None}
 use Rattle.std.specs.List.{All}
+use Rattle.peer_route.specs.declared.words.Outgoing.{Outgoing}
 use Rattle.peer_route.specs.declared.words.Words.{Words}
 use Rattle.peer_route.specs.declared.words.Words.TheVariants as words
 use Rattle.peer_route.specs.declared.words.Command.{Command}
@@ -31,9 +32,24 @@ abbrev pub IsOptional : Option (List ℕ) → Type 0
 IsOptional None = Unit {0}
 IsOptional (Some text) = Present text
 
+-- a text that must be there, which may be the word for none
+abbrev pub IsThere : Option (List ℕ) → Type 0
+IsThere None = ⊥
+IsThere (Some text) = SomeBytes text
+
+-- the words of a call or of a signal; a signal has an interface
+pub record OutgoingText (named : Type 0) (o : Outgoing) : Type 0 where
+  pub destination : IsOptional o.destination
+  pub path : SomeBytes o.path
+  pub interface : named
+  pub member : SomeBytes o.member
+  pub body : IsOptional o.body
+
 abbrev pub HasText : Words → Type 0
-HasText (words.Call destination path interface member flags) =
-    IsOptional destination × SomeBytes path × IsOptional interface × SomeBytes member
+HasText (words.Call outgoing) = OutgoingText (IsOptional outgoing.interface) outgoing
+HasText (words.Signal outgoing) = OutgoingText (IsThere outgoing.interface) outgoing
+HasText (words.Reply stream body) = (stream < 2 ^ 64) × IsOptional body
+HasText (words.Error stream name body) = (stream < 2 ^ 64) × SomeBytes name × IsOptional body
 HasText words.Read = Unit {0}
 HasText (words.Poll number) = number < 2 ^ 64
 HasText (words.Drop number) = number < 2 ^ 64
@@ -82,7 +98,7 @@ IsCount (Some count) = count < 2 ^ 64
 -- The transcript is read again as the script of its header lines and of its entries' commands.
 abbrev pub TranscriptsAreRead : Type 0
 TranscriptsAreRead =
-    (name : Option (List ℕ)) (outfault : Option ℕ) (given : List Given) (entries : List Entry) (sent : List ℕ)
+    (name : Option (List ℕ)) (fds : Bool) (outfault : Option ℕ) (given : List Given) (entries : List Entry) (sent : List ℕ)
     → IsName name → IsCount outfault → All IsGiven given → All CanBeRead entries → All (λ b. b < 256) sent
-    → script_of (transcript_text name outfault given entries sent)
-    ≡ Ok (record { name = name; outfault = outfault; given = given; commands = map command_of entries })
+    → script_of (transcript_text name fds outfault given entries sent)
+    ≡ Ok (record { name = name; fds = fds; outfault = outfault; given = given; commands = map command_of entries })

@@ -2,6 +2,5 @@ pub mod Word
 pub mod Script
 pub mod Transcript
 pub mod Reading
-pub mod Steps
 pub mod Output
 pub mod Again

@@ -1,34 +1,51 @@
 -- Script text: a list of lines, each ended by one byte 0x0a: `direct`, perhaps with the peer's unique name, perhaps the
--- bytes that the sink takes, what the source gives, the commands, and perhaps one `sent` line, which is passed over.
+-- line that its sink takes descriptors, perhaps the bytes that the sink takes, what the source gives, the commands, and
+-- perhaps one `sent` line, which is passed over.
 use Rattle.std.specs.Prelude.{ℕ, ◌≡◌, ◌+◌, Bool, true, false, ◌&&◌, ◌||◌, ◌==◌, nat_le, if◌then◌else◌, List, [], ◌∷◌, ◌++◌, map, codes, Option, Some, None, is_some}
 use Rattle.std.specs.List.{slice_split, list_any}
 use Rattle.wire_names.specs.Names.{is_unique_name}
 use Rattle.peer_route.specs.declared.words.Words.{Words}
 use Rattle.peer_route.specs.declared.words.Words.TheVariants as words
 use Rattle.peer_route.specs.declared.words.CallFlags.{CallFlags}
+use Rattle.peer_route.specs.declared.words.Outgoing.{Outgoing}
 use Rattle.peer_route.specs.declared.words.Command.{Command}
 use Rattle.peer_script.specs.declared.line.Line.{Line}
-use Rattle.peer_script.specs.declared.line.Line.TheVariants.{Direct, OutFault, In, InFault, Do, Sent}
-use Rattle.peer_script.specs.Word.{same, words_of, number_of, bytes_of, text_of, flags_word}
+use Rattle.peer_script.specs.declared.line.Line.TheVariants.{Direct, Fds, OutFault, In, InFault, Do, Sent}
+use Rattle.peer_script.specs.Word.{same, words_of, number_of, text_of, flags_word}
+use Rattle.peer_route.specs.Hex.{bytes_of}
 
 -- one line of the source: a piece of its bytes, or a read that fails there
 pub data Given : Type 0 where
   Gave : (piece : List ℕ) → Given
   Broke : Given
 
--- What a script says: the peer's unique name, where it has one; after how many bytes the sink fails a write, where it
--- does; what the source gives; the commands.
+-- What a script says: the peer's unique name, where it has one; whether its sink takes file descriptors; after how many
+-- bytes the sink fails a write, where it does; what the source gives; the commands.
 pub record Script : Type 0 where
   pub name : Option (List ℕ)
+  pub fds : Bool
   pub outfault : Option ℕ
   pub given : List Given
   pub commands : List Command
 
 -- ---- a line
 
-abbrev pub call_of : Option (Option (List ℕ)) → Option (List ℕ) → Option (Option (List ℕ)) → Option (List ℕ) → Option CallFlags → Option Words
-call_of (Some destination) (Some path) (Some interface) (Some member) (Some flags) = Some (words.Call destination path interface member flags)
-call_of destination path interface member flags = None
+abbrev pub outgoing_of : Option (Option (List ℕ)) → Option (List ℕ) → Option (Option (List ℕ)) → Option (List ℕ) → Option CallFlags → Option (Option (List ℕ)) → Option Outgoing
+outgoing_of (Some destination) (Some path) (Some interface) (Some member) (Some flags) (Some body) =
+    Some (record { destination = destination; path = path; interface = interface; member = member; flags = flags; body = body })
+outgoing_of destination path interface member flags body = None
+
+abbrev pub sending : (Outgoing → Words) → Option Outgoing → Option Words
+sending command (Some outgoing) = Some (command outgoing)
+sending command None = None
+
+abbrev pub reply_of : Option ℕ → Option (Option (List ℕ)) → Option Words
+reply_of (Some stream) (Some body) = Some (words.Reply stream body)
+reply_of stream body = None
+
+abbrev pub error_of : Option ℕ → Option (List ℕ) → Option (Option (List ℕ)) → Option Words
+error_of (Some stream) (Some name) (Some body) = Some (words.Error stream name body)
+error_of stream name body = None
 
 abbrev pub numbered : (ℕ → Words) → Option ℕ → Option Words
 numbered command (Some number) = Some (command number)
@@ -57,13 +74,15 @@ named_flags word =
       no_auto_start = has_letter 97 word;
       allow_interactive_auth = has_letter 105 word;
       big = has_letter 98 word;
+      descriptor = has_letter 100 word;
     }
 
 -- the flags whose one spelling a word is
 abbrev pub flags_of : List ℕ → Option CallFlags
 flags_of word = if same word (flags_word (named_flags word)) then Some (named_flags word) else None
 
--- the words of a command, without its lane: `read`, `stream`, `poll C`, `drop C`, `take S`, `call D P I M F -`
+-- The words of a command, without its lane: `read`, `stream`, `poll C`, `drop C`, `take S`, `reply S B`, `error S NAME B`,
+-- `call D P I M F B`, `signal D P I M F B`. A signal has an interface, so that a `-` there is a text.
 unfoldable pub command_words : List (List ℕ) → Option Words
 command_words (name ∷ []) =
     if same name (codes "read") then Some words.Read
@@ -74,9 +93,16 @@ command_words (name ∷ number ∷ []) =
     else if same name (codes "drop") then numbered words.Drop (number_of number)
     else if same name (codes "take") then numbered words.Take (number_of number)
     else None
+command_words (name ∷ stream ∷ body ∷ []) =
+    if same name (codes "reply") then reply_of (number_of stream) (optional_of body) else None
+command_words (name ∷ stream ∷ error ∷ body ∷ []) =
+    if same name (codes "error") then error_of (number_of stream) (text_of error) (optional_of body) else None
 command_words (name ∷ destination ∷ path ∷ interface ∷ member ∷ flags ∷ body ∷ []) =
-    if same name (codes "call") && is_absent body
-    then call_of (optional_of destination) (text_of path) (optional_of interface) (text_of member) (flags_of flags) else None
+    if same name (codes "call")
+    then sending words.Call (outgoing_of (optional_of destination) (text_of path) (optional_of interface) (text_of member) (flags_of flags) (optional_of body))
+    else if same name (codes "signal")
+    then sending words.Signal (outgoing_of (optional_of destination) (text_of path) (present (text_of interface)) (text_of member) (flags_of flags) (optional_of body))
+    else None
 command_words others = None
 
 abbrev pub in_lane : ℕ → Option Words → Option Command
@@ -126,6 +152,7 @@ do_line None = None
 unfoldable pub head_line : List (List ℕ) → Option Line
 head_line (name ∷ []) =
     if same name (codes "direct") then Some (Direct None)
+    else if same name (codes "fds") then Some Fds
     else if same name (codes "infault") then Some InFault
     else None
 head_line (name ∷ word ∷ []) =
@@ -156,6 +183,10 @@ line_count [] = 0
 line_count (b ∷ []) = 1
 line_count (b ∷ c ∷ rest) = if b == 10 then line_count (c ∷ rest) + 1 else line_count (c ∷ rest)
 
+abbrev pub fds_lines : Bool → List Line
+fds_lines true = Fds ∷ []
+fds_lines false = []
+
 abbrev pub outfault_lines : Option ℕ → List Line
 outfault_lines (Some count) = OutFault count ∷ []
 outfault_lines None = []
@@ -170,10 +201,10 @@ sent_lines false = []
 
 -- the lines of a script, in their order
 abbrev pub script_lines : Script → Bool → List Line
-script_lines s sent = Direct s.name ∷ outfault_lines s.outfault ++ map given_line s.given ++ map Do s.commands ++ sent_lines sent
+script_lines s sent = Direct s.name ∷ fds_lines s.fds ++ outfault_lines s.outfault ++ map given_line s.given ++ map Do s.commands ++ sent_lines sent
 
--- The bytes are the text of this script: each line is ended, and the lines are `direct`, perhaps `outfault`, the source's
--- lines, the commands, and perhaps one `sent`.
+-- The bytes are the text of this script: each line is ended, and the lines are `direct`, perhaps `fds`, perhaps `outfault`,
+-- the source's lines, the commands, and perhaps one `sent`.
 pub record ScriptText (bytes : List ℕ) (s : Script) : Type 0 where
   pub lines : List (List ℕ)
   pub sent : Bool

@@ -1,18 +1,20 @@
 -- The transcript: the header lines as read, one line for each entry in order, and one `sent` line with all bytes that were
 -- sent. Each line ends with 0x0a.
-use Rattle.std.specs.Prelude.{ℕ, not, ◌&&◌, ◌==◌, nat_le, if◌then◌else◌, List, [], ◌∷◌, ◌++◌, length, codes, decimal, Option, Some, None}
+use Rattle.std.specs.Prelude.{ℕ, Bool, true, false, not, ◌&&◌, ◌==◌, nat_le, if◌then◌else◌, List, [], ◌∷◌, ◌++◌, length, codes, decimal, Option, Some, None}
 use Rattle.std.specs.List.{flat_map}
 use Rattle.wire_message.specs.Texts.{message_line}
 use Rattle.wire_message.specs.declared.error.Error.{Error}
 use Rattle.wire_message.specs.declared.error.Error.TheVariants as errors
 use Rattle.wire_message.specs.declared.error.IoKind.{IoKind}
 use Rattle.wire_message.specs.declared.error.IoKind.TheVariants as kinds
+use Rattle.peer_route.specs.declared.words.Outgoing.{Outgoing}
 use Rattle.peer_route.specs.declared.words.Words.{Words}
 use Rattle.peer_route.specs.declared.words.Words.TheVariants as words
 use Rattle.peer_route.specs.declared.answer.Answer.{Answer}
 use Rattle.peer_route.specs.declared.answer.Answer.TheVariants as answers
 use Rattle.peer_route.specs.declared.answer.Entry.{Entry}
-use Rattle.peer_script.specs.Word.{hex_two, hex_word, text_word, optional_word, flags_word}
+use Rattle.peer_script.specs.Word.{text_word, optional_word, flags_word}
+use Rattle.peer_route.specs.Hex.{hex_two, hex_word}
 use Rattle.peer_script.specs.Script.{Given, Gave, Broke}
 
 abbrev pub or_empty : Option (List ℕ) → List ℕ
@@ -47,10 +49,17 @@ error_word errors.SerialsSpent = codes "SerialsSpent"
 error_word errors.UnknownHandle = codes "UnknownHandle"
 error_word errors.Memory = codes "Memory"
 
+-- the words of a call or of a signal, behind its name
+unfoldable pub outgoing_text : Outgoing → List ℕ
+outgoing_text o =
+    optional_word o.destination ++ 32 ∷ [] ++ text_word o.path ++ 32 ∷ [] ++ optional_word o.interface ++ 32 ∷ [] ++ text_word o.member ++ 32 ∷ []
+    ++ flags_word o.flags ++ 32 ∷ [] ++ optional_word o.body
+
 unfoldable pub words_text : Words → List ℕ
-words_text (words.Call destination path interface member flags) =
-    codes "call " ++ optional_word destination ++ 32 ∷ [] ++ text_word path ++ 32 ∷ [] ++ optional_word interface ++ 32 ∷ [] ++ text_word member
-    ++ 32 ∷ [] ++ flags_word flags ++ codes " -"
+words_text (words.Call outgoing) = codes "call " ++ outgoing_text outgoing
+words_text (words.Signal outgoing) = codes "signal " ++ outgoing_text outgoing
+words_text (words.Reply stream body) = codes "reply " ++ decimal stream ++ 32 ∷ [] ++ optional_word body
+words_text (words.Error stream name body) = codes "error " ++ decimal stream ++ 32 ∷ [] ++ text_word name ++ 32 ∷ [] ++ optional_word body
 words_text words.Read = codes "read"
 words_text (words.Poll number) = codes "poll " ++ decimal number
 words_text (words.Drop number) = codes "drop " ++ decimal number
@@ -87,6 +96,10 @@ unfoldable pub direct_text : Option (List ℕ) → List ℕ
 direct_text None = codes "direct" ++ 10 ∷ []
 direct_text (Some name) = codes "direct " ++ text_word name ++ 10 ∷ []
 
+unfoldable pub fds_text : Bool → List ℕ
+fds_text true = codes "fds" ++ 10 ∷ []
+fds_text false = []
+
 unfoldable pub outfault_text : Option ℕ → List ℕ
 outfault_text None = []
 outfault_text (Some count) = codes "outfault " ++ decimal count ++ 10 ∷ []
@@ -96,7 +109,7 @@ abbrev pub sent_word : List ℕ → List ℕ
 sent_word [] = 45 ∷ []
 sent_word (b ∷ bs) = hex_word (b ∷ bs)
 
-unfoldable pub transcript_text : Option (List ℕ) → Option ℕ → List Given → List Entry → List ℕ → List ℕ
-transcript_text name outfault given entries sent =
-    direct_text name ++ outfault_text outfault ++ flat_map given_text given ++ flat_map entry_text entries
+unfoldable pub transcript_text : Option (List ℕ) → Bool → Option ℕ → List Given → List Entry → List ℕ → List ℕ
+transcript_text name fds outfault given entries sent =
+    direct_text name ++ fds_text fds ++ outfault_text outfault ++ flat_map given_text given ++ flat_map entry_text entries
     ++ codes "sent " ++ sent_word sent ++ 10 ∷ []

@@ -1,9 +1,10 @@
--- The words of a line: numbers, bytes in hexadecimal, and texts with escapes.
+-- The words of a line: numbers, texts with escapes, and flags.
 use Rattle.std.specs.Prelude.{ℕ, ◌+◌, ◌-◌, ◌*◌, ◌^◌, ◌/◌, ◌%◌, Bool, true, false, not, ◌&&◌, ◌||◌, ◌==◌, nat_eq, nat_le, nat_lt, if◌then◌else◌, List, [], ◌∷◌, ◌++◌, length, codes, Option, Some, None, fold}
 use Rattle.std.specs.List.{list_all, slice_split, flat_map}
 use Rattle.std.specs.Char.{is_ascii_digit}
 use Rattle.std.specs.Cmp.Lexicographic.{pointwise}
 use Rattle.peer_route.specs.declared.words.CallFlags.{CallFlags}
+use Rattle.peer_route.specs.Hex.{hex_value, hex_byte, onto, hex_two}
 
 -- two texts are the same
 abbrev pub same : List ℕ → List ℕ → Bool
@@ -27,34 +28,6 @@ unfoldable pub number_of : List ℕ → Option ℕ
 number_of word =
     if nat_le 1 (length word) && list_all is_ascii_digit word && not (begins_with_zero word) && nat_lt (digits_value word) (2 ^ 64)
     then Some (digits_value word) else None
-
--- ---- bytes
-
--- the value of a hexadecimal digit in lower case
-abbrev pub hex_value : ℕ → Option ℕ
-hex_value b =
-    if nat_le 48 b && nat_le b 57 then Some (b - 48)
-    else if nat_le 97 b && nat_le b 102 then Some (b - 87)
-    else None
-
-abbrev pub hex_byte : Option ℕ → Option ℕ → Option ℕ
-hex_byte (Some high) (Some low) = Some (16 * high + low)
-hex_byte high low = None
-
-abbrev pub onto : Option ℕ → Option (List ℕ) → Option (List ℕ)
-onto (Some b) (Some bs) = Some (b ∷ bs)
-onto b bs = None
-
--- an even count of digits, two for each byte
-abbrev pub hex_pairs : List ℕ → Option (List ℕ)
-hex_pairs [] = Some []
-hex_pairs (a ∷ []) = None
-hex_pairs (a ∷ b ∷ rest) = onto (hex_byte (hex_value a) (hex_value b)) (hex_pairs rest)
-
--- bytes as a word: at least two digits
-abbrev pub bytes_of : List ℕ → Option (List ℕ)
-bytes_of [] = None
-bytes_of (b ∷ rest) = hex_pairs (b ∷ rest)
 
 -- ---- texts
 
@@ -88,16 +61,6 @@ text_of word =
 
 -- ---- and back
 
--- the digit of a value below 16
-abbrev pub hex_digit : ℕ → ℕ
-hex_digit n = if nat_lt n 10 then 48 + n else 87 + n
-
-abbrev pub hex_two : ℕ → List ℕ
-hex_two b = hex_digit (b / 16) ∷ hex_digit (b % 16) ∷ []
-
-abbrev pub hex_word : List ℕ → List ℕ
-hex_word bytes = flat_map hex_two bytes
-
 abbrev pub text_byte : ℕ → List ℕ
 text_byte b = if is_plain b then b ∷ [] else 92 ∷ hex_two b
 
@@ -113,9 +76,9 @@ optional_word (Some text) = text_word text
 abbrev pub flag_letter : ℕ → Bool → List ℕ
 flag_letter letter flag = if flag then letter ∷ [] else []
 
--- the letters of flags: `n`, `a`, `i`, `b`, in this order
+-- the letters of flags: `n`, `a`, `i`, `b`, `d`, in this order
 abbrev pub flag_letters : CallFlags → List ℕ
-flag_letters f = flag_letter 110 f.no_reply_expected ++ flag_letter 97 f.no_auto_start ++ flag_letter 105 f.allow_interactive_auth ++ flag_letter 98 f.big
+flag_letters f = flag_letter 110 f.no_reply_expected ++ flag_letter 97 f.no_auto_start ++ flag_letter 105 f.allow_interactive_auth ++ flag_letter 98 f.big ++ flag_letter 100 f.descriptor
 
 abbrev pub or_dash : List ℕ → List ℕ
 or_dash [] = 45 ∷ []

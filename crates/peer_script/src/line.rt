@@ -1,11 +1,13 @@
 //! What a line is.
 ghost use Rattle.std.specs.Prelude.{◌≡◌, [], ◌∷◌, ◌++◌, length, take, map, IfOk, Some, None};
-ghost use Rattle.peer_script.specs.Script.{before_answer, lane_words, command_words, command_line, head_line, line_of, call_of, optional_of, has_letter, named_flags, flags_of, numbered, in_lane, direct_line, in_line, outfault_line, sent_line, is_absent};
-ghost use Rattle.peer_script.specs.Word.{number_of, text_of, bytes_of};
+ghost use Rattle.peer_script.specs.Script.{before_answer, lane_words, command_words, command_line, head_line, line_of, outgoing_of, sending, reply_of, error_of, present, optional_of, has_letter, named_flags, flags_of, numbered, in_lane, direct_line, in_line, outfault_line, sent_line, is_absent};
+ghost use Rattle.peer_script.specs.Word.{number_of, text_of};
+ghost use Rattle.peer_route.specs.Hex.{bytes_of};
+ghost use Rattle.peer_route.specs.declared.words.Words.TheVariants as words;
 
 use crate::text::put_flags;
-use crate::word::{bytes_of, number_of, same, text_of, words_of};
-use peer_route::{CallFlags, Command, Words};
+use crate::word::{number_of, same, text_of, words_of};
+use peer_route::{CallFlags, Command, Outgoing, Words, read_hex};
 use std::alloc::{AllocError, Global};
 use wire_names::{Bytes, OwnedUniqueName, UniqueName};
 
@@ -19,6 +21,8 @@ const ABSENT: &[u8] = b"-";
 pub(crate) enum Line {
     /// The peer has no bus, and perhaps a unique name.
     Direct(Option<OwnedUniqueName>),
+    /// The sink takes file descriptors.
+    Fds,
     /// After how many bytes the sink fails a write.
     OutFault(u64),
     /// A piece of the source.
@@ -78,6 +82,7 @@ fn named_flags(word: &[u8]) -> CallFlags
         no_auto_start: has_letter(b'a', word),
         allow_interactive_auth: has_letter(b'i', word),
         big: has_letter(b'b', word),
+        descriptor: has_letter(b'd', word),
     }
 }
 
@@ -95,15 +100,27 @@ fn flags_of(alloc: Global, word: &[u8]) -> Result<Option<CallFlags>, AllocError>
     }
 }
 
-fn call_of(
+/// A text that must be there, so that no word stands for its absence.
+fn present_of(alloc: Global, word: &[u8]) -> Result<Option<Option<Bytes>>, AllocError>
+    ensures { IfOk result (λ text. text ≡ present (text_of word.now)) }
+{
+    match text_of(alloc, word)? {
+        Some(text) => Ok(Some(Some(text))),
+        None => Ok(None),
+    }
+}
+
+/// The words of a call or of a signal, where its interface is read before.
+fn outgoing_of(
     alloc: Global,
     destination: &[u8],
     path: &[u8],
-    interface: &[u8],
+    interface: Option<Option<Bytes>>,
     member: &[u8],
     flags: &[u8],
-) -> Result<Option<Words>, AllocError>
-    ensures { IfOk result (λ words. words ≡ call_of (optional_of destination.now) (text_of path.now) (optional_of interface.now) (text_of member.now) (flags_of flags.now)) }
+    body: &[u8],
+) -> Result<Option<Outgoing>, AllocError>
+    ensures { IfOk result (λ words. words ≡ outgoing_of (optional_of destination.now) (text_of path.now) interface (text_of member.now) (flags_of flags.now) (optional_of body.now)) }
 {
     let Some(destination) = optional_of(alloc, destination)? else {
         return Ok(None);
@@ -111,20 +128,74 @@ fn call_of(
     let Some(path) = text_of(alloc, path)? else {
         return Ok(None);
     };
-    let Some(interface) = optional_of(alloc, interface)? else {
+    let Some(interface) = interface else {
         return Ok(None);
     };
     let Some(member) = text_of(alloc, member)? else {
         return Ok(None);
     };
-    match flags_of(alloc, flags)? {
-        Some(flags) => Ok(Some(Words::Call {
+    let Some(flags) = flags_of(alloc, flags)? else {
+        return Ok(None);
+    };
+    match optional_of(alloc, body)? {
+        Some(body) => Ok(Some(Outgoing {
             destination,
             path,
             interface,
             member,
             flags,
+            body,
         })),
+        None => Ok(None),
+    }
+}
+
+fn call_of(outgoing: Option<Outgoing>) -> Option<Words>
+    ensures { result ≡ sending words.Call outgoing }
+{
+    match outgoing {
+        Some(outgoing) => Some(Words::Call(outgoing)),
+        None => None,
+    }
+}
+
+fn signal_of(outgoing: Option<Outgoing>) -> Option<Words>
+    ensures { result ≡ sending words.Signal outgoing }
+{
+    match outgoing {
+        Some(outgoing) => Some(Words::Signal(outgoing)),
+        None => None,
+    }
+}
+
+fn reply_of(alloc: Global, stream: &[u8], body: &[u8]) -> Result<Option<Words>, AllocError>
+    ensures { IfOk result (λ words. words ≡ reply_of (number_of stream.now) (optional_of body.now)) }
+{
+    let Some(stream) = number_of(stream) else {
+        return Ok(None);
+    };
+    match optional_of(alloc, body)? {
+        Some(body) => Ok(Some(Words::Reply { stream, body })),
+        None => Ok(None),
+    }
+}
+
+fn error_of(
+    alloc: Global,
+    stream: &[u8],
+    name: &[u8],
+    body: &[u8],
+) -> Result<Option<Words>, AllocError>
+    ensures { IfOk result (λ words. words ≡ error_of (number_of stream.now) (text_of name.now) (optional_of body.now)) }
+{
+    let Some(stream) = number_of(stream) else {
+        return Ok(None);
+    };
+    let Some(name) = text_of(alloc, name)? else {
+        return Ok(None);
+    };
+    match optional_of(alloc, body)? {
+        Some(body) => Ok(Some(Words::Error { stream, name, body })),
         None => Ok(None),
     }
 }
@@ -166,9 +237,27 @@ fn command_words(alloc: Global, words: &[&[u8]]) -> Result<Option<Words>, AllocE
     match words {
         [name] => Ok(lone_command(name)),
         [name, number] => Ok(numbered_command(name, number)),
+        [name, stream, body] => {
+            if same(name, b"reply") {
+                reply_of(alloc, stream, body)
+            } else {
+                Ok(None)
+            }
+        }
+        [name, stream, error, body] => {
+            if same(name, b"error") {
+                error_of(alloc, stream, error, body)
+            } else {
+                Ok(None)
+            }
+        }
         [name, destination, path, interface, member, flags, body] => {
-            if same(name, b"call") && is_absent(body) {
-                call_of(alloc, destination, path, interface, member, flags)
+            if same(name, b"call") {
+                let interface = optional_of(alloc, interface)?;
+                Ok(call_of(outgoing_of(alloc, destination, path, interface, member, flags, body)?))
+            } else if same(name, b"signal") {
+                let interface = present_of(alloc, interface)?;
+                Ok(signal_of(outgoing_of(alloc, destination, path, interface, member, flags, body)?))
             } else {
                 Ok(None)
             }
@@ -227,7 +316,7 @@ fn direct_line(alloc: Global, word: &[u8]) -> Result<Option<Line>, AllocError>
 fn in_line(alloc: Global, word: &[u8]) -> Result<Option<Line>, AllocError>
     ensures { IfOk result (λ line. line ≡ in_line (bytes_of word.now)) }
 {
-    match bytes_of(alloc, word)? {
+    match read_hex(alloc, word)? {
         Some(piece) => Ok(Some(Line::In(Bytes::from_vec(piece)))),
         None => Ok(None),
     }
@@ -243,7 +332,7 @@ fn outfault_line(word: &[u8]) -> Option<Line>
 fn sent_line(alloc: Global, word: &[u8]) -> Result<Option<Line>, AllocError>
     ensures { IfOk result (λ line. line ≡ sent_line word.now) }
 {
-    if is_absent(word) || bytes_of(alloc, word)?.is_some() {
+    if is_absent(word) || read_hex(alloc, word)?.is_some() {
         Ok(Some(Line::Sent))
     } else {
         Ok(None)
@@ -257,6 +346,8 @@ fn lone_head(name: &[u8]) -> Option<Line>
 {
     if same(name, b"direct") {
         Some(Line::Direct(None))
+    } else if same(name, b"fds") {
+        Some(Line::Fds)
     } else if same(name, b"infault") {
         Some(Line::InFault)
     } else {

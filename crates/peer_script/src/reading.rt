@@ -16,8 +16,10 @@ use wire_names::{Bytes, OwnedUniqueName};
 pub(crate) enum Stage {
     /// `direct` is wanted.
     Start,
-    /// `outfault`, the source's lines, commands or `sent` may come.
+    /// `fds`, `outfault`, the source's lines, commands or `sent` may come.
     Head,
+    /// `outfault`, the source's lines, commands or `sent` may come.
+    Sink,
     /// The source's lines, commands or `sent` may come.
     Pieces,
     /// Commands or `sent` may come.
@@ -31,6 +33,7 @@ pub(crate) enum Stage {
 struct Progress {
     stage: Stage,
     name: Option<OwnedUniqueName>,
+    fds: bool,
     outfault: Option<u64>,
     pieces: Vec<Piece>,
     commands: Vec<Command>,
@@ -46,7 +49,21 @@ fn take_direct(progress: &mut Progress, name: Option<OwnedUniqueName>) -> Result
             progress.stage = Stage::Head;
             Ok(true)
         }
-        Stage::Head | Stage::Pieces | Stage::Commands | Stage::Over => Ok(false),
+        Stage::Head | Stage::Sink | Stage::Pieces | Stage::Commands | Stage::Over => Ok(false),
+    }
+}
+
+#[tactic(auto, using(crate::proofs::Pieces::pushed), unfolding(crate::specs::Reading::take_line))]
+fn take_fds(progress: &mut Progress) -> Result<bool, AllocError>
+    ensures { TakesLine result progress.old progress.new lines.Fds }
+{
+    match progress.stage {
+        Stage::Head => {
+            progress.fds = true;
+            progress.stage = Stage::Sink;
+            Ok(true)
+        }
+        Stage::Start | Stage::Sink | Stage::Pieces | Stage::Commands | Stage::Over => Ok(false),
     }
 }
 
@@ -55,7 +72,7 @@ fn take_outfault(progress: &mut Progress, count: u64) -> Result<bool, AllocError
     ensures { TakesLine result progress.old progress.new (lines.OutFault count) }
 {
     match progress.stage {
-        Stage::Head => {
+        Stage::Head | Stage::Sink => {
             progress.outfault = Some(count);
             progress.stage = Stage::Pieces;
             Ok(true)
@@ -69,7 +86,7 @@ fn take_piece(progress: &mut Progress, piece: Bytes) -> Result<bool, AllocError>
     ensures { TakesLine result progress.old progress.new (lines.In piece) }
 {
     match progress.stage {
-        Stage::Head | Stage::Pieces => {
+        Stage::Head | Stage::Sink | Stage::Pieces => {
             progress.pieces.push(Piece::Bytes(piece.into_vec()))?;
             progress.stage = Stage::Pieces;
             Ok(true)
@@ -83,7 +100,7 @@ fn take_infault(progress: &mut Progress) -> Result<bool, AllocError>
     ensures { TakesLine result progress.old progress.new lines.InFault }
 {
     match progress.stage {
-        Stage::Head | Stage::Pieces => {
+        Stage::Head | Stage::Sink | Stage::Pieces => {
             progress.pieces.push(Piece::Fault)?;
             progress.stage = Stage::Pieces;
             Ok(true)
@@ -97,7 +114,7 @@ fn take_command(progress: &mut Progress, command: Command) -> Result<bool, Alloc
     ensures { TakesLine result progress.old progress.new (lines.Do command) }
 {
     match progress.stage {
-        Stage::Head | Stage::Pieces | Stage::Commands => {
+        Stage::Head | Stage::Sink | Stage::Pieces | Stage::Commands => {
             progress.commands.push(command)?;
             progress.stage = Stage::Commands;
             Ok(true)
@@ -111,7 +128,7 @@ fn take_sent(progress: &mut Progress) -> Result<bool, AllocError>
     ensures { TakesLine result progress.old progress.new lines.Sent }
 {
     match progress.stage {
-        Stage::Head | Stage::Pieces | Stage::Commands => {
+        Stage::Head | Stage::Sink | Stage::Pieces | Stage::Commands => {
             progress.stage = Stage::Over;
             Ok(true)
         }
@@ -125,6 +142,7 @@ fn take_line(progress: &mut Progress, line: Line) -> Result<bool, AllocError>
 {
     match line {
         Line::Direct(name) => take_direct(progress, name),
+        Line::Fds => take_fds(progress),
         Line::OutFault(count) => take_outfault(progress, count),
         Line::In(piece) => take_piece(progress, piece),
         Line::InFault => take_infault(progress),
@@ -152,18 +170,19 @@ fn may_end(stage: Stage) -> bool
 {
     match stage {
         Stage::Start => false,
-        Stage::Head | Stage::Pieces | Stage::Commands | Stage::Over => true,
+        Stage::Head | Stage::Sink | Stage::Pieces | Stage::Commands | Stage::Over => true,
     }
 }
 
 /// The script of a text.
 pub(crate) fn read_text(alloc: Global, text: &[u8]) -> Result<(Setup, Vec<Command>), ScriptError>
     requires { length text.now < 2 ^ 63 }
-    ensures { TellsText (λ x. script_from x.0.name x.0.outfault x.0.pieces.items x.1.items) text.now result }
+    ensures { TellsText (λ x. script_from x.0.name x.0.fds x.0.outfault x.0.pieces.items x.1.items) text.now result }
 {
     let mut progress = Progress {
         stage: Stage::Start,
         name: None,
+        fds: false,
         outfault: None,
         pieces: Vec::new(alloc),
         commands: Vec::new(alloc),
@@ -185,6 +204,7 @@ pub(crate) fn read_text(alloc: Global, text: &[u8]) -> Result<(Setup, Vec<Comman
     }
     let Progress {
         name,
+        fds,
         outfault,
         pieces,
         commands,
@@ -192,6 +212,7 @@ pub(crate) fn read_text(alloc: Global, text: &[u8]) -> Result<(Setup, Vec<Comman
     } = progress;
     let setup = Setup {
         name,
+        fds,
         outfault,
         pieces,
     };

@@ -1,5 +1,5 @@
 use crate::{ScriptError, Setup, Transcript, Word, read_script, write_all, write_transcript};
-use peer_route::{Answer, CallFlags, Command, Entry, Words};
+use peer_route::{Answer, CallFlags, Command, Entry, Outgoing, Words};
 use std::alloc::Global;
 use std::test::Fail;
 use wire_framing::{MemorySink, MemorySource, Piece, Refusal};
@@ -22,6 +22,7 @@ const NO_FLAGS: CallFlags = CallFlags {
     no_auto_start: false,
     allow_interactive_auth: false,
     big: false,
+    descriptor: false,
 };
 
 /// One call and its answer.
@@ -49,7 +50,7 @@ fn read_of(
 #[test]
 fn reads_scripts(rt: HostRuntime) -> Result<(), Fail> {
     let alloc = rt.alloc();
-    let table: [(&[u8], usize, usize); 14] = [
+    let table: [(&[u8], usize, usize); 16] = [
         (b"direct\n", 0, 0),
         (b"direct\nsent -\n", 0, 0),
         (b"direct\nsent 00\n", 0, 0),
@@ -75,6 +76,12 @@ fn reads_scripts(rt: HostRuntime) -> Result<(), Fail> {
             3,
         ),
         (b"direct\noutfault 18446744073709551615\n", 0, 0),
+        (b"direct\nfds\noutfault 1\nin 00\n", 1, 0),
+        (
+            b"direct\nfds\nsignal - / - C bd s\nreply 0 s:00\nerror 0 - -\ncall - / - do d : = x\n",
+            0,
+            4,
+        ),
         (TRANSCRIPT, 1, 3),
     ];
     for (text, pieces, commands) in table {
@@ -92,7 +99,7 @@ fn reads_scripts(rt: HostRuntime) -> Result<(), Fail> {
 #[test]
 fn names_the_first_line_outside(rt: HostRuntime) -> Result<(), Fail> {
     let alloc = rt.alloc();
-    let table: [(&[u8], u64); 42] = [
+    let table: [(&[u8], u64); 47] = [
         (b"", 1),
         (b"direct", 1),
         (b"\n", 1),
@@ -131,7 +138,12 @@ fn names_the_first_line_outside(rt: HostRuntime) -> Result<(), Fail> {
         (b"direct\ncall - / - do bn -\n", 2),
         (b"direct\ncall - / - do nn -\n", 2),
         (b"direct\ncall - / - do n- -\n", 2),
-        (b"direct\ncall - / - do n s:00\n", 2),
+        (b"direct\ncall - / - do db -\n", 2),
+        (b"direct\nfds\nfds\n", 3),
+        (b"direct\noutfault 1\nfds\n", 3),
+        (b"direct\nfds 1\n", 2),
+        (b"direct\nreply - -\n", 2),
+        (b"direct\nerror 0 a.b\n", 2),
         (b"direct\ncall - \\41 - do - -\n", 2),
         (b"direct\ncall - a\\3db - do - -\n", 2),
         (b"direct\ncall - \\5C - do - -\n", 2),
@@ -175,7 +187,7 @@ fn refuses_a_line_past_a_million(rt: HostRuntime) -> Result<(), Fail> {
 fn whole_call(alloc: Global) -> Result<Entry, Fail> {
     Ok(Entry {
         lane: 1,
-        words: Words::Call {
+        words: Words::Call(Outgoing {
             destination: Some(Bytes::from_slice(alloc, b"a.b")?),
             path: Bytes::from_slice(alloc, b"-")?,
             interface: Some(Bytes::from_slice(alloc, b"=")?),
@@ -185,8 +197,10 @@ fn whole_call(alloc: Global) -> Result<Entry, Fail> {
                 no_auto_start: true,
                 allow_interactive_auth: true,
                 big: true,
+                descriptor: true,
             },
-        },
+            body: Some(Bytes::from_slice(alloc, b"y: ")?),
+        }),
         answer: Answer::Sent(7),
     })
 }
@@ -204,6 +218,15 @@ fn writes_each_answer(rt: HostRuntime) -> Result<(), Fail> {
         (Words::Take(0), Answer::Item(1)),
         (Words::Take(0), Answer::Empty),
         (Words::Take(0), Answer::Ended),
+        (Words::Reply { stream: 2, body: None }, Answer::Sent(1)),
+        (
+            Words::Error {
+                stream: 0,
+                name: Bytes::from_slice(alloc, b"a.b")?,
+                body: Some(Bytes::from_slice(alloc, b"y:01")?),
+            },
+            Answer::Sent(2),
+        ),
     ] {
         entries.push(Entry {
             lane: 0,
@@ -213,6 +236,7 @@ fn writes_each_answer(rt: HostRuntime) -> Result<(), Fail> {
     }
     let setup = Setup {
         name: Some(OwnedUniqueName::try_from(alloc, ":1.7")?),
+        fds: true,
         outfault: Some(9),
         pieces: vec![in alloc; Piece::Fault]?,
     };
@@ -221,7 +245,7 @@ fn writes_each_answer(rt: HostRuntime) -> Result<(), Fail> {
     assert!(rt; write_transcript(alloc, &setup, &transcript, b"", &mut sink).is_ok());
     assert_eq!(rt;
         sink.bytes(),
-        b"direct :1.7\noutfault 9\ninfault\n1 call a.b - \\3d d\\20o naib - = sent 7\n0 drop 1 = dropped\n0 stream = stream 0\n0 read = busy\n0 take 0 = item 1\n0 take 0 = empty\n0 take 0 = ended\nsent -\n".as_slice()
+        b"direct :1.7\nfds\noutfault 9\ninfault\n1 call a.b - \\3d d\\20o naibd y:\\20 = sent 7\n0 drop 1 = dropped\n0 stream = stream 0\n0 read = busy\n0 take 0 = item 1\n0 take 0 = empty\n0 take 0 = ended\n0 reply 2 - = sent 1\n0 error 0 a.b y:01 = sent 2\nsent -\n".as_slice()
     );
     Ok(())
 }
@@ -233,13 +257,14 @@ fn entries_of(alloc: Global) -> Result<Vec<Entry>, Fail> {
     let mut entries = Vec::new(alloc);
     entries.push(Entry {
         lane: 0,
-        words: Words::Call {
+        words: Words::Call(Outgoing {
             destination: None,
             path,
             interface: None,
             member,
             flags: NO_FLAGS,
-        },
+            body: None,
+        }),
         answer: Answer::Called { call: 0, serial: 1 },
     })?;
     entries.push(Entry {
@@ -262,6 +287,7 @@ fn writes_a_transcript(rt: HostRuntime) -> Result<(), Fail> {
     pieces.push(Piece::Bytes(RETURN.to_vec(alloc)?))?;
     let setup = Setup {
         name: None,
+        fds: false,
         outfault: None,
         pieces,
     };

@@ -1,7 +1,8 @@
 //! The words of a line, written: numbers, bytes in hexadecimal, texts with escapes, and flags.
 ghost use Rattle.std.specs.Prelude.{◌≡◌, ◌++◌, ◌||◌, length, OnOk, ◌<◌, decimal};
 ghost use Rattle.std.specs.List.{flat_map};
-ghost use Rattle.peer_script.specs.Word.{hex_digit, hex_two, hex_word, text_byte, text_word, optional_word, flag_letter, flag_letters, flags_word};
+ghost use Rattle.peer_script.specs.Word.{text_byte, text_word, optional_word, flag_letter, flag_letters, flags_word};
+ghost use Rattle.peer_route.specs.Hex.{hex_digit, hex_two, hex_word};
 
 use crate::word::{is_plain, same};
 use peer_route::CallFlags;
@@ -90,9 +91,13 @@ fn put_letter(text: &mut Vec<u8>, letter: u8, flag: bool) -> Result<(), AllocErr
 }
 
 fn is_any(flags: CallFlags) -> bool
-    ensures { result ≡ (flags.no_reply_expected || flags.no_auto_start || flags.allow_interactive_auth || flags.big) }
+    ensures { result ≡ (flags.no_reply_expected || flags.no_auto_start || flags.allow_interactive_auth || flags.big || flags.descriptor) }
 {
-    flags.no_reply_expected || flags.no_auto_start || flags.allow_interactive_auth || flags.big
+    flags.no_reply_expected
+        || flags.no_auto_start
+        || flags.allow_interactive_auth
+        || flags.big
+        || flags.descriptor
 }
 
 fn put_letters(text: &mut Vec<u8>, flags: CallFlags) -> Result<(), AllocError>
@@ -101,7 +106,8 @@ fn put_letters(text: &mut Vec<u8>, flags: CallFlags) -> Result<(), AllocError>
     put_letter(text, b'n', flags.no_reply_expected)?;
     put_letter(text, b'a', flags.no_auto_start)?;
     put_letter(text, b'i', flags.allow_interactive_auth)?;
-    put_letter(text, b'b', flags.big)
+    put_letter(text, b'b', flags.big)?;
+    put_letter(text, b'd', flags.descriptor)
 }
 
 pub(crate) fn put_flags(text: &mut Vec<u8>, flags: CallFlags) -> Result<(), AllocError>

@@ -3,7 +3,7 @@ ghost use Rattle.std.specs.Prelude.{ℕ, ◌≡◌, ◌++◌, [], ◌∷◌, len
 ghost use Rattle.std.specs.List.{flat_map};
 ghost use Rattle.wire_message.specs.Texts.{message_line};
 ghost use Rattle.peer_script.specs.Word.{text_word, optional_word, flags_word};
-ghost use Rattle.peer_script.specs.Transcript.{or_empty, shown_byte, shown_text, io_word, error_word, words_text, answer_text, entry_text, given_text, direct_text, outfault_text, sent_word, transcript_text};
+ghost use Rattle.peer_script.specs.Transcript.{or_empty, shown_byte, shown_text, io_word, error_word, outgoing_text, words_text, answer_text, entry_text, given_text, direct_text, fds_text, outfault_text, sent_word, transcript_text};
 ghost use Rattle.peer_route.specs.declared.words.Words.TheVariants as words;
 ghost use Rattle.peer_script.specs.Reading.{given_of, given};
 ghost use Rattle.peer_script.specs.Output.{WritesAll};
@@ -11,7 +11,7 @@ ghost use Rattle.peer_script.specs.Output.{WritesAll};
 use crate::output::write_all;
 use crate::script::Setup;
 use crate::text::{put, put_flags, put_hex, put_hex_byte, put_number, put_optional, put_text};
-use peer_route::{Answer, CallFlags, Entry, Words};
+use peer_route::{Answer, Entry, Outgoing, Words};
 use std::alloc::{AllocError, Global};
 use wire_framing::{Piece, Refusal, Sink};
 use wire_message::{Error, IoKind, Message};
@@ -57,28 +57,59 @@ fn put_error(text: &mut Vec<u8>, error: Error) -> Result<(), AllocError>
     }
 }
 
-#[tactic(auto, unfolding(crate::specs::Transcript::words_text))]
-fn put_call(
-    text: &mut Vec<u8>,
-    destination: &Option<Bytes>,
-    path: &Bytes,
-    interface: &Option<Bytes>,
-    member: &Bytes,
-    flags: CallFlags,
-) -> Result<(), AllocError>
-    ensures { OnOk result (text.new.items ≡ text.old.items ++ words_text (words.Call destination.now path.now interface.now member.now flags)) }
+#[tactic(auto, unfolding(crate::specs::Transcript::outgoing_text))]
+fn put_outgoing(text: &mut Vec<u8>, words: &Outgoing) -> Result<(), AllocError>
+    ensures { OnOk result (text.new.items ≡ text.old.items ++ outgoing_text words.now) }
 {
-    put(text, b"call ")?;
-    put_optional(text, destination)?;
+    put_optional(text, &words.destination)?;
     put(text, b" ")?;
-    put_text(text, path.as_slice())?;
+    put_text(text, words.path.as_slice())?;
     put(text, b" ")?;
-    put_optional(text, interface)?;
+    put_optional(text, &words.interface)?;
     put(text, b" ")?;
-    put_text(text, member.as_slice())?;
+    put_text(text, words.member.as_slice())?;
     put(text, b" ")?;
-    put_flags(text, flags)?;
-    put(text, b" -")
+    put_flags(text, words.flags)?;
+    put(text, b" ")?;
+    put_optional(text, &words.body)
+}
+
+fn put_named(text: &mut Vec<u8>, name: &[u8], words: &Outgoing) -> Result<(), AllocError>
+    ensures { OnOk result (text.new.items ≡ text.old.items ++ name.now ++ outgoing_text words.now) }
+{
+    put(text, name)?;
+    put_outgoing(text, words)
+}
+
+#[tactic(auto, unfolding(crate::specs::Transcript::words_text))]
+fn put_reply(
+    alloc: Global,
+    text: &mut Vec<u8>,
+    stream: u64,
+    body: &Option<Bytes>,
+) -> Result<(), AllocError>
+    ensures { OnOk result (text.new.items ≡ text.old.items ++ words_text (words.Reply stream body.now)) }
+{
+    put_with_number(alloc, text, b"reply ", stream)?;
+    put(text, b" ")?;
+    put_optional(text, body)
+}
+
+#[tactic(auto, unfolding(crate::specs::Transcript::words_text))]
+fn put_error_reply(
+    alloc: Global,
+    text: &mut Vec<u8>,
+    stream: u64,
+    name: &Bytes,
+    body: &Option<Bytes>,
+) -> Result<(), AllocError>
+    ensures { OnOk result (text.new.items ≡ text.old.items ++ words_text (words.Error stream name.now body.now)) }
+{
+    put_with_number(alloc, text, b"error ", stream)?;
+    put(text, b" ")?;
+    put_text(text, name.as_slice())?;
+    put(text, b" ")?;
+    put_optional(text, body)
 }
 
 #[tactic(auto, unfolding(crate::specs::Transcript::words_text))]
@@ -86,13 +117,10 @@ fn put_words(alloc: Global, text: &mut Vec<u8>, words: &Words) -> Result<(), All
     ensures { OnOk result (text.new.items ≡ text.old.items ++ words_text words.now) }
 {
     match words {
-        Words::Call {
-            destination,
-            path,
-            interface,
-            member,
-            flags,
-        } => put_call(text, destination, path, interface, member, *flags),
+        Words::Call(words) => put_named(text, b"call ", words),
+        Words::Signal(words) => put_named(text, b"signal ", words),
+        Words::Reply { stream, body } => put_reply(alloc, text, *stream, body),
+        Words::Error { stream, name, body } => put_error_reply(alloc, text, *stream, name, body),
         Words::Read => put(text, b"read"),
         Words::Poll(number) => put_with_number(alloc, text, b"poll ", *number),
         Words::Drop(number) => put_with_number(alloc, text, b"drop ", *number),
@@ -251,6 +279,13 @@ fn put_sent(text: &mut Vec<u8>, sent: &[u8]) -> Result<(), AllocError>
     }
 }
 
+#[tactic(auto, unfolding(crate::specs::Transcript::fds_text))]
+fn put_fds(text: &mut Vec<u8>, fds: bool) -> Result<(), AllocError>
+    ensures { OnOk result (text.new.items ≡ text.old.items ++ fds_text fds) }
+{
+    if fds { put(text, b"fds\n") } else { Ok(()) }
+}
+
 #[tactic(auto, unfolding(crate::specs::Transcript::outfault_text))]
 fn put_outfault(alloc: Global, text: &mut Vec<u8>, count: Option<u64>) -> Result<(), AllocError>
     ensures { OnOk result (text.new.items ≡ text.old.items ++ outfault_text count) }
@@ -286,9 +321,10 @@ fn put_transcript(
     entries: &[Entry],
     sent: &[u8],
 ) -> Result<(), AllocError>
-    ensures { OnOk result (text.new.items ≡ text.old.items ++ transcript_text setup.now.name setup.now.outfault (given setup.now.pieces.items) entries.now sent.now) }
+    ensures { OnOk result (text.new.items ≡ text.old.items ++ transcript_text setup.now.name setup.now.fds setup.now.outfault (given setup.now.pieces.items) entries.now sent.now) }
 {
     put_direct(text, &setup.name)?;
+    put_fds(text, setup.fds)?;
     put_outfault(alloc, text, setup.outfault)?;
     put_pieces(text, setup.pieces.as_slice())?;
     put_entries(alloc, text, entries)?;
@@ -307,7 +343,7 @@ pub fn write_transcript<O: Sink>(
     sent: &[u8],
     output: &mut O,
 ) -> Result<(), Refusal>
-    ensures text { WritesAll result (transcript_text setup.now.name setup.now.outfault (given setup.now.pieces.items) transcript.now.entries.items sent.now) (O.held output.old) (O.held output.new) (O.room output.old) (O.room output.new) (O.faults output.old) (O.faults output.new) }
+    ensures text { WritesAll result (transcript_text setup.now.name setup.now.fds setup.now.outfault (given setup.now.pieces.items) transcript.now.entries.items sent.now) (O.held output.old) (O.held output.new) (O.room output.old) (O.room output.new) (O.faults output.old) (O.faults output.new) }
     ensures fds { O.takes output.new ≡ O.takes output.old }
 {
     let mut text = Vec::new(alloc);

@@ -1,11 +1,12 @@
-//! The words of a line: numbers, bytes in hexadecimal, and texts with escapes.
+//! The words of a line: numbers, and texts with escapes.
 ghost use Rattle.std.specs.Prelude.{◌≡◌, ◌<◌, ◌^◌, nat_lt, nat_le, ◌&&◌, map, length, IfSome, IfOk, Some, None, if◌then◌else◌, not, ◌==◌};
 ghost use Rattle.std.specs.Option.{option_map};
 ghost use Rattle.std.specs.List.{list_all};
 ghost use Rattle.std.specs.Char.{is_ascii_digit};
-ghost use Rattle.peer_script.specs.Word.{same, words_of, digits_value, begins_with_zero, number_of, hex_value, hex_byte, hex_pairs, bytes_of, is_plain, escaped, unescaped, text_of};
-ghost use Rattle.peer_script.specs.Steps.{TakesOne};
+ghost use Rattle.peer_script.specs.Word.{same, words_of, digits_value, begins_with_zero, number_of, is_plain, escaped, unescaped, text_of};
+ghost use Rattle.peer_route.specs.Hex.{TakesOne, hex_value, hex_byte, hex_pairs, bytes_of};
 
+use peer_route::hex_byte;
 use std::alloc::{AllocError, Global};
 use wire_names::Bytes;
 
@@ -71,59 +72,6 @@ pub(crate) fn number_of(word: &[u8]) -> Option<u64>
     } else {
         None
     }
-}
-
-fn hex_value(digit: u8) -> Option<u8>
-    ensures value { result ≡ hex_value digit }
-    ensures small { IfSome result (λ value. value < 16) }
-{
-    if digit >= b'0' && digit <= b'9' {
-        Some(digit - b'0')
-    } else if digit >= b'a' && digit <= b'f' {
-        Some(digit - b'a' + 10)
-    } else {
-        None
-    }
-}
-
-fn hex_byte(high: u8, low: u8) -> Option<u8>
-    ensures { result ≡ hex_byte (hex_value high) (hex_value low) }
-{
-    let high = hex_value(high)?;
-    let low = hex_value(low)?;
-    Some(16 * high + low)
-}
-
-fn take_hex(rest: &[u8]) -> Option<(u8, &[u8])>
-    requires { 0 < length rest.now }
-    ensures { TakesOne (λ x. x.0) (λ x. x.1.now) hex_pairs rest.now result }
-{
-    match rest {
-        [high, low, more @ ..] => {
-            let byte = hex_byte(*high, *low)?;
-            Some((byte, more))
-        }
-        _ => None,
-    }
-}
-
-/// The bytes that a word of hexadecimal digits is, two for each byte.
-pub(crate) fn bytes_of(alloc: Global, word: &[u8]) -> Result<Option<Vec<u8>>, AllocError>
-    ensures { IfOk result (λ bytes. option_map (λ v. v.items) bytes ≡ bytes_of word.now) }
-{
-    if word.is_empty() {
-        return Ok(None);
-    }
-    let mut bytes = Vec::new(alloc);
-    let mut rest = word;
-    while !rest.is_empty() {
-        let Some((byte, more)) = take_hex(rest) else {
-            return Ok(None);
-        };
-        bytes.push(byte)?;
-        rest = more;
-    }
-    Ok(Some(bytes))
 }
 
 pub(crate) fn is_plain(byte: u8) -> bool

@@ -1,0 +1,101 @@
+-- The words of a message that is to be sent, one after the other, and what stands in its letters.
+use Rattle.std.proofs.Common.{◌≡◌, ◌&&◌, ℕ, refl, ap, sym, ◌∙◌, not, Bool, true, false, if◌then◌else◌, List, [], Option, Some, None, unwrap_or, Result, Ok, Err}
+use Rattle.std.specs.Int.RustNames.{bit_and, bit_or}
+use Rattle.wire_names.specs.Names.{is_bus_name, is_object_path, is_interface_name, is_member_name}
+use Rattle.wire_names.specs.declared.error.NamesError.TheVariants as names
+use Rattle.wire_signature.specs.declared.error.VariantError.TheVariants as faults
+use Rattle.wire_tree.specs.Datum.{Datum}
+use Rattle.wire_number.specs.declared.endian.Endian.{Endian}
+use Rattle.wire_message.specs.Draft.{Draft, are_misplaced, flagged}
+use Rattle.wire_message.specs.declared.error.Error.{Error}
+use Rattle.wire_message.specs.declared.error.Error.TheVariants as errors
+use Rattle.peer_route.specs.declared.words.CallFlags.{CallFlags}
+use Rattle.peer_route.specs.Parcel.{Parcel, Asked}
+use Rattle.peer_route.specs.BodyWord.{ReadsBody}
+use Rattle.peer_route.specs.CallMessage.{flags_number, order_of, is_outside, words_refusal, asked_of}
+use Rattle.peer_run.specs.CallWords.{MakesParcel, lettered, letters_asked}
+use Rattle.peer_run.proofs.Flags.{kept_flags}
+
+-- ---- words
+
+pub bad_destination : (d : Draft) (error : Error) → error ≡ errors.Names names.Bus → is_outside is_bus_name d.fields.destination ≡ true → words_refusal d ≡ Some error
+unfolding words_refusal
+bad_destination d error e a = rw (a, e) refl
+
+pub bad_path : (d : Draft) (error : Error) → is_outside is_bus_name d.fields.destination ≡ false → error ≡ errors.Names names.Path → is_outside is_object_path d.fields.path ≡ true
+    → words_refusal d ≡ Some error
+unfolding words_refusal
+bad_path d error a e p = rw (a, p, e) refl
+
+pub bad_interface : (d : Draft) (error : Error) → is_outside is_bus_name d.fields.destination ≡ false → is_outside is_object_path d.fields.path ≡ false
+    → error ≡ errors.Names names.Interface → is_outside is_interface_name d.fields.interface ≡ true → words_refusal d ≡ Some error
+unfolding words_refusal
+bad_interface d error a p e i = rw (a, p, i, e) refl
+
+pub bad_member : (d : Draft) (error : Error) → is_outside is_bus_name d.fields.destination ≡ false → is_outside is_object_path d.fields.path ≡ false
+    → is_outside is_interface_name d.fields.interface ≡ false → error ≡ errors.Names names.Member → is_outside is_member_name d.fields.member ≡ true → words_refusal d ≡ Some error
+unfolding words_refusal
+bad_member d error a p i e m = rw (a, p, i, m, e) refl
+
+pub good_words : (d : Draft) → is_outside is_bus_name d.fields.destination ≡ false → is_outside is_object_path d.fields.path ≡ false
+    → is_outside is_interface_name d.fields.interface ≡ false → is_outside is_member_name d.fields.member ≡ false → words_refusal d ≡ None
+unfolding words_refusal
+good_words d a p i m = rw (a, p, i, m) refl
+
+-- ---- refusals
+
+pub refused : (error : Error) (asked : Asked) → asked ≡ Err error → MakesParcel (Err error) asked
+refused (errors.InputOutput kind) asked e = e
+refused (errors.Variant kind) asked e = e
+refused (errors.Names kind) asked e = e
+refused errors.InvalidMatchRule asked e = e
+refused errors.IncorrectEndian asked e = e
+refused errors.ExcessData asked e = e
+refused errors.Unsupported asked e = e
+refused errors.InvalidField asked e = e
+refused errors.SerialsSpent asked e = e
+refused errors.UnknownHandle asked e = e
+refused errors.Memory asked e = tt
+
+-- the body's word is none, once the words are in their grammars
+pub body_refused : (error : Error) (refusal : Option Error) (found : Option (List Datum)) (misplaced unsupported : Bool) (d : Draft) (fds : List ℕ) → refusal ≡ None
+    → ReadsBody (Err error) found → MakesParcel (Err error) (asked_of refusal found misplaced unsupported d fds)
+body_refused (errors.Variant faults.Malformed) refusal found misplaced unsupported d fds e r =
+    ap (λ o. asked_of o found misplaced unsupported d fds) e ∙ ap (λ o. asked_of None o misplaced unsupported d fds) r
+body_refused (errors.Variant faults.Signature) refusal found misplaced unsupported d fds e r = absurd r
+body_refused (errors.Variant faults.Depth) refusal found misplaced unsupported d fds e r = absurd r
+body_refused (errors.Variant faults.SignatureMismatch) refusal found misplaced unsupported d fds e r = absurd r
+body_refused (errors.Variant faults.Memory) refusal found misplaced unsupported d fds e r = absurd r
+body_refused (errors.InputOutput kind) refusal found misplaced unsupported d fds e r = absurd r
+body_refused (errors.Names kind) refusal found misplaced unsupported d fds e r = absurd r
+body_refused errors.InvalidMatchRule refusal found misplaced unsupported d fds e r = absurd r
+body_refused errors.IncorrectEndian refusal found misplaced unsupported d fds e r = absurd r
+body_refused errors.ExcessData refusal found misplaced unsupported d fds e r = absurd r
+body_refused errors.Unsupported refusal found misplaced unsupported d fds e r = absurd r
+body_refused errors.InvalidField refusal found misplaced unsupported d fds e r = absurd r
+body_refused errors.SerialsSpent refusal found misplaced unsupported d fds e r = absurd r
+body_refused errors.UnknownHandle refusal found misplaced unsupported d fds e r = absurd r
+body_refused errors.Memory refusal found misplaced unsupported d fds e r = tt
+
+-- ---- letters
+
+misplaced_by : (b : Bool) (made : Draft) (error : Error) (values : List Datum) (unsupported : Bool) (d : Draft) (fds : List ℕ)
+    → Err error ≡ (if b then Err errors.InvalidField else Ok made) → asked_of None (Some values) b unsupported d fds ≡ Err error
+misplaced_by true made error values unsupported d fds e = cc
+misplaced_by false made error values unsupported d fds e = absurd (cc)
+
+pub misplaced : (d : Draft) (error : Error) (values : List Datum) (flags : CallFlags) (takes_fds : Bool) → Err error ≡ lettered d flags
+    → letters_asked d values flags takes_fds ≡ Err error
+misplaced d error values flags takes_fds e = misplaced_by _ _ error values _ _ _ e
+
+placed_by : (b : Bool) (made new : Draft) (values : List Datum) (unsupported : Bool) (fds : List ℕ) → Ok made ≡ (if b then Err errors.InvalidField else Ok new)
+    → (b ≡ false) × (made ≡ new)
+placed_by true made new values unsupported fds e = absurd (cc)
+placed_by false made new values unsupported fds e = (refl, cc)
+
+pub flagged_is : (b : Draft) (order : Endian) (flags : CallFlags) (n : ℕ) → b.flags ≡ 0 → order ≡ order_of flags.big → n ≡ flags_number flags
+    → flagged (record b { order = order }) n ≡ lettered b flags
+flagged_is b order flags n h o e =
+    ap (λ k. flagged (record b { order = order }) k) e ∙ ap (λ p. flagged (record b { order = p }) (flags_number flags)) o
+    ∙ ap (λ z. if are_misplaced b.kind (flags_number flags) then Err errors.InvalidField else Ok (record b { order = order_of flags.big; flags = z }))
+    (ap (λ z. bit_or z (bit_and (flags_number flags) 7)) h ∙ kept_flags flags)
