@@ -1,5 +1,5 @@
 -- The values of a body's word are those of which it is the word.
-use Rattle.std.proofs.Common.{ℕ, ◌≡◌, ◌+◌, ◌-◌, ◌<◌, ◌≤◌, ◌==◌, Bool, true, false, not, ◌&&◌, nat_lt, List, [], ◌∷◌, ◌++◌, length, take, drop, get_or, map, Option, Some, None, option_map, refl, sym, ap, ◌∙◌, subst, arith, append_assoc, append-nil, length-append}
+use Rattle.std.proofs.Common.{ℕ, ◌≡◌, ◌+◌, ◌<◌, ◌≤◌, ◌==◌, Bool, true, false, not, ◌&&◌, nat_lt, List, [], ◌∷◌, ◌++◌, length, take, drop, get_or, map, Option, Some, None, is_some, option_map, refl, sym, ap, ◌∙◌, subst, arith, append_assoc, append-nil, length-append}
 use Rattle.std.specs.List.{list_all, position, position_or_len, All}
 use Rattle.std.proofs.Math.Seq.{take-append_seam, drop-append-add}
 use Rattle.std.proofs.lemmas.Bool.Decides.{nat_tests}
@@ -17,13 +17,14 @@ use Rattle.wire_signature.proofs.Exact.{types_in-takes, types_in-again}
 use Rattle.wire_tree.specs.Datum.{Datum, type_of}
 use Rattle.wire_spelling.specs.Spelling.{spelling, Spells}
 use Rattle.wire_spelling.specs.Each.{SpellEach}
-use Rattle.wire_spelling.specs.Reading.{Cursor, Parse, made, ◌>>=◌, value_at, fields_at}
+use Rattle.wire_spelling.specs.Reading.{Cursor, made, ◌>>=◌, value_at, fields_at}
 use Rattle.wire_spelling.proofs.Steps.{at, AreBytes, bind_some, map_some, some_is}
+use Rattle.wire_value.specs.Bodies.{HasNoBody, HasOnlyBody}
 use Rattle.wire_spelling.proofs.FoundValues.{IsValue, value_takes}
 use Rattle.wire_spelling.proofs.Exact.{value_only}
 use Rattle.peer_route.specs.Hex.{hex_word, bytes_of}
 use Rattle.peer_route.specs.BodyWord.{IsBodyWord, at_colon, with_nothing_behind, spelled_values, values_of, body_values}
-use Rattle.peer_route.proofs.Spelled.{Digits, digits_are, bytes_again}
+use Rattle.peer_route.proofs.Spelled.{digits_are, bytes_again}
 
 -- ---- values, one of each type
 
@@ -240,3 +241,33 @@ word_again word values w =
     ap (λ l. at_colon l >>= (λ parts. values_of (types_in parts.0) (bytes_of parts.1))) w.whole
     ∙ ap (λ o. o >>= (λ parts. values_of (types_in parts.0) (bytes_of parts.1))) (colon_again w.signature (hex_word w.bytes) none)
     ∙ parts_again w.types w.signature w.bytes values w.text w.spelled w.some w.low
+
+-- ---- what was read
+
+pub no_types : (text : List ℕ) → is_some (types_in text) ≡ false → None ≡ types_in text
+no_types text e = none (types_in text) e where
+  none : (o : Option (List Shape)) → is_some o ≡ false → None ≡ o
+  none None e = refl
+  none (Some types) e = absurd (cc)
+
+pub kinds_of : (order : Endian) (p : ℕ) (ts : List Shape) (ds : List Datum) (bytes : List ℕ) → SpellEach order p ts ds bytes → map type_of ds ≡ ts
+kinds_of order p [] [] bytes s = refl
+kinds_of order p [] (d ∷ ds) bytes s = absurd s
+kinds_of order p (t ∷ ts) [] bytes s = absurd s
+kinds_of order p (t ∷ ts) (d ∷ ds) bytes s = ap (λ k. k ∷ map type_of ds) s.3.kind ∙ ap (λ l. t ∷ l) (kinds_of order (p + length s.0) ts ds s.1 s.4)
+
+pub is_signature : (ts : List Shape) (ds : List Datum) (bytes : List ℕ) → IsSignature ts → SpellEach Little 0 ts ds bytes → IsSignature (map type_of ds)
+is_signature ts ds bytes h s = subst IsSignature (sym (kinds_of Little 0 ts ds bytes s)) h
+
+pub all_read : (ts : List Shape) (body ds : List Datum) (bytes : List ℕ) (n : ℕ) → body ≡ ds → n ≡ length bytes → SpellEach Little 0 ts ds (take n bytes)
+    → Some body ≡ spelled_values ts bytes
+all_read ts body ds bytes n e long s =
+    ap Some e ∙ sym (values_again ts ds bytes (subst (λ (b : List ℕ). SpellEach Little 0 ts ds b) (take_all n bytes (omega (arith, long))) s))
+
+pub some_left : (ts : List Shape) (ds : List Datum) (bytes : List ℕ) (n : ℕ) → IsSignature ts → AreBytes bytes → HasOnlyBody Little ts bytes ds n → (n ≡ length bytes → ⊥)
+    → None ≡ spelled_values ts bytes
+some_left ts ds bytes n h low only left =
+    sym (values_none ts bytes h low (λ others s. left (only others bytes [] s (sym (append-nil bytes))).1))
+
+pub none_read : (ts : List Shape) (bytes : List ℕ) → IsSignature ts → AreBytes bytes → HasNoBody Little ts bytes → None ≡ spelled_values ts bytes
+none_read ts bytes h low never = sym (values_none ts bytes h low (λ others s. never others bytes [] s (sym (append-nil bytes))))

@@ -84,8 +84,12 @@ fn body_of(
                 Ok(None)
             }
         }
-        Err(VariantError::Memory) => Err(AllocError),
-        Err(_) => Ok(None),
+        Err(VariantError::Malformed) => Ok(None),
+        Err(error) => {
+            // Bytes that can't be read are malformed, so that nothing but memory was wanting.
+            prove!(matches!(&error, VariantError::Memory));
+            Err(AllocError)
+        }
     }
 }
 
