@@ -12,8 +12,8 @@ use Rattle.wire_spelling.proofs.Steps.{length-number_text}
 -- ---- lengths
 
 -- texts that stand one behind the other
-both_long : (as bs cs ds : List ℕ) → length as ≡ length bs → length cs ≡ length ds → length (as ++ cs) ≡ length (bs ++ ds)
-both_long as bs cs ds e f = length-append as cs ∙ ap (λ n. n + length cs) e ∙ ap (λ n. length bs + n) f ∙ sym (length-append bs ds)
+both_long : (us vs xs ys : List ℕ) → length us ≡ length vs → length xs ≡ length ys → length (us ++ xs) ≡ length (vs ++ ys)
+both_long us vs xs ys e f = length-append us xs ∙ ap (λ n. n + length xs) e ∙ ap (λ n. length vs + n) f ∙ sym (length-append vs ys)
 
 number_long : (o q : Endian) (n : ℕ) → length (number_text w32 o n) ≡ length (number_text w32 q n)
 number_long o q n = length-number_text w32 o n ∙ sym (length-number_text w32 q n)

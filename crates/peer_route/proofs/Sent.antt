@@ -77,7 +77,7 @@ sent_parcel h parcel None false expects call serial a sent f (inr is) p =
 sent_asked : (t : Trail) (lane : ℕ) (asked : Asked) (a : Answer) (sent : List Seen) → IsSendOf t lane asked a → IsPutOf (is_failed t.events) (put t.events) sent
     → IsPutOf (is_failed (send_events t.events asked a ++ t.events)) (put (send_events t.events asked a ++ t.events)) (sent ++ sent_by (Some asked) a)
 sent_asked t lane (Ok parcel) a sent is p = sent_parcel t.events parcel _ (is_failed t.events) _ _ _ a sent refl is p
-sent_asked t lane (Err error) a sent is p = rw is (rw (append-nil sent) p)
+sent_asked t lane (Err error) a sent is p = subst (λ ms. IsPutOf (is_failed t.events) (put t.events) ms) (sym (append-nil sent)) p
 
 sent_step : (t : Trail) (lane : ℕ) (w : Words) (a : Answer) (sent : List Seen) → IsAnswer t lane w a → IsPutOf (is_failed t.events) (put t.events) sent
     → IsPutOf (is_failed (events_of t lane w a ++ t.events)) (put (events_of t lane w a ++ t.events)) (sent ++ sent_by (asks t lane w) a)

@@ -2,6 +2,7 @@ ghost use Rattle.std.specs.Prelude.{ℕ, ◌≡◌, ◌≢◌, ◌+◌, ◌≤�
 ghost use Rattle.peer_route.specs.declared.answer.Entry.{Entry};
 ghost use Rattle.peer_route.specs.declared.words.Words.TheVariants as words;
 ghost use Rattle.peer_route.specs.Parcel.{Setting};
+ghost use Rattle.peer_route.specs.CallMessage.{fds_of};
 ghost use Rattle.peer_route.specs.Trail as trails;
 ghost use Rattle.peer_route.specs.Trail.{trail, asks_with, kept_at};
 ghost use Rattle.peer_route.specs.Answers as shows;
@@ -222,6 +223,13 @@ fn letter_of<'a>(
             unreachable!()
         }
     }
+}
+
+/// The list of descriptors: the one number 0 where it is asked for.
+fn fds_of(descriptor: bool) -> &'static [u32]
+    ensures { result.now ≡ fds_of descriptor }
+{
+    if descriptor { &[0] } else { &[] }
 }
 
 /// Takes one message, the `seq`-th, and no byte more, by a half that kept nothing (D-Bus Specification, "Message
@@ -468,8 +476,7 @@ impl Peer {
             Ok(letter) => letter,
             Err(error) => return refused(error),
         };
-        let fds: &[u32] = if descriptor { &[0] } else { &[] };
-        match self.route.issue(builder, &body, fds) {
+        match self.route.issue(builder, &body, fds_of(descriptor)) {
             Ok(issued) => self.send(half, lane, issued),
             Err(error) => not_issued(error),
         }

@@ -314,3 +314,54 @@ const OUTSIDE: [Case; 4] = [
 fn outside(rt: HostRuntime) -> Result<(), Fail> {
     check(&rt, &OUTSIDE)
 }
+
+/// Worked by hand from the message format and the program's rules.
+const BODIES: [Case; 6] = [
+    // words of a call and of a signal that are refused
+    Case {
+        word: "run",
+        input: "direct\nsignal - / a.b C n -\ncall - / - do d -\ncall - / - 1x - -\ncall - / - do - s:05000000\n",
+        status: 0,
+        output: "direct\n0 signal - / a.b C n - = refused InvalidField\n0 call - / - do d - = refused Unsupported\n0 call - / - 1x - - = refused Names\n0 call - / - do - s:05000000 = refused Variant\nsent -\n",
+    },
+    // a signal with a body
+    Case {
+        word: "run",
+        input: "direct\nsignal - / a.b C - s:02000000686900\n",
+        status: 0,
+        output: "direct\n0 signal - / a.b C - s:02000000686900 = sent 1\nsent 6c04000107000000010000003700000001016f00010000002f000000000000000201730003000000612e62000000000003017300010000004300000000000000080167000173000002000000686900\n",
+    },
+    // a return and an error to a message that a stream gave
+    Case {
+        word: "run",
+        input: "direct\nin 6c01000100000000010000001b00000001016f00010000002f000000000000000301730002000000646f000000000000\nstream\nerror 0 a.b -\nread\ntake 0\nreply 0 -\n",
+        status: 0,
+        output: "direct\nin 6c01000100000000010000001b00000001016f00010000002f000000000000000301730002000000646f000000000000\n0 stream = stream 0\n0 error 0 a.b - = refused UnknownHandle\n0 read = got 1 48 Method call do\n0 take 0 = item 1\n0 reply 0 - = sent 1\nsent 6c0200010000000001000000080000000501750001000000\n",
+    },
+    // a call with a descriptor
+    Case {
+        word: "run",
+        input: "direct\nfds\ncall - / - do d -\n",
+        status: 0,
+        output: "direct\nfds\n0 call - / - do d - = call 0 serial 1\nsent 6c01000100000000010000002800000001016f00010000002f000000000000000301730002000000646f0000000000000901750001000000\n",
+    },
+    // a failed write ends a call and stops a signal
+    Case {
+        word: "run",
+        input: "direct\noutfault 10\ncall - / - do - -\npoll 0\nsignal - / a.b C - -\n",
+        status: 0,
+        output: "direct\noutfault 10\n0 call - / - do - - = sendfailed InputOutput.WriteFault\n0 poll 0 = refused UnknownHandle\n0 signal - / a.b C - - = sendfailed InputOutput.WriteFault\nsent 6c010001000000000100\n",
+    },
+    // an error in the byte order of the message that it answers
+    Case {
+        word: "run",
+        input: "direct\nin 4201000100000000000000010000001b01016f00000000012f000000000000000301730000000002646f000000000000\nstream\nread\ntake 0\nerror 0 a.b u:01000000\n",
+        status: 0,
+        output: "direct\nin 4201000100000000000000010000001b01016f00000000012f000000000000000301730000000002646f000000000000\n0 stream = stream 0\n0 read = got 1 48 Method call do\n0 take 0 = item 1\n0 error 0 a.b u:01000000 = sent 1\nsent 4203000100000004000000010000001f0401730000000003612e6200000000000501750000000001080167000175000000000001\n",
+    },
+];
+
+#[test]
+fn bodies(rt: HostRuntime) -> Result<(), Fail> {
+    check(&rt, &BODIES)
+}

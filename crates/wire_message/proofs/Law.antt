@@ -96,6 +96,16 @@ module _ (draft : Draft) (serial : ℕ) (body : List ℕ) where
         pads-length,
       )
 
+  -- the length of the body, as the header says it
+  pub size-read : length body < 2 ^ 32 → word_at 4 (message_text draft serial body) ≡ length body
+  size-read h =
+      let rest = draft_fields draft ++ (pads ++ (body ++ [])) in
+      let all = laid (order_code draft.order) (kind_code draft.kind) draft.flags size_text serial_text fields_size_text rest in
+      let e : message_text draft serial body ≡ all = sym (append-nil (message_text draft serial body)) ∙ shape [] in
+      let order : order_at all ≡ draft.order = order-again all draft.order refl in
+      ap (word_at 4) e ∙ ap (λ (o : Endian). number_at w32 o 4 all) order
+      ∙ ap (number w32 draft.order) (take_at size_text (serial_text ++ (fields_size_text ++ rest)) 4 size-length) ∙ size-again h
+
   read-again : (more : List ℕ) → IsDraft draft → 0 < serial → serial < 2 ^ 32 → length (message_text draft serial body) ≤ 134217728
       → Front (message_text draft serial body ++ more) (built draft serial body) (length (message_text draft serial body))
   unfolding built
@@ -229,7 +239,7 @@ builds-ok taken draft body old new serial m given last made =
       made.0 ∙ ap (λ (k : ℕ). built draft k body) (sym same),
     )
 
-bare-built : (draft : Draft) (serial : ℕ) (body : List ℕ) (m : Seen) → m ≡ built draft serial body → bare m ≡ built draft serial body
+pub bare-built : (draft : Draft) (serial : ℕ) (body : List ℕ) (m : Seen) → m ≡ built draft serial body → bare m ≡ built draft serial body
 unfolding built
 bare-built draft serial body m e = ap (λ (x : Seen). bare x) e
 

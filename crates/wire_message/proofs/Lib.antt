@@ -14,3 +14,5 @@ pub mod Strings
 pub mod Alone
 pub mod Heads
 pub mod BodyLaws
+pub mod BodyFound
+pub mod BodyAgain

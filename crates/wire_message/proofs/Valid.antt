@@ -1,8 +1,10 @@
 -- The header fields of a message that stands on its bytes are each in its grammar.
-use Rattle.std.proofs.Common.{◌≡◌, ℕ, ◌<◌, List, [], ◌∷◌, Option, Some, None, refl, sym, subst, Bool, true, false, ◌^◌}
-use Rattle.std.specs.Prelude.{IfSome, IsTrue, option_map}
+use Rattle.std.proofs.Common.{◌≡◌, ℕ, ◌<◌, List, [], ◌∷◌, Option, Some, None, refl, sym, ap, arith, subst, Bool, true, false, ◌^◌}
+use Rattle.std.specs.Prelude.{IfSome, IsTrue, is_some, option_map}
 use Rattle.std.specs.List.{AllByRecursion}
 use Rattle.std.proofs.lemmas.Bool.{ltb-true}
+use Rattle.wire_signature.specs.Parsing.{types_in}
+use Rattle.wire_signature.proofs.Exact.{types_in-again}
 use Rattle.wire_number.specs.declared.endian.Endian.{Endian}
 use Rattle.wire_names.specs.Names.{IsObjectPath, IsInterfaceName, IsMemberName, IsErrorName, IsBusName, IsUniqueName}
 use Rattle.wire_message.specs.declared.field.FieldCode.{FieldCode}
@@ -92,3 +94,10 @@ bus-text text h = h
 pub unique-text : (text : List ℕ) → IsTrue (is_text codes.Sender text) → IsUniqueName text
 unfolding is_text
 unique-text text h = h
+
+pub signature-text : (text : List ℕ) → IsTrue (is_text codes.Signature text) → IsTrue (is_some (types_in text))
+unfolding is_text
+signature-text text h = h
+
+pub no-types-text : IsTrue (is_some (types_in []))
+no-types-text = ap is_some (types_in-again [] [] (record { valid = record { arrays = omega arith; structs = omega arith; fields = tt; within = omega arith }; text = refl }))

@@ -1,13 +1,13 @@
 -- Messages with bodies of arguments (D-Bus Specification, "Message Format", "Marshaling (Wire Format)").
-use Rattle.std.specs.Prelude.{◌≡◌, ◌<◌, ◌≤◌, ◌⊎◌, ℕ, Bool, List, length, Option, Result, Ok, Err}
+use Rattle.std.specs.Prelude.{◌≡◌, ◌<◌, ◌≤◌, ◌⊎◌, ℕ, Bool, List, length, map, Option, Result, Ok, Err}
 use Rattle.wire_number.specs.declared.endian.Endian.{Endian}
 use Rattle.wire_signature.specs.Shape.{Shape, IsSignature}
 use Rattle.wire_signature.specs.declared.error.VariantError.TheVariants as faults
-use Rattle.wire_tree.specs.Datum.{Datum, data_of}
+use Rattle.wire_tree.specs.Datum.{Datum, data_of, type_of}
 use Rattle.wire_spelling.specs.Spelling.{AllFit, depths, spellings}
 use Rattle.wire_body.specs.Arguments.{AreAllSound}
 use Rattle.wire_message.specs.Circle.{IsSerial, NoSerial}
-use Rattle.wire_message.specs.Draft.{Draft, message_text, Builds}
+use Rattle.wire_message.specs.Draft.{Draft, message_text, built, Builds, BuildsWith}
 use Rattle.wire_message.specs.Front.{Seen}
 use Rattle.wire_message.specs.Signed.{signed}
 use Rattle.wire_message.specs.declared.error.Error.{Error}
@@ -80,3 +80,36 @@ BuildsBody taken draft kinds values old new (Err errors.ExcessData) =
     × IsTooLong taken draft kinds values old × (new ≡ old)
 BuildsBody taken draft kinds values old new (Err errors.Memory) = new ≡ old
 BuildsBody taken draft kinds values old new (Err error) = ⊥
+
+-- ---- values as a body
+
+-- The message with this serial was made of these values; or one opens more than 64 containers at once; or else an array passes
+-- its limit; or else the message does.
+abbrev pub MakesValues : Draft → ℕ → List Datum → Result Seen Error → Type 0
+MakesValues draft serial values (Ok m) =
+    (depths (data_of values) ≤ 64) × AllFit draft.order 0 (data_of values)
+    × (m ≡ built (signed draft (map type_of values)) serial (body_text draft.order values)) × (length m.bytes ≤ 134217728)
+MakesValues draft serial values (Err (errors.Variant faults.Depth)) = 64 < depths (data_of values)
+MakesValues draft serial values (Err errors.ExcessData) =
+    (depths (data_of values) ≤ 64)
+    × ((AllFit draft.order 0 (data_of values) → ⊥)
+    ⊎ (AllFit draft.order 0 (data_of values)
+    × (134217728 < length (message_text (signed draft (map type_of values)) serial (body_text draft.order values)))))
+MakesValues draft serial values (Err errors.Memory) = Unit {0}
+MakesValues draft serial values (Err error) = ⊥
+
+-- What building with these values as the body gives: the message of the draft with their signature, their bytes and these
+-- descriptors. Refused, in this order: SerialsSpent where no serial was set and each is taken, Depth where a value opens too many
+-- containers, ExcessData where an array or the message passes its limit. A refusal draws nothing.
+abbrev pub BuildsValues : (ℕ → Bool) → Draft → List Datum → List ℕ → ℕ → ℕ → Result Seen Error → Type 0
+BuildsValues taken draft values fds old new (Ok m) =
+    (depths (data_of values) ≤ 64) × AllFit draft.order 0 (data_of values)
+    × BuildsWith taken (signed draft (map type_of values)) (body_text draft.order values) fds old new (Ok m)
+BuildsValues taken draft values fds old new (Err errors.SerialsSpent) = NoSerial taken draft.serial × (new ≡ old)
+BuildsValues taken draft values fds old new (Err (errors.Variant faults.Depth)) =
+    HasSerial taken draft.serial old × (64 < depths (data_of values)) × (new ≡ old)
+BuildsValues taken draft values fds old new (Err errors.ExcessData) =
+    HasSerial taken draft.serial old × (depths (data_of values) ≤ 64) × IsTooLong taken draft (map type_of values) values old
+    × (new ≡ old)
+BuildsValues taken draft values fds old new (Err errors.Memory) = new ≡ old
+BuildsValues taken draft values fds old new (Err error) = ⊥

@@ -13,3 +13,4 @@ pub mod Descriptors
 pub mod Drafts
 pub mod Lending
 pub mod Bodies
+pub mod Read

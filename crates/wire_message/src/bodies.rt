@@ -1,13 +1,14 @@
-//! Messages whose bodies are arguments.
-ghost use Rattle.std.specs.Prelude.{◌≡◌, ◌+◌, ◌<◌, ◌≤◌, IfOk};
-ghost use Rattle.wire_message.specs.Bodies.{BuildsBody, TakesArguments, TakesBytes};
+//! Messages whose bodies are arguments, or values.
+ghost use Rattle.std.specs.Prelude.{◌≡◌, ◌+◌, ◌<◌, ◌≤◌, ◌^◌, IfOk, length};
+ghost use Rattle.wire_message.specs.Bodies.{BuildsBody, BuildsValues, MakesValues, TakesArguments, TakesBytes};
 ghost use Rattle.wire_message.specs.Circle.{taken_among};
 ghost use Rattle.wire_message.specs.Draft.{ReadsAgain};
+ghost use Rattle.wire_message.specs.Signed.{counted};
 
 use crate::builder::Builder;
 use crate::error::{Error, Result};
 use crate::message::Message;
-use crate::raw_body::field_of;
+use crate::raw_body::{field_of, shared_fds};
 use crate::serials::{Serials, Taken};
 use crate::steps::Steps;
 use std::alloc::Global;
@@ -20,7 +21,8 @@ use wire_value::{EncodeError, encode_body};
 
 /// The body of these arguments.
 fn body_of<B: ToBody>(alloc: Global, arguments: B) -> Result<Body>
-    ensures { TakesArguments result B.kinds (B.datums arguments) }
+    ensures told { TakesArguments result B.kinds (B.datums arguments) }
+    ensures round { IfOk result (λ body. B.read body ≡ arguments) }
 {
     match to(alloc, arguments) {
         Ok(body) => Ok(body),
@@ -42,6 +44,20 @@ fn bytes_of(alloc: Global, order: Endian, body: &Body) -> Result<Vec<u8>>
 }
 
 impl<'a> Builder<'a> {
+    /// The message with that serial and these values as its body, and with their signature.
+    fn with_values(self, alloc: Global, serial: u32, body: &Body) -> Result<Message>
+        requires { 0 < serial }
+        ensures made { MakesValues self.entry serial body.now result }
+        ensures again { IfOk result ReadsAgain }
+    {
+        let bytes = bytes_of(alloc, self.order, body)?;
+        let signature = body.signature();
+        let text = signature.to_text(alloc)?;
+        let field = field_of(signature, text.as_str());
+        let builder = self.with_signature(field);
+        builder.with_serial(alloc, serial, bytes.as_slice())
+    }
+
     /// The message with these arguments as its body, which are given up, and with the serial that was set, else with the next
     /// (D-Bus Specification, "Message Format", "Marshaling (Wire Format)"). Their signature is a header field, and left out
     /// where there are no arguments.
@@ -64,18 +80,14 @@ impl<'a> Builder<'a> {
         steps: &mut Steps<L>,
     ) -> Result<Message>
         ensures built { BuildsBody (T.is_taken taken.now) self.entry B.kinds (B.datums body) serials.old serials.new result }
+        ensures round { IfOk result (λ _. B.read (B.datums body) ≡ body) }
         ensures again { IfOk result ReadsAgain }
         ensures cost { steps.new ≤ steps.old + taken_among (T.is_taken taken.now) 4294967295 + 2 }
     {
         let mut drawn = *serials;
         let serial = self.own_or_next(&mut drawn, taken, steps)?;
         let body = body_of(alloc, body)?;
-        let bytes = bytes_of(alloc, self.order, &body)?;
-        let signature = body.signature();
-        let text = signature.to_text(alloc)?;
-        let field = field_of(signature, text.as_str());
-        let builder = self.with_signature(field);
-        let message = builder.with_serial(alloc, serial, bytes.as_slice())?;
+        let message = self.with_values(alloc, serial, &body)?;
         *serials = drawn;
         Ok(message)
     }
@@ -92,6 +104,7 @@ impl<'a> Builder<'a> {
         requires parts { blank.parts ≡ L.parts }
         requires some { 0 < blank.parts }
         ensures built { BuildsBody (T.is_taken taken.now) self.entry B.kinds (B.datums body) serials.old serials.new result }
+        ensures round { IfOk result (λ _. B.read (B.datums body) ≡ body) }
         ensures again { IfOk result ReadsAgain }
     {
         let mut steps = Steps::<L>::start(blank);
@@ -107,8 +120,75 @@ impl<'a> Builder<'a> {
         body: B,
     ) -> Result<Message>
         ensures built { BuildsBody (T.is_taken taken.now) self.entry B.kinds (B.datums body) serials.old serials.new result }
+        ensures round { IfOk result (λ _. B.read (B.datums body) ≡ body) }
         ensures again { IfOk result ReadsAgain }
     {
         self.build_counted::<B, T, Brand>(alloc, serials, taken, body, Blank::new(1))
+    }
+
+    /// As `build`, with the values of that body, and with these descriptors, which go with the message; their count is written
+    /// as its `UNIX_FDS` exactly where there are some. The values' signature is left out where there are none.
+    ///
+    /// # Errors
+    ///
+    /// The first that holds: SerialsSpent exactly where no serial was set and each is pending; Variant of `Depth` exactly
+    /// where a value opens more than 64 containers at once; ExcessData exactly where the elements of an array would take more
+    /// than 67,108,864 bytes, or the message more than 134,217,728. Memory for want of memory. A refusal draws no serial.
+    pub fn build_body<T: Taken, L: Ledger>(
+        self,
+        alloc: Global,
+        serials: &mut Serials,
+        taken: &T,
+        body: &Body,
+        fds: &[u32],
+        steps: &mut Steps<L>,
+    ) -> Result<Message>
+        requires { length fds.now < 2 ^ 32 }
+        ensures built { BuildsValues (T.is_taken taken.now) (counted self.entry fds.now) body.now fds.now serials.old serials.new result }
+        ensures again { IfOk result ReadsAgain }
+        ensures cost { steps.new ≤ steps.old + taken_among (T.is_taken taken.now) 4294967295 + 2 }
+    {
+        let mut drawn = *serials;
+        let serial = self.own_or_next(&mut drawn, taken, steps)?;
+        let shared = shared_fds(alloc, fds)?;
+        let message = self.with_count(fds).with_values(alloc, serial, body)?;
+        *serials = drawn;
+        Ok(message.with_fds(shared))
+    }
+
+    fn body_from<T: Taken, L: Ledger>(
+        self,
+        alloc: Global,
+        serials: &mut Serials,
+        taken: &T,
+        body: &Body,
+        fds: &[u32],
+        blank: Blank,
+    ) -> Result<Message>
+        requires few { length fds.now < 2 ^ 32 }
+        requires name { blank.name ≡ L.name }
+        requires parts { blank.parts ≡ L.parts }
+        requires some { 0 < blank.parts }
+        ensures built { BuildsValues (T.is_taken taken.now) (counted self.entry fds.now) body.now fds.now serials.old serials.new result }
+        ensures again { IfOk result ReadsAgain }
+    {
+        let mut steps = Steps::<L>::start(blank);
+        self.build_body(alloc, serials, taken, body, fds, &mut steps)
+    }
+
+    /// As `build_body`, for a caller that counts no steps.
+    pub fn build_body_uncounted<T: Taken>(
+        self,
+        alloc: Global,
+        serials: &mut Serials,
+        taken: &T,
+        body: &Body,
+        fds: &[u32],
+    ) -> Result<Message>
+        requires { length fds.now < 2 ^ 32 }
+        ensures built { BuildsValues (T.is_taken taken.now) (counted self.entry fds.now) body.now fds.now serials.old serials.new result }
+        ensures again { IfOk result ReadsAgain }
+    {
+        self.body_from::<T, Brand>(alloc, serials, taken, body, fds, Blank::new(1))
     }
 }

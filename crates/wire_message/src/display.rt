@@ -91,7 +91,7 @@ impl Message {
     }
 
     /// The body's bytes.
-    fn body_bytes(&self) -> &[u8]
+    pub(crate) fn body_bytes(&self) -> &[u8]
         ensures { result.now ≡ body_bytes self.now.bytes }
     {
         let _parts = &self.parts;

@@ -1,9 +1,11 @@
 ghost use Rattle.std.specs.Borrow.{sem};
-ghost use Rattle.std.specs.Prelude.{◌≡◌, ◌<◌, ◌^◌, IfSome, Option, Some, None, option_map, length, List, ℕ};
+ghost use Rattle.std.specs.Prelude.{◌≡◌, ◌<◌, ◌^◌, IfSome, IsTrue, Option, Some, None, is_some, option_map, length, List, ℕ};
+ghost use Rattle.wire_signature.specs.Parsing.{types_in};
 ghost use Rattle.wire_names.specs.BusName.{bus_name_of};
 ghost use Rattle.wire_message.specs.Lending.{LendsPrimary};
 ghost use Rattle.wire_message.specs.Primary.{head_of, order_of};
 ghost use Rattle.wire_message.specs.Places.{IsSpan, span_text};
+ghost use Rattle.wire_message.specs.Read.{body_signature};
 
 use crate::flags::Flags;
 use crate::kind::MessageType;
@@ -50,6 +52,17 @@ impl Message {
         Header {
             primary: self.primary_header(),
             message: self,
+        }
+    }
+
+    /// The text of the body's signature; the empty one where the header has none.
+    pub(crate) fn signature_text(&self) -> &[u8]
+        ensures text { result.now ≡ body_signature self.now }
+        ensures valid { IsTrue (is_some (types_in result.now)) }
+    {
+        match part(self.bytes.as_slice(), self.parts.places.signature) {
+            Some(text) => text,
+            None => &[],
         }
     }
 }

@@ -1,7 +1,15 @@
 //! Laws of the header grammar, each the contract of a function that does nothing.
-ghost use Rattle.std.specs.Prelude.{◌≡◌, ◌<◌, ◌≤◌, ◌^◌, ℕ, List, length};
+ghost use Rattle.std.specs.Prelude.{◌≡◌, ◌<◌, ◌≤◌, ◌^◌, ℕ, Bool, List, Ok, Result, length};
+ghost use Rattle.wire_signature.specs.Shape.{IsSignature};
+ghost use Rattle.wire_body.specs.Arguments.{AreAllSound};
+ghost use Rattle.wire_message.specs.Bodies.{BuildsBody, BuildsValues};
 ghost use Rattle.wire_message.specs.Draft.{Draft, IsDraft, ReadsAgain, built, message_text};
 ghost use Rattle.wire_message.specs.Front.{Seen, Front, fields_of};
+ghost use Rattle.wire_message.specs.Outcome.{Tells};
+ghost use Rattle.wire_message.specs.Read.{ReadsBody};
+ghost use Rattle.wire_message.specs.declared.error.Error.{Error};
+
+use wire_body::FromBody;
 
 /// What is built of a draft stands on its own bytes, whatever follows them, with exactly the fields that were set (D-Bus
 /// Specification, "Message Format", "Header Fields").
@@ -15,4 +23,13 @@ pub fn built_messages_are_read_again()
 /// Specification, "Message Format").
 pub fn one_message()
     ensures { (bytes : List ℕ) (m other : Seen) (n len : ℕ) → Front bytes m n → Front bytes other len → m.position ≡ other.position → (m ≡ other) × (n ≡ len) }
+{}
+
+/// What a message was built of is read back from its body, in either byte order, where nothing but memory is missing: of
+/// arguments that [`crate::Builder::build`] took, and of those that were made a body by [`wire_body::to`] and given to
+/// [`crate::Builder::build_body`]. The last premise of each is what [`crate::Body::deserialize`] promises of its answer
+/// (D-Bus Specification, "Message Format", "Marshaling (Wire Format)").
+pub fn built_bodies_are_read_again<T: FromBody>()
+    ensures arguments { (taken : ℕ → Bool) (draft : Draft) (old new : ℕ) (m : Seen) (x : T) (r : Result T Error) → BuildsBody taken draft T.kinds (T.datums x) old new (Ok m) → ReadsAgain m → T.read (T.datums x) ≡ x → ReadsBody r T.read T.kinds m → Tells (λ y. y) r (Ok x) }
+    ensures values { (taken : ℕ → Bool) (draft : Draft) (fds : List ℕ) (old new : ℕ) (m : Seen) (x : T) (r : Result T Error) → IsSignature T.kinds → AreAllSound (T.datums x) → BuildsValues taken draft (T.datums x) fds old new (Ok m) → ReadsAgain m → T.read (T.datums x) ≡ x → ReadsBody r T.read T.kinds m → Tells (λ y. y) r (Ok x) }
 {}

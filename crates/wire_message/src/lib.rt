@@ -3,6 +3,7 @@
 #![tactic(auto)]
 
 mod bodies;
+mod body;
 mod builder;
 mod display;
 mod endian_sig;
@@ -29,6 +30,7 @@ mod tests;
 mod whole;
 mod writing;
 
+pub use body::Body;
 pub use builder::Builder;
 pub use endian_sig::{EndianSig, NATIVE_ENDIAN_SIG};
 pub use error::{Error, IoKind, Result};
@@ -36,7 +38,7 @@ pub use flags::Flags;
 pub use front::{header_front, total_of};
 pub use header::Header;
 pub use kind::MessageType;
-pub use laws::{built_messages_are_read_again, one_message};
+pub use laws::{built_bodies_are_read_again, built_messages_are_read_again, one_message};
 pub use message::Message;
 pub use primary::PrimaryHeader;
 pub use sequence::Sequence;

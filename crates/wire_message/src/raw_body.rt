@@ -34,7 +34,10 @@ pub(crate) fn field_of<'a>(signature: &Signature, text: &'a str) -> Option<&'a s
 }
 
 /// The descriptors, shared by the message and its clones; None where there are none.
-fn shared_fds(alloc: Global, fds: &[u32]) -> std::result::Result<Option<ArcSlice<u32>>, AllocError>
+pub(crate) fn shared_fds(
+    alloc: Global,
+    fds: &[u32],
+) -> std::result::Result<Option<ArcSlice<u32>>, AllocError>
     ensures { IfOk result (λ shared. numbers_in shared ≡ fds.now) }
 {
     if fds.is_empty() {
@@ -57,7 +60,7 @@ impl<'a> Builder<'a> {
     }
 
     /// With the count of those descriptors (D-Bus Specification, "Header Fields", `UNIX_FDS`); without one where there are none.
-    fn with_count(self, fds: &[u32]) -> Builder<'a>
+    pub(crate) fn with_count(self, fds: &[u32]) -> Builder<'a>
         requires { length fds.now < 2 ^ 32 }
         ensures { result ≡ counted self.entry fds.now }
     {

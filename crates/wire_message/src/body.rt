@@ -1,0 +1,150 @@
+//! Reading the bodies of messages.
+ghost use Rattle.std.specs.Prelude.{◌≡◌, ◌==◌, IfErr, IfOk, length};
+ghost use Rattle.wire_message.specs.Front.{body_bytes};
+ghost use Rattle.wire_message.specs.Read.{HasTypes, ReadsAs, ReadsBody, TellsBegun, TellsTypes};
+ghost use Rattle.wire_message.specs.declared.error.Error.TheVariants.{Memory};
+
+use crate::error::{Error, Result};
+use crate::message::Message;
+use std::alloc::Global;
+use std::marker::Model;
+use wire_body::{FromBody, ToBody, from};
+use wire_number::Endian;
+use wire_signature::{Signature, VariantError};
+use wire_value::decode_body;
+
+/// The body of a message (D-Bus Specification, "Message Format").
+#[derive(Drop)]
+pub struct Body<'a> {
+    message: &'a Message,
+}
+
+impl<'a> Model for Body<'a> {
+    ghost use Rattle.wire_message.specs.Front.{Seen};
+
+    ghost Value = { Seen };
+
+    ghost view = { λ b. b.message.now };
+}
+
+/// The signature of a body of these arguments. `Malformed` comes exactly where their types together are none, since no bytes
+/// are a body of theirs then.
+fn types_of<T: ToBody>(alloc: Global) -> std::result::Result<Signature, VariantError>
+    ensures { TellsTypes result T.kinds }
+{
+    let mut text = String::new(alloc);
+    T::write_kinds(&mut text)?;
+    match Signature::try_from(alloc, text.as_str()) {
+        Ok(types) => Ok(types),
+        Err(VariantError::Memory) => Err(VariantError::Memory),
+        Err(_) => Err(VariantError::Malformed),
+    }
+}
+
+/// The arguments that a front of a body's bytes spells.
+fn begun<T: FromBody>(
+    alloc: Global,
+    order: Endian,
+    bytes: &[u8],
+) -> std::result::Result<T, VariantError>
+    ensures { TellsBegun result T.read order T.kinds bytes.now }
+{
+    let types = types_of::<T>(alloc)?;
+    let (values, _count) = decode_body(alloc, order, &types, bytes)?;
+    let body = wire_body::Body::from_values(alloc, values)?;
+    from(alloc, body)
+}
+
+impl Message {
+    /// The message's body.
+    pub fn body(&self) -> Body<'_>
+        ensures { result ≡ self.now }
+    {
+        Body { message: self }
+    }
+}
+
+impl<'a> Body<'a> {
+    /// The message that it belongs to.
+    pub fn message(&self) -> &'a Message
+        ensures { result.now ≡ self.now }
+    {
+        self.message
+    }
+
+    /// Its bytes.
+    pub fn data(&self) -> &'a [u8]
+        ensures { result.now ≡ body_bytes self.now.bytes }
+    {
+        self.message.body_bytes()
+    }
+
+    /// The count of its bytes.
+    pub fn len(&self) -> usize
+        ensures { result ≡ length (body_bytes self.now.bytes) }
+    {
+        self.data().len()
+    }
+
+    /// Whether it has no bytes.
+    pub fn is_empty(&self) -> bool
+        ensures { result ≡ (length (body_bytes self.now.bytes) == 0) }
+    {
+        self.data().is_empty()
+    }
+
+    /// The types of its values, as the header names them (D-Bus Specification, "Header Fields", `SIGNATURE`): no types where
+    /// the header names none. It fails only for want of memory.
+    pub fn signature(&self, alloc: Global) -> Result<Signature>
+        ensures types { IfOk result (λ types. HasTypes self.now types) }
+        ensures error { IfErr result (λ e. e ≡ Memory) }
+    {
+        // What a header has as its signature is one, and so a text of ASCII: only memory can be missing.
+        let Ok(text) = str::from_utf8(self.message.signature_text()) else {
+            return Err(Error::Memory);
+        };
+        match Signature::try_from(alloc, text) {
+            Ok(types) => Ok(types),
+            Err(_) => Err(Error::Memory),
+        }
+    }
+
+    /// The arguments that a front of the body spells in the message's byte order, as values of the target's types, whatever
+    /// the header's signature says (D-Bus Specification, "Marshaling (Wire Format)"). Of what stands behind them nothing is
+    /// asked.
+    ///
+    /// # Errors
+    ///
+    /// Variant of `Malformed` exactly where no front of the body spells a value of each of the target's types, or where these
+    /// types together are no signature, so that no body has them. Memory for want of memory.
+    pub fn deserialize_unchecked<T: FromBody>(&self, alloc: Global) -> Result<T>
+        ensures { ReadsAs result T.read T.kinds self.now }
+    {
+        let message = self.message;
+        match begun(alloc, message.parts.order, message.body_bytes()) {
+            Ok(arguments) => Ok(arguments),
+            Err(VariantError::Malformed) => Err(Error::Variant(VariantError::Malformed)),
+            Err(_) => Err(Error::Memory),
+        }
+    }
+
+    /// The arguments of the body, where the header's signature is that of the target's types: what a front of the body spells
+    /// in the message's byte order (D-Bus Specification, "Message Format", "Marshaling (Wire Format)"). A header without a
+    /// signature has the empty one. Of bytes behind the arguments nothing is asked.
+    ///
+    /// # Errors
+    ///
+    /// Variant of `SignatureMismatch` exactly where the header's signature is not that of the target's types; else Variant of
+    /// `Malformed` exactly where no front of the body spells a value of each type. Memory for want of memory.
+    pub fn deserialize<T: FromBody>(&self, alloc: Global) -> Result<T>
+        ensures { ReadsBody result T.read T.kinds self.now }
+    {
+        let mut kinds = String::new(alloc);
+        T::write_kinds(&mut kinds)?;
+        if kinds.as_bytes() == self.message.signature_text() {
+            self.deserialize_unchecked(alloc)
+        } else {
+            Err(Error::Variant(VariantError::SignatureMismatch))
+        }
+    }
+}
