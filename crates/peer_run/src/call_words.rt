@@ -203,7 +203,9 @@ fn with_letters<'a>(builder: Builder<'a>, flags: CallFlags) -> Result<Builder<'a
     requires none { builder.flags ≡ 0 }
     ensures { result ≡ lettered builder.entry flags }
 {
-    builder.endian(order_of(flags.big)).with_flags(flags_of(flags))
+    builder
+        .endian(order_of(flags.big))
+        .with_flags(flags_of(flags))
 }
 
 /// The message with those letters and that body: refused where its type can't have the flags, then where it carries a
