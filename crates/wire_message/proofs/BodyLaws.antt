@@ -18,38 +18,14 @@ use Rattle.wire_message.proofs.Law.{builds-ok}
 pub no-serial : (taken : ℕ → Bool) (draft : Draft) (kinds : List Shape) (values : List Datum) (old drawn : ℕ) (e : Error) → Numbers taken draft.serial old drawn (Err e)
     → BuildsBody taken draft kinds values old old (Err e)
 no-serial taken draft kinds values old drawn errors.SerialsSpent n = (n.0, refl)
-no-serial taken draft kinds values old drawn (errors.Variant faults.Signature) n = absurd n
-no-serial taken draft kinds values old drawn (errors.Variant faults.Depth) n = absurd n
-no-serial taken draft kinds values old drawn (errors.Variant faults.Malformed) n = absurd n
-no-serial taken draft kinds values old drawn (errors.Variant faults.SignatureMismatch) n = absurd n
-no-serial taken draft kinds values old drawn (errors.Variant faults.Memory) n = absurd n
-no-serial taken draft kinds values old drawn (errors.InputOutput kind) n = absurd n
-no-serial taken draft kinds values old drawn (errors.Names kind) n = absurd n
-no-serial taken draft kinds values old drawn errors.InvalidMatchRule n = absurd n
-no-serial taken draft kinds values old drawn errors.IncorrectEndian n = absurd n
-no-serial taken draft kinds values old drawn errors.ExcessData n = absurd n
-no-serial taken draft kinds values old drawn errors.Unsupported n = absurd n
-no-serial taken draft kinds values old drawn errors.InvalidField n = absurd n
-no-serial taken draft kinds values old drawn errors.UnknownHandle n = absurd n
-no-serial taken draft kinds values old drawn errors.Memory n = absurd n
+no-serial taken draft kinds values old drawn other n = absurd n
 
 pub bad-arguments : (taken : ℕ → Bool) (draft : Draft) (kinds : List Shape) (values : List Datum) (old serial : ℕ) (e : Error) → IsSerial taken draft.serial old serial
     → TakesArguments (Err e) kinds values → BuildsBody taken draft kinds values old old (Err e)
 bad-arguments taken draft kinds values old serial (errors.Variant faults.Signature) s t = ((serial, s), t, refl)
 bad-arguments taken draft kinds values old serial (errors.Variant faults.Malformed) s t = ((serial, s), t.0, t.1, refl)
 bad-arguments taken draft kinds values old serial errors.Memory s t = refl
-bad-arguments taken draft kinds values old serial (errors.Variant faults.Depth) s t = absurd t
-bad-arguments taken draft kinds values old serial (errors.Variant faults.SignatureMismatch) s t = absurd t
-bad-arguments taken draft kinds values old serial (errors.Variant faults.Memory) s t = absurd t
-bad-arguments taken draft kinds values old serial (errors.InputOutput kind) s t = absurd t
-bad-arguments taken draft kinds values old serial (errors.Names kind) s t = absurd t
-bad-arguments taken draft kinds values old serial errors.InvalidMatchRule s t = absurd t
-bad-arguments taken draft kinds values old serial errors.IncorrectEndian s t = absurd t
-bad-arguments taken draft kinds values old serial errors.ExcessData s t = absurd t
-bad-arguments taken draft kinds values old serial errors.Unsupported s t = absurd t
-bad-arguments taken draft kinds values old serial errors.InvalidField s t = absurd t
-bad-arguments taken draft kinds values old serial errors.SerialsSpent s t = absurd t
-bad-arguments taken draft kinds values old serial errors.UnknownHandle s t = absurd t
+bad-arguments taken draft kinds values old serial other s t = absurd t
 
 -- the same of the draft's order and the arguments' values
 pub moved : (P : Endian → List Datum → Type 0) (order own : Endian) (given values : List Datum) → order ≡ own → given ≡ values → P order given → P own values
@@ -61,18 +37,7 @@ pub bad-bytes : (taken : ℕ → Bool) (draft : Draft) (kinds : List Shape) (val
 bad-bytes taken draft kinds values old serial (errors.Variant faults.Depth) s g t = ((serial, s), g.0, g.1, t, refl)
 bad-bytes taken draft kinds values old serial errors.ExcessData s g t = ((serial, s), g.0, g.1, t.0, inl t.1, refl)
 bad-bytes taken draft kinds values old serial errors.Memory s g t = refl
-bad-bytes taken draft kinds values old serial (errors.Variant faults.Signature) s g t = absurd t
-bad-bytes taken draft kinds values old serial (errors.Variant faults.Malformed) s g t = absurd t
-bad-bytes taken draft kinds values old serial (errors.Variant faults.SignatureMismatch) s g t = absurd t
-bad-bytes taken draft kinds values old serial (errors.Variant faults.Memory) s g t = absurd t
-bad-bytes taken draft kinds values old serial (errors.InputOutput kind) s g t = absurd t
-bad-bytes taken draft kinds values old serial (errors.Names kind) s g t = absurd t
-bad-bytes taken draft kinds values old serial errors.InvalidMatchRule s g t = absurd t
-bad-bytes taken draft kinds values old serial errors.IncorrectEndian s g t = absurd t
-bad-bytes taken draft kinds values old serial errors.Unsupported s g t = absurd t
-bad-bytes taken draft kinds values old serial errors.InvalidField s g t = absurd t
-bad-bytes taken draft kinds values old serial errors.SerialsSpent s g t = absurd t
-bad-bytes taken draft kinds values old serial errors.UnknownHandle s g t = absurd t
+bad-bytes taken draft kinds values old serial other s g t = absurd t
 
 -- the draft with the body's signature
 pub signed-is : (draft d : Draft) (o : Option (List ℕ)) (ts own kinds : List Shape) → d ≡ record draft { fields = record draft.fields { signature = o } } → o ≡ signature_field ts
@@ -85,19 +50,7 @@ too-long-of : (taken : ℕ → Bool) (draft : Draft) (kinds : List Shape) (value
     → Makes (signed draft kinds) serial (body_text draft.order values) (Err e) → BuildsBody taken draft kinds values old old (Err e)
 too-long-of taken draft kinds values old serial errors.ExcessData s g w t = ((serial, s), g.0, g.1, w.0, inr (w.1, (serial, s, t)), refl)
 too-long-of taken draft kinds values old serial errors.Memory s g w t = refl
-too-long-of taken draft kinds values old serial (errors.Variant faults.Signature) s g w t = absurd t
-too-long-of taken draft kinds values old serial (errors.Variant faults.Depth) s g w t = absurd t
-too-long-of taken draft kinds values old serial (errors.Variant faults.Malformed) s g w t = absurd t
-too-long-of taken draft kinds values old serial (errors.Variant faults.SignatureMismatch) s g w t = absurd t
-too-long-of taken draft kinds values old serial (errors.Variant faults.Memory) s g w t = absurd t
-too-long-of taken draft kinds values old serial (errors.InputOutput kind) s g w t = absurd t
-too-long-of taken draft kinds values old serial (errors.Names kind) s g w t = absurd t
-too-long-of taken draft kinds values old serial errors.InvalidMatchRule s g w t = absurd t
-too-long-of taken draft kinds values old serial errors.IncorrectEndian s g w t = absurd t
-too-long-of taken draft kinds values old serial errors.Unsupported s g w t = absurd t
-too-long-of taken draft kinds values old serial errors.InvalidField s g w t = absurd t
-too-long-of taken draft kinds values old serial errors.SerialsSpent s g w t = absurd t
-too-long-of taken draft kinds values old serial errors.UnknownHandle s g w t = absurd t
+too-long-of taken draft kinds values old serial other s g w t = absurd t
 
 pub too-long : (taken : ℕ → Bool) (draft d : Draft) (kinds : List Shape) (values : List Datum) (text : List ℕ) (old serial : ℕ) (e : Error) → d ≡ signed draft kinds → text ≡ body_text draft.order values
     → IsSerial taken draft.serial old serial → IsSignature kinds × AreAllSound values → (depths (data_of values) ≤ 64) × AllFit draft.order 0 (data_of values)

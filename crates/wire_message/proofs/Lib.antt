@@ -14,3 +14,4 @@ pub mod Strings
 pub mod Alone
 pub mod Heads
 pub mod BodyLaws
+pub mod Equal
