@@ -14,4 +14,3 @@ pub mod Strings
 pub mod Alone
 pub mod Heads
 pub mod BodyLaws
-pub mod Equal

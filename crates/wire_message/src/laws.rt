@@ -1,11 +1,9 @@
 //! Laws of the header grammar and of errors.
-ghost use Rattle.std.specs.Prelude.{◌≡◌, ◌<◌, ◌≤◌, ◌^◌, ◌↔◌, ℕ, List, length, IsTrue};
+ghost use Rattle.std.specs.Prelude.{◌≡◌, ◌<◌, ◌≤◌, ◌^◌, ℕ, List, length};
 ghost use Rattle.wire_message.specs.Draft.{Draft, IsDraft, ReadsAgain, built, message_text};
 ghost use Rattle.wire_message.specs.Front.{Seen, Front, fields_of};
 ghost use Rattle.wire_message.specs.SameError.{Same};
 ghost use Rattle.wire_message.specs.declared.error.Error.{Error};
-
-use crate::error::Error;
 
 /// What is built of a draft stands on its own bytes, whatever follows them, with exactly the fields that were set (D-Bus
 /// Specification, "Message Format", "Header Fields").
@@ -20,13 +18,6 @@ pub fn built_messages_are_read_again()
 pub fn one_message()
     ensures { (bytes : List ℕ) (m other : Seen) (n len : ℕ) → Front bytes m n → Front bytes other len → m.position ≡ other.position → (m ≡ other) × (n ≡ len) }
 {}
-
-/// Two errors are equal exactly where they are the same.
-pub fn equal_errors_are_the_same(error: &Error, other: &Error) -> bool
-    ensures { IsTrue result ↔ Same error.now other.now }
-{
-    error == other
-}
 
 /// Each error is the same as itself.
 pub fn each_error_is_itself()

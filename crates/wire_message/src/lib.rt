@@ -42,9 +42,7 @@ pub use flags::Flags;
 pub use front::{header_front, total_of};
 pub use header::Header;
 pub use kind::MessageType;
-pub use laws::{
-    built_messages_are_read_again, each_error_is_itself, equal_errors_are_the_same, one_message,
-};
+pub use laws::{built_messages_are_read_again, each_error_is_itself, one_message};
 pub use message::Message;
 pub use primary::PrimaryHeader;
 pub use sequence::Sequence;
