@@ -111,17 +111,7 @@ refused v parcel new h errors.SerialsSpent left b = (AllTaken-along (waiting_ser
 refused v parcel new h errors.ExcessData left b = let t = too_long v parcel h left b.0 b.2 in (t.0, t.1, b.1, t.2, refl)
 refused v parcel new h (errors.Variant faults.Depth) left b = (b.0.0, next_left v h b.0.0 left b.0.1, b.1, refl)
 refused v parcel new h errors.Memory left b = refl
-refused v parcel new h (errors.InputOutput kind) left b = absurd b
-refused v parcel new h (errors.Variant faults.Signature) left b = absurd b
-refused v parcel new h (errors.Variant faults.Malformed) left b = absurd b
-refused v parcel new h (errors.Variant faults.SignatureMismatch) left b = absurd b
-refused v parcel new h (errors.Variant faults.Memory) left b = absurd b
-refused v parcel new h (errors.Names kind) left b = absurd b
-refused v parcel new h errors.InvalidMatchRule left b = absurd b
-refused v parcel new h errors.IncorrectEndian left b = absurd b
-refused v parcel new h errors.UnknownHandle left b = absurd b
-refused v parcel new h errors.Unsupported left b = absurd b
-refused v parcel new h errors.InvalidField left b = absurd b
+refused v parcel new h other left b = absurd b
 
 -- a message that no call waits for leaves the calls as they were
 put_calls : (m : Seen) (v : CallsView) (h : List Event) → LeftCalls v h → LeftCalls v (Put m false ∷ h)
@@ -199,16 +189,7 @@ issued v new parcel m last (Ok got) h left made_bare fine p =
           (left_put b v m h left made.0.free)),
     )
 issued v new parcel m last (Err errors.Memory) h left made fine p = p
-issued v new parcel m last (Err errors.SerialsSpent) h left made fine p = absurd p
-issued v new parcel m last (Err errors.ExcessData) h left made fine p = absurd p
-issued v new parcel m last (Err (errors.InputOutput kind)) h left made fine p = absurd p
-issued v new parcel m last (Err (errors.Variant kind)) h left made fine p = absurd p
-issued v new parcel m last (Err (errors.Names kind)) h left made fine p = absurd p
-issued v new parcel m last (Err errors.InvalidMatchRule) h left made fine p = absurd p
-issued v new parcel m last (Err errors.IncorrectEndian) h left made fine p = absurd p
-issued v new parcel m last (Err errors.UnknownHandle) h left made fine p = absurd p
-issued v new parcel m last (Err errors.Unsupported) h left made fine p = absurd p
-issued v new parcel m last (Err errors.InvalidField) h left made fine p = absurd p
+issued v new parcel m last (Err other) h left made fine p = absurd p
 
 placed_outbox : (expects : Bool) (v : View) (m : Seen) (last : ℕ) → length (placed expects v m last).outbox ≡ length (v.outbox ++ m ∷ [])
 placed_outbox true v m last = refl

@@ -48,37 +48,16 @@ good_words d a p i m = rw (a, p, i, m) refl
 -- ---- refusals
 
 pub refused : (error : Error) (asked : Asked) → asked ≡ Err error → MakesParcel (Err error) asked
-refused (errors.InputOutput kind) asked e = e
-refused (errors.Variant kind) asked e = e
-refused (errors.Names kind) asked e = e
-refused errors.InvalidMatchRule asked e = e
-refused errors.IncorrectEndian asked e = e
-refused errors.ExcessData asked e = e
-refused errors.Unsupported asked e = e
-refused errors.InvalidField asked e = e
-refused errors.SerialsSpent asked e = e
-refused errors.UnknownHandle asked e = e
 refused errors.Memory asked e = tt
+refused other asked e = e
 
 -- the body's word is none, once the words are in their grammars
 pub body_refused : (error : Error) (refusal : Option Error) (found : Option (List Datum)) (misplaced unsupported : Bool) (d : Draft) (fds : List ℕ) → refusal ≡ None
     → ReadsBody (Err error) found → MakesParcel (Err error) (asked_of refusal found misplaced unsupported d fds)
 body_refused (errors.Variant faults.Malformed) refusal found misplaced unsupported d fds e r =
     ap (λ o. asked_of o found misplaced unsupported d fds) e ∙ ap (λ o. asked_of None o misplaced unsupported d fds) r
-body_refused (errors.Variant faults.Signature) refusal found misplaced unsupported d fds e r = absurd r
-body_refused (errors.Variant faults.Depth) refusal found misplaced unsupported d fds e r = absurd r
-body_refused (errors.Variant faults.SignatureMismatch) refusal found misplaced unsupported d fds e r = absurd r
-body_refused (errors.Variant faults.Memory) refusal found misplaced unsupported d fds e r = absurd r
-body_refused (errors.InputOutput kind) refusal found misplaced unsupported d fds e r = absurd r
-body_refused (errors.Names kind) refusal found misplaced unsupported d fds e r = absurd r
-body_refused errors.InvalidMatchRule refusal found misplaced unsupported d fds e r = absurd r
-body_refused errors.IncorrectEndian refusal found misplaced unsupported d fds e r = absurd r
-body_refused errors.ExcessData refusal found misplaced unsupported d fds e r = absurd r
-body_refused errors.Unsupported refusal found misplaced unsupported d fds e r = absurd r
-body_refused errors.InvalidField refusal found misplaced unsupported d fds e r = absurd r
-body_refused errors.SerialsSpent refusal found misplaced unsupported d fds e r = absurd r
-body_refused errors.UnknownHandle refusal found misplaced unsupported d fds e r = absurd r
 body_refused errors.Memory refusal found misplaced unsupported d fds e r = tt
+body_refused other refusal found misplaced unsupported d fds e r = absurd r
 
 -- ---- letters
 

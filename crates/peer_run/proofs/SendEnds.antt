@@ -76,21 +76,8 @@ unissued setting p q es lane w parcel (errors.InputOutput kinds.WriteFault) a k 
       writes = λ start now x. writes_unsent setting start now es lane w (Ok parcel) k f.legal i.4 x;
     }))
 unissued setting p q es lane w parcel (errors.Variant faults.Depth) a k fit f i e = absurd (let d = fit.0 in let n = i.2 in omega (arith, d, n))
-unissued setting p q es lane w parcel (errors.InputOutput kinds.Ended) a k fit f i e = absurd i
-unissued setting p q es lane w parcel (errors.InputOutput kinds.Fault) a k fit f i e = absurd i
-unissued setting p q es lane w parcel (errors.InputOutput kinds.Closed) a k fit f i e = absurd i
-unissued setting p q es lane w parcel (errors.InputOutput kinds.TimedOut) a k fit f i e = absurd i
-unissued setting p q es lane w parcel (errors.Variant faults.Signature) a k fit f i e = absurd i
-unissued setting p q es lane w parcel (errors.Variant faults.Malformed) a k fit f i e = absurd i
-unissued setting p q es lane w parcel (errors.Variant faults.SignatureMismatch) a k fit f i e = absurd i
-unissued setting p q es lane w parcel (errors.Variant faults.Memory) a k fit f i e = absurd i
-unissued setting p q es lane w parcel (errors.Names kind) a k fit f i e = absurd i
-unissued setting p q es lane w parcel errors.InvalidMatchRule a k fit f i e = absurd i
-unissued setting p q es lane w parcel errors.IncorrectEndian a k fit f i e = absurd i
-unissued setting p q es lane w parcel errors.UnknownHandle a k fit f i e = absurd i
-unissued setting p q es lane w parcel errors.Unsupported a k fit f i e = absurd i
-unissued setting p q es lane w parcel errors.InvalidField a k fit f i e = absurd i
 unissued setting p q es lane w parcel errors.Memory a k fit f i e = cc
+unissued setting p q es lane w parcel other a k fit f i e = absurd i
 
 same_peer : (p q : PeerView) → q.core ≡ p.core → q.names ≡ p.names → q.streams ≡ p.streams → q.given ≡ p.given → p ≡ q
 same_peer p q c n s g =
@@ -101,16 +88,8 @@ same_peer p q c n s g =
 
 never_read : (error : Error) (a : Answer) → unsent_answer error ≡ Some a → IsReadFault a → ⊥
 never_read (errors.InputOutput kind) a e f = cc
-never_read (errors.Variant kind) a e f = cc
-never_read (errors.Names kind) a e f = cc
-never_read errors.InvalidMatchRule a e f = cc
-never_read errors.IncorrectEndian a e f = cc
-never_read errors.ExcessData a e f = cc
-never_read errors.SerialsSpent a e f = cc
-never_read errors.UnknownHandle a e f = cc
-never_read errors.Unsupported a e f = cc
-never_read errors.InvalidField a e f = cc
 never_read errors.Memory a e f = cc
+never_read other a e f = cc
 
 -- ---- a message was issued
 
@@ -137,20 +116,8 @@ pub not_out : (old new : PeerView) (lane : ℕ) (issued : Issued) (m : Seen) (no
     → new.names ≡ named (is_some issued.call) None old.names → new.streams ≡ old.streams → new.given ≡ old.given → ((h : List events.Event) → Left old.core h → Left new.core (events.Fault ∷ h))
     → Sent old new lane issued m now after writing (answers.SendFailed error)
 not_out old new lane issued m now after writing (errors.InputOutput kinds.WriteFault) never s names streams given left = WriteFailed refl names streams given left s.0 s.1 s.2 s.3 s.4
-not_out old new lane issued m now after writing (errors.InputOutput kinds.Ended) never s names streams given left = absurd s
-not_out old new lane issued m now after writing (errors.InputOutput kinds.Fault) never s names streams given left = absurd s
-not_out old new lane issued m now after writing (errors.InputOutput kinds.Closed) never s names streams given left = absurd s
-not_out old new lane issued m now after writing (errors.InputOutput kinds.TimedOut) never s names streams given left = absurd s
-not_out old new lane issued m now after writing (errors.Variant kind) never s names streams given left = absurd s
-not_out old new lane issued m now after writing (errors.Names kind) never s names streams given left = absurd s
-not_out old new lane issued m now after writing errors.InvalidMatchRule never s names streams given left = absurd s
-not_out old new lane issued m now after writing errors.IncorrectEndian never s names streams given left = absurd s
-not_out old new lane issued m now after writing errors.ExcessData never s names streams given left = absurd s
-not_out old new lane issued m now after writing errors.SerialsSpent never s names streams given left = absurd s
-not_out old new lane issued m now after writing errors.UnknownHandle never s names streams given left = absurd s
-not_out old new lane issued m now after writing errors.Unsupported never s names streams given left = absurd s
-not_out old new lane issued m now after writing errors.InvalidField never s names streams given left = absurd s
 not_out old new lane issued m now after writing errors.Memory never s names streams given left = absurd (never refl)
+not_out old new lane issued m now after writing other never s names streams given left = absurd s
 
 never_sent : (expects_one : Bool) (number serial : ℕ) (a : Answer) → a ≡ sent_answer expects_one number serial → IsReadFault a → ⊥
 never_sent true number serial a e f = cc
@@ -261,17 +228,8 @@ made_letter (Some asked) parcel m = ap Some m
 
 no_letter : (asked : Option Asked) (error : Error) → (error ≡ errors.Memory → ⊥) → MakesAsked (Err error) asked → asked ≡ Some (Err error)
 no_letter None error n m = absurd m
-no_letter (Some asked) (errors.InputOutput kind) n m = ap Some m
-no_letter (Some asked) (errors.Variant kind) n m = ap Some m
-no_letter (Some asked) (errors.Names kind) n m = ap Some m
-no_letter (Some asked) errors.InvalidMatchRule n m = ap Some m
-no_letter (Some asked) errors.IncorrectEndian n m = ap Some m
-no_letter (Some asked) errors.ExcessData n m = ap Some m
-no_letter (Some asked) errors.SerialsSpent n m = ap Some m
-no_letter (Some asked) errors.UnknownHandle n m = ap Some m
-no_letter (Some asked) errors.Unsupported n m = ap Some m
-no_letter (Some asked) errors.InvalidField n m = ap Some m
 no_letter (Some asked) errors.Memory n m = absurd (n refl)
+no_letter (Some asked) other n m = ap Some m
 
 -- what is asked for by what the peer keeps
 abbrev kept_asks : Setting → PeerView → ℕ → Words → Option Asked
