@@ -59,8 +59,13 @@ more_front : (order : Endian) (t : Shape) (ts : List Shape) (p : ℕ) (bytes : L
 more_front order t ts p bytes x z valid k f = record {
   front = spelling order p x.0 ++ f.front;
   whole = k.reads.text_is ∙ ap (λ r. spelling order p x.0 ++ r) f.whole ∙ sym (append_assoc (spelling order p x.0) f.front z.1.rest);
-  spelled = (spelling order p x.0, f.front, refl, spells_by order p t bytes x valid k,
-    subst (λ (n : ℕ). SpellEach order n ts z.0 f.front) k.reads.place_is f.spelled);
+  spelled = (
+    spelling order p x.0,
+    f.front,
+    refl,
+    spells_by order p t bytes x valid k,
+    subst (λ (n : ℕ). SpellEach order n ts z.0 f.front) k.reads.place_is f.spelled,
+  );
 }
 
 each_found : (order : Endian) (ts : List Shape) (p : ℕ) (bytes : List ℕ) (y : List Datum × Cursor) → IsSignature ts → AreBytes bytes

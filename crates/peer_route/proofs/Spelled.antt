@@ -51,9 +51,10 @@ two_is a c b h =
     let high = digit_by a k.0 k.2 in
     let low = digit_by c k.1 k.3 in
     let up : k.0 ≡ b / 16 = omega (arith, k.4, high.0, low.0) in
-    let down : k.1 ≡ b % 16 = omega (arith, k.4, high.0, low.0) in
-    (omega (arith, k.4, high.0, low.0),
-      ap (λ x. x ∷ c ∷ []) (high.1 ∙ ap hex_digit up) ∙ ap (λ x. hex_digit (b / 16) ∷ x ∷ []) (low.1 ∙ ap hex_digit down))
+    let down : k.1 ≡ b % 16 = omega (arith, k.4, high.0, low.0) in (
+      omega (arith, k.4, high.0, low.0),
+      ap (λ x. x ∷ c ∷ []) (high.1 ∙ ap hex_digit up) ∙ ap (λ x. hex_digit (b / 16) ∷ x ∷ []) (low.1 ∙ ap hex_digit down),
+    )
 
 onto_by : (o : Option ℕ) (r : Option (List ℕ)) (bytes : List ℕ) → onto o r ≡ Some bytes → (b : ℕ) × (bs : List ℕ) × (o ≡ Some b) × (r ≡ Some bs) × (bytes ≡ b ∷ bs)
 onto_by None r bytes h = absurd (cc)

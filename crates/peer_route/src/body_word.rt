@@ -35,10 +35,7 @@ fn split_colon(word: &[u8]) -> Option<(&[u8], &[u8])>
 }
 
 /// The signature that a text spells, if it spells one.
-fn signature_of(
-    alloc: Global,
-    text: &[u8],
-) -> std::result::Result<Option<Signature>, AllocError>
+fn signature_of(alloc: Global, text: &[u8]) -> std::result::Result<Option<Signature>, AllocError>
     ensures { IfOk result (λ signature. signature ≡ types_in text.now) }
 {
     let Some(text) = utf8(text) else {

@@ -1,19 +1,22 @@
 -- The words of a message that is to be sent, one after the other, and what stands in its letters.
-use Rattle.std.proofs.Common.{◌≡◌, ◌&&◌, ℕ, refl, ap, sym, ◌∙◌, not, Bool, true, false, if◌then◌else◌, List, [], Option, Some, None, unwrap_or, Result, Ok, Err}
+use Rattle.std.proofs.Common.{◌≡◌, ◌&&◌, ℕ, refl, ap, sym, subst, ◌∙◌, not, Bool, true, false, if◌then◌else◌, List, [], Option, Some, None, unwrap_or, Result, Ok, Err}
 use Rattle.std.specs.Int.RustNames.{bit_and, bit_or}
 use Rattle.wire_names.specs.Names.{is_bus_name, is_object_path, is_interface_name, is_member_name}
+use Rattle.wire_names.specs.Names as grammar
 use Rattle.wire_names.specs.declared.error.NamesError.TheVariants as names
 use Rattle.wire_signature.specs.declared.error.VariantError.TheVariants as faults
 use Rattle.wire_tree.specs.Datum.{Datum}
 use Rattle.wire_number.specs.declared.endian.Endian.{Endian}
 use Rattle.wire_message.specs.Draft.{Draft, are_misplaced, flagged}
+use Rattle.wire_message.specs.declared.kind.MessageType.{MessageType}
 use Rattle.wire_message.specs.declared.error.Error.{Error}
 use Rattle.wire_message.specs.declared.error.Error.TheVariants as errors
 use Rattle.peer_route.specs.declared.words.CallFlags.{CallFlags}
-use Rattle.peer_route.specs.Parcel.{Parcel, Asked}
+use Rattle.peer_route.specs.declared.words.Outgoing.{Outgoing}
+use Rattle.peer_route.specs.Parcel.{Setting, Parcel, Asked}
 use Rattle.peer_route.specs.BodyWord.{ReadsBody}
-use Rattle.peer_route.specs.CallMessage.{flags_number, order_of, is_outside, words_refusal, asked_of}
-use Rattle.peer_run.specs.CallWords.{MakesParcel, lettered, letters_asked}
+use Rattle.peer_route.specs.CallMessage.{flags_number, order_of, fds_of, is_outside, words_refusal, values_in, asked_of, member_draft, member_asked}
+use Rattle.peer_run.specs.CallWords.{MakesParcel, unflagged, lettered, letters_asked}
 use Rattle.peer_run.proofs.Flags.{kept_flags}
 
 -- ---- words
@@ -88,10 +91,10 @@ pub misplaced : (d : Draft) (error : Error) (values : List Datum) (flags : CallF
     → letters_asked d values flags takes_fds ≡ Err error
 misplaced d error values flags takes_fds e = misplaced_by _ _ error values _ _ _ e
 
-placed_by : (b : Bool) (made new : Draft) (values : List Datum) (unsupported : Bool) (fds : List ℕ) → Ok made ≡ (if b then Err errors.InvalidField else Ok new)
+placed_by : (b : Bool) (made new : Draft) → Ok made ≡ (if b then Err errors.InvalidField else Ok new)
     → (b ≡ false) × (made ≡ new)
-placed_by true made new values unsupported fds e = absurd (cc)
-placed_by false made new values unsupported fds e = (refl, cc)
+placed_by true made new e = absurd (cc)
+placed_by false made new e = (refl, cc)
 
 pub flagged_is : (b : Draft) (order : Endian) (flags : CallFlags) (n : ℕ) → b.flags ≡ 0 → order ≡ order_of flags.big → n ≡ flags_number flags
     → flagged (record b { order = order }) n ≡ lettered b flags
@@ -99,3 +102,45 @@ flagged_is b order flags n h o e =
     ap (λ k. flagged (record b { order = order }) k) e ∙ ap (λ p. flagged (record b { order = p }) (flags_number flags)) o
     ∙ ap (λ z. if are_misplaced b.kind (flags_number flags) then Err errors.InvalidField else Ok (record b { order = order_of flags.big; flags = z }))
     (ap (λ z. bit_or z (bit_and (flags_number flags) 7)) h ∙ kept_flags flags)
+
+pub unsupported : (d made : Draft) (values : List Datum) (flags : CallFlags) (takes_fds : Bool) → Ok made ≡ lettered d flags → (flags.descriptor && not takes_fds) ≡ true
+    → letters_asked d values flags takes_fds ≡ Err errors.Unsupported
+unsupported d made values flags takes_fds e u =
+    let p = placed_by _ made _ e in
+    ap (λ m. asked_of None (Some values) m (flags.descriptor && not takes_fds) (record d { order = order_of flags.big; flags = flags_number flags }) (fds_of flags.descriptor)) p.0
+    ∙ ap (λ b. asked_of None (Some values) false b (record d { order = order_of flags.big; flags = flags_number flags }) (fds_of flags.descriptor)) u
+
+pub letter_made : (d made : Draft) (values : List Datum) (flags : CallFlags) (takes_fds : Bool) → Ok made ≡ lettered d flags → (flags.descriptor && not takes_fds) ≡ false
+    → letters_asked d values flags takes_fds ≡ Ok (record { draft = made; values = values; fds = fds_of flags.descriptor })
+letter_made d made values flags takes_fds e u =
+    let p = placed_by _ made _ e in
+    ap (λ m. asked_of None (Some values) m (flags.descriptor && not takes_fds) (record d { order = order_of flags.big; flags = flags_number flags }) (fds_of flags.descriptor)) p.0
+    ∙ ap (λ b. asked_of None (Some values) false b (record d { order = order_of flags.big; flags = flags_number flags }) (fds_of flags.descriptor)) u
+    ∙ ap (λ k. Ok (record { draft = k; values = values; fds = fds_of flags.descriptor })) (sym p.1)
+
+-- ---- the whole
+
+pub no_interface : is_interface_name [] ≡ false
+unfolding is_interface_name grammar.is_dotted
+no_interface = refl
+
+pub words_refused : (error : Error) (refusal : Option Error) (found : Option (List Datum)) (misplaced unsupported : Bool) (d : Draft) (fds : List ℕ) → refusal ≡ Some error
+    → MakesParcel (Err error) (asked_of refusal found misplaced unsupported d fds)
+words_refused error refusal found misplaced unsupported d fds e = refused error _ (ap (λ o. asked_of o found misplaced unsupported d fds) e)
+
+pub whole : (kind : MessageType) (setting : Setting) (words : Outgoing) (interface : Option (List ℕ)) (made : Draft) (values : List Datum) (r : Result Parcel Error)
+    → made ≡ unflagged (member_draft kind setting words interface) → words_refusal (member_draft kind setting words interface) ≡ None
+    → ReadsBody (Ok values) (values_in words.body) → MakesParcel r (letters_asked made values words.flags setting.takes_fds)
+    → MakesParcel r (member_asked setting words (member_draft kind setting words interface))
+whole kind setting words interface made values r m w b h =
+    let draft = member_draft kind setting words interface in
+    let wrong = are_misplaced draft.kind draft.flags in
+    let lacks = words.flags.descriptor && not setting.takes_fds in
+    subst (MakesParcel r)
+    (ap (λ d. letters_asked d values words.flags setting.takes_fds) m
+    ∙ sym (ap (λ o. asked_of o (values_in words.body) wrong lacks draft (fds_of words.flags.descriptor)) w
+    ∙ ap (λ o. asked_of None o wrong lacks draft (fds_of words.flags.descriptor)) b)) h
+
+-- an interface that is there
+pub there : (o : Option (List ℕ)) (name : List ℕ) → o ≡ Some name → is_interface_name name ≡ true → is_outside is_interface_name (Some (unwrap_or o [])) ≡ false
+there o name e h = ap (λ i. is_outside is_interface_name (Some (unwrap_or i []))) e ∙ ap not h

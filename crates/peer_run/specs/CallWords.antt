@@ -1,6 +1,5 @@
 -- What the words of a command make: a message to be sent, or why none is.
-use Rattle.std.specs.Prelude.{ℕ, ◌≡◌, ◌==◌, ◌&&◌, not, Bool, if◌then◌else◌, List, Option, Some, None, Result, Ok, Err}
-use Rattle.std.specs.Int.RustNames.{bit_and}
+use Rattle.std.specs.Prelude.{◌≡◌, ◌&&◌, not, Bool, if◌then◌else◌, List, Option, Some, None, Result, Ok, Err}
 use Rattle.wire_number.specs.declared.endian.Endian.TheVariants.{Little}
 use Rattle.wire_tree.specs.Datum.{Datum}
 use Rattle.wire_message.specs.Draft.{Draft, are_misplaced}

@@ -30,10 +30,14 @@ pub(crate) struct Letter<'a> {
 }
 
 impl<'a> Model for Letter<'a> {
+    ghost use Rattle.std.specs.Coded.{codes};
+    ghost use Rattle.wire_tree.specs.DatumCode.{datum_code};
     ghost use Rattle.peer_route.specs.Parcel.{Parcel};
     ghost use Rattle.peer_route.specs.CallMessage.{fds_of};
 
     ghost Value = { Parcel };
+
+    ghost coded = { Prim.hlevel (codes, datum_code) };
 
     ghost view = { λ l. record { draft = l.builder; values = l.body; fds = fds_of l.descriptor } };
 }
@@ -199,7 +203,9 @@ fn with_letters<'a>(builder: Builder<'a>, flags: CallFlags) -> Result<Builder<'a
     requires none { builder.flags ≡ 0 }
     ensures { result ≡ lettered builder.entry flags }
 {
-    builder.endian(order_of(flags.big)).with_flags(flags_of(flags))
+    builder
+        .endian(order_of(flags.big))
+        .with_flags(flags_of(flags))
 }
 
 /// The message with those letters and that body: refused where its type can't have the flags, then where it carries a

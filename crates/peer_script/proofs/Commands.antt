@@ -1,5 +1,5 @@
 -- The words of a command are words of a line, and are read again.
-use Rattle.std.proofs.Common.{ℕ, ◌≡◌, ◌/◌, ◌%◌, ◌^◌, ◌<◌, Bool, true, false, if◌then◌else◌, List, [], ◌∷◌, ◌++◌, length, Option, Some, None, codes, decimal, refl, ap, ◌∙◌, arith, append_assoc, append-nil}
+use Rattle.std.proofs.Common.{ℕ, ◌≡◌, ◌/◌, ◌%◌, ◌^◌, ◌<◌, Bool, true, false, if◌then◌else◌, List, [], ◌∷◌, ◌++◌, Option, Some, None, codes, decimal, refl, ap, arith, append_assoc, append-nil}
 use Rattle.std.specs.List.{list_all, flat_map, All}
 use Rattle.std.proofs.lemmas.Bool.Decides.{nat_tests}
 use Rattle.std.proofs.lemmas.List.Elements.{All-head, All-tail, All-from_recursion}
@@ -154,11 +154,23 @@ are_words (words.Take number) h =
 pub command_again : (w : Words) → HasText w → command_words (entry_words w) ≡ Some w
 unfolding entry_words command_words
 command_again (words.Call o) h =
-    rw (optional_again o.destination h.destination, text_again o.path h.path.some h.path.bytes, optional_again o.interface h.interface, text_again o.member h.member.some h.member.bytes,
-    (flags_again o.flags).again, optional_again o.body h.body) refl
+    rw (
+      optional_again o.destination h.destination,
+      text_again o.path h.path.some h.path.bytes,
+      optional_again o.interface h.interface,
+      text_again o.member h.member.some h.member.bytes,
+      (flags_again o.flags).again,
+      optional_again o.body h.body,
+    ) refl
 command_again (words.Signal o) h =
-    rw (optional_again o.destination h.destination, text_again o.path h.path.some h.path.bytes, there_again o.interface h.interface, text_again o.member h.member.some h.member.bytes,
-    (flags_again o.flags).again, optional_again o.body h.body) refl
+    rw (
+      optional_again o.destination h.destination,
+      text_again o.path h.path.some h.path.bytes,
+      there_again o.interface h.interface,
+      text_again o.member h.member.some h.member.bytes,
+      (flags_again o.flags).again,
+      optional_again o.body h.body,
+    ) refl
 command_again (words.Reply stream body) h = rw (number_again stream h.0, optional_again body h.1) refl
 command_again (words.Error stream error body) h = rw (number_again stream h.0, text_again error h.1.some h.1.bytes, optional_again body h.2) refl
 command_again words.Read h = refl

@@ -1,5 +1,5 @@
 -- What is spelled is read again: numbers and texts.
-use Rattle.std.proofs.Common.{ℕ, zero, suc, ◌≡◌, ◌+◌, ◌-◌, ◌*◌, ◌^◌, ◌/◌, ◌%◌, ◌<◌, Bool, true, false, not, ◌||◌, ◌==◌, nat_lt, nat_le, if◌then◌else◌, List, [], ◌∷◌, ◌++◌, length, get_or, Option, Some, None, codes, decimal, fold, refl, sym, ap, ◌∙◌, arith, rules}
+use Rattle.std.proofs.Common.{ℕ, zero, suc, ◌≡◌, ◌+◌, ◌-◌, ◌*◌, ◌^◌, ◌<◌, Bool, true, false, not, ◌||◌, ◌==◌, nat_lt, nat_le, if◌then◌else◌, List, [], ◌∷◌, ◌++◌, length, get_or, Option, Some, None, codes, decimal, fold, refl, sym, ap, ◌∙◌, arith, rules}
 use Rattle.std.specs.List.{list_all, flat_map, All}
 use Rattle.std.specs.Char.{is_ascii_digit}
 use Rattle.std.proofs.lemmas.Bool.Decides.{nat_tests}
@@ -9,7 +9,7 @@ use Rattle.std.proofs.lemmas.Fmt.{digits_decimal, digits_value-decimal, decimal_
 use Rattle.std.specs.Cmp.Lexicographic.{bytes_decides}
 use Rattle.peer_route.proofs.Spelled.{byte_again}
 use Rattle.peer_script.specs.Word.{same, digits_value, begins_with_zero, number_of, is_plain, plain_byte, escaped, unescaped, text_of, text_byte, text_word}
-use Rattle.peer_route.specs.Hex.{hex_value, hex_byte, hex_pairs, bytes_of, onto, hex_digit, hex_two, hex_word}
+use Rattle.peer_route.specs.Hex.{hex_value, hex_byte, onto, hex_two}
 
 -- ---- numbers
 

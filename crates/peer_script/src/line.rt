@@ -257,7 +257,15 @@ fn command_words(alloc: Global, words: &[&[u8]]) -> Result<Option<Words>, AllocE
                 Ok(call_of(outgoing_of(alloc, destination, path, interface, member, flags, body)?))
             } else if same(name, b"signal") {
                 let interface = present_of(alloc, interface)?;
-                Ok(signal_of(outgoing_of(alloc, destination, path, interface, member, flags, body)?))
+                Ok(signal_of(outgoing_of(
+                    alloc,
+                    destination,
+                    path,
+                    interface,
+                    member,
+                    flags,
+                    body,
+                )?))
             } else {
                 Ok(None)
             }

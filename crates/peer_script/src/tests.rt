@@ -218,7 +218,13 @@ fn writes_each_answer(rt: HostRuntime) -> Result<(), Fail> {
         (Words::Take(0), Answer::Item(1)),
         (Words::Take(0), Answer::Empty),
         (Words::Take(0), Answer::Ended),
-        (Words::Reply { stream: 2, body: None }, Answer::Sent(1)),
+        (
+            Words::Reply {
+                stream: 2,
+                body: None,
+            },
+            Answer::Sent(1),
+        ),
         (
             Words::Error {
                 stream: 0,
