@@ -97,10 +97,11 @@ mutual
       let mo : ℕ = k + length (spelling o k a) in
       let mq : ℕ = k + length (spelling q k a) in
       let value : length (spelling o mo b) ≡ length (spelling q mq b) = spelling_long o q mo b ∙ ap (λ n. length (spelling q (k + n) b)) key in
-      let here : mo + length (spelling o mo b) ≡ mq + length (spelling q mq b) = ap (λ n. k + n + length (spelling o mo b)) key ∙ ap (λ n. mq + n) value in
-      (one_fits o q k a f.0,
+      let here : mo + length (spelling o mo b) ≡ mq + length (spelling q mq b) = ap (λ n. k + n + length (spelling o mo b)) key ∙ ap (λ n. mq + n) value in (
+        one_fits o q k a f.0,
         subst (λ n. ArraysFit q (k + n) b) key (one_fits o q mo b f.1),
-        subst (λ n. EntriesFit q n es) here (entries_fit o q (mo + length (spelling o mo b)) es f.2))
+        subst (λ n. EntriesFit q n es) here (entries_fit o q (mo + length (spelling o mo b)) es f.2),
+      )
 
 -- ---- values that bytes spell
 

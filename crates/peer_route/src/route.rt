@@ -102,13 +102,9 @@ impl Route {
         ensures placed { IfOk result (Waits self.old self.new) }
     {
         let mut serials = self.serials;
-        let message = builder.without_serial().build_body_uncounted(
-            self.alloc,
-            &mut serials,
-            &self.calls,
-            body,
-            fds,
-        )?;
+        let message = builder
+            .without_serial()
+            .build_body_uncounted(self.alloc, &mut serials, &self.calls, body, fds)?;
         if self.failed {
             return Err(Error::InputOutput(IoKind::WriteFault));
         }

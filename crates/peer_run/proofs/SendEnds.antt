@@ -1,5 +1,6 @@
 -- How a command that sends ends, from what issuing and sending gave.
-use Rattle.std.proofs.Common.{◌≡◌, ◌<◌, ℕ, arith, inl, inr, refl, sym, ◌∙◌, ap, subst, Bool, true, false, List, [], ◌∷◌, ◌++◌, length, Option, Some, None, is_some, Result, Ok, Err, IfOk, slice_get}
+use Rattle.std.proofs.Common.{◌≡◌, ◌==◌, ◌<◌, ℕ, arith, inl, inr, refl, sym, ◌∙◌, ap, subst, Bool, true, false, List, [], ◌∷◌, ◌++◌, length, Option, Some, None, is_some, Result, Ok, Err, IfOk, slice_get}
+use Rattle.std.proofs.lemmas.Bool.Decides.{nat_tests}
 use Rattle.wire_message.specs.Front.{Seen}
 use Rattle.wire_message.specs.declared.error.Error.{Error}
 use Rattle.wire_message.specs.declared.error.Error.TheVariants as errors
@@ -35,9 +36,9 @@ use Rattle.peer_run.proofs.SendStep.{IsSending, sending_is, asks_kept, entry_eve
 -- ---- nothing was issued
 
 -- what an error says of the entry
-record Unissued (setting : Setting) (p : PeerView) (es : List Entry) (lane : ℕ) (w : Words) (a : Answer) : Type 0 where
-  follows : Follows setting p (entry lane w a ∷ es)
-  writes : (start now : Outlet) → Writes setting start now es → Writes setting start now (entry lane w a ∷ es)
+pub record Unissued (setting : Setting) (p : PeerView) (es : List Entry) (lane : ℕ) (w : Words) (a : Answer) : Type 0 where
+  pub follows : Follows setting p (entry lane w a ∷ es)
+  pub writes : (start now : Outlet) → Writes setting start now es → Writes setting start now (entry lane w a ∷ es)
 
 as_answer : (a b : Answer) (P : Answer → Type 0) → Some a ≡ Some b → P a → P b
 as_answer a b P e x = let f : a ≡ b = cc in subst P f x
@@ -63,18 +64,24 @@ long_of parcel serial fit (inr long) = long.1
 unissued : (setting : Setting) (p q : PeerView) (es : List Entry) (lane : ℕ) (w : Words) (parcel : Parcel) (error : Error) (a : Answer)
     → IsSending (trail setting es) lane w (Ok parcel) → AreWritable parcel → Follows setting p es → Issues p.core q.core parcel (trail setting es).events (Err error)
     → unsent_answer error ≡ Some a → (q.core ≡ p.core) × Unissued setting p es lane w a
-unissued setting p q es lane w parcel errors.SerialsSpent a k fit f i e =
-    (i.1, as_answer (answers.Refused errors.SerialsSpent) a (Unissued setting p es lane w) e
-    (unissued_refused setting p es lane w (Ok parcel) errors.SerialsSpent k f (refused-spent (trail setting es).events (Ok parcel) parcel refl i.0)))
-unissued setting p q es lane w parcel errors.ExcessData a k fit f i e =
-    (i.4, as_answer (answers.Refused errors.ExcessData) a (Unissued setting p es lane w) e
-    (unissued_refused setting p es lane w (Ok parcel) errors.ExcessData k f
-    (refused-long (trail setting es).events (Ok parcel) parcel i.0 refl i.1 (long_of parcel i.0 fit i.3))))
-unissued setting p q es lane w parcel (errors.InputOutput kinds.WriteFault) a k fit f i e =
-    (i.5, as_answer write_fault a (Unissued setting p es lane w) e (record {
-      follows = follows_unsent setting p es lane w (Ok parcel) k f (not_refused (trail setting es).events (Ok parcel) parcel i.0 refl i.1 i.3) i.4;
-      writes = λ start now x. writes_unsent setting start now es lane w (Ok parcel) k f.legal i.4 x;
-    }))
+unissued setting p q es lane w parcel errors.SerialsSpent a k fit f i e = (
+  i.1,
+  as_answer (answers.Refused errors.SerialsSpent) a (Unissued setting p es lane w) e
+      (unissued_refused setting p es lane w (Ok parcel) errors.SerialsSpent k f (refused-spent (trail setting es).events (Ok parcel) parcel refl i.0)),
+)
+unissued setting p q es lane w parcel errors.ExcessData a k fit f i e = (
+  i.4,
+  as_answer (answers.Refused errors.ExcessData) a (Unissued setting p es lane w) e
+      (unissued_refused setting p es lane w (Ok parcel) errors.ExcessData k f
+      (refused-long (trail setting es).events (Ok parcel) parcel i.0 refl i.1 (long_of parcel i.0 fit i.3))),
+)
+unissued setting p q es lane w parcel (errors.InputOutput kinds.WriteFault) a k fit f i e = (
+  i.5,
+  as_answer write_fault a (Unissued setting p es lane w) e (record {
+    follows = follows_unsent setting p es lane w (Ok parcel) k f (not_refused (trail setting es).events (Ok parcel) parcel i.0 refl i.1 i.3) i.4;
+    writes = λ start now x. writes_unsent setting start now es lane w (Ok parcel) k f.legal i.4 x;
+  }),
+)
 unissued setting p q es lane w parcel (errors.Variant faults.Depth) a k fit f i e = absurd (let d = fit.0 in let n = i.2 in omega (arith, d, n))
 unissued setting p q es lane w parcel errors.Memory a k fit f i e = cc
 unissued setting p q es lane w parcel other a k fit f i e = absurd i
@@ -237,7 +244,7 @@ kept_asks setting p lane w = asks_with setting (λ n. kept_at p.given (place 0 l
 
 can_take : (fds : List ℕ) (takes : Bool) → are_refused fds takes ≡ false → is_unsupported (fds_field fds) takes ≡ false
 can_take [] takes e = refl
-can_take (fd ∷ fds) takes e = e
+can_take (fd ∷ fds) takes e = let z : (length (fd ∷ fds) == 0) ≡ false = grind (arith, nat_tests) in rw z e
 
 -- the letter was issued, and sent or not
 pub letter_sent : (setting : Setting) (p q r : PeerView) (es : List Entry) (lane : ℕ) (w : Words) (parcel : Parcel) (issued : Issued) (now after : Outlet) (before writing : Writing) (a : Answer)
@@ -261,37 +268,37 @@ letter_not_sent setting p q es lane w parcel error a now writing made f i e n t 
     let goes = asked_goes setting (λ k. kept_at p.given (place 0 lane k p.streams)) w parcel is in
     not_sending setting p q es lane w parcel error a now writing (sym (asks_kept setting p es lane w f) ∙ is) goes.written f i e n t g fine
 
-not_memory : {E : Type 0} (error : Error) (a : Answer) → IsRefusal {E = E} error (Ok a) → error ≡ errors.Memory → ⊥
-not_memory errors.Memory a is e = is
-not_memory (errors.InputOutput kind) a is e = cc
-not_memory (errors.Variant kind) a is e = cc
-not_memory (errors.Names kind) a is e = cc
-not_memory errors.InvalidMatchRule a is e = cc
-not_memory errors.IncorrectEndian a is e = cc
-not_memory errors.ExcessData a is e = cc
-not_memory errors.SerialsSpent a is e = cc
-not_memory errors.UnknownHandle a is e = cc
-not_memory errors.Unsupported a is e = cc
-not_memory errors.InvalidField a is e = cc
+not_memory : (E : Type 0) (error : Error) (a : Answer) → IsRefusal {E = E} error (Ok a) → error ≡ errors.Memory → ⊥
+not_memory E errors.Memory a is e = is
+not_memory E (errors.InputOutput kind) a is e = cc
+not_memory E (errors.Variant kind) a is e = cc
+not_memory E (errors.Names kind) a is e = cc
+not_memory E errors.InvalidMatchRule a is e = cc
+not_memory E errors.IncorrectEndian a is e = cc
+not_memory E errors.ExcessData a is e = cc
+not_memory E errors.SerialsSpent a is e = cc
+not_memory E errors.UnknownHandle a is e = cc
+not_memory E errors.Unsupported a is e = cc
+not_memory E errors.InvalidField a is e = cc
 
-refusal_is : {E : Type 0} (error : Error) (a : Answer) → (error ≡ errors.Memory → ⊥) → IsRefusal {E = E} error (Ok a) → a ≡ answers.Refused error
-refusal_is errors.Memory a n is = absurd (n refl)
-refusal_is (errors.InputOutput kind) a n is = is
-refusal_is (errors.Variant kind) a n is = is
-refusal_is (errors.Names kind) a n is = is
-refusal_is errors.InvalidMatchRule a n is = is
-refusal_is errors.IncorrectEndian a n is = is
-refusal_is errors.ExcessData a n is = is
-refusal_is errors.SerialsSpent a n is = is
-refusal_is errors.UnknownHandle a n is = is
-refusal_is errors.Unsupported a n is = is
-refusal_is errors.InvalidField a n is = is
+refusal_is : (E : Type 0) (error : Error) (a : Answer) → (error ≡ errors.Memory → ⊥) → IsRefusal {E = E} error (Ok a) → a ≡ answers.Refused error
+refusal_is E errors.Memory a n is = absurd (n refl)
+refusal_is E (errors.InputOutput kind) a n is = is
+refusal_is E (errors.Variant kind) a n is = is
+refusal_is E (errors.Names kind) a n is = is
+refusal_is E errors.InvalidMatchRule a n is = is
+refusal_is E errors.IncorrectEndian a n is = is
+refusal_is E errors.ExcessData a n is = is
+refusal_is E errors.SerialsSpent a n is = is
+refusal_is E errors.UnknownHandle a n is = is
+refusal_is E errors.Unsupported a n is = is
+refusal_is E errors.InvalidField a n is = is
 
 -- no letter was made
-pub letter_refused : {E : Type 0} (setting : Setting) (p : PeerView) (es : List Entry) (lane : ℕ) (w : Words) (error : Error) (r : Result Answer E) (now : Outlet) (writing : Writing)
+pub letter_refused : (E : Type 0) (setting : Setting) (p : PeerView) (es : List Entry) (lane : ℕ) (w : Words) (error : Error) (r : Result Answer E) (now : Outlet) (writing : Writing)
     → MakesAsked (Err error) (kept_asks setting p lane w) → IsRefusal error r → Follows setting p es → IsFine (trail setting es).events writing
     → IfOk r (λ a. Sending setting p es lane w now now writing a)
-letter_refused {E} setting p es lane w error (Ok a) now writing made is f fine =
-    let never = not_memory {E} error a is in
-    not_asked setting p es lane w error a now writing (sym (asks_kept setting p es lane w f) ∙ no_letter (kept_asks setting p lane w) error never made) f (refusal_is {E} error a never is) fine
-letter_refused setting p es lane w error (Err e) now writing made is f fine = tt
+letter_refused E setting p es lane w error (Ok a) now writing made is f fine =
+    let never = not_memory E error a is in
+    not_asked setting p es lane w error a now writing (sym (asks_kept setting p es lane w f) ∙ no_letter (kept_asks setting p lane w) error never made) f (refusal_is E error a never is) fine
+letter_refused E setting p es lane w error (Err e) now writing made is f fine = tt

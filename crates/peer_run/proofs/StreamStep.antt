@@ -20,8 +20,9 @@ use Rattle.peer_route.specs.Trail.{trail, drop_spends, take_does, place, count, 
 use Rattle.peer_route.specs.Answers.{shown_drop, drop_of, shown_take, take_of}
 use Rattle.peer_route.specs.Told.{ReadTold}
 use Rattle.peer_route.specs.Left.{Left}
-use Rattle.peer_route.proofs.Given.{given_same, given_made, given_after, given_taken}
-use Rattle.peer_run.specs.Stands.{PeerView, Inlet, Outlet, Follows, Reads, Writes, IsReadFault, IsWriteFault, entry}
+use Rattle.peer_route.proofs.Given.{given_same, given_made, given_taken}
+use Rattle.peer_route.proofs.Given as given
+use Rattle.peer_run.specs.Stands.{PeerView, Inlet, Outlet, Follows, Reads, Writes, IsReadFault, IsWriteFault, given_after, entry}
 use Rattle.peer_run.proofs.Quiet.{drop_quiet, stream_quiet, take_quiet, fault_was_read}
 use Rattle.peer_run.proofs.QuietStep.{follows_quiet, reads_quiet, writes_quiet}
 
@@ -132,10 +133,17 @@ take_streams lane (Ok (polled.Closed error)) = refl
 take_streams lane (Ok polled.Ended) = refl
 take_streams lane (Err error) = refl
 
+same_after : (k : ℕ) (r : Result (Polled Seen) Error) (gs : List (Option Seen)) → given_after k r gs ≡ given.given_after k r gs
+same_after k (Ok (polled.Now m)) gs = refl
+same_after k (Ok polled.NotYet) gs = refl
+same_after k (Ok (polled.Closed error)) gs = refl
+same_after k (Ok polled.Ended) gs = refl
+same_after k (Err error) gs = refl
+
 given_now : (h : List events.Event) (k : ℕ) (r : Result (Polled Seen) Error) → r ≡ streams.take_answer h k
     → given_after k r (streams.all_given h) ≡ streams.all_given (take_does (Some k) (shown_take r) ++ h)
 given_now h k r answer =
-    ap (λ (x : Result (Polled Seen) Error). given_after k x (streams.all_given h)) answer ∙ sym (given_taken h k)
+    same_after k r (streams.all_given h) ∙ ap (λ (x : Result (Polled Seen) Error). given.given_after k x (streams.all_given h)) answer ∙ sym (given_taken h k)
     ∙ ap (λ (x : Result (Polled Seen) Error). streams.all_given (streams.take_events k x ++ h)) (sym answer) ∙ ap (λ xs. streams.all_given (xs ++ h)) (sym (take_shown_does k r))
 
 pub follows_take : (setting : Setting) (p q : PeerView) (es : List Entry) (lane number k : ℕ) (r : Result (Polled Seen) Error) → Follows setting p es

@@ -1,5 +1,5 @@
 -- How a peer, a source and a sink stand to a history, newest first: what a run keeps from command to command.
-use Rattle.std.specs.Prelude.{ℕ, ⊤, ◌≡◌, ◌-◌, ◌^◌, ◌≤◌, ◌⊎◌, Bool, true, false, List, [], ◌∷◌, ◌++◌, length, Option, Some, None, is_some, IfSome, Result, Ok, Err}
+use Rattle.std.specs.Prelude.{ℕ, ⊤, ◌≡◌, ◌-◌, ◌^◌, ◌≤◌, ◌⊎◌, Bool, true, false, List, [], ◌∷◌, ◌++◌, length, slice_set, Option, Some, None, is_some, IfSome, Result, Ok, Err}
 use Rattle.wire_message.specs.Front.{Seen}
 use Rattle.wire_message.specs.declared.error.Error.{Error}
 use Rattle.wire_message.specs.declared.error.Error.TheVariants as errors
@@ -10,6 +10,8 @@ use Rattle.wire_framing.specs.Sink.{RoomFalls, RoomBreaks}
 use Rattle.wire_framing.specs.Send.{Part}
 use Rattle.wire_framing.specs.declared.write_half.Writing.{Writing}
 use Rattle.wire_framing.specs.declared.write_half.Writing.TheVariants.{Fine, Failed}
+use Rattle.peer_route.specs.declared.polled.Polled.{Polled}
+use Rattle.peer_route.specs.declared.polled.Polled.TheVariants as polled
 use Rattle.peer_route.specs.declared.words.Words.{Words}
 use Rattle.peer_route.specs.declared.words.Words.TheVariants as words
 use Rattle.peer_route.specs.declared.answer.Answer.{Answer}
@@ -146,6 +148,14 @@ unsent_answer error = Some (answers.Refused error)
 abbrev pub NotIssued : {E : Type 0} → Error → Result Answer E → Type 0
 NotIssued error (Ok answer) = unsent_answer error ≡ Some answer
 NotIssued error (Err e) = unsent_answer error ≡ None
+
+-- for each stream the message that it gave last, after a take
+abbrev pub given_after : ℕ → Result (Polled Seen) Error → List (Option Seen) → List (Option Seen)
+given_after k (Ok (polled.Now m)) gs = slice_set gs k (Some m)
+given_after k (Ok polled.NotYet) gs = gs
+given_after k (Ok (polled.Closed error)) gs = gs
+given_after k (Ok polled.Ended) gs = gs
+given_after k (Err error) gs = gs
 
 -- words that were refused; not want of memory
 abbrev pub IsRefusal : {E : Type 0} → Error → Result Answer E → Type 0

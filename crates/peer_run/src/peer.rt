@@ -1,4 +1,4 @@
-ghost use Rattle.std.specs.Prelude.{ℕ, ◌≡◌, ◌≢◌, ◌+◌, ◌≤◌, ◌<◌, ◌-◌, ◌^◌, slice_get, slice_set, true, false, List, [], ◌∷◌, length, Option, IfSome, IfOk, IfErr, OnOk, Some, None, Err, is_some, option_map};
+ghost use Rattle.std.specs.Prelude.{ℕ, ◌≡◌, ◌≢◌, ◌+◌, ◌≤◌, ◌<◌, ◌-◌, ◌^◌, slice_get, true, false, List, [], ◌∷◌, length, Option, IfSome, IfOk, IfErr, OnOk, Some, None, Err, is_some, option_map};
 ghost use Rattle.peer_route.specs.declared.answer.Entry.{Entry};
 ghost use Rattle.peer_route.specs.declared.words.Words.TheVariants as words;
 ghost use Rattle.peer_route.specs.Parcel.{Setting};
@@ -8,7 +8,7 @@ ghost use Rattle.peer_route.specs.Trail.{trail, asks_with, kept_at};
 ghost use Rattle.peer_route.specs.Answers as shows;
 ghost use Rattle.peer_route.specs.Answers.{sent_answer};
 ghost use Rattle.peer_run.specs.CallWords.{MakesAsked};
-ghost use Rattle.peer_run.specs.Stands.{PeerView, Inlet, Outlet, Follows, Reads, Writes, Sent, Sending, NotIssued, IsRefusal, IsFine, setting_by, sends, named, entry};
+ghost use Rattle.peer_run.specs.Stands.{PeerView, Inlet, Outlet, Follows, Reads, Writes, Sent, Sending, NotIssued, IsRefusal, IsFine, setting_by, sends, given_after, named, entry};
 ghost use Rattle.wire_framing.specs.Receive.{Receives, Takes};
 ghost use Rattle.wire_framing.specs.Writing.{is_unsupported};
 ghost use Rattle.wire_framing.specs.declared.write_half.Writing.TheVariants.{Fine};
@@ -121,19 +121,6 @@ fn shown(polled: wire_message::Result<Polled<Message>>) -> Answer
     match polled {
         Ok(Polled::Now(message)) => shown_reply(message),
         Ok(Polled::NotYet) => Answer::NotYet,
-        Ok(Polled::Closed(error)) => Answer::Closed(error),
-        Ok(Polled::Ended) => Answer::Ended,
-        Err(error) => Answer::Refused(error),
-    }
-}
-
-/// What is shown of a take: the item's position.
-fn shown_take(polled: wire_message::Result<Polled<Message>>) -> Answer
-    ensures { result ≡ shows.shown_take polled }
-{
-    match polled {
-        Ok(Polled::Now(message)) => Answer::Item(message.recv_position()),
-        Ok(Polled::NotYet) => Answer::Empty,
         Ok(Polled::Closed(error)) => Answer::Closed(error),
         Ok(Polled::Ended) => Answer::Ended,
         Err(error) => Answer::Refused(error),
@@ -351,16 +338,24 @@ impl Peer {
         Ok(Answer::Streaming(number))
     }
 
-    /// Keeps the message that the stream with this number gave, and tells its position.
-    fn give(&mut self, stream: u64, message: Message) -> Answer
-        ensures answer { result ≡ Answer.Item message.position }
-        ensures kept { self.new ≡ record self.old { given = slice_set self.old.given stream (Some message) } }
+    /// What is shown of a take from the stream with this number; an item that it gave is kept.
+    fn show_take(&mut self, stream: u64, polled: wire_message::Result<Polled<Message>>) -> Answer
+        ensures answer { result ≡ shows.shown_take polled }
+        ensures kept { self.new ≡ record self.old { given = given_after stream polled self.old.given } }
     {
-        let position = message.recv_position();
-        if let Some(slot) = self.given.get_mut(stream as usize) {
-            *slot = Some(message);
+        match polled {
+            Ok(Polled::Now(message)) => {
+                let position = message.recv_position();
+                if let Some(slot) = self.given.get_mut(stream as usize) {
+                    *slot = Some(message);
+                }
+                Answer::Item(position)
+            }
+            Ok(Polled::NotYet) => Answer::Empty,
+            Ok(Polled::Closed(error)) => Answer::Closed(error),
+            Ok(Polled::Ended) => Answer::Ended,
+            Err(error) => Answer::Refused(error),
         }
-        Answer::Item(position)
     }
 
     /// What the lane's stream with this number gives.
@@ -372,11 +367,11 @@ impl Peer {
             → Writes setting start now es → Writes setting start now (entry lane (words.Take number) result ∷ es) }
     {
         match place(&self.streams, lane, number) {
-            Some(number) => match self.route.take(&MessageStream { number }) {
-                Ok(Polled::Now(message)) => self.give(number, message),
-                other => shown_take(other),
-            },
-            None => shown_take(Err(Error::UnknownHandle)),
+            Some(number) => {
+                let polled = self.route.take(&MessageStream { number });
+                self.show_take(number, polled)
+            }
+            None => Answer::Refused(Error::UnknownHandle),
         }
     }
 

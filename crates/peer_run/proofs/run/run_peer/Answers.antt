@@ -26,7 +26,7 @@ loop-command-preserved g c =
     let item = c.in_ok-entry.ensures.command ∙ c.command-item.is in
     record {
       stands = rw (c.in_ok-push.ensures.items, reverse-append c.loop-command.entries.items (c.in_ok-entry.entry ∷ []))
-          (subst (λ b. Stands (setting_by c.args.setup.now.name b) _ _ _ _ _ _ _) inv.takes (c.in_ok-entry.ensures.stands _ _ _ (subst (λ b. Stands (setting_by c.args.setup.now.name b) _ _ _ _ _ _ _) (sym inv.takes) inv.stands)));
+          (rw (inv.takes) at (c.in_ok-entry.ensures.stands _ _ _ (rw (inv.takes) inv.stands)));
       commands = ap (map command_of) (c.in_ok-push.ensures.items) ∙ map_push command_of c.loop-command.entries.items c.in_ok-entry.entry
           ∙ ap (λ xs. xs ++ command_of c.in_ok-entry.entry ∷ []) inv.commands
           ∙ ap (λ x. take c.loop-command.command-index c.args.commands.now ++ x ∷ []) item

@@ -4,7 +4,7 @@ use Rattle.peer_route.specs.History.{Fault}
 use Rattle.peer_route.specs.Left.{Left}
 use Rattle.peer_route.specs.declared.answer.Answer.TheVariants.{SendFailed}
 use Rattle.peer_run.specs.Stands.{PeerView, Outlet, Sent}
-use Rattle.peer_run.proofs.CallEnds.{not_out}
+use Rattle.peer_run.proofs.SendEnds.{not_out}
 use Rattle.wire_framing.specs.Writing.{is_unsupported}
 use Rattle.wire_message.specs.Front.{Seen}
 use Rattle.peer_run.proofs.peer.Peer.send.Goals as goal

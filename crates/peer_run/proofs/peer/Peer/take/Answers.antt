@@ -7,14 +7,14 @@ use Rattle.peer_run.proofs.peer.Peer.take.Goals as goal
 pub returns-in-Some-clause-follows : goal.returns-in-Some-clause-follows
 returns-in-Some-clause-follows c setting es f =
     let p : PeerView = record { core = c.self.inside.route; names = c.self.inside.names.items; streams = c.self.inside.streams.items; given = c.self.inside.given.items } in
-    let q : PeerView = record { core = c.take.new.self; names = c.self.inside.names.items; streams = c.self.inside.streams.items; given = c.self.inside.given.items } in
+    let kept = c.show_take.ensures.kept in
     let g : Follows setting p es = rw (← c.self.view_is) at f in
-    rw (c.shown_take.ensures)
-    (follows_take setting p q es c.args.lane c.args.number c.in-Some.number c.take.result g
+    rw (c.show_take.ensures.answer, kept)
+    (follows_take setting p _ es c.args.lane c.args.number c.in-Some.number c.take-polled.result g
     (ap (place 0 c.args.lane c.args.number) (sym c.deref.ensures.value) ∙ sym c.place.ensures ∙ c.in-Some.is)
-    (c.take.ensures.answer (trail setting es).events g.left) refl refl (c.take.ensures.left (trail setting es).events g.left))
+    (c.take-polled.ensures.answer (trail setting es).events g.left) refl refl refl (c.take-polled.ensures.left (trail setting es).events g.left))
 
 pub returns-in-Some-clause-reads : goal.returns-in-Some-clause-reads
 returns-in-Some-clause-reads c setting start now es f r =
     let g : Follows setting _ es = rw (← c.self.view_is) at f in
-    rw (c.shown_take.ensures) (reads_take setting start now es c.args.lane c.args.number c.in-Some.number c.take.result (c.take.ensures.answer (trail setting es).events g.left) r)
+    rw (c.show_take.ensures.answer) (reads_take setting start now es c.args.lane c.args.number c.in-Some.number c.take-polled.result (c.take-polled.ensures.answer (trail setting es).events g.left) r)
