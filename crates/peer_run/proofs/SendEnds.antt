@@ -64,18 +64,24 @@ long_of parcel serial fit (inr long) = long.1
 unissued : (setting : Setting) (p q : PeerView) (es : List Entry) (lane : ℕ) (w : Words) (parcel : Parcel) (error : Error) (a : Answer)
     → IsSending (trail setting es) lane w (Ok parcel) → AreWritable parcel → Follows setting p es → Issues p.core q.core parcel (trail setting es).events (Err error)
     → unsent_answer error ≡ Some a → (q.core ≡ p.core) × Unissued setting p es lane w a
-unissued setting p q es lane w parcel errors.SerialsSpent a k fit f i e =
-    (i.1, as_answer (answers.Refused errors.SerialsSpent) a (Unissued setting p es lane w) e
-    (unissued_refused setting p es lane w (Ok parcel) errors.SerialsSpent k f (refused-spent (trail setting es).events (Ok parcel) parcel refl i.0)))
-unissued setting p q es lane w parcel errors.ExcessData a k fit f i e =
-    (i.4, as_answer (answers.Refused errors.ExcessData) a (Unissued setting p es lane w) e
-    (unissued_refused setting p es lane w (Ok parcel) errors.ExcessData k f
-    (refused-long (trail setting es).events (Ok parcel) parcel i.0 refl i.1 (long_of parcel i.0 fit i.3))))
-unissued setting p q es lane w parcel (errors.InputOutput kinds.WriteFault) a k fit f i e =
-    (i.5, as_answer write_fault a (Unissued setting p es lane w) e (record {
-      follows = follows_unsent setting p es lane w (Ok parcel) k f (not_refused (trail setting es).events (Ok parcel) parcel i.0 refl i.1 i.3) i.4;
-      writes = λ start now x. writes_unsent setting start now es lane w (Ok parcel) k f.legal i.4 x;
-    }))
+unissued setting p q es lane w parcel errors.SerialsSpent a k fit f i e = (
+  i.1,
+  as_answer (answers.Refused errors.SerialsSpent) a (Unissued setting p es lane w) e
+      (unissued_refused setting p es lane w (Ok parcel) errors.SerialsSpent k f (refused-spent (trail setting es).events (Ok parcel) parcel refl i.0)),
+)
+unissued setting p q es lane w parcel errors.ExcessData a k fit f i e = (
+  i.4,
+  as_answer (answers.Refused errors.ExcessData) a (Unissued setting p es lane w) e
+      (unissued_refused setting p es lane w (Ok parcel) errors.ExcessData k f
+      (refused-long (trail setting es).events (Ok parcel) parcel i.0 refl i.1 (long_of parcel i.0 fit i.3))),
+)
+unissued setting p q es lane w parcel (errors.InputOutput kinds.WriteFault) a k fit f i e = (
+  i.5,
+  as_answer write_fault a (Unissued setting p es lane w) e (record {
+    follows = follows_unsent setting p es lane w (Ok parcel) k f (not_refused (trail setting es).events (Ok parcel) parcel i.0 refl i.1 i.3) i.4;
+    writes = λ start now x. writes_unsent setting start now es lane w (Ok parcel) k f.legal i.4 x;
+  }),
+)
 unissued setting p q es lane w parcel (errors.Variant faults.Depth) a k fit f i e = absurd (let d = fit.0 in let n = i.2 in omega (arith, d, n))
 unissued setting p q es lane w parcel (errors.InputOutput kinds.Ended) a k fit f i e = absurd i
 unissued setting p q es lane w parcel (errors.InputOutput kinds.Fault) a k fit f i e = absurd i
