@@ -1,4 +1,5 @@
 pub mod CallWords
+pub mod ParcelCode
 pub mod Stands
 pub mod Runs
 pub mod Program

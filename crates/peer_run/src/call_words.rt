@@ -30,14 +30,15 @@ pub(crate) struct Letter<'a> {
 }
 
 impl<'a> Model for Letter<'a> {
-    ghost use Rattle.std.specs.Coded.{codes};
-    ghost use Rattle.wire_tree.specs.DatumCode.{datum_code};
+    ghost use Rattle.wire_number.specs.contracts.endian.Endian as orders;
+    ghost use Rattle.wire_message.specs.contracts.kind.MessageType as kinds;
     ghost use Rattle.peer_route.specs.Parcel.{Parcel};
     ghost use Rattle.peer_route.specs.CallMessage.{fds_of};
+    ghost use Rattle.peer_run.specs.ParcelCode.{parcel_code};
 
     ghost Value = { Parcel };
 
-    ghost coded = { Prim.hlevel (codes, datum_code) };
+    ghost coded = { parcel_code kinds.the_row.coded orders.the_row.coded };
 
     ghost view = { λ l. record { draft = l.builder; values = l.body; fds = fds_of l.descriptor } };
 }
