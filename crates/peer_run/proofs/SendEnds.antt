@@ -344,3 +344,11 @@ letter_refused E setting p es lane w error (Ok a) now writing made is f fine =
     let never = not_memory E error a is in
     not_asked setting p es lane w error a now writing (sym (asks_kept setting p es lane w f) ∙ no_letter (kept_asks setting p lane w) error never made) f (refusal_is E error a never is) fine
 letter_refused E setting p es lane w error (Err e) now writing made is f fine = tt
+
+-- the same for each history that the peer follows, by what it has inside
+pub letter_refused_of : (E : Type 0) (setting : Setting) (p v : PeerView) (lane : ℕ) (w : Words) (error : Error) (r : Result Answer E) (now : Outlet) (writing : Writing)
+    → p ≡ v → MakesAsked (Err error) (kept_asks setting p lane w) → IsRefusal error r
+    → IfOk r (λ a. (es : List Entry) → Follows setting v es → IsFine (trail setting es).events writing → Sending setting v es lane w now now writing a)
+letter_refused_of E setting p v lane w error (Ok a) now writing same made is = λ es f fine.
+    letter_refused E setting v es lane w error (Ok a) now writing (subst (λ u. MakesAsked (Err error) (kept_asks setting u lane w)) same made) is f fine
+letter_refused_of E setting p v lane w error (Err e) now writing same made is = tt
