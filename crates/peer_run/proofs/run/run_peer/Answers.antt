@@ -1,6 +1,6 @@
-use Rattle.std.proofs.Common.{[], ◌∷◌, ◌++◌, map, take, sym, ◌∙◌, ap, arith, refl, subst}
+use Rattle.std.proofs.Common.{[], ◌∷◌, ◌++◌, map, take, sym, ◌∙◌, ap, arith, refl}
 use Rattle.std.proofs.lemmas.List.{take_more, reverse-append, map_push}
-use Rattle.peer_run.specs.Runs.{Stands, command_of}
+use Rattle.peer_run.specs.Runs.{command_of}
 use Rattle.peer_run.specs.Stands.{setting_by}
 use Rattle.peer_run.proofs.Ends.{start_reads, start_writes, stands_by}
 use Rattle.peer_run.proofs.run.run_peer.Goals as goal

@@ -1,7 +1,7 @@
-use Rattle.std.proofs.Common.{◌≡◌, Bool, List, Option, Result, Ok, Err, refl, sym, ◌∙◌, ap, subst}
+use Rattle.std.proofs.Common.{Bool, List, Option, Ok, Err, refl, sym, ◌∙◌, ap, subst}
 use Rattle.std.proofs.lemmas.Result.{IfOk-weaker}
 use Rattle.wire_message.specs.Front.{Seen}
-use Rattle.peer_route.specs.Parcel.{Parcel, Setting}
+use Rattle.peer_route.specs.Parcel.{Parcel}
 use Rattle.peer_route.specs.Trail.{Names, trail, asks_with, kept_at, place}
 use Rattle.peer_route.specs.Left.{Issues}
 use Rattle.peer_run.specs.CallWords.{MakesAsked}
