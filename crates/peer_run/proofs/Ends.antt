@@ -1,5 +1,5 @@
 -- From what a run keeps to what it gives.
-use Rattle.std.proofs.Common.{◌≡◌, ℕ, refl, ◌-◌, ap, arith, Bool, false, IfSome, append-nil, sym, subst, List, [], map, reverse, Option, Some, None, Result, Ok, Err, IfOk}
+use Rattle.std.proofs.Common.{◌≡◌, ℕ, refl, ◌-◌, ap, arith, Bool, false, IfSome, append-nil, sym, subst, List, [], ◌∷◌, map, reverse, Option, Some, None, Result, Ok, Err, IfOk}
 use Rattle.peer_route.specs.Parcel.{Setting}
 use Rattle.peer_route.specs.declared.words.Command.{Command}
 use Rattle.peer_route.specs.declared.answer.Entry.{Entry}
@@ -99,3 +99,15 @@ run_of start_in start_out end_in end_out s takes entries held left stop before r
 pub if_ok3 : {A E : Type 0} (r : Result A E) (P Q R S : A → Type 0) → ((a : A) → P a → Q a → R a → S a) → IfOk r P → IfOk r Q → IfOk r R → IfOk r S
 if_ok3 (Ok a) P Q R S f p q r = f a p q r
 if_ok3 (Err e) P Q R S f p q r = tt
+
+-- ---- from command to command
+
+-- a command's step is one of any sink that tells the same of file descriptors
+pub stands_by : (name : Option (List ℕ)) (told takes : Bool) (start_in : Inlet) (start_out : Outlet) (es : List Entry) (e : Entry) (p q : PeerView) (in_now in_after : Inlet) (out_now out_after : Outlet) (before writing : Writing)
+    → told ≡ takes
+    → ((i : Inlet) (o : Outlet) (hs : List Entry) → Stands (setting_by name told) i o p in_now out_now before hs → Stands (setting_by name told) i o q in_after out_after writing (e ∷ hs))
+    → Stands (setting_by name takes) start_in start_out p in_now out_now before es
+    → Stands (setting_by name takes) start_in start_out q in_after out_after writing (e ∷ es)
+stands_by name told takes start_in start_out es e p q in_now in_after out_now out_after before writing same step s =
+    subst (λ b. Stands (setting_by name b) start_in start_out q in_after out_after writing (e ∷ es)) same
+    (step start_in start_out es (subst (λ b. Stands (setting_by name b) start_in start_out p in_now out_now before es) (sym same) s))

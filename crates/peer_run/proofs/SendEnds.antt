@@ -12,23 +12,23 @@ use Rattle.peer_route.specs.declared.answer.Answer.TheVariants as answers
 use Rattle.peer_route.specs.declared.answer.Entry.{Entry}
 use Rattle.peer_route.specs.declared.route.Issued.{Issued}
 use Rattle.peer_route.specs.History as events
-use Rattle.peer_route.specs.Trail.{Trail, asks, asks_with, kept_at, place, trail, count, next_serial}
+use Rattle.peer_route.specs.Trail.{asks, asks_with, kept_at, place, trail, count, next_serial}
 use Rattle.peer_route.specs.Answers.{send_refusal, sent_answer, write_fault}
 use Rattle.peer_route.specs.CallMessage.{expects}
 use Rattle.peer_route.specs.declared.words.Words.{Words}
 use Rattle.peer_route.specs.Left.{View, Left, AreWritable, IsTooLong, Issues, call_number}
 use Rattle.peer_route.proofs.NextSerial.{next_serial-next}
-use Rattle.peer_route.proofs.Steps.{refused-asked, refused-spent, refused-long, not_refused}
+use Rattle.peer_route.proofs.Steps.{refused-spent, refused-long, not_refused}
 use Rattle.std.specs.Io.KnownBytes.{Appends}
 use Rattle.wire_framing.specs.Sink.{RoomFalls}
 use Rattle.wire_framing.specs.Send.{Part}
 use Rattle.wire_framing.specs.Writing.{is_unsupported, Sends}
 use Rattle.wire_framing.specs.declared.write_half.Writing.{Writing}
 use Rattle.wire_framing.specs.declared.write_half.Writing.TheVariants.{Fine}
-use Rattle.peer_run.specs.Stands.{PeerView, Inlet, Outlet, Follows, Reads, Writes, Sent, Sending, WentOut, WriteFailed, named, unsent_answer, NotIssued, IsRefusal, IsReadFault, IsFine, entry}
+use Rattle.peer_run.specs.Stands.{PeerView, Outlet, Follows, Writes, Sent, Sending, WentOut, WriteFailed, named, unsent_answer, NotIssued, IsRefusal, IsReadFault, IsFine, entry}
 use Rattle.wire_message.specs.Draft.{built}
 use Rattle.wire_message.specs.Signed.{counted, fds_field}
-use Rattle.peer_route.proofs.Asked.{CanGo, are_refused, asked_goes}
+use Rattle.peer_route.proofs.Asked.{are_refused, asked_goes}
 use Rattle.peer_run.specs.CallWords.{MakesAsked}
 use Rattle.peer_run.proofs.HalfStep.{fine_before}
 use Rattle.peer_run.proofs.SendStep.{IsSending, sending_is, asks_kept, entry_events, fault_events, follows_refused, follows_unsent, follows_sent, follows_failed, reads_send, writes_refused, writes_unsent, writes_sent, writes_failed}
@@ -302,3 +302,11 @@ letter_refused E setting p es lane w error (Ok a) now writing made is f fine =
     let never = not_memory E error a is in
     not_asked setting p es lane w error a now writing (sym (asks_kept setting p es lane w f) ∙ no_letter (kept_asks setting p lane w) error never made) f (refusal_is E error a never is) fine
 letter_refused E setting p es lane w error (Err e) now writing made is f fine = tt
+
+-- the same for each history that the peer follows, by what it has inside
+pub letter_refused_of : (E : Type 0) (setting : Setting) (p v : PeerView) (lane : ℕ) (w : Words) (error : Error) (r : Result Answer E) (now : Outlet) (writing : Writing)
+    → p ≡ v → MakesAsked (Err error) (kept_asks setting p lane w) → IsRefusal error r
+    → IfOk r (λ a. (es : List Entry) → Follows setting v es → IsFine (trail setting es).events writing → Sending setting v es lane w now now writing a)
+letter_refused_of E setting p v lane w error (Ok a) now writing same made is = λ es f fine.
+    letter_refused E setting v es lane w error (Ok a) now writing (subst (λ u. MakesAsked (Err error) (kept_asks setting u lane w)) same made) is f fine
+letter_refused_of E setting p v lane w error (Err e) now writing same made is = tt

@@ -1,5 +1,5 @@
 -- What a run gives: a legal history of its commands, whose reads and writes are what the outside told.
-use Rattle.std.specs.Prelude.{◌≡◌, ℕ, List, Option, map, reverse, IfSome}
+use Rattle.std.specs.Prelude.{◌≡◌, List, map, reverse, IfSome}
 use Rattle.wire_framing.specs.Source.{MayRise}
 use Rattle.wire_framing.specs.declared.write_half.Writing.{Writing}
 use Rattle.peer_route.specs.declared.words.Command.{Command}

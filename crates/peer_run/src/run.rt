@@ -80,9 +80,10 @@ fn step<S: Source, W: Sink>(
 }
 
 /// Runs the commands over a source and a sink, as the peer of the setup's name, and gives their entries: a legal history of
-/// the commands of a peer of that name, whose sink takes file descriptors where it says so, each once and in order, whose reads are what stands at the front of the source's bytes and whose messages are what the sink got, up to
-/// its first fault. All reads go through one half over the source, all sends through one over the sink. Fails only for want of
-/// memory; the source and the sink are then in any state.
+/// the commands of a peer of that name, whose sink takes file descriptors where it says so, each once and in order, whose
+/// reads are what stands at the front of the source's bytes and whose messages are what the sink got, up to its first fault.
+/// All reads go through one half over the source, all sends through one over the sink. Fails only for want of memory; the
+/// source and the sink are then in any state.
 pub fn run_peer<S: Source, W: Sink>(
     alloc: Global,
     setup: &Setup,

@@ -1,8 +1,8 @@
-use Rattle.std.proofs.Common.{[], ◌∷◌, ◌++◌, map, take, sym, ◌∙◌, ap, arith, refl, subst}
+use Rattle.std.proofs.Common.{[], ◌∷◌, ◌++◌, map, take, sym, ◌∙◌, ap, arith, refl}
 use Rattle.std.proofs.lemmas.List.{take_more, reverse-append, map_push}
-use Rattle.peer_run.specs.Runs.{Stands, command_of}
+use Rattle.peer_run.specs.Runs.{command_of}
 use Rattle.peer_run.specs.Stands.{setting_by}
-use Rattle.peer_run.proofs.Ends.{start_reads, start_writes}
+use Rattle.peer_run.proofs.Ends.{start_reads, start_writes, stands_by}
 use Rattle.peer_run.proofs.run.run_peer.Goals as goal
 
 pub loop-command-init : goal.loop-command-init
@@ -26,7 +26,7 @@ loop-command-preserved g c =
     let item = c.in_ok-entry.ensures.command ∙ c.command-item.is in
     record {
       stands = rw (c.in_ok-push.ensures.items, reverse-append c.loop-command.entries.items (c.in_ok-entry.entry ∷ []))
-          (rw (inv.takes) at (c.in_ok-entry.ensures.stands _ _ _ (rw (inv.takes) inv.stands)));
+          (stands_by _ _ _ _ _ _ _ _ _ _ _ _ _ _ _ inv.takes c.in_ok-entry.ensures.stands inv.stands);
       commands = ap (map command_of) (c.in_ok-push.ensures.items) ∙ map_push command_of c.loop-command.entries.items c.in_ok-entry.entry
           ∙ ap (λ xs. xs ++ command_of c.in_ok-entry.entry ∷ []) inv.commands
           ∙ ap (λ x. take c.loop-command.command-index c.args.commands.now ++ x ∷ []) item
