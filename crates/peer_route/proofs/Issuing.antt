@@ -79,14 +79,7 @@ pub refused : (v : View) (draft : Draft) (new : ℕ) (h : List Event) (error : E
 refused v draft new h errors.SerialsSpent left b = (AllTaken-along (waiting_serial v.calls) (pending h) (λ n. sym (pending-left v.calls h left.calls n)) b.0, refl)
 refused v draft new h errors.ExcessData left b = (b.0, next_left v h b.0 left b.1, subst (λ text. 134217728 < length text) (same-text draft b.0) b.2, refl)
 refused v draft new h errors.Memory left b = refl
-refused v draft new h (errors.InputOutput kind) left b = absurd b
-refused v draft new h (errors.Variant kind) left b = absurd b
-refused v draft new h (errors.Names kind) left b = absurd b
-refused v draft new h errors.InvalidMatchRule left b = absurd b
-refused v draft new h errors.IncorrectEndian left b = absurd b
-refused v draft new h errors.UnknownHandle left b = absurd b
-refused v draft new h errors.Unsupported left b = absurd b
-refused v draft new h errors.InvalidField left b = absurd b
+refused v draft new h other left b = absurd b
 
 -- a message that no call waits for leaves the calls as they were
 put_calls : (m : Seen) (v : CallsView) (h : List Event) → LeftCalls v h → LeftCalls v (Put m false ∷ h)
@@ -156,16 +149,7 @@ issued v new draft m last (Ok got) h left made_bare fine p =
           (left_put (expects_reply draft.flags) v m h left made.0.free)),
     )
 issued v new draft m last (Err errors.Memory) h left made fine p = p
-issued v new draft m last (Err errors.SerialsSpent) h left made fine p = absurd p
-issued v new draft m last (Err errors.ExcessData) h left made fine p = absurd p
-issued v new draft m last (Err (errors.InputOutput kind)) h left made fine p = absurd p
-issued v new draft m last (Err (errors.Variant kind)) h left made fine p = absurd p
-issued v new draft m last (Err (errors.Names kind)) h left made fine p = absurd p
-issued v new draft m last (Err errors.InvalidMatchRule) h left made fine p = absurd p
-issued v new draft m last (Err errors.IncorrectEndian) h left made fine p = absurd p
-issued v new draft m last (Err errors.UnknownHandle) h left made fine p = absurd p
-issued v new draft m last (Err errors.Unsupported) h left made fine p = absurd p
-issued v new draft m last (Err errors.InvalidField) h left made fine p = absurd p
+issued v new draft m last (Err other) h left made fine p = absurd p
 
 placed_outbox : (expects : Bool) (v : View) (m : Seen) (last : ℕ) → length (placed expects v m last).outbox ≡ length (v.outbox ++ m ∷ [])
 placed_outbox true v m last = refl

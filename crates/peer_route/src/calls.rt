@@ -1,14 +1,15 @@
-ghost use Rattle.std.specs.Prelude.{ℕ, ◌≡◌, ◌+◌, ◌<◌, ◌++◌, ◌∷◌, [], List, length, IfSome, IfNone, OnOk, OnErr, IfOk, Some, None, is_none, position, slice_set};
+ghost use Rattle.std.specs.Prelude.{ℕ, ◌≡◌, ◌+◌, ◌<◌, ◌++◌, ◌∷◌, [], List, length, IfSome, IfNone, OnOk, OnErr, IfOk, Some, None, is_none, position, slice_set, true};
 ghost use Rattle.std.specs.List.{list_any};
 ghost use Rattle.peer_route.specs.History.{Event, Took, Shut, Put, Call, poll_answer, poll_events, drop_answer, drop_events, pending, bears, closing, calls};
 ghost use Rattle.peer_route.specs.Left.{CallsView, LeftCalls, is_waiting, is_empty_slot, is_last_waiting, waiting_count, is_number, takes, waiting_serial};
 ghost use Rattle.wire_message.specs.Front.{Seen};
+ghost use Rattle.wire_message.specs.Closing.{closes};
 
 use crate::polled::Polled;
 use std::alloc::{AllocError, Global};
 use std::marker::Model;
 use std::mem;
-use wire_message::{Error, Message, MessageType, Taken};
+use wire_message::{ClosingError, Error, Message, MessageType, Taken};
 
 /// What is kept of a call.
 #[derive(Drop)]
@@ -25,7 +26,7 @@ pub enum Slot {
 #[derive(Drop)]
 pub struct PendingMethodCalls {
     slots: Vec<Slot>,
-    closing: Option<Error>,
+    closing: Option<ClosingError>,
 }
 
 impl Model for PendingMethodCalls {
@@ -113,11 +114,12 @@ impl PendingMethodCalls {
     }
 
     /// Answers each call that waits, and each one made later, with the closing error; a later one changes nothing.
-    pub fn fail_all(&mut self, error: Error)
-        ensures { (h : List Event) → LeftCalls self.old h → LeftCalls self.new (Shut error ∷ h) }
+    pub fn fail_all(&mut self, error: &Error)
+        requires { closes error.now ≡ true }
+        ensures { (h : List Event) → LeftCalls self.old h → LeftCalls self.new (Shut error.now ∷ h) }
     {
         if self.closing.is_none() {
-            self.closing = Some(error);
+            self.closing = ClosingError::of(error);
         }
     }
 
@@ -125,7 +127,10 @@ impl PendingMethodCalls {
     pub fn closing(&self) -> Option<Error>
         ensures { result ≡ self.now.closing }
     {
-        self.closing
+        match self.closing {
+            Some(error) => Some(Error::from(error)),
+            None => None,
+        }
     }
 
     /// The answer of the call with this number: its reply once, else the closing error once, else NotYet; UnknownHandle
@@ -142,7 +147,7 @@ impl PendingMethodCalls {
             Slot::Gone => Err(Error::UnknownHandle),
             Slot::Replied(message) => Ok(Polled::Now(message)),
             Slot::Waiting(serial) => match self.closing {
-                Some(error) => Ok(Polled::Closed(error)),
+                Some(error) => Ok(Polled::Closed(Error::from(error))),
                 None => {
                     self.slots[place] = Slot::Waiting(serial);
                     Ok(Polled::NotYet)

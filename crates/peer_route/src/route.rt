@@ -4,6 +4,7 @@ ghost use Rattle.peer_route.specs.Streams.{busy, take_answer, take_events};
 ghost use Rattle.peer_route.specs.CallMessage.{expects_reply};
 ghost use Rattle.peer_route.specs.Left.{Waits, is_busy, View, Left, Issues, Places, placed};
 ghost use Rattle.wire_message.specs.Front.{Seen};
+ghost use Rattle.wire_message.specs.Closing.{closes};
 
 use crate::calls::PendingMethodCalls;
 use crate::polled::Polled;
@@ -203,8 +204,9 @@ impl Route {
     }
 
     /// Closes the peer: each call without a reply is answered with the error. A later one changes nothing.
-    pub fn close(&mut self, error: Error)
-        ensures { (h : List Event) → Left self.old h → Left self.new (Shut error ∷ h) }
+    pub fn close(&mut self, error: &Error)
+        requires { closes error.now ≡ true }
+        ensures { (h : List Event) → Left self.old h → Left self.new (Shut error.now ∷ h) }
     {
         self.calls.fail_all(error);
     }

@@ -107,8 +107,8 @@ fn calls_are_numbered(rt: HostRuntime) -> Result<(), Fail> {
             call: Some(1)
         }
     );
-    route.close(Error::IncorrectEndian);
-    route.close(Error::ExcessData);
+    route.close(&Error::IncorrectEndian);
+    route.close(&Error::ExcessData);
     assert_eq!(rt; route.closing(), Some(Error::IncorrectEndian));
     assert!(rt; matches!(route.poll(1)?, Polled::Closed(Error::IncorrectEndian)));
     assert_eq!(rt; route.poll(1).err(), Some(Error::UnknownHandle));
@@ -150,7 +150,7 @@ fn a_reply_goes_to_its_call(rt: HostRuntime) -> Result<(), Fail> {
 fn a_call_fails_with_the_peer(rt: HostRuntime) -> Result<(), Fail> {
     let mut calls = PendingMethodCalls::new(rt.alloc());
     assert_eq!(rt; calls.register_call(7)?, 0);
-    calls.fail_all(Error::ExcessData);
+    calls.fail_all(&Error::ExcessData);
     assert_eq!(rt; calls.closing(), Some(Error::ExcessData));
     assert!(rt; matches!(calls.poll(0)?, Polled::Closed(Error::ExcessData)));
     Ok(())
@@ -185,7 +185,7 @@ fn a_stream_holds_what_came_after_it(rt: HostRuntime) -> Result<(), Fail> {
 fn a_stream_ends_with_the_peer(rt: HostRuntime) -> Result<(), Fail> {
     let mut route = Route::new(rt.alloc());
     let stream = route.open()?;
-    route.close(Error::ExcessData);
+    route.close(&Error::ExcessData);
     assert!(rt; matches!(route.take(&stream)?, Polled::Closed(Error::ExcessData)));
     assert!(rt; matches!(route.take(&stream)?, Polled::Ended));
     let late = route.open()?;

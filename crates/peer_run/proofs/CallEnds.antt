@@ -71,18 +71,8 @@ unissued name p q es lane ws (errors.InputOutput kinds.WriteFault) a x f i e =
       same = i.4;
       writes = λ start now w. writes_unsent name start now es lane ws f.legal i.3 w;
     })
-unissued name p q es lane ws (errors.InputOutput kinds.Ended) a x f i e = absurd i
-unissued name p q es lane ws (errors.InputOutput kinds.Fault) a x f i e = absurd i
-unissued name p q es lane ws (errors.InputOutput kinds.Closed) a x f i e = absurd i
-unissued name p q es lane ws (errors.InputOutput kinds.TimedOut) a x f i e = absurd i
-unissued name p q es lane ws (errors.Variant kind) a x f i e = absurd i
-unissued name p q es lane ws (errors.Names kind) a x f i e = absurd i
-unissued name p q es lane ws errors.InvalidMatchRule a x f i e = absurd i
-unissued name p q es lane ws errors.IncorrectEndian a x f i e = absurd i
-unissued name p q es lane ws errors.UnknownHandle a x f i e = absurd i
-unissued name p q es lane ws errors.Unsupported a x f i e = absurd i
-unissued name p q es lane ws errors.InvalidField a x f i e = absurd i
 unissued name p q es lane ws errors.Memory a x f i e = cc
+unissued name p q es lane ws other a x f i e = absurd i
 
 same_peer : (p q : PeerView) → q.core ≡ p.core → q.names ≡ p.names → q.streams ≡ p.streams → p ≡ q
 same_peer p q c n s =
@@ -104,16 +94,8 @@ writes_unissued name p q start now es lane ws error a x f i e w = (unissued name
 
 never_read : (error : Error) (a : Answer) → unsent_answer error ≡ Some a → IsReadFault a → ⊥
 never_read (errors.InputOutput kind) a e f = cc
-never_read (errors.Variant kind) a e f = cc
-never_read (errors.Names kind) a e f = cc
-never_read errors.InvalidMatchRule a e f = cc
-never_read errors.IncorrectEndian a e f = cc
-never_read errors.ExcessData a e f = cc
-never_read errors.SerialsSpent a e f = cc
-never_read errors.UnknownHandle a e f = cc
-never_read errors.Unsupported a e f = cc
-never_read errors.InvalidField a e f = cc
 never_read errors.Memory a e f = cc
+never_read other a e f = cc
 
 pub reads_unissued : (name : Option (List ℕ)) (start now : Inlet) (es : List Entry) (lane : ℕ) (ws : CallWords) (error : Error) (a : Answer)
     → unsent_answer error ≡ Some a → Reads name start now es → Reads name start now (entry lane (words_of ws) a ∷ es)
@@ -144,20 +126,8 @@ pub not_out : (old new : PeerView) (lane : ℕ) (issued : Issued) (m : Seen) (no
     → new.names ≡ named (is_some issued.call) None old.names → new.streams ≡ old.streams → ((h : List events.Event) → Left old.core h → Left new.core (events.Fault ∷ h))
     → Sent old new lane issued m now after writing (answers.SendFailed error)
 not_out old new lane issued m now after writing (errors.InputOutput kinds.WriteFault) never s names streams left = WriteFailed refl names streams left s.0 s.1 s.2 s.3 s.4
-not_out old new lane issued m now after writing (errors.InputOutput kinds.Ended) never s names streams left = absurd s
-not_out old new lane issued m now after writing (errors.InputOutput kinds.Fault) never s names streams left = absurd s
-not_out old new lane issued m now after writing (errors.InputOutput kinds.Closed) never s names streams left = absurd s
-not_out old new lane issued m now after writing (errors.InputOutput kinds.TimedOut) never s names streams left = absurd s
-not_out old new lane issued m now after writing (errors.Variant kind) never s names streams left = absurd s
-not_out old new lane issued m now after writing (errors.Names kind) never s names streams left = absurd s
-not_out old new lane issued m now after writing errors.InvalidMatchRule never s names streams left = absurd s
-not_out old new lane issued m now after writing errors.IncorrectEndian never s names streams left = absurd s
-not_out old new lane issued m now after writing errors.ExcessData never s names streams left = absurd s
-not_out old new lane issued m now after writing errors.SerialsSpent never s names streams left = absurd s
-not_out old new lane issued m now after writing errors.UnknownHandle never s names streams left = absurd s
-not_out old new lane issued m now after writing errors.Unsupported never s names streams left = absurd s
-not_out old new lane issued m now after writing errors.InvalidField never s names streams left = absurd s
 not_out old new lane issued m now after writing errors.Memory never s names streams left = absurd (never refl)
+not_out old new lane issued m now after writing other never s names streams left = absurd s
 
 -- what sending gives
 pub record Sending (name : Option (List ℕ)) (p q r : PeerView) (es : List Entry) (lane : ℕ) (ws : CallWords) (now after : Outlet) (writing : Writing) (a : Answer) : Type 0 where

@@ -4,6 +4,7 @@ use Rattle.std.proofs.lemmas.List.{append-nil, length_push}
 use Rattle.std.specs.Io.KnownBytes.{Consumes}
 use Rattle.wire_message.specs.Front.{Seen, Front}
 use Rattle.wire_message.specs.Outcome.{outcome, Tells, ending_of, IsReadError, IsReadRefusal}
+use Rattle.wire_message.specs.Closing.{closes}
 use Rattle.wire_message.specs.declared.error.Error.{Error}
 use Rattle.wire_message.specs.declared.error.Error.TheVariants as errors
 use Rattle.wire_message.specs.declared.error.IoKind.TheVariants as kinds
@@ -90,23 +91,20 @@ reads_busy name start now es lane c full r =
 is_read_error : (error : Error) → IsReadRefusal error → error ≢ errors.Memory → IsReadError error
 is_read_error (errors.InputOutput kinds.Ended) r n = tt
 is_read_error (errors.InputOutput kinds.Fault) r n = tt
-is_read_error (errors.InputOutput kinds.Closed) r n = absurd r
-is_read_error (errors.InputOutput kinds.WriteFault) r n = absurd r
-is_read_error (errors.InputOutput kinds.TimedOut) r n = absurd r
-is_read_error (errors.Variant faults.Signature) r n = absurd r
-is_read_error (errors.Variant faults.Depth) r n = absurd r
 is_read_error (errors.Variant faults.Malformed) r n = tt
-is_read_error (errors.Variant faults.SignatureMismatch) r n = absurd r
-is_read_error (errors.Variant faults.Memory) r n = absurd r
-is_read_error (errors.Names kind) r n = absurd r
-is_read_error errors.InvalidMatchRule r n = absurd r
 is_read_error errors.IncorrectEndian r n = tt
 is_read_error errors.ExcessData r n = tt
-is_read_error errors.SerialsSpent r n = absurd r
-is_read_error errors.UnknownHandle r n = absurd r
-is_read_error errors.Unsupported r n = absurd r
-is_read_error errors.InvalidField r n = absurd r
 is_read_error errors.Memory r n = absurd (n refl)
+is_read_error other r n = absurd r
+
+-- such an error closes a peer
+pub closes_read : (error : Error) → IsReadRefusal error → error ≢ errors.Memory → closes error ≡ true
+closes_read (errors.InputOutput kind) r n = refl
+closes_read (errors.Variant kind) r n = refl
+closes_read errors.IncorrectEndian r n = refl
+closes_read errors.ExcessData r n = refl
+closes_read errors.Memory r n = absurd (n refl)
+closes_read other r n = absurd r
 
 -- the read ended the peer's messages
 pub follows_shut : (name : Option (List ℕ)) (p q : PeerView) (es : List Entry) (lane : ℕ) (error : Error) → p.core.calls.closing ≡ None → busy (trail name es).events ≡ false → Follows name p es
@@ -125,17 +123,8 @@ follows_shut name p q es lane error e free f r n names streams left =
 -- ---- the source
 
 told_error : (error : Error) (found : Result Seen Error) → error ≢ errors.Memory → Tells {A = Seen} (λ m. m) (Err error) found → found ≡ Err error
-told_error (errors.InputOutput kind) found n t = t
-told_error (errors.Variant kind) found n t = t
-told_error (errors.Names kind) found n t = t
-told_error errors.InvalidMatchRule found n t = t
-told_error errors.IncorrectEndian found n t = t
-told_error errors.ExcessData found n t = t
-told_error errors.SerialsSpent found n t = t
-told_error errors.UnknownHandle found n t = t
-told_error errors.Unsupported found n t = t
-told_error errors.InvalidField found n t = t
 told_error errors.Memory found n t = absurd (n refl)
+told_error other found n t = t
 
 -- what a read of a closed peer leaves
 pub reads_closed : (name : Option (List ℕ)) (start now : Inlet) (es : List Entry) (lane : ℕ) (error : Error) → events.closing (trail name es).events ≡ Some error
@@ -269,17 +258,4 @@ cause_rises faults faults' (inr h) = omega (arith, h.0, h.1)
 
 pub faults_rise : (error : Error) (faults faults' : ℕ) → receive.HasCause error faults faults' → faults ≤ faults'
 faults_rise (errors.InputOutput kinds.Fault) faults faults' h = cause_rises faults faults' h
-faults_rise (errors.InputOutput kinds.Ended) faults faults' h = h
-faults_rise (errors.InputOutput kinds.Closed) faults faults' h = h
-faults_rise (errors.InputOutput kinds.WriteFault) faults faults' h = h
-faults_rise (errors.InputOutput kinds.TimedOut) faults faults' h = h
-faults_rise (errors.Variant kind) faults faults' h = h
-faults_rise (errors.Names kind) faults faults' h = h
-faults_rise errors.InvalidMatchRule faults faults' h = h
-faults_rise errors.IncorrectEndian faults faults' h = h
-faults_rise errors.ExcessData faults faults' h = h
-faults_rise errors.SerialsSpent faults faults' h = h
-faults_rise errors.UnknownHandle faults faults' h = h
-faults_rise errors.Unsupported faults faults' h = h
-faults_rise errors.InvalidField faults faults' h = h
-faults_rise errors.Memory faults faults' h = h
+faults_rise other faults faults' h = h

@@ -226,7 +226,7 @@ impl Peer {
             Err(error) => match error {
                 Error::Memory => Err(RunError::Memory),
                 _ => {
-                    self.route.close(error);
+                    self.route.close(&error);
                     Ok(Answer::Closed(error))
                 }
             },

@@ -22,7 +22,7 @@ use Rattle.peer_route.specs.declared.words.CallFlags.{CallFlags}
 use Rattle.peer_script.specs.Word.{same, words_of, number_of, bytes_of, text_of, is_plain, hex_digit, hex_two, hex_word, text_byte, text_word, optional_word, flag_letters, flags_word}
 use Rattle.peer_script.specs.Script.{Given, Gave, Broke, ScriptText, given_line, outfault_lines, parts, lane_words, command_words, command_line, head_line, line_of, script_lines}
 use Rattle.peer_script.specs.Transcript.{or_empty, shown_byte, shown_text, io_word, error_word, words_text, answer_text, entry_text, given_text, direct_text, outfault_text, sent_word, transcript_text}
-use Rattle.peer_script.specs.Again.{command_of, SomeBytes, IsOptional, HasText, HasNumbers, CanBeRead, IsGiven, IsName, IsCount}
+use Rattle.peer_script.specs.Again.{command_of, SomeBytes, IsOptional, HasText, HasBytes, HasNumbers, CanBeRead, IsGiven, IsName, IsCount}
 use Rattle.peer_script.proofs.Spelling.{number_again, bytes_again, text_again, number_other, text_other, text_some, decimal_digits}
 use Rattle.peer_script.proofs.Calls.{optional_again, flags_again, dash_some}
 use Rattle.peer_script.proofs.Again.{word_byte, line_byte, both, joined, word_line, digits_word, line_part, spaced, IsWord, words_again, words_alone, before_again}
@@ -206,18 +206,29 @@ io_line kinds.Closed = refl
 io_line kinds.WriteFault = refl
 io_line kinds.TimedOut = refl
 
-error_line : (error : Error) → list_all line_byte (error_word error) ≡ true
-error_line (errors.InputOutput kind) = joined line_byte (codes "InputOutput.") (io_word kind) refl (io_line kind)
-error_line (errors.Variant kind) = refl
-error_line (errors.Names kind) = refl
-error_line errors.InvalidMatchRule = refl
-error_line errors.IncorrectEndian = refl
-error_line errors.ExcessData = refl
-error_line errors.Unsupported = refl
-error_line errors.InvalidField = refl
-error_line errors.SerialsSpent = refl
-error_line errors.UnknownHandle = refl
-error_line errors.Memory = refl
+error_line : (error : Error) → HasBytes error → list_all line_byte (error_word error) ≡ true
+error_line errors.InterfaceNotFound h = refl
+error_line (errors.InputOutput kind) h = joined line_byte (codes "InputOutput.") (io_word kind) refl (io_line kind)
+error_line errors.InvalidField h = refl
+error_line errors.ExcessData h = refl
+error_line (errors.Variant kind) h = refl
+error_line (errors.Names kind) h = refl
+error_line errors.IncorrectEndian h = refl
+error_line errors.InvalidReply h = refl
+error_line (errors.MethodError name detail message) h = refl
+error_line errors.MissingField h = refl
+error_line errors.InvalidGUID h = refl
+error_line errors.Unsupported h = refl
+error_line (errors.FDO error) h = refl
+error_line errors.NameTaken h = refl
+error_line errors.InvalidMatchRule h = refl
+error_line (errors.Failure text) h = refl
+error_line (errors.MissingParameter name) h = joined line_byte (codes "MissingParameter.") (text_word name.now) refl (word_line (text_word name.now) (text_bytes name.now h))
+error_line (errors.InterfaceExists name path) h = refl
+error_line errors.Memory h = refl
+error_line errors.SerialsSpent h = refl
+error_line errors.UnknownHandle h = refl
+error_line errors.Busy h = refl
 
 answer_line : (a : Answer) → HasNumbers a → list_all line_byte (answer_text a) ≡ true
 unfolding answer_text
@@ -230,8 +241,8 @@ answer_line (answers.MethodError m) h =
     let first = joined line_byte (codes "methoderror ") (decimal m.position) refl (number_line m.position h.0) in
     let second = joined line_byte (codes "methoderror " ++ decimal m.position) (32 ∷ []) first refl in
     joined line_byte (codes "methoderror " ++ decimal m.position ++ 32 ∷ []) (text_word (or_empty m.error_name)) second (word_line (text_word (or_empty m.error_name)) (text_bytes (or_empty m.error_name) h.1))
-answer_line (answers.Refused error) h = joined line_byte (codes "refused ") (error_word error) refl (error_line error)
-answer_line (answers.SendFailed error) h = joined line_byte (codes "sendfailed ") (error_word error) refl (error_line error)
+answer_line (answers.Refused error) h = joined line_byte (codes "refused ") (error_word error) refl (error_line error h)
+answer_line (answers.SendFailed error) h = joined line_byte (codes "sendfailed ") (error_word error) refl (error_line error h)
 answer_line (answers.Got m) h =
     let place = codes "got " ++ decimal m.position in
     let first : list_all line_byte place ≡ true = joined line_byte (codes "got ") (decimal m.position) refl (number_line m.position h.0) in
@@ -239,7 +250,7 @@ answer_line (answers.Got m) h =
     let third = joined line_byte (place ++ 32 ∷ []) (decimal (length m.bytes)) second (number_line (length m.bytes) h.1) in
     let fourth = joined line_byte (place ++ 32 ∷ [] ++ decimal (length m.bytes)) (32 ∷ []) third refl in
     joined line_byte (place ++ 32 ∷ [] ++ decimal (length m.bytes) ++ 32 ∷ []) (shown_text (message_line m)) fourth (shown_line (message_line m) h.2)
-answer_line (answers.Closed error) h = joined line_byte (codes "closed ") (error_word error) refl (error_line error)
+answer_line (answers.Closed error) h = joined line_byte (codes "closed ") (error_word error) refl (error_line error h)
 answer_line (answers.Reply position) h = joined line_byte (codes "reply ") (decimal position) refl (number_line position h)
 answer_line (answers.InvalidReply position) h = joined line_byte (codes "invalidreply ") (decimal position) refl (number_line position h)
 answer_line answers.NotYet h = refl

@@ -8,6 +8,8 @@ use Rattle.peer_route.specs.declared.answer.Answer.{Answer}
 use Rattle.peer_route.specs.declared.answer.Answer.TheVariants as answers
 use Rattle.peer_route.specs.declared.answer.Entry.{Entry}
 use Rattle.wire_message.specs.Texts.{message_line}
+use Rattle.wire_message.specs.declared.error.Error.{Error}
+use Rattle.wire_message.specs.declared.error.Error.TheVariants as errors
 use Rattle.wire_names.specs.Names.{IsUniqueName}
 use Rattle.peer_script.specs.Script.{Given, Gave, Broke, is_absent}
 use Rattle.peer_script.specs.Reading.{script_of}
@@ -40,6 +42,11 @@ HasText (words.Drop number) = number < 2 ^ 64
 HasText words.Stream = Unit {0}
 HasText (words.Take number) = number < 2 ^ 64
 
+-- the name of a missing parameter is of bytes
+abbrev pub HasBytes : Error → Type 0
+HasBytes (errors.MissingParameter name) = All (λ b. b < 256) name.now
+HasBytes error = Unit {0}
+
 -- the numbers of an answer are below 2^64, and its texts are bytes
 abbrev pub HasNumbers : Answer → Type 0
 HasNumbers (answers.Called call serial) = (call < 2 ^ 64) × (serial < 2 ^ 64)
@@ -48,9 +55,9 @@ HasNumbers (answers.MethodError m) = (m.position < 2 ^ 64) × All (λ b. b < 256
 HasNumbers (answers.Got m) = (m.position < 2 ^ 64) × (length m.bytes < 2 ^ 64) × All (λ b. b < 256) (message_line m)
 HasNumbers (answers.Reply position) = position < 2 ^ 64
 HasNumbers (answers.InvalidReply position) = position < 2 ^ 64
-HasNumbers (answers.Refused error) = Unit {0}
-HasNumbers (answers.SendFailed error) = Unit {0}
-HasNumbers (answers.Closed error) = Unit {0}
+HasNumbers (answers.Refused error) = HasBytes error
+HasNumbers (answers.SendFailed error) = HasBytes error
+HasNumbers (answers.Closed error) = HasBytes error
 HasNumbers answers.NotYet = Unit {0}
 HasNumbers answers.Busy = Unit {0}
 HasNumbers answers.Dropped = Unit {0}

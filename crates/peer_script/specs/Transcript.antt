@@ -33,19 +33,30 @@ io_word kinds.Closed = codes "Closed"
 io_word kinds.WriteFault = codes "WriteFault"
 io_word kinds.TimedOut = codes "TimedOut"
 
--- the word of an error: its variant's name, with the kind for InputOutput
+-- the word of an error: its variant's name, with the kind for InputOutput and the parameter's name for MissingParameter
 abbrev pub error_word : Error → List ℕ
+error_word errors.InterfaceNotFound = codes "InterfaceNotFound"
 error_word (errors.InputOutput kind) = codes "InputOutput." ++ io_word kind
+error_word errors.InvalidField = codes "InvalidField"
+error_word errors.ExcessData = codes "ExcessData"
 error_word (errors.Variant kind) = codes "Variant"
 error_word (errors.Names kind) = codes "Names"
-error_word errors.InvalidMatchRule = codes "InvalidMatchRule"
 error_word errors.IncorrectEndian = codes "IncorrectEndian"
-error_word errors.ExcessData = codes "ExcessData"
+error_word errors.InvalidReply = codes "InvalidReply"
+error_word (errors.MethodError name detail message) = codes "MethodError"
+error_word errors.MissingField = codes "MissingField"
+error_word errors.InvalidGUID = codes "InvalidGUID"
 error_word errors.Unsupported = codes "Unsupported"
-error_word errors.InvalidField = codes "InvalidField"
+error_word (errors.FDO error) = codes "FDO"
+error_word errors.NameTaken = codes "NameTaken"
+error_word errors.InvalidMatchRule = codes "InvalidMatchRule"
+error_word (errors.Failure text) = codes "Failure"
+error_word (errors.MissingParameter name) = codes "MissingParameter." ++ text_word name.now
+error_word (errors.InterfaceExists name path) = codes "InterfaceExists"
+error_word errors.Memory = codes "Memory"
 error_word errors.SerialsSpent = codes "SerialsSpent"
 error_word errors.UnknownHandle = codes "UnknownHandle"
-error_word errors.Memory = codes "Memory"
+error_word errors.Busy = codes "Busy"
 
 unfoldable pub words_text : Words → List ℕ
 words_text (words.Call destination path interface member flags) =

@@ -36,24 +36,39 @@ fn io_word(kind: IoKind) -> &'static [u8]
     }
 }
 
-fn put_error(text: &mut Vec<u8>, error: Error) -> Result<(), AllocError>
-    ensures { OnOk result (text.new.items ≡ text.old.items ++ error_word error) }
+/// The name of the error's variant, with the kind of an input or output fault and the name of a missing parameter.
+fn put_error(text: &mut Vec<u8>, error: &Error) -> Result<(), AllocError>
+    ensures { OnOk result (text.new.items ≡ text.old.items ++ error_word error.now) }
 {
     match error {
+        Error::InterfaceNotFound => put(text, b"InterfaceNotFound"),
         Error::InputOutput(kind) => {
             put(text, b"InputOutput.")?;
-            put(text, io_word(kind))
+            put(text, io_word(*kind))
         }
+        Error::InvalidField => put(text, b"InvalidField"),
+        Error::ExcessData => put(text, b"ExcessData"),
         Error::Variant(_) => put(text, b"Variant"),
         Error::Names(_) => put(text, b"Names"),
-        Error::InvalidMatchRule => put(text, b"InvalidMatchRule"),
         Error::IncorrectEndian => put(text, b"IncorrectEndian"),
-        Error::ExcessData => put(text, b"ExcessData"),
+        Error::InvalidReply => put(text, b"InvalidReply"),
+        Error::MethodError(_, _, _) => put(text, b"MethodError"),
+        Error::MissingField => put(text, b"MissingField"),
+        Error::InvalidGUID => put(text, b"InvalidGUID"),
         Error::Unsupported => put(text, b"Unsupported"),
-        Error::InvalidField => put(text, b"InvalidField"),
+        Error::FDO(_) => put(text, b"FDO"),
+        Error::NameTaken => put(text, b"NameTaken"),
+        Error::InvalidMatchRule => put(text, b"InvalidMatchRule"),
+        Error::Failure(_) => put(text, b"Failure"),
+        Error::MissingParameter(name) => {
+            put(text, b"MissingParameter.")?;
+            put_text(text, name.as_bytes())
+        }
+        Error::InterfaceExists(_, _) => put(text, b"InterfaceExists"),
+        Error::Memory => put(text, b"Memory"),
         Error::SerialsSpent => put(text, b"SerialsSpent"),
         Error::UnknownHandle => put(text, b"UnknownHandle"),
-        Error::Memory => put(text, b"Memory"),
+        Error::Busy => put(text, b"Busy"),
     }
 }
 
@@ -154,8 +169,8 @@ fn put_method_error(alloc: Global, text: &mut Vec<u8>, message: &Message) -> Res
     }
 }
 
-fn put_with_error(text: &mut Vec<u8>, what: &[u8], error: Error) -> Result<(), AllocError>
-    ensures { OnOk result (text.new.items ≡ text.old.items ++ what.now ++ error_word error) }
+fn put_with_error(text: &mut Vec<u8>, what: &[u8], error: &Error) -> Result<(), AllocError>
+    ensures { OnOk result (text.new.items ≡ text.old.items ++ what.now ++ error_word error.now) }
 {
     put(text, what)?;
     put_error(text, error)
@@ -180,10 +195,10 @@ fn put_answer(alloc: Global, text: &mut Vec<u8>, answer: &Answer) -> Result<(), 
     match answer {
         Answer::Called { call, serial } => put_called(alloc, text, *call, *serial),
         Answer::Sent(serial) => put_with_number(alloc, text, b"sent ", u64::from(*serial)),
-        Answer::Refused(error) => put_with_error(text, b"refused ", *error),
-        Answer::SendFailed(error) => put_with_error(text, b"sendfailed ", *error),
+        Answer::Refused(error) => put_with_error(text, b"refused ", error),
+        Answer::SendFailed(error) => put_with_error(text, b"sendfailed ", error),
         Answer::Got(message) => put_got(alloc, text, message),
-        Answer::Closed(error) => put_with_error(text, b"closed ", *error),
+        Answer::Closed(error) => put_with_error(text, b"closed ", error),
         Answer::Reply(position) => put_with_number(alloc, text, b"reply ", *position),
         Answer::MethodError(message) => put_method_error(alloc, text, message),
         Answer::InvalidReply(position) => put_with_number(alloc, text, b"invalidreply ", *position),

@@ -27,8 +27,8 @@ fn shift(bytes: &mut Vec<u8>, count: usize)
 }
 
 /// Takes away what a read that answers this error costs.
-fn give_up(bytes: &mut Vec<u8>, error: Error)
-    ensures { bytes.new.items ≡ rest_of {A = ℕ} (Err error) bytes.old.items }
+fn give_up(bytes: &mut Vec<u8>, error: &Error)
+    ensures { bytes.new.items ≡ rest_of {A = ℕ} (Err error.now) bytes.old.items }
 {
     match error {
         Error::Memory => {}
@@ -52,7 +52,7 @@ fn take_message(alloc: Global, bytes: &mut Vec<u8>, total: usize) -> Result<Mess
             Ok(message)
         }
         Err(error) => {
-            give_up(bytes, error);
+            give_up(bytes, &error);
             Err(error)
         }
     }
@@ -113,7 +113,7 @@ impl<S: Source> ReadHalf<S> {
                 Ok(message.at(seq))
             }
             Err(error) => {
-                give_up(kept, error);
+                give_up(kept, &error);
                 Err(error)
             }
         }

@@ -102,6 +102,14 @@ fn answer_of(answer: Answer<Message>) -> Option<Error> {
     }
 }
 
+const MALFORMED: Error = Error::Variant(VariantError::Malformed);
+
+const ENDED: Error = Error::InputOutput(IoKind::Ended);
+
+const FAULT: Error = Error::InputOutput(IoKind::Fault);
+
+const FAILED: Error = Error::InputOutput(IoKind::WriteFault);
+
 /// A read of these pieces answers this error.
 fn refused(
     rt: &impl Abort,
@@ -117,17 +125,14 @@ fn refused(
 #[test]
 fn refuses(rt: HostRuntime) -> Result<(), Fail> {
     let alloc = rt.alloc();
-    let malformed = Error::Variant(VariantError::Malformed);
-    let ended = Error::InputOutput(IoKind::Ended);
-    let fault = Error::InputOutput(IoKind::Fault);
     let all: &[u8] = &RETURN;
-    refused(&rt, alloc, &[], false, ended)?;
-    refused(&rt, alloc, &[], true, fault)?;
-    refused(&rt, alloc, &[&all[..15]], false, ended)?;
-    refused(&rt, alloc, &[&all[..15]], true, fault)?;
-    refused(&rt, alloc, &[&all[..16]], true, fault)?;
-    refused(&rt, alloc, &[&all[..23]], false, ended)?;
-    refused(&rt, alloc, &[&all[..20], &all[20..23]], true, fault)?;
+    refused(&rt, alloc, &[], false, ENDED)?;
+    refused(&rt, alloc, &[], true, FAULT)?;
+    refused(&rt, alloc, &[&all[..15]], false, ENDED)?;
+    refused(&rt, alloc, &[&all[..15]], true, FAULT)?;
+    refused(&rt, alloc, &[&all[..16]], true, FAULT)?;
+    refused(&rt, alloc, &[&all[..23]], false, ENDED)?;
+    refused(&rt, alloc, &[&all[..20], &all[20..23]], true, FAULT)?;
     refused(
         &rt,
         alloc,
@@ -135,10 +140,10 @@ fn refuses(rt: HostRuntime) -> Result<(), Fail> {
         true,
         Error::IncorrectEndian,
     )?;
-    refused(&rt, alloc, &[&changed(1, 5)[..16]], false, malformed)?;
-    refused(&rt, alloc, &[&changed(2, 8)], false, malformed)?;
+    refused(&rt, alloc, &[&changed(1, 5)[..16]], false, MALFORMED)?;
+    refused(&rt, alloc, &[&changed(2, 8)], false, MALFORMED)?;
     refused(&rt, alloc, &[&changed(7, 8)], true, Error::ExcessData)?;
-    refused(&rt, alloc, &[&changed(16, 6)], false, malformed)?;
+    refused(&rt, alloc, &[&changed(16, 6)], false, MALFORMED)?;
     Ok(())
 }
 
@@ -147,8 +152,12 @@ fn sends(rt: HostRuntime) -> Result<(), Fail> {
     let alloc = rt.alloc();
     let all: &[u8] = &RETURN;
     let message = read_of(alloc, &[all], false)??;
-    let failed = Err(Error::InputOutput(IoKind::WriteFault));
-    for (room, answer) in [(0, failed), (1, failed), (23, failed), (24, Ok(()))] {
+    for (room, answer) in [
+        (0, Err(FAILED)),
+        (1, Err(FAILED)),
+        (23, Err(FAILED)),
+        (24, Ok(())),
+    ] {
         let mut sink = MemorySink::with_fault(alloc, room as u64, true);
         assert_eq!(rt; send_message(&mut sink, &message), answer);
         assert_eq!(rt; sink.bytes(), &all[..room]);

@@ -6,6 +6,10 @@ pub mod Circle
 pub mod Draft
 pub mod Outcome
 pub mod Texts
+pub mod ErrorTexts
+pub mod ErrorKinds
+pub mod SameError
+pub mod Closing
 pub mod Primary
 pub mod Whole
 pub mod Signed

@@ -161,3 +161,10 @@ impl fmt::Display for Message {
         write!(f, "{kind}{name}{detail}{sender}")
     }
 }
+
+/// The same line.
+impl fmt::Debug for Message {
+    fn fmt<W: fmt::Write>(&self, f: &mut fmt::Formatter<W>) -> fmt::Result {
+        write!(f, "{self}")
+    }
+}

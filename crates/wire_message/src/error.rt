@@ -1,10 +1,12 @@
-ghost use Rattle.std.specs.Prelude.{◌≡◌, Some};
+//! What goes wrong with messages and peers.
+ghost use Rattle.std.specs.Prelude.{◌≡◌, IfOk};
 ghost use Rattle.wire_message.specs.declared.error.Error.TheVariants.{Memory};
-ghost use Rattle.wire_message.specs.Texts.{io_text, names_text, variant_text, error_text};
+ghost use Rattle.wire_message.specs.ErrorKinds.{error_of_variant, error_of_names};
 
-use std::alloc::{AllocError, AllocFailed};
-use std::fmt;
-use wire_names::NamesError;
+use crate::fdo::StandardError;
+use crate::message::Message;
+use std::alloc::{AllocError, AllocFailed, Global};
+use wire_names::{NamesError, OwnedErrorName, OwnedInterfaceName, OwnedObjectPath, Text};
 use wire_signature::VariantError;
 
 /// Why reading or writing ended.
@@ -23,30 +25,61 @@ pub enum IoKind {
 }
 
 /// What goes wrong with messages and peers.
-#[derive(Clone, Copy, PartialEq, Eq, Debug)]
+///
+/// Two errors are equal where they are of one variant and hold the same beside it; of two `MethodError` what they hold is
+/// not looked at.
+#[derive(Debug, Drop)]
+#[derive_where(PartialEq, Eq)]
 pub enum Error {
+    /// There is no such interface.
+    InterfaceNotFound,
     /// Reading or writing ended.
     InputOutput(IoKind),
+    /// A message of this type can't have this flag.
+    InvalidField,
+    /// A message would pass 134,217,728 bytes.
+    ExcessData,
     /// A value or a header is outside its grammar.
     Variant(VariantError),
     /// A text is no name of its kind.
     Names(NamesError),
-    /// A match rule's text, or a part of a rule, is outside the grammar of match rules.
-    InvalidMatchRule,
     /// The first byte names no byte order that is read.
     IncorrectEndian,
-    /// A message would pass 134,217,728 bytes.
-    ExcessData,
+    /// What came as a reply is none: no method return, and no error with a name.
+    InvalidReply,
+    /// The error that answers a call: its name, its detail and the whole message (D-Bus Specification, "Message Types",
+    /// "Errors").
+    MethodError(
+        #[derive_where(skip(EqHashOrd))] OwnedErrorName,
+        #[derive_where(skip(EqHashOrd))] Option<Text>,
+        #[derive_where(skip(EqHashOrd))] Message,
+    ),
+    /// A message lacks a header field that its type wants (D-Bus Specification, "Header Fields").
+    MissingField,
+    /// A text is no identifier of a server or a machine (D-Bus Specification, "UUIDs").
+    InvalidGUID,
     /// The message has file descriptors, and the sink takes none.
     Unsupported,
-    /// A message of this type can't have this flag.
-    InvalidField,
+    /// One of the standard errors.
+    FDO(StandardError),
+    /// The name that was asked for is another peer's.
+    NameTaken,
+    /// A match rule's text, or a part of a rule, is outside the grammar of match rules.
+    InvalidMatchRule,
+    /// Another failure, with its text.
+    Failure(Text),
+    /// A parameter of this name is wanted.
+    MissingParameter(&'static str),
+    /// An interface of this name stands at this path already.
+    InterfaceExists(OwnedInterfaceName, OwnedObjectPath),
+    /// There is no memory.
+    Memory,
     /// Each of the 4,294,967,295 serials is pending.
     SerialsSpent,
     /// A number names nothing, or nothing any more.
     UnknownHandle,
-    /// There is no memory.
-    Memory,
+    /// The peer does something else first that this waits for.
+    Busy,
 }
 
 /// A result with this crate's error.
@@ -68,69 +101,74 @@ impl<T: Drop> From<AllocFailed<T>> for Error {
     }
 }
 
-/// The kind's name.
-impl fmt::Display for IoKind {
-    ghost output = { λ k. Some (io_text k) };
+/// Want of memory stays want of memory.
+impl From<VariantError> for Error {
+    ghost from_gives = { λ kind e. e ≡ error_of_variant kind };
 
-    fn fmt<W: fmt::Write>(&self, f: &mut fmt::Formatter<W>) -> fmt::Result {
-        f.write_str(match self {
-            IoKind::Ended => "Ended",
-            IoKind::Fault => "Fault",
-            IoKind::Closed => "Closed",
-            IoKind::WriteFault => "WriteFault",
-            IoKind::TimedOut => "TimedOut",
-        })
-    }
-}
-
-/// The name of a fault of values.
-fn variant_name(kind: VariantError) -> &'static str
-    ensures { result.now ≡ variant_text kind }
-{
-    match kind {
-        VariantError::Signature => "Signature",
-        VariantError::Depth => "Depth",
-        VariantError::Malformed => "Malformed",
-        VariantError::SignatureMismatch => "SignatureMismatch",
-        VariantError::Memory => "Memory",
-    }
-}
-
-/// The name of the grammar that a text is outside of.
-fn names_name(kind: NamesError) -> &'static str
-    ensures { result.now ≡ names_text kind }
-{
-    match kind {
-        NamesError::Unique => "Unique",
-        NamesError::WellKnown => "WellKnown",
-        NamesError::Bus => "Bus",
-        NamesError::Interface => "Interface",
-        NamesError::Member => "Member",
-        NamesError::Error => "Error",
-        NamesError::Path => "Path",
-        NamesError::Memory => "Memory",
-    }
-}
-
-/// What went wrong, with the name of its kind where it has one.
-impl fmt::Display for Error {
-    ghost output = { λ e. Some (error_text e) };
-
-    fn fmt<W: fmt::Write>(&self, f: &mut fmt::Formatter<W>) -> fmt::Result {
-        match *self {
-            Error::InputOutput(kind) => write!(f, "I/O error: {kind}"),
-            Error::Variant(kind) => write!(f, "variant error: {}", variant_name(kind)),
-            Error::Names(kind) => write!(f, "invalid {}", names_name(kind)),
-            Error::InvalidMatchRule => f.write_str("Invalid match rule string"),
-            Error::IncorrectEndian => f.write_str("incorrect endian"),
-            Error::ExcessData => f.write_str("excess data"),
-            Error::Unsupported => f.write_str("Connection support is lacking"),
-            Error::InvalidField => f.write_str("invalid message field"),
-            Error::SerialsSpent => f.write_str("SerialsSpent"),
-            Error::UnknownHandle => f.write_str("UnknownHandle"),
-            Error::Memory => f.write_str("Memory"),
+    fn from(kind: VariantError) -> Error {
+        match kind {
+            VariantError::Memory => Error::Memory,
+            _ => Error::Variant(kind),
         }
     }
 }
 
-impl std::error::Error for Error {}
+/// Want of memory stays want of memory.
+impl From<NamesError> for Error {
+    ghost from_gives = { λ kind e. e ≡ error_of_names kind };
+
+    fn from(kind: NamesError) -> Error {
+        match kind {
+            NamesError::Memory => Error::Memory,
+            _ => Error::Names(kind),
+        }
+    }
+}
+
+/// A copy of a text that may be absent.
+fn copy_of(alloc: Global, text: &Option<Text>) -> std::result::Result<Option<Text>, AllocError>
+    ensures { IfOk result (λ copy. copy ≡ text.now) }
+{
+    match text {
+        Some(text) => Ok(Some(text.try_clone(alloc)?)),
+        None => Ok(None),
+    }
+}
+
+impl Error {
+    /// The same error; a message in it shares its bytes. It fails only for want of memory.
+    pub fn try_clone(&self, alloc: Global) -> std::result::Result<Error, AllocError>
+        ensures { IfOk result (λ copy. copy ≡ self.now) }
+    {
+        Ok(match self {
+            Error::InterfaceNotFound => Error::InterfaceNotFound,
+            Error::InputOutput(kind) => Error::InputOutput(*kind),
+            Error::InvalidField => Error::InvalidField,
+            Error::ExcessData => Error::ExcessData,
+            Error::Variant(kind) => Error::Variant(*kind),
+            Error::Names(kind) => Error::Names(*kind),
+            Error::IncorrectEndian => Error::IncorrectEndian,
+            Error::InvalidReply => Error::InvalidReply,
+            Error::MethodError(name, detail, message) => Error::MethodError(
+                name.try_clone(alloc)?,
+                copy_of(alloc, detail)?,
+                message.try_clone()?,
+            ),
+            Error::MissingField => Error::MissingField,
+            Error::InvalidGUID => Error::InvalidGUID,
+            Error::Unsupported => Error::Unsupported,
+            Error::FDO(error) => Error::FDO(error.try_clone(alloc)?),
+            Error::NameTaken => Error::NameTaken,
+            Error::InvalidMatchRule => Error::InvalidMatchRule,
+            Error::Failure(text) => Error::Failure(text.try_clone(alloc)?),
+            Error::MissingParameter(name) => Error::MissingParameter(*name),
+            Error::InterfaceExists(name, path) => {
+                Error::InterfaceExists(name.try_clone(alloc)?, path.try_clone(alloc)?)
+            }
+            Error::Memory => Error::Memory,
+            Error::SerialsSpent => Error::SerialsSpent,
+            Error::UnknownHandle => Error::UnknownHandle,
+            Error::Busy => Error::Busy,
+        })
+    }
+}

@@ -5,9 +5,14 @@
 mod bodies;
 mod body;
 mod builder;
+mod closing;
 mod display;
 mod endian_sig;
 mod error;
+#[cfg(test)]
+mod error_tests;
+mod error_texts;
+pub mod fdo;
 mod field;
 mod flags;
 mod front;
@@ -32,13 +37,17 @@ mod writing;
 
 pub use body::Body;
 pub use builder::Builder;
+pub use closing::ClosingError;
 pub use endian_sig::{EndianSig, NATIVE_ENDIAN_SIG};
 pub use error::{Error, IoKind, Result};
 pub use flags::Flags;
 pub use front::{header_front, total_of};
 pub use header::Header;
 pub use kind::MessageType;
-pub use laws::{built_bodies_are_read_again, built_messages_are_read_again, one_message};
+pub use laws::{
+    built_bodies_are_read_again, built_messages_are_read_again, each_error_is_itself,
+    equal_errors_are_the_same, one_message,
+};
 pub use message::Message;
 pub use primary::PrimaryHeader;
 pub use sequence::Sequence;

@@ -7,6 +7,6 @@ use Rattle.peer_route.proofs.route.Route.close.Goals as goal
 pub returns : goal.returns
 returns c h left =
     let P : View → Type 0 = λ v. LeftCalls v.calls h in
-    let Q : View → Type 0 = λ v. Left (record v { calls = c.fail_all.new.self }) (Shut c.args.error ∷ h) in
+    let Q : View → Type 0 = λ v. Left (record v { calls = c.fail_all.new.self }) (Shut c.args.error.now ∷ h) in
     subst Q (sym c.self.view_is)
-    (left_shut c.args.self.now c.fail_all.new.self c.args.error h left (c.fail_all.ensures h (subst P (sym c.self.view_is) left.calls)))
+    (left_shut c.args.self.now c.fail_all.new.self c.args.error.now h left (c.fail_all.ensures h (subst P (sym c.self.view_is) left.calls)))

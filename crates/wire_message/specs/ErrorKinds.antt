@@ -1,0 +1,15 @@
+-- Errors of the crates below as errors of messages and peers: want of memory stays want of memory.
+use Rattle.wire_message.specs.declared.error.Error.{Error}
+use Rattle.wire_message.specs.declared.error.Error.TheVariants as errors
+use Rattle.wire_names.specs.declared.error.NamesError.{NamesError}
+use Rattle.wire_names.specs.declared.error.NamesError.TheVariants as names
+use Rattle.wire_signature.specs.declared.error.VariantError.{VariantError}
+use Rattle.wire_signature.specs.declared.error.VariantError.TheVariants as faults
+
+abbrev pub error_of_variant : VariantError → Error
+error_of_variant faults.Memory = errors.Memory
+error_of_variant kind = errors.Variant kind
+
+abbrev pub error_of_names : NamesError → Error
+error_of_names names.Memory = errors.Memory
+error_of_names kind = errors.Names kind

@@ -1,0 +1,134 @@
+//! What is printed of errors.
+ghost use Rattle.std.specs.Prelude.{◌≡◌, Some, option_map};
+ghost use Rattle.wire_message.specs.ErrorTexts.{io_text, names_text, variant_text, error_text, description as description_of};
+
+use crate::error::{Error, IoKind};
+use std::fmt;
+use wire_names::NamesError;
+use wire_signature::VariantError;
+
+/// The kind's name.
+impl fmt::Display for IoKind {
+    ghost output = { λ k. Some (io_text k) };
+
+    fn fmt<W: fmt::Write>(&self, f: &mut fmt::Formatter<W>) -> fmt::Result {
+        f.write_str(match self {
+            IoKind::Ended => "Ended",
+            IoKind::Fault => "Fault",
+            IoKind::Closed => "Closed",
+            IoKind::WriteFault => "WriteFault",
+            IoKind::TimedOut => "TimedOut",
+        })
+    }
+}
+
+/// The name of a fault of values.
+fn variant_name(kind: VariantError) -> &'static str
+    ensures { result.now ≡ variant_text kind }
+{
+    match kind {
+        VariantError::Signature => "Signature",
+        VariantError::Depth => "Depth",
+        VariantError::Malformed => "Malformed",
+        VariantError::SignatureMismatch => "SignatureMismatch",
+        VariantError::Memory => "Memory",
+    }
+}
+
+/// The name of the grammar that a text is outside of.
+fn names_name(kind: NamesError) -> &'static str
+    ensures { result.now ≡ names_text kind }
+{
+    match kind {
+        NamesError::Unique => "Unique",
+        NamesError::WellKnown => "WellKnown",
+        NamesError::Bus => "Bus",
+        NamesError::Interface => "Interface",
+        NamesError::Member => "Member",
+        NamesError::Error => "Error",
+        NamesError::Path => "Path",
+        NamesError::Memory => "Memory",
+    }
+}
+
+/// What went wrong, with what the error holds beside its kind; of a method's error its name and its detail.
+impl fmt::Display for Error {
+    ghost output = { λ e. Some (error_text e) };
+
+    fn fmt<W: fmt::Write>(&self, f: &mut fmt::Formatter<W>) -> fmt::Result {
+        match self {
+            Error::InterfaceNotFound => f.write_str("Interface not found"),
+            Error::InputOutput(kind) => write!(f, "I/O error: {kind}"),
+            Error::InvalidField => f.write_str("invalid message field"),
+            Error::ExcessData => f.write_str("excess data"),
+            Error::Variant(kind) => write!(f, "variant error: {}", variant_name(*kind)),
+            Error::Names(kind) => write!(f, "invalid {}", names_name(*kind)),
+            Error::IncorrectEndian => f.write_str("incorrect endian"),
+            Error::InvalidReply => f.write_str("Invalid D-Bus method reply"),
+            Error::MethodError(name, Some(detail), _) => {
+                write!(f, "{}: {}", name.as_str(), detail.as_str())
+            }
+            Error::MethodError(name, None, _) => write!(f, "{}: no details", name.as_str()),
+            Error::MissingField => {
+                f.write_str("A required field is missing from message headers")
+            }
+            Error::InvalidGUID => f.write_str("Invalid GUID"),
+            Error::Unsupported => f.write_str("Connection support is lacking"),
+            Error::FDO(error) => write!(f, "{error}"),
+            Error::NameTaken => f.write_str("name already taken on the bus"),
+            Error::InvalidMatchRule => f.write_str("Invalid match rule string"),
+            Error::Failure(text) => f.write_str(text.as_str()),
+            Error::MissingParameter(name) => {
+                write!(f, "Parameter `{name}` was not specified but it is required")
+            }
+            Error::InterfaceExists(name, path) => {
+                write!(
+                    f,
+                    "Interface `{}` already exists at `{}`",
+                    name.as_str(),
+                    path.as_str()
+                )
+            }
+            Error::Memory => f.write_str("Memory"),
+            Error::SerialsSpent => f.write_str("SerialsSpent"),
+            Error::UnknownHandle => f.write_str("UnknownHandle"),
+            Error::Busy => f.write_str("Busy"),
+        }
+    }
+}
+
+impl std::error::Error for Error {}
+
+impl Error {
+    /// What went wrong, in general; of a method's error its detail, and of another failure its text. There is none of want of
+    /// memory, of spent serials, of an unknown number and of a busy peer.
+    pub fn description(&self) -> Option<&str>
+        ensures { option_map (λ t. t.now) result ≡ description_of self.now }
+    {
+        match self {
+            Error::InterfaceNotFound => Some("interface not found"),
+            Error::InputOutput(_) => Some("i/o error"),
+            Error::InvalidField => Some("invalid field"),
+            Error::ExcessData => Some("excess data"),
+            Error::Variant(_) => Some("variant error"),
+            Error::Names(_) => Some("names error"),
+            Error::IncorrectEndian => Some("incorrect endian"),
+            Error::InvalidReply => Some("invalid reply"),
+            Error::MethodError(_, Some(detail), _) => Some(detail.as_str()),
+            Error::MissingField => Some("a required field is missing from message headers"),
+            Error::InvalidGUID => Some("invalid GUID"),
+            Error::Unsupported => Some("connection support is lacking"),
+            Error::FDO(_) => Some("FDO error"),
+            Error::NameTaken => Some("name already taken on the bus"),
+            Error::InvalidMatchRule => Some("invalid match rule string"),
+            Error::Failure(text) => Some(text.as_str()),
+            Error::MissingParameter(_) => Some("A required parameter is missing"),
+            Error::InterfaceExists(_, _) => Some("interface already exists"),
+            Error::MethodError(_, None, _)
+            | Error::Memory
+            | Error::SerialsSpent
+            | Error::UnknownHandle
+            | Error::Busy => None,
+        }
+    }
+}
