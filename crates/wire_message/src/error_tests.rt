@@ -44,18 +44,42 @@ fn shows(
 fn errors_are_shown(rt: HostRuntime) -> std::result::Result<(), Fail> {
     let alloc = rt.alloc();
     for (error, text, description) in [
-        (Error::InterfaceNotFound, "Interface not found", "interface not found"),
-        (Error::InputOutput(IoKind::TimedOut), "I/O error: TimedOut", "i/o error"),
-        (Error::InvalidField, "invalid message field", "invalid field"),
+        (
+            Error::InterfaceNotFound,
+            "Interface not found",
+            "interface not found",
+        ),
+        (
+            Error::InputOutput(IoKind::TimedOut),
+            "I/O error: TimedOut",
+            "i/o error",
+        ),
+        (
+            Error::InvalidField,
+            "invalid message field",
+            "invalid field",
+        ),
         (Error::ExcessData, "excess data", "excess data"),
         (
             Error::Variant(VariantError::SignatureMismatch),
             "variant error: SignatureMismatch",
             "variant error",
         ),
-        (Error::Names(NamesError::WellKnown), "invalid WellKnown", "names error"),
-        (Error::IncorrectEndian, "incorrect endian", "incorrect endian"),
-        (Error::InvalidReply, "Invalid D-Bus method reply", "invalid reply"),
+        (
+            Error::Names(NamesError::WellKnown),
+            "invalid WellKnown",
+            "names error",
+        ),
+        (
+            Error::IncorrectEndian,
+            "incorrect endian",
+            "incorrect endian",
+        ),
+        (
+            Error::InvalidReply,
+            "Invalid D-Bus method reply",
+            "invalid reply",
+        ),
         (
             Error::MissingField,
             "A required field is missing from message headers",
@@ -93,8 +117,20 @@ fn errors_are_shown(rt: HostRuntime) -> std::result::Result<(), Fail> {
     ] {
         shows(&rt, alloc, error, text, None)?;
     }
-    shows(&rt, alloc, method_error(alloc, Some("no room"))?, "org.a.E: no room", Some("no room"))?;
-    shows(&rt, alloc, method_error(alloc, None)?, "org.a.E: no details", None)?;
+    shows(
+        &rt,
+        alloc,
+        method_error(alloc, Some("no room"))?,
+        "org.a.E: no room",
+        Some("no room"),
+    )?;
+    shows(
+        &rt,
+        alloc,
+        method_error(alloc, None)?,
+        "org.a.E: no details",
+        None,
+    )?;
     let failed = StandardError {
         kind: Kind::SpawnFailed,
         text: Text::from_str(alloc, "it fell")?,
@@ -106,7 +142,13 @@ fn errors_are_shown(rt: HostRuntime) -> std::result::Result<(), Fail> {
         "org.freedesktop.DBus.Error.Spawn.Failed: it fell",
         Some("FDO error"),
     )?;
-    shows(&rt, alloc, Error::Failure(Text::from_str(alloc, "kaboom!")?), "kaboom!", Some("kaboom!"))?;
+    shows(
+        &rt,
+        alloc,
+        Error::Failure(Text::from_str(alloc, "kaboom!")?),
+        "kaboom!",
+        Some("kaboom!"),
+    )?;
     let name = OwnedInterfaceName::try_from(alloc, "org.a.B")?;
     let path = OwnedObjectPath::try_from(alloc, "/a/b")?;
     shows(
@@ -125,7 +167,9 @@ fn errors_are_compared(rt: HostRuntime) -> std::result::Result<(), Fail> {
     let alloc = rt.alloc();
     assert_eq!(rt; method_error(alloc, Some("x"))?, method_error(alloc, None)?);
     assert!(rt; Error::InputOutput(IoKind::Ended) != Error::InputOutput(IoKind::Fault));
-    assert!(rt; Error::Failure(Text::from_str(alloc, "x")?) != Error::Failure(Text::from_str(alloc, "y")?));
+    assert!(rt;
+        Error::Failure(Text::from_str(alloc, "x")?) != Error::Failure(Text::from_str(alloc, "y")?)
+    );
     assert_eq!(rt; Error::from(VariantError::Memory), Error::Memory);
     assert_eq!(rt; Error::from(NamesError::Memory), Error::Memory);
     match ClosingError::of(&Error::ExcessData) {

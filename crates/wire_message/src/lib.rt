@@ -15,6 +15,7 @@ mod error_texts;
 pub mod fdo;
 mod field;
 mod flags;
+mod from_message;
 mod front;
 mod header;
 mod kind;
