@@ -19,3 +19,4 @@ pub mod Lending
 pub mod Bodies
 pub mod Read
 pub mod MethodError
+pub mod FdoErrors
