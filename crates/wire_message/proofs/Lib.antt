@@ -16,4 +16,3 @@ pub mod Heads
 pub mod BodyLaws
 pub mod BodyFound
 pub mod BodyAgain
-pub mod Equal

@@ -35,7 +35,7 @@ fn shows(
     assert_eq!(rt; format!(in alloc; "{error}")?.as_str(), text);
     assert_eq!(rt; error.description(), description);
     let copy = error.try_clone(alloc)?;
-    assert!(rt; equal_errors_are_the_same(&copy, &error));
+    assert!(rt; copy == error);
     Ok(())
 }
 
