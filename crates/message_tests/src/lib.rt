@@ -6,6 +6,8 @@ mod bodies;
 #[cfg(test)]
 mod building;
 #[cfg(test)]
+mod errors;
+#[cfg(test)]
 mod headers;
 #[cfg(test)]
 mod replies;

@@ -16,3 +16,4 @@ pub mod Heads
 pub mod BodyLaws
 pub mod BodyFound
 pub mod BodyAgain
+pub mod KindNames

@@ -18,3 +18,5 @@ pub mod Drafts
 pub mod Lending
 pub mod Bodies
 pub mod Read
+pub mod MethodError
+pub mod FdoErrors

@@ -110,7 +110,7 @@ impl Message {
 
     /// The first argument, where it is a string and can be read.
     #[tactic(auto, unfolding(crate::specs::Texts::first_argument))]
-    fn first_argument(&self) -> Option<&str>
+    pub(crate) fn first_argument(&self) -> Option<&str>
         ensures { option_map (λ t. t.now) result ≡ argument_found self.now }
     {
         if self.begins_with_string() {

@@ -1,11 +1,13 @@
-//! The standard errors, as errors that are given.
-ghost use Rattle.std.specs.Prelude.{◌≡◌, Some, IfOk};
+//! The standard errors, as errors that are given (D-Bus Specification, "Types of messages", "Errors").
+ghost use Rattle.std.specs.Prelude.{◌≡◌, [], Some, IfOk};
 ghost use Rattle.wire_message.specs.ErrorTexts.{standard_text};
+ghost use Rattle.wire_message.specs.FdoErrors.{Becomes, error_within, fdo_text};
 
-use fdo_kinds::Kind;
+use crate::error;
+pub use fdo_kinds::Kind;
 use std::alloc::{AllocError, Global};
 use std::fmt;
-use wire_names::Text;
+use wire_names::{OwnedErrorName, Text};
 
 /// One of the standard errors: its kind, and what it says.
 #[derive(Debug, Drop, PartialEq, Eq)]
@@ -16,7 +18,7 @@ pub struct StandardError {
 
 impl StandardError {
     /// The same error. It fails only for want of memory.
-    pub fn try_clone(&self, alloc: Global) -> Result<StandardError, AllocError>
+    pub fn try_clone(&self, alloc: Global) -> std::result::Result<StandardError, AllocError>
         ensures { IfOk result (λ copy. copy ≡ self.now) }
     {
         Ok(StandardError {
@@ -34,3 +36,77 @@ impl fmt::Display for StandardError {
         write!(f, "{}: {}", self.kind.name(), self.text.as_str())
     }
 }
+
+/// What a call of an object's method gives where it fails: one of the standard errors, or any other.
+///
+/// Two are equal where both are standard errors of one kind and one text, or both are others that are equal.
+#[derive(Debug, Drop, PartialEq, Eq)]
+pub enum Error {
+    /// An error that is none of the standard ones.
+    ZBus(error::Error),
+    /// One of the standard errors.
+    Std(StandardError),
+}
+
+/// A result with [`Error`].
+pub type Result<T> = std::result::Result<T, Error>;
+
+/// The empty text, in the memory of a name that is given up, so that it takes none.
+fn emptied(name: OwnedErrorName) -> Text
+    ensures { result ≡ [] }
+{
+    let mut string = name.into_text().into_string();
+    string.clear();
+    Text::from_string(string)
+}
+
+impl From<error::Error> for Error {
+    ghost from_gives = { λ error given. Becomes error given };
+
+    /// The same error by its kind. A method's error with the name of a standard error is that one, with its detail as the text,
+    /// or the empty text where it has none. It takes no memory.
+    fn from(error: error::Error) -> Error {
+        match error {
+            error::Error::MethodError(name, detail, message) => {
+                match Kind::from_name(name.as_str()) {
+                    Some(kind) => {
+                        let text = match detail {
+                            Some(text) => text,
+                            None => emptied(name),
+                        };
+                        Error::Std(StandardError { kind, text })
+                    }
+                    None => Error::ZBus(error::Error::MethodError(name, detail, message)),
+                }
+            }
+            error::Error::FDO(error) => Error::Std(error),
+            other => Error::ZBus(other),
+        }
+    }
+}
+
+impl From<Error> for error::Error {
+    ghost from_gives = { λ given error. error ≡ error_within given };
+
+    /// The error that is held; a standard error is [`error::Error::FDO`]. It takes no memory.
+    fn from(given: Error) -> error::Error {
+        match given {
+            Error::ZBus(error) => error,
+            Error::Std(error) => error::Error::FDO(error),
+        }
+    }
+}
+
+/// `NAME: TEXT` of a standard error, with its name in a message's header; of another what is printed of it.
+impl fmt::Display for Error {
+    ghost output = { λ e. Some (fdo_text e) };
+
+    fn fmt<W: fmt::Write>(&self, f: &mut fmt::Formatter<W>) -> fmt::Result {
+        match self {
+            Error::ZBus(error) => write!(f, "{error}"),
+            Error::Std(error) => write!(f, "{error}"),
+        }
+    }
+}
+
+impl std::error::Error for Error {}

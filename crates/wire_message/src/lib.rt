@@ -6,6 +6,7 @@ mod bodies;
 mod body;
 mod builder;
 mod closing;
+mod dbus_error;
 mod display;
 mod endian_sig;
 mod error;
@@ -15,6 +16,7 @@ mod error_texts;
 pub mod fdo;
 mod field;
 mod flags;
+mod from_message;
 mod front;
 mod header;
 mod kind;
@@ -38,6 +40,7 @@ mod writing;
 pub use body::Body;
 pub use builder::Builder;
 pub use closing::ClosingError;
+pub use dbus_error::DBusError;
 pub use endian_sig::{EndianSig, NATIVE_ENDIAN_SIG};
 pub use error::{Error, IoKind, Result};
 pub use flags::Flags;
@@ -45,8 +48,7 @@ pub use front::{header_front, total_of};
 pub use header::Header;
 pub use kind::MessageType;
 pub use laws::{
-    built_bodies_are_read_again, built_messages_are_read_again, each_error_is_itself,
-    equal_errors_are_the_same, one_message,
+    built_bodies_are_read_again, built_messages_are_read_again, each_error_is_itself, one_message,
 };
 pub use message::Message;
 pub use primary::PrimaryHeader;
