@@ -1,10 +1,10 @@
 -- The body of what was built, and what is read of it.
-use Rattle.std.proofs.Common.{◌≡◌, ℕ, ◌+◌, ◌≤◌, Bool, List, [], ◌∷◌, ◌++◌, length, map, take, drop, Option, Some, None, Result, Ok, Err, refl, sym, ap, subst, ◌∙◌, arith, length-append, append-nil}
+use Rattle.std.proofs.Common.{◌≡◌, ℕ, ◌+◌, ◌≤◌, Bool, List, [], ◌∷◌, length, map, take, drop, Option, Result, Ok, Err, refl, sym, ap, subst, ◌∙◌, arith, length-append, append-nil}
 use Rattle.std.specs.Prelude.{unwrap_or}
 use Rattle.std.proofs.lemmas.List.{take_at}
 use Rattle.std.proofs.Math.Seq.{drop-append_seam}
 use Rattle.wire_number.specs.declared.endian.Endian.{Endian}
-use Rattle.wire_signature.specs.Shape.{Shape, shapes_of, types_text, IsSignature, SignatureText}
+use Rattle.wire_signature.specs.Shape.{Shape, IsSignature, SignatureText}
 use Rattle.wire_signature.specs.declared.error.VariantError.TheVariants as faults
 use Rattle.wire_tree.specs.Datum.{Datum, data_of, type_of}
 use Rattle.wire_spelling.specs.Spelling.{spelling, spellings, depths, AllFit}
@@ -15,7 +15,7 @@ use Rattle.wire_message.specs.Bodies.{IsBody, BuildsBody, BuildsValues, body_tex
 use Rattle.wire_message.specs.Draft.{Draft, header_text, message_text, built, ReadsAgain}
 use Rattle.wire_message.specs.Front.{Seen, bare, Front, total, header_len, body_len, body_bytes}
 use Rattle.wire_message.specs.Outcome.{Tells}
-use Rattle.wire_message.specs.Read.{HasTypes, BeginsBody, Begins, ReadsBody, body_signature}
+use Rattle.wire_message.specs.Read.{HasTypes, BeginsBody, ReadsBody}
 use Rattle.wire_message.specs.Signed.{signed, signature_field}
 use Rattle.wire_message.specs.declared.error.Error.{Error}
 use Rattle.wire_message.specs.declared.error.Error.TheVariants as errors

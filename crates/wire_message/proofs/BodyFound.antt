@@ -1,5 +1,5 @@
 -- Reading a body: what a front of its bytes spells.
-use Rattle.std.proofs.Common.{◌≡◌, ℕ, ◌+◌, Bool, true, false, IsTrue, nat_eq, is_some, List, [], ◌∷◌, ◌++◌, length, map, take, drop, Result, Ok, Err, refl, sym, ap, subst, ◌∙◌}
+use Rattle.std.proofs.Common.{◌≡◌, ℕ, ◌+◌, Bool, true, false, IsTrue, nat_eq, is_some, List, [], ◌∷◌, length, map, take, drop, Result, Ok, Err, refl, sym, ap, subst, ◌∙◌}
 use Rattle.std.proofs.lemmas.List.{take-append-drop}
 use Rattle.wire_number.specs.declared.endian.Endian.{Endian}
 use Rattle.wire_signature.specs.Shape.{Shape, shapes_of, types_text, AllHaveFields, IsSignature, SignatureText}
@@ -14,7 +14,7 @@ use Rattle.wire_spelling.specs.Each.{SpellEach}
 use Rattle.wire_body.specs.Arguments.{TellsBody, TellsFrom}
 use Rattle.wire_value.specs.Bodies.{Explains, HasOnlyBody}
 use Rattle.wire_message.specs.Front.{Seen}
-use Rattle.wire_message.specs.Read.{BeginsBody, BeginsNoBody, Begins, HasTypes, ReadsAs, ReadsBody, TellsBegun, TellsTypes}
+use Rattle.wire_message.specs.Read.{BeginsNoBody, Begins, HasTypes, ReadsAs, ReadsBody, TellsBegun, TellsTypes}
 use Rattle.wire_message.specs.declared.error.Error.{Error}
 use Rattle.wire_message.specs.declared.error.Error.TheVariants as errors
 

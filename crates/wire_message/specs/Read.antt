@@ -1,5 +1,5 @@
 -- Reading the body of a message (D-Bus Specification, "Message Format", "Header Fields").
-use Rattle.std.specs.Prelude.{◌≡◌, ℕ, List, [], ◌++◌, length, unwrap_or, Result, Ok, Err}
+use Rattle.std.specs.Prelude.{◌≡◌, ℕ, List, [], ◌++◌, unwrap_or, Result, Ok, Err}
 use Rattle.wire_number.specs.declared.endian.Endian.{Endian}
 use Rattle.wire_signature.specs.Shape.{Shape, IsSignature, SignatureText}
 use Rattle.wire_signature.specs.declared.error.VariantError.{VariantError}

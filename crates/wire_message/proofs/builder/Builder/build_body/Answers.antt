@@ -1,6 +1,5 @@
-use Rattle.std.proofs.Common.{◌≡◌, ℕ, List, ap, ◌∙◌}
+use Rattle.std.proofs.Common.{ℕ, List, ap, ◌∙◌}
 use Rattle.std.proofs.lemmas.Result.{err_from_is_err_and}
-use Rattle.wire_message.specs.Draft.{Draft}
 use Rattle.wire_message.specs.Signed.{counted}
 use Rattle.wire_message.proofs.Law.{again-with}
 use Rattle.wire_message.proofs.BodyLaws.{no-serial-values, no-values, values-built}
