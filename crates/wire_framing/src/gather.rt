@@ -93,10 +93,10 @@ pub(crate) fn cost(bytes: &[u8]) -> usize
     if bytes.len() < HEAD {
         return bytes.len();
     }
-    match total_at(bytes) {
-        Ok(total) => bytes.len().min(total as usize),
-        Err(_) => HEAD,
-    }
+    let Ok(total) = total_at(bytes) else {
+        return HEAD;
+    };
+    bytes.len().min(total as usize)
 }
 
 /// Appends bytes until the first message is there whole: 16, then the rest of the total that they say.

@@ -5,8 +5,8 @@ use Rattle.wire_framing.proofs.Asked.{head_fault-take, total-take}
 use Rattle.wire_framing.proofs.Whole.{spent_right, spent_refused}
 use Rattle.wire_framing.proofs.gather.cost.Goals as goal
 
-pub returns-in-Ok-clause-value : goal.returns-in-Ok-clause-value
-returns-in-Ok-clause-value c =
+pub returns-clause-value : goal.returns-clause-value
+returns-clause-value c =
     let b = c.args.bytes.now in
     let long : 16 ≤ length b = search rules in
     let right : head_fault b ≡ None = sym (head_fault-take b long) ∙ c.in-Ok.ensures.0 in
@@ -14,9 +14,9 @@ returns-in-Ok-clause-value c =
     let is = spent_right b long right in
     omega (arith, is, all, c.min.ensures)
 
-pub returns-in-Err-clause-value : goal.returns-in-Err-clause-value
-returns-in-Err-clause-value c =
+pub returns-in_default-clause-value : goal.returns-in_default-clause-value
+returns-in_default-clause-value c =
     let b = c.args.bytes.now in
     let long : 16 ≤ length b = search rules in
-    let fault : head_fault b ≡ Some c.in-Err.field-0 = sym (head_fault-take b long) ∙ c.in-Err.ensures in
-    sym (spent_refused b c.in-Err.field-0 long fault)
+    let fault : head_fault b ≡ Some c.in_default.field-0 = sym (head_fault-take b long) ∙ c.in_default.ensures in
+    sym (spent_refused b c.in_default.field-0 long fault)
