@@ -17,3 +17,4 @@ pub mod BodyLaws
 pub mod BodyFound
 pub mod BodyAgain
 pub mod KindNames
+pub mod Equal

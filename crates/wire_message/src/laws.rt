@@ -1,5 +1,5 @@
 //! Laws of the header grammar, of bodies and of errors.
-ghost use Rattle.std.specs.Prelude.{◌≡◌, ◌<◌, ◌≤◌, ◌^◌, ℕ, Bool, List, Ok, Result, length};
+ghost use Rattle.std.specs.Prelude.{◌≡◌, ◌<◌, ◌≤◌, ◌^◌, ℕ, Bool, List, Ok, Result, length, ◌↔◌, IsTrue};
 ghost use Rattle.wire_signature.specs.Shape.{IsSignature};
 ghost use Rattle.wire_body.specs.Arguments.{AreAllSound};
 ghost use Rattle.wire_message.specs.Bodies.{BuildsBody, BuildsValues};
@@ -35,6 +35,13 @@ pub fn built_bodies_are_read_again<T: FromBody>()
     ensures arguments { (taken : ℕ → Bool) (draft : Draft) (old new : ℕ) (m : Seen) (x : T) (r : Result T Error) → BuildsBody taken draft T.kinds (T.datums x) old new (Ok m) → ReadsAgain m → T.read (T.datums x) ≡ x → ReadsBody r T.read T.kinds m → Tells (λ y. y) r (Ok x) }
     ensures values { (taken : ℕ → Bool) (draft : Draft) (fds : List ℕ) (old new : ℕ) (m : Seen) (x : T) (r : Result T Error) → IsSignature T.kinds → AreAllSound (T.datums x) → BuildsValues taken draft (T.datums x) fds old new (Ok m) → ReadsAgain m → T.read (T.datums x) ≡ x → ReadsBody r T.read T.kinds m → Tells (λ y. y) r (Ok x) }
 {}
+
+/// Two errors are equal exactly where they are the same.
+pub fn equal_errors_are_the_same(error: &Error, other: &Error) -> bool
+    ensures { IsTrue result ↔ Same error.now other.now }
+{
+    error == other
+}
 
 /// Each error is the same as itself.
 pub fn each_error_is_itself()

@@ -1,0 +1,432 @@
+-- Two errors are equal exactly where they are the same.
+use Rattle.std.proofs.Common.{◌≡◌, refl, sym, ◌∙◌, ap, ℕ, Bool, true, false, ◌&&◌, nat_eq, List, Option, Bor}
+use Rattle.std.specs.Cmp.Lexicographic.{pointwise}
+use Rattle.std.proofs.lemmas.Slice.Eq.{bytes_eq-Decides}
+use Rattle.fdo_kinds.specs.declared.kind.Kind.{Kind}
+use Rattle.fdo_kinds.specs.declared.kind.Kind.TheVariants as std_kinds
+use Rattle.fdo_kinds.specs.contracts.kind.KindPartialEq.TheImpl.{ghosts as of_kinds}
+use Rattle.wire_names.specs.declared.error.NamesError.{NamesError}
+use Rattle.wire_names.specs.declared.error.NamesError.TheVariants as names
+use Rattle.wire_names.specs.contracts.error.NamesErrorPartialEq.TheImpl.{ghosts as of_names}
+use Rattle.wire_signature.specs.declared.error.VariantError.{VariantError}
+use Rattle.wire_signature.specs.declared.error.VariantError.TheVariants as faults
+use Rattle.wire_signature.specs.contracts.error.VariantErrorPartialEq.TheImpl.{ghosts as of_faults}
+use Rattle.wire_message.specs.declared.error.IoKind.{IoKind}
+use Rattle.wire_message.specs.declared.error.IoKind.TheVariants as kinds
+use Rattle.wire_message.specs.contracts.error.IoKindPartialEq.TheImpl.{ghosts as of_io}
+use Rattle.wire_message.specs.declared.fdo.StandardError.{StandardError}
+use Rattle.wire_message.specs.contracts.fdo.StandardErrorPartialEq.TheImpl.{ghosts as of_standard}
+use Rattle.wire_message.specs.declared.error.Error.{Error}
+use Rattle.wire_message.specs.declared.error.Error.TheVariants as errors
+use Rattle.wire_message.specs.contracts.error.ErrorPartialEq.TheImpl.{ghosts as of_errors}
+use Rattle.wire_message.specs.Front.{Seen}
+use Rattle.wire_message.specs.SameError.{Same}
+
+first_true : (a b : Bool) → (a && b) ≡ true → a ≡ true
+first_true true b h = refl
+first_true false b h = cc
+
+second_true : (a b : Bool) → (a && b) ≡ true → b ≡ true
+second_true true b h = h
+second_true false b h = cc
+
+both_true : (a b : Bool) → a ≡ true → b ≡ true → (a && b) ≡ true
+both_true a b p q = cc
+
+same_is : (xs ys : List ℕ) → pointwise nat_eq xs ys ≡ true → xs ≡ ys
+same_is xs ys h = (bytes_eq-Decides xs ys).0 h
+
+is_same : (xs ys : List ℕ) → xs ≡ ys → pointwise nat_eq xs ys ≡ true
+is_same xs ys e = (bytes_eq-Decides xs ys).1 e
+
+-- ---- kinds
+
+io-self : (x : IoKind) → of_io.eq x x ≡ true
+io-self kinds.Ended = refl
+io-self kinds.Fault = refl
+io-self kinds.Closed = refl
+io-self kinds.WriteFault = refl
+io-self kinds.TimedOut = refl
+
+io : (x y : IoKind) → of_io.eq x y ≡ true → x ≡ y
+io kinds.Ended kinds.Ended e = refl
+io kinds.Fault kinds.Fault e = refl
+io kinds.Closed kinds.Closed e = refl
+io kinds.WriteFault kinds.WriteFault e = refl
+io kinds.TimedOut kinds.TimedOut e = refl
+io x y e = absurd (cc)
+
+io-back : (x y : IoKind) → x ≡ y → of_io.eq x y ≡ true
+io-back x y e = ap (of_io.eq x) (sym e) ∙ io-self x
+
+fault-self : (x : VariantError) → of_faults.eq x x ≡ true
+fault-self faults.Signature = refl
+fault-self faults.Depth = refl
+fault-self faults.Malformed = refl
+fault-self faults.SignatureMismatch = refl
+fault-self faults.Memory = refl
+
+fault : (x y : VariantError) → of_faults.eq x y ≡ true → x ≡ y
+fault faults.Signature faults.Signature e = refl
+fault faults.Depth faults.Depth e = refl
+fault faults.Malformed faults.Malformed e = refl
+fault faults.SignatureMismatch faults.SignatureMismatch e = refl
+fault faults.Memory faults.Memory e = refl
+fault x y e = absurd (cc)
+
+fault-back : (x y : VariantError) → x ≡ y → of_faults.eq x y ≡ true
+fault-back x y e = ap (of_faults.eq x) (sym e) ∙ fault-self x
+
+name-self : (x : NamesError) → of_names.eq x x ≡ true
+name-self names.Unique = refl
+name-self names.WellKnown = refl
+name-self names.Bus = refl
+name-self names.Interface = refl
+name-self names.Member = refl
+name-self names.Error = refl
+name-self names.Path = refl
+name-self names.Memory = refl
+
+name : (x y : NamesError) → of_names.eq x y ≡ true → x ≡ y
+name names.Unique names.Unique e = refl
+name names.WellKnown names.WellKnown e = refl
+name names.Bus names.Bus e = refl
+name names.Interface names.Interface e = refl
+name names.Member names.Member e = refl
+name names.Error names.Error e = refl
+name names.Path names.Path e = refl
+name names.Memory names.Memory e = refl
+name x y e = absurd (cc)
+
+name-back : (x y : NamesError) → x ≡ y → of_names.eq x y ≡ true
+name-back x y e = ap (of_names.eq x) (sym e) ∙ name-self x
+
+kind-self : (x : Kind) → of_kinds.eq x x ≡ true
+kind-self std_kinds.Failed = refl
+kind-self std_kinds.NoMemory = refl
+kind-self std_kinds.ServiceUnknown = refl
+kind-self std_kinds.NameHasNoOwner = refl
+kind-self std_kinds.NoReply = refl
+kind-self std_kinds.IOError = refl
+kind-self std_kinds.BadAddress = refl
+kind-self std_kinds.NotSupported = refl
+kind-self std_kinds.LimitsExceeded = refl
+kind-self std_kinds.AccessDenied = refl
+kind-self std_kinds.AuthFailed = refl
+kind-self std_kinds.NoServer = refl
+kind-self std_kinds.Timeout = refl
+kind-self std_kinds.NoNetwork = refl
+kind-self std_kinds.AddressInUse = refl
+kind-self std_kinds.Disconnected = refl
+kind-self std_kinds.InvalidArgs = refl
+kind-self std_kinds.FileNotFound = refl
+kind-self std_kinds.FileExists = refl
+kind-self std_kinds.UnknownMethod = refl
+kind-self std_kinds.UnknownObject = refl
+kind-self std_kinds.UnknownInterface = refl
+kind-self std_kinds.UnknownProperty = refl
+kind-self std_kinds.PropertyReadOnly = refl
+kind-self std_kinds.TimedOut = refl
+kind-self std_kinds.MatchRuleNotFound = refl
+kind-self std_kinds.MatchRuleInvalid = refl
+kind-self std_kinds.UnixProcessIdUnknown = refl
+kind-self std_kinds.InvalidSignature = refl
+kind-self std_kinds.InvalidFileContent = refl
+kind-self std_kinds.SELinuxSecurityContextUnknown = refl
+kind-self std_kinds.AdtAuditDataUnknown = refl
+kind-self std_kinds.ObjectPathInUse = refl
+kind-self std_kinds.InconsistentMessage = refl
+kind-self std_kinds.InteractiveAuthorizationRequired = refl
+kind-self std_kinds.NotContainer = refl
+kind-self std_kinds.SpawnExecFailed = refl
+kind-self std_kinds.SpawnForkFailed = refl
+kind-self std_kinds.SpawnChildExited = refl
+kind-self std_kinds.SpawnChildSignaled = refl
+kind-self std_kinds.SpawnFailed = refl
+kind-self std_kinds.SpawnFailedToSetup = refl
+kind-self std_kinds.SpawnConfigInvalid = refl
+kind-self std_kinds.SpawnServiceNotValid = refl
+kind-self std_kinds.SpawnServiceNotFound = refl
+kind-self std_kinds.SpawnPermissionsInvalid = refl
+kind-self std_kinds.SpawnFileInvalid = refl
+kind-self std_kinds.SpawnNoMemory = refl
+
+kind : (x y : Kind) → of_kinds.eq x y ≡ true → x ≡ y
+kind std_kinds.Failed std_kinds.Failed e = refl
+kind std_kinds.NoMemory std_kinds.NoMemory e = refl
+kind std_kinds.ServiceUnknown std_kinds.ServiceUnknown e = refl
+kind std_kinds.NameHasNoOwner std_kinds.NameHasNoOwner e = refl
+kind std_kinds.NoReply std_kinds.NoReply e = refl
+kind std_kinds.IOError std_kinds.IOError e = refl
+kind std_kinds.BadAddress std_kinds.BadAddress e = refl
+kind std_kinds.NotSupported std_kinds.NotSupported e = refl
+kind std_kinds.LimitsExceeded std_kinds.LimitsExceeded e = refl
+kind std_kinds.AccessDenied std_kinds.AccessDenied e = refl
+kind std_kinds.AuthFailed std_kinds.AuthFailed e = refl
+kind std_kinds.NoServer std_kinds.NoServer e = refl
+kind std_kinds.Timeout std_kinds.Timeout e = refl
+kind std_kinds.NoNetwork std_kinds.NoNetwork e = refl
+kind std_kinds.AddressInUse std_kinds.AddressInUse e = refl
+kind std_kinds.Disconnected std_kinds.Disconnected e = refl
+kind std_kinds.InvalidArgs std_kinds.InvalidArgs e = refl
+kind std_kinds.FileNotFound std_kinds.FileNotFound e = refl
+kind std_kinds.FileExists std_kinds.FileExists e = refl
+kind std_kinds.UnknownMethod std_kinds.UnknownMethod e = refl
+kind std_kinds.UnknownObject std_kinds.UnknownObject e = refl
+kind std_kinds.UnknownInterface std_kinds.UnknownInterface e = refl
+kind std_kinds.UnknownProperty std_kinds.UnknownProperty e = refl
+kind std_kinds.PropertyReadOnly std_kinds.PropertyReadOnly e = refl
+kind std_kinds.TimedOut std_kinds.TimedOut e = refl
+kind std_kinds.MatchRuleNotFound std_kinds.MatchRuleNotFound e = refl
+kind std_kinds.MatchRuleInvalid std_kinds.MatchRuleInvalid e = refl
+kind std_kinds.UnixProcessIdUnknown std_kinds.UnixProcessIdUnknown e = refl
+kind std_kinds.InvalidSignature std_kinds.InvalidSignature e = refl
+kind std_kinds.InvalidFileContent std_kinds.InvalidFileContent e = refl
+kind std_kinds.SELinuxSecurityContextUnknown std_kinds.SELinuxSecurityContextUnknown e = refl
+kind std_kinds.AdtAuditDataUnknown std_kinds.AdtAuditDataUnknown e = refl
+kind std_kinds.ObjectPathInUse std_kinds.ObjectPathInUse e = refl
+kind std_kinds.InconsistentMessage std_kinds.InconsistentMessage e = refl
+kind std_kinds.InteractiveAuthorizationRequired std_kinds.InteractiveAuthorizationRequired e = refl
+kind std_kinds.NotContainer std_kinds.NotContainer e = refl
+kind std_kinds.SpawnExecFailed std_kinds.SpawnExecFailed e = refl
+kind std_kinds.SpawnForkFailed std_kinds.SpawnForkFailed e = refl
+kind std_kinds.SpawnChildExited std_kinds.SpawnChildExited e = refl
+kind std_kinds.SpawnChildSignaled std_kinds.SpawnChildSignaled e = refl
+kind std_kinds.SpawnFailed std_kinds.SpawnFailed e = refl
+kind std_kinds.SpawnFailedToSetup std_kinds.SpawnFailedToSetup e = refl
+kind std_kinds.SpawnConfigInvalid std_kinds.SpawnConfigInvalid e = refl
+kind std_kinds.SpawnServiceNotValid std_kinds.SpawnServiceNotValid e = refl
+kind std_kinds.SpawnServiceNotFound std_kinds.SpawnServiceNotFound e = refl
+kind std_kinds.SpawnPermissionsInvalid std_kinds.SpawnPermissionsInvalid e = refl
+kind std_kinds.SpawnFileInvalid std_kinds.SpawnFileInvalid e = refl
+kind std_kinds.SpawnNoMemory std_kinds.SpawnNoMemory e = refl
+kind x y e = absurd (cc)
+
+kind-back : (x y : Kind) → x ≡ y → of_kinds.eq x y ≡ true
+kind-back x y e = ap (of_kinds.eq x) (sym e) ∙ kind-self x
+
+-- ---- errors
+
+told-InputOutput : (x : IoKind) (b : Error) → of_errors.eq (errors.InputOutput x) b ≡ true → Same (errors.InputOutput x) b
+told-InputOutput x (errors.InputOutput y) e = io x y e
+told-InputOutput x b e = absurd (cc)
+
+tells-InputOutput : (x : IoKind) (b : Error) → Same (errors.InputOutput x) b → of_errors.eq (errors.InputOutput x) b ≡ true
+tells-InputOutput x (errors.InputOutput y) e = io-back x y e
+tells-InputOutput x b e = absurd e
+
+told-Variant : (x : VariantError) (b : Error) → of_errors.eq (errors.Variant x) b ≡ true → Same (errors.Variant x) b
+told-Variant x (errors.Variant y) e = fault x y e
+told-Variant x b e = absurd (cc)
+
+tells-Variant : (x : VariantError) (b : Error) → Same (errors.Variant x) b → of_errors.eq (errors.Variant x) b ≡ true
+tells-Variant x (errors.Variant y) e = fault-back x y e
+tells-Variant x b e = absurd e
+
+told-Names : (x : NamesError) (b : Error) → of_errors.eq (errors.Names x) b ≡ true → Same (errors.Names x) b
+told-Names x (errors.Names y) e = name x y e
+told-Names x b e = absurd (cc)
+
+tells-Names : (x : NamesError) (b : Error) → Same (errors.Names x) b → of_errors.eq (errors.Names x) b ≡ true
+tells-Names x (errors.Names y) e = name-back x y e
+tells-Names x b e = absurd e
+
+told-FDO : (x : StandardError) (b : Error) → of_errors.eq (errors.FDO x) b ≡ true → Same (errors.FDO x) b
+told-FDO x (errors.FDO y) e = (kind x.kind y.kind (first_true (of_kinds.eq x.kind y.kind) _ e), same_is x.text y.text (second_true (of_kinds.eq x.kind y.kind) _ e))
+told-FDO x b e = absurd (cc)
+
+tells-FDO : (x : StandardError) (b : Error) → Same (errors.FDO x) b → of_errors.eq (errors.FDO x) b ≡ true
+tells-FDO x (errors.FDO y) e = both_true _ _ (kind-back x.kind y.kind e.0) (is_same x.text y.text e.1)
+tells-FDO x b e = absurd e
+
+told-Failure : (x : List ℕ) (b : Error) → of_errors.eq (errors.Failure x) b ≡ true → Same (errors.Failure x) b
+told-Failure x (errors.Failure y) e = same_is x y e
+told-Failure x b e = absurd (cc)
+
+tells-Failure : (x : List ℕ) (b : Error) → Same (errors.Failure x) b → of_errors.eq (errors.Failure x) b ≡ true
+tells-Failure x (errors.Failure y) e = is_same x y e
+tells-Failure x b e = absurd e
+
+told-MissingParameter : (x : Bor (List ℕ)) (b : Error) → of_errors.eq (errors.MissingParameter x) b ≡ true → Same (errors.MissingParameter x) b
+told-MissingParameter x (errors.MissingParameter y) e = same_is x.now y.now e
+told-MissingParameter x b e = absurd (cc)
+
+tells-MissingParameter : (x : Bor (List ℕ)) (b : Error) → Same (errors.MissingParameter x) b → of_errors.eq (errors.MissingParameter x) b ≡ true
+tells-MissingParameter x (errors.MissingParameter y) e = is_same x.now y.now e
+tells-MissingParameter x b e = absurd e
+
+told-InterfaceExists : (n d : List ℕ) (b : Error) → of_errors.eq (errors.InterfaceExists n d) b ≡ true → Same (errors.InterfaceExists n d) b
+told-InterfaceExists n d (errors.InterfaceExists p q) e = (same_is n p (first_true (pointwise nat_eq n p) _ e), same_is d q (second_true (pointwise nat_eq n p) _ e))
+told-InterfaceExists n d b e = absurd (cc)
+
+tells-InterfaceExists : (n d : List ℕ) (b : Error) → Same (errors.InterfaceExists n d) b → of_errors.eq (errors.InterfaceExists n d) b ≡ true
+tells-InterfaceExists n d (errors.InterfaceExists p q) e = both_true _ _ (is_same n p e.0) (is_same d q e.1)
+tells-InterfaceExists n d b e = absurd e
+
+told-MethodError : (n : List ℕ) (d : Option (List ℕ)) (m : Seen) (b : Error) → of_errors.eq (errors.MethodError n d m) b ≡ true → Same (errors.MethodError n d m) b
+told-MethodError n d m (errors.MethodError p q r) e = tt
+told-MethodError n d m b e = absurd (cc)
+
+tells-MethodError : (n : List ℕ) (d : Option (List ℕ)) (m : Seen) (b : Error) → Same (errors.MethodError n d m) b → of_errors.eq (errors.MethodError n d m) b ≡ true
+tells-MethodError n d m (errors.MethodError p q r) e = refl
+tells-MethodError n d m b e = absurd e
+
+told-InterfaceNotFound : (b : Error) → of_errors.eq errors.InterfaceNotFound b ≡ true → Same errors.InterfaceNotFound b
+told-InterfaceNotFound errors.InterfaceNotFound e = tt
+told-InterfaceNotFound b e = absurd (cc)
+
+tells-InterfaceNotFound : (b : Error) → Same errors.InterfaceNotFound b → of_errors.eq errors.InterfaceNotFound b ≡ true
+tells-InterfaceNotFound errors.InterfaceNotFound e = refl
+tells-InterfaceNotFound b e = absurd e
+
+told-InvalidField : (b : Error) → of_errors.eq errors.InvalidField b ≡ true → Same errors.InvalidField b
+told-InvalidField errors.InvalidField e = tt
+told-InvalidField b e = absurd (cc)
+
+tells-InvalidField : (b : Error) → Same errors.InvalidField b → of_errors.eq errors.InvalidField b ≡ true
+tells-InvalidField errors.InvalidField e = refl
+tells-InvalidField b e = absurd e
+
+told-ExcessData : (b : Error) → of_errors.eq errors.ExcessData b ≡ true → Same errors.ExcessData b
+told-ExcessData errors.ExcessData e = tt
+told-ExcessData b e = absurd (cc)
+
+tells-ExcessData : (b : Error) → Same errors.ExcessData b → of_errors.eq errors.ExcessData b ≡ true
+tells-ExcessData errors.ExcessData e = refl
+tells-ExcessData b e = absurd e
+
+told-IncorrectEndian : (b : Error) → of_errors.eq errors.IncorrectEndian b ≡ true → Same errors.IncorrectEndian b
+told-IncorrectEndian errors.IncorrectEndian e = tt
+told-IncorrectEndian b e = absurd (cc)
+
+tells-IncorrectEndian : (b : Error) → Same errors.IncorrectEndian b → of_errors.eq errors.IncorrectEndian b ≡ true
+tells-IncorrectEndian errors.IncorrectEndian e = refl
+tells-IncorrectEndian b e = absurd e
+
+told-InvalidReply : (b : Error) → of_errors.eq errors.InvalidReply b ≡ true → Same errors.InvalidReply b
+told-InvalidReply errors.InvalidReply e = tt
+told-InvalidReply b e = absurd (cc)
+
+tells-InvalidReply : (b : Error) → Same errors.InvalidReply b → of_errors.eq errors.InvalidReply b ≡ true
+tells-InvalidReply errors.InvalidReply e = refl
+tells-InvalidReply b e = absurd e
+
+told-MissingField : (b : Error) → of_errors.eq errors.MissingField b ≡ true → Same errors.MissingField b
+told-MissingField errors.MissingField e = tt
+told-MissingField b e = absurd (cc)
+
+tells-MissingField : (b : Error) → Same errors.MissingField b → of_errors.eq errors.MissingField b ≡ true
+tells-MissingField errors.MissingField e = refl
+tells-MissingField b e = absurd e
+
+told-InvalidGUID : (b : Error) → of_errors.eq errors.InvalidGUID b ≡ true → Same errors.InvalidGUID b
+told-InvalidGUID errors.InvalidGUID e = tt
+told-InvalidGUID b e = absurd (cc)
+
+tells-InvalidGUID : (b : Error) → Same errors.InvalidGUID b → of_errors.eq errors.InvalidGUID b ≡ true
+tells-InvalidGUID errors.InvalidGUID e = refl
+tells-InvalidGUID b e = absurd e
+
+told-Unsupported : (b : Error) → of_errors.eq errors.Unsupported b ≡ true → Same errors.Unsupported b
+told-Unsupported errors.Unsupported e = tt
+told-Unsupported b e = absurd (cc)
+
+tells-Unsupported : (b : Error) → Same errors.Unsupported b → of_errors.eq errors.Unsupported b ≡ true
+tells-Unsupported errors.Unsupported e = refl
+tells-Unsupported b e = absurd e
+
+told-NameTaken : (b : Error) → of_errors.eq errors.NameTaken b ≡ true → Same errors.NameTaken b
+told-NameTaken errors.NameTaken e = tt
+told-NameTaken b e = absurd (cc)
+
+tells-NameTaken : (b : Error) → Same errors.NameTaken b → of_errors.eq errors.NameTaken b ≡ true
+tells-NameTaken errors.NameTaken e = refl
+tells-NameTaken b e = absurd e
+
+told-InvalidMatchRule : (b : Error) → of_errors.eq errors.InvalidMatchRule b ≡ true → Same errors.InvalidMatchRule b
+told-InvalidMatchRule errors.InvalidMatchRule e = tt
+told-InvalidMatchRule b e = absurd (cc)
+
+tells-InvalidMatchRule : (b : Error) → Same errors.InvalidMatchRule b → of_errors.eq errors.InvalidMatchRule b ≡ true
+tells-InvalidMatchRule errors.InvalidMatchRule e = refl
+tells-InvalidMatchRule b e = absurd e
+
+told-Memory : (b : Error) → of_errors.eq errors.Memory b ≡ true → Same errors.Memory b
+told-Memory errors.Memory e = tt
+told-Memory b e = absurd (cc)
+
+tells-Memory : (b : Error) → Same errors.Memory b → of_errors.eq errors.Memory b ≡ true
+tells-Memory errors.Memory e = refl
+tells-Memory b e = absurd e
+
+told-SerialsSpent : (b : Error) → of_errors.eq errors.SerialsSpent b ≡ true → Same errors.SerialsSpent b
+told-SerialsSpent errors.SerialsSpent e = tt
+told-SerialsSpent b e = absurd (cc)
+
+tells-SerialsSpent : (b : Error) → Same errors.SerialsSpent b → of_errors.eq errors.SerialsSpent b ≡ true
+tells-SerialsSpent errors.SerialsSpent e = refl
+tells-SerialsSpent b e = absurd e
+
+told-UnknownHandle : (b : Error) → of_errors.eq errors.UnknownHandle b ≡ true → Same errors.UnknownHandle b
+told-UnknownHandle errors.UnknownHandle e = tt
+told-UnknownHandle b e = absurd (cc)
+
+tells-UnknownHandle : (b : Error) → Same errors.UnknownHandle b → of_errors.eq errors.UnknownHandle b ≡ true
+tells-UnknownHandle errors.UnknownHandle e = refl
+tells-UnknownHandle b e = absurd e
+
+told-Busy : (b : Error) → of_errors.eq errors.Busy b ≡ true → Same errors.Busy b
+told-Busy errors.Busy e = tt
+told-Busy b e = absurd (cc)
+
+tells-Busy : (b : Error) → Same errors.Busy b → of_errors.eq errors.Busy b ≡ true
+tells-Busy errors.Busy e = refl
+tells-Busy b e = absurd e
+
+pub told : (a b : Error) → of_errors.eq a b ≡ true → Same a b
+told (errors.InputOutput x) b e = told-InputOutput x b e
+told (errors.Variant x) b e = told-Variant x b e
+told (errors.Names x) b e = told-Names x b e
+told (errors.FDO x) b e = told-FDO x b e
+told (errors.Failure x) b e = told-Failure x b e
+told (errors.MissingParameter x) b e = told-MissingParameter x b e
+told (errors.InterfaceExists n d) b e = told-InterfaceExists n d b e
+told (errors.MethodError n d m) b e = told-MethodError n d m b e
+told errors.InterfaceNotFound b e = told-InterfaceNotFound b e
+told errors.InvalidField b e = told-InvalidField b e
+told errors.ExcessData b e = told-ExcessData b e
+told errors.IncorrectEndian b e = told-IncorrectEndian b e
+told errors.InvalidReply b e = told-InvalidReply b e
+told errors.MissingField b e = told-MissingField b e
+told errors.InvalidGUID b e = told-InvalidGUID b e
+told errors.Unsupported b e = told-Unsupported b e
+told errors.NameTaken b e = told-NameTaken b e
+told errors.InvalidMatchRule b e = told-InvalidMatchRule b e
+told errors.Memory b e = told-Memory b e
+told errors.SerialsSpent b e = told-SerialsSpent b e
+told errors.UnknownHandle b e = told-UnknownHandle b e
+told errors.Busy b e = told-Busy b e
+
+pub tells : (a b : Error) → Same a b → of_errors.eq a b ≡ true
+tells (errors.InputOutput x) b e = tells-InputOutput x b e
+tells (errors.Variant x) b e = tells-Variant x b e
+tells (errors.Names x) b e = tells-Names x b e
+tells (errors.FDO x) b e = tells-FDO x b e
+tells (errors.Failure x) b e = tells-Failure x b e
+tells (errors.MissingParameter x) b e = tells-MissingParameter x b e
+tells (errors.InterfaceExists n d) b e = tells-InterfaceExists n d b e
+tells (errors.MethodError n d m) b e = tells-MethodError n d m b e
+tells errors.InterfaceNotFound b e = tells-InterfaceNotFound b e
+tells errors.InvalidField b e = tells-InvalidField b e
+tells errors.ExcessData b e = tells-ExcessData b e
+tells errors.IncorrectEndian b e = tells-IncorrectEndian b e
+tells errors.InvalidReply b e = tells-InvalidReply b e
+tells errors.MissingField b e = tells-MissingField b e
+tells errors.InvalidGUID b e = tells-InvalidGUID b e
+tells errors.Unsupported b e = tells-Unsupported b e
+tells errors.NameTaken b e = tells-NameTaken b e
+tells errors.InvalidMatchRule b e = tells-InvalidMatchRule b e
+tells errors.Memory b e = tells-Memory b e
+tells errors.SerialsSpent b e = tells-SerialsSpent b e
+tells errors.UnknownHandle b e = tells-UnknownHandle b e
+tells errors.Busy b e = tells-Busy b e
