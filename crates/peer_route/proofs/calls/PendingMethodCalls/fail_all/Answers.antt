@@ -8,7 +8,7 @@ use Rattle.peer_route.proofs.calls.PendingMethodCalls.fail_all.Goals as goal
 pub returns-then-is_none : goal.returns-then-is_none
 returns-then-is_none c h left =
     shut c.args.error.now c.args.self.now _ h (ap (λ (v : CallsView). v.slots) c.self.view_is)
-    (first_none c.self.inside.closing c.args.error.now c.if-is_none.ensures ∙ ap (λ (v : CallsView). first_of v.closing c.args.error.now) c.self.view_is) left
+    (rw c.requires at c.of-self-inside.ensures ∙ first_none c.self.inside.closing c.args.error.now c.if-is_none.ensures ∙ ap (λ (v : CallsView). first_of v.closing c.args.error.now) c.self.view_is) left
 
 pub returns-else-is_none : goal.returns-else-is_none
 returns-else-is_none c h left =

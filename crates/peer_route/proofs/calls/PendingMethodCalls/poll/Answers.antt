@@ -33,7 +33,8 @@ returns-in-Replied-clause-left c h left =
 
 pub returns-in-Some-clause-answer : goal.returns-in-Some-clause-answer
 returns-in-Some-clause-answer c h left =
-    ap (polled_by None) (sym c.in-Some.is)
+    ap (λ error. polled_by None (Some error)) c.from.ensures
+    ∙ ap (polled_by None) (sym c.in-Some.is)
     ∙ gives_slot c.self.inside.slots.items c.self.inside.closing c.args.self.now h c.args.call (Some (Waiting c.in-Waiting.serial)) c.self.view_is
     (at_slot c.self.inside.slots.items c.len.result c.args.call c.index_mut.result.now (Waiting c.in-Waiting.serial) (c.len.ensures ∙ c.self.inside.slots.ok.0)
     c.if-call-len.false c.index_mut.ensures.value c.in-Waiting.ensures.value) left
