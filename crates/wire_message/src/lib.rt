@@ -48,8 +48,8 @@ pub use front::{header_front, total_of};
 pub use header::Header;
 pub use kind::MessageType;
 pub use laws::{
-    built_bodies_are_read_again, built_messages_are_read_again, each_error_is_itself, equal_errors_are_the_same,
-    one_message,
+    built_bodies_are_read_again, built_messages_are_read_again, each_error_is_itself,
+    equal_errors_are_the_same, one_message,
 };
 pub use message::Message;
 pub use primary::PrimaryHeader;

@@ -1,7 +1,7 @@
 use Rattle.std.proofs.Common.{refl, sym, ◌∙◌, ap}
 use Rattle.peer_route.specs.Trail.{trail, place}
 use Rattle.peer_run.specs.Stands.{PeerView, Follows}
-use Rattle.peer_run.proofs.PollStep.{follows_poll, reads_poll}
+use Rattle.peer_run.proofs.PollStep.{follows_poll, reads_poll, writes_poll}
 use Rattle.peer_run.proofs.peer.Peer.poll.Goals as goal
 
 pub returns-in-Some-clause-reads : goal.returns-in-Some-clause-reads
@@ -18,3 +18,7 @@ returns-in-Some-clause-follows c setting es f =
     (follows_poll setting p q es c.args.lane c.args.number c.in-Some.call c.poll.result g
     (ap (place 0 c.args.lane c.args.number) (sym c.deref.ensures.value) ∙ sym c.place.ensures ∙ c.in-Some.is)
     (c.poll.ensures.answer (trail setting es).events g.left) refl refl refl (c.poll.ensures.left (trail setting es).events g.left))
+
+pub returns-in-Some-clause-writes : goal.returns-in-Some-clause-writes
+returns-in-Some-clause-writes c setting start now es f w =
+    rw (c.shown.ensures) (writes_poll setting start now es c.args.lane c.args.number c.poll.result w)
