@@ -9,6 +9,7 @@ pub mod StreamStep
 pub mod SendStep
 pub mod Lanes
 pub mod SendEnds
+pub mod SendGrows
 pub mod Ends
 pub mod Cut
 pub mod HalfStep

@@ -4,7 +4,6 @@ use Rattle.std.proofs.lemmas.List.{append-nil, length_push}
 use Rattle.std.specs.Io.KnownBytes.{Consumes}
 use Rattle.wire_message.specs.Front.{Seen, Front}
 use Rattle.wire_message.specs.Outcome.{outcome, Tells, ending_of, IsReadError, IsReadRefusal}
-use Rattle.wire_message.specs.Closing.{closes}
 use Rattle.wire_message.specs.declared.error.Error.{Error}
 use Rattle.wire_message.specs.declared.error.Error.TheVariants as errors
 use Rattle.wire_message.specs.declared.error.IoKind.TheVariants as kinds
@@ -99,15 +98,6 @@ is_read_error errors.IncorrectEndian r n = tt
 is_read_error errors.ExcessData r n = tt
 is_read_error errors.Memory r n = absurd (n refl)
 is_read_error other r n = absurd r
-
--- such an error closes a peer
-pub closes_read : (error : Error) → IsReadRefusal error → error ≢ errors.Memory → closes error ≡ true
-closes_read (errors.InputOutput kind) r n = refl
-closes_read (errors.Variant kind) r n = refl
-closes_read errors.IncorrectEndian r n = refl
-closes_read errors.ExcessData r n = refl
-closes_read errors.Memory r n = absurd (n refl)
-closes_read other r n = absurd r
 
 -- the read ended the peer's messages
 pub follows_shut : (setting : Setting) (p q : PeerView) (es : List Entry) (lane : ℕ) (error : Error) → p.core.calls.closing ≡ None → busy (trail setting es).events ≡ false → Follows setting p es
@@ -256,7 +246,7 @@ reads_shut setting start now after p es lane error f e free not received cause g
     shut_cause (inr h) = rise_before start.faults now.faults after.faults (r.cause h) grows
 
 -- a count of faults never falls
-cause_rises : (faults faults' : ℕ) → MayRise faults faults' → faults ≤ faults'
+pub cause_rises : (faults faults' : ℕ) → MayRise faults faults' → faults ≤ faults'
 cause_rises faults faults' (inl h) = omega (arith, h)
 cause_rises faults faults' (inr h) = omega (arith, h.0, h.1)
 

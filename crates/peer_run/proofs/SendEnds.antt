@@ -270,29 +270,11 @@ letter_not_sent setting p q es lane w parcel error a now writing made f i e n t 
 
 not_memory : (E : Type 0) (error : Error) (a : Answer) → IsRefusal {E = E} error (Ok a) → error ≡ errors.Memory → ⊥
 not_memory E errors.Memory a is e = is
-not_memory E (errors.InputOutput kind) a is e = cc
-not_memory E (errors.Variant kind) a is e = cc
-not_memory E (errors.Names kind) a is e = cc
-not_memory E errors.InvalidMatchRule a is e = cc
-not_memory E errors.IncorrectEndian a is e = cc
-not_memory E errors.ExcessData a is e = cc
-not_memory E errors.SerialsSpent a is e = cc
-not_memory E errors.UnknownHandle a is e = cc
-not_memory E errors.Unsupported a is e = cc
-not_memory E errors.InvalidField a is e = cc
+not_memory E other a is e = cc
 
 refusal_is : (E : Type 0) (error : Error) (a : Answer) → (error ≡ errors.Memory → ⊥) → IsRefusal {E = E} error (Ok a) → a ≡ answers.Refused error
 refusal_is E errors.Memory a n is = absurd (n refl)
-refusal_is E (errors.InputOutput kind) a n is = is
-refusal_is E (errors.Variant kind) a n is = is
-refusal_is E (errors.Names kind) a n is = is
-refusal_is E errors.InvalidMatchRule a n is = is
-refusal_is E errors.IncorrectEndian a n is = is
-refusal_is E errors.ExcessData a n is = is
-refusal_is E errors.SerialsSpent a n is = is
-refusal_is E errors.UnknownHandle a n is = is
-refusal_is E errors.Unsupported a n is = is
-refusal_is E errors.InvalidField a n is = is
+refusal_is E other a n is = is
 
 -- no letter was made
 pub letter_refused : (E : Type 0) (setting : Setting) (p : PeerView) (es : List Entry) (lane : ℕ) (w : Words) (error : Error) (r : Result Answer E) (now : Outlet) (writing : Writing)

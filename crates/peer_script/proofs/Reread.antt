@@ -20,7 +20,7 @@ use Rattle.peer_script.specs.Word.{same, words_of, number_of, text_of, text_word
 use Rattle.peer_route.specs.Hex.{bytes_of, hex_digit, hex_two, hex_word}
 use Rattle.peer_script.specs.Script.{Given, Gave, Broke, ScriptText, given_line, fds_lines, outfault_lines, parts, lane_words, command_words, command_line, head_line, line_of, script_lines}
 use Rattle.peer_script.specs.Transcript.{or_empty, shown_byte, shown_text, io_word, error_word, words_text, answer_text, entry_text, given_text, direct_text, fds_text, outfault_text, sent_word, transcript_text}
-use Rattle.peer_script.specs.Again.{command_of, HasNumbers, CanBeRead, IsGiven, IsName, IsCount}
+use Rattle.peer_script.specs.Again.{command_of, HasBytes, HasNumbers, CanBeRead, IsGiven, IsName, IsCount}
 use Rattle.peer_route.proofs.Spelled.{bytes_again}
 use Rattle.peer_script.proofs.Spelling.{number_again, text_again, decimal_digits}
 use Rattle.peer_script.proofs.Commands.{digit_byte, hex_bytes, text_bytes, text_is_word, number_is_word, entry_words, words_spaced, are_words, command_again, no_head}
