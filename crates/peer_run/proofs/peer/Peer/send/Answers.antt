@@ -4,7 +4,7 @@ use Rattle.peer_route.specs.Left.{Left}
 use Rattle.peer_route.specs.declared.answer.Answer.TheVariants.{SendFailed}
 use Rattle.peer_run.specs.Stands.{PeerView, Outlet, Sent}
 use Rattle.peer_run.proofs.SendEnds.{not_out}
-use Rattle.peer_run.proofs.SendGrows.{failed_grows}
+use Rattle.peer_run.proofs.SendGrows.{send_grows}
 use Rattle.wire_framing.specs.Writing.{is_unsupported}
 use Rattle.wire_message.specs.Front.{Seen}
 use Rattle.peer_run.proofs.peer.Peer.send.Goals as goal
@@ -28,15 +28,11 @@ returns-in_ok-lost-in_default-error g c =
           (not_out p c.lost.new.self c.args.lane c.args.issued here now_out after_out c.send_message.new.self.writing c.in-Err.error c.in_default-error.not-Memory bytes
           (ap (λ (v : PeerView). v.names) lost) (ap (λ (v : PeerView). v.streams) lost) (ap (λ (v : PeerView). v.given) lost)
           (λ h left. subst (λ (v : PeerView). Left v.core (Fault ∷ h)) (sym lost) (c.write_fault.ensures h left))));
-      grows = failed_grows _ (λ h. g.W.Sink.faults h.sink) _ _ _ _ c.in-Err.error _ _ _ _ _ _ c.in-Err.ensures.unsupported c.in-Err.ensures.over c.in-Err.ensures.sends;
+      grows = send_grows _ (λ h. g.W.Sink.faults h.sink) _ _ _ _ _ _ _ _ _ _ _ c.in-Err.ensures.unsupported c.in-Err.ensures.over c.in-Err.ensures.sends;
       takes = c.in-Err.ensures.fds;
       same = c.in-Err.ensures.same;
     }
 
-pub returns-in_err-lost-in_default-error : goal.returns-in_err-lost-in_default-error
-returns-in_err-lost-in_default-error g c = record {
-  sent = tt;
-  grows = failed_grows _ (λ h. g.W.Sink.faults h.sink) _ _ _ _ c.in-Err.error _ _ _ _ _ _ c.in-Err.ensures.unsupported c.in-Err.ensures.over c.in-Err.ensures.sends;
-  takes = c.in-Err.ensures.fds;
-  same = c.in-Err.ensures.same;
-}
+pub returns-in_err-lost-in_default-error-clause-grows : goal.returns-in_err-lost-in_default-error-clause-grows
+returns-in_err-lost-in_default-error-clause-grows g c =
+    send_grows _ (λ h. g.W.Sink.faults h.sink) _ _ _ _ _ _ _ _ _ _ _ c.in-Err.ensures.unsupported c.in-Err.ensures.over c.in-Err.ensures.sends
