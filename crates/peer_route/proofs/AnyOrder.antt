@@ -5,7 +5,7 @@ use Rattle.wire_number.specs.declared.endian.Endian.{Endian}
 use Rattle.wire_number.specs.Number.{number_text, padding}
 use Rattle.wire_signature.specs.Shape.{Shape, alignment, basic_alignment, type_text}
 use Rattle.wire_tree.specs.Datum.{Txt, signature, Datum, num, text, array, dict, struct, variant, Data, no_data, items, Entries, no_entries, entry, data_of, num_type, text_type, type_of}
-use Rattle.wire_spelling.specs.Spelling.{width_of, length_width, text_form, aligned, first_place, array_form, spelling, spellings, entry_spellings, depth, depths, ArraysFit, AllFit, EntriesFit, Spells}
+use Rattle.wire_spelling.specs.Spelling.{width_of, length_width, text_form, aligned, first_place, array_form, spelling, spellings, entry_spellings, depth, depths, ArraysFit, AllFit, EntriesFit}
 use Rattle.wire_spelling.specs.Each.{SpellEach}
 use Rattle.wire_spelling.proofs.Steps.{length-number_text}
 

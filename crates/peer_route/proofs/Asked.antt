@@ -1,5 +1,5 @@
 -- What is asked to be sent can be written, and the sink takes it.
-use Rattle.std.proofs.Common.{◌≡◌, ℕ, ◌≤◌, refl, sym, ◌∙◌, ap, subst, arith, Bool, true, false, not, ◌&&◌, List, [], ◌∷◌, Option, Some, None, unwrap_or, Result, Ok, Err}
+use Rattle.std.proofs.Common.{◌≡◌, ℕ, ◌≤◌, refl, ◌∙◌, ap, subst, arith, Bool, true, false, not, ◌&&◌, List, [], ◌∷◌, Option, Some, None, Ok}
 use Rattle.wire_number.specs.declared.endian.Endian.{Endian}
 use Rattle.wire_number.specs.declared.endian.Endian.TheVariants.{Little}
 use Rattle.wire_tree.specs.Datum.{Datum, data_of}
@@ -13,8 +13,7 @@ use Rattle.wire_message.specs.declared.error.Error.{Error}
 use Rattle.peer_route.specs.declared.words.Words.{Words}
 use Rattle.peer_route.specs.declared.words.Words.TheVariants as words
 use Rattle.peer_route.specs.declared.words.Outgoing.{Outgoing}
-use Rattle.peer_route.specs.BodyWord.{body_values}
-use Rattle.peer_route.specs.Parcel.{Setting, Parcel, Asked}
+use Rattle.peer_route.specs.Parcel.{Setting, Parcel}
 use Rattle.peer_route.specs.CallMessage.{fds_of, values_in, asked_of, member_asked, call_draft, signal_draft, call_asked, signal_asked, reply_asked, error_asked, sent_from, words_refusal, name_refusal}
 use Rattle.peer_route.specs.Trail.{asks_with}
 use Rattle.peer_route.specs.Left.{AreWritable}

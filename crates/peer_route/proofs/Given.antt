@@ -8,9 +8,9 @@ use Rattle.wire_message.specs.Front.{Seen}
 use Rattle.wire_message.specs.declared.error.Error.{Error}
 use Rattle.peer_route.specs.declared.polled.Polled.{Polled}
 use Rattle.peer_route.specs.declared.polled.Polled.TheVariants as polled
-use Rattle.peer_route.specs.History.{Event, Took, Made, Did, Plain, Gave, Told, read, closing, edit}
+use Rattle.peer_route.specs.History.{Event, Took, Made, Plain, read, closing, edit}
 use Rattle.peer_route.specs.Streams.{Stream, streams, new_stream, give, tell, matched, held, item_at, gave_last, all_given, take_by, take_at, take_answer, take_events}
-use Rattle.peer_route.specs.Left.{IsWithin, LeftStreams, View, Left}
+use Rattle.peer_route.specs.Left.{IsWithin, View, Left}
 use Rattle.peer_route.specs.Trail.{given_by, given_at, kept_by, kept_at}
 use Rattle.peer_route.proofs.StreamsMade.{edit-map, edit-same}
 

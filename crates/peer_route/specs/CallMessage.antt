@@ -1,5 +1,5 @@
 -- What the commands that send a message ask for (D-Bus Specification, "Types of messages").
-use Rattle.std.specs.Prelude.{ℕ, ◌+◌, ◌==◌, ◌&&◌, Bool, true, false, not, if◌then◌else◌, List, [], ◌∷◌, Option, Some, None, unwrap_or, Result, Ok, Err}
+use Rattle.std.specs.Prelude.{ℕ, ◌+◌, ◌==◌, ◌&&◌, Bool, true, false, not, if◌then◌else◌, List, [], ◌∷◌, Option, Some, None, unwrap_or, Ok, Err}
 use Rattle.std.specs.Int.RustNames.{bit_and}
 use Rattle.wire_number.specs.declared.endian.Endian.{Endian}
 use Rattle.wire_number.specs.declared.endian.Endian.TheVariants.{Little, Big}
@@ -19,7 +19,7 @@ use Rattle.wire_message.specs.declared.error.Error.TheVariants as errors
 use Rattle.peer_route.specs.declared.words.CallFlags.{CallFlags}
 use Rattle.peer_route.specs.declared.words.Outgoing.{Outgoing}
 use Rattle.peer_route.specs.BodyWord.{body_values}
-use Rattle.peer_route.specs.Parcel.{Setting, Parcel, Asked}
+use Rattle.peer_route.specs.Parcel.{Setting, Asked}
 
 -- ---- flags
 

@@ -1,5 +1,5 @@
 -- Issuing draws the serial that building drew, and puts the message that it built.
-use Rattle.std.proofs.Common.{None, sym, ◌∙◌, ap, subst, Err, Ok}
+use Rattle.std.proofs.Common.{sym, ◌∙◌, ap, subst, Err, Ok}
 use Rattle.std.proofs.lemmas.Result.{err_from_is_err_and}
 use Rattle.wire_message.specs.Draft.{Draft}
 use Rattle.wire_message.specs.Signed.{counted}
