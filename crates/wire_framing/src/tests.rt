@@ -160,7 +160,7 @@ fn sends(rt: HostRuntime) -> Result<(), Fail> {
     ] {
         let mut sink = MemorySink::with_fault(alloc, room as u64, true);
         assert_eq!(rt; send_message(&mut sink, &message), answer);
-        assert_eq!(rt; sink.bytes(), &all[..room]);
+        assert_eq!(rt; Some(sink.bytes()), all.get(..room));
         assert!(rt; sink.takes_fds());
     }
     let mut sink = MemorySink::new(alloc, false);
