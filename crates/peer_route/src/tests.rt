@@ -84,6 +84,7 @@ fn a_message_is_written_once(rt: HostRuntime) -> Result<(), Fail> {
     let mut route = Route::new(rt.alloc());
     call(&mut route, rt.alloc())?;
     assert_eq!(rt; route.outbox_done(), 0);
+    assert!(rt; 0 < route.outbox_len());
     assert!(rt; !route.is_failed());
     route.wrote(0);
     assert_eq!(rt; route.outbox_done(), 1);
