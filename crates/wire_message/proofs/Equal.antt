@@ -2,17 +2,18 @@
 use Rattle.std.proofs.Common.{◌≡◌, refl, sym, ◌∙◌, ap, ℕ, Bool, true, false, ◌&&◌, nat_eq, List, Option, Bor}
 use Rattle.std.specs.Cmp.Lexicographic.{pointwise}
 use Rattle.std.proofs.lemmas.Slice.Eq.{bytes_eq-Decides}
+use denote.Enum.Bare.{same_true, true_same}
 use Rattle.fdo_kinds.specs.declared.kind.Kind.{Kind}
-use Rattle.fdo_kinds.specs.declared.kind.Kind.TheVariants as std_kinds
+use Rattle.fdo_kinds.specs.contracts.kind.Kind.{the_type as standard_kind}
 use Rattle.fdo_kinds.specs.contracts.kind.KindPartialEq.TheImpl.{ghosts as of_kinds}
 use Rattle.wire_names.specs.declared.error.NamesError.{NamesError}
-use Rattle.wire_names.specs.declared.error.NamesError.TheVariants as names
+use Rattle.wire_names.specs.contracts.error.NamesError.{the_type as names_error}
 use Rattle.wire_names.specs.contracts.error.NamesErrorPartialEq.TheImpl.{ghosts as of_names}
 use Rattle.wire_signature.specs.declared.error.VariantError.{VariantError}
-use Rattle.wire_signature.specs.declared.error.VariantError.TheVariants as faults
+use Rattle.wire_signature.specs.contracts.error.VariantError.{the_type as variant_error}
 use Rattle.wire_signature.specs.contracts.error.VariantErrorPartialEq.TheImpl.{ghosts as of_faults}
 use Rattle.wire_message.specs.declared.error.IoKind.{IoKind}
-use Rattle.wire_message.specs.declared.error.IoKind.TheVariants as kinds
+use Rattle.wire_message.specs.contracts.error.IoKind.{the_type as io_kind}
 use Rattle.wire_message.specs.contracts.error.IoKindPartialEq.TheImpl.{ghosts as of_io}
 use Rattle.wire_message.specs.declared.fdo.StandardError.{StandardError}
 use Rattle.wire_message.specs.contracts.fdo.StandardErrorPartialEq.TheImpl.{ghosts as of_standard}
@@ -41,175 +42,38 @@ is_same xs ys e = (bytes_eq-Decides xs ys).1 e
 
 -- ---- kinds
 
-io-self : (x : IoKind) → of_io.eq x x ≡ true
-io-self kinds.Ended = refl
-io-self kinds.Fault = refl
-io-self kinds.Closed = refl
-io-self kinds.WriteFault = refl
-io-self kinds.TimedOut = refl
+no : {X : Type 0} → false ≡ true → X
+no e = cc
 
 io : (x y : IoKind) → of_io.eq x y ≡ true → x ≡ y
-io kinds.Ended kinds.Ended e = refl
-io kinds.Fault kinds.Fault e = refl
-io kinds.Closed kinds.Closed e = refl
-io kinds.WriteFault kinds.WriteFault e = refl
-io kinds.TimedOut kinds.TimedOut e = refl
-io x y e = absurd (cc)
+io x y e = same_true io_kind tt x y e
 
 io-back : (x y : IoKind) → x ≡ y → of_io.eq x y ≡ true
-io-back x y e = ap (of_io.eq x) (sym e) ∙ io-self x
-
-fault-self : (x : VariantError) → of_faults.eq x x ≡ true
-fault-self faults.Signature = refl
-fault-self faults.Depth = refl
-fault-self faults.Malformed = refl
-fault-self faults.SignatureMismatch = refl
-fault-self faults.Memory = refl
+io-back x y e = true_same io_kind x y e
 
 fault : (x y : VariantError) → of_faults.eq x y ≡ true → x ≡ y
-fault faults.Signature faults.Signature e = refl
-fault faults.Depth faults.Depth e = refl
-fault faults.Malformed faults.Malformed e = refl
-fault faults.SignatureMismatch faults.SignatureMismatch e = refl
-fault faults.Memory faults.Memory e = refl
-fault x y e = absurd (cc)
+fault x y e = same_true variant_error tt x y e
 
 fault-back : (x y : VariantError) → x ≡ y → of_faults.eq x y ≡ true
-fault-back x y e = ap (of_faults.eq x) (sym e) ∙ fault-self x
-
-name-self : (x : NamesError) → of_names.eq x x ≡ true
-name-self names.Unique = refl
-name-self names.WellKnown = refl
-name-self names.Bus = refl
-name-self names.Interface = refl
-name-self names.Member = refl
-name-self names.Error = refl
-name-self names.Path = refl
-name-self names.Memory = refl
+fault-back x y e = true_same variant_error x y e
 
 name : (x y : NamesError) → of_names.eq x y ≡ true → x ≡ y
-name names.Unique names.Unique e = refl
-name names.WellKnown names.WellKnown e = refl
-name names.Bus names.Bus e = refl
-name names.Interface names.Interface e = refl
-name names.Member names.Member e = refl
-name names.Error names.Error e = refl
-name names.Path names.Path e = refl
-name names.Memory names.Memory e = refl
-name x y e = absurd (cc)
+name x y e = same_true names_error tt x y e
 
 name-back : (x y : NamesError) → x ≡ y → of_names.eq x y ≡ true
-name-back x y e = ap (of_names.eq x) (sym e) ∙ name-self x
-
-kind-self : (x : Kind) → of_kinds.eq x x ≡ true
-kind-self std_kinds.Failed = refl
-kind-self std_kinds.NoMemory = refl
-kind-self std_kinds.ServiceUnknown = refl
-kind-self std_kinds.NameHasNoOwner = refl
-kind-self std_kinds.NoReply = refl
-kind-self std_kinds.IOError = refl
-kind-self std_kinds.BadAddress = refl
-kind-self std_kinds.NotSupported = refl
-kind-self std_kinds.LimitsExceeded = refl
-kind-self std_kinds.AccessDenied = refl
-kind-self std_kinds.AuthFailed = refl
-kind-self std_kinds.NoServer = refl
-kind-self std_kinds.Timeout = refl
-kind-self std_kinds.NoNetwork = refl
-kind-self std_kinds.AddressInUse = refl
-kind-self std_kinds.Disconnected = refl
-kind-self std_kinds.InvalidArgs = refl
-kind-self std_kinds.FileNotFound = refl
-kind-self std_kinds.FileExists = refl
-kind-self std_kinds.UnknownMethod = refl
-kind-self std_kinds.UnknownObject = refl
-kind-self std_kinds.UnknownInterface = refl
-kind-self std_kinds.UnknownProperty = refl
-kind-self std_kinds.PropertyReadOnly = refl
-kind-self std_kinds.TimedOut = refl
-kind-self std_kinds.MatchRuleNotFound = refl
-kind-self std_kinds.MatchRuleInvalid = refl
-kind-self std_kinds.UnixProcessIdUnknown = refl
-kind-self std_kinds.InvalidSignature = refl
-kind-self std_kinds.InvalidFileContent = refl
-kind-self std_kinds.SELinuxSecurityContextUnknown = refl
-kind-self std_kinds.AdtAuditDataUnknown = refl
-kind-self std_kinds.ObjectPathInUse = refl
-kind-self std_kinds.InconsistentMessage = refl
-kind-self std_kinds.InteractiveAuthorizationRequired = refl
-kind-self std_kinds.NotContainer = refl
-kind-self std_kinds.SpawnExecFailed = refl
-kind-self std_kinds.SpawnForkFailed = refl
-kind-self std_kinds.SpawnChildExited = refl
-kind-self std_kinds.SpawnChildSignaled = refl
-kind-self std_kinds.SpawnFailed = refl
-kind-self std_kinds.SpawnFailedToSetup = refl
-kind-self std_kinds.SpawnConfigInvalid = refl
-kind-self std_kinds.SpawnServiceNotValid = refl
-kind-self std_kinds.SpawnServiceNotFound = refl
-kind-self std_kinds.SpawnPermissionsInvalid = refl
-kind-self std_kinds.SpawnFileInvalid = refl
-kind-self std_kinds.SpawnNoMemory = refl
+name-back x y e = true_same names_error x y e
 
 kind : (x y : Kind) → of_kinds.eq x y ≡ true → x ≡ y
-kind std_kinds.Failed std_kinds.Failed e = refl
-kind std_kinds.NoMemory std_kinds.NoMemory e = refl
-kind std_kinds.ServiceUnknown std_kinds.ServiceUnknown e = refl
-kind std_kinds.NameHasNoOwner std_kinds.NameHasNoOwner e = refl
-kind std_kinds.NoReply std_kinds.NoReply e = refl
-kind std_kinds.IOError std_kinds.IOError e = refl
-kind std_kinds.BadAddress std_kinds.BadAddress e = refl
-kind std_kinds.NotSupported std_kinds.NotSupported e = refl
-kind std_kinds.LimitsExceeded std_kinds.LimitsExceeded e = refl
-kind std_kinds.AccessDenied std_kinds.AccessDenied e = refl
-kind std_kinds.AuthFailed std_kinds.AuthFailed e = refl
-kind std_kinds.NoServer std_kinds.NoServer e = refl
-kind std_kinds.Timeout std_kinds.Timeout e = refl
-kind std_kinds.NoNetwork std_kinds.NoNetwork e = refl
-kind std_kinds.AddressInUse std_kinds.AddressInUse e = refl
-kind std_kinds.Disconnected std_kinds.Disconnected e = refl
-kind std_kinds.InvalidArgs std_kinds.InvalidArgs e = refl
-kind std_kinds.FileNotFound std_kinds.FileNotFound e = refl
-kind std_kinds.FileExists std_kinds.FileExists e = refl
-kind std_kinds.UnknownMethod std_kinds.UnknownMethod e = refl
-kind std_kinds.UnknownObject std_kinds.UnknownObject e = refl
-kind std_kinds.UnknownInterface std_kinds.UnknownInterface e = refl
-kind std_kinds.UnknownProperty std_kinds.UnknownProperty e = refl
-kind std_kinds.PropertyReadOnly std_kinds.PropertyReadOnly e = refl
-kind std_kinds.TimedOut std_kinds.TimedOut e = refl
-kind std_kinds.MatchRuleNotFound std_kinds.MatchRuleNotFound e = refl
-kind std_kinds.MatchRuleInvalid std_kinds.MatchRuleInvalid e = refl
-kind std_kinds.UnixProcessIdUnknown std_kinds.UnixProcessIdUnknown e = refl
-kind std_kinds.InvalidSignature std_kinds.InvalidSignature e = refl
-kind std_kinds.InvalidFileContent std_kinds.InvalidFileContent e = refl
-kind std_kinds.SELinuxSecurityContextUnknown std_kinds.SELinuxSecurityContextUnknown e = refl
-kind std_kinds.AdtAuditDataUnknown std_kinds.AdtAuditDataUnknown e = refl
-kind std_kinds.ObjectPathInUse std_kinds.ObjectPathInUse e = refl
-kind std_kinds.InconsistentMessage std_kinds.InconsistentMessage e = refl
-kind std_kinds.InteractiveAuthorizationRequired std_kinds.InteractiveAuthorizationRequired e = refl
-kind std_kinds.NotContainer std_kinds.NotContainer e = refl
-kind std_kinds.SpawnExecFailed std_kinds.SpawnExecFailed e = refl
-kind std_kinds.SpawnForkFailed std_kinds.SpawnForkFailed e = refl
-kind std_kinds.SpawnChildExited std_kinds.SpawnChildExited e = refl
-kind std_kinds.SpawnChildSignaled std_kinds.SpawnChildSignaled e = refl
-kind std_kinds.SpawnFailed std_kinds.SpawnFailed e = refl
-kind std_kinds.SpawnFailedToSetup std_kinds.SpawnFailedToSetup e = refl
-kind std_kinds.SpawnConfigInvalid std_kinds.SpawnConfigInvalid e = refl
-kind std_kinds.SpawnServiceNotValid std_kinds.SpawnServiceNotValid e = refl
-kind std_kinds.SpawnServiceNotFound std_kinds.SpawnServiceNotFound e = refl
-kind std_kinds.SpawnPermissionsInvalid std_kinds.SpawnPermissionsInvalid e = refl
-kind std_kinds.SpawnFileInvalid std_kinds.SpawnFileInvalid e = refl
-kind std_kinds.SpawnNoMemory std_kinds.SpawnNoMemory e = refl
-kind x y e = absurd (cc)
+kind x y e = same_true standard_kind tt x y e
 
 kind-back : (x y : Kind) → x ≡ y → of_kinds.eq x y ≡ true
-kind-back x y e = ap (of_kinds.eq x) (sym e) ∙ kind-self x
+kind-back x y e = true_same standard_kind x y e
 
 -- ---- errors
 
 told-InputOutput : (x : IoKind) (b : Error) → of_errors.eq (errors.InputOutput x) b ≡ true → Same (errors.InputOutput x) b
 told-InputOutput x (errors.InputOutput y) e = io x y e
-told-InputOutput x b e = absurd (cc)
+told-InputOutput x b e = no e
 
 tells-InputOutput : (x : IoKind) (b : Error) → Same (errors.InputOutput x) b → of_errors.eq (errors.InputOutput x) b ≡ true
 tells-InputOutput x (errors.InputOutput y) e = io-back x y e
@@ -217,7 +81,7 @@ tells-InputOutput x b e = absurd e
 
 told-Variant : (x : VariantError) (b : Error) → of_errors.eq (errors.Variant x) b ≡ true → Same (errors.Variant x) b
 told-Variant x (errors.Variant y) e = fault x y e
-told-Variant x b e = absurd (cc)
+told-Variant x b e = no e
 
 tells-Variant : (x : VariantError) (b : Error) → Same (errors.Variant x) b → of_errors.eq (errors.Variant x) b ≡ true
 tells-Variant x (errors.Variant y) e = fault-back x y e
@@ -225,7 +89,7 @@ tells-Variant x b e = absurd e
 
 told-Names : (x : NamesError) (b : Error) → of_errors.eq (errors.Names x) b ≡ true → Same (errors.Names x) b
 told-Names x (errors.Names y) e = name x y e
-told-Names x b e = absurd (cc)
+told-Names x b e = no e
 
 tells-Names : (x : NamesError) (b : Error) → Same (errors.Names x) b → of_errors.eq (errors.Names x) b ≡ true
 tells-Names x (errors.Names y) e = name-back x y e
@@ -233,7 +97,7 @@ tells-Names x b e = absurd e
 
 told-FDO : (x : StandardError) (b : Error) → of_errors.eq (errors.FDO x) b ≡ true → Same (errors.FDO x) b
 told-FDO x (errors.FDO y) e = (kind x.kind y.kind (first_true (of_kinds.eq x.kind y.kind) _ e), same_is x.text y.text (second_true (of_kinds.eq x.kind y.kind) _ e))
-told-FDO x b e = absurd (cc)
+told-FDO x b e = no e
 
 tells-FDO : (x : StandardError) (b : Error) → Same (errors.FDO x) b → of_errors.eq (errors.FDO x) b ≡ true
 tells-FDO x (errors.FDO y) e = both_true _ _ (kind-back x.kind y.kind e.0) (is_same x.text y.text e.1)
@@ -241,7 +105,7 @@ tells-FDO x b e = absurd e
 
 told-Failure : (x : List ℕ) (b : Error) → of_errors.eq (errors.Failure x) b ≡ true → Same (errors.Failure x) b
 told-Failure x (errors.Failure y) e = same_is x y e
-told-Failure x b e = absurd (cc)
+told-Failure x b e = no e
 
 tells-Failure : (x : List ℕ) (b : Error) → Same (errors.Failure x) b → of_errors.eq (errors.Failure x) b ≡ true
 tells-Failure x (errors.Failure y) e = is_same x y e
@@ -249,7 +113,7 @@ tells-Failure x b e = absurd e
 
 told-MissingParameter : (x : Bor (List ℕ)) (b : Error) → of_errors.eq (errors.MissingParameter x) b ≡ true → Same (errors.MissingParameter x) b
 told-MissingParameter x (errors.MissingParameter y) e = same_is x.now y.now e
-told-MissingParameter x b e = absurd (cc)
+told-MissingParameter x b e = no e
 
 tells-MissingParameter : (x : Bor (List ℕ)) (b : Error) → Same (errors.MissingParameter x) b → of_errors.eq (errors.MissingParameter x) b ≡ true
 tells-MissingParameter x (errors.MissingParameter y) e = is_same x.now y.now e
@@ -257,7 +121,7 @@ tells-MissingParameter x b e = absurd e
 
 told-InterfaceExists : (n d : List ℕ) (b : Error) → of_errors.eq (errors.InterfaceExists n d) b ≡ true → Same (errors.InterfaceExists n d) b
 told-InterfaceExists n d (errors.InterfaceExists p q) e = (same_is n p (first_true (pointwise nat_eq n p) _ e), same_is d q (second_true (pointwise nat_eq n p) _ e))
-told-InterfaceExists n d b e = absurd (cc)
+told-InterfaceExists n d b e = no e
 
 tells-InterfaceExists : (n d : List ℕ) (b : Error) → Same (errors.InterfaceExists n d) b → of_errors.eq (errors.InterfaceExists n d) b ≡ true
 tells-InterfaceExists n d (errors.InterfaceExists p q) e = both_true _ _ (is_same n p e.0) (is_same d q e.1)
@@ -265,7 +129,7 @@ tells-InterfaceExists n d b e = absurd e
 
 told-MethodError : (n : List ℕ) (d : Option (List ℕ)) (m : Seen) (b : Error) → of_errors.eq (errors.MethodError n d m) b ≡ true → Same (errors.MethodError n d m) b
 told-MethodError n d m (errors.MethodError p q r) e = tt
-told-MethodError n d m b e = absurd (cc)
+told-MethodError n d m b e = no e
 
 tells-MethodError : (n : List ℕ) (d : Option (List ℕ)) (m : Seen) (b : Error) → Same (errors.MethodError n d m) b → of_errors.eq (errors.MethodError n d m) b ≡ true
 tells-MethodError n d m (errors.MethodError p q r) e = refl
@@ -273,7 +137,7 @@ tells-MethodError n d m b e = absurd e
 
 told-InterfaceNotFound : (b : Error) → of_errors.eq errors.InterfaceNotFound b ≡ true → Same errors.InterfaceNotFound b
 told-InterfaceNotFound errors.InterfaceNotFound e = tt
-told-InterfaceNotFound b e = absurd (cc)
+told-InterfaceNotFound b e = no e
 
 tells-InterfaceNotFound : (b : Error) → Same errors.InterfaceNotFound b → of_errors.eq errors.InterfaceNotFound b ≡ true
 tells-InterfaceNotFound errors.InterfaceNotFound e = refl
@@ -281,7 +145,7 @@ tells-InterfaceNotFound b e = absurd e
 
 told-InvalidField : (b : Error) → of_errors.eq errors.InvalidField b ≡ true → Same errors.InvalidField b
 told-InvalidField errors.InvalidField e = tt
-told-InvalidField b e = absurd (cc)
+told-InvalidField b e = no e
 
 tells-InvalidField : (b : Error) → Same errors.InvalidField b → of_errors.eq errors.InvalidField b ≡ true
 tells-InvalidField errors.InvalidField e = refl
@@ -289,7 +153,7 @@ tells-InvalidField b e = absurd e
 
 told-ExcessData : (b : Error) → of_errors.eq errors.ExcessData b ≡ true → Same errors.ExcessData b
 told-ExcessData errors.ExcessData e = tt
-told-ExcessData b e = absurd (cc)
+told-ExcessData b e = no e
 
 tells-ExcessData : (b : Error) → Same errors.ExcessData b → of_errors.eq errors.ExcessData b ≡ true
 tells-ExcessData errors.ExcessData e = refl
@@ -297,7 +161,7 @@ tells-ExcessData b e = absurd e
 
 told-IncorrectEndian : (b : Error) → of_errors.eq errors.IncorrectEndian b ≡ true → Same errors.IncorrectEndian b
 told-IncorrectEndian errors.IncorrectEndian e = tt
-told-IncorrectEndian b e = absurd (cc)
+told-IncorrectEndian b e = no e
 
 tells-IncorrectEndian : (b : Error) → Same errors.IncorrectEndian b → of_errors.eq errors.IncorrectEndian b ≡ true
 tells-IncorrectEndian errors.IncorrectEndian e = refl
@@ -305,7 +169,7 @@ tells-IncorrectEndian b e = absurd e
 
 told-InvalidReply : (b : Error) → of_errors.eq errors.InvalidReply b ≡ true → Same errors.InvalidReply b
 told-InvalidReply errors.InvalidReply e = tt
-told-InvalidReply b e = absurd (cc)
+told-InvalidReply b e = no e
 
 tells-InvalidReply : (b : Error) → Same errors.InvalidReply b → of_errors.eq errors.InvalidReply b ≡ true
 tells-InvalidReply errors.InvalidReply e = refl
@@ -313,7 +177,7 @@ tells-InvalidReply b e = absurd e
 
 told-MissingField : (b : Error) → of_errors.eq errors.MissingField b ≡ true → Same errors.MissingField b
 told-MissingField errors.MissingField e = tt
-told-MissingField b e = absurd (cc)
+told-MissingField b e = no e
 
 tells-MissingField : (b : Error) → Same errors.MissingField b → of_errors.eq errors.MissingField b ≡ true
 tells-MissingField errors.MissingField e = refl
@@ -321,7 +185,7 @@ tells-MissingField b e = absurd e
 
 told-InvalidGUID : (b : Error) → of_errors.eq errors.InvalidGUID b ≡ true → Same errors.InvalidGUID b
 told-InvalidGUID errors.InvalidGUID e = tt
-told-InvalidGUID b e = absurd (cc)
+told-InvalidGUID b e = no e
 
 tells-InvalidGUID : (b : Error) → Same errors.InvalidGUID b → of_errors.eq errors.InvalidGUID b ≡ true
 tells-InvalidGUID errors.InvalidGUID e = refl
@@ -329,7 +193,7 @@ tells-InvalidGUID b e = absurd e
 
 told-Unsupported : (b : Error) → of_errors.eq errors.Unsupported b ≡ true → Same errors.Unsupported b
 told-Unsupported errors.Unsupported e = tt
-told-Unsupported b e = absurd (cc)
+told-Unsupported b e = no e
 
 tells-Unsupported : (b : Error) → Same errors.Unsupported b → of_errors.eq errors.Unsupported b ≡ true
 tells-Unsupported errors.Unsupported e = refl
@@ -337,7 +201,7 @@ tells-Unsupported b e = absurd e
 
 told-NameTaken : (b : Error) → of_errors.eq errors.NameTaken b ≡ true → Same errors.NameTaken b
 told-NameTaken errors.NameTaken e = tt
-told-NameTaken b e = absurd (cc)
+told-NameTaken b e = no e
 
 tells-NameTaken : (b : Error) → Same errors.NameTaken b → of_errors.eq errors.NameTaken b ≡ true
 tells-NameTaken errors.NameTaken e = refl
@@ -345,7 +209,7 @@ tells-NameTaken b e = absurd e
 
 told-InvalidMatchRule : (b : Error) → of_errors.eq errors.InvalidMatchRule b ≡ true → Same errors.InvalidMatchRule b
 told-InvalidMatchRule errors.InvalidMatchRule e = tt
-told-InvalidMatchRule b e = absurd (cc)
+told-InvalidMatchRule b e = no e
 
 tells-InvalidMatchRule : (b : Error) → Same errors.InvalidMatchRule b → of_errors.eq errors.InvalidMatchRule b ≡ true
 tells-InvalidMatchRule errors.InvalidMatchRule e = refl
@@ -353,7 +217,7 @@ tells-InvalidMatchRule b e = absurd e
 
 told-Memory : (b : Error) → of_errors.eq errors.Memory b ≡ true → Same errors.Memory b
 told-Memory errors.Memory e = tt
-told-Memory b e = absurd (cc)
+told-Memory b e = no e
 
 tells-Memory : (b : Error) → Same errors.Memory b → of_errors.eq errors.Memory b ≡ true
 tells-Memory errors.Memory e = refl
@@ -361,7 +225,7 @@ tells-Memory b e = absurd e
 
 told-SerialsSpent : (b : Error) → of_errors.eq errors.SerialsSpent b ≡ true → Same errors.SerialsSpent b
 told-SerialsSpent errors.SerialsSpent e = tt
-told-SerialsSpent b e = absurd (cc)
+told-SerialsSpent b e = no e
 
 tells-SerialsSpent : (b : Error) → Same errors.SerialsSpent b → of_errors.eq errors.SerialsSpent b ≡ true
 tells-SerialsSpent errors.SerialsSpent e = refl
@@ -369,7 +233,7 @@ tells-SerialsSpent b e = absurd e
 
 told-UnknownHandle : (b : Error) → of_errors.eq errors.UnknownHandle b ≡ true → Same errors.UnknownHandle b
 told-UnknownHandle errors.UnknownHandle e = tt
-told-UnknownHandle b e = absurd (cc)
+told-UnknownHandle b e = no e
 
 tells-UnknownHandle : (b : Error) → Same errors.UnknownHandle b → of_errors.eq errors.UnknownHandle b ≡ true
 tells-UnknownHandle errors.UnknownHandle e = refl
@@ -377,7 +241,7 @@ tells-UnknownHandle b e = absurd e
 
 told-Busy : (b : Error) → of_errors.eq errors.Busy b ≡ true → Same errors.Busy b
 told-Busy errors.Busy e = tt
-told-Busy b e = absurd (cc)
+told-Busy b e = no e
 
 tells-Busy : (b : Error) → Same errors.Busy b → of_errors.eq errors.Busy b ≡ true
 tells-Busy errors.Busy e = refl

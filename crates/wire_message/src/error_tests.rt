@@ -28,106 +28,110 @@ fn method_error(alloc: Global, detail: Option<&str>) -> std::result::Result<Erro
 fn shows(
     rt: &impl Abort,
     alloc: Global,
-    error: Error,
+    error: &Error,
     text: &str,
     description: Option<&str>,
 ) -> std::result::Result<(), Fail> {
     assert_eq!(rt; format!(in alloc; "{error}")?.as_str(), text);
     assert_eq!(rt; error.description(), description);
     let copy = error.try_clone(alloc)?;
-    assert!(rt; copy == error);
+    assert!(rt; copy == *error);
     Ok(())
 }
 
-// The texts are those of zbus.
+// The errors that hold nothing of their own, and those that hold a kind or a name; the texts are those of zbus.
+const SHOWN: [(Error, &str, Option<&str>); 18] = [
+    (
+        Error::InterfaceNotFound,
+        "Interface not found",
+        Some("interface not found"),
+    ),
+    (
+        Error::InputOutput(IoKind::TimedOut),
+        "I/O error: TimedOut",
+        Some("i/o error"),
+    ),
+    (
+        Error::InvalidField,
+        "invalid message field",
+        Some("invalid field"),
+    ),
+    (Error::ExcessData, "excess data", Some("excess data")),
+    (
+        Error::Variant(VariantError::SignatureMismatch),
+        "variant error: SignatureMismatch",
+        Some("variant error"),
+    ),
+    (
+        Error::Names(NamesError::WellKnown),
+        "invalid WellKnown",
+        Some("names error"),
+    ),
+    (
+        Error::IncorrectEndian,
+        "incorrect endian",
+        Some("incorrect endian"),
+    ),
+    (
+        Error::InvalidReply,
+        "Invalid D-Bus method reply",
+        Some("invalid reply"),
+    ),
+    (
+        Error::MissingField,
+        "A required field is missing from message headers",
+        Some("a required field is missing from message headers"),
+    ),
+    (Error::InvalidGUID, "Invalid GUID", Some("invalid GUID")),
+    (
+        Error::Unsupported,
+        "Connection support is lacking",
+        Some("connection support is lacking"),
+    ),
+    (
+        Error::NameTaken,
+        "name already taken on the bus",
+        Some("name already taken on the bus"),
+    ),
+    (
+        Error::InvalidMatchRule,
+        "Invalid match rule string",
+        Some("invalid match rule string"),
+    ),
+    (
+        Error::MissingParameter("path"),
+        "Parameter `path` was not specified but it is required",
+        Some("A required parameter is missing"),
+    ),
+    (Error::Memory, "Memory", None),
+    (Error::SerialsSpent, "SerialsSpent", None),
+    (Error::UnknownHandle, "UnknownHandle", None),
+    (Error::Busy, "Busy", None),
+];
+
 #[test]
 fn errors_are_shown(rt: HostRuntime) -> std::result::Result<(), Fail> {
+    for (error, text, description) in &SHOWN {
+        shows(&rt, rt.alloc(), error, *text, *description)?;
+    }
+    Ok(())
+}
+
+// The errors that hold texts and messages.
+#[test]
+fn owned_errors_are_shown(rt: HostRuntime) -> std::result::Result<(), Fail> {
     let alloc = rt.alloc();
-    for (error, text, description) in [
-        (
-            Error::InterfaceNotFound,
-            "Interface not found",
-            "interface not found",
-        ),
-        (
-            Error::InputOutput(IoKind::TimedOut),
-            "I/O error: TimedOut",
-            "i/o error",
-        ),
-        (
-            Error::InvalidField,
-            "invalid message field",
-            "invalid field",
-        ),
-        (Error::ExcessData, "excess data", "excess data"),
-        (
-            Error::Variant(VariantError::SignatureMismatch),
-            "variant error: SignatureMismatch",
-            "variant error",
-        ),
-        (
-            Error::Names(NamesError::WellKnown),
-            "invalid WellKnown",
-            "names error",
-        ),
-        (
-            Error::IncorrectEndian,
-            "incorrect endian",
-            "incorrect endian",
-        ),
-        (
-            Error::InvalidReply,
-            "Invalid D-Bus method reply",
-            "invalid reply",
-        ),
-        (
-            Error::MissingField,
-            "A required field is missing from message headers",
-            "a required field is missing from message headers",
-        ),
-        (Error::InvalidGUID, "Invalid GUID", "invalid GUID"),
-        (
-            Error::Unsupported,
-            "Connection support is lacking",
-            "connection support is lacking",
-        ),
-        (
-            Error::NameTaken,
-            "name already taken on the bus",
-            "name already taken on the bus",
-        ),
-        (
-            Error::InvalidMatchRule,
-            "Invalid match rule string",
-            "invalid match rule string",
-        ),
-        (
-            Error::MissingParameter("path"),
-            "Parameter `path` was not specified but it is required",
-            "A required parameter is missing",
-        ),
-    ] {
-        shows(&rt, alloc, error, text, Some(description))?;
-    }
-    for (error, text) in [
-        (Error::Memory, "Memory"),
-        (Error::SerialsSpent, "SerialsSpent"),
-        (Error::UnknownHandle, "UnknownHandle"),
-        (Error::Busy, "Busy"),
-    ] {
-        shows(&rt, alloc, error, text, None)?;
-    }
     shows(
         &rt,
         alloc,
-        method_error(alloc, Some("no room"))?,
+        &method_error(alloc, Some("no room"))?,
         "org.a.E: no room",
         Some("no room"),
     )?;
     shows(
         &rt,
         alloc,
-        method_error(alloc, None)?,
+        &method_error(alloc, None)?,
         "org.a.E: no details",
         None,
     )?;
@@ -138,14 +142,14 @@ fn errors_are_shown(rt: HostRuntime) -> std::result::Result<(), Fail> {
     shows(
         &rt,
         alloc,
-        Error::FDO(failed),
+        &Error::FDO(failed),
         "org.freedesktop.DBus.Error.Spawn.Failed: it fell",
         Some("FDO error"),
     )?;
     shows(
         &rt,
         alloc,
-        Error::Failure(Text::from_str(alloc, "kaboom!")?),
+        &Error::Failure(Text::from_str(alloc, "kaboom!")?),
         "kaboom!",
         Some("kaboom!"),
     )?;
@@ -154,7 +158,7 @@ fn errors_are_shown(rt: HostRuntime) -> std::result::Result<(), Fail> {
     shows(
         &rt,
         alloc,
-        Error::InterfaceExists(name, path),
+        &Error::InterfaceExists(name, path),
         "Interface `org.a.B` already exists at `/a/b`",
         Some("interface already exists"),
     )

@@ -19,6 +19,8 @@ mod flags;
 mod from_message;
 mod front;
 mod header;
+#[cfg(test)]
+mod header_tests;
 mod kind;
 mod laws;
 mod message;
