@@ -66,6 +66,7 @@ fn replies_become_errors(rt: HostRuntime) -> Result<(), Fail> {
         assert_eq!(rt; error.name().as_str(), case.name);
         assert_eq!(rt; format!(in alloc; "{error}")?.as_str(), case.shown);
         assert_eq!(rt; error.description(), case.description);
+        assert!(rt; error.try_clone(alloc)? == error);
     }
     Ok(())
 }

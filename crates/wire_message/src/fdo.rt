@@ -48,6 +48,18 @@ pub enum Error {
     Std(StandardError),
 }
 
+impl Error {
+    /// The same error; a message in it shares its bytes. It fails only for want of memory.
+    pub fn try_clone(&self, alloc: Global) -> std::result::Result<Error, AllocError>
+        ensures { IfOk result (λ copy. copy ≡ self.now) }
+    {
+        Ok(match self {
+            Error::ZBus(error) => Error::ZBus(error.try_clone(alloc)?),
+            Error::Std(error) => Error::Std(error.try_clone(alloc)?),
+        })
+    }
+}
+
 /// A result with [`Error`].
 pub type Result<T> = std::result::Result<T, Error>;
 
