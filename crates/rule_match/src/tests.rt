@@ -78,10 +78,10 @@ fn texts_are_read_and_printed(rt: HostRuntime) -> Result<(), Fail> {
 
 #[test]
 fn faults_are_named(rt: HostRuntime) -> Result<(), Fail> {
-    for (text, error) in REFUSED {
-        match MatchRule::try_from(rt.alloc(), text) {
+    for (text, error) in &REFUSED {
+        match MatchRule::try_from(rt.alloc(), *text) {
             Ok(_) => assert!(rt; false, "{text}"),
-            Err(e) => assert_eq!(rt; e, error, "{text}"),
+            Err(e) => assert!(rt; e == *error, "{text}"),
         }
     }
     Ok(())
