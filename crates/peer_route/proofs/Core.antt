@@ -248,6 +248,7 @@ pub left_polled : (v : View) (cv : CallsView) (k : ℕ) (r : Result (Polled Seen
 left_polled v cv k (Ok (polled.Now m)) h left after = left_spent v cv k h left after
 left_polled v cv k (Ok (polled.Closed error)) h left after = left_spent v cv k h left after
 left_polled v cv k (Ok polled.NotYet) h left after = left_same v cv h left after
+left_polled v cv k (Ok polled.NoneBefore) h left after = left_same v cv h left after
 left_polled v cv k (Ok polled.Ended) h left after = left_same v cv h left after
 left_polled v cv k (Err error) h left after = left_same v cv h left after
 
@@ -328,6 +329,7 @@ left_gave : (v : View) (sv : List Held) (k : ℕ) (r : Result (Polled Seen) Erro
 left_gave v sv k (Ok (polled.Now m)) h left after = left_did v sv k Gave h left after
 left_gave v sv k (Ok (polled.Closed error)) h left after = left_did v sv k Told h left after
 left_gave v sv k (Ok polled.NotYet) h left after = left_idle v sv h left after
+left_gave v sv k (Ok polled.NoneBefore) h left after = left_idle v sv h left after
 left_gave v sv k (Ok polled.Ended) h left after = left_idle v sv h left after
 left_gave v sv k (Err error) h left after = left_idle v sv h left after
 

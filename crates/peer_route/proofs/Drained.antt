@@ -1,26 +1,29 @@
 -- A stream that gave all gives no more; when a read is busy; what was put.
-use Rattle.std.proofs.Common.{◌≡◌, inl, inr, ℕ, ◌+◌, ◌<◌, ◌==◌, ◌&&◌, ◌||◌, zero, suc, refl, sym, ◌∙◌, ap, subst, arith, Bool, true, false, is_some, is_none, List, [], ◌∷◌, ◌++◌, length, drop, Option, Some, None, Ok}
+use Rattle.std.proofs.Common.{◌≡◌, ◌⊎◌, inl, inr, ℕ, ◌+◌, ◌<◌, ◌==◌, ◌&&◌, ◌||◌, zero, suc, refl, sym, ◌∙◌, ap, subst, arith, Bool, true, false, is_some, is_none, List, [], ◌∷◌, ◌++◌, length, drop, Option, Some, None, Ok}
 use Rattle.std.specs.List.{slice_get, list_any, AllByRecursion}
 use Rattle.std.proofs.lemmas.Bool.{cases_Bool, eqb-true, eq-eqb, lt-ltb}
 use borrow.Author.Tests.{ltb-true}
 use Rattle.wire_message.specs.Front.{Seen}
 use Rattle.wire_message.specs.declared.error.Error.{Error}
+use Rattle.peer_route.specs.declared.polled.Polled.TheVariants as polled
 use Rattle.peer_route.specs.declared.words.Words.{Words}
 use Rattle.peer_route.specs.declared.words.Words.TheVariants as words
 use Rattle.peer_route.specs.declared.answer.Answer.{Answer}
 use Rattle.peer_route.specs.declared.answer.Answer.TheVariants as answers
 use Rattle.peer_route.specs.declared.answer.Entry.{Entry}
-use Rattle.peer_route.specs.History.{Event, Took, Shut, Put, Wrote, Fault, Spent, Made, Did, Plain, Told, read, closing, first_of}
+use Rattle.peer_route.specs.History.{Event, Took, Shut, Put, Wrote, Fault, Spent, Made, Did, Plain, Told, read, closing, first_of, by_position}
 use Rattle.peer_route.specs.Streams.{Stream, streams, new_stream, tell, matched, held, busy, is_full, capacity, take_by, take_at, take_answer}
 use Rattle.peer_route.specs.Left.{Held, held_of}
 use Rattle.peer_route.specs.Parcel.{Setting}
 use Rattle.peer_route.specs.Trail.{Trail, place, count, trail, more, read_events, take_does, events_of, new_streams}
-use Rattle.peer_route.specs.Answers.{IsAnswer, IsReadOf, Legal, shown_take, take_of}
-use Rattle.peer_route.specs.StreamLaws.{IsEnded, IsLast, IsDrained, HoldsTooMany}
+use Rattle.peer_route.specs.Answers.{IsAnswer, IsReadOf, Legal, shown_take, take_of, take_before_of}
+use Rattle.peer_route.specs.StreamLaws.{IsTake, IsEnded, IsLast, IsDrained, HoldsTooMany}
+use Rattle.peer_route.proofs.ByPosition.{take_before_by}
 use Rattle.peer_route.proofs.Once.{place_append, legal_from}
 use Rattle.peer_route.proofs.Read.{send_read, poll_read, drop_read, stream_read, take_read}
 use Rattle.peer_route.proofs.StreamsMade.{held_drop, held_new}
-use Rattle.peer_route.proofs.Yields.{NotOf, entry, stream_stays, edit_here, send_not, read_not, poll_not, drop_not, stream_not, take_not, answered, stream_is, place_new, get_new, lanes}
+use Rattle.peer_route.proofs.StreamLanes.{entry, lanes}
+use Rattle.peer_route.proofs.Yields.{NotOf, stream_stays, edit_here, send_not, read_not, poll_not, drop_not, stream_not, take_not, answered, stream_is, place_new, get_new}
 
 -- ---- a stream that is over
 
@@ -55,28 +58,38 @@ reads_none t lane (words.Reply stream body) a error e = send_read t.events _ a
 reads_none t lane (words.Error stream name body) a error e = send_read t.events _ a
 reads_none t lane words.Read a error e = ap (λ o. read (read_events o a ++ t.events)) e
 reads_none t lane (words.Poll n) a error e = poll_read t.events (place 0 lane n t.names) a
+reads_none t lane (words.Before n before) a error e = poll_read t.events (place 0 lane n t.names) a
 reads_none t lane (words.Drop n) a error e = drop_read t.events (place 0 lane n t.names) a
 reads_none t lane words.Stream a error e = stream_read t.events a
 reads_none t lane (words.Take n) a error e = take_read t.events (place 0 lane n t.streams) a
+reads_none t lane (words.TakeBefore n before) a error e = take_read t.events (place 0 lane n t.streams) a
 
 over_gives : (h : List Event) (k : ℕ) (s : Stream) (error : Error) → slice_get (streams h) k ≡ Some s → held h s ≡ [] → s.told ≡ true → closing h ≡ Some error
-    → take_of h (Some k) ≡ answers.Ended
+    → take_answer h k ≡ Ok polled.Ended
 over_gives h k s error made nothing told shut =
-    ap shown_take (answered h k s made ∙ ap (λ ms. Ok (take_by ms (closing h) s.told)) nothing ∙ ap (λ o. Ok (take_by [] o s.told)) shut ∙ ap (λ b. Ok (take_by [] (Some error) b)) told)
+    answered h k s made ∙ ap (λ ms. Ok (take_by ms (closing h) s.told)) nothing ∙ ap (λ o. Ok (take_by [] o s.told)) shut ∙ ap (λ b. Ok (take_by [] (Some error) b)) told
 
 -- a take of another stream, or of this one, which gives nothing
-take_quiet_by : (h : List Event) (k : ℕ) (p : Option ℕ) (a : Answer) → take_of h (Some k) ≡ answers.Ended → a ≡ take_of h p → NotOf k (take_does p a)
+take_quiet_by : (h : List Event) (k : ℕ) (p : Option ℕ) (a : Answer) → take_answer h k ≡ Ok polled.Ended → a ≡ take_of h p → NotOf k (take_does p a)
 take_quiet_by h k None a over is = tt
 take_quiet_by h k (Some j) a over is =
     elim (cases_Bool (j == k)) as (λ _. NotOf k (take_does (Some j) a)) [
-      | inl same ↦ let e : a ≡ answers.Ended = is ∙ ap (λ i. take_of h (Some i)) (eqb-true j k same) ∙ over in rw e tt
+      | inl same ↦ let e : a ≡ answers.Ended = is ∙ ap (λ i. take_of h (Some i)) (eqb-true j k same) ∙ ap shown_take over in rw e tt
       | inr other ↦ take_not k (Some j) a (λ i q r. let e : j ≡ k = (let s : j ≡ i = cc in s ∙ r) in let f : (j == k) ≡ true = rw e (same_eqb k) in cc)
     ]
   where
     same_eqb : (n : ℕ) → (n == n) ≡ true
     same_eqb n = eq-eqb n n refl
 
-over_not : (t : Trail) (lane₂ : ℕ) (w : Words) (a : Answer) (k : ℕ) → IsAnswer t lane₂ w a → take_of t.events (Some k) ≡ answers.Ended
+none_quiet : (k : ℕ) (p : Option ℕ) → NotOf k (take_does p answers.NoneBefore)
+none_quiet k None = tt
+none_quiet k (Some j) = tt
+
+take_before_quiet : (h : List Event) (k : ℕ) (p : Option ℕ) (a : Answer) → take_answer h k ≡ Ok polled.Ended → (a ≡ take_of h p) ⊎ (a ≡ answers.NoneBefore) → NotOf k (take_does p a)
+take_before_quiet h k p a over (inl is) = take_quiet_by h k p a over is
+take_before_quiet h k p a over (inr none) = subst (λ x. NotOf k (take_does p x)) (sym none) (none_quiet k p)
+
+over_not : (t : Trail) (lane₂ : ℕ) (w : Words) (a : Answer) (k : ℕ) → IsAnswer t lane₂ w a → take_answer t.events k ≡ Ok polled.Ended
     → NotOf k (events_of t lane₂ w a)
 over_not t lane₂ (words.Call out) a k is over = send_not k t.events _ a
 over_not t lane₂ (words.Signal out) a k is over = send_not k t.events _ a
@@ -84,9 +97,11 @@ over_not t lane₂ (words.Reply stream body) a k is over = send_not k t.events _
 over_not t lane₂ (words.Error stream name body) a k is over = send_not k t.events _ a
 over_not t lane₂ words.Read a k is over = read_not k (closing t.events) a
 over_not t lane₂ (words.Poll n) a k is over = poll_not k (place 0 lane₂ n t.names) a
+over_not t lane₂ (words.Before n before) a k is over = poll_not k (place 0 lane₂ n t.names) a
 over_not t lane₂ (words.Drop n) a k is over = drop_not k (place 0 lane₂ n t.names) a
 over_not t lane₂ words.Stream a k is over = stream_not k a
 over_not t lane₂ (words.Take n) a k is over = take_quiet_by t.events k (place 0 lane₂ n t.streams) a over is
+over_not t lane₂ (words.TakeBefore n before) a k is over = take_before_quiet t.events k (place 0 lane₂ n t.streams) a over (take_before_by t.events (place 0 lane₂ n t.streams) a is)
 
 held_same : (g h : List Event) (s : Stream) → read g ≡ read h → held g s ≡ held h s
 held_same g h s e = held_drop g s ∙ ap (drop (s.from + s.taken)) e ∙ sym (held_drop h s)
@@ -108,10 +123,17 @@ over_step t lane₂ w a lane number is o =
 take_is : (t : Trail) (e : Entry) (number : ℕ) → IsAnswer t e.lane e.words e.answer → e.words ≡ words.Take number → e.answer ≡ take_of t.events (place 0 e.lane number t.streams)
 take_is t e number a w = subst (λ x. IsAnswer t e.lane x e.answer) w a
 
+take_before_is : (t : Trail) (e : Entry) (number before : ℕ) → IsAnswer t e.lane e.words e.answer → e.words ≡ words.TakeBefore number before
+    → e.answer ≡ take_before_of t.events (place 0 e.lane number t.streams)
+take_before_is t e number before a w = subst (λ x. IsAnswer t e.lane x e.answer) w a
+
 ended_entry : (t : Trail) (x : Entry) (lane number : ℕ) → IsAnswer t x.lane x.words x.answer → Over t lane number → IsEnded lane number x
-ended_entry t x lane number is o same w =
+ended_entry t x lane number is o same (inl w) =
     take_is t x number is w ∙ ap (λ l. take_of t.events (place 0 l number t.streams)) same
-    ∙ ap (take_of t.events) o.named ∙ over_gives t.events o.k o.stream o.error o.made o.nothing o.told o.shut
+    ∙ ap (take_of t.events) o.named ∙ ap shown_take (over_gives t.events o.k o.stream o.error o.made o.nothing o.told o.shut)
+ended_entry t x lane number is o same (inr w) =
+    take_before_is t x number w.0 is w.1 ∙ ap (λ l. take_before_of t.events (place 0 l number t.streams)) same
+    ∙ ap (take_before_of t.events) o.named ∙ ap (λ r. shown_take (by_position r)) (over_gives t.events o.k o.stream o.error o.made o.nothing o.told o.shut)
 
 over_later : (setting : Setting) (newer older : List Entry) (e : Entry) (lane number : ℕ) → Legal setting (newer ++ e ∷ older) → Over (trail setting (e ∷ older)) lane number
     → Over (trail setting (newer ++ e ∷ older)) lane number × AllByRecursion (IsEnded lane number) newer
@@ -159,9 +181,15 @@ unfolding take_answer
 last_named t lane number a None named is last = absurd (subst IsLast is last)
 last_named t lane number a (Some k) named is last = last_at t lane number a (Some k) (slice_get (streams t.events) k) k named refl is last
 
-last_of : (setting : Setting) (older : List Entry) (e : Entry) (number : ℕ) → Legal setting (e ∷ older) → e.words ≡ words.Take number → IsLast e.answer → LastOf (trail setting older) e.lane number e.answer
-last_of setting older e number legal w last =
-    last_named (trail setting older) e.lane number e.answer (place 0 e.lane number (trail setting older).streams) refl (take_is (trail setting older) e number legal.0 w) last
+last_take : (t : Trail) (lane number : ℕ) (a : Answer) → (a ≡ take_of t.events (place 0 lane number t.streams)) ⊎ (a ≡ answers.NoneBefore) → IsLast a → LastOf t lane number a
+last_take t lane number a (inl is) last = last_named t lane number a (place 0 lane number t.streams) refl is last
+last_take t lane number a (inr none) last = absurd (subst IsLast none last)
+
+last_of : (setting : Setting) (older : List Entry) (e : Entry) (number : ℕ) → Legal setting (e ∷ older) → IsTake number e.words → IsLast e.answer → LastOf (trail setting older) e.lane number e.answer
+last_of setting older e number legal (inl w) last = last_take (trail setting older) e.lane number e.answer (inl (take_is (trail setting older) e number legal.0 w)) last
+last_of setting older e number legal (inr w) last =
+    let t = trail setting older in
+    last_take t e.lane number e.answer (take_before_by t.events (place 0 e.lane number t.streams) e.answer (take_before_is t e number w.0 legal.0 w.1)) last
 
 -- after the last answer the stream is over
 over_tells : (t : Trail) (lane number k : ℕ) (s : Stream) (a : Answer) → place 0 lane number t.streams ≡ Some k → slice_get (streams t.events) k ≡ Some s
@@ -192,13 +220,21 @@ over_tells t lane number k s a named made (Ends error nothing shut told is) =
       shut = closing_stays (take_does (place 0 lane number t.streams) a) t.events error shut;
     }
 
-over_after : (setting : Setting) (older : List Entry) (e : Entry) (number : ℕ) → Legal setting (e ∷ older) → e.words ≡ words.Take number → IsLast e.answer → Over (trail setting (e ∷ older)) e.lane number
+-- a take by position leaves what a take leaves
+over_by : (t : Trail) (e : Entry) (number : ℕ) → IsTake number e.words → Over (more t (entry e.lane (words.Take number) e.answer)) e.lane number → Over (more t e) e.lane number
+over_by t e number (inl w) o =
+    let x : entry e.lane (words.Take number) e.answer ≡ e = ap (λ y. entry e.lane y e.answer) (sym w) in
+    subst (λ y. Over (more t y) e.lane number) x o
+over_by t e number (inr w) o =
+    let x : entry e.lane (words.TakeBefore number w.0) e.answer ≡ e = ap (λ y. entry e.lane y e.answer) (sym w.1) in
+    subst (λ y. Over (more t y) e.lane number) x o
+
+over_after : (setting : Setting) (older : List Entry) (e : Entry) (number : ℕ) → Legal setting (e ∷ older) → IsTake number e.words → IsLast e.answer → Over (trail setting (e ∷ older)) e.lane number
 over_after setting older e number legal w last =
     let l = last_of setting older e number legal w last in
-    let x : entry e.lane (words.Take number) e.answer ≡ e = ap (λ y. entry e.lane y e.answer) (sym w) in
-    subst (λ y. Over (more (trail setting older) y) e.lane number) x (over_tells (trail setting older) e.lane number l.k l.stream e.answer l.named l.made l.last)
+    over_by (trail setting older) e number w (over_tells (trail setting older) e.lane number l.k l.stream e.answer l.named l.made l.last)
 
-pub ended : (setting : Setting) (newer older : List Entry) (e : Entry) (number : ℕ) → Legal setting (newer ++ e ∷ older) → e.words ≡ words.Take number → IsLast e.answer → AllByRecursion (IsEnded e.lane number) newer
+pub ended : (setting : Setting) (newer older : List Entry) (e : Entry) (number : ℕ) → Legal setting (newer ++ e ∷ older) → IsTake number e.words → IsLast e.answer → AllByRecursion (IsEnded e.lane number) newer
 ended setting newer older e number legal w last =
     (over_later setting newer older e e.lane number legal (over_after setting older e number (legal_from setting newer (e ∷ older) legal) w last)).1
 
@@ -208,7 +244,7 @@ drained_by t lane number a error l (Tells other nothing shut is) e =
     record { k = l.k; stream = l.stream; named = l.named; made = l.made; nothing = nothing; first = shut ∙ ap (λ x. Some x) same }
 drained_by t lane number a error l (Ends other nothing shut told is) e = let q : answers.Ended ≡ answers.Closed error = sym is ∙ e in cc
 
-pub drained : (setting : Setting) (older : List Entry) (e : Entry) (number : ℕ) (error : Error) → Legal setting (e ∷ older) → e.words ≡ words.Take number → e.answer ≡ answers.Closed error → IsDrained (trail setting older) e.lane number error
+pub drained : (setting : Setting) (older : List Entry) (e : Entry) (number : ℕ) (error : Error) → Legal setting (e ∷ older) → IsTake number e.words → e.answer ≡ answers.Closed error → IsDrained (trail setting older) e.lane number error
 drained setting older e number error legal w a =
     let l = last_of setting older e number legal w (subst IsLast (sym a) tt) in
     drained_by (trail setting older) e.lane number e.answer error l l.last a

@@ -58,6 +58,7 @@ given_made h = map-append (gave_last (Made Plain ∷ h)) (streams h) (new_stream
 abbrev pub given_after : ℕ → Result (Polled Seen) Error → List (Option Seen) → List (Option Seen)
 given_after k (Ok (polled.Now m)) gs = slice_set gs k (Some m)
 given_after k (Ok polled.NotYet) gs = gs
+given_after k (Ok polled.NoneBefore) gs = gs
 given_after k (Ok (polled.Closed error)) gs = gs
 given_after k (Ok polled.Ended) gs = gs
 given_after k (Err error) gs = gs

@@ -1,5 +1,5 @@
 -- A lane's number names one call, and a poll changes the answer of that call alone.
-use Rattle.std.proofs.Common.{inl, inr, ◌⊎◌, ◌≡◌, ◌≢◌, ℕ, zero, suc, ◌+◌, ◌==◌, if◌then◌else◌, arith, refl, sym, ◌∙◌, ap, true, false, List, [], ◌∷◌, ◌++◌, take, Option, Some, None, Result, Ok, Err, append-nil}
+use Rattle.std.proofs.Common.{inl, inr, ◌⊎◌, ◌≡◌, ◌≢◌, ℕ, zero, suc, ◌+◌, ◌==◌, if◌then◌else◌, arith, refl, sym, ◌∙◌, ap, subst, true, false, List, [], ◌∷◌, ◌++◌, take, Option, Some, None, Result, Ok, Err, append-nil}
 use Rattle.std.specs.List.{slice_get}
 use Rattle.std.proofs.lemmas.Bool.{eqb-true}
 use Rattle.wire_message.specs.Front.{Seen}
@@ -8,17 +8,16 @@ use Rattle.wire_message.specs.declared.kind.MessageType.{MessageType}
 use Rattle.wire_message.specs.declared.kind.MessageType.TheVariants as types
 use Rattle.peer_route.specs.declared.polled.Polled.{Polled}
 use Rattle.peer_route.specs.declared.polled.Polled.TheVariants as polled
-use Rattle.peer_route.specs.declared.words.Words.{Words}
 use Rattle.peer_route.specs.declared.words.Words.TheVariants as words
 use Rattle.peer_route.specs.declared.answer.Answer.{Answer}
 use Rattle.peer_route.specs.declared.answer.Answer.TheVariants as answers
 use Rattle.peer_route.specs.declared.answer.Entry.{Entry}
-use Rattle.peer_route.specs.History.{Event, poll_answer, drop_answer}
+use Rattle.peer_route.specs.History.{Event, poll_answer, by_position, drop_answer}
 use Rattle.peer_route.specs.Parcel.{Setting, Asked}
 use Rattle.peer_route.specs.Trail.{Trail, Names, place, count, asks, trail, poll_spends, drop_spends, events_of, new_names}
-use Rattle.peer_route.specs.Answers.{IsAnswer, Legal, error_answer, reply_by, shown, poll_of, shown_drop, drop_of}
-use Rattle.peer_route.specs.Laws.{poll_now}
-use Rattle.peer_route.proofs.Once.{poll_is, drop_is}
+use Rattle.peer_route.specs.Answers.{IsAnswer, Legal, error_answer, reply_by, shown, poll_of, before_of, shown_drop, drop_of}
+use Rattle.peer_route.specs.Laws.{IsPoll, SamePoll}
+use Rattle.peer_route.proofs.Once.{poll_is, before_is, drop_is}
 use Rattle.peer_route.proofs.Others.{spent_other}
 
 -- ---- a number names one call
@@ -93,6 +92,7 @@ reply_names h lane w m types.Signal = refl
 shown_names : (h : List Event) (lane : ℕ) (w : Option Asked) (r : Result (Polled Seen) Error) → new_names h lane w (shown r) ≡ []
 shown_names h lane w (Ok (polled.Now m)) = reply_names h lane w m m.kind
 shown_names h lane w (Ok polled.NotYet) = refl
+shown_names h lane w (Ok polled.NoneBefore) = refl
 shown_names h lane w (Ok (polled.Closed error)) = refl
 shown_names h lane w (Ok polled.Ended) = refl
 shown_names h lane w (Err error) = refl
@@ -101,11 +101,19 @@ poll_names : (h : List Event) (lane : ℕ) (w : Option Asked) (p : Option ℕ) �
 poll_names h lane w None = refl
 poll_names h lane w (Some k) = shown_names h lane w (poll_answer h k)
 
-names_kept : (t : Trail) (e : Entry) (number : ℕ) → IsAnswer t e.lane e.words e.answer → e.words ≡ words.Poll number → t.names ++ new_names t.events e.lane (asks t e.lane e.words) e.answer ≡ t.names
-names_kept t e number a w =
-    ap (λ x. t.names ++ new_names t.events e.lane (asks t e.lane e.words) x) (poll_is t e number a w)
-    ∙ ap (λ ns. t.names ++ ns) (poll_names t.events e.lane (asks t e.lane e.words) (place 0 e.lane number t.names))
-    ∙ append-nil t.names
+before_names : (h : List Event) (lane : ℕ) (w : Option Asked) (p : Option ℕ) → new_names h lane w (before_of h p) ≡ []
+before_names h lane w None = refl
+before_names h lane w (Some k) = shown_names h lane w (by_position (poll_answer h k))
+
+kept_by : (t : Trail) (e : Entry) (a : Answer) → e.answer ≡ a → new_names t.events e.lane (asks t e.lane e.words) a ≡ []
+    → t.names ++ new_names t.events e.lane (asks t e.lane e.words) e.answer ≡ t.names
+kept_by t e a is none = ap (λ x. t.names ++ new_names t.events e.lane (asks t e.lane e.words) x) is ∙ ap (λ ns. t.names ++ ns) none ∙ append-nil t.names
+
+names_kept : (t : Trail) (e : Entry) (number : ℕ) → IsAnswer t e.lane e.words e.answer → IsPoll number e.words → t.names ++ new_names t.events e.lane (asks t e.lane e.words) e.answer ≡ t.names
+names_kept t e number a (inl w) =
+    let p = place 0 e.lane number t.names in kept_by t e (poll_of t.events p) (poll_is t e number a w) (poll_names t.events e.lane (asks t e.lane e.words) p)
+names_kept t e number a (inr w) =
+    let p = place 0 e.lane number t.names in kept_by t e (before_of t.events p) (before_is t e number w.0 a w.1) (before_names t.events e.lane (asks t e.lane e.words) p)
 
 drop_shown_names : (h : List Event) (lane : ℕ) (w : Option Asked) (r : Result (Unit {0}) Error) → new_names h lane w (shown_drop r) ≡ []
 drop_shown_names h lane w (Ok done) = refl
@@ -117,42 +125,57 @@ drop_names h lane w (Some k) = drop_shown_names h lane w (drop_answer h k)
 
 names_kept_drop : (t : Trail) (e : Entry) (number : ℕ) → IsAnswer t e.lane e.words e.answer → e.words ≡ words.Drop number → t.names ++ new_names t.events e.lane (asks t e.lane e.words) e.answer ≡ t.names
 names_kept_drop t e number a w =
-    ap (λ x. t.names ++ new_names t.events e.lane (asks t e.lane e.words) x) (drop_is t e number a w)
-    ∙ ap (λ ns. t.names ++ ns) (drop_names t.events e.lane (asks t e.lane e.words) (place 0 e.lane number t.names))
-    ∙ append-nil t.names
+    let p = place 0 e.lane number t.names in kept_by t e (drop_of t.events p) (drop_is t e number a w) (drop_names t.events e.lane (asks t e.lane e.words) p)
 
 -- ---- what a poll leaves
 
-spends_by : (h : List Event) (j k : ℕ) (a : Answer) → j ≢ k → poll_of (poll_spends (Some j) a ++ h) (Some k) ≡ poll_of h (Some k)
-spends_by h j k (answers.Reply position) ne = ap shown (spent_other h j k ne)
-spends_by h j k (answers.InvalidReply position) ne = ap shown (spent_other h j k ne)
-spends_by h j k (answers.MethodError m) ne = ap shown (spent_other h j k ne)
-spends_by h j k (answers.Closed error) ne = ap shown (spent_other h j k ne)
+spends_by : (h : List Event) (j k : ℕ) (a : Answer) → j ≢ k → poll_answer (poll_spends (Some j) a ++ h) k ≡ poll_answer h k
+spends_by h j k (answers.Reply position) ne = spent_other h j k ne
+spends_by h j k (answers.InvalidReply position) ne = spent_other h j k ne
+spends_by h j k (answers.MethodError m) ne = spent_other h j k ne
+spends_by h j k (answers.Closed error) ne = spent_other h j k ne
 spends_by h j k a ne = refl
 
-spends_other : (h : List Event) (p q : Option ℕ) (a : Answer) → ((j k : ℕ) → p ≡ Some j → q ≡ Some k → j ≢ k) → poll_of (poll_spends p a ++ h) q ≡ poll_of h q
-spends_other h p None a ne = refl
-spends_other h None (Some k) a ne = refl
-spends_other h (Some j) (Some k) a ne = spends_by h j k a (ne j k refl refl)
+spends_other : (h : List Event) (p : Option ℕ) (k : ℕ) (a : Answer) → ((j : ℕ) → p ≡ Some j → j ≢ k) → poll_answer (poll_spends p a ++ h) k ≡ poll_answer h k
+spends_other h None k a ne = refl
+spends_other h (Some j) k a ne = spends_by h j k a (ne j refl)
 
-drops_by : (h : List Event) (j k : ℕ) (a : Answer) → j ≢ k → poll_of (drop_spends (Some j) a ++ h) (Some k) ≡ poll_of h (Some k)
-drops_by h j k answers.Dropped ne = ap shown (spent_other h j k ne)
+drops_by : (h : List Event) (j k : ℕ) (a : Answer) → j ≢ k → poll_answer (drop_spends (Some j) a ++ h) k ≡ poll_answer h k
+drops_by h j k answers.Dropped ne = spent_other h j k ne
 drops_by h j k a ne = refl
 
-drops_other : (h : List Event) (p q : Option ℕ) (a : Answer) → ((j k : ℕ) → p ≡ Some j → q ≡ Some k → j ≢ k) → poll_of (drop_spends p a ++ h) q ≡ poll_of h q
-drops_other h p None a ne = refl
-drops_other h None (Some k) a ne = refl
-drops_other h (Some j) (Some k) a ne = drops_by h j k a (ne j k refl refl)
+drops_other : (h : List Event) (p : Option ℕ) (k : ℕ) (a : Answer) → ((j : ℕ) → p ≡ Some j → j ≢ k) → poll_answer (drop_spends p a ++ h) k ≡ poll_answer h k
+drops_other h None k a ne = refl
+drops_other h (Some j) k a ne = drops_by h j k a (ne j refl)
 
-pub poll_other : (setting : Setting) (older : List Entry) (e : Entry) (number lane other : ℕ) → Legal setting (e ∷ older) → (e.words ≡ words.Poll number) ⊎ (e.words ≡ words.Drop number) → (lane ≡ e.lane → other ≢ number)
-    → poll_now (trail setting (e ∷ older)) lane other ≡ poll_now (trail setting older) lane other
-poll_other setting older e number lane other legal (inl w) differ =
+-- a poll or a drop of another number
+keeps : (t : Trail) (e : Entry) (number lane other k : ℕ) → IsPoll number e.words ⊎ (e.words ≡ words.Drop number) → (lane ≡ e.lane → other ≢ number)
+    → place 0 lane other t.names ≡ Some k → poll_answer (events_of t e.lane e.words e.answer ++ t.events) k ≡ poll_answer t.events k
+keeps t e number lane other k (inl (inl w)) differ q =
+    ap (λ x. poll_answer (events_of t e.lane x e.answer ++ t.events) k) w
+    ∙ spends_other t.events (place 0 e.lane number t.names) k e.answer (λ j p. apart t.names e.lane number lane other j k p q differ)
+keeps t e number lane other k (inl (inr w)) differ q =
+    ap (λ x. poll_answer (events_of t e.lane x e.answer ++ t.events) k) w.1
+    ∙ spends_other t.events (place 0 e.lane number t.names) k e.answer (λ j p. apart t.names e.lane number lane other j k p q differ)
+keeps t e number lane other k (inr w) differ q =
+    ap (λ x. poll_answer (events_of t e.lane x e.answer ++ t.events) k) w
+    ∙ drops_other t.events (place 0 e.lane number t.names) k e.answer (λ j p. apart t.names e.lane number lane other j k p q differ)
+
+all_names_kept : (t : Trail) (e : Entry) (number : ℕ) → IsAnswer t e.lane e.words e.answer → IsPoll number e.words ⊎ (e.words ≡ words.Drop number)
+    → t.names ++ new_names t.events e.lane (asks t e.lane e.words) e.answer ≡ t.names
+all_names_kept t e number a (inl w) = names_kept t e number a w
+all_names_kept t e number a (inr w) = names_kept_drop t e number a w
+
+-- where the call's answer is the same, a poll of it says the same, by position too
+same_poll : (g h : List Event) (p : Option ℕ) → ((k : ℕ) → p ≡ Some k → poll_answer g k ≡ poll_answer h k) → (poll_of g p ≡ poll_of h p) × (before_of g p ≡ before_of h p)
+same_poll g h None same = (refl, refl)
+same_poll g h (Some k) same = (ap shown (same k refl), ap (λ r. shown (by_position r)) (same k refl))
+
+pub poll_other : (setting : Setting) (older : List Entry) (e : Entry) (number lane other : ℕ) → Legal setting (e ∷ older) → IsPoll number e.words ⊎ (e.words ≡ words.Drop number) → (lane ≡ e.lane → other ≢ number)
+    → SamePoll (trail setting (e ∷ older)) (trail setting older) lane other
+poll_other setting older e number lane other legal w differ =
     let t = trail setting older in
-    ap (λ (ns : Names). poll_of (events_of t e.lane e.words e.answer ++ t.events) (place 0 lane other ns)) (names_kept t e number legal.0 w)
-    ∙ ap (λ (x : Words). poll_of (events_of t e.lane x e.answer ++ t.events) (place 0 lane other t.names)) w
-    ∙ spends_other t.events (place 0 e.lane number t.names) (place 0 lane other t.names) e.answer (λ j k p q. apart t.names e.lane number lane other j k p q differ)
-poll_other setting older e number lane other legal (inr w) differ =
-    let t = trail setting older in
-    ap (λ (ns : Names). poll_of (events_of t e.lane e.words e.answer ++ t.events) (place 0 lane other ns)) (names_kept_drop t e number legal.0 w)
-    ∙ ap (λ (x : Words). poll_of (events_of t e.lane x e.answer ++ t.events) (place 0 lane other t.names)) w
-    ∙ drops_other t.events (place 0 e.lane number t.names) (place 0 lane other t.names) e.answer (λ j k p q. apart t.names e.lane number lane other j k p q differ)
+    let g = events_of t e.lane e.words e.answer ++ t.events in
+    let p = place 0 lane other t.names in
+    subst (λ (ns : Names). (poll_of g (place 0 lane other ns) ≡ poll_of t.events p) × (before_of g (place 0 lane other ns) ≡ before_of t.events p))
+    (sym (all_names_kept t e number legal.0 w)) (same_poll g t.events p (λ k q. keeps t e number lane other k w differ q))

@@ -12,12 +12,15 @@ pub mod Core
 pub mod Issuing
 pub mod NextSerial
 pub mod Steps
+pub mod ByPosition
 pub mod Once
 pub mod Read
 pub mod Others
 pub mod Lanes
+pub mod StreamLanes
 pub mod Yields
 pub mod Drained
 pub mod Sent
 pub mod Waiting
 pub mod Refused
+pub mod NoneBefore

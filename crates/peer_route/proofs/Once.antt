@@ -1,16 +1,17 @@
 -- A call whose answer was given is over for good.
-use Rattle.std.proofs.Common.{inl, inr, sym, ◌≡◌, ℕ, zero, suc, ◌+◌, ◌||◌, ◌==◌, if◌then◌else◌, refl, ◌∙◌, ap, subst, Bool, true, false, List, [], ◌∷◌, ◌++◌, map, Option, Some, None, Err}
+use Rattle.std.proofs.Common.{inl, inr, sym, ◌≡◌, ◌⊎◌, ℕ, zero, suc, ◌+◌, ◌||◌, ◌==◌, if◌then◌else◌, refl, ◌∙◌, ap, subst, Bool, true, false, List, [], ◌∷◌, ◌++◌, map, Option, Some, None, Err}
 use Rattle.std.specs.List.{slice_get, AllByRecursion}
 use Rattle.wire_message.specs.declared.error.Error.TheVariants as errors
 use Rattle.peer_route.specs.declared.words.Words.TheVariants as words
 use Rattle.peer_route.specs.declared.answer.Answer.{Answer}
 use Rattle.peer_route.specs.declared.answer.Answer.TheVariants as answers
 use Rattle.peer_route.specs.declared.answer.Entry.{Entry}
-use Rattle.peer_route.specs.History.{Event, Took, Shut, Put, Wrote, Fault, Spent, Made, Did, Call, calls, new_call, edit, spend, fail_at, done, is_gone, polled_at, poll_answer, dropped_at, drop_answer}
+use Rattle.peer_route.specs.History.{Event, Took, Shut, Put, Wrote, Fault, Spent, Made, Did, Call, calls, new_call, edit, spend, fail_at, done, is_gone, polled_at, poll_answer, by_position, dropped_at, drop_answer}
 use Rattle.peer_route.specs.Parcel.{Setting}
 use Rattle.peer_route.specs.Trail.{Trail, Names, place, asks, trail, poll_spends, drop_spends, events_of, new_names}
-use Rattle.peer_route.specs.Answers.{IsAnswer, Legal, shown, poll_of, shown_drop, drop_of}
-use Rattle.peer_route.specs.Laws.{IsFinal, IsUnknown}
+use Rattle.peer_route.specs.Answers.{IsAnswer, Legal, shown, poll_of, before_of, shown_drop, drop_of}
+use Rattle.peer_route.specs.Laws.{IsPoll, IsFinal, IsUnknown}
+use Rattle.peer_route.proofs.ByPosition.{before_by}
 
 -- ---- a call that is over
 
@@ -76,9 +77,9 @@ gone_drop_shown : (h : List Event) (k : ℕ) → gone_at (calls h) k ≡ true �
 unfolding drop_answer
 gone_drop_shown h k g = ap (λ r. shown_drop r) (gone_dropped (calls h) k g)
 
-gone_shown : (h : List Event) (k : ℕ) → gone_at (calls h) k ≡ true → shown (poll_answer h k) ≡ answers.Refused errors.UnknownHandle
+gone_answer : (h : List Event) (k : ℕ) → gone_at (calls h) k ≡ true → poll_answer h k ≡ Err errors.UnknownHandle
 unfolding poll_answer
-gone_shown h k g = ap shown (gone_polled h (calls h) k g)
+gone_answer h k g = gone_polled h (calls h) k g
 
 -- ---- what a number names stays
 
@@ -100,6 +101,20 @@ place_append at lane (suc number) (Some l ∷ names) more k e =
 
 pub poll_is : (t : Trail) (e : Entry) (number : ℕ) → IsAnswer t e.lane e.words e.answer → e.words ≡ words.Poll number → e.answer ≡ poll_of t.events (place 0 e.lane number t.names)
 poll_is t e number a w = subst (λ x. IsAnswer t e.lane x e.answer) w a
+
+pub before_is : (t : Trail) (e : Entry) (number before : ℕ) → IsAnswer t e.lane e.words e.answer → e.words ≡ words.Before number before → e.answer ≡ before_of t.events (place 0 e.lane number t.names)
+before_is t e number before a w = subst (λ x. IsAnswer t e.lane x e.answer) w a
+
+-- a poll, by position or not, is answered as one without a position, or that there is none before it
+pub polled_is : (t : Trail) (e : Entry) (number : ℕ) → IsAnswer t e.lane e.words e.answer → IsPoll number e.words
+    → (e.answer ≡ poll_of t.events (place 0 e.lane number t.names)) ⊎ (e.answer ≡ answers.NoneBefore)
+polled_is t e number a (inl w) = inl (poll_is t e number a w)
+polled_is t e number a (inr w) = before_by t.events (place 0 e.lane number t.names) e.answer (before_is t e number w.0 a w.1)
+
+final_is : (t : Trail) (e : Entry) (number : ℕ) → (e.answer ≡ poll_of t.events (place 0 e.lane number t.names)) ⊎ (e.answer ≡ answers.NoneBefore) → IsFinal e.answer
+    → e.answer ≡ poll_of t.events (place 0 e.lane number t.names)
+final_is t e number (inl is) f = is
+final_is t e number (inr none) f = absurd (subst IsFinal none f)
 
 pub drop_is : (t : Trail) (e : Entry) (number : ℕ) → IsAnswer t e.lane e.words e.answer → e.words ≡ words.Drop number → e.answer ≡ drop_of t.events (place 0 e.lane number t.names)
 drop_is t e number a w = subst (λ x. IsAnswer t e.lane x e.answer) w a
@@ -127,11 +142,13 @@ final_over h (Some k) a e f =
     (k, refl, rw (final_spends k a f) over)
 
 -- the entry that gave the answer leaves the call over
-over_now : (t : Trail) (e : Entry) (number : ℕ) → IsAnswer t e.lane e.words e.answer → e.words ≡ words.Poll number → IsFinal e.answer
+over_now : (t : Trail) (e : Entry) (number : ℕ) → IsAnswer t e.lane e.words e.answer → IsPoll number e.words → IsFinal e.answer
     → (k : ℕ) × (place 0 e.lane number t.names ≡ Some k) × (gone_at (calls (events_of t e.lane e.words e.answer ++ t.events)) k ≡ true)
-over_now t e number a w f = rw w (final_over t.events (place 0 e.lane number t.names) e.answer (poll_is t e number a w) f)
+over_now t e number a (inl w) f = rw w (final_over t.events (place 0 e.lane number t.names) e.answer (poll_is t e number a w) f)
+over_now t e number a (inr w) f =
+    rw w.1 (final_over t.events (place 0 e.lane number t.names) e.answer (final_is t e number (polled_is t e number a (inr w)) f) f)
 
-over_after : (setting : Setting) (e : Entry) (es : List Entry) (number : ℕ) → Legal setting (e ∷ es) → e.words ≡ words.Poll number → IsFinal e.answer → IsOver (trail setting (e ∷ es)) e.lane number
+over_after : (setting : Setting) (e : Entry) (es : List Entry) (number : ℕ) → Legal setting (e ∷ es) → IsPoll number e.words → IsFinal e.answer → IsOver (trail setting (e ∷ es)) e.lane number
 over_after setting e es number legal w f =
     let now = over_now (trail setting es) e number legal.0 w f in
     (now.0, place_append 0 e.lane number (trail setting es).names (new_names (trail setting es).events e.lane (asks (trail setting es) e.lane e.words) e.answer) now.0 now.1, now.2)
@@ -144,16 +161,23 @@ over_more setting e es lane number over = (
 )
 
 unknown_at : (t : Trail) (lane number : ℕ) → IsOver t lane number → poll_of t.events (place 0 lane number t.names) ≡ answers.Refused errors.UnknownHandle
-unknown_at t lane number over = rw over.1 (gone_shown t.events over.0 over.2)
+unknown_at t lane number over = rw over.1 (ap shown (gone_answer t.events over.0 over.2))
+
+unknown_before_at : (t : Trail) (lane number : ℕ) → IsOver t lane number → before_of t.events (place 0 lane number t.names) ≡ answers.Refused errors.UnknownHandle
+unknown_before_at t lane number over = rw over.1 (ap (λ r. shown (by_position r)) (gone_answer t.events over.0 over.2))
 
 unknown_drop_at : (t : Trail) (lane number : ℕ) → IsOver t lane number → drop_of t.events (place 0 lane number t.names) ≡ answers.Refused errors.UnknownHandle
 unknown_drop_at t lane number over = rw over.1 (gone_drop_shown t.events over.0 over.2)
 
 unknown_entry : (setting : Setting) (e : Entry) (es : List Entry) (lane number : ℕ) → IsOver (trail setting es) lane number → Legal setting (e ∷ es) → IsUnknown lane number e
-unknown_entry setting e es lane number over legal same (inl w) =
+unknown_entry setting e es lane number over legal same (inl (inl w)) =
     poll_is (trail setting es) e number legal.0 w
     ∙ ap (λ l. poll_of (trail setting es).events (place 0 l number (trail setting es).names)) same
     ∙ unknown_at (trail setting es) lane number over
+unknown_entry setting e es lane number over legal same (inl (inr w)) =
+    before_is (trail setting es) e number w.0 legal.0 w.1
+    ∙ ap (λ l. before_of (trail setting es).events (place 0 l number (trail setting es).names)) same
+    ∙ unknown_before_at (trail setting es) lane number over
 unknown_entry setting e es lane number over legal same (inr w) =
     drop_is (trail setting es) e number legal.0 w
     ∙ ap (λ l. drop_of (trail setting es).events (place 0 l number (trail setting es).names)) same
@@ -170,7 +194,7 @@ pub legal_from : (setting : Setting) (newer older : List Entry) → Legal settin
 legal_from setting [] older legal = legal
 legal_from setting (x ∷ newer) older legal = legal_from setting newer older legal.1
 
-pub once : (setting : Setting) (newer older : List Entry) (e : Entry) (number : ℕ) → Legal setting (newer ++ e ∷ older) → e.words ≡ words.Poll number → IsFinal e.answer → AllByRecursion (IsUnknown e.lane number) newer
+pub once : (setting : Setting) (newer older : List Entry) (e : Entry) (number : ℕ) → Legal setting (newer ++ e ∷ older) → IsPoll number e.words → IsFinal e.answer → AllByRecursion (IsUnknown e.lane number) newer
 once setting newer older e number legal w f = (unknown_later setting newer older e number legal (over_after setting e older number (legal_from setting newer (e ∷ older) legal) w f)).1
 
 -- ---- a drop

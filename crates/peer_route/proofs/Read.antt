@@ -1,5 +1,5 @@
 -- What answered a call, and where it stands among the messages read.
-use Rattle.std.proofs.Common.{◌≡◌, ℕ, zero, suc, ◌+◌, cond, if◌then◌else◌, arith, refl, sym, ◌∙◌, ap, subst, Bool, true, false, List, [], ◌∷◌, ◌++◌, length, drop, Option, Some, None, Result, Ok, Err}
+use Rattle.std.proofs.Common.{inl, inr, ◌≡◌, ◌⊎◌, ℕ, zero, suc, ◌+◌, cond, if◌then◌else◌, arith, refl, sym, ◌∙◌, ap, subst, Bool, true, false, List, [], ◌∷◌, ◌++◌, length, drop, Option, Some, None, Result, Ok, Err}
 use Rattle.std.specs.List.{slice_get, find, AllByRecursion}
 use Rattle.wire_message.specs.Front.{Seen}
 use Rattle.wire_message.specs.declared.kind.MessageType.{MessageType}
@@ -18,8 +18,8 @@ use Rattle.peer_route.specs.Streams.{busy}
 use Rattle.peer_route.specs.Parcel.{Setting, Asked}
 use Rattle.peer_route.specs.Trail.{Trail, place, trail, failed_put, send_events, read_events, poll_spends, drop_spends, stream_makes, take_does, events_of}
 use Rattle.peer_route.specs.Answers.{IsAnswer, IsReadOf, Legal, error_answer, reply_by, shown, poll_of}
-use Rattle.peer_route.specs.Laws.{IsReplyAt, IsFirstReply, IsCutOff}
-use Rattle.peer_route.proofs.Once.{poll_is}
+use Rattle.peer_route.specs.Laws.{IsPoll, IsReplyAt, IsFirstReply, IsCutOff}
+use Rattle.peer_route.proofs.Once.{polled_is}
 
 -- ---- positions
 
@@ -85,9 +85,11 @@ ranked_entry t lane (words.Reply stream body) a is r = subst (Ranked 0) (sym (se
 ranked_entry t lane (words.Error stream name body) a is r = subst (Ranked 0) (sym (send_read t.events _ a)) r
 ranked_entry t lane words.Read a is r = ranked_read t.events (closing t.events) (busy t.events) a is r
 ranked_entry t lane (words.Poll number) a is r = subst (Ranked 0) (sym (poll_read t.events (place 0 lane number t.names) a)) r
+ranked_entry t lane (words.Before number before) a is r = subst (Ranked 0) (sym (poll_read t.events (place 0 lane number t.names) a)) r
 ranked_entry t lane (words.Drop number) a is r = subst (Ranked 0) (sym (drop_read t.events (place 0 lane number t.names) a)) r
 ranked_entry t lane words.Stream a is r = subst (Ranked 0) (sym (stream_read t.events a)) r
 ranked_entry t lane (words.Take number) a is r = subst (Ranked 0) (sym (take_read t.events (place 0 lane number t.streams) a)) r
+ranked_entry t lane (words.TakeBefore number before) a is r = subst (Ranked 0) (sym (take_read t.events (place 0 lane number t.streams) a)) r
 
 ranked : (setting : Setting) (es : List Entry) → Legal setting es → Ranked 0 (read (trail setting es).events)
 ranked setting [] legal = tt
@@ -131,6 +133,7 @@ reply_position m types.Signal q is = is
 reply_shown : (r : Result (Polled Seen) Error) (q : ℕ) → IsReplyAt q (shown r) → (m : Seen) × (r ≡ Ok (polled.Now m)) × (m.position ≡ q)
 reply_shown (Ok (polled.Now m)) q is = (m, refl, reply_position m m.kind q is)
 reply_shown (Ok polled.NotYet) q is = absurd is
+reply_shown (Ok polled.NoneBefore) q is = absurd is
 reply_shown (Ok (polled.Closed error)) q is = absurd is
 reply_shown (Ok polled.Ended) q is = absurd is
 reply_shown (Err error) q is = absurd is
@@ -148,6 +151,7 @@ not_closed m types.Signal error e = cc
 closed_shown : (r : Result (Polled Seen) Error) (error : Error) → shown r ≡ answers.Closed error → r ≡ Ok (polled.Closed error)
 closed_shown (Ok (polled.Now m)) error e = absurd (not_closed m m.kind error e)
 closed_shown (Ok polled.NotYet) error e = cc
+closed_shown (Ok polled.NoneBefore) error e = cc
 closed_shown (Ok (polled.Closed other)) error e = cc
 closed_shown (Ok polled.Ended) error e = cc
 closed_shown (Err other) error e = cc
@@ -197,9 +201,14 @@ first_by t lane number q a (Some k) r named e is =
       stands = at.1;
     }
 
-pub by_the_first : (setting : Setting) (older : List Entry) (e : Entry) (number q : ℕ) → Legal setting (e ∷ older) → e.words ≡ words.Poll number → IsReplyAt q e.answer → IsFirstReply (trail setting older) e.lane number q e.answer
+first_of : (t : Trail) (e : Entry) (number q : ℕ) → Ranked 0 (read t.events) → (e.answer ≡ poll_of t.events (place 0 e.lane number t.names)) ⊎ (e.answer ≡ answers.NoneBefore)
+    → IsReplyAt q e.answer → IsFirstReply t e.lane number q e.answer
+first_of t e number q r (inl answer) is = first_by t e.lane number q e.answer (place 0 e.lane number t.names) r refl answer is
+first_of t e number q r (inr none) is = absurd (subst (IsReplyAt q) none is)
+
+pub by_the_first : (setting : Setting) (older : List Entry) (e : Entry) (number q : ℕ) → Legal setting (e ∷ older) → IsPoll number e.words → IsReplyAt q e.answer → IsFirstReply (trail setting older) e.lane number q e.answer
 by_the_first setting older e number q legal w is =
-    first_by (trail setting older) e.lane number q e.answer (place 0 e.lane number (trail setting older).names) (ranked setting older legal.1) refl (poll_is (trail setting older) e number legal.0 w) is
+    first_of (trail setting older) e number q (ranked setting older legal.1) (polled_is (trail setting older) e number legal.0 w) is
 
 -- ---- the closing error
 
@@ -217,6 +226,11 @@ cut_by t lane number error (Some k) named e =
       first = c.3;
     }
 
-pub by_the_closing_error : (setting : Setting) (older : List Entry) (e : Entry) (number : ℕ) (error : Error) → Legal setting (e ∷ older) → e.words ≡ words.Poll number → e.answer ≡ answers.Closed error → IsCutOff (trail setting older) e.lane number error
+cut_of : (t : Trail) (e : Entry) (number : ℕ) (error : Error) → (e.answer ≡ poll_of t.events (place 0 e.lane number t.names)) ⊎ (e.answer ≡ answers.NoneBefore)
+    → e.answer ≡ answers.Closed error → IsCutOff t e.lane number error
+cut_of t e number error (inl answer) closed = cut_by t e.lane number error (place 0 e.lane number t.names) refl (sym answer ∙ closed)
+cut_of t e number error (inr none) closed = let q : answers.NoneBefore ≡ answers.Closed error = sym none ∙ closed in cc
+
+pub by_the_closing_error : (setting : Setting) (older : List Entry) (e : Entry) (number : ℕ) (error : Error) → Legal setting (e ∷ older) → IsPoll number e.words → e.answer ≡ answers.Closed error → IsCutOff (trail setting older) e.lane number error
 by_the_closing_error setting older e number error legal w closed =
-    cut_by (trail setting older) e.lane number error (place 0 e.lane number (trail setting older).names) refl (sym (poll_is (trail setting older) e number legal.0 w) ∙ closed)
+    cut_of (trail setting older) e number error (polled_is (trail setting older) e number legal.0 w) closed

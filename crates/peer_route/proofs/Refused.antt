@@ -36,9 +36,11 @@ no_events t lane (words.Reply stream body) error = send_refused t.events _ error
 no_events t lane (words.Error stream name body) error = send_refused t.events _ error
 no_events t lane words.Read error = read_refused (closing t.events) error
 no_events t lane (words.Poll n) error = poll_refused (place 0 lane n t.names) error
+no_events t lane (words.Before n before) error = poll_refused (place 0 lane n t.names) error
 no_events t lane (words.Drop n) error = drop_refused (place 0 lane n t.names) error
 no_events t lane words.Stream error = refl
 no_events t lane (words.Take n) error = take_refused (place 0 lane n t.streams) error
+no_events t lane (words.TakeBefore n before) error = take_refused (place 0 lane n t.streams) error
 
 refused_keeps : (t : Trail) (lane : ℕ) (w : Words) (error : Error) → more t (record { lane = lane; words = w; answer = answers.Refused error }) ≡ t
 refused_keeps t lane w error =

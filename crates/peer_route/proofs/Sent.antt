@@ -87,9 +87,11 @@ sent_step t lane (words.Reply stream body) a sent is p = sent_asked t lane _ a s
 sent_step t lane (words.Error stream name body) a sent is p = sent_asked t lane _ a sent is p
 sent_step t lane words.Read a sent is p = none_sent _ t.events sent (read_none (closing t.events) a t.events) p
 sent_step t lane (words.Poll n) a sent is p = none_sent _ t.events sent (poll_none (place 0 lane n t.names) a t.events) p
+sent_step t lane (words.Before n before) a sent is p = none_sent _ t.events sent (poll_none (place 0 lane n t.names) a t.events) p
 sent_step t lane (words.Drop n) a sent is p = none_sent _ t.events sent (drop_none (place 0 lane n t.names) a t.events) p
 sent_step t lane words.Stream a sent is p = none_sent _ t.events sent (stream_none a t.events) p
 sent_step t lane (words.Take n) a sent is p = none_sent _ t.events sent (take_none (place 0 lane n t.streams) a t.events) p
+sent_step t lane (words.TakeBefore n before) a sent is p = none_sent _ t.events sent (take_none (place 0 lane n t.streams) a t.events) p
 
 -- entries keep what the peer was given at its start
 pub trail_setting : (setting : Setting) (es : List Entry) → (trail setting es).setting ≡ setting

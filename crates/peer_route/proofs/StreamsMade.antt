@@ -8,8 +8,8 @@ use Rattle.std.proofs.lemmas.Option.{slice_get-map}
 use Rattle.wire_message.specs.Front.{Seen}
 use Rattle.wire_message.specs.declared.error.Error.{Error}
 use Rattle.peer_route.specs.History.{Event, Took, Shut, Put, Wrote, Fault, Spent, Made, Did, Plain, Gave, Told, read, closing, edit}
-use Rattle.peer_route.specs.Streams.{Stream, streams, new_stream, give, tell, matched, held, is_full, take_by, take_at, take_answer, take_events}
-use Rattle.peer_route.specs.Left.{Held, held_of, queued, is_over, after_by, after_take, held_gives, IsWithin, LeftStreams}
+use Rattle.peer_route.specs.Streams.{Stream, streams, new_stream, give, tell, matched, held, is_full, take_by, take_at, take_answer, take_events, next_at, next_position}
+use Rattle.peer_route.specs.Left.{Held, held_of, queued, is_over, after_by, after_take, held_gives, next_held, IsWithin, LeftStreams}
 use Rattle.peer_route.proofs.Plain.{list_any-map, list_any-along}
 
 -- ---- events that change no stream
@@ -128,6 +128,15 @@ gives_at h (Some s) = refl
 pub taken_gives : (v : List Held) (h : List Event) (k : ℕ) → LeftStreams v h → held_gives (slice_get v k) (closing h) ≡ take_answer h k
 unfolding take_answer
 taken_gives v h k left = rw left.queues (rw (slice_get-map (held_of h) (streams h) k) (gives_at h (slice_get (streams h) k)))
+
+next_at_held : (h : List Event) (o : Option Stream) → next_held (option_map (held_of h) o) ≡ next_at h o
+unfolding held_of
+next_at_held h None = refl
+next_at_held h (Some s) = refl
+
+pub held_next : (v : List Held) (h : List Event) (k : ℕ) → LeftStreams v h → next_held (slice_get v k) ≡ next_position h k
+unfolding next_position
+held_next v h k left = rw left.queues (rw (slice_get-map (held_of h) (streams h) k) (next_at_held h (slice_get (streams h) k)))
 
 pub drop_next : {A : Type 0} (n : ℕ) (xs : List A) (y : A) (ys : List A) → drop n xs ≡ y ∷ ys → (drop (n + 1) xs ≡ ys) × (n + 1 ≤ length xs)
 drop_next zero [] y ys e = cc

@@ -1,29 +1,27 @@
 -- What streams give, entry by entry.
-use Rattle.std.proofs.Common.{◌≡◌, ◌≢◌, inl, inr, ℕ, ◌+◌, ◌≤◌, ◌==◌, ◌&&◌, zero, suc, refl, sym, ◌∙◌, ap, subst, arith, Bool, true, false, if◌then◌else◌, List, [], ◌∷◌, ◌++◌, length, take, drop, Option, Some, None, Result, Ok, Err, length-append, append_assoc, append-nil}
+use Rattle.std.proofs.Common.{◌≡◌, ◌≢◌, ◌⊎◌, inl, inr, ℕ, ◌+◌, ◌≤◌, ◌==◌, ◌&&◌, zero, suc, refl, sym, ◌∙◌, ap, subst, arith, Bool, true, false, if◌then◌else◌, List, [], ◌∷◌, ◌++◌, length, take, drop, Option, Some, None, Ok, Err, length-append, append_assoc, append-nil}
 use Rattle.std.specs.List.{slice_get}
 use Rattle.std.proofs.lemmas.List.{map-append, take-append-drop, drop-append-le, take-append-le, length-drop}
 use Rattle.std.proofs.lemmas.Bool.{eqb-true, eq-eqb}
 use Rattle.wire_message.specs.Front.{Seen}
-use Rattle.wire_message.specs.declared.kind.MessageType.{MessageType}
-use Rattle.wire_message.specs.declared.kind.MessageType.TheVariants as types
 use Rattle.wire_message.specs.declared.error.Error.{Error}
-use Rattle.peer_route.specs.declared.polled.Polled.{Polled}
-use Rattle.peer_route.specs.declared.polled.Polled.TheVariants as polled
 use Rattle.peer_route.specs.declared.words.Words.{Words}
 use Rattle.peer_route.specs.declared.words.Words.TheVariants as words
 use Rattle.peer_route.specs.declared.answer.Answer.{Answer}
 use Rattle.peer_route.specs.declared.answer.Answer.TheVariants as answers
 use Rattle.peer_route.specs.declared.answer.Entry.{Entry}
-use Rattle.peer_route.specs.History.{Event, Took, Shut, Put, Wrote, Fault, Spent, Made, Did, Plain, read, closing, edit, is_failed, poll_answer, drop_answer}
-use Rattle.peer_route.specs.Streams.{Stream, streams, new_stream, give, tell, done_by, matched, held, busy, take_by, take_at, take_answer}
+use Rattle.peer_route.specs.History.{Event, Took, Shut, Put, Wrote, Fault, Spent, Made, Did, Plain, read, closing, edit, is_failed}
+use Rattle.peer_route.specs.Streams.{Stream, streams, new_stream, give, tell, done_by, matched, held, take_by, take_at, take_answer}
 use Rattle.peer_route.specs.Parcel.{Setting, Asked}
 use Rattle.peer_route.specs.Trail.{Trail, Names, place, count, trail, more, failed_put, send_events, read_events, poll_spends, drop_spends, stream_makes, take_does, events_of, new_streams}
-use Rattle.peer_route.specs.Answers.{IsAnswer, IsReadOf, IsCalled, Legal, sent_answer, error_answer, reply_by, shown, poll_of, shown_drop, drop_of, shown_take, take_of}
+use Rattle.peer_route.specs.Answers.{IsAnswer, Legal, shown_take, take_of}
 use Rattle.peer_route.specs.StreamLaws.{positions, is_take, item_by, items_given, Yields}
+use Rattle.peer_route.proofs.ByPosition.{take_before_by}
 use Rattle.peer_route.proofs.Once.{place_append}
 use Rattle.peer_route.proofs.Lanes.{apart}
 use Rattle.peer_route.proofs.Read.{take_read}
 use Rattle.peer_route.proofs.StreamsMade.{held_drop, drop_next}
+use Rattle.peer_route.proofs.StreamLanes.{entry, lanes}
 
 -- ---- events of other streams
 
@@ -130,9 +128,6 @@ pub record Flow (t : Trail) (lane number from : ℕ) (given : List ℕ) : Type 0
   started : stream.from ≡ from
   within : stream.from + stream.taken ≤ length (read t.events)
   given_is : given ≡ positions (take stream.taken (drop stream.from (read t.events)))
-
-abbrev pub entry : ℕ → Words → Answer → Entry
-entry lane w a = record { lane = lane; words = w; answer = a }
 
 part_grows : {A : Type 0} (from n : ℕ) (xs ys : List A) → from + n ≤ length xs → take n (drop from (xs ++ ys)) ≡ take n (drop from xs)
 part_grows from n xs ys le =
@@ -266,9 +261,29 @@ given_take t lane₂ n a lane number from given false c p q answer f =
     flow_along (more t (entry lane₂ (words.Take n) a)) lane number from given (given ++ []) (sym (append-nil given))
     (given_other t lane₂ n a lane number from given f (λ l m. let e : (lane₂ == lane) ≡ true = eq-eqb lane₂ lane (sym l) in cc))
 
+-- a take by position gives what a take gives, or nothing
+none_does : (p : Option ℕ) → take_does p answers.NoneBefore ≡ []
+none_does None = refl
+none_does (Some k) = refl
+
+none_given : (given : List ℕ) (b : Bool) → given ≡ given ++ item_by b answers.NoneBefore
+none_given given true = sym (append-nil given)
+none_given given false = sym (append-nil given)
+
+given_by_position : (t : Trail) (lane₂ n before : ℕ) (a : Answer) (lane number from : ℕ) (given : List ℕ)
+    → (a ≡ take_of t.events (place 0 lane₂ n t.streams)) ⊎ (a ≡ answers.NoneBefore) → Flow t lane number from given
+    → Flow (more t (entry lane₂ (words.TakeBefore n before) a)) lane number from (given ++ item_by ((lane₂ == lane) && (n == number)) a)
+given_by_position t lane₂ n before a lane number from given (inl answer) f = given_take t lane₂ n a lane number from given (lane₂ == lane) (n == number) refl refl answer f
+given_by_position t lane₂ n before a lane number from given (inr none) f =
+    subst (λ x. Flow (more t (entry lane₂ (words.TakeBefore n before) x)) lane number from (given ++ item_by ((lane₂ == lane) && (n == number)) x)) (sym none)
+    (flow_along (more t (entry lane₂ (words.TakeBefore n before) answers.NoneBefore)) lane number from given _ (none_given given ((lane₂ == lane) && (n == number)))
+    (kept t lane₂ (words.TakeBefore n before) answers.NoneBefore lane number from given f (subst (NotOf f.k) (sym (none_does (place 0 lane₂ n t.streams))) tt)))
+
 flow_step : (t : Trail) (lane₂ : ℕ) (w : Words) (a : Answer) (lane number from : ℕ) (given : List ℕ) → IsAnswer t lane₂ w a → Flow t lane number from given
     → Flow (more t (entry lane₂ w a)) lane number from (given ++ item_by ((lane₂ == lane) && is_take number w) a)
 flow_step t lane₂ (words.Take n) a lane number from given answer f = given_take t lane₂ n a lane number from given (lane₂ == lane) (n == number) refl refl answer f
+flow_step t lane₂ (words.TakeBefore n before) a lane number from given answer f =
+    given_by_position t lane₂ n before a lane number from given (take_before_by t.events (place 0 lane₂ n t.streams) a answer) f
 flow_step t lane₂ (words.Call out) a lane number from given answer f =
     flow_along _ lane number from given _ (given_none given (lane₂ == lane) a) (kept t lane₂ (words.Call out) a lane number from given f (send_not f.k t.events _ a))
 flow_step t lane₂ (words.Signal out) a lane number from given answer f =
@@ -281,142 +296,12 @@ flow_step t lane₂ words.Read a lane number from given answer f =
     flow_along _ lane number from given _ (given_none given (lane₂ == lane) a) (kept t lane₂ words.Read a lane number from given f (read_not f.k (closing t.events) a))
 flow_step t lane₂ (words.Poll n) a lane number from given answer f =
     flow_along _ lane number from given _ (given_none given (lane₂ == lane) a) (kept t lane₂ (words.Poll n) a lane number from given f (poll_not f.k (place 0 lane₂ n t.names) a))
+flow_step t lane₂ (words.Before n before) a lane number from given answer f =
+    flow_along _ lane number from given _ (given_none given (lane₂ == lane) a) (kept t lane₂ (words.Before n before) a lane number from given f (poll_not f.k (place 0 lane₂ n t.names) a))
 flow_step t lane₂ (words.Drop n) a lane number from given answer f =
     flow_along _ lane number from given _ (given_none given (lane₂ == lane) a) (kept t lane₂ (words.Drop n) a lane number from given f (drop_not f.k (place 0 lane₂ n t.names) a))
 flow_step t lane₂ words.Stream a lane number from given answer f =
     flow_along _ lane number from given _ (given_none given (lane₂ == lane) a) (kept t lane₂ words.Stream a lane number from given f (stream_not f.k a))
-
--- ---- each stream has a lane
-
-sent_streams : (lane : ℕ) (expects : Bool) (call serial : ℕ) → new_streams lane (sent_answer expects call serial) ≡ []
-sent_streams lane true call serial = refl
-sent_streams lane false call serial = refl
-
-called_streams : (lane : ℕ) (r : Option Error) (failed expects : Bool) (call serial : ℕ) (a : Answer) → IsCalled r failed (sent_answer expects call serial) a → new_streams lane a ≡ []
-called_streams lane (Some error) failed expects call serial a is = ap (new_streams lane) is
-called_streams lane None true expects call serial a is = ap (new_streams lane) is
-called_streams lane None false expects call serial a (inl is) = ap (new_streams lane) is ∙ sent_streams lane expects call serial
-called_streams lane None false expects call serial a (inr is) = ap (new_streams lane) is
-
-read_streams : (lane : ℕ) (o : Option Error) (full : Bool) (n : ℕ) (a : Answer) → IsReadOf o full n a → new_streams lane a ≡ []
-read_streams lane (Some error) full n a is = ap (new_streams lane) is
-read_streams lane None true n a is = ap (new_streams lane) is
-read_streams lane None false n (answers.Got m) is = refl
-read_streams lane None false n (answers.Closed error) is = refl
-read_streams lane None false n a is = absurd is
-
-error_streams : (lane : ℕ) (m : Seen) (name : Option (List ℕ)) → new_streams lane (error_answer m name) ≡ []
-error_streams lane m (Some name) = refl
-error_streams lane m None = refl
-
-reply_streams : (lane : ℕ) (m : Seen) (kind : MessageType) → new_streams lane (reply_by m kind) ≡ []
-reply_streams lane m types.MethodReturn = refl
-reply_streams lane m types.MethodCall = refl
-reply_streams lane m types.Error = error_streams lane m m.error_name
-reply_streams lane m types.Signal = refl
-
-shown_streams : (lane : ℕ) (r : Result (Polled Seen) Error) → new_streams lane (shown r) ≡ []
-shown_streams lane (Ok (polled.Now m)) = reply_streams lane m m.kind
-shown_streams lane (Ok polled.NotYet) = refl
-shown_streams lane (Ok (polled.Closed error)) = refl
-shown_streams lane (Ok polled.Ended) = refl
-shown_streams lane (Err error) = refl
-
-poll_streams : (lane : ℕ) (h : List Event) (p : Option ℕ) → new_streams lane (poll_of h p) ≡ []
-poll_streams lane h None = refl
-poll_streams lane h (Some k) = shown_streams lane (poll_answer h k)
-
-drop_shown_streams : (lane : ℕ) (r : Result (Unit {0}) Error) → new_streams lane (shown_drop r) ≡ []
-drop_shown_streams lane (Ok done) = refl
-drop_shown_streams lane (Err error) = refl
-
-drop_streams : (lane : ℕ) (h : List Event) (p : Option ℕ) → new_streams lane (drop_of h p) ≡ []
-drop_streams lane h None = refl
-drop_streams lane h (Some k) = drop_shown_streams lane (drop_answer h k)
-
-take_shown_streams : (lane : ℕ) (r : Result (Polled Seen) Error) → new_streams lane (shown_take r) ≡ []
-take_shown_streams lane (Ok (polled.Now m)) = refl
-take_shown_streams lane (Ok polled.NotYet) = refl
-take_shown_streams lane (Ok (polled.Closed error)) = refl
-take_shown_streams lane (Ok polled.Ended) = refl
-take_shown_streams lane (Err error) = refl
-
-take_streams : (lane : ℕ) (h : List Event) (p : Option ℕ) → new_streams lane (take_of h p) ≡ []
-take_streams lane h None = refl
-take_streams lane h (Some k) = take_shown_streams lane (take_answer h k)
-
-edit-length : {A : Type 0} (k : ℕ) (f : A → A) (xs : List A) → length (edit k f xs) ≡ length xs
-edit-length k f [] = refl
-edit-length zero f (x ∷ xs) = refl
-edit-length (suc k) f (x ∷ xs) = ap (λ n. suc n) (edit-length k f xs)
-
--- the events make no stream
-abbrev MakesNone : List Event → Type 0
-MakesNone xs = (h : List Event) → length (streams (xs ++ h)) ≡ length (streams h)
-
-failed_makes : (b : Bool) (m : Seen) (expects : Bool) → MakesNone (failed_put b (Put m expects))
-failed_makes true m expects h = refl
-failed_makes false m expects h = refl
-
-send_makes : (g : List Event) (asked : Asked) (a : Answer) → MakesNone (send_events g asked a)
-send_makes g (Ok parcel) (answers.Called call serial) h = refl
-send_makes g (Ok parcel) (answers.Sent serial) h = refl
-send_makes g (Ok parcel) (answers.SendFailed error) h = failed_makes (is_failed g) _ _ h
-send_makes g (Ok parcel) a h = refl
-send_makes g (Err error) a h = refl
-
-read_makes : (o : Option Error) (a : Answer) → MakesNone (read_events o a)
-read_makes (Some error) a h = refl
-read_makes None (answers.Got m) h = refl
-read_makes None (answers.Closed error) h = refl
-read_makes None a h = refl
-
-poll_makes : (p : Option ℕ) (a : Answer) → MakesNone (poll_spends p a)
-poll_makes None a h = refl
-poll_makes (Some j) (answers.Reply position) h = refl
-poll_makes (Some j) (answers.InvalidReply position) h = refl
-poll_makes (Some j) (answers.MethodError m) h = refl
-poll_makes (Some j) (answers.Closed error) h = refl
-poll_makes (Some j) a h = refl
-
-drop_makes : (p : Option ℕ) (a : Answer) → MakesNone (drop_spends p a)
-drop_makes None a h = refl
-drop_makes (Some j) answers.Dropped h = refl
-drop_makes (Some j) a h = refl
-
-take_makes : (p : Option ℕ) (a : Answer) → MakesNone (take_does p a)
-take_makes None a h = refl
-take_makes (Some j) (answers.Item position) h = edit-length j give (streams h)
-take_makes (Some j) (answers.Closed error) h = edit-length j tell (streams h)
-take_makes (Some j) a h = refl
-
-lane_none : (t : Trail) (lane : ℕ) (w : Words) (a : Answer) → MakesNone (events_of t lane w a) → new_streams lane a ≡ []
-    → length t.streams ≡ length (streams t.events) → length (more t (entry lane w a)).streams ≡ length (streams (more t (entry lane w a)).events)
-lane_none t lane w a makes none e = ap (λ ns. length (t.streams ++ ns)) none ∙ ap length (append-nil t.streams) ∙ e ∙ sym (makes t.events)
-
-lanes_step : (t : Trail) (lane : ℕ) (w : Words) (a : Answer) → IsAnswer t lane w a → length t.streams ≡ length (streams t.events)
-    → length (more t (entry lane w a)).streams ≡ length (streams (more t (entry lane w a)).events)
-lanes_step t lane (words.Call out) a is e =
-    lane_none t lane (words.Call out) a (send_makes t.events _ a) (called_streams lane _ (is_failed t.events) _ _ _ a is) e
-lanes_step t lane (words.Signal out) a is e =
-    lane_none t lane (words.Signal out) a (send_makes t.events _ a) (called_streams lane _ (is_failed t.events) _ _ _ a is) e
-lanes_step t lane (words.Reply stream body) a is e =
-    lane_none t lane (words.Reply stream body) a (send_makes t.events _ a) (called_streams lane _ (is_failed t.events) _ _ _ a is) e
-lanes_step t lane (words.Error stream name body) a is e =
-    lane_none t lane (words.Error stream name body) a (send_makes t.events _ a) (called_streams lane _ (is_failed t.events) _ _ _ a is) e
-lanes_step t lane words.Read a is e = lane_none t lane words.Read a (read_makes (closing t.events) a) (read_streams lane (closing t.events) (busy t.events) (length (read t.events)) a is) e
-lanes_step t lane (words.Poll n) a is e =
-    lane_none t lane (words.Poll n) a (poll_makes (place 0 lane n t.names) a) (ap (new_streams lane) is ∙ poll_streams lane t.events (place 0 lane n t.names)) e
-lanes_step t lane (words.Drop n) a is e =
-    lane_none t lane (words.Drop n) a (drop_makes (place 0 lane n t.names) a) (ap (new_streams lane) is ∙ drop_streams lane t.events (place 0 lane n t.names)) e
-lanes_step t lane (words.Take n) a is e =
-    lane_none t lane (words.Take n) a (take_makes (place 0 lane n t.streams) a) (ap (new_streams lane) is ∙ take_streams lane t.events (place 0 lane n t.streams)) e
-lanes_step t lane words.Stream a is e =
-    rw is (length-append t.streams (Some lane ∷ []) ∙ ap (λ n. n + 1) e ∙ sym (length-append (streams t.events) (new_stream t.events Plain ∷ [])))
-
-pub lanes : (setting : Setting) (es : List Entry) → Legal setting es → length (trail setting es).streams ≡ length (streams (trail setting es).events)
-lanes setting [] legal = refl
-lanes setting (e ∷ es) legal = lanes_step (trail setting es) e.lane e.words e.answer legal.0 (lanes setting es legal.1)
 
 -- ---- a stream that was made
 

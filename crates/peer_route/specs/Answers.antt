@@ -16,7 +16,7 @@ use Rattle.peer_route.specs.declared.answer.Answer.TheVariants as answers
 use Rattle.peer_route.specs.declared.answer.Entry.{Entry}
 use Rattle.peer_route.specs.Parcel.{Setting, Parcel, Asked, message_of}
 use Rattle.peer_route.specs.CallMessage.{expects, call_asked, signal_asked, reply_asked, error_asked}
-use Rattle.peer_route.specs.History.{Event, read, closing, is_failed, poll_answer, drop_answer}
+use Rattle.peer_route.specs.History.{Event, read, closing, is_failed, poll_answer, by_position, drop_answer}
 use Rattle.peer_route.specs.Streams.{busy, take_answer}
 use Rattle.peer_route.specs.Trail.{Trail, trail, place, count, given, next_serial, or_zero}
 
@@ -88,6 +88,7 @@ reply_answer m = reply_by m m.kind
 abbrev pub shown : Result (Polled Seen) Error → Answer
 shown (Ok (polled.Now m)) = reply_answer m
 shown (Ok polled.NotYet) = answers.NotYet
+shown (Ok polled.NoneBefore) = answers.NoneBefore
 shown (Ok (polled.Closed error)) = answers.Closed error
 shown (Ok polled.Ended) = answers.Ended
 shown (Err error) = answers.Refused error
@@ -95,6 +96,11 @@ shown (Err error) = answers.Refused error
 abbrev pub poll_of : List Event → Option ℕ → Answer
 poll_of h None = answers.Refused errors.UnknownHandle
 poll_of h (Some k) = shown (poll_answer h k)
+
+-- the same by position
+abbrev pub before_of : List Event → Option ℕ → Answer
+before_of h None = answers.Refused errors.UnknownHandle
+before_of h (Some k) = shown (by_position (poll_answer h k))
 
 -- what is shown of a drop
 abbrev pub shown_drop : {A : Type 0} → Result A Error → Answer
@@ -111,6 +117,7 @@ drop_of h (Some k) = shown_drop (drop_answer h k)
 abbrev pub shown_take : Result (Polled Seen) Error → Answer
 shown_take (Ok (polled.Now m)) = answers.Item m.position
 shown_take (Ok polled.NotYet) = answers.Empty
+shown_take (Ok polled.NoneBefore) = answers.NoneBefore
 shown_take (Ok (polled.Closed error)) = answers.Closed error
 shown_take (Ok polled.Ended) = answers.Ended
 shown_take (Err error) = answers.Refused error
@@ -118,6 +125,11 @@ shown_take (Err error) = answers.Refused error
 abbrev pub take_of : List Event → Option ℕ → Answer
 take_of h None = answers.Refused errors.UnknownHandle
 take_of h (Some k) = shown_take (take_answer h k)
+
+-- the same by position
+abbrev pub take_before_of : List Event → Option ℕ → Answer
+take_before_of h None = answers.Refused errors.UnknownHandle
+take_before_of h (Some k) = shown_take (by_position (take_answer h k))
 
 -- ---- a history
 
@@ -130,9 +142,11 @@ IsAnswer t lane (words.Error stream name body) answer =
     IsSendOf t lane (error_asked t.setting (given t lane stream) name body) answer
 IsAnswer t lane words.Read answer = IsReadOf (closing t.events) (busy t.events) (length (read t.events)) answer
 IsAnswer t lane (words.Poll number) answer = answer ≡ poll_of t.events (place 0 lane number t.names)
+IsAnswer t lane (words.Before number before) answer = answer ≡ before_of t.events (place 0 lane number t.names)
 IsAnswer t lane (words.Drop number) answer = answer ≡ drop_of t.events (place 0 lane number t.names)
 IsAnswer t lane words.Stream answer = answer ≡ answers.Streaming (count lane t.streams)
 IsAnswer t lane (words.Take number) answer = answer ≡ take_of t.events (place 0 lane number t.streams)
+IsAnswer t lane (words.TakeBefore number before) answer = answer ≡ take_before_of t.events (place 0 lane number t.streams)
 
 -- Each entry's answer is that of the entries before it, by the peer's setting. The history is newest first.
 abbrev pub Legal : Setting → List Entry → Type 0

@@ -187,11 +187,22 @@ polled_at h (Some c) = if is_gone c then Err errors.UnknownHandle else polled_by
 unfoldable pub poll_answer : List Event → ℕ → Result (Polled Seen) Error
 poll_answer h k = polled_at h (slice_get (calls h) k)
 
+-- What a poll or a take gives where it names a position, which isn't looked at: that there is none before it, in place of
+-- nothing yet; else the same.
+abbrev pub by_position : Result (Polled Seen) Error → Result (Polled Seen) Error
+by_position (Ok polled.NotYet) = Ok polled.NoneBefore
+by_position (Ok (polled.Now m)) = Ok (polled.Now m)
+by_position (Ok polled.NoneBefore) = Ok polled.NoneBefore
+by_position (Ok (polled.Closed error)) = Ok (polled.Closed error)
+by_position (Ok polled.Ended) = Ok polled.Ended
+by_position (Err error) = Err error
+
 -- what a poll is, by its answer
 abbrev pub poll_events : ℕ → Result (Polled Seen) Error → List Event
 poll_events k (Ok (polled.Now m)) = Spent k ∷ []
 poll_events k (Ok (polled.Closed error)) = Spent k ∷ []
 poll_events k (Ok polled.NotYet) = []
+poll_events k (Ok polled.NoneBefore) = []
 poll_events k (Ok polled.Ended) = []
 poll_events k (Err error) = []
 

@@ -4,13 +4,18 @@ use Rattle.std.specs.List.{AllByRecursion}
 use Rattle.wire_message.specs.Front.{Seen}
 use Rattle.wire_message.specs.declared.error.Error.{Error}
 use Rattle.wire_message.specs.declared.error.Error.TheVariants as errors
+use Rattle.peer_route.specs.declared.words.Words.{Words}
 use Rattle.peer_route.specs.declared.words.Words.TheVariants as words
 use Rattle.peer_route.specs.declared.answer.Answer.{Answer}
 use Rattle.peer_route.specs.declared.answer.Answer.TheVariants as answers
 use Rattle.peer_route.specs.declared.answer.Entry.{Entry}
 use Rattle.peer_route.specs.History.{Event, Call, read, closing, calls, bears, found, is_gone}
 use Rattle.peer_route.specs.Trail.{Trail, place}
-use Rattle.peer_route.specs.Answers.{reply_answer, poll_of}
+use Rattle.peer_route.specs.Answers.{reply_answer, poll_of, before_of}
+
+-- the command asks for the answer of the lane's call with this number, by position or not
+abbrev pub IsPoll : ℕ → Words → Type 0
+IsPoll number w = (w ≡ words.Poll number) ⊎ ((before : ℕ) × (w ≡ words.Before number before))
 
 -- the answer is the call's last word: its reply, or the error that closed the peer
 abbrev pub IsFinal : Answer → Type 0
@@ -29,7 +34,7 @@ IsReplyAt q answer = ⊥
 
 -- where the entry is this lane's poll or drop of this number, its answer is that no such call waits
 abbrev pub IsUnknown : ℕ → ℕ → Entry → Type 0
-IsUnknown lane number e = e.lane ≡ lane → (e.words ≡ words.Poll number) ⊎ (e.words ≡ words.Drop number) → e.answer ≡ answers.Refused errors.UnknownHandle
+IsUnknown lane number e = e.lane ≡ lane → IsPoll number e.words ⊎ (e.words ≡ words.Drop number) → e.answer ≡ answers.Refused errors.UnknownHandle
 
 -- The lane's number names a call, and the first message read after it was put that bears its serial is shown by the
 -- answer; that message was the q-th that was read, from 1 on, and its position says so.
@@ -60,6 +65,20 @@ pub record IsCutOff (t : Trail) (lane number : ℕ) (error : Error) : Type 0 whe
 abbrev pub IsPast : List Event → Seen → Call → Type 0
 IsPast h m c = (bears c.serial m ≡ false) ⊎ ((is_gone c || is_some (found h c)) ≡ true)
 
--- what a poll of this number by this lane is answered now
-abbrev pub poll_now : Trail → ℕ → ℕ → Answer
-poll_now t lane number = poll_of t.events (place 0 lane number t.names)
+-- What a poll of this number by this lane is answered is the same after these entries as after those, by position too.
+abbrev pub SamePoll : Trail → Trail → ℕ → ℕ → Type 0
+SamePoll new old lane number =
+    (poll_of new.events (place 0 lane number new.names) ≡ poll_of old.events (place 0 lane number old.names))
+    × (before_of new.events (place 0 lane number new.names) ≡ before_of old.events (place 0 lane number old.names))
+
+-- the command polls a call, or takes from a stream, by position
+abbrev pub IsByPosition : Words → Type 0
+IsByPosition (words.Before number before) = ⊤
+IsByPosition (words.TakeBefore number before) = ⊤
+IsByPosition w = ⊥
+
+-- the answer says that there is nothing yet
+abbrev pub IsNothingYet : Answer → Type 0
+IsNothingYet answers.NotYet = ⊤
+IsNothingYet answers.Empty = ⊤
+IsNothingYet answer = ⊥

@@ -14,7 +14,7 @@ use Rattle.wire_spelling.specs.Spelling.{AllFit, depths}
 use Rattle.wire_signature.specs.declared.error.VariantError.TheVariants as faults
 use Rattle.peer_route.specs.Parcel.{Parcel, message_of}
 use Rattle.peer_route.specs.CallMessage.{expects_reply, expects}
-use Rattle.peer_route.specs.Streams.{Stream, streams, held, capacity, take_by}
+use Rattle.peer_route.specs.Streams.{Stream, streams, held, capacity, take_by, first_position}
 use Rattle.peer_route.specs.declared.polled.Polled.{Polled}
 use Rattle.peer_route.specs.History.{Event, Put, Call, put, edit, is_failed, last_serial, found, bears, is_gone, pending}
 use Rattle.peer_route.specs.History as events
@@ -110,6 +110,11 @@ after_take closing q = after_by q.items closing q.told
 abbrev pub held_gives : Option Held → Option Error → Result (Polled Seen) Error
 held_gives None closing = Err errors.UnknownHandle
 held_gives (Some q) closing = Ok (take_by q.items closing q.told)
+
+-- the position of the first message that is held
+abbrev pub next_held : Option Held → Option ℕ
+next_held None = None
+next_held (Some q) = first_position q.items
 
 -- what contracts see of a peer's core; `places` has for each call the place of its message in the outbox
 pub record View : Type 0 where

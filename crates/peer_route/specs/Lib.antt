@@ -10,3 +10,4 @@ pub mod Told
 pub mod Left
 pub mod Laws
 pub mod StreamLaws
+pub mod Lending

@@ -1,5 +1,5 @@
 -- What the laws of streams, of busy reads and of what was sent say, in words of their own.
-use Rattle.std.specs.Prelude.{ℕ, ⊤, ◌≡◌, ◌==◌, ◌<◌, ◌&&◌, Bool, true, false, List, [], ◌∷◌, ◌++◌, length, map, drop, slice_get, Option, Some, None, Ok}
+use Rattle.std.specs.Prelude.{ℕ, ⊤, ◌≡◌, ◌==◌, ◌<◌, ◌&&◌, ◌⊎◌, Bool, true, false, List, [], ◌∷◌, ◌++◌, length, map, drop, slice_get, Option, Some, None, Ok}
 use Rattle.wire_message.specs.Front.{Seen}
 use Rattle.wire_message.specs.declared.error.Error.{Error}
 use Rattle.peer_route.specs.declared.words.Words.{Words}
@@ -19,12 +19,14 @@ positions ms = map (λ m. m.position) ms
 
 abbrev pub is_take : ℕ → Words → Bool
 is_take number (words.Take n) = n == number
+is_take number (words.TakeBefore n before) = n == number
 is_take number (words.Call w) = false
 is_take number (words.Signal w) = false
 is_take number (words.Reply stream body) = false
 is_take number (words.Error stream name body) = false
 is_take number words.Read = false
 is_take number (words.Poll n) = false
+is_take number (words.Before n before) = false
 is_take number (words.Drop n) = false
 is_take number words.Stream = false
 
@@ -47,9 +49,13 @@ pub record Yields (setting : Setting) (newer : List Entry) (e : Entry) (older : 
   pub items : items_given e.lane number newer ++ positions (held (trail setting (newer ++ e ∷ older)).events stream)
       ≡ positions (drop (length (read (trail setting older).events)) (read (trail setting (newer ++ e ∷ older)).events))
 
+-- the command takes from the lane's stream with this number, by position or not
+abbrev pub IsTake : ℕ → Words → Type 0
+IsTake number w = (w ≡ words.Take number) ⊎ ((before : ℕ) × (w ≡ words.TakeBefore number before))
+
 -- where the entry is this lane's take of this number, its answer is that the stream is over
 abbrev pub IsEnded : ℕ → ℕ → Entry → Type 0
-IsEnded lane number e = e.lane ≡ lane → e.words ≡ words.Take number → e.answer ≡ answers.Ended
+IsEnded lane number e = e.lane ≡ lane → IsTake number e.words → e.answer ≡ answers.Ended
 
 -- the answer says that the stream gave all
 abbrev pub IsLast : Answer → Type 0

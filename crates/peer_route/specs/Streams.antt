@@ -88,10 +88,24 @@ take_at h (Some s) = Ok (take_by (held h s) (closing h) s.told)
 unfoldable pub take_answer : List Event → ℕ → Result (Polled Seen) Error
 take_answer h k = take_at h (slice_get (streams h) k)
 
+-- the position of the first of these messages
+abbrev pub first_position : List Seen → Option ℕ
+first_position [] = None
+first_position (m ∷ ms) = Some m.position
+
+abbrev pub next_at : List Event → Option Stream → Option ℕ
+next_at h None = None
+next_at h (Some s) = first_position (held h s)
+
+-- The position of the first message that the stream with this number holds; none where it holds none, or wasn't made.
+unfoldable pub next_position : List Event → ℕ → Option ℕ
+next_position h k = next_at h (slice_get (streams h) k)
+
 -- what a take is, by its answer
 abbrev pub take_events : ℕ → Result (Polled Seen) Error → List Event
 take_events k (Ok (polled.Now m)) = Did k Gave ∷ []
 take_events k (Ok (polled.Closed error)) = Did k Told ∷ []
 take_events k (Ok polled.NotYet) = []
+take_events k (Ok polled.NoneBefore) = []
 take_events k (Ok polled.Ended) = []
 take_events k (Err error) = []

@@ -51,9 +51,11 @@ ReadTold stop bytes h closed (words.Signal w) answer = ⊤
 ReadTold stop bytes h closed (words.Reply stream body) answer = ⊤
 ReadTold stop bytes h closed (words.Error stream name body) answer = ⊤
 ReadTold stop bytes h closed (words.Poll number) answer = ⊤
+ReadTold stop bytes h closed (words.Before number before) answer = ⊤
 ReadTold stop bytes h closed (words.Drop number) answer = ⊤
 ReadTold stop bytes h closed words.Stream answer = ⊤
 ReadTold stop bytes h closed (words.Take number) answer = ⊤
+ReadTold stop bytes h closed (words.TakeBefore number before) answer = ⊤
 
 -- Each read of an open peer that isn't busy is what stands at the front of the bytes that the reads before it left.
 abbrev pub ReadsTold : Setting → Option Bool → List ℕ → List Entry → Type 0

@@ -86,9 +86,11 @@ asks_with setting given (words.Reply stream body) = Some (reply_asked setting (g
 asks_with setting given (words.Error stream name body) = Some (error_asked setting (given stream) name body)
 asks_with setting given words.Read = None
 asks_with setting given (words.Poll number) = None
+asks_with setting given (words.Before number before) = None
 asks_with setting given (words.Drop number) = None
 asks_with setting given words.Stream = None
 asks_with setting given (words.Take number) = None
+asks_with setting given (words.TakeBefore number before) = None
 
 abbrev pub asks : Trail → ℕ → Words → Option Asked
 asks t lane w = asks_with t.setting (λ number. given t lane number) w
@@ -144,9 +146,11 @@ events_of t lane (words.Error stream name body) answer =
     send_events t.events (error_asked t.setting (given t lane stream) name body) answer
 events_of t lane words.Read answer = read_events (closing t.events) answer
 events_of t lane (words.Poll number) answer = poll_spends (place 0 lane number t.names) answer
+events_of t lane (words.Before number before) answer = poll_spends (place 0 lane number t.names) answer
 events_of t lane (words.Drop number) answer = drop_spends (place 0 lane number t.names) answer
 events_of t lane words.Stream answer = stream_makes answer
 events_of t lane (words.Take number) answer = take_does (place 0 lane number t.streams) answer
+events_of t lane (words.TakeBefore number before) answer = take_does (place 0 lane number t.streams) answer
 
 -- the command sends a call that waits for a reply
 abbrev pub wants_reply : Option Asked → Bool

@@ -24,6 +24,8 @@ pub enum Answer {
     InvalidReply(u64),
     /// The call has no answer yet.
     NotYet,
+    /// The call has no answer, or the stream no message, that stands before the position, and more may come.
+    NoneBefore,
     /// The call's answer is waited for no more.
     Dropped,
     /// The read took nothing, since a stream holds more than its capacity.

@@ -1,15 +1,16 @@
 ghost use Rattle.std.specs.Prelude.{ℕ, ◌≡◌, ◌+◌, ◌<◌, ◌++◌, ◌∷◌, [], List, length, IfSome, IfNone, OnOk, OnErr, IfOk, Some, None, is_none, position, slice_set, true};
 ghost use Rattle.std.specs.List.{list_any};
 ghost use Rattle.peer_route.specs.History.{Event, Took, Shut, Put, Call, poll_answer, poll_events, drop_answer, drop_events, pending, bears, closing, calls};
+ghost use Rattle.peer_route.specs.History as history;
 ghost use Rattle.peer_route.specs.Left.{CallsView, LeftCalls, is_waiting, is_empty_slot, is_last_waiting, waiting_count, is_number, takes, waiting_serial};
 ghost use Rattle.wire_message.specs.Front.{Seen};
 ghost use Rattle.wire_message.specs.Closing.{closes};
 
-use crate::polled::Polled;
+use crate::polled::{Polled, by_position};
 use std::alloc::{AllocError, Global};
 use std::marker::Model;
 use std::mem;
-use wire_message::{ClosingError, Error, Message, MessageType, Taken};
+use wire_message::{ClosingError, Error, Message, MessageType, Sequence, Taken};
 
 /// What is kept of a call.
 #[derive(Drop)]
@@ -158,6 +159,15 @@ impl PendingMethodCalls {
 }
 
 impl PendingMethodCalls {
+    /// The answer of the call with this number as `poll` gives it, but NoneBefore in place of NotYet: what is there is the
+    /// call's one answer, wherever it stands, so the position isn't looked at. Takes no memory.
+    pub fn poll_before(&mut self, call: u64, _before: Sequence) -> Result<Polled<Message>, Error>
+        ensures answer { (h : List Event) → LeftCalls self.old h → result ≡ history.by_position (poll_answer h call) }
+        ensures left { (h : List Event) → LeftCalls self.old h → LeftCalls self.new (poll_events call result ++ h) }
+    {
+        by_position(self.poll(call))
+    }
+
     /// Drops the call with this number: its answer is waited for no more, and a poll of it is refused. UnknownHandle exactly
     /// where no such call was made, its answer was given, or it was dropped before. Takes no memory.
     pub fn drop_call(&mut self, call: u64) -> Result<(), Error>

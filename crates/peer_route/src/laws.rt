@@ -8,16 +8,17 @@ ghost use Rattle.peer_route.specs.History.{Event, Took, Spent, calls, closing, i
 ghost use Rattle.peer_route.specs.Parcel.{Setting};
 ghost use Rattle.peer_route.specs.Trail.{trail};
 ghost use Rattle.peer_route.specs.Answers.{Legal};
-ghost use Rattle.peer_route.specs.StreamLaws.{Yields, IsEnded, IsLast, IsDrained, HoldsTooMany, IsPutOf, all_sent};
-ghost use Rattle.peer_route.specs.Laws.{IsFinal, IsReplyAt, IsUnknown, IsFirstReply, IsCutOff, IsPast, poll_now};
+ghost use Rattle.peer_route.specs.StreamLaws.{Yields, IsTake, IsEnded, IsLast, IsDrained, HoldsTooMany, IsPutOf, all_sent};
+ghost use Rattle.peer_route.specs.Laws.{IsPoll, IsFinal, IsReplyAt, IsUnknown, IsFirstReply, IsCutOff, IsPast, SamePoll, IsByPosition, IsNothingYet};
 
 use crate::answer::Answer;
 use crate::words::Words;
 
-/// A call is answered once. Once a lane's poll of a number gave a reply, valid or not, or the closing error, each later
-/// poll or drop of that number by that lane is refused, as of a call that was never made. Histories are newest first.
+/// A call is answered once. Once a lane's poll of a number, by position or not, gave a reply, valid or not, or the closing
+/// error, each later poll or drop of that number by that lane is refused, as of a call that was never made. Histories are
+/// newest first.
 pub fn answered_once()
-    ensures { (setting : Setting) (newer older : List Entry) (e : Entry) (number : ℕ) → Legal setting (newer ++ e ∷ older) → e.words ≡ Words.Poll number → IsFinal e.answer → AllByRecursion (IsUnknown e.lane number) newer }
+    ensures { (setting : Setting) (newer older : List Entry) (e : Entry) (number : ℕ) → Legal setting (newer ++ e ∷ older) → IsPoll number e.words → IsFinal e.answer → AllByRecursion (IsUnknown e.lane number) newer }
 {}
 
 /// A dropped call is unknown from then on: each later poll or drop of that number by that lane is refused, whatever comes.
@@ -29,13 +30,13 @@ pub fn dropped_for_good()
 /// the lane's number names a call, the first message read after it was put that bears its serial has this position, and
 /// the position is its place among the messages read, from 1 on (D-Bus Specification, "Message Format", `REPLY_SERIAL`).
 pub fn answered_by_the_first()
-    ensures { (setting : Setting) (older : List Entry) (e : Entry) (number q : ℕ) → Legal setting (e ∷ older) → e.words ≡ Words.Poll number → IsReplyAt q e.answer → IsFirstReply (trail setting older) e.lane number q e.answer }
+    ensures { (setting : Setting) (older : List Entry) (e : Entry) (number q : ℕ) → Legal setting (e ∷ older) → IsPoll number e.words → IsReplyAt q e.answer → IsFirstReply (trail setting older) e.lane number q e.answer }
 {}
 
 /// A call is answered with the error that closed the peer only where no reply came: no message read after the call was put
 /// bears its serial, and the error is the first that closed the peer.
 pub fn answered_by_the_closing_error()
-    ensures { (setting : Setting) (older : List Entry) (e : Entry) (number : ℕ) (error : Error) → Legal setting (e ∷ older) → e.words ≡ Words.Poll number → e.answer ≡ Answer.Closed error → IsCutOff (trail setting older) e.lane number error }
+    ensures { (setting : Setting) (older : List Entry) (e : Entry) (number : ℕ) (error : Error) → Legal setting (e ∷ older) → IsPoll number e.words → e.answer ≡ Answer.Closed error → IsCutOff (trail setting older) e.lane number error }
 {}
 
 /// A message that is read changes the answer of no call that it isn't for: none whose serial it doesn't bear, and none that
@@ -48,7 +49,7 @@ pub fn reply_changes_no_other()
 /// A poll or a drop changes the answer of no other call: neither of another number of its lane, nor of another lane.
 pub fn spent_changes_no_other()
     ensures event { (h : List Event) (j k : ℕ) → j ≢ k → poll_answer (Spent j ∷ h) k ≡ poll_answer h k }
-    ensures entry { (setting : Setting) (older : List Entry) (e : Entry) (number lane other : ℕ) → Legal setting (e ∷ older) → (e.words ≡ Words.Poll number) ⊎ (e.words ≡ Words.Drop number) → (lane ≡ e.lane → other ≢ number) → poll_now (trail setting (e ∷ older)) lane other ≡ poll_now (trail setting older) lane other }
+    ensures entry { (setting : Setting) (older : List Entry) (e : Entry) (number lane other : ℕ) → Legal setting (e ∷ older) → IsPoll number e.words ⊎ (e.words ≡ Words.Drop number) → (lane ≡ e.lane → other ≢ number) → SamePoll (trail setting (e ∷ older)) (trail setting older) lane other }
 {}
 
 /// A stream gives exactly what was read since it was made. Where a lane's command made a stream, the positions of the items
@@ -61,18 +62,25 @@ pub fn stream_gives_all()
 /// A stream ends once and for good. Once a lane's take of a number gave the closing error, or said that the stream is over,
 /// each later take of that number by that lane says that it is over.
 pub fn stream_ends_once()
-    ensures { (setting : Setting) (newer older : List Entry) (e : Entry) (number : ℕ) → Legal setting (newer ++ e ∷ older) → e.words ≡ Words.Take number → IsLast e.answer → AllByRecursion (IsEnded e.lane number) newer }
+    ensures { (setting : Setting) (newer older : List Entry) (e : Entry) (number : ℕ) → Legal setting (newer ++ e ∷ older) → IsTake number e.words → IsLast e.answer → AllByRecursion (IsEnded e.lane number) newer }
 {}
 
 /// A stream gives the closing error only where it holds nothing, and the error is the first that closed the peer.
 pub fn stream_gives_the_first_error()
-    ensures { (setting : Setting) (older : List Entry) (e : Entry) (number : ℕ) (error : Error) → Legal setting (e ∷ older) → e.words ≡ Words.Take number → e.answer ≡ Answer.Closed error → IsDrained (trail setting older) e.lane number error }
+    ensures { (setting : Setting) (older : List Entry) (e : Entry) (number : ℕ) (error : Error) → Legal setting (e ∷ older) → IsTake number e.words → e.answer ≡ Answer.Closed error → IsDrained (trail setting older) e.lane number error }
 {}
 
 /// A stream that is made after the peer was closed is over from the start.
 pub fn stream_after_closing_is_over()
     ensures { (setting : Setting) (newer older : List Entry) (e : Entry) (number : ℕ) (error : Error) → Legal setting (newer ++ e ∷ older) → e.words ≡ Words.Stream → e.answer ≡ Answer.Streaming number
         → closing (trail setting older).events ≡ Some error → AllByRecursion (IsEnded e.lane number) newer }
+{}
+
+/// Only a poll or a take by position is answered that there is none before it, and it is never answered that there is nothing
+/// yet.
+pub fn none_before_is_by_position()
+    ensures only { (setting : Setting) (older : List Entry) (e : Entry) → Legal setting (e ∷ older) → e.answer ≡ Answer.NoneBefore → IsByPosition e.words }
+    ensures never { (setting : Setting) (older : List Entry) (e : Entry) → Legal setting (e ∷ older) → IsByPosition e.words → IsNothingYet e.answer → ⊥ }
 {}
 
 /// A read is busy exactly where the peer is open and some stream holds more than 64 messages, and changes nothing then.

@@ -1,4 +1,7 @@
-use wire_message::Error;
+ghost use Rattle.std.specs.Prelude.{◌≡◌};
+ghost use Rattle.peer_route.specs.History as history;
+
+use wire_message::{Error, Message, Result};
 
 /// What a poll of a call or of a stream gives.
 #[derive(Drop)]
@@ -7,8 +10,20 @@ pub enum Polled<T> {
     Now(T),
     /// Nothing yet.
     NotYet,
+    /// Nothing before a position, in place of NotYet where the poll names one.
+    NoneBefore,
     /// The error that closed the peer.
     Closed(Error),
     /// No more: the stream gave all, and the closing error.
     Ended,
+}
+
+/// What a poll that names a position gives: NoneBefore in place of NotYet.
+pub(crate) fn by_position(polled: Result<Polled<Message>>) -> Result<Polled<Message>>
+    ensures { result ≡ history.by_position polled }
+{
+    match polled? {
+        Polled::NotYet => Ok(Polled::NoneBefore),
+        polled => Ok(polled),
+    }
 }

@@ -1,19 +1,24 @@
 ghost use Rattle.std.specs.Prelude.{ℕ, ◌≡◌, ◌+◌, ◌<◌, ◌≤◌, ◌^◌, ◌-◌, ◌==◌, [], ◌∷◌, ◌++◌, List, length, position, slice_get, option_copied, Some, None, Ok, Err, true, false, IfOk, IfErr, OnOk, OnErr};
+ghost use Rattle.std.specs.Borrow.{sem};
+ghost use Rattle.peer_route.specs.Lending.{LendsCalls};
 ghost use Rattle.peer_route.specs.History.{Event, Took, Shut, Put, Wrote, Fault, Made, Plain, poll_answer, poll_events, drop_answer, drop_events};
-ghost use Rattle.peer_route.specs.Streams.{busy, take_answer, take_events};
+ghost use Rattle.peer_route.specs.History as history;
+ghost use Rattle.peer_route.specs.Streams.{busy, take_answer, take_events, next_position};
 ghost use Rattle.peer_route.specs.CallMessage.{expects_reply};
 ghost use Rattle.peer_route.specs.Left.{Waits, is_busy, View, Left, Issues, Places, placed};
 ghost use Rattle.wire_message.specs.Front.{Seen};
 ghost use Rattle.wire_message.specs.Closing.{closes};
 
 use crate::calls::PendingMethodCalls;
-use crate::polled::Polled;
+use crate::polled::{Polled, by_position};
 use crate::streams::{MessageStream, Streams};
 use bitflags::Flags as _;
 use std::alloc::{AllocError, AllocFailed, Global};
 use std::marker::Model;
 use wire_body::Body;
-use wire_message::{Builder, Error, Flags, IoKind, Message, MessageType, Result, Serials};
+use wire_message::{
+    Builder, Error, Flags, IoKind, Message, MessageType, Result, Sequence, Serials,
+};
 
 /// A message that was put in the outbox.
 #[derive(Clone, Copy, PartialEq, Eq, Debug)]
@@ -214,6 +219,26 @@ impl Route {
         self.streams.take(stream.number, self.calls.closing())
     }
 
+    /// What the stream gives next as `take` gives it, but NoneBefore in place of NotYet: an item is given wherever it stands,
+    /// so the position isn't looked at. Takes no memory.
+    pub fn take_before(
+        &mut self,
+        stream: &MessageStream,
+        _before: Sequence,
+    ) -> Result<Polled<Message>>
+        ensures answer { (h : List Event) → Left self.old h → result ≡ history.by_position (take_answer h stream.now.number) }
+        ensures left { (h : List Event) → Left self.old h → Left self.new (take_events stream.now.number result ++ h) }
+    {
+        by_position(self.take(stream))
+    }
+
+    /// The position of the first message that the stream holds; None where it holds none, or no such stream was made.
+    pub fn next_position(&self, stream: &MessageStream) -> Option<u64>
+        ensures { (h : List Event) → Left self.now h → result ≡ next_position h stream.now.number }
+    {
+        self.streams.next_position(stream.number)
+    }
+
     /// Closes the peer: each call without a reply is answered with the error. A later one changes nothing.
     pub fn close(&mut self, error: &Error)
         requires { closes error.now ≡ true }
@@ -228,6 +253,29 @@ impl Route {
         ensures left { (h : List Event) → Left self.old h → Left self.new (poll_events call result ++ h) }
     {
         self.calls.poll(call)
+    }
+
+    /// The same by position, as `PendingMethodCalls::poll_before`.
+    pub fn poll_before(&mut self, call: u64, before: Sequence) -> Result<Polled<Message>>
+        ensures answer { (h : List Event) → Left self.old h → result ≡ history.by_position (poll_answer h call) }
+        ensures left { (h : List Event) → Left self.old h → Left self.new (poll_events call result ++ h) }
+    {
+        self.calls.poll_before(call, before)
+    }
+
+    /// The calls.
+    pub fn calls(&self) -> &PendingMethodCalls
+        ensures { result.now ≡ self.now.calls }
+    {
+        &self.calls
+    }
+
+    /// The calls, to be polled or dropped.
+    pub fn calls_mut(&mut self) -> &mut PendingMethodCalls
+        ensures* lends { sem 𝓛 (LendsCalls self.entry result) }
+        ensures value { result.now ≡ self.old.calls }
+    {
+        &mut self.calls
     }
 
     /// Drops the call with this number, as `PendingMethodCalls::drop_call`.

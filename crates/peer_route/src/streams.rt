@@ -1,8 +1,8 @@
 ghost use Rattle.std.specs.Prelude.{ℕ, ◌≡◌, ◌+◌, ◌<◌, ◌≤◌, ◌++◌, ◌∷◌, [], List, length, OnOk, OnErr, IfOk, map, slice_get};
 ghost use Rattle.std.specs.List.{list_any};
 ghost use Rattle.peer_route.specs.History.{edit};
-ghost use Rattle.peer_route.specs.Streams.{take_by};
-ghost use Rattle.peer_route.specs.Left.{Held, queued, queued_first, is_over, after_take, held_gives};
+ghost use Rattle.peer_route.specs.Streams.{take_by, first_position};
+ghost use Rattle.peer_route.specs.Left.{Held, queued, queued_first, is_over, after_take, held_gives, next_held};
 ghost use Rattle.wire_message.specs.Front.{Seen};
 
 use crate::polled::Polled;
@@ -69,6 +69,14 @@ impl Queue {
         ensures { result ≡ is_over self.now }
     {
         self.items.len() > CAPACITY
+    }
+
+    /// The position of the first message.
+    fn next_position(&self) -> Option<u64>
+        ensures { result ≡ first_position self.now.items }
+    {
+        let message = self.items.front()?;
+        Some(message.recv_position())
     }
 
     /// The first message; else nothing yet; on a closed peer the closing error once, then the end.
@@ -173,6 +181,13 @@ impl Streams {
         ensures { result ≡ list_any is_over self.now }
     {
         self.queues.iter().any(|queue| queue.is_over())
+    }
+
+    /// The position of the first message that the stream with this number holds.
+    pub(crate) fn next_position(&self, stream: u64) -> Option<u64>
+        ensures { result ≡ next_held (slice_get self.now stream) }
+    {
+        self.queues.get(stream as usize)?.next_position()
     }
 
     /// What the stream with this number gives next; UnknownHandle exactly where no such stream was made.

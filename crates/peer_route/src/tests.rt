@@ -1,13 +1,14 @@
 use crate::{
     Issued, MessageStream, PendingMethodCalls, Polled, Route, answered_by_the_closing_error,
     answered_by_the_first, answered_once, busy_where_a_stream_is_full, dropped_for_good,
-    put_is_what_was_sent, refused_changes_nothing, reply_changes_no_other, spent_changes_no_other,
-    stream_after_closing_is_over, stream_ends_once, stream_gives_all, stream_gives_the_first_error,
+    none_before_is_by_position, put_is_what_was_sent, refused_changes_nothing,
+    reply_changes_no_other, spent_changes_no_other, stream_after_closing_is_over, stream_ends_once,
+    stream_gives_all, stream_gives_the_first_error,
 };
 use std::alloc::Global;
 use std::test::Fail;
 use wire_body::Body;
-use wire_message::{Error, Flags, IoKind, Message, Taken, header_front};
+use wire_message::{Error, Flags, IoKind, Message, Sequence, Taken, header_front};
 use wire_names::{MemberName, ObjectPath};
 
 /// A method return with serial 1 that answers serial 1 (D-Bus Specification, "Message Format").
@@ -55,7 +56,7 @@ fn call(route: &mut Route, alloc: Global) -> Result<Issued, Error> {
 fn position(polled: Polled<Message>) -> Option<u64> {
     match polled {
         Polled::Now(message) => Some(message.recv_position()),
-        Polled::NotYet | Polled::Closed(_) | Polled::Ended => None,
+        Polled::NotYet | Polled::NoneBefore | Polled::Closed(_) | Polled::Ended => None,
     }
 }
 
@@ -100,6 +101,26 @@ fn a_reply_is_given_once(rt: HostRuntime) -> Result<(), Fail> {
     assert_eq!(rt; route.received(), 1);
     assert_eq!(rt; position(route.poll(0)?), Some(1));
     assert_eq!(rt; route.poll(0).err(), Some(Error::UnknownHandle));
+    Ok(())
+}
+
+/// The position isn't looked at: neither the reply's own nor an earlier one keeps it back.
+#[test]
+fn a_reply_is_given_by_position(rt: HostRuntime) -> Result<(), Fail> {
+    let mut route = Route::new(rt.alloc());
+    call(&mut route, rt.alloc())?;
+    assert!(rt; matches!(route.poll_before(0, Sequence::LAST)?, Polled::NoneBefore));
+    assert!(rt; route.calls().taken(1));
+    arrive(&mut route, rt.alloc(), 1)?;
+    assert!(rt; !route.calls().taken(1));
+    assert_eq!(rt;
+        position(route.calls_mut().poll_before(0, Sequence(0))?),
+        Some(1)
+    );
+    assert_eq!(rt;
+        route.poll_before(0, Sequence(2)).err(),
+        Some(Error::UnknownHandle)
+    );
     Ok(())
 }
 
@@ -159,7 +180,12 @@ fn a_call_fails_with_the_peer(rt: HostRuntime) -> Result<(), Fail> {
     assert_eq!(rt; calls.register_call(7)?, 0);
     calls.fail_all(&Error::ExcessData);
     assert_eq!(rt; calls.closing(), Some(Error::ExcessData));
-    assert!(rt; matches!(calls.poll(0)?, Polled::Closed(Error::ExcessData)));
+    assert!(rt;
+        matches!(
+            calls.poll_before(0, Sequence(0))?,
+            Polled::Closed(Error::ExcessData)
+        )
+    );
     Ok(())
 }
 
@@ -167,7 +193,7 @@ fn a_call_fails_with_the_peer(rt: HostRuntime) -> Result<(), Fail> {
 fn item(polled: Polled<Message>) -> Result<u64, &'static str> {
     match polled {
         Polled::Now(message) => Ok(message.recv_position()),
-        Polled::NotYet | Polled::Closed(_) | Polled::Ended => Err("no item"),
+        Polled::NotYet | Polled::NoneBefore | Polled::Closed(_) | Polled::Ended => Err("no item"),
     }
 }
 
@@ -185,6 +211,28 @@ fn a_stream_holds_what_came_after_it(rt: HostRuntime) -> Result<(), Fail> {
     for position in 2..67 {
         assert_eq!(rt; item(route.take(&stream)?)?, position);
     }
+    Ok(())
+}
+
+#[test]
+fn a_stream_gives_by_position(rt: HostRuntime) -> Result<(), Fail> {
+    let mut route = Route::new(rt.alloc());
+    let stream = route.open()?;
+    assert_eq!(rt; route.next_position(&stream), None);
+    assert!(rt; matches!(route.take_before(&stream, Sequence(1))?, Polled::NoneBefore));
+    for position in 1..3 {
+        arrive(&mut route, rt.alloc(), position)?;
+    }
+    assert_eq!(rt; route.next_position(&stream), Some(1));
+    assert_eq!(rt; item(route.take_before(&stream, Sequence(0))?)?, 1);
+    assert_eq!(rt; route.next_position(&stream), Some(2));
+    assert_eq!(rt; route.next_position(&MessageStream { number: 1 }), None);
+    assert_eq!(rt;
+        route
+            .take_before(&MessageStream { number: 1 }, Sequence(0))
+            .err(),
+        Some(Error::UnknownHandle)
+    );
     Ok(())
 }
 
@@ -273,5 +321,6 @@ fn laws_of_streams_do_nothing(_rt: HostRuntime) -> Result<(), Fail> {
     stream_gives_the_first_error();
     stream_after_closing_is_over();
     busy_where_a_stream_is_full();
+    none_before_is_by_position();
     Ok(())
 }

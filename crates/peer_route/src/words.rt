@@ -62,12 +62,26 @@ pub enum Words {
     Read,
     /// Ask for the answer of the lane's call with this number, from 0 on.
     Poll(u64),
+    /// Ask for it by position.
+    Before {
+        /// The call's number.
+        call: u64,
+        /// The position, which isn't looked at.
+        before: u64,
+    },
     /// Wait no more for the answer of the lane's call with this number.
     Drop(u64),
     /// Open a stream of all messages that are read from now on.
     Stream,
     /// Take the next item of the lane's stream with this number, from 0 on.
     Take(u64),
+    /// Take it by position.
+    TakeBefore {
+        /// The stream's number.
+        stream: u64,
+        /// The position, which isn't looked at.
+        before: u64,
+    },
 }
 
 /// The same text again, if there is one.
@@ -115,9 +129,17 @@ impl Words {
             },
             Words::Read => Words::Read,
             Words::Poll(number) => Words::Poll(*number),
+            Words::Before { call, before } => Words::Before {
+                call: *call,
+                before: *before,
+            },
             Words::Drop(number) => Words::Drop(*number),
             Words::Stream => Words::Stream,
             Words::Take(number) => Words::Take(*number),
+            Words::TakeBefore { stream, before } => Words::TakeBefore {
+                stream: *stream,
+                before: *before,
+            },
         })
     }
 }

@@ -81,9 +81,11 @@ same_answer setting es stop bytes lane (words.Reply stream body) a b fa fb x y p
 same_answer setting es stop bytes lane (words.Error stream error_name body) a b fa fb x y p q = same_send (trail setting es) lane _ a b fa fb x y
 same_answer setting es stop bytes lane words.Read a b fa fb x y p q = same_read (events.closing (trail setting es).events) stop bytes (trail setting es).events a b x y p q
 same_answer setting es stop bytes lane (words.Poll number) a b fa fb x y p q = x ∙ sym y
+same_answer setting es stop bytes lane (words.Before number before) a b fa fb x y p q = x ∙ sym y
 same_answer setting es stop bytes lane (words.Drop number) a b fa fb x y p q = x ∙ sym y
 same_answer setting es stop bytes lane words.Stream a b fa fb x y p q = x ∙ sym y
 same_answer setting es stop bytes lane (words.Take number) a b fa fb x y p q = x ∙ sym y
+same_answer setting es stop bytes lane (words.TakeBefore number before) a b fa fb x y p q = x ∙ sym y
 
 -- what is known of the newest entry
 record Newest (setting : Setting) (es : List Entry) (stop : Bool) (bytes : List ℕ) (e : Entry) : Type 0 where

@@ -6,6 +6,7 @@ pub mod ReadStep
 pub mod QuietStep
 pub mod PollStep
 pub mod StreamStep
+pub mod TakeStep
 pub mod SendStep
 pub mod Lanes
 pub mod SendEnds

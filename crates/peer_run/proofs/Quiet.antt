@@ -139,9 +139,11 @@ closes_by setting es lane (words.Reply stream body) a f = inr (sym (send_closes 
 closes_by setting es lane (words.Error stream error_name body) a f = inr (sym (send_closes (trail setting es).events _ a) ∙ f)
 closes_by setting es lane words.Read a f = read_closes (events.closing (trail setting es).events) a (trail setting es).events refl f
 closes_by setting es lane (words.Poll number) a f = inr (sym (quiet_same (poll_spends (place 0 lane number (trail setting es).names) a) (trail setting es).events (poll_quiet (place 0 lane number (trail setting es).names) a)).closing ∙ f)
+closes_by setting es lane (words.Before number before) a f = inr (sym (quiet_same (poll_spends (place 0 lane number (trail setting es).names) a) (trail setting es).events (poll_quiet (place 0 lane number (trail setting es).names) a)).closing ∙ f)
 closes_by setting es lane (words.Drop number) a f = inr (sym (quiet_same (drop_spends (place 0 lane number (trail setting es).names) a) (trail setting es).events (drop_quiet (place 0 lane number (trail setting es).names) a)).closing ∙ f)
 closes_by setting es lane words.Stream a f = inr (sym (quiet_same (stream_makes a) (trail setting es).events (stream_quiet a)).closing ∙ f)
 closes_by setting es lane (words.Take number) a f = inr (sym (quiet_same (take_does (place 0 lane number (trail setting es).streams) a) (trail setting es).events (take_quiet (place 0 lane number (trail setting es).streams) a)).closing ∙ f)
+closes_by setting es lane (words.TakeBefore number before) a f = inr (sym (quiet_same (take_does (place 0 lane number (trail setting es).streams) a) (trail setting es).events (take_quiet (place 0 lane number (trail setting es).streams) a)).closing ∙ f)
 
 earlier : (A B C : Type 0) → A ⊎ B → (B → C) → A ⊎ C
 earlier A B C (inl a) f = inl a

@@ -69,9 +69,11 @@ sending_is t lane (words.Error stream text body) asked e =
     subst (IsSending t lane (words.Error stream text body)) same (record { wants = refl; events = λ a. refl; answer = λ a x. x; told = error_told t.events stream text body })
 sending_is t lane words.Read asked e = cc
 sending_is t lane (words.Poll number) asked e = cc
+sending_is t lane (words.Before number before) asked e = cc
 sending_is t lane (words.Drop number) asked e = cc
 sending_is t lane words.Stream asked e = cc
 sending_is t lane (words.Take number) asked e = cc
+sending_is t lane (words.TakeBefore number before) asked e = cc
 
 -- ---- what the peer keeps
 
@@ -82,9 +84,11 @@ asks_along setting f g (words.Reply stream body) e = ap (λ m. Some (reply_asked
 asks_along setting f g (words.Error stream text body) e = ap (λ m. Some (error_asked setting m text body)) (e stream)
 asks_along setting f g words.Read e = refl
 asks_along setting f g (words.Poll number) e = refl
+asks_along setting f g (words.Before number before) e = refl
 asks_along setting f g (words.Drop number) e = refl
 asks_along setting f g words.Stream e = refl
 asks_along setting f g (words.Take number) e = refl
+asks_along setting f g (words.TakeBefore number before) e = refl
 
 -- what a command asks of what the peer keeps, it asks of the history
 pub asks_kept : (setting : Setting) (p : PeerView) (es : List Entry) (lane : ℕ) (w : Words) → Follows setting p es
@@ -260,9 +264,11 @@ fails_by setting es lane (words.Reply stream body) a x f = send_fails (trail set
 fails_by setting es lane (words.Error stream error_name body) a x f = send_fails (trail setting es) lane _ a x f
 fails_by setting es lane words.Read a x f = inr (sym (read_fails (events.closing (trail setting es).events) a (trail setting es).events) ∙ f)
 fails_by setting es lane (words.Poll number) a x f = inr (sym (quiet_same (poll_spends (place 0 lane number (trail setting es).names) a) (trail setting es).events (poll_quiet (place 0 lane number (trail setting es).names) a)).failed ∙ f)
+fails_by setting es lane (words.Before number before) a x f = inr (sym (quiet_same (poll_spends (place 0 lane number (trail setting es).names) a) (trail setting es).events (poll_quiet (place 0 lane number (trail setting es).names) a)).failed ∙ f)
 fails_by setting es lane (words.Drop number) a x f = inr (sym (quiet_same (drop_spends (place 0 lane number (trail setting es).names) a) (trail setting es).events (drop_quiet (place 0 lane number (trail setting es).names) a)).failed ∙ f)
 fails_by setting es lane words.Stream a x f = inr (sym (quiet_same (stream_makes a) (trail setting es).events (stream_quiet a)).failed ∙ f)
 fails_by setting es lane (words.Take number) a x f = inr (sym (quiet_same (take_does (place 0 lane number (trail setting es).streams) a) (trail setting es).events (take_quiet (place 0 lane number (trail setting es).streams) a)).failed ∙ f)
+fails_by setting es lane (words.TakeBefore number before) a x f = inr (sym (quiet_same (take_does (place 0 lane number (trail setting es).streams) a) (trail setting es).events (take_quiet (place 0 lane number (trail setting es).streams) a)).failed ∙ f)
 
 earlier : (A B C : Type 0) → A ⊎ B → (B → C) → A ⊎ C
 earlier A B C (inl a) f = inl a

@@ -11,8 +11,8 @@ use Rattle.peer_route.specs.Parcel.{Setting}
 use Rattle.peer_route.specs.Trail.{trail}
 use Rattle.peer_route.specs.Answers.{Legal}
 use Rattle.peer_route.specs.Told.{ReadsTold, IsSentOf, WritesTold}
-use Rattle.peer_route.specs.Laws.{IsFinal, IsReplyAt, IsFirstReply, IsCutOff, IsUnknown}
-use Rattle.peer_route.specs.StreamLaws.{Yields, IsEnded, IsLast, HoldsTooMany, IsPutOf, all_sent}
+use Rattle.peer_route.specs.Laws.{IsPoll, IsFinal, IsReplyAt, IsFirstReply, IsCutOff, IsUnknown}
+use Rattle.peer_route.specs.StreamLaws.{Yields, IsTake, IsEnded, IsLast, HoldsTooMany, IsPutOf, all_sent}
 use Rattle.peer_script.specs.Word.{same}
 use Rattle.peer_script.specs.Script.{Given, Gave, Broke, Script, line_count}
 use Rattle.peer_script.specs.Reading.{IsWithin, script_of}
@@ -73,14 +73,14 @@ pub record IsPolled (setting : Setting) (newer : List Entry) (e : Entry) (older 
 -- A polled call is answered at most once: by the first later reply that bears its serial, else by the error that closed the
 -- peer.
 abbrev pub PollsAre : Script → List Entry → List ℕ → Type 0
-PollsAre s h sent = (newer older : List Entry) (e : Entry) (number : ℕ) → h ≡ newer ++ e ∷ older → e.words ≡ words.Poll number → IsPolled (setting_of s) newer e older number
+PollsAre s h sent = (newer older : List Entry) (e : Entry) (number : ℕ) → h ≡ newer ++ e ∷ older → IsPoll number e.words → IsPolled (setting_of s) newer e older number
 
 -- what a stream's entries say, from the one that made it on
 abbrev pub StreamsYield : Setting → List Entry → Type 0
 StreamsYield setting h = (newer older : List Entry) (e : Entry) (number : ℕ) → h ≡ newer ++ e ∷ older → e.words ≡ words.Stream → e.answer ≡ answers.Streaming number → Yields setting newer e older number
 
 abbrev pub StreamsEnd : List Entry → Type 0
-StreamsEnd h = (newer older : List Entry) (e : Entry) (number : ℕ) → h ≡ newer ++ e ∷ older → e.words ≡ words.Take number → IsLast e.answer → AllByRecursion (IsEnded e.lane number) newer
+StreamsEnd h = (newer older : List Entry) (e : Entry) (number : ℕ) → h ≡ newer ++ e ∷ older → IsTake number e.words → IsLast e.answer → AllByRecursion (IsEnded e.lane number) newer
 
 abbrev pub FullStreamsWait : Setting → List Entry → Type 0
 FullStreamsWait setting h = (newer older : List Entry) (e : Entry) → h ≡ newer ++ e ∷ older → e.words ≡ words.Read → HoldsTooMany (trail setting older).events → e.answer ≡ answers.Busy

@@ -153,6 +153,7 @@ NotIssued error (Err e) = unsent_answer error ≡ None
 abbrev pub given_after : ℕ → Result (Polled Seen) Error → List (Option Seen) → List (Option Seen)
 given_after k (Ok (polled.Now m)) gs = slice_set gs k (Some m)
 given_after k (Ok polled.NotYet) gs = gs
+given_after k (Ok polled.NoneBefore) gs = gs
 given_after k (Ok (polled.Closed error)) gs = gs
 given_after k (Ok polled.Ended) gs = gs
 given_after k (Err error) gs = gs
@@ -171,9 +172,11 @@ sends (words.Reply stream body) = true
 sends (words.Error stream name body) = true
 sends words.Read = false
 sends (words.Poll number) = false
+sends (words.Before number before) = false
 sends (words.Drop number) = false
 sends words.Stream = false
 sends (words.Take number) = false
+sends (words.TakeBefore number before) = false
 
 -- a peer of this name, whose sink takes file descriptors or takes none
 abbrev pub setting_by : Option (List ℕ) → Bool → Setting

@@ -6,6 +6,7 @@ mod laws;
 mod main_call;
 mod peer;
 mod run;
+mod showing;
 
 pub use laws::cut_anyhow;
 pub use main_call::peer_main;

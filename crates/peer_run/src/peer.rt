@@ -8,7 +8,7 @@ ghost use Rattle.peer_route.specs.Trail.{trail, asks_with, kept_at};
 ghost use Rattle.peer_route.specs.Answers as shows;
 ghost use Rattle.peer_route.specs.Answers.{sent_answer};
 ghost use Rattle.peer_run.specs.CallWords.{MakesAsked};
-ghost use Rattle.peer_run.specs.Stands.{PeerView, Inlet, Outlet, Follows, Reads, Writes, Sent, Sending, NotIssued, IsRefusal, IsFine, setting_by, sends, given_after, named, entry};
+ghost use Rattle.peer_run.specs.Stands.{PeerView, Inlet, Outlet, Follows, Reads, Writes, Sent, Sending, IsFine, setting_by, sends, given_after, named, entry};
 ghost use Rattle.wire_framing.specs.Receive.{Receives, Takes};
 ghost use Rattle.wire_framing.specs.Writing.{is_unsupported};
 ghost use Rattle.wire_framing.specs.declared.write_half.Writing.TheVariants.{Fine};
@@ -16,11 +16,12 @@ ghost use Rattle.wire_message.specs.Front.{Seen};
 ghost use Rattle.wire_message.specs.declared.error.IoKind.TheVariants.{Ended};
 
 use crate::call_words::{Letter, call_letter, error_letter, reply_letter, signal_letter};
+use crate::showing::{not_issued, refused, shown, shown_drop};
 use peer_route::{Answer, Issued, MessageStream, Polled, Route, Words};
 use std::alloc::{AllocError, AllocFailed, Global};
 use std::marker::Model;
 use wire_framing::{ReadHalf, Sink, Source, WriteHalf};
-use wire_message::{Error, Message, MessageType};
+use wire_message::{Error, Message, Sequence};
 use wire_names::OwnedUniqueName;
 
 /// Why a run ended early.
@@ -95,69 +96,6 @@ fn place(names: &[Option<u32>], lane: u32, number: u64) -> Option<u64>
     None
 }
 
-/// What is shown of a reply: its position, and the name of an error that has one.
-fn shown_reply(message: Message) -> Answer
-    ensures { result ≡ shows.reply_answer message }
-{
-    match message.message_type() {
-        MessageType::MethodReturn => Answer::Reply(message.recv_position()),
-        MessageType::Error => {
-            if message.header().error_name().is_some() {
-                Answer::MethodError(message)
-            } else {
-                Answer::InvalidReply(message.recv_position())
-            }
-        }
-        MessageType::MethodCall | MessageType::Signal => {
-            Answer::InvalidReply(message.recv_position())
-        }
-    }
-}
-
-/// What is shown of a poll.
-fn shown(polled: wire_message::Result<Polled<Message>>) -> Answer
-    ensures { result ≡ shows.shown polled }
-{
-    match polled {
-        Ok(Polled::Now(message)) => shown_reply(message),
-        Ok(Polled::NotYet) => Answer::NotYet,
-        Ok(Polled::Closed(error)) => Answer::Closed(error),
-        Ok(Polled::Ended) => Answer::Ended,
-        Err(error) => Answer::Refused(error),
-    }
-}
-
-/// What is shown of a drop.
-fn shown_drop(dropped: wire_message::Result<()>) -> Answer
-    ensures { result ≡ shows.shown_drop dropped }
-{
-    match dropped {
-        Ok(()) => Answer::Dropped,
-        Err(error) => Answer::Refused(error),
-    }
-}
-
-/// What is answered where a call wasn't issued.
-fn not_issued(error: Error) -> Result<Answer, RunError>
-    ensures { NotIssued error result }
-{
-    match error {
-        Error::Memory => Err(RunError::Memory),
-        Error::InputOutput(_) => Ok(Answer::SendFailed(error)),
-        _ => Ok(Answer::Refused(error)),
-    }
-}
-
-/// What is answered where a command's words are refused.
-fn refused(error: Error) -> Result<Answer, RunError>
-    ensures { IsRefusal error result }
-{
-    match error {
-        Error::Memory => Err(RunError::Memory),
-        _ => Ok(Answer::Refused(error)),
-    }
-}
-
 /// The message that the lane's stream with this number gave last.
 fn given_last<'a>(
     given: &'a [Option<Message>],
@@ -206,9 +144,13 @@ fn letter_of<'a>(
             };
             error_letter(alloc, message, name, error_name, body)
         }
-        Words::Read | Words::Poll(_) | Words::Drop(_) | Words::Stream | Words::Take(_) => {
-            unreachable!()
-        }
+        Words::Read
+        | Words::Poll(_)
+        | Words::Before { .. }
+        | Words::Drop(_)
+        | Words::Stream
+        | Words::Take(_)
+        | Words::TakeBefore { .. } => unreachable!(),
     }
 }
 
@@ -309,6 +251,20 @@ impl Peer {
         }
     }
 
+    /// The answer of the lane's call with this number, by position.
+    pub(crate) fn before(&mut self, lane: u32, number: u64, position: u64) -> Answer
+        ensures follows { (setting : Setting) (es : List Entry) → Follows setting self.old es → Follows setting self.new (entry lane (words.Before number position) result ∷ es) }
+        ensures reads { (setting : Setting) (start now : Inlet) (es : List Entry) → Follows setting self.old es
+            → Reads setting start now es → Reads setting start now (entry lane (words.Before number position) result ∷ es) }
+        ensures writes { (setting : Setting) (start now : Outlet) (es : List Entry) → Follows setting self.old es
+            → Writes setting start now es → Writes setting start now (entry lane (words.Before number position) result ∷ es) }
+    {
+        match place(&self.names, lane, number) {
+            Some(call) => shown(self.route.poll_before(call, Sequence(position))),
+            None => Answer::Refused(Error::UnknownHandle),
+        }
+    }
+
     /// Drops the lane's call with this number.
     pub(crate) fn drop_call(&mut self, lane: u32, number: u64) -> Answer
         ensures follows { (setting : Setting) (es : List Entry) → Follows setting self.old es → Follows setting self.new (entry lane (words.Drop number) result ∷ es) }
@@ -352,6 +308,7 @@ impl Peer {
                 Answer::Item(position)
             }
             Ok(Polled::NotYet) => Answer::Empty,
+            Ok(Polled::NoneBefore) => Answer::NoneBefore,
             Ok(Polled::Closed(error)) => Answer::Closed(error),
             Ok(Polled::Ended) => Answer::Ended,
             Err(error) => Answer::Refused(error),
@@ -369,6 +326,24 @@ impl Peer {
         match place(&self.streams, lane, number) {
             Some(number) => {
                 let polled = self.route.take(&MessageStream { number });
+                self.show_take(number, polled)
+            }
+            None => Answer::Refused(Error::UnknownHandle),
+        }
+    }
+
+    /// What the lane's stream with this number gives, by position.
+    pub(crate) fn take_before(&mut self, lane: u32, number: u64, position: u64) -> Answer
+        ensures follows { (setting : Setting) (es : List Entry) → Follows setting self.old es → Follows setting self.new (entry lane (words.TakeBefore number position) result ∷ es) }
+        ensures reads { (setting : Setting) (start now : Inlet) (es : List Entry) → Follows setting self.old es
+            → Reads setting start now es → Reads setting start now (entry lane (words.TakeBefore number position) result ∷ es) }
+        ensures writes { (setting : Setting) (start now : Outlet) (es : List Entry) → Follows setting self.old es
+            → Writes setting start now es → Writes setting start now (entry lane (words.TakeBefore number position) result ∷ es) }
+    {
+        match place(&self.streams, lane, number) {
+            Some(number) => {
+                let stream = MessageStream { number };
+                let polled = self.route.take_before(&stream, Sequence(position));
                 self.show_take(number, polled)
             }
             None => Answer::Refused(Error::UnknownHandle),

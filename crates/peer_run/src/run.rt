@@ -37,9 +37,11 @@ fn answer_to<S: Source, W: Sink>(
     match &command.words {
         Words::Read => peer.read(alloc, reader, kept),
         Words::Poll(number) => Ok(peer.poll(lane, *number)),
+        Words::Before { call, before } => Ok(peer.before(lane, *call, *before)),
         Words::Drop(number) => Ok(peer.drop_call(lane, *number)),
         Words::Stream => peer.stream(lane),
         Words::Take(number) => Ok(peer.take(lane, *number)),
+        Words::TakeBefore { stream, before } => Ok(peer.take_before(lane, *stream, *before)),
         Words::Call(_) | Words::Signal(_) | Words::Reply { .. } | Words::Error { .. } => {
             peer.send_words(alloc, writer, lane, name, &command.words)
         }

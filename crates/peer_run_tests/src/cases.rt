@@ -20,9 +20,9 @@ const CALLS: [Case; 3] = [
     // two calls answered crosswise
     Case {
         word: "run",
-        input: "direct\nin 6c0200010000000001000000080000000501750002000000\nin 6c0200010000000001000000080000000501750001000000\ncall - / - do - -\ncall - / - do - -\npoll 0\nread\nread\npoll 0\npoll 1\n",
+        input: "direct\nin 6c0200010000000001000000080000000501750002000000\nin 6c0200010000000001000000080000000501750001000000\ncall - / - do - -\ncall - / - do - -\npoll 0\nbefore 0 5\nread\nread\npoll 0\npoll 1\n",
         status: 0,
-        output: "direct\nin 6c0200010000000001000000080000000501750002000000\nin 6c0200010000000001000000080000000501750001000000\n0 call - / - do - - = call 0 serial 1\n0 call - / - do - - = call 1 serial 2\n0 poll 0 = notyet\n0 read = got 1 24 Method return\n0 read = got 2 24 Method return\n0 poll 0 = reply 2\n0 poll 1 = reply 1\nsent 6c01000100000000010000001b00000001016f00010000002f000000000000000301730002000000646f0000000000006c01000100000000020000001b00000001016f00010000002f000000000000000301730002000000646f000000000000\n",
+        output: "direct\nin 6c0200010000000001000000080000000501750002000000\nin 6c0200010000000001000000080000000501750001000000\n0 call - / - do - - = call 0 serial 1\n0 call - / - do - - = call 1 serial 2\n0 poll 0 = notyet\n0 before 0 5 = nonebefore\n0 read = got 1 24 Method return\n0 read = got 2 24 Method return\n0 poll 0 = reply 2\n0 poll 1 = reply 1\nsent 6c01000100000000010000001b00000001016f00010000002f000000000000000301730002000000646f0000000000006c01000100000000020000001b00000001016f00010000002f000000000000000301730002000000646f000000000000\n",
     },
 ];
 
@@ -219,7 +219,7 @@ fn what_is_shown(rt: HostRuntime) -> Result<(), Fail> {
 }
 
 /// Worked by hand from the message format and the program's rules.
-const STREAMS: [Case; 3] = [
+const STREAMS: [Case; 5] = [
     // stream and poll
     Case {
         word: "run",
@@ -240,6 +240,20 @@ const STREAMS: [Case; 3] = [
         input: "direct\nin 6c0200010000000001000000080000000501750001000000\nin 6c0200010000000001000000080000000501750001000000\nstream\ncall - / - do - -\nread\nread\npoll 0\ntake 0\ntake 0\npoll 0\n",
         status: 0,
         output: "direct\nin 6c0200010000000001000000080000000501750001000000\nin 6c0200010000000001000000080000000501750001000000\n0 stream = stream 0\n0 call - / - do - - = call 0 serial 1\n0 read = got 1 24 Method return\n0 read = got 2 24 Method return\n0 poll 0 = reply 1\n0 take 0 = item 1\n0 take 0 = item 2\n0 poll 0 = refused UnknownHandle\nsent 6c01000100000000010000001b00000001016f00010000002f000000000000000301730002000000646f000000000000\n",
+    },
+    // a stream taken by position
+    Case {
+        word: "run",
+        input: "direct\nin 6c0200010000000001000000080000000501750001000000\nstream\ntakebefore 0 1\nread\ntakebefore 0 0\ntakebefore 0 18446744073709551615\nread\ntakebefore 0 0\ntakebefore 0 0\ntakebefore 1 0\nbefore 0 0\n",
+        status: 0,
+        output: "direct\nin 6c0200010000000001000000080000000501750001000000\n0 stream = stream 0\n0 takebefore 0 1 = nonebefore\n0 read = got 1 24 Method return\n0 takebefore 0 0 = item 1\n0 takebefore 0 18446744073709551615 = nonebefore\n0 read = closed InputOutput.Ended\n0 takebefore 0 0 = closed InputOutput.Ended\n0 takebefore 0 0 = ended\n0 takebefore 1 0 = refused UnknownHandle\n0 before 0 0 = refused UnknownHandle\nsent -\n",
+    },
+    // a poll by position gives the answer once
+    Case {
+        word: "run",
+        input: "direct\nin 6c0200010000000001000000080000000501750001000000\ncall - / - do - -\ncall - / - do - -\nread\nbefore 0 1\nbefore 0 5\npoll 0\nbefore 1 0\nread\nbefore 1 0\nbefore 1 0\n",
+        status: 0,
+        output: "direct\nin 6c0200010000000001000000080000000501750001000000\n0 call - / - do - - = call 0 serial 1\n0 call - / - do - - = call 1 serial 2\n0 read = got 1 24 Method return\n0 before 0 1 = reply 1\n0 before 0 5 = refused UnknownHandle\n0 poll 0 = refused UnknownHandle\n0 before 1 0 = nonebefore\n0 read = closed InputOutput.Ended\n0 before 1 0 = closed InputOutput.Ended\n0 before 1 0 = refused UnknownHandle\nsent 6c01000100000000010000001b00000001016f00010000002f000000000000000301730002000000646f0000000000006c01000100000000020000001b00000001016f00010000002f000000000000000301730002000000646f000000000000\n",
     },
 ];
 

@@ -84,9 +84,11 @@ entry_words (words.Reply stream body) = codes "reply" ∷ decimal stream ∷ opt
 entry_words (words.Error stream name body) = codes "error" ∷ decimal stream ∷ text_word name ∷ optional_word body ∷ []
 entry_words words.Read = codes "read" ∷ []
 entry_words (words.Poll number) = codes "poll" ∷ decimal number ∷ []
+entry_words (words.Before call before) = codes "before" ∷ decimal call ∷ decimal before ∷ []
 entry_words (words.Drop number) = codes "drop" ∷ decimal number ∷ []
 entry_words words.Stream = codes "stream" ∷ []
 entry_words (words.Take number) = codes "take" ∷ decimal number ∷ []
+entry_words (words.TakeBefore stream before) = codes "takebefore" ∷ decimal stream ∷ decimal before ∷ []
 
 six_spaced : (d p i m f b : List ℕ)
     → 32 ∷ (d ++ 32 ∷ [] ++ p ++ 32 ∷ [] ++ i ++ 32 ∷ [] ++ m ++ 32 ∷ [] ++ f ++ 32 ∷ [] ++ b) ≡ flat_map spaced (d ∷ p ∷ i ∷ m ∷ f ∷ b ∷ [])
@@ -100,6 +102,12 @@ outgoing_spaced o =
 reply_spaced : (s b : List ℕ) → 32 ∷ (codes "reply " ++ s ++ 32 ∷ [] ++ b) ≡ flat_map spaced (codes "reply" ∷ s ∷ b ∷ [])
 reply_spaced s b = simp (append_assoc, append-nil)
 
+before_spaced : (c q : List ℕ) → 32 ∷ (codes "before " ++ c ++ 32 ∷ [] ++ q) ≡ flat_map spaced (codes "before" ∷ c ∷ q ∷ [])
+before_spaced c q = simp (append_assoc, append-nil)
+
+take_before_spaced : (s q : List ℕ) → 32 ∷ (codes "takebefore " ++ s ++ 32 ∷ [] ++ q) ≡ flat_map spaced (codes "takebefore" ∷ s ∷ q ∷ [])
+take_before_spaced s q = simp (append_assoc, append-nil)
+
 error_spaced : (s n b : List ℕ) → 32 ∷ (codes "error " ++ s ++ 32 ∷ [] ++ n ++ 32 ∷ [] ++ b) ≡ flat_map spaced (codes "error" ∷ s ∷ n ∷ b ∷ [])
 error_spaced s n b = simp (append_assoc, append-nil)
 
@@ -111,9 +119,11 @@ words_spaced (words.Reply stream body) = reply_spaced (decimal stream) (optional
 words_spaced (words.Error stream name body) = error_spaced (decimal stream) (text_word name) (optional_word body)
 words_spaced words.Read = refl
 words_spaced (words.Poll number) = simp append-nil
+words_spaced (words.Before call before) = before_spaced (decimal call) (decimal before)
 words_spaced (words.Drop number) = simp append-nil
 words_spaced words.Stream = refl
 words_spaced (words.Take number) = simp append-nil
+words_spaced (words.TakeBefore stream before) = take_before_spaced (decimal stream) (decimal before)
 
 outgoing_are_words : (name : List ℕ) (o : Outgoing) (P : Type 0) → IsWord name → OutgoingText P o → IsWord (optional_word o.interface)
     → All IsWord (name ∷ outgoing_words o)
@@ -144,6 +154,12 @@ are_words words.Stream h =
 are_words (words.Poll number) h =
     let name : IsWord (codes "poll") = record { bytes = refl; some = omega arith; other = refl } in
     All-from_recursion IsWord (entry_words (words.Poll number)) (name, (number_is_word number h, tt))
+are_words (words.Before call before) h =
+    let name : IsWord (codes "before") = record { bytes = refl; some = omega arith; other = refl } in
+    All-from_recursion IsWord (entry_words (words.Before call before)) (name, (number_is_word call h.0, (number_is_word before h.1, tt)))
+are_words (words.TakeBefore stream before) h =
+    let name : IsWord (codes "takebefore") = record { bytes = refl; some = omega arith; other = refl } in
+    All-from_recursion IsWord (entry_words (words.TakeBefore stream before)) (name, (number_is_word stream h.0, (number_is_word before h.1, tt)))
 are_words (words.Drop number) h =
     let name : IsWord (codes "drop") = record { bytes = refl; some = omega arith; other = refl } in
     All-from_recursion IsWord (entry_words (words.Drop number)) (name, (number_is_word number h, tt))
@@ -175,9 +191,11 @@ command_again (words.Reply stream body) h = rw (number_again stream h.0, optiona
 command_again (words.Error stream error body) h = rw (number_again stream h.0, text_again error h.1.some h.1.bytes, optional_again body h.2) refl
 command_again words.Read h = refl
 command_again (words.Poll number) h = rw (number_again number h) refl
+command_again (words.Before call before) h = rw (number_again call h.0, number_again before h.1) refl
 command_again (words.Drop number) h = rw (number_again number h) refl
 command_again words.Stream h = refl
 command_again (words.Take number) h = rw (number_again number h) refl
+command_again (words.TakeBefore stream before) h = rw (number_again stream h.0, number_again before h.1) refl
 
 -- ---- no command's line is a header line
 
@@ -194,6 +212,8 @@ no_head a (words.Reply stream body) c ds = head_none a (codes "reply") c (decima
 no_head a (words.Error stream name body) c ds = head_none a (codes "error") c (decimal stream ∷ text_word name ∷ optional_word body ∷ []) ds
 no_head a words.Read c ds = head_none a (codes "read") c [] ds
 no_head a (words.Poll number) c ds = head_none a (codes "poll") c (decimal number ∷ []) ds
+no_head a (words.Before call before) c ds = head_none a (codes "before") c (decimal call ∷ decimal before ∷ []) ds
 no_head a (words.Drop number) c ds = head_none a (codes "drop") c (decimal number ∷ []) ds
 no_head a words.Stream c ds = head_none a (codes "stream") c [] ds
 no_head a (words.Take number) c ds = head_none a (codes "take") c (decimal number ∷ []) ds
+no_head a (words.TakeBefore stream before) c ds = head_none a (codes "takebefore") c (decimal stream ∷ decimal before ∷ []) ds

@@ -134,6 +134,7 @@ answer_line (answers.Closed error) h = joined line_byte (codes "closed ") (error
 answer_line (answers.Reply position) h = joined line_byte (codes "reply ") (decimal position) refl (number_line position h)
 answer_line (answers.InvalidReply position) h = joined line_byte (codes "invalidreply ") (decimal position) refl (number_line position h)
 answer_line answers.NotYet h = refl
+answer_line answers.NoneBefore h = refl
 answer_line answers.Busy h = refl
 answer_line answers.Dropped h = refl
 answer_line (answers.Streaming number) h = joined line_byte (codes "stream ") (decimal number) refl (number_line number h)

@@ -54,9 +54,11 @@ HasText (words.Reply stream body) = (stream < 2 ^ 64) × IsOptional body
 HasText (words.Error stream name body) = (stream < 2 ^ 64) × SomeBytes name × IsOptional body
 HasText words.Read = Unit {0}
 HasText (words.Poll number) = number < 2 ^ 64
+HasText (words.Before call before) = (call < 2 ^ 64) × (before < 2 ^ 64)
 HasText (words.Drop number) = number < 2 ^ 64
 HasText words.Stream = Unit {0}
 HasText (words.Take number) = number < 2 ^ 64
+HasText (words.TakeBefore stream before) = (stream < 2 ^ 64) × (before < 2 ^ 64)
 
 -- the name of a missing parameter is of bytes
 abbrev pub HasBytes : Error → Type 0
@@ -75,6 +77,7 @@ HasNumbers (answers.Refused error) = HasBytes error
 HasNumbers (answers.SendFailed error) = HasBytes error
 HasNumbers (answers.Closed error) = HasBytes error
 HasNumbers answers.NotYet = Unit {0}
+HasNumbers answers.NoneBefore = Unit {0}
 HasNumbers answers.Busy = Unit {0}
 HasNumbers answers.Dropped = Unit {0}
 HasNumbers (answers.Streaming number) = number < 2 ^ 64

@@ -51,6 +51,11 @@ abbrev pub numbered : (ℕ → Words) → Option ℕ → Option Words
 numbered command (Some number) = Some (command number)
 numbered command None = None
 
+-- a command that names a number and a position
+abbrev pub positioned : (ℕ → ℕ → Words) → Option ℕ → Option ℕ → Option Words
+positioned command (Some number) (Some before) = Some (command number before)
+positioned command number before = None
+
 -- the word `-`, which stands for what is absent
 abbrev pub is_absent : List ℕ → Bool
 is_absent word = same word (45 ∷ [])
@@ -81,8 +86,9 @@ named_flags word =
 abbrev pub flags_of : List ℕ → Option CallFlags
 flags_of word = if same word (flags_word (named_flags word)) then Some (named_flags word) else None
 
--- The words of a command, without its lane: `read`, `stream`, `poll C`, `drop C`, `take S`, `reply S B`, `error S NAME B`,
--- `call D P I M F B`, `signal D P I M F B`. A signal has an interface, so that a `-` there is a text.
+-- The words of a command, without its lane: `read`, `stream`, `poll C`, `drop C`, `take S`, `reply S B`, `before C Q`,
+-- `takebefore S Q`, `error S NAME B`, `call D P I M F B`, `signal D P I M F B`. A signal has an interface, so that a `-` there
+-- is a text.
 unfoldable pub command_words : List (List ℕ) → Option Words
 command_words (name ∷ []) =
     if same name (codes "read") then Some words.Read
@@ -93,8 +99,11 @@ command_words (name ∷ number ∷ []) =
     else if same name (codes "drop") then numbered words.Drop (number_of number)
     else if same name (codes "take") then numbered words.Take (number_of number)
     else None
-command_words (name ∷ stream ∷ body ∷ []) =
-    if same name (codes "reply") then reply_of (number_of stream) (optional_of body) else None
+command_words (name ∷ first ∷ second ∷ []) =
+    if same name (codes "reply") then reply_of (number_of first) (optional_of second)
+    else if same name (codes "before") then positioned words.Before (number_of first) (number_of second)
+    else if same name (codes "takebefore") then positioned words.TakeBefore (number_of first) (number_of second)
+    else None
 command_words (name ∷ stream ∷ error ∷ body ∷ []) =
     if same name (codes "error") then error_of (number_of stream) (text_of error) (optional_of body) else None
 command_words (name ∷ destination ∷ path ∷ interface ∷ member ∷ flags ∷ body ∷ []) =

@@ -73,9 +73,11 @@ words_text (words.Reply stream body) = codes "reply " ++ decimal stream ++ 32 �
 words_text (words.Error stream name body) = codes "error " ++ decimal stream ++ 32 ∷ [] ++ text_word name ++ 32 ∷ [] ++ optional_word body
 words_text words.Read = codes "read"
 words_text (words.Poll number) = codes "poll " ++ decimal number
+words_text (words.Before call before) = codes "before " ++ decimal call ++ 32 ∷ [] ++ decimal before
 words_text (words.Drop number) = codes "drop " ++ decimal number
 words_text words.Stream = codes "stream"
 words_text (words.Take number) = codes "take " ++ decimal number
+words_text (words.TakeBefore stream before) = codes "takebefore " ++ decimal stream ++ 32 ∷ [] ++ decimal before
 
 unfoldable pub answer_text : Answer → List ℕ
 answer_text (answers.Called call serial) = codes "call " ++ decimal call ++ codes " serial " ++ decimal serial
@@ -88,6 +90,7 @@ answer_text (answers.Reply position) = codes "reply " ++ decimal position
 answer_text (answers.MethodError m) = codes "methoderror " ++ decimal m.position ++ 32 ∷ [] ++ text_word (or_empty m.error_name)
 answer_text (answers.InvalidReply position) = codes "invalidreply " ++ decimal position
 answer_text answers.NotYet = codes "notyet"
+answer_text answers.NoneBefore = codes "nonebefore"
 answer_text answers.Busy = codes "busy"
 answer_text answers.Dropped = codes "dropped"
 answer_text (answers.Streaming number) = codes "stream " ++ decimal number

@@ -1,6 +1,6 @@
 //! What a line is.
 ghost use Rattle.std.specs.Prelude.{◌≡◌, [], ◌∷◌, ◌++◌, length, take, map, IfOk, Some, None};
-ghost use Rattle.peer_script.specs.Script.{before_answer, lane_words, command_words, command_line, head_line, line_of, outgoing_of, sending, reply_of, error_of, present, optional_of, has_letter, named_flags, flags_of, numbered, in_lane, direct_line, in_line, outfault_line, sent_line, is_absent};
+ghost use Rattle.peer_script.specs.Script.{before_answer, lane_words, command_words, command_line, head_line, line_of, outgoing_of, sending, reply_of, error_of, present, optional_of, has_letter, named_flags, flags_of, numbered, positioned, in_lane, direct_line, in_line, outfault_line, sent_line, is_absent};
 ghost use Rattle.peer_script.specs.Word.{number_of, text_of};
 ghost use Rattle.peer_route.specs.Hex.{bytes_of};
 ghost use Rattle.peer_route.specs.declared.words.Words.TheVariants as words;
@@ -230,6 +230,45 @@ fn numbered_command(name: &[u8], number: &[u8]) -> Option<Words>
     }
 }
 
+fn before_of(call: Option<u64>, before: Option<u64>) -> Option<Words>
+    ensures { result ≡ positioned words.Before call before }
+{
+    Some(Words::Before {
+        call: call?,
+        before: before?,
+    })
+}
+
+fn take_before_of(stream: Option<u64>, before: Option<u64>) -> Option<Words>
+    ensures { result ≡ positioned words.TakeBefore stream before }
+{
+    Some(Words::TakeBefore {
+        stream: stream?,
+        before: before?,
+    })
+}
+
+/// The words of a name, a number and one word more.
+#[tactic(auto, unfolding(crate::specs::Script::command_words))]
+fn command_of_two(
+    alloc: Global,
+    name: &[u8],
+    number: &[u8],
+    word: &[u8],
+) -> Result<Option<Words>, AllocError>
+    ensures { IfOk result (λ words. words ≡ command_words (name.now ∷ number.now ∷ word.now ∷ [])) }
+{
+    if same(name, b"reply") {
+        reply_of(alloc, number, word)
+    } else if same(name, b"before") {
+        Ok(before_of(number_of(number), number_of(word)))
+    } else if same(name, b"takebefore") {
+        Ok(take_before_of(number_of(number), number_of(word)))
+    } else {
+        Ok(None)
+    }
+}
+
 #[tactic(auto, unfolding(crate::specs::Script::command_words))]
 fn command_words(alloc: Global, words: &[&[u8]]) -> Result<Option<Words>, AllocError>
     ensures { IfOk result (λ w. w ≡ command_words (map (λ word. word.now) words.now)) }
@@ -237,13 +276,7 @@ fn command_words(alloc: Global, words: &[&[u8]]) -> Result<Option<Words>, AllocE
     match words {
         [name] => Ok(lone_command(name)),
         [name, number] => Ok(numbered_command(name, number)),
-        [name, stream, body] => {
-            if same(name, b"reply") {
-                reply_of(alloc, stream, body)
-            } else {
-                Ok(None)
-            }
-        }
+        [name, number, word] => command_of_two(alloc, name, number, word),
         [name, stream, error, body] => {
             if same(name, b"error") {
                 error_of(alloc, stream, error, body)

@@ -50,7 +50,7 @@ fn read_of(
 #[test]
 fn reads_scripts(rt: HostRuntime) -> Result<(), Fail> {
     let alloc = rt.alloc();
-    let table: [(&[u8], usize, usize); 16] = [
+    let table: [(&[u8], usize, usize); 17] = [
         (b"direct\n", 0, 0),
         (b"direct\nsent -\n", 0, 0),
         (b"direct\nsent 00\n", 0, 0),
@@ -82,6 +82,11 @@ fn reads_scripts(rt: HostRuntime) -> Result<(), Fail> {
             0,
             4,
         ),
+        (
+            b"direct\n63 before 0 18446744073709551615\ntakebefore 7 0 = nonebefore\n",
+            0,
+            2,
+        ),
         (TRANSCRIPT, 1, 3),
     ];
     for (text, pieces, commands) in table {
@@ -99,7 +104,7 @@ fn reads_scripts(rt: HostRuntime) -> Result<(), Fail> {
 #[test]
 fn names_the_first_line_outside(rt: HostRuntime) -> Result<(), Fail> {
     let alloc = rt.alloc();
-    let table: [(&[u8], u64); 47] = [
+    let table: [(&[u8], u64); 52] = [
         (b"", 1),
         (b"direct", 1),
         (b"\n", 1),
@@ -143,6 +148,11 @@ fn names_the_first_line_outside(rt: HostRuntime) -> Result<(), Fail> {
         (b"direct\noutfault 1\nfds\n", 3),
         (b"direct\nfds 1\n", 2),
         (b"direct\nreply - -\n", 2),
+        (b"direct\nbefore 0\n", 2),
+        (b"direct\nbefore 0 -\n", 2),
+        (b"direct\nbefore 0 05\n", 2),
+        (b"direct\ntakebefore 0 18446744073709551616\n", 2),
+        (b"direct\ntakebefore 00 0\n", 2),
         (b"direct\nerror 0 a.b\n", 2),
         (b"direct\ncall - \\41 - do - -\n", 2),
         (b"direct\ncall - a\\3db - do - -\n", 2),
@@ -212,6 +222,20 @@ fn writes_each_answer(rt: HostRuntime) -> Result<(), Fail> {
     let mut entries = Vec::new(alloc);
     entries.push(whole_call(alloc)?)?;
     for (words, answer) in [
+        (
+            Words::Before {
+                call: 1,
+                before: 18_446_744_073_709_551_615,
+            },
+            Answer::NoneBefore,
+        ),
+        (
+            Words::TakeBefore {
+                stream: 3,
+                before: 0,
+            },
+            Answer::NoneBefore,
+        ),
         (Words::Drop(1), Answer::Dropped),
         (Words::Stream, Answer::Streaming(0)),
         (Words::Read, Answer::Busy),
@@ -251,7 +275,7 @@ fn writes_each_answer(rt: HostRuntime) -> Result<(), Fail> {
     assert!(rt; write_transcript(alloc, &setup, &transcript, b"", &mut sink).is_ok());
     assert_eq!(rt;
         sink.bytes(),
-        b"direct :1.7\nfds\noutfault 9\ninfault\n1 call a.b - \\3d d\\20o naibd y:\\20 = sent 7\n0 drop 1 = dropped\n0 stream = stream 0\n0 read = busy\n0 take 0 = item 1\n0 take 0 = empty\n0 take 0 = ended\n0 reply 2 - = sent 1\n0 error 0 a.b y:01 = sent 2\nsent -\n".as_slice()
+        b"direct :1.7\nfds\noutfault 9\ninfault\n1 call a.b - \\3d d\\20o naibd y:\\20 = sent 7\n0 before 1 18446744073709551615 = nonebefore\n0 takebefore 3 0 = nonebefore\n0 drop 1 = dropped\n0 stream = stream 0\n0 read = busy\n0 take 0 = item 1\n0 take 0 = empty\n0 take 0 = ended\n0 reply 2 - = sent 1\n0 error 0 a.b y:01 = sent 2\nsent -\n".as_slice()
     );
     Ok(())
 }

@@ -138,9 +138,15 @@ fn put_words(alloc: Global, text: &mut Vec<u8>, words: &Words) -> Result<(), All
         Words::Error { stream, name, body } => put_error_reply(alloc, text, *stream, name, body),
         Words::Read => put(text, b"read"),
         Words::Poll(number) => put_with_number(alloc, text, b"poll ", *number),
+        Words::Before { call, before } => {
+            put_with_position(alloc, text, b"before ", *call, *before)
+        }
         Words::Drop(number) => put_with_number(alloc, text, b"drop ", *number),
         Words::Stream => put(text, b"stream"),
         Words::Take(number) => put_with_number(alloc, text, b"take ", *number),
+        Words::TakeBefore { stream, before } => {
+            put_with_position(alloc, text, b"takebefore ", *stream, *before)
+        }
     }
 }
 
@@ -216,6 +222,20 @@ fn put_with_number(
     put_number(alloc, text, number)
 }
 
+fn put_with_position(
+    alloc: Global,
+    text: &mut Vec<u8>,
+    what: &[u8],
+    number: u64,
+    position: u64,
+) -> Result<(), AllocError>
+    ensures { OnOk result (text.new.items ≡ text.old.items ++ what.now ++ decimal number ++ 32 ∷ [] ++ decimal position) }
+{
+    put_with_number(alloc, text, what, number)?;
+    put(text, b" ")?;
+    put_number(alloc, text, position)
+}
+
 #[tactic(auto, unfolding(crate::specs::Transcript::answer_text))]
 fn put_answer(alloc: Global, text: &mut Vec<u8>, answer: &Answer) -> Result<(), AllocError>
     ensures { OnOk result (text.new.items ≡ text.old.items ++ answer_text answer.now) }
@@ -231,6 +251,7 @@ fn put_answer(alloc: Global, text: &mut Vec<u8>, answer: &Answer) -> Result<(), 
         Answer::MethodError(message) => put_method_error(alloc, text, message),
         Answer::InvalidReply(position) => put_with_number(alloc, text, b"invalidreply ", *position),
         Answer::NotYet => put(text, b"notyet"),
+        Answer::NoneBefore => put(text, b"nonebefore"),
         Answer::Busy => put(text, b"busy"),
         Answer::Dropped => put(text, b"dropped"),
         Answer::Streaming(number) => put_with_number(alloc, text, b"stream ", *number),

@@ -46,3 +46,25 @@ returns-in-Take-clause-stands g c start_in start_out es s =
       writes = c.take.ensures.writes (setting_by c.args.name.now (g.W.Sink.takes c.args.writer.now.sink)) start_out _ es s.follows s.writes;
       fine = λ e. s.fine (step e);
     })
+
+pub returns-in-Before-clause-stands : goal.returns-in-Before-clause-stands
+returns-in-Before-clause-stands g c start_in start_out es s =
+    let before = fine_before (setting_by c.args.name.now (g.W.Sink.takes c.args.writer.now.sink)) es c.args.command.now.lane c.args.command.now.words c.before-in-Before.result in
+    let step = rw (c.in-Before.is) at before in
+    rw (c.in-Before.is) (record {
+      follows = c.before-in-Before.ensures.follows (setting_by c.args.name.now (g.W.Sink.takes c.args.writer.now.sink)) es s.follows;
+      reads = c.before-in-Before.ensures.reads (setting_by c.args.name.now (g.W.Sink.takes c.args.writer.now.sink)) start_in _ es s.follows s.reads;
+      writes = c.before-in-Before.ensures.writes (setting_by c.args.name.now (g.W.Sink.takes c.args.writer.now.sink)) start_out _ es s.follows s.writes;
+      fine = λ e. s.fine (step e);
+    })
+
+pub returns-in-TakeBefore-clause-stands : goal.returns-in-TakeBefore-clause-stands
+returns-in-TakeBefore-clause-stands g c start_in start_out es s =
+    let before = fine_before (setting_by c.args.name.now (g.W.Sink.takes c.args.writer.now.sink)) es c.args.command.now.lane c.args.command.now.words c.take_before.result in
+    let step = rw (c.in-TakeBefore.is) at before in
+    rw (c.in-TakeBefore.is) (record {
+      follows = c.take_before.ensures.follows (setting_by c.args.name.now (g.W.Sink.takes c.args.writer.now.sink)) es s.follows;
+      reads = c.take_before.ensures.reads (setting_by c.args.name.now (g.W.Sink.takes c.args.writer.now.sink)) start_in _ es s.follows s.reads;
+      writes = c.take_before.ensures.writes (setting_by c.args.name.now (g.W.Sink.takes c.args.writer.now.sink)) start_out _ es s.follows s.writes;
+      fine = λ e. s.fine (step e);
+    })

@@ -1,7 +1,7 @@
 use Rattle.std.proofs.Common.{refl, sym, ◌∙◌, ap}
 use Rattle.peer_route.specs.Trail.{trail, place}
 use Rattle.peer_run.specs.Stands.{PeerView, Follows}
-use Rattle.peer_run.proofs.StreamStep.{follows_take, reads_take}
+use Rattle.peer_run.proofs.TakeStep.{follows_take, reads_take}
 use Rattle.peer_run.proofs.peer.Peer.take.Goals as goal
 
 pub returns-in-Some-clause-follows : goal.returns-in-Some-clause-follows

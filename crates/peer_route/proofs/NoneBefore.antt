@@ -1,0 +1,165 @@
+-- Only a poll or a take by position is answered that there is none before it.
+use Rattle.std.proofs.Common.{inl, inr, ◌≡◌, ℕ, refl, sym, ◌∙◌, subst, Bool, true, false, if◌then◌else◌, List, [], ◌∷◌, Option, Some, None, Result, Ok, Err}
+use Rattle.std.specs.List.{slice_get}
+use Rattle.wire_message.specs.Front.{Seen}
+use Rattle.wire_message.specs.declared.kind.MessageType.{MessageType}
+use Rattle.wire_message.specs.declared.kind.MessageType.TheVariants as types
+use Rattle.wire_message.specs.declared.error.Error.{Error}
+use Rattle.wire_message.specs.declared.error.Error.TheVariants as errors
+use Rattle.peer_route.specs.declared.polled.Polled.{Polled}
+use Rattle.peer_route.specs.declared.polled.Polled.TheVariants as polled
+use Rattle.peer_route.specs.declared.words.Words.{Words}
+use Rattle.peer_route.specs.declared.words.Words.TheVariants as words
+use Rattle.peer_route.specs.declared.answer.Answer.{Answer}
+use Rattle.peer_route.specs.declared.answer.Answer.TheVariants as answers
+use Rattle.peer_route.specs.declared.answer.Entry.{Entry}
+use Rattle.peer_route.specs.History.{Event, Call, closing, is_failed, calls, found, is_gone, polled_by, polled_at, poll_answer, by_position, drop_answer}
+use Rattle.peer_route.specs.Streams.{Stream, streams, held, busy, take_by, take_at, take_answer}
+use Rattle.peer_route.specs.Parcel.{Setting, Asked}
+use Rattle.peer_route.specs.CallMessage.{expects}
+use Rattle.peer_route.specs.Trail.{Trail, place, trail}
+use Rattle.peer_route.specs.Answers.{IsAnswer, IsRead, IsReadOf, IsCalled, IsSendOf, Legal, write_fault, sent_answer, error_answer, reply_by, shown, poll_of, before_of, shown_drop, drop_of, shown_take, take_of, take_before_of}
+use Rattle.peer_route.specs.Laws.{IsByPosition, IsNothingYet}
+
+-- ---- a message that is sent, and a read
+
+sent_other : (expects : Bool) (call serial : ℕ) → sent_answer expects call serial ≡ answers.NoneBefore → ⊥
+sent_other true call serial e = cc
+sent_other false call serial e = cc
+
+called_other : (r : Option Error) (failed : Bool) (sent a : Answer) → (sent ≡ answers.NoneBefore → ⊥) → IsCalled r failed sent a → a ≡ answers.NoneBefore → ⊥
+called_other (Some error) failed sent a other is e = let q : answers.Refused error ≡ answers.NoneBefore = sym is ∙ e in cc
+called_other None true sent a other is e = let q : write_fault ≡ answers.NoneBefore = sym is ∙ e in cc
+called_other None false sent a other (inl is) e = other (sym is ∙ e)
+called_other None false sent a other (inr is) e = let q : write_fault ≡ answers.NoneBefore = sym is ∙ e in cc
+
+send_other : (t : Trail) (lane : ℕ) (asked : Asked) (a : Answer) → IsSendOf t lane asked a → a ≡ answers.NoneBefore → ⊥
+send_other t lane asked a is e = called_other _ (is_failed t.events) _ a (sent_other (expects asked) _ _) is e
+
+read_other : (o : Option Error) (full : Bool) (n : ℕ) (a : Answer) → IsReadOf o full n a → a ≡ answers.NoneBefore → ⊥
+read_other (Some error) full n a is e = let q : answers.Closed error ≡ answers.NoneBefore = sym is ∙ e in cc
+read_other None true n a is e = let q : answers.Busy ≡ answers.NoneBefore = sym is ∙ e in cc
+read_other None false n a is e = subst (IsRead n) e is
+
+-- ---- a poll
+
+polled_other : (b : Bool) (f : Option Seen) (o : Option Error) → (if b then Err errors.UnknownHandle else polled_by f o) ≡ Ok polled.NoneBefore → ⊥
+polled_other true f o e = cc
+polled_other false (Some m) o e = cc
+polled_other false None (Some error) e = cc
+polled_other false None None e = cc
+
+polled_at_other : (h : List Event) (o : Option Call) → polled_at h o ≡ Ok polled.NoneBefore → ⊥
+polled_at_other h None e = cc
+polled_at_other h (Some c) e = polled_other (is_gone c) (found h c) (closing h) e
+
+answer_other : (h : List Event) (k : ℕ) → poll_answer h k ≡ Ok polled.NoneBefore → ⊥
+unfolding poll_answer
+answer_other h k e = polled_at_other h (slice_get (calls h) k) e
+
+error_other : (m : Seen) (name : Option (List ℕ)) → error_answer m name ≡ answers.NoneBefore → ⊥
+error_other m (Some name) e = cc
+error_other m None e = cc
+
+reply_other : (m : Seen) (kind : MessageType) → reply_by m kind ≡ answers.NoneBefore → ⊥
+reply_other m types.MethodReturn e = cc
+reply_other m types.MethodCall e = cc
+reply_other m types.Error e = error_other m m.error_name e
+reply_other m types.Signal e = cc
+
+shown_other : (r : Result (Polled Seen) Error) → shown r ≡ answers.NoneBefore → r ≡ Ok polled.NoneBefore
+shown_other (Ok (polled.Now m)) e = absurd (reply_other m m.kind e)
+shown_other (Ok polled.NotYet) e = cc
+shown_other (Ok polled.NoneBefore) e = refl
+shown_other (Ok (polled.Closed error)) e = cc
+shown_other (Ok polled.Ended) e = cc
+shown_other (Err error) e = cc
+
+poll_other : (h : List Event) (p : Option ℕ) → poll_of h p ≡ answers.NoneBefore → ⊥
+poll_other h None e = cc
+poll_other h (Some k) e = answer_other h k (shown_other (poll_answer h k) e)
+
+drop_shown_other : (r : Result (Unit {0}) Error) → shown_drop r ≡ answers.NoneBefore → ⊥
+drop_shown_other (Ok done) e = cc
+drop_shown_other (Err error) e = cc
+
+drop_other : (h : List Event) (p : Option ℕ) → drop_of h p ≡ answers.NoneBefore → ⊥
+drop_other h None e = cc
+drop_other h (Some k) e = drop_shown_other (drop_answer h k) e
+
+-- ---- a take
+
+take_by_other : (items : List Seen) (o : Option Error) (told : Bool) → shown_take (Ok (take_by items o told)) ≡ answers.NoneBefore → ⊥
+take_by_other (m ∷ ms) o told e = cc
+take_by_other [] None told e = cc
+take_by_other [] (Some error) false e = cc
+take_by_other [] (Some error) true e = cc
+
+take_at_other : (h : List Event) (o : Option Stream) → shown_take (take_at h o) ≡ answers.NoneBefore → ⊥
+take_at_other h None e = cc
+take_at_other h (Some s) e = take_by_other (held h s) (closing h) s.told e
+
+take_other : (h : List Event) (p : Option ℕ) → take_of h p ≡ answers.NoneBefore → ⊥
+unfolding take_answer
+take_other h None e = cc
+take_other h (Some k) e = take_at_other h (slice_get (streams h) k) e
+
+-- ---- entries
+
+only_by : (t : Trail) (lane : ℕ) (w : Words) (a : Answer) → IsAnswer t lane w a → a ≡ answers.NoneBefore → IsByPosition w
+only_by t lane (words.Call out) a is e = send_other t lane _ a is e
+only_by t lane (words.Signal out) a is e = send_other t lane _ a is e
+only_by t lane (words.Reply stream body) a is e = send_other t lane _ a is e
+only_by t lane (words.Error stream name body) a is e = send_other t lane _ a is e
+only_by t lane words.Read a is e = read_other (closing t.events) (busy t.events) _ a is e
+only_by t lane (words.Poll n) a is e = poll_other t.events (place 0 lane n t.names) (sym is ∙ e)
+only_by t lane (words.Before n before) a is e = tt
+only_by t lane (words.Drop n) a is e = drop_other t.events (place 0 lane n t.names) (sym is ∙ e)
+only_by t lane words.Stream a is e = let q = sym is ∙ e in cc
+only_by t lane (words.Take n) a is e = take_other t.events (place 0 lane n t.streams) (sym is ∙ e)
+only_by t lane (words.TakeBefore n before) a is e = tt
+
+pub only : (setting : Setting) (older : List Entry) (e : Entry) → Legal setting (e ∷ older) → e.answer ≡ answers.NoneBefore → IsByPosition e.words
+only setting older e legal a = only_by (trail setting older) e.lane e.words e.answer legal.0 a
+
+error_said : (m : Seen) (name : Option (List ℕ)) → IsNothingYet (error_answer m name) → ⊥
+error_said m (Some name) n = n
+error_said m None n = n
+
+reply_said : (m : Seen) (kind : MessageType) → IsNothingYet (reply_by m kind) → ⊥
+reply_said m types.MethodReturn n = n
+reply_said m types.MethodCall n = n
+reply_said m types.Error n = error_said m m.error_name n
+reply_said m types.Signal n = n
+
+shown_said : (r : Result (Polled Seen) Error) → IsNothingYet (shown (by_position r)) → ⊥
+shown_said (Ok (polled.Now m)) n = reply_said m m.kind n
+shown_said (Ok polled.NotYet) n = n
+shown_said (Ok polled.NoneBefore) n = n
+shown_said (Ok (polled.Closed error)) n = n
+shown_said (Ok polled.Ended) n = n
+shown_said (Err error) n = n
+
+before_said : (h : List Event) (p : Option ℕ) → IsNothingYet (before_of h p) → ⊥
+before_said h None n = n
+before_said h (Some k) n = shown_said (poll_answer h k) n
+
+shown_take_said : (r : Result (Polled Seen) Error) → IsNothingYet (shown_take (by_position r)) → ⊥
+shown_take_said (Ok (polled.Now m)) n = n
+shown_take_said (Ok polled.NotYet) n = n
+shown_take_said (Ok polled.NoneBefore) n = n
+shown_take_said (Ok (polled.Closed error)) n = n
+shown_take_said (Ok polled.Ended) n = n
+shown_take_said (Err error) n = n
+
+take_before_said : (h : List Event) (p : Option ℕ) → IsNothingYet (take_before_of h p) → ⊥
+take_before_said h None n = n
+take_before_said h (Some k) n = shown_take_said (take_answer h k) n
+
+never_by : (t : Trail) (lane : ℕ) (w : Words) (a : Answer) → IsAnswer t lane w a → IsByPosition w → IsNothingYet a → ⊥
+never_by t lane (words.Before number before) a is by n = before_said t.events (place 0 lane number t.names) (subst IsNothingYet is n)
+never_by t lane (words.TakeBefore number before) a is by n = take_before_said t.events (place 0 lane number t.streams) (subst IsNothingYet is n)
+never_by t lane w a is by n = absurd by
+
+pub never : (setting : Setting) (older : List Entry) (e : Entry) → Legal setting (e ∷ older) → IsByPosition e.words → IsNothingYet e.answer → ⊥
+never setting older e legal by n = never_by (trail setting older) e.lane e.words e.answer legal.0 by n
