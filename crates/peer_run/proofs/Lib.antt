@@ -7,7 +7,7 @@ pub mod QuietStep
 pub mod PollStep
 pub mod StreamStep
 pub mod SendStep
-pub mod Lanes
+pub mod Numbers
 pub mod SendEnds
 pub mod SendGrows
 pub mod Ends
