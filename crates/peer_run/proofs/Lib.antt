@@ -8,7 +8,7 @@ pub mod PollStep
 pub mod StreamStep
 pub mod TakeStep
 pub mod SendStep
-pub mod Lanes
+pub mod Numbers
 pub mod SendEnds
 pub mod SendGrows
 pub mod Ends

@@ -2,6 +2,7 @@
 #![tactic(auto)]
 
 mod call_words;
+mod lanes;
 mod laws;
 mod main_call;
 mod peer;

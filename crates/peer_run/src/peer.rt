@@ -16,6 +16,7 @@ ghost use Rattle.wire_message.specs.Front.{Seen};
 ghost use Rattle.wire_message.specs.declared.error.IoKind.TheVariants.{Ended};
 
 use crate::call_words::{Letter, call_letter, error_letter, reply_letter, signal_letter};
+use crate::lanes::Lanes;
 use crate::showing::{not_issued, refused, shown, shown_drop};
 use peer_route::{Answer, Issued, MessageStream, Polled, Route, Words};
 use std::alloc::{AllocError, AllocFailed, Global};
@@ -49,8 +50,8 @@ impl<T: Drop> From<AllocFailed<T>> for RunError {
 #[derive(Drop)]
 pub(crate) struct Peer {
     route: Route,
-    names: Vec<Option<u32>>,
-    streams: Vec<Option<u32>>,
+    names: Lanes,
+    streams: Lanes,
     given: Vec<Option<Message>>,
 }
 
@@ -60,52 +61,19 @@ impl Model for Peer {
 
     ghost Value = { PeerView };
 
-    ghost view = { λ p. record { core = p.route; names = p.names.items; streams = p.streams.items; given = p.given.items } };
-}
-
-/// How many of the calls, or of the streams, belong to the lane.
-#[tactic(auto, using(crate::proofs::Lanes::counting))]
-fn count(names: &[Option<u32>], lane: u32) -> u64
-    ensures { result ≡ trails.count lane names.now }
-{
-    let mut number = 0;
-    for name in names {
-        if *name == Some(lane) {
-            number += 1;
-        }
-    }
-    number
-}
-
-/// The call, or the stream, that the lane's number names, by its number among all.
-#[tactic(auto, using(crate::proofs::Lanes::placing))]
-fn place(names: &[Option<u32>], lane: u32, number: u64) -> Option<u64>
-    ensures { result ≡ trails.place 0 lane number names.now }
-{
-    let mut at = 0;
-    let mut left = number;
-    while at < names.len() {
-        if names[at] == Some(lane) {
-            if left == 0 {
-                return Some(at as u64);
-            }
-            left -= 1;
-        }
-        at += 1;
-    }
-    None
+    ghost view = { λ p. record { core = p.route; names = p.names; streams = p.streams; given = p.given.items } };
 }
 
 /// The message that the lane's stream with this number gave last.
 fn given_last<'a>(
     given: &'a [Option<Message>],
-    streams: &[Option<u32>],
+    streams: &Lanes,
     lane: u32,
     number: u64,
 ) -> Option<&'a Message>
     ensures { option_map (λ m. m.now) result ≡ kept_at given.now (trails.place 0 lane number streams.now) }
 {
-    let place = place(streams, lane, number)?;
+    let place = streams.place(lane, number)?;
     match given.get(place as usize)? {
         Some(message) => Some(message),
         None => None,
@@ -116,7 +84,7 @@ fn given_last<'a>(
 fn letter_of<'a>(
     alloc: Global,
     given: &'a [Option<Message>],
-    streams: &[Option<u32>],
+    streams: &Lanes,
     lane: u32,
     name: &'a Option<OwnedUniqueName>,
     takes_fds: bool,
@@ -188,8 +156,8 @@ impl Peer {
     {
         Peer {
             route: Route::new(alloc),
-            names: Vec::new(alloc),
-            streams: Vec::new(alloc),
+            names: Lanes::new(alloc),
+            streams: Lanes::new(alloc),
             given: Vec::new(alloc),
         }
     }
@@ -245,7 +213,7 @@ impl Peer {
         ensures writes { (setting : Setting) (start now : Outlet) (es : List Entry) → Follows setting self.old es
             → Writes setting start now es → Writes setting start now (entry lane (words.Poll number) result ∷ es) }
     {
-        match place(&self.names, lane, number) {
+        match self.names.place(lane, number) {
             Some(call) => shown(self.route.poll(call)),
             None => Answer::Refused(Error::UnknownHandle),
         }
@@ -259,7 +227,7 @@ impl Peer {
         ensures writes { (setting : Setting) (start now : Outlet) (es : List Entry) → Follows setting self.old es
             → Writes setting start now es → Writes setting start now (entry lane (words.Before number position) result ∷ es) }
     {
-        match place(&self.names, lane, number) {
+        match self.names.place(lane, number) {
             Some(call) => shown(self.route.poll_before(call, Sequence(position))),
             None => Answer::Refused(Error::UnknownHandle),
         }
@@ -273,7 +241,7 @@ impl Peer {
         ensures writes { (setting : Setting) (start now : Outlet) (es : List Entry) → Follows setting self.old es
             → Writes setting start now es → Writes setting start now (entry lane (words.Drop number) result ∷ es) }
     {
-        match place(&self.names, lane, number) {
+        match self.names.place(lane, number) {
             Some(call) => shown_drop(self.route.drop_call(call)),
             None => shown_drop(Err(Error::UnknownHandle)),
         }
@@ -287,7 +255,7 @@ impl Peer {
         ensures writes { IfOk result (λ answer. (setting : Setting) (start now : Outlet) (es : List Entry) → Follows setting self.old es
             → Writes setting start now es → Writes setting start now (entry lane words.Stream answer ∷ es)) }
     {
-        let number = count(&self.streams, lane);
+        let number = self.streams.count(lane);
         let _ = self.route.open()?;
         self.streams.push(Some(lane))?;
         self.given.push(None)?;
@@ -323,7 +291,7 @@ impl Peer {
         ensures writes { (setting : Setting) (start now : Outlet) (es : List Entry) → Follows setting self.old es
             → Writes setting start now es → Writes setting start now (entry lane (words.Take number) result ∷ es) }
     {
-        match place(&self.streams, lane, number) {
+        match self.streams.place(lane, number) {
             Some(number) => {
                 let polled = self.route.take(&MessageStream { number });
                 self.show_take(number, polled)
@@ -340,7 +308,7 @@ impl Peer {
         ensures writes { (setting : Setting) (start now : Outlet) (es : List Entry) → Follows setting self.old es
             → Writes setting start now es → Writes setting start now (entry lane (words.TakeBefore number position) result ∷ es) }
     {
-        match place(&self.streams, lane, number) {
+        match self.streams.place(lane, number) {
             Some(number) => {
                 let stream = MessageStream { number };
                 let polled = self.route.take_before(&stream, Sequence(position));
@@ -359,7 +327,7 @@ impl Peer {
         if issued.call.is_none() {
             return Ok(Answer::Sent(serial));
         }
-        let call = count(&self.names, lane);
+        let call = self.names.count(lane);
         self.names.push(Some(lane))?;
         Ok(Answer::Called { call, serial })
     }
@@ -432,7 +400,7 @@ impl Peer {
         let letter = letter_of(
             alloc,
             self.given.as_slice(),
-            self.streams.as_slice(),
+            &self.streams,
             lane,
             name,
             takes_fds,

@@ -1,5 +1,5 @@
-use Rattle.std.proofs.Common.{refl, sym, ◌∙◌, ap}
-use Rattle.peer_route.specs.Trail.{trail, place}
+use Rattle.std.proofs.Common.{refl, sym, ◌∙◌}
+use Rattle.peer_route.specs.Trail.{trail}
 use Rattle.peer_run.specs.Stands.{PeerView, Follows}
 use Rattle.peer_run.proofs.PollStep.{follows_poll, reads_poll, writes_poll}
 use Rattle.peer_run.proofs.peer.Peer.poll.Goals as goal
@@ -11,12 +11,12 @@ returns-in-Some-clause-reads c setting start now es f r =
 
 pub returns-in-Some-clause-follows : goal.returns-in-Some-clause-follows
 returns-in-Some-clause-follows c setting es f =
-    let p : PeerView = record { core = c.self.inside.route; names = c.self.inside.names.items; streams = c.self.inside.streams.items; given = c.self.inside.given.items } in
-    let q : PeerView = record { core = c.poll.new.self; names = c.self.inside.names.items; streams = c.self.inside.streams.items; given = c.self.inside.given.items } in
+    let p : PeerView = record { core = c.self.inside.route; names = c.self.inside.names; streams = c.self.inside.streams; given = c.self.inside.given.items } in
+    let q : PeerView = record { core = c.poll.new.self; names = c.self.inside.names; streams = c.self.inside.streams; given = c.self.inside.given.items } in
     let g : Follows setting p es = rw (← c.self.view_is) at f in
     rw (c.shown.ensures)
     (follows_poll setting p q es c.args.lane c.args.number c.in-Some.call c.poll.result g
-    (ap (place 0 c.args.lane c.args.number) (sym c.deref.ensures.value) ∙ sym c.place.ensures ∙ c.in-Some.is)
+    (sym c.place.ensures ∙ c.in-Some.is)
     (c.poll.ensures.answer (trail setting es).events g.left) refl refl refl (c.poll.ensures.left (trail setting es).events g.left))
 
 pub returns-in-Some-clause-writes : goal.returns-in-Some-clause-writes

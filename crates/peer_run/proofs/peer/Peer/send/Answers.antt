@@ -13,7 +13,7 @@ pub returns-in_ok-lost-in_default-error : goal.returns-in_ok-lost-in_default-err
 returns-in_ok-lost-in_default-error g c =
     let now_out : Outlet = record { held = g.W.Sink.held c.args.half.now.sink; room = g.W.Sink.room c.args.half.now.sink; faults = g.W.Sink.faults c.args.half.now.sink } in
     let after_out : Outlet = record { held = g.W.Sink.held c.send_message.new.self.sink; room = g.W.Sink.room c.send_message.new.self.sink; faults = g.W.Sink.faults c.send_message.new.self.sink } in
-    let p : PeerView = record { core = c.self.inside.route; names = c.self.inside.names.items; streams = c.self.inside.streams.items; given = c.self.inside.given.items } in
+    let p : PeerView = record { core = c.self.inside.route; names = c.self.inside.names; streams = c.self.inside.streams; given = c.self.inside.given.items } in
     let here = c.in-Some.message.now in
     record {
       sent = λ m at plain fine.

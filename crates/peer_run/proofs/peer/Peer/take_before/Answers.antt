@@ -1,17 +1,17 @@
-use Rattle.std.proofs.Common.{refl, sym, ◌∙◌, ap}
-use Rattle.peer_route.specs.Trail.{trail, place}
+use Rattle.std.proofs.Common.{refl, sym, ◌∙◌}
+use Rattle.peer_route.specs.Trail.{trail}
 use Rattle.peer_run.specs.Stands.{PeerView, Follows}
 use Rattle.peer_run.proofs.TakeStep.{follows_take_before, reads_take_before}
 use Rattle.peer_run.proofs.peer.Peer.take_before.Goals as goal
 
 pub returns-in-Some-clause-follows : goal.returns-in-Some-clause-follows
 returns-in-Some-clause-follows c setting es f =
-    let p : PeerView = record { core = c.self.inside.route; names = c.self.inside.names.items; streams = c.self.inside.streams.items; given = c.self.inside.given.items } in
+    let p : PeerView = record { core = c.self.inside.route; names = c.self.inside.names; streams = c.self.inside.streams; given = c.self.inside.given.items } in
     let kept = c.show_take.ensures.kept in
     let g : Follows setting p es = rw (← c.self.view_is) at f in
     rw (c.show_take.ensures.answer, kept)
     (follows_take_before setting p _ es c.args.lane c.args.number c.args.position c.in-Some.number c.take_before-polled.result g
-    (ap (place 0 c.args.lane c.args.number) (sym c.deref.ensures.value) ∙ sym c.place.ensures ∙ c.in-Some.is)
+    (sym c.place.ensures ∙ c.in-Some.is)
     (c.take_before-polled.ensures.answer (trail setting es).events g.left) refl refl refl (c.take_before-polled.ensures.left (trail setting es).events g.left))
 
 pub returns-in-Some-clause-reads : goal.returns-in-Some-clause-reads
