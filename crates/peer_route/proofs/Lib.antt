@@ -9,8 +9,8 @@ pub mod Given
 pub mod AnyOrder
 pub mod Asked
 pub mod Core
-pub mod Issuing
 pub mod NextSerial
+pub mod Issuing
 pub mod Steps
 pub mod Once
 pub mod Read
@@ -19,5 +19,6 @@ pub mod Lanes
 pub mod Yields
 pub mod Drained
 pub mod Sent
+pub mod Index
 pub mod Waiting
 pub mod Refused
