@@ -96,6 +96,7 @@ impl PendingMethodCalls {
         ensures err { OnErr result (self.new ≡ self.old) }
         ensures number { IfOk result (λ k. k ≡ length self.old.slots) }
         ensures ok { OnOk result (self.new ≡ record { slots = self.old.slots ++ Slot.Waiting serial ∷ []; closing = self.old.closing }) }
+        ensures left { OnOk result ((h : List Event) (m : Seen) → m.serial ≡ serial → LeftCalls self.old h → LeftCalls self.new (Put m true ∷ h)) }
     {
         let place = self.slots.len();
         let is_open = self.closing.is_none();
