@@ -16,7 +16,7 @@ use Rattle.peer_route.specs.declared.calls.Slot.TheVariants as slots
 use Rattle.peer_route.specs.History.{Event, Took, Shut, Wrote, Fault, Spent, Made, Plain, Did, Deed, Gave, Told, Call, edit, read, closing, done, is_reply, is_serial, calls, found, bears, is_gone, first_of, pending, waits_with, poll_answer, poll_events, polled_at, polled_by, drop_answer, drop_events, dropped_at}
 use Rattle.peer_route.specs.Streams.{busy, take_answer, take_events}
 use Rattle.peer_route.specs.Left.{Held, is_over, after_take, held_gives, LeftStreams, is_busy, is_empty_slot, slot_of, slot_by, is_waiting, AreDistinct, CallsView, waiting_serial, is_number, LeftCalls, View, Left}
-use Rattle.peer_route.proofs.Plain.{list_any-map, list_any-along, position-None, is_some-position}
+use Rattle.peer_route.proofs.Plain.{list_any-map, list_any-along, position-None}
 use Rattle.peer_route.proofs.CallsMade.{calls_early, places, places_rise, places-edit, places-fail}
 use Rattle.peer_route.proofs.StreamsMade.{streams_shut, streams_wrote, streams_fault, streams_spent, streams_made, streams_taken, taken_gives, over_any}
 use Rattle.peer_route.proofs.Slots.{arrived, slots_took, arrived_nowhere, arrived_past, arrived_first, arrived_distinct, gone_distinct, slots_spent, slots_kept, slots_lost, waits-slot}
@@ -37,15 +37,15 @@ took m v new h left same e = record {
 pub took_by_none : (m : Seen) (v : CallsView) (h : List Event) → ((n : ℕ) → bears n m ≡ false) → LeftCalls v h → LeftCalls v (Took m ∷ h)
 took_by_none m v h none left = took m v v h left refl (sym (arrived_nowhere m none v.slots))
 
-pub took_past : (m : Seen) (s : ℕ) (v : CallsView) (h : List Event) → ((n : ℕ) → bears n m ≡ (s == n)) → position (is_waiting s) v.slots ≡ None → LeftCalls v h → LeftCalls v (Took m ∷ h)
-took_past m s v h same none left = took m v v h left refl (sym (arrived_past m s same v.slots (position-None (is_waiting s) v.slots none)))
+pub took_past : (m : Seen) (s : ℕ) (v : CallsView) (h : List Event) → ((n : ℕ) → bears n m ≡ (s == n)) → list_any (is_waiting s) v.slots ≡ false → LeftCalls v h → LeftCalls v (Took m ∷ h)
+took_past m s v h same none left = took m v v h left refl (sym (arrived_past m s same v.slots none))
 
--- the first call that waits for it takes it
-pub took_first : (m : Seen) (s k : ℕ) (v new : CallsView) (h : List Event) → ((n : ℕ) → bears n m ≡ (s == n)) → position (is_waiting s) v.slots ≡ Some k
+-- the call that waits for it takes it
+pub took_first : (m : Seen) (s k : ℕ) (v new : CallsView) (h : List Event) → ((n : ℕ) → bears n m ≡ (s == n)) → is_waiting s (get_or v.slots k slots.Gone) ≡ true
     → new.slots ≡ set v.slots k (slots.Replied m) → new.closing ≡ v.closing → LeftCalls v h → closing h ≡ None → LeftCalls new (Took m ∷ h)
 took_first m s k v new h same at e kept left open_ =
     took m v new h left kept
-    (e ∙ sym (arrived_first m s same v.slots k (position-Some (is_waiting s) v.slots k slots.Gone at).1 (left.distinct (left.closing ∙ open_))))
+    (e ∙ sym (arrived_first m s same v.slots k at (left.distinct (left.closing ∙ open_))))
 
 -- ---- the peer is shut
 
@@ -130,28 +130,6 @@ gives_slot ss error v h k o e at left =
 -- a slot that was taken out and put back
 pub put_back : (ss : List Slot) (k : ℕ) (y x s : Slot) → x ≡ get_or ss k x → s ≡ x → set (set ss k y) k s ≡ ss
 put_back ss k y x s at e = set-set ss k y s ∙ ap (set ss k) (e ∙ at) ∙ set-get_or ss k x
-
-open_by : (o : Option Error) (b : Bool) → is_some o ≡ false → b ≡ (is_none o && b)
-open_by None b e = refl
-open_by (Some error) b e = absurd (true≢false e)
-
-shut_by : (o : Option Error) (b : Bool) → is_some o ≡ true → false ≡ (is_none o && b)
-shut_by None b e = absurd (false≢true e)
-shut_by (Some error) b e = refl
-
-pub taken_open : (ss : List Slot) (error : Option Error) (v : CallsView) (serial : ℕ) → calls_of ss error ≡ v → is_some error ≡ false
-    → is_some (position (is_waiting serial) ss) ≡ waiting_serial v serial
-unfolding waiting_serial
-taken_open ss error v serial e open_ =
-    is_some-position (is_waiting serial) ss ∙ open_by error (list_any (is_waiting serial) ss) open_
-    ∙ ap (λ (w : CallsView). is_none w.closing && list_any (is_waiting serial) w.slots) e
-
-pub taken_shut : (ss : List Slot) (error : Option Error) (v : CallsView) (serial : ℕ) → calls_of ss error ≡ v → is_some error ≡ true
-    → false ≡ waiting_serial v serial
-unfolding waiting_serial
-taken_shut ss error v serial e is_shut =
-    shut_by error (list_any (is_waiting serial) ss) is_shut
-    ∙ ap (λ (w : CallsView). is_none w.closing && list_any (is_waiting serial) w.slots) e
 
 -- ---- which serial a message answers
 

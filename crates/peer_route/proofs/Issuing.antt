@@ -22,6 +22,7 @@ use Rattle.peer_route.specs.Parcel.{Parcel, message_of}
 use Rattle.peer_route.specs.CallMessage.{expects_reply, expects}
 use Rattle.peer_route.proofs.Core.{pending-left}
 use Rattle.peer_route.proofs.CallsMade.{places}
+use Rattle.peer_route.proofs.NextSerial.{serial_after-within}
 use Rattle.peer_route.proofs.StreamsMade.{streams_put}
 use Rattle.peer_route.proofs.Slots.{distinct_push}
 
@@ -93,6 +94,14 @@ made-of : (v : View) (parcel : Parcel) (new : ℕ) (m : Seen) → BuildsParcel v
 made-of v parcel new m b =
     let w = b.2.0 in
     (w.0, w.1, w.2, with-fds m _ parcel.fds w.3 b.2.1 ∙ same-built parcel m.serial, (b.0, b.1))
+
+-- the serial that was drawn isn't pending
+pub made_free : (v : View) (parcel : Parcel) (new : ℕ) (m : Seen) → BuildsParcel v parcel new (Ok m) → waiting_serial v.calls m.serial ≡ false
+made_free v parcel new m b = (made-of v parcel new m b).0.free
+
+-- and it isn't 0
+pub made_in_circle : (v : View) (parcel : Parcel) (new : ℕ) (m : Seen) → BuildsParcel v parcel new (Ok m) → 0 < m.serial
+made_in_circle v parcel new m b = let next = (made-of v parcel new m b).0 in subst (λ n. 0 < n) (sym next.there) (serial_after-within v.last next.place).0
 
 too_long : (v : View) (parcel : Parcel) (h : List Event) → Left v h → HasSerial (waiting_serial v.calls) None v.last
     → Bodies.IsTooLong (waiting_serial v.calls) (counted (unset parcel.draft) parcel.fds) (map type_of parcel.values) parcel.values v.last

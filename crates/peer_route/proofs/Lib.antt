@@ -9,8 +9,8 @@ pub mod Given
 pub mod AnyOrder
 pub mod Asked
 pub mod Core
-pub mod Issuing
 pub mod NextSerial
+pub mod Issuing
 pub mod Steps
 pub mod ByPosition
 pub mod Once
@@ -21,6 +21,7 @@ pub mod StreamLanes
 pub mod Yields
 pub mod Drained
 pub mod Sent
+pub mod Index
 pub mod Waiting
 pub mod Refused
 pub mod NoneBefore

@@ -27,7 +27,7 @@ first_free-next taken last serial next =
     found_from taken last next.place 1 4294967295 next.one (omega (arith, next.round)) (rw (sym next.there) next.free) (λ j a b. next.first j a b)
     ∙ ap Some (sym next.there)
 
-serial_after-within : (last k : ℕ) → (1 ≤ serial_after last k) × (serial_after last k ≤ 4294967295)
+pub serial_after-within : (last k : ℕ) → (1 ≤ serial_after last k) × (serial_after last k ≤ 4294967295)
 serial_after-within last k = (omega arith, omega (arith, mod-lt (last + k - 1) {m = 4294967295} (lit< tt)))
 
 pub first_free-none : (taken : ℕ → Bool) (last : ℕ) → AllTaken taken → first_free taken last 1 4294967295 ≡ None

@@ -1,6 +1,6 @@
 -- What the events do to the slots that a history leaves.
-use Rattle.std.proofs.Common.{inl, inr, is_some, ◌≡◌, ℕ, ◌<◌, ◌≤◌, ◌==◌, ◌||◌, ◌&&◌, not, is_none, eqb, cond, if◌then◌else◌, zero, suc, refl, sym, ◌∙◌, ap, arith, subst, Bool, true, false, List, [], ◌∷◌, ◌++◌, length, map, drop, find, get_or, set, Option, Some, None}
-use Rattle.std.specs.List.{list_any, position}
+use Rattle.std.proofs.Common.{inl, inr, ◌≡◌, ℕ, ◌<◌, ◌≤◌, ◌==◌, ◌||◌, ◌&&◌, not, is_none, eqb, cond, if◌then◌else◌, zero, suc, refl, sym, ◌∙◌, ap, arith, subst, Bool, true, false, List, [], ◌∷◌, ◌++◌, length, map, drop, find, get_or, set, Option, Some, None}
+use Rattle.std.specs.List.{list_any}
 use Rattle.std.specs.Option.{option_or}
 use Rattle.std.proofs.lemmas.List.{drop-append-le}
 use Rattle.std.proofs.lemmas.List.Folds.{find-append}
@@ -10,7 +10,7 @@ use Rattle.peer_route.specs.declared.calls.Slot.{Slot}
 use Rattle.peer_route.specs.declared.calls.Slot.TheVariants as slots
 use Rattle.peer_route.specs.History.{Event, Took, Call, read, found, bears, is_gone, fail_at, edit, spend, waits_with}
 use Rattle.peer_route.specs.Left.{slot_of, slot_by, is_waiting, takes, AreDistinct}
-use Rattle.peer_route.proofs.Plain.{is_some-position, list_any-along, After, Rising, After-at}
+use Rattle.peer_route.proofs.Plain.{list_any-along, After, Rising, After-at}
 use Rattle.peer_route.proofs.CallsMade.{Early, places}
 
 -- ---- a message comes
@@ -76,10 +76,8 @@ takes_same m s same (slots.Waiting n) = same n ∙ eqb-comm s n
 takes_same m s same (slots.Replied r) = refl
 
 -- a slot takes it exactly where one waits for its serial
-pub takes_at : (m : Seen) (s : ℕ) (ss : List Slot) (o : Option ℕ) → ((n : ℕ) → bears n m ≡ (s == n)) → position (is_waiting s) ss ≡ o
-    → is_some o ≡ list_any (takes m) ss
-takes_at m s ss o same at =
-    sym (ap is_some at) ∙ is_some-position (is_waiting s) ss ∙ sym (list_any-along (takes m) (is_waiting s) (takes_same m s same) ss)
+pub takes_at : (m : Seen) (s : ℕ) (ss : List Slot) → ((n : ℕ) → bears n m ≡ (s == n)) → list_any (is_waiting s) ss ≡ list_any (takes m) ss
+takes_at m s ss same = sym (list_any-along (takes m) (is_waiting s) (takes_same m s same) ss)
 
 -- where no slot waits for its serial, nothing changes
 pub arrived_past : (m : Seen) (s : ℕ) → ((n : ℕ) → bears n m ≡ (s == n)) → (ss : List Slot) → list_any (is_waiting s) ss ≡ false → map (arrived m) ss ≡ ss
@@ -90,7 +88,8 @@ arrived_past m s same (slots.Waiting n ∷ ss) none =
     rw (same n ∙ eqb-flip n s parts.0) (ap (λ xs. slots.Waiting n ∷ xs) (arrived_past m s same ss parts.1))
 arrived_past m s same (slots.Replied r ∷ ss) none = ap (λ xs. slots.Replied r ∷ xs) (arrived_past m s same ss none)
 
-waits_at : (s : ℕ) (ss : List Slot) (k : ℕ) → is_waiting s (get_or ss k slots.Gone) ≡ true → list_any (is_waiting s) ss ≡ true
+-- a slot waits, so that some slot does
+pub waits_at : (s : ℕ) (ss : List Slot) (k : ℕ) → is_waiting s (get_or ss k slots.Gone) ≡ true → list_any (is_waiting s) ss ≡ true
 waits_at s [] k at = at
 waits_at s (x ∷ ss) zero at = or_left (is_waiting s x) (list_any (is_waiting s) ss) at
 waits_at s (x ∷ ss) (suc k) at = or_right (is_waiting s x) (list_any (is_waiting s) ss) (waits_at s ss k at)

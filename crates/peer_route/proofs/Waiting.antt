@@ -1,27 +1,28 @@
--- How many serials are pending.
-use Rattle.std.proofs.Common.{◌≡◌, ℕ, zero, suc, ◌+◌, ◌<◌, ◌≤◌, ◌==◌, if◌then◌else◌, refl, sym, ◌∙◌, ap, arith, Bool, true, false, not, ◌&&◌, ◌||◌, nat_le, is_some, List, [], ◌∷◌, length, drop, get_or, Option, Some, None}
-use Rattle.std.specs.List.{list_any, position}
+-- How many serials are pending: as many as the map has.
+use Rattle.std.proofs.Common.{◌≡◌, ℕ, zero, suc, ◌+◌, ◌<◌, ◌≤◌, ◌==◌, if◌then◌else◌, refl, sym, ◌∙◌, ap, arith, Bool, true, false, ◌||◌, cond, is_some, List, [], ◌∷◌, length, Option, Some, None, IsSome}
+use Rattle.std.specs.Ordering.{nat_cmp}
+use Rattle.std.specs.declared.cmp.Ordering.TheVariants.{Less}
+use Rattle.std.specs.Cmp.{unsigned_tied}
+use Rattle.std.specs.List.{AllByRecursion}
+use Rattle.std.specs.List.Sorted.{IsStrictlySortedBy}
+use Rattle.std.specs.Map.{keys_of, lookup}
+use Rattle.std.specs.BTreeMap.{BTreeMap, get, is_at, btree_map_len, IsOrdered}
 use Rattle.std.proofs.lemmas.Bool.Decides.{nat_tests}
-use Rattle.std.proofs.Math.Seq.{drop-cons}
-use Rattle.std.proofs.Math.ListN.{drop_of_length-le}
-use Rattle.std.proofs.Math.Numerals.{add-one}
 use Rattle.wire_message.specs.Circle.{taken_among}
 use Rattle.wire_message.specs.declared.error.Error.{Error}
 use Rattle.peer_route.specs.declared.calls.Slot.{Slot}
-use Rattle.peer_route.specs.declared.calls.Slot.TheVariants as slots
-use Rattle.std.proofs.lemmas.Bool.{true≢false, false≢true}
-use Rattle.peer_route.proofs.Plain.{is_some-position}
+use Rattle.peer_route.specs.Left.{CallsView, waiting_serial, IsIndex}
 use Rattle.peer_route.proofs.Core.{calls_of}
-use Rattle.peer_route.specs.Left.{is_waiting, is_last_waiting, waiting_count, CallsView, waiting_serial}
+use Rattle.peer_route.proofs.Index.{open_none, pending_open, pending_shut}
 
 -- ---- counting what is taken
 
-among_same : (f g : ℕ → Bool) (n : ℕ) → ((k : ℕ) → f k ≡ g k) → taken_among f n ≡ taken_among g n
+pub among_same : (f g : ℕ → Bool) (n : ℕ) → ((k : ℕ) → f k ≡ g k) → taken_among f n ≡ taken_among g n
 unfolding taken_among
 among_same f g zero e = refl
 among_same f g (suc n) e = rw (among_same f g n e, e (suc n)) refl
 
-among_none : (f : ℕ → Bool) (n : ℕ) → ((k : ℕ) → f k ≡ false) → taken_among f n ≡ 0
+pub among_none : (f : ℕ → Bool) (n : ℕ) → ((k : ℕ) → f k ≡ false) → taken_among f n ≡ 0
 unfolding taken_among
 among_none f zero e = refl
 among_none f (suc n) e = rw (among_none f n e, e (suc n)) refl
@@ -68,86 +69,63 @@ among_one : (s : ℕ) (g : ℕ → Bool) (n : ℕ) → 1 ≤ s → s ≤ n → g
 among_one s g zero low high free = absurd (omega (arith, low, high))
 among_one s g (suc n) low high free = one_more s n g (s == suc n) low high free refl (λ h. among_one s g n low h free)
 
--- one that is taken already changes nothing
-already_by : (s k : ℕ) (g : ℕ → Bool) (b : Bool) → g s ≡ true → (s == k) ≡ b → beside s g k ≡ g k
-already_by s k g true free e = let same : s ≡ k = grind (arith, nat_tests) in rw e (sym free ∙ ap g same)
-already_by s k g false free e = rw e refl
+-- ---- the keys of a map
 
-outside_by : (s k : ℕ) (g : ℕ → Bool) → (s == k) ≡ false → beside s g k ≡ g k
-outside_by s k g e = rw e refl
+-- the entries have this key
+abbrev has : List (ℕ × ℕ) → ℕ → Bool
+has es q = is_some (lookup (is_at (nat_cmp q)) es)
 
-among_zero : (g : ℕ → Bool) (n : ℕ) → taken_among (beside 0 g) n ≡ taken_among g n
-unfolding taken_among
-among_zero g zero = refl
-among_zero g (suc n) =
-    let apart : (0 == suc n) ≡ false = grind (arith, nat_tests) in
-    rw (among_zero g n, other 0 (suc n) g apart) refl
+-- the keys of a map of serials, counted in the circle
+abbrev InCircle : List (ℕ × ℕ) → Type 0
+InCircle es = (q : ℕ) → has es q ≡ true → (1 ≤ q) × (q ≤ 4294967295)
 
--- ---- of slots
+first_by : (b : Bool) (v : ℕ) (o : Option ℕ) → is_some (cond b (Some v) o) ≡ (b || is_some o)
+first_by true v o = refl
+first_by false v o = refl
 
-slot_counts : (n : ℕ) (ss : List Slot) (low high free : Bool) → nat_le 1 n ≡ low → nat_le n 4294967295 ≡ high → list_any (is_waiting n) ss ≡ free
-    → taken_among (beside n (λ k. list_any (is_waiting k) ss)) 4294967295
-    ≡ (if low && high && not free then taken_among (λ k. list_any (is_waiting k) ss) 4294967295 + 1 else taken_among (λ k. list_any (is_waiting k) ss) 4294967295)
-slot_counts n ss true true false l h f = among_one n (λ k. list_any (is_waiting k) ss) 4294967295 (grind (arith, nat_tests)) (grind (arith, nat_tests)) f
-slot_counts n ss true true true l h f = among_same _ _ 4294967295 (λ k. already_by n k (λ k. list_any (is_waiting k) ss) (n == k) f refl)
-slot_counts n ss true false free l h f = among_above n (λ k. list_any (is_waiting k) ss) 4294967295 (grind (arith, nat_tests))
-slot_counts n ss false high free l h f =
-    let nothing : n ≡ 0 = grind (arith, nat_tests) in rw nothing (among_zero (λ k. list_any (is_waiting k) ss) 4294967295)
+has_first : (s v q : ℕ) (es : List (ℕ × ℕ)) → has ((s, v) ∷ es) q ≡ beside s (has es) q
+has_first s v q es =
+    first_by (is_at (nat_cmp q) s) v (lookup (is_at (nat_cmp q)) es)
+    ∙ ap (λ b. b || has es q) (unsigned_tied q s ∙ flip q s)
+  where
+    flip : (a b : ℕ) → (a == b) ≡ (b == a)
+    flip a b = grind (arith, nat_tests)
 
-slots_count : (ss : List Slot) → taken_among (λ k. list_any (is_waiting k) ss) 4294967295 ≡ waiting_count ss
-slots_count [] = among_none (λ k. false) 4294967295 (λ k. refl)
-slots_count (slots.Gone ∷ ss) = slots_count ss
-slots_count (slots.Replied m ∷ ss) = slots_count ss
-slots_count (slots.Waiting n ∷ ss) =
-    slot_counts n ss (nat_le 1 n) (nat_le n 4294967295) (list_any (is_waiting n) ss) refl refl refl
-    ∙ ap (λ c. if nat_le 1 n && nat_le n 4294967295 && not (list_any (is_waiting n) ss) then c + 1 else c) (slots_count ss)
+-- a key below all is none of them
+has_none : (s : ℕ) (es : List (ℕ × ℕ)) → AllByRecursion (λ y. nat_cmp s y ≡ Less) (keys_of es) → has es s ≡ false
+has_none s [] a = refl
+has_none s ((k, v) ∷ es) a = has_first k v s es ∙ rw (has_none s es a.1) (apart k s a.0)
+  where
+    apart : (k s : ℕ) → nat_cmp s k ≡ Less → ((k == s) || false) ≡ false
+    apart k s e = grind (arith, nat_tests)
 
-open_same : (v : CallsView) → v.closing ≡ None → (k : ℕ) → waiting_serial v k ≡ list_any (is_waiting k) v.slots
-unfolding waiting_serial
-open_same v e k = rw e refl
+entries_count : (es : List (ℕ × ℕ)) → IsStrictlySortedBy nat_cmp (keys_of es) → InCircle es → taken_among (has es) 4294967295 ≡ length es
+unfolding IsStrictlySortedBy
+entries_count [] sorted within = among_none (λ q. false) 4294967295 (λ q. refl)
+entries_count ((s, v) ∷ es) sorted within =
+    let at = within s (has_first s v s es ∙ itself s (has es)) in
+    among_same (has ((s, v) ∷ es)) (beside s (has es)) 4294967295 (λ q. has_first s v q es)
+    ∙ among_one s (has es) 4294967295 at.0 at.1 (has_none s es sorted.0)
+    ∙ ap (λ n. n + 1) (entries_count es sorted.1 (λ q h. within q (has_first s v q es ∙ more (s == q) (has es q) h)))
+    ∙ last (length es)
+  where
+    more : (a b : Bool) → b ≡ true → (a || b) ≡ true
+    more true b e = refl
+    more false b e = e
 
-pub open_count : (v : CallsView) → v.closing ≡ None → taken_among (waiting_serial v) 4294967295 ≡ waiting_count v.slots
-open_count v e = among_same (waiting_serial v) (λ k. list_any (is_waiting k) v.slots) 4294967295 (open_same v e) ∙ slots_count v.slots
+    last : (n : ℕ) → n + 1 ≡ suc n
+    last n = omega arith
 
-shut_same : (v : CallsView) (error : Error) → v.closing ≡ Some error → (k : ℕ) → waiting_serial v k ≡ false
-unfolding waiting_serial
-shut_same v error e k = rw e refl
+-- as many serials are pending as the map has
+pub map_count : (m : BTreeMap ℕ ℕ) → IsOrdered nat_cmp m → ((q : ℕ) → IsSome (get nat_cmp m q) → (1 ≤ q) × (q ≤ 4294967295))
+    → taken_among (λ q. is_some (get nat_cmp m q)) 4294967295 ≡ btree_map_len m
+map_count m ordered within = entries_count m.entries ordered within
 
-pub shut_count : (v : CallsView) (error : Error) → v.closing ≡ Some error → taken_among (waiting_serial v) 4294967295 ≡ 0
-shut_count v error e = among_none (waiting_serial v) 4294967295 (shut_same v error e)
+pub pending_none : (ss : List Slot) (error : Option Error) (v : CallsView) → calls_of ss error ≡ v → is_some error ≡ true → 0 ≡ taken_among (waiting_serial v) 4294967295
+pending_none ss error v e shut = sym (among_none (waiting_serial v) 4294967295 (λ q. sym (pending_shut ss error v q e shut)))
 
--- what the code counts, of the slots and the closing error that it has
-pub count_shut : (ss : List Slot) (o : Option Error) (v : CallsView) → calls_of ss o ≡ v → is_some o ≡ true → 0 ≡ taken_among (waiting_serial v) 4294967295
-count_shut ss None v e s = absurd (false≢true s)
-count_shut ss (Some error) v e s = sym (shut_count v error (ap (λ (w : CallsView). w.closing) (sym e)))
-
-pub count_open : (ss : List Slot) (o : Option Error) (v : CallsView) (n : ℕ) → calls_of ss o ≡ v → is_some o ≡ false → n ≡ waiting_count ss
-    → n ≡ taken_among (waiting_serial v) 4294967295
-count_open ss (Some error) v n e s c = absurd (true≢false s)
-count_open ss None v n e s c =
-    c ∙ ap (λ (w : CallsView). waiting_count w.slots) e ∙ sym (open_count v (ap (λ (w : CallsView). w.closing) (sym e)))
-
--- ---- from a place on
-
-pub waiting_from : (at : ℕ) (ss : List Slot) (d : Slot) → at < length ss
-    → waiting_count (drop at ss) ≡ (if is_last_waiting (get_or ss at d) (drop (at + 1) ss) then waiting_count (drop (at + 1) ss) + 1 else waiting_count (drop (at + 1) ss))
-waiting_from at ss d h = ap waiting_count (drop-cons ss at d h ∙ ap (λ n. get_or ss at d ∷ drop n ss) (sym (add-one at)))
-
-pub none_from : (at : ℕ) (ss : List Slot) → length ss ≤ at → waiting_count (drop at ss) ≡ 0
-none_from at ss h = ap waiting_count (drop_of_length-le ss h)
-
-not_flip : (a b : Bool) → a ≡ not b → b ≡ not a
-not_flip true true e = cc
-not_flip true false e = refl
-not_flip false true e = refl
-not_flip false false e = cc
-
--- a serial of the circle that no slot waits for
-pub waits_last : (n : ℕ) (ss : List Slot) (o : Option ℕ) (b : Bool) → (n ≡ 0 → ⊥) → n < 4294967296 → o ≡ position (is_waiting n) ss → is_some o ≡ not b
-    → b ≡ (nat_le 1 n && nat_le n 4294967295 && not (list_any (is_waiting n) ss))
-waits_last n ss o b some small e f =
-    let low : nat_le 1 n ≡ true = grind (arith, nat_tests) in
-    let high : nat_le n 4294967295 ≡ true = grind (arith, nat_tests) in
-    rw (low, high) (not_flip (is_some o) b f ∙ ap not (ap is_some e ∙ is_some-position (is_waiting n) ss))
-
-pub ruleset counting = none_from
+pub pending_count : (m : BTreeMap ℕ ℕ) (ss : List Slot) (error : Option Error) (v : CallsView) → calls_of ss error ≡ v → is_some error ≡ false → IsOrdered nat_cmp m
+    → (error ≡ None → IsIndex m ss) → btree_map_len m ≡ taken_among (waiting_serial v) 4294967295
+pending_count m ss error v e none ordered i =
+    sym (map_count m ordered (i (open_none error none)).circle)
+    ∙ among_same (λ q. is_some (get nat_cmp m q)) (waiting_serial v) 4294967295 (λ q. pending_open m ss error v q e none i)

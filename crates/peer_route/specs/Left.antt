@@ -1,6 +1,8 @@
 -- What a history leaves of a peer: all that the answers to come depend on.
-use Rattle.std.specs.Prelude.{ℕ, zero, suc, ⊤, ◌≡◌, ◌+◌, ◌<◌, ◌≤◌, ◌⊎◌, nat_lt, nat_le, not, Bool, true, false, ◌&&◌, ◌==◌, if◌then◌else◌, is_none, List, [], ◌∷◌, ◌++◌, length, map, Option, Some, None, Result, Ok, Err}
+use Rattle.std.specs.Prelude.{ℕ, zero, suc, ⊤, ◌≡◌, ◌+◌, ◌<◌, ◌≤◌, ◌⊎◌, nat_lt, Bool, true, false, ◌&&◌, ◌==◌, if◌then◌else◌, is_none, List, [], ◌∷◌, ◌++◌, length, map, get_or, Option, Some, None, IsSome, Result, Ok, Err}
 use Rattle.std.specs.List.{list_any, AllByRecursion}
+use Rattle.std.specs.Ordering.{nat_cmp}
+use Rattle.std.specs.BTreeMap.{BTreeMap, get}
 use Rattle.wire_message.specs.Front.{Seen}
 use Rattle.wire_message.specs.Circle.{IsNext, AllTaken}
 use Rattle.wire_message.specs.declared.error.Error.{Error}
@@ -61,16 +63,15 @@ pub record CallsView : Type 0 where
 unfoldable pub waiting_serial : CallsView → ℕ → Bool
 waiting_serial v serial = is_none v.closing && list_any (is_waiting serial) v.slots
 
--- the slot waits for a serial of the circle, and none behind it waits for the same
-abbrev pub is_last_waiting : Slot → List Slot → Bool
-is_last_waiting (slots.Waiting n) ss = nat_le 1 n && nat_le n 4294967295 && not (list_any (is_waiting n) ss)
-is_last_waiting slots.Gone ss = false
-is_last_waiting (slots.Replied m) ss = false
+-- the message answers a call that waits; after the closing error none waits
+unfoldable pub answers_call : CallsView → Seen → Bool
+answers_call v m = is_none v.closing && list_any (takes m) v.slots
 
--- how many serials the slots wait for
-abbrev pub waiting_count : List Slot → ℕ
-waiting_count [] = 0
-waiting_count (s ∷ ss) = if is_last_waiting s ss then waiting_count ss + 1 else waiting_count ss
+-- The map has for each serial that a slot waits for the place of that slot, and no other serial; each is one of the circle.
+pub record IsIndex (places : BTreeMap ℕ ℕ) (ss : List Slot) : Type 0 where
+  pub there : (serial place : ℕ) → get nat_cmp places serial ≡ Some place → is_waiting serial (get_or ss place slots.Gone) ≡ true
+  pub whole : (serial place : ℕ) → is_waiting serial (get_or ss place slots.Gone) ≡ true → get nat_cmp places serial ≡ Some place
+  pub circle : (serial : ℕ) → IsSome (get nat_cmp places serial) → (1 ≤ serial) × (serial ≤ 4294967295)
 
 -- the number is there and is this
 abbrev pub is_number : Option ℕ → ℕ → Bool

@@ -1,13 +1,13 @@
-ghost use Rattle.std.specs.Prelude.{ℕ, ◌≡◌, ◌+◌, ◌<◌, ◌++◌, ◌∷◌, [], List, length, IfSome, IfNone, OnOk, OnErr, IfOk, Some, None, is_none, position, slice_set, true};
-ghost use Rattle.std.specs.List.{list_any};
+ghost use Rattle.std.specs.Prelude.{ℕ, ◌≡◌, ◌+◌, ◌<◌, ◌++◌, ◌∷◌, [], List, length, IfSome, IfNone, OnOk, OnErr, IfOk, None, is_none, slice_set, true, false};
 ghost use Rattle.peer_route.specs.History.{Event, Took, Shut, Put, Call, poll_answer, poll_events, drop_answer, drop_events, pending, bears, closing, calls};
 ghost use Rattle.peer_route.specs.History as history;
-ghost use Rattle.peer_route.specs.Left.{CallsView, LeftCalls, is_waiting, is_empty_slot, is_last_waiting, waiting_count, is_number, takes, waiting_serial};
+ghost use Rattle.peer_route.specs.Left.{CallsView, LeftCalls, is_empty_slot, is_number, answers_call, waiting_serial, IsIndex};
 ghost use Rattle.wire_message.specs.Front.{Seen};
 ghost use Rattle.wire_message.specs.Closing.{closes};
 
 use crate::polled::{Polled, by_position};
 use std::alloc::{AllocError, Global};
+use std::collections::BTreeMap;
 use std::marker::Model;
 use std::mem;
 use wire_message::{ClosingError, Error, Message, MessageType, Sequence, Taken};
@@ -27,15 +27,20 @@ pub enum Slot {
 #[derive(Drop)]
 pub struct PendingMethodCalls {
     slots: Vec<Slot>,
+    /// While the peer is open: for each serial that is waited for, the place of the slot that waits, so that none is searched for.
+    waiting: BTreeMap<u32, usize>,
     closing: Option<ClosingError>,
 }
 
 impl Model for PendingMethodCalls {
-    ghost use Rattle.peer_route.specs.Left.{CallsView};
+    ghost use Rattle.std.specs.Prelude.{◌≡◌, None};
+    ghost use Rattle.peer_route.specs.Left.{CallsView, IsIndex};
 
     ghost Value = { CallsView };
 
     ghost view = { λ c. record { slots = c.slots.items; closing = c.closing } };
+
+    ghost invariant = { λ c. c.closing ≡ None → IsIndex c.waiting c.slots.items };
 }
 
 /// The serial that a return or an error answers.
@@ -48,20 +53,28 @@ fn answered(message: &Message) -> Option<u32>
     }
 }
 
-/// The first slot that waits for this serial.
-fn waiting_place(slots: &[Slot], serial: u32) -> Option<usize>
-    ensures { result ≡ position (is_waiting serial) slots.now }
-{
-    slots
-        .iter()
-        .position(|slot| matches!(slot, Slot::Waiting(n) if *n == serial))
-}
-
 /// Whether nothing is kept of the call any more.
 fn is_gone(slot: &Slot) -> bool
     ensures { result ≡ is_empty_slot slot.now }
 {
     matches!(slot, Slot::Gone)
+}
+
+/// Nothing is kept any more of the call with this place: its serial, if it waited, is waited for no more. Nothing changes past
+/// the last place.
+fn forget(slots: &mut [Slot], waiting: &mut BTreeMap<u32, usize>, place: usize)
+    ensures slots { slots.new ≡ slice_set slots.old place Slot.Gone }
+    ensures waiting { IsIndex waiting.old slots.old → IsIndex waiting.new slots.new }
+{
+    if place >= slots.len() {
+        return;
+    }
+    match mem::replace(&mut slots[place], Slot::Gone) {
+        Slot::Waiting(serial) => {
+            let _ = waiting.remove(&serial);
+        }
+        Slot::Gone | Slot::Replied(_) => {}
+    }
 }
 
 impl PendingMethodCalls {
@@ -71,32 +84,49 @@ impl PendingMethodCalls {
     {
         PendingMethodCalls {
             slots: Vec::new(alloc),
+            waiting: BTreeMap::new(alloc),
             closing: None,
         }
     }
 
-    /// A new call whose message has this serial, and its number, from 0 on. The serial isn't 0 and isn't pending.
+    /// A new call whose message has this serial, and its number, from 0 on. The serial isn't 0 and isn't pending. Want of memory
+    /// changes nothing.
     pub fn register_call(&mut self, serial: u32) -> Result<u64, AllocError>
+        requires in_circle { 0 < serial }
+        requires free { waiting_serial self.old serial ≡ false }
         ensures err { OnErr result (self.new ≡ self.old) }
         ensures number { IfOk result (λ k. k ≡ length self.old.slots) }
         ensures ok { OnOk result (self.new ≡ record { slots = self.old.slots ++ Slot.Waiting serial ∷ []; closing = self.old.closing }) }
+        ensures left { OnOk result ((h : List Event) (m : Seen) → m.serial ≡ serial → LeftCalls self.old h → LeftCalls self.new (Put m true ∷ h)) }
     {
-        let number = self.slots.len() as u64;
-        self.slots.push(Slot::Waiting(serial))?;
-        Ok(number)
+        let place = self.slots.len();
+        let is_open = self.closing.is_none();
+        // each room is reserved before anything changes
+        self.slots.reserve(1)?;
+        if is_open {
+            self.waiting.insert(serial, place)?;
+        }
+        if self.slots.push(Slot::Waiting(serial)).is_err() {
+            unreachable!()
+        }
+        Ok(place as u64)
     }
 
-    /// Gives a message to the call that waits for its reply serial. It is handed back exactly where none does.
+    /// Gives a message to the call that waits for its reply serial. It is handed back exactly where none does; after the closing
+    /// error none waits.
     pub fn complete_call(&mut self, message: Message) -> Option<Message>
-        ensures exact { is_none result ≡ list_any (takes message) self.old.slots }
-        ensures none { IfNone result ((h : List Event) → LeftCalls self.old h → closing h ≡ None → LeftCalls self.new (Took message ∷ h)) }
+        ensures exact { is_none result ≡ answers_call self.old message }
+        ensures none { IfNone result ((h : List Event) → LeftCalls self.old h → LeftCalls self.new (Took message ∷ h)) }
         ensures back { IfSome result (λ m. (m ≡ message) × (self.new ≡ self.old)) }
         ensures left { IfSome result (λ m. (h : List Event) → LeftCalls self.old h → closing h ≡ None → LeftCalls self.new (Took message ∷ h)) }
     {
+        if self.closing.is_some() {
+            return Some(message);
+        }
         let Some(serial) = answered(&message) else {
             return Some(message);
         };
-        match waiting_place(&self.slots, serial) {
+        match self.waiting.remove(&serial) {
             None => Some(message),
             Some(place) => {
                 self.slots[place] = Slot::Replied(message);
@@ -109,9 +139,7 @@ impl PendingMethodCalls {
     pub(crate) fn lose(&mut self, call: usize)
         ensures { self.new ≡ record { slots = slice_set self.old.slots call Slot.Gone; closing = self.old.closing } }
     {
-        if let Some(slot) = self.slots.get_mut(call) {
-            *slot = Slot::Gone;
-        }
+        forget(&mut self.slots, &mut self.waiting, call);
     }
 
     /// Answers each call that waits, and each one made later, with the closing error; a later one changes nothing.
@@ -185,44 +213,17 @@ impl PendingMethodCalls {
     }
 }
 
-/// Whether the slot waits for a serial, and none of those behind it waits for the same.
-fn is_last_waiting(slot: &Slot, behind: &[Slot]) -> bool
-    ensures { result ≡ is_last_waiting slot.now behind.now }
-{
-    match slot {
-        Slot::Waiting(serial) => *serial != 0 && waiting_place(behind, *serial).is_none(),
-        Slot::Gone | Slot::Replied(_) => false,
-    }
-}
-
-/// How many serials the slots wait for.
-#[tactic(auto, using(crate::proofs::Waiting::counting))]
-fn waiting_count(slots: &[Slot]) -> u64
-    ensures { result ≡ waiting_count slots.now }
-{
-    let mut count = 0;
-    let mut at = 0;
-    while at < slots.len() {
-        if is_last_waiting(&slots[at], &slots[at + 1..]) {
-            count += 1;
-        }
-        at += 1;
-    }
-    count
-}
-
 impl Taken for PendingMethodCalls {
     ghost is_taken = { waiting_serial };
 
     fn taken(&self, serial: u32) -> bool {
-        self.closing.is_none() && waiting_place(&self.slots, serial).is_some()
+        self.closing.is_none() && self.waiting.contains_key(&serial)
     }
 
     fn count(&self) -> u64 {
-        if self.closing.is_some() {
-            0
-        } else {
-            waiting_count(&self.slots)
+        match self.closing {
+            Some(_) => 0,
+            None => self.waiting.len() as u64,
         }
     }
 }

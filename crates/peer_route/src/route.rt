@@ -5,7 +5,7 @@ ghost use Rattle.peer_route.specs.History.{Event, Took, Shut, Put, Wrote, Fault,
 ghost use Rattle.peer_route.specs.History as history;
 ghost use Rattle.peer_route.specs.Streams.{busy, take_answer, take_events, next_position};
 ghost use Rattle.peer_route.specs.CallMessage.{expects_reply};
-ghost use Rattle.peer_route.specs.Left.{Waits, is_busy, View, Left, Issues, Places, placed};
+ghost use Rattle.peer_route.specs.Left.{Waits, is_busy, View, Left, Issues, Places, placed, waiting_serial};
 ghost use Rattle.wire_message.specs.Front.{Seen};
 ghost use Rattle.wire_message.specs.Closing.{closes};
 
@@ -116,9 +116,11 @@ impl Route {
         self.place(message, serials)
     }
 
-    /// Puts a message in the outbox, and makes the call that waits for its reply, if it expects one. Want of memory changes
-    /// nothing.
+    /// Puts a message in the outbox, and makes the call that waits for its reply, if it expects one. The message's serial isn't
+    /// 0 and isn't pending. Want of memory changes nothing.
     fn place(&mut self, message: Message, serials: Serials) -> Result<Issued>
+        requires in_circle { 0 < message.serial }
+        requires free { waiting_serial self.old.calls message.serial ≡ false }
         ensures { Places self.old self.new message serials result }
     {
         let index = self.outbox.len() as u64;
@@ -136,13 +138,15 @@ impl Route {
         })
     }
 
-    /// Puts a message in the outbox, and makes the call that waits for its reply: the call's number. Want of memory changes
-    /// nothing.
+    /// Puts a message in the outbox, and makes the call that waits for its reply: the call's number. The message's serial isn't 0
+    /// and isn't pending. Want of memory changes nothing.
     fn place_call(
         &mut self,
         message: Message,
         serials: Serials,
     ) -> std::result::Result<u64, AllocError>
+        requires in_circle { 0 < message.serial }
+        requires free { waiting_serial self.old.calls message.serial ≡ false }
         ensures number { IfOk result (λ call. call ≡ length self.old.calls.slots) }
         ensures placed { OnOk result (self.new ≡ placed true self.old message serials) }
         ensures same { OnErr result (self.new ≡ self.old) }

@@ -161,28 +161,55 @@ fn a_fault_ends_its_call(rt: HostRuntime) -> Result<(), Fail> {
     Ok(())
 }
 
+/// Makes the call whose message has this serial, where the serial is free.
+fn register(calls: &mut PendingMethodCalls, serial: u32) -> Result<u64, Fail> {
+    if serial == 0 || calls.taken(serial) {
+        return Err(Fail::new("the serial isn't free"));
+    }
+    Ok(calls.register_call(serial)?)
+}
+
 #[test]
 fn a_reply_goes_to_its_call(rt: HostRuntime) -> Result<(), Fail> {
     let mut calls = PendingMethodCalls::new(rt.alloc());
-    assert_eq!(rt; calls.register_call(7)?, 0);
+    assert_eq!(rt; register(&mut calls, 7)?, 0);
     assert!(rt; calls.complete_call(reply(rt.alloc())?).is_some());
-    assert_eq!(rt; calls.register_call(1)?, 1);
+    assert_eq!(rt; register(&mut calls, 1)?, 1);
     assert!(rt; calls.taken(1));
+    assert_eq!(rt; calls.count(), 2);
     assert!(rt; calls.complete_call(reply(rt.alloc())?).is_none());
     assert!(rt; !calls.taken(1));
+    assert_eq!(rt; calls.count(), 1);
     assert_eq!(rt; position(calls.poll(1)?), Some(1));
+    Ok(())
+}
+
+#[test]
+fn a_dropped_serial_is_free(rt: HostRuntime) -> Result<(), Fail> {
+    let mut calls = PendingMethodCalls::new(rt.alloc());
+    let first = register(&mut calls, 1)?;
+    calls.drop_call(first)?;
+    assert!(rt; !calls.taken(1));
+    let second = register(&mut calls, 1)?;
+    assert!(rt; calls.complete_call(reply(rt.alloc())?).is_none());
+    assert_eq!(rt; calls.poll(first).err(), Some(Error::UnknownHandle));
+    assert_eq!(rt; position(calls.poll(second)?), Some(1));
     Ok(())
 }
 
 #[test]
 fn a_call_fails_with_the_peer(rt: HostRuntime) -> Result<(), Fail> {
     let mut calls = PendingMethodCalls::new(rt.alloc());
-    assert_eq!(rt; calls.register_call(7)?, 0);
+    assert_eq!(rt; register(&mut calls, 1)?, 0);
     calls.fail_all(&Error::ExcessData);
     assert_eq!(rt; calls.closing(), Some(Error::ExcessData));
+    assert_eq!(rt; calls.count(), 0);
+    assert!(rt; calls.complete_call(reply(rt.alloc())?).is_some());
+    assert_eq!(rt; register(&mut calls, 1)?, 1);
+    assert!(rt; matches!(calls.poll(0)?, Polled::Closed(Error::ExcessData)));
     assert!(rt;
         matches!(
-            calls.poll_before(0, Sequence(0))?,
+            calls.poll_before(1, Sequence(0))?,
             Polled::Closed(Error::ExcessData)
         )
     );
@@ -267,7 +294,7 @@ fn a_dropped_call_is_unknown(rt: HostRuntime) -> Result<(), Fail> {
 #[test]
 fn a_dropped_call_is_no_call(rt: HostRuntime) -> Result<(), Fail> {
     let mut calls = PendingMethodCalls::new(rt.alloc());
-    let call = calls.register_call(7)?;
+    let call = register(&mut calls, 7)?;
     calls.drop_call(call)?;
     assert_eq!(rt; calls.poll(call).err(), Some(Error::UnknownHandle));
     Ok(())

@@ -1,40 +1,77 @@
 -- The call that waits for the message's reply serial takes it.
-use Rattle.std.proofs.Common.{Some, None, sym, ◌∙◌, ap, set}
-use Rattle.std.specs.List.{position}
-use Rattle.peer_route.specs.Left.{CallsView, is_waiting}
-use Rattle.peer_route.specs.declared.calls.Slot.TheVariants.{Replied}
-use Rattle.peer_route.proofs.Slots.{takes_nowhere, takes_at}
+use Rattle.std.proofs.Common.{refl, sym, ◌∙◌, ap, set, get_or, is_some, subst, ◌∷◌}
+use Rattle.std.specs.List.{list_any}
+use Rattle.std.proofs.lemmas.Bool.{false≢true}
+use Rattle.peer_route.specs.History.{Took}
+use Rattle.peer_route.specs.Left.{CallsView, LeftCalls, is_waiting}
+use Rattle.peer_route.specs.declared.calls.Slot.TheVariants.{Gone, Replied}
 use Rattle.peer_route.proofs.Core.{took_by_none, took_past, took_first}
+use Rattle.peer_route.proofs.Index.{any_index, waits_within, index_removed, open_none, pending_open, answers_none, answers_serial, answers_shut}
 use Rattle.peer_route.proofs.calls.PendingMethodCalls.complete_call.Goals as goal
+
+-- ---- a closed peer
+
+pub returns-then-is_some-clause-exact : goal.returns-then-is_some-clause-exact
+returns-then-is_some-clause-exact c =
+    answers_shut c.self.inside.slots.items c.self.inside.closing c.args.self.now c.args.message c.self.view_is (sym c.is_some.ensures ∙ c.if-is_some.true)
+
+pub returns-then-is_some-clause-left : goal.returns-then-is_some-clause-left
+returns-then-is_some-clause-left c h left open_ =
+    absurd (false≢true (sym (ap (λ (v : CallsView). is_some v.closing) c.self.view_is ∙ ap is_some (left.closing ∙ open_)) ∙ sym c.is_some.ensures ∙ c.if-is_some.true))
+
+-- ---- a message that answers no serial
+
+pub returns-in_default-clause-exact : goal.returns-in_default-clause-exact
+returns-in_default-clause-exact c = answers_none c.args.self.now c.args.message c.in_default.ensures
 
 pub returns-in_default-clause-left : goal.returns-in_default-clause-left
 returns-in_default-clause-left c h left open_ = took_by_none c.args.message c.args.self.now h c.in_default.ensures left
 
-pub returns-in-None-clause-left : goal.returns-in-None-clause-left
-returns-in-None-clause-left c h left open_ =
-    took_past c.args.message c.in-Some.serial c.args.self.now h c.in-Some.ensures
-    (ap (λ (v : CallsView). position (is_waiting c.in-Some.serial) v.slots) (sym c.self.view_is)
-    ∙ ap (position (is_waiting c.in-Some.serial)) (sym c.deref.ensures.value) ∙ sym c.waiting_place.ensures ∙ c.in-None.is) left
-
-pub returns-in-Some-waiting_place-clause-none : goal.returns-in-Some-waiting_place-clause-none
-returns-in-Some-waiting_place-clause-none c h left open_ =
-    took_first c.args.message c.in-Some.serial c.in-Some-waiting_place.place c.args.self.now _ h c.in-Some.ensures
-    (ap (λ (v : CallsView). position (is_waiting c.in-Some.serial) v.slots) (sym c.self.view_is)
-    ∙ ap (position (is_waiting c.in-Some.serial)) (sym c.deref.ensures.value) ∙ sym c.waiting_place.ensures ∙ c.in-Some-waiting_place.is)
-    (ap (λ (v : CallsView). set v.slots c.in-Some-waiting_place.place (Replied c.args.message)) c.self.view_is)
-    (ap (λ (v : CallsView). v.closing) c.self.view_is) left open_
-
-pub returns-in_default-clause-exact : goal.returns-in_default-clause-exact
-returns-in_default-clause-exact c = sym (takes_nowhere c.args.message c.in_default.ensures c.args.self.now.slots)
+-- ---- a serial that no call waits for
 
 pub returns-in-None-clause-exact : goal.returns-in-None-clause-exact
 returns-in-None-clause-exact c =
-    takes_at c.args.message c.in-Some.serial c.args.self.now.slots None c.in-Some.ensures
-    (ap (λ (v : CallsView). position (is_waiting c.in-Some.serial) v.slots) (sym c.self.view_is)
-    ∙ ap (position (is_waiting c.in-Some.serial)) (sym c.deref.ensures.value) ∙ sym c.waiting_place.ensures ∙ c.in-None.is)
+    ap is_some (sym c.in-None.is ∙ c.remove.ensures.value)
+    ∙ pending_open c.self.inside.waiting c.self.inside.slots.items c.self.inside.closing c.args.self.now c.in-Some.serial c.self.view_is
+    (sym c.is_some.ensures ∙ c.if-is_some.false) c.self.invariant
+    ∙ answers_serial c.args.self.now c.args.message c.in-Some.serial c.in-Some.ensures
 
-pub returns-in-Some-waiting_place-clause-exact : goal.returns-in-Some-waiting_place-clause-exact
-returns-in-Some-waiting_place-clause-exact c =
-    takes_at c.args.message c.in-Some.serial c.args.self.now.slots (Some c.in-Some-waiting_place.place) c.in-Some.ensures
-    (ap (λ (v : CallsView). position (is_waiting c.in-Some.serial) v.slots) (sym c.self.view_is)
-    ∙ ap (position (is_waiting c.in-Some.serial)) (sym c.deref.ensures.value) ∙ sym c.waiting_place.ensures ∙ c.in-Some-waiting_place.is)
+pub returns-in-None-clause-left : goal.returns-in-None-clause-left
+returns-in-None-clause-left c h left open_ =
+    let i = c.self.invariant (open_none c.self.inside.closing (sym c.is_some.ensures ∙ c.if-is_some.false)) in
+    let none = ap (λ (v : CallsView). list_any (is_waiting c.in-Some.serial) v.slots) (sym c.self.view_is)
+    ∙ sym (any_index c.self.inside.waiting c.self.inside.slots.items c.in-Some.serial i) ∙ ap is_some (sym c.remove.ensures.value ∙ c.in-None.is) in
+    subst (λ v. LeftCalls v (Took c.args.message ∷ h)) (sym c.self.view_is)
+    (took_past c.args.message c.in-Some.serial c.args.self.now h c.in-Some.ensures none left)
+
+-- ---- a serial that a call waits for
+
+pub index_mut-requires : goal.index_mut-requires
+index_mut-requires c =
+    let i = c.self.invariant (open_none c.self.inside.closing (sym c.is_some.ensures ∙ c.if-is_some.false)) in
+    let was = i.there c.in-Some.serial c.in-Some-remove.place (sym c.remove.ensures.value ∙ c.in-Some-remove.is) in
+    rw c.self.inside.slots.ok.0 (waits_within c.in-Some.serial c.in-Some-remove.place c.self.inside.slots.items was)
+
+pub invariant_of-self-in-Some-remove : goal.invariant_of-self-in-Some-remove
+invariant_of-self-in-Some-remove c open_ =
+    let i = c.self.invariant open_ in
+    let was = i.there c.in-Some.serial c.in-Some-remove.place (sym c.remove.ensures.value ∙ c.in-Some-remove.is) in
+    index_removed c.self.inside.waiting c.remove.new.self c.self.inside.slots.items c.in-Some.serial c.in-Some-remove.place _ (λ q. refl) was
+    c.remove.ensures.updates i
+
+pub returns-in-Some-remove-clause-exact : goal.returns-in-Some-remove-clause-exact
+returns-in-Some-remove-clause-exact c =
+    ap is_some (sym c.in-Some-remove.is ∙ c.remove.ensures.value)
+    ∙ pending_open c.self.inside.waiting c.self.inside.slots.items c.self.inside.closing c.args.self.now c.in-Some.serial c.self.view_is
+    (sym c.is_some.ensures ∙ c.if-is_some.false) c.self.invariant
+    ∙ answers_serial c.args.self.now c.args.message c.in-Some.serial c.in-Some.ensures
+
+pub returns-in-Some-remove-clause-none : goal.returns-in-Some-remove-clause-none
+returns-in-Some-remove-clause-none c h left =
+    let none = open_none c.self.inside.closing (sym c.is_some.ensures ∙ c.if-is_some.false) in
+    let was = (c.self.invariant none).there c.in-Some.serial c.in-Some-remove.place (sym c.remove.ensures.value ∙ c.in-Some-remove.is) in
+    took_first c.args.message c.in-Some.serial c.in-Some-remove.place c.args.self.now _ h c.in-Some.ensures
+    (ap (λ (v : CallsView). is_waiting c.in-Some.serial (get_or v.slots c.in-Some-remove.place Gone)) (sym c.self.view_is) ∙ was)
+    (ap (λ (v : CallsView). set v.slots c.in-Some-remove.place (Replied c.args.message)) c.self.view_is)
+    (ap (λ (v : CallsView). v.closing) c.self.view_is) left
+    (sym left.closing ∙ ap (λ (v : CallsView). v.closing) (sym c.self.view_is) ∙ none)

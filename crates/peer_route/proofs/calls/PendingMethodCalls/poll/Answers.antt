@@ -1,10 +1,11 @@
 -- A poll gives what the call's slot holds, once.
-use Rattle.std.proofs.Common.{sym, ◌∙◌, ap, subst, Some, None, set}
+use Rattle.std.proofs.Common.{arith, sym, ◌∙◌, ap, subst, Some, None, set}
 use Rattle.std.proofs.lemmas.Option.{slice_get_past}
 use Rattle.peer_route.specs.History.{polled_by}
-use Rattle.peer_route.specs.Left.{CallsView, LeftCalls}
+use Rattle.peer_route.specs.Left.{CallsView, LeftCalls, is_waiting}
 use Rattle.peer_route.specs.declared.calls.Slot.TheVariants.{Gone, Waiting, Replied}
 use Rattle.peer_route.proofs.Core.{gives_slot, at_slot, spent, put_back, calls_of}
+use Rattle.peer_route.proofs.Index.{index_idle, at_read}
 use Rattle.peer_route.proofs.calls.PendingMethodCalls.poll.Goals as goal
 
 pub returns-then-call-len-clause-answer : goal.returns-then-call-len-clause-answer
@@ -57,3 +58,12 @@ returns-in-None-clause-left c h left =
     let same = put_back c.self.inside.slots.items c.args.call c.replace.new.dest c.index_mut.result.now (Waiting c.in-Waiting.serial)
     c.index_mut.ensures.value c.in-Waiting.ensures.value in
     subst (λ v. LeftCalls v h) (sym (ap (λ ss. calls_of ss c.self.inside.closing) same ∙ c.self.view_is)) left
+
+-- a reply doesn't wait, so that the map stays
+pub invariant_of-self-in-Replied : goal.invariant_of-self-in-Replied
+invariant_of-self-in-Replied c open_ =
+    index_idle c.self.inside.waiting c.self.inside.slots.items c.args.call c.replace.new.dest c.index_mut.result.now
+    (λ q. ap (is_waiting q) c.replace.ensures.after)
+    (λ q. ap (is_waiting q) (sym c.in-Replied.ensures.value))
+    (at_read c.self.inside.slots.items c.args.call c.index_mut.result.now (grind arith) c.index_mut.ensures.value)
+    (c.self.invariant open_)

@@ -7,9 +7,9 @@ use Rattle.peer_route.proofs.StreamsMade.{streams_took}
 use Rattle.peer_route.proofs.route.Route.arrive.Goals as goal
 
 -- whether a call took the message or not
-either : {A : Type 0} (o : Option A) (P : Type 0) → IfNone o P → IfSome o (λ m. P) → P
-either None P none some = none
-either (Some m) P none some = some
+either : {A : Type 0} (o : Option A) (P Q R : Type 0) → IfNone o P → IfSome o (λ m. Q) → (P → R) → (Q → R) → R
+either None P Q R none some p q = p none
+either (Some m) P Q R none some p q = q some
 
 pub returns-clause-left : goal.returns-clause-left
 returns-clause-left c h left =
@@ -18,8 +18,10 @@ returns-clause-left c h left =
     let was = subst P (sym c.self.view_is) left.calls in
     let open_ : closing h ≡ None = sym left.calls.closing ∙ c.requires.is_open in
     let calls : LeftCalls c.complete_call.new.self (Took c.args.message ∷ h) =
-    either c.complete_call.result ((h : List Event) → LeftCalls c.self.inside.calls h → closing h ≡ None → LeftCalls c.complete_call.new.self (Took c.args.message ∷ h))
-    c.complete_call.ensures.none c.complete_call.ensures.left h was open_ in
+    either c.complete_call.result ((h : List Event) → LeftCalls c.self.inside.calls h → LeftCalls c.complete_call.new.self (Took c.args.message ∷ h))
+    ((h : List Event) → LeftCalls c.self.inside.calls h → closing h ≡ None → LeftCalls c.complete_call.new.self (Took c.args.message ∷ h))
+    (LeftCalls c.complete_call.new.self (Took c.args.message ∷ h))
+    c.complete_call.ensures.none c.complete_call.ensures.left (λ took. took h was) (λ back. back h was open_) in
     let all : c.arrive.new.self ≡ map (queued c.args.message) c.self.inside.streams = search rules in
     rw all
     (subst Q (sym c.self.view_is)

@@ -6,7 +6,7 @@ use Rattle.wire_message.specs.Signed.{counted}
 use Rattle.wire_message.specs.Bodies.{BuildsValues}
 use Rattle.peer_route.specs.Parcel.{Parcel}
 use Rattle.peer_route.specs.Left.{View, waiting_serial}
-use Rattle.peer_route.proofs.Issuing.{BuildsParcel, refused, refused_failed, issued, placed_waits}
+use Rattle.peer_route.proofs.Issuing.{BuildsParcel, refused, refused_failed, issued, placed_waits, made_free, made_in_circle}
 use Rattle.peer_route.proofs.route.Route.issue.Goals as goal
 
 pub returns-in_err-message-clause-issues : goal.returns-in_err-message-clause-issues
@@ -40,3 +40,13 @@ pub returns-clause-placed : goal.returns-clause-placed
 returns-clause-placed c =
     placed_waits c.args.self.now c.place.new.self c.in_ok-message.message c.build_body_uncounted.new.serials c.place.result
     (ap (λ (v : View). v.failed) (sym c.self.view_is) ∙ c.if-self.false) c.place.ensures
+
+pub place-requires : goal.place-requires
+place-requires c =
+    let parcel : Parcel = record { draft = c.args.builder; values = c.args.body.now; fds = c.args.fds.now } in
+    let P : View → Type 0 = λ v. BuildsParcel v parcel c.build_body_uncounted.new.serials (Ok c.in_ok-message.message) in
+    let own = subst (λ (d : Draft). BuildsValues (waiting_serial c.self.inside.calls) (counted d parcel.fds) parcel.values parcel.fds c.self.inside.serials c.build_body_uncounted.new.serials (Ok c.in_ok-message.message)) c.without_serial.ensures c.in_ok-message.ensures.built in
+    let built = subst P c.self.view_is own in record {
+      in_circle = made_in_circle c.args.self.now parcel c.build_body_uncounted.new.serials c.in_ok-message.message built;
+      free = made_free c.args.self.now parcel c.build_body_uncounted.new.serials c.in_ok-message.message built;
+    }
