@@ -66,14 +66,6 @@ any_index m ss q x =
 apart : (s q : ℕ) → (s ≡ q → ⊥) → eq_by_cmp nat_cmp s q ≡ false
 apart s q ne = unsigned_tied s q ∙ ne_eqb s q ne
 
--- a map with the same entries
-pub index_same : (m n : BTreeMap ℕ ℕ) (ss : List Slot) → n.entries ≡ m.entries → IsIndex m ss → IsIndex n ss
-index_same m n ss e x = record {
-  there = λ q k g. x.there q k (rw (sym e) g);
-  whole = λ q k w. rw e (x.whole q k w);
-  circle = λ q g. x.circle q (rw (sym e) g);
-}
-
 -- ---- a slot doesn't wait any more
 
 kept_waits : (q k j : ℕ) (x : Slot) (ss : List Slot) → is_waiting q x ≡ is_waiting q (at ss k) → is_waiting q (at (set ss k x) j) ≡ is_waiting q (at ss j)
