@@ -24,7 +24,7 @@ pub enum Answer {
     InvalidReply(u64),
     /// The call has no answer yet.
     NotYet,
-    /// The call has no answer, or the stream no message, that stands before the position, and more may come.
+    /// By position: the call has no answer yet, or the stream holds nothing, and more may come.
     NoneBefore,
     /// The call's answer is waited for no more.
     Dropped,

@@ -10,7 +10,7 @@ pub enum Polled<T> {
     Now(T),
     /// Nothing yet.
     NotYet,
-    /// Nothing before a position, in place of NotYet where the poll names one.
+    /// Nothing yet, where the poll names a position.
     NoneBefore,
     /// The error that closed the peer.
     Closed(Error),
