@@ -4,7 +4,7 @@ use crate::support::Nothing;
 use std::test::Fail;
 use wire_message::fdo::{self, Kind, StandardError};
 use wire_message::{DBusError, Error, Message, Serials};
-use wire_value::{Endian, Text};
+use wire_value::{EncodeError, Endian, Text, VariantError};
 
 /// `org.freedesktop.DBus.Error.TimedOut`, with the string `so long`.
 const TIMED_OUT: &[u8] =
@@ -91,5 +91,37 @@ fn an_error_answers_a_call(rt: HostRuntime) -> Result<(), Fail> {
     let reply = error.create_reply_uncounted(alloc, &call.header(), &mut serials, &Nothing)?;
     assert_eq!(rt; reply.data(), FAILED);
     assert!(rt; Error::from(error).description() == Some("FDO error"));
+    Ok(())
+}
+
+#[test]
+fn faults_of_values_are_shown(rt: HostRuntime) -> Result<(), Fail> {
+    for (error, text) in &[
+        (VariantError::Signature, "variant error: Signature"),
+        (VariantError::Depth, "variant error: Depth"),
+        (VariantError::Malformed, "variant error: Malformed"),
+        (
+            VariantError::SignatureMismatch,
+            "variant error: SignatureMismatch",
+        ),
+        (VariantError::Memory, "Memory"),
+    ] {
+        assert_eq!(rt; format!(in rt.alloc(); "{error}")?.as_str(), *text);
+    }
+    Ok(())
+}
+
+#[test]
+fn faults_of_encoding_are_shown(rt: HostRuntime) -> Result<(), Fail> {
+    for (error, text) in &[
+        (
+            EncodeError::Variant(VariantError::Depth),
+            "variant error: Depth",
+        ),
+        (EncodeError::ExcessData, "ExcessData"),
+        (EncodeError::Memory, "Memory"),
+    ] {
+        assert_eq!(rt; format!(in rt.alloc(); "{error}")?.as_str(), *text);
+    }
     Ok(())
 }
