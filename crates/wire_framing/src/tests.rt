@@ -30,7 +30,9 @@ fn pieces_of(alloc: Global, parts: &[&[u8]], fault: bool) -> Result<Vec<Piece>, 
 }
 
 /// What the next read tells; a message counts only where it is the return.
-fn next_of(alloc: Global, source: &mut MemorySource, position: u64) -> Told {
+fn next_of(alloc: Global, source: &mut MemorySource, position: u64) -> Told
+    requires { 0 < position }
+{
     read_told(receive_message(alloc, source, position), &RETURN, position)
 }
 
