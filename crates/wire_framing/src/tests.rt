@@ -2,8 +2,8 @@ ghost use Rattle.std.specs.Prelude.{ℕ, ◌<◌};
 
 use crate::answers::{ENDED, FAILED, FAULT, Told, message_of, read_told, told_by};
 use crate::{
-    Failed, MemorySink, MemorySource, Piece, Refusal, Sink, Source, StdSink, StdSource,
-    receive_message, send_message,
+    Failed, MemorySink, MemorySource, Piece, Refusal, Sink, SocketSink, Source, StdSink, StdSource,
+    StreamSocket, receive_message, send_message,
 };
 use std::alloc::Global;
 use std::io;
@@ -172,7 +172,7 @@ fn sends(rt: HostRuntime) -> Result<(), Fail> {
     Ok(())
 }
 
-/// A reader and a writer that fail.
+/// A reader, a writer and a socket that fail.
 #[derive(Drop)]
 struct Broken;
 
@@ -189,6 +189,12 @@ impl Write for Broken {
 
     fn flush(&mut self) -> io::Result<()> {
         Err(io::Error::from(io::ErrorKind::BrokenPipe))
+    }
+}
+
+impl StreamSocket for Broken {
+    fn shut_down(&self) -> io::Result<()> {
+        Err(io::Error::from(io::ErrorKind::NotConnected))
     }
 }
 
@@ -226,6 +232,12 @@ fn writes_a_writer(rt: HostRuntime) -> Result<(), Fail> {
 fn writes_a_broken_writer(rt: HostRuntime) {
     let mut broken = StdSink::new(Broken);
     assert_eq!(rt; broken.write(&RETURN), Err(Refusal::Failed));
+    assert_eq!(rt; broken.close(), Err(Failed));
+}
+
+#[test]
+fn closes_a_broken_socket(rt: HostRuntime) {
+    let mut broken = SocketSink::new(Broken);
     assert_eq!(rt; broken.close(), Err(Failed));
 }
 
