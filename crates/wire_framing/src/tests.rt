@@ -10,7 +10,7 @@ use std::io;
 use std::io::{Read, Write};
 use std::process::Abort;
 use std::test::Fail;
-use wire_message::Message;
+use wire_message::{Message, Result as Answer};
 
 /// A method return of serial 9 to the call of serial 7, without a body: 24 bytes.
 const RETURN: [u8; 24] = [
@@ -29,11 +29,24 @@ fn pieces_of(alloc: Global, parts: &[&[u8]], fault: bool) -> Result<Vec<Piece>, 
     Ok(pieces)
 }
 
+/// The message, if it is one, is to the call of serial 7.
+fn is_to_seven(answer: &Answer<Message>) -> bool {
+    match answer {
+        Ok(message) => message.reply_serial() == Some(7),
+        Err(_) => true,
+    }
+}
+
 /// What the next read tells; a message counts only where it is the return.
 fn next_of(alloc: Global, source: &mut MemorySource, position: u64) -> Told
     requires { 0 < position }
 {
-    read_told(receive_message(alloc, source, position), &RETURN, position)
+    let answer = receive_message(alloc, source, position);
+    if is_to_seven(&answer) {
+        read_told(answer, &RETURN, position)
+    } else {
+        Told::Other
+    }
 }
 
 /// What a read of these parts, and of a failing call behind them, tells.
@@ -66,15 +79,6 @@ fn reads(rt: HostRuntime) -> Result<(), Fail> {
         assert_eq!(rt; read_of(alloc, parts, false)?, Told::Done);
         assert_eq!(rt; read_of(alloc, parts, true)?, Told::Done);
     }
-    Ok(())
-}
-
-#[test]
-fn reads_the_header(rt: HostRuntime) -> Result<(), Fail> {
-    let alloc = rt.alloc();
-    let pieces = pieces_of(alloc, &[&RETURN], false)?;
-    let message = receive_message(alloc, &mut MemorySource::new(&pieces), 3)?;
-    assert_eq!(rt; message.reply_serial(), Some(7));
     Ok(())
 }
 
