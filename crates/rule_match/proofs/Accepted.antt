@@ -1,10 +1,10 @@
 -- The test of a message is the relation between it and the rule.
-use Rattle.std.proofs.Common.{ℕ, ◌≡◌, ◌<◌, refl, sym, ap, ◌∙◌, Bool, true, false, not, ◌&&◌, ◌||◌, ◌⊎◌, inl, inr, ◌↔◌, List, [], ◌∷◌, take, drop, length, Option, Some, None, unwrap_or, slice_get, IfSome, IsSomeAnd, IsTrue, codes}
+use Rattle.std.proofs.Common.{ℕ, ◌≡◌, ◌<◌, refl, sym, ap, ◌∙◌, Bool, true, false, not, ◌||◌, ◌⊎◌, inl, inr, ◌↔◌, List, [], ◌∷◌, drop, Option, Some, None, unwrap_or, IfSome, IsTrue, codes}
 use Rattle.std.specs.List.{list_all, All, AllByRecursion}
 use Rattle.std.proofs.lemmas.Bool.{eqb-true}
 use Rattle.std.proofs.lemmas.List.Elements.{All-take, All-drop, All-head, All-tail}
 use Rattle.wire_number.specs.declared.endian.Endian.{Endian}
-use Rattle.wire_names.specs.Names.{is_unique_name, IsUniqueName}
+use Rattle.wire_names.specs.Names.{is_unique_name}
 use Rattle.wire_names.specs.declared.bus.OwnedBusName.{OwnedBusName}
 use Rattle.wire_names.specs.declared.bus.OwnedBusName.TheVariants.{Unique, WellKnown}
 use Rattle.wire_tree.specs.Datum.{Datum, string, object_path, text}
@@ -13,7 +13,6 @@ use Rattle.wire_message.specs.Front.{Seen, body_bytes, body_len, header_len, kin
 use Rattle.wire_message.specs.declared.kind.MessageType.{MessageType}
 use Rattle.wire_message.specs.declared.kind.MessageType.TheVariants as types
 use Rattle.rule_arguments.specs.declared.arguments.Argument.{Argument}
-use Rattle.rule_arguments.specs.Body.{HasArgument}
 use Rattle.rule_arguments.specs.Below.{IsAtOrBelow}
 use Rattle.rule_arguments.specs.Wanted.{HasString, HasPath, HasNameIn}
 use Rattle.rule_arguments.specs.Passing.{same, is_at_or_below, is_string, is_path, is_name_in, has_at}
@@ -23,8 +22,8 @@ use Rattle.rule_arguments.proofs.Matching.{string_is, path_is, name_is, at_found
 use Rattle.rule_match.specs.declared.place.PathSpec.{PathSpec}
 use Rattle.rule_match.specs.declared.place.PathSpec.TheVariants.{Path, PathNamespace}
 use Rattle.rule_match.specs.Rule.{Rule}
-use Rattle.rule_match.specs.Matching.{Matches, IsSender, IsPlace, IsDestination, signature_text, wanted_of}
-use Rattle.rule_match.specs.Accepting.{is_none_or, is_kind, is_text, accepts_sender, is_path_in, accepts_place, accepts_destination, accepts_header, arguments_in, arguments_of, accepts_arguments, accepts}
+use Rattle.rule_match.specs.Matching.{Matches, IsSender, IsPlace, IsDestination, signature_text}
+use Rattle.rule_match.specs.Accepting.{is_none_or, is_kind, is_text, accepts_sender, accepts_place, accepts_destination, accepts_header, arguments_in, accepts_arguments, accepts}
 use Rattle.rule_match.proofs.BodyArguments.{argument_found, argument_again}
 
 -- ---- parts

@@ -94,7 +94,8 @@ pub fn a_message_matches_its_header()
     ensures { (m : Seen) → Matches (header_rule (head_of m)) m }
 {}
 
-/// The test of a message by a rule is true exactly where the message matches the rule, whatever bytes the message has.
+/// The function `accepts` of the definitions is true exactly where the message matches the rule. Of the message's bytes it asks
+/// only that each is below 256.
 pub fn accepting_is_matching()
     ensures { (r : Rule) (m : Seen) → All (λ b. b < 256) m.bytes → IsTrue (accepts r m) ↔ Matches r m }
 {}

@@ -197,6 +197,8 @@ impl MatchRule {
     /// A unique sender is to be the header's own, and a well-known one refuses no message. A path namespace accepts its path
     /// and all below it, by whole elements. A destination refuses only messages with another unique one. Arguments are those
     /// that the body spells by its signature; where it can't be read so, it has none.
+    ///
+    /// The answer is stated twice: by the relation `Matches`, and as what the function `accepts` computes.
     pub fn matches(&self, message: &Message) -> bool
         ensures matches { IsTrue result ↔ Matches self.now message.now }
         ensures accepts { result ≡ accepts self.now message.now }
