@@ -21,7 +21,7 @@ use Rattle.rule_arguments.proofs.Steps.{same_rest}
 
 -- ---- one test
 
-string_is : (wanted : List ℕ) (d : Datum) → is_string wanted d ≡ true → d ≡ text string wanted
+pub string_is : (wanted : List ℕ) (d : Datum) → is_string wanted d ≡ true → d ≡ text string wanted
 string_is wanted (num n v) h = absurd (cc)
 string_is wanted (text string bytes) h = ap (text string) (same_is bytes wanted h)
 string_is wanted (text object_path bytes) h = absurd (cc)
@@ -31,7 +31,7 @@ string_is wanted (dict k v es) h = absurd (cc)
 string_is wanted (struct ds) h = absurd (cc)
 string_is wanted (variant d) h = absurd (cc)
 
-path_is : (wanted : List ℕ) (d : Datum) → is_path wanted d ≡ true → d ≡ text object_path wanted
+pub path_is : (wanted : List ℕ) (d : Datum) → is_path wanted d ≡ true → d ≡ text object_path wanted
 path_is wanted (num n v) h = absurd (cc)
 path_is wanted (text string bytes) h = absurd (cc)
 path_is wanted (text object_path bytes) h = ap (text object_path) (same_is bytes wanted h)
@@ -41,7 +41,7 @@ path_is wanted (dict k v es) h = absurd (cc)
 path_is wanted (struct ds) h = absurd (cc)
 path_is wanted (variant d) h = absurd (cc)
 
-name_is : (namespace : List ℕ) (d : Datum) → is_name_in namespace d ≡ true → (name : List ℕ) × (d ≡ text string name) × IsBusName name × IsAtOrBelow 46 namespace name
+pub name_is : (namespace : List ℕ) (d : Datum) → is_name_in namespace d ≡ true → (name : List ℕ) × (d ≡ text string name) × IsBusName name × IsAtOrBelow 46 namespace name
 name_is namespace (num n v) h = absurd (cc)
 name_is namespace (text string bytes) h = (bytes, refl, first_true _ _ h, below_from_test 46 namespace bytes (second_true _ _ h))
 name_is namespace (text object_path bytes) h = absurd (cc)
@@ -51,12 +51,12 @@ name_is namespace (dict k v es) h = absurd (cc)
 name_is namespace (struct ds) h = absurd (cc)
 name_is namespace (variant d) h = absurd (cc)
 
-at_found : (test : Datum → Bool) (k : ℕ) (ds : List Datum) → has_at test k ds ≡ true → (d : Datum) × (slice_get ds k ≡ Some d) × (test d ≡ true)
+pub at_found : (test : Datum → Bool) (k : ℕ) (ds : List Datum) → has_at test k ds ≡ true → (d : Datum) × (slice_get ds k ≡ Some d) × (test d ≡ true)
 at_found test k [] h = absurd (cc)
 at_found test zero (d ∷ ds) h = (d, refl, h)
 at_found test (suc k) (d ∷ ds) h = at_found test k ds h
 
-at_again : (test : Datum → Bool) (k : ℕ) (ds : List Datum) (d : Datum) → slice_get ds k ≡ Some d → test d ≡ true → has_at test k ds ≡ true
+pub at_again : (test : Datum → Bool) (k : ℕ) (ds : List Datum) (d : Datum) → slice_get ds k ≡ Some d → test d ≡ true → has_at test k ds ≡ true
 at_again test k [] d e h = absurd (cc)
 at_again test zero (x ∷ ds) d e h = ap test (some_is x d e) ∙ h
 at_again test (suc k) (x ∷ ds) d e h = at_again test k ds d e h

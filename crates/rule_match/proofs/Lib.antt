@@ -8,4 +8,6 @@ pub mod Reread
 pub mod Same
 pub mod Again
 pub mod Own
+pub mod BodyArguments
+pub mod Accepted
 pub mod Equal

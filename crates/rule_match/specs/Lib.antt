@@ -8,3 +8,4 @@ pub mod Text
 pub mod Printing
 pub mod Again
 pub mod Matching
+pub mod Accepting

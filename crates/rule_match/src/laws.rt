@@ -1,8 +1,10 @@
 //! Laws of rules.
-ghost use Rattle.std.specs.Prelude.{◌≡◌, ◌↔◌, Ok, IfSome, IsTrue};
+ghost use Rattle.std.specs.Prelude.{◌≡◌, ◌<◌, ◌↔◌, Ok, IfSome, IsTrue};
+ghost use Rattle.std.specs.List.{All};
 ghost use Rattle.wire_message.specs.Front.{Seen};
 ghost use Rattle.wire_message.specs.Primary.{head_of};
 ghost use Rattle.wire_names.specs.Names.{IsUniqueName, IsInterfaceName, IsMemberName, IsObjectPath};
+ghost use Rattle.rule_match.specs.Accepting.{accepts};
 ghost use Rattle.rule_match.specs.Again.{IsReadable};
 ghost use Rattle.rule_match.specs.Matching.{Matches, header_rule};
 ghost use Rattle.rule_match.specs.Rule.{Rule, IsRule, HasNames, IsSender, place_text};
@@ -90,6 +92,12 @@ pub fn rules_hold_their_grammar(rule: &MatchRule)
 /// A message matches the rule of its own header.
 pub fn a_message_matches_its_header()
     ensures { (m : Seen) → Matches (header_rule (head_of m)) m }
+{}
+
+/// The function `accepts` of the definitions is true exactly where the message matches the rule. Of the message's bytes it asks
+/// only that each is below 256.
+pub fn accepting_is_matching()
+    ensures { (r : Rule) (m : Seen) → All (λ b. b < 256) m.bytes → IsTrue (accepts r m) ↔ Matches r m }
 {}
 
 /// Whether two rules are one, which is what `==` decides; equal rules are hashed alike, so they are one key of a map.

@@ -3,7 +3,8 @@
 
 pub use crate::building::Builder;
 pub use crate::laws::{
-    a_message_matches_its_header, is_one_rule, rules_are_read_again, rules_hold_their_grammar,
+    a_message_matches_its_header, accepting_is_matching, is_one_rule, rules_are_read_again,
+    rules_hold_their_grammar,
 };
 pub use crate::owned::OwnedMatchRule;
 pub use crate::place::PathSpec;

@@ -1,8 +1,10 @@
 //! Whether a message matches a rule.
 ghost use Rattle.std.specs.Prelude.{◌≡◌, ◌<◌, ◌↔◌, ◌⊎◌, length, [], Some, IfSome, IsTrue, codes, option_map, unwrap_or};
+ghost use Rattle.std.specs.List.{All};
 ghost use Rattle.wire_message.specs.Front.{body_bytes, order_at};
 ghost use Rattle.rule_arguments.specs.Below.{IsAtOrBelow};
 ghost use Rattle.rule_arguments.specs.Wanted.{ArgumentsMatch};
+ghost use Rattle.rule_match.specs.Accepting.{accepts};
 ghost use Rattle.rule_match.specs.Matching.{HeaderMatches, IsDestination, IsPlace, IsSender, Matches, signature_text, wanted_of};
 
 use crate::place::PathSpec;
@@ -150,6 +152,13 @@ fn namespace_of(name: &Option<Text>) -> Option<&str>
     }
 }
 
+/// Tells the proof that bytes are bytes.
+fn tell_bytes(bytes: &[u8])
+    ensures { All (λ b. b < 256) bytes.now }
+{
+    let _ = bytes;
+}
+
 impl MatchRule {
     /// Whether the message's arguments are those that are wanted.
     #[tactic(auto, using(wire_message::proofs::Heads::order_named))]
@@ -188,9 +197,13 @@ impl MatchRule {
     /// A unique sender is to be the header's own, and a well-known one refuses no message. A path namespace accepts its path
     /// and all below it, by whole elements. A destination refuses only messages with another unique one. Arguments are those
     /// that the body spells by its signature; where it can't be read so, it has none.
+    ///
+    /// The answer is stated twice: by the relation `Matches`, and as what the function `accepts` computes.
     pub fn matches(&self, message: &Message) -> bool
-        ensures { IsTrue result ↔ Matches self.now message.now }
+        ensures matches { IsTrue result ↔ Matches self.now message.now }
+        ensures accepts { result ≡ accepts self.now message.now }
     {
+        tell_bytes(message.data());
         self.match_header(message) && self.match_arguments(message)
     }
 }
