@@ -21,6 +21,8 @@ const ABSENT: &[u8] = b"-";
 pub(crate) enum Line {
     /// The peer has no bus, and perhaps a unique name.
     Direct(Option<OwnedUniqueName>),
+    /// How many messages a stream may hold.
+    Capacity(u64),
     /// The sink takes file descriptors.
     Fds,
     /// After how many bytes the sink fails a write.
