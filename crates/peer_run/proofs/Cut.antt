@@ -86,6 +86,10 @@ same_answer setting es stop bytes lane (words.Drop number) a b fa fb x y p q = x
 same_answer setting es stop bytes lane words.Stream a b fa fb x y p q = x ∙ sym y
 same_answer setting es stop bytes lane (words.Take number) a b fa fb x y p q = x ∙ sym y
 same_answer setting es stop bytes lane (words.TakeBefore number before) a b fa fb x y p q = x ∙ sym y
+same_answer setting es stop bytes lane (words.Clone number) a b fa fb x y p q = x ∙ sym y
+same_answer setting es stop bytes lane (words.Unstream number second) a b fa fb x y p q = x ∙ sym y
+same_answer setting es stop bytes lane (words.Queue number limit) a b fa fb x y p q = x ∙ sym y
+same_answer setting es stop bytes lane (words.MainQueue limit) a b fa fb x y p q = x ∙ sym y
 
 -- what is known of the newest entry
 record Newest (setting : Setting) (es : List Entry) (stop : Bool) (bytes : List ℕ) (e : Entry) : Type 0 where

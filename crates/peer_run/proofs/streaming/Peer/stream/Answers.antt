@@ -4,7 +4,7 @@ use Rattle.peer_run.specs.Stands.{PeerView, Follows, entry}
 use Rattle.peer_route.specs.declared.words.Words.TheVariants as words
 use Rattle.peer_route.specs.declared.answer.Answer.TheVariants.{Streaming}
 use Rattle.peer_run.proofs.StreamStep.{follows_stream}
-use Rattle.peer_run.proofs.peer.Peer.stream.Goals as goal
+use Rattle.peer_run.proofs.streaming.Peer.stream.Goals as goal
 
 pub returns-clause-follows : goal.returns-clause-follows
 returns-clause-follows c setting es f =
