@@ -68,3 +68,36 @@ returns-in-TakeBefore-clause-stands g c start_in start_out es s =
       writes = c.take_before.ensures.writes (setting_by c.args.setup.now.name c.args.setup.now.queue (g.W.Sink.takes c.args.writer.now.sink)) start_out _ es s.follows s.writes;
       fine = λ e. s.fine (step e);
     })
+
+pub returns-in-Unstream-clause-stands : goal.returns-in-Unstream-clause-stands
+returns-in-Unstream-clause-stands g c start_in start_out es s =
+    let before = fine_before (setting_by c.args.setup.now.name c.args.setup.now.queue (g.W.Sink.takes c.args.writer.now.sink)) es c.args.command.now.lane c.args.command.now.words c.unstream.result in
+    let step = rw (c.in-Unstream.is) at before in
+    rw (c.in-Unstream.is) (record {
+      follows = c.unstream.ensures.follows (setting_by c.args.setup.now.name c.args.setup.now.queue (g.W.Sink.takes c.args.writer.now.sink)) es s.follows;
+      reads = c.unstream.ensures.reads (setting_by c.args.setup.now.name c.args.setup.now.queue (g.W.Sink.takes c.args.writer.now.sink)) start_in _ es s.follows s.reads;
+      writes = c.unstream.ensures.writes (setting_by c.args.setup.now.name c.args.setup.now.queue (g.W.Sink.takes c.args.writer.now.sink)) start_out _ es s.follows s.writes;
+      fine = λ e. s.fine (step e);
+    })
+
+pub returns-in-Queue-clause-stands : goal.returns-in-Queue-clause-stands
+returns-in-Queue-clause-stands g c start_in start_out es s =
+    let before = fine_before (setting_by c.args.setup.now.name c.args.setup.now.queue (g.W.Sink.takes c.args.writer.now.sink)) es c.args.command.now.lane c.args.command.now.words c.queue.result in
+    let step = rw (c.in-Queue.is) at before in
+    rw (c.in-Queue.is) (record {
+      follows = c.queue.ensures.follows (setting_by c.args.setup.now.name c.args.setup.now.queue (g.W.Sink.takes c.args.writer.now.sink)) es s.follows;
+      reads = c.queue.ensures.reads (setting_by c.args.setup.now.name c.args.setup.now.queue (g.W.Sink.takes c.args.writer.now.sink)) start_in _ es s.follows s.reads;
+      writes = c.queue.ensures.writes (setting_by c.args.setup.now.name c.args.setup.now.queue (g.W.Sink.takes c.args.writer.now.sink)) start_out _ es s.follows s.writes;
+      fine = λ e. s.fine (step e);
+    })
+
+pub returns-in-MainQueue-clause-stands : goal.returns-in-MainQueue-clause-stands
+returns-in-MainQueue-clause-stands g c start_in start_out es s =
+    let before = fine_before (setting_by c.args.setup.now.name c.args.setup.now.queue (g.W.Sink.takes c.args.writer.now.sink)) es c.args.command.now.lane c.args.command.now.words c.main_queue.result in
+    let step = rw (c.in-MainQueue.is) at before in
+    rw (c.in-MainQueue.is) (record {
+      follows = c.main_queue.ensures.follows (setting_by c.args.setup.now.name c.args.setup.now.queue (g.W.Sink.takes c.args.writer.now.sink)) es s.follows;
+      reads = c.main_queue.ensures.reads (setting_by c.args.setup.now.name c.args.setup.now.queue (g.W.Sink.takes c.args.writer.now.sink)) start_in _ es s.follows s.reads;
+      writes = c.main_queue.ensures.writes (setting_by c.args.setup.now.name c.args.setup.now.queue (g.W.Sink.takes c.args.writer.now.sink)) start_out _ es s.follows s.writes;
+      fine = λ e. s.fine (step e);
+    })
