@@ -170,8 +170,8 @@ not_open t lane number c = ap (is_open_at t.events) c.named ∙ closed_there (st
 none_given : (t : Trail) (lane number : ℕ) → IsClosed t lane number → given t lane number ≡ None
 none_given t lane number c = ap (given_at t.events) c.named ∙ closed_given t.events (streams t.events) c.k c.closed
 
-refused_where : (a sent : Answer) (b : Bool) → a ≡ where_open b sent → b ≡ false → a ≡ answers.Refused errors.UnknownHandle
-refused_where a sent b is e = is ∙ ap (λ x. where_open x sent) e
+refused_where : (a there : Answer) (b : Bool) → a ≡ where_open b there → b ≡ false → a ≡ answers.Refused errors.UnknownHandle
+refused_where a there b is e = is ∙ ap (λ x. where_open x there) e
 
 first_not : (a b c : Bool) → a ≡ false → (a && b && c) ≡ false
 first_not false b c e = refl

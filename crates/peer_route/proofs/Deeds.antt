@@ -8,7 +8,7 @@ use Rattle.peer_route.specs.declared.words.Words.{Words}
 use Rattle.peer_route.specs.declared.words.Words.TheVariants as words
 use Rattle.peer_route.specs.declared.answer.Answer.{Answer}
 use Rattle.peer_route.specs.declared.answer.Answer.TheVariants as answers
-use Rattle.peer_route.specs.History.{Event, Took, Shut, Put, Wrote, Fault, Spent, Made, Did, Main, Deed, Gave, Told, Gone, Asked, closing, is_failed}
+use Rattle.peer_route.specs.History.{Event, Took, Shut, Put, Wrote, Fault, Spent, Made, Did, Main, Deed, Gave, Told, Gone, Asked, edit, closing, is_failed}
 use Rattle.peer_route.specs.Streams.{Stream, streams, new_stream, tell, end_one, done_by}
 use Rattle.peer_route.specs.Parcel as parcels
 use Rattle.peer_route.specs.Trail.{Trail, place, failed_put, send_events, read_events, poll_spends, drop_spends, stream_makes, take_does, clone_makes, gone_at, unstream_does, queue_does, main_sets, second_place, events_of}

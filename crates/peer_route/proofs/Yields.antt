@@ -309,9 +309,9 @@ unfolding is_open
 original h None e = cc
 original h (Some k) e = original_at h k (slice_get (streams h) k) refl e
 
-pub opened : (b : Bool) (sent a : Answer) → a ≡ where_open b sent → ((error : Error) → a ≡ answers.Refused error → ⊥) → (b ≡ true) × (a ≡ sent)
-opened true sent a is not_refused = (refl, is)
-opened false sent a is not_refused = absurd (not_refused errors.UnknownHandle is)
+pub opened : (b : Bool) (there a : Answer) → a ≡ where_open b there → ((error : Error) → a ≡ answers.Refused error → ⊥) → (b ≡ true) × (a ≡ there)
+opened true there a is not_refused = (refl, is)
+opened false there a is not_refused = absurd (not_refused errors.UnknownHandle is)
 
 flows_clone : (h : List Event) (s : Stream) → IsWithin h s → Flows (read h) (matched h (clone_of h (Some s))) s.from (s.skip + s.taken) 0 (length (read h)) (held h s) []
 unfolding matched
