@@ -1,8 +1,7 @@
 -- A stream that was closed is unknown for good.
-use Rattle.std.proofs.Common.{◌≡◌, inl, inr, ℕ, zero, suc, ◌==◌, ◌&&◌, ◌||◌, not, refl, sym, ◌∙◌, ap, subst, Bool, true, false, is_some, List, [], ◌∷◌, ◌++◌, Option, Some, None, Ok, Err}
+use Rattle.std.proofs.Common.{◌≡◌, inl, inr, ℕ, zero, suc, ◌==◌, ◌&&◌, not, refl, sym, ◌∙◌, ap, subst, Bool, true, false, is_some, List, [], ◌∷◌, ◌++◌, Option, Some, None, Err}
 use Rattle.std.specs.List.{slice_get, AllByRecursion}
 use Rattle.std.proofs.lemmas.Bool.{or_cases, eqb-true}
-use Rattle.wire_message.specs.Front.{Seen}
 use Rattle.wire_message.specs.declared.error.Error.TheVariants as errors
 use Rattle.peer_route.specs.declared.words.Words.{Words}
 use Rattle.peer_route.specs.declared.words.Words.TheVariants as words
@@ -13,7 +12,7 @@ use Rattle.peer_route.specs.History.{Event, Took, Shut, Put, Wrote, Fault, Spent
 use Rattle.peer_route.specs.Streams.{Stream, streams, new_stream, done_by, is_there, is_open, gave_last, take_at, take_answer}
 use Rattle.peer_route.specs.Parcel.{Setting}
 use Rattle.peer_route.specs.CallMessage.{reply_asked, error_asked}
-use Rattle.peer_route.specs.Trail.{Trail, place, given_by, given_at, given, trail, unstream_does, second_place, events_of, new_streams}
+use Rattle.peer_route.specs.Trail.{Trail, place, given_by, given_at, given, trail, unstream_does, events_of, new_streams}
 use Rattle.peer_route.specs.Answers.{IsAnswer, IsSendOf, Legal, shown_take, take_of, take_before_of, where_open, is_open_at, are_open_at}
 use Rattle.peer_route.specs.StreamLaws.{names_stream, closes_stream, IsNoStream}
 use Rattle.peer_route.proofs.Edits.{edit_there}
@@ -103,8 +102,7 @@ closes_both h p q e f =
     let first : closed_at (streams (Did m.0 Gone ∷ h)) m.0 ≡ true = closed_here m.0 (streams h) m.2 in
     let there : is_some (slice_get (streams (Did m.0 Gone ∷ h)) n.0) ≡ true = edit_there (done_by Gone) m.0 n.0 (streams h) ∙ n.2 in
     let does : unstream_does p q answers.Gone ≡ Did n.0 Gone ∷ Did m.0 Gone ∷ [] =
-    ap (λ o. unstream_does o q answers.Gone) m.1 ∙ ap (λ o. unstream_does (Some m.0) o answers.Gone) n.1 in
-    (
+    ap (λ o. unstream_does o q answers.Gone) m.1 ∙ ap (λ o. unstream_does (Some m.0) o answers.Gone) n.1 in (
       (m.0, m.1, subst (λ xs. closed_at (streams (xs ++ h)) m.0 ≡ true) (sym does) (closed_edit Gone n.0 m.0 (streams (Did m.0 Gone ∷ h)) first)),
       (n.0, n.1, subst (λ xs. closed_at (streams (xs ++ h)) n.0 ≡ true) (sym does) (closed_here n.0 (streams (Did m.0 Gone ∷ h)) there)),
     )

@@ -1,5 +1,5 @@
 -- Lists of which one element is changed, or behind which one more is put.
-use Rattle.std.proofs.Common.{◌≡◌, ◌≢◌, ℕ, ◌+◌, ◌≤◌, zero, suc, refl, sym, ◌∙◌, ap, arith, is_some, List, [], ◌∷◌, ◌++◌, length, take, drop, map, Option, Some, None}
+use Rattle.std.proofs.Common.{◌≡◌, ◌≢◌, ℕ, ◌+◌, ◌≤◌, zero, suc, refl, ap, arith, is_some, List, [], ◌∷◌, ◌++◌, length, take, drop, map, Some}
 use Rattle.std.specs.List.{slice_get, slice_set}
 use Rattle.peer_route.specs.History.{edit}
 

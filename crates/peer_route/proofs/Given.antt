@@ -10,7 +10,7 @@ use Rattle.wire_message.specs.declared.error.Error.TheVariants as errors
 use Rattle.peer_route.specs.declared.polled.Polled.{Polled}
 use Rattle.peer_route.specs.declared.polled.Polled.TheVariants as polled
 use Rattle.peer_route.specs.History.{Event, Took, Made, Did, Main, Making, Plain, Cloned, Gone, Asked, read, closing, edit}
-use Rattle.peer_route.specs.Streams.{Stream, streams, plain_stream, clone_of, new_stream, give, tell, end_one, matched, offered, held, item_at, gave_last, all_given, take_by, take_at, take_answer, take_events}
+use Rattle.peer_route.specs.Streams.{Stream, streams, clone_of, new_stream, give, tell, end_one, matched, offered, held, item_at, gave_last, all_given, take_by, take_at, take_answer, take_events}
 use Rattle.peer_route.specs.Left.{IsWithin, View, Left}
 use Rattle.peer_route.specs.Trail.{given_by, given_at, kept_by, kept_at}
 use Rattle.peer_route.proofs.Edits.{edit_nothing, map_edit, map_edit_all, set_edit, get_push, get_first}
@@ -85,6 +85,9 @@ given_gone h k =
     each_same (Did k Gone ∷ h) h (edit k end_one (streams h)) refl
     ∙ map_edit_all (gave_last h) end_one (λ o. None) (streams h) k (closed_gave h)
     ∙ sym (set_edit (all_given h) k None)
+
+pub given_gone_both : (h : List Event) (k j : ℕ) → all_given (Did j Gone ∷ Did k Gone ∷ h) ≡ slice_set (slice_set (all_given h) k None) j None
+given_gone_both h k j = given_gone (Did k Gone ∷ h) j ∙ ap (λ os. slice_set os j None) (given_gone h k)
 
 pub given_asked : (h : List Event) (k limit : ℕ) → all_given (Did k (Asked limit) ∷ h) ≡ all_given h
 given_asked h k limit = given_same (Did k (Asked limit) ∷ h) h refl (edit_nothing k (streams h))

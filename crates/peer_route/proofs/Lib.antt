@@ -26,6 +26,7 @@ pub mod Within
 pub mod Yields
 pub mod Drained
 pub mod ClosedStreams
+pub mod Closings
 pub mod OtherStreams
 pub mod Sent
 pub mod Index

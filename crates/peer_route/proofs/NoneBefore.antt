@@ -27,11 +27,11 @@ sent_other : (expects : Bool) (call serial : ℕ) → sent_answer expects call s
 sent_other true call serial e = cc
 sent_other false call serial e = cc
 
-called_other : (r : Option Error) (failed : Bool) (sent a : Answer) → (sent ≡ answers.NoneBefore → ⊥) → IsCalled r failed sent a → a ≡ answers.NoneBefore → ⊥
-called_other (Some error) failed sent a other is e = let q : answers.Refused error ≡ answers.NoneBefore = sym is ∙ e in cc
-called_other None true sent a other is e = let q : write_fault ≡ answers.NoneBefore = sym is ∙ e in cc
-called_other None false sent a other (inl is) e = other (sym is ∙ e)
-called_other None false sent a other (inr is) e = let q : write_fault ≡ answers.NoneBefore = sym is ∙ e in cc
+called_other : (r : Option Error) (failed : Bool) (success a : Answer) → (success ≡ answers.NoneBefore → ⊥) → IsCalled r failed success a → a ≡ answers.NoneBefore → ⊥
+called_other (Some error) failed success a other is e = let q : answers.Refused error ≡ answers.NoneBefore = sym is ∙ e in cc
+called_other None true success a other is e = let q : write_fault ≡ answers.NoneBefore = sym is ∙ e in cc
+called_other None false success a other (inl is) e = other (sym is ∙ e)
+called_other None false success a other (inr is) e = let q : write_fault ≡ answers.NoneBefore = sym is ∙ e in cc
 
 send_other : (t : Trail) (lane : ℕ) (asked : Asked) (a : Answer) → IsSendOf t lane asked a → a ≡ answers.NoneBefore → ⊥
 send_other t lane asked a is e = called_other _ (is_failed t.events) _ a (sent_other (expects asked) _ _) is e

@@ -1,5 +1,5 @@
 -- What a stream does, and what a capacity is, leaves what each other stream gives.
-use Rattle.std.proofs.Common.{◌≡◌, ◌≢◌, ℕ, refl, sym, ◌∙◌, ap, max, List, [], ◌∷◌, Option, Some, None}
+use Rattle.std.proofs.Common.{◌≡◌, ◌≢◌, ℕ, refl, ◌∙◌, ap, max, List, ◌∷◌, Option, Some, None}
 use Rattle.std.specs.List.{slice_get}
 use Rattle.peer_route.specs.History.{Event, Did, Main, Deed, Asked}
 use Rattle.peer_route.specs.Streams.{Stream, streams, done_by, matched, offered, held, main, take_at, take_answer}

@@ -1,5 +1,5 @@
 -- What a lane's take is, by its answer: nothing new, an item, the closing error, or the end.
-use Rattle.std.proofs.Common.{◌≡◌, ◌≢◌, ◌⊎◌, inl, inr, ℕ, ◌==◌, refl, sym, ◌∙◌, ap, subst, Bool, true, false, if◌then◌else◌, List, [], ◌∷◌, ◌++◌, Option, Some, None, Ok, Err}
+use Rattle.std.proofs.Common.{◌≡◌, ◌≢◌, ◌⊎◌, inl, inr, ℕ, refl, sym, ◌∙◌, ap, subst, Bool, true, false, if◌then◌else◌, List, [], ◌∷◌, Option, Some, None, Ok, Err}
 use Rattle.std.specs.List.{slice_get}
 use Rattle.std.proofs.lemmas.Bool.{eqb-true}
 use Rattle.wire_message.specs.Front.{Seen}
@@ -9,7 +9,7 @@ use Rattle.peer_route.specs.declared.words.Words.{Words}
 use Rattle.peer_route.specs.declared.words.Words.TheVariants as words
 use Rattle.peer_route.specs.declared.answer.Answer.{Answer}
 use Rattle.peer_route.specs.declared.answer.Answer.TheVariants as answers
-use Rattle.peer_route.specs.History.{Event, Did, Deed, Gave, Told, closing}
+use Rattle.peer_route.specs.History.{Event, Did, Gave, Told, closing}
 use Rattle.peer_route.specs.Streams.{Stream, streams, held, take_by, take_at, take_answer}
 use Rattle.peer_route.specs.Trail.{Trail, place, take_does}
 use Rattle.peer_route.specs.Answers.{IsAnswer, shown_take, take_of}
