@@ -4,6 +4,7 @@ pub mod Plain
 pub mod Queues
 pub mod CallsMade
 pub mod Slots
+pub mod Matched
 pub mod StreamsMade
 pub mod Given
 pub mod AnyOrder
@@ -18,8 +19,15 @@ pub mod Read
 pub mod Others
 pub mod Lanes
 pub mod StreamLanes
+pub mod Edits
+pub mod Deeds
+pub mod Takes
+pub mod Within
 pub mod Yields
 pub mod Drained
+pub mod ClosedStreams
+pub mod Closings
+pub mod OtherStreams
 pub mod Sent
 pub mod Index
 pub mod Waiting
