@@ -1,11 +1,11 @@
 -- A clone, a stream that is closed, a capacity: each is one entry more.
-use Rattle.std.proofs.Common.{◌≡◌, ◌≢◌, ℕ, ◌==◌, ◌&&◌, not, refl, sym, ◌∙◌, ap, subst, Bool, true, false, List, [], ◌∷◌, ◌++◌, Option, Some, None, Result, Ok, Err, IfOk}
+use Rattle.std.proofs.Common.{◌≡◌, ℕ, refl, sym, ◌∙◌, ap, subst, Bool, true, false, List, [], ◌∷◌, ◌++◌, Option, Some, None, Result, Ok, Err, IfOk}
 use Rattle.std.specs.List.{slice_set}
 use Rattle.std.proofs.lemmas.List.{append-nil}
-use Rattle.std.proofs.lemmas.Bool.{eqb-true, eq-eqb, ne_eqb}
+use Rattle.wire_message.specs.Front.{Seen}
 use Rattle.wire_message.specs.declared.error.Error.{Error}
 use Rattle.wire_message.specs.declared.error.Error.TheVariants as errors
-use Rattle.peer_route.specs.Parcel.{Setting}
+use Rattle.peer_route.specs.Parcel.{Setting, Asked}
 use Rattle.peer_route.specs.declared.words.Words.{Words}
 use Rattle.peer_route.specs.declared.words.Words.TheVariants as words
 use Rattle.peer_route.specs.declared.answer.Answer.{Answer}
@@ -13,12 +13,12 @@ use Rattle.peer_route.specs.declared.answer.Answer.TheVariants as answers
 use Rattle.peer_route.specs.declared.answer.Entry.{Entry}
 use Rattle.peer_route.specs.History as events
 use Rattle.peer_route.specs.Streams as streams
-use Rattle.peer_route.specs.Trail.{Trail, Names, trail, place, count, events_of, clone_makes, unstream_does, second_place, queue_does}
+use Rattle.peer_route.specs.Trail.{Trail, trail, place, count, events_of, new_names, new_streams, clone_makes, unstream_does, second_place, queue_does}
 use Rattle.peer_route.specs.Answers.{IsAnswer, where_open, is_open_at, are_open_at}
 use Rattle.peer_route.specs.Told.{ReadTold}
 use Rattle.peer_route.specs.Left.{View, Left, Clones}
-use Rattle.peer_route.proofs.Given.{given_same, given_made, given_gone, given_asked}
-use Rattle.peer_route.proofs.Lanes.{apart}
+use Rattle.peer_route.proofs.Given.{given_made, given_gone, given_gone_both, given_asked, given_main}
+use Rattle.peer_route.proofs.Closings.{one_open, two_open, first_unnamed, second_unnamed, shown_by, shown_known, closes_so, asks_so}
 use Rattle.peer_route.proofs.Refused.{refused_changes_nothing}
 use Rattle.peer_run.specs.Stands.{PeerView, Inlet, Outlet, Follows, Reads, Writes, IsReadFault, IsWriteFault, IsRefusal, entry}
 use Rattle.peer_run.proofs.Quiet.{AreQuiet, clone_quiet, unstream_quiet, queue_quiet, main_quiet}
@@ -151,113 +151,91 @@ clone_refused setting p q es lane number k error (Err e) f named said names made
 
 -- ---- closing
 
-known_ok : (b : Bool) (u : Unit {0}) → Ok u ≡ streams.known b → b ≡ true
-known_ok true u e = refl
-known_ok false u e = cc
+shown_names : (h : List events.Event) (lane : ℕ) (w : Option Asked) (r : Result (Unit {0}) Error) → new_names h lane w (shown_by answers.Gone r) ≡ []
+shown_names h lane w (Ok done) = refl
+shown_names h lane w (Err error) = refl
 
-known_err : (b : Bool) (error : Error) → Err error ≡ streams.known b → (b ≡ false) × (error ≡ errors.UnknownHandle)
-known_err true error e = cc
-known_err false error e = (refl, cc)
+shown_streams : (lane : ℕ) (r : Result (Unit {0}) Error) → new_streams lane (shown_by answers.Gone r) ≡ []
+shown_streams lane (Ok done) = refl
+shown_streams lane (Err error) = refl
 
--- two numbers of a lane name two streams exactly where they are two
-same_places : (names : Names) (lane n m k j : ℕ) → place 0 lane n names ≡ Some k → place 0 lane m names ≡ Some j → (k == j) ≡ (n == m)
-same_places names lane n m k j at at₂ = by (n == m) refl
-  where
-    by : (b : Bool) → (n == m) ≡ b → (k == j) ≡ (n == m)
-    by true e = let is : n ≡ m = eqb-true n m e in
-        let same : Some k ≡ Some j = sym at ∙ ap (λ x. place 0 lane x names) is ∙ at₂ in
-        let s : k ≡ j = cc in
-        eq-eqb k j s ∙ sym e
-    by false e = ne_eqb k j (apart names lane n lane m k j at at₂ (λ l q. let t : (n == m) ≡ true = eq-eqb n m (sym q) in cc)) ∙ sym e
+-- for each stream the message that it gave last, once these are closed
+abbrev pub forgotten : {A E : Type 0} → ℕ → Option ℕ → Result A E → List (Option Seen) → List (Option Seen)
+forgotten k None (Ok done) gs = slice_set gs k None
+forgotten k (Some j) (Ok done) gs = slice_set (slice_set gs k None) j None
+forgotten k j (Err error) gs = gs
 
--- the lane's number, or either of two, names nothing
-pub unstream_unknown : (setting : Setting) (p : PeerView) (es : List Entry) (lane number : ℕ) → Follows setting p es → place 0 lane number p.streams ≡ None
-    → Follows setting p (entry lane (words.Unstream number None) (answers.Refused errors.UnknownHandle) ∷ es)
-unstream_unknown setting p es lane number f none =
+given_closed : (h : List events.Event) (k : ℕ) (j : Option ℕ) (r : Result (Unit {0}) Error)
+    → streams.all_given (streams.close_events k j r ++ h) ≡ forgotten k j r (streams.all_given h)
+given_closed h k None (Ok done) = given_gone h k
+given_closed h k (Some j) (Ok done) = given_gone_both h k j
+given_closed h k j (Err error) = refl
+
+-- what the core gave of closing
+follows_closed : (setting : Setting) (p q : PeerView) (es : List Entry) (lane number : ℕ) (second : Option ℕ) (k : ℕ) (j : Option ℕ) (r : Result (Unit {0}) Error)
+    → Follows setting p es → place 0 lane number p.streams ≡ Some k → second_place lane second (trail setting es).streams ≡ j
+    → are_open_at (trail setting es).events lane (trail setting es).streams number second ≡ streams.are_open (trail setting es).events k j
+    → r ≡ streams.close_answer (trail setting es).events k j
+    → q.names ≡ p.names → q.streams ≡ p.streams → q.given ≡ forgotten k j r p.given → Left q.core (streams.close_events k j r ++ (trail setting es).events)
+    → Follows setting q (entry lane (words.Unstream number second) (shown_by answers.Gone r) ∷ es)
+unfolding streams.close_answer
+follows_closed setting p q es lane number second k j r f named at₂ open answer names same given left =
     let t = trail setting es in
-    follows_refused setting p es lane (words.Unstream number None) errors.UnknownHandle f
-    (sym (ap (λ o. where_open (is_open_at t.events o) answers.Gone) (here setting p es lane number None f none)))
+    let a = shown_by answers.Gone r in
+    let at = here setting p es lane number (Some k) f named in
+    follows_quiet setting p q es lane (words.Unstream number second) a (unstream_does (Some k) j a) f
+    (ap (λ o. unstream_does o (second_place lane second t.streams) a) at ∙ ap (λ o. unstream_does (Some k) o a) at₂)
+    (unstream_quiet (Some k) j a)
+    (subst (λ xs. Left q.core (xs ++ t.events)) (sym (closes_so k j r)) left)
+    names (shown_names t.events lane None r) (same ∙ sym (append-nil p.streams) ∙ ap (λ ns. p.streams ++ ns) (sym (shown_streams lane r)))
+    (given ∙ ap (forgotten k j r) f.given ∙ sym (given_closed t.events k j r) ∙ ap (λ xs. streams.all_given (xs ++ t.events)) (sym (closes_so k j r)))
+    (ap (shown_by answers.Gone) answer ∙ shown_known answers.Gone (streams.are_open t.events k j) ∙ ap (λ b. where_open b answers.Gone) (sym open))
+
+pub follows_one : (setting : Setting) (p q : PeerView) (es : List Entry) (lane number k : ℕ) (r : Result (Unit {0}) Error)
+    → Follows setting p es → place 0 lane number p.streams ≡ Some k → r ≡ streams.close_answer (trail setting es).events k None
+    → q.names ≡ p.names → q.streams ≡ p.streams → q.given ≡ forgotten k None r p.given → Left q.core (streams.close_events k None r ++ (trail setting es).events)
+    → Follows setting q (entry lane (words.Unstream number None) (shown_by answers.Gone r) ∷ es)
+follows_one setting p q es lane number k r f named answer names same given left =
+    let t = trail setting es in
+    follows_closed setting p q es lane number None k None r f named refl (one_open t.events lane t.streams number k (here setting p es lane number (Some k) f named)) answer names same given left
+
+pub follows_two : (setting : Setting) (p q : PeerView) (es : List Entry) (lane number second k j : ℕ) (r : Result (Unit {0}) Error)
+    → Follows setting p es → place 0 lane number p.streams ≡ Some k → place 0 lane second p.streams ≡ Some j → r ≡ streams.close_answer (trail setting es).events k (Some j)
+    → q.names ≡ p.names → q.streams ≡ p.streams → q.given ≡ forgotten k (Some j) r p.given → Left q.core (streams.close_events k (Some j) r ++ (trail setting es).events)
+    → Follows setting q (entry lane (words.Unstream number (Some second)) (shown_by answers.Gone r) ∷ es)
+follows_two setting p q es lane number second k j r f named named₂ answer names same given left =
+    let t = trail setting es in
+    let at₂ = here setting p es lane second (Some j) f named₂ in
+    follows_closed setting p q es lane number (Some second) k (Some j) r f named at₂
+    (two_open t.events lane t.streams number second k j (here setting p es lane number (Some k) f named) at₂) answer names same given left
+
+-- the lane's number, or one of two, names nothing
+unnamed : (setting : Setting) (p : PeerView) (es : List Entry) (lane number : ℕ) (second : Option ℕ) → Follows setting p es
+    → are_open_at (trail setting es).events lane (trail setting es).streams number second ≡ false
+    → Follows setting p (entry lane (words.Unstream number second) (answers.Refused errors.UnknownHandle) ∷ es)
+unnamed setting p es lane number second f no =
+    follows_refused setting p es lane (words.Unstream number second) errors.UnknownHandle f (sym (ap (λ b. where_open b answers.Gone) no))
+
+pub one_unknown : (setting : Setting) (p : PeerView) (es : List Entry) (lane number : ℕ) → Follows setting p es → place 0 lane number p.streams ≡ None
+    → Follows setting p (entry lane (words.Unstream number None) (answers.Refused errors.UnknownHandle) ∷ es)
+one_unknown setting p es lane number f none =
+    unnamed setting p es lane number None f (ap (is_open_at (trail setting es).events) (here setting p es lane number None f none))
 
 pub first_unknown : (setting : Setting) (p : PeerView) (es : List Entry) (lane number second : ℕ) → Follows setting p es → place 0 lane number p.streams ≡ None
     → Follows setting p (entry lane (words.Unstream number (Some second)) (answers.Refused errors.UnknownHandle) ∷ es)
 first_unknown setting p es lane number second f none =
     let t = trail setting es in
-    follows_refused setting p es lane (words.Unstream number (Some second)) errors.UnknownHandle f
-    (sym (ap (λ o. where_open (is_open_at t.events o && is_open_at t.events (place 0 lane second t.streams) && not (number == second)) answers.Gone) (here setting p es lane number None f none)))
-
-and_none : (b c : Bool) → (b && false && c) ≡ false
-and_none true c = refl
-and_none false c = refl
+    unnamed setting p es lane number (Some second) f (first_unnamed t.events lane t.streams number second (here setting p es lane number None f none))
 
 pub second_unknown : (setting : Setting) (p : PeerView) (es : List Entry) (lane number second : ℕ) → Follows setting p es → place 0 lane second p.streams ≡ None
     → Follows setting p (entry lane (words.Unstream number (Some second)) (answers.Refused errors.UnknownHandle) ∷ es)
 second_unknown setting p es lane number second f none =
     let t = trail setting es in
-    let first = is_open_at t.events (place 0 lane number t.streams) in
-    let differ = not (number == second) in
-    follows_refused setting p es lane (words.Unstream number (Some second)) errors.UnknownHandle f
-    (sym (ap (λ o. where_open (first && is_open_at t.events o && differ) answers.Gone) (here setting p es lane second None f none)
-    ∙ ap (λ b. where_open b answers.Gone) (and_none first differ)))
+    unnamed setting p es lane number (Some second) f (second_unnamed t.events lane t.streams number second (here setting p es lane second None f none))
 
-pub one_refused : (setting : Setting) (p q : PeerView) (es : List Entry) (lane number k : ℕ) (error : Error) → Follows setting p es → place 0 lane number p.streams ≡ Some k
-    → Err error ≡ streams.close_answer (trail setting es).events k None → Follows setting q es
-    → Follows setting q (entry lane (words.Unstream number None) (answers.Refused error) ∷ es)
-unfolding streams.close_answer
-one_refused setting p q es lane number k error f named said g =
-    let t = trail setting es in
-    let no = known_err (streams.is_open t.events k) error said in
-    rw (no.1) (follows_refused setting q es lane (words.Unstream number None) errors.UnknownHandle g
-    (sym (ap (λ o. where_open (is_open_at t.events o) answers.Gone) (here setting p es lane number (Some k) f named) ∙ ap (λ b. where_open b answers.Gone) no.0)))
-
-pub follows_gone : (setting : Setting) (p q : PeerView) (es : List Entry) (lane number k : ℕ) (u : Unit {0}) → Follows setting p es → place 0 lane number p.streams ≡ Some k
-    → Ok u ≡ streams.close_answer (trail setting es).events k None → q.names ≡ p.names → q.streams ≡ p.streams → q.given ≡ slice_set p.given k None
-    → Left q.core (events.Did k events.Gone ∷ (trail setting es).events)
-    → Follows setting q (entry lane (words.Unstream number None) answers.Gone ∷ es)
-unfolding streams.close_answer
-follows_gone setting p q es lane number k u f named said names same given left =
-    let t = trail setting es in
-    let at = here setting p es lane number (Some k) f named in
-    follows_quiet setting p q es lane (words.Unstream number None) answers.Gone (events.Did k events.Gone ∷ []) f (ap (λ o. unstream_does o None answers.Gone) at) tt left
-    names refl (same ∙ sym (append-nil p.streams)) (given ∙ ap (λ gs. slice_set gs k None) f.given ∙ sym (given_gone t.events k))
-    (sym (ap (λ o. where_open (is_open_at t.events o) answers.Gone) at ∙ ap (λ b. where_open b answers.Gone) (known_ok (streams.is_open t.events k) u said)))
-
--- both numbers name a stream: what is asked of them by the history
-are_there : (setting : Setting) (p : PeerView) (es : List Entry) (lane number second k j : ℕ) → Follows setting p es → place 0 lane number p.streams ≡ Some k
-    → place 0 lane second p.streams ≡ Some j
-    → are_open_at (trail setting es).events lane (trail setting es).streams number (Some second) ≡ streams.are_open (trail setting es).events k (Some j)
-are_there setting p es lane number second k j f named named₂ =
-    let t = trail setting es in
-    let at = here setting p es lane number (Some k) f named in
-    let at₂ = here setting p es lane second (Some j) f named₂ in
-    ap (λ o. is_open_at t.events o && is_open_at t.events (place 0 lane second t.streams) && not (number == second)) at
-    ∙ ap (λ o. streams.is_open t.events k && is_open_at t.events o && not (number == second)) at₂
-    ∙ ap (λ b. streams.is_open t.events k && streams.is_open t.events j && not b) (sym (same_places t.streams lane number second k j at at₂))
-
-pub two_refused : (setting : Setting) (p q : PeerView) (es : List Entry) (lane number second k j : ℕ) (error : Error) → Follows setting p es → place 0 lane number p.streams ≡ Some k
-    → place 0 lane second p.streams ≡ Some j → Err error ≡ streams.close_answer (trail setting es).events k (Some j) → Follows setting q es
-    → Follows setting q (entry lane (words.Unstream number (Some second)) (answers.Refused error) ∷ es)
-unfolding streams.close_answer
-two_refused setting p q es lane number second k j error f named named₂ said g =
-    let t = trail setting es in
-    let no = known_err (streams.are_open t.events k (Some j)) error said in
-    rw (no.1) (follows_refused setting q es lane (words.Unstream number (Some second)) errors.UnknownHandle g
-    (sym (ap (λ b. where_open b answers.Gone) (are_there setting p es lane number second k j f named named₂ ∙ no.0))))
-
-pub follows_both_gone : (setting : Setting) (p q : PeerView) (es : List Entry) (lane number second k j : ℕ) (u : Unit {0}) → Follows setting p es
-    → place 0 lane number p.streams ≡ Some k → place 0 lane second p.streams ≡ Some j
-    → Ok u ≡ streams.close_answer (trail setting es).events k (Some j) → q.names ≡ p.names → q.streams ≡ p.streams → q.given ≡ slice_set (slice_set p.given k None) j None
-    → Left q.core (events.Did j events.Gone ∷ events.Did k events.Gone ∷ (trail setting es).events)
-    → Follows setting q (entry lane (words.Unstream number (Some second)) answers.Gone ∷ es)
-unfolding streams.close_answer
-follows_both_gone setting p q es lane number second k j u f named named₂ said names same given left =
-    let t = trail setting es in
-    let at = here setting p es lane number (Some k) f named in
-    let at₂ = here setting p es lane second (Some j) f named₂ in
-    follows_quiet setting p q es lane (words.Unstream number (Some second)) answers.Gone (events.Did j events.Gone ∷ events.Did k events.Gone ∷ []) f
-    (ap (λ o. unstream_does o (place 0 lane second t.streams) answers.Gone) at ∙ ap (λ o. unstream_does (Some k) o answers.Gone) at₂) tt left
-    names refl (same ∙ sym (append-nil p.streams))
-    (given ∙ ap (λ gs. slice_set (slice_set gs k None) j None) f.given ∙ ap (λ gs. slice_set gs j None) (sym (given_gone t.events k)) ∙ sym (given_gone (events.Did k events.Gone ∷ t.events) j))
-    (sym (ap (λ b. where_open b answers.Gone) (are_there setting p es lane number second k j f named named₂ ∙ known_ok (streams.are_open t.events k (Some j)) u said)))
+pub closed_plain : (r : Result (Unit {0}) Error) → IsPlain (shown_by answers.Gone r)
+closed_plain (Ok done) = tt
+closed_plain (Err error) = tt
 
 -- ---- capacities
 
@@ -268,27 +246,37 @@ queue_unknown setting p es lane number limit f none =
     follows_refused setting p es lane (words.Queue number limit) errors.UnknownHandle f
     (sym (ap (λ o. where_open (is_open_at t.events o) answers.Set) (here setting p es lane number None f none)))
 
-pub queue_refused : (setting : Setting) (p q : PeerView) (es : List Entry) (lane number limit k : ℕ) (error : Error) → Follows setting p es → place 0 lane number p.streams ≡ Some k
-    → Err error ≡ streams.ask_answer (trail setting es).events k → Follows setting q es
-    → Follows setting q (entry lane (words.Queue number limit) (answers.Refused error) ∷ es)
-unfolding streams.ask_answer
-queue_refused setting p q es lane number limit k error f named said g =
-    let t = trail setting es in
-    let no = known_err (streams.is_open t.events k) error said in
-    rw (no.1) (follows_refused setting q es lane (words.Queue number limit) errors.UnknownHandle g
-    (sym (ap (λ o. where_open (is_open_at t.events o) answers.Set) (here setting p es lane number (Some k) f named) ∙ ap (λ b. where_open b answers.Set) no.0)))
+asked_names : (h : List events.Event) (lane : ℕ) (w : Option Asked) (r : Result (Unit {0}) Error) → new_names h lane w (shown_by answers.Set r) ≡ []
+asked_names h lane w (Ok done) = refl
+asked_names h lane w (Err error) = refl
 
-pub follows_queue : (setting : Setting) (p q : PeerView) (es : List Entry) (lane number limit k : ℕ) (u : Unit {0}) → Follows setting p es → place 0 lane number p.streams ≡ Some k
-    → Ok u ≡ streams.ask_answer (trail setting es).events k → q.names ≡ p.names → q.streams ≡ p.streams → q.given ≡ p.given
-    → Left q.core (events.Did k (events.Asked limit) ∷ (trail setting es).events)
-    → Follows setting q (entry lane (words.Queue number limit) answers.Set ∷ es)
+asked_streams : (lane : ℕ) (r : Result (Unit {0}) Error) → new_streams lane (shown_by answers.Set r) ≡ []
+asked_streams lane (Ok done) = refl
+asked_streams lane (Err error) = refl
+
+given_as_asked : (h : List events.Event) (k limit : ℕ) (r : Result (Unit {0}) Error) → streams.all_given (streams.ask_events k limit r ++ h) ≡ streams.all_given h
+given_as_asked h k limit (Ok done) = given_asked h k limit
+given_as_asked h k limit (Err error) = refl
+
+pub follows_queue : (setting : Setting) (p q : PeerView) (es : List Entry) (lane number limit k : ℕ) (r : Result (Unit {0}) Error) → Follows setting p es
+    → place 0 lane number p.streams ≡ Some k → r ≡ streams.ask_answer (trail setting es).events k
+    → q.names ≡ p.names → q.streams ≡ p.streams → q.given ≡ p.given → Left q.core (streams.ask_events k limit r ++ (trail setting es).events)
+    → Follows setting q (entry lane (words.Queue number limit) (shown_by answers.Set r) ∷ es)
 unfolding streams.ask_answer
-follows_queue setting p q es lane number limit k u f named said names same given left =
+follows_queue setting p q es lane number limit k r f named answer names same given left =
     let t = trail setting es in
+    let a = shown_by answers.Set r in
     let at = here setting p es lane number (Some k) f named in
-    follows_quiet setting p q es lane (words.Queue number limit) answers.Set (events.Did k (events.Asked limit) ∷ []) f (ap (λ o. queue_does o limit answers.Set) at) tt left
-    names refl (same ∙ sym (append-nil p.streams)) (given ∙ f.given ∙ sym (given_asked t.events k limit))
-    (sym (ap (λ o. where_open (is_open_at t.events o) answers.Set) at ∙ ap (λ b. where_open b answers.Set) (known_ok (streams.is_open t.events k) u said)))
+    follows_quiet setting p q es lane (words.Queue number limit) a (queue_does (Some k) limit a) f (ap (λ o. queue_does o limit a) at)
+    (queue_quiet (Some k) limit a)
+    (subst (λ xs. Left q.core (xs ++ t.events)) (sym (asks_so k limit r)) left)
+    names (asked_names t.events lane None r) (same ∙ sym (append-nil p.streams) ∙ ap (λ ns. p.streams ++ ns) (sym (asked_streams lane r)))
+    (given ∙ f.given ∙ sym (given_as_asked t.events k limit r) ∙ ap (λ xs. streams.all_given (xs ++ t.events)) (sym (asks_so k limit r)))
+    (ap (shown_by answers.Set) answer ∙ shown_known answers.Set (streams.is_open t.events k) ∙ ap (λ o. where_open (is_open_at t.events o) answers.Set) (sym at))
+
+pub asked_plain : (r : Result (Unit {0}) Error) → IsPlain (shown_by answers.Set r)
+asked_plain (Ok done) = tt
+asked_plain (Err error) = tt
 
 pub follows_main : (setting : Setting) (p q : PeerView) (es : List Entry) (lane limit : ℕ) → Follows setting p es
     → q.names ≡ p.names → q.streams ≡ p.streams → q.given ≡ p.given → Left q.core (events.Main limit ∷ (trail setting es).events)
@@ -296,4 +284,4 @@ pub follows_main : (setting : Setting) (p q : PeerView) (es : List Entry) (lane 
 follows_main setting p q es lane limit f names same given left =
     let t = trail setting es in
     follows_quiet setting p q es lane (words.MainQueue limit) answers.Set (events.Main limit ∷ []) f refl tt left
-    names refl (same ∙ sym (append-nil p.streams)) (given ∙ f.given ∙ sym (given_same (events.Main limit ∷ t.events) t.events refl refl)) refl
+    names refl (same ∙ sym (append-nil p.streams)) (given ∙ f.given ∙ sym (given_main t.events limit)) refl
