@@ -1,6 +1,6 @@
 -- What a sink of bytes answers, over what it tells of itself: the bytes that it holds, how many more it takes before the
--- one write that fails, and how many calls have failed.
-use Rattle.std.specs.Prelude.{ℕ, ◌≡◌, ◌-◌, ◌<◌, ◌≤◌, List, length, take, Option, Some, None, Result, Ok, Err}
+-- one write that fails, how many calls have failed, and how often it was asked to close.
+use Rattle.std.specs.Prelude.{ℕ, ◌≡◌, ◌+◌, ◌-◌, ◌^◌, min, ◌<◌, ◌≤◌, List, length, take, Option, Some, None, Result, Ok, Err}
 use Rattle.std.specs.Io.KnownBytes.{Appends, Keeps}
 use Rattle.wire_framing.specs.Source.{MayRise}
 use Rattle.wire_framing.specs.declared.sink.Refusal.{Refusal}
@@ -35,8 +35,13 @@ Writes (Err refusals.Failed) piece held held' room room' faults faults' =
 Writes (Err refusals.Memory) piece held held' room room' faults faults' =
     Keeps held held' × RoomStays room room' × (faults' ≡ faults)
 
--- What `close` answers: it appends nothing and leaves the room. Failed only where the count of faults rose, and never
--- where room is told.
+-- What `close` answers: it appends nothing and leaves the room. Ok only where no call failed, so that the count of faults
+-- stays; Failed only where that count rose, and never where room is told.
 abbrev pub Closes : {A E : Type 0} → Result A E → Option (List ℕ) → Option (List ℕ) → Option (Option ℕ) → Option (Option ℕ) → ℕ → ℕ → Type 0
-Closes (Ok done) held held' room room' faults faults' = Keeps held held' × RoomStays room room' × (faults ≤ faults')
+Closes (Ok done) held held' room room' faults faults' = Keeps held held' × RoomStays room room' × (faults' ≡ faults)
 Closes (Err e) held held' room room' faults faults' = Keeps held held' × (room ≡ None) × MayRise faults faults'
+
+-- How often a sink was asked to close, where it tells that, after it was asked once more; the count stays at 2^64 - 1.
+abbrev pub asked_again : Option ℕ → Option ℕ
+asked_again None = None
+asked_again (Some count) = Some (min (count + 1) (2 ^ 64 - 1))

@@ -13,6 +13,10 @@ no_stop = None
 abbrev pub no_room : Option (Option ℕ)
 no_room = None
 
+-- nothing of how often it was asked to close
+abbrev pub no_closes : Option ℕ
+no_closes = None
+
 -- it is no lent one
 abbrev pub no_name : Option GName
 no_name = None

@@ -29,6 +29,8 @@ impl Sink for Box<dyn Sink + Send + Drop> {
 
     ghost faults = { λ b. (Sink-box b).faults b.value };
 
+    ghost closes = { λ b. (Sink-box b).closes b.value };
+
     ghost takes = { λ b. (Sink-box b).takes b.value };
 
     ghost lent = { λ b. (Sink-box b).lent b.value };
@@ -37,6 +39,7 @@ impl Sink for Box<dyn Sink + Send + Drop> {
         (**self).write(piece)
     }
 
+    /// Ok exactly where the `close` of the sink inside is, which is asked once.
     fn close(&mut self) -> Result<(), Failed> {
         (**self).close()
     }

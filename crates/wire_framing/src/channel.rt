@@ -1,8 +1,8 @@
 //! A connection within the process: two pipes, one for each direction.
 ghost use Rattle.std.specs.Prelude.{ℕ, ◌≡◌, ◌≤◌, List, Bool, Option, None, Some, length, false, IsOk, MatchResult, refl};
-ghost use Rattle.wire_framing.specs.Sink.{Writes, Closes};
+ghost use Rattle.wire_framing.specs.Sink.{Writes, Closes, asked_again};
 ghost use Rattle.wire_framing.specs.Source.{Reads, Asks, Widens};
-ghost use Rattle.wire_framing.specs.Untold.{no_bytes, no_stop, no_room, no_name};
+ghost use Rattle.wire_framing.specs.Untold.{no_bytes, no_stop, no_room, no_closes, no_name};
 ghost use Rattle.wire_framing.specs.declared.sink.Refusal.TheVariants.{Memory};
 
 use crate::pipe::Pipe;
@@ -141,11 +141,14 @@ impl<R: Wait + Copy> Sink for Writer<R> {
 
     ghost faults = { λ s. 0 };
 
+    ghost closes = { λ s. no_closes };
+
     ghost takes = { λ s. false };
 
     /// Takes the whole piece. Where an end is closed it is passed over. Fails only for want of memory.
     fn write(&mut self, piece: &[u8]) -> Result<usize, Refusal>
         ensures bytes { Writes result piece.now no_bytes no_bytes no_room no_room 0 0 }
+        ensures uncounted { no_closes ≡ no_closes }
         ensures fds { false ≡ false }
         ensures same { no_name ≡ no_name }
         ensures together { no_bytes ≡ None → no_room ≡ None }
@@ -167,6 +170,7 @@ impl<R: Wait + Copy> Sink for Writer<R> {
     /// own reads end at once. It never fails.
     fn close(&mut self) -> Result<(), Failed>
         ensures bytes { Closes result no_bytes no_bytes no_room no_room 0 0 }
+        ensures counted { no_closes ≡ asked_again no_closes }
         ensures fds { false ≡ false }
         ensures same { no_name ≡ no_name }
         ensures never_fails { IsOk result }

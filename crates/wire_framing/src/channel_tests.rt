@@ -1,37 +1,29 @@
-use crate::{Channel, ReadHalf, Socket, Source};
+use crate::answers::{CLOSED, ENDED, RETURN, Told, message_of, read_told, told_by};
+use crate::{Channel, ReadHalf, Sink, Socket, Source, WriteHalf};
 use std::alloc::Global;
+use std::process::Abort;
 use std::test::Fail;
 use std::thread;
-use wire_message::{Error, IoKind, Message, header_front};
+use wire_message::Message;
 
-/// A method return of serial 1 to the call of serial 1, without a body: 24 bytes.
-const RETURN: [u8; 24] = [
-    b'l', 2, 0, 1, 0, 0, 0, 0, 1, 0, 0, 0, 8, 0, 0, 0, 5, 1, b'u', 0, 1, 0, 0, 0,
-];
-
-const ENDED: Error = Error::InputOutput(IoKind::Ended);
-
-const CLOSED: Error = Error::InputOutput(IoKind::Closed);
-
-fn message_of(alloc: Global, bytes: &[u8]) -> Result<Message, Fail> {
-    let (message, _) = header_front(alloc, bytes)?;
-    Ok(message)
-}
-
-/// How many messages come before the end; each is the one that was sent.
-fn count_of<S: Source>(alloc: Global, half: &mut ReadHalf<S>) -> (u64, Option<Error>) {
+/// How many messages come, each the one that was sent, and what the next read tells.
+fn count_of<S: Source>(alloc: Global, half: &mut ReadHalf<S>) -> (u64, Told) {
     let mut kept = Vec::new(alloc);
     for position in 1..100u64 {
-        match half.receive_message(alloc, position, &mut kept) {
-            Ok(message) => {
-                if message.data() != RETURN.as_slice() {
-                    return (position, None);
-                }
-            }
-            Err(error) => return (position - 1, Some(error)),
+        let answer = half.receive_message(alloc, position, &mut kept);
+        let told = read_told(answer, &RETURN, position);
+        if told != Told::Done {
+            return (position - 1, told);
         }
     }
-    (99, None)
+    (99, Told::Done)
+}
+
+/// So many sends of the message succeed.
+fn sends<W: Sink>(rt: &impl Abort, half: &mut WriteHalf<W>, message: &Message, count: u64) {
+    for _ in 0..count {
+        assert_eq!(rt; told_by(half.send_message(message)), Told::Done);
+    }
 }
 
 #[test]
@@ -42,16 +34,14 @@ fn a_pair_until_it_is_closed(rt: HostRuntime) -> Result<(), Fail> {
     let (mut near_reads, mut near_writes) = near.split().take();
     let (mut far_reads, mut far_writes) = far.split().take();
     assert!(rt; !near_writes.can_pass_unix_fd());
-    assert_eq!(rt; near_writes.send_message(&message), Ok(()));
-    assert_eq!(rt; far_writes.send_message(&message), Ok(()));
-    assert_eq!(rt; near_writes.close(), Ok(()));
-    assert_eq!(rt; count_of(alloc, &mut far_reads), (1, Some(ENDED)));
-    assert_eq!(rt; near_writes.send_message(&message), Err(CLOSED));
-    assert_eq!(rt; count_of(alloc, &mut near_reads), (0, Some(ENDED)));
-    for _ in 0..40 {
-        assert_eq!(rt; far_writes.send_message(&message), Ok(()));
-    }
-    assert_eq!(rt; count_of(alloc, &mut near_reads), (0, Some(ENDED)));
+    sends(&rt, &mut near_writes, &message, 1);
+    sends(&rt, &mut far_writes, &message, 1);
+    assert_eq!(rt; told_by(near_writes.close()), Told::Done);
+    assert_eq!(rt; count_of(alloc, &mut far_reads), (1, ENDED));
+    assert_eq!(rt; told_by(near_writes.send_message(&message)), CLOSED);
+    assert_eq!(rt; count_of(alloc, &mut near_reads), (0, ENDED));
+    sends(&rt, &mut far_writes, &message, 40);
+    assert_eq!(rt; count_of(alloc, &mut near_reads), (0, ENDED));
     Ok(())
 }
 
@@ -62,15 +52,11 @@ fn a_full_pipe_waits_for_its_reader(rt: HostRuntime) -> Result<(), Fail> {
     let (near, far) = Channel::pair(rt, alloc)?;
     let (mut reads, _) = far.split().take();
     let mut writes = near.split();
-    for _ in 0..32 {
-        assert_eq!(rt; writes.write_mut().send_message(&message), Ok(()));
-    }
+    sends(&rt, writes.write_mut(), &message, 32);
     let reader = thread::spawn(&rt, move || count_of(alloc, &mut reads))?;
-    for _ in 0..8 {
-        assert_eq!(rt; writes.write_mut().send_message(&message), Ok(()));
-    }
-    assert_eq!(rt; writes.write_mut().close(), Ok(()));
-    assert_eq!(rt; reader.join(&rt), (40, Some(ENDED)));
+    sends(&rt, writes.write_mut(), &message, 8);
+    assert_eq!(rt; told_by(writes.write_mut().close()), Told::Done);
+    assert_eq!(rt; reader.join(&rt), (40, ENDED));
     Ok(())
 }
 
@@ -81,12 +67,10 @@ fn halves_that_are_let_go(rt: HostRuntime) -> Result<(), Fail> {
     let (near, far) = Channel::pair(rt, alloc)?;
     let (near_reads, mut near_writes) = near.split().take();
     let (mut far_reads, mut far_writes) = far.split().take();
-    assert_eq!(rt; near_writes.send_message(&message), Ok(()));
+    sends(&rt, &mut near_writes, &message, 1);
     drop(near_writes);
-    assert_eq!(rt; count_of(alloc, &mut far_reads), (1, Some(ENDED)));
+    assert_eq!(rt; count_of(alloc, &mut far_reads), (1, ENDED));
     drop(near_reads);
-    for _ in 0..40 {
-        assert_eq!(rt; far_writes.send_message(&message), Ok(()));
-    }
+    sends(&rt, &mut far_writes, &message, 40);
     Ok(())
 }

@@ -1,32 +1,17 @@
-use crate::{MemorySink, MemorySource, Piece, ReadHalf, WriteHalf, Writing};
+use crate::answers::{CLOSED, ENDED, FAILED, FAULT, RETURN, Told, message_of, read_told, told_by};
+use crate::{MemorySink, MemorySource, Piece, ReadHalf, StdSink, WriteHalf, Writing};
 use std::alloc::Global;
+use std::io;
+use std::io::Write;
 use std::process::Abort;
 use std::test::Fail;
-use wire_message::{Error, IoKind, Message, header_front};
-
-/// A method return of serial 1 to the call of serial 1, without a body: 24 bytes.
-const RETURN: [u8; 24] = [
-    b'l', 2, 0, 1, 0, 0, 0, 0, 1, 0, 0, 0, 8, 0, 0, 0, 5, 1, b'u', 0, 1, 0, 0, 0,
-];
+use wire_message::Message;
 
 /// The method call of `do` at `/`, of serial 1, with one file descriptor: 56 bytes.
 const WITH_DESCRIPTOR: [u8; 56] = [
     108, 1, 0, 1, 0, 0, 0, 0, 1, 0, 0, 0, 40, 0, 0, 0, 1, 1, 111, 0, 1, 0, 0, 0, 47, 0, 0, 0, 0, 0,
     0, 0, 3, 1, 115, 0, 2, 0, 0, 0, 100, 111, 0, 0, 0, 0, 0, 0, 9, 1, 117, 0, 1, 0, 0, 0,
 ];
-
-const ENDED: Error = Error::InputOutput(IoKind::Ended);
-
-const FAULT: Error = Error::InputOutput(IoKind::Fault);
-
-const FAILED: Error = Error::InputOutput(IoKind::WriteFault);
-
-const CLOSED: Error = Error::InputOutput(IoKind::Closed);
-
-fn message_of(alloc: Global, bytes: &[u8]) -> Result<Message, Fail> {
-    let (message, _) = header_front(alloc, bytes)?;
-    Ok(message)
-}
 
 /// Two returns, one after the other.
 fn two_returns(alloc: Global) -> Result<Vec<u8>, Fail> {
@@ -35,37 +20,59 @@ fn two_returns(alloc: Global) -> Result<Vec<u8>, Fail> {
     Ok(bytes)
 }
 
+/// Of two reads so many give a return, and the next one this error.
+fn gives(
+    rt: &impl Abort,
+    alloc: Global,
+    half: &mut ReadHalf<MemorySource>,
+    kept: &mut Vec<u8>,
+    count: u64,
+    ending: Told,
+) {
+    for position in 1..3u64 {
+        let answer = read_told(
+            half.receive_message(alloc, position, kept),
+            &RETURN,
+            position,
+        );
+        if position > count {
+            assert_eq!(rt; answer, ending);
+            return;
+        }
+        assert_eq!(rt; answer, Told::Done);
+    }
+}
+
 #[test]
 fn takes_what_was_kept(rt: HostRuntime) -> Result<(), Fail> {
     let alloc = rt.alloc();
     let mut kept = two_returns(alloc)?;
-    let pieces = Vec::new(alloc);
-    let mut half = ReadHalf::new(MemorySource::new(&pieces));
+    let mut half = ReadHalf::new(MemorySource::new(&[]));
     assert!(rt; !half.can_pass_unix_fd());
-    for position in 1..3u64 {
-        let message = half.receive_message(alloc, position, &mut kept)?;
-        assert_eq!(rt; message.recv_position(), position);
-        assert_eq!(rt; message.data(), RETURN.as_slice());
-    }
-    match half.receive_message(alloc, 3, &mut kept) {
-        Ok(_) => panic!(rt; "a message"),
-        Err(error) => assert_eq!(rt; error, ENDED),
-    }
+    gives(&rt, alloc, &mut half, &mut kept, 2, ENDED);
+    let last = read_told(half.receive_message(alloc, 3, &mut kept), &RETURN, 3);
+    assert_eq!(rt; last, ENDED);
     assert_eq!(rt; half.into_source().asked(), 1);
     Ok(())
+}
+
+/// A piece for each byte.
+fn single_bytes(alloc: Global, bytes: &[u8]) -> Result<Vec<Piece>, Fail> {
+    let mut pieces = Vec::new(alloc);
+    for byte in bytes {
+        pieces.push(Piece::Bytes([*byte].to_vec(alloc)?))?;
+    }
+    Ok(pieces)
 }
 
 #[test]
 fn reads_on_behind_what_was_kept(rt: HostRuntime) -> Result<(), Fail> {
     let alloc = rt.alloc();
+    let pieces = single_bytes(alloc, &RETURN[10..])?;
     let mut kept = RETURN[..10].to_vec(alloc)?;
-    let mut pieces = Vec::new(alloc);
-    for byte in &RETURN[10..] {
-        pieces.push(Piece::Bytes([*byte].to_vec(alloc)?))?;
-    }
     let mut half = ReadHalf::new(MemorySource::new(&pieces));
-    let message = half.receive_message(alloc, 1, &mut kept)?;
-    assert_eq!(rt; message.data(), RETURN.as_slice());
+    let first = read_told(half.receive_message(alloc, 1, &mut kept), &RETURN, 1);
+    assert_eq!(rt; first, Told::Done);
     assert!(rt; kept.is_empty());
     let source = half.into_source();
     assert_eq!(rt; source.asked(), 14);
@@ -73,14 +80,8 @@ fn reads_on_behind_what_was_kept(rt: HostRuntime) -> Result<(), Fail> {
     Ok(())
 }
 
-/// Reads two messages of the bytes, cut at a place, which end with a fault or not; says which reads gave one.
-fn reads_two(
-    rt: &impl Abort,
-    alloc: Global,
-    bytes: &[u8],
-    cut: usize,
-    fault: bool,
-) -> Result<(bool, bool), Fail> {
+/// The bytes, cut at a place, and behind them a failing call or not.
+fn pieces_cut(alloc: Global, bytes: &[u8], cut: usize, fault: bool) -> Result<Vec<Piece>, Fail> {
     let mut pieces = Vec::new(alloc);
     let (front, rest) = bytes.split_at(cut.min(bytes.len()));
     pieces.push(Piece::Bytes(front.to_vec(alloc)?))?;
@@ -88,35 +89,54 @@ fn reads_two(
     if fault {
         pieces.push(Piece::Fault)?;
     }
-    let mut half = ReadHalf::new(MemorySource::new(&pieces));
-    let mut kept = Vec::new(alloc);
-    let first = half.receive_message(alloc, 1, &mut kept);
-    if let Err(error) = first {
-        assert_eq!(rt; error, if fault { FAULT } else { ENDED });
-        return Ok((false, false));
-    }
-    match half.receive_message(alloc, 2, &mut kept) {
-        Ok(_) => Ok((true, true)),
-        Err(error) => {
-            assert_eq!(rt; error, if fault { FAULT } else { ENDED });
-            Ok((true, false))
-        }
-    }
+    Ok(pieces)
 }
 
+/// The same of a half over these pieces.
+fn reads(rt: &impl Abort, alloc: Global, pieces: &[Piece], count: u64, ending: Told) {
+    let mut half = ReadHalf::new(MemorySource::new(pieces));
+    let mut kept = Vec::new(alloc);
+    gives(rt, alloc, &mut half, &mut kept, count, ending);
+}
+
+/// Two returns come, wherever the bytes are cut.
 #[test]
-fn each_cut_and_each_fault(rt: HostRuntime) -> Result<(), Fail> {
+fn each_cut(rt: HostRuntime) -> Result<(), Fail> {
     let alloc = rt.alloc();
     let bytes = two_returns(alloc)?;
     for cut in 0..49 {
-        assert_eq!(rt; reads_two(&rt, alloc, &bytes, cut, false)?, (true, true));
-        let part = &bytes[..bytes.len().min(cut)];
-        let first = cut >= 24;
-        let second = cut >= 48;
-        assert_eq!(rt; reads_two(&rt, alloc, part, 48, true)?, (first, second));
-        assert_eq!(rt; reads_two(&rt, alloc, part, 48, false)?, (first, second));
+        let pieces = pieces_cut(alloc, &bytes, cut, false)?;
+        reads(&rt, alloc, &pieces, 2, ENDED);
     }
     Ok(())
+}
+
+/// Of two returns the first bytes alone come, and then a failing call, or the end.
+#[test]
+fn each_fault(rt: HostRuntime) -> Result<(), Fail> {
+    let alloc = rt.alloc();
+    let bytes = two_returns(alloc)?;
+    for cut in 0..49 {
+        let part = &bytes[..bytes.len().min(cut)];
+        let count = cut as u64 / 24;
+        let failing = pieces_cut(alloc, part, 48, true)?;
+        reads(&rt, alloc, &failing, count, FAULT);
+        let ending = pieces_cut(alloc, part, 48, false)?;
+        reads(&rt, alloc, &ending, count, ENDED);
+    }
+    Ok(())
+}
+
+/// A sink with this room fails a send and each later one, and holds the bytes for which there was room.
+fn fails_at(rt: &impl Abort, alloc: Global, message: &Message, room: u64) {
+    let mut half = WriteHalf::new(MemorySink::with_fault(alloc, room, false));
+    assert_eq!(rt; told_by(half.send_message(message)), FAILED);
+    assert_eq!(rt; told_by(half.send_message(message)), FAILED);
+    assert_eq!(rt; told_by(half.close()), Told::Done);
+    assert_eq!(rt; told_by(half.send_message(message)), FAILED);
+    assert_eq!(rt; half.writing(), Writing::Failed);
+    let sink = half.into_sink();
+    assert_eq!(rt; Some(sink.bytes()), RETURN.get(..room as usize));
 }
 
 #[test]
@@ -124,13 +144,7 @@ fn sends_until_it_fails(rt: HostRuntime) -> Result<(), Fail> {
     let alloc = rt.alloc();
     let message = message_of(alloc, &RETURN)?;
     for room in 0..24u64 {
-        let mut half = WriteHalf::new(MemorySink::with_fault(alloc, room, false));
-        assert_eq!(rt; half.send_message(&message), Err(FAILED));
-        assert_eq!(rt; half.send_message(&message), Err(FAILED));
-        assert_eq!(rt; half.close(), Ok(()));
-        assert_eq!(rt; half.send_message(&message), Err(FAILED));
-        assert_eq!(rt; half.writing(), Writing::Failed);
-        assert_eq!(rt; half.into_sink().bytes(), &RETURN[..room as usize]);
+        fails_at(&rt, alloc, &message, room);
     }
     Ok(())
 }
@@ -143,16 +157,56 @@ fn sends_until_it_is_closed(rt: HostRuntime) -> Result<(), Fail> {
     let mut half = WriteHalf::new(MemorySink::new(alloc, false));
     assert!(rt; !half.can_pass_unix_fd());
     assert_eq!(rt;
-        half.send_message(&with_descriptor),
-        Err(Error::Unsupported)
+        told_by(half.send_message(&with_descriptor)),
+        Told::Unsupported
     );
-    assert_eq!(rt; half.send_message(&message), Ok(()));
-    assert_eq!(rt; half.close(), Ok(()));
-    assert_eq!(rt; half.send_message(&message), Err(CLOSED));
-    assert_eq!(rt; half.close(), Ok(()));
-    assert_eq!(rt; half.into_sink().bytes(), RETURN.as_slice());
-    let mut takes = WriteHalf::new(MemorySink::new(alloc, true));
-    assert_eq!(rt; takes.send_message(&with_descriptor), Ok(()));
-    assert_eq!(rt; takes.into_sink().bytes(), WITH_DESCRIPTOR.as_slice());
+    assert_eq!(rt; told_by(half.send_message(&message)), Told::Done);
+    assert_eq!(rt; told_by(half.close()), Told::Done);
+    assert_eq!(rt; told_by(half.send_message(&message)), CLOSED);
+    assert_eq!(rt; told_by(half.close()), Told::Done);
+    let sink = half.into_sink();
+    assert_eq!(rt; sink.closes(), 2);
+    assert_eq!(rt; sink.bytes(), RETURN.as_slice());
+    Ok(())
+}
+
+#[test]
+fn sends_descriptors_where_the_sink_takes_them(rt: HostRuntime) -> Result<(), Fail> {
+    let alloc = rt.alloc();
+    let with_descriptor = message_of(alloc, &WITH_DESCRIPTOR)?;
+    let mut half = WriteHalf::new(MemorySink::new(alloc, true));
+    assert_eq!(rt; told_by(half.send_message(&with_descriptor)), Told::Done);
+    let sink = half.into_sink();
+    assert_eq!(rt; sink.bytes(), WITH_DESCRIPTOR.as_slice());
+    Ok(())
+}
+
+/// A writer that takes what comes and can't be flushed.
+#[derive(Drop)]
+struct Unflushed<'a> {
+    bytes: &'a mut Vec<u8>,
+}
+
+impl<'a> Write for Unflushed<'a> {
+    fn write(&mut self, buf: &[u8]) -> io::Result<usize> {
+        self.bytes.write(buf)
+    }
+
+    fn flush(&mut self) -> io::Result<()> {
+        Err(io::Error::from(io::ErrorKind::BrokenPipe))
+    }
+}
+
+#[test]
+fn closes_a_writer_that_cannot_be_flushed(rt: HostRuntime) -> Result<(), Fail> {
+    let alloc = rt.alloc();
+    let message = message_of(alloc, &RETURN)?;
+    let mut bytes = Vec::new(alloc);
+    let mut half = WriteHalf::new(StdSink::new(Unflushed { bytes: &mut bytes }));
+    assert_eq!(rt; told_by(half.send_message(&message)), Told::Done);
+    assert_eq!(rt; told_by(half.close()), FAILED);
+    assert_eq!(rt; half.writing(), Writing::Closed);
+    assert_eq!(rt; told_by(half.send_message(&message)), CLOSED);
+    assert_eq!(rt; bytes.as_slice(), RETURN.as_slice());
     Ok(())
 }

@@ -29,6 +29,8 @@ impl<W: Sink> Sink for &mut W {
 
     ghost faults = { λ s. W.faults s.now };
 
+    ghost closes = { λ s. W.closes s.now };
+
     ghost takes = { λ s. W.takes s.now };
 
     ghost lent = { λ s. Some s.ghost_name };
@@ -37,6 +39,7 @@ impl<W: Sink> Sink for &mut W {
         (**self).write(piece)
     }
 
+    /// Ok exactly where the `close` of the sink that is lent is, which is asked once.
     fn close(&mut self) -> Result<(), Failed> {
         (**self).close()
     }

@@ -2,6 +2,8 @@
 //! (D-Bus Specification, "Message Protocol").
 #![tactic(auto)]
 
+#[cfg(test)]
+mod answers;
 mod boxes;
 mod channel;
 #[cfg(test)]

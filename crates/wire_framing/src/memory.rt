@@ -98,13 +98,14 @@ impl<'a> Source for MemorySource<'a> {
     }
 }
 
-/// A sink in memory. It tells its bytes, and where its one write fails.
+/// A sink in memory. It tells its bytes, where its one write fails, and how often it was asked to close.
 #[derive(Drop)]
 pub struct MemorySink {
     bytes: Vec<u8>,
     room: Option<u64>,
     takes_fds: bool,
     faults: u64,
+    closes: u64,
 }
 
 impl MemorySink {
@@ -114,12 +115,14 @@ impl MemorySink {
         ensures room { result.room ≡ None }
         ensures fds { result.takes_fds ≡ takes_fds }
         ensures faults { result.faults ≡ 0 }
+        ensures closes { result.closes ≡ 0 }
     {
         MemorySink {
             bytes: Vec::new(alloc),
             room: None,
             takes_fds,
             faults: 0,
+            closes: 0,
         }
     }
 
@@ -129,12 +132,14 @@ impl MemorySink {
         ensures room { result.room ≡ Some count }
         ensures fds { result.takes_fds ≡ takes_fds }
         ensures faults { result.faults ≡ 0 }
+        ensures closes { result.closes ≡ 0 }
     {
         MemorySink {
             bytes: Vec::new(alloc),
             room: Some(count),
             takes_fds,
             faults: 0,
+            closes: 0,
         }
     }
 
@@ -143,6 +148,13 @@ impl MemorySink {
         ensures { result.now ≡ self.now.bytes.items }
     {
         self.bytes.as_slice()
+    }
+
+    /// How often this sink was asked to close; a count stays at 2^64 - 1.
+    pub fn closes(&self) -> u64
+        ensures { result ≡ self.now.closes }
+    {
+        self.closes
     }
 
     /// The bytes that the sink holds.
@@ -170,11 +182,14 @@ impl Sink for MemorySink {
 
     ghost faults = { λ s. s.faults };
 
+    ghost closes = { λ s. Some s.closes };
+
     ghost takes = { λ s. s.takes_fds };
 
     // all that there is room for is taken at once
     fn write(&mut self, piece: &[u8]) -> Result<usize, Refusal>
         ensures bytes { Writes result piece.now (Some self.old.bytes.items) (Some self.new.bytes.items) (Some self.old.room) (Some self.new.room) self.old.faults self.new.faults }
+        ensures uncounted { Some self.new.closes ≡ Some self.old.closes }
         ensures fds { self.new.takes_fds ≡ self.old.takes_fds }
         ensures same { no_name ≡ no_name }
         ensures together { Some self.old.bytes.items ≡ None → Some self.old.room ≡ None }
@@ -198,7 +213,9 @@ impl Sink for MemorySink {
         Ok(count as usize)
     }
 
+    /// Only counts the call; it never fails.
     fn close(&mut self) -> Result<(), Failed> {
+        self.closes = self.closes.saturating_add(1);
         Ok(())
     }
 

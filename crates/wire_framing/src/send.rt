@@ -8,6 +8,7 @@ use wire_message::{Error, IoKind, Message, Result};
 /// a proper part of them in the sink: exactly those for which there was room, where the sink tells its room.
 pub fn send_message<W: Sink>(sink: &mut W, message: &Message) -> Result<()>
     ensures bytes { Sends result message.now.bytes (W.held sink.old) (W.held sink.new) (W.room sink.old) (W.room sink.new) (W.faults sink.old) (W.faults sink.new) }
+    ensures uncounted { W.closes sink.new ≡ W.closes sink.old }
     ensures fds { W.takes sink.new ≡ W.takes sink.old }
 {
     let bytes = message.data();

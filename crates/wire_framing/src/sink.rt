@@ -1,6 +1,6 @@
 ghost use Rattle.std.specs.Prelude.{ℕ, ◌≡◌, List, Bool, Option, None};
 ghost use Rattle.std.specs.Borrow.{GName};
-ghost use Rattle.wire_framing.specs.Sink.{Writes, Closes};
+ghost use Rattle.wire_framing.specs.Sink.{Writes, Closes, asked_again};
 
 use crate::source::Failed;
 
@@ -25,6 +25,9 @@ pub trait Sink {
     // how many calls have failed; it never falls, and stays at 2^64 - 1
     ghost faults: { Self → ℕ };
 
+    // how often it was asked to close, where that is told; it stays at 2^64 - 1
+    ghost closes: { Self → Option ℕ };
+
     // whether it takes file descriptors
     ghost takes: { Self → Bool };
 
@@ -35,13 +38,16 @@ pub trait Sink {
     /// of faults rose; an error appends nothing.
     fn write(&mut self, piece: &[u8]) -> Result<usize, Refusal>
         ensures bytes { Writes result piece.now (held self.old) (held self.new) (room self.old) (room self.new) (faults self.old) (faults self.new) }
+        ensures uncounted { closes self.new ≡ closes self.old }
         ensures fds { takes self.new ≡ takes self.old }
         ensures same { lent self.new ≡ lent self.old }
         ensures together { held self.old ≡ None → room self.old ≡ None };
 
-    /// Says that no more bytes come. Failed only where the count of faults rose, and never where room is told.
+    /// Says that no more bytes come; each call is counted, where that is told. Ok leaves the count of faults as it was.
+    /// Failed comes only where that count rose, and never where room is told.
     fn close(&mut self) -> Result<(), Failed>
         ensures bytes { Closes result (held self.old) (held self.new) (room self.old) (room self.new) (faults self.old) (faults self.new) }
+        ensures counted { closes self.new ≡ asked_again (closes self.old) }
         ensures fds { takes self.new ≡ takes self.old }
         ensures same { lent self.new ≡ lent self.old };
 

@@ -1,6 +1,6 @@
 //! The trusted edge of connections over the network and within the machine: a stream socket, TCP or Unix, as a source and a
 //! sink. They tell what the standard ones tell.
-ghost use Rattle.std.specs.Prelude.{◌≡◌, false, None, refl};
+ghost use Rattle.std.specs.Prelude.{◌≡◌, false, None, Some, refl};
 
 use crate::sink::{Refusal, Sink};
 use crate::source::Failed;
@@ -42,6 +42,7 @@ impl<S: Write + StreamSocket> SocketSink<S> {
     pub fn new(stream: S) -> SocketSink<S>
         ensures stream { result.stream.writer ≡ stream }
         ensures faults { result.stream.faults ≡ 0 }
+        ensures closes { result.stream.closes ≡ 0 }
     {
         SocketSink {
             stream: StdSink::new(stream),
@@ -56,13 +57,17 @@ impl<S: Write + StreamSocket> Sink for SocketSink<S> {
 
     ghost faults = { λ s. s.stream.faults };
 
+    ghost closes = { λ s. Some s.stream.closes };
+
     ghost takes = { λ s. false };
 
     fn write(&mut self, piece: &[u8]) -> Result<usize, Refusal> {
         self.stream.write(piece)
     }
 
+    /// Ok exactly where the connection could be shut down.
     fn close(&mut self) -> Result<(), Failed> {
+        self.stream.count_close();
         match self.stream.writer().shut_down() {
             Ok(()) => Ok(()),
             Err(_) => Err(self.stream.fail()),

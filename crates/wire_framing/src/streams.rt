@@ -1,6 +1,6 @@
 //! The trusted edge: a reader as a source, a writer as a sink. They tell the bytes that the reader or the writer tells, and
 //! nothing of faults to come.
-ghost use Rattle.std.specs.Prelude.{◌≡◌, false, None, refl};
+ghost use Rattle.std.specs.Prelude.{◌≡◌, ◌+◌, ◌-◌, ◌^◌, min, false, None, Some, refl};
 ghost use Rattle.wire_framing.specs.Source.{MayRise};
 
 use crate::sink::{Refusal, Sink};
@@ -52,6 +52,7 @@ impl<R: Read> Source for StdSource<R> {
 pub struct StdSink<W> {
     writer: W,
     faults: u64,
+    closes: u64,
 }
 
 impl<W: Write> StdSink<W> {
@@ -59,8 +60,13 @@ impl<W: Write> StdSink<W> {
     pub fn new(writer: W) -> StdSink<W>
         ensures writer { result.writer ≡ writer }
         ensures faults { result.faults ≡ 0 }
+        ensures closes { result.closes ≡ 0 }
     {
-        StdSink { writer, faults: 0 }
+        StdSink {
+            writer,
+            faults: 0,
+            closes: 0,
+        }
     }
 
     /// The writer.
@@ -74,9 +80,19 @@ impl<W: Write> StdSink<W> {
     pub(crate) fn fail(&mut self) -> Failed
         ensures writer { self.new.writer ≡ self.old.writer }
         ensures faults { MayRise self.old.faults self.new.faults }
+        ensures closes { self.new.closes ≡ self.old.closes }
     {
         self.faults = self.faults.saturating_add(1);
         Failed
+    }
+
+    /// Counts a call of `close`; the count stays at 2^64 - 1.
+    pub(crate) fn count_close(&mut self)
+        ensures writer { self.new.writer ≡ self.old.writer }
+        ensures faults { self.new.faults ≡ self.old.faults }
+        ensures closes { self.new.closes ≡ min (self.old.closes + 1) (2 ^ 64 - 1) }
+    {
+        self.closes = self.closes.saturating_add(1);
     }
 }
 
@@ -86,6 +102,8 @@ impl<W: Write> Sink for StdSink<W> {
     ghost room = { λ s. None };
 
     ghost faults = { λ s. s.faults };
+
+    ghost closes = { λ s. Some s.closes };
 
     ghost takes = { λ s. false };
 
@@ -100,14 +118,12 @@ impl<W: Write> Sink for StdSink<W> {
         }
     }
 
-    /// Flushes the writer, so that what a buffered one holds goes out.
+    /// Flushes the writer, so that what a buffered one holds goes out. Ok exactly where it could be flushed.
     fn close(&mut self) -> Result<(), Failed> {
+        self.count_close();
         match self.writer.flush() {
             Ok(()) => Ok(()),
-            Err(_) => {
-                self.faults = self.faults.saturating_add(1);
-                Err(Failed)
-            }
+            Err(_) => Err(self.fail()),
         }
     }
 

@@ -1,16 +1,16 @@
 ghost use Rattle.std.specs.Prelude.{ℕ, ◌<◌};
 
+use crate::answers::{ENDED, FAILED, FAULT, Told, message_of, read_told, told_by};
 use crate::{
-    Failed, MemorySink, MemorySource, Piece, Refusal, Sink, Source, StdSink, StdSource,
-    receive_message, send_message,
+    Failed, MemorySink, MemorySource, Piece, Refusal, Sink, SocketSink, Source, StdSink, StdSource,
+    StreamSocket, receive_message, send_message,
 };
 use std::alloc::Global;
 use std::io;
 use std::io::{Read, Write};
 use std::process::Abort;
 use std::test::Fail;
-use wire_message::{Error, IoKind, Message, Result as Answer};
-use wire_signature::VariantError;
+use wire_message::{Message, Result as Answer};
 
 /// A method return of serial 9 to the call of serial 7, without a body: 24 bytes.
 const RETURN: [u8; 24] = [
@@ -29,10 +29,30 @@ fn pieces_of(alloc: Global, parts: &[&[u8]], fault: bool) -> Result<Vec<Piece>, 
     Ok(pieces)
 }
 
-fn read_of(alloc: Global, parts: &[&[u8]], fault: bool) -> Result<Answer<Message>, Fail> {
+/// The message, if it is one, is to the call of serial 7.
+fn is_to_seven(answer: &Answer<Message>) -> bool {
+    match answer {
+        Ok(message) => message.reply_serial() == Some(7),
+        Err(_) => true,
+    }
+}
+
+/// What the next read tells; a message counts only where it is the return.
+fn next_of(alloc: Global, source: &mut MemorySource, position: u64) -> Told
+    requires { 0 < position }
+{
+    let answer = receive_message(alloc, source, position);
+    if is_to_seven(&answer) {
+        read_told(answer, &RETURN, position)
+    } else {
+        Told::Other
+    }
+}
+
+/// What a read of these parts, and of a failing call behind them, tells.
+fn read_of(alloc: Global, parts: &[&[u8]], fault: bool) -> Result<Told, Fail> {
     let pieces = pieces_of(alloc, parts, fault)?;
-    let mut source = MemorySource::new(&pieces);
-    Ok(receive_message(alloc, &mut source, 3))
+    Ok(next_of(alloc, &mut MemorySource::new(&pieces), 3))
 }
 
 /// The same bytes with one changed.
@@ -56,12 +76,8 @@ fn reads(rt: HostRuntime) -> Result<(), Fail> {
         &[&all[..23], &all[23..], all],
     ];
     for parts in tables {
-        for fault in [false, true] {
-            let message = read_of(alloc, parts, fault)??;
-            assert_eq!(rt; message.data(), all);
-            assert_eq!(rt; message.recv_position(), 3);
-            assert_eq!(rt; message.reply_serial(), Some(7));
-        }
+        assert_eq!(rt; read_of(alloc, parts, false)?, Told::Done);
+        assert_eq!(rt; read_of(alloc, parts, true)?, Told::Done);
     }
     Ok(())
 }
@@ -72,58 +88,37 @@ fn takes_no_byte_of_the_next(rt: HostRuntime) -> Result<(), Fail> {
     let all: &[u8] = &RETURN;
     let pieces = pieces_of(alloc, &[all, &all[..5], &all[5..]], true)?;
     let mut source = MemorySource::new(&pieces);
-    assert_eq!(rt; receive_message(alloc, &mut source, 1)?.recv_position(), 1);
-    assert_eq!(rt; receive_message(alloc, &mut source, 2)?.recv_position(), 2);
-    assert_eq!(rt;
-        answer_of(receive_message(alloc, &mut source, 3)),
-        Some(Error::InputOutput(IoKind::Fault))
-    );
-    assert_eq!(rt;
-        answer_of(receive_message(alloc, &mut source, 4)),
-        Some(Error::InputOutput(IoKind::Ended))
-    );
-    let again = pieces_of(alloc, &[all], false)?;
-    let mut full = MemorySource::new(&again);
-    assert_eq!(rt;
-        answer_of(receive_message(alloc, &mut full, u64::MAX)),
-        Some(Error::InputOutput(IoKind::Ended))
-    );
-    assert_eq!(rt;
-        receive_message(alloc, &mut full, u64::MAX - 1)?.recv_position(),
-        u64::MAX - 1
-    );
+    assert_eq!(rt; next_of(alloc, &mut source, 1), Told::Done);
+    assert_eq!(rt; next_of(alloc, &mut source, 2), Told::Done);
+    assert_eq!(rt; next_of(alloc, &mut source, 3), FAULT);
+    assert_eq!(rt; next_of(alloc, &mut source, 4), ENDED);
     Ok(())
 }
 
-fn answer_of(answer: Answer<Message>) -> Option<Error> {
-    match answer {
-        Ok(_) => None,
-        Err(error) => Some(error),
-    }
+#[test]
+fn reads_up_to_the_last_position(rt: HostRuntime) -> Result<(), Fail> {
+    let alloc = rt.alloc();
+    let pieces = pieces_of(alloc, &[&RETURN], false)?;
+    let mut source = MemorySource::new(&pieces);
+    assert_eq!(rt; next_of(alloc, &mut source, u64::MAX), ENDED);
+    assert_eq!(rt; next_of(alloc, &mut source, u64::MAX - 1), Told::Done);
+    Ok(())
 }
 
-const MALFORMED: Error = Error::Variant(VariantError::Malformed);
-
-const ENDED: Error = Error::InputOutput(IoKind::Ended);
-
-const FAULT: Error = Error::InputOutput(IoKind::Fault);
-
-const FAILED: Error = Error::InputOutput(IoKind::WriteFault);
-
-/// A read of these pieces answers this error.
+/// A read of these pieces tells this error.
 fn refused(
     rt: &impl Abort,
     alloc: Global,
     parts: &[&[u8]],
     fault: bool,
-    error: Error,
+    error: Told,
 ) -> Result<(), Fail> {
-    assert_eq!(rt; answer_of(read_of(alloc, parts, fault)?), Some(error));
+    assert_eq!(rt; read_of(alloc, parts, fault)?, error);
     Ok(())
 }
 
 #[test]
-fn refuses(rt: HostRuntime) -> Result<(), Fail> {
+fn refuses_what_is_cut(rt: HostRuntime) -> Result<(), Fail> {
     let alloc = rt.alloc();
     let all: &[u8] = &RETURN;
     refused(&rt, alloc, &[], false, ENDED)?;
@@ -132,49 +127,56 @@ fn refuses(rt: HostRuntime) -> Result<(), Fail> {
     refused(&rt, alloc, &[&all[..15]], true, FAULT)?;
     refused(&rt, alloc, &[&all[..16]], true, FAULT)?;
     refused(&rt, alloc, &[&all[..23]], false, ENDED)?;
-    refused(&rt, alloc, &[&all[..20], &all[20..23]], true, FAULT)?;
-    refused(
-        &rt,
-        alloc,
-        &[&changed(0, b'b')[..16]],
-        true,
-        Error::IncorrectEndian,
-    )?;
-    refused(&rt, alloc, &[&changed(1, 5)[..16]], false, MALFORMED)?;
-    refused(&rt, alloc, &[&changed(2, 8)], false, MALFORMED)?;
-    refused(&rt, alloc, &[&changed(7, 8)], true, Error::ExcessData)?;
-    refused(&rt, alloc, &[&changed(16, 6)], false, MALFORMED)?;
+    refused(&rt, alloc, &[&all[..20], &all[20..23]], true, FAULT)
+}
+
+#[test]
+fn refuses_heads(rt: HostRuntime) -> Result<(), Fail> {
+    let alloc = rt.alloc();
+    let endian = &changed(0, b'b')[..16];
+    refused(&rt, alloc, &[endian], true, Told::IncorrectEndian)?;
+    let kind = &changed(1, 5)[..16];
+    refused(&rt, alloc, &[kind], false, Told::Malformed)?;
+    refused(&rt, alloc, &[&changed(2, 8)], false, Told::Malformed)?;
+    refused(&rt, alloc, &[&changed(7, 8)], true, Told::ExcessData)?;
+    refused(&rt, alloc, &[&changed(16, 6)], false, Told::Malformed)
+}
+
+/// Sending to a sink with this room tells this, and as many of the bytes go out.
+fn sends_to(rt: &impl Abort, alloc: Global, message: &Message, room: usize, answer: Told) {
+    let mut sink = MemorySink::with_fault(alloc, room as u64, true);
+    assert_eq!(rt; told_by(send_message(&mut sink, message)), answer);
+    assert_eq!(rt; Some(sink.bytes()), RETURN.get(..room));
+    assert!(rt; sink.takes_fds());
+}
+
+#[test]
+fn sends_as_much_as_there_is_room_for(rt: HostRuntime) -> Result<(), Fail> {
+    let alloc = rt.alloc();
+    let message = message_of(alloc, &RETURN)?;
+    sends_to(&rt, alloc, &message, 0, FAILED);
+    sends_to(&rt, alloc, &message, 1, FAILED);
+    sends_to(&rt, alloc, &message, 23, FAILED);
+    sends_to(&rt, alloc, &message, 24, Told::Done);
     Ok(())
 }
 
 #[test]
 fn sends(rt: HostRuntime) -> Result<(), Fail> {
     let alloc = rt.alloc();
-    let all: &[u8] = &RETURN;
-    let message = read_of(alloc, &[all], false)??;
-    for (room, answer) in [
-        (0, Err(FAILED)),
-        (1, Err(FAILED)),
-        (23, Err(FAILED)),
-        (24, Ok(())),
-    ] {
-        let mut sink = MemorySink::with_fault(alloc, room as u64, true);
-        assert_eq!(rt; send_message(&mut sink, &message), answer);
-        assert_eq!(rt; Some(sink.bytes()), all.get(..room));
-        assert!(rt; sink.takes_fds());
-    }
+    let message = message_of(alloc, &RETURN)?;
     let mut sink = MemorySink::new(alloc, false);
-    send_message(&mut sink, &message)?;
-    send_message(&mut sink, &message)?;
+    assert_eq!(rt; told_by(send_message(&mut sink, &message)), Told::Done);
+    assert_eq!(rt; told_by(send_message(&mut sink, &message)), Told::Done);
     assert_eq!(rt; sink.close(), Ok(()));
     assert!(rt; !sink.takes_fds());
     let bytes = sink.into_bytes();
     assert_eq!(rt; bytes.len(), 48);
-    assert_eq!(rt; &bytes[24..], all);
+    assert_eq!(rt; bytes.get(24..), Some(RETURN.as_slice()));
     Ok(())
 }
 
-/// A reader and a writer that fail.
+/// A reader, a writer and a socket that fail.
 #[derive(Drop)]
 struct Broken;
 
@@ -194,35 +196,57 @@ impl Write for Broken {
     }
 }
 
+impl StreamSocket for Broken {
+    fn shut_down(&self) -> io::Result<()> {
+        Err(io::Error::from(io::ErrorKind::NotConnected))
+    }
+}
+
 #[test]
 fn reads_a_reader(rt: HostRuntime) -> Result<(), Fail> {
     let alloc = rt.alloc();
     let mut source = StdSource::new(RETURN.as_slice());
     assert_eq!(rt; receive_message(alloc, &mut source, 1)?.serial_num(), 9);
     assert_eq!(rt; source.read(&mut [0; 4]), Ok(0));
+    Ok(())
+}
+
+#[test]
+fn reads_a_broken_reader(rt: HostRuntime) {
     let mut broken = StdSource::new(Broken);
     assert_eq!(rt; broken.read(&mut [0; 4]), Err(Failed));
-    assert_eq!(rt;
-        answer_of(receive_message(alloc, &mut broken, 1)),
-        Some(Error::InputOutput(IoKind::Fault))
-    );
-    Ok(())
+    let answer = receive_message(rt.alloc(), &mut broken, 1);
+    assert_eq!(rt; read_told(answer, &RETURN, 1), FAULT);
 }
 
 #[test]
 fn writes_a_writer(rt: HostRuntime) -> Result<(), Fail> {
     let alloc = rt.alloc();
-    let message = read_of(alloc, &[&RETURN], false)??;
+    let message = message_of(alloc, &RETURN)?;
     let mut bytes = Vec::new(alloc);
     let mut sink = StdSink::new(&mut bytes);
-    send_message(&mut sink, &message)?;
+    assert_eq!(rt; told_by(send_message(&mut sink, &message)), Told::Done);
     assert_eq!(rt; sink.close(), Ok(()));
     assert!(rt; !sink.takes_fds());
     assert_eq!(rt; bytes.as_slice(), RETURN.as_slice());
+    Ok(())
+}
+
+#[test]
+fn writes_a_broken_writer(rt: HostRuntime) {
     let mut broken = StdSink::new(Broken);
     assert_eq!(rt; broken.write(&RETURN), Err(Refusal::Failed));
     assert_eq!(rt; broken.close(), Err(Failed));
+}
+
+#[test]
+fn closes_a_broken_socket(rt: HostRuntime) {
+    let mut broken = SocketSink::new(Broken);
+    assert_eq!(rt; broken.close(), Err(Failed));
+}
+
+#[test]
+fn writes_straight_out(rt: HostRuntime) {
     let mut out = StdSink::new(io::writer(&rt));
     assert_eq!(rt; out.write(b"pipit\n"), Ok(6));
-    Ok(())
 }

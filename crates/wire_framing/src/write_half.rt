@@ -1,5 +1,5 @@
 ghost use Rattle.std.specs.Prelude.{ℕ, ◌≡◌, ◌<◌, ◌⊎◌, true, false, Some, None, Err, IfErr, IfSome, length, take};
-ghost use Rattle.wire_framing.specs.Sink.{Closes};
+ghost use Rattle.wire_framing.specs.Sink.{Closes, asked_again};
 ghost use Rattle.wire_framing.specs.Writing.{has_descriptors, is_unsupported, cause, closed, Sends};
 ghost use Rattle.wire_message.specs.declared.error.IoKind.TheVariants.{WriteFault};
 
@@ -61,6 +61,7 @@ fn has_descriptors(message: &Message) -> bool
 fn write_all<W: Sink>(sink: &mut W, writing: &mut Writing, bytes: &[u8]) -> Result<()>
     requires { writing.old ≡ Writing.Fine }
     ensures bytes { Sends result writing.new bytes.now (W.held sink.old) (W.held sink.new) (W.room sink.old) (W.room sink.new) (W.faults sink.old) (W.faults sink.new) }
+    ensures uncounted { W.closes sink.new ≡ W.closes sink.old }
     ensures fds { W.takes sink.new ≡ W.takes sink.old }
     ensures same { W.lent sink.new ≡ W.lent sink.old }
 {
@@ -130,6 +131,7 @@ impl<W: Sink> WriteHalf<W> {
         ensures over { is_unsupported message.now.unix_fds (W.takes self.old.sink) ≡ false → IfSome (cause self.old.writing) (λ e. (result ≡ Err e) × (self.new ≡ self.old)) }
         ensures sends { is_unsupported message.now.unix_fds (W.takes self.old.sink) ≡ false → cause self.old.writing ≡ None
             → Sends result self.new.writing message.now.bytes (W.held self.old.sink) (W.held self.new.sink) (W.room self.old.sink) (W.room self.new.sink) (W.faults self.old.sink) (W.faults self.new.sink) }
+        ensures uncounted { W.closes self.new.sink ≡ W.closes self.old.sink }
         ensures fds { W.takes self.new.sink ≡ W.takes self.old.sink }
         ensures same { W.lent self.new.sink ≡ W.lent self.old.sink }
     {
@@ -142,13 +144,16 @@ impl<W: Sink> WriteHalf<W> {
         }
     }
 
-    /// Says that no more bytes come. Whatever it answers, no later send writes.
+    /// Says that no more bytes come: it asks the sink to close, once, and is Ok exactly where the sink's `close` is. Whatever
+    /// it answers, no later send writes.
     ///
     /// # Errors
     ///
-    /// InputOutput(WriteFault), only where the sink's count of faults rose, and never where the sink tells its room.
+    /// InputOutput(WriteFault), exactly where the sink's `close` failed: only where the sink's count of faults rose, and never
+    /// where the sink tells its room.
     pub fn close(&mut self) -> Result<()>
         ensures bytes { Closes result (W.held self.old.sink) (W.held self.new.sink) (W.room self.old.sink) (W.room self.new.sink) (W.faults self.old.sink) (W.faults self.new.sink) }
+        ensures counted { W.closes self.new.sink ≡ asked_again (W.closes self.old.sink) }
         ensures closed { self.new.writing ≡ closed self.old.writing }
         ensures error { IfErr result (λ e. e ≡ Error.InputOutput WriteFault) }
         ensures fds { W.takes self.new.sink ≡ W.takes self.old.sink }

@@ -13,4 +13,5 @@ loop-at-preserved g c =
       room = room_then _ _ _ _ _ inv.room wrote.3;
       faults = wrote.4 ∙ inv.faults;
       fds = c.in-Ok.ensures.fds ∙ inv.fds;
+      closes = c.in-Ok.ensures.uncounted ∙ inv.closes;
     }

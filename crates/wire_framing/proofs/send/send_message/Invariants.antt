@@ -11,6 +11,7 @@ invariant-loop-at g l =
       room : RoomFalls (g.W.Sink.room l.initial.sink) (g.W.Sink.room l.sink) l.at;
       faults : g.W.Sink.faults l.sink ≡ g.W.Sink.faults l.initial.sink;
       fds : g.W.Sink.takes l.sink ≡ g.W.Sink.takes l.initial.sink;
+      closes : g.W.Sink.closes l.sink ≡ g.W.Sink.closes l.initial.sink;
     }
 
 abbrev pub decreases-loop-at : goal.decreases-loop-at

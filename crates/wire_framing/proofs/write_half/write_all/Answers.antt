@@ -15,4 +15,5 @@ loop-at-preserved g c =
       fine = inv.fine;
       same = c.in-Ok.ensures.same ∙ inv.same;
       fds = c.in-Ok.ensures.fds ∙ inv.fds;
+      closes = c.in-Ok.ensures.uncounted ∙ inv.closes;
     }

@@ -14,6 +14,7 @@ invariant-loop-at g l =
       fine : l.writing ≡ Fine;
       same : g.W.Sink.lent l.sink ≡ g.W.Sink.lent l.initial.sink;
       fds : g.W.Sink.takes l.sink ≡ g.W.Sink.takes l.initial.sink;
+      closes : g.W.Sink.closes l.sink ≡ g.W.Sink.closes l.initial.sink;
     }
 
 abbrev pub decreases-loop-at : goal.decreases-loop-at
