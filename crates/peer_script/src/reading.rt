@@ -52,12 +52,8 @@ fn take_direct(progress: &mut Progress, name: Option<OwnedUniqueName>) -> Result
             progress.stage = Stage::Head;
             Ok(true)
         }
-        Stage::Head
-        | Stage::Queued
-        | Stage::Sink
-        | Stage::Pieces
-        | Stage::Commands
-        | Stage::Over => Ok(false),
+        Stage::Head | Stage::Queued | Stage::Sink | Stage::Pieces | Stage::Commands | Stage::Over =>
+            Ok(false),
     }
 }
 
@@ -198,7 +194,8 @@ fn may_end(stage: Stage) -> bool
 {
     match stage {
         Stage::Start => false,
-        Stage::Head | Stage::Queued | Stage::Sink | Stage::Pieces | Stage::Commands | Stage::Over => true,
+        Stage::Head | Stage::Queued | Stage::Sink | Stage::Pieces | Stage::Commands | Stage::Over =>
+            true,
     }
 }
 
