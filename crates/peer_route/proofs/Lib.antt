@@ -4,11 +4,13 @@ pub mod Plain
 pub mod Queues
 pub mod CallsMade
 pub mod Slots
+pub mod Matched
 pub mod StreamsMade
 pub mod Given
 pub mod AnyOrder
 pub mod Asked
 pub mod Core
+pub mod OpenStreams
 pub mod NextSerial
 pub mod Issuing
 pub mod Steps

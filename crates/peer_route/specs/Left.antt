@@ -1,6 +1,7 @@
 -- What a history leaves of a peer: all that the answers to come depend on.
-use Rattle.std.specs.Prelude.{ℕ, zero, suc, ⊤, ◌≡◌, ◌+◌, ◌<◌, ◌≤◌, ◌⊎◌, nat_lt, Bool, true, false, ◌&&◌, ◌==◌, if◌then◌else◌, is_none, List, [], ◌∷◌, ◌++◌, length, map, get_or, slice_get, option_map, option_flatten, Option, Some, None, IsSome, Result, Ok, Err}
+use Rattle.std.specs.Prelude.{ℕ, zero, suc, ⊤, ◌≡◌, ◌+◌, ◌<◌, ◌≤◌, ◌⊎◌, nat_lt, Bool, true, false, ◌&&◌, ◌==◌, if◌then◌else◌, is_none, List, [], ◌∷◌, ◌++◌, length, map, get_or, slice_get, option_map, Option, Some, None, IsSome, Result, Ok, Err}
 use Rattle.std.specs.List.{list_any, AllByRecursion}
+use Rattle.std.specs.Option.{option_flatten}
 use Rattle.std.specs.Ordering.{nat_cmp}
 use Rattle.std.specs.BTreeMap.{BTreeMap, get}
 use Rattle.wire_message.specs.Front.{Seen}
@@ -130,7 +131,7 @@ held_gives (Some q) closing = Ok (take_by q.items closing q.told)
 -- nothing comes any more: the closing error was given, or nothing is kept
 abbrev pub ended_by : Option Held → Bool → Bool
 ended_by None closed = true
-ended_by (Some q) closed = closed && q.told && is_empty q.items
+ended_by (Some q) closed = closed && q.told && (length q.items == 0)
 
 -- What cloning the stream with this number gives: one more that holds the same, with the next number; a stream that isn't open
 -- is unknown. An error changes nothing.
