@@ -5,6 +5,7 @@ use Rattle.std.specs.Option.{option_map, option_flatten}
 use Rattle.std.proofs.Math.Seq.{drop-length}
 use Rattle.std.proofs.lemmas.List.{map-append, drop-append-le}
 use Rattle.std.proofs.lemmas.Option.{slice_get-map}
+use Rattle.std.proofs.lemmas.Bool.{ne_eqb}
 use Rattle.wire_message.specs.Front.{Seen}
 use Rattle.wire_message.specs.declared.error.Error.{Error}
 use Rattle.wire_message.specs.declared.error.Error.TheVariants as errors
@@ -287,7 +288,7 @@ held_next v h k left = ap next_held (kept_left v h k left) ∙ next_at_held h (s
 ended_items : (items : List Seen) (told : Bool) (o : Option Error)
     → ended_by (Some (record { items = items; told = told })) (is_some o) ≡ nothing_comes (Ok (take_by items o told))
 ended_items (m ∷ ms) told None = refl
-ended_items (m ∷ ms) true (Some error) = refl
+ended_items (m ∷ ms) true (Some error) = ne_eqb (suc (length ms)) 0 (λ e. omega (arith, e))
 ended_items (m ∷ ms) false (Some error) = refl
 ended_items [] told None = refl
 ended_items [] true (Some error) = refl

@@ -166,6 +166,24 @@ fn is_full(queue: &Option<Queue>, capacity: u64) -> bool
     }
 }
 
+/// What the stream gives next; UnknownHandle exactly where it isn't open.
+fn take_from(queue: &mut Option<Queue>, closing: Option<Error>) -> Result<Polled<Message>, Error>
+    ensures gives { result ≡ held_gives queue.old closing }
+    ensures left { queue.new ≡ option_map (after_take closing) queue.old }
+{
+    match queue {
+        Some(queue) => Ok(queue.take(closing)),
+        None => Err(Error::UnknownHandle),
+    }
+}
+
+/// Closes the stream: nothing is kept of it.
+fn close(queue: &mut Option<Queue>)
+    ensures { queue.new ≡ None }
+{
+    *queue = None;
+}
+
 /// The streams of a peer, in the order in which they were made; nothing is kept of one that was closed.
 #[derive(Drop)]
 pub(crate) struct Streams {
@@ -236,8 +254,8 @@ impl Streams {
     pub(crate) fn end(&mut self, stream: u64)
         ensures { self.new ≡ edit stream (λ q. None) self.old }
     {
-        if let Some(queue) = self.queues.get_mut(stream as usize) {
-            *queue = None;
+        if stream < self.queues.len() as u64 {
+            close(&mut self.queues[stream as usize]);
         }
     }
 
@@ -287,9 +305,9 @@ impl Streams {
         ensures gives { result ≡ held_gives (kept_at self.old stream) closing }
         ensures left { self.new ≡ edit stream (option_map (after_take closing)) self.old }
     {
-        match self.queues.get_mut(stream as usize) {
-            Some(Some(queue)) => Ok(queue.take(closing)),
-            Some(None) | None => Err(Error::UnknownHandle),
+        if stream >= self.queues.len() as u64 {
+            return Err(Error::UnknownHandle);
         }
+        take_from(&mut self.queues[stream as usize], closing)
     }
 }
