@@ -29,12 +29,18 @@ clones_not v sv k h other left c = absurd c
 
 -- ---- closing
 
-pub open_both : (h : List Event) (k j : ℕ) (a b c : Bool) → is_open h k ≡ a → is_open h j ≡ b → (k == j) ≡ c → are_open h k (Some j) ≡ (a && b && not c)
-open_both h k j a b c ka jb same = rw (ka, jb, same) refl
+pub two_so : (v : View) (h : List Event) (k j : ℕ) → Left v h
+    → (is_some (kept_at v.streams k) && is_some (kept_at v.streams j) && not (k == j)) ≡ are_open h k (Some j)
+two_so v h k j left = rw (open_so v k h left, open_so v j h left) refl
 
 pub close_so : (h : List Event) (k : ℕ) (j : Option ℕ) (b : Bool) → b ≡ are_open h k j → close_answer h k j ≡ known b
 unfolding close_answer
 close_so h k j b e = ap known (sym e)
+
+-- one is closed, and another
+pub ends_two : (v : View) (h : List Event) (k j : ℕ) → Left v h
+    → Left (record v { streams = edit j (λ q. None) (edit k (λ q. None) v.streams) }) (Did j Gone ∷ Did k Gone ∷ h)
+ends_two v h k j left = left_ended (record v { streams = edit k (λ q. None) v.streams }) j (Did k Gone ∷ h) (left_ended v k h left)
 
 -- ---- capacities
 

@@ -1,4 +1,4 @@
-ghost use Rattle.std.specs.Prelude.{ℕ, ◌≡◌, ◌+◌, ◌<◌, ◌≤◌, ◌++◌, ◌∷◌, [], List, length, Option, Some, None, OnOk, OnErr, IfOk, map, option_map, is_some, nat_lt};
+ghost use Rattle.std.specs.Prelude.{ℕ, ◌≡◌, ◌+◌, ◌<◌, ◌≤◌, ◌++◌, ◌∷◌, ◌&&◌, ◌==◌, not, [], List, length, Option, Some, None, OnOk, OnErr, IfOk, map, option_map, is_some, nat_lt};
 ghost use Rattle.std.specs.List.{list_any};
 ghost use Rattle.peer_route.specs.History.{edit};
 ghost use Rattle.peer_route.specs.Streams.{take_by, first_position};
@@ -234,6 +234,13 @@ impl Streams {
         ensures { result ≡ is_some (kept_at self.now stream) }
     {
         self.queue(stream).is_some()
+    }
+
+    /// Whether the streams with these numbers are open, and are two.
+    pub(crate) fn are_two(&self, stream: u64, other: u64) -> bool
+        ensures { result ≡ (is_some (kept_at self.now stream) && is_some (kept_at self.now other) && not (stream == other)) }
+    {
+        self.is_open(stream) && self.is_open(other) && stream != other
     }
 
     /// A new stream that holds what the stream with this number holds, and its number; UnknownHandle exactly where that isn't
