@@ -37,12 +37,12 @@ write_fault = answers.SendFailed (errors.InputOutput kinds.WriteFault)
 
 -- After a failed write nothing goes out; before one, the message goes out or its write fails.
 abbrev pub IsSent : Bool → Answer → Answer → Type 0
-IsSent true sent answer = answer ≡ write_fault
-IsSent false sent answer = (answer ≡ sent) ⊎ (answer ≡ write_fault)
+IsSent true success answer = answer ≡ write_fault
+IsSent false success answer = (answer ≡ success) ⊎ (answer ≡ write_fault)
 
 abbrev pub IsCalled : Option Error → Bool → Answer → Answer → Type 0
-IsCalled (Some error) failed sent answer = answer ≡ answers.Refused error
-IsCalled None failed sent answer = IsSent failed sent answer
+IsCalled (Some error) failed success answer = answer ≡ answers.Refused error
+IsCalled None failed success answer = IsSent failed success answer
 
 -- a message that was sent: its call's number in its lane and its serial; its serial alone where no reply is waited for
 abbrev pub sent_answer : Bool → ℕ → ℕ → Answer

@@ -10,7 +10,8 @@ use Rattle.peer_route.specs.declared.answer.Answer.TheVariants as answers
 use Rattle.peer_route.specs.declared.answer.Entry.{Entry}
 use Rattle.peer_route.specs.Parcel.{Setting, Asked, message_of}
 use Rattle.peer_route.specs.CallMessage.{expects, call_asked, signal_asked, reply_asked, error_asked}
-use Rattle.peer_route.specs.History.{Event, Took, Shut, Put, Wrote, Fault, Spent, Made, Plain, Cloned, Did, Gave, Told, Gone, Asked, Main, closing, is_failed, last_serial, pending}
+use Rattle.peer_route.specs.History.{Event, Took, Shut, Put, Wrote, Fault, Spent, Made, Plain, Cloned, Did, Gave, Told, Gone, Main, closing, is_failed, last_serial, pending}
+use Rattle.peer_route.specs.History as deeds
 use Rattle.peer_route.specs.Streams.{Stream, streams, gave_last}
 
 -- ---- serials
@@ -155,7 +156,7 @@ unstream_does k j answers.Gone = gone_at j (gone_at k [])
 unstream_does k j answer = []
 
 abbrev pub queue_does : Option ℕ → ℕ → Answer → List Event
-queue_does (Some k) limit answers.Set = Did k (Asked limit) ∷ []
+queue_does (Some k) limit answers.Set = Did k (deeds.Asked limit) ∷ []
 queue_does k limit answer = []
 
 abbrev pub main_sets : ℕ → Answer → List Event
