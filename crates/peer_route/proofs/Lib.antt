@@ -10,6 +10,7 @@ pub mod Given
 pub mod AnyOrder
 pub mod Asked
 pub mod Core
+pub mod OpenStreams
 pub mod NextSerial
 pub mod Issuing
 pub mod Steps

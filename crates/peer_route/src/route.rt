@@ -3,7 +3,7 @@ ghost use Rattle.std.specs.Borrow.{sem};
 ghost use Rattle.peer_route.specs.Lending.{LendsCalls};
 ghost use Rattle.peer_route.specs.History.{Event, Took, Shut, Put, Wrote, Fault, Made, Plain, Main, poll_answer, poll_events, drop_answer, drop_events};
 ghost use Rattle.peer_route.specs.History as history;
-ghost use Rattle.peer_route.specs.Streams.{busy, main, take_answer, take_events, next_position, is_over, close_answer, close_events, ask_answer, ask_events, limit_answer};
+ghost use Rattle.peer_route.specs.Streams.{busy, main, take_answer, take_events, next_position, is_over, are_open, close_answer, close_events, ask_answer, ask_events, limit_answer};
 ghost use Rattle.peer_route.specs.CallMessage.{expects_reply};
 ghost use Rattle.peer_route.specs.Left.{Waits, is_busy, View, Left, Clones, Issues, Places, placed, waiting_serial};
 ghost use Rattle.wire_message.specs.Front.{Seen};
@@ -76,6 +76,13 @@ fn expects_reply(message: &Message) -> bool
         MessageType::MethodCall => !message.header().flags().contains(Flags::NoReplyExpected),
         MessageType::MethodReturn | MessageType::Error | MessageType::Signal => false,
     }
+}
+
+/// The stream's number, where there is one.
+fn number_of(stream: Option<MessageStream>) -> Option<u64>
+    ensures { result ≡ option_map (λ s. s.number) stream }
+{
+    stream.map(|stream| stream.number)
 }
 
 impl Route {
@@ -233,6 +240,16 @@ impl Route {
         Ok(MessageStream { number })
     }
 
+    /// Whether the stream with this number is open, and the second, where there is one, and they are two.
+    fn are_open(&self, stream: u64, second: Option<u64>) -> bool
+        ensures { (h : List Event) → Left self.now h → result ≡ are_open h stream second }
+    {
+        match second {
+            Some(other) => self.streams.are_two(stream, other),
+            None => self.streams.is_open(stream),
+        }
+    }
+
     /// Closes the stream, and then the second, in one step; what they hold goes away. Takes no memory.
     ///
     /// # Errors
@@ -247,17 +264,13 @@ impl Route {
         ensures left { (h : List Event) → Left self.old h → Left self.new (close_events stream.number (option_map (λ s. s.number) second) result ++ h) }
     {
         let MessageStream { number } = stream;
-        if !self.streams.is_open(number) {
+        let other = number_of(second);
+        if !self.are_open(number, other) {
             return Err(Error::UnknownHandle);
         }
-        if let Some(MessageStream { number: other }) = second {
-            if other == number || !self.streams.is_open(other) {
-                return Err(Error::UnknownHandle);
-            }
-            self.streams.end(number);
+        self.streams.end(number);
+        if let Some(other) = other {
             self.streams.end(other);
-        } else {
-            self.streams.end(number);
         }
         Ok(())
     }

@@ -1,4 +1,4 @@
-ghost use Rattle.std.specs.Prelude.{ℕ, ◌≡◌, ◌+◌, ◌<◌, ◌≤◌, ◌++◌, ◌∷◌, [], List, length, Option, Some, None, OnOk, OnErr, IfOk, map, option_map, is_some, nat_lt};
+ghost use Rattle.std.specs.Prelude.{ℕ, ◌≡◌, ◌+◌, ◌<◌, ◌≤◌, ◌++◌, ◌∷◌, ◌&&◌, ◌==◌, not, [], List, length, Option, Some, None, OnOk, OnErr, IfOk, map, option_map, is_some, nat_lt};
 ghost use Rattle.std.specs.List.{list_any};
 ghost use Rattle.peer_route.specs.History.{edit};
 ghost use Rattle.peer_route.specs.Streams.{take_by, first_position};
@@ -166,6 +166,24 @@ fn is_full(queue: &Option<Queue>, capacity: u64) -> bool
     }
 }
 
+/// What the stream gives next; UnknownHandle exactly where it isn't open.
+fn take_from(queue: &mut Option<Queue>, closing: Option<Error>) -> Result<Polled<Message>, Error>
+    ensures gives { result ≡ held_gives queue.old closing }
+    ensures left { queue.new ≡ option_map (after_take closing) queue.old }
+{
+    match queue {
+        Some(queue) => Ok(queue.take(closing)),
+        None => Err(Error::UnknownHandle),
+    }
+}
+
+/// Closes the stream: nothing is kept of it.
+fn close(queue: &mut Option<Queue>)
+    ensures { queue.new ≡ None }
+{
+    *queue = None;
+}
+
 /// The streams of a peer, in the order in which they were made; nothing is kept of one that was closed.
 #[derive(Drop)]
 pub(crate) struct Streams {
@@ -218,6 +236,13 @@ impl Streams {
         self.queue(stream).is_some()
     }
 
+    /// Whether the streams with these numbers are open, and are two.
+    pub(crate) fn are_two(&self, stream: u64, other: u64) -> bool
+        ensures { result ≡ (is_some (kept_at self.now stream) && is_some (kept_at self.now other) && not (stream == other)) }
+    {
+        self.is_open(stream) && self.is_open(other) && stream != other
+    }
+
     /// A new stream that holds what the stream with this number holds, and its number; UnknownHandle exactly where that isn't
     /// open. An error changes nothing.
     pub(crate) fn open_clone(&mut self, stream: u64) -> Result<u64, Error>
@@ -236,8 +261,8 @@ impl Streams {
     pub(crate) fn end(&mut self, stream: u64)
         ensures { self.new ≡ edit stream (λ q. None) self.old }
     {
-        if let Some(queue) = self.queues.get_mut(stream as usize) {
-            *queue = None;
+        if stream < self.queues.len() as u64 {
+            close(&mut self.queues[stream as usize]);
         }
     }
 
@@ -287,9 +312,9 @@ impl Streams {
         ensures gives { result ≡ held_gives (kept_at self.old stream) closing }
         ensures left { self.new ≡ edit stream (option_map (after_take closing)) self.old }
     {
-        match self.queues.get_mut(stream as usize) {
-            Some(Some(queue)) => Ok(queue.take(closing)),
-            Some(None) | None => Err(Error::UnknownHandle),
+        if stream >= self.queues.len() as u64 {
+            return Err(Error::UnknownHandle);
         }
+        take_from(&mut self.queues[stream as usize], closing)
     }
 }
