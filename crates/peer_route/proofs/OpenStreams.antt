@@ -1,9 +1,8 @@
 -- Commands on a stream that is open, and what they are answered where it isn't.
-use Rattle.std.proofs.Common.{◌≡◌, ℕ, ◌==◌, refl, sym, ◌∙◌, ap, subst, max, Bool, true, false, not, ◌&&◌, is_some, List, [], ◌∷◌, ◌++◌, length, Option, Some, None, Result, Ok, Err}
+use Rattle.std.proofs.Common.{◌≡◌, ℕ, ◌==◌, refl, sym, ◌∙◌, ap, subst, Bool, true, false, not, ◌&&◌, is_some, List, ◌∷◌, length, Option, Some, None, Ok, Err}
 use Rattle.std.proofs.lemmas.List.{length-map}
 use Rattle.wire_message.specs.declared.error.Error.{Error}
 use Rattle.wire_message.specs.declared.error.Error.TheVariants as errors
-use Rattle.peer_route.specs.declared.streams.MessageStream.{MessageStream}
 use Rattle.peer_route.specs.History.{Event, Made, Did, Cloned, Gone, edit}
 use Rattle.peer_route.specs.Streams.{streams, main, is_open, known, are_open, close_answer, ask_answer, limit_answer}
 use Rattle.peer_route.specs.Left.{Held, held_of, kept_at, ClonesHeld, View, Left, Clones}

@@ -314,7 +314,10 @@ fn two_streams_are_closed_at_once(rt: HostRuntime) -> Result<(), Fail> {
     let mut route = Route::new(rt.alloc());
     let first = route.open()?;
     let second = route.open()?;
-    let twice = route.close_stream(MessageStream { number: 0 }, Some(MessageStream { number: 0 }));
+    let twice = route.close_stream(
+        MessageStream { number: 0 },
+        Some(MessageStream { number: 0 }),
+    );
     assert!(rt; matches!(&twice, Err(Error::UnknownHandle)));
     assert!(rt; !route.is_terminated(&first));
     route.close_stream(first, Some(second))?;

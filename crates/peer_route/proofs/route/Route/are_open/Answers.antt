@@ -1,5 +1,5 @@
 -- Something is kept of each stream that is open.
-use Rattle.std.proofs.Common.{sym, ◌∙◌, ap, ◌≡◌, ℕ, ◌&&◌, ◌==◌, not, is_some, Some, None, Option}
+use Rattle.std.proofs.Common.{sym, ◌∙◌, ap, ◌&&◌, ◌==◌, not, is_some}
 use Rattle.peer_route.specs.Streams.{are_open}
 use Rattle.peer_route.specs.Left.{View, kept_at}
 use Rattle.peer_route.proofs.Core.{open_so}

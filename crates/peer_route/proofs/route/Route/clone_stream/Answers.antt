@@ -1,4 +1,4 @@
-use Rattle.std.proofs.Common.{sym, subst, Ok, Err, Result}
+use Rattle.std.proofs.Common.{sym, subst, Ok, Err}
 use Rattle.std.proofs.lemmas.Result.{err_from_is_err_and}
 use Rattle.peer_route.specs.Left.{View, Clones, ClonesHeld}
 use Rattle.peer_route.proofs.OpenStreams.{clones, clones_not}

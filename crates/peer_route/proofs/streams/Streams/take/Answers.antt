@@ -1,5 +1,5 @@
 -- One queue gives; a number past the last changes nothing.
-use Rattle.std.proofs.Common.{sym, ◌∙◌, ap, Ok, arith}
+use Rattle.std.proofs.Common.{sym, ◌∙◌, ap, arith}
 use Rattle.std.specs.List.{slice_get}
 use Rattle.std.specs.Option.{option_map, option_flatten}
 use Rattle.std.proofs.lemmas.Option.{slice_get_past, slice_get_read}
