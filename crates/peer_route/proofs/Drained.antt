@@ -25,7 +25,7 @@ use Rattle.peer_route.proofs.Read.{send_read, poll_read, drop_read, stream_read,
 use Rattle.peer_route.proofs.Edits.{edit_here, get_new}
 use Rattle.peer_route.proofs.Deeds.{Only, Spares, only_entry, stays}
 use Rattle.peer_route.proofs.Takes.{TakeOf, Quiet, Item, Tells, Ends, take_entry, told_does, ended_does, take_spares}
-use Rattle.peer_route.proofs.Within.{held_same}
+use Rattle.peer_route.proofs.Matched.{held_same}
 use Rattle.peer_route.proofs.StreamLanes.{entry, lanes}
 use Rattle.peer_route.proofs.Yields.{stream_is, place_new}
 

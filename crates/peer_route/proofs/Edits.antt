@@ -1,5 +1,5 @@
 -- Lists of which one element is changed, or behind which one more is put.
-use Rattle.std.proofs.Common.{◌≡◌, ◌≢◌, ℕ, ◌+◌, ◌≤◌, zero, suc, refl, ap, arith, is_some, List, [], ◌∷◌, ◌++◌, length, take, drop, map, Some}
+use Rattle.std.proofs.Common.{◌≡◌, ◌≢◌, ℕ, ◌+◌, ◌≤◌, zero, suc, refl, sym, ◌∙◌, ap, arith, is_some, List, [], ◌∷◌, ◌++◌, length, take, drop, map, Some, None}
 use Rattle.std.specs.List.{slice_get, slice_set}
 use Rattle.peer_route.specs.History.{edit}
 
@@ -34,6 +34,22 @@ pub edit_nothing : {A : Type 0} (k : ℕ) (xs : List A) → edit k (λ x. x) xs 
 edit_nothing k [] = refl
 edit_nothing zero (x ∷ xs) = refl
 edit_nothing (suc k) (x ∷ xs) = ap (λ zs. x ∷ zs) (edit_nothing k xs)
+
+-- a change that changes nothing
+pub edit-same : {A : Type 0} (g : A → A) (xs : List A) (k : ℕ) (x : A) → slice_get xs k ≡ Some x → g x ≡ x → edit k g xs ≡ xs
+edit-same g [] k x at e = refl
+edit-same g (y ∷ ys) zero x at e = let same : y ≡ x = cc in ap (λ z. z ∷ ys) (ap g same ∙ e ∙ sym same)
+edit-same g (y ∷ ys) (suc k) x at e = ap (λ zs. y ∷ zs) (edit-same g ys k x at e)
+
+pub edit-none : {A : Type 0} (g : A → A) → ((x : A) → g x ≡ x) → (xs : List A) (k : ℕ) → edit k g xs ≡ xs
+edit-none g e [] k = refl
+edit-none g e (y ∷ ys) zero = ap (λ z. z ∷ ys) (e y)
+edit-none g e (y ∷ ys) (suc k) = ap (λ zs. y ∷ zs) (edit-none g e ys k)
+
+pub edit-past : {A : Type 0} (g : A → A) (xs : List A) (k : ℕ) → slice_get xs k ≡ None → edit k g xs ≡ xs
+edit-past g [] k at = refl
+edit-past g (y ∷ ys) zero at = cc
+edit-past g (y ∷ ys) (suc k) at = ap (λ zs. y ∷ zs) (edit-past g ys k at)
 
 -- a change of what is kept of each
 pub map_edit : {A B : Type 0} (p : A → B) (f : A → A) (g : B → B) (xs : List A) (k : ℕ) (x : A) → slice_get xs k ≡ Some x → p (f x) ≡ g (p x) → map p (edit k f xs) ≡ edit k g (map p xs)
@@ -81,8 +97,11 @@ get_first zero (x ∷ xs) y ys e = cc
 get_first (suc n) [] y ys e = cc
 get_first (suc n) (x ∷ xs) y ys e = get_first n xs y ys e
 
-pub first_within : {A : Type 0} (n : ℕ) (xs : List A) (y : A) (ys : List A) → drop n xs ≡ y ∷ ys → n + 1 ≤ length xs
-first_within zero [] y ys e = cc
-first_within zero (x ∷ xs) y ys e = omega arith
-first_within (suc n) [] y ys e = cc
-first_within (suc n) (x ∷ xs) y ys e = let rest = first_within n xs y ys e in omega arith
+pub drop_next : {A : Type 0} (n : ℕ) (xs : List A) (y : A) (ys : List A) → drop n xs ≡ y ∷ ys → (drop (n + 1) xs ≡ ys) × (n + 1 ≤ length xs)
+drop_next zero [] y ys e = cc
+drop_next zero (x ∷ xs) y ys e = (cc, omega arith)
+drop_next (suc n) [] y ys e = cc
+drop_next (suc n) (x ∷ xs) y ys e =
+    let rest = drop_next n xs y ys e in
+    let more : suc n + 1 ≡ suc (n + 1) = omega arith in
+    (rw more rest.0, omega (arith, rest.1))

@@ -14,8 +14,7 @@ use Rattle.peer_route.specs.Streams.{Stream, streams, clone_of, new_stream, give
 use Rattle.peer_route.specs.Left.{IsWithin, View, Left}
 use Rattle.peer_route.specs.Trail.{given_by, given_at, kept_by, kept_at}
 use Rattle.peer_route.proofs.Edits.{edit_nothing, map_edit, map_edit_all, set_edit, get_push, get_first}
-use Rattle.peer_route.proofs.Matched.{matched_took}
-use Rattle.peer_route.proofs.Within.{matched_same}
+use Rattle.peer_route.proofs.Matched.{matched_took, matched_same}
 
 -- what was given, by what the stream offers
 gave_by : (h : List Event) (s : Stream) (ms : List Seen) → offered h s ≡ ms → gave_last h s ≡ (if s.gone then None else item_at ms s.taken)

@@ -4,7 +4,7 @@ use Rattle.std.proofs.lemmas.List.{length-map}
 use Rattle.wire_message.specs.declared.error.Error.{Error}
 use Rattle.wire_message.specs.declared.error.Error.TheVariants as errors
 use Rattle.peer_route.specs.History.{Event, Made, Did, Cloned, Gone, edit}
-use Rattle.peer_route.specs.Streams.{streams, main, is_open, known, are_open, close_answer, ask_answer, limit_answer}
+use Rattle.peer_route.specs.Streams.{streams, is_open, known, are_open, close_answer, ask_answer, limit_answer}
 use Rattle.peer_route.specs.Left.{Held, held_of, kept_at, ClonesHeld, View, Left, Clones}
 use Rattle.peer_route.proofs.Core.{open_so, left_cloned, left_ended}
 

@@ -1,5 +1,5 @@
 -- What streams hold after each event.
-use Rattle.std.proofs.Common.{◌≡◌, ℕ, ◌+◌, ◌≤◌, zero, suc, refl, sym, ◌∙◌, ap, arith, Bool, true, false, not, if◌then◌else◌, ◌&&◌, nat_lt, is_some, List, [], ◌∷◌, ◌++◌, length, drop, map, Option, Some, None, Ok, Err, length-append}
+use Rattle.std.proofs.Common.{◌≡◌, ℕ, ◌+◌, zero, suc, refl, sym, ◌∙◌, ap, arith, Bool, true, false, not, if◌then◌else◌, ◌&&◌, nat_lt, is_some, List, [], ◌∷◌, ◌++◌, length, drop, map, Option, Some, None, Ok, Err}
 use Rattle.std.specs.List.{slice_get, list_any, AllByRecursion}
 use Rattle.std.specs.Option.{option_map, option_flatten}
 use Rattle.std.proofs.Math.Seq.{drop-length}
@@ -13,43 +13,34 @@ use Rattle.peer_route.specs.History.{Event, Took, Shut, Put, Wrote, Fault, Spent
 use Rattle.peer_route.specs.Streams.{Stream, streams, plain_stream, clone_of, give, tell, end_one, done_by, main, matched, offered, held, is_full, is_there, is_open, is_over as nothing_comes, take_by, take_at, take_answer, take_events, first_position, next_at, next_position}
 use Rattle.peer_route.specs.Left.{Held, held_of, kept_by, kept_at, queued, is_over, after_by, after_take, held_gives, next_held, ended_by, IsWithin, LeftStreams}
 use Rattle.peer_route.proofs.Plain.{list_any-map, list_any-along}
-use Rattle.peer_route.proofs.Matched.{held_matched, matched_took}
-
--- ---- none starts above what was read, or passed more than was its own
-
-within_along : (h g : List Event) → ((s : Stream) → IsWithin h s → IsWithin g s) → (ss : List Stream) → AllByRecursion (IsWithin h) ss → AllByRecursion (IsWithin g) ss
-within_along h g each [] w = tt
-within_along h g each (s ∷ ss) w = (each s w.0, within_along h g each ss w.1)
-
--- where nothing was read
-within_quiet : (h g : List Event) → read g ≡ read h → ((s : Stream) → matched g s ≡ matched h s) → (s : Stream) → IsWithin h s → IsWithin g s
-within_quiet h g same own s w = record { start = rw same w.start; passed = rw (own s) w.passed }
+use Rattle.peer_route.proofs.Edits.{map_edit, map_edit_all, edit-same, edit-none, edit-past, drop_next}
+use Rattle.peer_route.proofs.Matched.{held_matched, matched_took, all_within_same, all_within_took, within_at, within_plain, within_push}
 
 -- ---- events that change no stream
 
 pub streams_shut : (error : Error) (v : List (Option Held)) (h : List Event) → LeftStreams v h → LeftStreams v (Shut error ∷ h)
 unfolding held_of held offered matched
-streams_shut error v h left = record { queues = left.queues; within = within_along h (Shut error ∷ h) (within_quiet h (Shut error ∷ h) refl (λ s. refl)) (streams h) left.within }
+streams_shut error v h left = record { queues = left.queues; within = all_within_same (Shut error ∷ h) h (streams h) refl left.within }
 
 pub streams_put : (m : Seen) (expects : Bool) (v : List (Option Held)) (h : List Event) → LeftStreams v h → LeftStreams v (Put m expects ∷ h)
 unfolding held_of held offered matched
-streams_put m expects v h left = record { queues = left.queues; within = within_along h (Put m expects ∷ h) (within_quiet h (Put m expects ∷ h) refl (λ s. refl)) (streams h) left.within }
+streams_put m expects v h left = record { queues = left.queues; within = all_within_same (Put m expects ∷ h) h (streams h) refl left.within }
 
 pub streams_wrote : (v : List (Option Held)) (h : List Event) → LeftStreams v h → LeftStreams v (Wrote ∷ h)
 unfolding held_of held offered matched
-streams_wrote v h left = record { queues = left.queues; within = within_along h (Wrote ∷ h) (within_quiet h (Wrote ∷ h) refl (λ s. refl)) (streams h) left.within }
+streams_wrote v h left = record { queues = left.queues; within = all_within_same (Wrote ∷ h) h (streams h) refl left.within }
 
 pub streams_fault : (v : List (Option Held)) (h : List Event) → LeftStreams v h → LeftStreams v (Fault ∷ h)
 unfolding held_of held offered matched
-streams_fault v h left = record { queues = left.queues; within = within_along h (Fault ∷ h) (within_quiet h (Fault ∷ h) refl (λ s. refl)) (streams h) left.within }
+streams_fault v h left = record { queues = left.queues; within = all_within_same (Fault ∷ h) h (streams h) refl left.within }
 
 pub streams_spent : (k : ℕ) (v : List (Option Held)) (h : List Event) → LeftStreams v h → LeftStreams v (Spent k ∷ h)
 unfolding held_of held offered matched
-streams_spent k v h left = record { queues = left.queues; within = within_along h (Spent k ∷ h) (within_quiet h (Spent k ∷ h) refl (λ s. refl)) (streams h) left.within }
+streams_spent k v h left = record { queues = left.queues; within = all_within_same (Spent k ∷ h) h (streams h) refl left.within }
 
 pub streams_main : (limit : ℕ) (v : List (Option Held)) (h : List Event) → LeftStreams v h → LeftStreams v (Main limit ∷ h)
 unfolding held_of held offered matched
-streams_main limit v h left = record { queues = left.queues; within = within_along h (Main limit ∷ h) (within_quiet h (Main limit ∷ h) refl (λ s. refl)) (streams h) left.within }
+streams_main limit v h left = record { queues = left.queues; within = all_within_same (Main limit ∷ h) h (streams h) refl left.within }
 
 -- ---- a message comes
 
@@ -72,16 +63,10 @@ all_took : (m : Seen) (h : List Event) (ss : List Stream) → AllByRecursion (Is
 all_took m h [] w = refl
 all_took m h (s ∷ ss) w = let a = held_took m h s w.0 in let b = all_took m h ss w.1 in cc
 
-within_took : (m : Seen) (h : List Event) (s : Stream) → IsWithin h s → IsWithin (Took m ∷ h) s
-within_took m h s w = record {
-  start = let le : s.from ≤ length (read h) = w.start in omega (arith, length-append (read h) (m ∷ []));
-  passed = let le : s.skip + s.taken ≤ length (matched h s) = w.passed in rw (matched_took m h s w.start) (omega (arith, length-append (matched h s) (m ∷ [])));
-}
-
 pub streams_took : (m : Seen) (v : List (Option Held)) (h : List Event) → LeftStreams v h → LeftStreams (map (queued m) v) (Took m ∷ h)
 streams_took m v h left = record {
   queues = ap (map (queued m)) left.queues ∙ all_took m h (streams h) left.within;
-  within = within_along h (Took m ∷ h) (within_took m h) (streams h) left.within;
+  within = all_within_took m h (streams h) left.within;
 }
 
 -- ---- a stream is made
@@ -95,13 +80,6 @@ pub held_new : (h : List Event) → held_of h (plain_stream h) ≡ Some (record 
 unfolding held_of
 held_new h = ap (λ items. Some (record { items = items; told = is_some (closing h) })) (held_matched h (plain_stream h) ∙ matched_new h)
 
-within_push : (h : List Event) (ss : List Stream) (s : Stream) → AllByRecursion (IsWithin h) ss → IsWithin h s → AllByRecursion (IsWithin h) (ss ++ s ∷ [])
-within_push h [] s w one = (one, tt)
-within_push h (x ∷ ss) s w one = (w.0, within_push h ss s w.1 one)
-
-within_new : (h : List Event) → IsWithin h (plain_stream h)
-within_new h = record { start = omega arith; passed = omega arith }
-
 pub streams_made : (told : Bool) (v : List (Option Held)) (h : List Event) → told ≡ is_some (closing h) → LeftStreams v h
     → LeftStreams (v ++ Some (record { items = []; told = told }) ∷ []) (Made Plain ∷ h)
 unfolding held_of held offered matched
@@ -110,39 +88,11 @@ streams_made told v h e left = record {
       ∙ ap (λ b. map (held_of h) (streams h) ++ Some (record { items = []; told = b }) ∷ []) e
       ∙ ap (λ q. map (held_of h) (streams h) ++ q ∷ []) (sym (held_new h))
       ∙ sym (map-append (held_of h) (streams h) (plain_stream h ∷ []));
-  within = within_along h (Made Plain ∷ h) (within_quiet h (Made Plain ∷ h) refl (λ s. refl)) (streams h ++ plain_stream h ∷ [])
-      (within_push h (streams h) (plain_stream h) left.within (within_new h));
+  within = all_within_same (Made Plain ∷ h) h (streams h ++ plain_stream h ∷ []) refl
+      (within_push h (streams h) (plain_stream h) left.within (within_plain h));
 }
 
 -- ---- one stream changes
-
--- one element changed, seen through p
-pub edit-map : {A B : Type 0} (p : A → B) (f : A → A) (g : B → B) (xs : List A) (k : ℕ) (x : A) → slice_get xs k ≡ Some x → p (f x) ≡ g (p x) → map p (edit k f xs) ≡ edit k g (map p xs)
-edit-map p f g [] k x at e = refl
-edit-map {A} p f g (y ∷ ys) zero x at e = let same : y ≡ x = cc in rw same (ap (λ z. z ∷ map p ys) e)
-edit-map p f g (y ∷ ys) (suc k) x at e = ap (λ zs. p y ∷ zs) (edit-map p f g ys k x at e)
-
--- the same, where each would be changed so
-edit-each : {A B : Type 0} (p : A → B) (f : A → A) (g : B → B) → ((x : A) → p (f x) ≡ g (p x)) → (xs : List A) (k : ℕ) → map p (edit k f xs) ≡ edit k g (map p xs)
-edit-each p f g e [] k = refl
-edit-each p f g e (y ∷ ys) zero = ap (λ z. z ∷ map p ys) (e y)
-edit-each p f g e (y ∷ ys) (suc k) = ap (λ zs. p y ∷ zs) (edit-each p f g e ys k)
-
--- a change that changes nothing
-pub edit-same : {A : Type 0} (g : A → A) (xs : List A) (k : ℕ) (x : A) → slice_get xs k ≡ Some x → g x ≡ x → edit k g xs ≡ xs
-edit-same g [] k x at e = refl
-edit-same g (y ∷ ys) zero x at e = let same : y ≡ x = cc in ap (λ z. z ∷ ys) (ap g same ∙ e ∙ sym same)
-edit-same g (y ∷ ys) (suc k) x at e = ap (λ zs. y ∷ zs) (edit-same g ys k x at e)
-
-pub edit-none : {A : Type 0} (g : A → A) → ((x : A) → g x ≡ x) → (xs : List A) (k : ℕ) → edit k g xs ≡ xs
-edit-none g e [] k = refl
-edit-none g e (y ∷ ys) zero = ap (λ z. z ∷ ys) (e y)
-edit-none g e (y ∷ ys) (suc k) = ap (λ zs. y ∷ zs) (edit-none g e ys k)
-
-pub edit-past : {A : Type 0} (g : A → A) (xs : List A) (k : ℕ) → slice_get xs k ≡ None → edit k g xs ≡ xs
-edit-past g [] k at = refl
-edit-past g (y ∷ ys) zero at = cc
-edit-past g (y ∷ ys) (suc k) at = ap (λ zs. y ∷ zs) (edit-past g ys k at)
 
 within_edit : (h : List Event) (f : Stream → Stream) (ss : List Stream) (k : ℕ) (s : Stream) → slice_get ss k ≡ Some s → IsWithin h (f s) → AllByRecursion (IsWithin h) ss → AllByRecursion (IsWithin h) (edit k f ss)
 within_edit h f [] k s at one w = w
@@ -153,11 +103,6 @@ within_each : (h : List Event) (f : Stream → Stream) → ((s : Stream) → IsW
 within_each h f each [] k w = w
 within_each h f each (x ∷ ss) zero w = (each x w.0, w.1)
 within_each h f each (x ∷ ss) (suc k) w = (w.0, within_each h f each ss k w.1)
-
-within_at : (h : List Event) (ss : List Stream) (k : ℕ) (s : Stream) → slice_get ss k ≡ Some s → AllByRecursion (IsWithin h) ss → IsWithin h s
-within_at h [] k s at w = cc
-within_at h (x ∷ ss) zero s at w = let same : x ≡ s = cc in rw (← same) w.0
-within_at h (x ∷ ss) (suc k) s at w = within_at h ss k s at w.1
 
 -- ---- what is kept of one stream
 
@@ -217,7 +162,7 @@ cloned_by h k v (Some s) at there left =
           ∙ ap (λ q. map (held_of h) (streams h) ++ q ∷ []) (sym (clone_holds h s is))
           ∙ sym (map-append (held_of h) (streams h) (c ∷ []))
           ∙ ap (map (held_of h)) (sym made);
-      within = rw made (within_along h (Made (Cloned k) ∷ h) (within_quiet h (Made (Cloned k) ∷ h) refl (λ x. refl)) (streams h ++ c ∷ [])
+      within = rw made (all_within_same (Made (Cloned k) ∷ h) h (streams h ++ c ∷ []) refl
           (within_push h (streams h) c left.within (clone_within h s (within_at h (streams h) k s at left.within))));
     }
   where
@@ -242,8 +187,8 @@ end_holds h s = held_gone h (end_one s) refl
 pub streams_ended : (k : ℕ) (v : List (Option Held)) (h : List Event) → LeftStreams v h → LeftStreams (edit k (λ q. None) v) (Did k Gone ∷ h)
 unfolding held_of held offered matched
 streams_ended k v h left = record {
-  queues = ap (edit k (λ q. None)) left.queues ∙ sym (edit-each (held_of h) end_one (λ q. None) (end_holds h) (streams h) k);
-  within = within_along h (Did k Gone ∷ h) (within_quiet h (Did k Gone ∷ h) refl (λ s. refl)) (edit k end_one (streams h)) (within_each h end_one (end_within h) (streams h) k left.within);
+  queues = ap (edit k (λ q. None)) left.queues ∙ sym (map_edit_all (held_of h) end_one (λ q. None) (streams h) k (end_holds h));
+  within = all_within_same (Did k Gone ∷ h) h (edit k end_one (streams h)) refl (within_each h end_one (end_within h) (streams h) k left.within);
 }
 
 -- ---- a capacity is asked for
@@ -253,7 +198,7 @@ unfolding held_of held offered matched
 streams_asked k limit v h left =
     let same : edit k (done_by (Asked limit)) (streams h) ≡ streams h = edit-none (done_by (Asked limit)) (λ s. refl) (streams h) k in record {
       queues = left.queues ∙ ap (map (held_of h)) (sym same);
-      within = rw same (within_along h (Did k (Asked limit) ∷ h) (within_quiet h (Did k (Asked limit) ∷ h) refl (λ s. refl)) (streams h) left.within);
+      within = rw same (all_within_same (Did k (Asked limit) ∷ h) h (streams h) refl left.within);
     }
 
 -- ---- takes
@@ -309,15 +254,6 @@ pub ended_left : (v : List (Option Held)) (h : List Event) (k : ℕ) → LeftStr
 unfolding take_answer
 ended_left v h k left = ap (λ q. ended_by q (is_some (closing h))) (kept_left v h k left) ∙ ended_at h (slice_get (streams h) k)
 
-pub drop_next : {A : Type 0} (n : ℕ) (xs : List A) (y : A) (ys : List A) → drop n xs ≡ y ∷ ys → (drop (n + 1) xs ≡ ys) × (n + 1 ≤ length xs)
-drop_next zero [] y ys e = cc
-drop_next zero (x ∷ xs) y ys e = (cc, omega arith)
-drop_next (suc n) [] y ys e = cc
-drop_next (suc n) (x ∷ xs) y ys e =
-    let rest = drop_next n xs y ys e in
-    let more : suc n + 1 ≡ suc (n + 1) = omega arith in
-    (rw more rest.0, omega (arith, rest.1))
-
 -- an item
 gave : (h : List Event) (k : ℕ) (v : List (Option Held)) (s : Stream) (m : Seen) (ms : List Seen) (o : Option Error) → slice_get (streams h) k ≡ Some s → s.gone ≡ false → held h s ≡ m ∷ ms
     → LeftStreams v h → LeftStreams (edit k (option_map (after_take o)) v) (Did k Gave ∷ h)
@@ -333,8 +269,8 @@ gave h k v s m ms o at is e left =
     ∙ ap (option_map (after_take o)) (sym (held_open h s is)) in
     let within : IsWithin h (give s) = record { start = before.start; passed = rw one_more next.1 } in
     record {
-      queues = ap (edit k (option_map (after_take o))) left.queues ∙ sym (edit-map (held_of h) give (option_map (after_take o)) (streams h) k s at one);
-      within = within_along h (Did k Gave ∷ h) (within_quiet h (Did k Gave ∷ h) refl (λ x. refl)) (edit k give (streams h)) (within_edit h give (streams h) k s at within left.within);
+      queues = ap (edit k (option_map (after_take o))) left.queues ∙ sym (map_edit (held_of h) give (option_map (after_take o)) (streams h) k s at one);
+      within = all_within_same (Did k Gave ∷ h) h (edit k give (streams h)) refl (within_edit h give (streams h) k s at within left.within);
     }
 
 -- the closing error
@@ -349,8 +285,8 @@ told_error h k v s error at is e left =
     ∙ ap (option_map (after_take (Some error))) (sym (held_open h s is)) in
     let within : IsWithin h (tell s) = record { start = before.start; passed = before.passed } in
     record {
-      queues = ap (edit k (option_map (after_take (Some error)))) left.queues ∙ sym (edit-map (held_of h) tell (option_map (after_take (Some error))) (streams h) k s at one);
-      within = within_along h (Did k Told ∷ h) (within_quiet h (Did k Told ∷ h) refl (λ x. refl)) (edit k tell (streams h)) (within_edit h tell (streams h) k s at within left.within);
+      queues = ap (edit k (option_map (after_take (Some error)))) left.queues ∙ sym (map_edit (held_of h) tell (option_map (after_take (Some error))) (streams h) k s at one);
+      within = all_within_same (Did k Told ∷ h) h (edit k tell (streams h)) refl (within_edit h tell (streams h) k s at within left.within);
     }
 
 -- nothing

@@ -1,5 +1,5 @@
 -- No stream starts above what was read, or passed more than was its own.
-use Rattle.std.proofs.Common.{◌≡◌, ℕ, ◌+◌, ◌≤◌, zero, suc, refl, sym, ◌∙◌, ap, subst, arith, List, [], ◌∷◌, ◌++◌, length, drop, Option, Some, None, length-append}
+use Rattle.std.proofs.Common.{◌≡◌, ℕ, ◌+◌, ◌≤◌, zero, suc, refl, sym, ◌∙◌, subst, arith, List, [], ◌∷◌, ◌++◌, length, Option, Some, None}
 use Rattle.std.specs.List.{slice_get, AllByRecursion}
 use Rattle.std.proofs.lemmas.Bool.{eq-eqb}
 use Rattle.wire_message.specs.Front.{Seen}
@@ -7,60 +7,21 @@ use Rattle.peer_route.specs.declared.words.Words.{Words}
 use Rattle.peer_route.specs.declared.words.Words.TheVariants as words
 use Rattle.peer_route.specs.declared.answer.Answer.{Answer}
 use Rattle.peer_route.specs.declared.answer.Entry.{Entry}
-use Rattle.peer_route.specs.History.{Event, Took, Shut, Put, Wrote, Fault, Spent, Made, Did, Main, Making, Plain, Cloned, Deed, Gave, Told, Gone, Asked, read, edit}
-use Rattle.peer_route.specs.Streams.{Stream, streams, plain_stream, clone_of, new_stream, give, done_by, matched, held}
+use Rattle.peer_route.specs.History.{Event, Took, Shut, Put, Wrote, Fault, Spent, Made, Did, Main, Making, Plain, Cloned, Deed, Gave, Told, Gone, Asked, edit}
+use Rattle.peer_route.specs.Streams.{Stream, streams, clone_of, new_stream, give, done_by, matched, held}
 use Rattle.peer_route.specs.Left.{IsWithin}
 use Rattle.peer_route.specs.Parcel.{Setting}
 use Rattle.peer_route.specs.Trail.{Trail, place, trail, take_does, events_of, first_events}
 use Rattle.peer_route.specs.Answers.{IsAnswer, Legal}
-use Rattle.peer_route.proofs.Edits.{first_within}
-use Rattle.peer_route.proofs.Matched.{held_matched, matched_took}
+use Rattle.peer_route.proofs.Edits.{drop_next}
+use Rattle.peer_route.proofs.Matched.{held_matched, all_within_same, all_within_took, within_at, within_plain, within_push}
 use Rattle.peer_route.proofs.Deeds.{Only, only_entry}
 use Rattle.peer_route.proofs.Takes.{TakeOf, Quiet, Item, Tells, Ends, take_entry, item_does, told_does, ended_does}
-
--- what was read says what is a stream's
-pub matched_same : (g h : List Event) (s : Stream) → read g ≡ read h → matched g s ≡ matched h s
-unfolding matched
-matched_same g h s e = ap (drop s.from) e
-
-pub held_same : (g h : List Event) (s : Stream) → read g ≡ read h → held g s ≡ held h s
-held_same g h s e = held_matched g s ∙ ap (drop (s.skip + s.taken)) (matched_same g h s e) ∙ sym (held_matched h s)
 
 abbrev pub AllWithin : List Event → Type 0
 AllWithin h = AllByRecursion (IsWithin h) (streams h)
 
 -- ---- events
-
-within_same : (g h : List Event) (s : Stream) → read g ≡ read h → IsWithin h s → IsWithin g s
-within_same g h s e w = record {
-  start = subst (λ (ms : List Seen). s.from ≤ length ms) (sym e) w.start;
-  passed = subst (λ (ms : List Seen). s.skip + s.taken ≤ length ms) (sym (matched_same g h s e)) w.passed;
-}
-
-all_same : (g h : List Event) (ss : List Stream) → read g ≡ read h → AllByRecursion (IsWithin h) ss → AllByRecursion (IsWithin g) ss
-all_same g h [] e w = tt
-all_same g h (s ∷ ss) e w = (within_same g h s e w.0, all_same g h ss e w.1)
-
-within_took : (m : Seen) (h : List Event) (s : Stream) → IsWithin h s → IsWithin (Took m ∷ h) s
-within_took m h s w =
-    let start = w.start in
-    let passed = w.passed in
-    record {
-      start = omega (arith, length-append (read h) (m ∷ []));
-      passed = subst (λ (ms : List Seen). s.skip + s.taken ≤ length ms) (sym (matched_took m h s start)) (omega (arith, length-append (matched h s) (m ∷ [])));
-    }
-
-all_took : (m : Seen) (h : List Event) (ss : List Stream) → AllByRecursion (IsWithin h) ss → AllByRecursion (IsWithin (Took m ∷ h)) ss
-all_took m h [] w = tt
-all_took m h (s ∷ ss) w = (within_took m h s w.0, all_took m h ss w.1)
-
-pub within_at : (h : List Event) (ss : List Stream) (k : ℕ) (s : Stream) → slice_get ss k ≡ Some s → AllByRecursion (IsWithin h) ss → IsWithin h s
-within_at h [] k s at w = cc
-within_at h (x ∷ ss) zero s at w = let same : x ≡ s = cc in subst (IsWithin h) same w.0
-within_at h (x ∷ ss) (suc k) s at w = within_at h ss k s at w.1
-
-within_plain : (h : List Event) → IsWithin h (plain_stream h)
-within_plain h = record { start = omega arith; passed = omega arith }
 
 within_clone : (h : List Event) (k : ℕ) (o : Option Stream) → slice_get (streams h) k ≡ o → AllWithin h → IsWithin h (clone_of h o)
 unfolding matched
@@ -70,10 +31,6 @@ within_clone h k (Some s) at w = let one = within_at h (streams h) k s at w in l
 within_new : (h : List Event) (making : Making) → AllWithin h → IsWithin h (new_stream h (streams h) making)
 within_new h Plain w = within_plain h
 within_new h (Cloned t) w = within_clone h t (slice_get (streams h) t) refl w
-
-within_push : (h : List Event) (ss : List Stream) (s : Stream) → AllByRecursion (IsWithin h) ss → IsWithin h s → AllByRecursion (IsWithin h) (ss ++ s ∷ [])
-within_push h [] s w one = (one, tt)
-within_push h (x ∷ ss) s w one = (w.0, within_push h ss s w.1 one)
 
 -- the deed is no item
 abbrev pub GivesNone : ℕ → Deed → Type 0
@@ -97,21 +54,21 @@ within_edit h (suc j) i deed (s ∷ ss) n w = (w.0, within_edit h j i deed ss n 
 
 within_events : (xs h : List Event) → Only GivesNone xs → AllWithin h → AllWithin (xs ++ h)
 within_events [] h only w = w
-within_events (Took m ∷ xs) h only w = all_took m (xs ++ h) (streams (xs ++ h)) (within_events xs h only w)
+within_events (Took m ∷ xs) h only w = all_within_took m (xs ++ h) (streams (xs ++ h)) (within_events xs h only w)
 within_events (Made making ∷ xs) h only w =
     let g = xs ++ h in
     let rest = within_events xs h only w in
-    all_same (Made making ∷ g) g (streams g ++ new_stream g (streams g) making ∷ []) refl
+    all_within_same (Made making ∷ g) g (streams g ++ new_stream g (streams g) making ∷ []) refl
     (within_push g (streams g) (new_stream g (streams g) making) rest (within_new g making rest))
 within_events (Did j deed ∷ xs) h only w =
     let g = xs ++ h in
-    all_same (Did j deed ∷ g) g (edit j (done_by deed) (streams g)) refl (within_edit g j j deed (streams g) only.0 (within_events xs h only.1 w))
-within_events (Shut error ∷ xs) h only w = all_same (Shut error ∷ xs ++ h) (xs ++ h) (streams (xs ++ h)) refl (within_events xs h only w)
-within_events (Put m expects ∷ xs) h only w = all_same (Put m expects ∷ xs ++ h) (xs ++ h) (streams (xs ++ h)) refl (within_events xs h only w)
-within_events (Wrote ∷ xs) h only w = all_same (Wrote ∷ xs ++ h) (xs ++ h) (streams (xs ++ h)) refl (within_events xs h only w)
-within_events (Fault ∷ xs) h only w = all_same (Fault ∷ xs ++ h) (xs ++ h) (streams (xs ++ h)) refl (within_events xs h only w)
-within_events (Spent call ∷ xs) h only w = all_same (Spent call ∷ xs ++ h) (xs ++ h) (streams (xs ++ h)) refl (within_events xs h only w)
-within_events (Main limit ∷ xs) h only w = all_same (Main limit ∷ xs ++ h) (xs ++ h) (streams (xs ++ h)) refl (within_events xs h only w)
+    all_within_same (Did j deed ∷ g) g (edit j (done_by deed) (streams g)) refl (within_edit g j j deed (streams g) only.0 (within_events xs h only.1 w))
+within_events (Shut error ∷ xs) h only w = all_within_same (Shut error ∷ xs ++ h) (xs ++ h) (streams (xs ++ h)) refl (within_events xs h only w)
+within_events (Put m expects ∷ xs) h only w = all_within_same (Put m expects ∷ xs ++ h) (xs ++ h) (streams (xs ++ h)) refl (within_events xs h only w)
+within_events (Wrote ∷ xs) h only w = all_within_same (Wrote ∷ xs ++ h) (xs ++ h) (streams (xs ++ h)) refl (within_events xs h only w)
+within_events (Fault ∷ xs) h only w = all_within_same (Fault ∷ xs ++ h) (xs ++ h) (streams (xs ++ h)) refl (within_events xs h only w)
+within_events (Spent call ∷ xs) h only w = all_within_same (Spent call ∷ xs ++ h) (xs ++ h) (streams (xs ++ h)) refl (within_events xs h only w)
+within_events (Main limit ∷ xs) h only w = all_within_same (Main limit ∷ xs ++ h) (xs ++ h) (streams (xs ++ h)) refl (within_events xs h only w)
 
 -- ---- an item
 
@@ -126,8 +83,8 @@ within_item : (h : List Event) (k : ℕ) (s : Stream) (m : Seen) (ms : List Seen
 unfolding matched
 within_item h k s m ms at e w =
     let one = within_at h (streams h) k s at w in
-    let le : s.skip + s.taken + 1 ≤ length (matched h s) = first_within (s.skip + s.taken) (matched h s) m ms (sym (held_matched h s) ∙ e) in
-    all_same (Did k Gave ∷ h) h (edit k (done_by Gave) (streams h)) refl
+    let le : s.skip + s.taken + 1 ≤ length (matched h s) = (drop_next (s.skip + s.taken) (matched h s) m ms (sym (held_matched h s) ∙ e)).1 in
+    all_within_same (Did k Gave ∷ h) h (edit k (done_by Gave) (streams h)) refl
     (within_gave h k (streams h) s at (record { start = one.start; passed = omega arith }) w)
 
 -- ---- entries

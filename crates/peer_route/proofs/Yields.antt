@@ -21,11 +21,11 @@ use Rattle.peer_route.specs.Answers.{IsAnswer, Legal, where_open, is_open_at}
 use Rattle.peer_route.specs.StreamLaws.{positions, is_take, item_by, items_given, Yields, held_by, held_in, holds}
 use Rattle.peer_route.proofs.Once.{place_append, legal_from}
 use Rattle.peer_route.proofs.Lanes.{apart}
-use Rattle.peer_route.proofs.Edits.{edit_here, get_new, take_one, first_within}
-use Rattle.peer_route.proofs.Matched.{held_matched, matched_took}
+use Rattle.peer_route.proofs.Edits.{edit_here, get_new, take_one, drop_next}
+use Rattle.peer_route.proofs.Matched.{held_matched, matched_took, within_at}
 use Rattle.peer_route.proofs.Deeds.{Only, Spares, only_entry, stays}
 use Rattle.peer_route.proofs.Takes.{TakeOf, Quiet, Item, Tells, Ends, take_entry, item_does, told_does, ended_does, take_spares}
-use Rattle.peer_route.proofs.Within.{AllWithin, within_at, all_within}
+use Rattle.peer_route.proofs.Within.{AllWithin, all_within}
 use Rattle.peer_route.proofs.StreamLanes.{entry, lanes}
 
 -- ---- what a stream offers
@@ -75,7 +75,7 @@ flows_events (Main limit ∷ xs) h s n begun given f = flows_events xs h s n beg
 flows_item : (all own : List Seen) (from skip taken n : ℕ) (begun : List Seen) (given : List ℕ) (m : Seen) (ms : List Seen) → drop taken (drop skip own) ≡ m ∷ ms
     → Flows all own from skip taken n begun given → Flows all own from skip (taken + 1) n begun (given ++ m.position ∷ [])
 flows_item all own from skip taken n begun given m ms e f =
-    let le : skip + taken + 1 ≤ length own = first_within (skip + taken) own m ms (sym (drop-drop taken skip own) ∙ e) in
+    let le : skip + taken + 1 ≤ length own = (drop_next (skip + taken) own m ms (sym (drop-drop taken skip own) ∙ e)).1 in
     record {
       start = f.start;
       passed = omega arith;

@@ -4,7 +4,7 @@ use Rattle.std.specs.List.{slice_get}
 use Rattle.std.proofs.lemmas.Option.{slice_get_past}
 use Rattle.peer_route.specs.History.{edit}
 use Rattle.peer_route.proofs.Queues.{edit-at}
-use Rattle.peer_route.proofs.StreamsMade.{edit-past}
+use Rattle.peer_route.proofs.Edits.{edit-past}
 use Rattle.peer_route.proofs.streams.Streams.end.Goals as goal
 
 pub returns-else-stream-len : goal.returns-else-stream-len

@@ -6,7 +6,7 @@ use Rattle.std.proofs.lemmas.Option.{slice_get_past, slice_get_read}
 use Rattle.peer_route.specs.History.{edit}
 use Rattle.peer_route.specs.Left.{kept_at, held_gives, after_take}
 use Rattle.peer_route.proofs.Queues.{edit-at}
-use Rattle.peer_route.proofs.StreamsMade.{edit-past}
+use Rattle.peer_route.proofs.Edits.{edit-past}
 use Rattle.peer_route.proofs.streams.Streams.take.Goals as goal
 
 pub returns-then-stream-len-clause-left : goal.returns-then-stream-len-clause-left
