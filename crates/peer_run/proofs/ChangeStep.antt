@@ -1,5 +1,5 @@
 -- A clone, a stream that is closed, a capacity: each is one entry more.
-use Rattle.std.proofs.Common.{◌≡◌, ℕ, refl, sym, ◌∙◌, ap, subst, Bool, true, false, List, [], ◌∷◌, ◌++◌, Option, Some, None, Result, Ok, Err, IfOk}
+use Rattle.std.proofs.Common.{◌≡◌, ℕ, refl, sym, ◌∙◌, ap, subst, Bool, true, false, List, [], ◌∷◌, ◌++◌, length, arith, Option, Some, None, Result, Ok, Err, IfOk}
 use Rattle.std.specs.List.{slice_set}
 use Rattle.std.proofs.lemmas.List.{append-nil}
 use Rattle.wire_message.specs.Front.{Seen}
@@ -13,15 +13,15 @@ use Rattle.peer_route.specs.declared.answer.Answer.TheVariants as answers
 use Rattle.peer_route.specs.declared.answer.Entry.{Entry}
 use Rattle.peer_route.specs.History as events
 use Rattle.peer_route.specs.Streams as streams
-use Rattle.peer_route.specs.Trail.{Trail, trail, place, count, events_of, new_names, new_streams, clone_makes, unstream_does, second_place, queue_does}
+use Rattle.peer_route.specs.Trail.{Trail, trail, place, count, events_of, new_names, new_streams, clone_makes, unstream_does, second_place, queue_does, first_events}
 use Rattle.peer_route.specs.Answers.{IsAnswer, where_open, is_open_at, are_open_at}
 use Rattle.peer_route.specs.Told.{ReadTold}
-use Rattle.peer_route.specs.Left.{View, Left, Clones}
+use Rattle.peer_route.specs.Left.{Left, Clones}
 use Rattle.peer_route.proofs.Given.{given_made, given_gone, given_gone_both, given_asked, given_main}
 use Rattle.peer_route.proofs.Closings.{one_open, two_open, first_unnamed, second_unnamed, shown_by, shown_known, closes_so, asks_so}
 use Rattle.peer_route.proofs.Refused.{refused_changes_nothing}
 use Rattle.peer_run.specs.Stands.{PeerView, Inlet, Outlet, Follows, Reads, Writes, IsReadFault, IsWriteFault, IsRefusal, entry}
-use Rattle.peer_run.proofs.Quiet.{AreQuiet, clone_quiet, unstream_quiet, queue_quiet, main_quiet}
+use Rattle.peer_run.proofs.Quiet.{AreQuiet, first_same, clone_quiet, unstream_quiet, queue_quiet, main_quiet}
 use Rattle.peer_run.proofs.QuietStep.{follows_quiet, reads_quiet, writes_quiet}
 
 -- ---- commands that neither read nor send
@@ -135,19 +135,20 @@ follows_clone setting p q es lane number k f named still names made given left =
     (ap (λ ns. answers.Streaming (count lane ns)) f.streams ∙ sym (ap (λ o. where_open (is_open_at t.events o) b) at ∙ ap (λ c. where_open c b) still))
 
 -- a clone that wasn't made: its refusal, or want of memory
-pub clone_refused : {E : Type 0} (setting : Setting) (p q : PeerView) (es : List Entry) (lane number k : ℕ) (error : Error) (r : Result Answer E) → Follows setting p es
-    → place 0 lane number p.streams ≡ Some k → Clones p.core q.core k (trail setting es).events (Err error)
+pub clone_refused : {E : Type 0} (p q : PeerView) (lane number k : ℕ) (error : Error) (r : Result Answer E) → place 0 lane number p.streams ≡ Some k
+    → ((h : List events.Event) → Left p.core h → Clones p.core q.core k h (Err error))
     → q.names ≡ p.names → q.streams ≡ p.streams → q.given ≡ p.given → IsRefusal error r
-    → IfOk r (λ a. Follows setting q (entry lane (words.Clone number) a ∷ es))
-clone_refused setting p q es lane number k errors.UnknownHandle (Ok a) f named said names made given is =
+    → IfOk r (λ a. (setting : Setting) (es : List Entry) → Follows setting p es → Follows setting q (entry lane (words.Clone number) a ∷ es))
+clone_refused p q lane number k errors.UnknownHandle (Ok a) named said names made given is = λ setting es f.
     let t = trail setting es in
+    let shut = said t.events f.left in
     let at = here setting p es lane number (Some k) f named in
-    let same : q ≡ p = cc (said.1, names, made, given) in
+    let same : q ≡ p = λ i. record { core = shut.1 i; names = names i; streams = made i; given = given i } in
     rw (is, same) (follows_refused setting p es lane (words.Clone number) errors.UnknownHandle f
-    (sym (ap (λ o. where_open (is_open_at t.events o) (answers.Streaming (count lane t.streams))) at ∙ ap (λ c. where_open c (answers.Streaming (count lane t.streams))) said.0)))
-clone_refused setting p q es lane number k errors.Memory (Ok a) f named said names made given is = absurd is
-clone_refused setting p q es lane number k error (Ok a) f named said names made given is = absurd said
-clone_refused setting p q es lane number k error (Err e) f named said names made given is = tt
+    (sym (ap (λ o. where_open (is_open_at t.events o) (answers.Streaming (count lane t.streams))) at ∙ ap (λ c. where_open c (answers.Streaming (count lane t.streams))) shut.0)))
+clone_refused p q lane number k errors.Memory (Ok a) named said names made given is = absurd is
+clone_refused p q lane number k error (Ok a) named said names made given is = λ setting es f. absurd (said (trail setting es).events f.left)
+clone_refused p q lane number k error (Err e) named said names made given is = tt
 
 -- ---- closing
 
@@ -179,7 +180,7 @@ follows_closed : (setting : Setting) (p q : PeerView) (es : List Entry) (lane nu
     → q.names ≡ p.names → q.streams ≡ p.streams → q.given ≡ forgotten k j r p.given → Left q.core (streams.close_events k j r ++ (trail setting es).events)
     → Follows setting q (entry lane (words.Unstream number second) (shown_by answers.Gone r) ∷ es)
 unfolding streams.close_answer
-follows_closed setting p q es lane number second k j r f named at₂ open answer names same given left =
+follows_closed setting p q es lane number second k j r f named at₂ both answer names same given left =
     let t = trail setting es in
     let a = shown_by answers.Gone r in
     let at = here setting p es lane number (Some k) f named in
@@ -189,7 +190,7 @@ follows_closed setting p q es lane number second k j r f named at₂ open answer
     (subst (λ xs. Left q.core (xs ++ t.events)) (sym (closes_so k j r)) left)
     names (shown_names t.events lane None r) (same ∙ sym (append-nil p.streams) ∙ ap (λ ns. p.streams ++ ns) (sym (shown_streams lane r)))
     (given ∙ ap (forgotten k j r) f.given ∙ sym (given_closed t.events k j r) ∙ ap (λ xs. streams.all_given (xs ++ t.events)) (sym (closes_so k j r)))
-    (ap (shown_by answers.Gone) answer ∙ shown_known answers.Gone (streams.are_open t.events k j) ∙ ap (λ b. where_open b answers.Gone) (sym open))
+    (ap (shown_by answers.Gone) answer ∙ shown_known answers.Gone (streams.are_open t.events k j) ∙ ap (λ b. where_open b answers.Gone) (sym both))
 
 pub follows_one : (setting : Setting) (p q : PeerView) (es : List Entry) (lane number k : ℕ) (r : Result (Unit {0}) Error)
     → Follows setting p es → place 0 lane number p.streams ≡ Some k → r ≡ streams.close_answer (trail setting es).events k None
@@ -213,8 +214,8 @@ follows_two setting p q es lane number second k j r f named named₂ answer name
 unnamed : (setting : Setting) (p : PeerView) (es : List Entry) (lane number : ℕ) (second : Option ℕ) → Follows setting p es
     → are_open_at (trail setting es).events lane (trail setting es).streams number second ≡ false
     → Follows setting p (entry lane (words.Unstream number second) (answers.Refused errors.UnknownHandle) ∷ es)
-unnamed setting p es lane number second f no =
-    follows_refused setting p es lane (words.Unstream number second) errors.UnknownHandle f (sym (ap (λ b. where_open b answers.Gone) no))
+unnamed setting p es lane number second f shut =
+    follows_refused setting p es lane (words.Unstream number second) errors.UnknownHandle f (sym (ap (λ b. where_open b answers.Gone) shut))
 
 pub one_unknown : (setting : Setting) (p : PeerView) (es : List Entry) (lane number : ℕ) → Follows setting p es → place 0 lane number p.streams ≡ None
     → Follows setting p (entry lane (words.Unstream number None) (answers.Refused errors.UnknownHandle) ∷ es)
@@ -285,3 +286,24 @@ follows_main setting p q es lane limit f names same given left =
     let t = trail setting es in
     follows_quiet setting p q es lane (words.MainQueue limit) answers.Set (events.Main limit ∷ []) f refl tt left
     names refl (same ∙ sym (append-nil p.streams)) (given ∙ f.given ∙ sym (given_main t.events limit)) refl
+
+-- ---- before the first command
+
+-- the peer keeps nothing but its capacity
+pub follows_first : (setting : Setting) (p : PeerView) → Left p.core (first_events setting.queue) → p.names ≡ [] → p.streams ≡ [] → p.given ≡ [] → Follows setting p []
+follows_first setting p left names same given =
+    let first = first_same setting.queue in
+    let none : p.core.read ≡ 0 = left.read ∙ ap length first.read in
+    record {
+      left = left;
+      names = names;
+      streams = same;
+      given = given ∙ sym (first_given setting.queue);
+      legal = tt;
+      within = omega (arith, none);
+      written = left.done ∙ first.done ∙ sym (ap length (left.outbox ∙ first.put));
+    }
+  where
+    first_given : (queue : Option ℕ) → streams.all_given (first_events queue) ≡ []
+    first_given None = refl
+    first_given (Some limit) = refl

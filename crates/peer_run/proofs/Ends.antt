@@ -3,13 +3,13 @@ use Rattle.std.proofs.Common.{◌≡◌, ℕ, refl, ◌-◌, ap, arith, Bool, fa
 use Rattle.peer_route.specs.Parcel.{Setting}
 use Rattle.peer_route.specs.declared.words.Command.{Command}
 use Rattle.peer_route.specs.declared.answer.Entry.{Entry}
-use Rattle.peer_route.specs.History.{Event, put, is_failed}
-use Rattle.peer_route.specs.Trail.{trail}
+use Rattle.peer_route.specs.History.{Event, closing, put, is_failed}
+use Rattle.peer_route.specs.Trail.{trail, first_events}
 use Rattle.peer_route.specs.Told.{IsSentOf, WritesTold, ReadsTold, left_after}
 use Rattle.wire_framing.specs.Sink.{RoomFalls}
 use Rattle.wire_framing.specs.declared.write_half.Writing.{Writing}
 use Rattle.peer_script.specs.Script.{Script}
-use Rattle.peer_run.specs.Stands.{Inlet, Outlet, PeerView, Reads, Writes, Holds, HoldsThen, IsRest, setting_by}
+use Rattle.peer_run.specs.Stands.{Inlet, Outlet, PeerView, Reads, Writes, Holds, HoldsThen, RoomFor, IsRest, setting_by}
 use Rattle.peer_run.specs.Runs.{Stands, Runs, command_of}
 use Rattle.peer_run.specs.Program.{setting_of, source_bytes, source_breaks, IsRunOf}
 

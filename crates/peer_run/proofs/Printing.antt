@@ -8,7 +8,8 @@ use Rattle.peer_route.specs.declared.answer.Entry.{Entry}
 use Rattle.peer_route.specs.Answers.{Legal}
 use Rattle.peer_route.proofs.Once.{once, legal_from}
 use Rattle.peer_route.proofs.Read.{by_the_first, by_the_closing_error}
-use Rattle.peer_route.proofs.Yields.{yields}
+use Rattle.peer_route.proofs.Yields.{yields, clone_yields}
+use Rattle.peer_route.proofs.ClosedStreams.{closed_for_good}
 use Rattle.peer_route.proofs.Drained.{ended, busy_there}
 use Rattle.peer_route.proofs.Sent.{put_sent}
 use Rattle.peer_script.specs.Script.{Script, line_count}

@@ -145,7 +145,10 @@ impl Peer {
         let Some(stream) = self.streams.place(lane, number) else {
             return Answer::Refused(Error::UnknownHandle);
         };
-        match self.route.close_stream(MessageStream { number: stream }, None) {
+        match self
+            .route
+            .close_stream(MessageStream { number: stream }, None)
+        {
             Ok(()) => {
                 self.forget(stream);
                 Answer::Gone

@@ -101,3 +101,13 @@ returns-in-MainQueue-clause-stands g c start_in start_out es s =
       writes = c.main_queue.ensures.writes (setting_by c.args.setup.now.name c.args.setup.now.queue (g.W.Sink.takes c.args.writer.now.sink)) start_out _ es s.follows s.writes;
       fine = λ e. s.fine (step e);
     })
+
+pub returns-in-Clone-clause-stands : goal.returns-in-Clone-clause-stands
+returns-in-Clone-clause-stands g c =
+    rw (c.in-Clone.is) (if_ok3 c.clone_stream.result _ _ _ _
+    (λ answer f r w start_in start_out es s. record {
+      follows = f (setting_by c.args.setup.now.name c.args.setup.now.queue (g.W.Sink.takes c.args.writer.now.sink)) es s.follows;
+      reads = r (setting_by c.args.setup.now.name c.args.setup.now.queue (g.W.Sink.takes c.args.writer.now.sink)) start_in _ es s.follows s.reads;
+      writes = w (setting_by c.args.setup.now.name c.args.setup.now.queue (g.W.Sink.takes c.args.writer.now.sink)) start_out _ es s.follows s.writes;
+      fine = λ e. s.fine (fine_before (setting_by c.args.setup.now.name c.args.setup.now.queue (g.W.Sink.takes c.args.writer.now.sink)) es c.args.command.now.lane (words.Clone c.in-Clone.number) answer e);
+    }) c.clone_stream.ensures.follows c.clone_stream.ensures.reads c.clone_stream.ensures.writes)

@@ -1,8 +1,8 @@
 use Rattle.std.proofs.Common.{refl, sym, ◌∙◌}
 use Rattle.peer_route.specs.Trail.{trail}
 use Rattle.peer_run.specs.Stands.{PeerView, Follows}
-use Rattle.peer_run.proofs.TakeStep.{follows_take, reads_take}
-use Rattle.peer_run.proofs.streaming.Peer.take.Goals as goal
+use Rattle.peer_run.proofs.TakeStep.{follows_take_before, reads_take_before}
+use Rattle.peer_run.proofs.peer.Peer.take_before.Goals as goal
 
 pub returns-in-Some-clause-follows : goal.returns-in-Some-clause-follows
 returns-in-Some-clause-follows c setting es f =
@@ -10,11 +10,11 @@ returns-in-Some-clause-follows c setting es f =
     let kept = c.show_take.ensures.kept in
     let g : Follows setting p es = rw (← c.self.view_is) at f in
     rw (c.show_take.ensures.answer, kept)
-    (follows_take setting p _ es c.args.lane c.args.number c.in-Some.number c.take-polled.result g
+    (follows_take_before setting p _ es c.args.lane c.args.number c.args.position c.in-Some.number c.take_before-polled.result g
     (sym c.place.ensures ∙ c.in-Some.is)
-    (c.take-polled.ensures.answer (trail setting es).events g.left) refl refl refl (c.take-polled.ensures.left (trail setting es).events g.left))
+    (c.take_before-polled.ensures.answer (trail setting es).events g.left) refl refl refl (c.take_before-polled.ensures.left (trail setting es).events g.left))
 
 pub returns-in-Some-clause-reads : goal.returns-in-Some-clause-reads
 returns-in-Some-clause-reads c setting start now es f r =
     let g : Follows setting _ es = rw (← c.self.view_is) at f in
-    rw (c.show_take.ensures.answer) (reads_take setting start now es c.args.lane c.args.number c.in-Some.number c.take-polled.result (c.take-polled.ensures.answer (trail setting es).events g.left) r)
+    rw (c.show_take.ensures.answer) (reads_take_before setting start now es c.args.lane c.args.number c.args.position c.in-Some.number c.take_before-polled.result (c.take_before-polled.ensures.answer (trail setting es).events g.left) r)
