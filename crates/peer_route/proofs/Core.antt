@@ -1,5 +1,5 @@
 -- The core after each event.
-use Rattle.std.proofs.Common.{◌≡◌, ℕ, ◌+◌, ◌<◌, ◌==◌, is_some, ◌&&◌, is_none, if◌then◌else◌, refl, sym, ◌∙◌, ap, subst, Bool, true, false, not, List, [], ◌∷◌, ◌++◌, length, map, get_or, set, Option, Some, None, Result, Ok, Err, length-append}
+use Rattle.std.proofs.Common.{◌≡◌, ℕ, ◌+◌, ◌<◌, ◌==◌, is_some, ◌&&◌, is_none, if◌then◌else◌, refl, sym, ◌∙◌, ap, subst, max, Bool, true, false, not, List, [], ◌∷◌, ◌++◌, length, map, get_or, set, Option, Some, None, Result, Ok, Err, length-append}
 use Rattle.std.specs.List.{list_any, position, slice_get}
 use Rattle.std.specs.Option.{option_map}
 use Rattle.std.proofs.lemmas.List.{set-set, set-get_or}
@@ -13,12 +13,12 @@ use Rattle.peer_route.specs.declared.polled.Polled.{Polled}
 use Rattle.peer_route.specs.declared.polled.Polled.TheVariants as polled
 use Rattle.peer_route.specs.declared.calls.Slot.{Slot}
 use Rattle.peer_route.specs.declared.calls.Slot.TheVariants as slots
-use Rattle.peer_route.specs.History.{Event, Took, Shut, Wrote, Fault, Spent, Made, Plain, Did, Deed, Gave, Told, Call, edit, read, closing, done, is_reply, is_serial, calls, found, bears, is_gone, first_of, pending, waits_with, poll_answer, poll_events, polled_at, polled_by, drop_answer, drop_events, dropped_at}
-use Rattle.peer_route.specs.Streams.{busy, take_answer, take_events}
-use Rattle.peer_route.specs.Left.{Held, is_over, after_take, held_gives, LeftStreams, is_busy, is_empty_slot, slot_of, slot_by, is_waiting, AreDistinct, CallsView, waiting_serial, is_number, LeftCalls, View, Left}
+use Rattle.peer_route.specs.History.{Event, Took, Shut, Wrote, Fault, Spent, Made, Making, Plain, Cloned, Did, Main, Deed, Gave, Told, Gone, Asked, Call, edit, read, closing, done, is_reply, is_serial, calls, found, bears, is_gone, first_of, pending, waits_with, poll_answer, poll_events, polled_at, polled_by, drop_answer, drop_events, dropped_at}
+use Rattle.peer_route.specs.Streams.{busy, main, is_open, is_over as nothing_comes, take_answer, take_events}
+use Rattle.peer_route.specs.Left.{Held, is_over, after_take, kept_at, held_gives, ended_by, LeftStreams, is_busy, is_empty_slot, slot_of, slot_by, is_waiting, AreDistinct, CallsView, waiting_serial, is_number, LeftCalls, View, Left}
 use Rattle.peer_route.proofs.Plain.{list_any-map, list_any-along, position-None}
 use Rattle.peer_route.proofs.CallsMade.{calls_early, places, places_rise, places-edit, places-fail}
-use Rattle.peer_route.proofs.StreamsMade.{streams_shut, streams_wrote, streams_fault, streams_spent, streams_made, streams_taken, taken_gives, over_any}
+use Rattle.peer_route.proofs.StreamsMade.{streams_shut, streams_wrote, streams_fault, streams_spent, streams_main, streams_made, streams_cloned, streams_ended, streams_asked, streams_taken, taken_gives, ended_left, open_left, over_any}
 use Rattle.peer_route.proofs.Slots.{arrived, slots_took, arrived_nowhere, arrived_past, arrived_first, arrived_distinct, gone_distinct, slots_spent, slots_kept, slots_lost, waits-slot}
 
 -- ---- a message comes
@@ -152,6 +152,7 @@ unfolding slot_of found
 left_wrote v h left = record {
   calls = record { slots = left.calls.slots; closing = left.calls.closing; distinct = left.calls.distinct };
   streams = streams_wrote v.streams h left.streams;
+  main = left.main;
   read = left.read;
   last = left.last;
   outbox = left.outbox;
@@ -189,6 +190,7 @@ pub left_fault : (v : View) (cv : CallsView) (h : List Event) → Left v h → L
 left_fault v cv h left after = record {
   calls = after;
   streams = streams_fault v.streams h left.streams;
+  main = left.main;
   read = left.read;
   last = left.last;
   outbox = left.outbox;
@@ -201,6 +203,7 @@ left_spent : (v : View) (cv : CallsView) (k : ℕ) (h : List Event) → Left v h
 left_spent v cv k h left after = record {
   calls = after;
   streams = streams_spent k v.streams h left.streams;
+  main = left.main;
   read = left.read;
   last = left.last;
   outbox = left.outbox;
@@ -213,6 +216,7 @@ left_same : (v : View) (cv : CallsView) (h : List Event) → Left v h → LeftCa
 left_same v cv h left after = record {
   calls = after;
   streams = left.streams;
+  main = left.main;
   read = left.read;
   last = left.last;
   outbox = left.outbox;
@@ -232,11 +236,12 @@ left_polled v cv k (Err error) h left after = left_same v cv h left after
 
 -- ---- streams
 
-pub left_took : (v : View) (cv : CallsView) (sv : List Held) (m : Seen) (h : List Event) → Left v h → LeftCalls cv (Took m ∷ h) → LeftStreams sv (Took m ∷ h)
+pub left_took : (v : View) (cv : CallsView) (sv : List (Option Held)) (m : Seen) (h : List Event) → Left v h → LeftCalls cv (Took m ∷ h) → LeftStreams sv (Took m ∷ h)
     → Left (record v { calls = cv; streams = sv; read = v.read + 1 }) (Took m ∷ h)
 left_took v cv sv m h left after streams_after = record {
   calls = after;
   streams = streams_after;
+  main = left.main;
   read = ap (λ n. n + 1) left.read ∙ sym (length-append (read h) (m ∷ []));
   last = left.last;
   outbox = left.outbox;
@@ -249,6 +254,7 @@ pub left_shut : (v : View) (cv : CallsView) (error : Error) (h : List Event) →
 left_shut v cv error h left after = record {
   calls = after;
   streams = streams_shut error v.streams h left.streams;
+  main = left.main;
   read = left.read;
   last = left.last;
   outbox = left.outbox;
@@ -257,19 +263,23 @@ left_shut v cv error h left after = record {
   failed = left.failed;
 }
 
-calls_made : (v : CallsView) (h : List Event) → LeftCalls v h → LeftCalls v (Made Plain ∷ h)
+calls_made : (making : Making) (v : CallsView) (h : List Event) → LeftCalls v h → LeftCalls v (Made making ∷ h)
 unfolding slot_of found
-calls_made v h left = record { slots = left.slots; closing = left.closing; distinct = left.distinct }
+calls_made making v h left = record { slots = left.slots; closing = left.closing; distinct = left.distinct }
 
 calls_did : (k : ℕ) (deed : Deed) (v : CallsView) (h : List Event) → LeftCalls v h → LeftCalls v (Did k deed ∷ h)
 unfolding slot_of found
 calls_did k deed v h left = record { slots = left.slots; closing = left.closing; distinct = left.distinct }
 
-pub left_made : (v : View) (told : Bool) (h : List Event) → told ≡ is_some v.calls.closing → Left v h
-    → Left (record v { streams = v.streams ++ (record { items = []; told = told }) ∷ [] }) (Made Plain ∷ h)
-left_made v told h e left = record {
-  calls = calls_made v.calls h left.calls;
-  streams = streams_made told v.streams h (e ∙ ap is_some left.calls.closing) left.streams;
+calls_main : (limit : ℕ) (v : CallsView) (h : List Event) → LeftCalls v h → LeftCalls v (Main limit ∷ h)
+unfolding slot_of found
+calls_main limit v h left = record { slots = left.slots; closing = left.closing; distinct = left.distinct }
+
+left_made_so : (v : View) (sv : List (Option Held)) (making : Making) (h : List Event) → Left v h → LeftStreams sv (Made making ∷ h) → Left (record v { streams = sv }) (Made making ∷ h)
+left_made_so v sv making h left after = record {
+  calls = calls_made making v.calls h left.calls;
+  streams = after;
+  main = left.main;
   read = left.read;
   last = left.last;
   outbox = left.outbox;
@@ -278,10 +288,36 @@ left_made v told h e left = record {
   failed = left.failed;
 }
 
-left_did : (v : View) (sv : List Held) (k : ℕ) (deed : Deed) (h : List Event) → Left v h → LeftStreams sv (Did k deed ∷ h) → Left (record v { streams = sv }) (Did k deed ∷ h)
-left_did v sv k deed h left after = record {
+pub left_made : (v : View) (told : Bool) (h : List Event) → told ≡ is_some v.calls.closing → Left v h
+    → Left (record v { streams = v.streams ++ Some (record { items = []; told = told }) ∷ [] }) (Made Plain ∷ h)
+left_made v told h e left =
+    left_made_so v (v.streams ++ Some (record { items = []; told = told }) ∷ []) Plain h left
+    (streams_made told v.streams h (e ∙ ap is_some left.calls.closing) left.streams)
+
+pub left_cloned : (v : View) (k : ℕ) (h : List Event) → is_open h k ≡ true → Left v h → Left (record v { streams = v.streams ++ kept_at v.streams k ∷ [] }) (Made (Cloned k) ∷ h)
+left_cloned v k h there left = left_made_so v (v.streams ++ kept_at v.streams k ∷ []) (Cloned k) h left (streams_cloned k v.streams h there left.streams)
+
+-- the main capacity is set
+pub left_main : (v : View) (limit : ℕ) (h : List Event) → Left v h → Left (record v { main = limit }) (Main limit ∷ h)
+left_main v limit h left = record {
+  calls = calls_main limit v.calls h left.calls;
+  streams = streams_main limit v.streams h left.streams;
+  main = refl;
+  read = left.read;
+  last = left.last;
+  outbox = left.outbox;
+  places = left.places;
+  done = left.done;
+  failed = left.failed;
+}
+
+-- a stream did something
+left_did : (v : View) (sv : List (Option Held)) (limit k : ℕ) (deed : Deed) (h : List Event) → Left v h → LeftStreams sv (Did k deed ∷ h) → limit ≡ main (Did k deed ∷ h)
+    → Left (record v { streams = sv; main = limit }) (Did k deed ∷ h)
+left_did v sv limit k deed h left after capacity = record {
   calls = calls_did k deed v.calls h left.calls;
   streams = after;
+  main = capacity;
   read = left.read;
   last = left.last;
   outbox = left.outbox;
@@ -290,10 +326,11 @@ left_did v sv k deed h left after = record {
   failed = left.failed;
 }
 
-left_idle : (v : View) (sv : List Held) (h : List Event) → Left v h → LeftStreams sv h → Left (record v { streams = sv }) h
+left_idle : (v : View) (sv : List (Option Held)) (h : List Event) → Left v h → LeftStreams sv h → Left (record v { streams = sv }) h
 left_idle v sv h left after = record {
   calls = left.calls;
   streams = after;
+  main = left.main;
   read = left.read;
   last = left.last;
   outbox = left.outbox;
@@ -302,28 +339,48 @@ left_idle v sv h left after = record {
   failed = left.failed;
 }
 
-left_gave : (v : View) (sv : List Held) (k : ℕ) (r : Result (Polled Seen) Error) (h : List Event) → Left v h
+left_gave : (v : View) (sv : List (Option Held)) (k : ℕ) (r : Result (Polled Seen) Error) (h : List Event) → Left v h
     → LeftStreams sv (take_events k r ++ h) → Left (record v { streams = sv }) (take_events k r ++ h)
-left_gave v sv k (Ok (polled.Now m)) h left after = left_did v sv k Gave h left after
-left_gave v sv k (Ok (polled.Closed error)) h left after = left_did v sv k Told h left after
+left_gave v sv k (Ok (polled.Now m)) h left after = left_did v sv v.main k Gave h left after left.main
+left_gave v sv k (Ok (polled.Closed error)) h left after = left_did v sv v.main k Told h left after left.main
 left_gave v sv k (Ok polled.NotYet) h left after = left_idle v sv h left after
 left_gave v sv k (Ok polled.NoneBefore) h left after = left_idle v sv h left after
 left_gave v sv k (Ok polled.Ended) h left after = left_idle v sv h left after
 left_gave v sv k (Err error) h left after = left_idle v sv h left after
 
 pub left_taken : (v : View) (k : ℕ) (h : List Event) → Left v h
-    → Left (record v { streams = edit k (after_take v.calls.closing) v.streams }) (take_events k (take_answer h k) ++ h)
+    → Left (record v { streams = edit k (option_map (after_take v.calls.closing)) v.streams }) (take_events k (take_answer h k) ++ h)
 left_taken v k h left =
-    let P : Option Error → Type 0 = λ o. Left (record v { streams = edit k (after_take o) v.streams }) (take_events k (take_answer h k) ++ h) in
+    let P : Option Error → Type 0 = λ o. Left (record v { streams = edit k (option_map (after_take o)) v.streams }) (take_events k (take_answer h k) ++ h) in
     subst P (sym left.calls.closing)
-    (left_gave v (edit k (after_take (closing h)) v.streams) k (take_answer h k) h left (streams_taken k v.streams h left.streams))
+    (left_gave v (edit k (option_map (after_take (closing h))) v.streams) k (take_answer h k) h left (streams_taken k v.streams h left.streams))
 
-pub take_gives : (v : View) (k : ℕ) (h : List Event) → Left v h → held_gives (slice_get v.streams k) v.calls.closing ≡ take_answer h k
-take_gives v k h left = ap (held_gives (slice_get v.streams k)) left.calls.closing ∙ taken_gives v.streams h k left.streams
+pub take_gives : (v : View) (k : ℕ) (h : List Event) → Left v h → held_gives (kept_at v.streams k) v.calls.closing ≡ take_answer h k
+take_gives v k h left = ap (held_gives (kept_at v.streams k)) left.calls.closing ∙ taken_gives v.streams h k left.streams
+
+-- nothing comes exactly where a take says so
+pub ended_so : (v : View) (k : ℕ) (h : List Event) → Left v h → ended_by (kept_at v.streams k) (is_some v.calls.closing) ≡ nothing_comes (take_answer h k)
+ended_so v k h left = ap (λ o. ended_by (kept_at v.streams k) (is_some o)) left.calls.closing ∙ ended_left v.streams h k left.streams
+
+-- a stream is open exactly where something is kept of it
+pub open_so : (v : View) (k : ℕ) (h : List Event) → Left v h → is_some (kept_at v.streams k) ≡ is_open h k
+open_so v k h left = open_left v.streams h k left.streams
 
 pub busy_left : (v : View) (h : List Event) → Left v h → is_busy v ≡ busy h
 unfolding is_busy busy
-busy_left v h left = ap (λ o. is_none o && list_any is_over v.streams) left.calls.closing ∙ ap (λ b. is_none (closing h) && b) (over_any v.streams h left.streams)
+busy_left v h left =
+    ap (λ o. is_none o && list_any (is_over v.main) v.streams) left.calls.closing
+    ∙ ap (λ n. is_none (closing h) && list_any (is_over n) v.streams) left.main
+    ∙ ap (λ b. is_none (closing h) && b) (over_any v.streams h left.streams)
+
+-- ---- closing streams, and their capacity
+
+pub left_ended : (v : View) (k : ℕ) (h : List Event) → Left v h → Left (record v { streams = edit k (λ q. None) v.streams }) (Did k Gone ∷ h)
+left_ended v k h left = left_did v (edit k (λ q. None) v.streams) v.main k Gone h left (streams_ended k v.streams h left.streams) left.main
+
+pub left_asked : (v : View) (k limit : ℕ) (h : List Event) → Left v h → Left (record v { main = max v.main limit }) (Did k (Asked limit) ∷ h)
+left_asked v k limit h left =
+    left_did v v.streams (max v.main limit) k (Asked limit) h left (streams_asked k limit v.streams h left.streams) (ap (λ n. max n limit) left.main)
 
 -- ---- drops
 
@@ -361,13 +418,13 @@ is_none_by : (o : Option Error) (b : Bool) → is_some o ≡ b → is_none o ≡
 is_none_by None b e = ap not e
 is_none_by (Some error) b e = ap not e
 
-pub busy_open : (v : View) (b : Bool) → is_some v.calls.closing ≡ false → b ≡ list_any is_over v.streams → b ≡ is_busy v
+pub busy_open : (v : View) (b : Bool) → is_some v.calls.closing ≡ false → b ≡ list_any (is_over v.main) v.streams → b ≡ is_busy v
 unfolding is_busy
-busy_open v b open_ e = e ∙ ap (λ x. x && list_any is_over v.streams) (sym (is_none_by v.calls.closing false open_))
+busy_open v b open_ e = e ∙ ap (λ x. x && list_any (is_over v.main) v.streams) (sym (is_none_by v.calls.closing false open_))
 
 pub busy_shut : (v : View) (b : Bool) → is_some v.calls.closing ≡ true → b ≡ false → b ≡ is_busy v
 unfolding is_busy
-busy_shut v b shut_ e = e ∙ ap (λ x. x && list_any is_over v.streams) (sym (is_none_by v.calls.closing true shut_))
+busy_shut v b shut_ e = e ∙ ap (λ x. x && list_any (is_over v.main) v.streams) (sym (is_none_by v.calls.closing true shut_))
 
 pub slot_drops_gone : (s : Slot) → is_empty_slot s ≡ true → slot_drops (Some s) ≡ Err errors.UnknownHandle
 slot_drops_gone slots.Gone e = refl

@@ -131,6 +131,7 @@ left_alone : (v : View) (m : Seen) (h : List Event) → Left v h → Left (place
 left_alone v m h left = record {
   calls = put_calls m v.calls h left.calls;
   streams = streams_put m false v.streams h left.streams;
+  main = left.main;
   read = left.read;
   last = refl;
   outbox = ap (λ ms. ms ++ m ∷ []) left.outbox;
@@ -143,6 +144,7 @@ left_issued : (v : View) (m : Seen) (h : List Event) → Left v h → waiting_se
 left_issued v m h left free = record {
   calls = issued_calls m v.calls (placed true v m m.serial).calls h refl refl free left.calls;
   streams = streams_put m true v.streams h left.streams;
+  main = left.main;
   read = left.read;
   last = refl;
   outbox = ap (λ ms. ms ++ m ∷ []) left.outbox;

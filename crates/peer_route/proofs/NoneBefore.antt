@@ -17,8 +17,8 @@ use Rattle.peer_route.specs.History.{Event, Call, closing, is_failed, calls, fou
 use Rattle.peer_route.specs.Streams.{Stream, streams, held, busy, take_by, take_at, take_answer}
 use Rattle.peer_route.specs.Parcel.{Setting, Asked}
 use Rattle.peer_route.specs.CallMessage.{expects}
-use Rattle.peer_route.specs.Trail.{Trail, place, trail}
-use Rattle.peer_route.specs.Answers.{IsAnswer, IsRead, IsReadOf, IsCalled, IsSendOf, Legal, write_fault, sent_answer, error_answer, reply_by, shown, poll_of, before_of, shown_drop, drop_of, shown_take, take_of, take_before_of}
+use Rattle.peer_route.specs.Trail.{Trail, place, count, trail}
+use Rattle.peer_route.specs.Answers.{IsAnswer, IsRead, IsReadOf, IsCalled, IsSendOf, Legal, write_fault, sent_answer, error_answer, reply_by, shown, poll_of, before_of, shown_drop, drop_of, shown_take, take_of, take_before_of, where_open}
 use Rattle.peer_route.specs.Laws.{IsByPosition, IsNothingYet}
 
 -- ---- a message that is sent, and a read
@@ -27,11 +27,11 @@ sent_other : (expects : Bool) (call serial : ℕ) → sent_answer expects call s
 sent_other true call serial e = cc
 sent_other false call serial e = cc
 
-called_other : (r : Option Error) (failed : Bool) (sent a : Answer) → (sent ≡ answers.NoneBefore → ⊥) → IsCalled r failed sent a → a ≡ answers.NoneBefore → ⊥
-called_other (Some error) failed sent a other is e = let q : answers.Refused error ≡ answers.NoneBefore = sym is ∙ e in cc
-called_other None true sent a other is e = let q : write_fault ≡ answers.NoneBefore = sym is ∙ e in cc
-called_other None false sent a other (inl is) e = other (sym is ∙ e)
-called_other None false sent a other (inr is) e = let q : write_fault ≡ answers.NoneBefore = sym is ∙ e in cc
+called_other : (r : Option Error) (failed : Bool) (success a : Answer) → (success ≡ answers.NoneBefore → ⊥) → IsCalled r failed success a → a ≡ answers.NoneBefore → ⊥
+called_other (Some error) failed success a other is e = let q : answers.Refused error ≡ answers.NoneBefore = sym is ∙ e in cc
+called_other None true success a other is e = let q : write_fault ≡ answers.NoneBefore = sym is ∙ e in cc
+called_other None false success a other (inl is) e = other (sym is ∙ e)
+called_other None false success a other (inr is) e = let q : write_fault ≡ answers.NoneBefore = sym is ∙ e in cc
 
 send_other : (t : Trail) (lane : ℕ) (asked : Asked) (a : Answer) → IsSendOf t lane asked a → a ≡ answers.NoneBefore → ⊥
 send_other t lane asked a is e = called_other _ (is_failed t.events) _ a (sent_other (expects asked) _ _) is e
@@ -95,14 +95,25 @@ take_by_other [] None told e = cc
 take_by_other [] (Some error) false e = cc
 take_by_other [] (Some error) true e = cc
 
+take_if_other : (gone : Bool) (items : List Seen) (o : Option Error) (told : Bool)
+    → shown_take (if gone then Err errors.UnknownHandle else Ok (take_by items o told)) ≡ answers.NoneBefore → ⊥
+take_if_other true items o told e = cc
+take_if_other false items o told e = take_by_other items o told e
+
 take_at_other : (h : List Event) (o : Option Stream) → shown_take (take_at h o) ≡ answers.NoneBefore → ⊥
 take_at_other h None e = cc
-take_at_other h (Some s) e = take_by_other (held h s) (closing h) s.told e
+take_at_other h (Some s) e = take_if_other s.gone (held h s) (closing h) s.told e
 
 take_other : (h : List Event) (p : Option ℕ) → take_of h p ≡ answers.NoneBefore → ⊥
 unfolding take_answer
 take_other h None e = cc
 take_other h (Some k) e = take_at_other h (slice_get (streams h) k) e
+
+-- ---- a stream that is named
+
+open_other : (b : Bool) (a : Answer) → (a ≡ answers.NoneBefore → ⊥) → where_open b a ≡ answers.NoneBefore → ⊥
+open_other true a other e = other e
+open_other false a other e = cc
 
 -- ---- entries
 
@@ -118,6 +129,10 @@ only_by t lane (words.Drop n) a is e = drop_other t.events (place 0 lane n t.nam
 only_by t lane words.Stream a is e = let q = sym is ∙ e in cc
 only_by t lane (words.Take n) a is e = take_other t.events (place 0 lane n t.streams) (sym is ∙ e)
 only_by t lane (words.TakeBefore n before) a is e = tt
+only_by t lane (words.Clone n) a is e = open_other _ (answers.Streaming (count lane t.streams)) (λ q. cc) (sym is ∙ e)
+only_by t lane (words.Unstream n second) a is e = open_other _ answers.Gone (λ q. cc) (sym is ∙ e)
+only_by t lane (words.Queue n limit) a is e = open_other _ answers.Set (λ q. cc) (sym is ∙ e)
+only_by t lane (words.MainQueue limit) a is e = let q = sym is ∙ e in cc
 
 pub only : (setting : Setting) (older : List Entry) (e : Entry) → Legal setting (e ∷ older) → e.answer ≡ answers.NoneBefore → IsByPosition e.words
 only setting older e legal a = only_by (trail setting older) e.lane e.words e.answer legal.0 a

@@ -16,7 +16,7 @@ use Rattle.peer_route.specs.declared.answer.Entry.{Entry}
 use Rattle.peer_route.specs.History.{Event, Put, Call, read, closing, is_failed, calls, found, bears, is_gone, polled_by, polled_at, poll_answer}
 use Rattle.peer_route.specs.Streams.{busy}
 use Rattle.peer_route.specs.Parcel.{Setting, Asked}
-use Rattle.peer_route.specs.Trail.{Trail, place, trail, failed_put, send_events, read_events, poll_spends, drop_spends, stream_makes, take_does, events_of}
+use Rattle.peer_route.specs.Trail.{Trail, place, trail, failed_put, send_events, read_events, poll_spends, drop_spends, stream_makes, take_does, clone_makes, gone_at, unstream_does, queue_does, main_sets, second_place, events_of, first_events}
 use Rattle.peer_route.specs.Answers.{IsAnswer, IsReadOf, Legal, error_answer, reply_by, shown, poll_of}
 use Rattle.peer_route.specs.Laws.{IsPoll, IsReplyAt, IsFirstReply, IsCutOff}
 use Rattle.peer_route.proofs.Once.{polled_is}
@@ -78,6 +78,28 @@ take_read h (Some k) (answers.Item position) = refl
 take_read h (Some k) (answers.Closed error) = refl
 take_read h (Some k) a = refl
 
+pub clone_read : (h : List Event) (p : Option ℕ) (a : Answer) → read (clone_makes p a ++ h) ≡ read h
+clone_read h None a = refl
+clone_read h (Some k) (answers.Streaming number) = refl
+clone_read h (Some k) a = refl
+
+gone_read : (p : Option ℕ) (xs h : List Event) → read (gone_at p xs ++ h) ≡ read (xs ++ h)
+gone_read None xs h = refl
+gone_read (Some k) xs h = refl
+
+pub unstream_read : (h : List Event) (p q : Option ℕ) (a : Answer) → read (unstream_does p q a ++ h) ≡ read h
+unstream_read h p q answers.Gone = gone_read q (gone_at p []) h ∙ gone_read p [] h
+unstream_read h p q a = refl
+
+pub queue_read : (h : List Event) (p : Option ℕ) (limit : ℕ) (a : Answer) → read (queue_does p limit a ++ h) ≡ read h
+queue_read h None limit a = refl
+queue_read h (Some k) limit answers.Set = refl
+queue_read h (Some k) limit a = refl
+
+pub main_read : (h : List Event) (limit : ℕ) (a : Answer) → read (main_sets limit a ++ h) ≡ read h
+main_read h limit answers.Set = refl
+main_read h limit a = refl
+
 ranked_entry : (t : Trail) (lane : ℕ) (w : Words) (a : Answer) → IsAnswer t lane w a → Ranked 0 (read t.events) → Ranked 0 (read (events_of t lane w a ++ t.events))
 ranked_entry t lane (words.Call out) a is r = subst (Ranked 0) (sym (send_read t.events _ a)) r
 ranked_entry t lane (words.Signal out) a is r = subst (Ranked 0) (sym (send_read t.events _ a)) r
@@ -90,9 +112,18 @@ ranked_entry t lane (words.Drop number) a is r = subst (Ranked 0) (sym (drop_rea
 ranked_entry t lane words.Stream a is r = subst (Ranked 0) (sym (stream_read t.events a)) r
 ranked_entry t lane (words.Take number) a is r = subst (Ranked 0) (sym (take_read t.events (place 0 lane number t.streams) a)) r
 ranked_entry t lane (words.TakeBefore number before) a is r = subst (Ranked 0) (sym (take_read t.events (place 0 lane number t.streams) a)) r
+ranked_entry t lane (words.Clone number) a is r = subst (Ranked 0) (sym (clone_read t.events (place 0 lane number t.streams) a)) r
+ranked_entry t lane (words.Unstream number second) a is r =
+    subst (Ranked 0) (sym (unstream_read t.events (place 0 lane number t.streams) (second_place lane second t.streams) a)) r
+ranked_entry t lane (words.Queue number limit) a is r = subst (Ranked 0) (sym (queue_read t.events (place 0 lane number t.streams) limit a)) r
+ranked_entry t lane (words.MainQueue limit) a is r = subst (Ranked 0) (sym (main_read t.events limit a)) r
+
+ranked_first : (queue : Option ℕ) → Ranked 0 (read (first_events queue))
+ranked_first None = tt
+ranked_first (Some limit) = tt
 
 ranked : (setting : Setting) (es : List Entry) → Legal setting es → Ranked 0 (read (trail setting es).events)
-ranked setting [] legal = tt
+ranked setting [] legal = ranked_first setting.queue
 ranked setting (e ∷ es) legal = ranked_entry (trail setting es) e.lane e.words e.answer legal.0 (ranked setting es legal.1)
 
 -- ---- what a search finds

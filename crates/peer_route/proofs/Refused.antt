@@ -7,7 +7,7 @@ use Rattle.peer_route.specs.declared.answer.Answer.TheVariants as answers
 use Rattle.peer_route.specs.declared.answer.Entry.{Entry}
 use Rattle.peer_route.specs.History.{Event, closing}
 use Rattle.peer_route.specs.Parcel.{Setting, Asked}
-use Rattle.peer_route.specs.Trail.{Trail, place, trail, more, send_events, read_events, poll_spends, drop_spends, take_does, events_of}
+use Rattle.peer_route.specs.Trail.{Trail, place, trail, more, send_events, read_events, poll_spends, drop_spends, take_does, clone_makes, queue_does, events_of}
 
 read_refused : (o : Option Error) (error : Error) → read_events o (answers.Refused error) ≡ []
 read_refused None error = refl
@@ -25,6 +25,14 @@ take_refused : (p : Option ℕ) (error : Error) → take_does p (answers.Refused
 take_refused None error = refl
 take_refused (Some k) error = refl
 
+clone_refused : (p : Option ℕ) (error : Error) → clone_makes p (answers.Refused error) ≡ []
+clone_refused None error = refl
+clone_refused (Some k) error = refl
+
+queue_refused : (p : Option ℕ) (limit : ℕ) (error : Error) → queue_does p limit (answers.Refused error) ≡ []
+queue_refused None limit error = refl
+queue_refused (Some k) limit error = refl
+
 pub send_refused : (h : List Event) (asked : Asked) (error : Error) → send_events h asked (answers.Refused error) ≡ []
 send_refused h (Ok parcel) error = refl
 send_refused h (Err e) error = refl
@@ -41,6 +49,10 @@ no_events t lane (words.Drop n) error = drop_refused (place 0 lane n t.names) er
 no_events t lane words.Stream error = refl
 no_events t lane (words.Take n) error = take_refused (place 0 lane n t.streams) error
 no_events t lane (words.TakeBefore n before) error = take_refused (place 0 lane n t.streams) error
+no_events t lane (words.Clone n) error = clone_refused (place 0 lane n t.streams) error
+no_events t lane (words.Unstream n second) error = refl
+no_events t lane (words.Queue n limit) error = queue_refused (place 0 lane n t.streams) limit error
+no_events t lane (words.MainQueue limit) error = refl
 
 refused_keeps : (t : Trail) (lane : ℕ) (w : Words) (error : Error) → more t (record { lane = lane; words = w; answer = answers.Refused error }) ≡ t
 refused_keeps t lane w error =

@@ -9,7 +9,7 @@ use Rattle.peer_route.specs.declared.answer.Answer.TheVariants as answers
 use Rattle.peer_route.specs.declared.answer.Entry.{Entry}
 use Rattle.peer_route.specs.History.{Event, closing, put, is_failed}
 use Rattle.peer_route.specs.Parcel.{Setting, Parcel, Asked, message_of}
-use Rattle.peer_route.specs.Trail.{Trail, place, asks, trail, send_events, read_events, poll_spends, drop_spends, stream_makes, take_does, events_of, next_serial, or_zero}
+use Rattle.peer_route.specs.Trail.{Trail, place, asks, trail, send_events, read_events, poll_spends, drop_spends, stream_makes, take_does, clone_makes, gone_at, unstream_does, queue_does, main_sets, second_place, events_of, first_events, next_serial, or_zero}
 use Rattle.peer_route.specs.Answers.{IsAnswer, IsCalled, IsSendOf, Legal, sent_answer, write_fault}
 use Rattle.peer_route.specs.StreamLaws.{sent_of, sent_by, all_sent, IsPutOf}
 
@@ -49,6 +49,30 @@ take_none None a h = record { put_same = refl; failed_same = refl }
 take_none (Some j) (answers.Item position) h = record { put_same = refl; failed_same = refl }
 take_none (Some j) (answers.Closed error) h = record { put_same = refl; failed_same = refl }
 take_none (Some j) a h = record { put_same = refl; failed_same = refl }
+
+clone_none : (p : Option ℕ) (a : Answer) (h : List Event) → SendsNone (clone_makes p a ++ h) h
+clone_none None a h = record { put_same = refl; failed_same = refl }
+clone_none (Some j) (answers.Streaming number) h = record { put_same = refl; failed_same = refl }
+clone_none (Some j) a h = record { put_same = refl; failed_same = refl }
+
+gone_none : (p q : Option ℕ) (h : List Event) → SendsNone (gone_at q (gone_at p []) ++ h) h
+gone_none None None h = record { put_same = refl; failed_same = refl }
+gone_none None (Some j) h = record { put_same = refl; failed_same = refl }
+gone_none (Some k) None h = record { put_same = refl; failed_same = refl }
+gone_none (Some k) (Some j) h = record { put_same = refl; failed_same = refl }
+
+unstream_none : (p q : Option ℕ) (a : Answer) (h : List Event) → SendsNone (unstream_does p q a ++ h) h
+unstream_none p q answers.Gone h = gone_none p q h
+unstream_none p q a h = record { put_same = refl; failed_same = refl }
+
+queue_none : (p : Option ℕ) (limit : ℕ) (a : Answer) (h : List Event) → SendsNone (queue_does p limit a ++ h) h
+queue_none None limit a h = record { put_same = refl; failed_same = refl }
+queue_none (Some j) limit answers.Set h = record { put_same = refl; failed_same = refl }
+queue_none (Some j) limit a h = record { put_same = refl; failed_same = refl }
+
+main_none : (limit : ℕ) (a : Answer) (h : List Event) → SendsNone (main_sets limit a ++ h) h
+main_none limit answers.Set h = record { put_same = refl; failed_same = refl }
+main_none limit a h = record { put_same = refl; failed_same = refl }
 
 -- after a failed write nothing was put
 put_failed : (h : List Event) (asked : Asked) (sent : List Seen) → is_failed h ≡ true → IsPutOf true (put h) sent
@@ -92,12 +116,21 @@ sent_step t lane (words.Drop n) a sent is p = none_sent _ t.events sent (drop_no
 sent_step t lane words.Stream a sent is p = none_sent _ t.events sent (stream_none a t.events) p
 sent_step t lane (words.Take n) a sent is p = none_sent _ t.events sent (take_none (place 0 lane n t.streams) a t.events) p
 sent_step t lane (words.TakeBefore n before) a sent is p = none_sent _ t.events sent (take_none (place 0 lane n t.streams) a t.events) p
+sent_step t lane (words.Clone n) a sent is p = none_sent _ t.events sent (clone_none (place 0 lane n t.streams) a t.events) p
+sent_step t lane (words.Unstream n second) a sent is p =
+    none_sent _ t.events sent (unstream_none (place 0 lane n t.streams) (second_place lane second t.streams) a t.events) p
+sent_step t lane (words.Queue n limit) a sent is p = none_sent _ t.events sent (queue_none (place 0 lane n t.streams) limit a t.events) p
+sent_step t lane (words.MainQueue limit) a sent is p = none_sent _ t.events sent (main_none limit a t.events) p
 
 -- entries keep what the peer was given at its start
 pub trail_setting : (setting : Setting) (es : List Entry) → (trail setting es).setting ≡ setting
 trail_setting setting [] = refl
 trail_setting setting (e ∷ es) = trail_setting setting es
 
+sent_first : (queue : Option ℕ) → IsPutOf (is_failed (first_events queue)) (put (first_events queue)) []
+sent_first None = refl
+sent_first (Some limit) = refl
+
 pub put_sent : (setting : Setting) (es : List Entry) → Legal setting es → IsPutOf (is_failed (trail setting es).events) (put (trail setting es).events) (all_sent setting es)
-put_sent setting [] legal = refl
+put_sent setting [] legal = sent_first setting.queue
 put_sent setting (e ∷ es) legal = sent_step (trail setting es) e.lane e.words e.answer (all_sent setting es) legal.0 (put_sent setting es legal.1)

@@ -1,5 +1,5 @@
 -- Each stream that was made has its lane.
-use Rattle.std.proofs.Common.{◌≡◌, inl, inr, ℕ, ◌+◌, zero, suc, refl, sym, ◌∙◌, ap, Bool, true, false, List, [], ◌∷◌, ◌++◌, length, Option, Some, None, Result, Ok, Err, length-append, append-nil}
+use Rattle.std.proofs.Common.{◌≡◌, inl, inr, ℕ, ◌+◌, refl, sym, ◌∙◌, ap, Bool, true, false, List, [], ◌∷◌, ◌++◌, length, Option, Some, None, Result, Ok, Err, length-append, append-nil}
 use Rattle.wire_message.specs.Front.{Seen}
 use Rattle.wire_message.specs.declared.kind.MessageType.{MessageType}
 use Rattle.wire_message.specs.declared.kind.MessageType.TheVariants as types
@@ -11,11 +11,13 @@ use Rattle.peer_route.specs.declared.words.Words.TheVariants as words
 use Rattle.peer_route.specs.declared.answer.Answer.{Answer}
 use Rattle.peer_route.specs.declared.answer.Answer.TheVariants as answers
 use Rattle.peer_route.specs.declared.answer.Entry.{Entry}
-use Rattle.peer_route.specs.History.{Event, Put, Plain, read, closing, edit, is_failed, poll_answer, by_position, drop_answer}
-use Rattle.peer_route.specs.Streams.{streams, new_stream, give, tell, busy, take_answer}
-use Rattle.peer_route.specs.Parcel.{Setting, Asked}
-use Rattle.peer_route.specs.Trail.{Trail, place, trail, more, failed_put, send_events, read_events, poll_spends, drop_spends, take_does, events_of, new_streams}
-use Rattle.peer_route.specs.Answers.{IsAnswer, IsReadOf, IsCalled, Legal, sent_answer, error_answer, reply_by, shown, poll_of, before_of, shown_drop, drop_of, shown_take, take_of, take_before_of}
+use Rattle.peer_route.specs.History.{Event, Put, Cloned, Gone, Asked, read, closing, is_failed, poll_answer, by_position, drop_answer}
+use Rattle.peer_route.specs.Streams.{streams, plain_stream, new_stream, give, tell, done_by, busy, take_answer}
+use Rattle.peer_route.specs.Parcel.{Setting}
+use Rattle.peer_route.specs.Parcel as parcels
+use Rattle.peer_route.specs.Trail.{Trail, place, count, trail, more, failed_put, send_events, read_events, poll_spends, drop_spends, take_does, clone_makes, gone_at, unstream_does, queue_does, main_sets, second_place, events_of, first_events, new_streams}
+use Rattle.peer_route.specs.Answers.{IsAnswer, IsReadOf, IsCalled, Legal, sent_answer, error_answer, reply_by, shown, poll_of, before_of, shown_drop, drop_of, shown_take, take_of, take_before_of, where_open, is_open_at, are_open_at}
+use Rattle.peer_route.proofs.Edits.{edit-length}
 
 abbrev pub entry : ℕ → Words → Answer → Entry
 entry lane w a = record { lane = lane; words = w; answer = a }
@@ -87,10 +89,9 @@ take_before_streams : (lane : ℕ) (h : List Event) (p : Option ℕ) → new_str
 take_before_streams lane h None = refl
 take_before_streams lane h (Some k) = take_shown_streams lane (by_position (take_answer h k))
 
-edit-length : {A : Type 0} (k : ℕ) (f : A → A) (xs : List A) → length (edit k f xs) ≡ length xs
-edit-length k f [] = refl
-edit-length zero f (x ∷ xs) = refl
-edit-length (suc k) f (x ∷ xs) = ap (λ n. suc n) (edit-length k f xs)
+where_streams : (lane : ℕ) (b : Bool) (a : Answer) → new_streams lane a ≡ [] → new_streams lane (where_open b a) ≡ []
+where_streams lane true a none = none
+where_streams lane false a none = refl
 
 -- the events make no stream
 abbrev MakesNone : List Event → Type 0
@@ -100,7 +101,7 @@ failed_makes : (b : Bool) (m : Seen) (expects : Bool) → MakesNone (failed_put 
 failed_makes true m expects h = refl
 failed_makes false m expects h = refl
 
-send_makes : (g : List Event) (asked : Asked) (a : Answer) → MakesNone (send_events g asked a)
+send_makes : (g : List Event) (asked : parcels.Asked) (a : Answer) → MakesNone (send_events g asked a)
 send_makes g (Ok parcel) (answers.Called call serial) h = refl
 send_makes g (Ok parcel) (answers.Sent serial) h = refl
 send_makes g (Ok parcel) (answers.SendFailed error) h = failed_makes (is_failed g) _ _ h
@@ -132,9 +133,35 @@ take_makes (Some j) (answers.Item position) h = edit-length j give (streams h)
 take_makes (Some j) (answers.Closed error) h = edit-length j tell (streams h)
 take_makes (Some j) a h = refl
 
+gone_makes : (p : Option ℕ) (xs h : List Event) → length (streams (gone_at p xs ++ h)) ≡ length (streams (xs ++ h))
+gone_makes None xs h = refl
+gone_makes (Some k) xs h = edit-length k (done_by Gone) (streams (xs ++ h))
+
+unstream_makes : (p q : Option ℕ) (a : Answer) → MakesNone (unstream_does p q a)
+unstream_makes p q answers.Gone h = gone_makes q (gone_at p []) h ∙ gone_makes p [] h
+unstream_makes p q a h = refl
+
+queue_makes : (p : Option ℕ) (limit : ℕ) (a : Answer) → MakesNone (queue_does p limit a)
+queue_makes None limit a h = refl
+queue_makes (Some k) limit answers.Set h = edit-length k (done_by (Asked limit)) (streams h)
+queue_makes (Some k) limit a h = refl
+
+main_makes : (limit : ℕ) (a : Answer) → MakesNone (main_sets limit a)
+main_makes limit answers.Set h = refl
+main_makes limit a h = refl
+
 lane_none : (t : Trail) (lane : ℕ) (w : Words) (a : Answer) → MakesNone (events_of t lane w a) → new_streams lane a ≡ []
     → length t.streams ≡ length (streams t.events) → length (more t (entry lane w a)).streams ≡ length (streams (more t (entry lane w a)).events)
 lane_none t lane w a makes none e = ap (λ ns. length (t.streams ++ ns)) none ∙ ap length (append-nil t.streams) ∙ e ∙ sym (makes t.events)
+
+lane_clone : (t : Trail) (lane n : ℕ) (p : Option ℕ) (b : Bool) (a : Answer) → place 0 lane n t.streams ≡ p → is_open_at t.events p ≡ b
+    → a ≡ where_open b (answers.Streaming (count lane t.streams)) → length t.streams ≡ length (streams t.events)
+    → length (t.streams ++ new_streams lane a) ≡ length (streams (clone_makes p a ++ t.events))
+lane_clone t lane n None true a named opened is e = cc
+lane_clone t lane n None false a named opened is e = rw is (ap length (append-nil t.streams) ∙ e)
+lane_clone t lane n (Some k) true a named opened is e =
+    rw is (length-append t.streams (Some lane ∷ []) ∙ ap (λ n. n + 1) e ∙ sym (length-append (streams t.events) (new_stream t.events (streams t.events) (Cloned k) ∷ [])))
+lane_clone t lane n (Some k) false a named opened is e = rw is (ap length (append-nil t.streams) ∙ e)
 
 lanes_step : (t : Trail) (lane : ℕ) (w : Words) (a : Answer) → IsAnswer t lane w a → length t.streams ≡ length (streams t.events)
     → length (more t (entry lane w a)).streams ≡ length (streams (more t (entry lane w a)).events)
@@ -158,8 +185,20 @@ lanes_step t lane (words.Take n) a is e =
 lanes_step t lane (words.TakeBefore n before) a is e =
     lane_none t lane (words.TakeBefore n before) a (take_makes (place 0 lane n t.streams) a) (ap (new_streams lane) is ∙ take_before_streams lane t.events (place 0 lane n t.streams)) e
 lanes_step t lane words.Stream a is e =
-    rw is (length-append t.streams (Some lane ∷ []) ∙ ap (λ n. n + 1) e ∙ sym (length-append (streams t.events) (new_stream t.events Plain ∷ [])))
+    rw is (length-append t.streams (Some lane ∷ []) ∙ ap (λ n. n + 1) e ∙ sym (length-append (streams t.events) (plain_stream t.events ∷ [])))
+lanes_step t lane (words.Clone n) a is e = lane_clone t lane n (place 0 lane n t.streams) (is_open_at t.events (place 0 lane n t.streams)) a refl refl is e
+lanes_step t lane (words.Unstream n second) a is e =
+    lane_none t lane (words.Unstream n second) a (unstream_makes (place 0 lane n t.streams) (second_place lane second t.streams) a)
+    (ap (new_streams lane) is ∙ where_streams lane (are_open_at t.events lane t.streams n second) answers.Gone refl) e
+lanes_step t lane (words.Queue n limit) a is e =
+    lane_none t lane (words.Queue n limit) a (queue_makes (place 0 lane n t.streams) limit a)
+    (ap (new_streams lane) is ∙ where_streams lane (is_open_at t.events (place 0 lane n t.streams)) answers.Set refl) e
+lanes_step t lane (words.MainQueue limit) a is e = lane_none t lane (words.MainQueue limit) a (main_makes limit a) (ap (new_streams lane) is) e
+
+lanes_first : (queue : Option ℕ) → 0 ≡ length (streams (first_events queue))
+lanes_first None = refl
+lanes_first (Some limit) = refl
 
 pub lanes : (setting : Setting) (es : List Entry) → Legal setting es → length (trail setting es).streams ≡ length (streams (trail setting es).events)
-lanes setting [] legal = refl
+lanes setting [] legal = lanes_first setting.queue
 lanes setting (e ∷ es) legal = lanes_step (trail setting es) e.lane e.words e.answer legal.0 (lanes setting es legal.1)

@@ -1,221 +1,348 @@
 -- What streams hold after each event.
-use Rattle.std.proofs.Common.{◌≡◌, ℕ, ◌+◌, ◌≤◌, zero, suc, refl, sym, ◌∙◌, ap, arith, Bool, true, false, is_some, List, [], ◌∷◌, ◌++◌, length, drop, map, Option, Some, None, Ok, length-append}
+use Rattle.std.proofs.Common.{◌≡◌, ℕ, ◌+◌, zero, suc, refl, sym, ◌∙◌, ap, arith, Bool, true, false, not, if◌then◌else◌, ◌&&◌, nat_lt, is_some, List, [], ◌∷◌, ◌++◌, length, drop, map, Option, Some, None, Ok, Err}
 use Rattle.std.specs.List.{slice_get, list_any, AllByRecursion}
-use Rattle.std.specs.Option.{option_map}
+use Rattle.std.specs.Option.{option_map, option_flatten}
 use Rattle.std.proofs.Math.Seq.{drop-length}
-use Rattle.std.proofs.lemmas.List.{map-append, drop-drop}
+use Rattle.std.proofs.lemmas.List.{map-append, drop-append-le}
 use Rattle.std.proofs.lemmas.Option.{slice_get-map}
+use Rattle.std.proofs.lemmas.Bool.{ne_eqb}
 use Rattle.wire_message.specs.Front.{Seen}
 use Rattle.wire_message.specs.declared.error.Error.{Error}
-use Rattle.peer_route.specs.History.{Event, Took, Shut, Put, Wrote, Fault, Spent, Made, Did, Plain, Gave, Told, read, closing, edit}
-use Rattle.peer_route.specs.Streams.{Stream, streams, new_stream, give, tell, matched, held, is_full, take_by, take_at, take_answer, take_events, next_at, next_position}
-use Rattle.peer_route.specs.Left.{Held, held_of, queued, is_over, after_by, after_take, held_gives, next_held, IsWithin, LeftStreams}
+use Rattle.wire_message.specs.declared.error.Error.TheVariants as errors
+use Rattle.peer_route.specs.History.{Event, Took, Shut, Put, Wrote, Fault, Spent, Made, Did, Main, Plain, Cloned, Gave, Told, Gone, Asked, read, closing, edit}
+use Rattle.peer_route.specs.Streams.{Stream, streams, plain_stream, clone_of, give, tell, end_one, done_by, main, matched, offered, held, is_full, is_there, is_open, is_over as nothing_comes, take_by, take_at, take_answer, take_events, first_position, next_at, next_position}
+use Rattle.peer_route.specs.Left.{Held, held_of, kept_by, kept_at, queued, is_over, after_by, after_take, held_gives, next_held, ended_by, IsWithin, LeftStreams}
 use Rattle.peer_route.proofs.Plain.{list_any-map, list_any-along}
+use Rattle.peer_route.proofs.Edits.{map_edit, map_edit_all, edit-same, edit-none, edit-past, drop_next}
+use Rattle.peer_route.proofs.Matched.{held_matched, matched_took, all_within_same, all_within_took, within_at, within_plain, within_push}
 
 -- ---- events that change no stream
 
-pub streams_shut : (error : Error) (v : List Held) (h : List Event) → LeftStreams v h → LeftStreams v (Shut error ∷ h)
-unfolding held_of held matched
-streams_shut error v h left = record { queues = left.queues; within = left.within }
+pub streams_shut : (error : Error) (v : List (Option Held)) (h : List Event) → LeftStreams v h → LeftStreams v (Shut error ∷ h)
+unfolding held_of held offered matched
+streams_shut error v h left = record { queues = left.queues; within = all_within_same (Shut error ∷ h) h (streams h) refl left.within }
 
-pub streams_put : (m : Seen) (expects : Bool) (v : List Held) (h : List Event) → LeftStreams v h → LeftStreams v (Put m expects ∷ h)
-unfolding held_of held matched
-streams_put m expects v h left = record { queues = left.queues; within = left.within }
+pub streams_put : (m : Seen) (expects : Bool) (v : List (Option Held)) (h : List Event) → LeftStreams v h → LeftStreams v (Put m expects ∷ h)
+unfolding held_of held offered matched
+streams_put m expects v h left = record { queues = left.queues; within = all_within_same (Put m expects ∷ h) h (streams h) refl left.within }
 
-pub streams_wrote : (v : List Held) (h : List Event) → LeftStreams v h → LeftStreams v (Wrote ∷ h)
-unfolding held_of held matched
-streams_wrote v h left = record { queues = left.queues; within = left.within }
+pub streams_wrote : (v : List (Option Held)) (h : List Event) → LeftStreams v h → LeftStreams v (Wrote ∷ h)
+unfolding held_of held offered matched
+streams_wrote v h left = record { queues = left.queues; within = all_within_same (Wrote ∷ h) h (streams h) refl left.within }
 
-pub streams_fault : (v : List Held) (h : List Event) → LeftStreams v h → LeftStreams v (Fault ∷ h)
-unfolding held_of held matched
-streams_fault v h left = record { queues = left.queues; within = left.within }
+pub streams_fault : (v : List (Option Held)) (h : List Event) → LeftStreams v h → LeftStreams v (Fault ∷ h)
+unfolding held_of held offered matched
+streams_fault v h left = record { queues = left.queues; within = all_within_same (Fault ∷ h) h (streams h) refl left.within }
 
-pub streams_spent : (k : ℕ) (v : List Held) (h : List Event) → LeftStreams v h → LeftStreams v (Spent k ∷ h)
-unfolding held_of held matched
-streams_spent k v h left = record { queues = left.queues; within = left.within }
+pub streams_spent : (k : ℕ) (v : List (Option Held)) (h : List Event) → LeftStreams v h → LeftStreams v (Spent k ∷ h)
+unfolding held_of held offered matched
+streams_spent k v h left = record { queues = left.queues; within = all_within_same (Spent k ∷ h) h (streams h) refl left.within }
+
+pub streams_main : (limit : ℕ) (v : List (Option Held)) (h : List Event) → LeftStreams v h → LeftStreams v (Main limit ∷ h)
+unfolding held_of held offered matched
+streams_main limit v h left = record { queues = left.queues; within = all_within_same (Main limit ∷ h) h (streams h) refl left.within }
 
 -- ---- a message comes
 
-drop_push : {A : Type 0} (n : ℕ) (xs : List A) (x : A) → n ≤ length xs → drop n (xs ++ x ∷ []) ≡ drop n xs ++ x ∷ []
-drop_push zero xs x le = refl
-drop_push (suc n) [] x le = absurd (omega arith)
-drop_push (suc n) (y ∷ ys) x le = drop_push n ys x (omega arith)
+queued_kept : (gone : Bool) (m : Seen) (items : List Seen) (told : Bool) → kept_by gone (items ++ m ∷ []) told ≡ queued m (kept_by gone items told)
+queued_kept true m items told = refl
+queued_kept false m items told = refl
 
--- what a stream holds, by one count
-pub held_drop : (h : List Event) (s : Stream) → held h s ≡ drop (s.from + s.taken) (read h)
-unfolding held matched
-held_drop h s = drop-drop s.taken s.from (read h)
+-- each stream holds one message more
+held_more : (m : Seen) (h : List Event) (s : Stream) → IsWithin h s → held (Took m ∷ h) s ≡ held h s ++ m ∷ []
+held_more m h s within =
+    held_matched (Took m ∷ h) s ∙ ap (drop (s.skip + s.taken)) (matched_took m h s within.start)
+    ∙ drop-append-le (s.skip + s.taken) (matched h s) (m ∷ []) within.passed
+    ∙ ap (λ ms. ms ++ m ∷ []) (sym (held_matched h s))
 
 held_took : (m : Seen) (h : List Event) (s : Stream) → IsWithin h s → held_of (Took m ∷ h) s ≡ queued m (held_of h s)
 unfolding held_of
-held_took m h s within =
-    ap (λ items. record { items = items; told = s.told })
-    (held_drop (Took m ∷ h) s ∙ drop_push (s.from + s.taken) (read h) m within ∙ ap (λ ms. ms ++ m ∷ []) (sym (held_drop h s)))
+held_took m h s within = ap (λ items. kept_by s.gone items s.told) (held_more m h s within) ∙ queued_kept s.gone m (held h s) s.told
 
 all_took : (m : Seen) (h : List Event) (ss : List Stream) → AllByRecursion (IsWithin h) ss → map (queued m) (map (held_of h) ss) ≡ map (held_of (Took m ∷ h)) ss
 all_took m h [] w = refl
 all_took m h (s ∷ ss) w = let a = held_took m h s w.0 in let b = all_took m h ss w.1 in cc
 
-within_took : (m : Seen) (h : List Event) (ss : List Stream) → AllByRecursion (IsWithin h) ss → AllByRecursion (IsWithin (Took m ∷ h)) ss
-within_took m h [] w = tt
-within_took m h (s ∷ ss) w = (let le : s.from + s.taken ≤ length (read h) = w.0 in omega (arith, length-append (read h) (m ∷ [])), within_took m h ss w.1)
-
-pub streams_took : (m : Seen) (v : List Held) (h : List Event) → LeftStreams v h → LeftStreams (map (queued m) v) (Took m ∷ h)
+pub streams_took : (m : Seen) (v : List (Option Held)) (h : List Event) → LeftStreams v h → LeftStreams (map (queued m) v) (Took m ∷ h)
 streams_took m v h left = record {
   queues = ap (map (queued m)) left.queues ∙ all_took m h (streams h) left.within;
-  within = within_took m h (streams h) left.within;
+  within = all_within_took m h (streams h) left.within;
 }
 
 -- ---- a stream is made
 
-drop_all : {A : Type 0} (xs : List A) → drop (length xs + 0) xs ≡ []
-drop_all xs = let e : length xs + 0 ≡ length xs = omega arith in rw e (drop-length xs)
+-- nothing that was read is a new stream's
+matched_new : (h : List Event) → matched h (plain_stream h) ≡ []
+unfolding matched
+matched_new h = drop-length (read h)
 
-pub held_new : (h : List Event) → held_of h (new_stream h Plain) ≡ record { items = []; told = is_some (closing h) }
+pub held_new : (h : List Event) → held_of h (plain_stream h) ≡ Some (record { items = []; told = is_some (closing h) })
 unfolding held_of
-held_new h = ap (λ items. record { items = items; told = is_some (closing h) }) (held_drop h (new_stream h Plain) ∙ drop_all (read h))
+held_new h = ap (λ items. Some (record { items = items; told = is_some (closing h) })) (held_matched h (plain_stream h) ∙ matched_new h)
 
-within_push : (h : List Event) (ss : List Stream) (s : Stream) → AllByRecursion (IsWithin h) ss → IsWithin h s → AllByRecursion (IsWithin h) (ss ++ s ∷ [])
-within_push h [] s w one = (one, tt)
-within_push h (x ∷ ss) s w one = (w.0, within_push h ss s w.1 one)
-
-pub streams_made : (told : Bool) (v : List Held) (h : List Event) → told ≡ is_some (closing h) → LeftStreams v h
-    → LeftStreams (v ++ (record { items = []; told = told }) ∷ []) (Made Plain ∷ h)
-unfolding held_of held matched
+pub streams_made : (told : Bool) (v : List (Option Held)) (h : List Event) → told ≡ is_some (closing h) → LeftStreams v h
+    → LeftStreams (v ++ Some (record { items = []; told = told }) ∷ []) (Made Plain ∷ h)
+unfolding held_of held offered matched
 streams_made told v h e left = record {
-  queues = ap (λ qs. qs ++ (record { items = []; told = told }) ∷ []) left.queues
-      ∙ ap (λ b. map (held_of h) (streams h) ++ (record { items = []; told = b }) ∷ []) e
+  queues = ap (λ qs. qs ++ Some (record { items = []; told = told }) ∷ []) left.queues
+      ∙ ap (λ b. map (held_of h) (streams h) ++ Some (record { items = []; told = b }) ∷ []) e
       ∙ ap (λ q. map (held_of h) (streams h) ++ q ∷ []) (sym (held_new h))
-      ∙ sym (map-append (held_of h) (streams h) (new_stream h Plain ∷ []));
-  within = within_push h (streams h) (new_stream h Plain) left.within (omega arith);
+      ∙ sym (map-append (held_of h) (streams h) (plain_stream h ∷ []));
+  within = all_within_same (Made Plain ∷ h) h (streams h ++ plain_stream h ∷ []) refl
+      (within_push h (streams h) (plain_stream h) left.within (within_plain h));
 }
 
--- ---- a stream gives
-
-pub edit-map : {A B : Type 0} (p : A → B) (f : A → A) (g : B → B) (xs : List A) (k : ℕ) (x : A) → slice_get xs k ≡ Some x → p (f x) ≡ g (p x) → map p (edit k f xs) ≡ edit k g (map p xs)
-edit-map p f g [] k x at e = refl
-edit-map {A} p f g (y ∷ ys) zero x at e = let same : y ≡ x = cc in rw same (ap (λ z. z ∷ map p ys) e)
-edit-map p f g (y ∷ ys) (suc k) x at e = ap (λ zs. p y ∷ zs) (edit-map p f g ys k x at e)
-
--- a change that changes nothing
-pub edit-same : {A : Type 0} (g : A → A) (xs : List A) (k : ℕ) (x : A) → slice_get xs k ≡ Some x → g x ≡ x → edit k g xs ≡ xs
-edit-same g [] k x at e = refl
-edit-same g (y ∷ ys) zero x at e = let same : y ≡ x = cc in ap (λ z. z ∷ ys) (ap g same ∙ e ∙ sym same)
-edit-same g (y ∷ ys) (suc k) x at e = ap (λ zs. y ∷ zs) (edit-same g ys k x at e)
-
-pub edit-past : {A : Type 0} (g : A → A) (xs : List A) (k : ℕ) → slice_get xs k ≡ None → edit k g xs ≡ xs
-edit-past g [] k at = refl
-edit-past g (y ∷ ys) zero at = cc
-edit-past g (y ∷ ys) (suc k) at = ap (λ zs. y ∷ zs) (edit-past g ys k at)
+-- ---- one stream changes
 
 within_edit : (h : List Event) (f : Stream → Stream) (ss : List Stream) (k : ℕ) (s : Stream) → slice_get ss k ≡ Some s → IsWithin h (f s) → AllByRecursion (IsWithin h) ss → AllByRecursion (IsWithin h) (edit k f ss)
 within_edit h f [] k s at one w = w
 within_edit h f (x ∷ ss) zero s at one w = let same : x ≡ s = cc in (rw same one, w.1)
 within_edit h f (x ∷ ss) (suc k) s at one w = (w.0, within_edit h f ss k s at one w.1)
 
-within_at : (h : List Event) (ss : List Stream) (k : ℕ) (s : Stream) → slice_get ss k ≡ Some s → AllByRecursion (IsWithin h) ss → IsWithin h s
-within_at h [] k s at w = cc
-within_at h (x ∷ ss) zero s at w = let same : x ≡ s = cc in rw (← same) w.0
-within_at h (x ∷ ss) (suc k) s at w = within_at h ss k s at w.1
+within_each : (h : List Event) (f : Stream → Stream) → ((s : Stream) → IsWithin h s → IsWithin h (f s)) → (ss : List Stream) (k : ℕ) → AllByRecursion (IsWithin h) ss → AllByRecursion (IsWithin h) (edit k f ss)
+within_each h f each [] k w = w
+within_each h f each (x ∷ ss) zero w = (each x w.0, w.1)
+within_each h f each (x ∷ ss) (suc k) w = (w.0, within_each h f each ss k w.1)
+
+-- ---- what is kept of one stream
+
+-- what is kept of a stream that may be there
+abbrev kept_of : List Event → Option Stream → Option Held
+kept_of h o = option_flatten (option_map (held_of h) o)
+
+pub kept_left : (v : List (Option Held)) (h : List Event) (k : ℕ) → LeftStreams v h → kept_at v k ≡ kept_of h (slice_get (streams h) k)
+kept_left v h k left = ap (λ qs. kept_at qs k) left.queues ∙ ap option_flatten (slice_get-map (held_of h) (streams h) k)
+
+held_open : (h : List Event) (s : Stream) → s.gone ≡ false → held_of h s ≡ Some (record { items = held h s; told = s.told })
+unfolding held_of
+held_open h s is = ap (λ b. kept_by b (held h s) s.told) is
+
+held_gone : (h : List Event) (s : Stream) → s.gone ≡ true → held_of h s ≡ None
+unfolding held_of
+held_gone h s is = ap (λ b. kept_by b (held h s) s.told) is
+
+there_by : (gone : Bool) (items : List Seen) (told : Bool) → is_some (kept_by gone items told) ≡ not gone
+there_by true items told = refl
+there_by false items told = refl
+
+there_at : (h : List Event) (o : Option Stream) → is_some (kept_of h o) ≡ is_there o
+unfolding held_of
+there_at h None = refl
+there_at h (Some s) = there_by s.gone (held h s) s.told
+
+-- a stream is open exactly where something is kept of it
+pub open_left : (v : List (Option Held)) (h : List Event) (k : ℕ) → LeftStreams v h → is_some (kept_at v k) ≡ is_open h k
+unfolding is_open
+open_left v h k left = ap is_some (kept_left v h k left) ∙ there_at h (slice_get (streams h) k)
+
+-- ---- a clone is made
+
+clone_within : (h : List Event) (s : Stream) → IsWithin h s → IsWithin h (clone_of h (Some s))
+unfolding matched
+clone_within h s w = record { start = w.start; passed = let le = w.passed in omega arith }
+
+clone_holds : (h : List Event) (s : Stream) → s.gone ≡ false → held_of h (clone_of h (Some s)) ≡ held_of h s
+unfolding matched
+clone_holds h s is =
+    let c = clone_of h (Some s) in
+    let none : s.skip + s.taken + 0 ≡ s.skip + s.taken = omega arith in
+    held_open h c refl
+    ∙ ap (λ items. Some (record { items = items; told = s.told })) (held_matched h c ∙ ap (λ n. drop n (matched h s)) none ∙ sym (held_matched h s))
+    ∙ sym (held_open h s is)
+
+cloned_by : (h : List Event) (k : ℕ) (v : List (Option Held)) (o : Option Stream) → slice_get (streams h) k ≡ o → is_there o ≡ true → LeftStreams v h
+    → LeftStreams (v ++ kept_of h o ∷ []) (Made (Cloned k) ∷ h)
+unfolding held_of held offered matched
+cloned_by h k v None at there left = cc
+cloned_by h k v (Some s) at there left =
+    let is : s.gone ≡ false = open_by s.gone there in
+    let c = clone_of h (Some s) in
+    let made : streams (Made (Cloned k) ∷ h) ≡ streams h ++ c ∷ [] = ap (λ o. streams h ++ clone_of h o ∷ []) at in record {
+      queues = ap (λ qs. qs ++ held_of h s ∷ []) left.queues
+          ∙ ap (λ q. map (held_of h) (streams h) ++ q ∷ []) (sym (clone_holds h s is))
+          ∙ sym (map-append (held_of h) (streams h) (c ∷ []))
+          ∙ ap (map (held_of h)) (sym made);
+      within = rw made (all_within_same (Made (Cloned k) ∷ h) h (streams h ++ c ∷ []) refl
+          (within_push h (streams h) c left.within (clone_within h s (within_at h (streams h) k s at left.within))));
+    }
+  where
+    open_by : (b : Bool) → not b ≡ true → b ≡ false
+    open_by true e = sym e
+    open_by false e = refl
+
+-- a stream more that holds what an open one holds
+pub streams_cloned : (k : ℕ) (v : List (Option Held)) (h : List Event) → is_open h k ≡ true → LeftStreams v h → LeftStreams (v ++ kept_at v k ∷ []) (Made (Cloned k) ∷ h)
+unfolding is_open
+streams_cloned k v h there left = rw (kept_left v h k left) (cloned_by h k v (slice_get (streams h) k) refl there left)
+
+-- ---- a stream is closed
+
+end_within : (h : List Event) (s : Stream) → IsWithin h s → IsWithin h (end_one s)
+unfolding matched
+end_within h s w = record { start = w.start; passed = w.passed }
+
+end_holds : (h : List Event) (s : Stream) → held_of h (end_one s) ≡ None
+end_holds h s = held_gone h (end_one s) refl
+
+pub streams_ended : (k : ℕ) (v : List (Option Held)) (h : List Event) → LeftStreams v h → LeftStreams (edit k (λ q. None) v) (Did k Gone ∷ h)
+unfolding held_of held offered matched
+streams_ended k v h left = record {
+  queues = ap (edit k (λ q. None)) left.queues ∙ sym (map_edit_all (held_of h) end_one (λ q. None) (streams h) k (end_holds h));
+  within = all_within_same (Did k Gone ∷ h) h (edit k end_one (streams h)) refl (within_each h end_one (end_within h) (streams h) k left.within);
+}
+
+-- ---- a capacity is asked for
+
+pub streams_asked : (k limit : ℕ) (v : List (Option Held)) (h : List Event) → LeftStreams v h → LeftStreams v (Did k (Asked limit) ∷ h)
+unfolding held_of held offered matched
+streams_asked k limit v h left =
+    let same : edit k (done_by (Asked limit)) (streams h) ≡ streams h = edit-none (done_by (Asked limit)) (λ s. refl) (streams h) k in record {
+      queues = left.queues ∙ ap (map (held_of h)) (sym same);
+      within = rw same (all_within_same (Did k (Asked limit) ∷ h) h (streams h) refl left.within);
+    }
 
 -- ---- takes
 
-gives_at : (h : List Event) (o : Option Stream) → held_gives (option_map (held_of h) o) (closing h) ≡ take_at h o
+gives_by : (gone : Bool) (items : List Seen) (told : Bool) (o : Option Error)
+    → held_gives (kept_by gone items told) o ≡ (if gone then Err errors.UnknownHandle else Ok (take_by items o told))
+gives_by true items told o = refl
+gives_by false items told o = refl
+
+gives_at : (h : List Event) (o : Option Stream) → held_gives (kept_of h o) (closing h) ≡ take_at h o
 unfolding held_of
 gives_at h None = refl
-gives_at h (Some s) = refl
+gives_at h (Some s) = gives_by s.gone (held h s) s.told (closing h)
 
-pub taken_gives : (v : List Held) (h : List Event) (k : ℕ) → LeftStreams v h → held_gives (slice_get v k) (closing h) ≡ take_answer h k
+pub taken_gives : (v : List (Option Held)) (h : List Event) (k : ℕ) → LeftStreams v h → held_gives (kept_at v k) (closing h) ≡ take_answer h k
 unfolding take_answer
-taken_gives v h k left = rw left.queues (rw (slice_get-map (held_of h) (streams h) k) (gives_at h (slice_get (streams h) k)))
+taken_gives v h k left = ap (λ q. held_gives q (closing h)) (kept_left v h k left) ∙ gives_at h (slice_get (streams h) k)
 
-next_at_held : (h : List Event) (o : Option Stream) → next_held (option_map (held_of h) o) ≡ next_at h o
+next_by : (gone : Bool) (items : List Seen) (told : Bool) → next_held (kept_by gone items told) ≡ (if gone then None else first_position items)
+next_by true items told = refl
+next_by false items told = refl
+
+next_at_held : (h : List Event) (o : Option Stream) → next_held (kept_of h o) ≡ next_at h o
 unfolding held_of
 next_at_held h None = refl
-next_at_held h (Some s) = refl
+next_at_held h (Some s) = next_by s.gone (held h s) s.told
 
-pub held_next : (v : List Held) (h : List Event) (k : ℕ) → LeftStreams v h → next_held (slice_get v k) ≡ next_position h k
+pub held_next : (v : List (Option Held)) (h : List Event) (k : ℕ) → LeftStreams v h → next_held (kept_at v k) ≡ next_position h k
 unfolding next_position
-held_next v h k left = rw left.queues (rw (slice_get-map (held_of h) (streams h) k) (next_at_held h (slice_get (streams h) k)))
+held_next v h k left = ap next_held (kept_left v h k left) ∙ next_at_held h (slice_get (streams h) k)
 
-pub drop_next : {A : Type 0} (n : ℕ) (xs : List A) (y : A) (ys : List A) → drop n xs ≡ y ∷ ys → (drop (n + 1) xs ≡ ys) × (n + 1 ≤ length xs)
-drop_next zero [] y ys e = cc
-drop_next zero (x ∷ xs) y ys e = (cc, omega arith)
-drop_next (suc n) [] y ys e = cc
-drop_next (suc n) (x ∷ xs) y ys e =
-    let rest = drop_next n xs y ys e in
-    let more : suc n + 1 ≡ suc (n + 1) = omega arith in
-    (rw more rest.0, omega (arith, rest.1))
+ended_items : (items : List Seen) (told : Bool) (o : Option Error)
+    → ended_by (Some (record { items = items; told = told })) (is_some o) ≡ nothing_comes (Ok (take_by items o told))
+ended_items (m ∷ ms) told None = refl
+ended_items (m ∷ ms) true (Some error) = ne_eqb (suc (length ms)) 0 (λ e. omega (arith, e))
+ended_items (m ∷ ms) false (Some error) = refl
+ended_items [] told None = refl
+ended_items [] true (Some error) = refl
+ended_items [] false (Some error) = refl
+
+ended_gone : (gone : Bool) (items : List Seen) (told : Bool) (o : Option Error)
+    → ended_by (kept_by gone items told) (is_some o) ≡ nothing_comes (if gone then Err errors.UnknownHandle else Ok (take_by items o told))
+ended_gone true items told o = refl
+ended_gone false items told o = ended_items items told o
+
+ended_at : (h : List Event) (o : Option Stream) → ended_by (kept_of h o) (is_some (closing h)) ≡ nothing_comes (take_at h o)
+unfolding held_of
+ended_at h None = refl
+ended_at h (Some s) = ended_gone s.gone (held h s) s.told (closing h)
+
+-- nothing comes exactly where a take says so
+pub ended_left : (v : List (Option Held)) (h : List Event) (k : ℕ) → LeftStreams v h → ended_by (kept_at v k) (is_some (closing h)) ≡ nothing_comes (take_answer h k)
+unfolding take_answer
+ended_left v h k left = ap (λ q. ended_by q (is_some (closing h))) (kept_left v h k left) ∙ ended_at h (slice_get (streams h) k)
 
 -- an item
-gave : (h : List Event) (k : ℕ) (v : List Held) (s : Stream) (m : Seen) (ms : List Seen) (o : Option Error) → slice_get (streams h) k ≡ Some s → held h s ≡ m ∷ ms
-    → LeftStreams v h → LeftStreams (edit k (after_take o) v) (Did k Gave ∷ h)
-unfolding held_of held matched
-gave h k v s m ms o at e left =
-    let next = drop_next (s.from + s.taken) (read h) m ms (sym (held_drop h s) ∙ e) in
-    let one : held_of h (give s) ≡ after_take o (held_of h s) =
-    ap (λ items. record { items = items; told = s.told }) (held_drop h (give s) ∙ ap (λ n. drop n (read h)) (omega arith) ∙ next.0)
-    ∙ ap (λ items. after_by items o s.told) (sym e) in
+gave : (h : List Event) (k : ℕ) (v : List (Option Held)) (s : Stream) (m : Seen) (ms : List Seen) (o : Option Error) → slice_get (streams h) k ≡ Some s → s.gone ≡ false → held h s ≡ m ∷ ms
+    → LeftStreams v h → LeftStreams (edit k (option_map (after_take o)) v) (Did k Gave ∷ h)
+unfolding held_of held offered matched
+gave h k v s m ms o at is e left =
+    let next = drop_next (s.skip + s.taken) (matched h s) m ms (sym (held_matched h s) ∙ e) in
+    let before = within_at h (streams h) k s at left.within in
+    let one_more : s.skip + (s.taken + 1) ≡ s.skip + s.taken + 1 = omega arith in
+    let one : held_of h (give s) ≡ option_map (after_take o) (held_of h s) =
+    held_open h (give s) is
+    ∙ ap (λ items. Some (record { items = items; told = s.told })) (held_matched h (give s) ∙ ap (λ n. drop n (matched h s)) one_more ∙ next.0)
+    ∙ ap (λ items. Some (after_by items o s.told)) (sym e)
+    ∙ ap (option_map (after_take o)) (sym (held_open h s is)) in
+    let within : IsWithin h (give s) = record { start = before.start; passed = rw one_more next.1 } in
     record {
-      queues = ap (edit k (after_take o)) left.queues ∙ sym (edit-map (held_of h) give (after_take o) (streams h) k s at one);
-      within = within_edit h give (streams h) k s at (omega (arith, next.1)) left.within;
+      queues = ap (edit k (option_map (after_take o))) left.queues ∙ sym (map_edit (held_of h) give (option_map (after_take o)) (streams h) k s at one);
+      within = all_within_same (Did k Gave ∷ h) h (edit k give (streams h)) refl (within_edit h give (streams h) k s at within left.within);
     }
 
 -- the closing error
-told_error : (h : List Event) (k : ℕ) (v : List Held) (s : Stream) (error : Error) → slice_get (streams h) k ≡ Some s → held h s ≡ []
-    → LeftStreams v h → LeftStreams (edit k (after_take (Some error)) v) (Did k Told ∷ h)
-unfolding held_of held matched
-told_error h k v s error at e left =
-    let one : held_of h (tell s) ≡ after_take (Some error) (held_of h s) =
-    ap (λ items. record { items = items; told = true }) e ∙ ap (λ items. after_by items (Some error) s.told) (sym e) in
+told_error : (h : List Event) (k : ℕ) (v : List (Option Held)) (s : Stream) (error : Error) → slice_get (streams h) k ≡ Some s → s.gone ≡ false → held h s ≡ []
+    → LeftStreams v h → LeftStreams (edit k (option_map (after_take (Some error))) v) (Did k Told ∷ h)
+unfolding held_of held offered matched
+told_error h k v s error at is e left =
+    let before = within_at h (streams h) k s at left.within in
+    let one : held_of h (tell s) ≡ option_map (after_take (Some error)) (held_of h s) =
+    held_open h (tell s) is
+    ∙ ap (λ items. Some (record { items = items; told = true })) e ∙ ap (λ items. Some (after_by items (Some error) s.told)) (sym e)
+    ∙ ap (option_map (after_take (Some error))) (sym (held_open h s is)) in
+    let within : IsWithin h (tell s) = record { start = before.start; passed = before.passed } in
     record {
-      queues = ap (edit k (after_take (Some error))) left.queues ∙ sym (edit-map (held_of h) tell (after_take (Some error)) (streams h) k s at one);
-      within = within_edit h tell (streams h) k s at (within_at h (streams h) k s at left.within) left.within;
+      queues = ap (edit k (option_map (after_take (Some error)))) left.queues ∙ sym (map_edit (held_of h) tell (option_map (after_take (Some error))) (streams h) k s at one);
+      within = all_within_same (Did k Told ∷ h) h (edit k tell (streams h)) refl (within_edit h tell (streams h) k s at within left.within);
     }
 
 -- nothing
-gave_nothing : (h : List Event) (k : ℕ) (v : List Held) (s : Stream) (o : Option Error) → slice_get (streams h) k ≡ Some s → after_take o (held_of h s) ≡ held_of h s
-    → LeftStreams v h → LeftStreams (edit k (after_take o) v) h
+gave_nothing : (h : List Event) (k : ℕ) (v : List (Option Held)) (s : Stream) (o : Option Error) → slice_get (streams h) k ≡ Some s → option_map (after_take o) (held_of h s) ≡ held_of h s
+    → LeftStreams v h → LeftStreams (edit k (option_map (after_take o)) v) h
 gave_nothing h k v s o at e left = record {
-  queues = edit-same (after_take o) v k (held_of h s) (ap (λ qs. slice_get qs k) left.queues ∙ slice_get-map (held_of h) (streams h) k ∙ ap (option_map (held_of h)) at) e ∙ left.queues;
+  queues = edit-same (option_map (after_take o)) v k (held_of h s) (ap (λ qs. slice_get qs k) left.queues ∙ slice_get-map (held_of h) (streams h) k ∙ ap (option_map (held_of h)) at) e ∙ left.queues;
   within = left.within;
 }
 
-quiet_open : (h : List Event) (s : Stream) → held h s ≡ [] → after_take None (held_of h s) ≡ held_of h s
-unfolding held_of
-quiet_open h s e = ap (λ items. after_by items None s.told) e ∙ ap (λ items. record { items = items; told = s.told }) (sym e)
+quiet_gone : (h : List Event) (s : Stream) (o : Option Error) → s.gone ≡ true → option_map (after_take o) (held_of h s) ≡ held_of h s
+quiet_gone h s o is = ap (option_map (after_take o)) (held_gone h s is) ∙ sym (held_gone h s is)
 
-quiet_ended : (h : List Event) (s : Stream) (error : Error) → held h s ≡ [] → s.told ≡ true → after_take (Some error) (held_of h s) ≡ held_of h s
-unfolding held_of
-quiet_ended h s error e told =
-    ap (λ items. after_by items (Some error) s.told) e ∙ ap (λ b. record { items = []; told = b }) (sym told) ∙ ap (λ items. record { items = items; told = s.told }) (sym e)
+-- an open stream that holds nothing
+held_empty : (h : List Event) (s : Stream) → s.gone ≡ false → held h s ≡ [] → held_of h s ≡ Some (record { items = []; told = s.told })
+held_empty h s is e = held_open h s is ∙ ap (λ items. Some (record { items = items; told = s.told })) e
 
-taken_by : (h : List Event) (k : ℕ) (v : List Held) (s : Stream) (items : List Seen) (o : Option Error) (told : Bool) → slice_get (streams h) k ≡ Some s
-    → held h s ≡ items → s.told ≡ told → LeftStreams v h → LeftStreams (edit k (after_take o) v) (take_events k (Ok (take_by items o told)) ++ h)
-taken_by h k v s (m ∷ ms) o told at e t left = gave h k v s m ms o at e left
-taken_by h k v s [] None told at e t left = gave_nothing h k v s None at (quiet_open h s e) left
-taken_by h k v s [] (Some error) false at e t left = told_error h k v s error at e left
-taken_by h k v s [] (Some error) true at e t left = gave_nothing h k v s (Some error) at (quiet_ended h s error e t) left
+quiet_open : (h : List Event) (s : Stream) → s.gone ≡ false → held h s ≡ [] → option_map (after_take None) (held_of h s) ≡ held_of h s
+quiet_open h s is e = ap (option_map (after_take None)) (held_empty h s is e) ∙ sym (held_empty h s is e)
 
-taken_at : (h : List Event) (k : ℕ) (v : List Held) (o : Option Stream) → slice_get (streams h) k ≡ o → LeftStreams v h
-    → LeftStreams (edit k (after_take (closing h)) v) (take_events k (take_at h o) ++ h)
+quiet_ended : (h : List Event) (s : Stream) (error : Error) → s.gone ≡ false → held h s ≡ [] → s.told ≡ true → option_map (after_take (Some error)) (held_of h s) ≡ held_of h s
+quiet_ended h s error is e told =
+    ap (option_map (after_take (Some error))) (held_empty h s is e) ∙ ap (λ b. Some (record { items = []; told = b })) (sym told) ∙ sym (held_empty h s is e)
+
+taken_by : (h : List Event) (k : ℕ) (v : List (Option Held)) (s : Stream) (gone : Bool) (items : List Seen) (o : Option Error) (told : Bool) → slice_get (streams h) k ≡ Some s
+    → s.gone ≡ gone → held h s ≡ items → s.told ≡ told → LeftStreams v h
+    → LeftStreams (edit k (option_map (after_take o)) v) (take_events k (if gone then Err errors.UnknownHandle else Ok (take_by items o told)) ++ h)
+taken_by h k v s true items o told at is e t left = gave_nothing h k v s o at (quiet_gone h s o is) left
+taken_by h k v s false (m ∷ ms) o told at is e t left = gave h k v s m ms o at is e left
+taken_by h k v s false [] None told at is e t left = gave_nothing h k v s None at (quiet_open h s is e) left
+taken_by h k v s false [] (Some error) false at is e t left = told_error h k v s error at is e left
+taken_by h k v s false [] (Some error) true at is e t left = gave_nothing h k v s (Some error) at (quiet_ended h s error is e t) left
+
+taken_at : (h : List Event) (k : ℕ) (v : List (Option Held)) (o : Option Stream) → slice_get (streams h) k ≡ o → LeftStreams v h
+    → LeftStreams (edit k (option_map (after_take (closing h))) v) (take_events k (take_at h o) ++ h)
 taken_at h k v None at left = record {
-  queues = edit-past (after_take (closing h)) v k (ap (λ qs. slice_get qs k) left.queues ∙ slice_get-map (held_of h) (streams h) k ∙ ap (option_map (held_of h)) at) ∙ left.queues;
+  queues = edit-past (option_map (after_take (closing h))) v k (ap (λ qs. slice_get qs k) left.queues ∙ slice_get-map (held_of h) (streams h) k ∙ ap (option_map (held_of h)) at) ∙ left.queues;
   within = left.within;
 }
-taken_at h k v (Some s) at left = taken_by h k v s (held h s) (closing h) s.told at refl refl left
+taken_at h k v (Some s) at left = taken_by h k v s s.gone (held h s) (closing h) s.told at refl refl refl left
 
-pub streams_taken : (k : ℕ) (v : List Held) (h : List Event) → LeftStreams v h → LeftStreams (edit k (after_take (closing h)) v) (take_events k (take_answer h k) ++ h)
+pub streams_taken : (k : ℕ) (v : List (Option Held)) (h : List Event) → LeftStreams v h → LeftStreams (edit k (option_map (after_take (closing h))) v) (take_events k (take_answer h k) ++ h)
 unfolding take_answer
 streams_taken k v h left = taken_at h k v (slice_get (streams h) k) refl left
 
 -- ---- full streams
 
-over_full : (h : List Event) (s : Stream) → is_over (held_of h s) ≡ is_full h s
-unfolding held_of is_full
-over_full h s = refl
+over_by : (gone : Bool) (capacity : ℕ) (items : List Seen) (told : Bool) → is_over capacity (kept_by gone items told) ≡ (not gone && nat_lt capacity (length items))
+over_by true capacity items told = refl
+over_by false capacity items told = refl
 
-pub over_any : (v : List Held) (h : List Event) → LeftStreams v h → list_any is_over v ≡ list_any (is_full h) (streams h)
+over_full : (h : List Event) (s : Stream) → is_over (main h) (held_of h s) ≡ is_full h s
+unfolding held_of is_full
+over_full h s = over_by s.gone (main h) (held h s) s.told
+
+pub over_any : (v : List (Option Held)) (h : List Event) → LeftStreams v h → list_any (is_over (main h)) v ≡ list_any (is_full h) (streams h)
 over_any v h left =
-    ap (list_any is_over) left.queues ∙ list_any-map is_over (held_of h) (streams h)
-    ∙ list_any-along (λ s. is_over (held_of h s)) (is_full h) (over_full h) (streams h)
+    ap (list_any (is_over (main h))) left.queues ∙ list_any-map (is_over (main h)) (held_of h) (streams h)
+    ∙ list_any-along (λ s. is_over (main h) (held_of h s)) (is_full h) (over_full h) (streams h)

@@ -1,5 +1,5 @@
 -- One entry's answer, from the entries before it; and a whole history whose answers are these.
-use Rattle.std.specs.Prelude.{ℕ, ⊤, ◌≡◌, ◌+◌, ◌-◌, ◌^◌, ◌<◌, ◌⊎◌, Bool, true, false, nat_lt, if◌then◌else◌, List, [], ◌∷◌, length, Option, Some, None, Result, Ok, Err}
+use Rattle.std.specs.Prelude.{ℕ, ⊤, ◌≡◌, ◌+◌, ◌-◌, ◌^◌, ◌<◌, ◌==◌, ◌&&◌, ◌⊎◌, Bool, true, false, not, nat_lt, if◌then◌else◌, List, [], ◌∷◌, length, Option, Some, None, Result, Ok, Err}
 use Rattle.wire_message.specs.Front.{Seen, Front}
 use Rattle.wire_message.specs.Outcome.{IsReadError}
 use Rattle.wire_message.specs.declared.kind.MessageType.{MessageType}
@@ -17,8 +17,8 @@ use Rattle.peer_route.specs.declared.answer.Entry.{Entry}
 use Rattle.peer_route.specs.Parcel.{Setting, Parcel, Asked, message_of}
 use Rattle.peer_route.specs.CallMessage.{expects, call_asked, signal_asked, reply_asked, error_asked}
 use Rattle.peer_route.specs.History.{Event, read, closing, is_failed, poll_answer, by_position, drop_answer}
-use Rattle.peer_route.specs.Streams.{busy, take_answer}
-use Rattle.peer_route.specs.Trail.{Trail, trail, place, count, given, next_serial, or_zero}
+use Rattle.peer_route.specs.Streams.{busy, take_answer, is_open}
+use Rattle.peer_route.specs.Trail.{Trail, Names, trail, place, count, given, next_serial, or_zero}
 
 -- ---- a message that is sent
 
@@ -37,12 +37,12 @@ write_fault = answers.SendFailed (errors.InputOutput kinds.WriteFault)
 
 -- After a failed write nothing goes out; before one, the message goes out or its write fails.
 abbrev pub IsSent : Bool → Answer → Answer → Type 0
-IsSent true sent answer = answer ≡ write_fault
-IsSent false sent answer = (answer ≡ sent) ⊎ (answer ≡ write_fault)
+IsSent true success answer = answer ≡ write_fault
+IsSent false success answer = (answer ≡ success) ⊎ (answer ≡ write_fault)
 
 abbrev pub IsCalled : Option Error → Bool → Answer → Answer → Type 0
-IsCalled (Some error) failed sent answer = answer ≡ answers.Refused error
-IsCalled None failed sent answer = IsSent failed sent answer
+IsCalled (Some error) failed success answer = answer ≡ answers.Refused error
+IsCalled None failed success answer = IsSent failed success answer
 
 -- a message that was sent: its call's number in its lane and its serial; its serial alone where no reply is waited for
 abbrev pub sent_answer : Bool → ℕ → ℕ → Answer
@@ -131,6 +131,21 @@ abbrev pub take_before_of : List Event → Option ℕ → Answer
 take_before_of h None = answers.Refused errors.UnknownHandle
 take_before_of h (Some k) = shown_take (by_position (take_answer h k))
 
+-- the command is done where the stream that it names is open, else refused
+abbrev pub where_open : Bool → Answer → Answer
+where_open true answer = answer
+where_open false answer = answers.Refused errors.UnknownHandle
+
+abbrev pub is_open_at : List Event → Option ℕ → Bool
+is_open_at h None = false
+is_open_at h (Some k) = is_open h k
+
+-- Both are open, and they are two; or the one, where no second is named.
+abbrev pub are_open_at : List Event → ℕ → Names → ℕ → Option ℕ → Bool
+are_open_at h lane names number None = is_open_at h (place 0 lane number names)
+are_open_at h lane names number (Some second) =
+    is_open_at h (place 0 lane number names) && is_open_at h (place 0 lane second names) && not (number == second)
+
 -- ---- a history
 
 -- The answer of a lane's command after this trail.
@@ -147,6 +162,11 @@ IsAnswer t lane (words.Drop number) answer = answer ≡ drop_of t.events (place 
 IsAnswer t lane words.Stream answer = answer ≡ answers.Streaming (count lane t.streams)
 IsAnswer t lane (words.Take number) answer = answer ≡ take_of t.events (place 0 lane number t.streams)
 IsAnswer t lane (words.TakeBefore number before) answer = answer ≡ take_before_of t.events (place 0 lane number t.streams)
+IsAnswer t lane (words.Clone number) answer =
+    answer ≡ where_open (is_open_at t.events (place 0 lane number t.streams)) (answers.Streaming (count lane t.streams))
+IsAnswer t lane (words.Unstream number second) answer = answer ≡ where_open (are_open_at t.events lane t.streams number second) answers.Gone
+IsAnswer t lane (words.Queue number limit) answer = answer ≡ where_open (is_open_at t.events (place 0 lane number t.streams)) answers.Set
+IsAnswer t lane (words.MainQueue limit) answer = answer ≡ answers.Set
 
 -- Each entry's answer is that of the entries before it, by the peer's setting. The history is newest first.
 abbrev pub Legal : Setting → List Entry → Type 0

@@ -15,11 +15,14 @@ use Rattle.peer_route.specs.declared.polled.Polled.TheVariants as polled
 -- how a stream is made
 pub data Making : Type 0 where
   Plain : Making  -- without a rule, so that it takes each message
+  Cloned : (stream : ℕ) → Making  -- as the stream with this number is now
 
 -- what a stream did
 pub data Deed : Type 0 where
   Gave : Deed  -- it gave an item
   Told : Deed  -- it gave the closing error
+  Gone : Deed  -- it was closed
+  Asked : (limit : ℕ) → Deed  -- it asked for this capacity
 
 pub data Event : Type 0 where
   Took : (m : Seen) → Event  -- a read took the message
@@ -30,6 +33,7 @@ pub data Event : Type 0 where
   Spent : (call : ℕ) → Event  -- the call's answer was given, or it was dropped
   Made : (making : Making) → Event  -- a stream was made
   Did : (stream : ℕ) (deed : Deed) → Event  -- the stream with this number did it
+  Main : (limit : ℕ) → Event  -- the main capacity was set
 
 -- ---- reads and closing
 
@@ -44,6 +48,7 @@ read (Fault ∷ h) = read h
 read (Spent call ∷ h) = read h
 read (Made making ∷ h) = read h
 read (Did stream deed ∷ h) = read h
+read (Main limit ∷ h) = read h
 
 abbrev pub first_of : Option Error → Error → Option Error
 first_of None error = Some error
@@ -60,6 +65,7 @@ closing (Fault ∷ h) = closing h
 closing (Spent call ∷ h) = closing h
 closing (Made making ∷ h) = closing h
 closing (Did stream deed ∷ h) = closing h
+closing (Main limit ∷ h) = closing h
 
 -- ---- the outbox
 
@@ -74,6 +80,7 @@ put (Fault ∷ h) = put h
 put (Spent call ∷ h) = put h
 put (Made making ∷ h) = put h
 put (Did stream deed ∷ h) = put h
+put (Main limit ∷ h) = put h
 
 -- how many of them were written or failed
 abbrev pub done : List Event → ℕ
@@ -86,6 +93,7 @@ done (Put m expects ∷ h) = done h
 done (Spent call ∷ h) = done h
 done (Made making ∷ h) = done h
 done (Did stream deed ∷ h) = done h
+done (Main limit ∷ h) = done h
 
 -- a write failed
 abbrev pub is_failed : List Event → Bool
@@ -98,6 +106,7 @@ is_failed (Put m expects ∷ h) = is_failed h
 is_failed (Spent call ∷ h) = is_failed h
 is_failed (Made making ∷ h) = is_failed h
 is_failed (Did stream deed ∷ h) = is_failed h
+is_failed (Main limit ∷ h) = is_failed h
 
 -- the last serial that was drawn, 0 before the first
 abbrev pub last_serial : List Event → ℕ
@@ -110,6 +119,7 @@ last_serial (Fault ∷ h) = last_serial h
 last_serial (Spent call ∷ h) = last_serial h
 last_serial (Made making ∷ h) = last_serial h
 last_serial (Did stream deed ∷ h) = last_serial h
+last_serial (Main limit ∷ h) = last_serial h
 
 -- ---- calls
 
@@ -148,6 +158,7 @@ calls (Shut error ∷ h) = calls h
 calls (Wrote ∷ h) = calls h
 calls (Made making ∷ h) = calls h
 calls (Did stream deed ∷ h) = calls h
+calls (Main limit ∷ h) = calls h
 
 -- a method return or an error
 abbrev pub is_reply : MessageType → Bool

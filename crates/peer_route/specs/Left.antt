@@ -1,6 +1,7 @@
 -- What a history leaves of a peer: all that the answers to come depend on.
-use Rattle.std.specs.Prelude.{ℕ, zero, suc, ⊤, ◌≡◌, ◌+◌, ◌<◌, ◌≤◌, ◌⊎◌, nat_lt, Bool, true, false, ◌&&◌, ◌==◌, if◌then◌else◌, is_none, List, [], ◌∷◌, ◌++◌, length, map, get_or, Option, Some, None, IsSome, Result, Ok, Err}
+use Rattle.std.specs.Prelude.{ℕ, zero, suc, ⊤, ◌≡◌, ◌+◌, ◌<◌, ◌≤◌, ◌⊎◌, nat_lt, Bool, true, false, ◌&&◌, ◌==◌, if◌then◌else◌, is_none, List, [], ◌∷◌, ◌++◌, length, map, get_or, slice_get, option_map, Option, Some, None, IsSome, Result, Ok, Err}
 use Rattle.std.specs.List.{list_any, AllByRecursion}
+use Rattle.std.specs.Option.{option_flatten}
 use Rattle.std.specs.Ordering.{nat_cmp}
 use Rattle.std.specs.BTreeMap.{BTreeMap, get}
 use Rattle.wire_message.specs.Front.{Seen}
@@ -11,14 +12,15 @@ use Rattle.wire_message.specs.declared.error.IoKind.TheVariants as kinds
 use Rattle.peer_route.specs.declared.calls.Slot.{Slot}
 use Rattle.peer_route.specs.declared.calls.Slot.TheVariants as slots
 use Rattle.peer_route.specs.declared.route.Issued.{Issued}
+use Rattle.peer_route.specs.declared.streams.MessageStream.{MessageStream}
 use Rattle.wire_tree.specs.Datum.{data_of}
 use Rattle.wire_spelling.specs.Spelling.{AllFit, depths}
 use Rattle.wire_signature.specs.declared.error.VariantError.TheVariants as faults
 use Rattle.peer_route.specs.Parcel.{Parcel, message_of}
 use Rattle.peer_route.specs.CallMessage.{expects_reply, expects}
-use Rattle.peer_route.specs.Streams.{Stream, streams, held, capacity, take_by, first_position}
+use Rattle.peer_route.specs.Streams.{Stream, streams, matched, held, main, is_open, take_by, first_position}
 use Rattle.peer_route.specs.declared.polled.Polled.{Polled}
-use Rattle.peer_route.specs.History.{Event, Put, Call, put, edit, is_failed, last_serial, found, bears, is_gone, pending}
+use Rattle.peer_route.specs.History.{Event, Put, Made, Cloned, Call, put, edit, is_failed, last_serial, found, bears, is_gone, pending}
 use Rattle.peer_route.specs.History as events
 
 -- what is kept of a call: that it is over, the serial that it waits for, or its reply
@@ -83,21 +85,31 @@ pub record Held : Type 0 where
   pub items : List Seen
   pub told : Bool
 
-unfoldable pub held_of : List Event → Stream → Held
-held_of h s = record { items = held h s; told = s.told }
+-- nothing is kept of a stream that was closed
+abbrev pub kept_by : Bool → List Seen → Bool → Option Held
+kept_by true items told = None
+kept_by false items told = Some (record { items = items; told = told })
+
+unfoldable pub held_of : List Event → Stream → Option Held
+held_of h s = kept_by s.gone (held h s) s.told
 
 -- a stream with one message more
-abbrev pub queued : Seen → Held → Held
-queued m q = record q { items = q.items ++ m ∷ [] }
+abbrev pub with_one : Seen → Held → Held
+with_one m q = record q { items = q.items ++ m ∷ [] }
+
+abbrev pub queued : Seen → Option Held → Option Held
+queued m q = option_map (with_one m) q
 
 -- the first so many streams with one message more
-abbrev pub queued_first : ℕ → Seen → List Held → List Held
+abbrev pub queued_first : ℕ → Seen → List (Option Held) → List (Option Held)
 queued_first zero m qs = qs
 queued_first (suc n) m [] = []
 queued_first (suc n) m (q ∷ qs) = queued m q ∷ queued_first n m qs
 
-abbrev pub is_over : Held → Bool
-is_over q = nat_lt capacity (length q.items)
+-- a stream that is open holds more than the capacity
+abbrev pub is_over : ℕ → Option Held → Bool
+is_over capacity None = false
+is_over capacity (Some q) = nat_lt capacity (length q.items)
 
 -- a stream after a take: without its first message, or with the closing error told
 abbrev pub after_by : List Seen → Option Error → Bool → Held
@@ -108,19 +120,38 @@ after_by [] (Some error) told = record { items = []; told = true }
 abbrev pub after_take : Option Error → Held → Held
 after_take closing q = after_by q.items closing q.told
 
+-- what is kept at a place; nothing behind the last
+abbrev pub kept_at : List (Option Held) → ℕ → Option Held
+kept_at qs k = option_flatten (slice_get qs k)
+
 abbrev pub held_gives : Option Held → Option Error → Result (Polled Seen) Error
 held_gives None closing = Err errors.UnknownHandle
 held_gives (Some q) closing = Ok (take_by q.items closing q.told)
+
+-- nothing comes any more: the closing error was given, or nothing is kept
+abbrev pub ended_by : Option Held → Bool → Bool
+ended_by None closed = true
+ended_by (Some q) closed = closed && q.told && (length q.items == 0)
+
+-- What cloning the stream with this number gives: one more that holds the same, with the next number; a stream that isn't open
+-- is unknown. An error changes nothing.
+abbrev pub ClonesHeld : List (Option Held) → List (Option Held) → ℕ → Result ℕ Error → Type 0
+ClonesHeld old new k (Ok number) = IsSome (kept_at old k) × (number ≡ length old) × (new ≡ old ++ kept_at old k ∷ [])
+ClonesHeld old new k (Err errors.UnknownHandle) = (kept_at old k ≡ None) × (new ≡ old)
+ClonesHeld old new k (Err errors.Memory) = new ≡ old
+ClonesHeld old new k (Err error) = ⊥
 
 -- the position of the first message that is held
 abbrev pub next_held : Option Held → Option ℕ
 next_held None = None
 next_held (Some q) = first_position q.items
 
--- what contracts see of a peer's core; `places` has for each call the place of its message in the outbox
+-- What contracts see of a peer's core: of each stream that is open what it holds; how many messages one may hold before reads
+-- wait; `places` has for each call the place of its message in the outbox.
 pub record View : Type 0 where
   pub calls : CallsView
-  pub streams : List Held
+  pub streams : List (Option Held)
+  pub main : ℕ
   pub read : ℕ
   pub last : ℕ
   pub outbox : List Seen
@@ -134,23 +165,25 @@ pub record LeftCalls (v : CallsView) (h : List Event) : Type 0 where
   pub closing : v.closing ≡ events.closing h
   pub distinct : v.closing ≡ None → AreDistinct v.slots
 
--- no stream gave more than was read above its start
-abbrev pub IsWithin : List Event → Stream → Type 0
-IsWithin h s = s.from + s.taken ≤ length (events.read h)
+-- no stream starts above what was read, or passed more than was its own
+pub record IsWithin (h : List Event) (s : Stream) : Type 0 where
+  pub start : s.from ≤ length (events.read h)
+  pub passed : s.skip + s.taken ≤ length (matched h s)
 
--- The history leaves these streams: each with what it holds.
-pub record LeftStreams (v : List Held) (h : List Event) : Type 0 where
+-- The history leaves these streams: each with what it holds, or nothing where it was closed.
+pub record LeftStreams (v : List (Option Held)) (h : List Event) : Type 0 where
   pub queues : v ≡ map (held_of h) (streams h)
   pub within : AllByRecursion (IsWithin h) (streams h)
 
 -- a read takes nothing now
 unfoldable pub is_busy : View → Bool
-is_busy v = is_none v.calls.closing && list_any is_over v.streams
+is_busy v = is_none v.calls.closing && list_any (is_over v.main) v.streams
 
 -- The history leaves this core.
 pub record Left (v : View) (h : List Event) : Type 0 where
   pub calls : LeftCalls v.calls h
   pub streams : LeftStreams v.streams h
+  pub main : v.main ≡ main h
   pub read : v.read ≡ length (events.read h)
   pub last : v.last ≡ last_serial h
   pub outbox : v.outbox ≡ put h
@@ -220,3 +253,11 @@ Issues old new parcel h (Err error) = ⊥
 abbrev pub Waits : View → View → Issued → Type 0
 Waits old new issued =
     (issued.index ≡ length old.outbox) × (issued.index < length new.outbox) × (new.done ≡ old.done) × (old.failed ≡ false) × (new.failed ≡ false)
+
+-- What cloning the stream with this number gives: the next number, where it is open; a stream that isn't is unknown. An error
+-- changes nothing.
+abbrev pub Clones : View → View → ℕ → List Event → Result MessageStream Error → Type 0
+Clones old new k h (Ok stream) = (is_open h k ≡ true) × (stream.number ≡ length (streams h)) × Left new (Made (Cloned k) ∷ h)
+Clones old new k h (Err errors.UnknownHandle) = (is_open h k ≡ false) × (new ≡ old)
+Clones old new k h (Err errors.Memory) = new ≡ old
+Clones old new k h (Err error) = ⊥

@@ -7,10 +7,12 @@ use Rattle.wire_message.specs.Signed.{signed, counted}
 use Rattle.wire_message.specs.Front.{Seen}
 use Rattle.wire_message.specs.declared.error.Error.{Error}
 
--- What a peer is given at its start: its unique name, if it has one, and whether its sink takes file descriptors.
+-- What a peer is given at its start: its unique name, if it has one; whether its sink takes file descriptors; and how many
+-- messages a stream may hold, if that is set.
 pub record Setting : Type 0 where
   pub name : Option (List ℕ)
   pub takes_fds : Bool
+  pub queue : Option ℕ
 
 -- a message to be sent: what its header says, the values of its body, and the file descriptors that go with it
 pub record Parcel : Type 0 where

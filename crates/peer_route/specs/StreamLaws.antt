@@ -1,7 +1,8 @@
 -- What the laws of streams, of busy reads and of what was sent say, in words of their own.
-use Rattle.std.specs.Prelude.{ℕ, ⊤, ◌≡◌, ◌==◌, ◌<◌, ◌&&◌, ◌⊎◌, Bool, true, false, List, [], ◌∷◌, ◌++◌, length, map, drop, slice_get, Option, Some, None, Ok}
+use Rattle.std.specs.Prelude.{ℕ, ⊤, ◌≡◌, ◌==◌, ◌<◌, ◌&&◌, ◌||◌, ◌⊎◌, Bool, true, false, List, [], ◌∷◌, ◌++◌, length, map, drop, slice_get, Option, Some, None, Ok}
 use Rattle.wire_message.specs.Front.{Seen}
 use Rattle.wire_message.specs.declared.error.Error.{Error}
+use Rattle.wire_message.specs.declared.error.Error.TheVariants as errors
 use Rattle.peer_route.specs.declared.words.Words.{Words}
 use Rattle.peer_route.specs.declared.words.Words.TheVariants as words
 use Rattle.peer_route.specs.declared.answer.Answer.{Answer}
@@ -9,7 +10,7 @@ use Rattle.peer_route.specs.declared.answer.Answer.TheVariants as answers
 use Rattle.peer_route.specs.declared.answer.Entry.{Entry}
 use Rattle.peer_route.specs.Parcel.{Setting, Asked, message_of}
 use Rattle.peer_route.specs.History.{Event, read, closing}
-use Rattle.peer_route.specs.Streams.{Stream, streams, held, capacity}
+use Rattle.peer_route.specs.Streams.{Stream, streams, held, main}
 use Rattle.peer_route.specs.Trail.{Trail, place, asks, trail}
 
 -- ---- streams
@@ -29,6 +30,10 @@ is_take number (words.Poll n) = false
 is_take number (words.Before n before) = false
 is_take number (words.Drop n) = false
 is_take number words.Stream = false
+is_take number (words.Clone n) = false
+is_take number (words.Unstream n second) = false
+is_take number (words.Queue n limit) = false
+is_take number (words.MainQueue limit) = false
 
 abbrev pub item_by : Bool → Answer → List ℕ
 item_by true (answers.Item position) = position ∷ []
@@ -39,23 +44,65 @@ abbrev pub items_given : ℕ → ℕ → List Entry → List ℕ
 items_given lane number [] = []
 items_given lane number (e ∷ es) = items_given lane number es ++ item_by ((e.lane == lane) && is_take number e.words) e.answer
 
--- The entry made the lane's stream with this number. What it gave since, and behind that what it holds, are the positions
--- of all messages that were read since, in order.
-pub record Yields (setting : Setting) (newer : List Entry) (e : Entry) (older : List Entry) (number : ℕ) : Type 0 where
+-- The entry made the lane's stream with this number, which had `begun` to offer then. What it gave since, and behind that
+-- what it didn't give, are the positions of those messages and of all that were read since, in order.
+pub record Yields (setting : Setting) (newer : List Entry) (e : Entry) (older : List Entry) (number : ℕ) (begun : List Seen) : Type 0 where
   pub k : ℕ
   pub stream : Stream
   pub named : place 0 e.lane number (trail setting (newer ++ e ∷ older)).streams ≡ Some k
   pub made : slice_get (streams (trail setting (newer ++ e ∷ older)).events) k ≡ Some stream
   pub items : items_given e.lane number newer ++ positions (held (trail setting (newer ++ e ∷ older)).events stream)
-      ≡ positions (drop (length (read (trail setting older).events)) (read (trail setting (newer ++ e ∷ older)).events))
+      ≡ positions (begun ++ drop (length (read (trail setting older).events)) (read (trail setting (newer ++ e ∷ older)).events))
+
+abbrev pub held_by : List Event → Option Stream → List Seen
+held_by h None = []
+held_by h (Some s) = held h s
+
+abbrev pub held_in : List Event → Option ℕ → List Seen
+held_in h None = []
+held_in h (Some k) = held_by h (slice_get (streams h) k)
+
+-- what the lane's stream with this number holds
+abbrev pub holds : Trail → ℕ → ℕ → List Seen
+holds t lane number = held_in t.events (place 0 lane number t.streams)
 
 -- the command takes from the lane's stream with this number, by position or not
 abbrev pub IsTake : ℕ → Words → Type 0
 IsTake number w = (w ≡ words.Take number) ⊎ ((before : ℕ) × (w ≡ words.TakeBefore number before))
 
--- where the entry is this lane's take of this number, its answer is that the stream is over
+-- where the entry is this lane's take of this number, its answer is that the stream is over, or was closed
 abbrev pub IsEnded : ℕ → ℕ → Entry → Type 0
-IsEnded lane number e = e.lane ≡ lane → IsTake number e.words → e.answer ≡ answers.Ended
+IsEnded lane number e =
+    e.lane ≡ lane → IsTake number e.words → (e.answer ≡ answers.Ended) ⊎ (e.answer ≡ answers.Refused errors.UnknownHandle)
+
+-- the command asks for something of the lane's stream with this number
+abbrev pub names_stream : ℕ → Words → Bool
+names_stream number (words.Take n) = n == number
+names_stream number (words.TakeBefore n before) = n == number
+names_stream number (words.Clone n) = n == number
+names_stream number (words.Unstream n None) = n == number
+names_stream number (words.Unstream n (Some second)) = (n == number) || (second == number)
+names_stream number (words.Queue n limit) = n == number
+names_stream number (words.Reply n body) = n == number
+names_stream number (words.Error n name body) = n == number
+names_stream number (words.Call w) = false
+names_stream number (words.Signal w) = false
+names_stream number words.Read = false
+names_stream number (words.Poll n) = false
+names_stream number (words.Before n before) = false
+names_stream number (words.Drop n) = false
+names_stream number words.Stream = false
+names_stream number (words.MainQueue limit) = false
+
+-- the command closes the lane's stream with this number
+abbrev pub closes_stream : ℕ → Words → Bool
+closes_stream number (words.Unstream n None) = n == number
+closes_stream number (words.Unstream n (Some second)) = (n == number) || (second == number)
+closes_stream number w = false
+
+-- where the entry's command names this lane's stream of this number, it is refused, as one that was never made
+abbrev pub IsNoStream : ℕ → ℕ → Entry → Type 0
+IsNoStream lane number e = e.lane ≡ lane → names_stream number e.words ≡ true → e.answer ≡ answers.Refused errors.UnknownHandle
 
 -- the answer says that the stream gave all
 abbrev pub IsLast : Answer → Type 0
@@ -63,22 +110,24 @@ IsLast (answers.Closed error) = ⊤
 IsLast answers.Ended = ⊤
 IsLast answer = ⊥
 
--- The lane's number names a stream that holds nothing, and this was the first error that closed the peer.
+-- The lane's number names a stream that holds nothing and is open, and this was the first error that closed the peer.
 pub record IsDrained (t : Trail) (lane number : ℕ) (error : Error) : Type 0 where
   pub k : ℕ
   pub stream : Stream
   pub named : place 0 lane number t.streams ≡ Some k
   pub made : slice_get (streams t.events) k ≡ Some stream
+  pub still : stream.gone ≡ false
   pub nothing : held t.events stream ≡ []
   pub first : closing t.events ≡ Some error
 
--- the peer is open, and the stream with this number holds more than its capacity
+-- the peer is open, and an open stream holds more than it may
 pub record HoldsTooMany (h : List Event) : Type 0 where
   pub is_open : closing h ≡ None
   pub k : ℕ
   pub stream : Stream
   pub made : slice_get (streams h) k ≡ Some stream
-  pub over : capacity < length (held h stream)
+  pub still : stream.gone ≡ false
+  pub over : main h < length (held h stream)
 
 -- ---- what was sent
 

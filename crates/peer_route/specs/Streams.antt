@@ -1,23 +1,35 @@
 -- The streams of a history: the messages that each matches, those that it holds still, and what it gives next.
-use Rattle.std.specs.Prelude.{ℕ, zero, suc, ◌+◌, Bool, true, false, ◌&&◌, nat_lt, is_none, is_some, List, [], ◌∷◌, ◌++◌, length, drop, map, slice_get, Option, Some, None, Result, Ok, Err}
+use Rattle.std.specs.Prelude.{ℕ, zero, suc, ◌+◌, ◌==◌, max, Bool, true, false, not, ◌&&◌, if◌then◌else◌, nat_lt, is_none, is_some, List, [], ◌∷◌, ◌++◌, length, drop, map, slice_get, Option, Some, None, Result, Ok, Err}
 use Rattle.std.specs.List.{list_any}
 use Rattle.wire_message.specs.Front.{Seen}
 use Rattle.wire_message.specs.declared.error.Error.{Error}
 use Rattle.wire_message.specs.declared.error.Error.TheVariants as errors
 use Rattle.peer_route.specs.declared.polled.Polled.{Polled}
 use Rattle.peer_route.specs.declared.polled.Polled.TheVariants as polled
-use Rattle.peer_route.specs.History.{Event, Took, Shut, Put, Wrote, Fault, Spent, Made, Did, Making, Plain, Deed, Gave, Told, read, closing, edit}
+use Rattle.peer_route.specs.History.{Event, Took, Shut, Put, Wrote, Fault, Spent, Made, Did, Main, Making, Plain, Cloned, Deed, Gave, Told, Gone, Asked, read, closing, edit}
 
--- A stream that was made: how many messages were read before it, how many items it gave, and whether it gave the closing
--- error.
+-- A stream that was made: how many messages were read before its start, how many of those that are its own it passes over,
+-- how many items it gave, whether it gave the closing error, and whether it was closed.
 pub record Stream : Type 0 where
   pub from : ℕ
+  pub skip : ℕ
   pub taken : ℕ
   pub told : Bool
+  pub gone : Bool
 
 -- A stream without a rule that is made after the peer was closed has nothing to tell any more.
-abbrev pub new_stream : List Event → Making → Stream
-new_stream h Plain = record { from = length (read h); taken = 0; told = is_some (closing h) }
+abbrev pub plain_stream : List Event → Stream
+plain_stream h = record { from = length (read h); skip = 0; taken = 0; told = is_some (closing h); gone = false }
+
+-- A clone begins where its original is: it passes over what that gave, and has given nothing itself.
+abbrev pub clone_of : List Event → Option Stream → Stream
+clone_of h None = plain_stream h
+clone_of h (Some s) = record s { skip = s.skip + s.taken; taken = 0; gone = false }
+
+-- a new stream, by those that were made before it
+abbrev pub new_stream : List Event → List Stream → Making → Stream
+new_stream h ss Plain = plain_stream h
+new_stream h ss (Cloned t) = clone_of h (slice_get ss t)
 
 abbrev pub give : Stream → Stream
 give s = record s { taken = s.taken + 1 }
@@ -25,14 +37,19 @@ give s = record s { taken = s.taken + 1 }
 abbrev pub tell : Stream → Stream
 tell s = record s { told = true }
 
+abbrev pub end_one : Stream → Stream
+end_one s = record s { gone = true }
+
 abbrev pub done_by : Deed → Stream → Stream
 done_by Gave s = give s
 done_by Told s = tell s
+done_by Gone s = end_one s
+done_by (Asked limit) s = s
 
 -- the streams that were made, oldest first
 abbrev pub streams : List Event → List Stream
 streams [] = []
-streams (Made making ∷ h) = streams h ++ new_stream h making ∷ []
+streams (Made making ∷ h) = streams h ++ new_stream h (streams h) making ∷ []
 streams (Did t deed ∷ h) = edit t (done_by deed) (streams h)
 streams (Took m ∷ h) = streams h
 streams (Shut error ∷ h) = streams h
@@ -40,19 +57,33 @@ streams (Put m expects ∷ h) = streams h
 streams (Wrote ∷ h) = streams h
 streams (Fault ∷ h) = streams h
 streams (Spent call ∷ h) = streams h
+streams (Main limit ∷ h) = streams h
+
+-- the stream was made, and not closed
+abbrev pub is_there : Option Stream → Bool
+is_there None = false
+is_there (Some s) = not s.gone
+
+-- The stream with this number is open.
+unfoldable pub is_open : List Event → ℕ → Bool
+is_open h k = is_there (slice_get (streams h) k)
 
 -- The messages that are the stream's: all that were read at positions above its start, in order.
 unfoldable pub matched : List Event → Stream → List Seen
 matched h s = drop s.from (read h)
+
+-- Those of them that it doesn't pass over.
+unfoldable pub offered : List Event → Stream → List Seen
+offered h s = drop s.skip (matched h s)
 
 -- the item at a place, counted from 1 on; none at 0
 abbrev pub item_at : List Seen → ℕ → Option Seen
 item_at ms zero = None
 item_at ms (suc n) = slice_get ms n
 
--- The message that the stream gave last; none where it gave none.
+-- The message that the stream gave last; none where it gave none, or was closed.
 unfoldable pub gave_last : List Event → Stream → Option Seen
-gave_last h s = item_at (matched h s) s.taken
+gave_last h s = if s.gone then None else item_at (offered h s) s.taken
 
 -- for each stream, the message that it gave last
 abbrev pub all_given : List Event → List (Option Seen)
@@ -60,14 +91,28 @@ all_given h = map (gave_last h) (streams h)
 
 -- Those that it didn't give yet.
 unfoldable pub held : List Event → Stream → List Seen
-held h s = drop s.taken (matched h s)
+held h s = drop s.taken (offered h s)
 
--- How many messages a stream may hold before reads wait; none is ever dropped.
-abbrev pub capacity : ℕ
-capacity = 64
+-- How many messages a stream may hold before reads wait; none is ever dropped. It is 64 until it is set. A stream that asks
+-- for more raises it.
+abbrev pub main : List Event → ℕ
+main [] = 64
+main (Main limit ∷ h) = limit
+main (Did t (Asked limit) ∷ h) = max (main h) limit
+main (Did t Gave ∷ h) = main h
+main (Did t Told ∷ h) = main h
+main (Did t Gone ∷ h) = main h
+main (Took m ∷ h) = main h
+main (Shut error ∷ h) = main h
+main (Put m expects ∷ h) = main h
+main (Wrote ∷ h) = main h
+main (Fault ∷ h) = main h
+main (Spent call ∷ h) = main h
+main (Made making ∷ h) = main h
 
+-- the stream is open and holds more than that
 unfoldable pub is_full : List Event → Stream → Bool
-is_full h s = nat_lt capacity (length (held h s))
+is_full h s = not s.gone && nat_lt (main h) (length (held h s))
 
 -- The peer is open, and some stream holds more than its capacity: a read takes nothing now.
 unfoldable pub busy : List Event → Bool
@@ -82,9 +127,9 @@ take_by [] (Some error) true = polled.Ended
 
 abbrev pub take_at : List Event → Option Stream → Result (Polled Seen) Error
 take_at h None = Err errors.UnknownHandle
-take_at h (Some s) = Ok (take_by (held h s) (closing h) s.told)
+take_at h (Some s) = if s.gone then Err errors.UnknownHandle else Ok (take_by (held h s) (closing h) s.told)
 
--- What taking from the stream with this number gives. A stream that wasn't made is unknown.
+-- What taking from the stream with this number gives. A stream that wasn't made, or was closed, is unknown.
 unfoldable pub take_answer : List Event → ℕ → Result (Polled Seen) Error
 take_answer h k = take_at h (slice_get (streams h) k)
 
@@ -95,9 +140,10 @@ first_position (m ∷ ms) = Some m.position
 
 abbrev pub next_at : List Event → Option Stream → Option ℕ
 next_at h None = None
-next_at h (Some s) = first_position (held h s)
+next_at h (Some s) = if s.gone then None else first_position (held h s)
 
--- The position of the first message that the stream with this number holds; none where it holds none, or wasn't made.
+-- The position of the first message that the stream with this number holds; none where it holds none, wasn't made, or was
+-- closed.
 unfoldable pub next_position : List Event → ℕ → Option ℕ
 next_position h k = next_at h (slice_get (streams h) k)
 
@@ -109,3 +155,49 @@ take_events k (Ok polled.NotYet) = []
 take_events k (Ok polled.NoneBefore) = []
 take_events k (Ok polled.Ended) = []
 take_events k (Err error) = []
+
+-- nothing comes any more: the stream gave all and the closing error, or is closed
+abbrev pub is_over : Result (Polled Seen) Error → Bool
+is_over (Ok polled.Ended) = true
+is_over (Err error) = true
+is_over (Ok (polled.Now m)) = false
+is_over (Ok polled.NotYet) = false
+is_over (Ok polled.NoneBefore) = false
+is_over (Ok (polled.Closed error)) = false
+
+-- ---- closing streams, and their capacity
+
+abbrev pub known : Bool → Result (Unit {0}) Error
+known true = Ok tt
+known false = Err errors.UnknownHandle
+
+-- both are open, and they are two
+abbrev pub are_open : List Event → ℕ → Option ℕ → Bool
+are_open h k None = is_open h k
+are_open h k (Some j) = is_open h k && is_open h j && not (k == j)
+
+-- What closing the stream with this number gives, or of two in one step. One that isn't open is unknown, and so are two that
+-- are one.
+unfoldable pub close_answer : List Event → ℕ → Option ℕ → Result (Unit {0}) Error
+close_answer h k j = known (are_open h k j)
+
+abbrev pub gone_then : Option ℕ → List Event → List Event
+gone_then None h = h
+gone_then (Some j) h = Did j Gone ∷ h
+
+-- what closing them is
+abbrev pub close_events : {A E : Type 0} → ℕ → Option ℕ → Result A E → List Event
+close_events k j (Ok done) = gone_then j (Did k Gone ∷ [])
+close_events k j (Err error) = []
+
+-- What asking for a capacity gives.
+unfoldable pub ask_answer : List Event → ℕ → Result (Unit {0}) Error
+ask_answer h k = known (is_open h k)
+
+abbrev pub ask_events : {A E : Type 0} → ℕ → ℕ → Result A E → List Event
+ask_events k limit (Ok done) = Did k (Asked limit) ∷ []
+ask_events k limit (Err error) = []
+
+-- How many messages the stream with this number may hold.
+unfoldable pub limit_answer : List Event → ℕ → Result ℕ Error
+limit_answer h k = if is_open h k then Ok (main h) else Err errors.UnknownHandle

@@ -56,6 +56,10 @@ ReadTold stop bytes h closed (words.Drop number) answer = ⊤
 ReadTold stop bytes h closed words.Stream answer = ⊤
 ReadTold stop bytes h closed (words.Take number) answer = ⊤
 ReadTold stop bytes h closed (words.TakeBefore number before) answer = ⊤
+ReadTold stop bytes h closed (words.Clone number) answer = ⊤
+ReadTold stop bytes h closed (words.Unstream number second) answer = ⊤
+ReadTold stop bytes h closed (words.Queue number limit) answer = ⊤
+ReadTold stop bytes h closed (words.MainQueue limit) answer = ⊤
 
 -- Each read of an open peer that isn't busy is what stands at the front of the bytes that the reads before it left.
 abbrev pub ReadsTold : Setting → Option Bool → List ℕ → List Entry → Type 0

@@ -10,7 +10,8 @@ use Rattle.peer_route.specs.declared.answer.Answer.TheVariants as answers
 use Rattle.peer_route.specs.declared.answer.Entry.{Entry}
 use Rattle.peer_route.specs.Parcel.{Setting, Asked, message_of}
 use Rattle.peer_route.specs.CallMessage.{expects, call_asked, signal_asked, reply_asked, error_asked}
-use Rattle.peer_route.specs.History.{Event, Took, Shut, Put, Wrote, Fault, Spent, Made, Plain, Did, Gave, Told, closing, is_failed, last_serial, pending}
+use Rattle.peer_route.specs.History.{Event, Took, Shut, Put, Wrote, Fault, Spent, Made, Plain, Cloned, Did, Gave, Told, Gone, Main, closing, is_failed, last_serial, pending}
+use Rattle.peer_route.specs.History as deeds
 use Rattle.peer_route.specs.Streams.{Stream, streams, gave_last}
 
 -- ---- serials
@@ -91,6 +92,10 @@ asks_with setting given (words.Drop number) = None
 asks_with setting given words.Stream = None
 asks_with setting given (words.Take number) = None
 asks_with setting given (words.TakeBefore number before) = None
+asks_with setting given (words.Clone number) = None
+asks_with setting given (words.Unstream number second) = None
+asks_with setting given (words.Queue number limit) = None
+asks_with setting given (words.MainQueue limit) = None
 
 abbrev pub asks : Trail → ℕ → Words → Option Asked
 asks t lane w = asks_with t.setting (λ number. given t lane number) w
@@ -137,6 +142,32 @@ take_does (Some k) (answers.Item position) = Did k Gave ∷ []
 take_does (Some k) (answers.Closed error) = Did k Told ∷ []
 take_does k answer = []
 
+abbrev pub clone_makes : Option ℕ → Answer → List Event
+clone_makes (Some k) (answers.Streaming number) = Made (Cloned k) ∷ []
+clone_makes k answer = []
+
+abbrev pub gone_at : Option ℕ → List Event → List Event
+gone_at None h = h
+gone_at (Some k) h = Did k Gone ∷ h
+
+-- where the second is named, it is closed after the first
+abbrev pub unstream_does : Option ℕ → Option ℕ → Answer → List Event
+unstream_does k j answers.Gone = gone_at j (gone_at k [])
+unstream_does k j answer = []
+
+abbrev pub queue_does : Option ℕ → ℕ → Answer → List Event
+queue_does (Some k) limit answers.Set = Did k (deeds.Asked limit) ∷ []
+queue_does k limit answer = []
+
+abbrev pub main_sets : ℕ → Answer → List Event
+main_sets limit answers.Set = Main limit ∷ []
+main_sets limit answer = []
+
+-- where a second number is given, what it names
+abbrev pub second_place : ℕ → Option ℕ → Names → Option ℕ
+second_place lane None names = None
+second_place lane (Some number) names = place 0 lane number names
+
 abbrev pub events_of : Trail → ℕ → Words → Answer → List Event
 events_of t lane (words.Call w) answer = send_events t.events (call_asked t.setting w) answer
 events_of t lane (words.Signal w) answer = send_events t.events (signal_asked t.setting w) answer
@@ -151,6 +182,10 @@ events_of t lane (words.Drop number) answer = drop_spends (place 0 lane number t
 events_of t lane words.Stream answer = stream_makes answer
 events_of t lane (words.Take number) answer = take_does (place 0 lane number t.streams) answer
 events_of t lane (words.TakeBefore number before) answer = take_does (place 0 lane number t.streams) answer
+events_of t lane (words.Clone number) answer = clone_makes (place 0 lane number t.streams) answer
+events_of t lane (words.Unstream number second) answer = unstream_does (place 0 lane number t.streams) (second_place lane second t.streams) answer
+events_of t lane (words.Queue number limit) answer = queue_does (place 0 lane number t.streams) limit answer
+events_of t lane (words.MainQueue limit) answer = main_sets limit answer
 
 -- the command sends a call that waits for a reply
 abbrev pub wants_reply : Option Asked → Bool
@@ -182,7 +217,12 @@ more t e = record {
   setting = t.setting;
 }
 
+-- before the first entry the capacity is set, if it is given
+abbrev pub first_events : Option ℕ → List Event
+first_events None = []
+first_events (Some limit) = Main limit ∷ []
+
 -- what the entries, newest first, of a peer of this setting leave
 abbrev pub trail : Setting → List Entry → Trail
-trail setting [] = record { events = []; names = []; streams = []; setting = setting }
+trail setting [] = record { events = first_events setting.queue; names = []; streams = []; setting = setting }
 trail setting (e ∷ es) = more (trail setting es) e

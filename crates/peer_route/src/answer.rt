@@ -38,6 +38,10 @@ pub enum Answer {
     Empty,
     /// The stream is over: it holds nothing, nothing comes any more, and the closing error isn't given again.
     Ended,
+    /// The stream, or both, are closed.
+    Gone,
+    /// The capacity is set, or asked for.
+    Set,
 }
 
 /// One entry of a history: a lane's command and its answer.

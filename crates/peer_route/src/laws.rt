@@ -1,14 +1,15 @@
 //! Laws of every history, each the contract of a function that does nothing.
-ghost use Rattle.std.specs.Prelude.{◌≡◌, ◌≢◌, ◌⊎◌, ℕ, List, Option, ◌∷◌, ◌++◌, IfSome, Some, None, true, false, slice_get};
+ghost use Rattle.std.specs.Prelude.{◌≡◌, ◌≢◌, ◌⊎◌, ℕ, max, List, Option, [], ◌∷◌, ◌++◌, IfSome, Some, None, true, false, slice_get};
 ghost use Rattle.std.specs.List.{AllByRecursion};
 ghost use Rattle.wire_message.specs.Front.{Seen};
 ghost use Rattle.wire_message.specs.declared.error.Error.{Error};
 ghost use Rattle.peer_route.specs.declared.answer.Entry.{Entry};
-ghost use Rattle.peer_route.specs.History.{Event, Took, Spent, calls, closing, is_failed, is_serial, pending, poll_answer, put};
+ghost use Rattle.peer_route.specs.History.{Event, Took, Spent, Did, Main, Deed, Asked, calls, closing, is_failed, is_serial, pending, poll_answer, put};
+ghost use Rattle.peer_route.specs.Streams.{main, take_answer};
 ghost use Rattle.peer_route.specs.Parcel.{Setting};
 ghost use Rattle.peer_route.specs.Trail.{trail};
 ghost use Rattle.peer_route.specs.Answers.{Legal};
-ghost use Rattle.peer_route.specs.StreamLaws.{Yields, IsTake, IsEnded, IsLast, IsDrained, HoldsTooMany, IsPutOf, all_sent};
+ghost use Rattle.peer_route.specs.StreamLaws.{Yields, holds, closes_stream, IsNoStream, IsTake, IsEnded, IsLast, IsDrained, HoldsTooMany, IsPutOf, all_sent};
 ghost use Rattle.peer_route.specs.Laws.{IsPoll, IsFinal, IsReplyAt, IsUnknown, IsFirstReply, IsCutOff, IsPast, SamePoll, IsByPosition, IsNothingYet};
 
 use crate::answer::Answer;
@@ -56,11 +57,39 @@ pub fn spent_changes_no_other()
 /// that the lane's takes of its number gave since, and behind them those of the messages that it holds, are the positions of
 /// all messages that were read since, in order: none is missed, given twice, or taken from before it was made.
 pub fn stream_gives_all()
-    ensures { (setting : Setting) (newer : List Entry) (e : Entry) (older : List Entry) (number : ℕ) → Legal setting (newer ++ e ∷ older) → e.words ≡ Words.Stream → e.answer ≡ Answer.Streaming number → Yields setting newer e older number }
+    ensures { (setting : Setting) (newer : List Entry) (e : Entry) (older : List Entry) (number : ℕ) → Legal setting (newer ++ e ∷ older) → e.words ≡ Words.Stream → e.answer ≡ Answer.Streaming number → Yields setting newer e older number [] }
+{}
+
+/// A clone gives what its original held when it was made, and then exactly what was read since: nothing is missed, or given
+/// twice by it, whatever the original gives or whether it is closed.
+pub fn clone_goes_on_where_its_original_is()
+    ensures { (setting : Setting) (newer : List Entry) (e : Entry) (older : List Entry) (number original : ℕ) → Legal setting (newer ++ e ∷ older) → e.words ≡ Words.Clone original → e.answer ≡ Answer.Streaming number
+        → Yields setting newer e older number (holds (trail setting older) e.lane original) }
+{}
+
+/// A stream that was closed is unknown from then on: each later command of that lane that names its number is refused, whatever
+/// comes.
+pub fn stream_closed_for_good()
+    ensures { (setting : Setting) (newer older : List Entry) (e : Entry) (number : ℕ) → Legal setting (newer ++ e ∷ older) → closes_stream number e.words ≡ true → e.answer ≡ Answer.Gone → AllByRecursion (IsNoStream e.lane number) newer }
+{}
+
+/// What a stream does changes what no other gives: neither its items, nor its end, nor its closing, nor a capacity that it asks
+/// for.
+pub fn stream_changes_no_other()
+    ensures { (h : List Event) (j k : ℕ) (deed : Deed) → j ≢ k → take_answer (Did j deed ∷ h) k ≡ take_answer h k }
+{}
+
+/// A capacity that is set, or asked for, throws nothing away: each stream gives what it gave. One that is set is just that one;
+/// one that is asked for raises it, and is passed over where it is smaller.
+pub fn capacity_throws_nothing_away()
+    ensures set { (h : List Event) (limit k : ℕ) → take_answer (Main limit ∷ h) k ≡ take_answer h k }
+    ensures asked { (h : List Event) (limit j k : ℕ) → take_answer (Did j (Asked limit) ∷ h) k ≡ take_answer h k }
+    ensures exact { (h : List Event) (limit : ℕ) → main (Main limit ∷ h) ≡ limit }
+    ensures raised { (h : List Event) (limit j : ℕ) → main (Did j (Asked limit) ∷ h) ≡ max (main h) limit }
 {}
 
 /// A stream ends once and for good. Once a lane's take of a number gave the closing error, or said that the stream is over,
-/// each later take of that number by that lane says that it is over.
+/// each later take of that number by that lane says that it is over, or is refused once the stream was closed.
 pub fn stream_ends_once()
     ensures { (setting : Setting) (newer older : List Entry) (e : Entry) (number : ℕ) → Legal setting (newer ++ e ∷ older) → IsTake number e.words → IsLast e.answer → AllByRecursion (IsEnded e.lane number) newer }
 {}
@@ -83,7 +112,7 @@ pub fn none_before_is_by_position()
     ensures never { (setting : Setting) (older : List Entry) (e : Entry) → Legal setting (e ∷ older) → IsByPosition e.words → IsNothingYet e.answer → ⊥ }
 {}
 
-/// A read is busy exactly where the peer is open and some stream holds more than 64 messages, and changes nothing then.
+/// A read is busy exactly where the peer is open and some open stream holds more than it may, and changes nothing then.
 pub fn busy_where_a_stream_is_full()
     ensures only { (setting : Setting) (older : List Entry) (e : Entry) → Legal setting (e ∷ older) → e.words ≡ Words.Read → e.answer ≡ Answer.Busy → HoldsTooMany (trail setting older).events }
     ensures there { (setting : Setting) (older : List Entry) (e : Entry) → Legal setting (e ∷ older) → e.words ≡ Words.Read → HoldsTooMany (trail setting older).events → e.answer ≡ Answer.Busy }

@@ -19,9 +19,11 @@ pub use calls::PendingMethodCalls;
 pub use hex::{hex_byte, read_hex};
 pub use laws::{
     answered_by_the_closing_error, answered_by_the_first, answered_once,
-    busy_where_a_stream_is_full, dropped_for_good, none_before_is_by_position,
-    put_is_what_was_sent, refused_changes_nothing, reply_changes_no_other, spent_changes_no_other,
-    stream_after_closing_is_over, stream_ends_once, stream_gives_all, stream_gives_the_first_error,
+    busy_where_a_stream_is_full, capacity_throws_nothing_away, clone_goes_on_where_its_original_is,
+    dropped_for_good, none_before_is_by_position, put_is_what_was_sent, refused_changes_nothing,
+    reply_changes_no_other, spent_changes_no_other, stream_after_closing_is_over,
+    stream_changes_no_other, stream_closed_for_good, stream_ends_once, stream_gives_all,
+    stream_gives_the_first_error,
 };
 pub use polled::Polled;
 pub use route::{Issued, Route};

@@ -1,11 +1,11 @@
-ghost use Rattle.std.specs.Prelude.{ℕ, ◌≡◌, ◌+◌, ◌<◌, ◌≤◌, ◌^◌, ◌-◌, ◌==◌, [], ◌∷◌, ◌++◌, List, length, position, slice_get, option_copied, Some, None, Ok, Err, true, false, IfOk, IfErr, OnOk, OnErr};
+ghost use Rattle.std.specs.Prelude.{ℕ, ◌≡◌, ◌+◌, ◌<◌, ◌≤◌, ◌^◌, ◌-◌, ◌==◌, [], ◌∷◌, ◌++◌, List, length, position, slice_get, option_copied, option_map, Some, None, Ok, Err, true, false, IfOk, IfErr, OnOk, OnErr};
 ghost use Rattle.std.specs.Borrow.{sem};
 ghost use Rattle.peer_route.specs.Lending.{LendsCalls};
-ghost use Rattle.peer_route.specs.History.{Event, Took, Shut, Put, Wrote, Fault, Made, Plain, poll_answer, poll_events, drop_answer, drop_events};
+ghost use Rattle.peer_route.specs.History.{Event, Took, Shut, Put, Wrote, Fault, Made, Plain, Main, poll_answer, poll_events, drop_answer, drop_events};
 ghost use Rattle.peer_route.specs.History as history;
-ghost use Rattle.peer_route.specs.Streams.{busy, take_answer, take_events, next_position};
+ghost use Rattle.peer_route.specs.Streams.{busy, main, take_answer, take_events, next_position, is_over, are_open, close_answer, close_events, ask_answer, ask_events, limit_answer};
 ghost use Rattle.peer_route.specs.CallMessage.{expects_reply};
-ghost use Rattle.peer_route.specs.Left.{Waits, is_busy, View, Left, Issues, Places, placed, waiting_serial};
+ghost use Rattle.peer_route.specs.Left.{Waits, is_busy, View, Left, Clones, Issues, Places, placed, waiting_serial};
 ghost use Rattle.wire_message.specs.Front.{Seen};
 ghost use Rattle.wire_message.specs.Closing.{closes};
 
@@ -19,6 +19,9 @@ use wire_body::Body;
 use wire_message::{
     Builder, Error, Flags, IoKind, Message, MessageType, Result, Sequence, Serials,
 };
+
+/// How many messages a stream may hold before reads wait, until it is set.
+const CAPACITY: u64 = 64;
 
 /// A message that was put in the outbox.
 #[derive(Clone, Copy, PartialEq, Eq, Debug)]
@@ -38,6 +41,8 @@ pub struct Route {
     alloc: Global,
     calls: PendingMethodCalls,
     streams: Streams,
+    /// How many messages a stream may hold before reads wait.
+    main: u64,
     received: u64,
     serials: Serials,
     outbox: Vec<Message>,
@@ -52,7 +57,7 @@ impl Model for Route {
 
     ghost Value = { View };
 
-    ghost view = { λ r. record { calls = r.calls; streams = r.streams; read = r.received; last = r.serials; outbox = r.outbox.items; places = r.places.items; done = r.done; failed = r.failed } };
+    ghost view = { λ r. record { calls = r.calls; streams = r.streams; main = r.main; read = r.received; last = r.serials; outbox = r.outbox.items; places = r.places.items; done = r.done; failed = r.failed } };
 }
 
 /// The number of the call whose message has this place in the outbox.
@@ -73,6 +78,13 @@ fn expects_reply(message: &Message) -> bool
     }
 }
 
+/// The stream's number, where there is one.
+fn number_of(stream: Option<MessageStream>) -> Option<u64>
+    ensures { result ≡ option_map (λ s. s.number) stream }
+{
+    stream.map(|stream| stream.number)
+}
+
 impl Route {
     /// A peer that nothing happened to.
     pub fn new(alloc: Global) -> Route
@@ -82,6 +94,7 @@ impl Route {
             alloc,
             calls: PendingMethodCalls::new(alloc),
             streams: Streams::new(alloc),
+            main: CAPACITY,
             received: 0,
             serials: Serials::new(),
             outbox: Vec::new(alloc),
@@ -194,12 +207,12 @@ impl Route {
         Ok(())
     }
 
-    /// Whether the peer is open and some stream holds more than 64 messages: then no message may be read.
+    /// Whether the peer is open and some open stream holds more messages than it may: then no message may be read.
     pub fn busy(&self) -> bool
         ensures view { result ≡ is_busy self.now }
         ensures busy { (h : List Event) → Left self.now h → result ≡ busy h }
     {
-        self.calls.closing().is_none() && self.streams.is_over()
+        self.calls.closing().is_none() && self.streams.is_over(self.main)
     }
 
     /// Opens a stream of all messages that are read from now on. One that is opened on a closed peer is ended. Want of memory
@@ -214,8 +227,110 @@ impl Route {
         Ok(MessageStream { number })
     }
 
+    /// Opens a stream that goes on where that one is: it holds what that holds now, and tells the closing error unless that
+    /// told it.
+    ///
+    /// # Errors
+    ///
+    /// UnknownHandle exactly where that stream isn't open; Memory. An error changes nothing.
+    pub fn clone_stream(&mut self, stream: &MessageStream) -> Result<MessageStream>
+        ensures { (h : List Event) → Left self.old h → Clones self.old self.new stream.now.number h result }
+    {
+        let number = self.streams.open_clone(stream.number)?;
+        Ok(MessageStream { number })
+    }
+
+    /// Whether the stream with this number is open, and the second, where there is one, and they are two.
+    fn are_open(&self, stream: u64, second: Option<u64>) -> bool
+        ensures { (h : List Event) → Left self.now h → result ≡ are_open h stream second }
+    {
+        match second {
+            Some(other) => self.streams.are_two(stream, other),
+            None => self.streams.is_open(stream),
+        }
+    }
+
+    /// Closes the stream, and then the second, in one step; what they hold goes away. Takes no memory.
+    ///
+    /// # Errors
+    ///
+    /// UnknownHandle exactly where one of them isn't open, or they are one. An error changes nothing.
+    pub fn close_stream(
+        &mut self,
+        stream: MessageStream,
+        second: Option<MessageStream>,
+    ) -> Result<()>
+        ensures answer { (h : List Event) → Left self.old h → result ≡ close_answer h stream.number (option_map (λ s. s.number) second) }
+        ensures left { (h : List Event) → Left self.old h → Left self.new (close_events stream.number (option_map (λ s. s.number) second) result ++ h) }
+    {
+        let MessageStream { number } = stream;
+        let other = number_of(second);
+        if !self.are_open(number, other) {
+            return Err(Error::UnknownHandle);
+        }
+        self.streams.end(number);
+        if let Some(other) = other {
+            self.streams.end(other);
+        }
+        Ok(())
+    }
+
+    /// How many messages the stream may hold before reads wait.
+    ///
+    /// # Errors
+    ///
+    /// UnknownHandle exactly where it isn't open.
+    pub fn max_queued(&self, stream: &MessageStream) -> Result<u64>
+        ensures { (h : List Event) → Left self.now h → result ≡ limit_answer h stream.now.number }
+    {
+        if self.streams.is_open(stream.number) {
+            Ok(self.main)
+        } else {
+            Err(Error::UnknownHandle)
+        }
+    }
+
+    /// Asks that the stream may hold so many messages. A larger number raises how many a stream without a rule may hold, a
+    /// smaller one is passed over.
+    ///
+    /// # Errors
+    ///
+    /// UnknownHandle exactly where it isn't open. An error changes nothing.
+    pub fn set_max_queued(&mut self, stream: &MessageStream, max: u64) -> Result<()>
+        ensures answer { (h : List Event) → Left self.old h → result ≡ ask_answer h stream.now.number }
+        ensures left { (h : List Event) → Left self.old h → Left self.new (ask_events stream.now.number max result ++ h) }
+    {
+        if !self.streams.is_open(stream.number) {
+            return Err(Error::UnknownHandle);
+        }
+        self.main = self.main.max(max);
+        Ok(())
+    }
+
+    /// How many messages a stream without a rule may hold before reads wait: 64, until it is set or raised.
+    pub fn main_max_queued(&self) -> u64
+        ensures { (h : List Event) → Left self.now h → result ≡ main h }
+    {
+        self.main
+    }
+
+    /// Sets how many messages a stream without a rule may hold before reads wait. Nothing that is held goes away.
+    pub fn set_main_max_queued(&mut self, max: u64)
+        ensures { (h : List Event) → Left self.old h → Left self.new (Main max ∷ h) }
+    {
+        self.main = max;
+    }
+
+    /// Whether nothing comes from the stream any more: it gave all and the closing error, or it isn't open.
+    pub fn is_terminated(&self, stream: &MessageStream) -> bool
+        ensures { (h : List Event) → Left self.now h → result ≡ is_over (take_answer h stream.now.number) }
+    {
+        let closed = self.calls.closing().is_some();
+        self.streams.is_terminated(stream.number, closed)
+    }
+
     /// What the stream gives next: the first message that it holds; else NotYet on an open peer; else the closing error
-    /// once; from then on Ended. UnknownHandle exactly where no such stream was made. Takes no memory.
+    /// once; from then on Ended. UnknownHandle exactly where it isn't open: it was never made, or was closed. Takes no memory.
     pub fn take(&mut self, stream: &MessageStream) -> Result<Polled<Message>>
         ensures answer { (h : List Event) → Left self.old h → result ≡ take_answer h stream.now.number }
         ensures left { (h : List Event) → Left self.old h → Left self.new (take_events stream.now.number result ++ h) }
@@ -236,7 +351,7 @@ impl Route {
         by_position(self.take(stream))
     }
 
-    /// The position of the first message that the stream holds; None where it holds none, or no such stream was made.
+    /// The position of the first message that the stream holds; None where it holds none, or isn't open.
     pub fn next_position(&self, stream: &MessageStream) -> Option<u64>
         ensures { (h : List Event) → Left self.now h → result ≡ next_position h stream.now.number }
     {

@@ -1,9 +1,11 @@
 use crate::{
     Issued, MessageStream, PendingMethodCalls, Polled, Route, answered_by_the_closing_error,
-    answered_by_the_first, answered_once, busy_where_a_stream_is_full, dropped_for_good,
+    answered_by_the_first, answered_once, busy_where_a_stream_is_full,
+    capacity_throws_nothing_away, clone_goes_on_where_its_original_is, dropped_for_good,
     none_before_is_by_position, put_is_what_was_sent, refused_changes_nothing,
-    reply_changes_no_other, spent_changes_no_other, stream_after_closing_is_over, stream_ends_once,
-    stream_gives_all, stream_gives_the_first_error,
+    reply_changes_no_other, spent_changes_no_other, stream_after_closing_is_over,
+    stream_changes_no_other, stream_closed_for_good, stream_ends_once, stream_gives_all,
+    stream_gives_the_first_error,
 };
 use std::alloc::Global;
 use std::test::Fail;
@@ -280,6 +282,75 @@ fn a_stream_ends_with_the_peer(rt: HostRuntime) -> Result<(), Fail> {
 }
 
 #[test]
+fn a_clone_goes_on(rt: HostRuntime) -> Result<(), Fail> {
+    let mut route = Route::new(rt.alloc());
+    let stream = route.open()?;
+    arrive(&mut route, rt.alloc(), 1)?;
+    let clone = route.clone_stream(&stream)?;
+    assert_eq!(rt; clone, MessageStream { number: 1 });
+    assert_eq!(rt; item(route.take(&stream)?)?, 1);
+    arrive(&mut route, rt.alloc(), 2)?;
+    assert_eq!(rt; item(route.take(&clone)?)?, 1);
+    assert_eq!(rt; item(route.take(&clone)?)?, 2);
+    Ok(())
+}
+
+#[test]
+fn a_closed_stream_is_unknown(rt: HostRuntime) -> Result<(), Fail> {
+    let mut route = Route::new(rt.alloc());
+    let stream = route.open()?;
+    assert!(rt; !route.is_terminated(&stream));
+    route.close_stream(stream, None)?;
+    let gone = MessageStream { number: 0 };
+    assert!(rt; route.is_terminated(&gone));
+    assert!(rt; matches!(&route.take(&gone), Err(Error::UnknownHandle)));
+    assert!(rt; matches!(&route.clone_stream(&gone), Err(Error::UnknownHandle)));
+    assert!(rt; matches!(&route.set_max_queued(&gone, 1), Err(Error::UnknownHandle)));
+    Ok(())
+}
+
+#[test]
+fn two_streams_are_closed_at_once(rt: HostRuntime) -> Result<(), Fail> {
+    let mut route = Route::new(rt.alloc());
+    let first = route.open()?;
+    let second = route.open()?;
+    let twice = route.close_stream(
+        MessageStream { number: 0 },
+        Some(MessageStream { number: 0 }),
+    );
+    assert!(rt; matches!(&twice, Err(Error::UnknownHandle)));
+    assert!(rt; !route.is_terminated(&first));
+    route.close_stream(first, Some(second))?;
+    assert!(rt; route.is_terminated(&MessageStream { number: 0 }));
+    assert!(rt; route.is_terminated(&MessageStream { number: 1 }));
+    Ok(())
+}
+
+#[test]
+fn a_capacity_is_raised(rt: HostRuntime) -> Result<(), Fail> {
+    let mut route = Route::new(rt.alloc());
+    let stream = route.open()?;
+    assert_eq!(rt; route.main_max_queued(), 64);
+    route.set_max_queued(&stream, 65)?;
+    route.set_max_queued(&stream, 1)?;
+    assert_eq!(rt; route.max_queued(&stream)?, 65);
+    Ok(())
+}
+
+#[test]
+fn a_closed_stream_keeps_no_read_back(rt: HostRuntime) -> Result<(), Fail> {
+    let mut route = Route::new(rt.alloc());
+    let stream = route.open()?;
+    route.set_main_max_queued(0);
+    assert_eq!(rt; route.main_max_queued(), 0);
+    arrive(&mut route, rt.alloc(), 1)?;
+    assert!(rt; route.busy());
+    route.close_stream(stream, None)?;
+    assert!(rt; !route.busy());
+    Ok(())
+}
+
+#[test]
 fn a_dropped_call_is_unknown(rt: HostRuntime) -> Result<(), Fail> {
     let mut route = Route::new(rt.alloc());
     let issued = call(&mut route, rt.alloc())?;
@@ -349,5 +420,14 @@ fn laws_of_streams_do_nothing(_rt: HostRuntime) -> Result<(), Fail> {
     stream_after_closing_is_over();
     busy_where_a_stream_is_full();
     none_before_is_by_position();
+    Ok(())
+}
+
+#[test]
+fn laws_of_many_streams_do_nothing(_rt: HostRuntime) -> Result<(), Fail> {
+    clone_goes_on_where_its_original_is();
+    stream_closed_for_good();
+    stream_changes_no_other();
+    capacity_throws_nothing_away();
     Ok(())
 }

@@ -82,6 +82,24 @@ pub enum Words {
         /// The position, which isn't looked at.
         before: u64,
     },
+    /// Open a stream that goes on where the lane's stream with this number is.
+    Clone(u64),
+    /// Close the lane's stream with this number, and perhaps another in the same step.
+    Unstream {
+        /// The stream's number.
+        stream: u64,
+        /// The other's, which is closed after it.
+        second: Option<u64>,
+    },
+    /// Ask that the lane's stream with this number may hold so many messages.
+    Queue {
+        /// The stream's number.
+        stream: u64,
+        /// How many messages.
+        limit: u64,
+    },
+    /// Set how many messages a stream without a rule may hold.
+    MainQueue(u64),
 }
 
 /// The same text again, if there is one.
@@ -140,6 +158,16 @@ impl Words {
                 stream: *stream,
                 before: *before,
             },
+            Words::Clone(number) => Words::Clone(*number),
+            Words::Unstream { stream, second } => Words::Unstream {
+                stream: *stream,
+                second: *second,
+            },
+            Words::Queue { stream, limit } => Words::Queue {
+                stream: *stream,
+                limit: *limit,
+            },
+            Words::MainQueue(limit) => Words::MainQueue(*limit),
         })
     }
 }

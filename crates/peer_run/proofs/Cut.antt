@@ -25,21 +25,22 @@ failed_before (events.Fault ∷ xs) h e = cc
 failed_before (events.Spent call ∷ xs) h e = failed_before xs h e
 failed_before (events.Made making ∷ xs) h e = failed_before xs h e
 failed_before (events.Did stream deed ∷ xs) h e = failed_before xs h e
+failed_before (events.Main limit ∷ xs) h e = failed_before xs h e
 
 failed_tail : (setting : Setting) (e : Entry) (es : List Entry) → events.is_failed (trail setting (e ∷ es)).events ≡ false → events.is_failed (trail setting es).events ≡ false
 failed_tail setting e es h = failed_before (events_of (trail setting es) e.lane e.words e.answer) (trail setting es).events h
 
 -- a call's answer is one of two, and one of them fails
-same_sent : (failed : Bool) (sent a b : Answer) → failed ≡ false → (a ≡ write_fault → ⊥) → (b ≡ write_fault → ⊥) → IsSent failed sent a → IsSent failed sent b → a ≡ b
-same_sent true sent a b e p q x y = cc
-same_sent false sent a b e p q (inl x) (inl y) = x ∙ sym y
-same_sent false sent a b e p q (inr x) y = absurd (p x)
-same_sent false sent a b e p q (inl x) (inr y) = absurd (q y)
+same_sent : (failed : Bool) (success a b : Answer) → failed ≡ false → (a ≡ write_fault → ⊥) → (b ≡ write_fault → ⊥) → IsSent failed success a → IsSent failed success b → a ≡ b
+same_sent true success a b e p q x y = cc
+same_sent false success a b e p q (inl x) (inl y) = x ∙ sym y
+same_sent false success a b e p q (inr x) y = absurd (p x)
+same_sent false success a b e p q (inl x) (inr y) = absurd (q y)
 
-same_called : (refusal : Option Error) (failed : Bool) (sent a b : Answer) → failed ≡ false
-    → (refusal ≡ None → a ≡ write_fault → ⊥) → (refusal ≡ None → b ≡ write_fault → ⊥) → IsCalled refusal failed sent a → IsCalled refusal failed sent b → a ≡ b
-same_called (Some error) failed sent a b e p q x y = x ∙ sym y
-same_called None failed sent a b e p q x y = same_sent failed sent a b e (p refl) (q refl) x y
+same_called : (refusal : Option Error) (failed : Bool) (success a b : Answer) → failed ≡ false
+    → (refusal ≡ None → a ≡ write_fault → ⊥) → (refusal ≡ None → b ≡ write_fault → ⊥) → IsCalled refusal failed success a → IsCalled refusal failed success b → a ≡ b
+same_called (Some error) failed success a b e p q x y = x ∙ sym y
+same_called None failed success a b e p q x y = same_sent failed success a b e (p refl) (q refl) x y
 
 -- a failed write fails the history
 send_fault : (h : List events.Event) (parcel : Parcel) (a : Answer) → events.is_failed h ≡ false → a ≡ write_fault
@@ -86,6 +87,10 @@ same_answer setting es stop bytes lane (words.Drop number) a b fa fb x y p q = x
 same_answer setting es stop bytes lane words.Stream a b fa fb x y p q = x ∙ sym y
 same_answer setting es stop bytes lane (words.Take number) a b fa fb x y p q = x ∙ sym y
 same_answer setting es stop bytes lane (words.TakeBefore number before) a b fa fb x y p q = x ∙ sym y
+same_answer setting es stop bytes lane (words.Clone number) a b fa fb x y p q = x ∙ sym y
+same_answer setting es stop bytes lane (words.Unstream number second) a b fa fb x y p q = x ∙ sym y
+same_answer setting es stop bytes lane (words.Queue number limit) a b fa fb x y p q = x ∙ sym y
+same_answer setting es stop bytes lane (words.MainQueue limit) a b fa fb x y p q = x ∙ sym y
 
 -- what is known of the newest entry
 record Newest (setting : Setting) (es : List Entry) (stop : Bool) (bytes : List ℕ) (e : Entry) : Type 0 where

@@ -3,13 +3,13 @@ use Rattle.std.proofs.Common.{◌≡◌, ℕ, refl, ◌-◌, ap, arith, Bool, fa
 use Rattle.peer_route.specs.Parcel.{Setting}
 use Rattle.peer_route.specs.declared.words.Command.{Command}
 use Rattle.peer_route.specs.declared.answer.Entry.{Entry}
-use Rattle.peer_route.specs.History.{Event, put, is_failed}
-use Rattle.peer_route.specs.Trail.{trail}
+use Rattle.peer_route.specs.History.{Event, closing, put, is_failed}
+use Rattle.peer_route.specs.Trail.{trail, first_events}
 use Rattle.peer_route.specs.Told.{IsSentOf, WritesTold, ReadsTold, left_after}
 use Rattle.wire_framing.specs.Sink.{RoomFalls}
 use Rattle.wire_framing.specs.declared.write_half.Writing.{Writing}
 use Rattle.peer_script.specs.Script.{Script}
-use Rattle.peer_run.specs.Stands.{Inlet, Outlet, PeerView, Reads, Writes, Holds, HoldsThen, IsRest, setting_by}
+use Rattle.peer_run.specs.Stands.{Inlet, Outlet, PeerView, Reads, Writes, Holds, HoldsThen, RoomFor, IsRest, setting_by}
 use Rattle.peer_run.specs.Runs.{Stands, Runs, command_of}
 use Rattle.peer_run.specs.Program.{setting_of, source_bytes, source_breaks, IsRunOf}
 
@@ -23,11 +23,16 @@ told_nothing : (setting : Setting) (left : Option (List ℕ)) (stop : Option Boo
 told_nothing setting None stop = tt
 told_nothing setting (Some bytes) stop = tt
 
+rest_first : (queue : Option ℕ) (left : Option (List ℕ)) (stop : Option Bool)
+    → IfSome left (λ bytes. IsRest (closing (first_events queue)) (left_after bytes (first_events queue)) stop left stop)
+rest_first None left stop = rest_all left stop
+rest_first (Some limit) left stop = rest_all left stop
+
 -- nothing was read
 pub start_reads : (setting : Setting) (start : Inlet) → Reads setting start start []
 start_reads setting start = record {
   told = told_nothing setting start.left start.stop;
-  rest = rest_all start.left start.stop;
+  rest = rest_first setting.queue start.left start.stop;
   cause = λ f. absurd f;
   kept = omega arith;
 }
@@ -46,11 +51,20 @@ room_still None = tt
 room_still (Some None) = refl
 room_still (Some (Some k)) = (omega arith, let e : k ≡ k - 0 = omega arith in ap (λ n. Some (Some n)) e)
 
+holds_first : (queue : Option ℕ) (room : Option (Option ℕ)) (held : Option (List ℕ)) → IfSome held (λ before. HoldsThen room before held (first_events queue))
+holds_first None room held = holds_same_still room held
+holds_first (Some limit) room None = tt
+holds_first (Some limit) room (Some before) = record { sent = []; appended = sym (append-nil before); bytes = refl; told = writes_nothing room }
+
+room_first : (queue : Option ℕ) (room : Option (Option ℕ)) → RoomFor (is_failed (first_events queue)) room room (put (first_events queue))
+room_first None room = room_still room
+room_first (Some limit) room = room_still room
+
 -- nothing was written
 pub start_writes : (setting : Setting) (start : Outlet) → Writes setting start start []
 start_writes setting start = record {
-  holds = holds_same_still start.room start.held;
-  room = room_still start.room;
+  holds = holds_first setting.queue start.room start.held;
+  room = room_first setting.queue start.room;
   cause = λ f. absurd f;
   kept = omega arith;
   only = λ f. refl;
@@ -79,11 +93,11 @@ sent_of room held h w =
 pub run_of : (start_in : Inlet) (start_out : Outlet) (end_in : Inlet) (end_out : Outlet) (s : Script) (takes : Bool) (entries : List Entry) (held : List ℕ)
     → start_in.left ≡ Some (source_bytes s.given) → start_in.stop ≡ Some (source_breaks s.given)
     → start_out.held ≡ Some [] → start_out.room ≡ Some s.outfault → end_out.held ≡ Some held → takes ≡ s.fds
-    → Runs (setting_by s.name takes) start_in start_out end_in end_out s.commands entries → IsRunOf s entries held
+    → Runs (setting_by s.name s.queue takes) start_in start_out end_in end_out s.commands entries → IsRunOf s entries held
 run_of start_in start_out end_in end_out s takes entries held left stop before room after fds run =
     let h = (trail (setting_of s) (reverse entries)).events in
     let r : Runs (setting_of s) start_in start_out end_in end_out s.commands entries =
-    subst (λ b. Runs (setting_by s.name b) start_in start_out end_in end_out s.commands entries) fds run in
+    subst (λ b. Runs (setting_by s.name s.queue b) start_in start_out end_in end_out s.commands entries) fds run in
     let reads = rw (left, stop) at r.reads in
     let writes = rw (before, room, after) at r.writes in
     let w = sent_of s.outfault held h writes in
@@ -103,11 +117,11 @@ if_ok3 (Err e) P Q R S f p q r = tt
 -- ---- from command to command
 
 -- a command's step is one of any sink that tells the same of file descriptors
-pub stands_by : (name : Option (List ℕ)) (told takes : Bool) (start_in : Inlet) (start_out : Outlet) (es : List Entry) (e : Entry) (p q : PeerView) (in_now in_after : Inlet) (out_now out_after : Outlet) (before writing : Writing)
+pub stands_by : (name : Option (List ℕ)) (queue : Option ℕ) (told takes : Bool) (start_in : Inlet) (start_out : Outlet) (es : List Entry) (e : Entry) (p q : PeerView) (in_now in_after : Inlet) (out_now out_after : Outlet) (before writing : Writing)
     → told ≡ takes
-    → ((i : Inlet) (o : Outlet) (hs : List Entry) → Stands (setting_by name told) i o p in_now out_now before hs → Stands (setting_by name told) i o q in_after out_after writing (e ∷ hs))
-    → Stands (setting_by name takes) start_in start_out p in_now out_now before es
-    → Stands (setting_by name takes) start_in start_out q in_after out_after writing (e ∷ es)
-stands_by name told takes start_in start_out es e p q in_now in_after out_now out_after before writing same step s =
-    subst (λ b. Stands (setting_by name b) start_in start_out q in_after out_after writing (e ∷ es)) same
-    (step start_in start_out es (subst (λ b. Stands (setting_by name b) start_in start_out p in_now out_now before es) (sym same) s))
+    → ((i : Inlet) (o : Outlet) (hs : List Entry) → Stands (setting_by name queue told) i o p in_now out_now before hs → Stands (setting_by name queue told) i o q in_after out_after writing (e ∷ hs))
+    → Stands (setting_by name queue takes) start_in start_out p in_now out_now before es
+    → Stands (setting_by name queue takes) start_in start_out q in_after out_after writing (e ∷ es)
+stands_by name queue told takes start_in start_out es e p q in_now in_after out_now out_after before writing same step s =
+    subst (λ b. Stands (setting_by name queue b) start_in start_out q in_after out_after writing (e ∷ es)) same
+    (step start_in start_out es (subst (λ b. Stands (setting_by name queue b) start_in start_out p in_now out_now before es) (sym same) s))

@@ -17,9 +17,9 @@ use Rattle.peer_route.specs.declared.answer.Answer.{Answer}
 use Rattle.peer_route.specs.declared.answer.Answer.TheVariants as answers
 use Rattle.peer_route.specs.declared.answer.Entry.{Entry}
 use Rattle.peer_route.specs.History as events
-use Rattle.peer_route.specs.Trail.{trail, read_events, send_events, failed_put, poll_spends, drop_spends, stream_makes, take_does, place}
+use Rattle.peer_route.specs.Trail.{trail, read_events, send_events, failed_put, poll_spends, drop_spends, stream_makes, take_does, clone_makes, unstream_does, queue_does, main_sets, second_place, place}
 use Rattle.peer_run.specs.Stands.{entry}
-use Rattle.peer_run.proofs.Quiet.{quiet_same, poll_quiet, drop_quiet, stream_quiet, take_quiet}
+use Rattle.peer_run.proofs.Quiet.{quiet_same, poll_quiet, drop_quiet, stream_quiet, take_quiet, clone_quiet, unstream_quiet, queue_quiet, main_quiet}
 
 -- ---- a read
 
@@ -111,3 +111,7 @@ fine_before setting es lane (words.Drop number) a f = sym (quiet_same (drop_spen
 fine_before setting es lane words.Stream a f = sym (quiet_same (stream_makes a) (trail setting es).events (stream_quiet a)).failed ∙ f
 fine_before setting es lane (words.Take number) a f = sym (quiet_same (take_does (place 0 lane number (trail setting es).streams) a) (trail setting es).events (take_quiet (place 0 lane number (trail setting es).streams) a)).failed ∙ f
 fine_before setting es lane (words.TakeBefore number before) a f = sym (quiet_same (take_does (place 0 lane number (trail setting es).streams) a) (trail setting es).events (take_quiet (place 0 lane number (trail setting es).streams) a)).failed ∙ f
+fine_before setting es lane (words.Clone number) a f = sym (quiet_same (clone_makes (place 0 lane number (trail setting es).streams) a) (trail setting es).events (clone_quiet (place 0 lane number (trail setting es).streams) a)).failed ∙ f
+fine_before setting es lane (words.Unstream number second) a f = sym (quiet_same (unstream_does (place 0 lane number (trail setting es).streams) (second_place lane second (trail setting es).streams) a) (trail setting es).events (unstream_quiet (place 0 lane number (trail setting es).streams) (second_place lane second (trail setting es).streams) a)).failed ∙ f
+fine_before setting es lane (words.Queue number limit) a f = sym (quiet_same (queue_does (place 0 lane number (trail setting es).streams) limit a) (trail setting es).events (queue_quiet (place 0 lane number (trail setting es).streams) limit a)).failed ∙ f
+fine_before setting es lane (words.MainQueue limit) a f = sym (quiet_same (main_sets limit a) (trail setting es).events (main_quiet limit a)).failed ∙ f

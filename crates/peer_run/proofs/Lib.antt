@@ -7,6 +7,7 @@ pub mod QuietStep
 pub mod PollStep
 pub mod StreamStep
 pub mod TakeStep
+pub mod ChangeStep
 pub mod SendStep
 pub mod Numbers
 pub mod SendEnds

@@ -8,7 +8,8 @@ use Rattle.peer_route.specs.declared.answer.Entry.{Entry}
 use Rattle.peer_route.specs.Answers.{Legal}
 use Rattle.peer_route.proofs.Once.{once, legal_from}
 use Rattle.peer_route.proofs.Read.{by_the_first, by_the_closing_error}
-use Rattle.peer_route.proofs.Yields.{yields}
+use Rattle.peer_route.proofs.Yields.{yields, clone_yields}
+use Rattle.peer_route.proofs.ClosedStreams.{closed_for_good}
 use Rattle.peer_route.proofs.Drained.{ended, busy_there}
 use Rattle.peer_route.proofs.Sent.{put_sent}
 use Rattle.peer_script.specs.Script.{Script, line_count}
@@ -40,7 +41,9 @@ polls_are s h sent legal newer older e number is w =
 streams_are : (s : Script) (h : List Entry) (sent : List ℕ) → Legal (setting_of s) h → StreamsAre s h sent
 streams_are s h sent legal = record {
   yields = λ newer older e number is w a. yields (setting_of s) newer e older number (subst (Legal (setting_of s)) is legal) w a;
+  clones = λ newer older e number original is w a. clone_yields (setting_of s) newer e older number original (subst (Legal (setting_of s)) is legal) w a;
   ends = λ newer older e number is w last. ended (setting_of s) newer older e number (subst (Legal (setting_of s)) is legal) w last;
+  closes = λ newer older e number is w a. closed_for_good (setting_of s) newer older e number (subst (Legal (setting_of s)) is legal) w a;
   waits = λ newer older e is w many. busy_there (setting_of s) older e (legal_from (setting_of s) newer (e ∷ older) (subst (Legal (setting_of s)) is legal)) w many;
 }
 

@@ -13,7 +13,7 @@ use Rattle.peer_route.specs.declared.answer.Answer.{Answer}
 use Rattle.peer_route.specs.declared.answer.Answer.TheVariants as answers
 use Rattle.peer_route.specs.declared.answer.Entry.{Entry}
 use Rattle.peer_route.specs.History as events
-use Rattle.peer_route.specs.Trail.{trail, read_events, send_events, failed_put, poll_spends, drop_spends, stream_makes, take_does, place}
+use Rattle.peer_route.specs.Trail.{trail, read_events, send_events, failed_put, poll_spends, drop_spends, stream_makes, take_does, clone_makes, unstream_does, queue_does, main_sets, second_place, first_events, place}
 use Rattle.peer_route.specs.Answers.{Legal, IsAnswer}
 use Rattle.peer_route.specs.Streams.{all_given}
 use Rattle.peer_route.specs.Left.{Left}
@@ -83,6 +83,7 @@ AreQuiet [] = Unit {0}
 AreQuiet (events.Spent k ∷ xs) = AreQuiet xs
 AreQuiet (events.Made making ∷ xs) = AreQuiet xs
 AreQuiet (events.Did k deed ∷ xs) = AreQuiet xs
+AreQuiet (events.Main limit ∷ xs) = AreQuiet xs
 AreQuiet (events.Took m ∷ xs) = ⊥
 AreQuiet (events.Shut error ∷ xs) = ⊥
 AreQuiet (events.Put m expects ∷ xs) = ⊥
@@ -102,11 +103,17 @@ quiet_same [] h q = record { read = refl; closing = refl; put = refl; done = ref
 quiet_same (events.Spent k ∷ xs) h q = let r = quiet_same xs h q in record { read = r.read; closing = r.closing; put = r.put; done = r.done; failed = r.failed }
 quiet_same (events.Made making ∷ xs) h q = let r = quiet_same xs h q in record { read = r.read; closing = r.closing; put = r.put; done = r.done; failed = r.failed }
 quiet_same (events.Did k deed ∷ xs) h q = let r = quiet_same xs h q in record { read = r.read; closing = r.closing; put = r.put; done = r.done; failed = r.failed }
+quiet_same (events.Main limit ∷ xs) h q = let r = quiet_same xs h q in record { read = r.read; closing = r.closing; put = r.put; done = r.done; failed = r.failed }
 quiet_same (events.Took m ∷ xs) h q = absurd q
 quiet_same (events.Shut error ∷ xs) h q = absurd q
 quiet_same (events.Put m expects ∷ xs) h q = absurd q
 quiet_same (events.Wrote ∷ xs) h q = absurd q
 quiet_same (events.Fault ∷ xs) h q = absurd q
+
+-- what is set before the first entry
+pub first_same : (queue : Option ℕ) → Same (first_events queue) []
+first_same None = record { read = refl; closing = refl; put = refl; done = refl; failed = refl }
+first_same (Some limit) = record { read = refl; closing = refl; put = refl; done = refl; failed = refl }
 
 pub poll_quiet : (k : Option ℕ) (a : Answer) → AreQuiet (poll_spends k a)
 poll_quiet None a = tt
@@ -131,6 +138,27 @@ take_quiet (Some k) (answers.Item position) = tt
 take_quiet (Some k) (answers.Closed error) = tt
 take_quiet (Some k) a = tt
 
+pub clone_quiet : (k : Option ℕ) (a : Answer) → AreQuiet (clone_makes k a)
+clone_quiet None a = tt
+clone_quiet (Some k) (answers.Streaming number) = tt
+clone_quiet (Some k) a = tt
+
+pub unstream_quiet : (k j : Option ℕ) (a : Answer) → AreQuiet (unstream_does k j a)
+unstream_quiet None None answers.Gone = tt
+unstream_quiet None (Some j) answers.Gone = tt
+unstream_quiet (Some k) None answers.Gone = tt
+unstream_quiet (Some k) (Some j) answers.Gone = tt
+unstream_quiet k j a = tt
+
+pub queue_quiet : (k : Option ℕ) (limit : ℕ) (a : Answer) → AreQuiet (queue_does k limit a)
+queue_quiet None limit a = tt
+queue_quiet (Some k) limit answers.Set = tt
+queue_quiet (Some k) limit a = tt
+
+pub main_quiet : (limit : ℕ) (a : Answer) → AreQuiet (main_sets limit a)
+main_quiet limit answers.Set = tt
+main_quiet limit a = tt
+
 closes_by : (setting : Setting) (es : List Entry) (lane : ℕ) (w : Words) (a : Answer)
     → ClosedByFault (events.closing (trail setting (entry lane w a ∷ es)).events) → IsReadFault a ⊎ ClosedByFault (events.closing (trail setting es).events)
 closes_by setting es lane (words.Call out) a f = inr (sym (send_closes (trail setting es).events _ a) ∙ f)
@@ -144,6 +172,14 @@ closes_by setting es lane (words.Drop number) a f = inr (sym (quiet_same (drop_s
 closes_by setting es lane words.Stream a f = inr (sym (quiet_same (stream_makes a) (trail setting es).events (stream_quiet a)).closing ∙ f)
 closes_by setting es lane (words.Take number) a f = inr (sym (quiet_same (take_does (place 0 lane number (trail setting es).streams) a) (trail setting es).events (take_quiet (place 0 lane number (trail setting es).streams) a)).closing ∙ f)
 closes_by setting es lane (words.TakeBefore number before) a f = inr (sym (quiet_same (take_does (place 0 lane number (trail setting es).streams) a) (trail setting es).events (take_quiet (place 0 lane number (trail setting es).streams) a)).closing ∙ f)
+closes_by setting es lane (words.Clone number) a f =
+    inr (sym (quiet_same (clone_makes (place 0 lane number (trail setting es).streams) a) (trail setting es).events (clone_quiet (place 0 lane number (trail setting es).streams) a)).closing ∙ f)
+closes_by setting es lane (words.Unstream number second) a f =
+    inr (sym (quiet_same (unstream_does (place 0 lane number (trail setting es).streams) (second_place lane second (trail setting es).streams) a) (trail setting es).events
+    (unstream_quiet (place 0 lane number (trail setting es).streams) (second_place lane second (trail setting es).streams) a)).closing ∙ f)
+closes_by setting es lane (words.Queue number limit) a f =
+    inr (sym (quiet_same (queue_does (place 0 lane number (trail setting es).streams) limit a) (trail setting es).events (queue_quiet (place 0 lane number (trail setting es).streams) limit a)).closing ∙ f)
+closes_by setting es lane (words.MainQueue limit) a f = inr (sym (quiet_same (main_sets limit a) (trail setting es).events (main_quiet limit a)).closing ∙ f)
 
 earlier : (A B C : Type 0) → A ⊎ B → (B → C) → A ⊎ C
 earlier A B C (inl a) f = inl a
@@ -151,7 +187,7 @@ earlier A B C (inr b) f = inr (f b)
 
 -- A peer that a fault closed has an entry that says so.
 pub fault_was_read : (setting : Setting) (es : List Entry) → events.closing (trail setting es).events ≡ Some (errors.InputOutput kinds.Fault) → HasReadFault es
-fault_was_read setting [] e = cc
+fault_was_read setting [] e = let none = (first_same setting.queue).closing in cc
 fault_was_read setting (e ∷ es) f =
     earlier (IsReadFault e.answer) (ClosedByFault (events.closing (trail setting es).events)) (HasReadFault es)
     (closes_by setting es e.lane e.words e.answer f) (fault_was_read setting es)

@@ -16,7 +16,7 @@ use Rattle.peer_route.specs.declared.answer.Answer.{Answer}
 use Rattle.peer_route.specs.declared.answer.Answer.TheVariants as answers
 use Rattle.peer_route.specs.declared.answer.Entry.{Entry}
 use Rattle.peer_route.specs.History as events
-use Rattle.peer_route.specs.Trail.{Trail, Names, asks, asks_with, kept_at, given, trail, events_of, send_events, failed_put, failed_name, new_names, new_streams, read_events, poll_spends, drop_spends, stream_makes, take_does, place, count, next_serial, or_zero}
+use Rattle.peer_route.specs.Trail.{Trail, Names, asks, asks_with, kept_at, given, trail, events_of, send_events, failed_put, failed_name, new_names, new_streams, read_events, poll_spends, drop_spends, stream_makes, take_does, clone_makes, unstream_does, queue_does, main_sets, second_place, place, count, next_serial, or_zero}
 use Rattle.peer_route.specs.Answers.{Legal, IsAnswer, IsCalled, IsSendOf, send_refusal, sent_answer, write_fault}
 use Rattle.peer_route.specs.Told.{ReadTold, WritesTold, encodings}
 use Rattle.peer_route.specs.Streams.{all_given}
@@ -26,7 +26,7 @@ use Rattle.peer_route.proofs.Refused.{send_refused}
 use Rattle.peer_route.proofs.Sent.{trail_setting}
 use Rattle.peer_route.proofs.Given.{given_same, kept_given}
 use Rattle.peer_run.specs.Stands.{PeerView, Inlet, Outlet, Follows, Reads, Writes, Holds, HoldsThen, RoomFor, IsReadFault, HasWriteFault, IsWriteFault, named, entry}
-use Rattle.peer_run.proofs.Quiet.{follows_more, quiet_same, poll_quiet, drop_quiet, stream_quiet, take_quiet, rise_after, rise_before}
+use Rattle.peer_run.proofs.Quiet.{follows_more, quiet_same, poll_quiet, drop_quiet, stream_quiet, take_quiet, rise_after, rise_before, clone_quiet, unstream_quiet, queue_quiet, main_quiet, first_same}
 use Rattle.peer_run.proofs.Kept.{reads_kept, writes_kept}
 
 -- ---- a command that sends
@@ -74,6 +74,10 @@ sending_is t lane (words.Drop number) asked e = cc
 sending_is t lane words.Stream asked e = cc
 sending_is t lane (words.Take number) asked e = cc
 sending_is t lane (words.TakeBefore number before) asked e = cc
+sending_is t lane (words.Clone number) asked e = cc
+sending_is t lane (words.Unstream number second) asked e = cc
+sending_is t lane (words.Queue number limit) asked e = cc
+sending_is t lane (words.MainQueue limit) asked e = cc
 
 -- ---- what the peer keeps
 
@@ -89,6 +93,10 @@ asks_along setting f g (words.Drop number) e = refl
 asks_along setting f g words.Stream e = refl
 asks_along setting f g (words.Take number) e = refl
 asks_along setting f g (words.TakeBefore number before) e = refl
+asks_along setting f g (words.Clone number) e = refl
+asks_along setting f g (words.Unstream number second) e = refl
+asks_along setting f g (words.Queue number limit) e = refl
+asks_along setting f g (words.MainQueue limit) e = refl
 
 -- what a command asks of what the peer keeps, it asks of the history
 pub asks_kept : (setting : Setting) (p : PeerView) (es : List Entry) (lane : ℕ) (w : Words) → Follows setting p es
@@ -269,13 +277,17 @@ fails_by setting es lane (words.Drop number) a x f = inr (sym (quiet_same (drop_
 fails_by setting es lane words.Stream a x f = inr (sym (quiet_same (stream_makes a) (trail setting es).events (stream_quiet a)).failed ∙ f)
 fails_by setting es lane (words.Take number) a x f = inr (sym (quiet_same (take_does (place 0 lane number (trail setting es).streams) a) (trail setting es).events (take_quiet (place 0 lane number (trail setting es).streams) a)).failed ∙ f)
 fails_by setting es lane (words.TakeBefore number before) a x f = inr (sym (quiet_same (take_does (place 0 lane number (trail setting es).streams) a) (trail setting es).events (take_quiet (place 0 lane number (trail setting es).streams) a)).failed ∙ f)
+fails_by setting es lane (words.Clone number) a x f = inr (sym (quiet_same (clone_makes (place 0 lane number (trail setting es).streams) a) (trail setting es).events (clone_quiet (place 0 lane number (trail setting es).streams) a)).failed ∙ f)
+fails_by setting es lane (words.Unstream number second) a x f = inr (sym (quiet_same (unstream_does (place 0 lane number (trail setting es).streams) (second_place lane second (trail setting es).streams) a) (trail setting es).events (unstream_quiet (place 0 lane number (trail setting es).streams) (second_place lane second (trail setting es).streams) a)).failed ∙ f)
+fails_by setting es lane (words.Queue number limit) a x f = inr (sym (quiet_same (queue_does (place 0 lane number (trail setting es).streams) limit a) (trail setting es).events (queue_quiet (place 0 lane number (trail setting es).streams) limit a)).failed ∙ f)
+fails_by setting es lane (words.MainQueue limit) a x f = inr (sym (quiet_same (main_sets limit a) (trail setting es).events (main_quiet limit a)).failed ∙ f)
 
 earlier : (A B C : Type 0) → A ⊎ B → (B → C) → A ⊎ C
 earlier A B C (inl a) f = inl a
 earlier A B C (inr b) f = inr (f b)
 
 pub fault_was_written : (setting : Setting) (es : List Entry) → Legal setting es → events.is_failed (trail setting es).events ≡ true → HasWriteFault es
-fault_was_written setting [] legal f = cc
+fault_was_written setting [] legal f = let none = (first_same setting.queue).failed in cc
 fault_was_written setting (e ∷ es) legal f =
     earlier (IsWriteFault e.answer) (events.is_failed (trail setting es).events ≡ true) (HasWriteFault es)
     (fails_by setting es e.lane e.words e.answer legal.0 f) (fault_was_written setting es legal.1)

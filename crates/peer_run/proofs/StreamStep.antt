@@ -89,7 +89,7 @@ pub follows_stream : (setting : Setting) (p q : PeerView) (es : List Entry) (lan
     → Follows setting q (entry lane words.Stream (answers.Streaming (count lane p.streams)) ∷ es)
 follows_stream setting p q es lane f names made given left =
     follows_quiet setting p q es lane words.Stream (answers.Streaming (count lane p.streams)) (events.Made events.Plain ∷ []) f refl tt left
-    names refl made (given ∙ ap (λ gs. gs ++ None ∷ []) f.given ∙ sym (given_made (trail setting es).events)) (ap (λ ns. answers.Streaming (count lane ns)) f.streams)
+    names refl made (given ∙ ap (λ gs. gs ++ None ∷ []) f.given ∙ sym (given_made events.Plain (trail setting es).events)) (ap (λ ns. answers.Streaming (count lane ns)) f.streams)
 
 told_stream : (setting : Setting) (es : List Entry) (a : Answer) (stop : Option Bool) (bytes : List ℕ) (closing : Option Error) → ReadTold stop bytes (trail setting es).events closing words.Stream a
 told_stream setting es a stop bytes None = tt

@@ -12,7 +12,7 @@ use Rattle.peer_route.specs.Trail.{trail}
 use Rattle.peer_route.specs.Answers.{Legal}
 use Rattle.peer_route.specs.Told.{ReadsTold, IsSentOf, WritesTold}
 use Rattle.peer_route.specs.Laws.{IsPoll, IsFinal, IsReplyAt, IsFirstReply, IsCutOff, IsUnknown}
-use Rattle.peer_route.specs.StreamLaws.{Yields, IsTake, IsEnded, IsLast, HoldsTooMany, IsPutOf, all_sent}
+use Rattle.peer_route.specs.StreamLaws.{Yields, holds, closes_stream, IsNoStream, IsTake, IsEnded, IsLast, HoldsTooMany, IsPutOf, all_sent}
 use Rattle.peer_script.specs.Word.{same}
 use Rattle.peer_script.specs.Script.{Given, Gave, Broke, Script, line_count}
 use Rattle.peer_script.specs.Reading.{IsWithin, script_of}
@@ -57,7 +57,7 @@ source_breaks (Broke ∷ given) = true
 
 -- what a script gives its peer at its start
 abbrev pub setting_of : Script → Setting
-setting_of s = record { name = s.name; takes_fds = s.fds }
+setting_of s = record { name = s.name; takes_fds = s.fds; queue = s.queue }
 
 -- Reads take the messages that stand in the source's bytes, in order, however these are cut; a busy read and a read of a
 -- closed peer take nothing.
@@ -77,7 +77,18 @@ PollsAre s h sent = (newer older : List Entry) (e : Entry) (number : ℕ) → h 
 
 -- what a stream's entries say, from the one that made it on
 abbrev pub StreamsYield : Setting → List Entry → Type 0
-StreamsYield setting h = (newer older : List Entry) (e : Entry) (number : ℕ) → h ≡ newer ++ e ∷ older → e.words ≡ words.Stream → e.answer ≡ answers.Streaming number → Yields setting newer e older number
+StreamsYield setting h = (newer older : List Entry) (e : Entry) (number : ℕ) → h ≡ newer ++ e ∷ older → e.words ≡ words.Stream → e.answer ≡ answers.Streaming number → Yields setting newer e older number []
+
+-- what a clone's entries say, from the one that made it on
+abbrev pub ClonesYield : Setting → List Entry → Type 0
+ClonesYield setting h =
+    (newer older : List Entry) (e : Entry) (number original : ℕ) → h ≡ newer ++ e ∷ older → e.words ≡ words.Clone original → e.answer ≡ answers.Streaming number
+    → Yields setting newer e older number (holds (trail setting older) e.lane original)
+
+abbrev pub StreamsClose : List Entry → Type 0
+StreamsClose h =
+    (newer older : List Entry) (e : Entry) (number : ℕ) → h ≡ newer ++ e ∷ older → closes_stream number e.words ≡ true → e.answer ≡ answers.Gone
+    → AllByRecursion (IsNoStream e.lane number) newer
 
 abbrev pub StreamsEnd : List Entry → Type 0
 StreamsEnd h = (newer older : List Entry) (e : Entry) (number : ℕ) → h ≡ newer ++ e ∷ older → IsTake number e.words → IsLast e.answer → AllByRecursion (IsEnded e.lane number) newer
@@ -85,11 +96,13 @@ StreamsEnd h = (newer older : List Entry) (e : Entry) (number : ℕ) → h ≡ n
 abbrev pub FullStreamsWait : Setting → List Entry → Type 0
 FullStreamsWait setting h = (newer older : List Entry) (e : Entry) → h ≡ newer ++ e ∷ older → e.words ≡ words.Read → HoldsTooMany (trail setting older).events → e.answer ≡ answers.Busy
 
--- Each stream gives exactly the messages that were read since it was made, in order; it ends once; and where one holds more
--- than its capacity, reads wait.
+-- Each stream gives exactly the messages that were read since it was made, in order, a clone before them what its original held;
+-- it ends once; one that was closed is unknown from then on; and where an open one holds more than it may, reads wait.
 pub record StreamsAre (s : Script) (h : List Entry) (sent : List ℕ) : Type 0 where
   pub yields : StreamsYield (setting_of s) h
+  pub clones : ClonesYield (setting_of s) h
   pub ends : StreamsEnd h
+  pub closes : StreamsClose h
   pub waits : FullStreamsWait (setting_of s) h
 
 -- The bytes sent are the encodings of the messages that were put, in order, up to the sink's fault, perhaps with a proper
@@ -114,7 +127,7 @@ pub record Prints (Such : Script → List Entry → List ℕ → Type 0) (input 
   pub legal : Legal (setting_of script) (reverse entries)
   pub each : map command_of entries ≡ script.commands
   pub such : Such script (reverse entries) sent
-  pub gained : Appends before after (transcript_text script.name script.fds script.outfault script.given entries sent)
+  pub gained : Appends before after (transcript_text script.name script.queue script.fds script.outfault script.given entries sent)
 
 -- The input passes a limit, or is no script text; what the output gained says so, with the first line outside.
 abbrev pub Refuses : List ℕ → Option (List ℕ) → Option (List ℕ) → Type 0
@@ -152,7 +165,7 @@ pub record IsRunOf (s : Script) (entries : List Entry) (sent : List ℕ) : Type 
 -- A script's commands were run, and its transcript was printed; or not, as above.
 pub data Shows (s : Script) (before after : Option (List ℕ)) (faults faults' : ℕ) (result : ℕ) : Type 0 where
   Shown : (entries : List Entry) (sent : List ℕ) → IsRunOf s entries sent → result ≡ 0
-      → Appends before after (transcript_text s.name s.fds s.outfault s.given entries sent) → faults' ≡ faults → Shows s before after faults faults' result
+      → Appends before after (transcript_text s.name s.queue s.fds s.outfault s.given entries sent) → faults' ≡ faults → Shows s before after faults faults' result
   ShownPart : result ≡ 5 → MayRise faults faults' → Shows s before after faults faults' result
   ShownNot : result ≡ 1 → faults' ≡ faults → Shows s before after faults faults' result
 

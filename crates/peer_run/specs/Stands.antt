@@ -177,10 +177,14 @@ sends (words.Drop number) = false
 sends words.Stream = false
 sends (words.Take number) = false
 sends (words.TakeBefore number before) = false
+sends (words.Clone number) = false
+sends (words.Unstream number second) = false
+sends (words.Queue number limit) = false
+sends (words.MainQueue limit) = false
 
--- a peer of this name, whose sink takes file descriptors or takes none
-abbrev pub setting_by : Option (List ℕ) → Bool → Setting
-setting_by name takes = record { name = name; takes_fds = takes }
+-- a peer of this name, whose streams may hold so many messages, and whose sink takes file descriptors or takes none
+abbrev pub setting_by : Option (List ℕ) → Option ℕ → Bool → Setting
+setting_by name queue takes = record { name = name; takes_fds = takes; queue = queue }
 
 -- what a command that sends leaves, by what the sink told before it and after it
 pub record Sending (setting : Setting) (p : PeerView) (es : List Entry) (lane : ℕ) (w : Words) (now after : Outlet) (writing : Writing) (answer : Answer) : Type 0 where

@@ -8,6 +8,7 @@ ghost use Rattle.wire_message.specs.declared.kind.MessageType.TheVariants as typ
 ghost use Rattle.peer_route.specs.Parcel.{Setting};
 ghost use Rattle.peer_route.specs.BodyWord.{ReadsBody};
 ghost use Rattle.peer_route.specs.CallMessage.{flags_number, order_of, is_outside, name_refusal, values_in, call_draft, call_asked, signal_draft, signal_asked, reply_asked, error_asked};
+ghost use Rattle.peer_run.specs.Stands.{setting_by};
 ghost use Rattle.peer_run.specs.CallWords.{MakesDraft, MakesParcel, lettered, letters_asked};
 
 use bitflags::Flags as _;
@@ -238,7 +239,7 @@ fn call_builder<'a>(
     name: &'a Option<OwnedUniqueName>,
     takes_fds: bool,
 ) -> Result<Builder<'a>>
-    ensures { MakesDraft result (call_draft (record { name = name.now; takes_fds = takes_fds }) words.now) }
+    ensures { MakesDraft result (call_draft (setting_by name.now None takes_fds) words.now) }
 {
     let destination = bus_name(&words.destination)?;
     let path = object_path(&words.path)?;
@@ -255,7 +256,7 @@ fn signal_builder<'a>(
     name: &'a Option<OwnedUniqueName>,
     takes_fds: bool,
 ) -> Result<Builder<'a>>
-    ensures { MakesDraft result (signal_draft (record { name = name.now; takes_fds = takes_fds }) words.now) }
+    ensures { MakesDraft result (signal_draft (setting_by name.now None takes_fds) words.now) }
 {
     let destination = bus_name(&words.destination)?;
     let path = object_path(&words.path)?;
@@ -272,7 +273,7 @@ pub(crate) fn call_letter<'a>(
     name: &'a Option<OwnedUniqueName>,
     takes_fds: bool,
 ) -> Result<Letter<'a>>
-    ensures { MakesParcel result (call_asked (record { name = name.now; takes_fds = takes_fds }) words.now) }
+    ensures { MakesParcel result (call_asked (setting_by name.now None takes_fds) words.now) }
 {
     let builder = call_builder(words, name, takes_fds)?;
     let body = body_in(alloc, &words.body)?;
@@ -286,7 +287,7 @@ pub(crate) fn signal_letter<'a>(
     name: &'a Option<OwnedUniqueName>,
     takes_fds: bool,
 ) -> Result<Letter<'a>>
-    ensures { MakesParcel result (signal_asked (record { name = name.now; takes_fds = takes_fds }) words.now) }
+    ensures { MakesParcel result (signal_asked (setting_by name.now None takes_fds) words.now) }
 {
     let builder = signal_builder(words, name, takes_fds)?;
     let body = body_in(alloc, &words.body)?;
@@ -300,7 +301,7 @@ pub(crate) fn reply_letter<'a>(
     name: &'a Option<OwnedUniqueName>,
     body: &Option<Bytes>,
 ) -> Result<Letter<'a>>
-    ensures { MakesParcel result (reply_asked (record { name = name.now; takes_fds = false }) (Some message.now) body.now) }
+    ensures { MakesParcel result (reply_asked (setting_by name.now None false) (Some message.now) body.now) }
 {
     let body = body_in(alloc, body)?;
     let builder = with_sender(Message::method_return(&message.header()), name);
@@ -319,7 +320,7 @@ pub(crate) fn error_letter<'a>(
     error: &'a Bytes,
     body: &Option<Bytes>,
 ) -> Result<Letter<'a>>
-    ensures { MakesParcel result (error_asked (record { name = name.now; takes_fds = false }) (Some message.now) error.now body.now) }
+    ensures { MakesParcel result (error_asked (setting_by name.now None false) (Some message.now) error.now body.now) }
 {
     let error = error_name(error)?;
     let body = body_in(alloc, body)?;

@@ -8,6 +8,7 @@ mod main_call;
 mod peer;
 mod run;
 mod showing;
+mod streaming;
 
 pub use laws::cut_anyhow;
 pub use main_call::peer_main;

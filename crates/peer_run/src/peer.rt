@@ -18,12 +18,12 @@ ghost use Rattle.wire_message.specs.declared.error.IoKind.TheVariants.{Ended};
 use crate::call_words::{Letter, call_letter, error_letter, reply_letter, signal_letter};
 use crate::lanes::Lanes;
 use crate::showing::{not_issued, refused, shown, shown_drop};
-use peer_route::{Answer, Issued, MessageStream, Polled, Route, Words};
+use peer_route::{Answer, Issued, Route, Words};
+use peer_script::Setup;
 use std::alloc::{AllocError, AllocFailed, Global};
 use std::marker::Model;
 use wire_framing::{ReadHalf, Sink, Source, WriteHalf};
 use wire_message::{Error, Message, Sequence};
-use wire_names::OwnedUniqueName;
 
 /// Why a run ended early.
 #[derive(Clone, Copy, PartialEq, Eq, Debug)]
@@ -49,10 +49,10 @@ impl<T: Drop> From<AllocFailed<T>> for RunError {
 /// failed. For each stream, by its number, the message that it gave last is kept.
 #[derive(Drop)]
 pub(crate) struct Peer {
-    route: Route,
+    pub(crate) route: Route,
     names: Lanes,
-    streams: Lanes,
-    given: Vec<Option<Message>>,
+    pub(crate) streams: Lanes,
+    pub(crate) given: Vec<Option<Message>>,
 }
 
 impl Model for Peer {
@@ -86,13 +86,14 @@ fn letter_of<'a>(
     given: &'a [Option<Message>],
     streams: &Lanes,
     lane: u32,
-    name: &'a Option<OwnedUniqueName>,
+    setup: &'a Setup,
     takes_fds: bool,
     words: &'a Words,
 ) -> wire_message::Result<Letter<'a>>
     requires { sends words.now ≡ true }
-    ensures { MakesAsked result (asks_with (setting_by name.now takes_fds) (λ number. kept_at given.now (trails.place 0 lane number streams.now)) words.now) }
+    ensures { MakesAsked result (asks_with (setting_by setup.now.name setup.now.queue takes_fds) (λ number. kept_at given.now (trails.place 0 lane number streams.now)) words.now) }
 {
+    let name = &setup.name;
     match words {
         Words::Call(words) => call_letter(alloc, words, name, takes_fds),
         Words::Signal(words) => signal_letter(alloc, words, name, takes_fds),
@@ -118,7 +119,11 @@ fn letter_of<'a>(
         | Words::Drop(_)
         | Words::Stream
         | Words::Take(_)
-        | Words::TakeBefore { .. } => unreachable!(),
+        | Words::TakeBefore { .. }
+        | Words::Clone(_)
+        | Words::Unstream { .. }
+        | Words::Queue { .. }
+        | Words::MainQueue(_) => unreachable!(),
     }
 }
 
@@ -150,12 +155,16 @@ fn receive<S: Source>(
 }
 
 impl Peer {
-    /// A peer that nothing happened to.
-    pub(crate) fn new(alloc: Global) -> Peer
-        ensures { (setting : Setting) → Follows setting result [] }
+    /// A peer that nothing happened to, whose streams may hold so many messages, if that is set.
+    pub(crate) fn new(alloc: Global, queue: Option<u64>) -> Peer
+        ensures { (setting : Setting) → setting.queue ≡ queue → Follows setting result [] }
     {
+        let mut route = Route::new(alloc);
+        if let Some(limit) = queue {
+            route.set_main_max_queued(limit);
+        }
         Peer {
-            route: Route::new(alloc),
+            route,
             names: Lanes::new(alloc),
             streams: Lanes::new(alloc),
             given: Vec::new(alloc),
@@ -247,77 +256,6 @@ impl Peer {
         }
     }
 
-    /// Opens a stream for the lane.
-    pub(crate) fn stream(&mut self, lane: u32) -> Result<Answer, RunError>
-        ensures follows { IfOk result (λ answer. (setting : Setting) (es : List Entry) → Follows setting self.old es → Follows setting self.new (entry lane words.Stream answer ∷ es)) }
-        ensures reads { IfOk result (λ answer. (setting : Setting) (start now : Inlet) (es : List Entry) → Follows setting self.old es
-            → Reads setting start now es → Reads setting start now (entry lane words.Stream answer ∷ es)) }
-        ensures writes { IfOk result (λ answer. (setting : Setting) (start now : Outlet) (es : List Entry) → Follows setting self.old es
-            → Writes setting start now es → Writes setting start now (entry lane words.Stream answer ∷ es)) }
-    {
-        let number = self.streams.count(lane);
-        let _ = self.route.open()?;
-        self.streams.push(Some(lane))?;
-        self.given.push(None)?;
-        Ok(Answer::Streaming(number))
-    }
-
-    /// What is shown of a take from the stream with this number; an item that it gave is kept.
-    fn show_take(&mut self, stream: u64, polled: wire_message::Result<Polled<Message>>) -> Answer
-        ensures answer { result ≡ shows.shown_take polled }
-        ensures kept { self.new ≡ record self.old { given = given_after stream polled self.old.given } }
-    {
-        match polled {
-            Ok(Polled::Now(message)) => {
-                let position = message.recv_position();
-                if let Some(slot) = self.given.get_mut(stream as usize) {
-                    *slot = Some(message);
-                }
-                Answer::Item(position)
-            }
-            Ok(Polled::NotYet) => Answer::Empty,
-            Ok(Polled::NoneBefore) => Answer::NoneBefore,
-            Ok(Polled::Closed(error)) => Answer::Closed(error),
-            Ok(Polled::Ended) => Answer::Ended,
-            Err(error) => Answer::Refused(error),
-        }
-    }
-
-    /// What the lane's stream with this number gives.
-    pub(crate) fn take(&mut self, lane: u32, number: u64) -> Answer
-        ensures follows { (setting : Setting) (es : List Entry) → Follows setting self.old es → Follows setting self.new (entry lane (words.Take number) result ∷ es) }
-        ensures reads { (setting : Setting) (start now : Inlet) (es : List Entry) → Follows setting self.old es
-            → Reads setting start now es → Reads setting start now (entry lane (words.Take number) result ∷ es) }
-        ensures writes { (setting : Setting) (start now : Outlet) (es : List Entry) → Follows setting self.old es
-            → Writes setting start now es → Writes setting start now (entry lane (words.Take number) result ∷ es) }
-    {
-        match self.streams.place(lane, number) {
-            Some(number) => {
-                let polled = self.route.take(&MessageStream { number });
-                self.show_take(number, polled)
-            }
-            None => Answer::Refused(Error::UnknownHandle),
-        }
-    }
-
-    /// What the lane's stream with this number gives, by position.
-    pub(crate) fn take_before(&mut self, lane: u32, number: u64, position: u64) -> Answer
-        ensures follows { (setting : Setting) (es : List Entry) → Follows setting self.old es → Follows setting self.new (entry lane (words.TakeBefore number position) result ∷ es) }
-        ensures reads { (setting : Setting) (start now : Inlet) (es : List Entry) → Follows setting self.old es
-            → Reads setting start now es → Reads setting start now (entry lane (words.TakeBefore number position) result ∷ es) }
-        ensures writes { (setting : Setting) (start now : Outlet) (es : List Entry) → Follows setting self.old es
-            → Writes setting start now es → Writes setting start now (entry lane (words.TakeBefore number position) result ∷ es) }
-    {
-        match self.streams.place(lane, number) {
-            Some(number) => {
-                let stream = MessageStream { number };
-                let polled = self.route.take_before(&stream, Sequence(position));
-                self.show_take(number, polled)
-            }
-            None => Answer::Refused(Error::UnknownHandle),
-        }
-    }
-
     /// What is answered of a message that was written: its serial, and the lane's next number where it makes a call.
     fn went_out(&mut self, lane: u32, issued: Issued) -> Result<Answer, AllocError>
         ensures answer { IfOk result (λ answer. answer ≡ sent_answer (is_some issued.call) (trails.count lane self.old.names) issued.serial) }
@@ -378,19 +316,19 @@ impl Peer {
         }
     }
 
-    /// Sends what the command of the peer of that name asks for; it is one that sends.
+    /// Sends what the command of the setup's peer asks for; it is one that sends.
     pub(crate) fn send_words<W: Sink>(
         &mut self,
         alloc: Global,
         half: &mut WriteHalf<W>,
         lane: u32,
-        name: &Option<OwnedUniqueName>,
+        setup: &Setup,
         words: &Words,
     ) -> Result<Answer, RunError>
         requires sends { sends words.now ≡ true }
         requires written { self.old.core.done ≡ length self.old.core.outbox }
-        ensures sent { IfOk result (λ answer. (es : List Entry) → Follows (setting_by name.now (W.takes half.old.sink)) self.old es → IsFine (trail (setting_by name.now (W.takes half.old.sink)) es).events half.old.writing
-            → Sending (setting_by name.now (W.takes half.old.sink)) self.new es lane words.now (record { held = W.held half.old.sink; room = W.room half.old.sink; faults = W.faults half.old.sink })
+        ensures sent { IfOk result (λ answer. (es : List Entry) → Follows (setting_by setup.now.name setup.now.queue (W.takes half.old.sink)) self.old es → IsFine (trail (setting_by setup.now.name setup.now.queue (W.takes half.old.sink)) es).events half.old.writing
+            → Sending (setting_by setup.now.name setup.now.queue (W.takes half.old.sink)) self.new es lane words.now (record { held = W.held half.old.sink; room = W.room half.old.sink; faults = W.faults half.old.sink })
             (record { held = W.held half.new.sink; room = W.room half.new.sink; faults = W.faults half.new.sink }) half.new.writing answer) }
         ensures grows { W.faults half.old.sink ≤ W.faults half.new.sink }
         ensures takes { W.takes half.new.sink ≡ W.takes half.old.sink }
@@ -402,7 +340,7 @@ impl Peer {
             self.given.as_slice(),
             &self.streams,
             lane,
-            name,
+            setup,
             takes_fds,
             words,
         );

@@ -8,12 +8,11 @@ use peer_route::{Answer, Command, Entry, Words};
 use peer_script::{Setup, Transcript};
 use std::alloc::Global;
 use wire_framing::{ReadHalf, Sink, Source, WriteHalf};
-use wire_names::OwnedUniqueName;
 
 /// The answer of a command.
 fn answer_to<S: Source, W: Sink>(
     alloc: Global,
-    name: &Option<OwnedUniqueName>,
+    setup: &Setup,
     peer: &mut Peer,
     reader: &mut ReadHalf<S>,
     kept: &mut Vec<u8>,
@@ -24,8 +23,8 @@ fn answer_to<S: Source, W: Sink>(
     requires empty { kept.old.items ≡ [] }
     requires written { peer.old.core.done ≡ length peer.old.core.outbox }
     ensures stands { IfOk result (λ answer. (start_in : Inlet) (start_out : Outlet) (es : List Entry)
-        → Stands (setting_by name.now (W.takes writer.old.sink)) start_in start_out peer.old (record { left = S.left reader.old.source; stop = S.stop reader.old.source; faults = S.faults reader.old.source }) (record { held = W.held writer.old.sink; room = W.room writer.old.sink; faults = W.faults writer.old.sink }) writer.old.writing es
-        → Stands (setting_by name.now (W.takes writer.old.sink)) start_in start_out peer.new (record { left = S.left reader.new.source; stop = S.stop reader.new.source; faults = S.faults reader.new.source }) (record { held = W.held writer.new.sink; room = W.room writer.new.sink; faults = W.faults writer.new.sink }) writer.new.writing (entry command.now.lane command.now.words answer ∷ es)) }
+        → Stands (setting_by setup.now.name setup.now.queue (W.takes writer.old.sink)) start_in start_out peer.old (record { left = S.left reader.old.source; stop = S.stop reader.old.source; faults = S.faults reader.old.source }) (record { held = W.held writer.old.sink; room = W.room writer.old.sink; faults = W.faults writer.old.sink }) writer.old.writing es
+        → Stands (setting_by setup.now.name setup.now.queue (W.takes writer.old.sink)) start_in start_out peer.new (record { left = S.left reader.new.source; stop = S.stop reader.new.source; faults = S.faults reader.new.source }) (record { held = W.held writer.new.sink; room = W.room writer.new.sink; faults = W.faults writer.new.sink }) writer.new.writing (entry command.now.lane command.now.words answer ∷ es)) }
     ensures empty { IfOk result (λ x. kept.new.items ≡ []) }
     ensures same_source { S.lent reader.new.source ≡ S.lent reader.old.source }
     ensures same_sink { W.lent writer.new.sink ≡ W.lent writer.old.sink }
@@ -42,8 +41,12 @@ fn answer_to<S: Source, W: Sink>(
         Words::Stream => peer.stream(lane),
         Words::Take(number) => Ok(peer.take(lane, *number)),
         Words::TakeBefore { stream, before } => Ok(peer.take_before(lane, *stream, *before)),
+        Words::Clone(number) => peer.clone_stream(lane, *number),
+        Words::Unstream { stream, second } => Ok(peer.unstream(lane, *stream, *second)),
+        Words::Queue { stream, limit } => Ok(peer.queue(lane, *stream, *limit)),
+        Words::MainQueue(limit) => Ok(peer.main_queue(lane, *limit)),
         Words::Call(_) | Words::Signal(_) | Words::Reply { .. } | Words::Error { .. } => {
-            peer.send_words(alloc, writer, lane, name, &command.words)
+            peer.send_words(alloc, writer, lane, setup, &command.words)
         }
     }
 }
@@ -51,7 +54,7 @@ fn answer_to<S: Source, W: Sink>(
 /// One command and its entry.
 fn step<S: Source, W: Sink>(
     alloc: Global,
-    name: &Option<OwnedUniqueName>,
+    setup: &Setup,
     peer: &mut Peer,
     reader: &mut ReadHalf<S>,
     kept: &mut Vec<u8>,
@@ -63,8 +66,8 @@ fn step<S: Source, W: Sink>(
     requires written { peer.old.core.done ≡ length peer.old.core.outbox }
     ensures command { IfOk result (λ e. command_of e ≡ command.now) }
     ensures stands { IfOk result (λ e. (start_in : Inlet) (start_out : Outlet) (es : List Entry)
-        → Stands (setting_by name.now (W.takes writer.old.sink)) start_in start_out peer.old (record { left = S.left reader.old.source; stop = S.stop reader.old.source; faults = S.faults reader.old.source }) (record { held = W.held writer.old.sink; room = W.room writer.old.sink; faults = W.faults writer.old.sink }) writer.old.writing es
-        → Stands (setting_by name.now (W.takes writer.old.sink)) start_in start_out peer.new (record { left = S.left reader.new.source; stop = S.stop reader.new.source; faults = S.faults reader.new.source }) (record { held = W.held writer.new.sink; room = W.room writer.new.sink; faults = W.faults writer.new.sink }) writer.new.writing (e ∷ es)) }
+        → Stands (setting_by setup.now.name setup.now.queue (W.takes writer.old.sink)) start_in start_out peer.old (record { left = S.left reader.old.source; stop = S.stop reader.old.source; faults = S.faults reader.old.source }) (record { held = W.held writer.old.sink; room = W.room writer.old.sink; faults = W.faults writer.old.sink }) writer.old.writing es
+        → Stands (setting_by setup.now.name setup.now.queue (W.takes writer.old.sink)) start_in start_out peer.new (record { left = S.left reader.new.source; stop = S.stop reader.new.source; faults = S.faults reader.new.source }) (record { held = W.held writer.new.sink; room = W.room writer.new.sink; faults = W.faults writer.new.sink }) writer.new.writing (e ∷ es)) }
     ensures empty { IfOk result (λ x. kept.new.items ≡ []) }
     ensures same_source { S.lent reader.new.source ≡ S.lent reader.old.source }
     ensures same_sink { W.lent writer.new.sink ≡ W.lent writer.old.sink }
@@ -73,7 +76,7 @@ fn step<S: Source, W: Sink>(
     ensures sink_grows { W.faults writer.old.sink ≤ W.faults writer.new.sink }
 {
     let words = command.words.try_clone(alloc)?;
-    let answer = answer_to(alloc, name, peer, reader, kept, writer, command)?;
+    let answer = answer_to(alloc, setup, peer, reader, kept, writer, command)?;
     Ok(Entry {
         lane: command.lane,
         words,
@@ -82,7 +85,7 @@ fn step<S: Source, W: Sink>(
 }
 
 /// Runs the commands over a source and a sink, as the peer of the setup's name, and gives their entries: a legal history of
-/// the commands of a peer of that name, whose sink takes file descriptors where it says so, each once and in order, whose
+/// the commands of a peer of that name and that capacity, whose sink takes file descriptors where it says so, each once and in order, whose
 /// reads are what stands at the front of the source's bytes and whose messages are what the sink got, up to its first fault.
 /// All reads go through one half over the source, all sends through one over the sink. Fails only for want of memory; the
 /// source and the sink are then in any state.
@@ -93,7 +96,7 @@ pub fn run_peer<S: Source, W: Sink>(
     sink: &mut W,
     commands: &[Command],
 ) -> Result<Transcript, RunError>
-    ensures run { IfOk result (λ t. Runs (setting_by setup.now.name (W.takes sink.old))
+    ensures run { IfOk result (λ t. Runs (setting_by setup.now.name setup.now.queue (W.takes sink.old))
         (record { left = S.left source.old; stop = S.stop source.old; faults = S.faults source.old })
         (record { held = W.held sink.old; room = W.room sink.old; faults = W.faults sink.old })
         (record { left = S.left source.new; stop = S.stop source.new; faults = S.faults source.new })
@@ -102,7 +105,7 @@ pub fn run_peer<S: Source, W: Sink>(
     ensures source_grows { S.faults source.old ≤ S.faults source.new }
     ensures sink_grows { W.faults sink.old ≤ W.faults sink.new }
 {
-    let mut peer = Peer::new(alloc);
+    let mut peer = Peer::new(alloc, setup.queue);
     let mut reader = ReadHalf::new(source);
     let mut kept = Vec::new(alloc);
     let mut writer = WriteHalf::new(sink);
@@ -110,7 +113,7 @@ pub fn run_peer<S: Source, W: Sink>(
     for command in commands {
         let entry = step(
             alloc,
-            &setup.name,
+            setup,
             &mut peer,
             &mut reader,
             &mut kept,

@@ -262,6 +262,43 @@ fn streams(rt: HostRuntime) -> Result<(), Fail> {
     check(&rt, &STREAMS)
 }
 
+/// Worked by hand from the program's rules.
+const CAPACITIES: [Case; 4] = [
+    // a capacity of none
+    Case {
+        word: "run",
+        input: "direct\nin 6c040001000000000100000000000000\nin 6c040001000000000200000000000000\nstream\nmainqueue 0\nread\nread\ntake 0\nread\n",
+        status: 0,
+        output: "direct\nin 6c040001000000000100000000000000\nin 6c040001000000000200000000000000\n0 stream = stream 0\n0 mainqueue 0 = ok\n0 read = got 1 16 Signal\n0 read = busy\n0 take 0 = item 1\n0 read = got 2 16 Signal\nsent -\n",
+    },
+    // a clone holds what its original holds
+    Case {
+        word: "run",
+        input: "direct\nin 6c040001000000000100000000000000\nstream\nread\nclone 0\ntake 0\ntake 1\ntake 1\n",
+        status: 0,
+        output: "direct\nin 6c040001000000000100000000000000\n0 stream = stream 0\n0 read = got 1 16 Signal\n0 clone 0 = stream 1\n0 take 0 = item 1\n0 take 1 = item 1\n0 take 1 = empty\nsent -\n",
+    },
+    // a capacity that is raised, and streams that are closed
+    Case {
+        word: "run",
+        input: "direct\nqueue 0\nin 6c040001000000000100000000000000\nin 6c040001000000000200000000000000\nstream\nclone 0\nqueue 1 1\nqueue 0 0\nread\nread\nread\nunstream 0\nread\nunstream 1\nread\ntake 0\nclone 1\nqueue 0 9\nreply 0 -\n",
+        status: 0,
+        output: "direct\nqueue 0\nin 6c040001000000000100000000000000\nin 6c040001000000000200000000000000\n0 stream = stream 0\n0 clone 0 = stream 1\n0 queue 1 1 = ok\n0 queue 0 0 = ok\n0 read = got 1 16 Signal\n0 read = got 2 16 Signal\n0 read = busy\n0 unstream 0 = gone\n0 read = busy\n0 unstream 1 = gone\n0 read = closed InputOutput.Ended\n0 take 0 = refused UnknownHandle\n0 clone 1 = refused UnknownHandle\n0 queue 0 9 = refused UnknownHandle\n0 reply 0 - = refused UnknownHandle\nsent -\n",
+    },
+    // two that are closed in one step
+    Case {
+        word: "run",
+        input: "direct\nstream\n5 stream\nstream\nunstream 0 0\nunstream 0 2\nunstream 1 0\nunstream 1\n5 takebefore 0 3\nread\n5 clone 0\n5 take 0\n5 clone 0\n5 take 1\n5 take 2\n",
+        status: 0,
+        output: "direct\n0 stream = stream 0\n5 stream = stream 0\n0 stream = stream 1\n0 unstream 0 0 = refused UnknownHandle\n0 unstream 0 2 = refused UnknownHandle\n0 unstream 1 0 = gone\n0 unstream 1 = refused UnknownHandle\n5 takebefore 0 3 = nonebefore\n0 read = closed InputOutput.Ended\n5 clone 0 = stream 1\n5 take 0 = closed InputOutput.Ended\n5 clone 0 = stream 2\n5 take 1 = closed InputOutput.Ended\n5 take 2 = ended\nsent -\n",
+    },
+];
+
+#[test]
+fn capacities(rt: HostRuntime) -> Result<(), Fail> {
+    check(&rt, &CAPACITIES)
+}
+
 /// Worked by hand from the message format and the program's rules.
 const FAULTS: [Case; 3] = [
     // fault before any byte

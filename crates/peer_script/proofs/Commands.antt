@@ -89,6 +89,11 @@ entry_words (words.Drop number) = codes "drop" ∷ decimal number ∷ []
 entry_words words.Stream = codes "stream" ∷ []
 entry_words (words.Take number) = codes "take" ∷ decimal number ∷ []
 entry_words (words.TakeBefore stream before) = codes "takebefore" ∷ decimal stream ∷ decimal before ∷ []
+entry_words (words.Clone stream) = codes "clone" ∷ decimal stream ∷ []
+entry_words (words.Unstream stream None) = codes "unstream" ∷ decimal stream ∷ []
+entry_words (words.Unstream stream (Some second)) = codes "unstream" ∷ decimal stream ∷ decimal second ∷ []
+entry_words (words.Queue stream limit) = codes "queue" ∷ decimal stream ∷ decimal limit ∷ []
+entry_words (words.MainQueue limit) = codes "mainqueue" ∷ decimal limit ∷ []
 
 six_spaced : (d p i m f b : List ℕ)
     → 32 ∷ (d ++ 32 ∷ [] ++ p ++ 32 ∷ [] ++ i ++ 32 ∷ [] ++ m ++ 32 ∷ [] ++ f ++ 32 ∷ [] ++ b) ≡ flat_map spaced (d ∷ p ∷ i ∷ m ∷ f ∷ b ∷ [])
@@ -108,6 +113,12 @@ before_spaced c q = simp (append_assoc, append-nil)
 take_before_spaced : (s q : List ℕ) → 32 ∷ (codes "takebefore " ++ s ++ 32 ∷ [] ++ q) ≡ flat_map spaced (codes "takebefore" ∷ s ∷ q ∷ [])
 take_before_spaced s q = simp (append_assoc, append-nil)
 
+unstream_spaced : (s t : List ℕ) → 32 ∷ (codes "unstream " ++ s ++ 32 ∷ [] ++ t) ≡ flat_map spaced (codes "unstream" ∷ s ∷ t ∷ [])
+unstream_spaced s t = simp (append_assoc, append-nil)
+
+queue_spaced : (s n : List ℕ) → 32 ∷ (codes "queue " ++ s ++ 32 ∷ [] ++ n) ≡ flat_map spaced (codes "queue" ∷ s ∷ n ∷ [])
+queue_spaced s n = simp (append_assoc, append-nil)
+
 error_spaced : (s n b : List ℕ) → 32 ∷ (codes "error " ++ s ++ 32 ∷ [] ++ n ++ 32 ∷ [] ++ b) ≡ flat_map spaced (codes "error" ∷ s ∷ n ∷ b ∷ [])
 error_spaced s n b = simp (append_assoc, append-nil)
 
@@ -124,6 +135,11 @@ words_spaced (words.Drop number) = simp append-nil
 words_spaced words.Stream = refl
 words_spaced (words.Take number) = simp append-nil
 words_spaced (words.TakeBefore stream before) = take_before_spaced (decimal stream) (decimal before)
+words_spaced (words.Clone stream) = simp append-nil
+words_spaced (words.Unstream stream None) = simp append-nil
+words_spaced (words.Unstream stream (Some second)) = unstream_spaced (decimal stream) (decimal second)
+words_spaced (words.Queue stream limit) = queue_spaced (decimal stream) (decimal limit)
+words_spaced (words.MainQueue limit) = simp append-nil
 
 outgoing_are_words : (name : List ℕ) (o : Outgoing) (P : Type 0) → IsWord name → OutgoingText P o → IsWord (optional_word o.interface)
     → All IsWord (name ∷ outgoing_words o)
@@ -166,6 +182,21 @@ are_words (words.Drop number) h =
 are_words (words.Take number) h =
     let name : IsWord (codes "take") = record { bytes = refl; some = omega arith; other = refl } in
     All-from_recursion IsWord (entry_words (words.Take number)) (name, (number_is_word number h, tt))
+are_words (words.Clone stream) h =
+    let name : IsWord (codes "clone") = record { bytes = refl; some = omega arith; other = refl } in
+    All-from_recursion IsWord (entry_words (words.Clone stream)) (name, (number_is_word stream h, tt))
+are_words (words.Unstream stream None) h =
+    let name : IsWord (codes "unstream") = record { bytes = refl; some = omega arith; other = refl } in
+    All-from_recursion IsWord (entry_words (words.Unstream stream None)) (name, (number_is_word stream h.0, tt))
+are_words (words.Unstream stream (Some second)) h =
+    let name : IsWord (codes "unstream") = record { bytes = refl; some = omega arith; other = refl } in
+    All-from_recursion IsWord (entry_words (words.Unstream stream (Some second))) (name, (number_is_word stream h.0, (number_is_word second h.1, tt)))
+are_words (words.Queue stream limit) h =
+    let name : IsWord (codes "queue") = record { bytes = refl; some = omega arith; other = refl } in
+    All-from_recursion IsWord (entry_words (words.Queue stream limit)) (name, (number_is_word stream h.0, (number_is_word limit h.1, tt)))
+are_words (words.MainQueue limit) h =
+    let name : IsWord (codes "mainqueue") = record { bytes = refl; some = omega arith; other = refl } in
+    All-from_recursion IsWord (entry_words (words.MainQueue limit)) (name, (number_is_word limit h, tt))
 
 pub command_again : (w : Words) → HasText w → command_words (entry_words w) ≡ Some w
 unfolding entry_words command_words
@@ -196,6 +227,11 @@ command_again (words.Drop number) h = rw (number_again number h) refl
 command_again words.Stream h = refl
 command_again (words.Take number) h = rw (number_again number h) refl
 command_again (words.TakeBefore stream before) h = rw (number_again stream h.0, number_again before h.1) refl
+command_again (words.Clone stream) h = rw (number_again stream h) refl
+command_again (words.Unstream stream None) h = rw (number_again stream h.0) refl
+command_again (words.Unstream stream (Some second)) h = rw (number_again stream h.0, number_again second h.1) refl
+command_again (words.Queue stream limit) h = rw (number_again stream h.0, number_again limit h.1) refl
+command_again (words.MainQueue limit) h = rw (number_again limit h) refl
 
 -- ---- no command's line is a header line
 
@@ -217,3 +253,8 @@ no_head a (words.Drop number) c ds = head_none a (codes "drop") c (decimal numbe
 no_head a words.Stream c ds = head_none a (codes "stream") c [] ds
 no_head a (words.Take number) c ds = head_none a (codes "take") c (decimal number ∷ []) ds
 no_head a (words.TakeBefore stream before) c ds = head_none a (codes "takebefore") c (decimal stream ∷ decimal before ∷ []) ds
+no_head a (words.Clone stream) c ds = head_none a (codes "clone") c (decimal stream ∷ []) ds
+no_head a (words.Unstream stream None) c ds = head_none a (codes "unstream") c (decimal stream ∷ []) ds
+no_head a (words.Unstream stream (Some second)) c ds = head_none a (codes "unstream") c (decimal stream ∷ decimal second ∷ []) ds
+no_head a (words.Queue stream limit) c ds = head_none a (codes "queue") c (decimal stream ∷ decimal limit ∷ []) ds
+no_head a (words.MainQueue limit) c ds = head_none a (codes "mainqueue") c (decimal limit ∷ []) ds

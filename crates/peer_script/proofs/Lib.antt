@@ -4,6 +4,7 @@ pub mod Pieces
 pub mod Written
 pub mod Read
 pub mod Grammar
+pub mod Readings
 pub mod Spelling
 pub mod Again
 pub mod Calls

@@ -6,7 +6,7 @@ use Rattle.peer_route.specs.declared.words.Command.{Command}
 use Rattle.peer_script.specs.declared.reading.Progress.{Progress}
 use Rattle.peer_script.specs.declared.line.Line.{Line}
 use Rattle.peer_script.specs.declared.reading.Stage.{Stage}
-use Rattle.peer_script.specs.declared.reading.Stage.TheVariants.{Start, Head, Sink, Pieces, Commands, Over}
+use Rattle.peer_script.specs.declared.reading.Stage.TheVariants.{Start, Head, Queued, Sink, Pieces, Commands, Over}
 use Rattle.peer_script.specs.Script.{Script, line_of, parts}
 use Rattle.peer_script.specs.Reading.{Step, take_line, may_end, end_of, then_read, read_lines, script_of, script_from, TakesLine}
 
@@ -22,6 +22,7 @@ pub no_line : (stage : Stage) (s : Script) → take_line stage s None ≡ None
 unfolding take_line
 no_line Start s = refl
 no_line Head s = refl
+no_line Queued s = refl
 no_line Sink s = refl
 no_line Pieces s = refl
 no_line Commands s = refl
@@ -76,11 +77,11 @@ pub whole_text : (whole : Result Script ℕ) (stage : Stage) (s : Script) (n : �
 whole_text whole stage s n rest p q h e = ended whole stage s n rest p q ∙ end_here stage s n rest true h e
 
 pub nothing_read : (text : List ℕ) (ps : List Piece) (cs : List Command) → ps ≡ [] → cs ≡ []
-    → script_of text ≡ read_lines (record { stage = Start; script = script_from None false None ps cs }) 1 (parts text)
+    → script_of text ≡ read_lines (record { stage = Start; script = script_from None None false None ps cs }) 1 (parts text)
 unfolding script_of
 nothing_read text ps cs e f =
-    ap (λ l. read_lines (record { stage = Start; script = script_from None false None l [] }) 1 (parts text)) (sym e)
-    ∙ ap (λ l. read_lines (record { stage = Start; script = script_from None false None ps l }) 1 (parts text)) (sym f)
+    ap (λ l. read_lines (record { stage = Start; script = script_from None None false None l [] }) 1 (parts text)) (sym e)
+    ∙ ap (λ l. read_lines (record { stage = Start; script = script_from None None false None ps l }) 1 (parts text)) (sym f)
 
 pub may_come : (E : Type 0) (b : Bool) (old new : Progress) (line : Line) → b ≡ true → TakesLine {E = E} (Ok b) old new line → TakesLine {E = E} (Ok true) old new line
 may_come E b old new line e h = subst (λ x. TakesLine {E = E} (Ok x) old new line) e h

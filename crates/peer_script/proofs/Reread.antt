@@ -14,14 +14,15 @@ use Rattle.peer_route.specs.declared.answer.Answer.{Answer}
 use Rattle.peer_route.specs.declared.answer.Answer.TheVariants as answers
 use Rattle.peer_route.specs.declared.answer.Entry.{Entry}
 use Rattle.peer_script.specs.declared.line.Line.{Line}
-use Rattle.peer_script.specs.declared.line.Line.TheVariants.{Direct, Fds, OutFault, In, InFault, Do, Sent}
+use Rattle.peer_script.specs.declared.line.Line.TheVariants.{Direct, Capacity, Fds, OutFault, In, InFault, Do, Sent}
 use Rattle.wire_names.specs.Names.{is_unique_name}
 use Rattle.peer_script.specs.Word.{same, words_of, number_of, text_of, text_word}
 use Rattle.peer_route.specs.Hex.{bytes_of, hex_digit, hex_two, hex_word}
-use Rattle.peer_script.specs.Script.{Given, Gave, Broke, ScriptText, given_line, fds_lines, outfault_lines, parts, lane_words, command_words, command_line, head_line, line_of, script_lines}
-use Rattle.peer_script.specs.Transcript.{or_empty, shown_byte, shown_text, io_word, error_word, words_text, answer_text, entry_text, given_text, direct_text, fds_text, outfault_text, sent_word, transcript_text}
+use Rattle.peer_script.specs.Script.{Given, Gave, Broke, ScriptText, given_line, capacity_lines, fds_lines, outfault_lines, parts, lane_words, command_words, command_line, head_line, line_of, script_lines}
+use Rattle.peer_script.specs.Transcript.{or_empty, shown_byte, shown_text, io_word, error_word, words_text, answer_text, entry_text, given_text, direct_text, capacity_text, fds_text, outfault_text, sent_word, transcript_text}
 use Rattle.peer_script.specs.Again.{command_of, HasBytes, HasNumbers, CanBeRead, IsGiven, IsName, IsCount}
 use Rattle.peer_route.proofs.Spelled.{bytes_again}
+use Rattle.peer_script.proofs.Grammar.{mapped}
 use Rattle.peer_script.proofs.Spelling.{number_again, text_again, decimal_digits}
 use Rattle.peer_script.proofs.Commands.{digit_byte, hex_bytes, text_bytes, text_is_word, number_is_word, entry_words, words_spaced, are_words, command_again, no_head}
 use Rattle.peer_script.proofs.Again.{word_byte, line_byte, both, joined, word_line, digits_word, line_part, spaced, IsWord, words_again, words_alone, before_again}
@@ -141,6 +142,8 @@ answer_line (answers.Streaming number) h = joined line_byte (codes "stream ") (d
 answer_line (answers.Item position) h = joined line_byte (codes "item ") (decimal position) refl (number_line position h)
 answer_line answers.Empty h = refl
 answer_line answers.Ended h = refl
+answer_line answers.Gone h = refl
+answer_line answers.Set h = refl
 
 entry_bytes : (e : Entry) → CanBeRead e → list_all line_byte (entry_line e) ≡ true
 unfolding entry_line
@@ -268,7 +271,38 @@ all_given (g ∷ gs) h =
     ap (λ x. x ∷ map line_of (map given_words gs)) (given_again g (All-head IsGiven g gs h))
     ∙ ap (λ l. Some (given_line g) ∷ l) (all_given gs (All-tail IsGiven g gs h))
 
--- ---- the lines of the sink
+-- ---- the line of the capacity, and the lines of the sink
+
+capacity_words : Option ℕ → List (List ℕ)
+capacity_words None = []
+capacity_words (Some limit) = (codes "queue " ++ decimal limit) ∷ []
+
+capacity_ends : (limit : ℕ) (rest : List ℕ) → capacity_text (Some limit) ++ rest ≡ (codes "queue " ++ decimal limit) ++ 10 ∷ rest
+unfolding capacity_text
+capacity_ends limit rest = append_assoc (codes "queue " ++ decimal limit) (10 ∷ []) rest
+
+no_capacity : (rest : List ℕ) → capacity_text None ++ rest ≡ rest
+unfolding capacity_text
+no_capacity rest = refl
+
+capacity_parts : (queue : Option ℕ) (rest : List ℕ) → IsCount queue → parts (capacity_text queue ++ rest) ≡ capacity_words queue ++ parts rest
+unfolding capacity_words
+capacity_parts None rest h = ap parts (no_capacity rest)
+capacity_parts (Some limit) rest h =
+    ap parts (capacity_ends limit rest)
+    ∙ line_part (codes "queue " ++ decimal limit) rest (joined line_byte (codes "queue ") (decimal limit) refl (number_line limit h))
+
+limit_again : (limit : ℕ) (word : List ℕ) → number_of word ≡ Some limit → head_line (codes "queue" ∷ word ∷ []) ≡ Some (Capacity limit)
+unfolding head_line
+limit_again limit word e = rw e refl
+
+capacity_again : (queue : Option ℕ) → IsCount queue → map line_of (capacity_words queue) ≡ map Some (capacity_lines queue)
+unfolding capacity_words
+capacity_again None h = refl
+capacity_again (Some limit) h =
+    let name : IsWord (codes "queue") = record { bytes = refl; some = omega arith; other = refl } in
+    ap (λ x. x ∷ []) (head_again (codes "queue " ++ decimal limit) (Capacity limit)
+    (ap head_line (two_words (codes "queue") (decimal limit) name (number_is_word limit h)) ∙ limit_again limit (decimal limit) (number_again limit h)))
 
 fds_words : Bool → List (List ℕ)
 fds_words true = codes "fds" ∷ []
@@ -348,46 +382,52 @@ sent_bytes : (sent : List ℕ) → All (λ b. b < 256) sent → list_all line_by
 unfolding sent_text
 sent_bytes sent h = joined line_byte (codes "sent ") (sent_word sent) refl (word_line (sent_word sent) (sent_is_word sent h).bytes)
 
-mapped : {A B : Type 0} (f : A → B) (xs ys : List A) → map f (xs ++ ys) ≡ map f xs ++ map f ys
-mapped f [] ys = refl
-mapped f (x ∷ xs) ys = ap (λ l. f x ∷ l) (mapped f xs ys)
+lines_joined : (qs fs outs ins dos : List Line)
+    → map Some qs ++ (map Some fs ++ (map Some outs ++ (map Some ins ++ (map Some dos ++ Some Sent ∷ [])))) ≡ map Some (qs ++ fs ++ outs ++ ins ++ dos ++ Sent ∷ [])
+lines_joined qs fs outs ins dos =
+    sym (mapped Some ((((qs ++ fs) ++ outs) ++ ins) ++ dos) (Sent ∷ []) ∙ ap (λ l. l ++ Some Sent ∷ []) (mapped Some (((qs ++ fs) ++ outs) ++ ins) dos)
+    ∙ ap (λ l. (l ++ map Some dos) ++ Some Sent ∷ []) (mapped Some ((qs ++ fs) ++ outs) ins)
+    ∙ ap (λ l. ((l ++ map Some ins) ++ map Some dos) ++ Some Sent ∷ []) (mapped Some (qs ++ fs) outs)
+    ∙ ap (λ l. (((l ++ map Some outs) ++ map Some ins) ++ map Some dos) ++ Some Sent ∷ []) (mapped Some qs fs) ∙ simp append_assoc)
 
-lines_joined : (fs outs ins dos : List Line) → map Some fs ++ (map Some outs ++ (map Some ins ++ (map Some dos ++ Some Sent ∷ []))) ≡ map Some (fs ++ outs ++ ins ++ dos ++ Sent ∷ [])
-lines_joined fs outs ins dos =
-    sym (mapped Some (((fs ++ outs) ++ ins) ++ dos) (Sent ∷ []) ∙ ap (λ l. l ++ Some Sent ∷ []) (mapped Some ((fs ++ outs) ++ ins) dos)
-    ∙ ap (λ l. (l ++ map Some dos) ++ Some Sent ∷ []) (mapped Some (fs ++ outs) ins)
-    ∙ ap (λ l. ((l ++ map Some ins) ++ map Some dos) ++ Some Sent ∷ []) (mapped Some fs outs) ∙ simp append_assoc)
+whole_ends : (d q f o gs es s w : List ℕ) → (((((((d ++ q) ++ f) ++ o) ++ gs) ++ es) ++ s) ++ w) ++ 10 ∷ [] ≡ d ++ (q ++ (f ++ (o ++ (gs ++ (es ++ ((s ++ w) ++ 10 ∷ []))))))
+whole_ends d q f o gs es s w = simp append_assoc
 
-whole_ends : (d f o gs es s w : List ℕ) → ((((((d ++ f) ++ o) ++ gs) ++ es) ++ s) ++ w) ++ 10 ∷ [] ≡ d ++ (f ++ (o ++ (gs ++ (es ++ ((s ++ w) ++ 10 ∷ [])))))
-whole_ends d f o gs es s w = simp append_assoc
+all_lines : Option (List ℕ) → Option ℕ → Bool → Option ℕ → List Given → List Entry → List ℕ → List (List ℕ)
+all_lines name queue fds out gs es sent =
+    direct_words name ∷ (capacity_words queue ++ (fds_words fds ++ (outfault_words out ++ (map given_words gs ++ (map entry_line es ++ sent_text sent ∷ [])))))
 
-all_lines : Option (List ℕ) → Bool → Option ℕ → List Given → List Entry → List ℕ → List (List ℕ)
-all_lines name fds out gs es sent =
-    direct_words name ∷ (fds_words fds ++ (outfault_words out ++ (map given_words gs ++ (map entry_line es ++ sent_text sent ∷ []))))
-
-whole_parts : (name : Option (List ℕ)) (fds : Bool) (out : Option ℕ) (gs : List Given) (es : List Entry) (sent : List ℕ) → IsName name → IsCount out → All IsGiven gs → All CanBeRead es
-    → All (λ b. b < 256) sent → parts (transcript_text name fds out gs es sent) ≡ all_lines name fds out gs es sent ++ [] ∷ []
+whole_parts : (name : Option (List ℕ)) (queue : Option ℕ) (fds : Bool) (out : Option ℕ) (gs : List Given) (es : List Entry) (sent : List ℕ)
+    → IsName name → IsCount queue → IsCount out → All IsGiven gs → All CanBeRead es → All (λ b. b < 256) sent
+    → parts (transcript_text name queue fds out gs es sent) ≡ all_lines name queue fds out gs es sent ++ [] ∷ []
 unfolding transcript_text all_lines sent_text
-whole_parts name fds out gs es sent n o p e s =
+whole_parts name queue fds out gs es sent n q o p e s =
     let last = sent_text sent ++ 10 ∷ [] in
     let entries = flat_map entry_text es ++ last in
     let source = flat_map given_text gs ++ entries in
     let sink = outfault_text out ++ source in
-    ap parts (whole_ends (direct_text name) (fds_text fds) (outfault_text out) (flat_map given_text gs) (flat_map entry_text es) (codes "sent ") (sent_word sent)
-    ∙ direct_ends name (fds_text fds ++ sink))
-    ∙ line_part (direct_words name) (fds_text fds ++ sink) (direct_bytes name n)
-    ∙ ap (λ l. direct_words name ∷ l) (fds_parts fds sink)
-    ∙ ap (λ l. direct_words name ∷ (fds_words fds ++ l)) (outfault_parts out source o)
-    ∙ ap (λ l. direct_words name ∷ (fds_words fds ++ (outfault_words out ++ l))) (given_parts gs entries p)
-    ∙ ap (λ l. direct_words name ∷ (fds_words fds ++ (outfault_words out ++ (map given_words gs ++ l)))) (entries_parts es last e)
-    ∙ ap (λ l. direct_words name ∷ (fds_words fds ++ (outfault_words out ++ (map given_words gs ++ (map entry_line es ++ l))))) (line_part (sent_text sent) [] (sent_bytes sent s))
+    let head = fds_text fds ++ sink in
+    ap parts (whole_ends (direct_text name) (capacity_text queue) (fds_text fds) (outfault_text out) (flat_map given_text gs) (flat_map entry_text es) (codes "sent ") (sent_word sent)
+    ∙ direct_ends name (capacity_text queue ++ head))
+    ∙ line_part (direct_words name) (capacity_text queue ++ head) (direct_bytes name n)
+    ∙ ap (λ l. direct_words name ∷ l) (capacity_parts queue head q ∙ ap (λ l. capacity_words queue ++ l)
+    (fds_parts fds sink ∙ ap (λ l. fds_words fds ++ l)
+    (outfault_parts out source o ∙ ap (λ l. outfault_words out ++ l)
+    (given_parts gs entries p ∙ ap (λ l. map given_words gs ++ l)
+    (entries_parts es last e ∙ ap (λ l. map entry_line es ++ l) (line_part (sent_text sent) [] (sent_bytes sent s)))))))
     ∙ ap (λ l. direct_words name ∷ l) (simp append_assoc)
 
-whole_lines : (name : Option (List ℕ)) (fds : Bool) (out : Option ℕ) (gs : List Given) (es : List Entry) (sent : List ℕ) → IsName name → IsCount out → All IsGiven gs → All CanBeRead es
-    → All (λ b. b < 256) sent
-    → map line_of (all_lines name fds out gs es sent) ≡ map Some (script_lines (record { name = name; fds = fds; outfault = out; given = gs; commands = map command_of es }) true)
+-- a part of the lines, and what stands behind it
+then_lines : (xs ys : List (List ℕ)) (ls : List Line) (ms : List (Option Line)) → map line_of xs ≡ map Some ls → map line_of ys ≡ ms → map line_of (xs ++ ys) ≡ map Some ls ++ ms
+then_lines xs ys ls ms e h = mapped line_of xs ys ∙ ap (λ l. l ++ map line_of ys) e ∙ ap (λ l. map Some ls ++ l) h
+
+whole_lines : (name : Option (List ℕ)) (queue : Option ℕ) (fds : Bool) (out : Option ℕ) (gs : List Given) (es : List Entry) (sent : List ℕ)
+    → IsName name → IsCount queue → IsCount out → All IsGiven gs → All CanBeRead es → All (λ b. b < 256) sent
+    → map line_of (all_lines name queue fds out gs es sent)
+    ≡ map Some (script_lines (record { name = name; queue = queue; fds = fds; outfault = out; given = gs; commands = map command_of es }) true)
 unfolding all_lines
-whole_lines name fds out gs es sent n o p e s =
+whole_lines name queue fds out gs es sent n q o p e s =
+    let qs = capacity_lines queue in
     let fs = fds_lines fds in
     let outs = outfault_lines out in
     let ins = map given_line gs in
@@ -395,20 +435,22 @@ whole_lines name fds out gs es sent n o p e s =
     let last = map entry_line es ++ sent_text sent ∷ [] in
     let source = map given_words gs ++ last in
     let sink = outfault_words out ++ source in
-    ap (λ x. x ∷ map line_of (fds_words fds ++ sink)) (direct_again name n)
-    ∙ ap (λ l. Some (Direct name) ∷ l) (mapped line_of (fds_words fds) sink)
-    ∙ ap (λ l. Some (Direct name) ∷ (l ++ map line_of sink)) (fds_again fds)
-    ∙ ap (λ l. Some (Direct name) ∷ (map Some fs ++ l)) (mapped line_of (outfault_words out) source)
-    ∙ ap (λ l. Some (Direct name) ∷ (map Some fs ++ (l ++ map line_of source))) (outfault_again out o)
-    ∙ ap (λ l. Some (Direct name) ∷ (map Some fs ++ (map Some outs ++ l))) (mapped line_of (map given_words gs) last)
-    ∙ ap (λ l. Some (Direct name) ∷ (map Some fs ++ (map Some outs ++ (l ++ map line_of last)))) (all_given gs p)
-    ∙ ap (λ l. Some (Direct name) ∷ (map Some fs ++ (map Some outs ++ (map Some ins ++ l)))) (mapped line_of (map entry_line es) (sent_text sent ∷ []))
-    ∙ ap (λ l. Some (Direct name) ∷ (map Some fs ++ (map Some outs ++ (map Some ins ++ (l ++ line_of (sent_text sent) ∷ []))))) (entries_again es e)
-    ∙ ap (λ x. Some (Direct name) ∷ (map Some fs ++ (map Some outs ++ (map Some ins ++ (map Some dos ++ x ∷ []))))) (sent_reads sent s)
-    ∙ ap (λ l. Some (Direct name) ∷ l) (lines_joined fs outs ins dos)
+    let head = fds_words fds ++ sink in
+    ap (λ x. x ∷ map line_of (capacity_words queue ++ head)) (direct_again name n)
+    ∙ ap (λ l. Some (Direct name) ∷ l) (then_lines (capacity_words queue) head qs _ (capacity_again queue q)
+    (then_lines (fds_words fds) sink fs _ (fds_again fds)
+    (then_lines (outfault_words out) source outs _ (outfault_again out o)
+    (then_lines (map given_words gs) last ins _ (all_given gs p)
+    (then_lines (map entry_line es) (sent_text sent ∷ []) dos _ (entries_again es e) (ap (λ x. x ∷ []) (sent_reads sent s)))))))
+    ∙ ap (λ l. Some (Direct name) ∷ l) (lines_joined qs fs outs ins dos)
 
-pub transcript_again : (name : Option (List ℕ)) (fds : Bool) (out : Option ℕ) (gs : List Given) (es : List Entry) (sent : List ℕ) → IsName name → IsCount out → All IsGiven gs → All CanBeRead es
-    → All (λ b. b < 256) sent
-    → ScriptText (transcript_text name fds out gs es sent) (record { name = name; fds = fds; outfault = out; given = gs; commands = map command_of es })
-transcript_again name fds out gs es sent n o p e s =
-    record { lines = all_lines name fds out gs es sent; sent = true; ended = whole_parts name fds out gs es sent n o p e s; each = whole_lines name fds out gs es sent n o p e s }
+pub transcript_again : (name : Option (List ℕ)) (queue : Option ℕ) (fds : Bool) (out : Option ℕ) (gs : List Given) (es : List Entry) (sent : List ℕ)
+    → IsName name → IsCount queue → IsCount out → All IsGiven gs → All CanBeRead es → All (λ b. b < 256) sent
+    → ScriptText (transcript_text name queue fds out gs es sent) (record { name = name; queue = queue; fds = fds; outfault = out; given = gs; commands = map command_of es })
+transcript_again name queue fds out gs es sent n q o p e s =
+    record {
+      lines = all_lines name queue fds out gs es sent;
+      sent = true;
+      ended = whole_parts name queue fds out gs es sent n q o p e s;
+      each = whole_lines name queue fds out gs es sent n q o p e s;
+    }

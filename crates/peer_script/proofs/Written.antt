@@ -17,7 +17,7 @@ pub nothing_written : (A : Type 0) (bytes : List ℕ) (held : Option (List ℕ))
     → WritesAll {A = A} (Err refusals.Memory) bytes held held room room faults faults
 nothing_written A bytes held room faults h = (0, record { proper = h; gone = Appends-nil held }, room_none room, refl)
 
-pub some_text : (name : Option (List ℕ)) (fds : Bool) (outfault : Option ℕ) (given : List Given) (entries : List Entry) (sent : List ℕ) → 0 < length (transcript_text name fds outfault given entries sent)
+pub some_text : (name : Option (List ℕ)) (queue : Option ℕ) (fds : Bool) (outfault : Option ℕ) (given : List Given) (entries : List Entry) (sent : List ℕ) → 0 < length (transcript_text name queue fds outfault given entries sent)
 unfolding transcript_text direct_text
-some_text None fds outfault given entries sent = omega arith
-some_text (Some name) fds outfault given entries sent = omega arith
+some_text None queue fds outfault given entries sent = omega arith
+some_text (Some name) queue fds outfault given entries sent = omega arith

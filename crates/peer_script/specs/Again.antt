@@ -47,6 +47,11 @@ pub record OutgoingText (named : Type 0) (o : Outgoing) : Type 0 where
   pub member : SomeBytes o.member
   pub body : IsOptional o.body
 
+-- a number that is below 2^64, where there is one
+abbrev pub IsCount : Option ℕ → Type 0
+IsCount None = Unit {0}
+IsCount (Some count) = count < 2 ^ 64
+
 abbrev pub HasText : Words → Type 0
 HasText (words.Call outgoing) = OutgoingText (IsOptional outgoing.interface) outgoing
 HasText (words.Signal outgoing) = OutgoingText (IsThere outgoing.interface) outgoing
@@ -59,6 +64,10 @@ HasText (words.Drop number) = number < 2 ^ 64
 HasText words.Stream = Unit {0}
 HasText (words.Take number) = number < 2 ^ 64
 HasText (words.TakeBefore stream before) = (stream < 2 ^ 64) × (before < 2 ^ 64)
+HasText (words.Clone stream) = stream < 2 ^ 64
+HasText (words.Unstream stream second) = (stream < 2 ^ 64) × IsCount second
+HasText (words.Queue stream limit) = (stream < 2 ^ 64) × (limit < 2 ^ 64)
+HasText (words.MainQueue limit) = limit < 2 ^ 64
 
 -- the name of a missing parameter is of bytes
 abbrev pub HasBytes : Error → Type 0
@@ -84,6 +93,8 @@ HasNumbers (answers.Streaming number) = number < 2 ^ 64
 HasNumbers (answers.Item position) = position < 2 ^ 64
 HasNumbers answers.Empty = Unit {0}
 HasNumbers answers.Ended = Unit {0}
+HasNumbers answers.Gone = Unit {0}
+HasNumbers answers.Set = Unit {0}
 
 -- an entry of a command that a script can hold
 pub record CanBeRead (e : Entry) : Type 0 where
@@ -101,14 +112,10 @@ abbrev pub IsName : Option (List ℕ) → Type 0
 IsName None = Unit {0}
 IsName (Some name) = SomeBytes name × IsUniqueName name
 
-abbrev pub IsCount : Option ℕ → Type 0
-IsCount None = Unit {0}
-IsCount (Some count) = count < 2 ^ 64
-
 -- The transcript is read again as the script of its header lines and of its entries' commands.
 abbrev pub TranscriptsAreRead : Type 0
 TranscriptsAreRead =
-    (name : Option (List ℕ)) (fds : Bool) (outfault : Option ℕ) (given : List Given) (entries : List Entry) (sent : List ℕ)
-    → IsName name → IsCount outfault → All IsGiven given → All CanBeRead entries → All (λ b. b < 256) sent
-    → script_of (transcript_text name fds outfault given entries sent)
-    ≡ Ok (record { name = name; fds = fds; outfault = outfault; given = given; commands = map command_of entries })
+    (name : Option (List ℕ)) (queue : Option ℕ) (fds : Bool) (outfault : Option ℕ) (given : List Given) (entries : List Entry) (sent : List ℕ)
+    → IsName name → IsCount queue → IsCount outfault → All IsGiven given → All CanBeRead entries → All (λ b. b < 256) sent
+    → script_of (transcript_text name queue fds outfault given entries sent)
+    ≡ Ok (record { name = name; queue = queue; fds = fds; outfault = outfault; given = given; commands = map command_of entries })

@@ -5,9 +5,9 @@ use Rattle.wire_framing.specs.declared.memory.Piece.{Piece}
 use Rattle.wire_framing.specs.declared.memory.Piece.TheVariants.{Bytes, Fault}
 use Rattle.wire_framing.specs.Source.{MayRise}
 use Rattle.peer_script.specs.declared.line.Line.{Line}
-use Rattle.peer_script.specs.declared.line.Line.TheVariants.{Direct, Fds, OutFault, In, InFault, Do, Sent}
+use Rattle.peer_script.specs.declared.line.Line.TheVariants.{Direct, Capacity, Fds, OutFault, In, InFault, Do, Sent}
 use Rattle.peer_script.specs.declared.reading.Stage.{Stage}
-use Rattle.peer_script.specs.declared.reading.Stage.TheVariants.{Start, Head, Sink, Pieces, Commands, Over}
+use Rattle.peer_script.specs.declared.reading.Stage.TheVariants.{Start, Head, Queued, Sink, Pieces, Commands, Over}
 use Rattle.peer_script.specs.declared.reading.Progress.{Progress}
 use Rattle.peer_script.specs.declared.error.ScriptError.{ScriptError}
 use Rattle.peer_script.specs.declared.error.ScriptError.TheVariants as errors
@@ -19,10 +19,13 @@ pub record Step : Type 0 where
   pub script : Script
 
 abbrev pub begun : Step
-begun = record { stage = Start; script = record { name = None; fds = false; outfault = None; given = []; commands = [] } }
+begun = record { stage = Start; script = record { name = None; queue = None; fds = false; outfault = None; given = []; commands = [] } }
 
 abbrev pub with_name : Script → Option (List ℕ) → Script
 with_name s name = record s { name = name }
+
+abbrev pub with_queue : Script → ℕ → Script
+with_queue s limit = record s { queue = Some limit }
 
 abbrev pub with_fds : Script → Script
 with_fds s = record s { fds = true }
@@ -39,6 +42,7 @@ more_command s command = record s { commands = s.commands ++ command ∷ [] }
 -- one line more, where it may come at this stage
 unfoldable pub take_line : Stage → Script → Option Line → Option Step
 take_line Start s (Some (Direct name)) = Some (record { stage = Head; script = with_name s name })
+take_line Head s (Some (Capacity limit)) = Some (record { stage = Queued; script = with_queue s limit })
 take_line Head s (Some Fds) = Some (record { stage = Sink; script = with_fds s })
 take_line Head s (Some (OutFault count)) = Some (record { stage = Pieces; script = with_outfault s count })
 take_line Head s (Some (In piece)) = Some (record { stage = Pieces; script = more_given s (Gave piece) })
@@ -51,6 +55,12 @@ take_line Commands s (Some (Do command)) = Some (record { stage = Commands; scri
 take_line Head s (Some Sent) = Some (record { stage = Over; script = s })
 take_line Pieces s (Some Sent) = Some (record { stage = Over; script = s })
 take_line Commands s (Some Sent) = Some (record { stage = Over; script = s })
+take_line Queued s (Some Fds) = Some (record { stage = Sink; script = with_fds s })
+take_line Queued s (Some (OutFault count)) = Some (record { stage = Pieces; script = with_outfault s count })
+take_line Queued s (Some (In piece)) = Some (record { stage = Pieces; script = more_given s (Gave piece) })
+take_line Queued s (Some InFault) = Some (record { stage = Pieces; script = more_given s Broke })
+take_line Queued s (Some (Do command)) = Some (record { stage = Commands; script = more_command s command })
+take_line Queued s (Some Sent) = Some (record { stage = Over; script = s })
 take_line Sink s (Some (OutFault count)) = Some (record { stage = Pieces; script = with_outfault s count })
 take_line Sink s (Some (In piece)) = Some (record { stage = Pieces; script = more_given s (Gave piece) })
 take_line Sink s (Some InFault) = Some (record { stage = Pieces; script = more_given s Broke })
@@ -62,6 +72,7 @@ take_line stage s line = None
 abbrev pub may_end : Stage → Bool
 may_end Start = false
 may_end Head = true
+may_end Queued = true
 may_end Sink = true
 may_end Pieces = true
 may_end Commands = true
@@ -98,12 +109,12 @@ abbrev pub given : List Piece → List Given
 given pieces = map given_of pieces
 
 -- the script that a setup's parts and commands are
-abbrev pub script_from : Option (List ℕ) → Bool → Option ℕ → List Piece → List Command → Script
-script_from name fds outfault pieces commands = record { name = name; fds = fds; outfault = outfault; given = given pieces; commands = commands }
+abbrev pub script_from : Option (List ℕ) → Option ℕ → Bool → Option ℕ → List Piece → List Command → Script
+script_from name queue fds outfault pieces commands = record { name = name; queue = queue; fds = fds; outfault = outfault; given = given pieces; commands = commands }
 
 -- what was read so far
 abbrev pub said : Progress → Script
-said p = script_from p.name p.fds p.outfault p.pieces.items p.commands.items
+said p = script_from p.name p.queue p.fds p.outfault p.pieces.items p.commands.items
 
 -- The first line, without its end, and what stands behind that; or there is no end.
 abbrev pub SplitsLine : {A : Type 0} → (A → List ℕ) → (A → List ℕ) → List ℕ → Option A → Type 0

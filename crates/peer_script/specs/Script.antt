@@ -1,6 +1,6 @@
--- Script text: a list of lines, each ended by one byte 0x0a: `direct`, perhaps with the peer's unique name, perhaps the
--- line that its sink takes descriptors, perhaps the bytes that the sink takes, what the source gives, the commands, and
--- perhaps one `sent` line, which is passed over.
+-- Script text: a list of lines, each ended by one byte 0x0a: `direct`, perhaps with the peer's unique name, perhaps how many
+-- messages a stream may hold, perhaps the line that its sink takes descriptors, perhaps the bytes that the sink takes, what the
+-- source gives, the commands, and perhaps one `sent` line, which is passed over.
 use Rattle.std.specs.Prelude.{ℕ, ◌≡◌, ◌+◌, Bool, true, false, ◌&&◌, ◌||◌, ◌==◌, nat_le, if◌then◌else◌, List, [], ◌∷◌, ◌++◌, map, codes, Option, Some, None, is_some}
 use Rattle.std.specs.List.{slice_split, list_any}
 use Rattle.wire_names.specs.Names.{is_unique_name}
@@ -10,7 +10,7 @@ use Rattle.peer_route.specs.declared.words.CallFlags.{CallFlags}
 use Rattle.peer_route.specs.declared.words.Outgoing.{Outgoing}
 use Rattle.peer_route.specs.declared.words.Command.{Command}
 use Rattle.peer_script.specs.declared.line.Line.{Line}
-use Rattle.peer_script.specs.declared.line.Line.TheVariants.{Direct, Fds, OutFault, In, InFault, Do, Sent}
+use Rattle.peer_script.specs.declared.line.Line.TheVariants.{Direct, Capacity, Fds, OutFault, In, InFault, Do, Sent}
 use Rattle.peer_script.specs.Word.{same, words_of, number_of, text_of, flags_word}
 use Rattle.peer_route.specs.Hex.{bytes_of}
 
@@ -19,10 +19,12 @@ pub data Given : Type 0 where
   Gave : (piece : List ℕ) → Given
   Broke : Given
 
--- What a script says: the peer's unique name, where it has one; whether its sink takes file descriptors; after how many
--- bytes the sink fails a write, where it does; what the source gives; the commands.
+-- What a script says: the peer's unique name, where it has one; how many messages a stream may hold, where that is set;
+-- whether its sink takes file descriptors; after how many bytes the sink fails a write, where it does; what the source gives;
+-- the commands.
 pub record Script : Type 0 where
   pub name : Option (List ℕ)
+  pub queue : Option ℕ
   pub fds : Bool
   pub outfault : Option ℕ
   pub given : List Given
@@ -51,7 +53,7 @@ abbrev pub numbered : (ℕ → Words) → Option ℕ → Option Words
 numbered command (Some number) = Some (command number)
 numbered command None = None
 
--- a command that names a number and a position
+-- a command that names two numbers; the second may be a position
 abbrev pub positioned : (ℕ → ℕ → Words) → Option ℕ → Option ℕ → Option Words
 positioned command (Some number) (Some before) = Some (command number before)
 positioned command number before = None
@@ -86,9 +88,13 @@ named_flags word =
 abbrev pub flags_of : List ℕ → Option CallFlags
 flags_of word = if same word (flags_word (named_flags word)) then Some (named_flags word) else None
 
--- The words of a command, without its lane: `read`, `stream`, `poll C`, `drop C`, `take S`, `reply S B`, `before C Q`,
--- `takebefore S Q`, `error S NAME B`, `call D P I M F B`, `signal D P I M F B`. A signal has an interface, so that a `-` there
--- is a text.
+-- a command that closes two streams
+abbrev pub closing_two : ℕ → ℕ → Words
+closing_two stream second = words.Unstream stream (Some second)
+
+-- The words of a command, without its lane: `read`, `stream`, `poll C`, `drop C`, `take S`, `clone S`, `unstream S`,
+-- `mainqueue N`, `reply S B`, `before C Q`, `takebefore S Q`, `unstream S T`, `queue S N`, `error S NAME B`,
+-- `call D P I M F B`, `signal D P I M F B`. A signal has an interface, so that a `-` there is a text.
 unfoldable pub command_words : List (List ℕ) → Option Words
 command_words (name ∷ []) =
     if same name (codes "read") then Some words.Read
@@ -98,11 +104,16 @@ command_words (name ∷ number ∷ []) =
     if same name (codes "poll") then numbered words.Poll (number_of number)
     else if same name (codes "drop") then numbered words.Drop (number_of number)
     else if same name (codes "take") then numbered words.Take (number_of number)
+    else if same name (codes "clone") then numbered words.Clone (number_of number)
+    else if same name (codes "unstream") then numbered (λ stream. words.Unstream stream None) (number_of number)
+    else if same name (codes "mainqueue") then numbered words.MainQueue (number_of number)
     else None
 command_words (name ∷ first ∷ second ∷ []) =
     if same name (codes "reply") then reply_of (number_of first) (optional_of second)
     else if same name (codes "before") then positioned words.Before (number_of first) (number_of second)
     else if same name (codes "takebefore") then positioned words.TakeBefore (number_of first) (number_of second)
+    else if same name (codes "unstream") then positioned closing_two (number_of first) (number_of second)
+    else if same name (codes "queue") then positioned words.Queue (number_of first) (number_of second)
     else None
 command_words (name ∷ stream ∷ error ∷ body ∷ []) =
     if same name (codes "error") then error_of (number_of stream) (text_of error) (optional_of body) else None
@@ -150,6 +161,10 @@ abbrev pub outfault_line : Option ℕ → Option Line
 outfault_line (Some count) = Some (OutFault count)
 outfault_line None = None
 
+abbrev pub capacity_line : Option ℕ → Option Line
+capacity_line (Some limit) = Some (Capacity limit)
+capacity_line None = None
+
 abbrev pub sent_line : List ℕ → Option Line
 sent_line word = if is_absent word || is_some (bytes_of word) then Some Sent else None
 
@@ -167,6 +182,7 @@ head_line (name ∷ []) =
 head_line (name ∷ word ∷ []) =
     if same name (codes "direct") then direct_line (text_of word)
     else if same name (codes "in") then in_line (bytes_of word)
+    else if same name (codes "queue") then capacity_line (number_of word)
     else if same name (codes "outfault") then outfault_line (number_of word)
     else if same name (codes "sent") then sent_line word
     else None
@@ -192,6 +208,10 @@ line_count [] = 0
 line_count (b ∷ []) = 1
 line_count (b ∷ c ∷ rest) = if b == 10 then line_count (c ∷ rest) + 1 else line_count (c ∷ rest)
 
+abbrev pub capacity_lines : Option ℕ → List Line
+capacity_lines (Some limit) = Capacity limit ∷ []
+capacity_lines None = []
+
 abbrev pub fds_lines : Bool → List Line
 fds_lines true = Fds ∷ []
 fds_lines false = []
@@ -210,10 +230,10 @@ sent_lines false = []
 
 -- the lines of a script, in their order
 abbrev pub script_lines : Script → Bool → List Line
-script_lines s sent = Direct s.name ∷ fds_lines s.fds ++ outfault_lines s.outfault ++ map given_line s.given ++ map Do s.commands ++ sent_lines sent
+script_lines s sent = Direct s.name ∷ capacity_lines s.queue ++ fds_lines s.fds ++ outfault_lines s.outfault ++ map given_line s.given ++ map Do s.commands ++ sent_lines sent
 
--- The bytes are the text of this script: each line is ended, and the lines are `direct`, perhaps `fds`, perhaps `outfault`,
--- the source's lines, the commands, and perhaps one `sent`.
+-- The bytes are the text of this script: each line is ended, and the lines are `direct`, perhaps `queue`, perhaps `fds`, perhaps
+-- `outfault`, the source's lines, the commands, and perhaps one `sent`.
 pub record ScriptText (bytes : List ℕ) (s : Script) : Type 0 where
   pub lines : List (List ℕ)
   pub sent : Bool

@@ -78,6 +78,11 @@ words_text (words.Drop number) = codes "drop " ++ decimal number
 words_text words.Stream = codes "stream"
 words_text (words.Take number) = codes "take " ++ decimal number
 words_text (words.TakeBefore stream before) = codes "takebefore " ++ decimal stream ++ 32 ∷ [] ++ decimal before
+words_text (words.Clone stream) = codes "clone " ++ decimal stream
+words_text (words.Unstream stream None) = codes "unstream " ++ decimal stream
+words_text (words.Unstream stream (Some second)) = codes "unstream " ++ decimal stream ++ 32 ∷ [] ++ decimal second
+words_text (words.Queue stream limit) = codes "queue " ++ decimal stream ++ 32 ∷ [] ++ decimal limit
+words_text (words.MainQueue limit) = codes "mainqueue " ++ decimal limit
 
 unfoldable pub answer_text : Answer → List ℕ
 answer_text (answers.Called call serial) = codes "call " ++ decimal call ++ codes " serial " ++ decimal serial
@@ -97,6 +102,8 @@ answer_text (answers.Streaming number) = codes "stream " ++ decimal number
 answer_text (answers.Item position) = codes "item " ++ decimal position
 answer_text answers.Empty = codes "empty"
 answer_text answers.Ended = codes "ended"
+answer_text answers.Gone = codes "gone"
+answer_text answers.Set = codes "ok"
 
 unfoldable pub entry_text : Entry → List ℕ
 entry_text e = decimal e.lane ++ 32 ∷ [] ++ words_text e.words ++ codes " = " ++ answer_text e.answer ++ 10 ∷ []
@@ -109,6 +116,10 @@ given_text Broke = codes "infault" ++ 10 ∷ []
 unfoldable pub direct_text : Option (List ℕ) → List ℕ
 direct_text None = codes "direct" ++ 10 ∷ []
 direct_text (Some name) = codes "direct " ++ text_word name ++ 10 ∷ []
+
+unfoldable pub capacity_text : Option ℕ → List ℕ
+capacity_text None = []
+capacity_text (Some limit) = codes "queue " ++ decimal limit ++ 10 ∷ []
 
 unfoldable pub fds_text : Bool → List ℕ
 fds_text true = codes "fds" ++ 10 ∷ []
@@ -123,7 +134,7 @@ abbrev pub sent_word : List ℕ → List ℕ
 sent_word [] = 45 ∷ []
 sent_word (b ∷ bs) = hex_word (b ∷ bs)
 
-unfoldable pub transcript_text : Option (List ℕ) → Bool → Option ℕ → List Given → List Entry → List ℕ → List ℕ
-transcript_text name fds outfault given entries sent =
-    direct_text name ++ fds_text fds ++ outfault_text outfault ++ flat_map given_text given ++ flat_map entry_text entries
+unfoldable pub transcript_text : Option (List ℕ) → Option ℕ → Bool → Option ℕ → List Given → List Entry → List ℕ → List ℕ
+transcript_text name queue fds outfault given entries sent =
+    direct_text name ++ capacity_text queue ++ fds_text fds ++ outfault_text outfault ++ flat_map given_text given ++ flat_map entry_text entries
     ++ codes "sent " ++ sent_word sent ++ 10 ∷ []

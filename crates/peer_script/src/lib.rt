@@ -4,6 +4,7 @@
 mod error;
 mod laws;
 mod line;
+mod numbers;
 mod output;
 mod reading;
 mod script;

@@ -1,10 +1,13 @@
 //! What a line is.
 ghost use Rattle.std.specs.Prelude.{◌≡◌, [], ◌∷◌, ◌++◌, length, take, map, IfOk, Some, None};
-ghost use Rattle.peer_script.specs.Script.{before_answer, lane_words, command_words, command_line, head_line, line_of, outgoing_of, sending, reply_of, error_of, present, optional_of, has_letter, named_flags, flags_of, numbered, positioned, in_lane, direct_line, in_line, outfault_line, sent_line, is_absent};
+ghost use Rattle.peer_script.specs.Script.{before_answer, lane_words, command_words, command_line, head_line, line_of, outgoing_of, sending, reply_of, error_of, present, optional_of, has_letter, named_flags, flags_of, in_lane, direct_line, in_line, capacity_line, outfault_line, sent_line, is_absent};
 ghost use Rattle.peer_script.specs.Word.{number_of, text_of};
 ghost use Rattle.peer_route.specs.Hex.{bytes_of};
 ghost use Rattle.peer_route.specs.declared.words.Words.TheVariants as words;
 
+use crate::numbers::{
+    before_of, closing_two, lone_command, numbered_command, queue_of, take_before_of,
+};
 use crate::text::put_flags;
 use crate::word::{number_of, same, text_of, words_of};
 use peer_route::{CallFlags, Command, Outgoing, Words, read_hex};
@@ -21,6 +24,8 @@ const ABSENT: &[u8] = b"-";
 pub(crate) enum Line {
     /// The peer has no bus, and perhaps a unique name.
     Direct(Option<OwnedUniqueName>),
+    /// How many messages a stream may hold.
+    Capacity(u64),
     /// The sink takes file descriptors.
     Fds,
     /// After how many bytes the sink fails a write.
@@ -200,55 +205,7 @@ fn error_of(
     }
 }
 
-/// The words of one name.
-#[tactic(auto, unfolding(crate::specs::Script::command_words))]
-fn lone_command(name: &[u8]) -> Option<Words>
-    ensures { result ≡ command_words (name.now ∷ []) }
-{
-    if same(name, b"read") {
-        Some(Words::Read)
-    } else if same(name, b"stream") {
-        Some(Words::Stream)
-    } else {
-        None
-    }
-}
-
-/// The words of a name and a number.
-#[tactic(auto, unfolding(crate::specs::Script::command_words))]
-fn numbered_command(name: &[u8], number: &[u8]) -> Option<Words>
-    ensures { result ≡ command_words (name.now ∷ number.now ∷ []) }
-{
-    if same(name, b"poll") {
-        Some(Words::Poll(number_of(number)?))
-    } else if same(name, b"drop") {
-        Some(Words::Drop(number_of(number)?))
-    } else if same(name, b"take") {
-        Some(Words::Take(number_of(number)?))
-    } else {
-        None
-    }
-}
-
-fn before_of(call: Option<u64>, before: Option<u64>) -> Option<Words>
-    ensures { result ≡ positioned words.Before call before }
-{
-    Some(Words::Before {
-        call: call?,
-        before: before?,
-    })
-}
-
-fn take_before_of(stream: Option<u64>, before: Option<u64>) -> Option<Words>
-    ensures { result ≡ positioned words.TakeBefore stream before }
-{
-    Some(Words::TakeBefore {
-        stream: stream?,
-        before: before?,
-    })
-}
-
-/// The words of a name, a number and one word more.
+/// The words of a name and two words more, the first a number.
 #[tactic(auto, unfolding(crate::specs::Script::command_words))]
 fn command_of_two(
     alloc: Global,
@@ -264,6 +221,10 @@ fn command_of_two(
         Ok(before_of(number_of(number), number_of(word)))
     } else if same(name, b"takebefore") {
         Ok(take_before_of(number_of(number), number_of(word)))
+    } else if same(name, b"unstream") {
+        Ok(closing_two(number_of(number), number_of(word)))
+    } else if same(name, b"queue") {
+        Ok(queue_of(number_of(number), number_of(word)))
     } else {
         Ok(None)
     }
@@ -370,6 +331,13 @@ fn outfault_line(word: &[u8]) -> Option<Line>
     Some(Line::OutFault(count))
 }
 
+fn capacity_line(word: &[u8]) -> Option<Line>
+    ensures { result ≡ capacity_line (number_of word.now) }
+{
+    let limit = number_of(word)?;
+    Some(Line::Capacity(limit))
+}
+
 fn sent_line(alloc: Global, word: &[u8]) -> Result<Option<Line>, AllocError>
     ensures { IfOk result (λ line. line ≡ sent_line word.now) }
 {
@@ -405,6 +373,8 @@ fn head_of(alloc: Global, name: &[u8], word: &[u8]) -> Result<Option<Line>, Allo
         direct_line(alloc, word)
     } else if same(name, b"in") {
         in_line(alloc, word)
+    } else if same(name, b"queue") {
+        Ok(capacity_line(word))
     } else if same(name, b"outfault") {
         Ok(outfault_line(word))
     } else if same(name, b"sent") {

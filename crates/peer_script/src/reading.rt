@@ -16,8 +16,10 @@ use wire_names::{Bytes, OwnedUniqueName};
 pub(crate) enum Stage {
     /// `direct` is wanted.
     Start,
-    /// `fds`, `outfault`, the source's lines, commands or `sent` may come.
+    /// `queue`, `fds`, `outfault`, the source's lines, commands or `sent` may come.
     Head,
+    /// `fds`, `outfault`, the source's lines, commands or `sent` may come.
+    Queued,
     /// `outfault`, the source's lines, commands or `sent` may come.
     Sink,
     /// The source's lines, commands or `sent` may come.
@@ -33,6 +35,7 @@ pub(crate) enum Stage {
 struct Progress {
     stage: Stage,
     name: Option<OwnedUniqueName>,
+    queue: Option<u64>,
     fds: bool,
     outfault: Option<u64>,
     pieces: Vec<Piece>,
@@ -49,7 +52,27 @@ fn take_direct(progress: &mut Progress, name: Option<OwnedUniqueName>) -> Result
             progress.stage = Stage::Head;
             Ok(true)
         }
-        Stage::Head | Stage::Sink | Stage::Pieces | Stage::Commands | Stage::Over => Ok(false),
+        Stage::Head | Stage::Queued | Stage::Sink | Stage::Pieces | Stage::Commands | Stage::Over =>
+            Ok(false),
+    }
+}
+
+#[tactic(auto, using(crate::proofs::Pieces::pushed), unfolding(crate::specs::Reading::take_line))]
+fn take_capacity(progress: &mut Progress, limit: u64) -> Result<bool, AllocError>
+    ensures { TakesLine result progress.old progress.new (lines.Capacity limit) }
+{
+    match progress.stage {
+        Stage::Head => {
+            progress.queue = Some(limit);
+            progress.stage = Stage::Queued;
+            Ok(true)
+        }
+        Stage::Start
+        | Stage::Queued
+        | Stage::Sink
+        | Stage::Pieces
+        | Stage::Commands
+        | Stage::Over => Ok(false),
     }
 }
 
@@ -58,7 +81,7 @@ fn take_fds(progress: &mut Progress) -> Result<bool, AllocError>
     ensures { TakesLine result progress.old progress.new lines.Fds }
 {
     match progress.stage {
-        Stage::Head => {
+        Stage::Head | Stage::Queued => {
             progress.fds = true;
             progress.stage = Stage::Sink;
             Ok(true)
@@ -72,7 +95,7 @@ fn take_outfault(progress: &mut Progress, count: u64) -> Result<bool, AllocError
     ensures { TakesLine result progress.old progress.new (lines.OutFault count) }
 {
     match progress.stage {
-        Stage::Head | Stage::Sink => {
+        Stage::Head | Stage::Queued | Stage::Sink => {
             progress.outfault = Some(count);
             progress.stage = Stage::Pieces;
             Ok(true)
@@ -86,7 +109,7 @@ fn take_piece(progress: &mut Progress, piece: Bytes) -> Result<bool, AllocError>
     ensures { TakesLine result progress.old progress.new (lines.In piece) }
 {
     match progress.stage {
-        Stage::Head | Stage::Sink | Stage::Pieces => {
+        Stage::Head | Stage::Queued | Stage::Sink | Stage::Pieces => {
             progress.pieces.push(Piece::Bytes(piece.into_vec()))?;
             progress.stage = Stage::Pieces;
             Ok(true)
@@ -100,7 +123,7 @@ fn take_infault(progress: &mut Progress) -> Result<bool, AllocError>
     ensures { TakesLine result progress.old progress.new lines.InFault }
 {
     match progress.stage {
-        Stage::Head | Stage::Sink | Stage::Pieces => {
+        Stage::Head | Stage::Queued | Stage::Sink | Stage::Pieces => {
             progress.pieces.push(Piece::Fault)?;
             progress.stage = Stage::Pieces;
             Ok(true)
@@ -114,7 +137,7 @@ fn take_command(progress: &mut Progress, command: Command) -> Result<bool, Alloc
     ensures { TakesLine result progress.old progress.new (lines.Do command) }
 {
     match progress.stage {
-        Stage::Head | Stage::Sink | Stage::Pieces | Stage::Commands => {
+        Stage::Head | Stage::Queued | Stage::Sink | Stage::Pieces | Stage::Commands => {
             progress.commands.push(command)?;
             progress.stage = Stage::Commands;
             Ok(true)
@@ -128,7 +151,7 @@ fn take_sent(progress: &mut Progress) -> Result<bool, AllocError>
     ensures { TakesLine result progress.old progress.new lines.Sent }
 {
     match progress.stage {
-        Stage::Head | Stage::Sink | Stage::Pieces | Stage::Commands => {
+        Stage::Head | Stage::Queued | Stage::Sink | Stage::Pieces | Stage::Commands => {
             progress.stage = Stage::Over;
             Ok(true)
         }
@@ -142,6 +165,7 @@ fn take_line(progress: &mut Progress, line: Line) -> Result<bool, AllocError>
 {
     match line {
         Line::Direct(name) => take_direct(progress, name),
+        Line::Capacity(limit) => take_capacity(progress, limit),
         Line::Fds => take_fds(progress),
         Line::OutFault(count) => take_outfault(progress, count),
         Line::In(piece) => take_piece(progress, piece),
@@ -170,18 +194,20 @@ fn may_end(stage: Stage) -> bool
 {
     match stage {
         Stage::Start => false,
-        Stage::Head | Stage::Sink | Stage::Pieces | Stage::Commands | Stage::Over => true,
+        Stage::Head | Stage::Queued | Stage::Sink | Stage::Pieces | Stage::Commands | Stage::Over =>
+            true,
     }
 }
 
 /// The script of a text.
 pub(crate) fn read_text(alloc: Global, text: &[u8]) -> Result<(Setup, Vec<Command>), ScriptError>
     requires { length text.now < 2 ^ 63 }
-    ensures { TellsText (λ x. script_from x.0.name x.0.fds x.0.outfault x.0.pieces.items x.1.items) text.now result }
+    ensures { TellsText (λ x. script_from x.0.name x.0.queue x.0.fds x.0.outfault x.0.pieces.items x.1.items) text.now result }
 {
     let mut progress = Progress {
         stage: Stage::Start,
         name: None,
+        queue: None,
         fds: false,
         outfault: None,
         pieces: Vec::new(alloc),
@@ -204,6 +230,7 @@ pub(crate) fn read_text(alloc: Global, text: &[u8]) -> Result<(Setup, Vec<Comman
     }
     let Progress {
         name,
+        queue,
         fds,
         outfault,
         pieces,
@@ -212,6 +239,7 @@ pub(crate) fn read_text(alloc: Global, text: &[u8]) -> Result<(Setup, Vec<Comman
     } = progress;
     let setup = Setup {
         name,
+        queue,
         fds,
         outfault,
         pieces,

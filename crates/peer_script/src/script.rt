@@ -24,6 +24,8 @@ const STEP: usize = 65_536;
 pub struct Setup {
     /// The peer's unique name, where it has one.
     pub name: Option<OwnedUniqueName>,
+    /// How many messages a stream may hold before reads wait; None where it is what it is without being set, 64.
+    pub queue: Option<u64>,
     /// Whether the peer's sink takes messages with file descriptors.
     pub fds: bool,
     /// After how many bytes the peer's sink fails one write; None where it never does.
@@ -98,7 +100,7 @@ pub fn read_script<I: Source>(
     word: Word,
     input: &mut I,
 ) -> Result<(Setup, Vec<Command>), ScriptError>
-    ensures told { IfSome (I.left input.old) (λ bytes. TellsScript (λ x. script_from x.0.name x.0.fds x.0.outfault x.0.pieces.items x.1.items) bytes result) }
+    ensures told { IfSome (I.left input.old) (λ bytes. TellsScript (λ x. script_from x.0.name x.0.queue x.0.fds x.0.outfault x.0.pieces.items x.1.items) bytes result) }
     ensures faults { FaultsTell result (I.stop input.old) (I.faults input.old) (I.faults input.new) }
 {
     let Word::Run = word;

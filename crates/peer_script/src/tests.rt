@@ -50,7 +50,7 @@ fn read_of(
 #[test]
 fn reads_scripts(rt: HostRuntime) -> Result<(), Fail> {
     let alloc = rt.alloc();
-    let table: [(&[u8], usize, usize); 17] = [
+    let table: [(&[u8], usize, usize); 20] = [
         (b"direct\n", 0, 0),
         (b"direct\nsent -\n", 0, 0),
         (b"direct\nsent 00\n", 0, 0),
@@ -87,6 +87,17 @@ fn reads_scripts(rt: HostRuntime) -> Result<(), Fail> {
             0,
             2,
         ),
+        (b"direct\nqueue 0\n", 0, 0),
+        (
+            b"direct :1.7\nqueue 18446744073709551615\noutfault 0\nsent -\n",
+            0,
+            0,
+        ),
+        (
+            b"direct\nqueue 5\nin 00\n5 queue 0 3\nqueue 0 0 = ok\n",
+            1,
+            2,
+        ),
         (TRANSCRIPT, 1, 3),
     ];
     for (text, pieces, commands) in table {
@@ -104,7 +115,7 @@ fn reads_scripts(rt: HostRuntime) -> Result<(), Fail> {
 #[test]
 fn names_the_first_line_outside(rt: HostRuntime) -> Result<(), Fail> {
     let alloc = rt.alloc();
-    let table: [(&[u8], u64); 52] = [
+    let table: [(&[u8], u64); 68] = [
         (b"", 1),
         (b"direct", 1),
         (b"\n", 1),
@@ -154,6 +165,22 @@ fn names_the_first_line_outside(rt: HostRuntime) -> Result<(), Fail> {
         (b"direct\ntakebefore 0 18446744073709551616\n", 2),
         (b"direct\ntakebefore 00 0\n", 2),
         (b"direct\nerror 0 a.b\n", 2),
+        (b"queue 1\ndirect\n", 1),
+        (b"direct\nqueue 1\nqueue 1\n", 3),
+        (b"direct\nfds\nqueue 1\n", 3),
+        (b"direct\noutfault 1\nqueue 1\n", 3),
+        (b"direct\nin 00\nqueue 1\n", 3),
+        (b"direct\nread\nqueue 1\n", 3),
+        (b"direct\nsent -\nqueue 1\n", 3),
+        (b"direct\nqueue\n", 2),
+        (b"direct\nqueue -\n", 2),
+        (b"direct\nqueue 01\n", 2),
+        (b"direct\nqueue 1 = x\n", 2),
+        (b"direct\n5 queue 3\n", 2),
+        (b"direct\nclone\n", 2),
+        (b"direct\nclone 0 1\n", 2),
+        (b"direct\nunstream 0 -\n", 2),
+        (b"direct\nmainqueue 0 1\n", 2),
         (b"direct\ncall - \\41 - do - -\n", 2),
         (b"direct\ncall - a\\3db - do - -\n", 2),
         (b"direct\ncall - \\5C - do - -\n", 2),
@@ -266,6 +293,7 @@ fn writes_each_answer(rt: HostRuntime) -> Result<(), Fail> {
     }
     let setup = Setup {
         name: Some(OwnedUniqueName::try_from(alloc, ":1.7")?),
+        queue: Some(5),
         fds: true,
         outfault: Some(9),
         pieces: vec![in alloc; Piece::Fault]?,
@@ -275,7 +303,7 @@ fn writes_each_answer(rt: HostRuntime) -> Result<(), Fail> {
     assert!(rt; write_transcript(alloc, &setup, &transcript, b"", &mut sink).is_ok());
     assert_eq!(rt;
         sink.bytes(),
-        b"direct :1.7\nfds\noutfault 9\ninfault\n1 call a.b - \\3d d\\20o naibd y:\\20 = sent 7\n0 before 1 18446744073709551615 = nonebefore\n0 takebefore 3 0 = nonebefore\n0 drop 1 = dropped\n0 stream = stream 0\n0 read = busy\n0 take 0 = item 1\n0 take 0 = empty\n0 take 0 = ended\n0 reply 2 - = sent 1\n0 error 0 a.b y:01 = sent 2\nsent -\n".as_slice()
+        b"direct :1.7\nqueue 5\nfds\noutfault 9\ninfault\n1 call a.b - \\3d d\\20o naibd y:\\20 = sent 7\n0 before 1 18446744073709551615 = nonebefore\n0 takebefore 3 0 = nonebefore\n0 drop 1 = dropped\n0 stream = stream 0\n0 read = busy\n0 take 0 = item 1\n0 take 0 = empty\n0 take 0 = ended\n0 reply 2 - = sent 1\n0 error 0 a.b y:01 = sent 2\nsent -\n".as_slice()
     );
     Ok(())
 }
@@ -317,6 +345,7 @@ fn writes_a_transcript(rt: HostRuntime) -> Result<(), Fail> {
     pieces.push(Piece::Bytes(RETURN.to_vec(alloc)?))?;
     let setup = Setup {
         name: None,
+        queue: None,
         fds: false,
         outfault: None,
         pieces,
@@ -327,6 +356,63 @@ fn writes_a_transcript(rt: HostRuntime) -> Result<(), Fail> {
     let written = write_transcript(alloc, &setup, &transcript, &SENT, &mut sink);
     assert!(rt; written.is_ok());
     assert_eq!(rt; sink.bytes(), TRANSCRIPT);
+    Ok(())
+}
+
+/// An answer that a command may have.
+fn answer_to(words: &Words) -> Answer {
+    match words {
+        Words::Clone(_) => Answer::Streaming(1),
+        Words::Unstream { .. } => Answer::Gone,
+        Words::Queue { .. } | Words::MainQueue(_) => Answer::Set,
+        _ => Answer::NotYet,
+    }
+}
+
+/// The transcript of a script whose commands have these answers.
+fn transcript_of(alloc: Global, text: &[u8]) -> Result<MemorySink, Fail> {
+    let (setup, commands) = read_of(alloc, text, false)??;
+    let mut entries = Vec::new(alloc);
+    for command in commands {
+        let answer = answer_to(&command.words);
+        entries.push(Entry {
+            lane: command.lane,
+            words: command.words,
+            answer,
+        })?;
+    }
+    let mut sink = MemorySink::new(alloc, false);
+    let transcript = Transcript { entries };
+    write_transcript(alloc, &setup, &transcript, b"", &mut sink)?;
+    Ok(sink)
+}
+
+#[test]
+fn writes_capacities_clones_and_closings(rt: HostRuntime) -> Result<(), Fail> {
+    let alloc = rt.alloc();
+    let table: [(&[u8], &[u8]); 5] = [
+        (b"direct\nqueue 0\n", b"direct\nqueue 0\nsent -\n"),
+        (
+            b"direct\nqueue 18446744073709551615\nfds\nin 00\nsent 00\n",
+            b"direct\nqueue 18446744073709551615\nfds\nin 00\nsent -\n",
+        ),
+        (
+            b"direct\nclone 0\n7 clone 2\n",
+            b"direct\n0 clone 0 = stream 1\n7 clone 2 = stream 1\nsent -\n",
+        ),
+        (
+            b"direct\nunstream 1\nunstream 1 1 = x\n",
+            b"direct\n0 unstream 1 = gone\n0 unstream 1 1 = gone\nsent -\n",
+        ),
+        (
+            b"direct\n5 queue 0 3\nmainqueue 18446744073709551615\n",
+            b"direct\n5 queue 0 3 = ok\n0 mainqueue 18446744073709551615 = ok\nsent -\n",
+        ),
+    ];
+    for (text, written) in table {
+        let sink = transcript_of(alloc, text)?;
+        assert_eq!(rt; sink.bytes(), written);
+    }
     Ok(())
 }
 

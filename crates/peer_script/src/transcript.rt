@@ -3,7 +3,7 @@ ghost use Rattle.std.specs.Prelude.{ℕ, ◌≡◌, ◌++◌, [], ◌∷◌, len
 ghost use Rattle.std.specs.List.{flat_map};
 ghost use Rattle.wire_message.specs.Texts.{message_line};
 ghost use Rattle.peer_script.specs.Word.{text_word, optional_word, flags_word};
-ghost use Rattle.peer_script.specs.Transcript.{or_empty, shown_byte, shown_text, io_word, error_word, outgoing_text, words_text, answer_text, entry_text, given_text, direct_text, fds_text, outfault_text, sent_word, transcript_text};
+ghost use Rattle.peer_script.specs.Transcript.{or_empty, shown_byte, shown_text, io_word, error_word, outgoing_text, words_text, answer_text, entry_text, given_text, direct_text, capacity_text, fds_text, outfault_text, sent_word, transcript_text};
 ghost use Rattle.peer_route.specs.declared.words.Words.TheVariants as words;
 ghost use Rattle.peer_script.specs.Reading.{given_of, given};
 ghost use Rattle.peer_script.specs.Output.{WritesAll};
@@ -128,6 +128,21 @@ fn put_error_reply(
 }
 
 #[tactic(auto, unfolding(crate::specs::Transcript::words_text))]
+fn put_unstream(
+    alloc: Global,
+    text: &mut Vec<u8>,
+    stream: u64,
+    second: Option<u64>,
+) -> Result<(), AllocError>
+    ensures { OnOk result (text.new.items ≡ text.old.items ++ words_text (words.Unstream stream second)) }
+{
+    match second {
+        None => put_with_number(alloc, text, b"unstream ", stream),
+        Some(second) => put_with_numbers(alloc, text, b"unstream ", stream, second),
+    }
+}
+
+#[tactic(auto, unfolding(crate::specs::Transcript::words_text))]
 fn put_words(alloc: Global, text: &mut Vec<u8>, words: &Words) -> Result<(), AllocError>
     ensures { OnOk result (text.new.items ≡ text.old.items ++ words_text words.now) }
 {
@@ -139,14 +154,20 @@ fn put_words(alloc: Global, text: &mut Vec<u8>, words: &Words) -> Result<(), All
         Words::Read => put(text, b"read"),
         Words::Poll(number) => put_with_number(alloc, text, b"poll ", *number),
         Words::Before { call, before } => {
-            put_with_position(alloc, text, b"before ", *call, *before)
+            put_with_numbers(alloc, text, b"before ", *call, *before)
         }
         Words::Drop(number) => put_with_number(alloc, text, b"drop ", *number),
         Words::Stream => put(text, b"stream"),
         Words::Take(number) => put_with_number(alloc, text, b"take ", *number),
         Words::TakeBefore { stream, before } => {
-            put_with_position(alloc, text, b"takebefore ", *stream, *before)
+            put_with_numbers(alloc, text, b"takebefore ", *stream, *before)
         }
+        Words::Clone(stream) => put_with_number(alloc, text, b"clone ", *stream),
+        Words::Unstream { stream, second } => put_unstream(alloc, text, *stream, *second),
+        Words::Queue { stream, limit } => {
+            put_with_numbers(alloc, text, b"queue ", *stream, *limit)
+        }
+        Words::MainQueue(limit) => put_with_number(alloc, text, b"mainqueue ", *limit),
     }
 }
 
@@ -222,18 +243,18 @@ fn put_with_number(
     put_number(alloc, text, number)
 }
 
-fn put_with_position(
+fn put_with_numbers(
     alloc: Global,
     text: &mut Vec<u8>,
     what: &[u8],
     number: u64,
-    position: u64,
+    second: u64,
 ) -> Result<(), AllocError>
-    ensures { OnOk result (text.new.items ≡ text.old.items ++ what.now ++ decimal number ++ 32 ∷ [] ++ decimal position) }
+    ensures { OnOk result (text.new.items ≡ text.old.items ++ what.now ++ decimal number ++ 32 ∷ [] ++ decimal second) }
 {
     put_with_number(alloc, text, what, number)?;
     put(text, b" ")?;
-    put_number(alloc, text, position)
+    put_number(alloc, text, second)
 }
 
 #[tactic(auto, unfolding(crate::specs::Transcript::answer_text))]
@@ -258,6 +279,8 @@ fn put_answer(alloc: Global, text: &mut Vec<u8>, answer: &Answer) -> Result<(), 
         Answer::Item(position) => put_with_number(alloc, text, b"item ", *position),
         Answer::Empty => put(text, b"empty"),
         Answer::Ended => put(text, b"ended"),
+        Answer::Gone => put(text, b"gone"),
+        Answer::Set => put(text, b"ok"),
     }
 }
 
@@ -315,6 +338,19 @@ fn put_sent(text: &mut Vec<u8>, sent: &[u8]) -> Result<(), AllocError>
     }
 }
 
+#[tactic(auto, unfolding(crate::specs::Transcript::capacity_text))]
+fn put_capacity(alloc: Global, text: &mut Vec<u8>, limit: Option<u64>) -> Result<(), AllocError>
+    ensures { OnOk result (text.new.items ≡ text.old.items ++ capacity_text limit) }
+{
+    match limit {
+        None => Ok(()),
+        Some(limit) => {
+            put_with_number(alloc, text, b"queue ", limit)?;
+            put(text, b"\n")
+        }
+    }
+}
+
 #[tactic(auto, unfolding(crate::specs::Transcript::fds_text))]
 fn put_fds(text: &mut Vec<u8>, fds: bool) -> Result<(), AllocError>
     ensures { OnOk result (text.new.items ≡ text.old.items ++ fds_text fds) }
@@ -357,9 +393,10 @@ fn put_transcript(
     entries: &[Entry],
     sent: &[u8],
 ) -> Result<(), AllocError>
-    ensures { OnOk result (text.new.items ≡ text.old.items ++ transcript_text setup.now.name setup.now.fds setup.now.outfault (given setup.now.pieces.items) entries.now sent.now) }
+    ensures { OnOk result (text.new.items ≡ text.old.items ++ transcript_text setup.now.name setup.now.queue setup.now.fds setup.now.outfault (given setup.now.pieces.items) entries.now sent.now) }
 {
     put_direct(text, &setup.name)?;
+    put_capacity(alloc, text, setup.queue)?;
     put_fds(text, setup.fds)?;
     put_outfault(alloc, text, setup.outfault)?;
     put_pieces(text, setup.pieces.as_slice())?;
@@ -379,7 +416,7 @@ pub fn write_transcript<O: Sink>(
     sent: &[u8],
     output: &mut O,
 ) -> Result<(), Refusal>
-    ensures text { WritesAll result (transcript_text setup.now.name setup.now.fds setup.now.outfault (given setup.now.pieces.items) transcript.now.entries.items sent.now) (O.held output.old) (O.held output.new) (O.room output.old) (O.room output.new) (O.faults output.old) (O.faults output.new) }
+    ensures text { WritesAll result (transcript_text setup.now.name setup.now.queue setup.now.fds setup.now.outfault (given setup.now.pieces.items) transcript.now.entries.items sent.now) (O.held output.old) (O.held output.new) (O.room output.old) (O.room output.new) (O.faults output.old) (O.faults output.new) }
     ensures fds { O.takes output.new ≡ O.takes output.old }
 {
     let mut text = Vec::new(alloc);

@@ -11,7 +11,7 @@ loop-count-smaller c =
 pub loop-count-preserved : goal.loop-count-preserved
 loop-count-preserved c =
     let len : length c.loop-count.queues.items ≡ length c.args.queues.now.items = ap length c.loop-count.invariant.0 ∙ queued_first-length c.loop-count.count c.args.message.now c.args.queues.now.items in (
-      queued_step c.loop-count.count c.args.message.now c.args.queues.now.items c.loop-count.queues.items c.index_mut.result.now c.push.new.self
+      queued_step c.loop-count.count c.args.message.now c.args.queues.now.items c.loop-count.queues.items c.index_mut.result.now c.push_to.new.queue
           c.loop-count.invariant.0 (omega (arith, c.loop-count-test.true, c.len.ensures, c.loop-count.queues.ok.0)) c.index_mut.ensures.value (search rules),
       omega (arith, c.loop-count-test.true, c.len.ensures, c.loop-count.queues.ok.0),
     )

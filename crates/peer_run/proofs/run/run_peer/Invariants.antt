@@ -5,7 +5,7 @@ use Rattle.peer_run.proofs.run.run_peer.Given as goal
 
 abbrev pub invariant-loop-command : goal.invariant-loop-command
 invariant-loop-command g l = record {
-  stands : Stands (setting_by l.fn.setup.name (g.W.Sink.takes l.fn.sink))
+  stands : Stands (setting_by l.fn.setup.name l.fn.setup.queue (g.W.Sink.takes l.fn.sink))
       (record { left = g.S.Source.left l.fn.source; stop = g.S.Source.stop l.fn.source; faults = g.S.Source.faults l.fn.source })
       (record { held = g.W.Sink.held l.fn.sink; room = g.W.Sink.room l.fn.sink; faults = g.W.Sink.faults l.fn.sink })
       l.peer

@@ -1,4 +1,5 @@
-use Rattle.peer_script.proofs.Grammar.{text_of_reading, reading_of_text}
+use Rattle.peer_script.proofs.Grammar.{text_of_reading}
+use Rattle.peer_script.proofs.Readings.{reading_of_text}
 use Rattle.peer_script.proofs.laws.script_texts_are_read.Goals as goal
 
 pub returns : goal.returns

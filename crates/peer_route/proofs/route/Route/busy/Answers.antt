@@ -9,7 +9,7 @@ pub returns-then-is_none-clause-view : goal.returns-then-is_none-clause-view
 returns-then-is_none-clause-view c =
     busy_open c.args.self.now c.is_over.result
     (ap (λ (v : View). is_some v.calls.closing) (sym c.self.view_is) ∙ ap is_some (sym c.closing.ensures) ∙ c.if-is_none.ensures)
-    (c.is_over.ensures ∙ ap (λ (v : View). list_any is_over v.streams) c.self.view_is)
+    (c.is_over.ensures ∙ ap (λ (v : View). list_any (is_over v.main) v.streams) c.self.view_is)
 
 pub returns-then-is_none-clause-busy : goal.returns-then-is_none-clause-busy
 returns-then-is_none-clause-busy c h left = returns-then-is_none-clause-view c ∙ busy_left c.args.self.now h left

@@ -12,7 +12,7 @@ use Rattle.peer_run.proofs.peer.Peer.send_words.Goals as goal
 pub returns-in-Ok-issue-clause-sent : goal.returns-in-Ok-issue-clause-sent
 returns-in-Ok-issue-clause-sent g c =
     let takes = g.W.Sink.takes c.args.half.now.sink in
-    let setting = setting_by c.args.name.now takes in
+    let setting = setting_by c.args.setup.now.name c.args.setup.now.queue takes in
     let p : PeerView = record { core = c.self.inside.route; names = c.self.inside.names; streams = c.self.inside.streams; given = c.self.inside.given.items } in
     let q : PeerView = record { core = c.issue.new.self; names = c.self.inside.names; streams = c.self.inside.streams; given = c.self.inside.given.items } in
     let parcel : Parcel = c.in-Ok.letter in
@@ -20,7 +20,7 @@ returns-in-Ok-issue-clause-sent g c =
     let after_out : Outlet = record { held = g.W.Sink.held c.send.new.half.sink; room = g.W.Sink.room c.send.new.half.sink; faults = g.W.Sink.faults c.send.new.half.sink } in
     let made : MakesAsked (Ok parcel) (asks_with setting (λ n. kept_at p.given (place 0 c.args.lane n p.streams)) c.args.words.now) =
     subst (λ (gs : List (Option Seen)). MakesAsked (Ok parcel) (asks_with setting (λ n. kept_at gs (place 0 c.args.lane n p.streams)) c.args.words.now)) c.as_slice.ensures.value
-    (subst (λ (b : Bool). MakesAsked (Ok parcel) (asks_with (setting_by c.args.name.now b) (λ n. kept_at c.as_slice.result.now (place 0 c.args.lane n p.streams)) c.args.words.now))
+    (subst (λ (b : Bool). MakesAsked (Ok parcel) (asks_with (setting_by c.args.setup.now.name c.args.setup.now.queue b) (λ n. kept_at c.as_slice.result.now (place 0 c.args.lane n p.streams)) c.args.words.now))
     c.can_pass_unix_fd-takes_fds.ensures c.in-Ok.ensures) in
     IfOk-weaker c.send.result _ _ (λ answer sent es f fine.
     let k : Follows setting p es = subst (λ v. Follows setting v es) (sym c.self.view_is) f in
@@ -33,11 +33,11 @@ returns-in-Ok-issue-clause-sent g c =
 pub returns-in-Err-clause-sent : goal.returns-in-Err-clause-sent
 returns-in-Err-clause-sent g c =
     let takes = g.W.Sink.takes c.args.half.now.sink in
-    let setting = setting_by c.args.name.now takes in
+    let setting = setting_by c.args.setup.now.name c.args.setup.now.queue takes in
     let p : PeerView = record { core = c.self.inside.route; names = c.self.inside.names; streams = c.self.inside.streams; given = c.self.inside.given.items } in
     let made : MakesAsked (Err c.in-Err.error) (asks_with setting (λ n. kept_at p.given (place 0 c.args.lane n p.streams)) c.args.words.now) =
     subst (λ (gs : List (Option Seen)). MakesAsked (Err c.in-Err.error) (asks_with setting (λ n. kept_at gs (place 0 c.args.lane n p.streams)) c.args.words.now)) c.as_slice.ensures.value
-    (subst (λ (b : Bool). MakesAsked (Err c.in-Err.error) (asks_with (setting_by c.args.name.now b) (λ n. kept_at c.as_slice.result.now (place 0 c.args.lane n p.streams)) c.args.words.now))
+    (subst (λ (b : Bool). MakesAsked (Err c.in-Err.error) (asks_with (setting_by c.args.setup.now.name c.args.setup.now.queue b) (λ n. kept_at c.as_slice.result.now (place 0 c.args.lane n p.streams)) c.args.words.now))
     c.can_pass_unix_fd-takes_fds.ensures c.in-Err.ensures) in
     let now_out : Outlet = record { held = g.W.Sink.held c.args.half.now.sink; room = g.W.Sink.room c.args.half.now.sink; faults = g.W.Sink.faults c.args.half.now.sink } in
     letter_refused_of _ setting p c.args.self.now c.args.lane c.args.words.now c.in-Err.error c.refused.result now_out c.args.half.now.writing c.self.view_is made c.refused.ensures
@@ -45,14 +45,14 @@ returns-in-Err-clause-sent g c =
 pub returns-clause-sent : goal.returns-clause-sent
 returns-clause-sent g c =
     let takes = g.W.Sink.takes c.args.half.now.sink in
-    let setting = setting_by c.args.name.now takes in
+    let setting = setting_by c.args.setup.now.name c.args.setup.now.queue takes in
     let p : PeerView = record { core = c.self.inside.route; names = c.self.inside.names; streams = c.self.inside.streams; given = c.self.inside.given.items } in
     let q : PeerView = record { core = c.issue.new.self; names = c.self.inside.names; streams = c.self.inside.streams; given = c.self.inside.given.items } in
     let parcel : Parcel = c.in-Ok.letter in
     let now_out : Outlet = record { held = g.W.Sink.held c.args.half.now.sink; room = g.W.Sink.room c.args.half.now.sink; faults = g.W.Sink.faults c.args.half.now.sink } in
     let made : MakesAsked (Ok parcel) (asks_with setting (λ n. kept_at p.given (place 0 c.args.lane n p.streams)) c.args.words.now) =
     subst (λ (gs : List (Option Seen)). MakesAsked (Ok parcel) (asks_with setting (λ n. kept_at gs (place 0 c.args.lane n p.streams)) c.args.words.now)) c.as_slice.ensures.value
-    (subst (λ (b : Bool). MakesAsked (Ok parcel) (asks_with (setting_by c.args.name.now b) (λ n. kept_at c.as_slice.result.now (place 0 c.args.lane n p.streams)) c.args.words.now))
+    (subst (λ (b : Bool). MakesAsked (Ok parcel) (asks_with (setting_by c.args.setup.now.name c.args.setup.now.queue b) (λ n. kept_at c.as_slice.result.now (place 0 c.args.lane n p.streams)) c.args.words.now))
     c.can_pass_unix_fd-takes_fds.ensures c.in-Ok.ensures) in
     IfOk-weaker c.not_issued.result _ _ (λ answer is es f fine.
     let k : Follows setting p es = subst (λ v. Follows setting v es) (sym c.self.view_is) f in

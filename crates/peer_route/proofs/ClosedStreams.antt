@@ -1,0 +1,234 @@
+-- A stream that was closed is unknown for good.
+use Rattle.std.proofs.Common.{◌≡◌, inl, inr, ℕ, zero, suc, ◌==◌, ◌&&◌, not, refl, sym, ◌∙◌, ap, subst, Bool, true, false, is_some, List, [], ◌∷◌, ◌++◌, Option, Some, None, Err}
+use Rattle.std.specs.List.{slice_get, AllByRecursion}
+use Rattle.std.proofs.lemmas.Bool.{or_cases, eqb-true}
+use Rattle.wire_message.specs.declared.error.Error.TheVariants as errors
+use Rattle.peer_route.specs.declared.words.Words.{Words}
+use Rattle.peer_route.specs.declared.words.Words.TheVariants as words
+use Rattle.peer_route.specs.declared.answer.Answer.{Answer}
+use Rattle.peer_route.specs.declared.answer.Answer.TheVariants as answers
+use Rattle.peer_route.specs.declared.answer.Entry.{Entry}
+use Rattle.peer_route.specs.History.{Event, Took, Shut, Put, Wrote, Fault, Spent, Made, Did, Main, Deed, Gave, Told, Gone, Asked, by_position, edit}
+use Rattle.peer_route.specs.Streams.{Stream, streams, new_stream, done_by, is_there, is_open, gave_last, take_at, take_answer}
+use Rattle.peer_route.specs.Parcel.{Setting}
+use Rattle.peer_route.specs.CallMessage.{reply_asked, error_asked}
+use Rattle.peer_route.specs.Trail.{Trail, place, given_by, given_at, given, trail, unstream_does, events_of, new_streams}
+use Rattle.peer_route.specs.Answers.{IsAnswer, IsSendOf, Legal, shown_take, take_of, take_before_of, where_open, is_open_at, are_open_at}
+use Rattle.peer_route.specs.StreamLaws.{names_stream, closes_stream, IsNoStream}
+use Rattle.peer_route.proofs.Edits.{edit_there}
+use Rattle.peer_route.proofs.Once.{place_append, legal_from}
+
+-- ---- a stream that is closed
+
+-- the stream with this number was made and is closed
+abbrev closed_at : List Stream → ℕ → Bool
+closed_at [] k = false
+closed_at (s ∷ ss) zero = s.gone
+closed_at (s ∷ ss) (suc k) = closed_at ss k
+
+closed_append : (ss more : List Stream) (k : ℕ) → closed_at ss k ≡ true → closed_at (ss ++ more) k ≡ true
+closed_append [] more k g = cc
+closed_append (s ∷ ss) more zero g = g
+closed_append (s ∷ ss) more (suc k) g = closed_append ss more k g
+
+closed_deed : (deed : Deed) (s : Stream) → s.gone ≡ true → (done_by deed s).gone ≡ true
+closed_deed Gave s g = g
+closed_deed Told s g = g
+closed_deed Gone s g = refl
+closed_deed (Asked limit) s g = g
+
+closed_edit : (deed : Deed) (j k : ℕ) (ss : List Stream) → closed_at ss k ≡ true → closed_at (edit j (done_by deed) ss) k ≡ true
+closed_edit deed j k [] g = g
+closed_edit deed zero zero (s ∷ ss) g = closed_deed deed s g
+closed_edit deed zero (suc k) (s ∷ ss) g = g
+closed_edit deed (suc j) zero (s ∷ ss) g = g
+closed_edit deed (suc j) (suc k) (s ∷ ss) g = closed_edit deed j k ss g
+
+closed_event : (e : Event) (h : List Event) (k : ℕ) → closed_at (streams h) k ≡ true → closed_at (streams (e ∷ h)) k ≡ true
+closed_event (Took m) h k g = g
+closed_event (Shut error) h k g = g
+closed_event (Put m expects) h k g = g
+closed_event Wrote h k g = g
+closed_event Fault h k g = g
+closed_event (Spent call) h k g = g
+closed_event (Made making) h k g = closed_append (streams h) (new_stream h (streams h) making ∷ []) k g
+closed_event (Did j deed) h k g = closed_edit deed j k (streams h) g
+closed_event (Main limit) h k g = g
+
+closed_events : (es h : List Event) (k : ℕ) → closed_at (streams h) k ≡ true → closed_at (streams (es ++ h)) k ≡ true
+closed_events [] h k g = g
+closed_events (e ∷ es) h k g = closed_event e (es ++ h) k (closed_events es h k g)
+
+-- ---- it is closed by an entry
+
+closed_here : (k : ℕ) (ss : List Stream) → is_some (slice_get ss k) ≡ true → closed_at (edit k (done_by Gone) ss) k ≡ true
+closed_here k [] e = cc
+closed_here zero (s ∷ ss) e = refl
+closed_here (suc k) (s ∷ ss) e = closed_here k ss e
+
+there_made : (o : Option Stream) → is_there o ≡ true → is_some o ≡ true
+there_made None e = cc
+there_made (Some s) e = refl
+
+-- an open stream was made
+open_made : (h : List Event) (p : Option ℕ) → is_open_at h p ≡ true → (k : ℕ) × (p ≡ Some k) × (is_some (slice_get (streams h) k) ≡ true)
+unfolding is_open
+open_made h None e = cc
+open_made h (Some k) e = (k, refl, there_made (slice_get (streams h) k) e)
+
+open_gone : (b : Bool) → answers.Gone ≡ where_open b answers.Gone → b ≡ true
+open_gone true e = refl
+open_gone false e = cc
+
+two_open : (a b c : Bool) → (a && b && c) ≡ true → (a ≡ true) × (b ≡ true)
+two_open true true c e = (refl, refl)
+two_open true false c e = cc
+two_open false b c e = cc
+
+-- The stream at this place is closed after these events.
+abbrev Closes : List Event → List Event → Option ℕ → Type 0
+Closes xs h p = (k : ℕ) × (p ≡ Some k) × (closed_at (streams (xs ++ h)) k ≡ true)
+
+closes_one : (h : List Event) (p : Option ℕ) → is_open_at h p ≡ true → Closes (unstream_does p None answers.Gone) h p
+closes_one h p e =
+    let m = open_made h p e in
+    (m.0, m.1, subst (λ o. closed_at (streams (unstream_does o None answers.Gone ++ h)) m.0 ≡ true) (sym m.1) (closed_here m.0 (streams h) m.2))
+
+closes_both : (h : List Event) (p q : Option ℕ) → is_open_at h p ≡ true → is_open_at h q ≡ true
+    → Closes (unstream_does p q answers.Gone) h p × Closes (unstream_does p q answers.Gone) h q
+closes_both h p q e f =
+    let m = open_made h p e in
+    let n = open_made h q f in
+    let first : closed_at (streams (Did m.0 Gone ∷ h)) m.0 ≡ true = closed_here m.0 (streams h) m.2 in
+    let there : is_some (slice_get (streams (Did m.0 Gone ∷ h)) n.0) ≡ true = edit_there (done_by Gone) m.0 n.0 (streams h) ∙ n.2 in
+    let does : unstream_does p q answers.Gone ≡ Did n.0 Gone ∷ Did m.0 Gone ∷ [] =
+    ap (λ o. unstream_does o q answers.Gone) m.1 ∙ ap (λ o. unstream_does (Some m.0) o answers.Gone) n.1 in (
+      (m.0, m.1, subst (λ xs. closed_at (streams (xs ++ h)) m.0 ≡ true) (sym does) (closed_edit Gone n.0 m.0 (streams (Did m.0 Gone ∷ h)) first)),
+      (n.0, n.1, subst (λ xs. closed_at (streams (xs ++ h)) n.0 ≡ true) (sym does) (closed_here n.0 (streams (Did m.0 Gone ∷ h)) there)),
+    )
+
+closes_at : (t : Trail) (lane n number : ℕ) (xs : List Event) → (n == number) ≡ true → Closes xs t.events (place 0 lane n t.streams) → Closes xs t.events (place 0 lane number t.streams)
+closes_at t lane n number xs e c = subst (λ i. Closes xs t.events (place 0 lane i t.streams)) (eqb-true n number e) c
+
+closes_by : (t : Trail) (lane : ℕ) (w : Words) (a : Answer) (number : ℕ) → IsAnswer t lane w a → closes_stream number w ≡ true → a ≡ answers.Gone
+    → Closes (events_of t lane w a) t.events (place 0 lane number t.streams)
+closes_by t lane (words.Unstream n None) a number is e gone =
+    subst (λ x. Closes (events_of t lane (words.Unstream n None) x) t.events (place 0 lane number t.streams)) (sym gone)
+    (closes_at t lane n number (unstream_does (place 0 lane n t.streams) None answers.Gone) e
+    (closes_one t.events (place 0 lane n t.streams) (open_gone (is_open_at t.events (place 0 lane n t.streams)) (sym gone ∙ is))))
+closes_by t lane (words.Unstream n (Some second)) a number is e gone =
+    let p = place 0 lane n t.streams in
+    let q = place 0 lane second t.streams in
+    let open_ = two_open (is_open_at t.events p) (is_open_at t.events q) (not (n == second)) (open_gone (are_open_at t.events lane t.streams n (Some second)) (sym gone ∙ is)) in
+    let both = closes_both t.events p q open_.0 open_.1 in
+    subst (λ x. Closes (events_of t lane (words.Unstream n (Some second)) x) t.events (place 0 lane number t.streams)) (sym gone)
+    (elim (or_cases (n == number) (second == number) e) as (λ _. Closes (unstream_does p q answers.Gone) t.events (place 0 lane number t.streams)) [
+      | inl one ↦ closes_at t lane n number (unstream_does p q answers.Gone) one both.0
+      | inr two ↦ closes_at t lane second number (unstream_does p q answers.Gone) two both.1
+    ])
+closes_by t lane w a number is e gone = cc
+
+-- ---- it is unknown
+
+closed_there : (ss : List Stream) (k : ℕ) → closed_at ss k ≡ true → is_there (slice_get ss k) ≡ false
+closed_there [] k g = cc
+closed_there (s ∷ ss) zero g = ap not g
+closed_there (s ∷ ss) (suc k) g = closed_there ss k g
+
+closed_take_at : (h : List Event) (ss : List Stream) (k : ℕ) → closed_at ss k ≡ true → take_at h (slice_get ss k) ≡ Err errors.UnknownHandle
+closed_take_at h [] k g = cc
+closed_take_at h (s ∷ ss) zero g = rw g refl
+closed_take_at h (s ∷ ss) (suc k) g = closed_take_at h ss k g
+
+closed_given : (h : List Event) (ss : List Stream) (k : ℕ) → closed_at ss k ≡ true → given_by h (slice_get ss k) ≡ None
+unfolding gave_last
+closed_given h [] k g = cc
+closed_given h (s ∷ ss) zero g = rw g refl
+closed_given h (s ∷ ss) (suc k) g = closed_given h ss k g
+
+-- The lane's number names a stream that was closed.
+record IsClosed (t : Trail) (lane number : ℕ) : Type 0 where
+  k : ℕ
+  named : place 0 lane number t.streams ≡ Some k
+  closed : closed_at (streams t.events) k ≡ true
+
+not_taken : (t : Trail) (lane number : ℕ) → IsClosed t lane number → take_of t.events (place 0 lane number t.streams) ≡ answers.Refused errors.UnknownHandle
+unfolding take_answer
+not_taken t lane number c = ap (take_of t.events) c.named ∙ ap shown_take (closed_take_at t.events (streams t.events) c.k c.closed)
+
+not_taken_before : (t : Trail) (lane number : ℕ) → IsClosed t lane number → take_before_of t.events (place 0 lane number t.streams) ≡ answers.Refused errors.UnknownHandle
+unfolding take_answer
+not_taken_before t lane number c =
+    ap (take_before_of t.events) c.named ∙ ap (λ r. shown_take (by_position r)) (closed_take_at t.events (streams t.events) c.k c.closed)
+
+not_open : (t : Trail) (lane number : ℕ) → IsClosed t lane number → is_open_at t.events (place 0 lane number t.streams) ≡ false
+unfolding is_open
+not_open t lane number c = ap (is_open_at t.events) c.named ∙ closed_there (streams t.events) c.k c.closed
+
+none_given : (t : Trail) (lane number : ℕ) → IsClosed t lane number → given t lane number ≡ None
+none_given t lane number c = ap (given_at t.events) c.named ∙ closed_given t.events (streams t.events) c.k c.closed
+
+refused_where : (a there : Answer) (b : Bool) → a ≡ where_open b there → b ≡ false → a ≡ answers.Refused errors.UnknownHandle
+refused_where a there b is e = is ∙ ap (λ x. where_open x there) e
+
+first_not : (a b c : Bool) → a ≡ false → (a && b && c) ≡ false
+first_not false b c e = refl
+first_not true b c e = cc
+
+second_not : (a b c : Bool) → b ≡ false → (a && b && c) ≡ false
+second_not false b c e = refl
+second_not true false c e = refl
+second_not true true c e = cc
+
+named_at : (t : Trail) (lane n number : ℕ) → (n == number) ≡ true → IsClosed t lane number → IsClosed t lane n
+named_at t lane n number e c = subst (IsClosed t lane) (sym (eqb-true n number e)) c
+
+no_stream : (t : Trail) (lane : ℕ) (w : Words) (a : Answer) (number : ℕ) → IsAnswer t lane w a → IsClosed t lane number → names_stream number w ≡ true
+    → a ≡ answers.Refused errors.UnknownHandle
+no_stream t lane (words.Take n) a number is c e = is ∙ not_taken t lane n (named_at t lane n number e c)
+no_stream t lane (words.TakeBefore n before) a number is c e = is ∙ not_taken_before t lane n (named_at t lane n number e c)
+no_stream t lane (words.Clone n) a number is c e = refused_where a _ _ is (not_open t lane n (named_at t lane n number e c))
+no_stream t lane (words.Queue n limit) a number is c e = refused_where a _ _ is (not_open t lane n (named_at t lane n number e c))
+no_stream t lane (words.Unstream n None) a number is c e = refused_where a _ _ is (not_open t lane n (named_at t lane n number e c))
+no_stream t lane (words.Unstream n (Some second)) a number is c e =
+    let p = is_open_at t.events (place 0 lane n t.streams) in
+    let q = is_open_at t.events (place 0 lane second t.streams) in
+    refused_where a answers.Gone (p && q && not (n == second)) is (elim (or_cases (n == number) (second == number) e) as (λ _. (p && q && not (n == second)) ≡ false) [
+      | inl one ↦ first_not p q (not (n == second)) (not_open t lane n (named_at t lane n number one c))
+      | inr two ↦ second_not p q (not (n == second)) (not_open t lane second (named_at t lane second number two c))
+    ])
+no_stream t lane (words.Reply n body) a number is c e =
+    subst (λ o. IsSendOf t lane (reply_asked t.setting o body) a) (none_given t lane n (named_at t lane n number e c)) is
+no_stream t lane (words.Error n name body) a number is c e =
+    subst (λ o. IsSendOf t lane (error_asked t.setting o name body) a) (none_given t lane n (named_at t lane n number e c)) is
+no_stream t lane w a number is c e = cc
+
+-- ---- entries
+
+closed_more : (setting : Setting) (e : Entry) (es : List Entry) (lane number : ℕ) → IsClosed (trail setting es) lane number → IsClosed (trail setting (e ∷ es)) lane number
+closed_more setting e es lane number c = record {
+  k = c.k;
+  named = place_append 0 lane number (trail setting es).streams (new_streams e.lane e.answer) c.k c.named;
+  closed = closed_events (events_of (trail setting es) e.lane e.words e.answer) (trail setting es).events c.k c.closed;
+}
+
+closed_after : (setting : Setting) (e : Entry) (es : List Entry) (number : ℕ) → Legal setting (e ∷ es) → closes_stream number e.words ≡ true → e.answer ≡ answers.Gone
+    → IsClosed (trail setting (e ∷ es)) e.lane number
+closed_after setting e es number legal w gone =
+    let c = closes_by (trail setting es) e.lane e.words e.answer number legal.0 w gone in
+    record { k = c.0; named = place_append 0 e.lane number (trail setting es).streams (new_streams e.lane e.answer) c.0 c.1; closed = c.2 }
+
+unknown_entry : (t : Trail) (x : Entry) (lane number : ℕ) → IsAnswer t x.lane x.words x.answer → IsClosed t lane number → IsNoStream lane number x
+unknown_entry t x lane number is c same named = no_stream t x.lane x.words x.answer number is (subst (λ l. IsClosed t l number) (sym same) c) named
+
+closed_later : (setting : Setting) (newer older : List Entry) (e : Entry) (lane number : ℕ) → Legal setting (newer ++ e ∷ older) → IsClosed (trail setting (e ∷ older)) lane number
+    → IsClosed (trail setting (newer ++ e ∷ older)) lane number × AllByRecursion (IsNoStream lane number) newer
+closed_later setting [] older e lane number legal c = (c, tt)
+closed_later setting (x ∷ newer) older e lane number legal c =
+    let rest = closed_later setting newer older e lane number legal.1 c in
+    (closed_more setting x (newer ++ e ∷ older) lane number rest.0, (unknown_entry (trail setting (newer ++ e ∷ older)) x lane number legal.0 rest.0, rest.1))
+
+pub closed_for_good : (setting : Setting) (newer older : List Entry) (e : Entry) (number : ℕ) → Legal setting (newer ++ e ∷ older) → closes_stream number e.words ≡ true
+    → e.answer ≡ answers.Gone → AllByRecursion (IsNoStream e.lane number) newer
+closed_for_good setting newer older e number legal w gone =
+    (closed_later setting newer older e e.lane number legal (closed_after setting e older number (legal_from setting newer (e ∷ older) legal) w gone)).1

@@ -1,0 +1,149 @@
+-- What the events of an entry do to streams, and what they leave of one.
+use Rattle.std.proofs.Common.{◌≡◌, ◌≢◌, inl, inr, ℕ, refl, sym, ◌∙◌, subst, Bool, true, false, List, [], ◌∷◌, ◌++◌, Option, Some, None, Ok, Err}
+use Rattle.std.specs.List.{slice_get}
+use Rattle.std.proofs.lemmas.Bool.{cases_eq, eq-eqb}
+use Rattle.wire_message.specs.Front.{Seen}
+use Rattle.wire_message.specs.declared.error.Error.{Error}
+use Rattle.peer_route.specs.declared.words.Words.{Words}
+use Rattle.peer_route.specs.declared.words.Words.TheVariants as words
+use Rattle.peer_route.specs.declared.answer.Answer.{Answer}
+use Rattle.peer_route.specs.declared.answer.Answer.TheVariants as answers
+use Rattle.peer_route.specs.History.{Event, Took, Shut, Put, Wrote, Fault, Spent, Made, Did, Main, Deed, Gave, Told, Gone, Asked, edit, closing, is_failed}
+use Rattle.peer_route.specs.Streams.{Stream, streams, new_stream, done_by}
+use Rattle.peer_route.specs.Parcel as parcels
+use Rattle.peer_route.specs.Trail.{Trail, place, failed_put, send_events, read_events, poll_spends, drop_spends, stream_makes, take_does, clone_makes, gone_at, unstream_does, queue_does, main_sets, second_place, events_of}
+use Rattle.peer_route.specs.StreamLaws.{is_take}
+use Rattle.peer_route.proofs.Edits.{edit_other, edit_here, get_append}
+
+-- ---- what an entry does
+
+-- Whatever these events say of a stream is of this sort.
+abbrev pub Only : (ℕ → Deed → Type 0) → List Event → Type 0
+Only p [] = Unit {0}
+Only p (Did j deed ∷ xs) = p j deed × Only p xs
+Only p (Took m ∷ xs) = Only p xs
+Only p (Shut error ∷ xs) = Only p xs
+Only p (Put m expects ∷ xs) = Only p xs
+Only p (Wrote ∷ xs) = Only p xs
+Only p (Fault ∷ xs) = Only p xs
+Only p (Spent call ∷ xs) = Only p xs
+Only p (Made making ∷ xs) = Only p xs
+Only p (Main limit ∷ xs) = Only p xs
+
+only_failed : (p : ℕ → Deed → Type 0) (b : Bool) (m : Seen) (expects : Bool) → Only p (failed_put b (Put m expects))
+only_failed p true m expects = tt
+only_failed p false m expects = tt
+
+only_send : (p : ℕ → Deed → Type 0) (h : List Event) (asked : parcels.Asked) (a : Answer) → Only p (send_events h asked a)
+only_send p h (Ok parcel) (answers.Called call serial) = tt
+only_send p h (Ok parcel) (answers.Sent serial) = tt
+only_send p h (Ok parcel) (answers.SendFailed error) = only_failed p (is_failed h) _ _
+only_send p h (Ok parcel) a = tt
+only_send p h (Err error) a = tt
+
+only_read : (p : ℕ → Deed → Type 0) (o : Option Error) (a : Answer) → Only p (read_events o a)
+only_read p (Some error) a = tt
+only_read p None (answers.Got m) = tt
+only_read p None (answers.Closed error) = tt
+only_read p None a = tt
+
+only_poll : (p : ℕ → Deed → Type 0) (o : Option ℕ) (a : Answer) → Only p (poll_spends o a)
+only_poll p None a = tt
+only_poll p (Some j) (answers.Reply position) = tt
+only_poll p (Some j) (answers.InvalidReply position) = tt
+only_poll p (Some j) (answers.MethodError m) = tt
+only_poll p (Some j) (answers.Closed error) = tt
+only_poll p (Some j) a = tt
+
+only_drop : (p : ℕ → Deed → Type 0) (o : Option ℕ) (a : Answer) → Only p (drop_spends o a)
+only_drop p None a = tt
+only_drop p (Some j) answers.Dropped = tt
+only_drop p (Some j) a = tt
+
+only_stream : (p : ℕ → Deed → Type 0) (a : Answer) → Only p (stream_makes a)
+only_stream p (answers.Streaming number) = tt
+only_stream p a = tt
+
+only_clone : (p : ℕ → Deed → Type 0) (o : Option ℕ) (a : Answer) → Only p (clone_makes o a)
+only_clone p None a = tt
+only_clone p (Some j) (answers.Streaming number) = tt
+only_clone p (Some j) a = tt
+
+only_gone : (p : ℕ → Deed → Type 0) (o : Option ℕ) (xs : List Event) → ((j : ℕ) → p j Gone) → Only p xs → Only p (gone_at o xs)
+only_gone p None xs gone rest = rest
+only_gone p (Some j) xs gone rest = (gone j, rest)
+
+only_unstream : (p : ℕ → Deed → Type 0) (o q : Option ℕ) (a : Answer) → ((j : ℕ) → p j Gone) → Only p (unstream_does o q a)
+only_unstream p o q answers.Gone gone = only_gone p q (gone_at o []) gone (only_gone p o [] gone tt)
+only_unstream p o q a gone = tt
+
+only_queue : (p : ℕ → Deed → Type 0) (o : Option ℕ) (limit : ℕ) (a : Answer) → ((j n : ℕ) → p j (Asked n)) → Only p (queue_does o limit a)
+only_queue p None limit a asks = tt
+only_queue p (Some j) limit answers.Set asks = (asks j limit, tt)
+only_queue p (Some j) limit a asks = tt
+
+only_main : (p : ℕ → Deed → Type 0) (limit : ℕ) (a : Answer) → Only p (main_sets limit a)
+only_main p limit answers.Set = tt
+only_main p limit a = tt
+
+-- An entry closes streams, or asks for a capacity, or is a take.
+pub only_entry : (p : ℕ → Deed → Type 0) (t : Trail) (lane : ℕ) (w : Words) (a : Answer) → ((j : ℕ) → p j Gone) → ((j n : ℕ) → p j (Asked n))
+    → ((n : ℕ) → is_take n w ≡ true → Only p (take_does (place 0 lane n t.streams) a)) → Only p (events_of t lane w a)
+only_entry p t lane (words.Call out) a gone asks takes = only_send p t.events _ a
+only_entry p t lane (words.Signal out) a gone asks takes = only_send p t.events _ a
+only_entry p t lane (words.Reply stream body) a gone asks takes = only_send p t.events _ a
+only_entry p t lane (words.Error stream name body) a gone asks takes = only_send p t.events _ a
+only_entry p t lane words.Read a gone asks takes = only_read p (closing t.events) a
+only_entry p t lane (words.Poll n) a gone asks takes = only_poll p (place 0 lane n t.names) a
+only_entry p t lane (words.Before n before) a gone asks takes = only_poll p (place 0 lane n t.names) a
+only_entry p t lane (words.Drop n) a gone asks takes = only_drop p (place 0 lane n t.names) a
+only_entry p t lane words.Stream a gone asks takes = only_stream p a
+only_entry p t lane (words.Take n) a gone asks takes = takes n (eq-eqb n n refl)
+only_entry p t lane (words.TakeBefore n before) a gone asks takes = takes n (eq-eqb n n refl)
+only_entry p t lane (words.Clone n) a gone asks takes = only_clone p (place 0 lane n t.streams) a
+only_entry p t lane (words.Unstream n second) a gone asks takes = only_unstream p (place 0 lane n t.streams) (second_place lane second t.streams) a gone
+only_entry p t lane (words.Queue n limit) a gone asks takes = only_queue p (place 0 lane n t.streams) limit a asks
+only_entry p t lane (words.MainQueue limit) a gone asks takes = only_main p limit a
+
+-- ---- a stream that gives nothing
+
+-- the deed is no item of the stream with this number
+abbrev pub Spares : ℕ → ℕ → Deed → Type 0
+Spares k j Gave = j ≢ k
+Spares k j Told = Unit {0}
+Spares k j Gone = Unit {0}
+Spares k j (Asked limit) = Unit {0}
+
+-- The stream is the same since, but that it may have told the closing error, or be closed.
+pub record Stays (ss : List Stream) (k : ℕ) (s : Stream) : Type 0 where
+  pub now_told : Bool
+  pub now_gone : Bool
+  pub made : slice_get ss k ≡ Some (record s { told = now_told; gone = now_gone })
+  pub told_on : s.told ≡ true → now_told ≡ true
+
+stays_here : (deed : Deed) (ss : List Stream) (k : ℕ) (s : Stream) → Spares k k deed → Stays ss k s → Stays (edit k (done_by deed) ss) k s
+stays_here Gave ss k s n r = absurd (n refl)
+stays_here Told ss k s n r = record { now_told = true; now_gone = r.now_gone; made = edit_here (done_by Told) k ss _ r.made; told_on = λ e. refl }
+stays_here Gone ss k s n r = record { now_told = r.now_told; now_gone = true; made = edit_here (done_by Gone) k ss _ r.made; told_on = r.told_on }
+stays_here (Asked limit) ss k s n r =
+    record { now_told = r.now_told; now_gone = r.now_gone; made = edit_here (done_by (Asked limit)) k ss _ r.made; told_on = r.told_on }
+
+stays_deed : (deed : Deed) (ss : List Stream) (j k : ℕ) (s : Stream) → Spares k j deed → Stays ss k s → Stays (edit j (done_by deed) ss) k s
+stays_deed deed ss j k s n r = elim (cases_eq j k) as (λ _. Stays (edit j (done_by deed) ss) k s) [
+  | inl same ↦ subst (λ i. Stays (edit i (done_by deed) ss) k s) (sym same) (stays_here deed ss k s (subst (λ i. Spares k i deed) same n) r)
+  | inr ne ↦ record { now_told = r.now_told; now_gone = r.now_gone; made = edit_other (done_by deed) j k ss ne ∙ r.made; told_on = r.told_on }
+]
+
+pub stays : (xs h : List Event) (k : ℕ) (s : Stream) → Only (Spares k) xs → slice_get (streams h) k ≡ Some s → Stays (streams (xs ++ h)) k s
+stays [] h k s only at = record { now_told = s.told; now_gone = s.gone; made = at; told_on = λ e. e }
+stays (Did j deed ∷ xs) h k s only at = stays_deed deed (streams (xs ++ h)) j k s only.0 (stays xs h k s only.1 at)
+stays (Made making ∷ xs) h k s only at =
+    let r = stays xs h k s only at in
+    record { now_told = r.now_told; now_gone = r.now_gone; made = get_append k (streams (xs ++ h)) (new_stream (xs ++ h) (streams (xs ++ h)) making ∷ []) _ r.made; told_on = r.told_on }
+stays (Took m ∷ xs) h k s only at = stays xs h k s only at
+stays (Shut error ∷ xs) h k s only at = stays xs h k s only at
+stays (Put m expects ∷ xs) h k s only at = stays xs h k s only at
+stays (Wrote ∷ xs) h k s only at = stays xs h k s only at
+stays (Fault ∷ xs) h k s only at = stays xs h k s only at
+stays (Spent call ∷ xs) h k s only at = stays xs h k s only at
+stays (Main limit ∷ xs) h k s only at = stays xs h k s only at

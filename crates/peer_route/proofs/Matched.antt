@@ -1,0 +1,63 @@
+-- The messages that are a stream's: how many of them it passed, that a message that comes is one more, and that it never passes
+-- more than there are.
+use Rattle.std.proofs.Common.{◌≡◌, ℕ, ◌+◌, ◌≤◌, zero, suc, sym, ◌∙◌, ap, subst, arith, List, [], ◌∷◌, ◌++◌, length, drop, Some, length-append}
+use Rattle.std.specs.List.{slice_get, AllByRecursion}
+use Rattle.std.proofs.lemmas.List.{drop-drop, drop-append-le}
+use Rattle.wire_message.specs.Front.{Seen}
+use Rattle.peer_route.specs.History.{Event, Took, read}
+use Rattle.peer_route.specs.Streams.{Stream, plain_stream, matched, offered, held}
+use Rattle.peer_route.specs.Left.{IsWithin}
+
+-- What stands to a stream, by its count.
+pub held_matched : (h : List Event) (s : Stream) → held h s ≡ drop (s.skip + s.taken) (matched h s)
+unfolding held offered
+held_matched h s = drop-drop s.taken s.skip (matched h s)
+
+pub matched_took : (m : Seen) (h : List Event) (s : Stream) → s.from ≤ length (read h) → matched (Took m ∷ h) s ≡ matched h s ++ m ∷ []
+unfolding matched
+matched_took m h s le = drop-append-le s.from (read h) (m ∷ []) le
+
+-- what was read says what is a stream's
+pub matched_same : (g h : List Event) (s : Stream) → read g ≡ read h → matched g s ≡ matched h s
+unfolding matched
+matched_same g h s e = ap (drop s.from) e
+
+pub held_same : (g h : List Event) (s : Stream) → read g ≡ read h → held g s ≡ held h s
+held_same g h s e = held_matched g s ∙ ap (drop (s.skip + s.taken)) (matched_same g h s e) ∙ sym (held_matched h s)
+
+-- ---- none starts above what was read, or passed more than was its own
+
+pub within_same : (g h : List Event) (s : Stream) → read g ≡ read h → IsWithin h s → IsWithin g s
+within_same g h s e w = record {
+  start = subst (λ (ms : List Seen). s.from ≤ length ms) (sym e) w.start;
+  passed = subst (λ (ms : List Seen). s.skip + s.taken ≤ length ms) (sym (matched_same g h s e)) w.passed;
+}
+
+pub all_within_same : (g h : List Event) (ss : List Stream) → read g ≡ read h → AllByRecursion (IsWithin h) ss → AllByRecursion (IsWithin g) ss
+all_within_same g h [] e w = tt
+all_within_same g h (s ∷ ss) e w = (within_same g h s e w.0, all_within_same g h ss e w.1)
+
+pub within_took : (m : Seen) (h : List Event) (s : Stream) → IsWithin h s → IsWithin (Took m ∷ h) s
+within_took m h s w =
+    let start = w.start in
+    let passed = w.passed in
+    record {
+      start = omega (arith, length-append (read h) (m ∷ []));
+      passed = subst (λ (ms : List Seen). s.skip + s.taken ≤ length ms) (sym (matched_took m h s start)) (omega (arith, length-append (matched h s) (m ∷ [])));
+    }
+
+pub all_within_took : (m : Seen) (h : List Event) (ss : List Stream) → AllByRecursion (IsWithin h) ss → AllByRecursion (IsWithin (Took m ∷ h)) ss
+all_within_took m h [] w = tt
+all_within_took m h (s ∷ ss) w = (within_took m h s w.0, all_within_took m h ss w.1)
+
+pub within_at : (h : List Event) (ss : List Stream) (k : ℕ) (s : Stream) → slice_get ss k ≡ Some s → AllByRecursion (IsWithin h) ss → IsWithin h s
+within_at h [] k s at w = cc
+within_at h (x ∷ ss) zero s at w = let same : x ≡ s = cc in subst (IsWithin h) same w.0
+within_at h (x ∷ ss) (suc k) s at w = within_at h ss k s at w.1
+
+pub within_plain : (h : List Event) → IsWithin h (plain_stream h)
+within_plain h = record { start = omega arith; passed = omega arith }
+
+pub within_push : (h : List Event) (ss : List Stream) (s : Stream) → AllByRecursion (IsWithin h) ss → IsWithin h s → AllByRecursion (IsWithin h) (ss ++ s ∷ [])
+within_push h [] s w one = (one, tt)
+within_push h (x ∷ ss) s w one = (w.0, within_push h ss s w.1 one)

@@ -1,0 +1,113 @@
+-- No stream starts above what was read, or passed more than was its own.
+use Rattle.std.proofs.Common.{◌≡◌, ℕ, ◌+◌, ◌≤◌, zero, suc, refl, sym, ◌∙◌, subst, arith, List, [], ◌∷◌, ◌++◌, length, Option, Some, None}
+use Rattle.std.specs.List.{slice_get, AllByRecursion}
+use Rattle.std.proofs.lemmas.Bool.{eq-eqb}
+use Rattle.wire_message.specs.Front.{Seen}
+use Rattle.peer_route.specs.declared.words.Words.{Words}
+use Rattle.peer_route.specs.declared.words.Words.TheVariants as words
+use Rattle.peer_route.specs.declared.answer.Answer.{Answer}
+use Rattle.peer_route.specs.declared.answer.Entry.{Entry}
+use Rattle.peer_route.specs.History.{Event, Took, Shut, Put, Wrote, Fault, Spent, Made, Did, Main, Making, Plain, Cloned, Deed, Gave, Told, Gone, Asked, edit}
+use Rattle.peer_route.specs.Streams.{Stream, streams, clone_of, new_stream, give, done_by, matched, held}
+use Rattle.peer_route.specs.Left.{IsWithin}
+use Rattle.peer_route.specs.Parcel.{Setting}
+use Rattle.peer_route.specs.Trail.{Trail, place, trail, take_does, events_of, first_events}
+use Rattle.peer_route.specs.Answers.{IsAnswer, Legal}
+use Rattle.peer_route.proofs.Edits.{drop_next}
+use Rattle.peer_route.proofs.Matched.{held_matched, all_within_same, all_within_took, within_at, within_plain, within_push}
+use Rattle.peer_route.proofs.Deeds.{Only, only_entry}
+use Rattle.peer_route.proofs.Takes.{TakeOf, Quiet, Item, Tells, Ends, take_entry, item_does, told_does, ended_does}
+
+abbrev pub AllWithin : List Event → Type 0
+AllWithin h = AllByRecursion (IsWithin h) (streams h)
+
+-- ---- events
+
+within_clone : (h : List Event) (k : ℕ) (o : Option Stream) → slice_get (streams h) k ≡ o → AllWithin h → IsWithin h (clone_of h o)
+unfolding matched
+within_clone h k None at w = within_plain h
+within_clone h k (Some s) at w = let one = within_at h (streams h) k s at w in let passed = one.passed in record { start = one.start; passed = omega arith }
+
+within_new : (h : List Event) (making : Making) → AllWithin h → IsWithin h (new_stream h (streams h) making)
+within_new h Plain w = within_plain h
+within_new h (Cloned t) w = within_clone h t (slice_get (streams h) t) refl w
+
+-- the deed is no item
+abbrev pub GivesNone : ℕ → Deed → Type 0
+GivesNone j Gave = ⊥
+GivesNone j Told = Unit {0}
+GivesNone j Gone = Unit {0}
+GivesNone j (Asked limit) = Unit {0}
+
+within_deed : (h : List Event) (j : ℕ) (deed : Deed) (s : Stream) → GivesNone j deed → IsWithin h s → IsWithin h (done_by deed s)
+unfolding matched
+within_deed h j Gave s n w = absurd n
+within_deed h j Told s n w = record { start = w.start; passed = w.passed }
+within_deed h j Gone s n w = record { start = w.start; passed = w.passed }
+within_deed h j (Asked limit) s n w = w
+
+within_edit : (h : List Event) (j i : ℕ) (deed : Deed) (ss : List Stream) → GivesNone i deed → AllByRecursion (IsWithin h) ss
+    → AllByRecursion (IsWithin h) (edit j (done_by deed) ss)
+within_edit h j i deed [] n w = w
+within_edit h zero i deed (s ∷ ss) n w = (within_deed h i deed s n w.0, w.1)
+within_edit h (suc j) i deed (s ∷ ss) n w = (w.0, within_edit h j i deed ss n w.1)
+
+within_events : (xs h : List Event) → Only GivesNone xs → AllWithin h → AllWithin (xs ++ h)
+within_events [] h only w = w
+within_events (Took m ∷ xs) h only w = all_within_took m (xs ++ h) (streams (xs ++ h)) (within_events xs h only w)
+within_events (Made making ∷ xs) h only w =
+    let g = xs ++ h in
+    let rest = within_events xs h only w in
+    all_within_same (Made making ∷ g) g (streams g ++ new_stream g (streams g) making ∷ []) refl
+    (within_push g (streams g) (new_stream g (streams g) making) rest (within_new g making rest))
+within_events (Did j deed ∷ xs) h only w =
+    let g = xs ++ h in
+    all_within_same (Did j deed ∷ g) g (edit j (done_by deed) (streams g)) refl (within_edit g j j deed (streams g) only.0 (within_events xs h only.1 w))
+within_events (Shut error ∷ xs) h only w = all_within_same (Shut error ∷ xs ++ h) (xs ++ h) (streams (xs ++ h)) refl (within_events xs h only w)
+within_events (Put m expects ∷ xs) h only w = all_within_same (Put m expects ∷ xs ++ h) (xs ++ h) (streams (xs ++ h)) refl (within_events xs h only w)
+within_events (Wrote ∷ xs) h only w = all_within_same (Wrote ∷ xs ++ h) (xs ++ h) (streams (xs ++ h)) refl (within_events xs h only w)
+within_events (Fault ∷ xs) h only w = all_within_same (Fault ∷ xs ++ h) (xs ++ h) (streams (xs ++ h)) refl (within_events xs h only w)
+within_events (Spent call ∷ xs) h only w = all_within_same (Spent call ∷ xs ++ h) (xs ++ h) (streams (xs ++ h)) refl (within_events xs h only w)
+within_events (Main limit ∷ xs) h only w = all_within_same (Main limit ∷ xs ++ h) (xs ++ h) (streams (xs ++ h)) refl (within_events xs h only w)
+
+-- ---- an item
+
+within_gave : (h : List Event) (k : ℕ) (ss : List Stream) (s : Stream) → slice_get ss k ≡ Some s → IsWithin h (give s) → AllByRecursion (IsWithin h) ss
+    → AllByRecursion (IsWithin h) (edit k (done_by Gave) ss)
+within_gave h k [] s at one w = w
+within_gave h zero (x ∷ ss) s at one w = let same : x ≡ s = cc in (subst (λ y. IsWithin h (give y)) (sym same) one, w.1)
+within_gave h (suc k) (x ∷ ss) s at one w = (w.0, within_gave h k ss s at one w.1)
+
+within_item : (h : List Event) (k : ℕ) (s : Stream) (m : Seen) (ms : List Seen) → slice_get (streams h) k ≡ Some s → held h s ≡ m ∷ ms → AllWithin h
+    → AllWithin (Did k Gave ∷ h)
+unfolding matched
+within_item h k s m ms at e w =
+    let one = within_at h (streams h) k s at w in
+    let le : s.skip + s.taken + 1 ≤ length (matched h s) = (drop_next (s.skip + s.taken) (matched h s) m ms (sym (held_matched h s) ∙ e)).1 in
+    all_within_same (Did k Gave ∷ h) h (edit k (done_by Gave) (streams h)) refl
+    (within_gave h k (streams h) s at (record { start = one.start; passed = omega arith }) w)
+
+-- ---- entries
+
+within_take : (h : List Event) (p : Option ℕ) (a : Answer) → TakeOf h p a → AllWithin h → AllWithin (take_does p a ++ h)
+within_take h p a (Quiet none item last) w = subst (λ xs. AllWithin (xs ++ h)) (sym none) w
+within_take h p a (Item k s m ms named at e is) w =
+    subst (λ xs. AllWithin (xs ++ h)) (sym (item_does p a k m.position named is)) (within_item h k s m ms at e w)
+within_take h p a (Tells k s error named at still e shut is) w =
+    subst (λ xs. AllWithin (xs ++ h)) (sym (told_does p a k error named is)) (within_events (Did k Told ∷ []) h (tt, tt) w)
+within_take h p a (Ends k s error named at e shut told is) w = subst (λ xs. AllWithin (xs ++ h)) (sym (ended_does p a k named is)) w
+
+within_entry : (t : Trail) (lane : ℕ) (w : Words) (a : Answer) → IsAnswer t lane w a → AllWithin t.events → AllWithin (events_of t lane w a ++ t.events)
+within_entry t lane (words.Take n) a is all =
+    within_take t.events (place 0 lane n t.streams) a (take_entry t lane (words.Take n) a n is (eq-eqb n n refl)) all
+within_entry t lane (words.TakeBefore n before) a is all =
+    within_take t.events (place 0 lane n t.streams) a (take_entry t lane (words.TakeBefore n before) a n is (eq-eqb n n refl)) all
+within_entry t lane w a is all = within_events (events_of t lane w a) t.events (only_entry GivesNone t lane w a (λ j. tt) (λ j n. tt) (λ n e. cc)) all
+
+within_first : (queue : Option ℕ) → AllWithin (first_events queue)
+within_first None = tt
+within_first (Some limit) = tt
+
+pub all_within : (setting : Setting) (es : List Entry) → Legal setting es → AllWithin (trail setting es).events
+all_within setting [] legal = within_first setting.queue
+all_within setting (e ∷ es) legal = within_entry (trail setting es) e.lane e.words e.answer legal.0 (all_within setting es legal.1)
