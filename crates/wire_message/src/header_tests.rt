@@ -1,7 +1,9 @@
 //! What headers say and how messages are printed.
 use super::*;
+use crate::answers::given;
 use bitflags::Flags as _;
 use std::alloc::Global;
+use std::process::Abort;
 use std::test::Fail;
 
 /// Adds a word and a text.
@@ -9,6 +11,87 @@ fn add(line: &mut String, word: &str, text: &str) -> std::result::Result<(), Fai
     line.push_str(word)?;
     line.push_str(text)?;
     Ok(())
+}
+
+/// Adds a word and a number.
+fn add_number(
+    alloc: Global,
+    line: &mut String,
+    word: &str,
+    number: u32,
+) -> std::result::Result<(), Fail> {
+    let text = format!(in alloc; "{number}")?;
+    add(line, word, text.as_str())
+}
+
+/// Adds what a call or a signal is of.
+fn add_object(line: &mut String, header: &Header<'_>) -> std::result::Result<(), Fail> {
+    if let Some(path) = header.path() {
+        add(line, " path ", path.as_str())?;
+    }
+    if let Some(interface) = header.interface() {
+        add(line, " interface ", interface.as_str())?;
+    }
+    if let Some(member) = header.member() {
+        add(line, " member ", member.as_str())?;
+    }
+    Ok(())
+}
+
+/// Adds what a reply answers, and with what error.
+fn add_reply(
+    alloc: Global,
+    line: &mut String,
+    header: &Header<'_>,
+) -> std::result::Result<(), Fail> {
+    if let Some(name) = header.error_name() {
+        add(line, " error ", name.as_str())?;
+    }
+    if let Some(serial) = header.reply_serial() {
+        add_number(alloc, line, " reply ", serial)?;
+    }
+    Ok(())
+}
+
+/// Adds whom the message is for, and who sent it.
+fn add_peers(line: &mut String, header: &Header<'_>) -> std::result::Result<(), Fail> {
+    if let Some(destination) = header.destination() {
+        add(line, " destination ", destination.as_str())?;
+    }
+    if let Some(sender) = header.sender() {
+        add(line, " sender ", sender.as_str())?;
+    }
+    Ok(())
+}
+
+/// Adds what goes with the header.
+fn add_body(
+    alloc: Global,
+    line: &mut String,
+    header: &Header<'_>,
+) -> std::result::Result<(), Fail> {
+    // An empty signature is none to the decoders.
+    if let Some([letter, rest @ ..]) = header.signature() {
+        line.push_str(" signature ")?;
+        line.push(char::from(*letter))?;
+        line.push_str(str::from_utf8(rest)?)?;
+    }
+    if let Some(count) = header.unix_fds() {
+        add_number(alloc, line, " fds ", count)?;
+    }
+    Ok(())
+}
+
+/// Adds each header field.
+fn add_fields(
+    alloc: Global,
+    line: &mut String,
+    header: &Header<'_>,
+) -> std::result::Result<(), Fail> {
+    add_object(line, header)?;
+    add_reply(alloc, line, header)?;
+    add_peers(line, header)?;
+    add_body(alloc, line, header)
 }
 
 /// What the header says, on one line.
@@ -21,40 +104,7 @@ pub(crate) fn line(alloc: Global, message: &Message) -> std::result::Result<Stri
         header.flags().bits(),
         message.serial_num()
     )?;
-    if let Some(path) = header.path() {
-        add(&mut line, " path ", path.as_str())?;
-    }
-    if let Some(interface) = header.interface() {
-        add(&mut line, " interface ", interface.as_str())?;
-    }
-    if let Some(member) = header.member() {
-        add(&mut line, " member ", member.as_str())?;
-    }
-    if let Some(name) = header.error_name() {
-        add(&mut line, " error ", name.as_str())?;
-    }
-    if let Some(serial) = header.reply_serial() {
-        add(
-            &mut line,
-            " reply ",
-            format!(in alloc; "{serial}")?.as_str(),
-        )?;
-    }
-    if let Some(destination) = header.destination() {
-        add(&mut line, " destination ", destination.as_str())?;
-    }
-    if let Some(sender) = header.sender() {
-        add(&mut line, " sender ", sender.as_str())?;
-    }
-    // An empty signature is none to the decoders.
-    if let Some([letter, rest @ ..]) = header.signature() {
-        line.push_str(" signature ")?;
-        line.push(char::from(*letter))?;
-        line.push_str(str::from_utf8(rest)?)?;
-    }
-    if let Some(count) = header.unix_fds() {
-        add(&mut line, " fds ", format!(in alloc; "{count}")?.as_str())?;
-    }
+    add_fields(alloc, &mut line, &header)?;
     Ok(line)
 }
 
@@ -174,12 +224,18 @@ const RECORDED: [(&[u8], &str); 28] = [
     ),
 ];
 
+/// The whole of the bytes is a message whose header says this.
+fn says(rt: &impl Abort, alloc: Global, bytes: &[u8], want: &str) -> std::result::Result<(), Fail> {
+    let (message, len) = given(header_front(alloc, bytes))?;
+    assert_eq!(rt; len as usize, bytes.len());
+    assert_eq!(rt; line(alloc, &message)?.as_str(), want);
+    Ok(())
+}
+
 #[test]
 fn recorded(rt: HostRuntime) -> std::result::Result<(), Fail> {
     for (bytes, want) in &RECORDED {
-        let (message, len) = header_front(rt.alloc(), bytes)?;
-        assert_eq!(rt; len as usize, bytes.len());
-        assert_eq!(rt; line(rt.alloc(), &message)?.as_str(), *want);
+        says(&rt, rt.alloc(), *bytes, *want)?;
     }
     Ok(())
 }
@@ -209,11 +265,33 @@ const LINES: [(&[u8], &str); 5] = [
     ),
 ];
 
+/// The message at the front of the bytes is printed so.
+fn prints(
+    rt: &impl Abort,
+    alloc: Global,
+    bytes: &[u8],
+    want: &str,
+) -> std::result::Result<(), Fail> {
+    let (message, _) = given(header_front(alloc, bytes))?;
+    is_printed(rt, alloc, &message, want)
+}
+
+/// The message is printed so.
+pub(crate) fn is_printed(
+    rt: &impl Abort,
+    alloc: Global,
+    message: &Message,
+    want: &str,
+) -> std::result::Result<(), Fail> {
+    let text = format!(in alloc; "{message}")?;
+    assert_eq!(rt; text.as_str(), want);
+    Ok(())
+}
+
 #[test]
 fn lines(rt: HostRuntime) -> std::result::Result<(), Fail> {
     for (bytes, want) in &LINES {
-        let (message, _) = header_front(rt.alloc(), bytes)?;
-        assert_eq!(rt; format!(in rt.alloc(); "{message}")?.as_str(), *want);
+        prints(&rt, rt.alloc(), *bytes, *want)?;
     }
     Ok(())
 }

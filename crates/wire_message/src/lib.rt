@@ -2,9 +2,13 @@
 //! (D-Bus Specification, "Message Protocol").
 #![tactic(auto)]
 
+#[cfg(test)]
+mod answers;
 mod bodies;
 mod body;
 mod builder;
+#[cfg(test)]
+mod call_tests;
 mod closing;
 mod dbus_error;
 mod display;
