@@ -1,5 +1,6 @@
 use crate::told::{
-    Kind, Told, arrives, call, call_with, closed_by, goes_to_a_call, plain, register, told_by,
+    Kind, Told, arrives, call, call_with, closed_by, goes_to_a_call, let_calls_go, let_route_go,
+    plain, register, told_by,
 };
 use crate::{
     Issued, MessageStream, PendingMethodCalls, Route, answered_by_the_closing_error,
@@ -41,10 +42,9 @@ fn one_call_is_answered_once(rt: HostRuntime) {
     let mut route = Route::new(rt.alloc());
     assert_eq!(rt; call(&mut route, rt.alloc()), Ok(FIRST));
     assert_eq!(rt; route.outbox_len(), 1);
-    assert_eq!(rt;
-        route.outbox(0).map(|message| message.data()),
-        Some(CALL.as_slice())
-    );
+    let put = route.outbox(0).expect(&rt, "nothing was put");
+    assert_eq!(rt; put.data(), CALL.as_slice());
+    let_route_go(route);
 }
 
 #[test]
@@ -57,6 +57,7 @@ fn a_message_is_written_once(rt: HostRuntime) {
     route.wrote(0);
     assert_eq!(rt; route.outbox_done(), 1);
     assert_eq!(rt; told_by(route.poll(0)), Told::NotYet);
+    let_route_go(route);
 }
 
 #[test]
@@ -67,6 +68,7 @@ fn a_reply_is_given_once(rt: HostRuntime) {
     assert_eq!(rt; route.received(), 1);
     assert_eq!(rt; told_by(route.poll(0)), Told::Now(1));
     assert_eq!(rt; told_by(route.poll(0)), UNKNOWN);
+    let_route_go(route);
 }
 
 /// The position isn't looked at: neither the reply's own nor an earlier one keeps it back.
@@ -86,6 +88,7 @@ fn a_reply_is_given_by_position(rt: HostRuntime) {
         Told::Now(1)
     );
     assert_eq!(rt; told_by(route.poll_before(0, Sequence(2))), UNKNOWN);
+    let_route_go(route);
 }
 
 #[test]
@@ -98,6 +101,7 @@ fn calls_are_numbered(rt: HostRuntime) {
     assert_eq!(rt; closed_by(route.closing()), Some(Kind::IncorrectEndian));
     assert_eq!(rt; told_by(route.poll(1)), Told::Closed(Kind::IncorrectEndian));
     assert_eq!(rt; told_by(route.poll(1)), UNKNOWN);
+    let_route_go(route);
 }
 
 #[test]
@@ -110,6 +114,7 @@ fn a_fault_ends_its_call(rt: HostRuntime) {
     assert!(rt; route.is_failed());
     assert_eq!(rt; call(&mut route, rt.alloc()), Err(Kind::WriteFault));
     assert_eq!(rt; told_by(route.poll(0)), UNKNOWN);
+    let_route_go(route);
 }
 
 #[test]
@@ -124,6 +129,7 @@ fn a_reply_goes_to_its_call(rt: HostRuntime) {
     assert!(rt; !calls.taken(1));
     assert_eq!(rt; calls.count(), 1);
     assert_eq!(rt; told_by(calls.poll(1)), Told::Now(1));
+    let_calls_go(calls);
 }
 
 #[test]
@@ -136,6 +142,7 @@ fn a_dropped_serial_is_free(rt: HostRuntime) {
     assert_eq!(rt; goes_to_a_call(&mut calls, rt.alloc()), Ok(true));
     assert_eq!(rt; told_by(calls.poll(0)), UNKNOWN);
     assert_eq!(rt; told_by(calls.poll(1)), Told::Now(1));
+    let_calls_go(calls);
 }
 
 #[test]
@@ -150,13 +157,14 @@ fn a_call_fails_with_the_peer(rt: HostRuntime) {
     assert_eq!(rt; register(&mut calls, 1), Some(1));
     assert_eq!(rt; told_by(calls.poll(0)), closed);
     assert_eq!(rt; told_by(calls.poll_before(1, Sequence(0))), closed);
+    let_calls_go(calls);
 }
 
 #[test]
-fn a_stream_holds_what_came_after_it(rt: HostRuntime) -> Result<(), Fail> {
+fn a_stream_holds_what_came_after_it(rt: HostRuntime) {
     let mut route = Route::new(rt.alloc());
     assert!(rt; arrives(&mut route, rt.alloc(), 1));
-    let stream = route.open()?;
+    let stream = route.open().expect(&rt, "no memory");
     assert_eq!(rt; stream.number, 0);
     assert_eq!(rt; told_by(route.take(&stream)), Told::NotYet);
     for position in 2..67 {
@@ -166,13 +174,13 @@ fn a_stream_holds_what_came_after_it(rt: HostRuntime) -> Result<(), Fail> {
     for position in 2..67 {
         assert_eq!(rt; told_by(route.take(&stream)), Told::Now(position));
     }
-    Ok(())
+    let_route_go(route);
 }
 
 #[test]
-fn a_stream_gives_by_position(rt: HostRuntime) -> Result<(), Fail> {
+fn a_stream_gives_by_position(rt: HostRuntime) {
     let mut route = Route::new(rt.alloc());
-    let stream = route.open()?;
+    let stream = route.open().expect(&rt, "no memory");
     assert_eq!(rt; route.next_position(&stream), None);
     assert_eq!(rt;
         told_by(route.take_before(&stream, Sequence(1))),
@@ -189,43 +197,43 @@ fn a_stream_gives_by_position(rt: HostRuntime) -> Result<(), Fail> {
     let never = MessageStream { number: 1 };
     assert_eq!(rt; route.next_position(&never), None);
     assert_eq!(rt; told_by(route.take_before(&never, Sequence(0))), UNKNOWN);
-    Ok(())
+    let_route_go(route);
 }
 
 #[test]
-fn a_stream_ends_with_the_peer(rt: HostRuntime) -> Result<(), Fail> {
+fn a_stream_ends_with_the_peer(rt: HostRuntime) {
     let mut route = Route::new(rt.alloc());
-    let stream = route.open()?;
+    let stream = route.open().expect(&rt, "no memory");
     route.close(&Error::ExcessData);
     assert_eq!(rt;
         told_by(route.take(&stream)),
         Told::Closed(Kind::ExcessData)
     );
     assert_eq!(rt; told_by(route.take(&stream)), Told::Ended);
-    let late = route.open()?;
+    let late = route.open().expect(&rt, "no memory");
     assert_eq!(rt; told_by(route.take(&late)), Told::Ended);
     assert_eq!(rt; told_by(route.take(&MessageStream { number: 2 })), UNKNOWN);
-    Ok(())
+    let_route_go(route);
 }
 
 #[test]
-fn a_clone_goes_on(rt: HostRuntime) -> Result<(), Fail> {
+fn a_clone_goes_on(rt: HostRuntime) {
     let mut route = Route::new(rt.alloc());
-    let stream = route.open()?;
+    let stream = route.open().expect(&rt, "no memory");
     assert!(rt; arrives(&mut route, rt.alloc(), 1));
-    let clone = plain(route.clone_stream(&stream))?;
+    let clone = plain(route.clone_stream(&stream)).expect(&rt, "no clone");
     assert_eq!(rt; clone.number, 1);
     assert_eq!(rt; told_by(route.take(&stream)), Told::Now(1));
     assert!(rt; arrives(&mut route, rt.alloc(), 2));
     assert_eq!(rt; told_by(route.take(&clone)), Told::Now(1));
     assert_eq!(rt; told_by(route.take(&clone)), Told::Now(2));
-    Ok(())
+    let_route_go(route);
 }
 
 #[test]
-fn a_closed_stream_is_unknown(rt: HostRuntime) -> Result<(), Fail> {
+fn a_closed_stream_is_unknown(rt: HostRuntime) {
     let mut route = Route::new(rt.alloc());
-    let stream = route.open()?;
+    let stream = route.open().expect(&rt, "no memory");
     assert!(rt; !route.is_terminated(&stream));
     assert_eq!(rt; plain(route.close_stream(stream, None)), Ok(()));
     let gone = MessageStream { number: 0 };
@@ -235,14 +243,14 @@ fn a_closed_stream_is_unknown(rt: HostRuntime) -> Result<(), Fail> {
     assert_eq!(rt; clone, Err(Kind::UnknownHandle));
     let asked = plain(route.set_max_queued(&gone, 1));
     assert_eq!(rt; asked, Err(Kind::UnknownHandle));
-    Ok(())
+    let_route_go(route);
 }
 
 #[test]
-fn two_streams_are_closed_at_once(rt: HostRuntime) -> Result<(), Fail> {
+fn two_streams_are_closed_at_once(rt: HostRuntime) {
     let mut route = Route::new(rt.alloc());
-    let first = route.open()?;
-    let second = route.open()?;
+    let first = route.open().expect(&rt, "no memory");
+    let second = route.open().expect(&rt, "no memory");
     let twice = route.close_stream(
         MessageStream { number: 0 },
         Some(MessageStream { number: 0 }),
@@ -252,31 +260,31 @@ fn two_streams_are_closed_at_once(rt: HostRuntime) -> Result<(), Fail> {
     assert_eq!(rt; plain(route.close_stream(first, Some(second))), Ok(()));
     assert!(rt; route.is_terminated(&MessageStream { number: 0 }));
     assert!(rt; route.is_terminated(&MessageStream { number: 1 }));
-    Ok(())
+    let_route_go(route);
 }
 
 #[test]
-fn a_capacity_is_raised(rt: HostRuntime) -> Result<(), Fail> {
+fn a_capacity_is_raised(rt: HostRuntime) {
     let mut route = Route::new(rt.alloc());
-    let stream = route.open()?;
+    let stream = route.open().expect(&rt, "no memory");
     assert_eq!(rt; route.main_max_queued(), 64);
     assert_eq!(rt; plain(route.set_max_queued(&stream, 65)), Ok(()));
     assert_eq!(rt; plain(route.set_max_queued(&stream, 1)), Ok(()));
     assert_eq!(rt; plain(route.max_queued(&stream)), Ok(65));
-    Ok(())
+    let_route_go(route);
 }
 
 #[test]
-fn a_closed_stream_keeps_no_read_back(rt: HostRuntime) -> Result<(), Fail> {
+fn a_closed_stream_keeps_no_read_back(rt: HostRuntime) {
     let mut route = Route::new(rt.alloc());
-    let stream = route.open()?;
+    let stream = route.open().expect(&rt, "no memory");
     route.set_main_max_queued(0);
     assert_eq!(rt; route.main_max_queued(), 0);
     assert!(rt; arrives(&mut route, rt.alloc(), 1));
     assert!(rt; route.busy());
     assert_eq!(rt; plain(route.close_stream(stream, None)), Ok(()));
     assert!(rt; !route.busy());
-    Ok(())
+    let_route_go(route);
 }
 
 #[test]
@@ -287,6 +295,7 @@ fn a_dropped_call_is_unknown(rt: HostRuntime) {
     assert!(rt; arrives(&mut route, rt.alloc(), 1));
     assert_eq!(rt; told_by(route.poll(0)), UNKNOWN);
     assert_eq!(rt; plain(route.drop_call(0)), Err(Kind::UnknownHandle));
+    let_route_go(route);
 }
 
 #[test]
@@ -295,6 +304,7 @@ fn a_dropped_call_is_no_call(rt: HostRuntime) {
     assert_eq!(rt; register(&mut calls, 7), Some(0));
     assert_eq!(rt; plain(calls.drop_call(0)), Ok(()));
     assert_eq!(rt; told_by(calls.poll(0)), UNKNOWN);
+    let_calls_go(calls);
 }
 
 #[test]
@@ -309,9 +319,10 @@ fn a_call_without_reply_is_no_call(rt: HostRuntime) {
     assert_eq!(rt; first, Ok(alone));
     assert_eq!(rt; told_by(route.poll(0)), UNKNOWN);
     let second = call(&mut route, rt.alloc());
-    assert_eq!(rt; second.map(|issued| issued.call), Ok(Some(0)));
+    assert!(rt; matches!(second, Ok(Issued { call: Some(0), .. })));
     assert!(rt; arrives(&mut route, rt.alloc(), 1));
     assert_eq!(rt; told_by(route.poll(0)), Told::NotYet);
+    let_route_go(route);
 }
 
 #[test]
