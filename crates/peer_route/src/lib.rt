@@ -11,6 +11,8 @@ mod route;
 mod streams;
 #[cfg(test)]
 mod tests;
+#[cfg(test)]
+mod told;
 mod words;
 
 pub use answer::{Answer, Entry};

@@ -1,5 +1,9 @@
+use crate::told::{
+    Kind, Told, arrives, call, call_with, closed_by, goes_to_a_call, let_calls_go, let_route_go,
+    plain, register, told_by,
+};
 use crate::{
-    Issued, MessageStream, PendingMethodCalls, Polled, Route, answered_by_the_closing_error,
+    Issued, MessageStream, PendingMethodCalls, Route, answered_by_the_closing_error,
     answered_by_the_first, answered_once, busy_where_a_stream_is_full,
     capacity_throws_nothing_away, clone_goes_on_where_its_original_is, dropped_for_good,
     none_before_is_by_position, put_is_what_was_sent, refused_changes_nothing,
@@ -7,16 +11,8 @@ use crate::{
     stream_changes_no_other, stream_closed_for_good, stream_ends_once, stream_gives_all,
     stream_gives_the_first_error,
 };
-use std::alloc::Global;
 use std::test::Fail;
-use wire_body::Body;
-use wire_message::{Error, Flags, IoKind, Message, Sequence, Taken, header_front};
-use wire_names::{MemberName, ObjectPath};
-
-/// A method return with serial 1 that answers serial 1 (D-Bus Specification, "Message Format").
-const RETURN: [u8; 24] = [
-    108, 2, 0, 1, 0, 0, 0, 0, 1, 0, 0, 0, 8, 0, 0, 0, 5, 1, 117, 0, 1, 0, 0, 0,
-];
+use wire_message::{Error, Flags, Sequence, Taken};
 
 /// The method call of `do` at `/` with serial 1.
 const CALL: [u8; 48] = [
@@ -24,374 +20,309 @@ const CALL: [u8; 48] = [
     0, 0, 3, 1, 115, 0, 2, 0, 0, 0, 100, 111, 0, 0, 0, 0, 0, 0,
 ];
 
-fn reply(alloc: Global) -> Result<Message, Error> {
-    let (message, _) = header_front(alloc, &RETURN)?;
-    Ok(message.at(1))
-}
+/// The first call.
+const FIRST: Issued = Issued {
+    index: 0,
+    serial: 1,
+    call: Some(0),
+};
 
-/// The reply arrives at that position, where the peer takes a message, and none but this comes next.
-fn arrive(route: &mut Route, alloc: Global, position: u64) -> Result<(), Fail> {
-    let message = reply(alloc)?.at(position);
-    if route.closing().is_some() || route.busy() {
-        return Err(Fail::new("the peer takes nothing"));
-    }
-    let received = route.received();
-    if received > 1000 || position != received + 1 {
-        return Err(Fail::new("another message comes next"));
-    }
-    route.arrive(message)?;
-    Ok(())
-}
+/// The second call.
+const SECOND: Issued = Issued {
+    index: 1,
+    serial: 2,
+    call: Some(1),
+};
 
-/// The body without values.
-fn nothing(alloc: Global) -> Result<Body, Error> {
-    Body::from_values(alloc, Vec::new(alloc)).map_err(Error::Variant)
-}
-
-/// Issues the method call of `do` at `/`.
-fn call(route: &mut Route, alloc: Global) -> Result<Issued, Error> {
-    let path = ObjectPath::try_from("/").map_err(Error::Names)?;
-    let member = MemberName::try_from("do").map_err(Error::Names)?;
-    route.issue(Message::method_call(&path, &member), &nothing(alloc)?, &[])
-}
-
-fn position(polled: Polled<Message>) -> Option<u64> {
-    match polled {
-        Polled::Now(message) => Some(message.recv_position()),
-        Polled::NotYet | Polled::NoneBefore | Polled::Closed(_) | Polled::Ended => None,
-    }
-}
+/// No such call was made, or its answer was given; no such stream is open.
+const UNKNOWN: Told = Told::Refused(Kind::UnknownHandle);
 
 #[test]
-fn one_call_is_answered_once(rt: HostRuntime) -> Result<(), Fail> {
+fn one_call_is_answered_once(rt: HostRuntime) {
     let mut route = Route::new(rt.alloc());
-    let issued = call(&mut route, rt.alloc())?;
-    assert_eq!(rt;
-        issued,
-        Issued {
-            index: 0,
-            serial: 1,
-            call: Some(0)
-        }
-    );
+    assert_eq!(rt; call(&mut route, rt.alloc()), Ok(FIRST));
     assert_eq!(rt; route.outbox_len(), 1);
-    assert_eq!(rt;
-        route.outbox(0).ok_or("nothing was put")?.data(),
-        CALL.as_slice()
-    );
-    Ok(())
+    let put = route.outbox(0).expect(&rt, "nothing was put");
+    assert_eq!(rt; put.data(), CALL.as_slice());
+    let_route_go(route);
 }
 
 #[test]
-fn a_message_is_written_once(rt: HostRuntime) -> Result<(), Fail> {
+fn a_message_is_written_once(rt: HostRuntime) {
     let mut route = Route::new(rt.alloc());
-    call(&mut route, rt.alloc())?;
+    assert_eq!(rt; call(&mut route, rt.alloc()), Ok(FIRST));
     assert_eq!(rt; route.outbox_done(), 0);
     assert!(rt; 0 < route.outbox_len());
     assert!(rt; !route.is_failed());
     route.wrote(0);
     assert_eq!(rt; route.outbox_done(), 1);
-    assert!(rt; matches!(route.poll(0)?, Polled::NotYet));
-    Ok(())
+    assert_eq!(rt; told_by(route.poll(0)), Told::NotYet);
+    let_route_go(route);
 }
 
 #[test]
-fn a_reply_is_given_once(rt: HostRuntime) -> Result<(), Fail> {
+fn a_reply_is_given_once(rt: HostRuntime) {
     let mut route = Route::new(rt.alloc());
-    call(&mut route, rt.alloc())?;
-    arrive(&mut route, rt.alloc(), 1)?;
+    assert_eq!(rt; call(&mut route, rt.alloc()), Ok(FIRST));
+    assert!(rt; arrives(&mut route, rt.alloc(), 1));
     assert_eq!(rt; route.received(), 1);
-    assert_eq!(rt; position(route.poll(0)?), Some(1));
-    assert_eq!(rt; route.poll(0).err(), Some(Error::UnknownHandle));
-    Ok(())
+    assert_eq!(rt; told_by(route.poll(0)), Told::Now(1));
+    assert_eq!(rt; told_by(route.poll(0)), UNKNOWN);
+    let_route_go(route);
 }
 
 /// The position isn't looked at: neither the reply's own nor an earlier one keeps it back.
 #[test]
-fn a_reply_is_given_by_position(rt: HostRuntime) -> Result<(), Fail> {
+fn a_reply_is_given_by_position(rt: HostRuntime) {
     let mut route = Route::new(rt.alloc());
-    call(&mut route, rt.alloc())?;
-    assert!(rt; matches!(route.poll_before(0, Sequence::LAST)?, Polled::NoneBefore));
+    assert_eq!(rt; call(&mut route, rt.alloc()), Ok(FIRST));
+    assert_eq!(rt;
+        told_by(route.poll_before(0, Sequence::LAST)),
+        Told::NoneBefore
+    );
     assert!(rt; route.calls().taken(1));
-    arrive(&mut route, rt.alloc(), 1)?;
+    assert!(rt; arrives(&mut route, rt.alloc(), 1));
     assert!(rt; !route.calls().taken(1));
     assert_eq!(rt;
-        position(route.calls_mut().poll_before(0, Sequence(0))?),
-        Some(1)
+        told_by(route.calls_mut().poll_before(0, Sequence(0))),
+        Told::Now(1)
     );
-    assert_eq!(rt;
-        route.poll_before(0, Sequence(2)).err(),
-        Some(Error::UnknownHandle)
-    );
-    Ok(())
+    assert_eq!(rt; told_by(route.poll_before(0, Sequence(2))), UNKNOWN);
+    let_route_go(route);
 }
 
 #[test]
-fn calls_are_numbered(rt: HostRuntime) -> Result<(), Fail> {
+fn calls_are_numbered(rt: HostRuntime) {
     let mut route = Route::new(rt.alloc());
-    call(&mut route, rt.alloc())?;
-    let second = call(&mut route, rt.alloc())?;
-    assert_eq!(rt;
-        second,
-        Issued {
-            index: 1,
-            serial: 2,
-            call: Some(1)
-        }
-    );
+    assert_eq!(rt; call(&mut route, rt.alloc()), Ok(FIRST));
+    assert_eq!(rt; call(&mut route, rt.alloc()), Ok(SECOND));
     route.close(&Error::IncorrectEndian);
     route.close(&Error::ExcessData);
-    assert_eq!(rt; route.closing(), Some(Error::IncorrectEndian));
-    assert!(rt; matches!(route.poll(1)?, Polled::Closed(Error::IncorrectEndian)));
-    assert_eq!(rt; route.poll(1).err(), Some(Error::UnknownHandle));
-    Ok(())
+    assert_eq!(rt; closed_by(route.closing()), Some(Kind::IncorrectEndian));
+    assert_eq!(rt; told_by(route.poll(1)), Told::Closed(Kind::IncorrectEndian));
+    assert_eq!(rt; told_by(route.poll(1)), UNKNOWN);
+    let_route_go(route);
 }
 
 #[test]
-fn a_fault_ends_its_call(rt: HostRuntime) -> Result<(), Fail> {
+fn a_fault_ends_its_call(rt: HostRuntime) {
     let mut route = Route::new(rt.alloc());
-    call(&mut route, rt.alloc())?;
+    assert_eq!(rt; call(&mut route, rt.alloc()), Ok(FIRST));
     assert_eq!(rt; route.outbox_done(), 0);
     assert!(rt; 0 < route.outbox_len());
     route.write_fault(0);
     assert!(rt; route.is_failed());
-    assert_eq!(rt;
-        call(&mut route, rt.alloc()).err(),
-        Some(Error::InputOutput(IoKind::WriteFault))
-    );
-    assert_eq!(rt; route.poll(0).err(), Some(Error::UnknownHandle));
-    Ok(())
-}
-
-/// Makes the call whose message has this serial, where the serial is free.
-fn register(calls: &mut PendingMethodCalls, serial: u32) -> Result<u64, Fail> {
-    if serial == 0 || calls.taken(serial) {
-        return Err(Fail::new("the serial isn't free"));
-    }
-    Ok(calls.register_call(serial)?)
+    assert_eq!(rt; call(&mut route, rt.alloc()), Err(Kind::WriteFault));
+    assert_eq!(rt; told_by(route.poll(0)), UNKNOWN);
+    let_route_go(route);
 }
 
 #[test]
-fn a_reply_goes_to_its_call(rt: HostRuntime) -> Result<(), Fail> {
+fn a_reply_goes_to_its_call(rt: HostRuntime) {
     let mut calls = PendingMethodCalls::new(rt.alloc());
-    assert_eq!(rt; register(&mut calls, 7)?, 0);
-    assert!(rt; calls.complete_call(reply(rt.alloc())?).is_some());
-    assert_eq!(rt; register(&mut calls, 1)?, 1);
+    assert_eq!(rt; register(&mut calls, 7), Some(0));
+    assert_eq!(rt; goes_to_a_call(&mut calls, rt.alloc()), Ok(false));
+    assert_eq!(rt; register(&mut calls, 1), Some(1));
     assert!(rt; calls.taken(1));
     assert_eq!(rt; calls.count(), 2);
-    assert!(rt; calls.complete_call(reply(rt.alloc())?).is_none());
+    assert_eq!(rt; goes_to_a_call(&mut calls, rt.alloc()), Ok(true));
     assert!(rt; !calls.taken(1));
     assert_eq!(rt; calls.count(), 1);
-    assert_eq!(rt; position(calls.poll(1)?), Some(1));
-    Ok(())
+    assert_eq!(rt; told_by(calls.poll(1)), Told::Now(1));
+    let_calls_go(calls);
 }
 
 #[test]
-fn a_dropped_serial_is_free(rt: HostRuntime) -> Result<(), Fail> {
+fn a_dropped_serial_is_free(rt: HostRuntime) {
     let mut calls = PendingMethodCalls::new(rt.alloc());
-    let first = register(&mut calls, 1)?;
-    calls.drop_call(first)?;
+    assert_eq!(rt; register(&mut calls, 1), Some(0));
+    assert_eq!(rt; plain(calls.drop_call(0)), Ok(()));
     assert!(rt; !calls.taken(1));
-    let second = register(&mut calls, 1)?;
-    assert!(rt; calls.complete_call(reply(rt.alloc())?).is_none());
-    assert_eq!(rt; calls.poll(first).err(), Some(Error::UnknownHandle));
-    assert_eq!(rt; position(calls.poll(second)?), Some(1));
-    Ok(())
+    assert_eq!(rt; register(&mut calls, 1), Some(1));
+    assert_eq!(rt; goes_to_a_call(&mut calls, rt.alloc()), Ok(true));
+    assert_eq!(rt; told_by(calls.poll(0)), UNKNOWN);
+    assert_eq!(rt; told_by(calls.poll(1)), Told::Now(1));
+    let_calls_go(calls);
 }
 
 #[test]
-fn a_call_fails_with_the_peer(rt: HostRuntime) -> Result<(), Fail> {
+fn a_call_fails_with_the_peer(rt: HostRuntime) {
+    let closed = Told::Closed(Kind::ExcessData);
     let mut calls = PendingMethodCalls::new(rt.alloc());
-    assert_eq!(rt; register(&mut calls, 1)?, 0);
+    assert_eq!(rt; register(&mut calls, 1), Some(0));
     calls.fail_all(&Error::ExcessData);
-    assert_eq!(rt; calls.closing(), Some(Error::ExcessData));
+    assert_eq!(rt; closed_by(calls.closing()), Some(Kind::ExcessData));
     assert_eq!(rt; calls.count(), 0);
-    assert!(rt; calls.complete_call(reply(rt.alloc())?).is_some());
-    assert_eq!(rt; register(&mut calls, 1)?, 1);
-    assert!(rt; matches!(calls.poll(0)?, Polled::Closed(Error::ExcessData)));
-    assert!(rt;
-        matches!(
-            calls.poll_before(1, Sequence(0))?,
-            Polled::Closed(Error::ExcessData)
-        )
-    );
-    Ok(())
-}
-
-/// The position of the item that a stream gives.
-fn item(polled: Polled<Message>) -> Result<u64, &'static str> {
-    match polled {
-        Polled::Now(message) => Ok(message.recv_position()),
-        Polled::NotYet | Polled::NoneBefore | Polled::Closed(_) | Polled::Ended => Err("no item"),
-    }
+    assert_eq!(rt; goes_to_a_call(&mut calls, rt.alloc()), Ok(false));
+    assert_eq!(rt; register(&mut calls, 1), Some(1));
+    assert_eq!(rt; told_by(calls.poll(0)), closed);
+    assert_eq!(rt; told_by(calls.poll_before(1, Sequence(0))), closed);
+    let_calls_go(calls);
 }
 
 #[test]
-fn a_stream_holds_what_came_after_it(rt: HostRuntime) -> Result<(), Fail> {
+fn a_stream_holds_what_came_after_it(rt: HostRuntime) {
     let mut route = Route::new(rt.alloc());
-    arrive(&mut route, rt.alloc(), 1)?;
-    let stream = route.open()?;
-    assert_eq!(rt; stream, MessageStream { number: 0 });
-    assert!(rt; matches!(route.take(&stream)?, Polled::NotYet));
+    assert!(rt; arrives(&mut route, rt.alloc(), 1));
+    let stream = route.open().expect(&rt, "no memory");
+    assert_eq!(rt; stream.number, 0);
+    assert_eq!(rt; told_by(route.take(&stream)), Told::NotYet);
     for position in 2..67 {
-        arrive(&mut route, rt.alloc(), position)?;
+        assert!(rt; arrives(&mut route, rt.alloc(), position));
     }
     assert!(rt; route.busy());
     for position in 2..67 {
-        assert_eq!(rt; item(route.take(&stream)?)?, position);
+        assert_eq!(rt; told_by(route.take(&stream)), Told::Now(position));
     }
-    Ok(())
+    let_route_go(route);
 }
 
 #[test]
-fn a_stream_gives_by_position(rt: HostRuntime) -> Result<(), Fail> {
+fn a_stream_gives_by_position(rt: HostRuntime) {
     let mut route = Route::new(rt.alloc());
-    let stream = route.open()?;
+    let stream = route.open().expect(&rt, "no memory");
     assert_eq!(rt; route.next_position(&stream), None);
-    assert!(rt; matches!(route.take_before(&stream, Sequence(1))?, Polled::NoneBefore));
-    for position in 1..3 {
-        arrive(&mut route, rt.alloc(), position)?;
-    }
+    assert_eq!(rt;
+        told_by(route.take_before(&stream, Sequence(1))),
+        Told::NoneBefore
+    );
+    assert!(rt; arrives(&mut route, rt.alloc(), 1));
+    assert!(rt; arrives(&mut route, rt.alloc(), 2));
     assert_eq!(rt; route.next_position(&stream), Some(1));
-    assert_eq!(rt; item(route.take_before(&stream, Sequence(0))?)?, 1);
+    assert_eq!(rt;
+        told_by(route.take_before(&stream, Sequence(0))),
+        Told::Now(1)
+    );
     assert_eq!(rt; route.next_position(&stream), Some(2));
-    assert_eq!(rt; route.next_position(&MessageStream { number: 1 }), None);
-    assert_eq!(rt;
-        route
-            .take_before(&MessageStream { number: 1 }, Sequence(0))
-            .err(),
-        Some(Error::UnknownHandle)
-    );
-    Ok(())
+    let never = MessageStream { number: 1 };
+    assert_eq!(rt; route.next_position(&never), None);
+    assert_eq!(rt; told_by(route.take_before(&never, Sequence(0))), UNKNOWN);
+    let_route_go(route);
 }
 
 #[test]
-fn a_stream_ends_with_the_peer(rt: HostRuntime) -> Result<(), Fail> {
+fn a_stream_ends_with_the_peer(rt: HostRuntime) {
     let mut route = Route::new(rt.alloc());
-    let stream = route.open()?;
+    let stream = route.open().expect(&rt, "no memory");
     route.close(&Error::ExcessData);
-    assert!(rt; matches!(route.take(&stream)?, Polled::Closed(Error::ExcessData)));
-    assert!(rt; matches!(route.take(&stream)?, Polled::Ended));
-    let late = route.open()?;
-    assert!(rt; matches!(route.take(&late)?, Polled::Ended));
     assert_eq!(rt;
-        route.take(&MessageStream { number: 2 }).err(),
-        Some(Error::UnknownHandle)
+        told_by(route.take(&stream)),
+        Told::Closed(Kind::ExcessData)
     );
-    Ok(())
+    assert_eq!(rt; told_by(route.take(&stream)), Told::Ended);
+    let late = route.open().expect(&rt, "no memory");
+    assert_eq!(rt; told_by(route.take(&late)), Told::Ended);
+    assert_eq!(rt; told_by(route.take(&MessageStream { number: 2 })), UNKNOWN);
+    let_route_go(route);
 }
 
 #[test]
-fn a_clone_goes_on(rt: HostRuntime) -> Result<(), Fail> {
+fn a_clone_goes_on(rt: HostRuntime) {
     let mut route = Route::new(rt.alloc());
-    let stream = route.open()?;
-    arrive(&mut route, rt.alloc(), 1)?;
-    let clone = route.clone_stream(&stream)?;
-    assert_eq!(rt; clone, MessageStream { number: 1 });
-    assert_eq!(rt; item(route.take(&stream)?)?, 1);
-    arrive(&mut route, rt.alloc(), 2)?;
-    assert_eq!(rt; item(route.take(&clone)?)?, 1);
-    assert_eq!(rt; item(route.take(&clone)?)?, 2);
-    Ok(())
+    let stream = route.open().expect(&rt, "no memory");
+    assert!(rt; arrives(&mut route, rt.alloc(), 1));
+    let clone = plain(route.clone_stream(&stream)).expect(&rt, "no clone");
+    assert_eq!(rt; clone.number, 1);
+    assert_eq!(rt; told_by(route.take(&stream)), Told::Now(1));
+    assert!(rt; arrives(&mut route, rt.alloc(), 2));
+    assert_eq!(rt; told_by(route.take(&clone)), Told::Now(1));
+    assert_eq!(rt; told_by(route.take(&clone)), Told::Now(2));
+    let_route_go(route);
 }
 
 #[test]
-fn a_closed_stream_is_unknown(rt: HostRuntime) -> Result<(), Fail> {
+fn a_closed_stream_is_unknown(rt: HostRuntime) {
     let mut route = Route::new(rt.alloc());
-    let stream = route.open()?;
+    let stream = route.open().expect(&rt, "no memory");
     assert!(rt; !route.is_terminated(&stream));
-    route.close_stream(stream, None)?;
+    assert_eq!(rt; plain(route.close_stream(stream, None)), Ok(()));
     let gone = MessageStream { number: 0 };
     assert!(rt; route.is_terminated(&gone));
-    assert!(rt; matches!(&route.take(&gone), Err(Error::UnknownHandle)));
-    assert!(rt; matches!(&route.clone_stream(&gone), Err(Error::UnknownHandle)));
-    assert!(rt; matches!(&route.set_max_queued(&gone, 1), Err(Error::UnknownHandle)));
-    Ok(())
+    assert_eq!(rt; told_by(route.take(&gone)), UNKNOWN);
+    let clone = plain(route.clone_stream(&gone));
+    assert_eq!(rt; clone, Err(Kind::UnknownHandle));
+    let asked = plain(route.set_max_queued(&gone, 1));
+    assert_eq!(rt; asked, Err(Kind::UnknownHandle));
+    let_route_go(route);
 }
 
 #[test]
-fn two_streams_are_closed_at_once(rt: HostRuntime) -> Result<(), Fail> {
+fn two_streams_are_closed_at_once(rt: HostRuntime) {
     let mut route = Route::new(rt.alloc());
-    let first = route.open()?;
-    let second = route.open()?;
+    let first = route.open().expect(&rt, "no memory");
+    let second = route.open().expect(&rt, "no memory");
     let twice = route.close_stream(
         MessageStream { number: 0 },
         Some(MessageStream { number: 0 }),
     );
-    assert!(rt; matches!(&twice, Err(Error::UnknownHandle)));
+    assert_eq!(rt; plain(twice), Err(Kind::UnknownHandle));
     assert!(rt; !route.is_terminated(&first));
-    route.close_stream(first, Some(second))?;
+    assert_eq!(rt; plain(route.close_stream(first, Some(second))), Ok(()));
     assert!(rt; route.is_terminated(&MessageStream { number: 0 }));
     assert!(rt; route.is_terminated(&MessageStream { number: 1 }));
-    Ok(())
+    let_route_go(route);
 }
 
 #[test]
-fn a_capacity_is_raised(rt: HostRuntime) -> Result<(), Fail> {
+fn a_capacity_is_raised(rt: HostRuntime) {
     let mut route = Route::new(rt.alloc());
-    let stream = route.open()?;
+    let stream = route.open().expect(&rt, "no memory");
     assert_eq!(rt; route.main_max_queued(), 64);
-    route.set_max_queued(&stream, 65)?;
-    route.set_max_queued(&stream, 1)?;
-    assert_eq!(rt; route.max_queued(&stream)?, 65);
-    Ok(())
+    assert_eq!(rt; plain(route.set_max_queued(&stream, 65)), Ok(()));
+    assert_eq!(rt; plain(route.set_max_queued(&stream, 1)), Ok(()));
+    assert_eq!(rt; plain(route.max_queued(&stream)), Ok(65));
+    let_route_go(route);
 }
 
 #[test]
-fn a_closed_stream_keeps_no_read_back(rt: HostRuntime) -> Result<(), Fail> {
+fn a_closed_stream_keeps_no_read_back(rt: HostRuntime) {
     let mut route = Route::new(rt.alloc());
-    let stream = route.open()?;
+    let stream = route.open().expect(&rt, "no memory");
     route.set_main_max_queued(0);
     assert_eq!(rt; route.main_max_queued(), 0);
-    arrive(&mut route, rt.alloc(), 1)?;
+    assert!(rt; arrives(&mut route, rt.alloc(), 1));
     assert!(rt; route.busy());
-    route.close_stream(stream, None)?;
+    assert_eq!(rt; plain(route.close_stream(stream, None)), Ok(()));
     assert!(rt; !route.busy());
-    Ok(())
+    let_route_go(route);
 }
 
 #[test]
-fn a_dropped_call_is_unknown(rt: HostRuntime) -> Result<(), Fail> {
+fn a_dropped_call_is_unknown(rt: HostRuntime) {
     let mut route = Route::new(rt.alloc());
-    let issued = call(&mut route, rt.alloc())?;
-    let call = issued.call.ok_or("no call")?;
-    route.drop_call(call)?;
-    arrive(&mut route, rt.alloc(), 1)?;
-    assert_eq!(rt; route.poll(call).err(), Some(Error::UnknownHandle));
-    assert_eq!(rt; route.drop_call(call).err(), Some(Error::UnknownHandle));
-    Ok(())
+    assert_eq!(rt; call(&mut route, rt.alloc()), Ok(FIRST));
+    assert_eq!(rt; plain(route.drop_call(0)), Ok(()));
+    assert!(rt; arrives(&mut route, rt.alloc(), 1));
+    assert_eq!(rt; told_by(route.poll(0)), UNKNOWN);
+    assert_eq!(rt; plain(route.drop_call(0)), Err(Kind::UnknownHandle));
+    let_route_go(route);
 }
 
 #[test]
-fn a_dropped_call_is_no_call(rt: HostRuntime) -> Result<(), Fail> {
+fn a_dropped_call_is_no_call(rt: HostRuntime) {
     let mut calls = PendingMethodCalls::new(rt.alloc());
-    let call = register(&mut calls, 7)?;
-    calls.drop_call(call)?;
-    assert_eq!(rt; calls.poll(call).err(), Some(Error::UnknownHandle));
-    Ok(())
+    assert_eq!(rt; register(&mut calls, 7), Some(0));
+    assert_eq!(rt; plain(calls.drop_call(0)), Ok(()));
+    assert_eq!(rt; told_by(calls.poll(0)), UNKNOWN);
+    let_calls_go(calls);
 }
 
 #[test]
-fn a_call_without_reply_is_no_call(rt: HostRuntime) -> Result<(), Fail> {
+fn a_call_without_reply_is_no_call(rt: HostRuntime) {
     let mut route = Route::new(rt.alloc());
-    let path = ObjectPath::try_from("/")?;
-    let member = MemberName::try_from("do")?;
-    let builder = Message::method_call(&path, &member).with_flags(Flags::NoReplyExpected)?;
-    let first = route.issue(builder, &nothing(rt.alloc())?, &[])?;
-    assert_eq!(rt;
-        first,
-        Issued {
-            index: 0,
-            serial: 1,
-            call: None
-        }
-    );
-    assert_eq!(rt; route.poll(0).err(), Some(Error::UnknownHandle));
-    let second = call(&mut route, rt.alloc())?;
-    assert_eq!(rt; second.call, Some(0));
-    arrive(&mut route, rt.alloc(), 1)?;
-    assert!(rt; matches!(route.poll(0)?, Polled::NotYet));
-    Ok(())
+    let alone = Issued {
+        index: 0,
+        serial: 1,
+        call: None,
+    };
+    let first = call_with(&mut route, rt.alloc(), Some(Flags::NoReplyExpected));
+    assert_eq!(rt; first, Ok(alone));
+    assert_eq!(rt; told_by(route.poll(0)), UNKNOWN);
+    let second = call(&mut route, rt.alloc());
+    assert!(rt; matches!(second, Ok(Issued { call: Some(0), .. })));
+    assert!(rt; arrives(&mut route, rt.alloc(), 1));
+    assert_eq!(rt; told_by(route.poll(0)), Told::NotYet);
+    let_route_go(route);
 }
 
 #[test]

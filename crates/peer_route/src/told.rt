@@ -1,0 +1,151 @@
+//! What tests ask of answers. An `Error` owns memory in many ways, and each place that compares one or lets one go has all of
+//! them to prove; so that is done here alone.
+ghost use Rattle.std.specs.Prelude.{◌≡◌, is_some};
+
+use crate::{Issued, PendingMethodCalls, Polled, Route};
+use std::alloc::Global;
+use wire_body::Body;
+use wire_message::{Error, Flags, IoKind, Message, Result as Answer, Taken, header_front};
+use wire_names::{MemberName, ObjectPath};
+
+/// A method return with serial 1 that answers serial 1 (D-Bus Specification, "Message Format").
+const RETURN: [u8; 24] = [
+    108, 2, 0, 1, 0, 0, 0, 0, 1, 0, 0, 0, 8, 0, 0, 0, 5, 1, 117, 0, 1, 0, 0, 0,
+];
+
+/// What a call was refused for, or what closed a peer.
+#[derive(Clone, Copy, PartialEq, Eq, Debug)]
+pub(crate) enum Kind {
+    UnknownHandle,
+    WriteFault,
+    ExcessData,
+    IncorrectEndian,
+    /// Another error, or the test couldn't ask.
+    Other,
+}
+
+/// What a poll answered.
+#[derive(Clone, Copy, PartialEq, Eq, Debug)]
+pub(crate) enum Told {
+    /// The message with this position.
+    Now(u64),
+    NotYet,
+    NoneBefore,
+    Closed(Kind),
+    Ended,
+    Refused(Kind),
+}
+
+fn kind_of(error: &Error) -> Kind {
+    match error {
+        Error::UnknownHandle => Kind::UnknownHandle,
+        Error::InputOutput(IoKind::WriteFault) => Kind::WriteFault,
+        Error::ExcessData => Kind::ExcessData,
+        Error::IncorrectEndian => Kind::IncorrectEndian,
+        _ => Kind::Other,
+    }
+}
+
+/// The same answer with the error's kind.
+pub(crate) fn plain<T>(answer: Answer<T>) -> Result<T, Kind> {
+    match answer {
+        Ok(value) => Ok(value),
+        Err(error) => Err(kind_of(&error)),
+    }
+}
+
+fn polled_told(polled: &Polled<Message>) -> Told {
+    match polled {
+        Polled::Now(message) => Told::Now(message.recv_position()),
+        Polled::NotYet => Told::NotYet,
+        Polled::NoneBefore => Told::NoneBefore,
+        Polled::Closed(error) => Told::Closed(kind_of(error)),
+        Polled::Ended => Told::Ended,
+    }
+}
+
+/// What a poll answered.
+pub(crate) fn told_by(answer: Answer<Polled<Message>>) -> Told {
+    match &answer {
+        Ok(polled) => polled_told(polled),
+        Err(error) => Told::Refused(kind_of(error)),
+    }
+}
+
+/// The kind of the error that closed a peer.
+pub(crate) fn closed_by(closing: Option<Error>) -> Option<Kind>
+    ensures { is_some result ≡ is_some closing }
+{
+    match &closing {
+        Some(error) => Some(kind_of(error)),
+        None => None,
+    }
+}
+
+/// The return, at position 1.
+fn reply(alloc: Global) -> Result<Message, Kind> {
+    let (message, _) = plain(header_front(alloc, &RETURN))?;
+    Ok(message.at(1))
+}
+
+/// Whether the return, at position 1, goes to a call.
+pub(crate) fn goes_to_a_call(calls: &mut PendingMethodCalls, alloc: Global) -> Result<bool, Kind> {
+    let message = reply(alloc)?;
+    Ok(calls.complete_call(message).is_none())
+}
+
+/// The return arrives at that position, where the peer takes a message, and none but this comes next; else it doesn't.
+pub(crate) fn arrives(route: &mut Route, alloc: Global, position: u64) -> bool {
+    let Ok(message) = reply(alloc) else {
+        return false;
+    };
+    if closed_by(route.closing()).is_some() || route.busy() {
+        return false;
+    }
+    let received = route.received();
+    if received > 1000 || position != received + 1 {
+        return false;
+    }
+    route.arrive(message.at(position)).is_ok()
+}
+
+/// Issues the method call of `do` at `/` with these flags.
+pub(crate) fn call_with(
+    route: &mut Route,
+    alloc: Global,
+    flags: Option<Flags>,
+) -> Result<Issued, Kind> {
+    let Ok(path) = ObjectPath::try_from("/") else {
+        return Err(Kind::Other);
+    };
+    let Ok(member) = MemberName::try_from("do") else {
+        return Err(Kind::Other);
+    };
+    let mut builder = Message::method_call(&path, &member);
+    if let Some(flags) = flags {
+        builder = plain(builder.with_flags(flags))?;
+    }
+    let Ok(body) = Body::from_values(alloc, Vec::new(alloc)) else {
+        return Err(Kind::Other);
+    };
+    plain(route.issue(builder, &body, &[]))
+}
+
+/// Issues the method call of `do` at `/`.
+pub(crate) fn call(route: &mut Route, alloc: Global) -> Result<Issued, Kind> {
+    call_with(route, alloc, None)
+}
+
+/// Makes the call whose message has this serial, where the serial is free: its number.
+pub(crate) fn register(calls: &mut PendingMethodCalls, serial: u32) -> Option<u64> {
+    if serial == 0 || calls.taken(serial) {
+        return None;
+    }
+    calls.register_call(serial).ok()
+}
+
+/// Lets a route go. What it owns has to be proved let go in each place where one goes, so tests let theirs go here.
+pub(crate) fn let_route_go(_route: Route) {}
+
+/// Lets calls go.
+pub(crate) fn let_calls_go(_calls: PendingMethodCalls) {}
