@@ -1,3 +1,4 @@
+use crate::answers::{Told, is_read_as, owned_answer};
 use crate::{MatchRule, OwnedMatchRule};
 use std::alloc::Global;
 use std::test::Fail;
@@ -62,6 +63,74 @@ const REFUSED: [(&str, Error); 28] = [
     ("destination='org.a'", Error::Names(NamesError::Unique)),
     ("arg0path='a'", Error::Names(NamesError::Path)),
 ];
+
+/// Bytes, and the text of their rule, or the fault of the leftmost component. By hand from the D-Bus Specification: a name or a
+/// path holds ASCII alone, and a string is UTF-8.
+const IN_BYTES: [(&[u8], Result<&str, Told>); 26] = [
+    (b"type='signal'", Ok("type='signal'")),
+    (b"arg0='\xc3\xa4'", Ok("arg0='\u{e4}'")),
+    (
+        b"sender=':1.5',arg1='\xf0\x9f\x98\x80'",
+        Ok("sender=':1.5',arg1='\u{1f600}'"),
+    ),
+    (b"arg0='\xff',arg0='x'", Err(Told::InvalidMatchRule)),
+    (b"sender='\xff'", Err(Told::Names(NamesError::Bus))),
+    (
+        b"interface='a.\xff'",
+        Err(Told::Names(NamesError::Interface)),
+    ),
+    (b"member='\xff'", Err(Told::Names(NamesError::Member))),
+    (b"path='/\xff'", Err(Told::Names(NamesError::Path))),
+    (
+        b"path_namespace='/\xff'",
+        Err(Told::Names(NamesError::Path)),
+    ),
+    (
+        b"destination=':1.\xff'",
+        Err(Told::Names(NamesError::Unique)),
+    ),
+    (b"arg0path='/\xff'", Err(Told::Names(NamesError::Path))),
+    (b"arg0namespace='\xff'", Err(Told::InvalidMatchRule)),
+    (b"arg0='\xff'", Err(Told::InvalidMatchRule)),
+    (b"arg0='\xc3'", Err(Told::InvalidMatchRule)),
+    (b"arg0='\xed\xa0\x80'", Err(Told::InvalidMatchRule)),
+    (b"type='\xff'", Err(Told::InvalidMatchRule)),
+    (b"\xff='a'", Err(Told::InvalidMatchRule)),
+    (b"arg\xff='a'", Err(Told::InvalidMatchRule)),
+    (b"\xff", Err(Told::InvalidMatchRule)),
+    (b"arg64='\xff'", Err(Told::InvalidMatchRule)),
+    (b"sender=\xff", Err(Told::InvalidMatchRule)),
+    (
+        b"arg0='\xc3\xa4',sender='\xff'",
+        Err(Told::Names(NamesError::Bus)),
+    ),
+    (b"arg0='\xff',bogus", Err(Told::InvalidMatchRule)),
+    (b"arg0='\xff',sender='x'", Err(Told::InvalidMatchRule)),
+    (b"sender='x',arg0='\xff'", Err(Told::Names(NamesError::Bus))),
+    (
+        b"sender='\xff',arg0='\0'",
+        Err(Told::Names(NamesError::Bus)),
+    ),
+];
+
+#[test]
+fn bytes_are_read(rt: HostRuntime) -> Result<(), Fail> {
+    for (bytes, wanted) in IN_BYTES {
+        let answer = MatchRule::try_from_bytes(rt.alloc(), bytes);
+        assert!(rt; is_read_as(rt.alloc(), answer, wanted)?);
+    }
+    Ok(())
+}
+
+/// An owned rule is read from bytes as the rule itself.
+#[test]
+fn owned_rules_are_read_from_bytes(rt: HostRuntime) -> Result<(), Fail> {
+    for (bytes, wanted) in IN_BYTES {
+        let answer = owned_answer(OwnedMatchRule::try_from_bytes(rt.alloc(), bytes));
+        assert!(rt; is_read_as(rt.alloc(), answer, wanted)?);
+    }
+    Ok(())
+}
 
 #[test]
 fn texts_are_read_and_printed(rt: HostRuntime) -> Result<(), Fail> {
