@@ -167,17 +167,13 @@ fn faults_are_named(rt: HostRuntime) -> Result<(), Fail> {
     Ok(())
 }
 
-fn with_text(alloc: Global, builder: Builder, index: u8, text: &str) -> Result<Builder, Fail> {
-    let text = Text::from_str(alloc, text)?;
-    builder_of(builder.arg(index, text))
-}
-
 #[test]
 fn bus_signals_are_built(rt: HostRuntime) -> Result<(), Fail> {
     let alloc = rt.alloc();
+    let text = Text::from_str(alloc, "org.x.Y")?;
     let member = OwnedMemberName::try_from(alloc, "NameLost")?;
     let builder = MatchRule::fdo_signal_builder(alloc, member)?;
-    let rule = with_text(alloc, builder, 0, "org.x.Y")?.build();
+    let rule = builder_of(builder.arg(0, text))?.build();
     assert!(rt;
         is_printed_as(
             alloc,
@@ -192,39 +188,44 @@ fn path_of(alloc: Global, path: &str) -> Result<OwnedObjectPath, Fail> {
     Ok(OwnedObjectPath::try_from(alloc, path)?)
 }
 
-/// A path, and a namespace in its place.
-fn with_places(alloc: Global, builder: Builder) -> Result<Builder, Fail> {
-    let builder = builder.path(path_of(alloc, "/a")?);
-    Ok(builder.path_namespace(path_of(alloc, "/b")?))
+/// A type, a path, and a namespace in the path's place.
+fn with_places(alloc: Global) -> Result<Builder, Fail> {
+    let path = path_of(alloc, "/a")?;
+    let namespace = path_of(alloc, "/b")?;
+    Ok(
+        MatchRule::builder(alloc)
+            .msg_type(MessageType::MethodCall)
+            .path(path)
+            .path_namespace(namespace),
+    )
 }
 
-/// The texts of arguments 2 and 3.
-fn with_texts(alloc: Global, builder: Builder) -> Result<Builder, Fail> {
-    let builder = with_text(alloc, builder, 2, "a")?;
-    let text = Text::from_str(alloc, "b")?;
-    builder_of(builder.add_arg(text))
+/// And the texts of arguments 2 and 3.
+fn with_texts(alloc: Global) -> Result<Builder, Fail> {
+    let first = Text::from_str(alloc, "a")?;
+    let second = Text::from_str(alloc, "b")?;
+    let builder = builder_of(with_places(alloc)?.arg(2, first))?;
+    builder_of(builder.add_arg(second))
 }
 
-/// The paths of arguments 0 and 7.
-fn with_paths(alloc: Global, builder: Builder) -> Result<Builder, Fail> {
-    let builder = builder_of(builder.add_arg_path(path_of(alloc, "/c")?))?;
-    builder_of(builder.arg_path(7, path_of(alloc, "/d")?))
+/// And the paths of arguments 0 and 7.
+fn with_paths(alloc: Global) -> Result<Builder, Fail> {
+    let first = path_of(alloc, "/c")?;
+    let second = path_of(alloc, "/d")?;
+    let builder = builder_of(with_texts(alloc)?.add_arg_path(first))?;
+    builder_of(builder.arg_path(7, second))
 }
 
-/// The namespace of argument 0.
-fn with_namespace(alloc: Global, builder: Builder) -> Result<Builder, Fail> {
-    let text = Text::from_str(alloc, "org")?;
-    builder_of(builder.arg0ns(text))
+/// And the namespace of argument 0.
+fn with_namespace(alloc: Global) -> Result<Builder, Fail> {
+    let name = Text::from_str(alloc, "org")?;
+    builder_of(with_paths(alloc)?.arg0ns(name))
 }
 
 #[test]
 fn rules_are_built(rt: HostRuntime) -> Result<(), Fail> {
     let alloc = rt.alloc();
-    let builder = MatchRule::builder(alloc).msg_type(MessageType::MethodCall);
-    let builder = with_places(alloc, builder)?;
-    let builder = with_texts(alloc, builder)?;
-    let builder = with_paths(alloc, builder)?;
-    let rule = with_namespace(alloc, builder)?.build();
+    let rule = with_namespace(alloc)?.build();
     assert!(rt;
         is_printed_as(
             alloc,
@@ -238,11 +239,18 @@ fn rules_are_built(rt: HostRuntime) -> Result<(), Fail> {
 }
 
 #[test]
+fn nothing_is_added_behind_argument_63(rt: HostRuntime) -> Result<(), Fail> {
+    let alloc = rt.alloc();
+    let last = Text::from_str(alloc, "x")?;
+    let text = Text::from_str(alloc, "y")?;
+    let builder = builder_of(MatchRule::builder(alloc).arg(63, last))?;
+    assert!(rt; is_invalid(builder.add_arg(text)));
+    Ok(())
+}
+
+#[test]
 fn arguments_end_at_64(rt: HostRuntime) -> Result<(), Fail> {
     let alloc = rt.alloc();
-    let builder = with_text(alloc, MatchRule::builder(alloc), 63, "x")?;
-    let text = Text::from_str(alloc, "y")?;
-    assert!(rt; is_invalid(builder.add_arg(text)));
     let text = Text::from_str(alloc, "x")?;
     assert!(rt; is_invalid(MatchRule::builder(alloc).arg(64, text)));
     Ok(())
