@@ -3,6 +3,7 @@ pub mod Printed
 pub mod Made
 pub mod Read
 pub mod Quotes
+pub mod Utf8
 pub mod Clear
 pub mod Reread
 pub mod Same

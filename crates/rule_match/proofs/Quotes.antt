@@ -1,10 +1,12 @@
 -- What stands between quotes.
-use Rattle.std.proofs.Common.{◌≡◌, ◌≢◌, refl, sym, ap, ℕ, List, [], ◌∷◌, ◌++◌, Bool, true, false, cond, Option, Some, None, subst}
+use Rattle.std.proofs.Common.{◌≡◌, refl, ap, ◌∙◌, ℕ, suc, ◌+◌, ◌-◌, List, [], ◌∷◌, ◌++◌, length, take, drop, Bool, true, false, ◌&&◌, nat_eq, cond, Option, Some, None, subst, arith}
 use Rattle.std.specs.Prelude.{◌==◌, option_map}
+use Rattle.std.specs.Cmp.Lexicographic.{pointwise}
 use Rattle.std.specs.Option.{MatchOption}
 use Rattle.std.specs.Borrow.{Bor}
 use Rattle.std.proofs.lemmas.Bool.{eqb-true}
-use Rattle.rule_match.specs.Text.{before_quote, between_quotes}
+use Rattle.rule_arguments.proofs.Both.{first_true}
+use Rattle.rule_match.specs.Text.{before_quote}
 
 pub before_quote_of : (xs : List ℕ) → before_quote (xs ++ 39 ∷ []) ≡ Some xs
 before_quote_of [] = refl
@@ -30,18 +32,33 @@ before_quote_is [] xs h = cc
 before_quote_is (b ∷ []) xs h = before_end b xs (b == 39) refl h
 before_quote_is (b ∷ c ∷ rest) xs h = before_onto b (c ∷ rest) xs (before_quote (c ∷ rest)) (λ ys e. before_quote_is (c ∷ rest) ys e) h
 
-nothing_before : (bs : List ℕ) (o : Option (List ℕ)) → before_quote bs ≡ o → ((front : List ℕ) → bs ≢ front ++ 39 ∷ []) → None ≡ o
-nothing_before bs None e none = refl
-nothing_before bs (Some xs) e none = absurd (none xs (before_quote_is bs xs e))
+-- ---- stripped of a last quote
 
-pub quote_stripped : (bs : List ℕ) (r : Option (Bor (List ℕ))) → MatchOption r ((front : List ℕ) → bs ≢ front ++ 39 ∷ []) (λ x. bs ≡ x.now ++ 39 ∷ []) → option_map (λ x. x.now) r ≡ before_quote bs
-quote_stripped bs None h = nothing_before bs (before_quote bs) refl h
-quote_stripped bs (Some x) h = sym (subst (λ zs. before_quote zs ≡ Some x.now) (sym h) (before_quote_of x.now))
+abbrev ends_in_quote : List ℕ → Bool
+ends_in_quote bs = pointwise nat_eq (drop (length bs - 1) bs) (39 ∷ [])
 
-no_quote : (b : ℕ) (rest : List ℕ) (v : Bool) → (b == 39) ≡ v → ((more : List ℕ) → b ∷ rest ≢ 39 ∷ more) → None ≡ cond v (before_quote rest) None
-no_quote b rest true e none = absurd (none rest (ap (λ x. x ∷ rest) (eqb-true b 39 e)))
-no_quote b rest false e none = refl
+quote_found : (bs : List ℕ) → ends_in_quote bs ≡ true → Some (take (length bs - 1) bs) ≡ before_quote bs
+quote_found [] h = cc
+quote_found (b ∷ []) h = let e : (b == 39) ≡ true = first_true (b == 39) _ h in rw e refl
+quote_found (b ∷ c ∷ rest) h =
+    let e : length (b ∷ c ∷ rest) - 1 ≡ suc (length (c ∷ rest) - 1) = omega arith in
+    let k : ends_in_quote (c ∷ rest) ≡ true = subst (λ n. pointwise nat_eq (drop n (b ∷ c ∷ rest)) (39 ∷ []) ≡ true) e h in
+    ap (λ n. Some (take n (b ∷ c ∷ rest))) e ∙ ap (option_map (λ bs. b ∷ bs)) (quote_found (c ∷ rest) k)
 
-pub no_quote_in_front : (bs : List ℕ) → ((more : List ℕ) → bs ≢ 39 ∷ more) → None ≡ between_quotes bs
-no_quote_in_front [] none = refl
-no_quote_in_front (b ∷ rest) none = no_quote b rest (b == 39) refl none
+alone : (a : Bool) → (a && true) ≡ false → a ≡ false
+alone true h = h
+alone false h = h
+
+quote_missing : (bs : List ℕ) → ends_in_quote bs ≡ false → None ≡ before_quote bs
+quote_missing [] h = refl
+quote_missing (b ∷ []) h = let e : (b == 39) ≡ false = alone (b == 39) h in rw e refl
+quote_missing (b ∷ c ∷ rest) h =
+    let e : length (b ∷ c ∷ rest) - 1 ≡ suc (length (c ∷ rest) - 1) = omega arith in
+    let k : ends_in_quote (c ∷ rest) ≡ false = subst (λ n. pointwise nat_eq (drop n (b ∷ c ∷ rest)) (39 ∷ []) ≡ false) e h in
+    ap (option_map (λ bs. b ∷ bs)) (quote_missing (c ∷ rest) k)
+
+pub quote_stripped : (bs : List ℕ) (r : Option (Bor (List ℕ)))
+    → MatchOption r (pointwise nat_eq (drop (length bs - 1) bs) (39 ∷ []) ≡ false) (λ x. (pointwise nat_eq (drop (length bs - 1) bs) (39 ∷ []) ≡ true) × (x.now ≡ take (length bs - 1) bs) × (length x.now + 1 ≡ length bs))
+    → option_map (λ x. x.now) r ≡ before_quote bs
+quote_stripped bs None h = quote_missing bs h
+quote_stripped bs (Some x) h = ap Some h.1 ∙ quote_found bs h.0

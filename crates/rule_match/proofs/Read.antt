@@ -7,7 +7,8 @@ use Rattle.rule_match.specs.declared.part.Part.{Part}
 use Rattle.rule_arguments.specs.Arguments.{in_order}
 use Rattle.rule_match.specs.Rule.{no_parts}
 use Rattle.rule_match.specs.Building.{Gives}
-use Rattle.rule_match.specs.Text.{rule_of, said, made, component, first_then}
+use Rattle.rule_match.specs.Text.{rule_of, made, component, first_then}
+use Rattle.rule_match.specs.Bytes.{utf8_wanted, said_in_bytes}
 use Rattle.rule_match.proofs.Made.{made_with, made_first}
 
 pub none_made : no_parts ≡ rule_of []
@@ -22,16 +23,16 @@ next [] i d h = absurd (omega arith)
 next (p ∷ parts) zero d h = refl
 next (p ∷ parts) (suc i) d h = next parts i d (omega arith)
 
-pub part_read : (parts : List (Bor (List ℕ))) (i : ℕ) (d : Bor (List ℕ)) (ps : List Part) (p : Part) → i < length parts → component (get_or parts i d).now ≡ Ok p
-    → made (said (texts parts)) ≡ made_with ps (said (drop i (texts parts))) → made (said (texts parts)) ≡ made_with (ps ++ p ∷ []) (said (drop (i + 1) (texts parts)))
+pub part_read : (parts : List (Bor (List ℕ))) (i : ℕ) (d : Bor (List ℕ)) (ps : List Part) (p : Part) → i < length parts → utf8_wanted (component (get_or parts i d).now) ≡ Ok p
+    → made (said_in_bytes (texts parts)) ≡ made_with ps (said_in_bytes (drop i (texts parts))) → made (said_in_bytes (texts parts)) ≡ made_with (ps ++ p ∷ []) (said_in_bytes (drop (i + 1) (texts parts)))
 part_read parts i d ps p less e h =
-    h ∙ ap (λ xs. made_with ps (said xs)) (next parts i d less) ∙ ap (λ r. made_with ps (first_then r (said (drop (suc i) (texts parts))))) e
-    ∙ rw add-one (made_first ps p (said (drop (suc i) (texts parts))))
+    h ∙ ap (λ xs. made_with ps (said_in_bytes xs)) (next parts i d less) ∙ ap (λ r. made_with ps (first_then r (said_in_bytes (drop (suc i) (texts parts))))) e
+    ∙ rw add-one (made_first ps p (said_in_bytes (drop (suc i) (texts parts))))
 
-pub fault_read : (parts : List (Bor (List ℕ))) (i : ℕ) (d : Bor (List ℕ)) (ps : List Part) (e : Error) → i < length parts → component (get_or parts i d).now ≡ Err e
-    → made (said (texts parts)) ≡ made_with ps (said (drop i (texts parts))) → made (said (texts parts)) ≡ Err e
+pub fault_read : (parts : List (Bor (List ℕ))) (i : ℕ) (d : Bor (List ℕ)) (ps : List Part) (e : Error) → i < length parts → utf8_wanted (component (get_or parts i d).now) ≡ Err e
+    → made (said_in_bytes (texts parts)) ≡ made_with ps (said_in_bytes (drop i (texts parts))) → made (said_in_bytes (texts parts)) ≡ Err e
 fault_read parts i d ps e less c h =
-    h ∙ ap (λ xs. made_with ps (said xs)) (next parts i d less) ∙ ap (λ r. made_with ps (first_then r (said (drop (suc i) (texts parts))))) c
+    h ∙ ap (λ xs. made_with ps (said_in_bytes xs)) (next parts i d less) ∙ ap (λ r. made_with ps (first_then r (said_in_bytes (drop (suc i) (texts parts))))) c
 
 none_left : (xs : List (List ℕ)) (i : ℕ) → length xs ≤ i → drop i xs ≡ []
 none_left [] zero h = refl
@@ -44,9 +45,9 @@ texts_length [] = refl
 texts_length (p ∷ parts) = ap suc (texts_length parts)
 
 pub all_read : (parts : List (Bor (List ℕ))) (i : ℕ) (ps : List Part) → length parts ≤ i
-    → made (said (texts parts)) ≡ made_with ps (said (drop i (texts parts))) → made (said (texts parts)) ≡ Ok (rule_of ps)
+    → made (said_in_bytes (texts parts)) ≡ made_with ps (said_in_bytes (drop i (texts parts))) → made (said_in_bytes (texts parts)) ≡ Ok (rule_of ps)
 all_read parts i ps end h =
-    h ∙ ap (λ xs. made_with ps (said xs)) (none_left (texts parts) i (omega (arith, texts_length parts))) ∙ ap (λ xs. Ok (rule_of xs)) (append-nil ps)
+    h ∙ ap (λ xs. made_with ps (said_in_bytes xs)) (none_left (texts parts) i (omega (arith, texts_length parts))) ∙ ap (λ xs. Ok (rule_of xs)) (append-nil ps)
 
 pub told_ok : {A : Type 0} (x : A) (told : Result A Error) → Gives (Ok x) told → told ≡ Ok x
 told_ok x told (inl h) = cc

@@ -5,6 +5,7 @@ pub mod Namespace
 pub mod Key
 pub mod Part
 pub mod Text
+pub mod Bytes
 pub mod Printing
 pub mod Again
 pub mod Matching

@@ -1,12 +1,14 @@
 //! Reading a rule's text, component by component.
-ghost use Rattle.std.specs.Prelude.{◌≡◌, ◌<◌, map, true, IfOk, option_map};
-ghost use Rattle.std.specs.List.{list_all};
+ghost use Rattle.std.specs.Prelude.{◌≡◌, ◌<◌, ◌==◌, length, map, true, IfOk, option_map};
+ghost use Rattle.std.specs.List.{list_all, position_or_len, before_first, after_first};
+ghost use Rattle.std.specs.Option.{MatchOption};
 ghost use Rattle.wire_names.specs.Names.{elements, is_element, is_element_byte, begins_with_digit};
 ghost use Rattle.rule_arguments.specs.Arguments.{is_plain};
 ghost use Rattle.rule_match.specs.Namespace.{has_namespace_elements, is_namespace};
 ghost use Rattle.rule_match.specs.Key.{same};
 ghost use Rattle.rule_match.specs.Part.{kind_of, part_of};
-ghost use Rattle.rule_match.specs.Text.{components, between_quotes, component, said, made, rule_in};
+ghost use Rattle.rule_match.specs.Text.{components, before_quote, between_quotes, component, made, rule_in};
+ghost use Rattle.rule_match.specs.Bytes.{utf8_wanted, said_in_bytes, rule_in_bytes};
 ghost use Rattle.rule_match.specs.Building.{IsPart, IsKey, Gives};
 
 use crate::key::{Key, key_of, same};
@@ -97,96 +99,101 @@ fn kind_of(word: &[u8]) -> Option<MessageType>
 }
 
 #[tactic(auto, unfolding(crate::specs::Part::part_of))]
-fn kind_part(value: &str) -> Result<Part, Error>
-    ensures part { result ≡ part_of Key.Type value.now }
+fn kind_part(value: &[u8]) -> Result<Part, Error>
+    ensures part { result ≡ utf8_wanted (part_of Key.Type value.now) }
     ensures valid { IfOk result IsPart }
 {
-    match kind_of(value.as_bytes()) {
+    match kind_of(value) {
         Some(kind) => Ok(Part::Kind(kind)),
         None => Err(Error::InvalidMatchRule),
     }
 }
 
 #[tactic(auto, unfolding(crate::specs::Part::part_of))]
-fn sender_part(alloc: Global, value: &str) -> Result<Part, Error>
-    ensures part { Gives result (part_of Key.Sender value.now) }
+fn sender_part(alloc: Global, value: &[u8]) -> Result<Part, Error>
+    ensures part { Gives result (utf8_wanted (part_of Key.Sender value.now)) }
     ensures valid { IfOk result IsPart }
 {
-    match BusName::try_from(value) {
+    match BusName::try_from_bytes(value) {
         Ok(name) => Ok(Part::Sender(name.to_owned(alloc)?)),
         Err(e) => Err(Error::Names(e)),
     }
 }
 
 #[tactic(auto, unfolding(crate::specs::Part::part_of))]
-fn interface_part(alloc: Global, value: &str) -> Result<Part, Error>
-    ensures part { Gives result (part_of Key.Interface value.now) }
+fn interface_part(alloc: Global, value: &[u8]) -> Result<Part, Error>
+    ensures part { Gives result (utf8_wanted (part_of Key.Interface value.now)) }
     ensures valid { IfOk result IsPart }
 {
-    match InterfaceName::try_from(value) {
+    match InterfaceName::try_from_bytes(value) {
         Ok(name) => Ok(Part::Interface(name.to_owned(alloc)?)),
         Err(e) => Err(Error::Names(e)),
     }
 }
 
 #[tactic(auto, unfolding(crate::specs::Part::part_of))]
-fn member_part(alloc: Global, value: &str) -> Result<Part, Error>
-    ensures part { Gives result (part_of Key.Member value.now) }
+fn member_part(alloc: Global, value: &[u8]) -> Result<Part, Error>
+    ensures part { Gives result (utf8_wanted (part_of Key.Member value.now)) }
     ensures valid { IfOk result IsPart }
 {
-    match MemberName::try_from(value) {
+    match MemberName::try_from_bytes(value) {
         Ok(name) => Ok(Part::Member(name.to_owned(alloc)?)),
         Err(e) => Err(Error::Names(e)),
     }
 }
 
 #[tactic(auto, unfolding(crate::specs::Part::part_of))]
-fn path_part(alloc: Global, value: &str) -> Result<Part, Error>
-    ensures part { Gives result (part_of Key.Path value.now) }
+fn path_part(alloc: Global, value: &[u8]) -> Result<Part, Error>
+    ensures part { Gives result (utf8_wanted (part_of Key.Path value.now)) }
     ensures valid { IfOk result IsPart }
 {
-    match ObjectPath::try_from(value) {
+    match ObjectPath::try_from_bytes(value) {
         Ok(path) => Ok(Part::Path(path.to_owned(alloc)?)),
         Err(e) => Err(Error::Names(e)),
     }
 }
 
 #[tactic(auto, unfolding(crate::specs::Part::part_of))]
-fn path_namespace_part(alloc: Global, value: &str) -> Result<Part, Error>
-    ensures part { Gives result (part_of Key.PathNamespace value.now) }
+fn path_namespace_part(alloc: Global, value: &[u8]) -> Result<Part, Error>
+    ensures part { Gives result (utf8_wanted (part_of Key.PathNamespace value.now)) }
     ensures valid { IfOk result IsPart }
 {
-    match ObjectPath::try_from(value) {
+    match ObjectPath::try_from_bytes(value) {
         Ok(path) => Ok(Part::PathNamespace(path.to_owned(alloc)?)),
         Err(e) => Err(Error::Names(e)),
     }
 }
 
 #[tactic(auto, unfolding(crate::specs::Part::part_of))]
-fn destination_part(alloc: Global, value: &str) -> Result<Part, Error>
-    ensures part { Gives result (part_of Key.Destination value.now) }
+fn destination_part(alloc: Global, value: &[u8]) -> Result<Part, Error>
+    ensures part { Gives result (utf8_wanted (part_of Key.Destination value.now)) }
     ensures valid { IfOk result IsPart }
 {
-    match UniqueName::try_from(value) {
+    match UniqueName::try_from_bytes(value) {
         Ok(name) => Ok(Part::Destination(name.to_owned(alloc)?)),
         Err(e) => Err(Error::Names(e)),
     }
 }
 
 #[tactic(auto, unfolding(crate::specs::Part::part_of))]
-fn namespace_part(alloc: Global, value: &str) -> Result<Part, Error>
-    ensures part { Gives result (part_of Key.Arg0Namespace value.now) }
+fn namespace_part(alloc: Global, value: &[u8]) -> Result<Part, Error>
+    ensures part { Gives result (utf8_wanted (part_of Key.Arg0Namespace value.now)) }
     ensures valid { IfOk result IsPart }
 {
-    if is_namespace(value) {
-        Ok(Part::Arg0Namespace(Text::from_str(alloc, value)?))
-    } else {
-        Err(Error::InvalidMatchRule)
+    match str::from_utf8(value) {
+        Ok(text) => {
+            if is_namespace(text) {
+                Ok(Part::Arg0Namespace(Text::from_str(alloc, text)?))
+            } else {
+                Err(Error::InvalidMatchRule)
+            }
+        }
+        Err(_) => Err(Error::InvalidMatchRule),
     }
 }
 
 #[tactic(auto, unfolding(crate::specs::Part::part_of))]
-fn arg_part(alloc: Global, index: u8, value: &str) -> Result<Part, Error>
+fn text_part(alloc: Global, index: u8, value: &str) -> Result<Part, Error>
     requires { index < 64 }
     ensures part { Gives result (part_of (Key.Argument index) value.now) }
     ensures valid { IfOk result IsPart }
@@ -199,13 +206,24 @@ fn arg_part(alloc: Global, index: u8, value: &str) -> Result<Part, Error>
     }
 }
 
-#[tactic(auto, unfolding(crate::specs::Part::part_of))]
-fn arg_path_part(alloc: Global, index: u8, value: &str) -> Result<Part, Error>
+fn arg_part(alloc: Global, index: u8, value: &[u8]) -> Result<Part, Error>
     requires { index < 64 }
-    ensures part { Gives result (part_of (Key.ArgumentPath index) value.now) }
+    ensures part { Gives result (utf8_wanted (part_of (Key.Argument index) value.now)) }
     ensures valid { IfOk result IsPart }
 {
-    match ObjectPath::try_from(value) {
+    match str::from_utf8(value) {
+        Ok(text) => text_part(alloc, index, text),
+        Err(_) => Err(Error::InvalidMatchRule),
+    }
+}
+
+#[tactic(auto, unfolding(crate::specs::Part::part_of))]
+fn arg_path_part(alloc: Global, index: u8, value: &[u8]) -> Result<Part, Error>
+    requires { index < 64 }
+    ensures part { Gives result (utf8_wanted (part_of (Key.ArgumentPath index) value.now)) }
+    ensures valid { IfOk result IsPart }
+{
+    match ObjectPath::try_from_bytes(value) {
         Ok(path) => {
             let text = Text::from_str(alloc, path.as_str())?;
             Ok(Part::ArgPath(Argument { index, text }))
@@ -215,9 +233,9 @@ fn arg_path_part(alloc: Global, index: u8, value: &str) -> Result<Part, Error>
 }
 
 /// What a value is under its key.
-fn part_of(alloc: Global, key: Key, value: &str) -> Result<Part, Error>
+fn part_of(alloc: Global, key: Key, value: &[u8]) -> Result<Part, Error>
     requires { IsKey key }
-    ensures part { Gives result (part_of key value.now) }
+    ensures part { Gives result (utf8_wanted (part_of key value.now)) }
     ensures valid { IfOk result IsPart }
 {
     match key {
@@ -234,40 +252,55 @@ fn part_of(alloc: Global, key: Key, value: &str) -> Result<Part, Error>
     }
 }
 
+/// What stands in front of a quote at the end.
+fn before_quote(text: &[u8]) -> Option<&[u8]>
+    ensures { option_map (λ t. t.now) result ≡ before_quote text.now }
+{
+    text.strip_suffix(b"'")
+}
+
 /// What stands between a quote in front and a quote at the end.
-fn between_quotes(text: &str) -> Option<&str>
+fn between_quotes(text: &[u8]) -> Option<&[u8]>
     ensures { option_map (λ t. t.now) result ≡ between_quotes text.now }
 {
-    match text.strip_prefix('\'') {
-        Some(rest) => rest.strip_suffix('\''),
-        None => None,
+    match text {
+        [b'\'', rest @ ..] => before_quote(rest),
+        _ => None,
     }
 }
 
+/// What stands before and after the first `=`.
+fn split_once(text: &[u8]) -> Option<(&[u8], &[u8])>
+    ensures { MatchOption result (position_or_len (λ b. b == 61) text.now ≡ length text.now) (λ x. (position_or_len (λ b. b == 61) text.now < length text.now) × (x.0.now ≡ before_first (λ b. b == 61) text.now) × (x.1.now ≡ after_first (λ b. b == 61) text.now)) }
+{
+    let at = text.iter().position(|byte| *byte == b'=')?;
+    Some((&text[..at], &text[at + 1..]))
+}
+
 #[tactic(auto, unfolding(crate::specs::Text::component))]
-fn component(alloc: Global, text: &str) -> Result<Part, Error>
-    ensures part { Gives result (component text.now) }
+fn component(alloc: Global, text: &[u8]) -> Result<Part, Error>
+    ensures part { Gives result (utf8_wanted (component text.now)) }
     ensures valid { IfOk result IsPart }
 {
-    let Some((key, value)) = text.split_once('=') else {
+    let Some((key, value)) = split_once(text) else {
         return Err(Error::InvalidMatchRule);
     };
-    match (key_of(key.as_bytes()), between_quotes(value)) {
+    match (key_of(key), between_quotes(value)) {
         (Some(key), Some(value)) => part_of(alloc, key, value),
         _ => Err(Error::InvalidMatchRule),
     }
 }
 
 /// What stands before, between and after the commas.
-fn components(alloc: Global, text: &str) -> Result<Vec<&str>, AllocError>
+fn components(alloc: Global, text: &[u8]) -> Result<Vec<&[u8]>, AllocError>
     ensures { IfOk result (λ parts. map (λ part. part.now) parts.items ≡ components text.now) }
 {
-    text.split(',').collect(alloc)
+    text.split(|byte| *byte == b',').collect(alloc)
 }
 
 /// The rule that components make.
-fn rule_of(alloc: Global, parts: &[&str]) -> Result<MatchRule, Error>
-    ensures { Gives result (made (said (map (λ part. part.now) parts.now))) }
+fn rule_of(alloc: Global, parts: &[&[u8]]) -> Result<MatchRule, Error>
+    ensures { Gives result (made (said_in_bytes (map (λ part. part.now) parts.now))) }
 {
     let mut builder = MatchRule::builder(alloc);
     for part in parts {
@@ -276,11 +309,18 @@ fn rule_of(alloc: Global, parts: &[&str]) -> Result<MatchRule, Error>
     Ok(builder.build())
 }
 
-/// The rule that a text is.
-#[tactic(auto, unfolding(crate::specs::Text::rule_in))]
-pub(crate) fn rule_in(alloc: Global, text: &str) -> Result<MatchRule, Error>
-    ensures { Gives result (rule_in text.now) }
+/// The rule that bytes are.
+#[tactic(auto, unfolding(crate::specs::Bytes::rule_in_bytes))]
+pub(crate) fn rule_in_bytes(alloc: Global, text: &[u8]) -> Result<MatchRule, Error>
+    ensures { Gives result (rule_in_bytes text.now) }
 {
     let parts = components(alloc, text)?;
     rule_of(alloc, parts.as_slice())
+}
+
+/// The rule that a text is.
+pub(crate) fn rule_in(alloc: Global, text: &str) -> Result<MatchRule, Error>
+    ensures { Gives result (rule_in text.now) }
+{
+    rule_in_bytes(alloc, text.as_bytes())
 }

@@ -1,5 +1,5 @@
 //! Laws of rules.
-ghost use Rattle.std.specs.Prelude.{◌≡◌, ◌<◌, ◌↔◌, Ok, IfSome, IsTrue};
+ghost use Rattle.std.specs.Prelude.{◌≡◌, ◌<◌, ◌↔◌, List, ℕ, Ok, IfSome, IsTrue, IsUtf8};
 ghost use Rattle.std.specs.List.{All};
 ghost use Rattle.wire_message.specs.Front.{Seen};
 ghost use Rattle.wire_message.specs.Primary.{head_of};
@@ -9,6 +9,7 @@ ghost use Rattle.rule_match.specs.Again.{IsReadable};
 ghost use Rattle.rule_match.specs.Matching.{Matches, header_rule};
 ghost use Rattle.rule_match.specs.Rule.{Rule, IsRule, HasNames, IsSender, place_text};
 ghost use Rattle.rule_match.specs.Text.{rule_in, rule_text};
+ghost use Rattle.rule_match.specs.Bytes.{rule_in_bytes};
 
 use crate::place::PathSpec;
 use crate::rule::MatchRule;
@@ -23,6 +24,11 @@ pub fn rules_are_read_again()
 {
     only_the_bus_is_both();
 }
+
+/// Bytes that are UTF-8 are the rule that they are as a text, or have the same fault.
+pub fn bytes_and_texts_agree()
+    ensures { (text : List ℕ) → IsUtf8 text → rule_in_bytes text ≡ rule_in text }
+{}
 
 fn sender_holds(name: &Option<OwnedBusName>)
     ensures { IfSome name.now IsSender }

@@ -3,14 +3,16 @@
 
 pub use crate::building::Builder;
 pub use crate::laws::{
-    a_message_matches_its_header, accepting_is_matching, is_one_rule, rules_are_read_again,
-    rules_hold_their_grammar,
+    a_message_matches_its_header, accepting_is_matching, bytes_and_texts_agree, is_one_rule,
+    rules_are_read_again, rules_hold_their_grammar,
 };
 pub use crate::owned::OwnedMatchRule;
 pub use crate::place::PathSpec;
 pub use crate::rule::MatchRule;
 pub use rule_arguments::Argument;
 
+#[cfg(test)]
+mod answers;
 mod building;
 mod component;
 mod display;

@@ -1,6 +1,8 @@
+use crate::answers::{is_printed_as, rule_of};
 use crate::{Builder, MatchRule};
+use std::alloc::Global;
 use std::test::Fail;
-use wire_message::header_front;
+use wire_message::{Message, header_front};
 
 // Signals with a path, and signals with a string.
 const AB: &[u8] = b"l\x04\0\x01\0\0\0\0\x01\0\0\0\x0d\0\0\0\x01\x01o\0\x04\0\0\0/a/b\0\0\0\0";
@@ -42,7 +44,7 @@ const CUT_SHORT: &[u8] =
     b"l\x04\0\x01\x07\0\0\0\x01\0\0\0\x08\0\0\0\x08\x01g\0\x02ss\0\x02\0\0\0/x\0";
 
 /// Rules, messages, and whether they match. By hand from the D-Bus Specification, "Match Rules".
-const MATCHED: [(&str, &[u8], bool); 43] = [
+const MATCHED: &[(&str, &[u8], bool)] = &[
     ("path_namespace='/a/b'", AB, true),
     ("path_namespace='/a/b'", ABC, false),
     ("path_namespace='/a/b'", AB_C, true),
@@ -88,34 +90,48 @@ const MATCHED: [(&str, &[u8], bool); 43] = [
     ("arg0path='/'", BARE, false),
 ];
 
+fn message_of(alloc: Global, bytes: &[u8]) -> Result<Message, Fail> {
+    let (message, _) = header_front(alloc, bytes)?;
+    Ok(message)
+}
+
+fn is_matched(alloc: Global, text: &str, bytes: &[u8]) -> Result<bool, Fail> {
+    let rule = rule_of(MatchRule::try_from(alloc, text))?;
+    let message = message_of(alloc, bytes)?;
+    Ok(rule.matches(&message))
+}
+
 #[test]
 fn messages_match(rt: HostRuntime) -> Result<(), Fail> {
-    for (text, bytes, matches) in MATCHED {
-        let rule = MatchRule::try_from(rt.alloc(), text)?;
-        let (message, _) = header_front(rt.alloc(), bytes)?;
-        assert_eq!(rt; rule.matches(&message), matches, "{text}");
+    for &(text, bytes, matches) in MATCHED {
+        assert_eq!(rt; is_matched(rt.alloc(), text, bytes)?, matches, "{text}");
     }
     Ok(())
 }
 
+/// Messages, and the rules of their headers.
+const HEADERS: &[(&[u8], &str)] = &[
+    (BARE, "type='signal'"),
+    (
+        CALL_TO_7,
+        "type='method_call',sender=':1.5',member='M',destination=':1.7',path='/a'",
+    ),
+    (
+        CALL_TO_NAME,
+        "type='method_call',interface='a.b',member='M',path='/a'",
+    ),
+];
+
+fn header_rule(alloc: Global, message: &Message) -> Result<MatchRule, Fail> {
+    Ok(Builder::from(alloc, &message.header())?.build())
+}
+
 #[test]
 fn headers_are_rules(rt: HostRuntime) -> Result<(), Fail> {
-    let texts = [
-        (BARE, "type='signal'"),
-        (
-            CALL_TO_7,
-            "type='method_call',sender=':1.5',member='M',destination=':1.7',path='/a'",
-        ),
-        (
-            CALL_TO_NAME,
-            "type='method_call',interface='a.b',member='M',path='/a'",
-        ),
-    ];
-    for (bytes, text) in texts {
-        let (message, _) = header_front(rt.alloc(), bytes)?;
-        let rule = Builder::from(rt.alloc(), &message.header())?.build();
-        let printed = format!(in rt.alloc(); "{rule}")?;
-        assert_eq!(rt; printed.as_str(), text);
+    for &(bytes, text) in HEADERS {
+        let message = message_of(rt.alloc(), bytes)?;
+        let rule = header_rule(rt.alloc(), &message)?;
+        assert!(rt; is_printed_as(rt.alloc(), &rule, text)?);
         assert!(rt; rule.matches(&message));
     }
     Ok(())

@@ -1,5 +1,6 @@
 ghost use Rattle.std.specs.Prelude.{◌≡◌, ◌↔◌, IsTrue};
 ghost use Rattle.rule_match.specs.Text.{rule_in};
+ghost use Rattle.rule_match.specs.Bytes.{rule_in_bytes};
 ghost use Rattle.rule_match.specs.Building.{Gives};
 
 use crate::laws::is_one_rule;
@@ -31,6 +32,16 @@ impl OwnedMatchRule {
         ensures { Gives result (rule_in text.now) }
     {
         match MatchRule::try_from(alloc, text) {
+            Ok(rule) => Ok(OwnedMatchRule { rule }),
+            Err(e) => Err(e),
+        }
+    }
+
+    /// The rule that bytes are, as [`MatchRule::try_from_bytes`].
+    pub fn try_from_bytes(alloc: Global, text: &[u8]) -> Result<OwnedMatchRule, Error>
+        ensures { Gives result (rule_in_bytes text.now) }
+    {
+        match MatchRule::try_from_bytes(alloc, text) {
             Ok(rule) => Ok(OwnedMatchRule { rule }),
             Err(e) => Err(e),
         }

@@ -2,7 +2,7 @@
 ghost use Rattle.std.specs.Prelude.{◌≡◌, IfOk, codes};
 
 use crate::building::Builder;
-use crate::component::rule_in;
+use crate::component::{rule_in, rule_in_bytes};
 use crate::place::PathSpec;
 use rule_arguments::{Argument, Arguments};
 use std::alloc::{AllocError, Global};
@@ -135,6 +135,7 @@ impl MatchRule {
     ghost use Rattle.std.specs.Prelude.{◌≡◌, IfOk, option_map};
     ghost use Rattle.rule_match.specs.Rule.{no_parts, bus_signal};
     ghost use Rattle.rule_match.specs.Text.{rule_in};
+    ghost use Rattle.rule_match.specs.Bytes.{rule_in_bytes};
     ghost use Rattle.rule_match.specs.Building.{Gives};
 
     /// A builder for a rule of no parts, which wants every message.
@@ -171,6 +172,18 @@ impl MatchRule {
         ensures { Gives result (rule_in text.now) }
     {
         rule_in(alloc, text)
+    }
+
+    /// The rule that bytes are, which may be no UTF-8: of a text's bytes the same as [`MatchRule::try_from`].
+    ///
+    /// # Errors
+    ///
+    /// As `try_from`, component by component. A name or a path that is no UTF-8 is outside its grammar; a string argument that is
+    /// no UTF-8 is `InvalidMatchRule`.
+    pub fn try_from_bytes(alloc: Global, text: &[u8]) -> Result<MatchRule, Error>
+        ensures { Gives result (rule_in_bytes text.now) }
+    {
+        rule_in_bytes(alloc, text)
     }
 
     /// The message type that is wanted.

@@ -1,9 +1,10 @@
-use Rattle.std.proofs.Common.{lit<}
-use Rattle.std.proofs.lemmas.Iterator.Splits.{YieldsList-from_str_split}
+use Rattle.std.proofs.Common.{rules, nat_eq}
+use Rattle.std.proofs.lemmas.Iterator.Splits.{YieldsList-from_slice_split}
 use Rattle.std.proofs.lemmas.Iterator.Consumers.{map_from_collect}
 use Rattle.rule_match.proofs.component.components.Goals as goal
 
 pub returns : goal.returns
 returns c =
     map_from_collect _ c.collect.ensures.ran
-    (YieldsList-from_str_split 44 c.args.text.now (lit< tt) c.split.ensures.text c.split.ensures.has_more c.split.ensures.pattern)
+    (YieldsList-from_slice_split _ (λ b. nat_eq b 44) c.args.text.now c.split.ensures.rest c.split.ensures.done c.split.ensures.closure
+    (λ x b q k. search rules))
