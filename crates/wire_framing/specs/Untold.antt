@@ -1,5 +1,5 @@
 -- What a source or a sink tells that tells nothing of its bytes.
-use Rattle.std.specs.Prelude.{ℕ, Bool, List, Option, None}
+use Rattle.std.specs.Prelude.{ℕ, ◌≡◌, Bool, false, List, Option, None}
 use Rattle.std.specs.Borrow.{GName}
 
 abbrev pub no_bytes : Option (List ℕ)
@@ -13,10 +13,10 @@ no_stop = None
 abbrev pub no_room : Option (Option ℕ)
 no_room = None
 
--- nothing of how often it was asked to close
-abbrev pub no_closes : Option ℕ
-no_closes = None
-
 -- it is no lent one
 abbrev pub no_name : Option GName
 no_name = None
+
+-- an end of a connection within the process of which no read came to the end, and which wasn't closed
+abbrev pub IsNew : Bool → ℕ → Type 0
+IsNew over closes = (over ≡ false) × (closes ≡ 0)

@@ -1,8 +1,8 @@
 //! A connection within the process: two pipes, one for each direction.
-ghost use Rattle.std.specs.Prelude.{ℕ, ◌≡◌, ◌≤◌, List, Bool, Option, None, Some, length, false, IsOk, MatchResult, refl};
+ghost use Rattle.std.specs.Prelude.{ℕ, ◌≡◌, ◌<◌, ◌≤◌, List, Bool, Option, None, Some, Ok, length, true, false, IsOk, IfOk, MatchResult, refl};
 ghost use Rattle.wire_framing.specs.Sink.{Writes, Closes, asked_again};
 ghost use Rattle.wire_framing.specs.Source.{Reads, Asks, Widens};
-ghost use Rattle.wire_framing.specs.Untold.{no_bytes, no_stop, no_room, no_closes, no_name};
+ghost use Rattle.wire_framing.specs.Untold.{IsNew, no_bytes, no_stop, no_room, no_name};
 ghost use Rattle.wire_framing.specs.declared.sink.Refusal.TheVariants.{Memory};
 
 use crate::pipe::Pipe;
@@ -27,6 +27,8 @@ pub struct Channel<R: Wait + Copy> {
 pub struct Reader<R: Wait + Copy> {
     rt: R,
     from: Arc<Pipe>,
+    // whether a read came to the end
+    over: bool,
 }
 
 /// The sink of an end. The bytes of one write enter the pipe at once, as one message; where 32 messages wait there, a write
@@ -37,11 +39,12 @@ pub struct Writer<R: Wait + Copy> {
     to: Arc<Pipe>,
     // the other direction, which `close` shuts
     from: Arc<Pipe>,
+    closes: u64,
 }
 
 impl<R: Wait + Copy> Drop for Reader<R> {
     fn drop(self) {
-        let Reader { rt, from } = self;
+        let Reader { rt, from, over: _ } = self;
         from.shut(&rt);
     }
 }
@@ -53,18 +56,21 @@ impl<R: Wait + Copy> Drop for Writer<R> {
             alloc: _,
             to,
             from: _,
+            closes: _,
         } = self;
         to.end(&rt);
     }
 }
 
 impl<R: Wait + Copy> Channel<R> {
-    /// Two ends, each of which reads what the other writes.
+    /// Two ends, each of which reads what the other writes. Neither came to its end, or was closed.
     ///
     /// # Errors
     ///
     /// There is no memory.
-    pub fn pair(rt: R, alloc: Global) -> Result<(Channel<R>, Channel<R>), AllocError> {
+    pub fn pair(rt: R, alloc: Global) -> Result<(Channel<R>, Channel<R>), AllocError>
+        ensures { IfOk result (λ ends. IsNew ends.0.reader.over ends.0.writer.closes × IsNew ends.1.reader.over ends.1.writer.closes) }
+    {
         let there = Arc::new(alloc, Pipe::new(alloc))?;
         let back = Arc::new(alloc, Pipe::new(alloc))?;
         let near = Channel::over(rt, alloc, Arc::try_clone(&there)?, Arc::try_clone(&back)?)?;
@@ -73,21 +79,20 @@ impl<R: Wait + Copy> Channel<R> {
     }
 
     /// The end that writes to the one pipe and reads the other.
-    fn over(
-        rt: R,
-        alloc: Global,
-        to: Arc<Pipe>,
-        from: Arc<Pipe>,
-    ) -> Result<Channel<R>, AllocError> {
+    fn over(rt: R, alloc: Global, to: Arc<Pipe>, from: Arc<Pipe>) -> Result<Channel<R>, AllocError>
+        ensures { IfOk result (λ end. IsNew end.reader.over end.writer.closes) }
+    {
         let reader = Reader {
             rt,
             from: Arc::try_clone(&from)?,
+            over: false,
         };
         let writer = Writer {
             rt,
             alloc,
             to,
             from,
+            closes: 0,
         };
         Ok(Channel { reader, writer })
     }
@@ -118,7 +123,7 @@ impl<R: Wait + Copy> Source for Reader<R> {
 
     ghost widest = { λ s. None };
 
-    /// A read never fails.
+    /// A read never fails. For a buffer that isn't empty it gives 0 only at the end, and the end is for good.
     fn read(&mut self, buf: &mut [u8]) -> Result<usize, Failed>
         ensures bytes { Reads result buf.new no_bytes no_bytes no_stop no_stop 0 0 }
         ensures asks { Asks None None 1 }
@@ -126,11 +131,19 @@ impl<R: Wait + Copy> Source for Reader<R> {
         ensures same { no_name ≡ no_name }
         ensures together { no_bytes ≡ None → no_stop ≡ None }
         ensures never_fails { IsOk result }
+        ensures ended { result ≡ Ok 0 → 0 < length buf.new → self.new.over ≡ true }
+        ensures for_good { self.old.over ≡ true → (result ≡ Ok 0) × (self.new.over ≡ true) }
     {
-        if buf.is_empty() {
+        if self.over || buf.is_empty() {
             return Ok(0);
         }
-        Ok(self.from.read(&self.rt, buf))
+        match self.from.read(&self.rt, buf) {
+            Some(count) => Ok(count),
+            None => {
+                self.over = true;
+                Ok(0)
+            }
+        }
     }
 }
 
@@ -141,14 +154,14 @@ impl<R: Wait + Copy> Sink for Writer<R> {
 
     ghost faults = { λ s. 0 };
 
-    ghost closes = { λ s. no_closes };
+    ghost closes = { λ s. Some s.closes };
 
     ghost takes = { λ s. false };
 
     /// Takes the whole piece. Where an end is closed it is passed over. Fails only for want of memory.
     fn write(&mut self, piece: &[u8]) -> Result<usize, Refusal>
         ensures bytes { Writes result piece.now no_bytes no_bytes no_room no_room 0 0 }
-        ensures uncounted { no_closes ≡ no_closes }
+        ensures uncounted { Some self.new.closes ≡ Some self.old.closes }
         ensures fds { false ≡ false }
         ensures same { no_name ≡ no_name }
         ensures together { no_bytes ≡ None → no_room ≡ None }
@@ -170,11 +183,12 @@ impl<R: Wait + Copy> Sink for Writer<R> {
     /// own reads end at once. It never fails.
     fn close(&mut self) -> Result<(), Failed>
         ensures bytes { Closes result no_bytes no_bytes no_room no_room 0 0 }
-        ensures counted { no_closes ≡ asked_again no_closes }
+        ensures counted { Some self.new.closes ≡ asked_again (Some self.old.closes) }
         ensures fds { false ≡ false }
         ensures same { no_name ≡ no_name }
         ensures never_fails { IsOk result }
     {
+        self.closes = self.closes.saturating_add(1);
         self.to.end(&self.rt);
         self.from.shut(&self.rt);
         Ok(())

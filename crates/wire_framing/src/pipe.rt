@@ -1,5 +1,5 @@
 //! One direction of a channel: messages wait in it, behind a lock, until they are read.
-ghost use Rattle.std.specs.Prelude.{ℕ, ◌≡◌, ◌≤◌, length};
+ghost use Rattle.std.specs.Prelude.{ℕ, ◌≡◌, ◌<◌, ◌≤◌, length, IfSome};
 
 use std::alloc::{AllocError, Global};
 use std::collections::VecDeque;
@@ -89,10 +89,10 @@ impl Pipe {
         }
     }
 
-    /// Takes bytes of one message; waits until there are some or an end is closed. None come once the end that reads is
-    /// closed, or once the other is and all was read.
-    pub(crate) fn read<R: Wait>(&self, rt: &R, buf: &mut [u8]) -> usize
-        ensures within { result ≤ length buf.new }
+    /// Takes bytes of one message, at least one, for a buffer that isn't empty; waits until there are some or an end is closed.
+    /// None comes once the end that reads is closed, or once the other is and all was read.
+    pub(crate) fn read<R: Wait>(&self, rt: &R, buf: &mut [u8]) -> Option<usize>
+        ensures within { IfSome result (λ count. (0 < count) × (count ≤ length buf.new)) }
         ensures same { length buf.new ≡ length buf.old }
     {
         let mut held = self
@@ -101,7 +101,7 @@ impl Pipe {
         let count = held.give(buf);
         drop(held);
         self.changed.notify_all();
-        count
+        if count > 0 { Some(count) } else { None }
     }
 
     /// Puts a message in; waits until there is room or an end is closed.
