@@ -158,7 +158,7 @@ left_wrote v h left = record {
   outbox = left.outbox;
   places = left.places;
   done = ap (λ n. n + 1) left.done;
-  failed = left.failed;
+  writer = left.writer;
 }
 
 -- the write of a call failed
@@ -186,7 +186,7 @@ lost_none n ps v h first same at left =
     }
 
 pub left_fault : (v : View) (cv : CallsView) (h : List Event) → Left v h → LeftCalls cv (Fault ∷ h)
-    → Left (record v { calls = cv; done = v.done + 1; failed = true }) (Fault ∷ h)
+    → Left (record v { calls = cv; done = v.done + 1; writer = worse v.writer writers.Failed }) (Fault ∷ h)
 left_fault v cv h left after = record {
   calls = after;
   streams = streams_fault v.streams h left.streams;
@@ -196,7 +196,7 @@ left_fault v cv h left after = record {
   outbox = left.outbox;
   places = left.places ∙ sym (places-fail (done h) (calls h));
   done = ap (λ n. n + 1) left.done;
-  failed = refl;
+  writer = ap (λ w. worse w writers.Failed) left.writer;
 }
 
 left_spent : (v : View) (cv : CallsView) (k : ℕ) (h : List Event) → Left v h → LeftCalls cv (Spent k ∷ h) → Left (record v { calls = cv }) (Spent k ∷ h)
@@ -209,7 +209,7 @@ left_spent v cv k h left after = record {
   outbox = left.outbox;
   places = left.places ∙ sym (places-edit k (calls h));
   done = left.done;
-  failed = left.failed;
+  writer = left.writer;
 }
 
 left_same : (v : View) (cv : CallsView) (h : List Event) → Left v h → LeftCalls cv h → Left (record v { calls = cv }) h
@@ -222,7 +222,7 @@ left_same v cv h left after = record {
   outbox = left.outbox;
   places = left.places;
   done = left.done;
-  failed = left.failed;
+  writer = left.writer;
 }
 
 pub left_polled : (v : View) (cv : CallsView) (k : ℕ) (r : Result (Polled Seen) Error) (h : List Event) → Left v h
@@ -247,10 +247,10 @@ left_took v cv sv m h left after streams_after = record {
   outbox = left.outbox;
   places = left.places;
   done = left.done;
-  failed = left.failed;
+  writer = left.writer;
 }
 
-pub left_shut : (v : View) (cv : CallsView) (error : Error) (h : List Event) → Left v h → LeftCalls cv (Shut error ∷ h) → Left (record v { calls = cv }) (Shut error ∷ h)
+pub left_shut : (v : View) (cv : CallsView) (error : Error) (h : List Event) → Left v h → LeftCalls cv (Shut error ∷ h) → Left (record v { calls = cv; writer = worse v.writer (shuts error) }) (Shut error ∷ h)
 left_shut v cv error h left after = record {
   calls = after;
   streams = streams_shut error v.streams h left.streams;
@@ -260,7 +260,7 @@ left_shut v cv error h left after = record {
   outbox = left.outbox;
   places = left.places;
   done = left.done;
-  failed = left.failed;
+  writer = ap (λ w. worse w (shuts error)) left.writer;
 }
 
 calls_made : (making : Making) (v : CallsView) (h : List Event) → LeftCalls v h → LeftCalls v (Made making ∷ h)
@@ -285,13 +285,13 @@ left_made_so v sv making h left after = record {
   outbox = left.outbox;
   places = left.places;
   done = left.done;
-  failed = left.failed;
+  writer = left.writer;
 }
 
 pub left_made : (v : View) (told : Bool) (h : List Event) → told ≡ is_some v.calls.closing → Left v h
-    → Left (record v { streams = v.streams ++ Some (record { items = []; told = told }) ∷ [] }) (Made Plain ∷ h)
+    → Left (record v { streams = v.streams ++ Some (empty_held None told) ∷ [] }) (Made Plain ∷ h)
 left_made v told h e left =
-    left_made_so v (v.streams ++ Some (record { items = []; told = told }) ∷ []) Plain h left
+    left_made_so v (v.streams ++ Some (empty_held None told) ∷ []) Plain h left
     (streams_made told v.streams h (e ∙ ap is_some left.calls.closing) left.streams)
 
 pub left_cloned : (v : View) (k : ℕ) (h : List Event) → is_open h k ≡ true → Left v h → Left (record v { streams = v.streams ++ kept_at v.streams k ∷ [] }) (Made (Cloned k) ∷ h)
@@ -308,7 +308,7 @@ left_main v limit h left = record {
   outbox = left.outbox;
   places = left.places;
   done = left.done;
-  failed = left.failed;
+  writer = left.writer;
 }
 
 -- a stream did something
@@ -323,7 +323,7 @@ left_did v sv limit k deed h left after capacity = record {
   outbox = left.outbox;
   places = left.places;
   done = left.done;
-  failed = left.failed;
+  writer = left.writer;
 }
 
 left_idle : (v : View) (sv : List (Option Held)) (h : List Event) → Left v h → LeftStreams sv h → Left (record v { streams = sv }) h
@@ -336,7 +336,7 @@ left_idle v sv h left after = record {
   outbox = left.outbox;
   places = left.places;
   done = left.done;
-  failed = left.failed;
+  writer = left.writer;
 }
 
 left_gave : (v : View) (sv : List (Option Held)) (k : ℕ) (r : Result (Polled Seen) Error) (h : List Event) → Left v h

@@ -30,14 +30,15 @@ Only p (Spent call ∷ xs) = Only p xs
 Only p (Made making ∷ xs) = Only p xs
 Only p (Main limit ∷ xs) = Only p xs
 
-only_failed : (p : ℕ → Deed → Type 0) (b : Bool) (m : Seen) (expects : Bool) → Only p (failed_put b (Put m expects))
-only_failed p true m expects = tt
-only_failed p false m expects = tt
+only_failed : (p : ℕ → Deed → Type 0) (w : Writer) (m : Seen) (expects : Bool) → Only p (failed_put w (Put m expects))
+only_failed p writers.Fine m expects = tt
+only_failed p writers.Failed m expects = tt
+only_failed p writers.Closed m expects = tt
 
 only_send : (p : ℕ → Deed → Type 0) (h : List Event) (asked : parcels.Asked) (a : Answer) → Only p (send_events h asked a)
 only_send p h (Ok parcel) (answers.Called call serial) = tt
 only_send p h (Ok parcel) (answers.Sent serial) = tt
-only_send p h (Ok parcel) (answers.SendFailed error) = only_failed p (is_failed h) _ _
+only_send p h (Ok parcel) (answers.SendFailed error) = only_failed p (writer h) _ _
 only_send p h (Ok parcel) a = tt
 only_send p h (Err error) a = tt
 
@@ -63,6 +64,16 @@ only_drop p (Some j) a = tt
 only_stream : (p : ℕ → Deed → Type 0) (a : Answer) → Only p (stream_makes a)
 only_stream p (answers.Streaming number) = tt
 only_stream p a = tt
+
+only_open : (p : ℕ → Deed → Type 0) (found : Result Rule Error) (asked : Option ℕ) (a : Answer) → Only p (open_makes found asked a)
+only_open p (Ok rule) asked (answers.Streaming number) = tt
+only_open p (Ok rule) asked a = tt
+only_open p (Err error) asked a = tt
+
+only_close : (p : ℕ → Deed → Type 0) (a : Answer) → Only p (close_does a)
+only_close p answers.Shut = tt
+only_close p (answers.SendFailed error) = tt
+only_close p a = tt
 
 only_clone : (p : ℕ → Deed → Type 0) (o : Option ℕ) (a : Answer) → Only p (clone_makes o a)
 only_clone p None a = tt
@@ -98,12 +109,14 @@ only_entry p t lane (words.Poll n) a gone asks takes = only_poll p (place 0 lane
 only_entry p t lane (words.Before n before) a gone asks takes = only_poll p (place 0 lane n t.names) a
 only_entry p t lane (words.Drop n) a gone asks takes = only_drop p (place 0 lane n t.names) a
 only_entry p t lane words.Stream a gone asks takes = only_stream p a
+only_entry p t lane (words.Open max_queued rule) a gone asks takes = only_open p (rule_in_bytes rule) max_queued a
 only_entry p t lane (words.Take n) a gone asks takes = takes n (eq-eqb n n refl)
 only_entry p t lane (words.TakeBefore n before) a gone asks takes = takes n (eq-eqb n n refl)
 only_entry p t lane (words.Clone n) a gone asks takes = only_clone p (place 0 lane n t.streams) a
 only_entry p t lane (words.Unstream n second) a gone asks takes = only_unstream p (place 0 lane n t.streams) (second_place lane second t.streams) a gone
 only_entry p t lane (words.Queue n limit) a gone asks takes = only_queue p (place 0 lane n t.streams) limit a asks
 only_entry p t lane (words.MainQueue limit) a gone asks takes = only_main p limit a
+only_entry p t lane words.Close a gone asks takes = only_close p a
 
 -- ---- a stream that gives nothing
 

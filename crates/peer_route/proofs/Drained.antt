@@ -42,7 +42,7 @@ record Over (t : Trail) (lane number : ℕ) : Type 0 where
   told : stream.told ≡ true
   shut : closing t.events ≡ Some error
 
-closing_stays : (xs h : List Event) (error : Error) → closing h ≡ Some error → closing (xs ++ h) ≡ Some error
+pub closing_stays : (xs h : List Event) (error : Error) → closing h ≡ Some error → closing (xs ++ h) ≡ Some error
 closing_stays [] h error e = e
 closing_stays (Shut other ∷ xs) h error e = ap (λ o. first_of o other) (closing_stays xs h error e)
 closing_stays (Took m ∷ xs) h error e = closing_stays xs h error e
@@ -66,12 +66,14 @@ reads_none t lane (words.Poll n) a error e = poll_read t.events (place 0 lane n 
 reads_none t lane (words.Before n before) a error e = poll_read t.events (place 0 lane n t.names) a
 reads_none t lane (words.Drop n) a error e = drop_read t.events (place 0 lane n t.names) a
 reads_none t lane words.Stream a error e = stream_read t.events a
+reads_none t lane (words.Open max_queued rule) a error e = open_read t.events (rule_in_bytes rule) max_queued a
 reads_none t lane (words.Take n) a error e = take_read t.events (place 0 lane n t.streams) a
 reads_none t lane (words.TakeBefore n before) a error e = take_read t.events (place 0 lane n t.streams) a
 reads_none t lane (words.Clone n) a error e = clone_read t.events (place 0 lane n t.streams) a
 reads_none t lane (words.Unstream n second) a error e = unstream_read t.events (place 0 lane n t.streams) (second_place lane second t.streams) a
 reads_none t lane (words.Queue n limit) a error e = queue_read t.events (place 0 lane n t.streams) limit a
 reads_none t lane (words.MainQueue limit) a error e = main_read t.events limit a
+reads_none t lane words.Close a error e = close_read t.events a
 
 -- a take says that the stream is over, or was closed
 over_by : (gone : Bool) (items : List Seen) (o : Option Error) (told : Bool) (error : Error) → items ≡ [] → o ≡ Some error → told ≡ true

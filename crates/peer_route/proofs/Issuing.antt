@@ -16,7 +16,8 @@ use Rattle.wire_message.specs.declared.error.Error.TheVariants as errors
 use Rattle.wire_message.specs.declared.error.IoKind.TheVariants as kinds
 use Rattle.peer_route.specs.declared.route.Issued.{Issued}
 use Rattle.peer_route.specs.declared.calls.Slot.TheVariants as slots
-use Rattle.peer_route.specs.History.{Event, Put, Call, read, put, is_failed, last_serial, calls, found, bears, new_call, pending}
+use Rattle.peer_route.specs.declared.writer.Writer.TheVariants as writers
+use Rattle.peer_route.specs.History.{Event, Put, Call, read, put, writer, last_serial, calls, found, bears, new_call, pending}
 use Rattle.peer_route.specs.Left.{slot_of, slot_by, is_waiting, AreDistinct, CallsView, waiting_serial, LeftCalls, View, Left, AreWritable, IsTooLong, Issues, Places, Waits, placed, call_number}
 use Rattle.peer_route.specs.Parcel.{Parcel, message_of}
 use Rattle.peer_route.specs.CallMessage.{expects_reply, expects}
@@ -137,7 +138,7 @@ left_alone v m h left = record {
   outbox = ap (λ ms. ms ++ m ∷ []) left.outbox;
   places = left.places;
   done = left.done;
-  failed = left.failed;
+  writer = left.writer;
 }
 
 left_issued : (v : View) (m : Seen) (h : List Event) → Left v h → waiting_serial v.calls m.serial ≡ false → Left (placed true v m m.serial) (Put m true ∷ h)
@@ -151,7 +152,7 @@ left_issued v m h left free = record {
   places = ap (λ ns. ns ++ length v.outbox ∷ []) left.places ∙ ap (λ ms. places (calls h) ++ length ms ∷ []) left.outbox
       ∙ sym (map-append (λ (c : Call). c.index) (calls h) (new_call h m ∷ []));
   done = left.done;
-  failed = left.failed;
+  writer = left.writer;
 }
 
 left_put : (expects : Bool) (v : View) (m : Seen) (h : List Event) → Left v h → waiting_serial v.calls m.serial ≡ false → Left (placed expects v m m.serial) (Put m expects ∷ h)
@@ -178,20 +179,20 @@ same-expects parcel m serial e =
 
 -- A message that was built with the next serial and placed is issued.
 pub issued : (v new : View) (parcel : Parcel) (m : Seen) (last : ℕ) (r : Result Issued Error) (h : List Event) → Left v h
-    → BuildsParcel v parcel last (Ok m) → v.failed ≡ false → Places v new m last r
+    → BuildsParcel v parcel last (Ok m) → v.writer ≡ writers.Fine → Places v new m last r
     → Issues v new parcel h r
 issued v new parcel m last (Ok got) h left made_bare fine p =
     let made = made-of v parcel last m made_bare in
     let b = expects (Ok parcel) in
     let P : ℕ → Type 0 = λ serial. IsNext (pending h) (last_serial h) serial × AreWritable parcel × (length (message_of parcel serial).bytes ≤ 134217728)
-    × (is_failed h ≡ false) × (got.index ≡ length (put h)) × (got.call ≡ call_number b (length (calls h)))
+    × (writer h ≡ writers.Fine) × (got.index ≡ length (put h)) × (got.call ≡ call_number b (length (calls h)))
     × Left new (Put (message_of parcel serial) b ∷ h) in
     let same : expects_reply m.kind m.flags ≡ b = same-expects parcel m m.serial made.3 in
     subst P (sym p.1) (
       next_left v h m.serial left made.0,
       made.4,
       subst (λ (n : Seen). length n.bytes ≤ 134217728) made.3 made.2,
-      sym left.failed ∙ fine,
+      sym left.writer ∙ fine,
       p.0 ∙ ap length left.outbox,
       p.2 ∙ ap (λ x. call_number x (length v.calls.slots)) same ∙ ap (call_number b) (slots_len v.calls h left.calls),
       subst (λ w. Left w (Put (message_of parcel m.serial) b ∷ h))
@@ -210,21 +211,21 @@ placed_done : (expects : Bool) (v : View) (m : Seen) (last : ℕ) → (placed ex
 placed_done true v m last = refl
 placed_done false v m last = refl
 
-placed_failed : (expects : Bool) (v : View) (m : Seen) (last : ℕ) → (placed expects v m last).failed ≡ v.failed
-placed_failed true v m last = refl
-placed_failed false v m last = refl
+placed_writer : (expects : Bool) (v : View) (m : Seen) (last : ℕ) → (placed expects v m last).writer ≡ v.writer
+placed_writer true v m last = refl
+placed_writer false v m last = refl
 
 -- a message that was placed waits at the end of the outbox
-pub placed_waits : (v new : View) (m : Seen) (last : ℕ) (r : Result Issued Error) → v.failed ≡ false → Places v new m last r → IfOk r (Waits v new)
+pub placed_waits : (v new : View) (m : Seen) (last : ℕ) (r : Result Issued Error) → v.writer ≡ writers.Fine → Places v new m last r → IfOk r (Waits v new)
 placed_waits v new m last (Ok got) fine p =
     let b = expects_reply m.kind m.flags in
     let len : length new.outbox ≡ length v.outbox + 1 = ap (λ (w : View). length w.outbox) p.3 ∙ placed_outbox b v m last ∙ length_push v.outbox m in
-    (p.0, omega (arith, p.0, len), ap (λ (w : View). w.done) p.3 ∙ placed_done b v m last, fine, ap (λ (w : View). w.failed) p.3 ∙ placed_failed b v m last ∙ fine)
+    (p.0, omega (arith, p.0, len), ap (λ (w : View). w.done) p.3 ∙ placed_done b v m last, fine, ap (λ (w : View). w.writer) p.3 ∙ placed_writer b v m last ∙ fine)
 placed_waits v new m last (Err e) fine p = tt
 
 -- where a write failed, a message that was built isn't placed
 pub refused_failed : (v : View) (parcel : Parcel) (m : Seen) (last : ℕ) (h : List Event) → Left v h
-    → BuildsParcel v parcel last (Ok m) → v.failed ≡ true
+    → BuildsParcel v parcel last (Ok m) → v.writer ≡ writers.Failed
     → Issues v v parcel h (Err (errors.InputOutput kinds.WriteFault))
 refused_failed v parcel m last h left made_bare failed =
     let made = made-of v parcel last m made_bare in (
@@ -232,6 +233,20 @@ refused_failed v parcel m last h left made_bare failed =
       next_left v h m.serial left made.0,
       made.4,
       subst (λ (n : Seen). length n.bytes ≤ 134217728) made.3 made.2,
-      sym left.failed ∙ failed,
+      sym left.writer ∙ failed,
+      refl,
+    )
+
+-- nor where the peer was closed
+pub refused_closed : (v : View) (parcel : Parcel) (m : Seen) (last : ℕ) (h : List Event) → Left v h
+    → BuildsParcel v parcel last (Ok m) → v.writer ≡ writers.Closed
+    → Issues v v parcel h (Err (errors.InputOutput kinds.Closed))
+refused_closed v parcel m last h left made_bare closed =
+    let made = made-of v parcel last m made_bare in (
+      m.serial,
+      next_left v h m.serial left made.0,
+      made.4,
+      subst (λ (n : Seen). length n.bytes ≤ 134217728) made.3 made.2,
+      sym left.writer ∙ closed,
       refl,
     )

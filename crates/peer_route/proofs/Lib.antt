@@ -32,5 +32,6 @@ pub mod OtherStreams
 pub mod Sent
 pub mod Index
 pub mod Waiting
+pub mod Writers
 pub mod Refused
 pub mod NoneBefore

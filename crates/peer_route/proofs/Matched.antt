@@ -1,11 +1,14 @@
 -- The messages that are a stream's: how many of them it passed, that a message that comes is one more, and that it never passes
 -- more than there are.
-use Rattle.std.proofs.Common.{◌≡◌, ℕ, ◌+◌, ◌≤◌, zero, suc, sym, ◌∙◌, ap, subst, arith, List, [], ◌∷◌, ◌++◌, length, drop, Some, length-append}
+use Rattle.std.proofs.Common.{◌≡◌, ℕ, ◌+◌, ◌≤◌, zero, suc, refl, sym, ◌∙◌, ap, subst, arith, Bool, List, [], ◌∷◌, ◌++◌, length, drop, Option, Some, None, length-append}
 use Rattle.std.specs.List.{slice_get, AllByRecursion}
+use Rattle.std.proofs.lemmas.List.Elements.{filter-append}
 use Rattle.std.proofs.lemmas.List.{drop-drop, drop-append-le}
 use Rattle.wire_message.specs.Front.{Seen}
 use Rattle.peer_route.specs.History.{Event, Took, read}
-use Rattle.peer_route.specs.Streams.{Stream, plain_stream, matched, offered, held}
+use Rattle.rule_match.specs.Rule.{Rule}
+use Rattle.rule_match.specs.Accepting.{accepts}
+use Rattle.peer_route.specs.Streams.{Stream, fresh, accepted, matched, offered, held}
 use Rattle.peer_route.specs.Left.{IsWithin}
 
 -- What stands to a stream, by its count.
@@ -13,14 +16,19 @@ pub held_matched : (h : List Event) (s : Stream) → held h s ≡ drop (s.skip +
 unfolding held offered
 held_matched h s = drop-drop s.taken s.skip (matched h s)
 
-pub matched_took : (m : Seen) (h : List Event) (s : Stream) → s.from ≤ length (read h) → matched (Took m ∷ h) s ≡ matched h s ++ m ∷ []
+pub accepted-append : (rule : Option Rule) (xs ys : List Seen) → accepted rule (xs ++ ys) ≡ accepted rule xs ++ accepted rule ys
+accepted-append None xs ys = refl
+accepted-append (Some rule) xs ys = filter-append (accepts rule) xs ys
+
+-- a message that comes is one more, if the rule accepts it
+pub matched_took : (m : Seen) (h : List Event) (s : Stream) → s.from ≤ length (read h) → matched (Took m ∷ h) s ≡ matched h s ++ accepted s.rule (m ∷ [])
 unfolding matched
-matched_took m h s le = drop-append-le s.from (read h) (m ∷ []) le
+matched_took m h s le = ap (accepted s.rule) (drop-append-le s.from (read h) (m ∷ []) le) ∙ accepted-append s.rule (drop s.from (read h)) (m ∷ [])
 
 -- what was read says what is a stream's
 pub matched_same : (g h : List Event) (s : Stream) → read g ≡ read h → matched g s ≡ matched h s
 unfolding matched
-matched_same g h s e = ap (drop s.from) e
+matched_same g h s e = ap (λ ms. accepted s.rule (drop s.from ms)) e
 
 pub held_same : (g h : List Event) (s : Stream) → read g ≡ read h → held g s ≡ held h s
 held_same g h s e = held_matched g s ∙ ap (drop (s.skip + s.taken)) (matched_same g h s e) ∙ sym (held_matched h s)
@@ -43,7 +51,7 @@ within_took m h s w =
     let passed = w.passed in
     record {
       start = omega (arith, length-append (read h) (m ∷ []));
-      passed = subst (λ (ms : List Seen). s.skip + s.taken ≤ length ms) (sym (matched_took m h s start)) (omega (arith, length-append (matched h s) (m ∷ [])));
+      passed = subst (λ (ms : List Seen). s.skip + s.taken ≤ length ms) (sym (matched_took m h s start)) (omega (arith, length-append (matched h s) (accepted s.rule (m ∷ []))));
     }
 
 pub all_within_took : (m : Seen) (h : List Event) (ss : List Stream) → AllByRecursion (IsWithin h) ss → AllByRecursion (IsWithin (Took m ∷ h)) ss
@@ -55,8 +63,8 @@ within_at h [] k s at w = cc
 within_at h (x ∷ ss) zero s at w = let same : x ≡ s = cc in subst (IsWithin h) same w.0
 within_at h (x ∷ ss) (suc k) s at w = within_at h ss k s at w.1
 
-pub within_plain : (h : List Event) → IsWithin h (plain_stream h)
-within_plain h = record { start = omega arith; passed = omega arith }
+pub within_fresh : (h : List Event) (rule : Option Rule) (told : Bool) → IsWithin h (fresh h rule told)
+within_fresh h rule told = record { start = omega arith; passed = omega arith }
 
 pub within_push : (h : List Event) (ss : List Stream) (s : Stream) → AllByRecursion (IsWithin h) ss → IsWithin h s → AllByRecursion (IsWithin h) (ss ++ s ∷ [])
 within_push h [] s w one = (one, tt)

@@ -13,12 +13,12 @@ use Rattle.peer_route.specs.declared.words.Words.TheVariants as words
 use Rattle.peer_route.specs.declared.answer.Answer.{Answer}
 use Rattle.peer_route.specs.declared.answer.Answer.TheVariants as answers
 use Rattle.peer_route.specs.declared.answer.Entry.{Entry}
-use Rattle.peer_route.specs.History.{Event, Call, closing, is_failed, calls, found, is_gone, polled_by, polled_at, poll_answer, by_position, drop_answer}
+use Rattle.peer_route.specs.History.{Event, Call, closing, writer, calls, found, is_gone, polled_by, polled_at, poll_answer, by_position, drop_answer}
 use Rattle.peer_route.specs.Streams.{Stream, streams, held, busy, take_by, take_at, take_answer}
 use Rattle.peer_route.specs.Parcel.{Setting, Asked}
 use Rattle.peer_route.specs.CallMessage.{expects}
 use Rattle.peer_route.specs.Trail.{Trail, place, count, trail}
-use Rattle.peer_route.specs.Answers.{IsAnswer, IsRead, IsReadOf, IsCalled, IsSendOf, Legal, write_fault, sent_answer, error_answer, reply_by, shown, poll_of, before_of, shown_drop, drop_of, shown_take, take_of, take_before_of, where_open}
+use Rattle.peer_route.specs.Answers.{IsAnswer, IsRead, IsReadOf, IsCalled, IsSendOf, Legal, write_fault, write_closed, open_of, sent_answer, error_answer, reply_by, shown, poll_of, before_of, shown_drop, drop_of, shown_take, take_of, take_before_of, where_open}
 use Rattle.peer_route.specs.Laws.{IsByPosition, IsNothingYet}
 
 -- ---- a message that is sent, and a read
@@ -27,14 +27,15 @@ sent_other : (expects : Bool) (call serial : ℕ) → sent_answer expects call s
 sent_other true call serial e = cc
 sent_other false call serial e = cc
 
-called_other : (r : Option Error) (failed : Bool) (success a : Answer) → (success ≡ answers.NoneBefore → ⊥) → IsCalled r failed success a → a ≡ answers.NoneBefore → ⊥
-called_other (Some error) failed success a other is e = let q : answers.Refused error ≡ answers.NoneBefore = sym is ∙ e in cc
-called_other None true success a other is e = let q : write_fault ≡ answers.NoneBefore = sym is ∙ e in cc
-called_other None false success a other (inl is) e = other (sym is ∙ e)
-called_other None false success a other (inr is) e = let q : write_fault ≡ answers.NoneBefore = sym is ∙ e in cc
+called_other : (r : Option Error) (w : Writer) (success a : Answer) → (success ≡ answers.NoneBefore → ⊥) → IsCalled r w success a → a ≡ answers.NoneBefore → ⊥
+called_other (Some error) w success a other is e = let q : answers.Refused error ≡ answers.NoneBefore = sym is ∙ e in cc
+called_other None writers.Failed success a other is e = let q : write_fault ≡ answers.NoneBefore = sym is ∙ e in cc
+called_other None writers.Closed success a other is e = let q : write_closed ≡ answers.NoneBefore = sym is ∙ e in cc
+called_other None writers.Fine success a other (inl is) e = other (sym is ∙ e)
+called_other None writers.Fine success a other (inr is) e = let q : write_fault ≡ answers.NoneBefore = sym is ∙ e in cc
 
 send_other : (t : Trail) (lane : ℕ) (asked : Asked) (a : Answer) → IsSendOf t lane asked a → a ≡ answers.NoneBefore → ⊥
-send_other t lane asked a is e = called_other _ (is_failed t.events) _ a (sent_other (expects asked) _ _) is e
+send_other t lane asked a is e = called_other _ (writer t.events) _ a (sent_other (expects asked) _ _) is e
 
 read_other : (o : Option Error) (full : Bool) (n : ℕ) (a : Answer) → IsReadOf o full n a → a ≡ answers.NoneBefore → ⊥
 read_other (Some error) full n a is e = let q : answers.Closed error ≡ answers.NoneBefore = sym is ∙ e in cc
@@ -115,6 +116,12 @@ open_other : (b : Bool) (a : Answer) → (a ≡ answers.NoneBefore → ⊥) → 
 open_other true a other e = other e
 open_other false a other e = cc
 
+-- a stream of a rule is opened, or refused
+opened_other : (found : Result Rule Error) (shut : Option Error) (number : ℕ) → open_of found shut (answers.Streaming number) ≡ answers.NoneBefore → ⊥
+opened_other (Err error) shut number e = cc
+opened_other (Ok rule) None number e = cc
+opened_other (Ok rule) (Some error) number e = cc
+
 -- ---- entries
 
 only_by : (t : Trail) (lane : ℕ) (w : Words) (a : Answer) → IsAnswer t lane w a → a ≡ answers.NoneBefore → IsByPosition w
@@ -127,12 +134,15 @@ only_by t lane (words.Poll n) a is e = poll_other t.events (place 0 lane n t.nam
 only_by t lane (words.Before n before) a is e = tt
 only_by t lane (words.Drop n) a is e = drop_other t.events (place 0 lane n t.names) (sym is ∙ e)
 only_by t lane words.Stream a is e = let q = sym is ∙ e in cc
+only_by t lane (words.Open max_queued rule) a is e = opened_other (rule_in_bytes rule) (closing t.events) _ (sym is ∙ e)
 only_by t lane (words.Take n) a is e = take_other t.events (place 0 lane n t.streams) (sym is ∙ e)
 only_by t lane (words.TakeBefore n before) a is e = tt
 only_by t lane (words.Clone n) a is e = open_other _ (answers.Streaming (count lane t.streams)) (λ q. cc) (sym is ∙ e)
 only_by t lane (words.Unstream n second) a is e = open_other _ answers.Gone (λ q. cc) (sym is ∙ e)
 only_by t lane (words.Queue n limit) a is e = open_other _ answers.Set (λ q. cc) (sym is ∙ e)
 only_by t lane (words.MainQueue limit) a is e = let q = sym is ∙ e in cc
+only_by t lane words.Close a (inl is) e = let q = sym is ∙ e in cc
+only_by t lane words.Close a (inr is) e = let q = sym is ∙ e in cc
 
 pub only : (setting : Setting) (older : List Entry) (e : Entry) → Legal setting (e ∷ older) → e.answer ≡ answers.NoneBefore → IsByPosition e.words
 only setting older e legal a = only_by (trail setting older) e.lane e.words e.answer legal.0 a

@@ -44,14 +44,15 @@ ranked_read h None false (answers.Got m) is r = ranked_push 0 (read h) m r (let 
 ranked_read h None false (answers.Closed error) is r = r
 ranked_read h None false a is r = absurd is
 
-failed_read : (b : Bool) (h : List Event) (m : Seen) (expects : Bool) → read (failed_put b (Put m expects) ++ h) ≡ read h
-failed_read true h m expects = refl
-failed_read false h m expects = refl
+failed_read : (w : Writer) (h : List Event) (m : Seen) (expects : Bool) → read (failed_put w (Put m expects) ++ h) ≡ read h
+failed_read writers.Fine h m expects = refl
+failed_read writers.Failed h m expects = refl
+failed_read writers.Closed h m expects = refl
 
 pub send_read : (h : List Event) (asked : Asked) (a : Answer) → read (send_events h asked a ++ h) ≡ read h
 send_read h (Ok parcel) (answers.Called call serial) = refl
 send_read h (Ok parcel) (answers.Sent serial) = refl
-send_read h (Ok parcel) (answers.SendFailed error) = failed_read (is_failed h) h _ _
+send_read h (Ok parcel) (answers.SendFailed error) = failed_read (writer h) h _ _
 send_read h (Ok parcel) a = refl
 send_read h (Err error) a = refl
 
@@ -71,6 +72,16 @@ drop_read h (Some k) a = refl
 pub stream_read : (h : List Event) (a : Answer) → read (stream_makes a ++ h) ≡ read h
 stream_read h (answers.Streaming number) = refl
 stream_read h a = refl
+
+pub open_read : (h : List Event) (found : Result Rule Error) (asked : Option ℕ) (a : Answer) → read (open_makes found asked a ++ h) ≡ read h
+open_read h (Ok rule) asked (answers.Streaming number) = refl
+open_read h (Ok rule) asked a = refl
+open_read h (Err error) asked a = refl
+
+pub close_read : (h : List Event) (a : Answer) → read (close_does a ++ h) ≡ read h
+close_read h answers.Shut = refl
+close_read h (answers.SendFailed error) = refl
+close_read h a = refl
 
 pub take_read : (h : List Event) (p : Option ℕ) (a : Answer) → read (take_does p a ++ h) ≡ read h
 take_read h None a = refl
@@ -110,6 +121,7 @@ ranked_entry t lane (words.Poll number) a is r = subst (Ranked 0) (sym (poll_rea
 ranked_entry t lane (words.Before number before) a is r = subst (Ranked 0) (sym (poll_read t.events (place 0 lane number t.names) a)) r
 ranked_entry t lane (words.Drop number) a is r = subst (Ranked 0) (sym (drop_read t.events (place 0 lane number t.names) a)) r
 ranked_entry t lane words.Stream a is r = subst (Ranked 0) (sym (stream_read t.events a)) r
+ranked_entry t lane (words.Open max_queued rule) a is r = subst (Ranked 0) (sym (open_read t.events (rule_in_bytes rule) max_queued a)) r
 ranked_entry t lane (words.Take number) a is r = subst (Ranked 0) (sym (take_read t.events (place 0 lane number t.streams) a)) r
 ranked_entry t lane (words.TakeBefore number before) a is r = subst (Ranked 0) (sym (take_read t.events (place 0 lane number t.streams) a)) r
 ranked_entry t lane (words.Clone number) a is r = subst (Ranked 0) (sym (clone_read t.events (place 0 lane number t.streams) a)) r
@@ -117,6 +129,7 @@ ranked_entry t lane (words.Unstream number second) a is r =
     subst (Ranked 0) (sym (unstream_read t.events (place 0 lane number t.streams) (second_place lane second t.streams) a)) r
 ranked_entry t lane (words.Queue number limit) a is r = subst (Ranked 0) (sym (queue_read t.events (place 0 lane number t.streams) limit a)) r
 ranked_entry t lane (words.MainQueue limit) a is r = subst (Ranked 0) (sym (main_read t.events limit a)) r
+ranked_entry t lane words.Close a is r = subst (Ranked 0) (sym (close_read t.events a)) r
 
 ranked_first : (queue : Option ℕ) → Ranked 0 (read (first_events queue))
 ranked_first None = tt

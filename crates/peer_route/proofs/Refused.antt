@@ -25,6 +25,10 @@ take_refused : (p : Option ℕ) (error : Error) → take_does p (answers.Refused
 take_refused None error = refl
 take_refused (Some k) error = refl
 
+open_refused : (found : Result Rule Error) (asked : Option ℕ) (error : Error) → open_makes found asked (answers.Refused error) ≡ []
+open_refused (Ok rule) asked error = refl
+open_refused (Err e) asked error = refl
+
 clone_refused : (p : Option ℕ) (error : Error) → clone_makes p (answers.Refused error) ≡ []
 clone_refused None error = refl
 clone_refused (Some k) error = refl
@@ -47,12 +51,14 @@ no_events t lane (words.Poll n) error = poll_refused (place 0 lane n t.names) er
 no_events t lane (words.Before n before) error = poll_refused (place 0 lane n t.names) error
 no_events t lane (words.Drop n) error = drop_refused (place 0 lane n t.names) error
 no_events t lane words.Stream error = refl
+no_events t lane (words.Open max_queued rule) error = open_refused (rule_in_bytes rule) max_queued error
 no_events t lane (words.Take n) error = take_refused (place 0 lane n t.streams) error
 no_events t lane (words.TakeBefore n before) error = take_refused (place 0 lane n t.streams) error
 no_events t lane (words.Clone n) error = clone_refused (place 0 lane n t.streams) error
 no_events t lane (words.Unstream n second) error = refl
 no_events t lane (words.Queue n limit) error = queue_refused (place 0 lane n t.streams) limit error
 no_events t lane (words.MainQueue limit) error = refl
+no_events t lane words.Close error = refl
 
 refused_keeps : (t : Trail) (lane : ℕ) (w : Words) (error : Error) → more t (record { lane = lane; words = w; answer = answers.Refused error }) ≡ t
 refused_keeps t lane w error =

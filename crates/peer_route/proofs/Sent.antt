@@ -7,7 +7,10 @@ use Rattle.peer_route.specs.declared.words.Words.TheVariants as words
 use Rattle.peer_route.specs.declared.answer.Answer.{Answer}
 use Rattle.peer_route.specs.declared.answer.Answer.TheVariants as answers
 use Rattle.peer_route.specs.declared.answer.Entry.{Entry}
-use Rattle.peer_route.specs.History.{Event, closing, put, is_failed}
+use Rattle.peer_route.specs.declared.writer.Writer.{Writer}
+use Rattle.peer_route.specs.declared.writer.Writer.TheVariants as writers
+use Rattle.peer_route.specs.History.{Event, closing, put, is_failed, writer}
+use Rattle.peer_route.proofs.Writers.{fine_unfailed, writer_stays, shut_writer}
 use Rattle.peer_route.specs.Parcel.{Setting, Parcel, Asked, message_of}
 use Rattle.peer_route.specs.Trail.{Trail, place, asks, trail, send_events, read_events, poll_spends, drop_spends, stream_makes, take_does, clone_makes, gone_at, unstream_does, queue_does, main_sets, second_place, events_of, first_events, next_serial, or_zero}
 use Rattle.peer_route.specs.Answers.{IsAnswer, IsCalled, IsSendOf, Legal, sent_answer, write_fault}
@@ -44,6 +47,16 @@ stream_none : (a : Answer) (h : List Event) → SendsNone (stream_makes a ++ h) 
 stream_none (answers.Streaming number) h = record { put_same = refl; failed_same = refl }
 stream_none a h = record { put_same = refl; failed_same = refl }
 
+open_none : (found : Result Rule Error) (asked : Option ℕ) (a : Answer) (h : List Event) → SendsNone (open_makes found asked a ++ h) h
+open_none (Ok rule) asked (answers.Streaming number) h = record { put_same = refl; failed_same = refl }
+open_none (Ok rule) asked a h = record { put_same = refl; failed_same = refl }
+open_none (Err error) asked a h = record { put_same = refl; failed_same = refl }
+
+close_none : (a : Answer) (h : List Event) → SendsNone (close_does a ++ h) h
+close_none answers.Shut h = record { put_same = refl; failed_same = refl }
+close_none (answers.SendFailed error) h = record { put_same = refl; failed_same = refl }
+close_none a h = record { put_same = refl; failed_same = refl }
+
 take_none : (p : Option ℕ) (a : Answer) (h : List Event) → SendsNone (take_does p a ++ h) h
 take_none None a h = record { put_same = refl; failed_same = refl }
 take_none (Some j) (answers.Item position) h = record { put_same = refl; failed_same = refl }
@@ -74,12 +87,6 @@ main_none : (limit : ℕ) (a : Answer) (h : List Event) → SendsNone (main_sets
 main_none limit answers.Set h = record { put_same = refl; failed_same = refl }
 main_none limit a h = record { put_same = refl; failed_same = refl }
 
--- after a failed write nothing was put
-put_failed : (h : List Event) (asked : Asked) (sent : List Seen) → is_failed h ≡ true → IsPutOf true (put h) sent
-    → IsPutOf (is_failed (send_events h asked write_fault ++ h)) (put (send_events h asked write_fault ++ h)) (sent ++ [])
-put_failed h (Ok parcel) sent f p = rw f (rw (f, append-nil sent) p)
-put_failed h (Err error) sent f p = rw (f, append-nil sent) p
-
 -- a message that went out
 put_sent_now : (h : List Event) (parcel : Parcel) (expects : Bool) (call serial : ℕ) (sent : List Seen) → is_failed h ≡ false → put h ≡ sent
     → IsPutOf (is_failed (send_events h (Ok parcel) (sent_answer expects call serial) ++ h)) (put (send_events h (Ok parcel) (sent_answer expects call serial) ++ h))
@@ -88,19 +95,24 @@ put_sent_now h parcel true call serial sent f p = rw f (ap (λ ms. ms ++ message
 put_sent_now h parcel false call serial sent f p = rw f (ap (λ ms. ms ++ message_of parcel serial ∷ []) p)
 
 -- a message that was sent, failed or was refused, where there was one
-sent_parcel : (h : List Event) (parcel : Parcel) (r : Option Error) (b expects : Bool) (call serial : ℕ) (a : Answer) (sent : List Seen) → is_failed h ≡ b
-    → IsCalled r b (sent_answer expects call serial) a → IsPutOf b (put h) sent
+sent_parcel : (h : List Event) (parcel : Parcel) (r : Option Error) (w : Writer) (expects : Bool) (call serial : ℕ) (a : Answer) (sent : List Seen) → writer h ≡ w
+    → IsCalled r w (sent_answer expects call serial) a → IsPutOf (is_failed h) (put h) sent
     → IsPutOf (is_failed (send_events h (Ok parcel) a ++ h)) (put (send_events h (Ok parcel) a ++ h)) (sent ++ sent_of (Ok parcel) a)
-sent_parcel h parcel (Some error) b expects call serial a sent f is p = rw is (rw (f, append-nil sent) p)
-sent_parcel h parcel None true expects call serial a sent f is p = rw is (put_failed h (Ok parcel) sent f p)
-sent_parcel h parcel None false expects call serial a sent f (inl is) p = rw is (put_sent_now h parcel expects call serial sent f p)
-sent_parcel h parcel None false expects call serial a sent f (inr is) p =
-    rw is (rw f (message_of parcel (or_zero (next_serial h)), ap (λ ms. ms ++ message_of parcel (or_zero (next_serial h)) ∷ []) (p ∙ sym (append-nil sent))))
+sent_parcel h parcel (Some error) w expects call serial a sent f is p = rw is (rw (append-nil sent) p)
+sent_parcel h parcel None writers.Failed expects call serial a sent f is p = rw (is, f) (rw (append-nil sent) p)
+sent_parcel h parcel None writers.Closed expects call serial a sent f is p = rw (is, f) (rw (append-nil sent) p)
+sent_parcel h parcel None writers.Fine expects call serial a sent f (inl is) p =
+    let unfailed = fine_unfailed h f in
+    rw is (put_sent_now h parcel expects call serial sent unfailed (subst (λ b. IsPutOf b (put h) sent) unfailed p))
+sent_parcel h parcel None writers.Fine expects call serial a sent f (inr is) p =
+    let m = message_of parcel (or_zero (next_serial h)) in
+    let same : put h ≡ sent = subst (λ b. IsPutOf b (put h) sent) (fine_unfailed h f) p in
+    rw (is, f) (m, ap (λ ms. ms ++ m ∷ []) (same ∙ sym (append-nil sent)))
 
 -- and where there was none
 sent_asked : (t : Trail) (lane : ℕ) (asked : Asked) (a : Answer) (sent : List Seen) → IsSendOf t lane asked a → IsPutOf (is_failed t.events) (put t.events) sent
     → IsPutOf (is_failed (send_events t.events asked a ++ t.events)) (put (send_events t.events asked a ++ t.events)) (sent ++ sent_by (Some asked) a)
-sent_asked t lane (Ok parcel) a sent is p = sent_parcel t.events parcel _ (is_failed t.events) _ _ _ a sent refl is p
+sent_asked t lane (Ok parcel) a sent is p = sent_parcel t.events parcel _ (writer t.events) _ _ _ a sent refl is p
 sent_asked t lane (Err error) a sent is p = subst (λ ms. IsPutOf (is_failed t.events) (put t.events) ms) (sym (append-nil sent)) p
 
 sent_step : (t : Trail) (lane : ℕ) (w : Words) (a : Answer) (sent : List Seen) → IsAnswer t lane w a → IsPutOf (is_failed t.events) (put t.events) sent
@@ -114,6 +126,7 @@ sent_step t lane (words.Poll n) a sent is p = none_sent _ t.events sent (poll_no
 sent_step t lane (words.Before n before) a sent is p = none_sent _ t.events sent (poll_none (place 0 lane n t.names) a t.events) p
 sent_step t lane (words.Drop n) a sent is p = none_sent _ t.events sent (drop_none (place 0 lane n t.names) a t.events) p
 sent_step t lane words.Stream a sent is p = none_sent _ t.events sent (stream_none a t.events) p
+sent_step t lane (words.Open max_queued rule) a sent is p = none_sent _ t.events sent (open_none (rule_in_bytes rule) max_queued a t.events) p
 sent_step t lane (words.Take n) a sent is p = none_sent _ t.events sent (take_none (place 0 lane n t.streams) a t.events) p
 sent_step t lane (words.TakeBefore n before) a sent is p = none_sent _ t.events sent (take_none (place 0 lane n t.streams) a t.events) p
 sent_step t lane (words.Clone n) a sent is p = none_sent _ t.events sent (clone_none (place 0 lane n t.streams) a t.events) p
@@ -121,6 +134,7 @@ sent_step t lane (words.Unstream n second) a sent is p =
     none_sent _ t.events sent (unstream_none (place 0 lane n t.streams) (second_place lane second t.streams) a t.events) p
 sent_step t lane (words.Queue n limit) a sent is p = none_sent _ t.events sent (queue_none (place 0 lane n t.streams) limit a t.events) p
 sent_step t lane (words.MainQueue limit) a sent is p = none_sent _ t.events sent (main_none limit a t.events) p
+sent_step t lane words.Close a sent is p = none_sent _ t.events sent (close_none a t.events) p
 
 -- entries keep what the peer was given at its start
 pub trail_setting : (setting : Setting) (es : List Entry) → (trail setting es).setting ≡ setting
@@ -134,3 +148,70 @@ sent_first (Some limit) = refl
 pub put_sent : (setting : Setting) (es : List Entry) → Legal setting es → IsPutOf (is_failed (trail setting es).events) (put (trail setting es).events) (all_sent setting es)
 put_sent setting [] legal = sent_first setting.queue
 put_sent setting (e ∷ es) legal = sent_step (trail setting es) e.lane e.words e.answer (all_sent setting es) legal.0 (put_sent setting es legal.1)
+
+-- ---- after closing
+
+-- where the writer is over, a command that sends puts nothing
+stuck_send : (h : List Event) (parcel : Parcel) (r : Option Error) (w : Writer) (success a : Answer) → writer h ≡ w → w ≢ writers.Fine → IsCalled r w success a → send_events h (Ok parcel) a ≡ []
+stuck_send h parcel (Some error) w success a f ne is = rw is refl
+stuck_send h parcel None writers.Fine success a f ne is = absurd (ne refl)
+stuck_send h parcel None writers.Failed success a f ne is = rw (is, f) refl
+stuck_send h parcel None writers.Closed success a f ne is = rw (is, f) refl
+
+stuck_asked : (t : Trail) (lane : ℕ) (asked : Asked) (a : Answer) → writer t.events ≢ writers.Fine → IsSendOf t lane asked a → SendsNone (send_events t.events asked a ++ t.events) t.events
+stuck_asked t lane (Ok parcel) a ne is =
+    let none = stuck_send t.events parcel _ (writer t.events) _ a refl ne is in
+    record { put_same = ap (λ xs. put (xs ++ t.events)) none; failed_same = ap (λ xs. is_failed (xs ++ t.events)) none }
+stuck_asked t lane (Err error) a ne is = record { put_same = refl; failed_same = refl }
+
+stuck_step : (t : Trail) (lane : ℕ) (w : Words) (a : Answer) → writer t.events ≢ writers.Fine → IsAnswer t lane w a → SendsNone (events_of t lane w a ++ t.events) t.events
+stuck_step t lane (words.Call out) a ne is = stuck_asked t lane _ a ne is
+stuck_step t lane (words.Signal out) a ne is = stuck_asked t lane _ a ne is
+stuck_step t lane (words.Reply stream body) a ne is = stuck_asked t lane _ a ne is
+stuck_step t lane (words.Error stream name body) a ne is = stuck_asked t lane _ a ne is
+stuck_step t lane words.Read a ne is = read_none (closing t.events) a t.events
+stuck_step t lane (words.Poll n) a ne is = poll_none (place 0 lane n t.names) a t.events
+stuck_step t lane (words.Before n before) a ne is = poll_none (place 0 lane n t.names) a t.events
+stuck_step t lane (words.Drop n) a ne is = drop_none (place 0 lane n t.names) a t.events
+stuck_step t lane words.Stream a ne is = stream_none a t.events
+stuck_step t lane (words.Open max_queued rule) a ne is = open_none (rule_in_bytes rule) max_queued a t.events
+stuck_step t lane (words.Take n) a ne is = take_none (place 0 lane n t.streams) a t.events
+stuck_step t lane (words.TakeBefore n before) a ne is = take_none (place 0 lane n t.streams) a t.events
+stuck_step t lane (words.Clone n) a ne is = clone_none (place 0 lane n t.streams) a t.events
+stuck_step t lane (words.Unstream n second) a ne is = unstream_none (place 0 lane n t.streams) (second_place lane second t.streams) a t.events
+stuck_step t lane (words.Queue n limit) a ne is = queue_none (place 0 lane n t.streams) limit a t.events
+stuck_step t lane (words.MainQueue limit) a ne is = main_none limit a t.events
+stuck_step t lane words.Close a ne is = close_none a t.events
+
+shut_by : (h : List Event) (a : Answer) → IsClose a → writer (close_does a ++ h) ≢ writers.Fine
+shut_by h a (inl is) = rw is (shut_writer (writer h))
+shut_by h a (inr is) = rw is (shut_writer (writer h))
+
+-- the writer is over, and all that was put was put before
+record IsStuck (setting : Setting) (older es : List Entry) : Type 0 where
+  over : writer (trail setting es).events ≢ writers.Fine
+  none : SendsNone (trail setting es).events (trail setting older).events
+
+close_is : (t : Trail) (e : Entry) → IsAnswer t e.lane e.words e.answer → e.words ≡ words.Close → IsClose e.answer
+close_is t e is w = subst (λ x. IsAnswer t e.lane x e.answer) w is
+
+stuck : (setting : Setting) (newer : List Entry) (e : Entry) (older : List Entry) → Legal setting (newer ++ e ∷ older) → e.words ≡ words.Close → IsStuck setting older (newer ++ e ∷ older)
+stuck setting [] e older legal w =
+    let t = trail setting older in
+    let same : events_of t e.lane e.words e.answer ≡ close_does e.answer = ap (λ x. events_of t e.lane x e.answer) w in
+    let n = close_none e.answer t.events in record {
+      over = subst (λ xs. writer (xs ++ t.events) ≢ writers.Fine) (sym same) (shut_by t.events e.answer (close_is t e legal.0 w));
+      none = record { put_same = ap (λ xs. put (xs ++ t.events)) same ∙ n.put_same; failed_same = ap (λ xs. is_failed (xs ++ t.events)) same ∙ n.failed_same };
+    }
+stuck setting (x ∷ newer) e older legal w =
+    let s = stuck setting newer e older legal.1 w in
+    let t = trail setting (newer ++ e ∷ older) in
+    let n = stuck_step t x.lane x.words x.answer s.over legal.0 in record {
+      over = λ q. s.over (sym (writer_stays (events_of t x.lane x.words x.answer) t.events s.over) ∙ q);
+      none = record { put_same = n.put_same ∙ s.none.put_same; failed_same = n.failed_same ∙ s.none.failed_same };
+    }
+
+-- once a peer was closed nothing is put, and no write fails
+pub nothing_put : (setting : Setting) (newer : List Entry) (e : Entry) (older : List Entry) → Legal setting (newer ++ e ∷ older) → e.words ≡ words.Close
+    → (put (trail setting (newer ++ e ∷ older)).events ≡ put (trail setting older).events) × (is_failed (trail setting (newer ++ e ∷ older)).events ≡ is_failed (trail setting older).events)
+nothing_put setting newer e older legal w = let s = stuck setting newer e older legal w in (s.none.put_same, s.none.failed_same)

@@ -11,7 +11,7 @@ use Rattle.peer_route.specs.declared.words.Words.TheVariants as words
 use Rattle.peer_route.specs.declared.answer.Answer.{Answer}
 use Rattle.peer_route.specs.declared.answer.Answer.TheVariants as answers
 use Rattle.peer_route.specs.declared.answer.Entry.{Entry}
-use Rattle.peer_route.specs.History.{Event, Put, Cloned, Gone, Asked, read, closing, is_failed, poll_answer, by_position, drop_answer}
+use Rattle.peer_route.specs.History.{Event, Put, Cloned, Gone, Asked, read, closing, writer, poll_answer, by_position, drop_answer}
 use Rattle.peer_route.specs.Streams.{streams, plain_stream, new_stream, give, tell, done_by, busy, take_answer}
 use Rattle.peer_route.specs.Parcel.{Setting}
 use Rattle.peer_route.specs.Parcel as parcels
@@ -26,11 +26,12 @@ sent_streams : (lane : ℕ) (expects : Bool) (call serial : ℕ) → new_streams
 sent_streams lane true call serial = refl
 sent_streams lane false call serial = refl
 
-called_streams : (lane : ℕ) (r : Option Error) (failed expects : Bool) (call serial : ℕ) (a : Answer) → IsCalled r failed (sent_answer expects call serial) a → new_streams lane a ≡ []
-called_streams lane (Some error) failed expects call serial a is = ap (new_streams lane) is
-called_streams lane None true expects call serial a is = ap (new_streams lane) is
-called_streams lane None false expects call serial a (inl is) = ap (new_streams lane) is ∙ sent_streams lane expects call serial
-called_streams lane None false expects call serial a (inr is) = ap (new_streams lane) is
+called_streams : (lane : ℕ) (r : Option Error) (w : Writer) (expects : Bool) (call serial : ℕ) (a : Answer) → IsCalled r w (sent_answer expects call serial) a → new_streams lane a ≡ []
+called_streams lane (Some error) w expects call serial a is = ap (new_streams lane) is
+called_streams lane None writers.Failed expects call serial a is = ap (new_streams lane) is
+called_streams lane None writers.Closed expects call serial a is = ap (new_streams lane) is
+called_streams lane None writers.Fine expects call serial a (inl is) = ap (new_streams lane) is ∙ sent_streams lane expects call serial
+called_streams lane None writers.Fine expects call serial a (inr is) = ap (new_streams lane) is
 
 read_streams : (lane : ℕ) (o : Option Error) (full : Bool) (n : ℕ) (a : Answer) → IsReadOf o full n a → new_streams lane a ≡ []
 read_streams lane (Some error) full n a is = ap (new_streams lane) is
@@ -97,14 +98,15 @@ where_streams lane false a none = refl
 abbrev MakesNone : List Event → Type 0
 MakesNone xs = (h : List Event) → length (streams (xs ++ h)) ≡ length (streams h)
 
-failed_makes : (b : Bool) (m : Seen) (expects : Bool) → MakesNone (failed_put b (Put m expects))
-failed_makes true m expects h = refl
-failed_makes false m expects h = refl
+failed_makes : (w : Writer) (m : Seen) (expects : Bool) → MakesNone (failed_put w (Put m expects))
+failed_makes writers.Fine m expects h = refl
+failed_makes writers.Failed m expects h = refl
+failed_makes writers.Closed m expects h = refl
 
 send_makes : (g : List Event) (asked : parcels.Asked) (a : Answer) → MakesNone (send_events g asked a)
 send_makes g (Ok parcel) (answers.Called call serial) h = refl
 send_makes g (Ok parcel) (answers.Sent serial) h = refl
-send_makes g (Ok parcel) (answers.SendFailed error) h = failed_makes (is_failed g) _ _ h
+send_makes g (Ok parcel) (answers.SendFailed error) h = failed_makes (writer g) _ _ h
 send_makes g (Ok parcel) a h = refl
 send_makes g (Err error) a h = refl
 
@@ -150,6 +152,15 @@ main_makes : (limit : ℕ) (a : Answer) → MakesNone (main_sets limit a)
 main_makes limit answers.Set h = refl
 main_makes limit a h = refl
 
+close_makes : (a : Answer) → MakesNone (close_does a)
+close_makes answers.Shut h = refl
+close_makes (answers.SendFailed error) h = refl
+close_makes a h = refl
+
+close_streams : (lane : ℕ) (a : Answer) → IsClose a → new_streams lane a ≡ []
+close_streams lane a (inl is) = ap (new_streams lane) is
+close_streams lane a (inr is) = ap (new_streams lane) is
+
 lane_none : (t : Trail) (lane : ℕ) (w : Words) (a : Answer) → MakesNone (events_of t lane w a) → new_streams lane a ≡ []
     → length t.streams ≡ length (streams t.events) → length (more t (entry lane w a)).streams ≡ length (streams (more t (entry lane w a)).events)
 lane_none t lane w a makes none e = ap (λ ns. length (t.streams ++ ns)) none ∙ ap length (append-nil t.streams) ∙ e ∙ sym (makes t.events)
@@ -163,16 +174,24 @@ lane_clone t lane n (Some k) true a named opened is e =
     rw is (length-append t.streams (Some lane ∷ []) ∙ ap (λ n. n + 1) e ∙ sym (length-append (streams t.events) (new_stream t.events (streams t.events) (Cloned k) ∷ [])))
 lane_clone t lane n (Some k) false a named opened is e = rw is (ap length (append-nil t.streams) ∙ e)
 
+lane_open : (t : Trail) (lane : ℕ) (asked : Option ℕ) (found : Result Rule Error) (shut : Option Error) (a : Answer)
+    → a ≡ open_of found shut (answers.Streaming (count lane t.streams)) → length t.streams ≡ length (streams t.events)
+    → length (t.streams ++ new_streams lane a) ≡ length (streams (open_makes found asked a ++ t.events))
+lane_open t lane asked (Err error) shut a is e = rw is (ap length (append-nil t.streams) ∙ e)
+lane_open t lane asked (Ok rule) (Some error) a is e = rw is (ap length (append-nil t.streams) ∙ e)
+lane_open t lane asked (Ok rule) None a is e =
+    rw is (length-append t.streams (Some lane ∷ []) ∙ ap (λ n. n + 1) e ∙ sym (length-append (streams t.events) (rule_stream t.events rule ∷ [])))
+
 lanes_step : (t : Trail) (lane : ℕ) (w : Words) (a : Answer) → IsAnswer t lane w a → length t.streams ≡ length (streams t.events)
     → length (more t (entry lane w a)).streams ≡ length (streams (more t (entry lane w a)).events)
 lanes_step t lane (words.Call out) a is e =
-    lane_none t lane (words.Call out) a (send_makes t.events _ a) (called_streams lane _ (is_failed t.events) _ _ _ a is) e
+    lane_none t lane (words.Call out) a (send_makes t.events _ a) (called_streams lane _ (writer t.events) _ _ _ a is) e
 lanes_step t lane (words.Signal out) a is e =
-    lane_none t lane (words.Signal out) a (send_makes t.events _ a) (called_streams lane _ (is_failed t.events) _ _ _ a is) e
+    lane_none t lane (words.Signal out) a (send_makes t.events _ a) (called_streams lane _ (writer t.events) _ _ _ a is) e
 lanes_step t lane (words.Reply stream body) a is e =
-    lane_none t lane (words.Reply stream body) a (send_makes t.events _ a) (called_streams lane _ (is_failed t.events) _ _ _ a is) e
+    lane_none t lane (words.Reply stream body) a (send_makes t.events _ a) (called_streams lane _ (writer t.events) _ _ _ a is) e
 lanes_step t lane (words.Error stream name body) a is e =
-    lane_none t lane (words.Error stream name body) a (send_makes t.events _ a) (called_streams lane _ (is_failed t.events) _ _ _ a is) e
+    lane_none t lane (words.Error stream name body) a (send_makes t.events _ a) (called_streams lane _ (writer t.events) _ _ _ a is) e
 lanes_step t lane words.Read a is e = lane_none t lane words.Read a (read_makes (closing t.events) a) (read_streams lane (closing t.events) (busy t.events) (length (read t.events)) a is) e
 lanes_step t lane (words.Poll n) a is e =
     lane_none t lane (words.Poll n) a (poll_makes (place 0 lane n t.names) a) (ap (new_streams lane) is ∙ poll_streams lane t.events (place 0 lane n t.names)) e
@@ -186,6 +205,7 @@ lanes_step t lane (words.TakeBefore n before) a is e =
     lane_none t lane (words.TakeBefore n before) a (take_makes (place 0 lane n t.streams) a) (ap (new_streams lane) is ∙ take_before_streams lane t.events (place 0 lane n t.streams)) e
 lanes_step t lane words.Stream a is e =
     rw is (length-append t.streams (Some lane ∷ []) ∙ ap (λ n. n + 1) e ∙ sym (length-append (streams t.events) (plain_stream t.events ∷ [])))
+lanes_step t lane (words.Open max_queued rule) a is e = lane_open t lane max_queued (rule_in_bytes rule) (closing t.events) a is e
 lanes_step t lane (words.Clone n) a is e = lane_clone t lane n (place 0 lane n t.streams) (is_open_at t.events (place 0 lane n t.streams)) a refl refl is e
 lanes_step t lane (words.Unstream n second) a is e =
     lane_none t lane (words.Unstream n second) a (unstream_makes (place 0 lane n t.streams) (second_place lane second t.streams) a)
@@ -194,6 +214,7 @@ lanes_step t lane (words.Queue n limit) a is e =
     lane_none t lane (words.Queue n limit) a (queue_makes (place 0 lane n t.streams) limit a)
     (ap (new_streams lane) is ∙ where_streams lane (is_open_at t.events (place 0 lane n t.streams)) answers.Set refl) e
 lanes_step t lane (words.MainQueue limit) a is e = lane_none t lane (words.MainQueue limit) a (main_makes limit a) (ap (new_streams lane) is) e
+lanes_step t lane words.Close a is e = lane_none t lane words.Close a (close_makes a) (close_streams lane a is) e
 
 lanes_first : (queue : Option ℕ) → 0 ≡ length (streams (first_events queue))
 lanes_first None = refl

@@ -7,6 +7,10 @@ use Rattle.wire_message.specs.declared.kind.MessageType.TheVariants as types
 use Rattle.wire_message.specs.declared.error.Error.{Error}
 use Rattle.wire_message.specs.declared.error.Error.TheVariants as errors
 use Rattle.wire_message.specs.declared.error.IoKind.TheVariants as kinds
+use Rattle.rule_match.specs.Rule.{Rule}
+use Rattle.rule_match.specs.Bytes.{rule_in_bytes}
+use Rattle.peer_route.specs.declared.writer.Writer.{Writer}
+use Rattle.peer_route.specs.declared.writer.Writer.TheVariants as writers
 use Rattle.peer_route.specs.declared.polled.Polled.{Polled}
 use Rattle.peer_route.specs.declared.polled.Polled.TheVariants as polled
 use Rattle.peer_route.specs.declared.words.Words.{Words}
@@ -16,8 +20,8 @@ use Rattle.peer_route.specs.declared.answer.Answer.TheVariants as answers
 use Rattle.peer_route.specs.declared.answer.Entry.{Entry}
 use Rattle.peer_route.specs.Parcel.{Setting, Parcel, Asked, message_of}
 use Rattle.peer_route.specs.CallMessage.{expects, call_asked, signal_asked, reply_asked, error_asked}
-use Rattle.peer_route.specs.History.{Event, read, closing, is_failed, poll_answer, by_position, drop_answer}
-use Rattle.peer_route.specs.Streams.{busy, take_answer, is_open}
+use Rattle.peer_route.specs.History.{Event, read, closing, writer, poll_answer, by_position, drop_answer}
+use Rattle.peer_route.specs.Streams.{busy, take_answer, is_open, open_refusal}
 use Rattle.peer_route.specs.Trail.{Trail, Names, trail, place, count, given, next_serial, or_zero}
 
 -- ---- a message that is sent
@@ -35,14 +39,18 @@ send_refusal h (Ok parcel) = long_refusal (next_serial h) parcel
 abbrev pub write_fault : Answer
 write_fault = answers.SendFailed (errors.InputOutput kinds.WriteFault)
 
--- After a failed write nothing goes out; before one, the message goes out or its write fails.
-abbrev pub IsSent : Bool → Answer → Answer → Type 0
-IsSent true success answer = answer ≡ write_fault
-IsSent false success answer = (answer ≡ success) ⊎ (answer ≡ write_fault)
+abbrev pub write_closed : Answer
+write_closed = answers.SendFailed (errors.InputOutput kinds.Closed)
 
-abbrev pub IsCalled : Option Error → Bool → Answer → Answer → Type 0
-IsCalled (Some error) failed success answer = answer ≡ answers.Refused error
-IsCalled None failed success answer = IsSent failed success answer
+-- After a failed write, or once the peer was closed, nothing goes out; before, the message goes out or its write fails.
+abbrev pub IsSent : Writer → Answer → Answer → Type 0
+IsSent writers.Failed success answer = answer ≡ write_fault
+IsSent writers.Closed success answer = answer ≡ write_closed
+IsSent writers.Fine success answer = (answer ≡ success) ⊎ (answer ≡ write_fault)
+
+abbrev pub IsCalled : Option Error → Writer → Answer → Answer → Type 0
+IsCalled (Some error) met success answer = answer ≡ answers.Refused error
+IsCalled None met success answer = IsSent met success answer
 
 -- a message that was sent: its call's number in its lane and its serial; its serial alone where no reply is waited for
 abbrev pub sent_answer : Bool → ℕ → ℕ → Answer
@@ -51,7 +59,7 @@ sent_answer false call serial = answers.Sent serial
 
 abbrev pub IsSendOf : Trail → ℕ → Asked → Answer → Type 0
 IsSendOf t lane asked answer =
-    IsCalled (send_refusal t.events asked) (is_failed t.events)
+    IsCalled (send_refusal t.events asked) (writer t.events)
     (sent_answer (expects asked) (count lane t.names) (or_zero (next_serial t.events))) answer
 
 -- ---- a read
@@ -146,6 +154,21 @@ are_open_at h lane names number None = is_open_at h (place 0 lane number names)
 are_open_at h lane names number (Some second) =
     is_open_at h (place 0 lane number names) && is_open_at h (place 0 lane second names) && not (number == second)
 
+-- A text that is no rule is refused by its fault; a rule, on a closed peer; else it is a stream.
+abbrev pub opened_by : Option Error → Answer → Answer
+opened_by (Some error) answer = answers.Refused error
+opened_by None answer = answer
+
+abbrev pub open_of : Result Rule Error → Option Error → Answer → Answer
+open_of (Err error) closed answer = answers.Refused error
+open_of (Ok rule) closed answer = opened_by (open_refusal closed) answer
+
+-- ---- closing the peer
+
+-- The peer is closed, or the sink's `close` failed; then it is closed as well.
+abbrev pub IsClose : Answer → Type 0
+IsClose answer = (answer ≡ answers.Shut) ⊎ (answer ≡ write_fault)
+
 -- ---- a history
 
 -- The answer of a lane's command after this trail.
@@ -160,6 +183,8 @@ IsAnswer t lane (words.Poll number) answer = answer ≡ poll_of t.events (place 
 IsAnswer t lane (words.Before number before) answer = answer ≡ before_of t.events (place 0 lane number t.names)
 IsAnswer t lane (words.Drop number) answer = answer ≡ drop_of t.events (place 0 lane number t.names)
 IsAnswer t lane words.Stream answer = answer ≡ answers.Streaming (count lane t.streams)
+IsAnswer t lane (words.Open max_queued rule) answer =
+    answer ≡ open_of (rule_in_bytes rule) (closing t.events) (answers.Streaming (count lane t.streams))
 IsAnswer t lane (words.Take number) answer = answer ≡ take_of t.events (place 0 lane number t.streams)
 IsAnswer t lane (words.TakeBefore number before) answer = answer ≡ take_before_of t.events (place 0 lane number t.streams)
 IsAnswer t lane (words.Clone number) answer =
@@ -167,6 +192,7 @@ IsAnswer t lane (words.Clone number) answer =
 IsAnswer t lane (words.Unstream number second) answer = answer ≡ where_open (are_open_at t.events lane t.streams number second) answers.Gone
 IsAnswer t lane (words.Queue number limit) answer = answer ≡ where_open (is_open_at t.events (place 0 lane number t.streams)) answers.Set
 IsAnswer t lane (words.MainQueue limit) answer = answer ≡ answers.Set
+IsAnswer t lane words.Close answer = IsClose answer
 
 -- Each entry's answer is that of the entries before it, by the peer's setting. The history is newest first.
 abbrev pub Legal : Setting → List Entry → Type 0

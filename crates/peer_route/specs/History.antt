@@ -7,6 +7,11 @@ use Rattle.wire_message.specs.declared.kind.MessageType.{MessageType}
 use Rattle.wire_message.specs.declared.kind.MessageType.TheVariants as types
 use Rattle.wire_message.specs.declared.error.Error.{Error}
 use Rattle.wire_message.specs.declared.error.Error.TheVariants as errors
+use Rattle.wire_message.specs.declared.error.IoKind.{IoKind}
+use Rattle.wire_message.specs.declared.error.IoKind.TheVariants as kinds
+use Rattle.rule_match.specs.Rule.{Rule}
+use Rattle.peer_route.specs.declared.writer.Writer.{Writer}
+use Rattle.peer_route.specs.declared.writer.Writer.TheVariants as writers
 use Rattle.peer_route.specs.declared.polled.Polled.{Polled}
 use Rattle.peer_route.specs.declared.polled.Polled.TheVariants as polled
 
@@ -15,6 +20,7 @@ use Rattle.peer_route.specs.declared.polled.Polled.TheVariants as polled
 -- how a stream is made
 pub data Making : Type 0 where
   Plain : Making  -- without a rule, so that it takes each message
+  Ruled : (rule : Rule) (asked : Option ℕ) → Making  -- with a rule; the capacity that was asked for, if one was
   Cloned : (stream : ℕ) → Making  -- as the stream with this number is now
 
 -- what a stream did
@@ -26,7 +32,7 @@ pub data Deed : Type 0 where
 
 pub data Event : Type 0 where
   Took : (m : Seen) → Event  -- a read took the message
-  Shut : (error : Error) → Event  -- a read ended the peer's messages
+  Shut : (error : Error) → Event  -- a read ended the peer's messages, or it was closed
   Put : (m : Seen) (expects : Bool) → Event  -- a message was put in the outbox; whether it expects a reply
   Wrote : Event  -- the first message that isn't done was written
   Fault : Event  -- its write failed
@@ -107,6 +113,37 @@ is_failed (Spent call ∷ h) = is_failed h
 is_failed (Made making ∷ h) = is_failed h
 is_failed (Did stream deed ∷ h) = is_failed h
 is_failed (Main limit ∷ h) = is_failed h
+
+-- the earlier cause stays
+abbrev pub worse : Writer → Writer → Writer
+worse writers.Fine cause = cause
+worse writers.Failed cause = writers.Failed
+worse writers.Closed cause = writers.Closed
+
+abbrev pub shuts_by : IoKind → Writer
+shuts_by kinds.Closed = writers.Closed
+shuts_by kinds.Ended = writers.Fine
+shuts_by kinds.Fault = writers.Fine
+shuts_by kinds.WriteFault = writers.Fine
+shuts_by kinds.TimedOut = writers.Fine
+
+-- Closing a peer closes its writer; a read that ends its messages doesn't.
+abbrev pub shuts : Error → Writer
+shuts (errors.InputOutput kind) = shuts_by kind
+shuts error = writers.Fine
+
+-- What became of the writer: after a failed write, or once the peer was closed, nothing is put any more. The earlier cause stays.
+abbrev pub writer : List Event → Writer
+writer [] = writers.Fine
+writer (Fault ∷ h) = worse (writer h) writers.Failed
+writer (Shut error ∷ h) = worse (writer h) (shuts error)
+writer (Wrote ∷ h) = writer h
+writer (Took m ∷ h) = writer h
+writer (Put m expects ∷ h) = writer h
+writer (Spent call ∷ h) = writer h
+writer (Made making ∷ h) = writer h
+writer (Did stream deed ∷ h) = writer h
+writer (Main limit ∷ h) = writer h
 
 -- the last serial that was drawn, 0 before the first
 abbrev pub last_serial : List Event → ℕ

@@ -1,5 +1,5 @@
 -- What a history leaves of a peer: all that the answers to come depend on.
-use Rattle.std.specs.Prelude.{ℕ, zero, suc, ⊤, ◌≡◌, ◌+◌, ◌<◌, ◌≤◌, ◌⊎◌, nat_lt, Bool, true, false, ◌&&◌, ◌==◌, if◌then◌else◌, is_none, List, [], ◌∷◌, ◌++◌, length, map, get_or, slice_get, option_map, Option, Some, None, IsSome, Result, Ok, Err}
+use Rattle.std.specs.Prelude.{ℕ, zero, suc, ⊤, ◌≡◌, ◌+◌, ◌<◌, ◌≤◌, ◌⊎◌, nat_lt, max, Bool, true, false, ◌&&◌, ◌==◌, if◌then◌else◌, is_none, List, [], ◌∷◌, ◌++◌, length, map, get_or, slice_get, option_map, Option, Some, None, IsSome, Result, Ok, Err}
 use Rattle.std.specs.List.{list_any, AllByRecursion}
 use Rattle.std.specs.Option.{option_flatten}
 use Rattle.std.specs.Ordering.{nat_cmp}
@@ -13,14 +13,20 @@ use Rattle.peer_route.specs.declared.calls.Slot.{Slot}
 use Rattle.peer_route.specs.declared.calls.Slot.TheVariants as slots
 use Rattle.peer_route.specs.declared.route.Issued.{Issued}
 use Rattle.peer_route.specs.declared.streams.MessageStream.{MessageStream}
+use Rattle.peer_route.specs.declared.queue.Subscription.{Subscription}
+use Rattle.peer_route.specs.declared.writer.Writer.{Writer}
+use Rattle.peer_route.specs.declared.writer.Writer.TheVariants as writers
+use Rattle.rule_match.specs.Rule.{Rule}
+use Rattle.rule_match.specs.Accepting.{accepts}
+use Rattle.peer_route.specs.Rules.{is_same, usual}
 use Rattle.wire_tree.specs.Datum.{data_of}
 use Rattle.wire_spelling.specs.Spelling.{AllFit, depths}
 use Rattle.wire_signature.specs.declared.error.VariantError.TheVariants as faults
 use Rattle.peer_route.specs.Parcel.{Parcel, message_of}
 use Rattle.peer_route.specs.CallMessage.{expects_reply, expects}
-use Rattle.peer_route.specs.Streams.{Stream, streams, matched, held, main, is_open, take_by, first_position}
+use Rattle.peer_route.specs.Streams.{Stream, streams, matched, held, main, rule_limit, asked_or, raised, is_open, take_by, first_position}
 use Rattle.peer_route.specs.declared.polled.Polled.{Polled}
-use Rattle.peer_route.specs.History.{Event, Put, Made, Cloned, Call, put, edit, is_failed, last_serial, found, bears, is_gone, pending}
+use Rattle.peer_route.specs.History.{Event, Put, Made, Ruled, Cloned, Call, put, edit, last_serial, writer, found, bears, is_gone, pending}
 use Rattle.peer_route.specs.History as events
 
 -- what is kept of a call: that it is over, the serial that it waits for, or its reply
@@ -80,22 +86,37 @@ abbrev pub is_number : Option ℕ → ℕ → Bool
 is_number None serial = false
 is_number (Some n) serial = n == serial
 
--- what is kept of a stream: the messages that it holds, and whether it gave the closing error
+-- what is kept of a stream: its rule, where it has one, with how many messages it may hold; those that it holds; and whether it
+-- gave the closing error
 pub record Held : Type 0 where
+  pub wants : Option Subscription
   pub items : List Seen
   pub told : Bool
 
 -- nothing is kept of a stream that was closed
-abbrev pub kept_by : Bool → List Seen → Bool → Option Held
-kept_by true items told = None
-kept_by false items told = Some (record { items = items; told = told })
+abbrev pub kept_by : Bool → Option Subscription → List Seen → Bool → Option Held
+kept_by true wants items told = None
+kept_by false wants items told = Some (record { wants = wants; items = items; told = told })
+
+-- a rule, with how many messages each of its streams may hold
+abbrev pub subscription : List Event → Rule → Subscription
+subscription h rule = record { rule = rule; limit = rule_limit rule h }
 
 unfoldable pub held_of : List Event → Stream → Option Held
-held_of h s = kept_by s.gone (held h s) s.told
+held_of h s = kept_by s.gone (option_map (subscription h) s.rule) (held h s) s.told
 
--- a stream with one message more
+-- what a stream is kept by at first
+abbrev pub empty_held : Option Subscription → Bool → Held
+empty_held wants told = record { wants = wants; items = []; told = told }
+
+-- the message is one of the stream's
+abbrev pub wants_it : Option Subscription → Seen → Bool
+wants_it None m = true
+wants_it (Some s) m = accepts s.rule m
+
+-- a stream with one message more, if it is one of its own
 abbrev pub with_one : Seen → Held → Held
-with_one m q = record q { items = q.items ++ m ∷ [] }
+with_one m q = record q { items = if wants_it q.wants m then q.items ++ m ∷ [] else q.items }
 
 abbrev pub queued : Seen → Option Held → Option Held
 queued m q = option_map (with_one m) q
@@ -106,19 +127,77 @@ queued_first zero m qs = qs
 queued_first (suc n) m [] = []
 queued_first (suc n) m (q ∷ qs) = queued m q ∷ queued_first n m qs
 
--- a stream that is open holds more than the capacity
+-- how many messages a stream may hold: as many as its rule's may, or without a rule so many
+abbrev pub limit_or : ℕ → Option Subscription → ℕ
+limit_or main None = main
+limit_or main (Some s) = s.limit
+
+-- a stream that is open holds more than it may
 abbrev pub is_over : ℕ → Option Held → Bool
-is_over capacity None = false
-is_over capacity (Some q) = nat_lt capacity (length q.items)
+is_over main None = false
+is_over main (Some q) = nat_lt (limit_or main q.wants) (length q.items)
 
 -- a stream after a take: without its first message, or with the closing error told
-abbrev pub after_by : List Seen → Option Error → Bool → Held
-after_by (m ∷ ms) closing told = record { items = ms; told = told }
-after_by [] None told = record { items = []; told = told }
-after_by [] (Some error) told = record { items = []; told = true }
+abbrev pub after_by : Option Subscription → List Seen → Option Error → Bool → Held
+after_by wants (m ∷ ms) closing told = record { wants = wants; items = ms; told = told }
+after_by wants [] None told = record { wants = wants; items = []; told = told }
+after_by wants [] (Some error) told = record { wants = wants; items = []; told = true }
 
 abbrev pub after_take : Option Error → Held → Held
-after_take closing q = after_by q.items closing q.told
+after_take closing q = after_by q.wants q.items closing q.told
+
+-- the capacity of a rule, where a stream of it asks for more
+abbrev pub raise : Rule → Option ℕ → Subscription → Subscription
+raise rule asked s = record s { limit = if is_same s.rule rule then raised asked s.limit else s.limit }
+
+abbrev pub raise_held : Rule → Option ℕ → Held → Held
+raise_held rule asked q = record q { wants = option_map (raise rule asked) q.wants }
+
+-- a stream with a rule, where it asks for more
+abbrev pub raise_own : ℕ → Held → Held
+raise_own limit q = record q { wants = option_map (λ (s : Subscription). record s { limit = max s.limit limit }) q.wants }
+
+-- each stream that is open, where one of this rule asks for more
+abbrev pub raise_all : Rule → Option ℕ → List (Option Held) → List (Option Held)
+raise_all rule asked qs = map (λ q. option_map (raise_held rule asked) q) qs
+
+abbrev pub or_else : Option ℕ → Option ℕ → Option ℕ
+or_else None other = other
+or_else (Some n) other = Some n
+
+abbrev pub limit_if : Rule → Option Subscription → Option ℕ
+limit_if rule None = None
+limit_if rule (Some s) = if is_same rule s.rule then Some s.limit else None
+
+-- the capacity that the open streams of this rule share; none where none is open
+abbrev pub shared : Rule → List (Option Held) → Option ℕ
+shared rule [] = None
+shared rule (None ∷ qs) = shared rule qs
+shared rule (Some q ∷ qs) = or_else (limit_if rule q.wants) (shared rule qs)
+
+-- what a new stream of a rule may hold
+abbrev pub limit_now : Rule → Option ℕ → Option ℕ → ℕ
+limit_now rule asked None = asked_or asked (usual rule)
+limit_now rule asked (Some limit) = raised asked limit
+
+-- one stream more, of this rule
+abbrev pub with_stream : Rule → Option ℕ → List (Option Held) → List (Option Held)
+with_stream rule asked qs =
+    raise_all rule asked qs ++ Some (empty_held (Some (record { rule = rule; limit = limit_now rule asked (shared rule qs) })) false) ∷ []
+
+abbrev pub wants_of : Option Held → Option Subscription
+wants_of None = None
+wants_of (Some q) = q.wants
+
+-- all streams, where one asks for more: those of its rule may hold it
+abbrev pub asked_for : Option Subscription → ℕ → List (Option Held) → List (Option Held)
+asked_for None limit qs = qs
+asked_for (Some s) limit qs = raise_all s.rule (Some limit) qs
+
+-- the capacity of streams without a rule, where a stream asks for more
+abbrev pub main_asked : Option Subscription → ℕ → ℕ → ℕ
+main_asked None limit main = max main limit
+main_asked (Some s) limit main = main
 
 -- what is kept at a place; nothing behind the last
 abbrev pub kept_at : List (Option Held) → ℕ → Option Held
@@ -146,8 +225,8 @@ abbrev pub next_held : Option Held → Option ℕ
 next_held None = None
 next_held (Some q) = first_position q.items
 
--- What contracts see of a peer's core: of each stream that is open what it holds; how many messages one may hold before reads
--- wait; `places` has for each call the place of its message in the outbox.
+-- What contracts see of a peer's core: what is kept of each stream that is open; how many messages one without a rule may hold
+-- before reads wait; `places` has for each call the place of its message in the outbox.
 pub record View : Type 0 where
   pub calls : CallsView
   pub streams : List (Option Held)
@@ -157,7 +236,7 @@ pub record View : Type 0 where
   pub outbox : List Seen
   pub places : List ℕ
   pub done : ℕ
-  pub failed : Bool
+  pub writer : Writer
 
 -- The history leaves these calls: each with what was found for it, and the first closing error.
 pub record LeftCalls (v : CallsView) (h : List Event) : Type 0 where
@@ -189,7 +268,7 @@ pub record Left (v : View) (h : List Event) : Type 0 where
   pub outbox : v.outbox ≡ put h
   pub places : v.places ≡ map (λ c. c.index) (events.calls h)
   pub done : v.done ≡ events.done h
-  pub failed : v.failed ≡ is_failed h
+  pub writer : v.writer ≡ writer h
 
 -- the core with one more message in the outbox, and the call that waits for its reply, if it expects one
 abbrev pub placed : Bool → View → Seen → ℕ → View
@@ -230,7 +309,7 @@ Issues old new parcel h (Ok issued) =
     IsNext (pending h) (last_serial h) issued.serial
     × AreWritable parcel
     × (length (message_of parcel issued.serial).bytes ≤ 134217728)
-    × (is_failed h ≡ false)
+    × (writer h ≡ writers.Fine)
     × (issued.index ≡ length (put h)) × (issued.call ≡ call_number (expects (Ok parcel)) (length (events.calls h)))
     × Left new (Put (message_of parcel issued.serial) (expects (Ok parcel)) ∷ h)
 -- each serial is pending
@@ -245,14 +324,18 @@ Issues old new parcel h (Err errors.ExcessData) =
 -- else, an earlier write failed
 Issues old new parcel h (Err (errors.InputOutput kinds.WriteFault)) =
     (serial : ℕ) × IsNext (pending h) (last_serial h) serial × AreWritable parcel
-    × (length (message_of parcel serial).bytes ≤ 134217728) × (is_failed h ≡ true) × (new ≡ old)
+    × (length (message_of parcel serial).bytes ≤ 134217728) × (writer h ≡ writers.Failed) × (new ≡ old)
+-- else, the peer was closed before
+Issues old new parcel h (Err (errors.InputOutput kinds.Closed)) =
+    (serial : ℕ) × IsNext (pending h) (last_serial h) serial × AreWritable parcel
+    × (length (message_of parcel serial).bytes ≤ 134217728) × (writer h ≡ writers.Closed) × (new ≡ old)
 Issues old new parcel h (Err errors.Memory) = new ≡ old
 Issues old new parcel h (Err error) = ⊥
 
--- A message that was issued waits at the end of the outbox, and no write failed.
+-- A message that was issued waits at the end of the outbox, and no write failed, nor was the peer closed.
 abbrev pub Waits : View → View → Issued → Type 0
 Waits old new issued =
-    (issued.index ≡ length old.outbox) × (issued.index < length new.outbox) × (new.done ≡ old.done) × (old.failed ≡ false) × (new.failed ≡ false)
+    (issued.index ≡ length old.outbox) × (issued.index < length new.outbox) × (new.done ≡ old.done) × (old.writer ≡ writers.Fine) × (new.writer ≡ writers.Fine)
 
 -- What cloning the stream with this number gives: the next number, where it is open; a stream that isn't is unknown. An error
 -- changes nothing.
@@ -261,3 +344,11 @@ Clones old new k h (Ok stream) = (is_open h k ≡ true) × (stream.number ≡ le
 Clones old new k h (Err errors.UnknownHandle) = (is_open h k ≡ false) × (new ≡ old)
 Clones old new k h (Err errors.Memory) = new ≡ old
 Clones old new k h (Err error) = ⊥
+
+-- What opening a stream of this rule gives: the next number, on an open peer; on a closed one there is none. An error changes
+-- nothing.
+abbrev pub OpensRule : View → View → Rule → Option ℕ → List Event → Result MessageStream Error → Type 0
+OpensRule old new rule asked h (Ok stream) = (events.closing h ≡ None) × (stream.number ≡ length (streams h)) × Left new (Made (Ruled rule asked) ∷ h)
+OpensRule old new rule asked h (Err (errors.InputOutput kinds.Closed)) = IsSome (events.closing h) × (new ≡ old)
+OpensRule old new rule asked h (Err errors.Memory) = new ≡ old
+OpensRule old new rule asked h (Err error) = ⊥

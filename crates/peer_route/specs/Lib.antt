@@ -2,6 +2,7 @@ pub mod Hex
 pub mod BodyWord
 pub mod Parcel
 pub mod CallMessage
+pub mod Rules
 pub mod History
 pub mod Streams
 pub mod Trail

@@ -3,6 +3,7 @@ use Rattle.std.specs.Prelude.{ℕ, ⊤, ◌≡◌, ◌==◌, ◌<◌, ◌&&◌, 
 use Rattle.wire_message.specs.Front.{Seen}
 use Rattle.wire_message.specs.declared.error.Error.{Error}
 use Rattle.wire_message.specs.declared.error.Error.TheVariants as errors
+use Rattle.rule_match.specs.Rule.{Rule}
 use Rattle.peer_route.specs.declared.words.Words.{Words}
 use Rattle.peer_route.specs.declared.words.Words.TheVariants as words
 use Rattle.peer_route.specs.declared.answer.Answer.{Answer}
@@ -10,7 +11,7 @@ use Rattle.peer_route.specs.declared.answer.Answer.TheVariants as answers
 use Rattle.peer_route.specs.declared.answer.Entry.{Entry}
 use Rattle.peer_route.specs.Parcel.{Setting, Asked, message_of}
 use Rattle.peer_route.specs.History.{Event, read, closing}
-use Rattle.peer_route.specs.Streams.{Stream, streams, held, main}
+use Rattle.peer_route.specs.Streams.{Stream, streams, accepted, held, rule_of, limit_of}
 use Rattle.peer_route.specs.Trail.{Trail, place, asks, trail}
 
 -- ---- streams
@@ -30,10 +31,12 @@ is_take number (words.Poll n) = false
 is_take number (words.Before n before) = false
 is_take number (words.Drop n) = false
 is_take number words.Stream = false
+is_take number (words.Open max_queued rule) = false
 is_take number (words.Clone n) = false
 is_take number (words.Unstream n second) = false
 is_take number (words.Queue n limit) = false
 is_take number (words.MainQueue limit) = false
+is_take number words.Close = false
 
 abbrev pub item_by : Bool → Answer → List ℕ
 item_by true (answers.Item position) = position ∷ []
@@ -44,15 +47,16 @@ abbrev pub items_given : ℕ → ℕ → List Entry → List ℕ
 items_given lane number [] = []
 items_given lane number (e ∷ es) = items_given lane number es ++ item_by ((e.lane == lane) && is_take number e.words) e.answer
 
--- The entry made the lane's stream with this number, which had `begun` to offer then. What it gave since, and behind that
--- what it didn't give, are the positions of those messages and of all that were read since, in order.
-pub record Yields (setting : Setting) (newer : List Entry) (e : Entry) (older : List Entry) (number : ℕ) (begun : List Seen) : Type 0 where
+-- The entry made the lane's stream with this number, of this rule or without one, which had `begun` to offer then. What it gave
+-- since, and behind that what it didn't give, are the positions of those messages and of all that were read since and that the
+-- rule accepts, in order.
+pub record Yields (setting : Setting) (newer : List Entry) (e : Entry) (older : List Entry) (number : ℕ) (rule : Option Rule) (begun : List Seen) : Type 0 where
   pub k : ℕ
   pub stream : Stream
   pub named : place 0 e.lane number (trail setting (newer ++ e ∷ older)).streams ≡ Some k
   pub made : slice_get (streams (trail setting (newer ++ e ∷ older)).events) k ≡ Some stream
   pub items : items_given e.lane number newer ++ positions (held (trail setting (newer ++ e ∷ older)).events stream)
-      ≡ positions (begun ++ drop (length (read (trail setting older).events)) (read (trail setting (newer ++ e ∷ older)).events))
+      ≡ positions (begun ++ accepted rule (drop (length (read (trail setting older).events)) (read (trail setting (newer ++ e ∷ older)).events)))
 
 abbrev pub held_by : List Event → Option Stream → List Seen
 held_by h None = []
@@ -65,6 +69,14 @@ held_in h (Some k) = held_by h (slice_get (streams h) k)
 -- what the lane's stream with this number holds
 abbrev pub holds : Trail → ℕ → ℕ → List Seen
 holds t lane number = held_in t.events (place 0 lane number t.streams)
+
+abbrev pub rule_in : List Event → Option ℕ → Option Rule
+rule_in h None = None
+rule_in h (Some k) = rule_of (slice_get (streams h) k)
+
+-- its rule, where it has one
+abbrev pub rule_at : Trail → ℕ → ℕ → Option Rule
+rule_at t lane number = rule_in t.events (place 0 lane number t.streams)
 
 -- the command takes from the lane's stream with this number, by position or not
 abbrev pub IsTake : ℕ → Words → Type 0
@@ -92,7 +104,9 @@ names_stream number (words.Poll n) = false
 names_stream number (words.Before n before) = false
 names_stream number (words.Drop n) = false
 names_stream number words.Stream = false
+names_stream number (words.Open max_queued rule) = false
 names_stream number (words.MainQueue limit) = false
+names_stream number words.Close = false
 
 -- the command closes the lane's stream with this number
 abbrev pub closes_stream : ℕ → Words → Bool
@@ -127,7 +141,7 @@ pub record HoldsTooMany (h : List Event) : Type 0 where
   pub stream : Stream
   pub made : slice_get (streams h) k ≡ Some stream
   pub still : stream.gone ≡ false
-  pub over : main h < length (held h stream)
+  pub over : limit_of h stream.rule < length (held h stream)
 
 -- ---- what was sent
 

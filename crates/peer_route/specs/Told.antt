@@ -54,12 +54,14 @@ ReadTold stop bytes h closed (words.Poll number) answer = ⊤
 ReadTold stop bytes h closed (words.Before number before) answer = ⊤
 ReadTold stop bytes h closed (words.Drop number) answer = ⊤
 ReadTold stop bytes h closed words.Stream answer = ⊤
+ReadTold stop bytes h closed (words.Open max_queued rule) answer = ⊤
 ReadTold stop bytes h closed (words.Take number) answer = ⊤
 ReadTold stop bytes h closed (words.TakeBefore number before) answer = ⊤
 ReadTold stop bytes h closed (words.Clone number) answer = ⊤
 ReadTold stop bytes h closed (words.Unstream number second) answer = ⊤
 ReadTold stop bytes h closed (words.Queue number limit) answer = ⊤
 ReadTold stop bytes h closed (words.MainQueue limit) answer = ⊤
+ReadTold stop bytes h closed words.Close answer = ⊤
 
 -- Each read of an open peer that isn't busy is what stands at the front of the bytes that the reads before it left.
 abbrev pub ReadsTold : Setting → Option Bool → List ℕ → List Entry → Type 0
@@ -68,6 +70,16 @@ ReadsTold setting stop bytes (e ∷ es) =
     ReadTold stop bytes (trail setting es).events (closing (trail setting es).events) e.words e.answer × ReadsTold setting stop bytes es
 
 -- ---- the sink
+
+-- A sink that says where its room ends, or that no write fails, never fails to close.
+abbrev pub CloseTold : Option (Option ℕ) → Words → Answer → Type 0
+CloseTold None w answer = ⊤
+CloseTold (Some room) words.Close answer = answer ≡ answers.Shut
+CloseTold (Some room) w answer = ⊤
+
+abbrev pub ClosesTold : Option (Option ℕ) → List Entry → Type 0
+ClosesTold room [] = ⊤
+ClosesTold room (e ∷ es) = CloseTold room e.words e.answer × ClosesTold room es
 
 -- What the sink got of what was put: all of it; after a failed write all but the last message, and of that a proper prefix.
 abbrev pub IsSentBytes : Bool → List Seen → List ℕ → Type 0

@@ -1,8 +1,12 @@
 -- What entries are as events, and what a lane's numbers name.
-use Rattle.std.specs.Prelude.{ℕ, zero, suc, ◌+◌, ◌==◌, Bool, true, false, if◌then◌else◌, List, [], ◌∷◌, ◌++◌, slice_get, Option, Some, None, Ok, Err}
+use Rattle.std.specs.Prelude.{ℕ, zero, suc, ◌+◌, ◌==◌, Bool, true, false, if◌then◌else◌, List, [], ◌∷◌, ◌++◌, slice_get, Option, Some, None, Result, Ok, Err}
 use Rattle.wire_message.specs.Circle.{serial_after}
 use Rattle.wire_message.specs.Front.{Seen}
 use Rattle.wire_message.specs.declared.error.Error.{Error}
+use Rattle.wire_message.specs.declared.error.Error.TheVariants as errors
+use Rattle.wire_message.specs.declared.error.IoKind.TheVariants as kinds
+use Rattle.rule_match.specs.Rule.{Rule}
+use Rattle.rule_match.specs.Bytes.{rule_in_bytes}
 use Rattle.peer_route.specs.declared.words.Words.{Words}
 use Rattle.peer_route.specs.declared.words.Words.TheVariants as words
 use Rattle.peer_route.specs.declared.answer.Answer.{Answer}
@@ -10,7 +14,9 @@ use Rattle.peer_route.specs.declared.answer.Answer.TheVariants as answers
 use Rattle.peer_route.specs.declared.answer.Entry.{Entry}
 use Rattle.peer_route.specs.Parcel.{Setting, Asked, message_of}
 use Rattle.peer_route.specs.CallMessage.{expects, call_asked, signal_asked, reply_asked, error_asked}
-use Rattle.peer_route.specs.History.{Event, Took, Shut, Put, Wrote, Fault, Spent, Made, Plain, Cloned, Did, Gave, Told, Gone, Main, closing, is_failed, last_serial, pending}
+use Rattle.peer_route.specs.declared.writer.Writer.{Writer}
+use Rattle.peer_route.specs.declared.writer.Writer.TheVariants as writers
+use Rattle.peer_route.specs.History.{Event, Took, Shut, Put, Wrote, Fault, Spent, Made, Plain, Ruled, Cloned, Did, Gave, Told, Gone, Main, closing, writer, last_serial, pending}
 use Rattle.peer_route.specs.History as deeds
 use Rattle.peer_route.specs.Streams.{Stream, streams, gave_last}
 
@@ -90,29 +96,32 @@ asks_with setting given (words.Poll number) = None
 asks_with setting given (words.Before number before) = None
 asks_with setting given (words.Drop number) = None
 asks_with setting given words.Stream = None
+asks_with setting given (words.Open max_queued rule) = None
 asks_with setting given (words.Take number) = None
 asks_with setting given (words.TakeBefore number before) = None
 asks_with setting given (words.Clone number) = None
 asks_with setting given (words.Unstream number second) = None
 asks_with setting given (words.Queue number limit) = None
 asks_with setting given (words.MainQueue limit) = None
+asks_with setting given words.Close = None
 
 abbrev pub asks : Trail → ℕ → Words → Option Asked
 asks t lane w = asks_with t.setting (λ number. given t lane number) w
 
 -- ---- events of an entry
 
--- a message whose own write failed was put; one that came after a failed write was not
-abbrev pub failed_put : Bool → Event → List Event
-failed_put true put = []
-failed_put false put = Fault ∷ put ∷ []
+-- a message whose own write failed was put; one that came after a failed write, or after the peer was closed, was not
+abbrev pub failed_put : Writer → Event → List Event
+failed_put writers.Fine put = Fault ∷ put ∷ []
+failed_put writers.Failed put = []
+failed_put writers.Closed put = []
 
 -- a message that went out, with a call that waits for its reply or without one; or one that didn't
 abbrev pub send_events : List Event → Asked → Answer → List Event
 send_events h (Ok parcel) (answers.Called call serial) = Wrote ∷ Put (message_of parcel serial) true ∷ []
 send_events h (Ok parcel) (answers.Sent serial) = Wrote ∷ Put (message_of parcel serial) false ∷ []
 send_events h (Ok parcel) (answers.SendFailed error) =
-    failed_put (is_failed h) (Put (message_of parcel (or_zero (next_serial h))) (expects (Ok parcel)))
+    failed_put (writer h) (Put (message_of parcel (or_zero (next_serial h))) (expects (Ok parcel)))
 send_events h (Ok parcel) answer = []
 send_events h (Err error) answer = []
 
@@ -136,6 +145,11 @@ drop_spends k answer = []
 abbrev pub stream_makes : Answer → List Event
 stream_makes (answers.Streaming number) = Made Plain ∷ []
 stream_makes answer = []
+
+-- a stream of a rule
+abbrev pub open_makes : Result Rule Error → Option ℕ → Answer → List Event
+open_makes (Ok rule) asked (answers.Streaming number) = Made (Ruled rule asked) ∷ []
+open_makes found asked answer = []
 
 abbrev pub take_does : Option ℕ → Answer → List Event
 take_does (Some k) (answers.Item position) = Did k Gave ∷ []
@@ -163,6 +177,12 @@ abbrev pub main_sets : ℕ → Answer → List Event
 main_sets limit answers.Set = Main limit ∷ []
 main_sets limit answer = []
 
+-- The peer is closed, whatever the sink's `close` answers.
+abbrev pub close_does : Answer → List Event
+close_does answers.Shut = Shut (errors.InputOutput kinds.Closed) ∷ []
+close_does (answers.SendFailed error) = Shut (errors.InputOutput kinds.Closed) ∷ []
+close_does answer = []
+
 -- where a second number is given, what it names
 abbrev pub second_place : ℕ → Option ℕ → Names → Option ℕ
 second_place lane None names = None
@@ -180,28 +200,31 @@ events_of t lane (words.Poll number) answer = poll_spends (place 0 lane number t
 events_of t lane (words.Before number before) answer = poll_spends (place 0 lane number t.names) answer
 events_of t lane (words.Drop number) answer = drop_spends (place 0 lane number t.names) answer
 events_of t lane words.Stream answer = stream_makes answer
+events_of t lane (words.Open max_queued rule) answer = open_makes (rule_in_bytes rule) max_queued answer
 events_of t lane (words.Take number) answer = take_does (place 0 lane number t.streams) answer
 events_of t lane (words.TakeBefore number before) answer = take_does (place 0 lane number t.streams) answer
 events_of t lane (words.Clone number) answer = clone_makes (place 0 lane number t.streams) answer
 events_of t lane (words.Unstream number second) answer = unstream_does (place 0 lane number t.streams) (second_place lane second t.streams) answer
 events_of t lane (words.Queue number limit) answer = queue_does (place 0 lane number t.streams) limit answer
 events_of t lane (words.MainQueue limit) answer = main_sets limit answer
+events_of t lane words.Close answer = close_does answer
 
 -- the command sends a call that waits for a reply
 abbrev pub wants_reply : Option Asked → Bool
 wants_reply None = false
 wants_reply (Some asked) = expects asked
 
--- a call whose own write failed is nobody's; one that waits for no reply is no call, and one after a failed write neither
-abbrev pub failed_name : Bool → Bool → Names
-failed_name true wants = []
-failed_name false true = None ∷ []
-failed_name false false = []
+-- a call whose own write failed is nobody's; one that waits for no reply is no call, and one that wasn't put neither
+abbrev pub failed_name : Writer → Bool → Names
+failed_name writers.Fine true = None ∷ []
+failed_name writers.Fine false = []
+failed_name writers.Failed wants = []
+failed_name writers.Closed wants = []
 
 -- the call that an entry made, and its lane
 abbrev pub new_names : List Event → ℕ → Option Asked → Answer → Names
 new_names h lane asked (answers.Called call serial) = Some lane ∷ []
-new_names h lane asked (answers.SendFailed error) = failed_name (is_failed h) (wants_reply asked)
+new_names h lane asked (answers.SendFailed error) = failed_name (writer h) (wants_reply asked)
 new_names h lane asked answer = []
 
 -- the stream that an entry made, and its lane

@@ -42,6 +42,8 @@ pub enum Answer {
     Gone,
     /// The capacity is set, or asked for.
     Set,
+    /// The peer is closed.
+    Shut,
 }
 
 /// One entry of a history: a lane's command and its answer.

@@ -1,19 +1,23 @@
 //! Laws of every history, each the contract of a function that does nothing.
-ghost use Rattle.std.specs.Prelude.{◌≡◌, ◌≢◌, ◌⊎◌, ℕ, max, List, Option, [], ◌∷◌, ◌++◌, IfSome, Some, None, true, false, slice_get};
+ghost use Rattle.std.specs.Prelude.{◌≡◌, ◌≢◌, ◌⊎◌, ◌<◌, ℕ, max, length, List, Option, [], ◌∷◌, ◌++◌, IfSome, Some, None, Ok, true, false, slice_get};
 ghost use Rattle.std.specs.List.{AllByRecursion};
 ghost use Rattle.wire_message.specs.Front.{Seen};
 ghost use Rattle.wire_message.specs.declared.error.Error.{Error};
 ghost use Rattle.peer_route.specs.declared.answer.Entry.{Entry};
-ghost use Rattle.peer_route.specs.History.{Event, Took, Spent, Did, Main, Deed, Asked, calls, closing, is_failed, is_serial, pending, poll_answer, put};
-ghost use Rattle.peer_route.specs.Streams.{main, take_answer};
+ghost use Rattle.peer_route.specs.History.{Event, Took, Spent, Made, Ruled, Did, Main, Deed, Asked, calls, closing, is_failed, writer, is_serial, pending, poll_answer, put};
+ghost use Rattle.rule_match.specs.Rule.{Rule};
+ghost use Rattle.rule_match.specs.Bytes.{rule_in_bytes};
+ghost use Rattle.peer_route.specs.Rules.{usual};
+ghost use Rattle.peer_route.specs.Streams.{Stream, streams, main, rule_limit, is_subscribed, asked_or, raised, limit_answer, take_answer};
 ghost use Rattle.peer_route.specs.Parcel.{Setting};
 ghost use Rattle.peer_route.specs.Trail.{trail};
 ghost use Rattle.peer_route.specs.Answers.{Legal};
-ghost use Rattle.peer_route.specs.StreamLaws.{Yields, holds, closes_stream, IsNoStream, IsTake, IsEnded, IsLast, IsDrained, HoldsTooMany, IsPutOf, all_sent};
+ghost use Rattle.peer_route.specs.StreamLaws.{Yields, holds, rule_at, closes_stream, IsNoStream, IsTake, IsEnded, IsLast, IsDrained, HoldsTooMany, IsPutOf, all_sent};
 ghost use Rattle.peer_route.specs.Laws.{IsPoll, IsFinal, IsReplyAt, IsUnknown, IsFirstReply, IsCutOff, IsPast, SamePoll, IsByPosition, IsNothingYet};
 
 use crate::answer::Answer;
 use crate::words::Words;
+use crate::writer::Writer;
 
 /// A call is answered once. Once a lane's poll of a number, by position or not, gave a reply, valid or not, or the closing
 /// error, each later poll or drop of that number by that lane is refused, as of a call that was never made. Histories are
@@ -57,14 +61,21 @@ pub fn spent_changes_no_other()
 /// that the lane's takes of its number gave since, and behind them those of the messages that it holds, are the positions of
 /// all messages that were read since, in order: none is missed, given twice, or taken from before it was made.
 pub fn stream_gives_all()
-    ensures { (setting : Setting) (newer : List Entry) (e : Entry) (older : List Entry) (number : ℕ) → Legal setting (newer ++ e ∷ older) → e.words ≡ Words.Stream → e.answer ≡ Answer.Streaming number → Yields setting newer e older number [] }
+    ensures { (setting : Setting) (newer : List Entry) (e : Entry) (older : List Entry) (number : ℕ) → Legal setting (newer ++ e ∷ older) → e.words ≡ Words.Stream → e.answer ≡ Answer.Streaming number → Yields setting newer e older number None [] }
 {}
 
-/// A clone gives what its original held when it was made, and then exactly what was read since: nothing is missed, or given
-/// twice by it, whatever the original gives or whether it is closed.
+/// A stream of a rule gives exactly what was read since it was made and what its rule accepts, in order: no such message is
+/// missed, given twice, or taken from before it was made, and no other is given (D-Bus Specification, "Match Rules").
+pub fn rule_stream_gives_what_it_accepts()
+    ensures { (setting : Setting) (newer : List Entry) (e : Entry) (older : List Entry) (number : ℕ) (asked : Option ℕ) (text : List ℕ) (rule : Rule) → Legal setting (newer ++ e ∷ older) → e.words ≡ Words.Open asked text
+        → rule_in_bytes text ≡ Ok rule → e.answer ≡ Answer.Streaming number → Yields setting newer e older number (Some rule) [] }
+{}
+
+/// A clone gives what its original held when it was made, and then exactly what was read since and what the original's rule
+/// accepts: nothing is missed, or given twice by it, whatever the original gives or whether it is closed.
 pub fn clone_goes_on_where_its_original_is()
     ensures { (setting : Setting) (newer : List Entry) (e : Entry) (older : List Entry) (number original : ℕ) → Legal setting (newer ++ e ∷ older) → e.words ≡ Words.Clone original → e.answer ≡ Answer.Streaming number
-        → Yields setting newer e older number (holds (trail setting older) e.lane original) }
+        → Yields setting newer e older number (rule_at (trail setting older) e.lane original) (holds (trail setting older) e.lane original) }
 {}
 
 /// A stream that was closed is unknown from then on: each later command of that lane that names its number is refused, whatever
@@ -79,13 +90,43 @@ pub fn stream_changes_no_other()
     ensures { (h : List Event) (j k : ℕ) (deed : Deed) → j ≢ k → take_answer (Did j deed ∷ h) k ≡ take_answer h k }
 {}
 
-/// A capacity that is set, or asked for, throws nothing away: each stream gives what it gave. One that is set is just that one;
-/// one that is asked for raises it, and is passed over where it is smaller.
+/// A capacity that is set, or asked for, throws nothing away: each stream gives what it gave.
 pub fn capacity_throws_nothing_away()
     ensures set { (h : List Event) (limit k : ℕ) → take_answer (Main limit ∷ h) k ≡ take_answer h k }
     ensures asked { (h : List Event) (limit j k : ℕ) → take_answer (Did j (Asked limit) ∷ h) k ≡ take_answer h k }
+    ensures opened { (h : List Event) (rule : Rule) (asked : Option ℕ) (k : ℕ) → k < length (streams h) → take_answer (Made (Ruled rule asked) ∷ h) k ≡ take_answer h k }
+{}
+
+/// The main capacity, which streams without a rule share, is just what it is set to. One of them that asks for more raises it; a
+/// smaller request is passed over, and one of a stream with a rule.
+pub fn main_capacity()
     ensures exact { (h : List Event) (limit : ℕ) → main (Main limit ∷ h) ≡ limit }
-    ensures raised { (h : List Event) (limit j : ℕ) → main (Did j (Asked limit) ∷ h) ≡ max (main h) limit }
+    ensures raised { (h : List Event) (limit j : ℕ) (s : Stream) → slice_get (streams h) j ≡ Some s → s.rule ≡ None → main (Did j (Asked limit) ∷ h) ≡ max (main h) limit }
+    ensures kept { (h : List Event) (limit j : ℕ) (s : Stream) (rule : Rule) → slice_get (streams h) j ≡ Some s → s.rule ≡ Some rule → main (Did j (Asked limit) ∷ h) ≡ main h }
+{}
+
+/// All open streams of one rule share one capacity. The rule's first stream gives it the one that is asked for, or 8 for the
+/// rule of an owner's changes, else 64; a later one of the rule that asks for more raises it, and a smaller request is passed
+/// over. What is asked for by another rule's stream, or is set for streams without a rule, changes nothing of it.
+pub fn rule_capacity()
+    ensures one { (h : List Event) (j k : ℕ) (s t : Stream) → slice_get (streams h) j ≡ Some s → slice_get (streams h) k ≡ Some t → s.gone ≡ false → t.gone ≡ false → s.rule ≡ t.rule → limit_answer h j ≡ limit_answer h k }
+    ensures first { (h : List Event) (rule : Rule) (asked : Option ℕ) → is_subscribed h rule ≡ false → rule_limit rule (Made (Ruled rule asked) ∷ h) ≡ asked_or asked (usual rule) }
+    ensures later { (h : List Event) (rule : Rule) (asked : Option ℕ) → is_subscribed h rule ≡ true → rule_limit rule (Made (Ruled rule asked) ∷ h) ≡ raised asked (rule_limit rule h) }
+    ensures asked { (h : List Event) (limit j : ℕ) (s : Stream) (rule : Rule) → slice_get (streams h) j ≡ Some s → s.rule ≡ Some rule → rule_limit rule (Did j (Asked limit) ∷ h) ≡ max (rule_limit rule h) limit }
+    ensures other { (h : List Event) (rule another : Rule) (asked : Option ℕ) → rule ≢ another → rule_limit rule (Made (Ruled another asked) ∷ h) ≡ rule_limit rule h }
+    ensures set { (h : List Event) (rule : Rule) (limit : ℕ) → rule_limit rule (Main limit ∷ h) ≡ rule_limit rule h }
+{}
+
+/// The first cause stays, whatever comes: the error that closed the peer, and what became of its writer.
+pub fn first_cause_stays()
+    ensures closing { (h newer : List Event) (error : Error) → closing h ≡ Some error → closing (newer ++ h) ≡ Some error }
+    ensures writer { (h newer : List Event) → writer h ≢ Writer.Fine → writer (newer ++ h) ≡ writer h }
+{}
+
+/// Once a peer was closed nothing is put any more, and no write fails.
+pub fn nothing_is_put_after_closing()
+    ensures { (setting : Setting) (newer : List Entry) (e : Entry) (older : List Entry) → Legal setting (newer ++ e ∷ older) → e.words ≡ Words.Close
+        → (put (trail setting (newer ++ e ∷ older)).events ≡ put (trail setting older).events) × (is_failed (trail setting (newer ++ e ∷ older)).events ≡ is_failed (trail setting older).events) }
 {}
 
 /// A stream ends once and for good. Once a lane's take of a number gave the closing error, or said that the stream is over,

@@ -6,14 +6,18 @@ mod body_word;
 mod calls;
 mod hex;
 mod laws;
+mod owner_rule;
 mod polled;
+mod queue;
 mod route;
+mod route_streams;
 mod streams;
 #[cfg(test)]
 mod tests;
 #[cfg(test)]
 mod told;
 mod words;
+mod writer;
 
 pub use answer::{Answer, Entry};
 pub use body_word::{body_words_are_read, read_body};
@@ -22,8 +26,10 @@ pub use hex::{hex_byte, read_hex};
 pub use laws::{
     answered_by_the_closing_error, answered_by_the_first, answered_once,
     busy_where_a_stream_is_full, capacity_throws_nothing_away, clone_goes_on_where_its_original_is,
-    dropped_for_good, none_before_is_by_position, put_is_what_was_sent, refused_changes_nothing,
-    reply_changes_no_other, spent_changes_no_other, stream_after_closing_is_over,
+    dropped_for_good, first_cause_stays, main_capacity, none_before_is_by_position,
+    nothing_is_put_after_closing, put_is_what_was_sent, refused_changes_nothing,
+    reply_changes_no_other, rule_capacity, rule_stream_gives_what_it_accepts,
+    spent_changes_no_other, stream_after_closing_is_over,
     stream_changes_no_other, stream_closed_for_good, stream_ends_once, stream_gives_all,
     stream_gives_the_first_error,
 };
@@ -31,3 +37,4 @@ pub use polled::Polled;
 pub use route::{Issued, Route};
 pub use streams::MessageStream;
 pub use words::{CallFlags, Command, Outgoing, Words};
+pub use writer::Writer;

@@ -1,17 +1,18 @@
-ghost use Rattle.std.specs.Prelude.{ℕ, ◌≡◌, ◌+◌, ◌<◌, ◌≤◌, ◌^◌, ◌-◌, ◌==◌, [], ◌∷◌, ◌++◌, List, length, position, slice_get, option_copied, option_map, Some, None, Ok, Err, true, false, IfOk, IfErr, OnOk, OnErr};
+ghost use Rattle.std.specs.Prelude.{ℕ, ◌≡◌, ◌≢◌, ◌↔◌, IsTrue, ◌+◌, ◌<◌, ◌≤◌, ◌^◌, ◌-◌, ◌==◌, [], ◌∷◌, ◌++◌, List, length, position, slice_get, option_copied, option_map, Some, None, Ok, Err, true, false, IfOk, IfErr, OnOk, OnErr};
 ghost use Rattle.std.specs.Borrow.{sem};
 ghost use Rattle.peer_route.specs.Lending.{LendsCalls};
-ghost use Rattle.peer_route.specs.History.{Event, Took, Shut, Put, Wrote, Fault, Made, Plain, Main, poll_answer, poll_events, drop_answer, drop_events};
+ghost use Rattle.peer_route.specs.History.{Event, Took, Shut, Put, Wrote, Fault, poll_answer, poll_events, drop_answer, drop_events};
 ghost use Rattle.peer_route.specs.History as history;
-ghost use Rattle.peer_route.specs.Streams.{busy, main, take_answer, take_events, next_position, is_over, are_open, close_answer, close_events, ask_answer, ask_events, limit_answer};
+ghost use Rattle.peer_route.specs.Streams.{busy};
 ghost use Rattle.peer_route.specs.CallMessage.{expects_reply};
-ghost use Rattle.peer_route.specs.Left.{Waits, is_busy, View, Left, Clones, Issues, Places, placed, waiting_serial};
+ghost use Rattle.peer_route.specs.Left.{Waits, is_busy, View, Left, Issues, Places, placed, waiting_serial};
 ghost use Rattle.wire_message.specs.Front.{Seen};
 ghost use Rattle.wire_message.specs.Closing.{closes};
 
 use crate::calls::PendingMethodCalls;
-use crate::polled::{Polled, by_position};
-use crate::streams::{MessageStream, Streams};
+use crate::polled::Polled;
+use crate::streams::Streams;
+use crate::writer::Writer;
 use bitflags::Flags as _;
 use std::alloc::{AllocError, AllocFailed, Global};
 use std::marker::Model;
@@ -39,17 +40,17 @@ pub struct Issued {
 #[derive(Drop)]
 pub struct Route {
     alloc: Global,
-    calls: PendingMethodCalls,
-    streams: Streams,
-    /// How many messages a stream may hold before reads wait.
-    main: u64,
+    pub(crate) calls: PendingMethodCalls,
+    pub(crate) streams: Streams,
+    /// How many messages a stream without a rule may hold before reads wait.
+    pub(crate) main: u64,
     received: u64,
     serials: Serials,
     outbox: Vec<Message>,
     /// For each call, by its number, the place of its message in the outbox.
     places: Vec<u64>,
     done: u64,
-    failed: bool,
+    writer: Writer,
 }
 
 impl Model for Route {
@@ -57,7 +58,7 @@ impl Model for Route {
 
     ghost Value = { View };
 
-    ghost view = { λ r. record { calls = r.calls; streams = r.streams; main = r.main; read = r.received; last = r.serials; outbox = r.outbox.items; places = r.places.items; done = r.done; failed = r.failed } };
+    ghost view = { λ r. record { calls = r.calls; streams = r.streams; main = r.main; read = r.received; last = r.serials; outbox = r.outbox.items; places = r.places.items; done = r.done; writer = r.writer } };
 }
 
 /// The number of the call whose message has this place in the outbox.
@@ -78,13 +79,6 @@ fn expects_reply(message: &Message) -> bool
     }
 }
 
-/// The stream's number, where there is one.
-fn number_of(stream: Option<MessageStream>) -> Option<u64>
-    ensures { result ≡ option_map (λ s. s.number) stream }
-{
-    stream.map(|stream| stream.number)
-}
-
 impl Route {
     /// A peer that nothing happened to.
     pub fn new(alloc: Global) -> Route
@@ -100,7 +94,7 @@ impl Route {
             outbox: Vec::new(alloc),
             places: Vec::new(alloc),
             done: 0,
-            failed: false,
+            writer: Writer::Fine,
         }
     }
 
@@ -112,8 +106,9 @@ impl Route {
     ///
     /// The first that holds: SerialsSpent exactly where each of the 4,294,967,295 serials is pending; Variant of `Depth` exactly
     /// where a value opens more than 64 containers at once; ExcessData exactly where the elements of an array would take more
-    /// than 67,108,864 bytes, or the message more than 134,217,728; InputOutput(WriteFault) exactly where a write failed. An
-    /// error changes nothing, and draws no serial.
+    /// than 67,108,864 bytes, or the message more than 134,217,728; InputOutput(WriteFault) exactly where a write failed before
+    /// the peer was closed, InputOutput(Closed) exactly where it was closed before. An error changes nothing, and draws no
+    /// serial.
     pub fn issue(&mut self, builder: Builder<'_>, body: &Body, fds: &[u32]) -> Result<Issued>
         requires { length fds.now < 2 ^ 32 }
         ensures issues { (h : List Event) → Left self.old h → Issues self.old self.new (record { draft = builder.entry; values = body.now; fds = fds.now }) h result }
@@ -123,10 +118,11 @@ impl Route {
         let message = builder
             .without_serial()
             .build_body_uncounted(self.alloc, &mut serials, &self.calls, body, fds)?;
-        if self.failed {
-            return Err(Error::InputOutput(IoKind::WriteFault));
+        match self.writer {
+            Writer::Fine => self.place(message, serials),
+            Writer::Failed => Err(Error::InputOutput(IoKind::WriteFault)),
+            Writer::Closed => Err(Error::InputOutput(IoKind::Closed)),
         }
-        self.place(message, serials)
     }
 
     /// Puts a message in the outbox, and makes the call that waits for its reply, if it expects one. The message's serial isn't
@@ -215,155 +211,14 @@ impl Route {
         self.calls.closing().is_none() && self.streams.is_over(self.main)
     }
 
-    /// Opens a stream of all messages that are read from now on. One that is opened on a closed peer is ended. Want of memory
-    /// changes nothing.
-    pub fn open(&mut self) -> std::result::Result<MessageStream, AllocError>
-        ensures number { IfOk result (λ s. s.number ≡ length self.old.streams) }
-        ensures left { OnOk result ((h : List Event) → Left self.old h → Left self.new (Made Plain ∷ h)) }
-        ensures same { OnErr result (self.new ≡ self.old) }
-    {
-        let told = self.calls.closing().is_some();
-        let number = self.streams.open(told)?;
-        Ok(MessageStream { number })
-    }
-
-    /// Opens a stream that goes on where that one is: it holds what that holds now, and tells the closing error unless that
-    /// told it.
-    ///
-    /// # Errors
-    ///
-    /// UnknownHandle exactly where that stream isn't open; Memory. An error changes nothing.
-    pub fn clone_stream(&mut self, stream: &MessageStream) -> Result<MessageStream>
-        ensures { (h : List Event) → Left self.old h → Clones self.old self.new stream.now.number h result }
-    {
-        let number = self.streams.open_clone(stream.number)?;
-        Ok(MessageStream { number })
-    }
-
-    /// Whether the stream with this number is open, and the second, where there is one, and they are two.
-    fn are_open(&self, stream: u64, second: Option<u64>) -> bool
-        ensures { (h : List Event) → Left self.now h → result ≡ are_open h stream second }
-    {
-        match second {
-            Some(other) => self.streams.are_two(stream, other),
-            None => self.streams.is_open(stream),
-        }
-    }
-
-    /// Closes the stream, and then the second, in one step; what they hold goes away. Takes no memory.
-    ///
-    /// # Errors
-    ///
-    /// UnknownHandle exactly where one of them isn't open, or they are one. An error changes nothing.
-    pub fn close_stream(
-        &mut self,
-        stream: MessageStream,
-        second: Option<MessageStream>,
-    ) -> Result<()>
-        ensures answer { (h : List Event) → Left self.old h → result ≡ close_answer h stream.number (option_map (λ s. s.number) second) }
-        ensures left { (h : List Event) → Left self.old h → Left self.new (close_events stream.number (option_map (λ s. s.number) second) result ++ h) }
-    {
-        let MessageStream { number } = stream;
-        let other = number_of(second);
-        if !self.are_open(number, other) {
-            return Err(Error::UnknownHandle);
-        }
-        self.streams.end(number);
-        if let Some(other) = other {
-            self.streams.end(other);
-        }
-        Ok(())
-    }
-
-    /// How many messages the stream may hold before reads wait.
-    ///
-    /// # Errors
-    ///
-    /// UnknownHandle exactly where it isn't open.
-    pub fn max_queued(&self, stream: &MessageStream) -> Result<u64>
-        ensures { (h : List Event) → Left self.now h → result ≡ limit_answer h stream.now.number }
-    {
-        if self.streams.is_open(stream.number) {
-            Ok(self.main)
-        } else {
-            Err(Error::UnknownHandle)
-        }
-    }
-
-    /// Asks that the stream may hold so many messages. A larger number raises how many a stream without a rule may hold, a
-    /// smaller one is passed over.
-    ///
-    /// # Errors
-    ///
-    /// UnknownHandle exactly where it isn't open. An error changes nothing.
-    pub fn set_max_queued(&mut self, stream: &MessageStream, max: u64) -> Result<()>
-        ensures answer { (h : List Event) → Left self.old h → result ≡ ask_answer h stream.now.number }
-        ensures left { (h : List Event) → Left self.old h → Left self.new (ask_events stream.now.number max result ++ h) }
-    {
-        if !self.streams.is_open(stream.number) {
-            return Err(Error::UnknownHandle);
-        }
-        self.main = self.main.max(max);
-        Ok(())
-    }
-
-    /// How many messages a stream without a rule may hold before reads wait: 64, until it is set or raised.
-    pub fn main_max_queued(&self) -> u64
-        ensures { (h : List Event) → Left self.now h → result ≡ main h }
-    {
-        self.main
-    }
-
-    /// Sets how many messages a stream without a rule may hold before reads wait. Nothing that is held goes away.
-    pub fn set_main_max_queued(&mut self, max: u64)
-        ensures { (h : List Event) → Left self.old h → Left self.new (Main max ∷ h) }
-    {
-        self.main = max;
-    }
-
-    /// Whether nothing comes from the stream any more: it gave all and the closing error, or it isn't open.
-    pub fn is_terminated(&self, stream: &MessageStream) -> bool
-        ensures { (h : List Event) → Left self.now h → result ≡ is_over (take_answer h stream.now.number) }
-    {
-        let closed = self.calls.closing().is_some();
-        self.streams.is_terminated(stream.number, closed)
-    }
-
-    /// What the stream gives next: the first message that it holds; else NotYet on an open peer; else the closing error
-    /// once; from then on Ended. UnknownHandle exactly where it isn't open: it was never made, or was closed. Takes no memory.
-    pub fn take(&mut self, stream: &MessageStream) -> Result<Polled<Message>>
-        ensures answer { (h : List Event) → Left self.old h → result ≡ take_answer h stream.now.number }
-        ensures left { (h : List Event) → Left self.old h → Left self.new (take_events stream.now.number result ++ h) }
-    {
-        self.streams.take(stream.number, self.calls.closing())
-    }
-
-    /// What the stream gives next as `take` gives it, but NoneBefore in place of NotYet: an item is given wherever it stands,
-    /// so the position isn't looked at. Takes no memory.
-    pub fn take_before(
-        &mut self,
-        stream: &MessageStream,
-        _before: Sequence,
-    ) -> Result<Polled<Message>>
-        ensures answer { (h : List Event) → Left self.old h → result ≡ history.by_position (take_answer h stream.now.number) }
-        ensures left { (h : List Event) → Left self.old h → Left self.new (take_events stream.now.number result ++ h) }
-    {
-        by_position(self.take(stream))
-    }
-
-    /// The position of the first message that the stream holds; None where it holds none, or isn't open.
-    pub fn next_position(&self, stream: &MessageStream) -> Option<u64>
-        ensures { (h : List Event) → Left self.now h → result ≡ next_position h stream.now.number }
-    {
-        self.streams.next_position(stream.number)
-    }
-
-    /// Closes the peer: each call without a reply is answered with the error. A later one changes nothing.
+    /// Closes the peer: each call without a reply is answered with the error, of several the first. InputOutput(Closed) closes
+    /// its writer as well, so that nothing is put any more; any other is what ended a read, and leaves the writer as it is.
     pub fn close(&mut self, error: &Error)
         requires { closes error.now ≡ true }
         ensures { (h : List Event) → Left self.old h → Left self.new (Shut error.now ∷ h) }
     {
         self.calls.fail_all(error);
+        self.writer = self.writer.then(Writer::of(error));
     }
 
     /// The answer of the call with this number, as `PendingMethodCalls::poll`.
@@ -440,18 +295,18 @@ impl Route {
         self.done
     }
 
-    /// Whether a write failed.
+    /// Whether a write failed, and the peer wasn't closed before.
     pub fn is_failed(&self) -> bool
-        ensures { result ≡ self.now.failed }
+        ensures { IsTrue result ↔ (self.now.writer ≡ Writer.Failed) }
     {
-        self.failed
+        matches!(self.writer, Writer::Failed)
     }
 
-    /// The message at this place, the first that isn't done, was written.
+    /// The message at this place, the first that isn't done, was written; no write failed before.
     pub fn wrote(&mut self, index: u64)
         requires first { index ≡ self.old.done }
         requires there { index < length self.old.outbox }
-        requires fine { self.old.failed ≡ false }
+        requires unfailed { self.old.writer ≢ Writer.Failed }
         ensures { (h : List Event) → Left self.old h → Left self.new (Wrote ∷ h) }
     {
         self.done += 1;
@@ -465,7 +320,7 @@ impl Route {
         ensures { (h : List Event) → Left self.old h → Left self.new (Fault ∷ h) }
     {
         self.done += 1;
-        self.failed = true;
+        self.writer = self.writer.then(Writer::Failed);
         if let Some(call) = call_at(&self.places, index) {
             self.calls.lose(call);
         }

@@ -1,14 +1,18 @@
-ghost use Rattle.std.specs.Prelude.{ℕ, ◌≡◌, ◌+◌, ◌<◌, ◌≤◌, ◌++◌, ◌∷◌, ◌&&◌, ◌==◌, not, [], List, length, Option, Some, None, OnOk, OnErr, IfOk, map, option_map, is_some, nat_lt};
+ghost use Rattle.std.specs.Prelude.{ℕ, ◌≡◌, ◌+◌, ◌<◌, ◌≤◌, ◌++◌, ◌∷◌, ◌&&◌, ◌==◌, not, [], List, length, Option, Some, None, OnOk, OnErr, IfOk, map, option_map, is_some};
 ghost use Rattle.std.specs.List.{list_any};
 ghost use Rattle.peer_route.specs.History.{edit};
-ghost use Rattle.peer_route.specs.Streams.{take_by, first_position};
-ghost use Rattle.peer_route.specs.Left.{Held, with_one, queued, queued_first, is_over, after_take, kept_at, held_gives, next_held, ended_by, ClonesHeld};
-ghost use Rattle.wire_message.specs.Front.{Seen};
+ghost use Rattle.peer_route.specs.Left.{Held, empty_held, queued, queued_first, is_over, limit_or, raise_all, shared, limit_now, with_stream, wants_of, asked_for, after_take, kept_at, held_gives, next_held, ended_by, ClonesHeld};
 
 use crate::polled::Polled;
+use crate::queue::{
+    Queue, Subscription, close, is_full, limit_in, push_to, raise_in, raised, take_back_from,
+    take_from,
+};
+use crate::owner_rule::usual;
+use rule_match::OwnedMatchRule;
 use std::alloc::{AllocError, Global};
-use std::collections::VecDeque;
 use std::marker::Model;
+use std::mem;
 use wire_message::{Error, Message};
 
 /// One stream of a peer.
@@ -16,117 +20,6 @@ use wire_message::{Error, Message};
 pub struct MessageStream {
     /// Its number among the streams, from 0 on.
     pub number: u64,
-}
-
-/// What a stream holds: the messages that it didn't give yet, and whether it gave the closing error.
-#[derive(Drop)]
-struct Queue {
-    items: VecDeque<Message>,
-    told: bool,
-}
-
-impl Model for Queue {
-    ghost use Rattle.peer_route.specs.Left.{Held};
-
-    ghost Value = { Held };
-
-    ghost view = { λ q. record { items = q.items.items; told = q.told } };
-}
-
-impl Queue {
-    /// A stream that holds nothing.
-    fn new(alloc: Global, told: bool) -> Queue
-        ensures { result ≡ record { items = []; told = told } }
-    {
-        Queue {
-            items: VecDeque::new(alloc),
-            told,
-        }
-    }
-
-    /// One message more, which shares its bytes.
-    fn push(&mut self, message: &Message) -> Result<(), AllocError>
-        ensures err { OnErr result (self.new ≡ self.old) }
-        ensures ok { OnOk result (self.new ≡ with_one message.now self.old) }
-    {
-        let copy = message.try_clone()?;
-        self.items.push_back(copy)?;
-        Ok(())
-    }
-
-    /// Takes back the message that was pushed last.
-    fn take_back(&mut self)
-        ensures { (m : Seen) (q : Held) → self.old ≡ with_one m q → self.new ≡ q }
-    {
-        let _ = self.items.pop_back();
-    }
-
-    /// The same again: its messages share their bytes.
-    fn try_clone(&self, alloc: Global) -> Result<Queue, AllocError>
-        ensures { IfOk result (λ q. q ≡ self.now) }
-    {
-        let mut items = VecDeque::new(alloc);
-        for message in &self.items {
-            items.push_back(message.try_clone()?)?;
-        }
-        Ok(Queue {
-            items,
-            told: self.told,
-        })
-    }
-
-    /// Whether the stream holds more than that many messages.
-    fn is_over(&self, capacity: u64) -> bool
-        ensures { result ≡ nat_lt capacity (length self.now.items) }
-    {
-        self.items.len() as u64 > capacity
-    }
-
-    /// The position of the first message.
-    fn next_position(&self) -> Option<u64>
-        ensures { result ≡ first_position self.now.items }
-    {
-        let message = self.items.front()?;
-        Some(message.recv_position())
-    }
-
-    /// The first message; else nothing yet; on a closed peer the closing error once, then the end.
-    fn take(&mut self, closing: Option<Error>) -> Polled<Message>
-        ensures gives { result ≡ take_by self.old.items closing self.old.told }
-        ensures left { self.new ≡ after_take closing self.old }
-    {
-        if let Some(message) = self.items.pop_front() {
-            return Polled::Now(message);
-        }
-        match closing {
-            None => Polled::NotYet,
-            Some(_) if self.told => Polled::Ended,
-            Some(error) => {
-                self.told = true;
-                Polled::Closed(error)
-            }
-        }
-    }
-}
-
-/// One message more for a stream that is open. Want of memory changes nothing.
-fn push_to(queue: &mut Option<Queue>, message: &Message) -> Result<(), AllocError>
-    ensures err { OnErr result (queue.new ≡ queue.old) }
-    ensures ok { OnOk result (queue.new ≡ queued message.now queue.old) }
-{
-    match queue {
-        Some(queue) => queue.push(message),
-        None => Ok(()),
-    }
-}
-
-/// Takes the message that was pushed last back from a stream that is open.
-fn take_back_from(queue: &mut Option<Queue>)
-    ensures { (m : Seen) (q : Option Held) → queue.old ≡ queued m q → queue.new ≡ q }
-{
-    if let Some(queue) = queue {
-        queue.take_back();
-    }
 }
 
 /// Gives a message to one stream after another, and how many got it: fewer than all for want of memory.
@@ -145,43 +38,49 @@ fn push_each(queues: &mut Vec<Option<Queue>>, message: &Message) -> usize
 }
 
 /// Takes the message that was pushed last back from the first `count` streams.
-fn take_back_each(queues: &mut Vec<Option<Queue>>, count: usize)
+fn take_back_each(queues: &mut Vec<Option<Queue>>, count: usize, message: &Message)
     requires { count ≤ length queues.old.items }
-    ensures { (m : Seen) (qs : List (Option Held)) → queues.old.items ≡ queued_first count m qs → queues.new.items ≡ qs }
+    ensures { (qs : List (Option Held)) → queues.old.items ≡ queued_first count message.now qs → queues.new.items ≡ qs }
 {
     let mut left = count;
     while left > 0 {
         left -= 1;
-        take_back_from(&mut queues[left]);
+        take_back_from(&mut queues[left], message);
     }
 }
 
-/// Whether the stream is open and holds more than that many messages.
-fn is_full(queue: &Option<Queue>, capacity: u64) -> bool
-    ensures { result ≡ is_over capacity queue.now }
+/// A stream of this rule asks for more: each open one of the rule may hold it.
+fn raise_each(queues: &mut Vec<Option<Queue>>, rule: &OwnedMatchRule, asked: Option<u64>)
+    ensures { queues.new.items ≡ raise_all rule.now asked queues.old.items }
 {
-    match queue {
-        Some(queue) => queue.is_over(capacity),
-        None => false,
+    for queue in queues.iter_mut() {
+        raise_in(queue, rule, asked);
     }
 }
 
-/// What the stream gives next; UnknownHandle exactly where it isn't open.
-fn take_from(queue: &mut Option<Queue>, closing: Option<Error>) -> Result<Polled<Message>, Error>
-    ensures gives { result ≡ held_gives queue.old closing }
-    ensures left { queue.new ≡ option_map (after_take closing) queue.old }
+/// The capacity that the open streams of this rule share; None where none is open.
+fn shared(queues: &[Option<Queue>], rule: &OwnedMatchRule) -> Option<u64>
+    ensures { result ≡ shared rule.now queues.now }
 {
-    match queue {
-        Some(queue) => Ok(queue.take(closing)),
-        None => Err(Error::UnknownHandle),
+    for queue in queues {
+        if let Some(limit) = limit_in(queue, rule) {
+            return Some(limit);
+        }
     }
+    None
 }
 
-/// Closes the stream: nothing is kept of it.
-fn close(queue: &mut Option<Queue>)
-    ensures { queue.new ≡ None }
+/// What a new stream of this rule may hold: the rule's first has what is asked for, or what is usual.
+fn limit_now(rule: &OwnedMatchRule, asked: Option<u64>, shared: Option<u64>) -> u64
+    ensures { result ≡ limit_now rule.now asked shared }
 {
-    *queue = None;
+    match shared {
+        Some(limit) => raised(asked, limit),
+        None => match asked {
+            Some(asked) => asked,
+            None => usual(rule.inner()),
+        },
+    }
 }
 
 /// The streams of a peer, in the order in which they were made; nothing is kept of one that was closed.
@@ -215,10 +114,33 @@ impl Streams {
     pub(crate) fn open(&mut self, told: bool) -> Result<u64, AllocError>
         ensures err { OnErr result (self.new ≡ self.old) }
         ensures number { IfOk result (λ k. k ≡ length self.old) }
-        ensures ok { OnOk result (self.new ≡ self.old ++ Some (record { items = []; told = told }) ∷ []) }
+        ensures ok { OnOk result (self.new ≡ self.old ++ Some (empty_held None told) ∷ []) }
     {
         let number = self.queues.len() as u64;
-        self.queues.push(Some(Queue::new(self.alloc, told)))?;
+        self.queues.push(Some(Queue::new(self.alloc, None, told)))?;
+        Ok(number)
+    }
+
+    /// A new stream of this rule that holds nothing, and its number. Where it asks for more than the rule's open streams may
+    /// hold, they may hold it too.
+    pub(crate) fn open_rule(
+        &mut self,
+        rule: OwnedMatchRule,
+        asked: Option<u64>,
+    ) -> Result<u64, AllocError>
+        ensures err { OnErr result (self.new ≡ self.old) }
+        ensures number { IfOk result (λ k. k ≡ length self.old) }
+        ensures ok { OnOk result (self.new ≡ with_stream rule asked self.old) }
+    {
+        self.queues.reserve(1)?;
+        let number = self.queues.len() as u64;
+        let limit = limit_now(&rule, asked, shared(self.queues.as_slice(), &rule));
+        raise_each(&mut self.queues, &rule, asked);
+        let wants = Subscription { rule, limit };
+        let queue = Queue::new(self.alloc, Some(wants), false);
+        if self.queues.push(Some(queue)).is_err() {
+            unreachable!()
+        }
         Ok(number)
     }
 
@@ -273,17 +195,59 @@ impl Streams {
     {
         let count = push_each(&mut self.queues, message);
         if count < self.queues.len() {
-            take_back_each(&mut self.queues, count);
+            take_back_each(&mut self.queues, count, message);
             return Err(AllocError);
         }
         Ok(())
     }
 
-    /// Whether some stream holds more than that many messages.
-    pub(crate) fn is_over(&self, capacity: u64) -> bool
-        ensures { result ≡ list_any (is_over capacity) self.now }
+    /// Whether some stream holds more messages than it may; one without a rule may hold so many.
+    pub(crate) fn is_over(&self, main: u64) -> bool
+        ensures { result ≡ list_any (is_over main) self.now }
     {
-        self.queues.iter().any(|queue| is_full(queue, capacity))
+        self.queues.iter().any(|queue| is_full(queue, main))
+    }
+
+    /// How many messages the stream with this number may hold, where one without a rule may hold so many; None where it isn't
+    /// open.
+    pub(crate) fn limit(&self, stream: u64, main: u64) -> Option<u64>
+        ensures { result ≡ option_map (λ (q : Held). limit_or main q.wants) (kept_at self.now stream) }
+    {
+        let queue = self.queue(stream)?;
+        Some(queue.limit(main))
+    }
+
+    /// The rule of the stream with this number; None where it has none, or isn't open.
+    pub(crate) fn rule(&self, stream: u64) -> Option<&OwnedMatchRule>
+        ensures { option_map (λ r. r.now) result ≡ option_map (λ (s : Subscription). s.rule) (wants_of (kept_at self.now stream)) }
+    {
+        self.queue(stream)?.rule()
+    }
+
+    /// The stream with this number asks for more, and each open stream of its rule may hold it then. Whether it has a rule;
+    /// nothing changes where it has none.
+    pub(crate) fn ask(&mut self, stream: u64, limit: u64) -> bool
+        ensures has { result ≡ is_some (wants_of (kept_at self.old stream)) }
+        ensures raised { self.new ≡ asked_for (wants_of (kept_at self.old stream)) limit self.old }
+    {
+        if stream >= self.queues.len() as u64 {
+            return false;
+        }
+        let place = stream as usize;
+        // the stream is set aside while its rule raises the others
+        let Some(mut queue) = mem::replace(&mut self.queues[place], None) else {
+            return false;
+        };
+        let has_rule = match queue.rule() {
+            Some(rule) => {
+                raise_each(&mut self.queues, rule, Some(limit));
+                true
+            }
+            None => false,
+        };
+        queue.raise_own(limit);
+        self.queues[place] = Some(queue);
+        has_rule
     }
 
     /// The position of the first message that the stream with this number holds.
@@ -298,7 +262,7 @@ impl Streams {
         ensures { result ≡ ended_by (kept_at self.now stream) closed }
     {
         match self.queue(stream) {
-            Some(queue) => closed && queue.told && queue.items.is_empty(),
+            Some(queue) => queue.is_terminated(closed),
             None => true,
         }
     }

@@ -1,13 +1,14 @@
 use crate::told::{
-    Kind, Told, arrives, call, call_with, closed_by, goes_to_a_call, let_calls_go, let_route_go,
-    plain, register, told_by,
+    Kind, Told, arrives, call, call_with, close, closed_by, goes_to_a_call, let_calls_go,
+    let_route_go, open_rule, plain, register, told_by,
 };
 use crate::{
     Issued, MessageStream, PendingMethodCalls, Route, answered_by_the_closing_error,
     answered_by_the_first, answered_once, busy_where_a_stream_is_full,
     capacity_throws_nothing_away, clone_goes_on_where_its_original_is, dropped_for_good,
-    none_before_is_by_position, put_is_what_was_sent, refused_changes_nothing,
-    reply_changes_no_other, spent_changes_no_other, stream_after_closing_is_over,
+    first_cause_stays, main_capacity, none_before_is_by_position, nothing_is_put_after_closing,
+    put_is_what_was_sent, refused_changes_nothing, reply_changes_no_other, rule_capacity,
+    rule_stream_gives_what_it_accepts, spent_changes_no_other, stream_after_closing_is_over,
     stream_changes_no_other, stream_closed_for_good, stream_ends_once, stream_gives_all,
     stream_gives_the_first_error,
 };
@@ -288,6 +289,48 @@ fn a_closed_stream_keeps_no_read_back(rt: HostRuntime) {
 }
 
 #[test]
+fn a_rule_stream_takes_what_it_accepts(rt: HostRuntime) {
+    let mut route = Route::new(rt.alloc());
+    let errors = open_rule(&mut route, rt.alloc(), "type='error'", None).expect(&rt, "no stream");
+    let returns =
+        open_rule(&mut route, rt.alloc(), "type='method_return'", Some(1)).expect(&rt, "no stream");
+    assert!(rt; route.match_rule(&errors).is_some());
+    assert_eq!(rt; plain(route.max_queued(&errors)), Ok(64));
+    assert!(rt; arrives(&mut route, rt.alloc(), 1));
+    assert!(rt; arrives(&mut route, rt.alloc(), 2));
+    assert!(rt; route.busy());
+    assert_eq!(rt; told_by(route.take(&errors)), Told::NotYet);
+    assert_eq!(rt; told_by(route.take(&returns)), Told::Now(1));
+    let_route_go(route);
+}
+
+#[test]
+fn streams_of_a_rule_share_a_capacity(rt: HostRuntime) {
+    const OWNER: &str = "type='signal',sender='org.freedesktop.DBus',interface='org.freedesktop.DBus',member='NameOwnerChanged',path='/org/freedesktop/DBus',arg0='a.b'";
+    let mut route = Route::new(rt.alloc());
+    let first = open_rule(&mut route, rt.alloc(), OWNER, None).expect(&rt, "no stream");
+    assert_eq!(rt; plain(route.max_queued(&first)), Ok(8));
+    let second = open_rule(&mut route, rt.alloc(), OWNER, Some(9)).expect(&rt, "no stream");
+    assert_eq!(rt; plain(route.max_queued(&first)), Ok(9));
+    assert_eq!(rt; plain(route.set_max_queued(&first, 10)), Ok(()));
+    assert_eq!(rt; plain(route.max_queued(&second)), Ok(10));
+    assert_eq!(rt; route.main_max_queued(), 64);
+    let_route_go(route);
+}
+
+#[test]
+fn nothing_is_put_on_a_closed_peer(rt: HostRuntime) {
+    let mut route = Route::new(rt.alloc());
+    close(&mut route);
+    assert_eq!(rt; call(&mut route, rt.alloc()), Err(Kind::Closed));
+    assert_eq!(rt; route.outbox_len(), 0);
+    assert!(rt; !route.is_failed());
+    let stream = open_rule(&mut route, rt.alloc(), "type='signal'", None);
+    assert_eq!(rt; stream, Err(Kind::Closed));
+    let_route_go(route);
+}
+
+#[test]
 fn a_dropped_call_is_unknown(rt: HostRuntime) {
     let mut route = Route::new(rt.alloc());
     assert_eq!(rt; call(&mut route, rt.alloc()), Ok(FIRST));
@@ -360,5 +403,15 @@ fn laws_of_many_streams_do_nothing(_rt: HostRuntime) -> Result<(), Fail> {
     stream_closed_for_good();
     stream_changes_no_other();
     capacity_throws_nothing_away();
+    rule_stream_gives_what_it_accepts();
+    Ok(())
+}
+
+#[test]
+fn laws_of_capacities_and_closing_do_nothing(_rt: HostRuntime) -> Result<(), Fail> {
+    main_capacity();
+    rule_capacity();
+    first_cause_stays();
+    nothing_is_put_after_closing();
     Ok(())
 }

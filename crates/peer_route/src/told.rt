@@ -2,7 +2,8 @@
 //! them to prove; so that is done here alone.
 ghost use Rattle.std.specs.Prelude.{◌≡◌, is_some};
 
-use crate::{Issued, PendingMethodCalls, Polled, Route};
+use crate::{Issued, MessageStream, PendingMethodCalls, Polled, Route};
+use rule_match::OwnedMatchRule;
 use std::alloc::Global;
 use wire_body::Body;
 use wire_message::{Error, Flags, IoKind, Message, Result as Answer, Taken, header_front};
@@ -18,6 +19,7 @@ const RETURN: [u8; 24] = [
 pub(crate) enum Kind {
     UnknownHandle,
     WriteFault,
+    Closed,
     ExcessData,
     IncorrectEndian,
     /// Another error, or the test couldn't ask.
@@ -40,6 +42,7 @@ fn kind_of(error: &Error) -> Kind {
     match error {
         Error::UnknownHandle => Kind::UnknownHandle,
         Error::InputOutput(IoKind::WriteFault) => Kind::WriteFault,
+        Error::InputOutput(IoKind::Closed) => Kind::Closed,
         Error::ExcessData => Kind::ExcessData,
         Error::IncorrectEndian => Kind::IncorrectEndian,
         _ => Kind::Other,
@@ -134,6 +137,22 @@ pub(crate) fn call_with(
 /// Issues the method call of `do` at `/`.
 pub(crate) fn call(route: &mut Route, alloc: Global) -> Result<Issued, Kind> {
     call_with(route, alloc, None)
+}
+
+/// Opens a stream of the rule that a text is, with a capacity that is asked for, or none.
+pub(crate) fn open_rule(
+    route: &mut Route,
+    alloc: Global,
+    text: &str,
+    asked: Option<u64>,
+) -> Result<MessageStream, Kind> {
+    let rule = plain(OwnedMatchRule::try_from(alloc, text))?;
+    plain(route.open_rule(rule, asked))
+}
+
+/// Closes the peer.
+pub(crate) fn close(route: &mut Route) {
+    route.close(&Error::InputOutput(IoKind::Closed));
 }
 
 /// Makes the call whose message has this serial, where the serial is free: its number.

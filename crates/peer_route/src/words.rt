@@ -73,6 +73,13 @@ pub enum Words {
     Drop(u64),
     /// Open a stream of all messages that are read from now on.
     Stream,
+    /// Open a stream of those messages that are read from now on and that a rule accepts.
+    Open {
+        /// The capacity that is asked for, if one is.
+        max_queued: Option<u64>,
+        /// The rule's text.
+        rule: Bytes,
+    },
     /// Take the next item of the lane's stream with this number, from 0 on.
     Take(u64),
     /// Take it by position.
@@ -100,6 +107,8 @@ pub enum Words {
     },
     /// Set how many messages a stream without a rule may hold.
     MainQueue(u64),
+    /// Close the peer.
+    Close,
 }
 
 /// The same text again, if there is one.
@@ -153,6 +162,10 @@ impl Words {
             },
             Words::Drop(number) => Words::Drop(*number),
             Words::Stream => Words::Stream,
+            Words::Open { max_queued, rule } => Words::Open {
+                max_queued: *max_queued,
+                rule: rule.try_clone(alloc)?,
+            },
             Words::Take(number) => Words::Take(*number),
             Words::TakeBefore { stream, before } => Words::TakeBefore {
                 stream: *stream,
@@ -168,6 +181,7 @@ impl Words {
                 limit: *limit,
             },
             Words::MainQueue(limit) => Words::MainQueue(*limit),
+            Words::Close => Words::Close,
         })
     }
 }

@@ -1,8 +1,10 @@
 -- What the program prints, and with which status it ends.
-use Rattle.std.specs.Prelude.{ℕ, ◌≡◌, ◌<◌, ◌⊎◌, ◌&&◌, nat_le, Bool, true, false, List, [], ◌∷◌, ◌++◌, length, map, reverse, codes, decimal, Option, Some, Result, Ok, Err, IfSome, IsTrue}
+use Rattle.std.specs.Prelude.{ℕ, ◌≡◌, ◌<◌, ◌⊎◌, ◌&&◌, nat_le, Bool, true, false, List, [], ◌∷◌, ◌++◌, length, map, reverse, codes, decimal, Option, Some, None, Result, Ok, Err, IfSome, IsTrue}
 use Rattle.std.specs.List.{AllByRecursion}
 use Rattle.std.specs.Io.KnownBytes.{Appends}
 use Rattle.wire_message.specs.declared.error.Error.{Error}
+use Rattle.rule_match.specs.Rule.{Rule}
+use Rattle.rule_match.specs.Bytes.{rule_in_bytes}
 use Rattle.peer_route.specs.declared.words.Words.TheVariants as words
 use Rattle.peer_route.specs.declared.answer.Answer.TheVariants as answers
 use Rattle.peer_route.specs.declared.answer.Entry.{Entry}
@@ -10,9 +12,9 @@ use Rattle.peer_route.specs.History.{put, is_failed}
 use Rattle.peer_route.specs.Parcel.{Setting}
 use Rattle.peer_route.specs.Trail.{trail}
 use Rattle.peer_route.specs.Answers.{Legal}
-use Rattle.peer_route.specs.Told.{ReadsTold, IsSentOf, WritesTold}
+use Rattle.peer_route.specs.Told.{ReadsTold, ClosesTold, IsSentOf, WritesTold}
 use Rattle.peer_route.specs.Laws.{IsPoll, IsFinal, IsReplyAt, IsFirstReply, IsCutOff, IsUnknown}
-use Rattle.peer_route.specs.StreamLaws.{Yields, holds, closes_stream, IsNoStream, IsTake, IsEnded, IsLast, HoldsTooMany, IsPutOf, all_sent}
+use Rattle.peer_route.specs.StreamLaws.{Yields, holds, rule_at, closes_stream, IsNoStream, IsTake, IsEnded, IsLast, HoldsTooMany, IsPutOf, all_sent}
 use Rattle.peer_script.specs.Word.{same}
 use Rattle.peer_script.specs.Script.{Given, Gave, Broke, Script, line_count}
 use Rattle.peer_script.specs.Reading.{IsWithin, script_of}
@@ -77,13 +79,19 @@ PollsAre s h sent = (newer older : List Entry) (e : Entry) (number : ℕ) → h 
 
 -- what a stream's entries say, from the one that made it on
 abbrev pub StreamsYield : Setting → List Entry → Type 0
-StreamsYield setting h = (newer older : List Entry) (e : Entry) (number : ℕ) → h ≡ newer ++ e ∷ older → e.words ≡ words.Stream → e.answer ≡ answers.Streaming number → Yields setting newer e older number []
+StreamsYield setting h = (newer older : List Entry) (e : Entry) (number : ℕ) → h ≡ newer ++ e ∷ older → e.words ≡ words.Stream → e.answer ≡ answers.Streaming number → Yields setting newer e older number None []
+
+-- what the entries of a rule's stream say, from the one that made it on
+abbrev pub RulesYield : Setting → List Entry → Type 0
+RulesYield setting h =
+    (newer older : List Entry) (e : Entry) (number : ℕ) (asked : Option ℕ) (text : List ℕ) (rule : Rule) → h ≡ newer ++ e ∷ older → e.words ≡ words.Open asked text → rule_in_bytes text ≡ Ok rule
+    → e.answer ≡ answers.Streaming number → Yields setting newer e older number (Some rule) []
 
 -- what a clone's entries say, from the one that made it on
 abbrev pub ClonesYield : Setting → List Entry → Type 0
 ClonesYield setting h =
     (newer older : List Entry) (e : Entry) (number original : ℕ) → h ≡ newer ++ e ∷ older → e.words ≡ words.Clone original → e.answer ≡ answers.Streaming number
-    → Yields setting newer e older number (holds (trail setting older) e.lane original)
+    → Yields setting newer e older number (rule_at (trail setting older) e.lane original) (holds (trail setting older) e.lane original)
 
 abbrev pub StreamsClose : List Entry → Type 0
 StreamsClose h =
@@ -96,21 +104,23 @@ StreamsEnd h = (newer older : List Entry) (e : Entry) (number : ℕ) → h ≡ n
 abbrev pub FullStreamsWait : Setting → List Entry → Type 0
 FullStreamsWait setting h = (newer older : List Entry) (e : Entry) → h ≡ newer ++ e ∷ older → e.words ≡ words.Read → HoldsTooMany (trail setting older).events → e.answer ≡ answers.Busy
 
--- Each stream gives exactly the messages that were read since it was made, in order, a clone before them what its original held;
--- it ends once; one that was closed is unknown from then on; and where an open one holds more than it may, reads wait.
+-- Each stream gives exactly the messages that were read since it was made and that its rule accepts, in order, a clone before
+-- them what its original held; it ends once; one that was closed is unknown from then on; and where an open one holds more than it may, reads wait.
 pub record StreamsAre (s : Script) (h : List Entry) (sent : List ℕ) : Type 0 where
   pub yields : StreamsYield (setting_of s) h
+  pub rules : RulesYield (setting_of s) h
   pub clones : ClonesYield (setting_of s) h
   pub ends : StreamsEnd h
   pub closes : StreamsClose h
   pub waits : FullStreamsWait (setting_of s) h
 
 -- The bytes sent are the encodings of the messages that were put, in order, up to the sink's fault, perhaps with a proper
--- prefix of one more; where the sink has room for so many bytes, exactly the first message that ends past them fails; and
--- what was put is what the answers say was sent.
+-- prefix of one more; where the sink has room for so many bytes, exactly the first message that ends past them fails; no
+-- closing of the peer fails; and what was put is what the answers say was sent.
 pub record SentIs (s : Script) (h : List Entry) (sent : List ℕ) : Type 0 where
   pub bytes : IsSentOf (trail (setting_of s) h).events sent
   pub room : WritesTold (Some s.outfault) (is_failed (trail (setting_of s) h).events) (put (trail (setting_of s) h).events) sent
+  pub closes : ClosesTold (Some s.outfault) h
   pub put_is : IsPutOf (is_failed (trail (setting_of s) h).events) (put (trail (setting_of s) h).events) (all_sent (setting_of s) h)
 
 -- ---- what is printed
@@ -161,6 +171,7 @@ pub record IsRunOf (s : Script) (entries : List Entry) (sent : List ℕ) : Type 
   pub reads : ReadsAre s (reverse entries) sent
   pub bytes : IsSentOf (trail (setting_of s) (reverse entries)).events sent
   pub room : WritesTold (Some s.outfault) (is_failed (trail (setting_of s) (reverse entries)).events) (put (trail (setting_of s) (reverse entries)).events) sent
+  pub closes : ClosesTold (Some s.outfault) (reverse entries)
 
 -- A script's commands were run, and its transcript was printed; or not, as above.
 pub data Shows (s : Script) (before after : Option (List ℕ)) (faults faults' : ℕ) (result : ℕ) : Type 0 where

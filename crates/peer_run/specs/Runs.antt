@@ -7,7 +7,7 @@ use Rattle.peer_route.specs.declared.answer.Entry.{Entry}
 use Rattle.peer_route.specs.Parcel.{Setting}
 use Rattle.peer_route.specs.Trail.{trail}
 use Rattle.peer_route.specs.Answers.{Legal}
-use Rattle.peer_route.specs.Told.{ReadsTold}
+use Rattle.peer_route.specs.Told.{ReadsTold, ClosesTold}
 use Rattle.peer_run.specs.Stands.{Inlet, Outlet, PeerView, Follows, Reads, Writes, HasReadFault, HasWriteFault, HoldsThen, IsFine}
 
 -- the command of an entry
@@ -31,6 +31,8 @@ pub record Runs (setting : Setting) (start_in : Inlet) (start_out : Outlet) (end
   pub reads : IfSome start_in.left (λ bytes. ReadsTold setting start_in.stop bytes (reverse entries))
   -- the sink holds the encodings of what was put, up to its first fault
   pub writes : IfSome start_out.held (λ before. HoldsThen start_out.room before end_out.held (trail setting (reverse entries)).events)
+  -- where the sink tells its room, no closing fails
+  pub closes : ClosesTold start_out.room (reverse entries)
   -- a fault is answered only where its count rose
   pub read_fault : HasReadFault (reverse entries) → MayRise start_in.faults end_in.faults
   pub write_fault : HasWriteFault (reverse entries) → MayRise start_out.faults end_out.faults

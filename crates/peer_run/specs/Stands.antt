@@ -1,5 +1,5 @@
 -- How a peer, a source and a sink stand to a history, newest first: what a run keeps from command to command.
-use Rattle.std.specs.Prelude.{ℕ, ⊤, ◌≡◌, ◌-◌, ◌^◌, ◌≤◌, ◌⊎◌, Bool, true, false, List, [], ◌∷◌, ◌++◌, length, slice_set, Option, Some, None, is_some, IfSome, Result, Ok, Err}
+use Rattle.std.specs.Prelude.{ℕ, ⊤, ◌≡◌, ◌-◌, ◌^◌, ◌≤◌, ◌⊎◌, Bool, true, false, List, [], ◌∷◌, ◌++◌, length, slice_set, Option, Some, None, is_some, IsSome, IfSome, Result, Ok, Err}
 use Rattle.wire_message.specs.Front.{Seen}
 use Rattle.wire_message.specs.declared.error.Error.{Error}
 use Rattle.wire_message.specs.declared.error.Error.TheVariants as errors
@@ -17,7 +17,8 @@ use Rattle.peer_route.specs.declared.words.Words.TheVariants as words
 use Rattle.peer_route.specs.declared.answer.Answer.{Answer}
 use Rattle.peer_route.specs.declared.answer.Answer.TheVariants as answers
 use Rattle.peer_route.specs.declared.answer.Entry.{Entry}
-use Rattle.peer_route.specs.History.{Event, Wrote, Fault, put, is_failed}
+use Rattle.peer_route.specs.declared.writer.Writer.TheVariants as writers
+use Rattle.peer_route.specs.History.{Event, Wrote, Fault, put, is_failed, writer}
 use Rattle.peer_route.specs.History as events
 use Rattle.peer_route.specs.Parcel.{Setting}
 use Rattle.peer_route.specs.Streams.{all_given}
@@ -25,7 +26,7 @@ use Rattle.peer_route.specs.Trail.{Names, trail, count}
 use Rattle.peer_route.specs.declared.route.Issued.{Issued}
 use Rattle.peer_route.specs.Answers.{Legal, sent_answer, write_fault}
 use Rattle.peer_route.specs.Left.{View, Left}
-use Rattle.peer_route.specs.Told.{ReadsTold, IsSentOf, WritesTold, encodings, left_after}
+use Rattle.peer_route.specs.Told.{ReadsTold, ClosesTold, IsSentOf, WritesTold, encodings, left_after}
 
 -- what a source tells of itself
 pub record Inlet : Type 0 where
@@ -85,7 +86,7 @@ pub record Reads (setting : Setting) (start now : Inlet) (es : List Entry) : Typ
 
 -- ---- the sink
 
--- a send that the sink's failing call ended
+-- a send, or a closing, that the sink's failing call ended
 abbrev pub IsWriteFault : Answer → Type 0
 IsWriteFault answer = answer ≡ answers.SendFailed (errors.InputOutput kinds.WriteFault)
 
@@ -112,14 +113,14 @@ RoomFor false room now ms = RoomFalls room now (length (encodings ms))
 pub record Writes (setting : Setting) (start now : Outlet) (es : List Entry) : Type 0 where
   pub holds : IfSome start.held (λ before. HoldsThen start.room before now.held (trail setting es).events)
   pub room : RoomFor (is_failed (trail setting es).events) start.room now.room (put (trail setting es).events)
+  pub closes : ClosesTold start.room es
+  pub tells : IsSome start.room → IsSome now.room
   pub cause : HasWriteFault es → MayRise start.faults now.faults
   pub kept : start.faults ≤ now.faults
-  -- the count rose only by a write that failed
-  pub only : is_failed (trail setting es).events ≡ false → now.faults ≡ start.faults
 
--- the half that writes met nothing, where no write of the history failed
+-- the half that writes met nothing, where no write of the history failed and the peer wasn't closed
 abbrev pub IsFine : List Event → Writing → Type 0
-IsFine h writing = is_failed h ≡ false → writing ≡ Fine
+IsFine h writing = writer h ≡ writers.Fine → writing ≡ Fine
 
 -- whose the calls are with the one that a message makes, if it makes one
 abbrev pub named : Bool → Option ℕ → Names → Names
@@ -181,12 +182,14 @@ sends (words.Clone number) = false
 sends (words.Unstream number second) = false
 sends (words.Queue number limit) = false
 sends (words.MainQueue limit) = false
+sends (words.Open max_queued rule) = false
+sends words.Close = false
 
 -- a peer of this name, whose streams may hold so many messages, and whose sink takes file descriptors or takes none
 abbrev pub setting_by : Option (List ℕ) → Option ℕ → Bool → Setting
 setting_by name queue takes = record { name = name; takes_fds = takes; queue = queue }
 
--- what a command that sends leaves, by what the sink told before it and after it
+-- what a command that sends, or closes the peer, leaves, by what the sink told before it and after it
 pub record Sending (setting : Setting) (p : PeerView) (es : List Entry) (lane : ℕ) (w : Words) (now after : Outlet) (writing : Writing) (answer : Answer) : Type 0 where
   pub follows : Follows setting p (entry lane w answer ∷ es)
   pub writes : (start : Outlet) → Writes setting start now es → Writes setting start after (entry lane w answer ∷ es)

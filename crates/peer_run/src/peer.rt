@@ -1,6 +1,7 @@
 ghost use Rattle.std.specs.Prelude.{ℕ, ◌≡◌, ◌≢◌, ◌+◌, ◌≤◌, ◌<◌, ◌-◌, ◌^◌, slice_get, true, false, List, [], ◌∷◌, length, Option, IfSome, IfOk, IfErr, OnOk, Some, None, Err, is_some, option_map};
 ghost use Rattle.peer_route.specs.declared.answer.Entry.{Entry};
 ghost use Rattle.peer_route.specs.declared.words.Words.TheVariants as words;
+ghost use Rattle.peer_route.specs.declared.writer.Writer.TheVariants as writers;
 ghost use Rattle.peer_route.specs.Parcel.{Setting};
 ghost use Rattle.peer_route.specs.CallMessage.{fds_of};
 ghost use Rattle.peer_route.specs.Trail as trails;
@@ -23,7 +24,7 @@ use peer_script::Setup;
 use std::alloc::{AllocError, AllocFailed, Global};
 use std::marker::Model;
 use wire_framing::{ReadHalf, Sink, Source, WriteHalf};
-use wire_message::{Error, Message, Sequence};
+use wire_message::{Error, IoKind, Message, Sequence};
 
 /// Why a run ended early.
 #[derive(Clone, Copy, PartialEq, Eq, Debug)]
@@ -123,7 +124,9 @@ fn letter_of<'a>(
         | Words::Clone(_)
         | Words::Unstream { .. }
         | Words::Queue { .. }
-        | Words::MainQueue(_) => unreachable!(),
+        | Words::MainQueue(_)
+        | Words::Open { .. }
+        | Words::Close => unreachable!(),
     }
 }
 
@@ -289,7 +292,7 @@ impl Peer {
     ) -> Result<Answer, RunError>
         requires there { issued.index < length self.old.core.outbox }
         requires due { issued.index ≡ self.old.core.done }
-        requires fine { self.old.core.failed ≡ false }
+        requires fine { self.old.core.writer ≡ writers.Fine }
         ensures sent { IfOk result (λ answer. (m : Seen) → slice_get self.old.core.outbox issued.index ≡ Some m → is_unsupported m.unix_fds (W.takes half.old.sink) ≡ false → half.old.writing ≡ Fine
             → Sent self.old self.new lane issued m (record { held = W.held half.old.sink; room = W.room half.old.sink; faults = W.faults half.old.sink })
             (record { held = W.held half.new.sink; room = W.room half.new.sink; faults = W.faults half.new.sink }) half.new.writing answer) }
@@ -355,6 +358,21 @@ impl Peer {
         match self.route.issue(builder, &body, fds_of(descriptor)) {
             Ok(issued) => self.send(half, lane, issued),
             Err(error) => not_issued(error),
+        }
+    }
+    /// Closes the peer; it is closed also where the sink's `close` fails.
+    pub(crate) fn close<W: Sink>(&mut self, half: &mut WriteHalf<W>, lane: u32) -> Answer
+        ensures closed { (setting : Setting) (es : List Entry) → Follows setting self.old es
+            → Sending setting self.new es lane words.Close (record { held = W.held half.old.sink; room = W.room half.old.sink; faults = W.faults half.old.sink })
+            (record { held = W.held half.new.sink; room = W.room half.new.sink; faults = W.faults half.new.sink }) half.new.writing result }
+        ensures grows { W.faults half.old.sink ≤ W.faults half.new.sink }
+        ensures takes { W.takes half.new.sink ≡ W.takes half.old.sink }
+        ensures same { W.lent half.new.sink ≡ W.lent half.old.sink }
+    {
+        self.route.close(&Error::InputOutput(IoKind::Closed));
+        match half.close() {
+            Ok(()) => Answer::Shut,
+            Err(error) => Answer::SendFailed(error),
         }
     }
 }

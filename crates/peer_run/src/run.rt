@@ -45,6 +45,8 @@ fn answer_to<S: Source, W: Sink>(
         Words::Unstream { stream, second } => Ok(peer.unstream(lane, *stream, *second)),
         Words::Queue { stream, limit } => Ok(peer.queue(lane, *stream, *limit)),
         Words::MainQueue(limit) => Ok(peer.main_queue(lane, *limit)),
+        Words::Open { max_queued, rule } => peer.open(alloc, lane, *max_queued, rule),
+        Words::Close => Ok(peer.close(writer, lane)),
         Words::Call(_) | Words::Signal(_) | Words::Reply { .. } | Words::Error { .. } => {
             peer.send_words(alloc, writer, lane, setup, &command.words)
         }

@@ -11,8 +11,10 @@ ghost use Rattle.peer_run.specs.Stands.{Inlet, Outlet, Follows, Reads, Writes, g
 use crate::peer::{Peer, RunError};
 use crate::showing::refused;
 use peer_route::{Answer, MessageStream, Polled};
-use std::alloc::AllocError;
+use rule_match::OwnedMatchRule;
+use std::alloc::{AllocError, Global};
 use wire_message::{Error, Message, Sequence};
+use wire_names::Bytes;
 
 impl Peer {
     /// The lane's next stream, which the core made: its number is answered. It has given nothing.
@@ -36,6 +38,30 @@ impl Peer {
     {
         let _ = self.route.open()?;
         Ok(self.made(lane)?)
+    }
+
+    /// Opens a stream of the rule that a text is, for the lane.
+    pub(crate) fn open(
+        &mut self,
+        alloc: Global,
+        lane: u32,
+        max_queued: Option<u64>,
+        text: &Bytes,
+    ) -> Result<Answer, RunError>
+        ensures follows { IfOk result (λ answer. (setting : Setting) (es : List Entry) → Follows setting self.old es → Follows setting self.new (entry lane (words.Open max_queued text.now) answer ∷ es)) }
+        ensures reads { IfOk result (λ answer. (setting : Setting) (start now : Inlet) (es : List Entry) → Follows setting self.old es
+            → Reads setting start now es → Reads setting start now (entry lane (words.Open max_queued text.now) answer ∷ es)) }
+        ensures writes { IfOk result (λ answer. (setting : Setting) (start now : Outlet) (es : List Entry) → Follows setting self.old es
+            → Writes setting start now es → Writes setting start now (entry lane (words.Open max_queued text.now) answer ∷ es)) }
+    {
+        let rule = match OwnedMatchRule::try_from_bytes(alloc, text.as_slice()) {
+            Ok(rule) => rule,
+            Err(error) => return refused(error),
+        };
+        match self.route.open_rule(rule, max_queued) {
+            Ok(_) => Ok(self.made(lane)?),
+            Err(error) => refused(error),
+        }
     }
 
     /// What is shown of a take from the stream with this number; an item that it gave is kept.

@@ -6,4 +6,6 @@ mod cases;
 #[cfg(test)]
 mod harness;
 #[cfg(test)]
+mod rules;
+#[cfg(test)]
 mod sweeps;

@@ -10,10 +10,10 @@ use Rattle.peer_route.specs.declared.words.Words.{Words}
 use Rattle.peer_route.specs.declared.words.Words.TheVariants as words
 use Rattle.peer_route.specs.Hex.{hex_digit, hex_two, hex_word}
 use Rattle.peer_script.specs.Word.{same, text_of, is_plain, text_byte, text_word, optional_word, flag_letters, flags_word}
-use Rattle.peer_script.specs.Script.{present, command_words, head_line}
-use Rattle.peer_script.specs.Transcript.{outgoing_text, words_text}
-use Rattle.peer_script.specs.Again.{SomeBytes, IsOptional, IsThere, OutgoingText, HasText}
-use Rattle.peer_script.proofs.Spelling.{number_again, text_again, number_other, text_other, text_some, decimal_digits}
+use Rattle.peer_script.specs.Script.{present, optional_number, command_words, head_line}
+use Rattle.peer_script.specs.Transcript.{outgoing_text, optional_decimal, words_text}
+use Rattle.peer_script.specs.Again.{SomeBytes, IsOptional, IsThere, IsCount, OutgoingText, HasText}
+use Rattle.peer_script.proofs.Spelling.{number_again, text_again, number_other, number_present, text_other, text_some, decimal_digits}
 use Rattle.peer_script.proofs.Calls.{optional_again, flags_again, dash_some}
 use Rattle.peer_script.proofs.Again.{word_byte, both, joined, digits_word, spaced, IsWord}
 
@@ -72,6 +72,15 @@ there_again : (o : Option (List ℕ)) → IsThere o → present (text_of (option
 there_again None h = absurd h
 there_again (Some text) h = ap present (text_again text h.some h.bytes)
 
+count_is_word : (o : Option ℕ) → IsCount o → IsWord (optional_decimal o)
+count_is_word None h = dash_is_word
+count_is_word (Some n) h = number_is_word n h
+
+-- a number isn't the word for none
+count_again : (o : Option ℕ) → IsCount o → optional_number (optional_decimal o) ≡ Some o
+count_again None h = refl
+count_again (Some n) h = rw (number_present n h, number_again n h) refl
+
 -- ---- the words of a command
 
 abbrev outgoing_words : Outgoing → List (List ℕ)
@@ -94,6 +103,8 @@ entry_words (words.Unstream stream None) = codes "unstream" ∷ decimal stream �
 entry_words (words.Unstream stream (Some second)) = codes "unstream" ∷ decimal stream ∷ decimal second ∷ []
 entry_words (words.Queue stream limit) = codes "queue" ∷ decimal stream ∷ decimal limit ∷ []
 entry_words (words.MainQueue limit) = codes "mainqueue" ∷ decimal limit ∷ []
+entry_words (words.Open max_queued rule) = codes "open" ∷ optional_decimal max_queued ∷ text_word rule ∷ []
+entry_words words.Close = codes "close" ∷ []
 
 six_spaced : (d p i m f b : List ℕ)
     → 32 ∷ (d ++ 32 ∷ [] ++ p ++ 32 ∷ [] ++ i ++ 32 ∷ [] ++ m ++ 32 ∷ [] ++ f ++ 32 ∷ [] ++ b) ≡ flat_map spaced (d ∷ p ∷ i ∷ m ∷ f ∷ b ∷ [])
@@ -119,6 +130,9 @@ unstream_spaced s t = simp (append_assoc, append-nil)
 queue_spaced : (s n : List ℕ) → 32 ∷ (codes "queue " ++ s ++ 32 ∷ [] ++ n) ≡ flat_map spaced (codes "queue" ∷ s ∷ n ∷ [])
 queue_spaced s n = simp (append_assoc, append-nil)
 
+open_spaced : (q r : List ℕ) → 32 ∷ (codes "open " ++ q ++ 32 ∷ [] ++ r) ≡ flat_map spaced (codes "open" ∷ q ∷ r ∷ [])
+open_spaced q r = simp (append_assoc, append-nil)
+
 error_spaced : (s n b : List ℕ) → 32 ∷ (codes "error " ++ s ++ 32 ∷ [] ++ n ++ 32 ∷ [] ++ b) ≡ flat_map spaced (codes "error" ∷ s ∷ n ∷ b ∷ [])
 error_spaced s n b = simp (append_assoc, append-nil)
 
@@ -140,6 +154,8 @@ words_spaced (words.Unstream stream None) = simp append-nil
 words_spaced (words.Unstream stream (Some second)) = unstream_spaced (decimal stream) (decimal second)
 words_spaced (words.Queue stream limit) = queue_spaced (decimal stream) (decimal limit)
 words_spaced (words.MainQueue limit) = simp append-nil
+words_spaced (words.Open max_queued rule) = open_spaced (optional_decimal max_queued) (text_word rule)
+words_spaced words.Close = refl
 
 outgoing_are_words : (name : List ℕ) (o : Outgoing) (P : Type 0) → IsWord name → OutgoingText P o → IsWord (optional_word o.interface)
     → All IsWord (name ∷ outgoing_words o)
@@ -197,6 +213,12 @@ are_words (words.Queue stream limit) h =
 are_words (words.MainQueue limit) h =
     let name : IsWord (codes "mainqueue") = record { bytes = refl; some = omega arith; other = refl } in
     All-from_recursion IsWord (entry_words (words.MainQueue limit)) (name, (number_is_word limit h, tt))
+are_words (words.Open max_queued rule) h =
+    let name : IsWord (codes "open") = record { bytes = refl; some = omega arith; other = refl } in
+    All-from_recursion IsWord (entry_words (words.Open max_queued rule)) (name, (count_is_word max_queued h.0, (text_is_word rule h.1, tt)))
+are_words words.Close h =
+    let name : IsWord (codes "close") = record { bytes = refl; some = omega arith; other = refl } in
+    All-from_recursion IsWord (entry_words words.Close) (name, tt)
 
 pub command_again : (w : Words) → HasText w → command_words (entry_words w) ≡ Some w
 unfolding entry_words command_words
@@ -232,6 +254,8 @@ command_again (words.Unstream stream None) h = rw (number_again stream h.0) refl
 command_again (words.Unstream stream (Some second)) h = rw (number_again stream h.0, number_again second h.1) refl
 command_again (words.Queue stream limit) h = rw (number_again stream h.0, number_again limit h.1) refl
 command_again (words.MainQueue limit) h = rw (number_again limit h) refl
+command_again (words.Open max_queued rule) h = rw (count_again max_queued h.0, text_again rule h.1.some h.1.bytes) refl
+command_again words.Close h = refl
 
 -- ---- no command's line is a header line
 
@@ -258,3 +282,5 @@ no_head a (words.Unstream stream None) c ds = head_none a (codes "unstream") c (
 no_head a (words.Unstream stream (Some second)) c ds = head_none a (codes "unstream") c (decimal stream ∷ decimal second ∷ []) ds
 no_head a (words.Queue stream limit) c ds = head_none a (codes "queue") c (decimal stream ∷ decimal limit ∷ []) ds
 no_head a (words.MainQueue limit) c ds = head_none a (codes "mainqueue") c (decimal limit ∷ []) ds
+no_head a (words.Open max_queued rule) c ds = head_none a (codes "open") c (optional_decimal max_queued ∷ text_word rule ∷ []) ds
+no_head a words.Close c ds = head_none a (codes "close") c [] ds

@@ -103,16 +103,23 @@ text_again text some h = text_cases text (same text (61 ∷ [])) refl some h
 
 -- ---- no spelling is empty or `=`
 
-not_equals_by : (f : List ℕ → Option ℕ) (word : List ℕ) (n : ℕ) (v : Bool) → f (61 ∷ []) ≡ None → f word ≡ Some n → same word (61 ∷ []) ≡ v → v ≡ false
-not_equals_by f word n true e g h = absurd (cc (sym (ap f (same_is word (61 ∷ []) h)) ∙ g, e))
-not_equals_by f word n false e g h = refl
+not_that_by : (that word : List ℕ) (n : ℕ) (v : Bool) → number_of that ≡ None → number_of word ≡ Some n → same word that ≡ v → v ≡ false
+not_that_by that word n true e g h = absurd (cc (sym (ap number_of (same_is word that h)) ∙ g, e))
+not_that_by that word n false e g h = refl
 
 no_number : number_of (61 ∷ []) ≡ None
 unfolding number_of
 no_number = refl
 
 pub number_other : (n : ℕ) → n < 2 ^ 64 → same (decimal n) (61 ∷ []) ≡ false
-number_other n h = not_equals_by number_of (decimal n) n (same (decimal n) (61 ∷ [])) no_number (number_again n h) refl
+number_other n h = not_that_by (61 ∷ []) (decimal n) n (same (decimal n) (61 ∷ [])) no_number (number_again n h) refl
+
+no_dash : number_of (45 ∷ []) ≡ None
+unfolding number_of
+no_dash = refl
+
+pub number_present : (n : ℕ) → n < 2 ^ 64 → same (decimal n) (45 ∷ []) ≡ false
+number_present n h = not_that_by (45 ∷ []) (decimal n) n (same (decimal n) (45 ∷ [])) no_dash (number_again n h) refl
 
 no_text : text_of (61 ∷ []) ≡ None
 unfolding text_of

@@ -68,6 +68,8 @@ HasText (words.Clone stream) = stream < 2 ^ 64
 HasText (words.Unstream stream second) = (stream < 2 ^ 64) × IsCount second
 HasText (words.Queue stream limit) = (stream < 2 ^ 64) × (limit < 2 ^ 64)
 HasText (words.MainQueue limit) = limit < 2 ^ 64
+HasText (words.Open max_queued rule) = IsCount max_queued × SomeBytes rule
+HasText words.Close = Unit {0}
 
 -- the name of a missing parameter is of bytes
 abbrev pub HasBytes : Error → Type 0
@@ -95,6 +97,7 @@ HasNumbers answers.Empty = Unit {0}
 HasNumbers answers.Ended = Unit {0}
 HasNumbers answers.Gone = Unit {0}
 HasNumbers answers.Set = Unit {0}
+HasNumbers answers.Shut = Unit {0}
 
 -- an entry of a command that a script can hold
 pub record CanBeRead (e : Entry) : Type 0 where

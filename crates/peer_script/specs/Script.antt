@@ -62,13 +62,21 @@ positioned command number before = None
 abbrev pub is_absent : List ℕ → Bool
 is_absent word = same word (45 ∷ [])
 
-abbrev pub present : Option (List ℕ) → Option (Option (List ℕ))
-present (Some text) = Some (Some text)
+abbrev pub present : {A : Type 0} → Option A → Option (Option A)
+present (Some x) = Some (Some x)
 present None = None
 
 -- a text, or the word `-` where there is none
 abbrev pub optional_of : List ℕ → Option (Option (List ℕ))
 optional_of word = if is_absent word then Some None else present (text_of word)
+
+-- a number, or the word `-` where there is none
+abbrev pub optional_number : List ℕ → Option (Option ℕ)
+optional_number word = if is_absent word then Some None else present (number_of word)
+
+abbrev pub open_of : Option (Option ℕ) → Option (List ℕ) → Option Words
+open_of (Some max_queued) (Some rule) = Some (words.Open max_queued rule)
+open_of max_queued rule = None
 
 abbrev pub has_letter : ℕ → List ℕ → Bool
 has_letter letter word = list_any (λ b. b == letter) word
@@ -92,13 +100,14 @@ flags_of word = if same word (flags_word (named_flags word)) then Some (named_fl
 abbrev pub closing_two : ℕ → ℕ → Words
 closing_two stream second = words.Unstream stream (Some second)
 
--- The words of a command, without its lane: `read`, `stream`, `poll C`, `drop C`, `take S`, `clone S`, `unstream S`,
--- `mainqueue N`, `reply S B`, `before C Q`, `takebefore S Q`, `unstream S T`, `queue S N`, `error S NAME B`,
--- `call D P I M F B`, `signal D P I M F B`. A signal has an interface, so that a `-` there is a text.
+-- The words of a command, without its lane: `read`, `stream`, `close`, `poll C`, `drop C`, `take S`, `clone S`, `unstream S`,
+-- `mainqueue N`, `reply S B`, `before C Q`, `takebefore S Q`, `unstream S T`, `queue S N`, `open Q R`, `error S NAME B`,
+-- `call D P I M F B`, `signal D P I M F B`. A signal has an interface, so that a `-` there is a text; so is a rule's.
 unfoldable pub command_words : List (List ℕ) → Option Words
 command_words (name ∷ []) =
     if same name (codes "read") then Some words.Read
     else if same name (codes "stream") then Some words.Stream
+    else if same name (codes "close") then Some words.Close
     else None
 command_words (name ∷ number ∷ []) =
     if same name (codes "poll") then numbered words.Poll (number_of number)
@@ -114,6 +123,7 @@ command_words (name ∷ first ∷ second ∷ []) =
     else if same name (codes "takebefore") then positioned words.TakeBefore (number_of first) (number_of second)
     else if same name (codes "unstream") then positioned closing_two (number_of first) (number_of second)
     else if same name (codes "queue") then positioned words.Queue (number_of first) (number_of second)
+    else if same name (codes "open") then open_of (optional_number first) (text_of second)
     else None
 command_words (name ∷ stream ∷ error ∷ body ∷ []) =
     if same name (codes "error") then error_of (number_of stream) (text_of error) (optional_of body) else None

@@ -66,6 +66,11 @@ outgoing_text o =
     optional_word o.destination ++ 32 ∷ [] ++ text_word o.path ++ 32 ∷ [] ++ optional_word o.interface ++ 32 ∷ [] ++ text_word o.member ++ 32 ∷ []
     ++ flags_word o.flags ++ 32 ∷ [] ++ optional_word o.body
 
+-- a number, or the word `-` where there is none
+abbrev pub optional_decimal : Option ℕ → List ℕ
+optional_decimal None = 45 ∷ []
+optional_decimal (Some number) = decimal number
+
 unfoldable pub words_text : Words → List ℕ
 words_text (words.Call outgoing) = codes "call " ++ outgoing_text outgoing
 words_text (words.Signal outgoing) = codes "signal " ++ outgoing_text outgoing
@@ -83,6 +88,8 @@ words_text (words.Unstream stream None) = codes "unstream " ++ decimal stream
 words_text (words.Unstream stream (Some second)) = codes "unstream " ++ decimal stream ++ 32 ∷ [] ++ decimal second
 words_text (words.Queue stream limit) = codes "queue " ++ decimal stream ++ 32 ∷ [] ++ decimal limit
 words_text (words.MainQueue limit) = codes "mainqueue " ++ decimal limit
+words_text (words.Open max_queued rule) = codes "open " ++ optional_decimal max_queued ++ 32 ∷ [] ++ text_word rule
+words_text words.Close = codes "close"
 
 unfoldable pub answer_text : Answer → List ℕ
 answer_text (answers.Called call serial) = codes "call " ++ decimal call ++ codes " serial " ++ decimal serial
@@ -104,6 +111,7 @@ answer_text answers.Empty = codes "empty"
 answer_text answers.Ended = codes "ended"
 answer_text answers.Gone = codes "gone"
 answer_text answers.Set = codes "ok"
+answer_text answers.Shut = codes "closed"
 
 unfoldable pub entry_text : Entry → List ℕ
 entry_text e = decimal e.lane ++ 32 ∷ [] ++ words_text e.words ++ codes " = " ++ answer_text e.answer ++ 10 ∷ []

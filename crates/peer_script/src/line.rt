@@ -1,6 +1,6 @@
 //! What a line is.
 ghost use Rattle.std.specs.Prelude.{◌≡◌, [], ◌∷◌, ◌++◌, length, take, map, IfOk, Some, None};
-ghost use Rattle.peer_script.specs.Script.{before_answer, lane_words, command_words, command_line, head_line, line_of, outgoing_of, sending, reply_of, error_of, present, optional_of, has_letter, named_flags, flags_of, in_lane, direct_line, in_line, capacity_line, outfault_line, sent_line, is_absent};
+ghost use Rattle.peer_script.specs.Script.{before_answer, lane_words, command_words, command_line, head_line, line_of, outgoing_of, sending, reply_of, error_of, present, optional_of, optional_number, open_of, has_letter, named_flags, flags_of, in_lane, direct_line, in_line, capacity_line, outfault_line, sent_line, is_absent};
 ghost use Rattle.peer_script.specs.Word.{number_of, text_of};
 ghost use Rattle.peer_route.specs.Hex.{bytes_of};
 ghost use Rattle.peer_route.specs.declared.words.Words.TheVariants as words;
@@ -205,7 +205,29 @@ fn error_of(
     }
 }
 
-/// The words of a name and two words more, the first a number.
+/// A number, or None in it where the word says that there is none.
+fn optional_number(word: &[u8]) -> Option<Option<u64>>
+    ensures { result ≡ optional_number word.now }
+{
+    if is_absent(word) {
+        return Some(None);
+    }
+    Some(Some(number_of(word)?))
+}
+
+fn open_of(alloc: Global, max_queued: &[u8], rule: &[u8]) -> Result<Option<Words>, AllocError>
+    ensures { IfOk result (λ words. words ≡ open_of (optional_number max_queued.now) (text_of rule.now)) }
+{
+    let Some(max_queued) = optional_number(max_queued) else {
+        return Ok(None);
+    };
+    match text_of(alloc, rule)? {
+        Some(rule) => Ok(Some(Words::Open { max_queued, rule })),
+        None => Ok(None),
+    }
+}
+
+/// The words of a name and two words more.
 #[tactic(auto, unfolding(crate::specs::Script::command_words))]
 fn command_of_two(
     alloc: Global,
@@ -225,6 +247,8 @@ fn command_of_two(
         Ok(closing_two(number_of(number), number_of(word)))
     } else if same(name, b"queue") {
         Ok(queue_of(number_of(number), number_of(word)))
+    } else if same(name, b"open") {
+        open_of(alloc, number, word)
     } else {
         Ok(None)
     }

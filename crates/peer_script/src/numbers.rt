@@ -16,6 +16,8 @@ pub(crate) fn lone_command(name: &[u8]) -> Option<Words>
         Some(Words::Read)
     } else if same(name, b"stream") {
         Some(Words::Stream)
+    } else if same(name, b"close") {
+        Some(Words::Close)
     } else {
         None
     }

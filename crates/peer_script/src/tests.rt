@@ -365,6 +365,8 @@ fn answer_to(words: &Words) -> Answer {
         Words::Clone(_) => Answer::Streaming(1),
         Words::Unstream { .. } => Answer::Gone,
         Words::Queue { .. } | Words::MainQueue(_) => Answer::Set,
+        Words::Open { .. } => Answer::Streaming(0),
+        Words::Close => Answer::Shut,
         _ => Answer::NotYet,
     }
 }
@@ -390,7 +392,7 @@ fn transcript_of(alloc: Global, text: &[u8]) -> Result<MemorySink, Fail> {
 #[test]
 fn writes_capacities_clones_and_closings(rt: HostRuntime) -> Result<(), Fail> {
     let alloc = rt.alloc();
-    let table: [(&[u8], &[u8]); 5] = [
+    let table: [(&[u8], &[u8]); 7] = [
         (b"direct\nqueue 0\n", b"direct\nqueue 0\nsent -\n"),
         (
             b"direct\nqueue 18446744073709551615\nfds\nin 00\nsent 00\n",
@@ -399,6 +401,14 @@ fn writes_capacities_clones_and_closings(rt: HostRuntime) -> Result<(), Fail> {
         (
             b"direct\nclone 0\n7 clone 2\n",
             b"direct\n0 clone 0 = stream 1\n7 clone 2 = stream 1\nsent -\n",
+        ),
+        (
+            b"direct\nopen - type='signal'\n9 open 0 -\n",
+            b"direct\n0 open - type='signal' = stream 0\n9 open 0 - = stream 0\nsent -\n",
+        ),
+        (
+            b"direct\nclose\n1 close = closed\n",
+            b"direct\n0 close = closed\n1 close = closed\nsent -\n",
         ),
         (
             b"direct\nunstream 1\nunstream 1 1 = x\n",

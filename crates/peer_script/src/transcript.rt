@@ -3,7 +3,7 @@ ghost use Rattle.std.specs.Prelude.{ℕ, ◌≡◌, ◌++◌, [], ◌∷◌, len
 ghost use Rattle.std.specs.List.{flat_map};
 ghost use Rattle.wire_message.specs.Texts.{message_line};
 ghost use Rattle.peer_script.specs.Word.{text_word, optional_word, flags_word};
-ghost use Rattle.peer_script.specs.Transcript.{or_empty, shown_byte, shown_text, io_word, error_word, outgoing_text, words_text, answer_text, entry_text, given_text, direct_text, capacity_text, fds_text, outfault_text, sent_word, transcript_text};
+ghost use Rattle.peer_script.specs.Transcript.{or_empty, shown_byte, shown_text, io_word, error_word, outgoing_text, optional_decimal, words_text, answer_text, entry_text, given_text, direct_text, capacity_text, fds_text, outfault_text, sent_word, transcript_text};
 ghost use Rattle.peer_route.specs.declared.words.Words.TheVariants as words;
 ghost use Rattle.peer_script.specs.Reading.{given_of, given};
 ghost use Rattle.peer_script.specs.Output.{WritesAll};
@@ -142,6 +142,35 @@ fn put_unstream(
     }
 }
 
+/// A number, or `-` where there is none.
+fn put_optional_number(
+    alloc: Global,
+    text: &mut Vec<u8>,
+    number: Option<u64>,
+) -> Result<(), AllocError>
+    ensures { OnOk result (text.new.items ≡ text.old.items ++ optional_decimal number) }
+{
+    match number {
+        None => put(text, b"-"),
+        Some(number) => put_number(alloc, text, number),
+    }
+}
+
+#[tactic(auto, unfolding(crate::specs::Transcript::words_text))]
+fn put_open(
+    alloc: Global,
+    text: &mut Vec<u8>,
+    max_queued: Option<u64>,
+    rule: &Bytes,
+) -> Result<(), AllocError>
+    ensures { OnOk result (text.new.items ≡ text.old.items ++ words_text (words.Open max_queued rule.now)) }
+{
+    put(text, b"open ")?;
+    put_optional_number(alloc, text, max_queued)?;
+    put(text, b" ")?;
+    put_text(text, rule.as_slice())
+}
+
 #[tactic(auto, unfolding(crate::specs::Transcript::words_text))]
 fn put_words(alloc: Global, text: &mut Vec<u8>, words: &Words) -> Result<(), AllocError>
     ensures { OnOk result (text.new.items ≡ text.old.items ++ words_text words.now) }
@@ -168,6 +197,8 @@ fn put_words(alloc: Global, text: &mut Vec<u8>, words: &Words) -> Result<(), All
             put_with_numbers(alloc, text, b"queue ", *stream, *limit)
         }
         Words::MainQueue(limit) => put_with_number(alloc, text, b"mainqueue ", *limit),
+        Words::Open { max_queued, rule } => put_open(alloc, text, *max_queued, rule),
+        Words::Close => put(text, b"close"),
     }
 }
 
@@ -281,6 +312,7 @@ fn put_answer(alloc: Global, text: &mut Vec<u8>, answer: &Answer) -> Result<(), 
         Answer::Ended => put(text, b"ended"),
         Answer::Gone => put(text, b"gone"),
         Answer::Set => put(text, b"ok"),
+        Answer::Shut => put(text, b"closed"),
     }
 }
 

@@ -1,0 +1,47 @@
+-- What became of a peer's writer stays, and where nothing did, no write failed.
+use Rattle.std.proofs.Common.{◌≡◌, ◌≢◌, refl, sym, ◌∙◌, ap, true, false, List, [], ◌∷◌, ◌++◌}
+use Rattle.peer_route.specs.declared.writer.Writer.{Writer}
+use Rattle.peer_route.specs.declared.writer.Writer.TheVariants as writers
+use Rattle.peer_route.specs.History.{Event, Took, Shut, Put, Wrote, Fault, Spent, Made, Did, Main, is_failed, worse, shuts, writer}
+
+worse_fine : (w cause : Writer) → worse w cause ≡ writers.Fine → (w ≡ writers.Fine) × (cause ≡ writers.Fine)
+worse_fine writers.Fine cause e = (refl, e)
+worse_fine writers.Failed cause e = absurd (cc)
+worse_fine writers.Closed cause e = absurd (cc)
+
+-- while it writes, no write failed
+pub fine_unfailed : (h : List Event) → writer h ≡ writers.Fine → is_failed h ≡ false
+fine_unfailed [] e = refl
+fine_unfailed (Fault ∷ h) e = let p = (worse_fine (writer h) writers.Failed e).1 in absurd (cc)
+fine_unfailed (Shut error ∷ h) e = fine_unfailed h (worse_fine (writer h) (shuts error) e).0
+fine_unfailed (Wrote ∷ h) e = fine_unfailed h e
+fine_unfailed (Took m ∷ h) e = fine_unfailed h e
+fine_unfailed (Put m expects ∷ h) e = fine_unfailed h e
+fine_unfailed (Spent call ∷ h) e = fine_unfailed h e
+fine_unfailed (Made making ∷ h) e = fine_unfailed h e
+fine_unfailed (Did j deed ∷ h) e = fine_unfailed h e
+fine_unfailed (Main limit ∷ h) e = fine_unfailed h e
+
+pub worse_stays : (w cause : Writer) → w ≢ writers.Fine → worse w cause ≡ w
+worse_stays writers.Fine cause ne = absurd (ne refl)
+worse_stays writers.Failed cause ne = refl
+worse_stays writers.Closed cause ne = refl
+
+-- the first cause stays, whatever comes
+pub writer_stays : (newer h : List Event) → writer h ≢ writers.Fine → writer (newer ++ h) ≡ writer h
+writer_stays [] h ne = refl
+writer_stays (Fault ∷ xs) h ne = ap (λ w. worse w writers.Failed) (writer_stays xs h ne) ∙ worse_stays (writer h) writers.Failed ne
+writer_stays (Shut error ∷ xs) h ne = ap (λ w. worse w (shuts error)) (writer_stays xs h ne) ∙ worse_stays (writer h) (shuts error) ne
+writer_stays (Wrote ∷ xs) h ne = writer_stays xs h ne
+writer_stays (Took m ∷ xs) h ne = writer_stays xs h ne
+writer_stays (Put m expects ∷ xs) h ne = writer_stays xs h ne
+writer_stays (Spent call ∷ xs) h ne = writer_stays xs h ne
+writer_stays (Made making ∷ xs) h ne = writer_stays xs h ne
+writer_stays (Did j deed ∷ xs) h ne = writer_stays xs h ne
+writer_stays (Main limit ∷ xs) h ne = writer_stays xs h ne
+
+-- closing a peer closes its writer, or finds it over before
+pub shut_writer : (w : Writer) → worse w writers.Closed ≢ writers.Fine
+shut_writer writers.Fine e = absurd (cc)
+shut_writer writers.Failed e = absurd (cc)
+shut_writer writers.Closed e = absurd (cc)

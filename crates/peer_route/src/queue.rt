@@ -1,0 +1,304 @@
+ghost use Rattle.std.specs.Prelude.{ℕ, ◌≡◌, ◌∷◌, ◌++◌, [], length, Option, Some, None, OnOk, OnErr, IfOk, option_map, nat_lt, true, false};
+ghost use Rattle.peer_route.specs.Rules.{is_same};
+ghost use Rattle.peer_route.specs.Streams.{take_by, first_position, raised};
+ghost use Rattle.peer_route.specs.Left.{Held, empty_held, ended_by, wants_it, with_one, queued, is_over, limit_or, limit_if, raise, raise_held, raise_own, after_take, held_gives, wants_of};
+ghost use Rattle.wire_message.specs.Front.{Seen};
+
+use crate::polled::Polled;
+use rule_match::OwnedMatchRule;
+use std::alloc::{AllocError, Global};
+use std::collections::VecDeque;
+use std::marker::Model;
+use wire_message::{Error, Message};
+
+/// A rule, and how many messages each open stream of it may hold.
+#[derive(Drop)]
+pub struct Subscription {
+    /// Which messages are the stream's.
+    pub(crate) rule: OwnedMatchRule,
+    /// How many it may hold before reads wait.
+    pub(crate) limit: u64,
+}
+
+/// The larger of a capacity and the one that is asked for, if one is.
+pub(crate) fn raised(asked: Option<u64>, limit: u64) -> u64
+    ensures { result ≡ raised asked limit }
+{
+    match asked {
+        Some(asked) => limit.max(asked),
+        None => limit,
+    }
+}
+
+impl Subscription {
+    /// The same again.
+    fn try_clone(&self, alloc: Global) -> Result<Subscription, AllocError>
+        ensures { IfOk result (λ copy. copy ≡ self.now) }
+    {
+        Ok(Subscription {
+            rule: OwnedMatchRule::from(self.rule.inner().to_owned(alloc)?),
+            limit: self.limit,
+        })
+    }
+
+    /// Whether it is of this rule.
+    fn is_of(&self, rule: &OwnedMatchRule) -> bool
+        ensures { result ≡ is_same self.now.rule rule.now }
+    {
+        self.rule == *rule
+    }
+
+    /// A stream of this rule asks for more.
+    fn raise(&mut self, rule: &OwnedMatchRule, asked: Option<u64>)
+        ensures { self.new ≡ raise rule.now asked self.old }
+    {
+        if self.is_of(rule) {
+            self.limit = raised(asked, self.limit);
+        }
+    }
+}
+
+/// The same again, if there is one.
+fn clone_subscription(
+    wants: &Option<Subscription>,
+    alloc: Global,
+) -> Result<Option<Subscription>, AllocError>
+    ensures { IfOk result (λ copy. copy ≡ wants.now) }
+{
+    match wants {
+        Some(wants) => Ok(Some(wants.try_clone(alloc)?)),
+        None => Ok(None),
+    }
+}
+
+/// What is kept of a stream: its rule, if it has one; the messages that it didn't give yet; and whether it gave the closing
+/// error.
+#[derive(Drop)]
+pub(crate) struct Queue {
+    wants: Option<Subscription>,
+    items: VecDeque<Message>,
+    told: bool,
+}
+
+impl Model for Queue {
+    ghost use Rattle.peer_route.specs.Left.{Held};
+
+    ghost Value = { Held };
+
+    ghost view = { λ q. record { wants = q.wants; items = q.items.items; told = q.told } };
+}
+
+impl Queue {
+    /// A stream that holds nothing.
+    pub(crate) fn new(alloc: Global, wants: Option<Subscription>, told: bool) -> Queue
+        ensures { result ≡ empty_held wants told }
+    {
+        Queue {
+            wants,
+            items: VecDeque::new(alloc),
+            told,
+        }
+    }
+
+    /// Whether the message is one of the stream's.
+    fn wants(&self, message: &Message) -> bool
+        ensures { result ≡ wants_it self.now.wants message.now }
+    {
+        match &self.wants {
+            Some(wants) => wants.rule.matches(message),
+            None => true,
+        }
+    }
+
+    /// One message more, if it is one of the stream's; it shares its bytes.
+    fn push(&mut self, message: &Message) -> Result<(), AllocError>
+        ensures err { OnErr result (self.new ≡ self.old) }
+        ensures ok { OnOk result (self.new ≡ with_one message.now self.old) }
+    {
+        if self.wants(message) {
+            let copy = message.try_clone()?;
+            self.items.push_back(copy)?;
+        }
+        Ok(())
+    }
+
+    /// Takes back the message that was pushed last.
+    fn take_back(&mut self, message: &Message)
+        ensures { (q : Held) → self.old ≡ with_one message.now q → self.new ≡ q }
+    {
+        if self.wants(message) {
+            let _ = self.items.pop_back();
+        }
+    }
+
+    /// The same again: its messages share their bytes.
+    pub(crate) fn try_clone(&self, alloc: Global) -> Result<Queue, AllocError>
+        ensures { IfOk result (λ q. q ≡ self.now) }
+    {
+        let wants = clone_subscription(&self.wants, alloc)?;
+        let mut items = VecDeque::new(alloc);
+        for message in &self.items {
+            items.push_back(message.try_clone()?)?;
+        }
+        Ok(Queue {
+            wants,
+            items,
+            told: self.told,
+        })
+    }
+
+    /// How many messages the stream may hold: as many as its rule's streams may, or, without a rule, so many.
+    pub(crate) fn limit(&self, main: u64) -> u64
+        ensures { result ≡ limit_or main self.now.wants }
+    {
+        match &self.wants {
+            Some(wants) => wants.limit,
+            None => main,
+        }
+    }
+
+    /// Whether the stream holds more messages than it may.
+    fn is_over(&self, main: u64) -> bool
+        ensures { result ≡ nat_lt (limit_or main self.now.wants) (length self.now.items) }
+    {
+        self.items.len() as u64 > self.limit(main)
+    }
+
+    /// The stream's rule, if it has one.
+    pub(crate) fn rule(&self) -> Option<&OwnedMatchRule>
+        ensures { option_map (λ r. r.now) result ≡ option_map (λ (s : Subscription). s.rule) self.now.wants }
+    {
+        match &self.wants {
+            Some(wants) => Some(&wants.rule),
+            None => None,
+        }
+    }
+
+    /// Its capacity, where it is of this rule.
+    pub(crate) fn limit_if(&self, rule: &OwnedMatchRule) -> Option<u64>
+        ensures { result ≡ limit_if rule.now self.now.wants }
+    {
+        match &self.wants {
+            Some(wants) if *rule == wants.rule => Some(wants.limit),
+            _ => None,
+        }
+    }
+
+    /// A stream of this rule asks for more.
+    fn raise(&mut self, rule: &OwnedMatchRule, asked: Option<u64>)
+        ensures { self.new ≡ raise_held rule.now asked self.old }
+    {
+        if let Some(wants) = &mut self.wants {
+            wants.raise(rule, asked);
+        }
+    }
+
+    /// The position of the first message.
+    pub(crate) fn next_position(&self) -> Option<u64>
+        ensures { result ≡ first_position self.now.items }
+    {
+        let message = self.items.front()?;
+        Some(message.recv_position())
+    }
+
+    /// The stream asks for more, where it has a rule.
+    pub(crate) fn raise_own(&mut self, limit: u64)
+        ensures { self.new ≡ raise_own limit self.old }
+    {
+        if let Some(wants) = &mut self.wants {
+            wants.limit = wants.limit.max(limit);
+        }
+    }
+
+    /// Whether nothing comes any more, on a peer that is closed or isn't.
+    pub(crate) fn is_terminated(&self, closed: bool) -> bool
+        ensures { result ≡ ended_by (Some self.now) closed }
+    {
+        closed && self.told && self.items.is_empty()
+    }
+
+    /// The first message; else nothing yet; on a closed peer the closing error once, then the end.
+    fn take(&mut self, closing: Option<Error>) -> Polled<Message>
+        ensures gives { result ≡ take_by self.old.items closing self.old.told }
+        ensures left { self.new ≡ after_take closing self.old }
+    {
+        if let Some(message) = self.items.pop_front() {
+            return Polled::Now(message);
+        }
+        match closing {
+            None => Polled::NotYet,
+            Some(_) if self.told => Polled::Ended,
+            Some(error) => {
+                self.told = true;
+                Polled::Closed(error)
+            }
+        }
+    }
+}
+
+/// One message more for a stream that is open. Want of memory changes nothing.
+pub(crate) fn push_to(queue: &mut Option<Queue>, message: &Message) -> Result<(), AllocError>
+    ensures err { OnErr result (queue.new ≡ queue.old) }
+    ensures ok { OnOk result (queue.new ≡ queued message.now queue.old) }
+{
+    match queue {
+        Some(queue) => queue.push(message),
+        None => Ok(()),
+    }
+}
+
+/// Takes the message that was pushed last back from a stream that is open.
+pub(crate) fn take_back_from(queue: &mut Option<Queue>, message: &Message)
+    ensures { (q : Option Held) → queue.old ≡ queued message.now q → queue.new ≡ q }
+{
+    if let Some(queue) = queue {
+        queue.take_back(message);
+    }
+}
+
+/// A stream of this rule asks for more, where it is open.
+pub(crate) fn raise_in(queue: &mut Option<Queue>, rule: &OwnedMatchRule, asked: Option<u64>)
+    ensures { queue.new ≡ option_map (raise_held rule.now asked) queue.old }
+{
+    if let Some(queue) = queue {
+        queue.raise(rule, asked);
+    }
+}
+
+/// Its capacity, where it is open and of this rule.
+pub(crate) fn limit_in(queue: &Option<Queue>, rule: &OwnedMatchRule) -> Option<u64>
+    ensures { result ≡ limit_if rule.now (wants_of queue.now) }
+{
+    match queue {
+        Some(queue) => queue.limit_if(rule),
+        None => None,
+    }
+}
+
+/// Whether the stream is open and holds more than it may.
+pub(crate) fn is_full(queue: &Option<Queue>, main: u64) -> bool
+    ensures { result ≡ is_over main queue.now }
+{
+    match queue {
+        Some(queue) => queue.is_over(main),
+        None => false,
+    }
+}
+
+/// What the stream gives next; UnknownHandle exactly where it isn't open.
+pub(crate) fn take_from(queue: &mut Option<Queue>, closing: Option<Error>) -> Result<Polled<Message>, Error>
+    ensures gives { result ≡ held_gives queue.old closing }
+    ensures left { queue.new ≡ option_map (after_take closing) queue.old }
+{
+    match queue {
+        Some(queue) => Ok(queue.take(closing)),
+        None => Err(Error::UnknownHandle),
+    }
+}
+
+/// Closes the stream: nothing is kept of it.
+pub(crate) fn close(queue: &mut Option<Queue>)
+    ensures { queue.new ≡ None }
+{
+    *queue = None;
+}

@@ -1,0 +1,194 @@
+//! A peer's streams.
+ghost use Rattle.std.specs.Prelude.{ℕ, ◌≡◌, ◌++◌, ◌∷◌, List, length, option_map, OnOk, OnErr, IfOk};
+ghost use Rattle.peer_route.specs.History.{Event, Made, Plain, Main};
+ghost use Rattle.peer_route.specs.History as history;
+ghost use Rattle.peer_route.specs.Streams.{main, take_answer, take_events, next_position, is_over, are_open, close_answer, close_events, ask_answer, ask_events, limit_answer, rule_answer};
+ghost use Rattle.peer_route.specs.Left.{Left, Clones, OpensRule};
+
+use crate::polled::{Polled, by_position};
+use crate::route::Route;
+use crate::streams::MessageStream;
+use rule_match::OwnedMatchRule;
+use std::alloc::AllocError;
+use wire_message::{Error, IoKind, Message, Result, Sequence};
+
+/// The stream's number, where there is one.
+fn number_of(stream: Option<MessageStream>) -> Option<u64>
+    ensures { result ≡ option_map (λ s. s.number) stream }
+{
+    stream.map(|stream| stream.number)
+}
+
+impl Route {
+    /// Opens a stream of all messages that are read from now on. One that is opened on a closed peer is ended. Want of memory
+    /// changes nothing.
+    pub fn open(&mut self) -> std::result::Result<MessageStream, AllocError>
+        ensures number { IfOk result (λ s. s.number ≡ length self.old.streams) }
+        ensures left { OnOk result ((h : List Event) → Left self.old h → Left self.new (Made Plain ∷ h)) }
+        ensures same { OnErr result (self.new ≡ self.old) }
+    {
+        let told = self.calls.closing().is_some();
+        let number = self.streams.open(told)?;
+        Ok(MessageStream { number })
+    }
+
+    /// Opens a stream of those messages that are read from now on and that the rule accepts. All open streams of one rule share
+    /// one capacity: the rule's first stream gives it the one that is asked for, or 8 where the rule is one of an owner's changes
+    /// (the bus's NameOwnerChanged of one name), else 64; a later one that asks for more raises it.
+    ///
+    /// # Errors
+    ///
+    /// InputOutput(Closed) exactly where the peer is closed; Memory. An error changes nothing.
+    pub fn open_rule(
+        &mut self,
+        rule: OwnedMatchRule,
+        max_queued: Option<u64>,
+    ) -> Result<MessageStream>
+        ensures { (h : List Event) → Left self.old h → OpensRule self.old self.new rule max_queued h result }
+    {
+        if self.calls.closing().is_some() {
+            return Err(Error::InputOutput(IoKind::Closed));
+        }
+        let number = self.streams.open_rule(rule, max_queued)?;
+        Ok(MessageStream { number })
+    }
+
+    /// The stream's rule; None where it has none, or isn't open.
+    pub fn match_rule(&self, stream: &MessageStream) -> Option<&OwnedMatchRule>
+        ensures { (h : List Event) → Left self.now h → option_map (λ r. r.now) result ≡ rule_answer h stream.now.number }
+    {
+        self.streams.rule(stream.number)
+    }
+
+    /// Opens a stream that goes on where that one is: it holds what that holds now, and tells the closing error unless that
+    /// told it.
+    ///
+    /// # Errors
+    ///
+    /// UnknownHandle exactly where that stream isn't open; Memory. An error changes nothing.
+    pub fn clone_stream(&mut self, stream: &MessageStream) -> Result<MessageStream>
+        ensures { (h : List Event) → Left self.old h → Clones self.old self.new stream.now.number h result }
+    {
+        let number = self.streams.open_clone(stream.number)?;
+        Ok(MessageStream { number })
+    }
+
+    /// Whether the stream with this number is open, and the second, where there is one, and they are two.
+    fn are_open(&self, stream: u64, second: Option<u64>) -> bool
+        ensures { (h : List Event) → Left self.now h → result ≡ are_open h stream second }
+    {
+        match second {
+            Some(other) => self.streams.are_two(stream, other),
+            None => self.streams.is_open(stream),
+        }
+    }
+
+    /// Closes the stream, and then the second, in one step; what they hold goes away. Takes no memory.
+    ///
+    /// # Errors
+    ///
+    /// UnknownHandle exactly where one of them isn't open, or they are one. An error changes nothing.
+    pub fn close_stream(
+        &mut self,
+        stream: MessageStream,
+        second: Option<MessageStream>,
+    ) -> Result<()>
+        ensures answer { (h : List Event) → Left self.old h → result ≡ close_answer h stream.number (option_map (λ s. s.number) second) }
+        ensures left { (h : List Event) → Left self.old h → Left self.new (close_events stream.number (option_map (λ s. s.number) second) result ++ h) }
+    {
+        let MessageStream { number } = stream;
+        let other = number_of(second);
+        if !self.are_open(number, other) {
+            return Err(Error::UnknownHandle);
+        }
+        self.streams.end(number);
+        if let Some(other) = other {
+            self.streams.end(other);
+        }
+        Ok(())
+    }
+
+    /// How many messages the stream may hold before reads wait.
+    ///
+    /// # Errors
+    ///
+    /// UnknownHandle exactly where it isn't open.
+    pub fn max_queued(&self, stream: &MessageStream) -> Result<u64>
+        ensures { (h : List Event) → Left self.now h → result ≡ limit_answer h stream.now.number }
+    {
+        match self.streams.limit(stream.number, self.main) {
+            Some(limit) => Ok(limit),
+            None => Err(Error::UnknownHandle),
+        }
+    }
+
+    /// Asks that the stream may hold so many messages. A larger number raises how many each open stream of its rule may hold, or,
+    /// where it has none, each stream without a rule; a smaller one is passed over. Takes no memory.
+    ///
+    /// # Errors
+    ///
+    /// UnknownHandle exactly where it isn't open. An error changes nothing.
+    pub fn set_max_queued(&mut self, stream: &MessageStream, max: u64) -> Result<()>
+        ensures answer { (h : List Event) → Left self.old h → result ≡ ask_answer h stream.now.number }
+        ensures left { (h : List Event) → Left self.old h → Left self.new (ask_events stream.now.number max result ++ h) }
+    {
+        if !self.streams.is_open(stream.number) {
+            return Err(Error::UnknownHandle);
+        }
+        if !self.streams.ask(stream.number, max) {
+            self.main = self.main.max(max);
+        }
+        Ok(())
+    }
+
+    /// How many messages a stream without a rule may hold before reads wait: 64, until it is set or raised.
+    pub fn main_max_queued(&self) -> u64
+        ensures { (h : List Event) → Left self.now h → result ≡ main h }
+    {
+        self.main
+    }
+
+    /// Sets how many messages a stream without a rule may hold before reads wait. Nothing that is held goes away.
+    pub fn set_main_max_queued(&mut self, max: u64)
+        ensures { (h : List Event) → Left self.old h → Left self.new (Main max ∷ h) }
+    {
+        self.main = max;
+    }
+
+    /// Whether nothing comes from the stream any more: it gave all and the closing error, or it isn't open.
+    pub fn is_terminated(&self, stream: &MessageStream) -> bool
+        ensures { (h : List Event) → Left self.now h → result ≡ is_over (take_answer h stream.now.number) }
+    {
+        let closed = self.calls.closing().is_some();
+        self.streams.is_terminated(stream.number, closed)
+    }
+
+    /// What the stream gives next: the first message that it holds; else NotYet on an open peer; else the closing error
+    /// once; from then on Ended. UnknownHandle exactly where it isn't open: it was never made, or was closed. Takes no memory.
+    pub fn take(&mut self, stream: &MessageStream) -> Result<Polled<Message>>
+        ensures answer { (h : List Event) → Left self.old h → result ≡ take_answer h stream.now.number }
+        ensures left { (h : List Event) → Left self.old h → Left self.new (take_events stream.now.number result ++ h) }
+    {
+        self.streams.take(stream.number, self.calls.closing())
+    }
+
+    /// What the stream gives next as `take` gives it, but NoneBefore in place of NotYet: an item is given wherever it stands,
+    /// so the position isn't looked at. Takes no memory.
+    pub fn take_before(
+        &mut self,
+        stream: &MessageStream,
+        _before: Sequence,
+    ) -> Result<Polled<Message>>
+        ensures answer { (h : List Event) → Left self.old h → result ≡ history.by_position (take_answer h stream.now.number) }
+        ensures left { (h : List Event) → Left self.old h → Left self.new (take_events stream.now.number result ++ h) }
+    {
+        by_position(self.take(stream))
+    }
+
+    /// The position of the first message that the stream holds; None where it holds none, or isn't open.
+    pub fn next_position(&self, stream: &MessageStream) -> Option<u64>
+        ensures { (h : List Event) → Left self.now h → result ≡ next_position h stream.now.number }
+    {
+        self.streams.next_position(stream.number)
+    }
+}

@@ -1,0 +1,44 @@
+ghost use Rattle.std.specs.Prelude.{◌≡◌, true, false};
+ghost use Rattle.peer_route.specs.History.{worse, shuts};
+
+use wire_message::{Error, IoKind};
+
+/// What became of a peer's writer.
+#[derive(Clone, Copy, PartialEq, Eq, Debug)]
+pub enum Writer {
+    /// It writes.
+    Fine,
+    /// A write failed.
+    Failed,
+    /// The peer was closed.
+    Closed,
+}
+
+impl Writer {
+    /// Whether nothing was met yet.
+    pub(crate) fn is_fine(self) -> bool
+        ensures fine { result ≡ true → self ≡ Writer.Fine }
+    {
+        matches!(self, Writer::Fine)
+    }
+
+    /// What it has met, by a cause that comes now: the earlier one stays.
+    pub(crate) fn then(self, cause: Writer) -> Writer
+        ensures { result ≡ worse self cause }
+    {
+        match self {
+            Writer::Fine => cause,
+            Writer::Failed | Writer::Closed => self,
+        }
+    }
+
+    /// What an error that closes the peer does to its writer.
+    pub(crate) fn of(error: &Error) -> Writer
+        ensures { result ≡ shuts error.now }
+    {
+        match error {
+            Error::InputOutput(IoKind::Closed) => Writer::Closed,
+            _ => Writer::Fine,
+        }
+    }
+}
