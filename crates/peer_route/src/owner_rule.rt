@@ -17,7 +17,7 @@ fn is_signal(kind: Option<MessageType>) -> bool
 }
 
 fn is_bus(name: Option<&OwnedBusName>) -> bool
-    ensures { result ≡ is_unique (codes "org.freedesktop.DBus") (option_map (λ n. n.now) name) }
+    ensures { result ≡ is_unique (codes "org.freedesktop.DBus") (option_map (λ n. n.now) name.entry) }
 {
     match name {
         Some(OwnedBusName::Unique(name)) => name.as_str() == BUS,
@@ -26,7 +26,7 @@ fn is_bus(name: Option<&OwnedBusName>) -> bool
 }
 
 fn is_bus_interface(name: Option<&OwnedInterfaceName>) -> bool
-    ensures { result ≡ is_this (codes "org.freedesktop.DBus") (option_map (λ n. n.now) name) }
+    ensures { result ≡ is_this (codes "org.freedesktop.DBus") (option_map (λ n. n.now) name.entry) }
 {
     match name {
         Some(name) => name.as_str() == BUS,
@@ -35,7 +35,7 @@ fn is_bus_interface(name: Option<&OwnedInterfaceName>) -> bool
 }
 
 fn is_owner_changed(name: Option<&OwnedMemberName>) -> bool
-    ensures { result ≡ is_this (codes "NameOwnerChanged") (option_map (λ n. n.now) name) }
+    ensures { result ≡ is_this (codes "NameOwnerChanged") (option_map (λ n. n.now) name.entry) }
 {
     match name {
         Some(name) => name.as_str() == "NameOwnerChanged",
@@ -44,7 +44,7 @@ fn is_owner_changed(name: Option<&OwnedMemberName>) -> bool
 }
 
 fn is_bus_path(place: Option<&PathSpec>) -> bool
-    ensures { result ≡ is_at (codes "/org/freedesktop/DBus") (option_map (λ p. p.now) place) }
+    ensures { result ≡ is_at (codes "/org/freedesktop/DBus") (option_map (λ p. p.now) place.entry) }
 {
     match place {
         Some(PathSpec::Path(path)) => path.as_str() == "/org/freedesktop/DBus",
