@@ -13,9 +13,10 @@ use Rattle.peer_route.specs.declared.polled.Polled.{Polled}
 use Rattle.peer_route.specs.declared.polled.Polled.TheVariants as polled
 use Rattle.peer_route.specs.declared.calls.Slot.{Slot}
 use Rattle.peer_route.specs.declared.calls.Slot.TheVariants as slots
-use Rattle.peer_route.specs.History.{Event, Took, Shut, Wrote, Fault, Spent, Made, Making, Plain, Cloned, Did, Main, Deed, Gave, Told, Gone, Asked, Call, edit, read, closing, done, is_reply, is_serial, calls, found, bears, is_gone, first_of, pending, waits_with, poll_answer, poll_events, polled_at, polled_by, drop_answer, drop_events, dropped_at}
+use Rattle.peer_route.specs.History.{Event, Took, Shut, Wrote, Fault, Spent, Made, Making, Plain, Cloned, Did, Main, Deed, Gave, Told, Gone, Asked, Call, edit, read, closing, done, is_reply, is_serial, calls, found, bears, is_gone, first_of, pending, waits_with, poll_answer, poll_events, polled_at, polled_by, drop_answer, drop_events, dropped_at, worse, shuts}
 use Rattle.peer_route.specs.Streams.{busy, main, is_open, is_over as nothing_comes, take_answer, take_events}
-use Rattle.peer_route.specs.Left.{Held, is_over, after_take, kept_at, held_gives, ended_by, LeftStreams, is_busy, is_empty_slot, slot_of, slot_by, is_waiting, AreDistinct, CallsView, waiting_serial, is_number, LeftCalls, View, Left}
+use Rattle.peer_route.specs.declared.writer.Writer.TheVariants as writers
+use Rattle.peer_route.specs.Left.{Held, empty_held, is_over, after_take, kept_at, held_gives, ended_by, LeftStreams, is_busy, is_empty_slot, slot_of, slot_by, is_waiting, AreDistinct, CallsView, waiting_serial, is_number, LeftCalls, View, Left}
 use Rattle.peer_route.proofs.Plain.{list_any-map, list_any-along, position-None}
 use Rattle.peer_route.proofs.CallsMade.{calls_early, places, places_rise, places-edit, places-fail}
 use Rattle.peer_route.proofs.StreamsMade.{streams_shut, streams_wrote, streams_fault, streams_spent, streams_main, streams_made, streams_cloned, streams_ended, streams_asked, streams_taken, taken_gives, ended_left, open_left, over_any}

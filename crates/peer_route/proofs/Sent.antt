@@ -1,5 +1,5 @@
 -- What was put is what the answers say was sent.
-use Rattle.std.proofs.Common.{◌≡◌, inl, inr, ℕ, refl, sym, ◌∙◌, ap, Bool, true, false, List, [], ◌∷◌, ◌++◌, Option, Some, None, Ok, Err, append-nil, subst}
+use Rattle.std.proofs.Common.{◌≡◌, ◌≢◌, Result, inl, inr, ℕ, refl, sym, ◌∙◌, ap, Bool, true, false, List, [], ◌∷◌, ◌++◌, Option, Some, None, Ok, Err, append-nil, subst}
 use Rattle.wire_message.specs.Front.{Seen}
 use Rattle.wire_message.specs.declared.error.Error.{Error}
 use Rattle.peer_route.specs.declared.words.Words.{Words}
@@ -12,8 +12,10 @@ use Rattle.peer_route.specs.declared.writer.Writer.TheVariants as writers
 use Rattle.peer_route.specs.History.{Event, closing, put, is_failed, writer}
 use Rattle.peer_route.proofs.Writers.{fine_unfailed, writer_stays, shut_writer}
 use Rattle.peer_route.specs.Parcel.{Setting, Parcel, Asked, message_of}
-use Rattle.peer_route.specs.Trail.{Trail, place, asks, trail, send_events, read_events, poll_spends, drop_spends, stream_makes, take_does, clone_makes, gone_at, unstream_does, queue_does, main_sets, second_place, events_of, first_events, next_serial, or_zero}
-use Rattle.peer_route.specs.Answers.{IsAnswer, IsCalled, IsSendOf, Legal, sent_answer, write_fault}
+use Rattle.peer_route.specs.Trail.{Trail, place, asks, trail, send_events, read_events, poll_spends, drop_spends, stream_makes, open_makes, take_does, clone_makes, gone_at, unstream_does, queue_does, main_sets, close_does, second_place, events_of, first_events, next_serial, or_zero}
+use Rattle.rule_match.specs.Rule.{Rule}
+use Rattle.rule_match.specs.Bytes.{rule_in_bytes}
+use Rattle.peer_route.specs.Answers.{IsAnswer, IsClose, IsCalled, IsSendOf, Legal, sent_answer, write_fault}
 use Rattle.peer_route.specs.StreamLaws.{sent_of, sent_by, all_sent, IsPutOf}
 
 -- what events that send nothing leave
