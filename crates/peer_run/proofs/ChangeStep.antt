@@ -22,6 +22,7 @@ use Rattle.peer_route.proofs.Closings.{one_open, two_open, first_unnamed, second
 use Rattle.peer_route.proofs.Refused.{refused_changes_nothing}
 use Rattle.peer_run.specs.Stands.{PeerView, Inlet, Outlet, Follows, Reads, Writes, IsReadFault, IsWriteFault, IsRefusal, entry}
 use Rattle.peer_run.proofs.Quiet.{AreQuiet, first_same, clone_quiet, unstream_quiet, queue_quiet, main_quiet}
+use Rattle.peer_run.proofs.Kept.{is_close}
 use Rattle.peer_run.proofs.QuietStep.{follows_quiet, reads_quiet, writes_quiet}
 
 -- ---- commands that neither read nor send
@@ -29,30 +30,31 @@ use Rattle.peer_run.proofs.QuietStep.{follows_quiet, reads_quiet, writes_quiet}
 pub record IsStill (t : Trail) (lane : ℕ) (w : Words) : Type 0 where
   pub quiet : (a : Answer) → AreQuiet (events_of t lane w a)
   pub told : (stop : Option Bool) (bytes : List ℕ) (closing : Option Error) (a : Answer) → ReadTold stop bytes t.events closing w a
+  pub other : is_close w ≡ false
 
 pub clone_still : (t : Trail) (lane number : ℕ) → IsStill t lane (words.Clone number)
-clone_still t lane number = record { quiet = λ a. clone_quiet (place 0 lane number t.streams) a; told = told }
+clone_still t lane number = record { quiet = λ a. clone_quiet (place 0 lane number t.streams) a; told = told; other = refl }
   where
     told : (stop : Option Bool) (bytes : List ℕ) (closing : Option Error) (a : Answer) → ReadTold stop bytes t.events closing (words.Clone number) a
     told stop bytes None a = tt
     told stop bytes (Some error) a = tt
 
 pub unstream_still : (t : Trail) (lane number : ℕ) (second : Option ℕ) → IsStill t lane (words.Unstream number second)
-unstream_still t lane number second = record { quiet = λ a. unstream_quiet (place 0 lane number t.streams) (second_place lane second t.streams) a; told = told }
+unstream_still t lane number second = record { quiet = λ a. unstream_quiet (place 0 lane number t.streams) (second_place lane second t.streams) a; told = told; other = refl }
   where
     told : (stop : Option Bool) (bytes : List ℕ) (closing : Option Error) (a : Answer) → ReadTold stop bytes t.events closing (words.Unstream number second) a
     told stop bytes None a = tt
     told stop bytes (Some error) a = tt
 
 pub queue_still : (t : Trail) (lane number limit : ℕ) → IsStill t lane (words.Queue number limit)
-queue_still t lane number limit = record { quiet = λ a. queue_quiet (place 0 lane number t.streams) limit a; told = told }
+queue_still t lane number limit = record { quiet = λ a. queue_quiet (place 0 lane number t.streams) limit a; told = told; other = refl }
   where
     told : (stop : Option Bool) (bytes : List ℕ) (closing : Option Error) (a : Answer) → ReadTold stop bytes t.events closing (words.Queue number limit) a
     told stop bytes None a = tt
     told stop bytes (Some error) a = tt
 
 pub main_still : (t : Trail) (lane limit : ℕ) → IsStill t lane (words.MainQueue limit)
-main_still t lane limit = record { quiet = λ a. main_quiet limit a; told = told }
+main_still t lane limit = record { quiet = λ a. main_quiet limit a; told = told; other = refl }
   where
     told : (stop : Option Bool) (bytes : List ℕ) (closing : Option Error) (a : Answer) → ReadTold stop bytes t.events closing (words.MainQueue limit) a
     told stop bytes None a = tt
@@ -88,7 +90,7 @@ reads_still setting start now es lane w a still plain x =
 pub writes_still : (setting : Setting) (start now : Outlet) (es : List Entry) (lane : ℕ) (w : Words) (a : Answer) → IsStill (trail setting es) lane w → IsPlain a
     → Writes setting start now es → Writes setting start now (entry lane w a ∷ es)
 writes_still setting start now es lane w a still plain x =
-    writes_quiet setting start now es lane w a (still.quiet a) (λ e. absurd (no_write a plain e)) x
+    writes_quiet setting start now es lane w a (still.quiet a) still.other (λ e. absurd (no_write a plain e)) x
 
 -- ---- a refusal
 

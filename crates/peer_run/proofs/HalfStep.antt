@@ -10,16 +10,15 @@ use Rattle.wire_message.specs.Outcome.{IsReadRefusal}
 use Rattle.wire_message.specs.declared.error.Error.{Error}
 use Rattle.wire_message.specs.declared.error.Error.TheVariants as errors
 use Rattle.wire_message.specs.declared.error.IoKind.TheVariants as kinds
-use Rattle.peer_route.specs.Parcel.{Setting, Asked}
+use Rattle.peer_route.specs.Parcel.{Setting}
 use Rattle.peer_route.specs.declared.words.Words.{Words}
-use Rattle.peer_route.specs.declared.words.Words.TheVariants as words
 use Rattle.peer_route.specs.declared.answer.Answer.{Answer}
-use Rattle.peer_route.specs.declared.answer.Answer.TheVariants as answers
 use Rattle.peer_route.specs.declared.answer.Entry.{Entry}
+use Rattle.peer_route.specs.declared.writer.Writer.TheVariants as writers
 use Rattle.peer_route.specs.History as events
-use Rattle.peer_route.specs.Trail.{trail, read_events, send_events, failed_put, poll_spends, drop_spends, stream_makes, take_does, clone_makes, unstream_does, queue_does, main_sets, second_place, place}
+use Rattle.peer_route.specs.Trail.{trail, events_of}
 use Rattle.peer_run.specs.Stands.{entry}
-use Rattle.peer_run.proofs.Quiet.{quiet_same, poll_quiet, drop_quiet, stream_quiet, take_quiet, clone_quiet, unstream_quiet, queue_quiet, main_quiet}
+use Rattle.peer_route.proofs.Writers.{fine_before as writers_before}
 
 -- ---- a read
 
@@ -79,39 +78,7 @@ keeps_err seq (Err e) kept' left left' stop stop' faults faults' asked asked' wi
 
 -- ---- a send
 
-put_before : (failed : Bool) (m : Seen) (expects : Bool) (h : List events.Event) → events.is_failed h ≡ failed
-    → events.is_failed (failed_put failed (events.Put m expects) ++ h) ≡ false → events.is_failed h ≡ false
-put_before true m expects h e f = f
-put_before false m expects h e f = e
-
-send_before : (h : List events.Event) (asked : Asked) (a : Answer) → events.is_failed (send_events h asked a ++ h) ≡ false → events.is_failed h ≡ false
-send_before h (Ok parcel) (answers.Called call serial) f = f
-send_before h (Ok parcel) (answers.Sent serial) f = f
-send_before h (Ok parcel) (answers.SendFailed error) f = put_before (events.is_failed h) _ _ h refl f
-send_before h (Ok parcel) a f = f
-send_before h (Err error) a f = f
-
-read_before : (closing : Option Error) (a : Answer) (h : List events.Event) → events.is_failed (read_events closing a ++ h) ≡ false → events.is_failed h ≡ false
-read_before (Some error) a h f = f
-read_before None (answers.Got m) h f = f
-read_before None (answers.Closed error) h f = f
-read_before None a h f = f
-
--- where no write failed, none had failed an entry before
+-- where the writer is fine, it was fine an entry before
 pub fine_before : (setting : Setting) (es : List Entry) (lane : ℕ) (w : Words) (a : Answer)
-    → events.is_failed (trail setting (entry lane w a ∷ es)).events ≡ false → events.is_failed (trail setting es).events ≡ false
-fine_before setting es lane (words.Call out) a f = send_before (trail setting es).events _ a f
-fine_before setting es lane (words.Signal out) a f = send_before (trail setting es).events _ a f
-fine_before setting es lane (words.Reply stream body) a f = send_before (trail setting es).events _ a f
-fine_before setting es lane (words.Error stream error_name body) a f = send_before (trail setting es).events _ a f
-fine_before setting es lane words.Read a f = read_before (events.closing (trail setting es).events) a (trail setting es).events f
-fine_before setting es lane (words.Poll number) a f = sym (quiet_same (poll_spends (place 0 lane number (trail setting es).names) a) (trail setting es).events (poll_quiet (place 0 lane number (trail setting es).names) a)).failed ∙ f
-fine_before setting es lane (words.Before number before) a f = sym (quiet_same (poll_spends (place 0 lane number (trail setting es).names) a) (trail setting es).events (poll_quiet (place 0 lane number (trail setting es).names) a)).failed ∙ f
-fine_before setting es lane (words.Drop number) a f = sym (quiet_same (drop_spends (place 0 lane number (trail setting es).names) a) (trail setting es).events (drop_quiet (place 0 lane number (trail setting es).names) a)).failed ∙ f
-fine_before setting es lane words.Stream a f = sym (quiet_same (stream_makes a) (trail setting es).events (stream_quiet a)).failed ∙ f
-fine_before setting es lane (words.Take number) a f = sym (quiet_same (take_does (place 0 lane number (trail setting es).streams) a) (trail setting es).events (take_quiet (place 0 lane number (trail setting es).streams) a)).failed ∙ f
-fine_before setting es lane (words.TakeBefore number before) a f = sym (quiet_same (take_does (place 0 lane number (trail setting es).streams) a) (trail setting es).events (take_quiet (place 0 lane number (trail setting es).streams) a)).failed ∙ f
-fine_before setting es lane (words.Clone number) a f = sym (quiet_same (clone_makes (place 0 lane number (trail setting es).streams) a) (trail setting es).events (clone_quiet (place 0 lane number (trail setting es).streams) a)).failed ∙ f
-fine_before setting es lane (words.Unstream number second) a f = sym (quiet_same (unstream_does (place 0 lane number (trail setting es).streams) (second_place lane second (trail setting es).streams) a) (trail setting es).events (unstream_quiet (place 0 lane number (trail setting es).streams) (second_place lane second (trail setting es).streams) a)).failed ∙ f
-fine_before setting es lane (words.Queue number limit) a f = sym (quiet_same (queue_does (place 0 lane number (trail setting es).streams) limit a) (trail setting es).events (queue_quiet (place 0 lane number (trail setting es).streams) limit a)).failed ∙ f
-fine_before setting es lane (words.MainQueue limit) a f = sym (quiet_same (main_sets limit a) (trail setting es).events (main_quiet limit a)).failed ∙ f
+    → events.writer (trail setting (entry lane w a ∷ es)).events ≡ writers.Fine → events.writer (trail setting es).events ≡ writers.Fine
+fine_before setting es lane w a f = writers_before (events_of (trail setting es) lane w a) (trail setting es).events f

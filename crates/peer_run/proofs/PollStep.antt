@@ -26,6 +26,7 @@ use Rattle.peer_route.proofs.Given.{given_same}
 use Rattle.peer_route.proofs.ByPosition.{closed_so}
 use Rattle.peer_run.specs.Stands.{PeerView, Inlet, Outlet, Follows, Reads, Writes, HasReadFault, IsReadFault, IsWriteFault, entry}
 use Rattle.peer_run.proofs.Quiet.{AreQuiet, poll_quiet, fault_was_read}
+use Rattle.peer_run.proofs.Kept.{is_close}
 use Rattle.peer_run.proofs.QuietStep.{follows_quiet, reads_quiet, writes_quiet}
 
 -- what is shown of a poll spends what the poll spent
@@ -100,16 +101,17 @@ given_spent (Some k) a h = refl
 pub record IsPolling (t : Trail) (lane number : ℕ) (w : Words) : Type 0 where
   pub spends : (a : Answer) → events_of t lane w a ≡ poll_spends (place 0 lane number t.names) a
   pub quiet : (stop : Option Bool) (bytes : List ℕ) (closing : Option Error) (a : Answer) → ReadTold stop bytes t.events closing w a
+  pub other : is_close w ≡ false
 
 pub polling : (t : Trail) (lane number : ℕ) → IsPolling t lane number (words.Poll number)
-polling t lane number = record { spends = λ a. refl; quiet = λ stop bytes closing a. told stop bytes closing a }
+polling t lane number = record { spends = λ a. refl; quiet = λ stop bytes closing a. told stop bytes closing a; other = refl }
   where
     told : (stop : Option Bool) (bytes : List ℕ) (closing : Option Error) (a : Answer) → ReadTold stop bytes t.events closing (words.Poll number) a
     told stop bytes None a = tt
     told stop bytes (Some error) a = tt
 
 pub polling_before : (t : Trail) (lane number before : ℕ) → IsPolling t lane number (words.Before number before)
-polling_before t lane number before = record { spends = λ a. refl; quiet = λ stop bytes closing a. told stop bytes closing a }
+polling_before t lane number before = record { spends = λ a. refl; quiet = λ stop bytes closing a. told stop bytes closing a; other = refl }
   where
     told : (stop : Option Bool) (bytes : List ℕ) (closing : Option Error) (a : Answer) → ReadTold stop bytes t.events closing (words.Before number before) a
     told stop bytes None a = tt
@@ -247,7 +249,7 @@ writes_by : (setting : Setting) (start now : Outlet) (es : List Entry) (lane num
     → Writes setting start now es → Writes setting start now (entry lane w (shown r) ∷ es)
 writes_by setting start now es lane number w r polls x =
     writes_quiet setting start now es lane w (shown r) (subst AreQuiet (sym (polls.spends (shown r))) (poll_quiet (place 0 lane number (trail setting es).names) (shown r)))
-    (λ f. absurd (no_write_shown r f)) x
+    polls.other (λ f. absurd (no_write_shown r f)) x
 
 pub writes_poll : (setting : Setting) (start now : Outlet) (es : List Entry) (lane number : ℕ) (r : Result (Polled Seen) Error)
     → Writes setting start now es → Writes setting start now (entry lane (words.Poll number) (shown r) ∷ es)

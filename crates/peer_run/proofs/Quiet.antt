@@ -1,11 +1,15 @@
 -- Counts that rise, and what later entries keep of earlier ones.
-use Rattle.std.proofs.Common.{◌≡◌, ℕ, ◌-◌, ◌^◌, ◌≤◌, refl, sym, ◌∙◌, ap, subst, arith, Bool, true, false, List, [], ◌∷◌, ◌++◌, length, Option, Some, None, Ok, Err, ◌⊎◌, inl, inr}
+use Rattle.std.proofs.Common.{◌≡◌, ℕ, ◌-◌, ◌^◌, ◌≤◌, refl, sym, ◌∙◌, ap, subst, arith, Bool, true, false, List, [], ◌∷◌, ◌++◌, length, Option, Some, None, Result, Ok, Err, ◌⊎◌, inl, inr}
 use Rattle.std.proofs.lemmas.Bool.{cases_lt}
 use Rattle.wire_message.specs.declared.error.Error.{Error}
 use Rattle.wire_message.specs.declared.error.Error.TheVariants as errors
 use Rattle.wire_message.specs.declared.error.IoKind.TheVariants as kinds
 use Rattle.wire_framing.specs.Source.{MayRise}
 use Rattle.wire_message.specs.Front.{Seen}
+use Rattle.rule_match.specs.Rule.{Rule}
+use Rattle.rule_match.specs.Bytes.{rule_in_bytes}
+use Rattle.peer_route.specs.declared.writer.Writer.{Writer}
+use Rattle.peer_route.specs.declared.writer.Writer.TheVariants as writers
 use Rattle.peer_route.specs.Parcel.{Setting, Asked}
 use Rattle.peer_route.specs.declared.words.Words.{Words}
 use Rattle.peer_route.specs.declared.words.Words.TheVariants as words
@@ -13,7 +17,7 @@ use Rattle.peer_route.specs.declared.answer.Answer.{Answer}
 use Rattle.peer_route.specs.declared.answer.Answer.TheVariants as answers
 use Rattle.peer_route.specs.declared.answer.Entry.{Entry}
 use Rattle.peer_route.specs.History as events
-use Rattle.peer_route.specs.Trail.{trail, read_events, send_events, failed_put, poll_spends, drop_spends, stream_makes, take_does, clone_makes, unstream_does, queue_does, main_sets, second_place, first_events, place}
+use Rattle.peer_route.specs.Trail.{trail, read_events, send_events, failed_put, poll_spends, drop_spends, stream_makes, open_makes, close_does, take_does, clone_makes, unstream_does, queue_does, main_sets, second_place, first_events, place}
 use Rattle.peer_route.specs.Answers.{Legal, IsAnswer}
 use Rattle.peer_route.specs.Streams.{all_given}
 use Rattle.peer_route.specs.Left.{Left}
@@ -65,14 +69,15 @@ read_closes None (answers.Closed error) h e f = inl (let g : events.first_of Non
 read_closes None (answers.Got m) h e f = inr f
 read_closes None a h e f = inr f
 
-put_closes : (failed : Bool) (m : Seen) (expects : Bool) (h : List events.Event) → events.closing (failed_put failed (events.Put m expects) ++ h) ≡ events.closing h
-put_closes true m expects h = refl
-put_closes false m expects h = refl
+put_closes : (w : Writer) (m : Seen) (expects : Bool) (h : List events.Event) → events.closing (failed_put w (events.Put m expects) ++ h) ≡ events.closing h
+put_closes writers.Fine m expects h = refl
+put_closes writers.Failed m expects h = refl
+put_closes writers.Closed m expects h = refl
 
 send_closes : (h : List events.Event) (asked : Asked) (a : Answer) → events.closing (send_events h asked a ++ h) ≡ events.closing h
 send_closes h (Ok parcel) (answers.Called call serial) = refl
 send_closes h (Ok parcel) (answers.Sent serial) = refl
-send_closes h (Ok parcel) (answers.SendFailed error) = put_closes (events.is_failed h) _ _ h
+send_closes h (Ok parcel) (answers.SendFailed error) = put_closes (events.writer h) _ _ h
 send_closes h (Ok parcel) a = refl
 send_closes h (Err error) a = refl
 
@@ -132,6 +137,11 @@ pub stream_quiet : (a : Answer) → AreQuiet (stream_makes a)
 stream_quiet (answers.Streaming number) = tt
 stream_quiet a = tt
 
+pub open_quiet : (found : Result Rule Error) (asked : Option ℕ) (a : Answer) → AreQuiet (open_makes found asked a)
+open_quiet (Ok rule) asked (answers.Streaming number) = tt
+open_quiet (Ok rule) asked a = tt
+open_quiet (Err error) asked a = tt
+
 pub take_quiet : (k : Option ℕ) (a : Answer) → AreQuiet (take_does k a)
 take_quiet None a = tt
 take_quiet (Some k) (answers.Item position) = tt
@@ -159,6 +169,16 @@ pub main_quiet : (limit : ℕ) (a : Answer) → AreQuiet (main_sets limit a)
 main_quiet limit answers.Set = tt
 main_quiet limit a = tt
 
+-- closing the peer is no fault of a read
+first_closed : (o : Option Error) → events.first_of o (errors.InputOutput kinds.Closed) ≡ Some (errors.InputOutput kinds.Fault) → ClosedByFault o
+first_closed None e = absurd (cc)
+first_closed (Some error) e = e
+
+close_closes : (a : Answer) (h : List events.Event) → ClosedByFault (events.closing (close_does a ++ h)) → ClosedByFault (events.closing h)
+close_closes answers.Shut h f = first_closed (events.closing h) f
+close_closes (answers.SendFailed error) h f = first_closed (events.closing h) f
+close_closes a h f = f
+
 closes_by : (setting : Setting) (es : List Entry) (lane : ℕ) (w : Words) (a : Answer)
     → ClosedByFault (events.closing (trail setting (entry lane w a ∷ es)).events) → IsReadFault a ⊎ ClosedByFault (events.closing (trail setting es).events)
 closes_by setting es lane (words.Call out) a f = inr (sym (send_closes (trail setting es).events _ a) ∙ f)
@@ -170,6 +190,9 @@ closes_by setting es lane (words.Poll number) a f = inr (sym (quiet_same (poll_s
 closes_by setting es lane (words.Before number before) a f = inr (sym (quiet_same (poll_spends (place 0 lane number (trail setting es).names) a) (trail setting es).events (poll_quiet (place 0 lane number (trail setting es).names) a)).closing ∙ f)
 closes_by setting es lane (words.Drop number) a f = inr (sym (quiet_same (drop_spends (place 0 lane number (trail setting es).names) a) (trail setting es).events (drop_quiet (place 0 lane number (trail setting es).names) a)).closing ∙ f)
 closes_by setting es lane words.Stream a f = inr (sym (quiet_same (stream_makes a) (trail setting es).events (stream_quiet a)).closing ∙ f)
+closes_by setting es lane (words.Open max_queued rule) a f =
+    inr (sym (quiet_same (open_makes (rule_in_bytes rule) max_queued a) (trail setting es).events (open_quiet (rule_in_bytes rule) max_queued a)).closing ∙ f)
+closes_by setting es lane words.Close a f = inr (close_closes a (trail setting es).events f)
 closes_by setting es lane (words.Take number) a f = inr (sym (quiet_same (take_does (place 0 lane number (trail setting es).streams) a) (trail setting es).events (take_quiet (place 0 lane number (trail setting es).streams) a)).closing ∙ f)
 closes_by setting es lane (words.TakeBefore number before) a f = inr (sym (quiet_same (take_does (place 0 lane number (trail setting es).streams) a) (trail setting es).events (take_quiet (place 0 lane number (trail setting es).streams) a)).closing ∙ f)
 closes_by setting es lane (words.Clone number) a f =

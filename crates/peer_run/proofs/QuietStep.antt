@@ -1,5 +1,5 @@
 -- An entry that reads nothing and sends nothing.
-use Rattle.std.proofs.Common.{◌≡◌, ℕ, sym, ◌∙◌, ap, Bool, List, [], ◌∷◌, ◌++◌, length, Option}
+use Rattle.std.proofs.Common.{◌≡◌, ℕ, sym, ◌∙◌, ap, Bool, false, List, [], ◌∷◌, ◌++◌, length, Option}
 use Rattle.std.proofs.lemmas.List.{append-nil}
 use Rattle.wire_message.specs.declared.error.Error.{Error}
 use Rattle.peer_route.specs.Parcel.{Setting}
@@ -14,7 +14,7 @@ use Rattle.peer_route.specs.Streams.{all_given}
 use Rattle.peer_route.specs.Left.{Left}
 use Rattle.peer_run.specs.Stands.{PeerView, Inlet, Outlet, Follows, Reads, Writes, HasReadFault, IsReadFault, HasWriteFault, IsWriteFault, entry}
 use Rattle.peer_run.proofs.Quiet.{AreQuiet, quiet_same, follows_more}
-use Rattle.peer_run.proofs.Kept.{reads_kept, writes_kept}
+use Rattle.peer_run.proofs.Kept.{reads_kept, writes_kept, is_close, close_told}
 
 pub follows_quiet : (setting : Setting) (p q : PeerView) (es : List Entry) (lane : ℕ) (w : Words) (a : Answer) (xs : List events.Event) → Follows setting p es
     → events_of (trail setting es) lane w a ≡ xs → AreQuiet xs → Left q.core (xs ++ (trail setting es).events)
@@ -40,9 +40,9 @@ reads_quiet setting start now es lane w a quiet told fault x =
     reads_kept setting start now es lane w a same.read same.closing (λ stop bytes. told stop bytes (events.closing (trail setting es).events)) fault x
 
 pub writes_quiet : (setting : Setting) (start now : Outlet) (es : List Entry) (lane : ℕ) (w : Words) (a : Answer)
-    → AreQuiet (events_of (trail setting es) lane w a)
+    → AreQuiet (events_of (trail setting es) lane w a) → is_close w ≡ false
     → (IsWriteFault a → HasWriteFault es)
     → Writes setting start now es → Writes setting start now (entry lane w a ∷ es)
-writes_quiet setting start now es lane w a quiet fault x =
+writes_quiet setting start now es lane w a quiet other fault x =
     let same = quiet_same (events_of (trail setting es) lane w a) (trail setting es).events quiet in
-    writes_kept setting start now es lane w a same.failed same.put fault x
+    writes_kept setting start now es lane w a same.failed same.put (close_told start.room w a other) fault x

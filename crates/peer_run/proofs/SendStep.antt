@@ -26,8 +26,9 @@ use Rattle.peer_route.proofs.Refused.{send_refused}
 use Rattle.peer_route.proofs.Sent.{trail_setting}
 use Rattle.peer_route.proofs.Given.{given_same, kept_given}
 use Rattle.peer_run.specs.Stands.{PeerView, Inlet, Outlet, Follows, Reads, Writes, Holds, HoldsThen, RoomFor, IsReadFault, HasWriteFault, IsWriteFault, named, entry}
-use Rattle.peer_run.proofs.Quiet.{follows_more, quiet_same, poll_quiet, drop_quiet, stream_quiet, take_quiet, rise_after, rise_before, clone_quiet, unstream_quiet, queue_quiet, main_quiet, first_same}
-use Rattle.peer_run.proofs.Kept.{reads_kept, writes_kept}
+use Rattle.peer_run.proofs.Quiet.{follows_more, quiet_same, poll_quiet, drop_quiet, stream_quiet, take_quiet, rise_after, rise_before, clone_quiet, unstream_quiet, queue_quiet, main_quiet, open_quiet, first_same}
+use Rattle.peer_run.proofs.Kept.{reads_kept, writes_kept, is_close, close_told}
+use Rattle.peer_route.proofs.Writers.{fine_unfailed}
 
 -- ---- a command that sends
 
@@ -37,6 +38,7 @@ pub record IsSending (t : Trail) (lane : ℕ) (w : Words) (asked : Asked) : Type
   pub events : (a : Answer) → events_of t lane w a ≡ send_events t.events asked a
   pub answer : (a : Answer) → IsSendOf t lane asked a → IsAnswer t lane w a
   pub told : (stop : Option Bool) (bytes : List ℕ) (closing : Option Error) (a : Answer) → ReadTold stop bytes t.events closing w a
+  pub other : is_close w ≡ false
 
 call_told : (h : List events.Event) (out : Outgoing) (stop : Option Bool) (bytes : List ℕ) (closing : Option Error) (a : Answer) → ReadTold stop bytes h closing (words.Call out) a
 call_told h out stop bytes None a = tt
@@ -57,16 +59,16 @@ error_told h stream text body stop bytes (Some error) a = tt
 pub sending_is : (t : Trail) (lane : ℕ) (w : Words) (asked : Asked) → asks t lane w ≡ Some asked → IsSending t lane w asked
 sending_is t lane (words.Call out) asked e =
     let same : call_asked t.setting out ≡ asked = cc in
-    subst (IsSending t lane (words.Call out)) same (record { wants = refl; events = λ a. refl; answer = λ a x. x; told = call_told t.events out })
+    subst (IsSending t lane (words.Call out)) same (record { wants = refl; events = λ a. refl; answer = λ a x. x; told = call_told t.events out; other = refl })
 sending_is t lane (words.Signal out) asked e =
     let same : signal_asked t.setting out ≡ asked = cc in
-    subst (IsSending t lane (words.Signal out)) same (record { wants = refl; events = λ a. refl; answer = λ a x. x; told = signal_told t.events out })
+    subst (IsSending t lane (words.Signal out)) same (record { wants = refl; events = λ a. refl; answer = λ a x. x; told = signal_told t.events out; other = refl })
 sending_is t lane (words.Reply stream body) asked e =
     let same : reply_asked t.setting (given t lane stream) body ≡ asked = cc in
-    subst (IsSending t lane (words.Reply stream body)) same (record { wants = refl; events = λ a. refl; answer = λ a x. x; told = reply_told t.events stream body })
+    subst (IsSending t lane (words.Reply stream body)) same (record { wants = refl; events = λ a. refl; answer = λ a x. x; told = reply_told t.events stream body; other = refl })
 sending_is t lane (words.Error stream text body) asked e =
     let same : error_asked t.setting (given t lane stream) text body ≡ asked = cc in
-    subst (IsSending t lane (words.Error stream text body)) same (record { wants = refl; events = λ a. refl; answer = λ a x. x; told = error_told t.events stream text body })
+    subst (IsSending t lane (words.Error stream text body)) same (record { wants = refl; events = λ a. refl; answer = λ a x. x; told = error_told t.events stream text body; other = refl })
 sending_is t lane words.Read asked e = cc
 sending_is t lane (words.Poll number) asked e = cc
 sending_is t lane (words.Before number before) asked e = cc
@@ -78,6 +80,8 @@ sending_is t lane (words.Clone number) asked e = cc
 sending_is t lane (words.Unstream number second) asked e = cc
 sending_is t lane (words.Queue number limit) asked e = cc
 sending_is t lane (words.MainQueue limit) asked e = cc
+sending_is t lane (words.Open max_queued rule) asked e = cc
+sending_is t lane words.Close asked e = cc
 
 -- ---- what the peer keeps
 
@@ -97,6 +101,8 @@ asks_along setting f g (words.Clone number) e = refl
 asks_along setting f g (words.Unstream number second) e = refl
 asks_along setting f g (words.Queue number limit) e = refl
 asks_along setting f g (words.MainQueue limit) e = refl
+asks_along setting f g (words.Open max_queued rule) e = refl
+asks_along setting f g words.Close e = refl
 
 -- what a command asks of what the peer keeps, it asks of the history
 pub asks_kept : (setting : Setting) (p : PeerView) (es : List Entry) (lane : ℕ) (w : Words) → Follows setting p es
@@ -125,20 +131,33 @@ follows_refused setting p es lane w asked error k f r =
     (f.names ∙ sym (append-nil (trail setting es).names)) (f.streams ∙ sym (append-nil (trail setting es).streams)) f.given f.legal
     (k.answer (answers.Refused error) (rw r refl)) f.within f.written
 
--- after a failed write nothing goes out
-unsent_events : (h : List events.Event) (asked : Asked) (error : Error) → events.is_failed h ≡ true → send_events h asked (answers.SendFailed error) ≡ []
-unsent_events h (Ok parcel) error f = rw f refl
-unsent_events h (Err e) error f = refl
+-- after a failed write, or once the peer was closed, nothing goes out
+put_none : (w : Writer) (e : events.Event) → w ≢ writers.Fine → failed_put w e ≡ []
+put_none writers.Fine e ne = absurd (ne refl)
+put_none writers.Failed e ne = refl
+put_none writers.Closed e ne = refl
 
-pub follows_unsent : (setting : Setting) (p : PeerView) (es : List Entry) (lane : ℕ) (w : Words) (asked : Asked) → IsSending (trail setting es) lane w asked → Follows setting p es
-    → send_refusal (trail setting es).events asked ≡ None → events.is_failed (trail setting es).events ≡ true
-    → Follows setting p (entry lane w write_fault ∷ es)
-follows_unsent setting p es lane w asked k f r failed =
+name_none : (w : Writer) (wants : Bool) → w ≢ writers.Fine → failed_name w wants ≡ []
+name_none writers.Fine wants ne = absurd (ne refl)
+name_none writers.Failed wants ne = refl
+name_none writers.Closed wants ne = refl
+
+unsent_events : (h : List events.Event) (asked : Asked) (error : Error) → events.writer h ≢ writers.Fine → send_events h asked (answers.SendFailed error) ≡ []
+unsent_events h (Ok parcel) error ne = put_none (events.writer h) _ ne
+unsent_events h (Err e) error ne = refl
+
+pub follows_unsent : (setting : Setting) (p : PeerView) (es : List Entry) (lane : ℕ) (w : Words) (asked : Asked) (error : Error) → IsSending (trail setting es) lane w asked → Follows setting p es
+    → send_refusal (trail setting es).events asked ≡ None → events.writer (trail setting es).events ≢ writers.Fine
+    → ((success : Answer) → IsSent (events.writer (trail setting es).events) success (answers.SendFailed error))
+    → Follows setting p (entry lane w (answers.SendFailed error) ∷ es)
+follows_unsent setting p es lane w asked error k f r ne is =
     let h = (trail setting es).events in
-    follows_more setting p es (entry lane w write_fault) h
-    (entry_events setting es lane w asked write_fault k ∙ ap (λ xs. xs ++ h) (unsent_events h asked _ failed)) f.left
-    (f.names ∙ sym (append-nil (trail setting es).names) ∙ rw failed refl) (f.streams ∙ sym (append-nil (trail setting es).streams)) f.given f.legal
-    (k.answer write_fault (rw (r, failed) refl)) f.within f.written
+    let a = answers.SendFailed error in
+    follows_more setting p es (entry lane w a) h
+    (entry_events setting es lane w asked a k ∙ ap (λ xs. xs ++ h) (unsent_events h asked error ne)) f.left
+    (f.names ∙ sym (append-nil (trail setting es).names) ∙ ap (λ ns. (trail setting es).names ++ ns) (sym (name_none (events.writer h) _ ne)))
+    (f.streams ∙ sym (append-nil (trail setting es).streams)) f.given f.legal
+    (k.answer a (rw r (is _))) f.within f.written
 
 -- what a message that went out leaves
 sent_events : (h : List events.Event) (parcel : Parcel) (expects_one : Bool) (call serial : ℕ)
@@ -155,13 +174,13 @@ sent_streams : (lane : ℕ) (names : Names) (expects_one : Bool) (call serial : 
 sent_streams lane names true call serial = sym (append-nil names)
 sent_streams lane names false call serial = sym (append-nil names)
 
-failed_names : (names : Names) (expects_one : Bool) → named expects_one None names ≡ names ++ failed_name false expects_one
+failed_names : (names : Names) (expects_one : Bool) → named expects_one None names ≡ names ++ failed_name writers.Fine expects_one
 failed_names names true = refl
 failed_names names false = sym (append-nil names)
 
 -- the message went out
 pub follows_sent : (setting : Setting) (p q : PeerView) (es : List Entry) (lane serial : ℕ) (w : Words) (parcel : Parcel) → IsSending (trail setting es) lane w (Ok parcel) → Follows setting p es
-    → send_refusal (trail setting es).events (Ok parcel) ≡ None → events.is_failed (trail setting es).events ≡ false → next_serial (trail setting es).events ≡ Some serial
+    → send_refusal (trail setting es).events (Ok parcel) ≡ None → events.writer (trail setting es).events ≡ writers.Fine → next_serial (trail setting es).events ≡ Some serial
     → q.names ≡ named (expects (Ok parcel)) (Some lane) p.names → q.streams ≡ p.streams → q.given ≡ p.given
     → Left q.core (events.Wrote ∷ events.Put (message_of parcel serial) (expects (Ok parcel)) ∷ (trail setting es).events)
     → Follows setting q (entry lane w (sent_answer (expects (Ok parcel)) (count lane p.names) serial) ∷ es)
@@ -184,13 +203,13 @@ follows_sent setting p q es lane serial w parcel k f r fine next names streams g
     called_as a b = rw (a, b) refl
 
 -- the events of a message whose write failed
-pub fault_events : (h : List events.Event) (parcel : Parcel) (serial : ℕ) → events.is_failed h ≡ false → next_serial h ≡ Some serial
+pub fault_events : (h : List events.Event) (parcel : Parcel) (serial : ℕ) → events.writer h ≡ writers.Fine → next_serial h ≡ Some serial
     → send_events h (Ok parcel) write_fault ++ h ≡ events.Fault ∷ events.Put (message_of parcel serial) (expects (Ok parcel)) ∷ h
 fault_events h parcel serial fine next = rw (fine, next) refl
 
 -- the message's write failed
 pub follows_failed : (setting : Setting) (p q : PeerView) (es : List Entry) (lane serial : ℕ) (w : Words) (parcel : Parcel) → IsSending (trail setting es) lane w (Ok parcel) → Follows setting p es
-    → send_refusal (trail setting es).events (Ok parcel) ≡ None → events.is_failed (trail setting es).events ≡ false → next_serial (trail setting es).events ≡ Some serial
+    → send_refusal (trail setting es).events (Ok parcel) ≡ None → events.writer (trail setting es).events ≡ writers.Fine → next_serial (trail setting es).events ≡ Some serial
     → q.names ≡ named (expects (Ok parcel)) None p.names → q.streams ≡ p.streams → q.given ≡ p.given
     → Left q.core (events.Fault ∷ events.Put (message_of parcel serial) (expects (Ok parcel)) ∷ (trail setting es).events)
     → Follows setting q (entry lane w write_fault ∷ es)
@@ -210,15 +229,16 @@ follows_failed setting p q es lane serial w parcel k f r fine next names streams
 
 -- ---- the source
 
-put_reads : (failed : Bool) (m : Seen) (expects_one : Bool) (h : List events.Event)
-    → (events.read (failed_put failed (events.Put m expects_one) ++ h) ≡ events.read h) × (events.closing (failed_put failed (events.Put m expects_one) ++ h) ≡ events.closing h)
-put_reads true m expects_one h = (refl, refl)
-put_reads false m expects_one h = (refl, refl)
+put_reads : (w : Writer) (m : Seen) (expects_one : Bool) (h : List events.Event)
+    → (events.read (failed_put w (events.Put m expects_one) ++ h) ≡ events.read h) × (events.closing (failed_put w (events.Put m expects_one) ++ h) ≡ events.closing h)
+put_reads writers.Fine m expects_one h = (refl, refl)
+put_reads writers.Failed m expects_one h = (refl, refl)
+put_reads writers.Closed m expects_one h = (refl, refl)
 
 send_reads : (h : List events.Event) (asked : Asked) (a : Answer) → (events.read (send_events h asked a ++ h) ≡ events.read h) × (events.closing (send_events h asked a ++ h) ≡ events.closing h)
 send_reads h (Ok parcel) (answers.Called call serial) = (refl, refl)
 send_reads h (Ok parcel) (answers.Sent serial) = (refl, refl)
-send_reads h (Ok parcel) (answers.SendFailed error) = put_reads (events.is_failed h) _ _ h
+send_reads h (Ok parcel) (answers.SendFailed error) = put_reads (events.writer h) _ _ h
 send_reads h (Ok parcel) a = (refl, refl)
 send_reads h (Err error) a = (refl, refl)
 
@@ -239,24 +259,32 @@ writes_refused setting start now es lane w asked error k r =
     let h = (trail setting es).events in
     let same : (trail setting (entry lane w (answers.Refused error) ∷ es)).events ≡ h =
     entry_events setting es lane w asked (answers.Refused error) k ∙ ap (λ xs. xs ++ h) (send_refused h asked error) in
-    writes_kept setting start now es lane w (answers.Refused error) (ap events.is_failed same) (ap events.put same) (λ f. cc) r
+    writes_kept setting start now es lane w (answers.Refused error) (ap events.is_failed same) (ap events.put same) (close_told start.room w (answers.Refused error) k.other) (λ f. cc) r
 
--- a failed write was answered
-called_fault : (refusal : Option Error) (failed expects : Bool) (number serial : ℕ) (error : Error)
-    → IsCalled refusal failed (sent_answer expects number serial) (answers.SendFailed error) → IsWriteFault (answers.SendFailed error)
-called_fault (Some other) failed expects number serial error a = cc
-called_fault None true expects number serial error a = a
-called_fault None false true number serial error (inl a) = cc
-called_fault None false false number serial error (inl a) = cc
-called_fault None false expects number serial error (inr a) = a
+-- a write that fails is answered
+failed_by : (h : List events.Event) (parcel : Parcel) (r : Option Error) (w : Writer) (expects_one : Bool) (number serial : ℕ) (error : Error) → events.writer h ≡ w
+    → IsCalled r w (sent_answer expects_one number serial) (answers.SendFailed error)
+    → events.is_failed (send_events h (Ok parcel) (answers.SendFailed error) ++ h) ≡ true → IsWriteFault (answers.SendFailed error) ⊎ (events.is_failed h ≡ true)
+failed_by h parcel (Some other) w expects_one number serial error e is f = absurd (cc)
+failed_by h parcel None writers.Failed expects_one number serial error e is f = inl is
+failed_by h parcel None writers.Closed expects_one number serial error e is f =
+    inr (sym (ap (λ w. events.is_failed (failed_put w (events.Put (message_of parcel (or_zero (next_serial h))) (expects (Ok parcel))) ++ h)) e) ∙ f)
+failed_by h parcel None writers.Fine true number serial error e (inl is) f = absurd (cc)
+failed_by h parcel None writers.Fine false number serial error e (inl is) f = absurd (cc)
+failed_by h parcel None writers.Fine expects_one number serial error e (inr is) f = inl is
 
 send_fails : (t : Trail) (lane : ℕ) (asked : Asked) (a : Answer) → IsSendOf t lane asked a
     → events.is_failed (send_events t.events asked a ++ t.events) ≡ true → IsWriteFault a ⊎ (events.is_failed t.events ≡ true)
 send_fails t lane (Ok parcel) (answers.Called call n) a f = inr f
 send_fails t lane (Ok parcel) (answers.Sent n) a f = inr f
-send_fails t lane (Ok parcel) (answers.SendFailed error) a f = inl (called_fault (send_refusal t.events (Ok parcel)) (events.is_failed t.events) _ _ _ error a)
+send_fails t lane (Ok parcel) (answers.SendFailed error) a f = failed_by t.events parcel (send_refusal t.events (Ok parcel)) (events.writer t.events) _ _ _ error refl a f
 send_fails t lane (Ok parcel) x a f = inr f
 send_fails t lane (Err error) x a f = inr f
+
+close_fails : (a : Answer) (h : List events.Event) → events.is_failed (close_does a ++ h) ≡ events.is_failed h
+close_fails answers.Shut h = refl
+close_fails (answers.SendFailed error) h = refl
+close_fails a h = refl
 
 read_fails : (closing : Option Error) (a : Answer) (h : List events.Event) → events.is_failed (read_events closing a ++ h) ≡ events.is_failed h
 read_fails (Some error) a h = refl
@@ -280,6 +308,9 @@ fails_by setting es lane (words.TakeBefore number before) a x f = inr (sym (quie
 fails_by setting es lane (words.Clone number) a x f = inr (sym (quiet_same (clone_makes (place 0 lane number (trail setting es).streams) a) (trail setting es).events (clone_quiet (place 0 lane number (trail setting es).streams) a)).failed ∙ f)
 fails_by setting es lane (words.Unstream number second) a x f = inr (sym (quiet_same (unstream_does (place 0 lane number (trail setting es).streams) (second_place lane second (trail setting es).streams) a) (trail setting es).events (unstream_quiet (place 0 lane number (trail setting es).streams) (second_place lane second (trail setting es).streams) a)).failed ∙ f)
 fails_by setting es lane (words.Queue number limit) a x f = inr (sym (quiet_same (queue_does (place 0 lane number (trail setting es).streams) limit a) (trail setting es).events (queue_quiet (place 0 lane number (trail setting es).streams) limit a)).failed ∙ f)
+fails_by setting es lane (words.Open max_queued rule) a x f =
+    inr (sym (quiet_same (open_makes (rule_in_bytes rule) max_queued a) (trail setting es).events (open_quiet (rule_in_bytes rule) max_queued a)).failed ∙ f)
+fails_by setting es lane words.Close a x f = inr (sym (close_fails a (trail setting es).events) ∙ f)
 fails_by setting es lane (words.MainQueue limit) a x f = inr (sym (quiet_same (main_sets limit a) (trail setting es).events (main_quiet limit a)).failed ∙ f)
 
 earlier : (A B C : Type 0) → A ⊎ B → (B → C) → A ⊎ C
@@ -292,13 +323,26 @@ fault_was_written setting (e ∷ es) legal f =
     earlier (IsWriteFault e.answer) (events.is_failed (trail setting es).events ≡ true) (HasWriteFault es)
     (fails_by setting es e.lane e.words e.answer legal.0 f) (fault_was_written setting es legal.1)
 
-pub writes_unsent : (setting : Setting) (start now : Outlet) (es : List Entry) (lane : ℕ) (w : Words) (asked : Asked) → IsSending (trail setting es) lane w asked → Legal setting es → events.is_failed (trail setting es).events ≡ true
-    → Writes setting start now es → Writes setting start now (entry lane w write_fault ∷ es)
-writes_unsent setting start now es lane w asked k legal failed r =
+pub writes_unsent : (setting : Setting) (start now : Outlet) (es : List Entry) (lane : ℕ) (w : Words) (asked : Asked) (error : Error) → IsSending (trail setting es) lane w asked
+    → events.writer (trail setting es).events ≢ writers.Fine → (IsWriteFault (answers.SendFailed error) → HasWriteFault es)
+    → Writes setting start now es → Writes setting start now (entry lane w (answers.SendFailed error) ∷ es)
+writes_unsent setting start now es lane w asked error k ne fault r =
     let h = (trail setting es).events in
-    let same : (trail setting (entry lane w write_fault ∷ es)).events ≡ h =
-    entry_events setting es lane w asked write_fault k ∙ ap (λ xs. xs ++ h) (unsent_events h asked _ failed) in
-    writes_kept setting start now es lane w write_fault (ap events.is_failed same) (ap events.put same) (λ f. fault_was_written setting es legal failed) r
+    let a = answers.SendFailed error in
+    let same : (trail setting (entry lane w a ∷ es)).events ≡ h =
+    entry_events setting es lane w asked a k ∙ ap (λ xs. xs ++ h) (unsent_events h asked error ne) in
+    writes_kept setting start now es lane w a (ap events.is_failed same) (ap events.put same) (close_told start.room w a k.other) fault r
+
+-- what a sink told of its room, it tells still
+pub falls_told : (room room' : Option (Option ℕ)) (n : ℕ) → RoomFalls room room' n → IsSome room → IsSome room'
+falls_told None room' n f there = absurd there
+falls_told (Some None) room' n f there = subst IsSome (sym f) tt
+falls_told (Some (Some k)) room' n f there = subst IsSome (sym f.1) tt
+
+pub breaks_told : (room room' : Option (Option ℕ)) (n : ℕ) → RoomBreaks room room' n → IsSome room → IsSome room'
+breaks_told None room' n f there = absurd there
+breaks_told (Some None) room' n f there = absurd f
+breaks_told (Some (Some k)) room' n f there = subst IsSome (sym f.1) tt
 
 -- ---- a message goes out
 
@@ -354,9 +398,10 @@ writes_sent setting start now after es lane number serial w parcel k fine append
     record {
       holds = all_held same start.held room r.holds;
       room = subst (λ g. RoomFor (events.is_failed g) start.room after.room (events.put g)) (sym same) (rw fine room);
+      closes = (close_told start.room w (sent_answer (expects (Ok parcel)) number serial) k.other, r.closes);
+      tells = λ there. falls_told now.room after.room (length m.bytes) falls (r.tells there);
       cause = λ f. rise_before start.faults now.faults after.faults (r.cause (not_called (expects (Ok parcel)) f)) (omega (arith, faults));
       kept = omega (arith, faults, r.kept);
-      only = λ f. faults ∙ r.only fine;
     }
   where
     all_held : (trail setting (entry lane w (sent_answer (expects (Ok parcel)) number serial) ∷ es)).events
@@ -406,21 +451,23 @@ failed_holds room before (Some held) held' h m expects now after n fine appends 
 
 -- a message's write failed
 pub writes_failed : (setting : Setting) (start now after : Outlet) (es : List Entry) (lane serial : ℕ) (w : Words) (parcel : Parcel) (n : ℕ) → IsSending (trail setting es) lane w (Ok parcel)
-    → events.is_failed (trail setting es).events ≡ false → next_serial (trail setting es).events ≡ Some serial
+    → events.writer (trail setting es).events ≡ writers.Fine → next_serial (trail setting es).events ≡ Some serial
     → Part (message_of parcel serial).bytes now.held after.held n → RoomBreaks now.room after.room n → MayRise now.faults after.faults
     → Writes setting start now es → Writes setting start after (entry lane w write_fault ∷ es)
-writes_failed setting start now after es lane serial w parcel n k fine next part breaks rises r =
+writes_failed setting start now after es lane serial w parcel n k writes_still next part breaks rises r =
     let h = (trail setting es).events in
+    let fine : events.is_failed h ≡ false = fine_unfailed h writes_still in
     let m = message_of parcel serial in
     let same : (trail setting (entry lane w write_fault ∷ es)).events ≡ events.Fault ∷ events.Put m (expects (Ok parcel)) ∷ h =
-    entry_events setting es lane w (Ok parcel) write_fault k ∙ fault_events h parcel serial fine next in
+    entry_events setting es lane w (Ok parcel) write_fault k ∙ fault_events h parcel serial writes_still next in
     let falls : RoomFalls start.room now.room (length (encodings (events.put h))) = rw fine at r.room in
     record {
       holds = all_held same start.held falls r.holds;
       room = subst (λ g. RoomFor (events.is_failed g) start.room after.room (events.put g)) (sym same) tt;
+      closes = (close_told start.room w write_fault k.other, r.closes);
+      tells = λ there. breaks_told now.room after.room n breaks (r.tells there);
       cause = λ f. rise_after start.faults now.faults after.faults r.kept rises;
       kept = kept_after (rises);
-      only = λ f. let g : true ≡ false = ap events.is_failed (sym same) ∙ f in cc;
     }
   where
     kept_after : MayRise now.faults after.faults → start.faults ≤ after.faults
@@ -434,4 +481,4 @@ writes_failed setting start now after es lane serial w parcel n k fine next part
     all_held same None falls t = tt
     all_held same (Some before) falls t =
         subst (λ g. HoldsThen start.room before after.held g) (sym same)
-        (failed_holds start.room before now.held after.held (trail setting es).events (message_of parcel serial) (expects (Ok parcel)) now.room after.room n fine part.gone part.proper falls breaks t)
+        (failed_holds start.room before now.held after.held (trail setting es).events (message_of parcel serial) (expects (Ok parcel)) now.room after.room n (fine_unfailed (trail setting es).events writes_still) part.gone part.proper falls breaks t)

@@ -79,7 +79,7 @@ reads_drop setting start now es lane number r x =
 pub writes_drop : (setting : Setting) (start now : Outlet) (es : List Entry) (lane number : ℕ) (r : Result (Unit {0}) Error) → Writes setting start now es
     → Writes setting start now (entry lane (words.Drop number) (shown_drop r) ∷ es)
 writes_drop setting start now es lane number r x =
-    writes_quiet setting start now es lane (words.Drop number) (shown_drop r) (drop_quiet (place 0 lane number (trail setting es).names) (shown_drop r))
+    writes_quiet setting start now es lane (words.Drop number) (shown_drop r) (drop_quiet (place 0 lane number (trail setting es).names) (shown_drop r)) refl
     (λ e. absurd (drop_no_write r e)) x
 
 -- ---- a stream
@@ -101,4 +101,4 @@ reads_stream setting start now es lane number x =
 
 pub writes_stream : (setting : Setting) (start now : Outlet) (es : List Entry) (lane number : ℕ) → Writes setting start now es → Writes setting start now (entry lane words.Stream (answers.Streaming number) ∷ es)
 writes_stream setting start now es lane number x =
-    writes_quiet setting start now es lane words.Stream (answers.Streaming number) (stream_quiet (answers.Streaming number)) (λ e. cc) x
+    writes_quiet setting start now es lane words.Stream (answers.Streaming number) (stream_quiet (answers.Streaming number)) refl (λ e. cc) x

@@ -25,6 +25,7 @@ use Rattle.peer_route.proofs.Given as given
 use Rattle.peer_route.proofs.ByPosition.{takes_so, closed_so}
 use Rattle.peer_run.specs.Stands.{PeerView, Inlet, Outlet, Follows, Reads, Writes, HasReadFault, IsReadFault, IsWriteFault, given_after, entry}
 use Rattle.peer_run.proofs.Quiet.{AreQuiet, take_quiet, fault_was_read}
+use Rattle.peer_run.proofs.Kept.{is_close}
 use Rattle.peer_run.proofs.QuietStep.{follows_quiet, reads_quiet, writes_quiet}
 
 take_shown_does : (k : ℕ) (r : Result (Polled Seen) Error) → take_does (Some k) (shown_take r) ≡ streams.take_events k r
@@ -87,16 +88,17 @@ given_before h k r answer =
 pub record IsTaking (t : Trail) (lane number : ℕ) (w : Words) : Type 0 where
   pub does : (a : Answer) → events_of t lane w a ≡ take_does (place 0 lane number t.streams) a
   pub quiet : (stop : Option Bool) (bytes : List ℕ) (closing : Option Error) (a : Answer) → ReadTold stop bytes t.events closing w a
+  pub other : is_close w ≡ false
 
 pub taking : (t : Trail) (lane number : ℕ) → IsTaking t lane number (words.Take number)
-taking t lane number = record { does = λ a. refl; quiet = λ stop bytes closing a. told stop bytes closing a }
+taking t lane number = record { does = λ a. refl; quiet = λ stop bytes closing a. told stop bytes closing a; other = refl }
   where
     told : (stop : Option Bool) (bytes : List ℕ) (closing : Option Error) (a : Answer) → ReadTold stop bytes t.events closing (words.Take number) a
     told stop bytes None a = tt
     told stop bytes (Some error) a = tt
 
 pub taking_before : (t : Trail) (lane number before : ℕ) → IsTaking t lane number (words.TakeBefore number before)
-taking_before t lane number before = record { does = λ a. refl; quiet = λ stop bytes closing a. told stop bytes closing a }
+taking_before t lane number before = record { does = λ a. refl; quiet = λ stop bytes closing a. told stop bytes closing a; other = refl }
   where
     told : (stop : Option Bool) (bytes : List ℕ) (closing : Option Error) (a : Answer) → ReadTold stop bytes t.events closing (words.TakeBefore number before) a
     told stop bytes None a = tt
@@ -227,7 +229,7 @@ writes_by : (setting : Setting) (start now : Outlet) (es : List Entry) (lane num
     → Writes setting start now es → Writes setting start now (entry lane w (shown_take r) ∷ es)
 writes_by setting start now es lane number w r takes x =
     writes_quiet setting start now es lane w (shown_take r) (subst AreQuiet (sym (takes.does (shown_take r))) (take_quiet (place 0 lane number (trail setting es).streams) (shown_take r)))
-    (λ f. absurd (take_no_write r f)) x
+    takes.other (λ f. absurd (take_no_write r f)) x
 
 pub writes_take : (setting : Setting) (start now : Outlet) (es : List Entry) (lane number : ℕ) (r : Result (Polled Seen) Error) → Writes setting start now es
     → Writes setting start now (entry lane (words.Take number) (shown_take r) ∷ es)
