@@ -1,13 +1,12 @@
 -- What becomes of the main capacity and of a rule's.
-use Rattle.std.proofs.Common.{◌≡◌, ◌≢◌, ℕ, max, not, refl, sym, ◌∙◌, ap, Bool, true, false, is_none, if◌then◌else◌, List, ◌∷◌, Option, Some, None, Result, Ok, Err}
+use Rattle.std.proofs.Common.{◌≡◌, ◌≢◌, ℕ, max, not, refl, sym, ◌∙◌, ap, Bool, true, false, is_none, if◌then◌else◌, List, ◌∷◌, Option, Some, None, Ok, Err}
 use Rattle.std.specs.List.{slice_get}
-use Rattle.wire_message.specs.declared.error.Error.{Error}
 use Rattle.wire_message.specs.declared.error.Error.TheVariants as errors
 use Rattle.rule_match.specs.Rule.{Rule}
 use Rattle.rule_match.proofs.Equal.{equal_is_one, one_is_equal}
 use Rattle.peer_route.specs.Rules.{is_same, usual}
 use Rattle.peer_route.specs.History.{Event, Made, Did, Main, Ruled, Asked}
-use Rattle.peer_route.specs.Streams.{Stream, streams, main, plain_asks, is_there, is_open, is_of, is_subscribed, asked_or, raised, limit_then, rule_of, rule_asks, rule_limit, limit_of, limit_answer}
+use Rattle.peer_route.specs.Streams.{Stream, streams, main, plain_asks, is_there, is_open, is_subscribed, asked_or, raised, limit_then, rule_of, rule_asks, rule_limit, limit_of, limit_answer}
 
 -- ---- the main one
 

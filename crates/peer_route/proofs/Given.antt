@@ -13,7 +13,7 @@ use Rattle.peer_route.specs.History.{Event, Took, Made, Did, Main, Making, Plain
 use Rattle.peer_route.specs.Streams.{Stream, streams, clone_of, new_stream, give, tell, end_one, accepted, matched, offered, held, item_at, gave_last, all_given, take_by, take_at, take_answer, take_events}
 use Rattle.peer_route.specs.Left.{IsWithin, View, Left}
 use Rattle.peer_route.specs.Trail.{given_by, given_at, kept_by, kept_at}
-use Rattle.peer_route.proofs.Edits.{edit_nothing, map_edit, map_edit_all, set_edit, get_first}
+use Rattle.peer_route.proofs.Edits.{edit_nothing, map_edit, map_edit_all, set_edit, get_before, get_first}
 use Rattle.peer_route.proofs.Matched.{matched_took, matched_same}
 
 -- what was given, by what the stream offers
@@ -34,11 +34,6 @@ pub given_same : (g h : List Event) → read g ≡ read h → streams g ≡ stre
 given_same g h r s = each_same g h (streams g) r ∙ ap (map (gave_last h)) s
 
 -- ---- a message comes
-
-get_before : (n : ℕ) (ms xs : List Seen) → n + 1 ≤ length ms → slice_get (ms ++ xs) n ≡ slice_get ms n
-get_before n [] xs le = absurd (omega arith)
-get_before zero (m ∷ ms) xs le = refl
-get_before (suc n) (m ∷ ms) xs le = get_before n ms xs (omega arith)
 
 item_push : (taken : ℕ) (ms xs : List Seen) → taken ≤ length ms → item_at (ms ++ xs) taken ≡ item_at ms taken
 item_push zero ms xs le = refl

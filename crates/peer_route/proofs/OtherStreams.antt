@@ -1,10 +1,10 @@
--- What a stream does, and what a capacity is, leaves what each other stream gives.
-use Rattle.std.proofs.Common.{◌≡◌, ◌≢◌, ℕ, refl, ◌∙◌, ap, arith, ◌<◌, zero, suc, length, List, [], ◌∷◌, ◌++◌, Option, Some, None}
+-- What a stream does, that one is opened, and what a capacity is, leave what each other stream gives.
+use Rattle.std.proofs.Common.{◌≡◌, ◌≢◌, ℕ, refl, ◌∙◌, ap, ◌<◌, length, List, [], ◌∷◌, Option, Some, None}
 use Rattle.std.specs.List.{slice_get}
 use Rattle.rule_match.specs.Rule.{Rule}
 use Rattle.peer_route.specs.History.{Event, Made, Did, Main, Making, Ruled, Deed, Asked}
 use Rattle.peer_route.specs.Streams.{Stream, streams, done_by, matched, offered, held, rule_stream, take_at, take_answer}
-use Rattle.peer_route.proofs.Edits.{edit_other, edit_nothing}
+use Rattle.peer_route.proofs.Edits.{edit_other, edit_nothing, get_before}
 
 did_at : (h : List Event) (j : ℕ) (deed : Deed) (o : Option Stream) → take_at (Did j deed ∷ h) o ≡ take_at h o
 unfolding held offered matched
@@ -34,11 +34,7 @@ unfolding held offered matched
 made_at h making None = refl
 made_at h making (Some s) = refl
 
-get_before : {A : Type 0} (k : ℕ) (xs ys : List A) → k < length xs → slice_get (xs ++ ys) k ≡ slice_get xs k
-get_before k [] ys le = absurd (omega arith)
-get_before zero (x ∷ xs) ys le = refl
-get_before (suc k) (x ∷ xs) ys le = get_before k xs ys (omega arith)
-
+-- a stream that is opened comes behind those that were there
 pub opened_keeps : (h : List Event) (rule : Rule) (asked : Option ℕ) (k : ℕ) → k < length (streams h) → take_answer (Made (Ruled rule asked) ∷ h) k ≡ take_answer h k
 unfolding take_answer
 opened_keeps h rule asked k le =
