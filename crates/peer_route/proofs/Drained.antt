@@ -7,6 +7,7 @@ use borrow.Author.Tests.{ltb-true}
 use Rattle.wire_message.specs.Front.{Seen}
 use Rattle.wire_message.specs.declared.error.Error.{Error}
 use Rattle.wire_message.specs.declared.error.Error.TheVariants as errors
+use Rattle.rule_match.specs.Bytes.{rule_in_bytes}
 use Rattle.peer_route.specs.declared.polled.Polled.{Polled}
 use Rattle.peer_route.specs.declared.polled.Polled.TheVariants as polled
 use Rattle.peer_route.specs.declared.words.Words.{Words}
@@ -15,13 +16,13 @@ use Rattle.peer_route.specs.declared.answer.Answer.{Answer}
 use Rattle.peer_route.specs.declared.answer.Answer.TheVariants as answers
 use Rattle.peer_route.specs.declared.answer.Entry.{Entry}
 use Rattle.peer_route.specs.History.{Event, Took, Shut, Put, Wrote, Fault, Spent, Made, Did, Main, Told, read, closing, first_of, by_position}
-use Rattle.peer_route.specs.Streams.{Stream, streams, plain_stream, tell, matched, offered, held, main, busy, is_full, take_by, take_at, take_answer}
+use Rattle.peer_route.specs.Streams.{Stream, streams, plain_stream, tell, matched, offered, held, limit_of, busy, is_full, take_by, take_at, take_answer}
 use Rattle.peer_route.specs.Parcel.{Setting}
 use Rattle.peer_route.specs.Trail.{Trail, place, count, trail, more, read_events, take_does, second_place, events_of, new_streams}
 use Rattle.peer_route.specs.Answers.{IsAnswer, IsReadOf, Legal, shown_take, take_of, take_before_of}
 use Rattle.peer_route.specs.StreamLaws.{is_take, IsTake, IsEnded, IsLast, IsDrained, HoldsTooMany}
 use Rattle.peer_route.proofs.Once.{place_append, legal_from}
-use Rattle.peer_route.proofs.Read.{send_read, poll_read, drop_read, stream_read, take_read, clone_read, unstream_read, queue_read, main_read}
+use Rattle.peer_route.proofs.Read.{send_read, poll_read, drop_read, stream_read, take_read, clone_read, unstream_read, queue_read, main_read, open_read, close_read}
 use Rattle.peer_route.proofs.Edits.{edit_here, get_new}
 use Rattle.peer_route.proofs.Deeds.{Only, Spares, only_entry, stays}
 use Rattle.peer_route.proofs.Takes.{TakeOf, Quiet, Item, Tells, Ends, take_entry, told_does, ended_does, take_spares}
@@ -297,15 +298,15 @@ open_full : (o : Option Error) (b : Bool) → o ≡ None → (is_none o && b) �
 open_full None b e f = f
 open_full (Some error) b e f = cc
 
-full_over : (h : List Event) (s : Stream) → is_full h s ≡ true → (s.gone ≡ false) × (main h < length (held h s))
+full_over : (h : List Event) (s : Stream) → is_full h s ≡ true → (s.gone ≡ false) × (limit_of h s.rule < length (held h s))
 unfolding is_full
 full_over h s e =
-    let parts = and_parts (not s.gone) (nat_lt (main h) (length (held h s))) e in
-    (not-true s.gone parts.0, ltb-true (main h) (length (held h s)) parts.1)
+    let parts = and_parts (not s.gone) (nat_lt (limit_of h s.rule) (length (held h s))) e in
+    (not-true s.gone parts.0, ltb-true (limit_of h s.rule) (length (held h s)) parts.1)
 
-over_full : (h : List Event) (s : Stream) → s.gone ≡ false → main h < length (held h s) → is_full h s ≡ true
+over_full : (h : List Event) (s : Stream) → s.gone ≡ false → limit_of h s.rule < length (held h s) → is_full h s ≡ true
 unfolding is_full
-over_full h s still e = ap (λ b. not b && nat_lt (main h) (length (held h s))) still ∙ lt-ltb (main h) (length (held h s)) e
+over_full h s still e = ap (λ b. not b && nat_lt (limit_of h s.rule) (length (held h s))) still ∙ lt-ltb (limit_of h s.rule) (length (held h s)) e
 
 too_many : (h : List Event) → closing h ≡ None → busy h ≡ true → HoldsTooMany h
 unfolding busy

@@ -1,5 +1,5 @@
 -- Lists of which one element is changed, or behind which one more is put.
-use Rattle.std.proofs.Common.{◌≡◌, ◌≢◌, ℕ, ◌+◌, ◌≤◌, zero, suc, refl, sym, ◌∙◌, ap, arith, is_some, List, [], ◌∷◌, ◌++◌, length, take, drop, map, Some, None}
+use Rattle.std.proofs.Common.{◌≡◌, ◌≢◌, ℕ, ◌+◌, ◌≤◌, ◌<◌, zero, suc, refl, sym, ◌∙◌, ap, arith, is_some, List, [], ◌∷◌, ◌++◌, length, take, drop, map, Some, None}
 use Rattle.std.specs.List.{slice_get, slice_set}
 use Rattle.peer_route.specs.History.{edit}
 
@@ -78,10 +78,11 @@ pub get_new : {A : Type 0} (xs : List A) (x : A) → slice_get (xs ++ x ∷ []) 
 get_new [] x = refl
 get_new (y ∷ ys) x = get_new ys x
 
-pub get_push : {A : Type 0} (n : ℕ) (xs : List A) (x : A) → n + 1 ≤ length xs → slice_get (xs ++ x ∷ []) n ≡ slice_get xs n
-get_push n [] x le = absurd (omega arith)
-get_push zero (y ∷ ys) x le = refl
-get_push (suc n) (y ∷ ys) x le = get_push n ys x (omega arith)
+-- what was there before stays in its place
+pub get_before : {A : Type 0} (k : ℕ) (xs ys : List A) → k < length xs → slice_get (xs ++ ys) k ≡ slice_get xs k
+get_before k [] ys le = absurd (omega arith)
+get_before zero (x ∷ xs) ys le = refl
+get_before (suc k) (x ∷ xs) ys le = get_before k xs ys (omega arith)
 
 -- ---- the first of those that are left
 

@@ -9,11 +9,11 @@ use Rattle.wire_message.specs.declared.error.Error.{Error}
 use Rattle.wire_message.specs.declared.error.Error.TheVariants as errors
 use Rattle.peer_route.specs.declared.polled.Polled.{Polled}
 use Rattle.peer_route.specs.declared.polled.Polled.TheVariants as polled
-use Rattle.peer_route.specs.History.{Event, Took, Made, Did, Main, Making, Plain, Cloned, Gone, Asked, read, closing, edit}
-use Rattle.peer_route.specs.Streams.{Stream, streams, clone_of, new_stream, give, tell, end_one, matched, offered, held, item_at, gave_last, all_given, take_by, take_at, take_answer, take_events}
+use Rattle.peer_route.specs.History.{Event, Took, Made, Did, Main, Making, Plain, Ruled, Cloned, Gone, Asked, read, closing, edit}
+use Rattle.peer_route.specs.Streams.{Stream, streams, clone_of, new_stream, give, tell, end_one, accepted, matched, offered, held, item_at, gave_last, all_given, take_by, take_at, take_answer, take_events}
 use Rattle.peer_route.specs.Left.{IsWithin, View, Left}
 use Rattle.peer_route.specs.Trail.{given_by, given_at, kept_by, kept_at}
-use Rattle.peer_route.proofs.Edits.{edit_nothing, map_edit, map_edit_all, set_edit, get_push, get_first}
+use Rattle.peer_route.proofs.Edits.{edit_nothing, map_edit, map_edit_all, set_edit, get_before, get_first}
 use Rattle.peer_route.proofs.Matched.{matched_took, matched_same}
 
 -- what was given, by what the stream offers
@@ -35,18 +35,19 @@ given_same g h r s = each_same g h (streams g) r ∙ ap (map (gave_last h)) s
 
 -- ---- a message comes
 
-item_push : (taken : ℕ) (ms : List Seen) (m : Seen) → taken ≤ length ms → item_at (ms ++ m ∷ []) taken ≡ item_at ms taken
-item_push zero ms m le = refl
-item_push (suc n) ms m le = get_push n ms m (omega arith)
+item_push : (taken : ℕ) (ms xs : List Seen) → taken ≤ length ms → item_at (ms ++ xs) taken ≡ item_at ms taken
+item_push zero ms xs le = refl
+item_push (suc n) ms xs le = get_before n ms xs (omega arith)
 
 gave_took : (m : Seen) (h : List Event) (s : Stream) → IsWithin h s → gave_last (Took m ∷ h) s ≡ gave_last h s
 unfolding gave_last offered
 gave_took m h s w =
     let passed = w.passed in
-    let more : offered (Took m ∷ h) s ≡ offered h s ++ m ∷ [] =
-    ap (drop s.skip) (matched_took m h s w.start) ∙ drop-append-le s.skip (matched h s) (m ∷ []) (omega arith) in
-    gave_by (Took m ∷ h) s (offered h s ++ m ∷ []) more
-    ∙ ap (λ o. if s.gone then None else o) (item_push s.taken (offered h s) m (omega (arith, length-drop s.skip (matched h s))))
+    let some = accepted s.rule (m ∷ []) in
+    let more : offered (Took m ∷ h) s ≡ offered h s ++ some =
+    ap (drop s.skip) (matched_took m h s w.start) ∙ drop-append-le s.skip (matched h s) some (omega arith) in
+    gave_by (Took m ∷ h) s (offered h s ++ some) more
+    ∙ ap (λ o. if s.gone then None else o) (item_push s.taken (offered h s) some (omega (arith, length-drop s.skip (matched h s))))
 
 each_took : (m : Seen) (h : List Event) (ss : List Stream) → AllByRecursion (IsWithin h) ss → map (gave_last (Took m ∷ h)) ss ≡ map (gave_last h) ss
 each_took m h [] w = refl
@@ -64,7 +65,9 @@ clone_gave g h None = refl
 clone_gave g h (Some s) = refl
 
 new_gave : (g h : List Event) (making : Making) → gave_last g (new_stream h (streams h) making) ≡ None
+unfolding gave_last
 new_gave g h Plain = clone_gave g h None
+new_gave g h (Ruled rule asked) = refl
 new_gave g h (Cloned t) = clone_gave g h (slice_get (streams h) t)
 
 -- a stream that was made, a clone too, gave nothing yet

@@ -29,6 +29,7 @@ pub mod Drained
 pub mod ClosedStreams
 pub mod Closings
 pub mod OtherStreams
+pub mod Capacities
 pub mod Sent
 pub mod Index
 pub mod Waiting

@@ -1,9 +1,10 @@
--- What a stream does, and what a capacity is, leaves what each other stream gives.
-use Rattle.std.proofs.Common.{◌≡◌, ◌≢◌, ℕ, refl, ◌∙◌, ap, max, List, ◌∷◌, Option, Some, None}
+-- What a stream does, that one is opened, and what a capacity is, leave what each other stream gives.
+use Rattle.std.proofs.Common.{◌≡◌, ◌≢◌, ℕ, refl, ◌∙◌, ap, ◌<◌, length, List, [], ◌∷◌, Option, Some, None}
 use Rattle.std.specs.List.{slice_get}
-use Rattle.peer_route.specs.History.{Event, Did, Main, Deed, Asked}
-use Rattle.peer_route.specs.Streams.{Stream, streams, done_by, matched, offered, held, main, take_at, take_answer}
-use Rattle.peer_route.proofs.Edits.{edit_other, edit_nothing}
+use Rattle.rule_match.specs.Rule.{Rule}
+use Rattle.peer_route.specs.History.{Event, Made, Did, Main, Making, Ruled, Deed, Asked}
+use Rattle.peer_route.specs.Streams.{Stream, streams, done_by, matched, offered, held, rule_stream, take_at, take_answer}
+use Rattle.peer_route.proofs.Edits.{edit_other, edit_nothing, get_before}
 
 did_at : (h : List Event) (j : ℕ) (deed : Deed) (o : Option Stream) → take_at (Did j deed ∷ h) o ≡ take_at h o
 unfolding held offered matched
@@ -28,8 +29,13 @@ unfolding take_answer
 asked_keeps h limit j k =
     ap (λ ss. take_at (Did j (Asked limit) ∷ h) (slice_get ss k)) (edit_nothing j (streams h)) ∙ did_at h j (Asked limit) (slice_get (streams h) k)
 
-pub main_set : (h : List Event) (limit : ℕ) → main (Main limit ∷ h) ≡ limit
-main_set h limit = refl
+made_at : (h : List Event) (making : Making) (o : Option Stream) → take_at (Made making ∷ h) o ≡ take_at h o
+unfolding held offered matched
+made_at h making None = refl
+made_at h making (Some s) = refl
 
-pub main_raised : (h : List Event) (limit j : ℕ) → main (Did j (Asked limit) ∷ h) ≡ max (main h) limit
-main_raised h limit j = refl
+-- a stream that is opened comes behind those that were there
+pub opened_keeps : (h : List Event) (rule : Rule) (asked : Option ℕ) (k : ℕ) → k < length (streams h) → take_answer (Made (Ruled rule asked) ∷ h) k ≡ take_answer h k
+unfolding take_answer
+opened_keeps h rule asked k le =
+    ap (take_at (Made (Ruled rule asked) ∷ h)) (get_before k (streams h) (rule_stream h rule ∷ []) le) ∙ made_at h (Ruled rule asked) (slice_get (streams h) k)

@@ -6,6 +6,10 @@ use Rattle.wire_message.specs.declared.kind.MessageType.{MessageType}
 use Rattle.wire_message.specs.declared.kind.MessageType.TheVariants as types
 use Rattle.wire_message.specs.declared.error.Error.{Error}
 use Rattle.wire_message.specs.declared.error.Error.TheVariants as errors
+use Rattle.rule_match.specs.Rule.{Rule}
+use Rattle.rule_match.specs.Bytes.{rule_in_bytes}
+use Rattle.peer_route.specs.declared.writer.Writer.TheVariants as writers
+use Rattle.peer_route.specs.declared.writer.Writer.{Writer}
 use Rattle.peer_route.specs.declared.polled.Polled.{Polled}
 use Rattle.peer_route.specs.declared.polled.Polled.TheVariants as polled
 use Rattle.peer_route.specs.declared.words.Words.{Words}
@@ -13,10 +17,10 @@ use Rattle.peer_route.specs.declared.words.Words.TheVariants as words
 use Rattle.peer_route.specs.declared.answer.Answer.{Answer}
 use Rattle.peer_route.specs.declared.answer.Answer.TheVariants as answers
 use Rattle.peer_route.specs.declared.answer.Entry.{Entry}
-use Rattle.peer_route.specs.History.{Event, Put, Call, read, closing, is_failed, calls, found, bears, is_gone, polled_by, polled_at, poll_answer}
+use Rattle.peer_route.specs.History.{Event, Put, Call, read, closing, calls, found, bears, is_gone, polled_by, polled_at, poll_answer, writer}
 use Rattle.peer_route.specs.Streams.{busy}
 use Rattle.peer_route.specs.Parcel.{Setting, Asked}
-use Rattle.peer_route.specs.Trail.{Trail, place, trail, failed_put, send_events, read_events, poll_spends, drop_spends, stream_makes, take_does, clone_makes, gone_at, unstream_does, queue_does, main_sets, second_place, events_of, first_events}
+use Rattle.peer_route.specs.Trail.{Trail, place, trail, failed_put, send_events, read_events, poll_spends, drop_spends, stream_makes, take_does, clone_makes, gone_at, unstream_does, queue_does, main_sets, second_place, events_of, first_events, open_makes, close_does}
 use Rattle.peer_route.specs.Answers.{IsAnswer, IsReadOf, Legal, error_answer, reply_by, shown, poll_of}
 use Rattle.peer_route.specs.Laws.{IsPoll, IsReplyAt, IsFirstReply, IsCutOff}
 use Rattle.peer_route.proofs.Once.{polled_is}

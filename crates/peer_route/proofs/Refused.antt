@@ -1,13 +1,15 @@
 -- A refusal leaves everything as it was.
-use Rattle.std.proofs.Common.{◌≡◌, ℕ, refl, ◌∙◌, ap, List, [], ◌∷◌, ◌++◌, Option, Some, None, Ok, Err, append-nil}
+use Rattle.std.proofs.Common.{◌≡◌, ℕ, refl, ◌∙◌, ap, List, [], ◌∷◌, ◌++◌, Option, Some, None, Ok, Err, append-nil, Result}
 use Rattle.wire_message.specs.declared.error.Error.{Error}
+use Rattle.rule_match.specs.Rule.{Rule}
+use Rattle.rule_match.specs.Bytes.{rule_in_bytes}
 use Rattle.peer_route.specs.declared.words.Words.{Words}
 use Rattle.peer_route.specs.declared.words.Words.TheVariants as words
 use Rattle.peer_route.specs.declared.answer.Answer.TheVariants as answers
 use Rattle.peer_route.specs.declared.answer.Entry.{Entry}
 use Rattle.peer_route.specs.History.{Event, closing}
 use Rattle.peer_route.specs.Parcel.{Setting, Asked}
-use Rattle.peer_route.specs.Trail.{Trail, place, trail, more, send_events, read_events, poll_spends, drop_spends, take_does, clone_makes, queue_does, events_of}
+use Rattle.peer_route.specs.Trail.{Trail, place, trail, more, send_events, read_events, poll_spends, drop_spends, take_does, clone_makes, queue_does, events_of, open_makes}
 
 read_refused : (o : Option Error) (error : Error) → read_events o (answers.Refused error) ≡ []
 read_refused None error = refl

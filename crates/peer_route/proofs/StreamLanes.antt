@@ -4,6 +4,10 @@ use Rattle.wire_message.specs.Front.{Seen}
 use Rattle.wire_message.specs.declared.kind.MessageType.{MessageType}
 use Rattle.wire_message.specs.declared.kind.MessageType.TheVariants as types
 use Rattle.wire_message.specs.declared.error.Error.{Error}
+use Rattle.rule_match.specs.Rule.{Rule}
+use Rattle.rule_match.specs.Bytes.{rule_in_bytes}
+use Rattle.peer_route.specs.declared.writer.Writer.TheVariants as writers
+use Rattle.peer_route.specs.declared.writer.Writer.{Writer}
 use Rattle.peer_route.specs.declared.polled.Polled.{Polled}
 use Rattle.peer_route.specs.declared.polled.Polled.TheVariants as polled
 use Rattle.peer_route.specs.declared.words.Words.{Words}
@@ -12,11 +16,11 @@ use Rattle.peer_route.specs.declared.answer.Answer.{Answer}
 use Rattle.peer_route.specs.declared.answer.Answer.TheVariants as answers
 use Rattle.peer_route.specs.declared.answer.Entry.{Entry}
 use Rattle.peer_route.specs.History.{Event, Put, Cloned, Gone, Asked, read, closing, writer, poll_answer, by_position, drop_answer}
-use Rattle.peer_route.specs.Streams.{streams, plain_stream, new_stream, give, tell, done_by, busy, take_answer}
+use Rattle.peer_route.specs.Streams.{streams, plain_stream, new_stream, give, tell, done_by, busy, take_answer, rule_stream}
 use Rattle.peer_route.specs.Parcel.{Setting}
 use Rattle.peer_route.specs.Parcel as parcels
-use Rattle.peer_route.specs.Trail.{Trail, place, count, trail, more, failed_put, send_events, read_events, poll_spends, drop_spends, take_does, clone_makes, gone_at, unstream_does, queue_does, main_sets, second_place, events_of, first_events, new_streams}
-use Rattle.peer_route.specs.Answers.{IsAnswer, IsReadOf, IsCalled, Legal, sent_answer, error_answer, reply_by, shown, poll_of, before_of, shown_drop, drop_of, shown_take, take_of, take_before_of, where_open, is_open_at, are_open_at}
+use Rattle.peer_route.specs.Trail.{Trail, place, count, trail, more, failed_put, send_events, read_events, poll_spends, drop_spends, take_does, clone_makes, gone_at, unstream_does, queue_does, main_sets, second_place, events_of, first_events, new_streams, open_makes, close_does}
+use Rattle.peer_route.specs.Answers.{IsAnswer, IsReadOf, IsCalled, Legal, sent_answer, error_answer, reply_by, shown, poll_of, before_of, shown_drop, drop_of, shown_take, take_of, take_before_of, where_open, is_open_at, are_open_at, open_of, IsClose}
 use Rattle.peer_route.proofs.Edits.{edit-length}
 
 abbrev pub entry : ℕ → Words → Answer → Entry

@@ -1,5 +1,5 @@
 -- No stream starts above what was read, or passed more than was its own.
-use Rattle.std.proofs.Common.{◌≡◌, ℕ, ◌+◌, ◌≤◌, zero, suc, refl, sym, ◌∙◌, subst, arith, List, [], ◌∷◌, ◌++◌, length, Option, Some, None}
+use Rattle.std.proofs.Common.{◌≡◌, ℕ, ◌+◌, ◌≤◌, zero, suc, refl, sym, ◌∙◌, subst, arith, false, is_some, List, [], ◌∷◌, ◌++◌, length, Option, Some, None}
 use Rattle.std.specs.List.{slice_get, AllByRecursion}
 use Rattle.std.proofs.lemmas.Bool.{eq-eqb}
 use Rattle.wire_message.specs.Front.{Seen}
@@ -7,14 +7,14 @@ use Rattle.peer_route.specs.declared.words.Words.{Words}
 use Rattle.peer_route.specs.declared.words.Words.TheVariants as words
 use Rattle.peer_route.specs.declared.answer.Answer.{Answer}
 use Rattle.peer_route.specs.declared.answer.Entry.{Entry}
-use Rattle.peer_route.specs.History.{Event, Took, Shut, Put, Wrote, Fault, Spent, Made, Did, Main, Making, Plain, Cloned, Deed, Gave, Told, Gone, Asked, edit}
+use Rattle.peer_route.specs.History.{Event, Took, Shut, Put, Wrote, Fault, Spent, Made, Did, Main, Making, Plain, Ruled, Cloned, Deed, Gave, Told, Gone, Asked, edit, closing}
 use Rattle.peer_route.specs.Streams.{Stream, streams, clone_of, new_stream, give, done_by, matched, held}
 use Rattle.peer_route.specs.Left.{IsWithin}
 use Rattle.peer_route.specs.Parcel.{Setting}
 use Rattle.peer_route.specs.Trail.{Trail, place, trail, take_does, events_of, first_events}
 use Rattle.peer_route.specs.Answers.{IsAnswer, Legal}
 use Rattle.peer_route.proofs.Edits.{drop_next}
-use Rattle.peer_route.proofs.Matched.{held_matched, all_within_same, all_within_took, within_at, within_plain, within_push}
+use Rattle.peer_route.proofs.Matched.{held_matched, all_within_same, all_within_took, within_at, within_fresh, within_push}
 use Rattle.peer_route.proofs.Deeds.{Only, only_entry}
 use Rattle.peer_route.proofs.Takes.{TakeOf, Quiet, Item, Tells, Ends, take_entry, item_does, told_does, ended_does}
 
@@ -25,11 +25,12 @@ AllWithin h = AllByRecursion (IsWithin h) (streams h)
 
 within_clone : (h : List Event) (k : ℕ) (o : Option Stream) → slice_get (streams h) k ≡ o → AllWithin h → IsWithin h (clone_of h o)
 unfolding matched
-within_clone h k None at w = within_plain h
+within_clone h k None at w = within_fresh h None (is_some (closing h))
 within_clone h k (Some s) at w = let one = within_at h (streams h) k s at w in let passed = one.passed in record { start = one.start; passed = omega arith }
 
 within_new : (h : List Event) (making : Making) → AllWithin h → IsWithin h (new_stream h (streams h) making)
-within_new h Plain w = within_plain h
+within_new h Plain w = within_fresh h None (is_some (closing h))
+within_new h (Ruled rule asked) w = within_fresh h (Some rule) false
 within_new h (Cloned t) w = within_clone h t (slice_get (streams h) t) refl w
 
 -- the deed is no item

@@ -1,5 +1,5 @@
 -- What streams give, entry by entry.
-use Rattle.std.proofs.Common.{◌≡◌, ◌≢◌, ℕ, ◌+◌, ◌≤◌, ◌==◌, ◌&&◌, zero, suc, refl, sym, ◌∙◌, ap, subst, arith, Bool, true, false, if◌then◌else◌, List, [], ◌∷◌, ◌++◌, length, take, drop, Option, Some, None, length-append, append_assoc, append-nil}
+use Rattle.std.proofs.Common.{◌≡◌, ◌≢◌, ℕ, ◌+◌, ◌≤◌, ◌==◌, ◌&&◌, zero, suc, refl, sym, ◌∙◌, ap, subst, arith, Bool, true, false, is_some, if◌then◌else◌, List, [], ◌∷◌, ◌++◌, length, take, drop, Option, Some, None, Ok, length-append, append_assoc, append-nil}
 use Rattle.std.specs.List.{slice_get}
 use Rattle.std.proofs.Math.Seq.{drop-length}
 use Rattle.std.proofs.lemmas.Bool.{eqb-true, eq-eqb}
@@ -7,22 +7,25 @@ use Rattle.std.proofs.lemmas.List.{map-append, take-append-drop, drop-append-le,
 use Rattle.wire_message.specs.Front.{Seen}
 use Rattle.wire_message.specs.declared.error.Error.{Error}
 use Rattle.wire_message.specs.declared.error.Error.TheVariants as errors
+use Rattle.wire_message.specs.declared.error.IoKind.TheVariants as kinds
+use Rattle.rule_match.specs.Rule.{Rule}
+use Rattle.rule_match.specs.Bytes.{rule_in_bytes}
 use Rattle.peer_route.specs.declared.words.Words.{Words}
 use Rattle.peer_route.specs.declared.words.Words.TheVariants as words
 use Rattle.peer_route.specs.declared.answer.Answer.{Answer}
 use Rattle.peer_route.specs.declared.answer.Answer.TheVariants as answers
 use Rattle.peer_route.specs.declared.answer.Entry.{Entry}
-use Rattle.peer_route.specs.History.{Event, Took, Shut, Put, Wrote, Fault, Spent, Made, Did, Main, Making, Plain, Cloned, Gave, read}
-use Rattle.peer_route.specs.Streams.{Stream, streams, plain_stream, clone_of, new_stream, give, is_there, is_open, matched, offered, held}
+use Rattle.peer_route.specs.History.{Event, Took, Shut, Put, Wrote, Fault, Spent, Made, Did, Main, Making, Plain, Ruled, Cloned, Gave, read, closing}
+use Rattle.peer_route.specs.Streams.{Stream, streams, fresh, plain_stream, rule_stream, clone_of, new_stream, give, is_there, is_open, accepted, matched, offered, held, rule_of}
 use Rattle.peer_route.specs.Left.{IsWithin}
 use Rattle.peer_route.specs.Parcel.{Setting}
-use Rattle.peer_route.specs.Trail.{Trail, Names, place, count, trail, more, take_does, clone_makes, events_of, new_streams}
-use Rattle.peer_route.specs.Answers.{IsAnswer, Legal, where_open, is_open_at}
-use Rattle.peer_route.specs.StreamLaws.{positions, is_take, item_by, items_given, Yields, held_by, held_in, holds}
+use Rattle.peer_route.specs.Trail.{Trail, Names, place, count, trail, more, take_does, open_makes, clone_makes, events_of, new_streams}
+use Rattle.peer_route.specs.Answers.{IsAnswer, Legal, where_open, is_open_at, open_of}
+use Rattle.peer_route.specs.StreamLaws.{positions, is_take, item_by, items_given, Yields, held_by, held_in, holds, rule_in, rule_at}
 use Rattle.peer_route.proofs.Once.{place_append, legal_from}
 use Rattle.peer_route.proofs.Lanes.{apart}
 use Rattle.peer_route.proofs.Edits.{edit_here, get_new, take_one, drop_next}
-use Rattle.peer_route.proofs.Matched.{held_matched, matched_took, within_at}
+use Rattle.peer_route.proofs.Matched.{held_matched, accepted-append, matched_took, within_at}
 use Rattle.peer_route.proofs.Deeds.{Only, Spares, only_entry, stays}
 use Rattle.peer_route.proofs.Takes.{TakeOf, Quiet, Item, Tells, Ends, take_entry, item_does, told_does, ended_does, take_spares}
 use Rattle.peer_route.proofs.Within.{AllWithin, all_within}
@@ -31,37 +34,40 @@ use Rattle.peer_route.proofs.StreamLanes.{entry, lanes}
 -- ---- what a stream offers
 
 -- Of the messages that were read, `own` are the stream's: it passes over `skip`, gave `taken`, and the positions of these are
--- `given`. Those that it offers are what it had `begun` with, and all that was read after the first `n`.
-pub record Flows (all own : List Seen) (from skip taken n : ℕ) (begun : List Seen) (given : List ℕ) : Type 0 where
+-- `given`. Those that it offers are what it had `begun` with, and all that was read after the first `n` and that the rule accepts.
+pub record Flows (all own : List Seen) (from skip taken n : ℕ) (rule : Option Rule) (begun : List Seen) (given : List ℕ) : Type 0 where
   start : from ≤ length all
   passed : skip + taken ≤ length own
   early : n ≤ length all
-  offers : drop skip own ≡ begun ++ drop n all
+  offers : drop skip own ≡ begun ++ accepted rule (drop n all)
   given_is : given ≡ positions (take taken (drop skip own))
 
-flows_took : (all own : List Seen) (from skip taken n : ℕ) (begun : List Seen) (given : List ℕ) (m : Seen) → Flows all own from skip taken n begun given
-    → Flows (all ++ m ∷ []) (own ++ m ∷ []) from skip taken n begun given
-flows_took all own from skip taken n begun given m f =
+flows_took : (all own : List Seen) (from skip taken n : ℕ) (rule : Option Rule) (begun : List Seen) (given : List ℕ) (m : Seen) → Flows all own from skip taken n rule begun given
+    → Flows (all ++ m ∷ []) (own ++ accepted rule (m ∷ [])) from skip taken n rule begun given
+flows_took all own from skip taken n rule begun given m f =
     let start = f.start in
     let passed = f.passed in
     let early = f.early in
-    let grown : drop skip (own ++ m ∷ []) ≡ drop skip own ++ m ∷ [] = drop-append-le skip own (m ∷ []) (omega arith) in
+    let some = accepted rule (m ∷ []) in
+    let grown : drop skip (own ++ some) ≡ drop skip own ++ some = drop-append-le skip own some (omega arith) in
+    let since : accepted rule (drop n all) ++ some ≡ accepted rule (drop n (all ++ m ∷ [])) =
+    sym (accepted-append rule (drop n all) (m ∷ [])) ∙ ap (accepted rule) (sym (drop-append-le n all (m ∷ []) early)) in
     record {
       start = omega (arith, length-append all (m ∷ []));
-      passed = omega (arith, length-append own (m ∷ []));
+      passed = omega (arith, length-append own some);
       early = omega (arith, length-append all (m ∷ []));
-      offers = grown ∙ ap (λ ms. ms ++ m ∷ []) f.offers ∙ append_assoc begun (drop n all) (m ∷ []) ∙ ap (λ ms. begun ++ ms) (sym (drop-append-le n all (m ∷ []) early));
-      given_is = f.given_is ∙ ap positions (sym (ap (take taken) grown ∙ take-append-le taken (drop skip own) (m ∷ []) (omega (arith, length-drop skip own))));
+      offers = grown ∙ ap (λ ms. ms ++ some) f.offers ∙ append_assoc begun (accepted rule (drop n all)) some ∙ ap (λ ms. begun ++ ms) since;
+      given_is = f.given_is ∙ ap positions (sym (ap (take taken) grown ∙ take-append-le taken (drop skip own) some (omega (arith, length-drop skip own))));
     }
 
 flows_events : (xs h : List Event) (s : Stream) (n : ℕ) (begun : List Seen) (given : List ℕ)
-    → Flows (read h) (matched h s) s.from s.skip s.taken n begun given → Flows (read (xs ++ h)) (matched (xs ++ h) s) s.from s.skip s.taken n begun given
+    → Flows (read h) (matched h s) s.from s.skip s.taken n s.rule begun given → Flows (read (xs ++ h)) (matched (xs ++ h) s) s.from s.skip s.taken n s.rule begun given
 unfolding matched
 flows_events [] h s n begun given f = f
 flows_events (Took m ∷ xs) h s n begun given f =
     let r = flows_events xs h s n begun given f in
-    subst (λ ms. Flows (read (xs ++ h) ++ m ∷ []) ms s.from s.skip s.taken n begun given) (sym (matched_took m (xs ++ h) s r.start))
-    (flows_took (read (xs ++ h)) (matched (xs ++ h) s) s.from s.skip s.taken n begun given m r)
+    subst (λ ms. Flows (read (xs ++ h) ++ m ∷ []) ms s.from s.skip s.taken n s.rule begun given) (sym (matched_took m (xs ++ h) s r.start))
+    (flows_took (read (xs ++ h)) (matched (xs ++ h) s) s.from s.skip s.taken n s.rule begun given m r)
 flows_events (Shut error ∷ xs) h s n begun given f = flows_events xs h s n begun given f
 flows_events (Put m expects ∷ xs) h s n begun given f = flows_events xs h s n begun given f
 flows_events (Wrote ∷ xs) h s n begun given f = flows_events xs h s n begun given f
@@ -72,9 +78,9 @@ flows_events (Did j deed ∷ xs) h s n begun given f = flows_events xs h s n beg
 flows_events (Main limit ∷ xs) h s n begun given f = flows_events xs h s n begun given f
 
 -- an item
-flows_item : (all own : List Seen) (from skip taken n : ℕ) (begun : List Seen) (given : List ℕ) (m : Seen) (ms : List Seen) → drop taken (drop skip own) ≡ m ∷ ms
-    → Flows all own from skip taken n begun given → Flows all own from skip (taken + 1) n begun (given ++ m.position ∷ [])
-flows_item all own from skip taken n begun given m ms e f =
+flows_item : (all own : List Seen) (from skip taken n : ℕ) (rule : Option Rule) (begun : List Seen) (given : List ℕ) (m : Seen) (ms : List Seen) → drop taken (drop skip own) ≡ m ∷ ms
+    → Flows all own from skip taken n rule begun given → Flows all own from skip (taken + 1) n rule begun (given ++ m.position ∷ [])
+flows_item all own from skip taken n rule begun given m ms e f =
     let le : skip + taken + 1 ≤ length own = (drop_next (skip + taken) own m ms (sym (drop-drop taken skip own) ∙ e)).1 in
     record {
       start = f.start;
@@ -87,140 +93,144 @@ flows_item all own from skip taken n begun given m ms e f =
 
 -- ---- entries
 
--- Behind these events the lane's number names a stream that began so, and these are the positions of what it gave.
-pub record Flow (names : Names) (h : List Event) (lane number n : ℕ) (begun : List Seen) (given : List ℕ) : Type 0 where
+-- Behind these events the lane's number names a stream of this rule that began so, and these are the positions of what it gave.
+pub record Flow (names : Names) (h : List Event) (lane number n : ℕ) (rule : Option Rule) (begun : List Seen) (given : List ℕ) : Type 0 where
   k : ℕ
   stream : Stream
   named : place 0 lane number names ≡ Some k
   made : slice_get (streams h) k ≡ Some stream
-  flows : Flows (read h) (matched h stream) stream.from stream.skip stream.taken n begun given
+  of_rule : stream.rule ≡ rule
+  flows : Flows (read h) (matched h stream) stream.from stream.skip stream.taken n stream.rule begun given
 
 -- events that are no item of the stream
-kept : (names later : Names) (xs h : List Event) (lane number n : ℕ) (begun : List Seen) (given : List ℕ) (f : Flow names h lane number n begun given)
-    → Only (Spares f.k) xs → Flow (names ++ later) (xs ++ h) lane number n begun given
+kept : (names later : Names) (xs h : List Event) (lane number n : ℕ) (rule : Option Rule) (begun : List Seen) (given : List ℕ) (f : Flow names h lane number n rule begun given)
+    → Only (Spares f.k) xs → Flow (names ++ later) (xs ++ h) lane number n rule begun given
 unfolding matched
-kept names later xs h lane number n begun given f only =
+kept names later xs h lane number n rule begun given f only =
     let r = stays xs h f.k f.stream only f.made in
     record {
       k = f.k;
       stream = record f.stream { told = r.now_told; gone = r.now_gone };
       named = place_append 0 lane number names later f.k f.named;
       made = r.made;
+      of_rule = f.of_rule;
       flows = flows_events xs h f.stream n begun given f.flows;
     }
 
-gave : (names later : Names) (h : List Event) (lane number n : ℕ) (begun : List Seen) (given : List ℕ) (f : Flow names h lane number n begun given)
-    (m : Seen) (ms : List Seen) → held h f.stream ≡ m ∷ ms → Flow (names ++ later) (Did f.k Gave ∷ h) lane number n begun (given ++ m.position ∷ [])
+gave : (names later : Names) (h : List Event) (lane number n : ℕ) (rule : Option Rule) (begun : List Seen) (given : List ℕ) (f : Flow names h lane number n rule begun given)
+    (m : Seen) (ms : List Seen) → held h f.stream ≡ m ∷ ms → Flow (names ++ later) (Did f.k Gave ∷ h) lane number n rule begun (given ++ m.position ∷ [])
 unfolding matched held offered
-gave names later h lane number n begun given f m ms e = record {
+gave names later h lane number n rule begun given f m ms e = record {
   k = f.k;
   stream = give f.stream;
   named = place_append 0 lane number names later f.k f.named;
   made = edit_here give f.k (streams h) f.stream f.made;
-  flows = flows_item (read h) (matched h f.stream) f.stream.from f.stream.skip f.stream.taken n begun given m ms e f.flows;
+  of_rule = f.of_rule;
+  flows = flows_item (read h) (matched h f.stream) f.stream.from f.stream.skip f.stream.taken n f.stream.rule begun given m ms e f.flows;
 }
 
-flow_along : (names : Names) (h : List Event) (lane number n : ℕ) (begun : List Seen) (given more_given : List ℕ) → given ≡ more_given
-    → Flow names h lane number n begun given → Flow names h lane number n begun more_given
-flow_along names h lane number n begun given more_given e f = subst (Flow names h lane number n begun) e f
+flow_along : (names : Names) (h : List Event) (lane number n : ℕ) (rule : Option Rule) (begun : List Seen) (given more_given : List ℕ) → given ≡ more_given
+    → Flow names h lane number n rule begun given → Flow names h lane number n rule begun more_given
+flow_along names h lane number n rule begun given more_given e f = subst (Flow names h lane number n rule begun) e f
 
 -- a take of the stream that gives no item
-own_quiet : (names later : Names) (xs h : List Event) (a : Answer) (lane number n : ℕ) (begun : List Seen) (given : List ℕ) (f : Flow names h lane number n begun given)
-    → item_by true a ≡ [] → Only (Spares f.k) xs → Flow (names ++ later) (xs ++ h) lane number n begun (given ++ item_by true a)
-own_quiet names later xs h a lane number n begun given f none only =
-    flow_along (names ++ later) (xs ++ h) lane number n begun given (given ++ item_by true a) (sym (append-nil given) ∙ ap (λ ps. given ++ ps) (sym none))
-    (kept names later xs h lane number n begun given f only)
+own_quiet : (names later : Names) (xs h : List Event) (a : Answer) (lane number n : ℕ) (rule : Option Rule) (begun : List Seen) (given : List ℕ) (f : Flow names h lane number n rule begun given)
+    → item_by true a ≡ [] → Only (Spares f.k) xs → Flow (names ++ later) (xs ++ h) lane number n rule begun (given ++ item_by true a)
+own_quiet names later xs h a lane number n rule begun given f none only =
+    flow_along (names ++ later) (xs ++ h) lane number n rule begun given (given ++ item_by true a) (sym (append-nil given) ∙ ap (λ ps. given ++ ps) (sym none))
+    (kept names later xs h lane number n rule begun given f only)
 
-own_item : (names later : Names) (h : List Event) (a : Answer) (lane number n : ℕ) (begun : List Seen) (given : List ℕ) (f : Flow names h lane number n begun given)
+own_item : (names later : Names) (h : List Event) (a : Answer) (lane number n : ℕ) (rule : Option Rule) (begun : List Seen) (given : List ℕ) (f : Flow names h lane number n rule begun given)
     (k : ℕ) (s : Stream) (m : Seen) (ms : List Seen) → k ≡ f.k → slice_get (streams h) k ≡ Some s → held h s ≡ m ∷ ms → a ≡ answers.Item m.position
-    → Flow (names ++ later) (Did k Gave ∷ h) lane number n begun (given ++ item_by true a)
-own_item names later h a lane number n begun given f k s m ms same at e is =
+    → Flow (names ++ later) (Did k Gave ∷ h) lane number n rule begun (given ++ item_by true a)
+own_item names later h a lane number n rule begun given f k s m ms same at e is =
     let one : f.stream ≡ s = (let q : Some f.stream ≡ Some s = sym f.made ∙ ap (slice_get (streams h)) (sym same) ∙ at in cc) in
-    subst (λ j. Flow (names ++ later) (Did j Gave ∷ h) lane number n begun (given ++ item_by true a)) (sym same)
-    (flow_along (names ++ later) (Did f.k Gave ∷ h) lane number n begun (given ++ m.position ∷ []) (given ++ item_by true a) (ap (λ x. given ++ item_by true x) (sym is))
-    (gave names later h lane number n begun given f m ms (ap (held h) one ∙ e)))
+    subst (λ j. Flow (names ++ later) (Did j Gave ∷ h) lane number n rule begun (given ++ item_by true a)) (sym same)
+    (flow_along (names ++ later) (Did f.k Gave ∷ h) lane number n rule begun (given ++ m.position ∷ []) (given ++ item_by true a) (ap (λ x. given ++ item_by true x) (sym is))
+    (gave names later h lane number n rule begun given f m ms (ap (held h) one ∙ e)))
 
 -- a take of the stream
-flow_own : (names later : Names) (h : List Event) (a : Answer) (lane number n : ℕ) (begun : List Seen) (given : List ℕ) → TakeOf h (place 0 lane number names) a
-    → Flow names h lane number n begun given
-    → Flow (names ++ later) (take_does (place 0 lane number names) a ++ h) lane number n begun (given ++ item_by true a)
-flow_own names later h a lane number n begun given (Quiet none item last) f =
-    own_quiet names later (take_does (place 0 lane number names) a) h a lane number n begun given f item (subst (Only (Spares f.k)) (sym none) tt)
-flow_own names later h a lane number n begun given (Item k s m ms named at e is) f =
+flow_own : (names later : Names) (h : List Event) (a : Answer) (lane number n : ℕ) (rule : Option Rule) (begun : List Seen) (given : List ℕ) → TakeOf h (place 0 lane number names) a
+    → Flow names h lane number n rule begun given
+    → Flow (names ++ later) (take_does (place 0 lane number names) a ++ h) lane number n rule begun (given ++ item_by true a)
+flow_own names later h a lane number n rule begun given (Quiet none item last) f =
+    own_quiet names later (take_does (place 0 lane number names) a) h a lane number n rule begun given f item (subst (Only (Spares f.k)) (sym none) tt)
+flow_own names later h a lane number n rule begun given (Item k s m ms named at e is) f =
     let same : k ≡ f.k = (let q : Some k ≡ Some f.k = sym named ∙ f.named in cc) in
-    subst (λ xs. Flow (names ++ later) (xs ++ h) lane number n begun (given ++ item_by true a)) (sym (item_does (place 0 lane number names) a k m.position named is))
-    (own_item names later h a lane number n begun given f k s m ms same at e is)
-flow_own names later h a lane number n begun given (Tells k s error named at still e shut is) f =
-    own_quiet names later (take_does (place 0 lane number names) a) h a lane number n begun given f (ap (item_by true) is)
+    subst (λ xs. Flow (names ++ later) (xs ++ h) lane number n rule begun (given ++ item_by true a)) (sym (item_does (place 0 lane number names) a k m.position named is))
+    (own_item names later h a lane number n rule begun given f k s m ms same at e is)
+flow_own names later h a lane number n rule begun given (Tells k s error named at still e shut is) f =
+    own_quiet names later (take_does (place 0 lane number names) a) h a lane number n rule begun given f (ap (item_by true) is)
     (subst (Only (Spares f.k)) (sym (told_does (place 0 lane number names) a k error named is)) (tt, tt))
-flow_own names later h a lane number n begun given (Ends k s error named at e shut told is) f =
-    own_quiet names later (take_does (place 0 lane number names) a) h a lane number n begun given f (ap (item_by true) is)
+flow_own names later h a lane number n rule begun given (Ends k s error named at e shut told is) f =
+    own_quiet names later (take_does (place 0 lane number names) a) h a lane number n rule begun given f (ap (item_by true) is)
     (subst (Only (Spares f.k)) (sym (ended_does (place 0 lane number names) a k named is)) tt)
 
 -- a take of another one
-flow_other : (names later : Names) (h : List Event) (a : Answer) (lane₂ i lane number n : ℕ) (begun : List Seen) (given : List ℕ) → TakeOf h (place 0 lane₂ i names) a
-    → (lane ≡ lane₂ → number ≢ i) → Flow names h lane number n begun given
-    → Flow (names ++ later) (take_does (place 0 lane₂ i names) a ++ h) lane number n begun (given ++ [])
-flow_other names later h a lane₂ i lane number n begun given kind differ f =
-    flow_along (names ++ later) (take_does (place 0 lane₂ i names) a ++ h) lane number n begun given (given ++ []) (sym (append-nil given))
-    (kept names later (take_does (place 0 lane₂ i names) a) h lane number n begun given f
+flow_other : (names later : Names) (h : List Event) (a : Answer) (lane₂ i lane number n : ℕ) (rule : Option Rule) (begun : List Seen) (given : List ℕ) → TakeOf h (place 0 lane₂ i names) a
+    → (lane ≡ lane₂ → number ≢ i) → Flow names h lane number n rule begun given
+    → Flow (names ++ later) (take_does (place 0 lane₂ i names) a ++ h) lane number n rule begun (given ++ [])
+flow_other names later h a lane₂ i lane number n rule begun given kind differ f =
+    flow_along (names ++ later) (take_does (place 0 lane₂ i names) a ++ h) lane number n rule begun given (given ++ []) (sym (append-nil given))
+    (kept names later (take_does (place 0 lane₂ i names) a) h lane number n rule begun given f
     (take_spares h (place 0 lane₂ i names) a f.k kind (λ j s m ms named at e. apart names lane₂ i lane number j f.k named f.named differ)))
 
-flow_take : (names later : Names) (h : List Event) (a : Answer) (lane₂ i lane number n : ℕ) (begun : List Seen) (given : List ℕ) (b c : Bool) → (lane₂ == lane) ≡ b → (i == number) ≡ c
-    → TakeOf h (place 0 lane₂ i names) a → Flow names h lane number n begun given
-    → Flow (names ++ later) (take_does (place 0 lane₂ i names) a ++ h) lane number n begun (given ++ item_by (b && c) a)
-flow_take names later h a lane₂ i lane number n begun given true true p q kind f =
+flow_take : (names later : Names) (h : List Event) (a : Answer) (lane₂ i lane number n : ℕ) (rule : Option Rule) (begun : List Seen) (given : List ℕ) (b c : Bool) → (lane₂ == lane) ≡ b → (i == number) ≡ c
+    → TakeOf h (place 0 lane₂ i names) a → Flow names h lane number n rule begun given
+    → Flow (names ++ later) (take_does (place 0 lane₂ i names) a ++ h) lane number n rule begun (given ++ item_by (b && c) a)
+flow_take names later h a lane₂ i lane number n rule begun given true true p q kind f =
     let one : place 0 lane₂ i names ≡ place 0 lane number names = ap (λ l. place 0 l i names) (eqb-true lane₂ lane p) ∙ ap (λ x. place 0 lane x names) (eqb-true i number q) in
-    subst (λ o. Flow (names ++ later) (take_does o a ++ h) lane number n begun (given ++ item_by true a)) (sym one)
-    (flow_own names later h a lane number n begun given (subst (λ o. TakeOf h o a) one kind) f)
-flow_take names later h a lane₂ i lane number n begun given true false p q kind f =
-    flow_other names later h a lane₂ i lane number n begun given kind (λ l m. let e : (i == number) ≡ true = eq-eqb i number (sym m) in cc) f
-flow_take names later h a lane₂ i lane number n begun given false c p q kind f =
-    flow_other names later h a lane₂ i lane number n begun given kind (λ l m. let e : (lane₂ == lane) ≡ true = eq-eqb lane₂ lane (sym l) in cc) f
+    subst (λ o. Flow (names ++ later) (take_does o a ++ h) lane number n rule begun (given ++ item_by true a)) (sym one)
+    (flow_own names later h a lane number n rule begun given (subst (λ o. TakeOf h o a) one kind) f)
+flow_take names later h a lane₂ i lane number n rule begun given true false p q kind f =
+    flow_other names later h a lane₂ i lane number n rule begun given kind (λ l m. let e : (i == number) ≡ true = eq-eqb i number (sym m) in cc) f
+flow_take names later h a lane₂ i lane number n rule begun given false c p q kind f =
+    flow_other names later h a lane₂ i lane number n rule begun given kind (λ l m. let e : (lane₂ == lane) ≡ true = eq-eqb lane₂ lane (sym l) in cc) f
 
 and_false : (b : Bool) → (b && false) ≡ false
 and_false true = refl
 and_false false = refl
 
 -- an entry that is no take
-flow_past : (t : Trail) (lane₂ : ℕ) (w : Words) (a : Answer) (lane number n : ℕ) (begun : List Seen) (given : List ℕ) → ((i : ℕ) → is_take i w ≡ false)
-    → Flow t.streams t.events lane number n begun given
-    → Flow (t.streams ++ new_streams lane₂ a) (events_of t lane₂ w a ++ t.events) lane number n begun (given ++ item_by ((lane₂ == lane) && is_take number w) a)
-flow_past t lane₂ w a lane number n begun given past f =
+flow_past : (t : Trail) (lane₂ : ℕ) (w : Words) (a : Answer) (lane number n : ℕ) (rule : Option Rule) (begun : List Seen) (given : List ℕ) → ((i : ℕ) → is_take i w ≡ false)
+    → Flow t.streams t.events lane number n rule begun given
+    → Flow (t.streams ++ new_streams lane₂ a) (events_of t lane₂ w a ++ t.events) lane number n rule begun (given ++ item_by ((lane₂ == lane) && is_take number w) a)
+flow_past t lane₂ w a lane number n rule begun given past f =
     let none : given ≡ given ++ item_by ((lane₂ == lane) && is_take number w) a =
     sym (append-nil given) ∙ ap (λ b. given ++ item_by b a) (sym (ap (λ b. (lane₂ == lane) && b) (past number) ∙ and_false (lane₂ == lane))) in
-    flow_along (t.streams ++ new_streams lane₂ a) (events_of t lane₂ w a ++ t.events) lane number n begun given _ none
-    (kept t.streams (new_streams lane₂ a) (events_of t lane₂ w a) t.events lane number n begun given f
+    flow_along (t.streams ++ new_streams lane₂ a) (events_of t lane₂ w a ++ t.events) lane number n rule begun given _ none
+    (kept t.streams (new_streams lane₂ a) (events_of t lane₂ w a) t.events lane number n rule begun given f
     (only_entry (Spares f.k) t lane₂ w a (λ j. tt) (λ j i. tt) (λ i e. let q = past i in cc)))
 
-flow_step : (t : Trail) (lane₂ : ℕ) (w : Words) (a : Answer) (lane number n : ℕ) (begun : List Seen) (given : List ℕ) → IsAnswer t lane₂ w a
-    → Flow t.streams t.events lane number n begun given
-    → Flow (t.streams ++ new_streams lane₂ a) (events_of t lane₂ w a ++ t.events) lane number n begun (given ++ item_by ((lane₂ == lane) && is_take number w) a)
-flow_step t lane₂ (words.Take i) a lane number n begun given is f =
-    flow_take t.streams (new_streams lane₂ a) t.events a lane₂ i lane number n begun given (lane₂ == lane) (i == number) refl refl
+flow_step : (t : Trail) (lane₂ : ℕ) (w : Words) (a : Answer) (lane number n : ℕ) (rule : Option Rule) (begun : List Seen) (given : List ℕ) → IsAnswer t lane₂ w a
+    → Flow t.streams t.events lane number n rule begun given
+    → Flow (t.streams ++ new_streams lane₂ a) (events_of t lane₂ w a ++ t.events) lane number n rule begun (given ++ item_by ((lane₂ == lane) && is_take number w) a)
+flow_step t lane₂ (words.Take i) a lane number n rule begun given is f =
+    flow_take t.streams (new_streams lane₂ a) t.events a lane₂ i lane number n rule begun given (lane₂ == lane) (i == number) refl refl
     (take_entry t lane₂ (words.Take i) a i is (eq-eqb i i refl)) f
-flow_step t lane₂ (words.TakeBefore i before) a lane number n begun given is f =
-    flow_take t.streams (new_streams lane₂ a) t.events a lane₂ i lane number n begun given (lane₂ == lane) (i == number) refl refl
+flow_step t lane₂ (words.TakeBefore i before) a lane number n rule begun given is f =
+    flow_take t.streams (new_streams lane₂ a) t.events a lane₂ i lane number n rule begun given (lane₂ == lane) (i == number) refl refl
     (take_entry t lane₂ (words.TakeBefore i before) a i is (eq-eqb i i refl)) f
-flow_step t lane₂ w a lane number n begun given is f = flow_past t lane₂ w a lane number n begun given (λ i. refl) f
+flow_step t lane₂ w a lane number n rule begun given is f = flow_past t lane₂ w a lane number n rule begun given (λ i. refl) f
 
-abbrev pub FlowOf : Trail → ℕ → ℕ → ℕ → List Seen → List ℕ → Type 0
-FlowOf t lane number n begun given = Flow t.streams t.events lane number n begun given
+abbrev pub FlowOf : Trail → ℕ → ℕ → ℕ → Option Rule → List Seen → List ℕ → Type 0
+FlowOf t lane number n rule begun given = Flow t.streams t.events lane number n rule begun given
 
-flow_all : (setting : Setting) (newer : List Entry) (e : Entry) (older : List Entry) (number n : ℕ) (begun : List Seen) → Legal setting (newer ++ e ∷ older)
-    → FlowOf (trail setting (e ∷ older)) e.lane number n begun [] → FlowOf (trail setting (newer ++ e ∷ older)) e.lane number n begun (items_given e.lane number newer)
-flow_all setting [] e older number n begun legal f = f
-flow_all setting (x ∷ newer) e older number n begun legal f =
-    flow_step (trail setting (newer ++ e ∷ older)) x.lane x.words x.answer e.lane number n begun (items_given e.lane number newer) legal.0
-    (flow_all setting newer e older number n begun legal.1 f)
+flow_all : (setting : Setting) (newer : List Entry) (e : Entry) (older : List Entry) (number n : ℕ) (rule : Option Rule) (begun : List Seen) → Legal setting (newer ++ e ∷ older)
+    → FlowOf (trail setting (e ∷ older)) e.lane number n rule begun [] → FlowOf (trail setting (newer ++ e ∷ older)) e.lane number n rule begun (items_given e.lane number newer)
+flow_all setting [] e older number n rule begun legal f = f
+flow_all setting (x ∷ newer) e older number n rule begun legal f =
+    flow_step (trail setting (newer ++ e ∷ older)) x.lane x.words x.answer e.lane number n rule begun (items_given e.lane number newer) legal.0
+    (flow_all setting newer e older number n rule begun legal.1 f)
 
 -- what was given and what is held
-yields_from : (setting : Setting) (newer : List Entry) (e : Entry) (older : List Entry) (number : ℕ) (begun : List Seen) → Legal setting (newer ++ e ∷ older)
-    → FlowOf (trail setting (e ∷ older)) e.lane number (length (read (trail setting older).events)) begun [] → Yields setting newer e older number begun
+yields_from : (setting : Setting) (newer : List Entry) (e : Entry) (older : List Entry) (number : ℕ) (rule : Option Rule) (begun : List Seen) → Legal setting (newer ++ e ∷ older)
+    → FlowOf (trail setting (e ∷ older)) e.lane number (length (read (trail setting older).events)) rule begun [] → Yields setting newer e older number rule begun
 unfolding held offered
-yields_from setting newer e older number begun legal start =
+yields_from setting newer e older number rule begun legal start =
     let h = (trail setting (newer ++ e ∷ older)).events in
-    let f = flow_all setting newer e older number (length (read (trail setting older).events)) begun legal start in
+    let n = length (read (trail setting older).events) in
+    let f = flow_all setting newer e older number n rule begun legal start in
     let s = f.stream in
     record {
       k = f.k;
@@ -229,7 +239,7 @@ yields_from setting newer e older number begun legal start =
       made = f.made;
       items = ap (λ ps. ps ++ positions (held h s)) f.flows.given_is
           ∙ sym (map-append (λ (m : Seen). m.position) (take s.taken (drop s.skip (matched h s))) (held h s))
-          ∙ ap positions (take-append-drop s.taken (drop s.skip (matched h s)) ∙ f.flows.offers);
+          ∙ ap positions (take-append-drop s.taken (drop s.skip (matched h s)) ∙ f.flows.offers ∙ ap (λ r. begun ++ accepted r (drop n (read h))) f.of_rule);
     }
 
 -- ---- a stream that was made
@@ -258,38 +268,76 @@ pub stream_is : (t : Trail) (e : Entry) → IsAnswer t e.lane e.words e.answer �
 stream_is t e a w = subst (λ x. IsAnswer t e.lane x e.answer) w a
 
 flow_new : (names : Names) (h : List Event) (lane n : ℕ) (begun : List Seen) (making : Making) → length names ≡ length (streams h)
-    → (s : Stream) → new_stream h (streams h) making ≡ s → Flows (read h) (matched h s) s.from s.skip s.taken n begun []
-    → Flow (names ++ Some lane ∷ []) (Made making ∷ h) lane (count lane names) n begun []
+    → (s : Stream) → new_stream h (streams h) making ≡ s → Flows (read h) (matched h s) s.from s.skip s.taken n s.rule begun []
+    → Flow (names ++ Some lane ∷ []) (Made making ∷ h) lane (count lane names) n s.rule begun []
 unfolding matched
 flow_new names h lane n begun making e s is flows = record {
   k = length names;
   stream = s;
   named = place_new 0 lane names ∙ ap Some (omega arith);
   made = ap (λ x. slice_get (streams h ++ x ∷ []) (length names)) is ∙ ap (slice_get (streams h ++ s ∷ [])) e ∙ get_new (streams h) s;
+  of_rule = refl;
   flows = flows;
 }
 
-flows_plain : (h : List Event) → Flows (read h) (matched h (plain_stream h)) (length (read h)) 0 0 (length (read h)) [] []
+flows_fresh : (h : List Event) (rule : Option Rule) (told : Bool) → Flows (read h) (matched h (fresh h rule told)) (length (read h)) 0 0 (length (read h)) rule [] []
 unfolding matched
-flows_plain h = record { start = omega arith; passed = omega arith; early = omega arith; offers = refl; given_is = refl }
+flows_fresh h rule told = record { start = omega arith; passed = omega arith; early = omega arith; offers = refl; given_is = refl }
+
+-- an entry that made a stream by this command
+entry_is : (e : Entry) (w : Words) (a : Answer) → e.words ≡ w → e.answer ≡ a → entry e.lane w a ≡ e
+entry_is e w a p q = ap (λ y. entry e.lane y a) (sym p) ∙ ap (entry e.lane e.words) (sym q)
+
+number_is : (a : Answer) (n number : ℕ) → a ≡ answers.Streaming n → a ≡ answers.Streaming number → n ≡ number
+number_is a n number is e = let same : answers.Streaming n ≡ answers.Streaming number = sym is ∙ e in cc
 
 flow_start : (setting : Setting) (e : Entry) (older : List Entry) (number : ℕ) → Legal setting (e ∷ older) → e.words ≡ words.Stream → e.answer ≡ answers.Streaming number
-    → FlowOf (trail setting (e ∷ older)) e.lane number (length (read (trail setting older).events)) [] []
+    → FlowOf (trail setting (e ∷ older)) e.lane number (length (read (trail setting older).events)) None [] []
 flow_start setting e older number legal w a =
     let t = trail setting older in
+    let n = length (read t.events) in
     let is = stream_is t e legal.0 w in
-    let n : count e.lane t.streams ≡ number = let same : answers.Streaming (count e.lane t.streams) ≡ answers.Streaming number = sym is ∙ a in cc in
-    let x : entry e.lane words.Stream (answers.Streaming (count e.lane t.streams)) ≡ e =
-    ap (λ y. entry e.lane y (answers.Streaming (count e.lane t.streams))) (sym w) ∙ ap (entry e.lane e.words) (sym is) in
-    subst (λ k. FlowOf (trail setting (e ∷ older)) e.lane k (length (read t.events)) [] []) n
-    (subst (λ y. FlowOf (more t y) e.lane (count e.lane t.streams) (length (read t.events)) [] []) x
-    (flow_new t.streams t.events e.lane (length (read t.events)) [] Plain (lanes setting older legal.1) (plain_stream t.events) refl (flows_plain t.events)))
+    subst (λ k. FlowOf (trail setting (e ∷ older)) e.lane k n None [] []) (number_is e.answer (count e.lane t.streams) number is a)
+    (subst (λ y. FlowOf (more t y) e.lane (count e.lane t.streams) n None [] []) (entry_is e words.Stream (answers.Streaming (count e.lane t.streams)) w is)
+    (flow_new t.streams t.events e.lane n [] Plain (lanes setting older legal.1) (plain_stream t.events) refl (flows_fresh t.events None (is_some (closing t.events)))))
 
 -- what a stream gave, and what it holds
 pub yields : (setting : Setting) (newer : List Entry) (e : Entry) (older : List Entry) (number : ℕ) → Legal setting (newer ++ e ∷ older) → e.words ≡ words.Stream → e.answer ≡ answers.Streaming number
-    → Yields setting newer e older number []
+    → Yields setting newer e older number None []
 yields setting newer e older number legal w a =
-    yields_from setting newer e older number [] legal (flow_start setting e older number (legal_from setting newer (e ∷ older) legal) w a)
+    yields_from setting newer e older number None [] legal (flow_start setting e older number (legal_from setting newer (e ∷ older) legal) w a)
+
+-- ---- a stream of a rule
+
+open_is : (t : Trail) (e : Entry) (asked : Option ℕ) (text : List ℕ) (rule : Rule) → IsAnswer t e.lane e.words e.answer → e.words ≡ words.Open asked text → rule_in_bytes text ≡ Ok rule
+    → e.answer ≡ open_of (Ok rule) (closing t.events) (answers.Streaming (count e.lane t.streams))
+open_is t e asked text rule a w r =
+    subst (λ x. IsAnswer t e.lane x e.answer) w a ∙ ap (λ x. open_of x (closing t.events) (answers.Streaming (count e.lane t.streams))) r
+
+-- where it was made, the peer was open
+open_made : (shut : Option Error) (rule : Rule) (there a : Answer) (number : ℕ) → a ≡ open_of (Ok rule) shut there → a ≡ answers.Streaming number → a ≡ there
+open_made None rule there a number is e = is
+open_made (Some error) rule there a number is e = let q : answers.Refused (errors.InputOutput kinds.Closed) ≡ answers.Streaming number = sym is ∙ e in cc
+
+flow_opened : (setting : Setting) (e : Entry) (older : List Entry) (number : ℕ) (asked : Option ℕ) (text : List ℕ) (rule : Rule) → Legal setting (e ∷ older) → e.words ≡ words.Open asked text
+    → rule_in_bytes text ≡ Ok rule → e.answer ≡ answers.Streaming number
+    → FlowOf (trail setting (e ∷ older)) e.lane number (length (read (trail setting older).events)) (Some rule) [] []
+flow_opened setting e older number asked text rule legal w r a =
+    let t = trail setting older in
+    let n = length (read t.events) in
+    let new = answers.Streaming (count e.lane t.streams) in
+    let is = open_made (closing t.events) rule new e.answer number (open_is t e asked text rule legal.0 w r) a in
+    subst (λ k. FlowOf (trail setting (e ∷ older)) e.lane k n (Some rule) [] []) (number_is e.answer (count e.lane t.streams) number is a)
+    (subst (λ y. FlowOf (more t y) e.lane (count e.lane t.streams) n (Some rule) [] []) (entry_is e (words.Open asked text) new w is)
+    (subst (λ xs. Flow (t.streams ++ Some e.lane ∷ []) (xs ++ t.events) e.lane (count e.lane t.streams) n (Some rule) [] []) (ap (λ x. open_makes x asked new) (sym r))
+    (flow_new t.streams t.events e.lane n [] (Ruled rule asked) (lanes setting older legal.1) (rule_stream t.events rule) refl (flows_fresh t.events (Some rule) false))))
+
+-- what a stream of a rule gave, and what it holds
+pub opened_yields : (setting : Setting) (newer : List Entry) (e : Entry) (older : List Entry) (number : ℕ) (asked : Option ℕ) (text : List ℕ) (rule : Rule) → Legal setting (newer ++ e ∷ older)
+    → e.words ≡ words.Open asked text → rule_in_bytes text ≡ Ok rule → e.answer ≡ answers.Streaming number → Yields setting newer e older number (Some rule) []
+opened_yields setting newer e older number asked text rule legal w r a =
+    yields_from setting newer e older number (Some rule) [] legal
+    (flow_opened setting e older number asked text rule (legal_from setting newer (e ∷ older) legal) w r a)
 
 -- ---- a clone
 
@@ -313,51 +361,61 @@ pub opened : (b : Bool) (there a : Answer) → a ≡ where_open b there → ((er
 opened true there a is not_refused = (refl, is)
 opened false there a is not_refused = absurd (not_refused errors.UnknownHandle is)
 
-flows_clone : (h : List Event) (s : Stream) → IsWithin h s → Flows (read h) (matched h (clone_of h (Some s))) s.from (s.skip + s.taken) 0 (length (read h)) (held h s) []
+flows_clone : (h : List Event) (s : Stream) → IsWithin h s
+    → Flows (read h) (matched h (clone_of h (Some s))) s.from (s.skip + s.taken) 0 (length (read h)) s.rule (held h s) []
 unfolding matched
 flows_clone h s w =
     let passed = w.passed in
+    let nothing : accepted s.rule (drop (length (read h)) (read h)) ≡ [] = ap (accepted s.rule) (drop-length (read h)) ∙ accepted_none s.rule in
     record {
       start = w.start;
       passed = omega arith;
       early = omega arith;
-      offers = sym (held_matched h s) ∙ sym (append-nil (held h s)) ∙ ap (λ ms. held h s ++ ms) (sym (drop-length (read h)));
+      offers = sym (held_matched h s) ∙ sym (append-nil (held h s)) ∙ ap (λ ms. held h s ++ ms) (sym nothing);
       given_is = refl;
     }
+  where
+    accepted_none : (rule : Option Rule) → accepted rule [] ≡ []
+    accepted_none None = refl
+    accepted_none (Some rule) = refl
 
 held_there : (h : List Event) (p : Option ℕ) (o : Original h p) → held_in h p ≡ held h o.stream
 held_there h p o = ap (held_in h) o.named ∙ ap (held_by h) o.made
 
+rule_there : (h : List Event) (p : Option ℕ) (o : Original h p) → rule_in h p ≡ o.stream.rule
+rule_there h p o = ap (rule_in h) o.named ∙ ap rule_of o.made
+
 flow_clone : (names : Names) (h : List Event) (lane : ℕ) (p : Option ℕ) → length names ≡ length (streams h) → AllWithin h → Original h p
-    → Flow (names ++ Some lane ∷ []) (clone_makes p (answers.Streaming (count lane names)) ++ h) lane (count lane names) (length (read h)) (held_in h p) []
+    → Flow (names ++ Some lane ∷ []) (clone_makes p (answers.Streaming (count lane names)) ++ h) lane (count lane names) (length (read h)) (rule_in h p) (held_in h p) []
 flow_clone names h lane p e w o =
-    subst (λ xs. Flow (names ++ Some lane ∷ []) (xs ++ h) lane (count lane names) (length (read h)) (held_in h p) [])
+    let n = length (read h) in
+    subst (λ xs. Flow (names ++ Some lane ∷ []) (xs ++ h) lane (count lane names) n (rule_in h p) (held_in h p) [])
     (sym (ap (λ q. clone_makes q (answers.Streaming (count lane names))) o.named))
-    (subst (λ ms. Flow (names ++ Some lane ∷ []) (Made (Cloned o.k) ∷ h) lane (count lane names) (length (read h)) ms []) (sym (held_there h p o))
-    (flow_new names h lane (length (read h)) (held h o.stream) (Cloned o.k) e (clone_of h (Some o.stream)) (ap (clone_of h) o.made)
-    (flows_clone h o.stream (within_at h (streams h) o.k o.stream o.made w))))
+    (subst (λ r. Flow (names ++ Some lane ∷ []) (Made (Cloned o.k) ∷ h) lane (count lane names) n r (held_in h p) []) (sym (rule_there h p o))
+    (subst (λ ms. Flow (names ++ Some lane ∷ []) (Made (Cloned o.k) ∷ h) lane (count lane names) n o.stream.rule ms []) (sym (held_there h p o))
+    (flow_new names h lane n (held h o.stream) (Cloned o.k) e (clone_of h (Some o.stream)) (ap (clone_of h) o.made)
+    (flows_clone h o.stream (within_at h (streams h) o.k o.stream o.made w)))))
 
 clone_is : (t : Trail) (e : Entry) (original : ℕ) → IsAnswer t e.lane e.words e.answer → e.words ≡ words.Clone original
     → e.answer ≡ where_open (is_open_at t.events (place 0 e.lane original t.streams)) (answers.Streaming (count e.lane t.streams))
 clone_is t e original a w = subst (λ x. IsAnswer t e.lane x e.answer) w a
 
 flow_cloned : (setting : Setting) (e : Entry) (older : List Entry) (number first : ℕ) → Legal setting (e ∷ older) → e.words ≡ words.Clone first → e.answer ≡ answers.Streaming number
-    → FlowOf (trail setting (e ∷ older)) e.lane number (length (read (trail setting older).events)) (holds (trail setting older) e.lane first) []
+    → FlowOf (trail setting (e ∷ older)) e.lane number (length (read (trail setting older).events)) (rule_at (trail setting older) e.lane first) (holds (trail setting older) e.lane first) []
 flow_cloned setting e older number first legal w a =
     let t = trail setting older in
+    let n = length (read t.events) in
     let p = place 0 e.lane first t.streams in
-    let o = opened (is_open_at t.events p) (answers.Streaming (count e.lane t.streams)) e.answer (clone_is t e first legal.0 w)
+    let new = answers.Streaming (count e.lane t.streams) in
+    let o = opened (is_open_at t.events p) new e.answer (clone_is t e first legal.0 w)
     (λ error r. let q : answers.Streaming number ≡ answers.Refused error = sym a ∙ r in cc) in
-    let n : count e.lane t.streams ≡ number = let same : answers.Streaming (count e.lane t.streams) ≡ answers.Streaming number = sym o.1 ∙ a in cc in
-    let x : entry e.lane (words.Clone first) (answers.Streaming (count e.lane t.streams)) ≡ e =
-    ap (λ y. entry e.lane y (answers.Streaming (count e.lane t.streams))) (sym w) ∙ ap (entry e.lane e.words) (sym o.1) in
-    subst (λ k. FlowOf (trail setting (e ∷ older)) e.lane k (length (read t.events)) (holds t e.lane first) []) n
-    (subst (λ y. FlowOf (more t y) e.lane (count e.lane t.streams) (length (read t.events)) (holds t e.lane first) []) x
+    subst (λ k. FlowOf (trail setting (e ∷ older)) e.lane k n (rule_in t.events p) (held_in t.events p) []) (number_is e.answer (count e.lane t.streams) number o.1 a)
+    (subst (λ y. FlowOf (more t y) e.lane (count e.lane t.streams) n (rule_in t.events p) (held_in t.events p) []) (entry_is e (words.Clone first) new w o.1)
     (flow_clone t.streams t.events e.lane p (lanes setting older legal.1) (all_within setting older legal.1) (original t.events p o.0)))
 
 -- what a clone gave, and what it holds
 pub clone_yields : (setting : Setting) (newer : List Entry) (e : Entry) (older : List Entry) (number first : ℕ) → Legal setting (newer ++ e ∷ older) → e.words ≡ words.Clone first
-    → e.answer ≡ answers.Streaming number → Yields setting newer e older number (holds (trail setting older) e.lane first)
+    → e.answer ≡ answers.Streaming number → Yields setting newer e older number (rule_at (trail setting older) e.lane first) (holds (trail setting older) e.lane first)
 clone_yields setting newer e older number first legal w a =
-    yields_from setting newer e older number (holds (trail setting older) e.lane first) legal
+    yields_from setting newer e older number (rule_at (trail setting older) e.lane first) (holds (trail setting older) e.lane first) legal
     (flow_cloned setting e older number first (legal_from setting newer (e ∷ older) legal) w a)

@@ -1,0 +1,67 @@
+-- What becomes of the main capacity and of a rule's.
+use Rattle.std.proofs.Common.{◌≡◌, ◌≢◌, ℕ, max, not, refl, sym, ◌∙◌, ap, Bool, true, false, is_none, if◌then◌else◌, List, ◌∷◌, Option, Some, None, Ok, Err}
+use Rattle.std.specs.List.{slice_get}
+use Rattle.wire_message.specs.declared.error.Error.TheVariants as errors
+use Rattle.rule_match.specs.Rule.{Rule}
+use Rattle.rule_match.proofs.Equal.{equal_is_one, one_is_equal}
+use Rattle.peer_route.specs.Rules.{is_same, usual}
+use Rattle.peer_route.specs.History.{Event, Made, Did, Main, Ruled, Asked}
+use Rattle.peer_route.specs.Streams.{Stream, streams, main, plain_asks, is_there, is_open, is_subscribed, asked_or, raised, limit_then, rule_of, rule_asks, rule_limit, limit_of, limit_answer}
+
+-- ---- the main one
+
+pub main_exact : (h : List Event) (limit : ℕ) → main (Main limit ∷ h) ≡ limit
+main_exact h limit = refl
+
+pub main_raised : (h : List Event) (limit j : ℕ) (s : Stream) → slice_get (streams h) j ≡ Some s → s.rule ≡ None → main (Did j (Asked limit) ∷ h) ≡ max (main h) limit
+main_raised h limit j s at plain = ap (λ o. plain_asks o (main h) limit) at ∙ ap (λ r. if is_none r then max (main h) limit else main h) plain
+
+pub main_kept : (h : List Event) (limit j : ℕ) (s : Stream) (rule : Rule) → slice_get (streams h) j ≡ Some s → s.rule ≡ Some rule → main (Did j (Asked limit) ∷ h) ≡ main h
+main_kept h limit j s rule at ruled = ap (λ o. plain_asks o (main h) limit) at ∙ ap (λ r. if is_none r then max (main h) limit else main h) ruled
+
+-- ---- a rule's
+
+same_self : (rule : Rule) → is_same rule rule ≡ true
+unfolding is_same
+same_self rule = one_is_equal rule rule refl
+
+same_other : (rule another : Rule) → rule ≢ another → is_same rule another ≡ false
+unfolding is_same
+same_other rule another differ = not_one (is_same rule another) (λ e. differ (equal_is_one rule another e))
+  where
+    not_one : (b : Bool) → (b ≡ true → ⊥) → b ≡ false
+    not_one true no_ = absurd (no_ refl)
+    not_one false no_ = refl
+
+-- an open stream's
+limit_there : (h : List Event) (k : ℕ) (s : Stream) → slice_get (streams h) k ≡ Some s → s.gone ≡ false → limit_answer h k ≡ Ok (limit_of h s.rule)
+unfolding limit_answer is_open
+limit_there h k s at still =
+    ap (λ o. if is_there o then Ok (limit_of h (rule_of o)) else Err errors.UnknownHandle) at
+    ∙ ap (λ b. if not b then Ok (limit_of h s.rule) else Err errors.UnknownHandle) still
+
+pub one_limit : (h : List Event) (j k : ℕ) (s t : Stream) → slice_get (streams h) j ≡ Some s → slice_get (streams h) k ≡ Some t → s.gone ≡ false → t.gone ≡ false
+    → s.rule ≡ t.rule → limit_answer h j ≡ limit_answer h k
+one_limit h j k s t at there still open_ same = limit_there h j s at still ∙ ap (λ r. Ok (limit_of h r)) same ∙ sym (limit_there h k t there open_)
+
+made_own : (h : List Event) (rule : Rule) (asked : Option ℕ) → rule_limit rule (Made (Ruled rule asked) ∷ h) ≡ limit_then (is_subscribed h rule) rule asked (rule_limit rule h)
+made_own h rule asked = ap (λ b. if b then limit_then (is_subscribed h rule) rule asked (rule_limit rule h) else rule_limit rule h) (same_self rule)
+
+pub first_limit : (h : List Event) (rule : Rule) (asked : Option ℕ) → is_subscribed h rule ≡ false → rule_limit rule (Made (Ruled rule asked) ∷ h) ≡ asked_or asked (usual rule)
+first_limit h rule asked none = made_own h rule asked ∙ ap (λ b. limit_then b rule asked (rule_limit rule h)) none
+
+pub later_limit : (h : List Event) (rule : Rule) (asked : Option ℕ) → is_subscribed h rule ≡ true → rule_limit rule (Made (Ruled rule asked) ∷ h) ≡ raised asked (rule_limit rule h)
+later_limit h rule asked some = made_own h rule asked ∙ ap (λ b. limit_then b rule asked (rule_limit rule h)) some
+
+pub asked_limit : (h : List Event) (limit j : ℕ) (s : Stream) (rule : Rule) → slice_get (streams h) j ≡ Some s → s.rule ≡ Some rule
+    → rule_limit rule (Did j (Asked limit) ∷ h) ≡ max (rule_limit rule h) limit
+asked_limit h limit j s rule at ruled =
+    ap (λ o. rule_asks rule (rule_of o) (rule_limit rule h) limit) at ∙ ap (λ r. rule_asks rule r (rule_limit rule h) limit) ruled
+    ∙ ap (λ b. if b then max (rule_limit rule h) limit else rule_limit rule h) (same_self rule)
+
+pub other_limit : (h : List Event) (rule another : Rule) (asked : Option ℕ) → rule ≢ another → rule_limit rule (Made (Ruled another asked) ∷ h) ≡ rule_limit rule h
+other_limit h rule another asked differ =
+    ap (λ b. if b then limit_then (is_subscribed h rule) rule asked (rule_limit rule h) else rule_limit rule h) (same_other rule another differ)
+
+pub set_limit : (h : List Event) (rule : Rule) (limit : ℕ) → rule_limit rule (Main limit ∷ h) ≡ rule_limit rule h
+set_limit h rule limit = refl
