@@ -5,8 +5,8 @@ use Rattle.wire_message.specs.declared.error.Error.TheVariants as errors
 use Rattle.rule_match.specs.Rule.{Rule}
 use Rattle.rule_match.proofs.Equal.{equal_is_one, one_is_equal}
 use Rattle.peer_route.specs.Rules.{is_same, usual}
-use Rattle.peer_route.specs.History.{Event, Made, Did, Main, Ruled, Asked}
-use Rattle.peer_route.specs.Streams.{Stream, streams, main, plain_asks, is_there, is_open, is_subscribed, asked_or, raised, limit_then, rule_of, rule_asks, rule_limit, limit_of, limit_answer}
+use Rattle.peer_route.specs.History.{Event, Made, Making, Did, Main, Ruled, Asked}
+use Rattle.peer_route.specs.Streams.{Stream, streams, main, plain_asks, is_there, is_open, is_subscribed, asked_or, raised, limit_then, rule_of, is_of, rule_asks, rule_limit, limit_of, limit_answer}
 
 -- ---- the main one
 
@@ -18,6 +18,9 @@ main_raised h limit j s at plain = ap (λ o. plain_asks o (main h) limit) at ∙
 
 pub main_kept : (h : List Event) (limit j : ℕ) (s : Stream) (rule : Rule) → slice_get (streams h) j ≡ Some s → s.rule ≡ Some rule → main (Did j (Asked limit) ∷ h) ≡ main h
 main_kept h limit j s rule at ruled = ap (λ o. plain_asks o (main h) limit) at ∙ ap (λ r. if is_none r then max (main h) limit else main h) ruled
+
+pub main_made : (h : List Event) (making : Making) → main (Made making ∷ h) ≡ main h
+main_made h making = refl
 
 -- ---- a rule's
 
@@ -62,6 +65,15 @@ asked_limit h limit j s rule at ruled =
 pub other_limit : (h : List Event) (rule another : Rule) (asked : Option ℕ) → rule ≢ another → rule_limit rule (Made (Ruled another asked) ∷ h) ≡ rule_limit rule h
 other_limit h rule another asked differ =
     ap (λ b. if b then limit_then (is_subscribed h rule) rule asked (rule_limit rule h) else rule_limit rule h) (same_other rule another differ)
+
+differs : (rule : Rule) (o : Option Rule) → o ≢ Some rule → is_of rule o ≡ false
+differs rule None ne = refl
+differs rule (Some r) ne = same_other rule r (λ e. ne (ap Some (sym e)))
+
+-- a stream of another rule, or without one, asks for more
+pub asked_other : (h : List Event) (limit j : ℕ) (s : Stream) (rule : Rule) → slice_get (streams h) j ≡ Some s → s.rule ≢ Some rule → rule_limit rule (Did j (Asked limit) ∷ h) ≡ rule_limit rule h
+asked_other h limit j s rule at ne =
+    ap (λ o. rule_asks rule (rule_of o) (rule_limit rule h) limit) at ∙ ap (λ b. if b then max (rule_limit rule h) limit else rule_limit rule h) (differs rule s.rule ne)
 
 pub set_limit : (h : List Event) (rule : Rule) (limit : ℕ) → rule_limit rule (Main limit ∷ h) ≡ rule_limit rule h
 set_limit h rule limit = refl

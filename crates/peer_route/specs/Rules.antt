@@ -2,13 +2,13 @@
 -- (D-Bus Specification, "Match Rules").
 use Rattle.std.specs.Prelude.{ℕ, Bool, true, false, ◌&&◌, ◌==◌, is_none, if◌then◌else◌, List, [], ◌∷◌, Option, Some, None, codes}
 use Rattle.wire_names.specs.declared.bus.OwnedBusName.{OwnedBusName}
-use Rattle.wire_names.specs.declared.bus.OwnedBusName.TheVariants.{Unique, WellKnown}
+use Rattle.wire_names.specs.declared.bus.OwnedBusName.TheVariants.{Unique}
 use Rattle.wire_message.specs.declared.kind.MessageType.{MessageType}
 use Rattle.wire_message.specs.declared.kind.MessageType.TheVariants as types
 use Rattle.rule_arguments.specs.declared.arguments.Argument.{Argument}
 use Rattle.rule_arguments.specs.Passing.{same}
 use Rattle.rule_match.specs.declared.place.PathSpec.{PathSpec}
-use Rattle.rule_match.specs.declared.place.PathSpec.TheVariants.{Path, PathNamespace}
+use Rattle.rule_match.specs.declared.place.PathSpec.TheVariants.{Path}
 use Rattle.rule_match.specs.Rule.{Rule}
 use Rattle.rule_match.specs.contracts.rule.MatchRulePartialEq.TheImpl.{ghosts as of_rules}
 

@@ -4,7 +4,7 @@ ghost use Rattle.std.specs.List.{AllByRecursion};
 ghost use Rattle.wire_message.specs.Front.{Seen};
 ghost use Rattle.wire_message.specs.declared.error.Error.{Error};
 ghost use Rattle.peer_route.specs.declared.answer.Entry.{Entry};
-ghost use Rattle.peer_route.specs.History.{Event, Took, Spent, Made, Ruled, Did, Main, Deed, Asked, calls, closing, is_failed, writer, is_serial, pending, poll_answer, put};
+ghost use Rattle.peer_route.specs.History.{Event, Took, Spent, Made, Making, Ruled, Did, Main, Deed, Asked, calls, closing, is_failed, writer, is_serial, pending, poll_answer, put};
 ghost use Rattle.rule_match.specs.Rule.{Rule};
 ghost use Rattle.rule_match.specs.Bytes.{rule_in_bytes};
 ghost use Rattle.peer_route.specs.Rules.{usual};
@@ -102,6 +102,7 @@ pub fn capacity_throws_nothing_away()
 pub fn main_capacity()
     ensures exact { (h : List Event) (limit : ℕ) → main (Main limit ∷ h) ≡ limit }
     ensures raised { (h : List Event) (limit j : ℕ) (s : Stream) → slice_get (streams h) j ≡ Some s → s.rule ≡ None → main (Did j (Asked limit) ∷ h) ≡ max (main h) limit }
+    ensures opened { (h : List Event) (making : Making) → main (Made making ∷ h) ≡ main h }
     ensures kept { (h : List Event) (limit j : ℕ) (s : Stream) (rule : Rule) → slice_get (streams h) j ≡ Some s → s.rule ≡ Some rule → main (Did j (Asked limit) ∷ h) ≡ main h }
 {}
 
@@ -114,6 +115,7 @@ pub fn rule_capacity()
     ensures later { (h : List Event) (rule : Rule) (asked : Option ℕ) → is_subscribed h rule ≡ true → rule_limit rule (Made (Ruled rule asked) ∷ h) ≡ raised asked (rule_limit rule h) }
     ensures asked { (h : List Event) (limit j : ℕ) (s : Stream) (rule : Rule) → slice_get (streams h) j ≡ Some s → s.rule ≡ Some rule → rule_limit rule (Did j (Asked limit) ∷ h) ≡ max (rule_limit rule h) limit }
     ensures other { (h : List Event) (rule another : Rule) (asked : Option ℕ) → rule ≢ another → rule_limit rule (Made (Ruled another asked) ∷ h) ≡ rule_limit rule h }
+    ensures asked_other { (h : List Event) (limit j : ℕ) (s : Stream) (rule : Rule) → slice_get (streams h) j ≡ Some s → s.rule ≢ Some rule → rule_limit rule (Did j (Asked limit) ∷ h) ≡ rule_limit rule h }
     ensures set { (h : List Event) (rule : Rule) (limit : ℕ) → rule_limit rule (Main limit ∷ h) ≡ rule_limit rule h }
 {}
 

@@ -65,9 +65,10 @@ pub start_writes : (setting : Setting) (start : Outlet) → Writes setting start
 start_writes setting start = record {
   holds = holds_first setting.queue start.room start.held;
   room = room_first setting.queue start.room;
+  closes = tt;
+  tells = λ there. there;
   cause = λ f. absurd f;
   kept = omega arith;
-  only = λ f. refl;
 }
 
 -- what stands to a history is a run of its commands
@@ -79,6 +80,7 @@ runs_of setting start_in start_out p end_in end_out writing commands entries s e
   each = e;
   reads = s.reads.told;
   writes = s.writes.holds;
+  closes = s.writes.closes;
   read_fault = s.reads.cause;
   write_fault = s.writes.cause;
 }
@@ -101,12 +103,14 @@ run_of start_in start_out end_in end_out s takes entries held left stop before r
     let reads = rw (left, stop) at r.reads in
     let writes = rw (before, room, after) at r.writes in
     let w = sent_of s.outfault held h writes in
+    let closes = rw room at r.closes in
     record {
       legal = r.legal;
       each = r.each;
       reads = reads;
       bytes = w.0;
       room = w.1;
+      closes = closes;
     }
 
 -- three facts of one outcome

@@ -8,7 +8,7 @@ use Rattle.peer_route.specs.declared.answer.Entry.{Entry}
 use Rattle.peer_route.specs.Answers.{Legal}
 use Rattle.peer_route.proofs.Once.{once, legal_from}
 use Rattle.peer_route.proofs.Read.{by_the_first, by_the_closing_error}
-use Rattle.peer_route.proofs.Yields.{yields, clone_yields}
+use Rattle.peer_route.proofs.Yields.{yields, opened_yields, clone_yields}
 use Rattle.peer_route.proofs.ClosedStreams.{closed_for_good}
 use Rattle.peer_route.proofs.Drained.{ended, busy_there}
 use Rattle.peer_route.proofs.Sent.{put_sent}
@@ -41,6 +41,7 @@ polls_are s h sent legal newer older e number is w =
 streams_are : (s : Script) (h : List Entry) (sent : List ℕ) → Legal (setting_of s) h → StreamsAre s h sent
 streams_are s h sent legal = record {
   yields = λ newer older e number is w a. yields (setting_of s) newer e older number (subst (Legal (setting_of s)) is legal) w a;
+  rules = λ newer older e number asked text rule is w found a. opened_yields (setting_of s) newer older e number asked text rule (subst (Legal (setting_of s)) is legal) w found a;
   clones = λ newer older e number original is w a. clone_yields (setting_of s) newer e older number original (subst (Legal (setting_of s)) is legal) w a;
   ends = λ newer older e number is w last. ended (setting_of s) newer older e number (subst (Legal (setting_of s)) is legal) w last;
   closes = λ newer older e number is w a. closed_for_good (setting_of s) newer older e number (subst (Legal (setting_of s)) is legal) w a;
@@ -52,7 +53,7 @@ whole_of s entries sent r = record {
   reads = r.reads;
   polls = polls_are s (reverse entries) sent r.legal;
   streams = streams_are s (reverse entries) sent r.legal;
-  sends = record { bytes = r.bytes; room = r.room; put_is = put_sent (setting_of s) (reverse entries) r.legal };
+  sends = record { bytes = r.bytes; room = r.room; closes = r.closes; put_is = put_sent (setting_of s) (reverse entries) r.legal };
 }
 
 -- a script was read, run and shown

@@ -1,5 +1,5 @@
 -- How a command that sends ends, from what issuing and sending gave.
-use Rattle.std.proofs.Common.{◌≡◌, ◌==◌, ◌<◌, ℕ, arith, inl, inr, refl, sym, ◌∙◌, ap, subst, Bool, true, false, List, [], ◌∷◌, ◌++◌, length, Option, Some, None, is_some, Result, Ok, Err, IfOk, slice_get}
+use Rattle.std.proofs.Common.{◌≡◌, ◌≢◌, ◌==◌, ◌<◌, ℕ, arith, inl, inr, refl, sym, ◌∙◌, ap, subst, Bool, true, false, List, [], ◌∷◌, ◌++◌, length, Option, Some, None, is_some, Result, Ok, Err, IfOk, slice_get}
 use Rattle.std.proofs.lemmas.Bool.Decides.{nat_tests}
 use Rattle.wire_message.specs.Front.{Seen}
 use Rattle.wire_message.specs.declared.error.Error.{Error}
@@ -13,7 +13,10 @@ use Rattle.peer_route.specs.declared.answer.Entry.{Entry}
 use Rattle.peer_route.specs.declared.route.Issued.{Issued}
 use Rattle.peer_route.specs.History as events
 use Rattle.peer_route.specs.Trail.{asks, asks_with, kept_at, place, trail, count, next_serial}
-use Rattle.peer_route.specs.Answers.{send_refusal, sent_answer, write_fault}
+use Rattle.peer_route.specs.declared.writer.Writer.{Writer}
+use Rattle.peer_route.specs.declared.writer.Writer.TheVariants as writers
+use Rattle.peer_route.proofs.Writers.{fine_unfailed, failed_so}
+use Rattle.peer_route.specs.Answers.{send_refusal, sent_answer, write_fault, write_closed}
 use Rattle.peer_route.specs.CallMessage.{expects}
 use Rattle.peer_route.specs.declared.words.Words.{Words}
 use Rattle.peer_route.specs.Left.{View, Left, AreWritable, IsTooLong, Issues, call_number}
@@ -31,7 +34,7 @@ use Rattle.wire_message.specs.Signed.{counted, fds_field}
 use Rattle.peer_route.proofs.Asked.{are_refused, asked_goes}
 use Rattle.peer_run.specs.CallWords.{MakesAsked}
 use Rattle.peer_run.proofs.HalfStep.{fine_before}
-use Rattle.peer_run.proofs.SendStep.{IsSending, sending_is, asks_kept, entry_events, fault_events, follows_refused, follows_unsent, follows_sent, follows_failed, reads_send, writes_refused, writes_unsent, writes_sent, writes_failed}
+use Rattle.peer_run.proofs.SendStep.{IsSending, sending_is, asks_kept, entry_events, fault_events, follows_refused, follows_unsent, follows_sent, follows_failed, reads_send, writes_refused, writes_unsent, writes_sent, writes_failed, fault_was_written}
 
 -- ---- nothing was issued
 
@@ -61,6 +64,12 @@ long_of : (parcel : Parcel) (serial : ℕ) → AreWritable parcel → IsTooLong 
 long_of parcel serial fit (inl unfit) = absurd (unfit fit.1)
 long_of parcel serial fit (inr long) = long.1
 
+failed_ne : (w : Writer) → w ≡ writers.Failed → w ≢ writers.Fine
+failed_ne w is e = let z : writers.Failed ≡ writers.Fine = sym is ∙ e in absurd (cc)
+
+closed_ne : (w : Writer) → w ≡ writers.Closed → w ≢ writers.Fine
+closed_ne w is e = let z : writers.Closed ≡ writers.Fine = sym is ∙ e in absurd (cc)
+
 unissued : (setting : Setting) (p q : PeerView) (es : List Entry) (lane : ℕ) (w : Words) (parcel : Parcel) (error : Error) (a : Answer)
     → IsSending (trail setting es) lane w (Ok parcel) → AreWritable parcel → Follows setting p es → Issues p.core q.core parcel (trail setting es).events (Err error)
     → unsent_answer error ≡ Some a → (q.core ≡ p.core) × Unissued setting p es lane w a
@@ -78,8 +87,15 @@ unissued setting p q es lane w parcel errors.ExcessData a k fit f i e = (
 unissued setting p q es lane w parcel (errors.InputOutput kinds.WriteFault) a k fit f i e = (
   i.5,
   as_answer write_fault a (Unissued setting p es lane w) e (record {
-    follows = follows_unsent setting p es lane w (Ok parcel) k f (not_refused (trail setting es).events (Ok parcel) parcel i.0 refl i.1 i.3) i.4;
-    writes = λ start now x. writes_unsent setting start now es lane w (Ok parcel) k f.legal i.4 x;
+    follows = follows_unsent setting p es lane w (Ok parcel) _ k f (not_refused (trail setting es).events (Ok parcel) parcel i.0 refl i.1 i.3) (failed_ne _ i.4) (λ success. rw (i.4) refl);
+    writes = λ start now x. writes_unsent setting start now es lane w (Ok parcel) _ k (failed_ne _ i.4) (λ g. fault_was_written setting es f.legal (failed_so (trail setting es).events i.4)) x;
+  }),
+)
+unissued setting p q es lane w parcel (errors.InputOutput kinds.Closed) a k fit f i e = (
+  i.5,
+  as_answer write_closed a (Unissued setting p es lane w) e (record {
+    follows = follows_unsent setting p es lane w (Ok parcel) _ k f (not_refused (trail setting es).events (Ok parcel) parcel i.0 refl i.1 i.3) (closed_ne _ i.4) (λ success. rw (i.4) refl);
+    writes = λ start now x. writes_unsent setting start now es lane w (Ok parcel) _ k (closed_ne _ i.4) (λ g. absurd (cc)) x;
   }),
 )
 unissued setting p q es lane w parcel (errors.Variant faults.Depth) a k fit f i e = absurd (let d = fit.0 in let n = i.2 in omega (arith, d, n))
@@ -130,14 +146,14 @@ never_sent : (expects_one : Bool) (number serial : ℕ) (a : Answer) → a ≡ s
 never_sent true number serial a e f = cc
 never_sent false number serial a e f = cc
 
--- after a failed write the history has failed
-failed_then : (setting : Setting) (es : List Entry) (lane : ℕ) (w : Words) (parcel : Parcel) (serial : ℕ) (a : Answer) → IsSending (trail setting es) lane w (Ok parcel) → a ≡ write_fault → events.is_failed (trail setting es).events ≡ false
-    → next_serial (trail setting es).events ≡ Some serial → events.is_failed (trail setting (entry lane w a ∷ es)).events ≡ false → ⊥
+-- after a failed write the writer has failed
+failed_then : (setting : Setting) (es : List Entry) (lane : ℕ) (w : Words) (parcel : Parcel) (serial : ℕ) (a : Answer) → IsSending (trail setting es) lane w (Ok parcel) → a ≡ write_fault → events.writer (trail setting es).events ≡ writers.Fine
+    → next_serial (trail setting es).events ≡ Some serial → events.writer (trail setting (entry lane w a ∷ es)).events ≡ writers.Fine → ⊥
 failed_then setting es lane w parcel serial a k answer fine next f =
     let m = message_of parcel serial in
     let same : (trail setting (entry lane w write_fault ∷ es)).events ≡ events.Fault ∷ events.Put m (expects (Ok parcel)) ∷ (trail setting es).events =
     entry_events setting es lane w (Ok parcel) write_fault k ∙ fault_events (trail setting es).events parcel serial fine next in
-    let g : true ≡ false = sym (ap events.is_failed same) ∙ sym (ap (λ b. events.is_failed (trail setting (entry lane w b ∷ es)).events) answer) ∙ f in
+    let g : writers.Failed ≡ writers.Fine = sym (ap (λ w. events.worse w writers.Failed) fine) ∙ sym (ap events.writer same) ∙ sym (ap (λ b. events.writer (trail setting (entry lane w b ∷ es)).events) answer) ∙ f in
     cc
 
 sending_by : (setting : Setting) (p q r : PeerView) (es : List Entry) (lane : ℕ) (w : Words) (parcel : Parcel) (issued : Issued) (now after : Outlet) (writing : Writing) (a : Answer) (m : Seen)
@@ -154,7 +170,7 @@ sending_by setting p q r es lane w parcel issued now after writing a m k f i n t
           (follows_sent setting p r es lane issued.serial w parcel k f none i.3 (next_serial-next h issued.serial i.0)
           (names ∙ ap (λ x. named x (Some lane) q.names) made ∙ ap (named b (Some lane)) n) (streams ∙ t) (given ∙ g) (left _ i.6));
       writes = λ start x. subst (λ y. Writes setting start after (entry lane w y ∷ es)) to
-          (writes_sent setting start now after es lane (count lane p.names) issued.serial w parcel k i.3 (subst (λ j. Appends now.held after.held j.bytes) is appends)
+          (writes_sent setting start now after es lane (count lane p.names) issued.serial w parcel k (fine_unfailed h i.3) (subst (λ j. Appends now.held after.held j.bytes) is appends)
           (subst (λ (j : Seen). RoomFalls now.room after.room (length j.bytes)) is falls) faults x);
       reads = λ start now_in x. reads_send setting start now_in es lane w (Ok parcel) a k (never_sent (is_some issued.call) (count lane q.names) issued.serial a answer) x;
       fine = λ e. still;

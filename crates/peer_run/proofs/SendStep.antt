@@ -1,5 +1,5 @@
 -- A message that a command sends is one entry more.
-use Rattle.std.proofs.Common.{◌≡◌, ℕ, ◌+◌, ◌-◌, ◌≤◌, ◌<◌, refl, sym, ◌∙◌, ap, subst, arith, Bool, true, false, List, [], ◌∷◌, ◌++◌, length, take, Option, Some, None, Ok, Err, IfSome, ◌⊎◌, inl, inr, length-append, append_assoc}
+use Rattle.std.proofs.Common.{◌≡◌, ℕ, ◌+◌, ◌-◌, ◌≤◌, ◌<◌, ◌≢◌, IsSome, refl, sym, ◌∙◌, ap, subst, arith, Bool, true, false, List, [], ◌∷◌, ◌++◌, length, take, Option, Some, None, Ok, Err, IfSome, ◌⊎◌, inl, inr, length-append, append_assoc}
 use Rattle.std.proofs.lemmas.List.{append-nil, length_push, length-take-le}
 use Rattle.std.specs.Io.KnownBytes.{Appends}
 use Rattle.wire_message.specs.Front.{Seen}
@@ -16,8 +16,11 @@ use Rattle.peer_route.specs.declared.answer.Answer.{Answer}
 use Rattle.peer_route.specs.declared.answer.Answer.TheVariants as answers
 use Rattle.peer_route.specs.declared.answer.Entry.{Entry}
 use Rattle.peer_route.specs.History as events
-use Rattle.peer_route.specs.Trail.{Trail, Names, asks, asks_with, kept_at, given, trail, events_of, send_events, failed_put, failed_name, new_names, new_streams, read_events, poll_spends, drop_spends, stream_makes, take_does, clone_makes, unstream_does, queue_does, main_sets, second_place, place, count, next_serial, or_zero}
-use Rattle.peer_route.specs.Answers.{Legal, IsAnswer, IsCalled, IsSendOf, send_refusal, sent_answer, write_fault}
+use Rattle.peer_route.specs.Trail.{Trail, Names, asks, asks_with, kept_at, given, trail, events_of, send_events, failed_put, failed_name, new_names, new_streams, read_events, poll_spends, drop_spends, stream_makes, open_makes, close_does, take_does, clone_makes, unstream_does, queue_does, main_sets, second_place, place, count, next_serial, or_zero}
+use Rattle.rule_match.specs.Bytes.{rule_in_bytes}
+use Rattle.peer_route.specs.declared.writer.Writer.{Writer}
+use Rattle.peer_route.specs.declared.writer.Writer.TheVariants as writers
+use Rattle.peer_route.specs.Answers.{Legal, IsAnswer, IsCalled, IsSent, IsSendOf, send_refusal, sent_answer, write_fault}
 use Rattle.peer_route.specs.Told.{ReadTold, WritesTold, encodings}
 use Rattle.peer_route.specs.Streams.{all_given}
 use Rattle.peer_route.specs.Left.{Left}

@@ -144,6 +144,7 @@ answer_line answers.Empty h = refl
 answer_line answers.Ended h = refl
 answer_line answers.Gone h = refl
 answer_line answers.Set h = refl
+answer_line answers.Shut h = refl
 
 entry_bytes : (e : Entry) → CanBeRead e → list_all line_byte (entry_line e) ≡ true
 unfolding entry_line

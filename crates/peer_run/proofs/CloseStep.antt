@@ -1,0 +1,208 @@
+-- Closing the peer: one entry more.
+use Rattle.std.proofs.Common.{◌≡◌, ℕ, ◌≤◌, inl, inr, refl, sym, ◌∙◌, ap, subst, arith, Bool, true, false, List, [], ◌∷◌, ◌++◌, length, Option, Some, None, IsSome, IfSome, Result, Ok, Err}
+use Rattle.std.proofs.lemmas.List.{append-nil}
+use Rattle.std.specs.Io.KnownBytes.{Keeps}
+use Rattle.wire_message.specs.declared.error.Error.{Error}
+use Rattle.wire_message.specs.declared.error.Error.TheVariants as errors
+use Rattle.wire_message.specs.declared.error.IoKind.TheVariants as kinds
+use Rattle.wire_framing.specs.Source.{MayRise}
+use Rattle.wire_framing.specs.Sink.{Closes, RoomStays, RoomFalls}
+use Rattle.wire_framing.specs.declared.write_half.Writing.{Writing}
+use Rattle.wire_framing.specs.declared.write_half.Writing.TheVariants.{Fine}
+use Rattle.peer_route.specs.declared.writer.Writer.{Writer}
+use Rattle.peer_route.specs.declared.writer.Writer.TheVariants as writers
+use Rattle.peer_route.specs.Parcel.{Setting}
+use Rattle.peer_route.specs.declared.words.Words.TheVariants as words
+use Rattle.peer_route.specs.declared.answer.Answer.{Answer}
+use Rattle.peer_route.specs.declared.answer.Answer.TheVariants as answers
+use Rattle.peer_route.specs.declared.answer.Entry.{Entry}
+use Rattle.peer_route.specs.History as events
+use Rattle.peer_route.specs.Trail.{Trail, trail, close_does, new_names, new_streams}
+use Rattle.peer_route.specs.Answers.{IsClose, write_fault}
+use Rattle.peer_route.specs.Told.{ReadsTold, CloseTold, ReadTold, left_after}
+use Rattle.peer_route.specs.Left.{Left}
+use Rattle.peer_route.proofs.Given.{given_same}
+use Rattle.peer_route.proofs.Writers.{shut_writer}
+use Rattle.peer_run.specs.Stands.{PeerView, Inlet, Outlet, Follows, Reads, Writes, Sending, IsFine, IsRest, HoldsThen, RoomFor, HasReadFault, HasWriteFault, IsWriteFault, entry}
+use Rattle.peer_run.proofs.Quiet.{follows_more, rise_after, rise_before}
+
+abbrev shut : events.Event
+shut = events.Shut (errors.InputOutput kinds.Closed)
+
+-- what is shown of the sink's `close`
+abbrev pub shown_close : Result (Unit {0}) Error → Answer
+shown_close (Ok done) = answers.Shut
+shown_close (Err error) = answers.SendFailed error
+
+-- a failing `close` is a write fault
+abbrev pub IsClosed : Result (Unit {0}) Error → Type 0
+IsClosed (Ok done) = Unit {0}
+IsClosed (Err error) = error ≡ errors.InputOutput kinds.WriteFault
+
+shown_is : (r : Result (Unit {0}) Error) → IsClosed r → IsClose (shown_close r)
+shown_is (Ok done) is = inl refl
+shown_is (Err error) is = inr (ap answers.SendFailed is)
+
+does_shut : (r : Result (Unit {0}) Error) → close_does (shown_close r) ≡ shut ∷ []
+does_shut (Ok done) = refl
+does_shut (Err error) = refl
+
+makes_no_stream : (lane : ℕ) (r : Result (Unit {0}) Error) → new_streams lane (shown_close r) ≡ []
+makes_no_stream lane (Ok done) = refl
+makes_no_stream lane (Err error) = refl
+
+-- ---- the peer
+
+not_asked : (w : Writer) (h : List events.Event) (lane : ℕ) (r : Result (Unit {0}) Error) → events.writer h ≡ w → new_names h lane None (shown_close r) ≡ []
+not_asked w h lane (Ok done) e = refl
+not_asked writers.Fine h lane (Err error) e = rw e refl
+not_asked writers.Failed h lane (Err error) e = rw e refl
+not_asked writers.Closed h lane (Err error) e = rw e refl
+
+follows_close : (setting : Setting) (p q : PeerView) (es : List Entry) (lane : ℕ) (r : Result (Unit {0}) Error) → Follows setting p es → IsClosed r
+    → q.names ≡ p.names → q.streams ≡ p.streams → q.given ≡ p.given → Left q.core (shut ∷ (trail setting es).events)
+    → Follows setting q (entry lane words.Close (shown_close r) ∷ es)
+follows_close setting p q es lane r f is names same given left =
+    let t = trail setting es in
+    let a = shown_close r in
+    let reads : q.core.read ≡ p.core.read = left.read ∙ sym f.left.read in
+    follows_more setting q es (entry lane words.Close a) (shut ∷ t.events) (ap (λ xs. xs ++ t.events) (does_shut r)) left
+    (names ∙ f.names ∙ sym (append-nil t.names) ∙ ap (λ ns. t.names ++ ns) (sym (not_asked (events.writer t.events) t.events lane r refl)))
+    (same ∙ f.streams ∙ sym (append-nil t.streams) ∙ ap (λ ns. t.streams ++ ns) (sym (makes_no_stream lane r)))
+    (given ∙ f.given ∙ sym (given_same (shut ∷ t.events) t.events refl refl)) f.legal (shown_is r is)
+    (rw reads f.within)
+    (left.done ∙ sym f.left.done ∙ f.written ∙ ap length (f.left.outbox ∙ sym left.outbox))
+
+-- ---- the source
+
+no_read_fault : (r : Result (Unit {0}) Error) → shown_close r ≡ answers.Closed (errors.InputOutput kinds.Fault) → ⊥
+no_read_fault (Ok done) e = cc
+no_read_fault (Err error) e = cc
+
+rest_shut : (o : Option Error) (rest before : List ℕ) (stop : Option Bool) (left : Option (List ℕ)) (now : Option Bool) → IsRest (events.first_of o (errors.InputOutput kinds.Closed)) rest stop left now
+rest_shut None rest before stop left now = tt
+rest_shut (Some error) rest before stop left now = tt
+
+told_close : (h : List events.Event) (stop : Option Bool) (bytes : List ℕ) (closing : Option Error) (a : Answer) → ReadTold stop bytes h closing words.Close a
+told_close h stop bytes None a = tt
+told_close h stop bytes (Some error) a = tt
+
+reads_close : (setting : Setting) (start now : Inlet) (es : List Entry) (lane : ℕ) (r : Result (Unit {0}) Error) → Reads setting start now es → Reads setting start now (entry lane words.Close (shown_close r) ∷ es)
+reads_close setting start now es lane r x = record {
+  told = told_all start.left x.told;
+  rest = rest_all start.left;
+  cause = λ f. x.cause (fault f);
+  kept = x.kept;
+}
+  where
+    told_all : (left : Option (List ℕ)) → IfSome left (λ bytes. ReadsTold setting start.stop bytes es) → IfSome left (λ bytes. ReadsTold setting start.stop bytes (entry lane words.Close (shown_close r) ∷ es))
+    told_all None t = tt
+    told_all (Some bytes) t = (told_close (trail setting es).events start.stop bytes (events.closing (trail setting es).events) (shown_close r), t)
+
+    rest_all : (left : Option (List ℕ))
+        → IfSome left (λ bytes. IsRest (events.closing (trail setting (entry lane words.Close (shown_close r) ∷ es)).events) (left_after bytes (trail setting (entry lane words.Close (shown_close r) ∷ es)).events) start.stop now.left now.stop)
+    rest_all None = tt
+    rest_all (Some bytes) =
+        subst (λ xs. IsRest (events.closing (xs ++ (trail setting es).events)) (left_after bytes (xs ++ (trail setting es).events)) start.stop now.left now.stop) (sym (does_shut r))
+        (rest_shut (events.closing (trail setting es).events) _ [] start.stop now.left now.stop)
+
+    fault : HasReadFault (entry lane words.Close (shown_close r) ∷ es) → HasReadFault es
+    fault (inl f) = absurd (no_read_fault r f)
+    fault (inr f) = f
+
+-- ---- the sink
+
+holds_shut : (room : Option (Option ℕ)) (before : List ℕ) (held held' : Option (List ℕ)) (h : List events.Event) → Keeps held held' → HoldsThen room before held h → HoldsThen room before held' (shut ∷ h)
+holds_shut room before None held' h keeps w = absurd w
+holds_shut room before (Some after) held' h keeps w =
+    subst (λ o. HoldsThen room before o (shut ∷ h)) (sym keeps) (record { sent = w.sent; appended = w.appended; bytes = w.bytes; told = w.told })
+
+stays_told : (room room' : Option (Option ℕ)) → RoomStays room room' → IsSome room → IsSome room'
+stays_told None room' f there = absurd there
+stays_told (Some k) room' f there = subst IsSome (sym f) tt
+
+room_stays : (failed : Bool) (room now after : Option (Option ℕ)) (ms : List _) → RoomStays now after → (IsSome room → IsSome now) → RoomFor failed room now ms → RoomFor failed room after ms
+room_stays true room now after ms s tells x = tt
+room_stays false None now after ms s tells x = tt
+room_stays false (Some k) None after ms s tells x = absurd (tells tt)
+room_stays false (Some k) (Some n) after ms s tells x = subst (λ o. RoomFor false (Some k) o ms) (sym s) x
+
+-- what the sink told of its `close`
+record Closing (r : Result (Unit {0}) Error) (now after : Outlet) : Type 0 where
+  keeps : Keeps now.held after.held
+  stays : RoomStays now.room after.room
+  grows : now.faults ≤ after.faults
+  still : (room : Option (Option ℕ)) → (IsSome room → IsSome now.room) → CloseTold room words.Close (shown_close r)
+  cause : IsWriteFault (shown_close r) → MayRise now.faults after.faults
+
+rises_grow : (a b : ℕ) → MayRise a b → a ≤ b
+rises_grow a b (inl f) = omega (arith, f)
+rises_grow a b (inr f) = omega (arith, f.0, f.1)
+
+told_ok : (room : Option (Option ℕ)) → CloseTold room words.Close answers.Shut
+told_ok None = tt
+told_ok (Some k) = refl
+
+told_err : (room now : Option (Option ℕ)) (a : Answer) → now ≡ None → (IsSome room → IsSome now) → CloseTold room words.Close a
+told_err None now a none tells = tt
+told_err (Some k) now a none tells = absurd (subst IsSome none (tells tt))
+
+stays_none : (room room' : Option (Option ℕ)) → room ≡ None → RoomStays room room'
+stays_none None room' none = tt
+stays_none (Some k) room' none = absurd (cc)
+
+closing_of : (r : Result (Unit {0}) Error) (now after : Outlet) → Closes r now.held after.held now.room after.room now.faults after.faults → Closing r now after
+closing_of (Ok done) now after c = record {
+  keeps = c.0;
+  stays = c.1;
+  grows = let same : after.faults ≡ now.faults = c.2 in omega (arith, same);
+  still = λ room tells. told_ok room;
+  cause = λ f. absurd (cc);
+}
+closing_of (Err error) now after c = record {
+  keeps = c.0;
+  stays = stays_none now.room after.room c.1;
+  grows = rises_grow now.faults after.faults c.2;
+  still = λ room tells. told_err room now.room (answers.SendFailed error) c.1 tells;
+  cause = λ f. c.2;
+}
+
+writes_close : (setting : Setting) (start now after : Outlet) (es : List Entry) (lane : ℕ) (r : Result (Unit {0}) Error) → Closing r now after
+    → Writes setting start now es → Writes setting start after (entry lane words.Close (shown_close r) ∷ es)
+writes_close setting start now after es lane r c x = record {
+  holds = holds_all start.held x.holds;
+  room = subst (λ xs. RoomFor (events.is_failed (xs ++ (trail setting es).events)) start.room after.room (events.put (xs ++ (trail setting es).events))) (sym (does_shut r))
+      (room_stays (events.is_failed (trail setting es).events) start.room now.room after.room (events.put (trail setting es).events) c.stays x.tells x.room);
+  closes = (c.still start.room x.tells, x.closes);
+  tells = λ there. stays_told now.room after.room c.stays (x.tells there);
+  cause = cause_of;
+  kept = let grows = c.grows in omega (arith, grows, x.kept);
+}
+  where
+    holds_all : (held : Option (List ℕ)) → IfSome held (λ before. HoldsThen start.room before now.held (trail setting es).events)
+        → IfSome held (λ before. HoldsThen start.room before after.held (trail setting (entry lane words.Close (shown_close r) ∷ es)).events)
+    holds_all None t = tt
+    holds_all (Some before) t =
+        subst (λ xs. HoldsThen start.room before after.held (xs ++ (trail setting es).events)) (sym (does_shut r))
+        (holds_shut start.room before now.held after.held (trail setting es).events c.keeps t)
+
+    cause_of : HasWriteFault (entry lane words.Close (shown_close r) ∷ es) → MayRise start.faults after.faults
+    cause_of (inl f) = rise_after start.faults now.faults after.faults x.kept (c.cause f)
+    cause_of (inr f) = rise_before start.faults now.faults after.faults (x.cause f) c.grows
+
+-- ---- the whole
+
+never_fine : (setting : Setting) (es : List Entry) (lane : ℕ) (r : Result (Unit {0}) Error) (writing : Writing) → IsFine (trail setting (entry lane words.Close (shown_close r) ∷ es)).events writing
+never_fine setting es lane r writing e =
+    absurd (shut_writer (events.writer (trail setting es).events) (sym (ap (λ xs. events.writer (xs ++ (trail setting es).events)) (does_shut r)) ∙ e))
+
+pub closing : (setting : Setting) (p q : PeerView) (es : List Entry) (lane : ℕ) (r : Result (Unit {0}) Error) (now after : Outlet) (writing : Writing) → Follows setting p es → IsClosed r
+    → Closes r now.held after.held now.room after.room now.faults after.faults
+    → q.names ≡ p.names → q.streams ≡ p.streams → q.given ≡ p.given → Left q.core (shut ∷ (trail setting es).events)
+    → Sending setting q es lane words.Close now after writing (shown_close r)
+closing setting p q es lane r now after writing f is c names same given left = record {
+  follows = follows_close setting p q es lane r f is names same given left;
+  writes = λ start x. writes_close setting start now after es lane r (closing_of r now after c) x;
+  reads = λ start now_in x. reads_close setting start now_in es lane r x;
+  fine = never_fine setting es lane r writing;
+}
