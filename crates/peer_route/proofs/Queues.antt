@@ -1,6 +1,6 @@
 -- What streams hold, message by message.
-use Rattle.std.proofs.Common.{◌≡◌, ℕ, ◌+◌, ◌-◌, ◌<◌, ◌≤◌, zero, suc, refl, sym, ◌∙◌, ap, arith, List, [], ◌∷◌, length, map, get_or, set, drop, drop-cons, Option, Some, None}
-use Rattle.std.proofs.lemmas.List.{map-set, set-set, set-get_or}
+use Rattle.std.proofs.Common.{◌≡◌, ℕ, ◌+◌, ◌-◌, ◌<◌, ◌≤◌, zero, suc, refl, sym, ◌∙◌, ap, arith, List, [], ◌∷◌, length, map, get_or, set, take, drop, drop-cons, ◌++◌, Option, Some, None}
+use Rattle.std.proofs.lemmas.List.{map-set, set-set, set-get_or, drop_all, take_all, append-nil}
 use Rattle.wire_message.specs.Front.{Seen}
 use Rattle.peer_route.specs.History.{edit}
 use Rattle.rule_match.specs.Rule.{Rule}
@@ -86,9 +86,14 @@ each_first-more f n [] d lt = absurd (omega arith)
 each_first-more f zero (x ∷ xs) d lt = refl
 each_first-more f (suc n) (x ∷ xs) d lt = ap (λ rest. f x ∷ rest) (each_first-more f n xs d (omega arith))
 
-each_first-all : {A : Type 0} (f : A → A) (xs : List A) → each_first f (length xs) xs ≡ map f xs
-each_first-all f [] = refl
-each_first-all f (x ∷ xs) = ap (λ rest. f x ∷ rest) (each_first-all f xs)
+each_first-past : {A : Type 0} (f : A → A) (n : ℕ) (xs : List A) → length xs ≤ n → each_first f n xs ≡ map f xs
+each_first-past f n [] past = by n
+  where
+    by : (k : ℕ) → each_first f k [] ≡ []
+    by zero = refl
+    by (suc k) = refl
+each_first-past f zero (x ∷ xs) past = absurd (omega arith)
+each_first-past f (suc n) (x ∷ xs) past = ap (λ rest. f x ∷ rest) (each_first-past f n xs (omega arith))
 
 pub each_step : {A : Type 0} (f : A → A) (n : ℕ) (xs ys : List A) (x y : A) → ys ≡ each_first f n xs → n < length ys → x ≡ get_or ys n x → y ≡ f x → set ys n y ≡ each_first f (n + 1) xs
 each_step f n xs ys x y e lt at new =
@@ -97,11 +102,18 @@ each_step f n xs ys x y e lt at new =
     let y_is : y ≡ f (get_or (each_first f n xs) n x) = new ∙ ap f (at ∙ ap (λ zs. get_or zs n x) e) in
     rw (e, y_is, one) (each_first-more f n xs x (omega arith))
 
-pub each_whole : {A : Type 0} (f : A → A) (n : ℕ) (xs ys : List A) → ys ≡ each_first f n xs → length ys ≤ n → n ≤ length ys → ys ≡ map f xs
-each_whole f n xs ys e ge le =
-    let len : length ys ≡ length xs = ap length e ∙ each_first-length f n xs in
-    let whole : n ≡ length xs = omega arith in
-    e ∙ ap (λ k. each_first f k xs) whole ∙ each_first-all f xs
+-- what a slice is written back to
+pub each_back : {A : Type 0} (f : A → A) (n len : ℕ) (xs ys : List A) → ys ≡ each_first f n xs → length xs ≤ n → len ≡ length xs → take len (ys ++ drop (length ys) xs) ≡ map f xs
+each_back f n len xs ys e past all =
+    let same : length ys ≡ length xs = ap length e ∙ each_first-length f n xs in
+    ap (λ zs. take len (ys ++ zs)) (drop_all (length ys) xs (omega arith))
+    ∙ ap (take len) (append-nil ys)
+    ∙ take_all len ys (omega arith)
+    ∙ e ∙ each_first-past f n xs past
+
+pub put_last : {A : Type 0} (f : A → A) (xs : List A) (x y : A) (n : ℕ) → n ≡ length xs → set (map f (xs ++ x ∷ [])) n y ≡ map f xs ++ y ∷ []
+put_last f [] x y n e = ap (λ k. set (f x ∷ []) k y) e
+put_last f (z ∷ zs) x y n e = ap (λ k. set (f z ∷ map f (zs ++ x ∷ [])) k y) e ∙ ap (λ rest. f z ∷ rest) (put_last f zs x y (length zs) refl)
 
 -- one was set aside while the others were changed
 pub put_changed : {A : Type 0} (f : A → A) (xs : List A) (k : ℕ) (away x : A) → x ≡ get_or xs k x → set (map f (set xs k away)) k (f x) ≡ map f xs
@@ -139,4 +151,4 @@ pub shared_past : (rule : Rule) (qs : List (Option Held)) (i : ℕ) (o : Option 
 shared_past rule qs i o e lt at is = e ∙ shared_at rule qs i o lt at ∙ ap (λ l. or_else l (shared rule (drop (i + 1) qs))) is
 
 pub shared_none : (rule : Rule) (qs : List (Option Held)) (i : ℕ) → shared rule qs ≡ shared rule (drop i qs) → length qs ≤ i → None ≡ shared rule qs
-shared_none rule qs i e past = sym (e ∙ ap (shared rule) (drop-all i qs past))
+shared_none rule qs i e past = sym (e ∙ ap (shared rule) (drop_all i qs past))

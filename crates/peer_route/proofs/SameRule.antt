@@ -2,6 +2,7 @@
 use Rattle.std.proofs.Common.{◌≡◌, ℕ, refl, sym, ◌∙◌, ap, max, Bool, true, if◌then◌else◌, List, map, set, get_or, Option, Some, None, is_some}
 use Rattle.std.specs.List.{slice_get}
 use Rattle.std.specs.Option.{option_map, option_flatten}
+use Rattle.std.proofs.lemmas.List.{set-get_or}
 use Rattle.rule_match.specs.Rule.{Rule}
 use Rattle.rule_match.proofs.Equal.{equal_is_one, one_is_equal}
 use Rattle.peer_route.specs.declared.queue.Subscription.{Subscription}
@@ -61,3 +62,8 @@ asks_of_none xs k limit q at there of = asks_plain xs k limit q q.wants at refl 
 pub has_rule : (w : Option Subscription) (o : Option Rule) → o ≡ option_map (λ (s : Subscription). s.rule) w → is_some o ≡ is_some w
 has_rule None o e = ap is_some e
 has_rule (Some s) o e = ap is_some e
+
+-- nothing is there to be raised
+pub asks_of_nothing : (xs : List (Option Held)) (k limit : ℕ) (o : Option Held) → o ≡ get_or xs k o → slice_get xs k ≡ Some o → o ≡ None → set xs k None ≡ asked_for (wants_of (kept_at xs k)) limit xs
+asks_of_nothing xs k limit None at there e = ap (set xs k) at ∙ set-get_or xs k None ∙ ap (λ w. asked_for w limit xs) (wants_read xs k None there)
+asks_of_nothing xs k limit (Some q) at there e = cc
