@@ -147,15 +147,16 @@ wants_left v h k there left = ap wants_of (kept_left v h k left) ∙ wants_there
 
 -- ---- more is asked for
 
+plain_one : (h : List Event) (k limit : ℕ) (s : Stream) → rule_of (slice_get (streams h) k) ≡ None → held_of h s ≡ held_of (Did k (Asked limit) ∷ h) s
+unfolding held_of held offered matched
+plain_one h k limit s none =
+    sym (kept_same (Did k (Asked limit) ∷ h) h s.gone s.rule (held h s) s.told (λ r. ap (λ o. rule_asks r o (rule_limit r h) limit) none))
+
 asked_plain : (h : List Event) (k limit : ℕ) (ss : List Stream) → rule_of (slice_get (streams h) k) ≡ None
     → map (held_of h) ss ≡ map (held_of (Did k (Asked limit) ∷ h)) ss
 asked_plain h k limit [] none = refl
 asked_plain h k limit (s ∷ ss) none =
-    ap (λ q. q ∷ map (held_of h) ss) (sym (one s)) ∙ ap (λ qs. held_of (Did k (Asked limit) ∷ h) s ∷ qs) (asked_plain h k limit ss none)
-  where
-    one : (t : Stream) → held_of (Did k (Asked limit) ∷ h) t ≡ held_of h t
-    unfolding held_of held offered matched
-    one t = kept_same (Did k (Asked limit) ∷ h) h t.gone t.rule (held h t) t.told (λ r. ap (λ o. rule_asks r o (rule_limit r h) limit) none)
+    ap (λ q. q ∷ map (held_of h) ss) (plain_one h k limit s none) ∙ ap (λ qs. held_of (Did k (Asked limit) ∷ h) s ∷ qs) (asked_plain h k limit ss none)
 
 asked_one : (h : List Event) (k limit : ℕ) (rule : Rule) (s : Stream) → rule_of (slice_get (streams h) k) ≡ Some rule
     → option_map (raise_held rule (Some limit)) (held_of h s) ≡ held_of (Did k (Asked limit) ∷ h) s

@@ -90,7 +90,7 @@ accepted_none None = refl
 accepted_none (Some rule) = refl
 
 -- nothing that was read is a new stream's
-held_fresh : (h : List Event) (rule : Option Rule) (told : Bool) → held h (fresh h rule told) ≡ []
+pub held_fresh : (h : List Event) (rule : Option Rule) (told : Bool) → held h (fresh h rule told) ≡ []
 unfolding held offered matched
 held_fresh h rule told = ap (accepted rule) (drop-length (read h)) ∙ accepted_none rule
 
@@ -125,7 +125,7 @@ within_each h f each (x ∷ ss) (suc k) w = (w.0, within_each h f each ss k w.1)
 -- ---- what is kept of one stream
 
 -- what is kept of a stream that may be there
-abbrev kept_of : List Event → Option Stream → Option Held
+abbrev pub kept_of : List Event → Option Stream → Option Held
 kept_of h o = option_flatten (option_map (held_of h) o)
 
 pub kept_left : (v : List (Option Held)) (h : List Event) (k : ℕ) → LeftStreams v h → kept_at v k ≡ kept_of h (slice_get (streams h) k)
@@ -139,7 +139,7 @@ pub held_open : (h : List Event) (s : Stream) → s.gone ≡ false → held_of h
 unfolding held_of
 held_open h s is = ap (λ b. kept_by b (wanted h s) (held h s) s.told) is
 
-held_gone : (h : List Event) (s : Stream) → s.gone ≡ true → held_of h s ≡ None
+pub held_gone : (h : List Event) (s : Stream) → s.gone ≡ true → held_of h s ≡ None
 unfolding held_of
 held_gone h s is = ap (λ b. kept_by b (wanted h s) (held h s) s.told) is
 
