@@ -9,17 +9,19 @@ use Rattle.std.proofs.lemmas.Option.{slice_get-map, slice_get_read, none-some}
 use Rattle.wire_message.specs.Front.{Seen}
 use Rattle.wire_message.specs.declared.error.Error.{Error}
 use Rattle.wire_message.specs.declared.error.Error.TheVariants as errors
+use Rattle.rule_match.specs.Rule.{Rule}
+use Rattle.peer_route.specs.declared.writer.Writer.TheVariants as writers
 use Rattle.peer_route.specs.declared.polled.Polled.{Polled}
 use Rattle.peer_route.specs.declared.polled.Polled.TheVariants as polled
 use Rattle.peer_route.specs.declared.calls.Slot.{Slot}
 use Rattle.peer_route.specs.declared.calls.Slot.TheVariants as slots
-use Rattle.peer_route.specs.History.{Event, Took, Shut, Wrote, Fault, Spent, Made, Making, Plain, Cloned, Did, Main, Deed, Gave, Told, Gone, Asked, Call, edit, read, closing, done, is_reply, is_serial, calls, found, bears, is_gone, first_of, pending, waits_with, poll_answer, poll_events, polled_at, polled_by, drop_answer, drop_events, dropped_at, worse, shuts}
+use Rattle.peer_route.specs.History.{Event, Took, Shut, Wrote, Fault, Spent, Made, Making, Plain, Ruled, Cloned, Did, Main, Deed, Gave, Told, Gone, Asked, Call, edit, read, closing, worse, shuts, writer, done, is_reply, is_serial, calls, found, bears, is_gone, first_of, pending, waits_with, poll_answer, poll_events, polled_at, polled_by, drop_answer, drop_events, dropped_at}
 use Rattle.peer_route.specs.Streams.{busy, main, is_open, is_over as nothing_comes, take_answer, take_events}
-use Rattle.peer_route.specs.declared.writer.Writer.TheVariants as writers
-use Rattle.peer_route.specs.Left.{Held, empty_held, is_over, after_take, kept_at, held_gives, ended_by, LeftStreams, is_busy, is_empty_slot, slot_of, slot_by, is_waiting, AreDistinct, CallsView, waiting_serial, is_number, LeftCalls, View, Left}
+use Rattle.peer_route.specs.Left.{Held, empty_held, with_stream, wants_of, asked_for, main_asked, is_over, after_take, kept_at, held_gives, ended_by, LeftStreams, is_busy, is_empty_slot, slot_of, slot_by, is_waiting, AreDistinct, CallsView, waiting_serial, is_number, LeftCalls, View, Left}
 use Rattle.peer_route.proofs.Plain.{list_any-map, list_any-along, position-None}
 use Rattle.peer_route.proofs.CallsMade.{calls_early, places, places_rise, places-edit, places-fail}
-use Rattle.peer_route.proofs.StreamsMade.{streams_shut, streams_wrote, streams_fault, streams_spent, streams_main, streams_made, streams_cloned, streams_ended, streams_asked, streams_taken, taken_gives, ended_left, open_left, over_any}
+use Rattle.peer_route.proofs.StreamsMade.{streams_shut, streams_wrote, streams_fault, streams_spent, streams_main, streams_made, streams_cloned, streams_ended, streams_taken, taken_gives, ended_left, open_left, over_any}
+use Rattle.peer_route.proofs.RuledStreams.{streams_ruled, streams_asked, main_left}
 use Rattle.peer_route.proofs.Slots.{arrived, slots_took, arrived_nowhere, arrived_past, arrived_first, arrived_distinct, gone_distinct, slots_spent, slots_kept, slots_lost, waits-slot}
 
 -- ---- a message comes
@@ -295,6 +297,11 @@ left_made v told h e left =
     left_made_so v (v.streams ++ Some (empty_held None told) ∷ []) Plain h left
     (streams_made told v.streams h (e ∙ ap is_some left.calls.closing) left.streams)
 
+pub left_ruled : (v : View) (rule : Rule) (asked : Option ℕ) (h : List Event) → Left v h
+    → Left (record v { streams = with_stream rule asked v.streams }) (Made (Ruled rule asked) ∷ h)
+left_ruled v rule asked h left =
+    left_made_so v (with_stream rule asked v.streams) (Ruled rule asked) h left (streams_ruled rule asked v.streams h left.streams)
+
 pub left_cloned : (v : View) (k : ℕ) (h : List Event) → is_open h k ≡ true → Left v h → Left (record v { streams = v.streams ++ kept_at v.streams k ∷ [] }) (Made (Cloned k) ∷ h)
 left_cloned v k h there left = left_made_so v (v.streams ++ kept_at v.streams k ∷ []) (Cloned k) h left (streams_cloned k v.streams h there left.streams)
 
@@ -379,9 +386,13 @@ busy_left v h left =
 pub left_ended : (v : View) (k : ℕ) (h : List Event) → Left v h → Left (record v { streams = edit k (λ q. None) v.streams }) (Did k Gone ∷ h)
 left_ended v k h left = left_did v (edit k (λ q. None) v.streams) v.main k Gone h left (streams_ended k v.streams h left.streams) left.main
 
-pub left_asked : (v : View) (k limit : ℕ) (h : List Event) → Left v h → Left (record v { main = max v.main limit }) (Did k (Asked limit) ∷ h)
-left_asked v k limit h left =
-    left_did v v.streams (max v.main limit) k (Asked limit) h left (streams_asked k limit v.streams h left.streams) (ap (λ n. max n limit) left.main)
+-- a stream asks for more
+pub left_asked : (v : View) (k limit : ℕ) (h : List Event) → is_open h k ≡ true → Left v h
+    → Left (record v { streams = asked_for (wants_of (kept_at v.streams k)) limit v.streams; main = main_asked (wants_of (kept_at v.streams k)) limit v.main }) (Did k (Asked limit) ∷ h)
+left_asked v k limit h there left =
+    let w = wants_of (kept_at v.streams k) in
+    left_did v (asked_for w limit v.streams) (main_asked w limit v.main) k (Asked limit) h left (streams_asked k limit v.streams h there left.streams)
+    (ap (main_asked w limit) left.main ∙ main_left v.streams h k limit there left.streams)
 
 -- ---- drops
 

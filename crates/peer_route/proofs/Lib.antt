@@ -6,6 +6,8 @@ pub mod CallsMade
 pub mod Slots
 pub mod Matched
 pub mod StreamsMade
+pub mod SameRule
+pub mod RuledStreams
 pub mod Given
 pub mod AnyOrder
 pub mod Asked

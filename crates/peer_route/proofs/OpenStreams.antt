@@ -1,12 +1,18 @@
 -- Commands on a stream that is open, and what they are answered where it isn't.
-use Rattle.std.proofs.Common.{◌≡◌, ℕ, ◌==◌, refl, sym, ◌∙◌, ap, subst, Bool, true, false, not, ◌&&◌, is_some, List, ◌∷◌, length, Option, Some, None, Ok, Err}
+use Rattle.std.proofs.Common.{◌≡◌, ℕ, ◌==◌, refl, sym, ◌∙◌, ap, subst, max, Bool, true, false, not, if◌then◌else◌, ◌&&◌, is_some, List, ◌∷◌, length, Option, Some, None, Result, Ok, Err}
+use Rattle.std.specs.List.{slice_get}
+use Rattle.std.specs.Option.{option_map}
 use Rattle.std.proofs.lemmas.List.{length-map}
 use Rattle.wire_message.specs.declared.error.Error.{Error}
 use Rattle.wire_message.specs.declared.error.Error.TheVariants as errors
-use Rattle.peer_route.specs.History.{Event, Made, Did, Cloned, Gone, edit}
-use Rattle.peer_route.specs.Streams.{streams, is_open, known, are_open, close_answer, ask_answer, limit_answer}
-use Rattle.peer_route.specs.Left.{Held, held_of, kept_at, ClonesHeld, View, Left, Clones}
-use Rattle.peer_route.proofs.Core.{open_so, left_cloned, left_ended}
+use Rattle.wire_message.specs.declared.error.IoKind.TheVariants as kinds
+use Rattle.rule_match.specs.Rule.{Rule}
+use Rattle.peer_route.specs.History.{Event, Made, Did, Ruled, Cloned, Gone, edit}
+use Rattle.peer_route.specs.Streams.{streams, limit_of, rule_of, is_open, known, are_open, close_answer, ask_answer, limit_answer}
+use Rattle.peer_route.specs.declared.queue.Subscription.{Subscription}
+use Rattle.peer_route.specs.Left.{Held, held_of, kept_at, limit_or, main_asked, with_stream, ClonesHeld, View, Left, Clones, OpensRule}
+use Rattle.peer_route.proofs.RuledStreams.{limit_left}
+use Rattle.peer_route.proofs.Core.{open_so, left_cloned, left_ended, left_ruled}
 
 -- ---- clones
 
@@ -47,10 +53,44 @@ pub ask_so : (h : List Event) (k : ℕ) (b : Bool) → is_open h k ≡ b → ask
 unfolding ask_answer
 ask_so h k b e = ap known e
 
-pub limit_there : (v : View) (h : List Event) (k : ℕ) → is_open h k ≡ true → Left v h → Ok v.main ≡ limit_answer h k
-unfolding limit_answer
-limit_there v h k there left = rw there (ap (λ n. Ok n) left.main)
+-- what is shown of a capacity that is looked up
+abbrev pub limit_shown : Option ℕ → Result ℕ Error
+limit_shown None = Err errors.UnknownHandle
+limit_shown (Some n) = Ok n
 
-pub limit_unknown : (h : List Event) (k : ℕ) → is_open h k ≡ false → Err errors.UnknownHandle ≡ limit_answer h k
+limit_by : (b : Bool) (n : ℕ) (o : Option ℕ) → o ≡ (if b then Some n else None) → limit_shown o ≡ (if b then Ok n else Err errors.UnknownHandle)
+limit_by true n o e = ap limit_shown e
+limit_by false n o e = ap limit_shown e
+
+pub limit_so : (v : View) (h : List Event) (k : ℕ) (o : Option ℕ) → o ≡ option_map (λ (q : Held). limit_or v.main q.wants) (kept_at v.streams k) → Left v h
+    → limit_shown o ≡ limit_answer h k
 unfolding limit_answer
-limit_unknown h k none = rw none refl
+limit_so v h k o e left =
+    limit_by (is_open h k) (limit_of h (rule_of (slice_get (streams h) k))) o
+    (e ∙ ap (λ n. option_map (λ (q : Held). limit_or n q.wants) (kept_at v.streams k)) left.main ∙ limit_left v.streams h k left.streams)
+
+-- the capacity of streams without a rule, where one with a rule asks, or one without
+pub main_kept : (w : Option Subscription) (limit n : ℕ) → is_some w ≡ true → n ≡ main_asked w limit n
+main_kept None limit n e = cc
+main_kept (Some s) limit n e = refl
+
+pub main_more : (w : Option Subscription) (limit n : ℕ) → is_some w ≡ false → max n limit ≡ main_asked w limit n
+main_more None limit n e = refl
+main_more (Some s) limit n e = cc
+
+-- ---- streams of a rule
+
+pub opens : (v : View) (rule : Rule) (asked : Option ℕ) (sv : List (Option Held)) (number : ℕ) (h : List Event) → is_some v.calls.closing ≡ false
+    → number ≡ length v.streams → sv ≡ with_stream rule asked v.streams → Left v h
+    → OpensRule v (record v { streams = sv }) rule asked h (Ok (record { number = number }))
+opens v rule asked sv number h open_ e new left =
+    let Q : List (Option Held) → Type 0 = λ qs. Left (record v { streams = qs }) (Made (Ruled rule asked) ∷ h) in
+    (sym left.calls.closing ∙ none_by v.calls.closing open_, e ∙ streams_len v h left, subst Q (sym new) (left_ruled v rule asked h left))
+  where
+    none_by : (o : Option Error) → is_some o ≡ false → o ≡ None
+    none_by None none = refl
+    none_by (Some error) none = cc
+
+pub opens_not : (v : View) (rule : Rule) (asked : Option ℕ) (h : List Event) → is_some v.calls.closing ≡ true → Left v h
+    → OpensRule v v rule asked h (Err (errors.InputOutput kinds.Closed))
+opens_not v rule asked h shut_ left = (ap is_some (sym left.calls.closing) ∙ shut_, refl)

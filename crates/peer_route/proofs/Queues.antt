@@ -1,8 +1,10 @@
 -- What streams hold, message by message.
-use Rattle.std.proofs.Common.{◌≡◌, ℕ, ◌+◌, ◌-◌, ◌<◌, ◌≤◌, zero, suc, refl, ◌∙◌, ap, arith, List, [], ◌∷◌, length, map, get_or, set, Option}
+use Rattle.std.proofs.Common.{◌≡◌, ℕ, ◌+◌, ◌-◌, ◌<◌, ◌≤◌, zero, suc, refl, sym, ◌∙◌, ap, arith, List, [], ◌∷◌, length, map, get_or, set, take, drop, drop-cons, ◌++◌, Option, Some, None}
+use Rattle.std.proofs.lemmas.List.{map-set, set-set, set-get_or, drop_all, take_all, append-nil}
 use Rattle.wire_message.specs.Front.{Seen}
 use Rattle.peer_route.specs.History.{edit}
-use Rattle.peer_route.specs.Left.{Held, queued, queued_first}
+use Rattle.rule_match.specs.Rule.{Rule}
+use Rattle.peer_route.specs.Left.{Held, queued, queued_first, shared, or_else, limit_if, wants_of}
 
 pub queued_first-length : (n : ℕ) (m : Seen) (qs : List (Option Held)) → length (queued_first n m qs) ≡ length qs
 queued_first-length zero m qs = refl
@@ -46,16 +48,16 @@ queued_step n m qs xs x y e lt at new =
     rw (e, y_is, one) (queued_first-more n m qs x (omega arith))
 
 take_back_at : (k : ℕ) (m : Seen) (qs xs : List (Option Held)) (x y : Option Held) → xs ≡ queued_first (suc k) m qs → k < length xs → x ≡ get_or xs k x
-    → ((p : Seen) (q : Option Held) → x ≡ queued p q → y ≡ q) → set xs k y ≡ queued_first k m qs
+    → ((q : Option Held) → x ≡ queued m q → y ≡ q) → set xs k y ≡ queued_first k m qs
 take_back_at k m qs xs x y e lt at back =
     let len : length xs ≡ length qs = ap length e ∙ queued_first-length (suc k) m qs in
     let within : k < length qs = omega arith in
     let x_is : x ≡ queued m (get_or qs k x) = at ∙ ap (λ ys. get_or ys k x) e ∙ queued_first-at k m qs x within in
-    let y_is : y ≡ get_or qs k x = back m (get_or qs k x) x_is in
+    let y_is : y ≡ get_or qs k x = back (get_or qs k x) x_is in
     rw (e, y_is) (queued_first-less k m qs x within)
 
 pub take_back_step : (left : ℕ) (m : Seen) (qs xs : List (Option Held)) (x y : Option Held) → xs ≡ queued_first left m qs → 0 < left → left ≤ length xs → x ≡ get_or xs (left - 1) x
-    → ((p : Seen) (q : Option Held) → x ≡ queued p q → y ≡ q) → set xs (left - 1) y ≡ queued_first (left - 1) m qs
+    → ((q : Option Held) → x ≡ queued m q → y ≡ q) → set xs (left - 1) y ≡ queued_first (left - 1) m qs
 take_back_step zero m qs xs x y e pos le at back = absurd (omega arith)
 take_back_step (suc k) m qs xs x y e pos le at back =
     let less : suc k - 1 ≡ k = omega arith in
@@ -66,3 +68,87 @@ queued_whole n m qs le ge = let e : n ≡ length qs = omega arith in ap (λ k. q
 
 pub edit-at : {A : Type 0} (xs : List A) (k : ℕ) (f : A → A) (x y : A) → k < length xs → x ≡ get_or xs k x → y ≡ f x → set xs k y ≡ edit k f xs
 edit-at xs k f x y lt at new = ap (set xs k) (new ∙ ap f at) ∙ edit-set xs k f x lt
+
+-- ---- each of the first so many changed
+
+abbrev pub each_first : {A : Type 0} → (A → A) → ℕ → List A → List A
+each_first f zero xs = xs
+each_first f (suc n) [] = []
+each_first f (suc n) (x ∷ xs) = f x ∷ each_first f n xs
+
+pub each_first-length : {A : Type 0} (f : A → A) (n : ℕ) (xs : List A) → length (each_first f n xs) ≡ length xs
+each_first-length f zero xs = refl
+each_first-length f (suc n) [] = refl
+each_first-length f (suc n) (x ∷ xs) = ap (λ k. suc k) (each_first-length f n xs)
+
+each_first-more : {A : Type 0} (f : A → A) (n : ℕ) (xs : List A) (d : A) → n < length xs → set (each_first f n xs) n (f (get_or (each_first f n xs) n d)) ≡ each_first f (suc n) xs
+each_first-more f n [] d lt = absurd (omega arith)
+each_first-more f zero (x ∷ xs) d lt = refl
+each_first-more f (suc n) (x ∷ xs) d lt = ap (λ rest. f x ∷ rest) (each_first-more f n xs d (omega arith))
+
+each_first-past : {A : Type 0} (f : A → A) (n : ℕ) (xs : List A) → length xs ≤ n → each_first f n xs ≡ map f xs
+each_first-past f n [] past = by n
+  where
+    by : (k : ℕ) → each_first f k [] ≡ []
+    by zero = refl
+    by (suc k) = refl
+each_first-past f zero (x ∷ xs) past = absurd (omega arith)
+each_first-past f (suc n) (x ∷ xs) past = ap (λ rest. f x ∷ rest) (each_first-past f n xs (omega arith))
+
+pub each_step : {A : Type 0} (f : A → A) (n : ℕ) (xs ys : List A) (x y : A) → ys ≡ each_first f n xs → n < length ys → x ≡ get_or ys n x → y ≡ f x → set ys n y ≡ each_first f (n + 1) xs
+each_step f n xs ys x y e lt at new =
+    let len : length ys ≡ length xs = ap length e ∙ each_first-length f n xs in
+    let one : n + 1 ≡ suc n = omega arith in
+    let y_is : y ≡ f (get_or (each_first f n xs) n x) = new ∙ ap f (at ∙ ap (λ zs. get_or zs n x) e) in
+    rw (e, y_is, one) (each_first-more f n xs x (omega arith))
+
+-- what a slice is written back to
+pub each_back : {A : Type 0} (f : A → A) (n len : ℕ) (xs ys : List A) → ys ≡ each_first f n xs → length xs ≤ n → len ≡ length xs → take len (ys ++ drop (length ys) xs) ≡ map f xs
+each_back f n len xs ys e past all =
+    let same : length ys ≡ length xs = ap length e ∙ each_first-length f n xs in
+    ap (λ zs. take len (ys ++ zs)) (drop_all (length ys) xs (omega arith))
+    ∙ ap (take len) (append-nil ys)
+    ∙ take_all len ys (omega arith)
+    ∙ e ∙ each_first-past f n xs past
+
+pub put_last : {A : Type 0} (f : A → A) (xs : List A) (x y : A) (n : ℕ) → n ≡ length xs → set (map f (xs ++ x ∷ [])) n y ≡ map f xs ++ y ∷ []
+put_last f [] x y n e = ap (λ k. set (f x ∷ []) k y) e
+put_last f (z ∷ zs) x y n e = ap (λ k. set (f z ∷ map f (zs ++ x ∷ [])) k y) e ∙ ap (λ rest. f z ∷ rest) (put_last f zs x y (length zs) refl)
+
+-- one was set aside while the others were changed
+pub put_changed : {A : Type 0} (f : A → A) (xs : List A) (k : ℕ) (away x : A) → x ≡ get_or xs k x → set (map f (set xs k away)) k (f x) ≡ map f xs
+put_changed f xs k away x at =
+    ap (λ ys. set ys k (f x)) (map-set f xs k away)
+    ∙ set-set (map f xs) k (f away) (f x)
+    ∙ sym (map-set f xs k x)
+    ∙ ap (λ y. map f (set xs k y)) at
+    ∙ ap (map f) (set-get_or xs k x)
+
+pub put_same : {A : Type 0} (xs : List A) (k : ℕ) (away x : A) → x ≡ get_or xs k x → set (set xs k away) k x ≡ xs
+put_same xs k away x at = set-set xs k away x ∙ ap (set xs k) at ∙ set-get_or xs k x
+
+-- ---- the capacity that a rule's streams share
+
+shared_cons : (rule : Rule) (o : Option Held) (qs : List (Option Held)) → shared rule (o ∷ qs) ≡ or_else (limit_if rule (wants_of o)) (shared rule qs)
+shared_cons rule None qs = refl
+shared_cons rule (Some q) qs = refl
+
+shared_at : (rule : Rule) (qs : List (Option Held)) (i : ℕ) (o : Option Held) → i < length qs → o ≡ get_or qs i o
+    → shared rule (drop i qs) ≡ or_else (limit_if rule (wants_of o)) (shared rule (drop (i + 1) qs))
+shared_at rule qs i o lt at =
+    let one : i + 1 ≡ suc i = omega arith in
+    rw one
+    (ap (shared rule) (drop-cons qs i o lt)
+    ∙ shared_cons rule (get_or qs i o) (drop (suc i) qs)
+    ∙ ap (λ p. or_else (limit_if rule (wants_of p)) (shared rule (drop (suc i) qs))) (sym at))
+
+pub shared_here : (rule : Rule) (qs : List (Option Held)) (i : ℕ) (o : Option Held) (n : ℕ) → shared rule qs ≡ shared rule (drop i qs) → i < length qs → o ≡ get_or qs i o
+    → limit_if rule (wants_of o) ≡ Some n → Some n ≡ shared rule qs
+shared_here rule qs i o n e lt at is = sym (e ∙ shared_at rule qs i o lt at ∙ ap (λ l. or_else l (shared rule (drop (i + 1) qs))) is)
+
+pub shared_past : (rule : Rule) (qs : List (Option Held)) (i : ℕ) (o : Option Held) → shared rule qs ≡ shared rule (drop i qs) → i < length qs → o ≡ get_or qs i o
+    → limit_if rule (wants_of o) ≡ None → shared rule qs ≡ shared rule (drop (i + 1) qs)
+shared_past rule qs i o e lt at is = e ∙ shared_at rule qs i o lt at ∙ ap (λ l. or_else l (shared rule (drop (i + 1) qs))) is
+
+pub shared_none : (rule : Rule) (qs : List (Option Held)) (i : ℕ) → shared rule qs ≡ shared rule (drop i qs) → length qs ≤ i → None ≡ shared rule qs
+shared_none rule qs i e past = sym (e ∙ ap (shared rule) (drop_all i qs past))

@@ -1,20 +1,23 @@
 -- What streams hold after each event.
-use Rattle.std.proofs.Common.{◌≡◌, ℕ, ◌+◌, zero, suc, refl, sym, ◌∙◌, ap, arith, Bool, true, false, not, if◌then◌else◌, ◌&&◌, nat_lt, is_some, List, [], ◌∷◌, ◌++◌, length, drop, map, Option, Some, None, Ok, Err}
+use Rattle.std.proofs.Common.{◌≡◌, ℕ, ◌+◌, zero, suc, refl, sym, ◌∙◌, ap, arith, Bool, true, false, not, cond, if◌then◌else◌, ◌&&◌, nat_lt, is_some, List, [], ◌∷◌, ◌++◌, length, drop, map, Option, Some, None, Ok, Err}
 use Rattle.std.specs.List.{slice_get, list_any, AllByRecursion}
 use Rattle.std.specs.Option.{option_map, option_flatten}
 use Rattle.std.proofs.Math.Seq.{drop-length}
-use Rattle.std.proofs.lemmas.List.{map-append, drop-append-le}
+use Rattle.std.proofs.lemmas.List.{map-append, append-nil, drop-append-le}
 use Rattle.std.proofs.lemmas.Option.{slice_get-map}
 use Rattle.std.proofs.lemmas.Bool.{ne_eqb}
 use Rattle.wire_message.specs.Front.{Seen}
 use Rattle.wire_message.specs.declared.error.Error.{Error}
 use Rattle.wire_message.specs.declared.error.Error.TheVariants as errors
-use Rattle.peer_route.specs.History.{Event, Took, Shut, Put, Wrote, Fault, Spent, Made, Did, Main, Plain, Cloned, Gave, Told, Gone, Asked, read, closing, edit}
-use Rattle.peer_route.specs.Streams.{Stream, streams, plain_stream, clone_of, give, tell, end_one, done_by, main, matched, offered, held, is_full, is_there, is_open, is_over as nothing_comes, take_by, take_at, take_answer, take_events, first_position, next_at, next_position}
-use Rattle.peer_route.specs.Left.{Held, held_of, kept_by, kept_at, queued, is_over, after_by, after_take, held_gives, next_held, ended_by, IsWithin, LeftStreams}
+use Rattle.peer_route.specs.History.{Event, Took, Shut, Put, Wrote, Fault, Spent, Made, Did, Main, Plain, Cloned, Gave, Told, Gone, read, closing, edit}
+use Rattle.rule_match.specs.Rule.{Rule}
+use Rattle.rule_match.specs.Accepting.{accepts}
+use Rattle.peer_route.specs.declared.queue.Subscription.{Subscription}
+use Rattle.peer_route.specs.Streams.{Stream, streams, fresh, plain_stream, accepted, limit_of, clone_of, give, tell, end_one, done_by, main, matched, offered, held, is_full, is_there, is_open, is_over as nothing_comes, take_by, take_at, take_answer, take_events, first_position, next_at, next_position}
+use Rattle.peer_route.specs.Left.{Held, held_of, subscription, empty_held, wants_it, limit_or, kept_by, kept_at, queued, is_over, after_by, after_take, held_gives, next_held, ended_by, IsWithin, LeftStreams}
 use Rattle.peer_route.proofs.Plain.{list_any-map, list_any-along}
 use Rattle.peer_route.proofs.Edits.{map_edit, map_edit_all, edit-same, edit-none, edit-past, drop_next}
-use Rattle.peer_route.proofs.Matched.{held_matched, matched_took, all_within_same, all_within_took, within_at, within_plain, within_push}
+use Rattle.peer_route.proofs.Matched.{held_matched, matched_took, all_within_same, all_within_took, within_at, within_fresh, within_push}
 
 -- ---- events that change no stream
 
@@ -44,20 +47,31 @@ streams_main limit v h left = record { queues = left.queues; within = all_within
 
 -- ---- a message comes
 
-queued_kept : (gone : Bool) (m : Seen) (items : List Seen) (told : Bool) → kept_by gone (items ++ m ∷ []) told ≡ queued m (kept_by gone items told)
-queued_kept true m items told = refl
-queued_kept false m items told = refl
+one_by : (b : Bool) (items : List Seen) (m : Seen) → items ++ cond b (m ∷ []) [] ≡ (if b then items ++ m ∷ [] else items)
+one_by true items m = refl
+one_by false items m = append-nil items
 
--- each stream holds one message more
-held_more : (m : Seen) (h : List Event) (s : Stream) → IsWithin h s → held (Took m ∷ h) s ≡ held h s ++ m ∷ []
+one_more : (rule : Option Rule) (h : List Event) (m : Seen) (items : List Seen)
+    → items ++ accepted rule (m ∷ []) ≡ (if wants_it (option_map (subscription h) rule) m then items ++ m ∷ [] else items)
+one_more None h m items = refl
+one_more (Some rule) h m items = one_by (accepts rule m) items m
+
+queued_kept : (gone : Bool) (wants : Option Subscription) (m : Seen) (items more : List Seen) (told : Bool) → more ≡ (if wants_it wants m then items ++ m ∷ [] else items)
+    → kept_by gone wants more told ≡ queued m (kept_by gone wants items told)
+queued_kept true wants m items more told e = refl
+queued_kept false wants m items more told e = ap (λ ms. Some (record { wants = wants; items = ms; told = told })) e
+
+-- each stream holds one message more, if it is one of its own
+held_more : (m : Seen) (h : List Event) (s : Stream) → IsWithin h s → held (Took m ∷ h) s ≡ held h s ++ accepted s.rule (m ∷ [])
 held_more m h s within =
     held_matched (Took m ∷ h) s ∙ ap (drop (s.skip + s.taken)) (matched_took m h s within.start)
-    ∙ drop-append-le (s.skip + s.taken) (matched h s) (m ∷ []) within.passed
-    ∙ ap (λ ms. ms ++ m ∷ []) (sym (held_matched h s))
+    ∙ drop-append-le (s.skip + s.taken) (matched h s) (accepted s.rule (m ∷ [])) within.passed
+    ∙ ap (λ ms. ms ++ accepted s.rule (m ∷ [])) (sym (held_matched h s))
 
 held_took : (m : Seen) (h : List Event) (s : Stream) → IsWithin h s → held_of (Took m ∷ h) s ≡ queued m (held_of h s)
 unfolding held_of
-held_took m h s within = ap (λ items. kept_by s.gone items s.told) (held_more m h s within) ∙ queued_kept s.gone m (held h s) s.told
+held_took m h s within =
+    queued_kept s.gone (option_map (subscription h) s.rule) m (held h s) (held (Took m ∷ h) s) s.told (held_more m h s within ∙ one_more s.rule h m (held h s))
 
 all_took : (m : Seen) (h : List Event) (ss : List Stream) → AllByRecursion (IsWithin h) ss → map (queued m) (map (held_of h) ss) ≡ map (held_of (Took m ∷ h)) ss
 all_took m h [] w = refl
@@ -71,25 +85,29 @@ streams_took m v h left = record {
 
 -- ---- a stream is made
 
--- nothing that was read is a new stream's
-matched_new : (h : List Event) → matched h (plain_stream h) ≡ []
-unfolding matched
-matched_new h = drop-length (read h)
+accepted_none : (rule : Option Rule) → accepted rule [] ≡ []
+accepted_none None = refl
+accepted_none (Some rule) = refl
 
-pub held_new : (h : List Event) → held_of h (plain_stream h) ≡ Some (record { items = []; told = is_some (closing h) })
+-- nothing that was read is a new stream's
+pub held_fresh : (h : List Event) (rule : Option Rule) (told : Bool) → held h (fresh h rule told) ≡ []
+unfolding held offered matched
+held_fresh h rule told = ap (accepted rule) (drop-length (read h)) ∙ accepted_none rule
+
+pub held_new : (h : List Event) → held_of h (plain_stream h) ≡ Some (empty_held None (is_some (closing h)))
 unfolding held_of
-held_new h = ap (λ items. Some (record { items = items; told = is_some (closing h) })) (held_matched h (plain_stream h) ∙ matched_new h)
+held_new h = ap (λ items. Some (record { wants = None; items = items; told = is_some (closing h) })) (held_fresh h None (is_some (closing h)))
 
 pub streams_made : (told : Bool) (v : List (Option Held)) (h : List Event) → told ≡ is_some (closing h) → LeftStreams v h
-    → LeftStreams (v ++ Some (record { items = []; told = told }) ∷ []) (Made Plain ∷ h)
+    → LeftStreams (v ++ Some (empty_held None told) ∷ []) (Made Plain ∷ h)
 unfolding held_of held offered matched
 streams_made told v h e left = record {
-  queues = ap (λ qs. qs ++ Some (record { items = []; told = told }) ∷ []) left.queues
-      ∙ ap (λ b. map (held_of h) (streams h) ++ Some (record { items = []; told = b }) ∷ []) e
+  queues = ap (λ qs. qs ++ Some (empty_held None told) ∷ []) left.queues
+      ∙ ap (λ b. map (held_of h) (streams h) ++ Some (empty_held None b) ∷ []) e
       ∙ ap (λ q. map (held_of h) (streams h) ++ q ∷ []) (sym (held_new h))
       ∙ sym (map-append (held_of h) (streams h) (plain_stream h ∷ []));
   within = all_within_same (Made Plain ∷ h) h (streams h ++ plain_stream h ∷ []) refl
-      (within_push h (streams h) (plain_stream h) left.within (within_plain h));
+      (within_push h (streams h) (plain_stream h) left.within (within_fresh h None (is_some (closing h))));
 }
 
 -- ---- one stream changes
@@ -107,28 +125,32 @@ within_each h f each (x ∷ ss) (suc k) w = (w.0, within_each h f each ss k w.1)
 -- ---- what is kept of one stream
 
 -- what is kept of a stream that may be there
-abbrev kept_of : List Event → Option Stream → Option Held
+abbrev pub kept_of : List Event → Option Stream → Option Held
 kept_of h o = option_flatten (option_map (held_of h) o)
 
 pub kept_left : (v : List (Option Held)) (h : List Event) (k : ℕ) → LeftStreams v h → kept_at v k ≡ kept_of h (slice_get (streams h) k)
 kept_left v h k left = ap (λ qs. kept_at qs k) left.queues ∙ ap option_flatten (slice_get-map (held_of h) (streams h) k)
 
-held_open : (h : List Event) (s : Stream) → s.gone ≡ false → held_of h s ≡ Some (record { items = held h s; told = s.told })
-unfolding held_of
-held_open h s is = ap (λ b. kept_by b (held h s) s.told) is
+-- the rule of a stream, with what its streams may hold
+abbrev pub wanted : List Event → Stream → Option Subscription
+wanted h s = option_map (subscription h) s.rule
 
-held_gone : (h : List Event) (s : Stream) → s.gone ≡ true → held_of h s ≡ None
+pub held_open : (h : List Event) (s : Stream) → s.gone ≡ false → held_of h s ≡ Some (record { wants = wanted h s; items = held h s; told = s.told })
 unfolding held_of
-held_gone h s is = ap (λ b. kept_by b (held h s) s.told) is
+held_open h s is = ap (λ b. kept_by b (wanted h s) (held h s) s.told) is
 
-there_by : (gone : Bool) (items : List Seen) (told : Bool) → is_some (kept_by gone items told) ≡ not gone
-there_by true items told = refl
-there_by false items told = refl
+pub held_gone : (h : List Event) (s : Stream) → s.gone ≡ true → held_of h s ≡ None
+unfolding held_of
+held_gone h s is = ap (λ b. kept_by b (wanted h s) (held h s) s.told) is
+
+there_by : (gone : Bool) (wants : Option Subscription) (items : List Seen) (told : Bool) → is_some (kept_by gone wants items told) ≡ not gone
+there_by true wants items told = refl
+there_by false wants items told = refl
 
 there_at : (h : List Event) (o : Option Stream) → is_some (kept_of h o) ≡ is_there o
 unfolding held_of
 there_at h None = refl
-there_at h (Some s) = there_by s.gone (held h s) s.told
+there_at h (Some s) = there_by s.gone (wanted h s) (held h s) s.told
 
 -- a stream is open exactly where something is kept of it
 pub open_left : (v : List (Option Held)) (h : List Event) (k : ℕ) → LeftStreams v h → is_some (kept_at v k) ≡ is_open h k
@@ -147,7 +169,7 @@ clone_holds h s is =
     let c = clone_of h (Some s) in
     let none : s.skip + s.taken + 0 ≡ s.skip + s.taken = omega arith in
     held_open h c refl
-    ∙ ap (λ items. Some (record { items = items; told = s.told })) (held_matched h c ∙ ap (λ n. drop n (matched h s)) none ∙ sym (held_matched h s))
+    ∙ ap (λ items. Some (record { wants = wanted h s; items = items; told = s.told })) (held_matched h c ∙ ap (λ n. drop n (matched h s)) none ∙ sym (held_matched h s))
     ∙ sym (held_open h s is)
 
 cloned_by : (h : List Event) (k : ℕ) (v : List (Option Held)) (o : Option Stream) → slice_get (streams h) k ≡ o → is_there o ≡ true → LeftStreams v h
@@ -191,63 +213,53 @@ streams_ended k v h left = record {
   within = all_within_same (Did k Gone ∷ h) h (edit k end_one (streams h)) refl (within_each h end_one (end_within h) (streams h) k left.within);
 }
 
--- ---- a capacity is asked for
-
-pub streams_asked : (k limit : ℕ) (v : List (Option Held)) (h : List Event) → LeftStreams v h → LeftStreams v (Did k (Asked limit) ∷ h)
-unfolding held_of held offered matched
-streams_asked k limit v h left =
-    let same : edit k (done_by (Asked limit)) (streams h) ≡ streams h = edit-none (done_by (Asked limit)) (λ s. refl) (streams h) k in record {
-      queues = left.queues ∙ ap (map (held_of h)) (sym same);
-      within = rw same (all_within_same (Did k (Asked limit) ∷ h) h (streams h) refl left.within);
-    }
-
 -- ---- takes
 
-gives_by : (gone : Bool) (items : List Seen) (told : Bool) (o : Option Error)
-    → held_gives (kept_by gone items told) o ≡ (if gone then Err errors.UnknownHandle else Ok (take_by items o told))
-gives_by true items told o = refl
-gives_by false items told o = refl
+gives_by : (gone : Bool) (wants : Option Subscription) (items : List Seen) (told : Bool) (o : Option Error)
+    → held_gives (kept_by gone wants items told) o ≡ (if gone then Err errors.UnknownHandle else Ok (take_by items o told))
+gives_by true wants items told o = refl
+gives_by false wants items told o = refl
 
 gives_at : (h : List Event) (o : Option Stream) → held_gives (kept_of h o) (closing h) ≡ take_at h o
 unfolding held_of
 gives_at h None = refl
-gives_at h (Some s) = gives_by s.gone (held h s) s.told (closing h)
+gives_at h (Some s) = gives_by s.gone (wanted h s) (held h s) s.told (closing h)
 
 pub taken_gives : (v : List (Option Held)) (h : List Event) (k : ℕ) → LeftStreams v h → held_gives (kept_at v k) (closing h) ≡ take_answer h k
 unfolding take_answer
 taken_gives v h k left = ap (λ q. held_gives q (closing h)) (kept_left v h k left) ∙ gives_at h (slice_get (streams h) k)
 
-next_by : (gone : Bool) (items : List Seen) (told : Bool) → next_held (kept_by gone items told) ≡ (if gone then None else first_position items)
-next_by true items told = refl
-next_by false items told = refl
+next_by : (gone : Bool) (wants : Option Subscription) (items : List Seen) (told : Bool) → next_held (kept_by gone wants items told) ≡ (if gone then None else first_position items)
+next_by true wants items told = refl
+next_by false wants items told = refl
 
 next_at_held : (h : List Event) (o : Option Stream) → next_held (kept_of h o) ≡ next_at h o
 unfolding held_of
 next_at_held h None = refl
-next_at_held h (Some s) = next_by s.gone (held h s) s.told
+next_at_held h (Some s) = next_by s.gone (wanted h s) (held h s) s.told
 
 pub held_next : (v : List (Option Held)) (h : List Event) (k : ℕ) → LeftStreams v h → next_held (kept_at v k) ≡ next_position h k
 unfolding next_position
 held_next v h k left = ap next_held (kept_left v h k left) ∙ next_at_held h (slice_get (streams h) k)
 
-ended_items : (items : List Seen) (told : Bool) (o : Option Error)
-    → ended_by (Some (record { items = items; told = told })) (is_some o) ≡ nothing_comes (Ok (take_by items o told))
-ended_items (m ∷ ms) told None = refl
-ended_items (m ∷ ms) true (Some error) = ne_eqb (suc (length ms)) 0 (λ e. omega (arith, e))
-ended_items (m ∷ ms) false (Some error) = refl
-ended_items [] told None = refl
-ended_items [] true (Some error) = refl
-ended_items [] false (Some error) = refl
+ended_items : (wants : Option Subscription) (items : List Seen) (told : Bool) (o : Option Error)
+    → ended_by (Some (record { wants = wants; items = items; told = told })) (is_some o) ≡ nothing_comes (Ok (take_by items o told))
+ended_items wants (m ∷ ms) told None = refl
+ended_items wants (m ∷ ms) true (Some error) = ne_eqb (suc (length ms)) 0 (λ e. omega (arith, e))
+ended_items wants (m ∷ ms) false (Some error) = refl
+ended_items wants [] told None = refl
+ended_items wants [] true (Some error) = refl
+ended_items wants [] false (Some error) = refl
 
-ended_gone : (gone : Bool) (items : List Seen) (told : Bool) (o : Option Error)
-    → ended_by (kept_by gone items told) (is_some o) ≡ nothing_comes (if gone then Err errors.UnknownHandle else Ok (take_by items o told))
-ended_gone true items told o = refl
-ended_gone false items told o = ended_items items told o
+ended_gone : (gone : Bool) (wants : Option Subscription) (items : List Seen) (told : Bool) (o : Option Error)
+    → ended_by (kept_by gone wants items told) (is_some o) ≡ nothing_comes (if gone then Err errors.UnknownHandle else Ok (take_by items o told))
+ended_gone true wants items told o = refl
+ended_gone false wants items told o = ended_items wants items told o
 
 ended_at : (h : List Event) (o : Option Stream) → ended_by (kept_of h o) (is_some (closing h)) ≡ nothing_comes (take_at h o)
 unfolding held_of
 ended_at h None = refl
-ended_at h (Some s) = ended_gone s.gone (held h s) s.told (closing h)
+ended_at h (Some s) = ended_gone s.gone (wanted h s) (held h s) s.told (closing h)
 
 -- nothing comes exactly where a take says so
 pub ended_left : (v : List (Option Held)) (h : List Event) (k : ℕ) → LeftStreams v h → ended_by (kept_at v k) (is_some (closing h)) ≡ nothing_comes (take_answer h k)
@@ -264,8 +276,8 @@ gave h k v s m ms o at is e left =
     let one_more : s.skip + (s.taken + 1) ≡ s.skip + s.taken + 1 = omega arith in
     let one : held_of h (give s) ≡ option_map (after_take o) (held_of h s) =
     held_open h (give s) is
-    ∙ ap (λ items. Some (record { items = items; told = s.told })) (held_matched h (give s) ∙ ap (λ n. drop n (matched h s)) one_more ∙ next.0)
-    ∙ ap (λ items. Some (after_by items o s.told)) (sym e)
+    ∙ ap (λ items. Some (record { wants = wanted h s; items = items; told = s.told })) (held_matched h (give s) ∙ ap (λ n. drop n (matched h s)) one_more ∙ next.0)
+    ∙ ap (λ items. Some (after_by (wanted h s) items o s.told)) (sym e)
     ∙ ap (option_map (after_take o)) (sym (held_open h s is)) in
     let within : IsWithin h (give s) = record { start = before.start; passed = rw one_more next.1 } in
     record {
@@ -281,7 +293,7 @@ told_error h k v s error at is e left =
     let before = within_at h (streams h) k s at left.within in
     let one : held_of h (tell s) ≡ option_map (after_take (Some error)) (held_of h s) =
     held_open h (tell s) is
-    ∙ ap (λ items. Some (record { items = items; told = true })) e ∙ ap (λ items. Some (after_by items (Some error) s.told)) (sym e)
+    ∙ ap (λ items. Some (record { wants = wanted h s; items = items; told = true })) e ∙ ap (λ items. Some (after_by (wanted h s) items (Some error) s.told)) (sym e)
     ∙ ap (option_map (after_take (Some error))) (sym (held_open h s is)) in
     let within : IsWithin h (tell s) = record { start = before.start; passed = before.passed } in
     record {
@@ -301,15 +313,15 @@ quiet_gone : (h : List Event) (s : Stream) (o : Option Error) → s.gone ≡ tru
 quiet_gone h s o is = ap (option_map (after_take o)) (held_gone h s is) ∙ sym (held_gone h s is)
 
 -- an open stream that holds nothing
-held_empty : (h : List Event) (s : Stream) → s.gone ≡ false → held h s ≡ [] → held_of h s ≡ Some (record { items = []; told = s.told })
-held_empty h s is e = held_open h s is ∙ ap (λ items. Some (record { items = items; told = s.told })) e
+held_empty : (h : List Event) (s : Stream) → s.gone ≡ false → held h s ≡ [] → held_of h s ≡ Some (record { wants = wanted h s; items = []; told = s.told })
+held_empty h s is e = held_open h s is ∙ ap (λ items. Some (record { wants = wanted h s; items = items; told = s.told })) e
 
 quiet_open : (h : List Event) (s : Stream) → s.gone ≡ false → held h s ≡ [] → option_map (after_take None) (held_of h s) ≡ held_of h s
 quiet_open h s is e = ap (option_map (after_take None)) (held_empty h s is e) ∙ sym (held_empty h s is e)
 
 quiet_ended : (h : List Event) (s : Stream) (error : Error) → s.gone ≡ false → held h s ≡ [] → s.told ≡ true → option_map (after_take (Some error)) (held_of h s) ≡ held_of h s
 quiet_ended h s error is e told =
-    ap (option_map (after_take (Some error))) (held_empty h s is e) ∙ ap (λ b. Some (record { items = []; told = b })) (sym told) ∙ sym (held_empty h s is e)
+    ap (option_map (after_take (Some error))) (held_empty h s is e) ∙ ap (λ b. Some (record { wants = wanted h s; items = []; told = b })) (sym told) ∙ sym (held_empty h s is e)
 
 taken_by : (h : List Event) (k : ℕ) (v : List (Option Held)) (s : Stream) (gone : Bool) (items : List Seen) (o : Option Error) (told : Bool) → slice_get (streams h) k ≡ Some s
     → s.gone ≡ gone → held h s ≡ items → s.told ≡ told → LeftStreams v h
@@ -334,13 +346,18 @@ streams_taken k v h left = taken_at h k v (slice_get (streams h) k) refl left
 
 -- ---- full streams
 
-over_by : (gone : Bool) (capacity : ℕ) (items : List Seen) (told : Bool) → is_over capacity (kept_by gone items told) ≡ (not gone && nat_lt capacity (length items))
-over_by true capacity items told = refl
-over_by false capacity items told = refl
+limit_by : (h : List Event) (rule : Option Rule) → limit_or (main h) (option_map (subscription h) rule) ≡ limit_of h rule
+limit_by h None = refl
+limit_by h (Some rule) = refl
+
+over_by : (gone : Bool) (capacity limit : ℕ) (wants : Option Subscription) (items : List Seen) (told : Bool) → limit_or capacity wants ≡ limit
+    → is_over capacity (kept_by gone wants items told) ≡ (not gone && nat_lt limit (length items))
+over_by true capacity limit wants items told e = refl
+over_by false capacity limit wants items told e = ap (λ n. nat_lt n (length items)) e
 
 over_full : (h : List Event) (s : Stream) → is_over (main h) (held_of h s) ≡ is_full h s
 unfolding held_of is_full
-over_full h s = over_by s.gone (main h) (held h s) s.told
+over_full h s = over_by s.gone (main h) (limit_of h s.rule) (wanted h s) (held h s) s.told (limit_by h s.rule)
 
 pub over_any : (v : List (Option Held)) (h : List Event) → LeftStreams v h → list_any (is_over (main h)) v ≡ list_any (is_full h) (streams h)
 over_any v h left =

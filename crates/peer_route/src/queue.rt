@@ -30,6 +30,14 @@ pub(crate) fn raised(asked: Option<u64>, limit: u64) -> u64
     }
 }
 
+/// Whether two rules are one.
+#[tactic(auto, unfolding(crate::specs::Rules::is_same))]
+fn are_same(rule: &OwnedMatchRule, other: &OwnedMatchRule) -> bool
+    ensures { result ≡ is_same rule.now other.now }
+{
+    *rule == *other
+}
+
 impl Subscription {
     /// The same again.
     fn try_clone(&self, alloc: Global) -> Result<Subscription, AllocError>
@@ -45,7 +53,7 @@ impl Subscription {
     fn is_of(&self, rule: &OwnedMatchRule) -> bool
         ensures { result ≡ is_same self.now.rule rule.now }
     {
-        self.rule == *rule
+        are_same(&self.rule, rule)
     }
 
     /// A stream of this rule asks for more.
@@ -135,11 +143,11 @@ impl Queue {
     pub(crate) fn try_clone(&self, alloc: Global) -> Result<Queue, AllocError>
         ensures { IfOk result (λ q. q ≡ self.now) }
     {
-        let wants = clone_subscription(&self.wants, alloc)?;
         let mut items = VecDeque::new(alloc);
         for message in &self.items {
             items.push_back(message.try_clone()?)?;
         }
+        let wants = clone_subscription(&self.wants, alloc)?;
         Ok(Queue {
             wants,
             items,
@@ -179,7 +187,7 @@ impl Queue {
         ensures { result ≡ limit_if rule.now self.now.wants }
     {
         match &self.wants {
-            Some(wants) if *rule == wants.rule => Some(wants.limit),
+            Some(wants) if are_same(rule, &wants.rule) => Some(wants.limit),
             _ => None,
         }
     }

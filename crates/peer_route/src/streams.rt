@@ -132,16 +132,14 @@ impl Streams {
         ensures number { IfOk result (λ k. k ≡ length self.old) }
         ensures ok { OnOk result (self.new ≡ with_stream rule asked self.old) }
     {
-        self.queues.reserve(1)?;
-        let number = self.queues.len() as u64;
+        let place = self.queues.len();
         let limit = limit_now(&rule, asked, shared(self.queues.as_slice(), &rule));
+        // its place is made first: want of memory changes nothing
+        self.queues.push(None)?;
         raise_each(&mut self.queues, &rule, asked);
         let wants = Subscription { rule, limit };
-        let queue = Queue::new(self.alloc, Some(wants), false);
-        if self.queues.push(Some(queue)).is_err() {
-            unreachable!()
-        }
-        Ok(number)
+        self.queues[place] = Some(Queue::new(self.alloc, Some(wants), false));
+        Ok(place as u64)
     }
 
     /// What is kept of the stream with this number; None where it was closed, or never made.

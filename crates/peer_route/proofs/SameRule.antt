@@ -1,0 +1,69 @@
+-- Rules that are one, and a stream that asks for more, set aside while the other streams of its rule are raised.
+use Rattle.std.proofs.Common.{◌≡◌, ℕ, refl, sym, ◌∙◌, ap, max, Bool, true, if◌then◌else◌, List, map, set, get_or, Option, Some, None, is_some}
+use Rattle.std.specs.List.{slice_get}
+use Rattle.std.specs.Option.{option_map, option_flatten}
+use Rattle.std.proofs.lemmas.List.{set-get_or}
+use Rattle.rule_match.specs.Rule.{Rule}
+use Rattle.rule_match.proofs.Equal.{equal_is_one, one_is_equal}
+use Rattle.peer_route.specs.declared.queue.Subscription.{Subscription}
+use Rattle.peer_route.specs.Rules.{is_same}
+use Rattle.peer_route.specs.Left.{Held, kept_at, raise, raise_held, raise_own, raise_all, wants_of, asked_for}
+use Rattle.peer_route.proofs.Queues.{put_changed, put_same}
+
+pub same_self : (r : Rule) → is_same r r ≡ true
+unfolding is_same
+same_self r = one_is_equal r r refl
+
+pub same_one : (r s : Rule) → is_same r s ≡ true → r ≡ s
+unfolding is_same
+same_one r s e = equal_is_one r s e
+
+-- a stream raises itself as its rule does
+raised_own : (q : Held) (s : Subscription) (limit : ℕ) → q.wants ≡ Some s → raise_held s.rule (Some limit) q ≡ raise_own limit q
+raised_own q s limit e =
+    ap (λ (w : Option Subscription). record q { wants = w })
+    (ap (option_map (raise s.rule (Some limit))) e
+    ∙ ap (λ b. Some (record { rule = s.rule; limit = if b then max s.limit limit else s.limit })) (same_self s.rule)
+    ∙ ap (option_map (λ (t : Subscription). record t { limit = max t.limit limit })) (sym e))
+
+own_none : (q : Held) (limit : ℕ) → q.wants ≡ None → raise_own limit q ≡ q
+own_none q limit e =
+    ap (λ (w : Option Subscription). record q { wants = w }) (ap (option_map (λ (t : Subscription). record t { limit = max t.limit limit })) e ∙ sym e)
+
+asks_ruled : (xs : List (Option Held)) (k limit : ℕ) (q : Held) (w : Option Subscription) (r : Rule) → Some q ≡ get_or xs k (Some q) → q.wants ≡ w
+    → Some r ≡ option_map (λ (s : Subscription). s.rule) w → set (raise_all r (Some limit) (set xs k None)) k (Some (raise_own limit q)) ≡ asked_for w limit xs
+asks_ruled xs k limit q None r at e of = cc
+asks_ruled xs k limit q (Some s) r at e of =
+    let same : r ≡ s.rule = cc in
+    ap (λ x. set (raise_all x (Some limit) (set xs k None)) k (Some (raise_own limit q))) same
+    ∙ ap (λ y. set (raise_all s.rule (Some limit) (set xs k None)) k (Some y)) (sym (raised_own q s limit e))
+    ∙ put_changed (option_map (raise_held s.rule (Some limit))) xs k None (Some q) at
+
+asks_plain : (xs : List (Option Held)) (k limit : ℕ) (q : Held) (w : Option Subscription) → Some q ≡ get_or xs k (Some q) → q.wants ≡ w
+    → None ≡ option_map (λ (s : Subscription). s.rule) w → set (set xs k None) k (Some (raise_own limit q)) ≡ asked_for w limit xs
+asks_plain xs k limit q None at e of = ap (λ y. set (set xs k None) k (Some y)) (own_none q limit e) ∙ put_same xs k None (Some q) at
+asks_plain xs k limit q (Some s) at e of = cc
+
+-- what is kept there
+pub wants_read : (xs : List (Option Held)) (k : ℕ) (o : Option Held) → slice_get xs k ≡ Some o → wants_of o ≡ wants_of (kept_at xs k)
+wants_read xs k o at = ap (λ (p : Option (Option Held)). wants_of (option_flatten p)) (sym at)
+
+pub asks_of_rule : (xs : List (Option Held)) (k limit : ℕ) (q : Held) (r : Rule) → Some q ≡ get_or xs k (Some q) → slice_get xs k ≡ Some (Some q)
+    → Some r ≡ option_map (λ (s : Subscription). s.rule) q.wants
+    → set (raise_all r (Some limit) (set xs k None)) k (Some (raise_own limit q)) ≡ asked_for (wants_of (kept_at xs k)) limit xs
+asks_of_rule xs k limit q r at there of = asks_ruled xs k limit q q.wants r at refl of ∙ ap (λ w. asked_for w limit xs) (wants_read xs k (Some q) there)
+
+pub asks_of_none : (xs : List (Option Held)) (k limit : ℕ) (q : Held) → Some q ≡ get_or xs k (Some q) → slice_get xs k ≡ Some (Some q)
+    → None ≡ option_map (λ (s : Subscription). s.rule) q.wants
+    → set (set xs k None) k (Some (raise_own limit q)) ≡ asked_for (wants_of (kept_at xs k)) limit xs
+asks_of_none xs k limit q at there of = asks_plain xs k limit q q.wants at refl of ∙ ap (λ w. asked_for w limit xs) (wants_read xs k (Some q) there)
+
+-- whether there is a rule
+pub has_rule : (w : Option Subscription) (o : Option Rule) → o ≡ option_map (λ (s : Subscription). s.rule) w → is_some o ≡ is_some w
+has_rule None o e = ap is_some e
+has_rule (Some s) o e = ap is_some e
+
+-- nothing is there to be raised
+pub asks_of_nothing : (xs : List (Option Held)) (k limit : ℕ) (o : Option Held) → o ≡ get_or xs k o → slice_get xs k ≡ Some o → o ≡ None → set xs k None ≡ asked_for (wants_of (kept_at xs k)) limit xs
+asks_of_nothing xs k limit None at there e = ap (set xs k) at ∙ set-get_or xs k None ∙ ap (λ w. asked_for w limit xs) (wants_read xs k None there)
+asks_of_nothing xs k limit (Some q) at there e = cc
