@@ -7,12 +7,12 @@ use Rattle.wire_message.specs.declared.error.Error.{Error}
 use Rattle.wire_message.specs.declared.error.Error.TheVariants as errors
 use Rattle.wire_message.specs.declared.error.IoKind.TheVariants as kinds
 use Rattle.rule_match.specs.Rule.{Rule}
-use Rattle.peer_route.specs.History.{Event, Made, Did, Ruled, Cloned, Gone, edit}
+use Rattle.peer_route.specs.History.{Event, Made, Did, Ruled, Cloned, Gone, Asked, edit}
 use Rattle.peer_route.specs.Streams.{streams, limit_of, rule_of, is_open, known, are_open, close_answer, ask_answer, limit_answer}
 use Rattle.peer_route.specs.declared.queue.Subscription.{Subscription}
-use Rattle.peer_route.specs.Left.{Held, held_of, kept_at, limit_or, main_asked, with_stream, ClonesHeld, View, Left, Clones, OpensRule}
+use Rattle.peer_route.specs.Left.{Held, held_of, kept_at, limit_or, wants_of, asked_for, main_asked, with_stream, ClonesHeld, View, Left, Clones, OpensRule}
 use Rattle.peer_route.proofs.RuledStreams.{limit_left}
-use Rattle.peer_route.proofs.Core.{open_so, left_cloned, left_ended, left_ruled}
+use Rattle.peer_route.proofs.Core.{open_so, left_cloned, left_ended, left_ruled, left_asked}
 
 -- ---- clones
 
@@ -69,14 +69,29 @@ limit_so v h k o e left =
     limit_by (is_open h k) (limit_of h (rule_of (slice_get (streams h) k))) o
     (e ∙ ap (λ n. option_map (λ (q : Held). limit_or n q.wants) (kept_at v.streams k)) left.main ∙ limit_left v.streams h k left.streams)
 
--- the capacity of streams without a rule, where one with a rule asks, or one without
-pub main_kept : (w : Option Subscription) (limit n : ℕ) → is_some w ≡ true → n ≡ main_asked w limit n
+main_kept : (w : Option Subscription) (limit n : ℕ) → is_some w ≡ true → main_asked w limit n ≡ n
 main_kept None limit n e = cc
 main_kept (Some s) limit n e = refl
 
-pub main_more : (w : Option Subscription) (limit n : ℕ) → is_some w ≡ false → max n limit ≡ main_asked w limit n
+main_more : (w : Option Subscription) (limit n : ℕ) → is_some w ≡ false → main_asked w limit n ≡ max n limit
 main_more None limit n e = refl
 main_more (Some s) limit n e = cc
+
+-- a stream without a rule asks for more
+pub asks_main : (v : View) (k limit : ℕ) (h : List Event) → is_open h k ≡ true → is_some (wants_of (kept_at v.streams k)) ≡ false → Left v h
+    → Left (record v { streams = asked_for (wants_of (kept_at v.streams k)) limit v.streams; main = max v.main limit }) (Did k (Asked limit) ∷ h)
+asks_main v k limit h there none left =
+    let w = wants_of (kept_at v.streams k) in
+    let Q : ℕ → Type 0 = λ n. Left (record v { streams = asked_for w limit v.streams; main = n }) (Did k (Asked limit) ∷ h) in
+    subst Q (main_more w limit v.main none) (left_asked v k limit h there left)
+
+-- a stream with one
+pub asks_rule : (v : View) (k limit : ℕ) (h : List Event) → is_open h k ≡ true → is_some (wants_of (kept_at v.streams k)) ≡ true → Left v h
+    → Left (record v { streams = asked_for (wants_of (kept_at v.streams k)) limit v.streams }) (Did k (Asked limit) ∷ h)
+asks_rule v k limit h there some left =
+    let w = wants_of (kept_at v.streams k) in
+    let Q : ℕ → Type 0 = λ n. Left (record v { streams = asked_for w limit v.streams; main = n }) (Did k (Asked limit) ∷ h) in
+    subst Q (main_kept w limit v.main some) (left_asked v k limit h there left)
 
 -- ---- streams of a rule
 
