@@ -29,9 +29,8 @@ pub use laws::{
     dropped_for_good, first_cause_stays, main_capacity, none_before_is_by_position,
     nothing_is_put_after_closing, put_is_what_was_sent, refused_changes_nothing,
     reply_changes_no_other, rule_capacity, rule_stream_gives_what_it_accepts,
-    spent_changes_no_other, stream_after_closing_is_over,
-    stream_changes_no_other, stream_closed_for_good, stream_ends_once, stream_gives_all,
-    stream_gives_the_first_error,
+    spent_changes_no_other, stream_after_closing_is_over, stream_changes_no_other,
+    stream_closed_for_good, stream_ends_once, stream_gives_all, stream_gives_the_first_error,
 };
 pub use polled::Polled;
 pub use route::{Issued, Route};

@@ -292,8 +292,10 @@ fn a_closed_stream_keeps_no_read_back(rt: HostRuntime) {
 fn a_rule_stream_takes_what_it_accepts(rt: HostRuntime) {
     let mut route = Route::new(rt.alloc());
     let errors = open_rule(&mut route, rt.alloc(), "type='error'", None).expect(&rt, "no stream");
-    let returns =
-        open_rule(&mut route, rt.alloc(), "type='method_return'", Some(1)).expect(&rt, "no stream");
+    let returns = open_rule(&mut route, rt.alloc(), "type='method_return'", Some(1)).expect(
+        &rt,
+        "no stream",
+    );
     assert!(rt; route.match_rule(&errors).is_some());
     assert_eq!(rt; plain(route.max_queued(&errors)), Ok(64));
     assert!(rt; arrives(&mut route, rt.alloc(), 1));
@@ -306,7 +308,8 @@ fn a_rule_stream_takes_what_it_accepts(rt: HostRuntime) {
 
 #[test]
 fn streams_of_a_rule_share_a_capacity(rt: HostRuntime) {
-    const OWNER: &str = "type='signal',sender='org.freedesktop.DBus',interface='org.freedesktop.DBus',member='NameOwnerChanged',path='/org/freedesktop/DBus',arg0='a.b'";
+    const OWNER: &str =
+        "type='signal',sender='org.freedesktop.DBus',interface='org.freedesktop.DBus',member='NameOwnerChanged',path='/org/freedesktop/DBus',arg0='a.b'";
     let mut route = Route::new(rt.alloc());
     let first = open_rule(&mut route, rt.alloc(), OWNER, None).expect(&rt, "no stream");
     assert_eq!(rt; plain(route.max_queued(&first)), Ok(8));

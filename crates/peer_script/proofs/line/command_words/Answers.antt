@@ -37,7 +37,7 @@ many (a ∷ b ∷ c ∷ d ∷ e ∷ f ∷ g ∷ []) gt = absurd (omega (arith, g
 
 pub returns-in_default : goal.returns-in_default
 returns-in_default c = elim c.in_default.branch [
-    | in_default-via-then-words-lt1 w ↦ few c.args.words.now (search rules)
-    | in_default-via-else-words-lt1+else-words-lt2+else-words-lt3+else-words-lt4+else-words-lt5+then-words-lt7 w ↦ some c.args.words.now (search rules) (search rules)
-    | in_default-via-else-words-lt1+else-words-lt2+else-words-lt3+else-words-lt4+else-words-lt5+else-words-lt7+else-words-lt8 w ↦ many c.args.words.now (search rules)
-  ]
+  | in_default-via-then-words-lt1 w ↦ few c.args.words.now (search rules)
+  | in_default-via-else-words-lt1+else-words-lt2+else-words-lt3+else-words-lt4+else-words-lt5+then-words-lt7 w ↦ some c.args.words.now (search rules) (search rules)
+  | in_default-via-else-words-lt1+else-words-lt2+else-words-lt3+else-words-lt4+else-words-lt5+else-words-lt7+else-words-lt8 w ↦ many c.args.words.now (search rules)
+]
