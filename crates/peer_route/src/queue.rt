@@ -294,7 +294,10 @@ pub(crate) fn is_full(queue: &Option<Queue>, main: u64) -> bool
 }
 
 /// What the stream gives next; UnknownHandle exactly where it isn't open.
-pub(crate) fn take_from(queue: &mut Option<Queue>, closing: Option<Error>) -> Result<Polled<Message>, Error>
+pub(crate) fn take_from(
+    queue: &mut Option<Queue>,
+    closing: Option<Error>,
+) -> Result<Polled<Message>, Error>
     ensures gives { result ≡ held_gives queue.old closing }
     ensures left { queue.new ≡ option_map (after_take closing) queue.old }
 {

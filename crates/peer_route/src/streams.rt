@@ -3,12 +3,12 @@ ghost use Rattle.std.specs.List.{list_any};
 ghost use Rattle.peer_route.specs.History.{edit};
 ghost use Rattle.peer_route.specs.Left.{Held, empty_held, queued, queued_first, is_over, limit_or, raise_all, shared, limit_now, with_stream, wants_of, asked_for, after_take, kept_at, held_gives, next_held, ended_by, ClonesHeld};
 
+use crate::owner_rule::usual;
 use crate::polled::Polled;
 use crate::queue::{
     Queue, Subscription, close, is_full, limit_in, push_to, raise_in, raised, take_back_from,
     take_from,
 };
-use crate::owner_rule::usual;
 use rule_match::OwnedMatchRule;
 use std::alloc::{AllocError, Global};
 use std::marker::Model;
