@@ -1,5 +1,5 @@
 -- The core after each event.
-use Rattle.std.proofs.Common.{◌≡◌, ℕ, ◌+◌, ◌<◌, ◌==◌, is_some, ◌&&◌, is_none, if◌then◌else◌, refl, sym, ◌∙◌, ap, subst, max, Bool, true, false, not, List, [], ◌∷◌, ◌++◌, length, map, get_or, set, Option, Some, None, Result, Ok, Err, length-append}
+use Rattle.std.proofs.Common.{◌≡◌, ℕ, ◌+◌, ◌<◌, ◌==◌, is_some, ◌&&◌, is_none, if◌then◌else◌, refl, sym, ◌∙◌, ap, subst, Bool, true, false, not, List, [], ◌∷◌, ◌++◌, length, map, get_or, set, Option, Some, None, Result, Ok, Err, length-append}
 use Rattle.std.specs.List.{list_any, position, slice_get}
 use Rattle.std.specs.Option.{option_map}
 use Rattle.std.proofs.lemmas.List.{set-set, set-get_or}
@@ -15,7 +15,7 @@ use Rattle.peer_route.specs.declared.polled.Polled.{Polled}
 use Rattle.peer_route.specs.declared.polled.Polled.TheVariants as polled
 use Rattle.peer_route.specs.declared.calls.Slot.{Slot}
 use Rattle.peer_route.specs.declared.calls.Slot.TheVariants as slots
-use Rattle.peer_route.specs.History.{Event, Took, Shut, Wrote, Fault, Spent, Made, Making, Plain, Ruled, Cloned, Did, Main, Deed, Gave, Told, Gone, Asked, Call, edit, read, closing, worse, shuts, writer, done, is_reply, is_serial, calls, found, bears, is_gone, first_of, pending, waits_with, poll_answer, poll_events, polled_at, polled_by, drop_answer, drop_events, dropped_at}
+use Rattle.peer_route.specs.History.{Event, Took, Shut, Wrote, Fault, Spent, Made, Making, Plain, Ruled, Cloned, Did, Main, Deed, Gave, Told, Gone, Asked, Call, edit, read, closing, worse, shuts, done, is_reply, is_serial, calls, found, bears, is_gone, first_of, pending, waits_with, poll_answer, poll_events, polled_at, polled_by, drop_answer, drop_events, dropped_at}
 use Rattle.peer_route.specs.Streams.{busy, main, is_open, is_over as nothing_comes, take_answer, take_events}
 use Rattle.peer_route.specs.Left.{Held, empty_held, with_stream, wants_of, asked_for, main_asked, is_over, after_take, kept_at, held_gives, ended_by, LeftStreams, is_busy, is_empty_slot, slot_of, slot_by, is_waiting, AreDistinct, CallsView, waiting_serial, is_number, LeftCalls, View, Left}
 use Rattle.peer_route.proofs.Plain.{list_any-map, list_any-along, position-None}

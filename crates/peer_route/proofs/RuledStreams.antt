@@ -1,15 +1,14 @@
 -- What streams hold after one of a rule is opened, or after one asks for more.
-use Rattle.std.proofs.Common.{◌≡◌, ℕ, refl, sym, ◌∙◌, ap, max, Bool, true, false, not, if◌then◌else◌, ◌&&◌, ◌||◌, is_none, List, [], ◌∷◌, ◌++◌, map, Option, Some, None, Ok, Err}
+use Rattle.std.proofs.Common.{◌≡◌, ℕ, refl, sym, ◌∙◌, ap, max, Bool, true, false, not, if◌then◌else◌, ◌&&◌, ◌||◌, is_none, List, [], ◌∷◌, ◌++◌, map, Option, Some, None}
 use Rattle.std.specs.List.{slice_get, list_any}
 use Rattle.std.specs.Option.{option_map}
 use Rattle.std.proofs.lemmas.List.{map-append}
 use Rattle.wire_message.specs.Front.{Seen}
-use Rattle.wire_message.specs.declared.error.Error.TheVariants as errors
 use Rattle.rule_match.specs.Rule.{Rule}
 use Rattle.peer_route.specs.declared.queue.Subscription.{Subscription}
 use Rattle.peer_route.specs.Rules.{is_same}
 use Rattle.peer_route.specs.History.{Event, Made, Did, Ruled, Asked, edit}
-use Rattle.peer_route.specs.Streams.{Stream, streams, rule_stream, done_by, main, rule_of, plain_asks, is_of, subscribes, is_subscribed, raised, limit_then, rule_asks, rule_limit, limit_of, is_there, is_open, matched, offered, held, limit_answer, rule_answer}
+use Rattle.peer_route.specs.Streams.{Stream, streams, rule_stream, done_by, main, rule_of, plain_asks, is_of, subscribes, is_subscribed, raised, limit_then, rule_asks, rule_limit, limit_of, is_there, is_open, matched, offered, held, rule_answer}
 use Rattle.peer_route.specs.Left.{Held, held_of, kept_by, kept_at, subscription, empty_held, raise_held, raise_all, or_else, shared, limit_or, limit_now, with_stream, wants_of, asked_for, main_asked, LeftStreams}
 use Rattle.peer_route.proofs.SameRule.{same_self, same_one}
 use Rattle.peer_route.proofs.Edits.{edit-none}

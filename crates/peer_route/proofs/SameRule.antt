@@ -1,5 +1,5 @@
 -- Rules that are one, and a stream that asks for more, set aside while the other streams of its rule are raised.
-use Rattle.std.proofs.Common.{◌≡◌, ℕ, refl, sym, ◌∙◌, ap, max, Bool, true, if◌then◌else◌, List, map, set, get_or, Option, Some, None, is_some}
+use Rattle.std.proofs.Common.{◌≡◌, ℕ, refl, sym, ◌∙◌, ap, max, true, if◌then◌else◌, List, set, get_or, Option, Some, None, is_some}
 use Rattle.std.specs.List.{slice_get}
 use Rattle.std.specs.Option.{option_map, option_flatten}
 use Rattle.std.proofs.lemmas.List.{set-get_or}

@@ -13,10 +13,10 @@ use Rattle.peer_route.specs.History.{Event, Took, Shut, Put, Wrote, Fault, Spent
 use Rattle.rule_match.specs.Rule.{Rule}
 use Rattle.rule_match.specs.Accepting.{accepts}
 use Rattle.peer_route.specs.declared.queue.Subscription.{Subscription}
-use Rattle.peer_route.specs.Streams.{Stream, streams, fresh, plain_stream, accepted, limit_of, clone_of, give, tell, end_one, done_by, main, matched, offered, held, is_full, is_there, is_open, is_over as nothing_comes, take_by, take_at, take_answer, take_events, first_position, next_at, next_position}
+use Rattle.peer_route.specs.Streams.{Stream, streams, fresh, plain_stream, accepted, limit_of, clone_of, give, tell, end_one, main, matched, offered, held, is_full, is_there, is_open, is_over as nothing_comes, take_by, take_at, take_answer, take_events, first_position, next_at, next_position}
 use Rattle.peer_route.specs.Left.{Held, held_of, subscription, empty_held, wants_it, limit_or, kept_by, kept_at, queued, is_over, after_by, after_take, held_gives, next_held, ended_by, IsWithin, LeftStreams}
 use Rattle.peer_route.proofs.Plain.{list_any-map, list_any-along}
-use Rattle.peer_route.proofs.Edits.{map_edit, map_edit_all, edit-same, edit-none, edit-past, drop_next}
+use Rattle.peer_route.proofs.Edits.{map_edit, map_edit_all, edit-same, edit-past, drop_next}
 use Rattle.peer_route.proofs.Matched.{held_matched, matched_took, all_within_same, all_within_took, within_at, within_fresh, within_push}
 
 -- ---- events that change no stream

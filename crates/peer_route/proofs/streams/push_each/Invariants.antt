@@ -1,3 +1,4 @@
+-- The streams that were passed have the message.
 use Rattle.std.proofs.Common.{◌≡◌, ◌≤◌, ◌-◌, length}
 use Rattle.peer_route.specs.Left.{queued_first}
 use Rattle.peer_route.proofs.streams.push_each.Given as goal

@@ -1,3 +1,4 @@
+-- A stream more that holds what the other holds, or none.
 use Rattle.std.proofs.Common.{sym, subst, Ok, Err}
 use Rattle.std.proofs.lemmas.Result.{err_from_is_err_and}
 use Rattle.peer_route.specs.Left.{View, Clones, ClonesHeld}

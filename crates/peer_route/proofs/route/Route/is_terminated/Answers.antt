@@ -1,3 +1,4 @@
+-- What is kept of the stream says whether it is over.
 use Rattle.std.proofs.Common.{◌∙◌, ap, is_some}
 use Rattle.peer_route.specs.Left.{View, kept_at, ended_by}
 use Rattle.peer_route.proofs.Core.{ended_so}

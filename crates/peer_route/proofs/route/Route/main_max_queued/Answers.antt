@@ -1,3 +1,4 @@
+-- The core keeps the main capacity.
 use Rattle.std.proofs.Common.{◌∙◌, ap}
 use Rattle.peer_route.specs.Left.{View}
 use Rattle.peer_route.proofs.route.Route.main_max_queued.Goals as goal

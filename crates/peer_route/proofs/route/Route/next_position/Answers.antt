@@ -1,3 +1,4 @@
+-- What is kept of the stream has its first message.
 use Rattle.std.proofs.Common.{◌∙◌, ap}
 use Rattle.peer_route.specs.Left.{View, kept_at, next_held}
 use Rattle.peer_route.proofs.StreamsMade.{held_next}

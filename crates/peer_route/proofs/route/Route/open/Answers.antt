@@ -1,3 +1,4 @@
+-- A stream more that holds nothing.
 use Rattle.std.proofs.Common.{sym, ◌∙◌, ap, subst, ◌∷◌, ◌++◌, [], Some, None, is_some}
 use Rattle.peer_route.specs.History.{Made, Plain}
 use Rattle.peer_route.specs.Left.{View, Left, empty_held}

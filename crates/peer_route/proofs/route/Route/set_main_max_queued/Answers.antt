@@ -1,3 +1,4 @@
+-- The main capacity is set.
 use Rattle.std.proofs.Common.{sym, subst, ◌∷◌}
 use Rattle.peer_route.specs.History.{Main}
 use Rattle.peer_route.specs.Left.{View, Left}

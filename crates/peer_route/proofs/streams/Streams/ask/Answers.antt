@@ -1,10 +1,10 @@
 -- The stream is set aside, the others of its rule are raised, and it is put back with what it asks for.
-use Rattle.std.proofs.Common.{◌≡◌, sym, ◌∙◌, ap, is_some, set, get_or, Option, Some, None}
+use Rattle.std.proofs.Common.{◌≡◌, sym, ◌∙◌, ap, is_some, set, get_or, Some, None}
 use Rattle.std.specs.List.{slice_get}
 use Rattle.std.specs.Option.{option_map}
 use Rattle.std.proofs.lemmas.Option.{slice_get_read}
 use Rattle.peer_route.specs.declared.queue.Subscription.{Subscription}
-use Rattle.peer_route.specs.Left.{Held, kept_at, wants_of, asked_for}
+use Rattle.peer_route.specs.Left.{kept_at, wants_of, asked_for}
 use Rattle.peer_route.proofs.SameRule.{wants_read, asks_of_rule, asks_of_none, asks_of_nothing, has_rule}
 use Rattle.peer_route.proofs.streams.Streams.ask.Goals as goal
 use Rattle.peer_route.proofs.streams.Streams.ask.Goals.{in-Some-rule, in-None}

@@ -1,7 +1,7 @@
 -- The others of the rule are raised, and the new one is put at its place.
-use Rattle.std.proofs.Common.{◌≡◌, ◌∙◌, ap, ◌++◌, ◌∷◌, [], Option, Some, None}
+use Rattle.std.proofs.Common.{◌≡◌, ◌∙◌, ap, ◌++◌, ◌∷◌, [], None}
 use Rattle.std.specs.Option.{option_map}
-use Rattle.peer_route.specs.Left.{Held, raise_held, with_stream}
+use Rattle.peer_route.specs.Left.{raise_held, with_stream}
 use Rattle.peer_route.proofs.Queues.{put_last}
 use Rattle.peer_route.proofs.streams.Streams.open_rule.Goals as goal
 
