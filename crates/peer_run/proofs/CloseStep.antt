@@ -1,5 +1,5 @@
 -- Closing the peer: one entry more.
-use Rattle.std.proofs.Common.{◌≡◌, ℕ, ◌≤◌, inl, inr, refl, sym, ◌∙◌, ap, subst, arith, Bool, true, false, List, [], ◌∷◌, ◌++◌, length, Option, Some, None, IsSome, IfSome, Result, Ok, Err}
+use Rattle.std.proofs.Common.{◌≡◌, ℕ, ◌≤◌, inl, inr, refl, sym, ◌∙◌, ap, subst, arith, Bool, true, false, List, [], ◌∷◌, ◌++◌, length, Option, Some, None, IsSome, IfSome, IfErr, Result, Ok, Err}
 use Rattle.std.proofs.lemmas.List.{append-nil}
 use Rattle.std.specs.Io.KnownBytes.{Keeps}
 use Rattle.wire_message.specs.declared.error.Error.{Error}
@@ -50,6 +50,11 @@ does_shut (Err error) = refl
 makes_no_stream : (lane : ℕ) (r : Result (Unit {0}) Error) → new_streams lane (shown_close r) ≡ []
 makes_no_stream lane (Ok done) = refl
 makes_no_stream lane (Err error) = refl
+
+-- a failing `close` fails by its write
+pub closed_is : (r : Result (Unit {0}) Error) → IfErr r (λ e. e ≡ errors.InputOutput kinds.WriteFault) → IsClosed r
+closed_is (Ok done) is = tt
+closed_is (Err error) is = is
 
 -- ---- the peer
 
@@ -114,17 +119,17 @@ reads_close setting start now es lane r x = record {
 
 holds_shut : (room : Option (Option ℕ)) (before : List ℕ) (held held' : Option (List ℕ)) (h : List events.Event) → Keeps held held' → HoldsThen room before held h → HoldsThen room before held' (shut ∷ h)
 holds_shut room before None held' h keeps w = absurd w
-holds_shut room before (Some after) held' h keeps w =
-    subst (λ o. HoldsThen room before o (shut ∷ h)) (sym keeps) (record { sent = w.sent; appended = w.appended; bytes = w.bytes; told = w.told })
+holds_shut room before (Some after) None h keeps w = absurd keeps
+holds_shut room before (Some after) (Some held') h keeps w = record { sent = w.sent; appended = keeps ∙ w.appended; bytes = w.bytes; told = w.told }
 
 stays_told : (room room' : Option (Option ℕ)) → RoomStays room room' → IsSome room → IsSome room'
-stays_told None room' f there = absurd there
-stays_told (Some k) room' f there = subst IsSome (sym f) tt
+stays_told None room' f there = absurd (cc)
+stays_told (Some k) room' f there = subst IsSome (sym f) refl
 
 room_stays : (failed : Bool) (room now after : Option (Option ℕ)) (ms : List _) → RoomStays now after → (IsSome room → IsSome now) → RoomFor failed room now ms → RoomFor failed room after ms
 room_stays true room now after ms s tells x = tt
 room_stays false None now after ms s tells x = tt
-room_stays false (Some k) None after ms s tells x = absurd (tells tt)
+room_stays false (Some k) None after ms s tells x = let none = tells refl in absurd (cc)
 room_stays false (Some k) (Some n) after ms s tells x = subst (λ o. RoomFor false (Some k) o ms) (sym s) x
 
 -- what the sink told of its `close`
@@ -145,7 +150,7 @@ told_ok (Some k) = refl
 
 told_err : (room now : Option (Option ℕ)) (a : Answer) → now ≡ None → (IsSome room → IsSome now) → CloseTold room words.Close a
 told_err None now a none tells = tt
-told_err (Some k) now a none tells = absurd (subst IsSome none (tells tt))
+told_err (Some k) now a none tells = let there = subst IsSome none (tells refl) in absurd (cc)
 
 stays_none : (room room' : Option (Option ℕ)) → room ≡ None → RoomStays room room'
 stays_none None room' none = tt

@@ -1,5 +1,5 @@
 -- A stream of a rule that is opened, or refused: one entry more.
-use Rattle.std.proofs.Common.{◌≡◌, ℕ, inl, inr, refl, sym, ◌∙◌, ap, List, [], ◌∷◌, ◌++◌, Option, Some, None, IsSome, Result, Ok, Err, IfOk}
+use Rattle.std.proofs.Common.{◌≡◌, ℕ, Bool, inl, inr, refl, sym, ◌∙◌, ap, List, [], ◌∷◌, ◌++◌, Option, Some, None, IsSome, Result, Ok, Err, IfOk}
 use Rattle.wire_message.specs.declared.error.Error.{Error}
 use Rattle.wire_message.specs.declared.error.Error.TheVariants as errors
 use Rattle.wire_message.specs.declared.error.IoKind.TheVariants as kinds
@@ -45,6 +45,11 @@ follows_open setting p q es lane asked text rule f is open_ names made given lef
     ∙ sym (ap (λ found. open_of found (events.closing t.events) (answers.Streaming (count lane t.streams))) is
     ∙ ap (λ o. open_of (Ok rule) o (answers.Streaming (count lane t.streams))) open_))
 
+-- a rule that was read is the text's
+pub rule_given : (rule : Rule) (found : Result Rule Error) → Gives (Ok rule) found → found ≡ Ok rule
+rule_given rule found (inl none) = absurd (cc)
+rule_given rule found (inr is) = sym is
+
 -- the text is no rule
 pub text_refused : {E : Type 0} (p : PeerView) (lane : ℕ) (asked : Option ℕ) (text : List ℕ) (error : Error) (r : Result Answer E) → Gives (Err error) (rule_in_bytes text) → IsRefusal error r
     → IfOk r (λ a. (setting : Setting) (es : List Entry) → Follows setting p es → Follows setting p (entry lane (words.Open asked text) a ∷ es))
@@ -57,7 +62,7 @@ text_refused p lane asked text error (Ok a) (inr found) is = λ setting es f.
     (ap (λ o. open_of o (events.closing t.events) (answers.Streaming (count lane t.streams))) found))
 
 closed_open : (rule : Rule) (shut : Option Error) (a : Answer) → IsSome shut → answers.Refused (errors.InputOutput kinds.Closed) ≡ open_of (Ok rule) shut a
-closed_open rule None a there = absurd there
+closed_open rule None a there = absurd (cc)
 closed_open rule (Some error) a there = refl
 
 -- a stream that wasn't opened: the peer is closed, or want of memory

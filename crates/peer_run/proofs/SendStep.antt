@@ -338,14 +338,14 @@ writes_unsent setting start now es lane w asked error k ne fault r =
 
 -- what a sink told of its room, it tells still
 pub falls_told : (room room' : Option (Option ℕ)) (n : ℕ) → RoomFalls room room' n → IsSome room → IsSome room'
-falls_told None room' n f there = absurd there
-falls_told (Some None) room' n f there = subst IsSome (sym f) tt
-falls_told (Some (Some k)) room' n f there = subst IsSome (sym f.1) tt
+falls_told None room' n f there = absurd (cc)
+falls_told (Some None) room' n f there = subst IsSome (sym f) refl
+falls_told (Some (Some k)) room' n f there = subst IsSome (sym f.1) refl
 
 pub breaks_told : (room room' : Option (Option ℕ)) (n : ℕ) → RoomBreaks room room' n → IsSome room → IsSome room'
-breaks_told None room' n f there = absurd there
+breaks_told None room' n f there = absurd (cc)
 breaks_told (Some None) room' n f there = absurd f
-breaks_told (Some (Some k)) room' n f there = subst IsSome (sym f.1) tt
+breaks_told (Some (Some k)) room' n f there = subst IsSome (sym f.1) refl
 
 -- ---- a message goes out
 

@@ -114,13 +114,13 @@ returns-in-Clone-clause-stands g c =
 
 pub returns-in-Open-clause-stands : goal.returns-in-Open-clause-stands
 returns-in-Open-clause-stands g c =
-    rw (c.in-Open.is) (if_ok3 c.open-in-Open.result _ _ _ _
+    rw (c.in-Open.is) (if_ok3 c.open.result _ _ _ _
     (λ answer f r w start_in start_out es s. record {
       follows = f (setting_by c.args.setup.now.name c.args.setup.now.queue (g.W.Sink.takes c.args.writer.now.sink)) es s.follows;
       reads = r (setting_by c.args.setup.now.name c.args.setup.now.queue (g.W.Sink.takes c.args.writer.now.sink)) start_in _ es s.follows s.reads;
       writes = w (setting_by c.args.setup.now.name c.args.setup.now.queue (g.W.Sink.takes c.args.writer.now.sink)) start_out _ es s.follows s.writes;
       fine = λ e. s.fine (fine_before (setting_by c.args.setup.now.name c.args.setup.now.queue (g.W.Sink.takes c.args.writer.now.sink)) es c.args.command.now.lane (words.Open c.in-Open.max_queued c.in-Open.rule.now) answer e);
-    }) c.open-in-Open.ensures.follows c.open-in-Open.ensures.reads c.open-in-Open.ensures.writes)
+    }) c.open.ensures.follows c.open.ensures.reads c.open.ensures.writes)
 
 pub returns-in-Close-clause-stands : goal.returns-in-Close-clause-stands
 returns-in-Close-clause-stands g c start_in start_out es s =
