@@ -13,7 +13,7 @@ use Rattle.peer_route.specs.Left.{Held, held_of, kept_by, kept_at, subscription,
 use Rattle.peer_route.proofs.SameRule.{same_self, same_one}
 use Rattle.peer_route.proofs.Edits.{edit-none}
 use Rattle.peer_route.proofs.Matched.{all_within_same, within_fresh, within_push}
-use Rattle.peer_route.proofs.StreamsMade.{kept_of, kept_left, held_open, held_gone, held_fresh}
+use Rattle.peer_route.proofs.StreamsMade.{kept_of, kept_left, held_open, held_gone, held_fresh, limit_by}
 
 -- ---- the other streams of a rule are raised
 
@@ -219,10 +219,6 @@ unfolding rule_answer is_open
 rule_left v h k left =
     ap (λ q. option_map (λ (s : Subscription). s.rule) (wants_of q)) (kept_left v h k left)
     ∙ rule_at h (slice_get (streams h) k) (is_there (slice_get (streams h) k)) refl
-
-limit_by : (h : List Event) (o : Option Rule) → limit_or (main h) (option_map (subscription h) o) ≡ limit_of h o
-limit_by h None = refl
-limit_by h (Some rule) = refl
 
 limit_at : (h : List Event) (o : Option Stream) → option_map (λ (q : Held). limit_or (main h) q.wants) (kept_of h o) ≡ (if is_there o then Some (limit_of h (rule_of o)) else None)
 unfolding held_of

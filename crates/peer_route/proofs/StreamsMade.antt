@@ -346,7 +346,7 @@ streams_taken k v h left = taken_at h k v (slice_get (streams h) k) refl left
 
 -- ---- full streams
 
-limit_by : (h : List Event) (rule : Option Rule) → limit_or (main h) (option_map (subscription h) rule) ≡ limit_of h rule
+pub limit_by : (h : List Event) (rule : Option Rule) → limit_or (main h) (option_map (subscription h) rule) ≡ limit_of h rule
 limit_by h None = refl
 limit_by h (Some rule) = refl
 
