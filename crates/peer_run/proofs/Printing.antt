@@ -41,7 +41,7 @@ polls_are s h sent legal newer older e number is w =
 streams_are : (s : Script) (h : List Entry) (sent : List ℕ) → Legal (setting_of s) h → StreamsAre s h sent
 streams_are s h sent legal = record {
   yields = λ newer older e number is w a. yields (setting_of s) newer e older number (subst (Legal (setting_of s)) is legal) w a;
-  rules = λ newer older e number asked text rule is w found a. opened_yields (setting_of s) newer older e number asked text rule (subst (Legal (setting_of s)) is legal) w found a;
+  rules = λ newer older e number asked text rule is w found a. opened_yields (setting_of s) newer e older number asked text rule (subst (Legal (setting_of s)) is legal) w found a;
   clones = λ newer older e number original is w a. clone_yields (setting_of s) newer e older number original (subst (Legal (setting_of s)) is legal) w a;
   ends = λ newer older e number is w last. ended (setting_of s) newer older e number (subst (Legal (setting_of s)) is legal) w last;
   closes = λ newer older e number is w a. closed_for_good (setting_of s) newer older e number (subst (Legal (setting_of s)) is legal) w a;

@@ -119,7 +119,7 @@ returns-in-Open-clause-stands g c =
       follows = f (setting_by c.args.setup.now.name c.args.setup.now.queue (g.W.Sink.takes c.args.writer.now.sink)) es s.follows;
       reads = r (setting_by c.args.setup.now.name c.args.setup.now.queue (g.W.Sink.takes c.args.writer.now.sink)) start_in _ es s.follows s.reads;
       writes = w (setting_by c.args.setup.now.name c.args.setup.now.queue (g.W.Sink.takes c.args.writer.now.sink)) start_out _ es s.follows s.writes;
-      fine = λ e. s.fine (fine_before (setting_by c.args.setup.now.name c.args.setup.now.queue (g.W.Sink.takes c.args.writer.now.sink)) es c.args.command.now.lane (words.Open c.in-Open.max_queued c.in-Open.rule.now) answer e);
+      fine = λ e. s.fine (fine_before (setting_by c.args.setup.now.name c.args.setup.now.queue (g.W.Sink.takes c.args.writer.now.sink)) es c.args.command.now.lane (words.Open c.in-Open.max_queued c.in-Open.rule) answer e);
     }) c.open.ensures.follows c.open.ensures.reads c.open.ensures.writes)
 
 pub returns-in-Close-clause-stands : goal.returns-in-Close-clause-stands
