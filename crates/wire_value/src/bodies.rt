@@ -29,6 +29,14 @@ fn are_shallow(values: &[Value]) -> bool
     true
 }
 
+/// Whether no more than 64 containers are open at once in each value of a body, so that its bytes are a body's (D-Bus
+/// Specification, "Message Format", "Marshaling (Wire Format)"). Takes no memory.
+pub fn is_shallow(body: &Body) -> bool
+    ensures { IsTrue result ↔ (depths (data_of body.now) ≤ 64) }
+{
+    are_shallow(body.values())
+}
+
 /// Appends values one behind the other. `shift` is the place of the output's first byte, counted from a multiple of 8.
 fn write_each(
     alloc: Global,

@@ -1,4 +1,4 @@
-use crate::{decode_body, encode_body, to};
+use crate::{decode_body, encode_body, is_shallow, to};
 use std::process::Abort;
 use std::test::Fail;
 use wire_names::Text;
@@ -20,6 +20,7 @@ fn arguments_there_and_back(rt: HostRuntime) -> Result<(), Fail> {
     let types = Signature::try_from(alloc, "si")?;
     for (order, wanted) in [(Endian::Little, LITTLE), (Endian::Big, BIG)] {
         let body = to(alloc, (Text::from_str(alloc, "kaboom!")?, 32i32))?;
+        assert!(&rt; is_shallow(&body));
         let bytes = encode_body(alloc, order, &body)?;
         assert_eq!(&rt; bytes.as_slice(), wanted);
         let (values, count) = decode_body(alloc, order, &types, wanted)?;
