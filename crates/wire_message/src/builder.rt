@@ -192,6 +192,31 @@ impl<'a> Builder<'a> {
         Builder { fields, ..self }
     }
 
+    /// Without a sender.
+    pub fn without_sender(self) -> Builder<'a>
+        ensures { result ≡ record self.entry { fields = record self.entry.fields { sender = None } } }
+    {
+        let fields = HeaderFields {
+            sender: None,
+            ..self.fields
+        };
+        Builder { fields, ..self }
+    }
+
+    /// The type of the message (D-Bus Specification, "Types of messages").
+    pub fn message_type(&self) -> MessageType
+        ensures { result ≡ self.now.kind }
+    {
+        self.kind
+    }
+
+    /// What the message asks of its reader (D-Bus Specification, "Message Format").
+    pub fn flags(&self) -> Flags
+        ensures { result.0 ≡ self.now.flags }
+    {
+        Flags(self.flags)
+    }
+
     /// The bytes of the message with that serial and body, if it doesn't pass its limit.
     #[tactic(auto, unfolding(crate::specs::Draft::message_text, crate::specs::Draft::header_text))]
     fn text(&self, alloc: Global, serial: u32, body: &[u8]) -> Result<Vec<u8>>

@@ -3,6 +3,7 @@ use super::*;
 use crate::answers::{Told, do_call, empty, given, told_by};
 use crate::header_tests::is_printed;
 use crate::tests::Nothing;
+use bitflags::Flags as _;
 use std::alloc::Global;
 use std::process::Abort;
 use std::test::Fail;
@@ -95,12 +96,13 @@ fn calls_anew(rt: HostRuntime) -> std::result::Result<(), Fail> {
         again.header().member().map(|name| name.as_str() == "do"),
         Some(true)
     );
-    let drawn = empty(
-        rt.alloc(),
-        do_call()?.serial(9).without_serial(),
-        &mut serials,
-    )?;
+    let builder = do_call()?.sender(&UniqueName::try_from(":1.72")?);
+    assert_eq!(rt; builder.message_type(), MessageType::MethodCall);
+    assert_eq!(rt; builder.flags(), Flags::empty());
+    let builder = builder.serial(9).without_serial().without_sender();
+    let drawn = empty(rt.alloc(), builder, &mut serials)?;
     assert_eq!(rt; drawn.serial_num(), 1);
+    assert!(rt; drawn.header().sender().is_none());
     Ok(())
 }
 
