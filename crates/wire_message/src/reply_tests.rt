@@ -103,6 +103,7 @@ fn calls_anew(rt: HostRuntime) -> std::result::Result<(), Fail> {
     let drawn = empty(rt.alloc(), builder, &mut serials)?;
     assert_eq!(rt; drawn.serial_num(), 1);
     assert!(rt; drawn.header().sender().is_none());
+    assert_eq!(rt; serials.next_uncounted(&Nothing).ok(), Some(2));
     Ok(())
 }
 

@@ -1,10 +1,10 @@
-ghost use Rattle.std.specs.Prelude.{ℕ, ◌≡◌, ◌+◌, ◌≤◌, ◌%◌, Bool, IfSome, IfNone};
+ghost use Rattle.std.specs.Prelude.{ℕ, ◌≡◌, ◌+◌, ◌<◌, ◌≤◌, ◌%◌, Bool, IfSome, IfNone};
 ghost use Rattle.wire_message.specs.Circle.{Draws, IsNext, AllTaken, taken_among};
 
 use crate::error::{Error, Result};
 use crate::steps::Steps;
-use std::marker::Model;
-use std::sync::ledger::Ledger;
+use std::marker::{Brand, Model};
+use std::sync::ledger::{Blank, Ledger};
 
 /// Which serials are pending, so that none of them is drawn.
 pub trait Taken {
@@ -55,6 +55,23 @@ impl Serials {
             }
             None => Err(Error::SerialsSpent),
         }
+    }
+
+    fn next_counted<T: Taken, L: Ledger>(&mut self, taken: &T, blank: Blank) -> Result<u32>
+        requires name { blank.name ≡ L.name }
+        requires parts { blank.parts ≡ L.parts }
+        requires some { 0 < blank.parts }
+        ensures { Draws (T.is_taken taken.now) self.old self.new result }
+    {
+        let mut steps = Steps::<L>::start(blank);
+        self.next(taken, &mut steps)
+    }
+
+    /// As `next`, for a caller that counts no steps.
+    pub fn next_uncounted<T: Taken>(&mut self, taken: &T) -> Result<u32>
+        ensures { Draws (T.is_taken taken.now) self.old self.new result }
+    {
+        self.next_counted::<T, Brand>(taken, Blank::new(1))
     }
 }
 
