@@ -1,5 +1,4 @@
 pub mod CallWords
-pub mod ParcelCode
 pub mod Stands
 pub mod Runs
 pub mod Program
