@@ -57,7 +57,8 @@ holds_first : (name : Option (List ℕ)) (queue : Option ℕ) (room : Option (Op
 holds_first None None room held = holds_same_still room held
 holds_first None (Some limit) room None = tt
 holds_first None (Some limit) room (Some before) = record { sent = []; appended = sym (append-nil before); bytes = refl; told = writes_nothing room }
-holds_first (Some name) None room held = holds_same_still room held
+holds_first (Some name) None room None = tt
+holds_first (Some name) None room (Some before) = record { sent = []; appended = sym (append-nil before); bytes = refl; told = writes_nothing room }
 holds_first (Some name) (Some limit) room None = tt
 holds_first (Some name) (Some limit) room (Some before) = record { sent = []; appended = sym (append-nil before); bytes = refl; told = writes_nothing room }
 

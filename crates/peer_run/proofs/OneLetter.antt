@@ -1,8 +1,7 @@
 -- A command that sends asks for one message: what issuing the list of that message gives, and whose name it bears.
 use Rattle.std.proofs.Common.{◌≡◌, ℕ, ◌≤◌, ◌||◌, ◌&&◌, not, refl, sym, ◌∙◌, ap, subst, arith, inl, inr, Bool, true, false, List, [], ◌∷◌, ◌++◌, length, Option, Some, None, Result, Ok, Err}
 use Rattle.std.proofs.lemmas.List.{length_push}
-use Rattle.wire_tree.specs.Datum.{Datum, data_of}
-use Rattle.wire_spelling.specs.Spelling.{AllFit}
+use Rattle.wire_tree.specs.Datum.{Datum}
 use Rattle.wire_signature.specs.declared.error.VariantError.TheVariants as faults
 use Rattle.wire_message.specs.Circle.{IsNext, AllTaken}
 use Rattle.wire_message.specs.Draft.{Draft, are_misplaced}
@@ -22,67 +21,47 @@ use Rattle.peer_route.specs.Parcel.{Setting, Parcel, Asked, message_of, sent_by}
 use Rattle.peer_route.specs.CallMessage.{expects, fds_of, values_in, words_refusal, name_refusal, asked_of, call_draft, signal_draft, call_asked, signal_asked, reply_asked, error_asked, sent_from}
 use Rattle.peer_route.specs.History.{Event, put, calls, pending, last_serial, writer}
 use Rattle.peer_route.specs.Left.{View, Left}
-use Rattle.peer_route.specs.Issuing.{is_deep, IsTooLong, put_of, call_number, issued_of, AreDrawn, AreShort, SomeLong, issued_each, put_each, IssuesAll}
+use Rattle.peer_route.specs.Issuing.{is_deep, IsTooLong, put_of, call_number, issued_of, AreDrawn, AreShort, SomeLong, issued_each, put_each, IssuesAll, AreInOrder, Waits}
 use Rattle.peer_route.specs.Trail.{asks_with}
 use Rattle.peer_run.specs.CallWords.{MakesAsked}
+use Rattle.peer_run.specs.OneLetter.{IssuesOne, WaitsOne}
 use Rattle.peer_run.specs.Stands.{setting_by}
 
 -- ---- what issuing one message gives
-
-abbrev pub Issues : View → View → Parcel → List Event → Result Issued Error → Type 0
-Issues old new parcel h (Ok issued) =
-    IsNext (pending h) (last_serial h) issued.serial
-    × AllFit parcel.draft.order 0 (data_of parcel.values)
-    × (length (message_of parcel issued.serial).bytes ≤ 134217728)
-    × (writer h ≡ writers.Fine)
-    × (issued.index ≡ length (put h)) × (issued.call ≡ call_number (expects (Ok parcel)) (length (calls h)))
-    × Left new (put_of parcel issued.serial ∷ h)
-Issues old new parcel h (Err errors.SerialsSpent) = AllTaken (pending h) × (new ≡ old)
-Issues old new parcel h (Err (errors.Variant faults.Depth)) = (is_deep parcel ≡ true) × (new ≡ old)
-Issues old new parcel h (Err errors.ExcessData) =
-    (serial : ℕ) × IsNext (pending h) (last_serial h) serial × IsTooLong parcel serial × (new ≡ old)
-Issues old new parcel h (Err (errors.InputOutput kinds.WriteFault)) =
-    (serial : ℕ) × IsNext (pending h) (last_serial h) serial × AllFit parcel.draft.order 0 (data_of parcel.values)
-    × (length (message_of parcel serial).bytes ≤ 134217728) × (writer h ≡ writers.Failed) × (new ≡ old)
-Issues old new parcel h (Err (errors.InputOutput kinds.Closed)) =
-    (serial : ℕ) × IsNext (pending h) (last_serial h) serial × AllFit parcel.draft.order 0 (data_of parcel.values)
-    × (length (message_of parcel serial).bytes ≤ 134217728) × (writer h ≡ writers.Closed) × (new ≡ old)
-Issues old new parcel h (Err errors.Memory) = new ≡ old
-Issues old new parcel h (Err error) = ⊥
 
 last_one : (x y : Issued) (xs : List Issued) → xs ++ y ∷ [] ≡ x ∷ [] → x ≡ y
 last_one x y [] e = cc
 last_one x y (z ∷ zs) e = let f : zs ++ y ∷ [] ≡ [] = cc in absurd (omega (arith, ap length f, length_push zs y))
 
 one_by : (old new : View) (p : Parcel) (h : List Event) (issued : Issued) (serials : List ℕ) (before : List Issued) → AreDrawn h (p ∷ []) serials → AreShort (p ∷ []) serials
-    → before ++ issued ∷ [] ≡ issued_each h (p ∷ []) serials → Left new (put_each (p ∷ []) serials h) → writer h ≡ writers.Fine → Issues old new p h (Ok issued)
+    → before ++ issued ∷ [] ≡ issued_each h (p ∷ []) serials → Left new (put_each (p ∷ []) serials h) → writer h ≡ writers.Fine → IssuesOne old new p h (Ok issued)
 one_by old new p h issued [] before d s e left fine = absurd d
 one_by old new p h issued (serial ∷ []) before d s e left fine =
-    subst (λ i. Issues old new p h (Ok i)) (last_one (issued_of h p serial) issued before e) (d.0, s.0.0, s.0.1, fine, refl, refl, left)
+    subst (λ i. IssuesOne old new p h (Ok i)) (last_one (issued_of h p serial) issued before e) (d.0, s.0, fine, refl, refl, left)
 one_by old new p h issued (serial ∷ t ∷ serials) before d s e left fine = absurd d.1
 
 -- the one message is issued
 pub one_issued : {A : Type 0} (items : A → List Issued) (old new : View) (p : Parcel) (h : List Event) (all : A) (issued : Issued) (before : List Issued) → items all ≡ before ++ issued ∷ []
-    → IssuesAll items old new (p ∷ []) h (Ok all) → Issues old new p h (Ok issued)
+    → IssuesAll items old new (p ∷ []) h (Ok all) → IssuesOne old new p h (Ok issued)
 one_issued items old new p h all issued before e x =
     one_by old new p h issued x.1.0 before x.1.1 x.1.2 (sym e ∙ x.1.3) x.1.4 x.2
 
-long_by : (old new : View) (p : Parcel) (h : List Event) (serials : List ℕ) → AreDrawn h (p ∷ []) serials → SomeLong (p ∷ []) serials → new ≡ old → Issues old new p h (Err errors.ExcessData)
+long_by : (old new : View) (p : Parcel) (h : List Event) (serials : List ℕ) → AreDrawn h (p ∷ []) serials → SomeLong (p ∷ []) serials → new ≡ old → IssuesOne old new p h (Err errors.ExcessData)
 long_by old new p h [] d s e = absurd d
 long_by old new p h (serial ∷ []) d (inl long) e = (serial, d.0, long, e)
 long_by old new p h (serial ∷ []) d (inr none) e = absurd none
 long_by old new p h (serial ∷ t ∷ serials) d s e = absurd d.1
 
 failed_by : (old new : View) (p : Parcel) (h : List Event) (serials : List ℕ) → AreDrawn h (p ∷ []) serials → AreShort (p ∷ []) serials → writer h ≡ writers.Failed → new ≡ old
-    → Issues old new p h (Err (errors.InputOutput kinds.WriteFault))
+    → IssuesOne old new p h (Err (errors.InputOutput kinds.WriteFault))
 failed_by old new p h [] d s w e = absurd d
-failed_by old new p h (serial ∷ []) d s w e = (serial, d.0, s.0.0, s.0.1, w, e)
+failed_by old new p h (serial ∷ []) d s w e = (serial, d.0, s.0, w, e)
 failed_by old new p h (serial ∷ t ∷ serials) d s w e = absurd d.1
 
 closed_by : (old new : View) (p : Parcel) (h : List Event) (serials : List ℕ) → AreDrawn h (p ∷ []) serials → AreShort (p ∷ []) serials → writer h ≡ writers.Closed → new ≡ old
-    → Issues old new p h (Err (errors.InputOutput kinds.Closed))
+    → IssuesOne old new p h (Err (errors.InputOutput kinds.Closed))
 closed_by old new p h [] d s w e = absurd d
-closed_by old new p h (serial ∷ []) d s w e = (serial, d.0, s.0.0, s.0.1, w, e)
+closed_by old new p h (serial ∷ []) d s w e = (serial, d.0, s.0, w, e)
 closed_by old new p h (serial ∷ t ∷ serials) d s w e = absurd d.1
 
 or_none : (b : Bool) → (b || false) ≡ true → b ≡ true
@@ -91,7 +70,7 @@ or_none false e = e
 
 -- the one message isn't issued
 pub one_refused : {A : Type 0} (items : A → List Issued) (old new : View) (p : Parcel) (h : List Event) (error : Error) → IssuesAll items old new (p ∷ []) h (Err error)
-    → Issues old new p h (Err error)
+    → IssuesOne old new p h (Err error)
 one_refused items old new p h errors.SerialsSpent x = elim x.1 [
   | inl all ↦ (all, x.2)
   | inr none ↦ absurd none.2
@@ -102,6 +81,13 @@ one_refused items old new p h (errors.InputOutput kinds.WriteFault) x = failed_b
 one_refused items old new p h (errors.InputOutput kinds.Closed) x = closed_by old new p h x.1.0 x.1.1 x.1.2 x.2 x.3
 one_refused items old new p h errors.Memory x = x
 one_refused items old new p h other x = absurd x
+
+-- and it waits at the end of the outbox
+pub one_waits : (old new : View) (all before : List Issued) (issued : Issued) → all ≡ before ++ issued ∷ [] → Waits old new 1 all → WaitsOne old new issued
+one_waits old new all [] issued e w =
+    let o : AreInOrder (length old.outbox) (issued ∷ []) = subst (AreInOrder (length old.outbox)) e w.1 in
+    (o.0, omega (arith, o.0, w.2), w.3, w.4, w.5)
+one_waits old new all (i ∷ before) issued e w = absurd (omega (arith, w.0, ap length e, length_push before issued))
 
 -- ---- whose name the message bears
 

@@ -3,3 +3,4 @@ pub mod Stands
 pub mod Runs
 pub mod Program
 pub mod Numbers
+pub mod OneLetter

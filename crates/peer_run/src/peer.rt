@@ -1,14 +1,16 @@
-ghost use Rattle.std.specs.Prelude.{ℕ, ◌≡◌, ◌≢◌, ◌+◌, ◌≤◌, ◌<◌, ◌-◌, ◌^◌, slice_get, true, false, List, [], ◌∷◌, length, Option, IfSome, IfOk, IfErr, OnOk, Some, None, Ok, Err, is_some, option_map};
+ghost use Rattle.std.specs.Prelude.{ℕ, ◌≡◌, ◌≢◌, ◌+◌, ◌≤◌, ◌<◌, ◌-◌, ◌^◌, slice_get, true, false, List, [], ◌∷◌, length, Option, IfSome, IfOk, IfErr, OnOk, Some, None, Err, is_some, option_map};
 ghost use Rattle.peer_route.specs.declared.answer.Entry.{Entry};
-ghost use Rattle.peer_route.specs.declared.words.Words.{Words};
 ghost use Rattle.peer_route.specs.declared.words.Words.TheVariants as words;
 ghost use Rattle.peer_route.specs.declared.writer.Writer.TheVariants as writers;
 ghost use Rattle.peer_route.specs.Parcel.{Setting, sent_by};
 ghost use Rattle.peer_route.specs.Trail as trails;
-ghost use Rattle.peer_route.specs.Trail.{trail, asks, asks_with, kept_at};
+ghost use Rattle.peer_route.specs.Trail.{trail, asks_with, kept_at};
 ghost use Rattle.peer_route.specs.Answers as shows;
 ghost use Rattle.peer_route.specs.Answers.{sent_answer};
+ghost use Rattle.peer_route.specs.History.{Event};
+ghost use Rattle.peer_route.specs.Left.{Left};
 ghost use Rattle.peer_run.specs.CallWords.{MakesAsked};
+ghost use Rattle.peer_run.specs.OneLetter.{IssuesOne, WaitsOne};
 ghost use Rattle.peer_run.specs.Stands.{PeerView, Inlet, Outlet, Follows, Reads, Writes, Sent, Sending, IsFine, setting_by, sends, given_after, named, entry};
 ghost use Rattle.wire_framing.specs.Receive.{Receives, Takes};
 ghost use Rattle.wire_framing.specs.Writing.{is_unsupported};
@@ -125,6 +127,25 @@ fn letter_of<'a>(
         | Words::MainQueue(_)
         | Words::Open { .. }
         | Words::Close => unreachable!(),
+    }
+}
+
+/// Issues one message, sent by the peer; no call is served by it.
+fn issue_one(
+    alloc: Global,
+    route: &mut Route,
+    letter: Letter<'_>,
+) -> wire_message::Result<Issued>
+    requires { length letter.fds < 2 ^ 32 }
+    ensures issues { (h : List Event) → Left route.old h → IssuesOne route.old route.new (sent_by route.old.name false letter.entry) h result }
+    ensures placed { IfOk result (WaitsOne route.old route.new) }
+{
+    let mut list = Vec::new(alloc);
+    list.push(letter)?;
+    let mut issued = route.issue(list, false)?;
+    match issued.pop() {
+        Some(issued) => Ok(issued),
+        None => unreachable!(),
     }
 }
 
@@ -313,37 +334,6 @@ impl Peer {
         }
     }
 
-    /// Issues the one message that a command asks for, and sends it.
-    fn send_letter<W: Sink>(
-        &mut self,
-        alloc: Global,
-        half: &mut WriteHalf<W>,
-        lane: u32,
-        letter: Letter<'_>,
-    ) -> Result<Answer, RunError>
-        requires few { length letter.fds < 2 ^ 32 }
-        requires written { self.old.core.done ≡ length self.old.core.outbox }
-        ensures sent { IfOk result (λ answer. (setting : Setting) (es : List Entry) (w : Words) → setting.takes_fds ≡ W.takes half.old.sink
-            → asks (trail setting es) lane w ≡ Some (Ok (sent_by setting.name false letter.entry)) → Follows setting self.old es → IsFine (trail setting es).events half.old.writing
-            → Sending setting self.new es lane w (record { held = W.held half.old.sink; room = W.room half.old.sink; faults = W.faults half.old.sink })
-            (record { held = W.held half.new.sink; room = W.room half.new.sink; faults = W.faults half.new.sink }) half.new.writing answer) }
-        ensures grows { W.faults half.old.sink ≤ W.faults half.new.sink }
-        ensures takes { W.takes half.new.sink ≡ W.takes half.old.sink }
-        ensures same { W.lent half.new.sink ≡ W.lent half.old.sink }
-    {
-        let mut list = Vec::new(alloc);
-        list.push(letter)?;
-        match self.route.issue(list, false) {
-            Ok(mut issued) => {
-                let Some(issued) = issued.pop() else {
-                    unreachable!()
-                };
-                self.send(half, lane, issued)
-            }
-            Err(error) => not_issued(error),
-        }
-    }
-
     /// Sends what the command asks for; it is one that sends.
     pub(crate) fn send_words<W: Sink>(
         &mut self,
@@ -370,9 +360,13 @@ impl Peer {
             takes_fds,
             words,
         );
-        match letter {
-            Ok(letter) => self.send_letter(alloc, half, lane, letter),
-            Err(error) => refused(error),
+        let letter = match letter {
+            Ok(letter) => letter,
+            Err(error) => return refused(error),
+        };
+        match issue_one(alloc, &mut self.route, letter) {
+            Ok(issued) => self.send(half, lane, issued),
+            Err(error) => not_issued(error),
         }
     }
 
