@@ -3,18 +3,16 @@ use Rattle.std.proofs.Common.{◌≡◌, ℕ, ◌<◌, ◌≤◌, ◌^◌, ◌||
 use Rattle.std.specs.List.{list_any, AllByRecursion}
 use Rattle.std.proofs.lemmas.Bool.{true≢false, false≢true}
 use borrow.Author.Tests.{lt-ltb}
-use Rattle.wire_tree.specs.Datum.{Datum, type_of, data_of}
+use Rattle.wire_tree.specs.Datum.{Datum, type_of}
 use Rattle.wire_signature.specs.declared.error.VariantError.TheVariants as faults
-use Rattle.wire_spelling.specs.Spelling.{AllFit}
 use Rattle.wire_message.specs.Front.{Seen, bare}
 use Rattle.wire_message.specs.Draft.{built, header_text, message_text, Draft}
 use Rattle.wire_message.specs.Signed.{signed, counted}
 use Rattle.wire_message.specs.Bodies.{body_text, BuildsValues}
-use Rattle.wire_message.specs.Bodies as Bodies
 use Rattle.wire_message.specs.declared.error.Error.{Error}
 use Rattle.wire_message.specs.declared.error.Error.TheVariants as errors
 use Rattle.peer_route.specs.Parcel.{Parcel, message_of, sender_of, sent_by}
-use Rattle.peer_route.specs.Issuing.{is_deep, IsShort, IsTooLong, AreShort, SomeLong}
+use Rattle.peer_route.specs.Issuing.{is_deep, IsTooLong, AreShort, SomeLong}
 use Rattle.peer_route.specs.Trail.{or_zero}
 use Rattle.peer_route.specs.Placing.{numbered, numbered_each, own, own_message, IsReady, IsOwnShort, SomeOwnLong, MakesAt, MakesOwn, NotMade, messages_of}
 
@@ -42,7 +40,7 @@ makes_at : (taken : ℕ → Bool) (parcel : Parcel) (serial last new : ℕ) (r :
 makes_at taken parcel serial last new (Ok m) shallow b =
     let w = b.2.0 in
     let is : m ≡ message_of parcel serial =
-        with_fds m _ parcel.fds w.3 b.2.1 ∙ same_built parcel (Some serial) m.serial ∙ ap (message_of parcel) w.0 in
+    with_fds m _ parcel.fds w.3 b.2.1 ∙ same_built parcel (Some serial) m.serial ∙ ap (message_of parcel) w.0 in
     (is, (b.1, subst (λ (n : Seen). length n.bytes ≤ 134217728) is w.2))
 makes_at taken parcel serial last new (Err errors.ExcessData) shallow b = elim b.2 [
   | inl unfit ↦ inl unfit

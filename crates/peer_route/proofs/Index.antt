@@ -241,6 +241,6 @@ pub taken_back : (m n : BTreeMap ℕ ℕ) (ss now popped : List Slot) (count las
 taken_back m n ss now popped count last e le is_now is_popped i =
     let same : popped ≡ take last ss = is_popped ∙ ap (take last) is_now ∙ take-set ss last slots.Gone in
     let whole : now ≡ popped ++ slots.Gone ∷ [] =
-        is_now ∙ sym (take_all (last + 1) (set ss last slots.Gone) (omega (arith, e, length-set ss last slots.Gone)))
-        ∙ take_more_set ss last slots.Gone (omega (arith, e)) ∙ ap (λ xs. xs ++ slots.Gone ∷ []) (sym same) in
+    is_now ∙ sym (take_all (last + 1) (set ss last slots.Gone) (omega (arith, e, length-set ss last slots.Gone)))
+    ∙ take_more_set ss last slots.Gone (omega (arith, e)) ∙ ap (λ xs. xs ++ slots.Gone ∷ []) (sym same) in
     (ap (take count) same ∙ take-take count last ss le, λ j. index_less n popped (subst (IsIndex n) whole (i j)))

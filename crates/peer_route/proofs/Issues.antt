@@ -1,5 +1,5 @@
 -- Messages are issued: what the core is then, and why they may be refused.
-use Rattle.std.proofs.Common.{◌≡◌, ℕ, ◌+◌, ◌<◌, ◌≤◌, refl, sym, ◌∙◌, ap, subst, arith, inl, inr, Bool, true, false, List, [], ◌∷◌, ◌++◌, length, map, find, None, Result, Ok, Err, append_assoc}
+use Rattle.std.proofs.Common.{◌≡◌, ℕ, ◌+◌, refl, sym, ◌∙◌, ap, subst, arith, inl, inr, Bool, true, false, List, [], ◌∷◌, ◌++◌, length, map, find, None, Ok, Err, append_assoc}
 use Rattle.std.specs.List.{list_any}
 use Rattle.std.proofs.Math.Seq.{drop-length}
 use Rattle.std.proofs.lemmas.List.{append-nil, map-append, length-map, length_push}
@@ -151,9 +151,9 @@ placed_more v w b c m ms calls_then serial end e f =
     let n : length (v.outbox ++ m ∷ []) ≡ length v.outbox + 1 = length_push v.outbox m in
     ap (λ xs. record v { calls = calls_then; last = end; outbox = xs; places = (v.places ++ place_of (length v.outbox) c) ++ places_of (length (v.outbox ++ m ∷ [])) ms }) (append_assoc v.outbox (m ∷ []) ms)
     ∙ ap (λ xs. record v { calls = calls_then; last = end; outbox = v.outbox ++ m ∷ ms; places = xs })
-        (append_assoc v.places (place_of (length v.outbox) c) (places_of (length (v.outbox ++ m ∷ [])) ms)
-        ∙ ap (λ k. v.places ++ (place_of (length v.outbox) c ++ places_of k ms)) n
-        ∙ ap (λ d. v.places ++ (place_of (length v.outbox) d ++ places_of (length v.outbox + 1) ms)) (e ∙ sym f))
+    (append_assoc v.places (place_of (length v.outbox) c) (places_of (length (v.outbox ++ m ∷ [])) ms)
+    ∙ ap (λ k. v.places ++ (place_of (length v.outbox) c ++ places_of k ms)) n
+    ∙ ap (λ d. v.places ++ (place_of (length v.outbox) d ++ places_of (length v.outbox + 1) ms)) (e ∙ sym f))
 
 with_none : (v : View) (calls_then : CallsView) (end : ℕ) → calls_then ≡ v.calls → end ≡ v.last → with_messages v [] calls_then end ≡ v
 with_none v calls_then end e f =
@@ -196,7 +196,7 @@ issued_same (p ∷ ps) (serial ∷ serials) h n k e f =
     let m = message_of p serial in
     let b = expects_reply m.kind m.flags in
     let more : k + length (place_of n b) ≡ length (calls (put_of p serial ∷ h)) =
-        ap (λ c. k + length (place_of n c)) (same_expects p serial) ∙ calls_more (expects (Ok p)) m h n k f in
+    ap (λ c. k + length (place_of n c)) (same_expects p serial) ∙ calls_more (expects (Ok p)) m h n k f in
     ap (λ i. i ∷ issued_from (n + 1) (k + length (place_of n b)) (messages_of ps serials)) (issued_one p serial h n k e f)
     ∙ ap (λ is. issued_of h p serial ∷ is) (issued_same ps serials (put_of p serial ∷ h) (n + 1) (k + length (place_of n b)) (omega (arith, e, length_push (put h) m)) more)
 

@@ -1,7 +1,7 @@
 -- The messages of a command are placed in the outbox one after another, or what was done is taken back.
 use Rattle.std.proofs.Common.{◌≡◌, ℕ, suc, ◌+◌, refl, sym, ◌∙◌, ap, subst, arith, Bool, List, [], ◌∷◌, ◌++◌, length, map, take, Option, Ok, Err, append_assoc, length-append}
 use Rattle.std.specs.List.{AllByRecursion}
-use Rattle.std.proofs.lemmas.List.{append-nil, length_push}
+use Rattle.std.proofs.lemmas.List.{append-nil}
 use Rattle.std.proofs.Math.Seq.{take-append_seam}
 use Rattle.wire_message.specs.Front.{Seen}
 use Rattle.peer_route.specs.declared.route.Issued.{Issued}
@@ -9,7 +9,7 @@ use Rattle.wire_message.specs.declared.error.Error.{Error}
 use Rattle.wire_message.specs.declared.error.Error.TheVariants as errors
 use Rattle.wire_message.specs.declared.error.IoKind.TheVariants as kinds
 use Rattle.peer_route.specs.declared.writer.Writer.TheVariants as writers
-use Rattle.peer_route.specs.Parcel.{Parcel, message_of, sent_by}
+use Rattle.peer_route.specs.Parcel.{Parcel, sent_by}
 use Rattle.peer_route.specs.CallMessage.{expects, expects_reply}
 use Rattle.peer_route.specs.Left.{CallsView, View}
 use Rattle.peer_route.specs.Issuing.{AreInOrder, Waits}
@@ -39,7 +39,7 @@ issued_more place count (n ∷ ms) m =
     let own = place_of place (expects_reply n.kind n.flags) in
     let e : (place + 1) + length ms ≡ place + length (n ∷ ms) = omega arith in
     let f : (count + length own) + length (places_of (place + 1) ms) ≡ count + length (own ++ places_of (place + 1) ms) =
-        omega (arith, length-append own (places_of (place + 1) ms)) in
+    omega (arith, length-append own (places_of (place + 1) ms)) in
     ap (λ is. issued_at place count n ∷ is) (issued_more (place + 1) (count + length own) ms m)
     ∙ ap (λ k. issued_at place count n ∷ issued_from (place + 1) (count + length own) ms ++ issued_at k ((count + length own) + length (places_of (place + 1) ms)) m ∷ []) e
     ∙ ap (λ k. issued_at place count n ∷ issued_from (place + 1) (count + length own) ms ++ issued_at (place + length (n ∷ ms)) k m ∷ []) f
@@ -108,8 +108,8 @@ taken_back n xs ys e g = ap (λ k. take k ys) e ∙ ap (take (length xs)) g.1 �
 pub back_same : (old new : View) (calls last outbox places : ℕ) → Marks old calls last outbox places → IsMore old new → back_to new calls last outbox places ≡ old
 back_same old new calls last outbox places k m =
     let c : record { slots = take calls new.calls.slots; closing = new.calls.closing } ≡ old.calls =
-        ap (λ (v : CallsView). record { slots = take calls v.slots; closing = v.closing }) m.calls.1
-        ∙ ap (λ xs. record { slots = xs; closing = old.calls.closing }) (taken_back calls old.calls.slots (old.calls.slots ++ m.calls.0) k.calls (m.calls.0, refl)) in
+    ap (λ (v : CallsView). record { slots = take calls v.slots; closing = v.closing }) m.calls.1
+    ∙ ap (λ xs. record { slots = xs; closing = old.calls.closing }) (taken_back calls old.calls.slots (old.calls.slots ++ m.calls.0) k.calls (m.calls.0, refl)) in
     ap (λ (v : View). record v { calls = record { slots = take calls new.calls.slots; closing = new.calls.closing }; last = last; outbox = take outbox new.outbox; places = take places new.places }) m.same
     ∙ ap (λ x. record old { calls = x; last = last; outbox = take outbox new.outbox; places = take places new.places }) c
     ∙ ap (λ x. record old { last = x; outbox = take outbox new.outbox; places = take places new.places }) k.last
@@ -152,7 +152,7 @@ puts_placed items old new ps qs ms issued d e short w is o p same =
       w,
       is ∙ ap (issued_from (length old.outbox) (length old.places)) all,
       same
-      ∙ ap (λ xs. record old { calls = new.calls; last = new.last; outbox = xs; places = new.places }) o
-      ∙ ap (λ xs. record old { calls = new.calls; last = new.last; outbox = old.outbox ++ ms; places = xs }) p
-      ∙ ap (λ xs. with_messages old xs new.calls new.last) all,
+          ∙ ap (λ xs. record old { calls = new.calls; last = new.last; outbox = xs; places = new.places }) o
+          ∙ ap (λ xs. record old { calls = new.calls; last = new.last; outbox = old.outbox ++ ms; places = xs }) p
+          ∙ ap (λ xs. with_messages old xs new.calls new.last) all,
     )

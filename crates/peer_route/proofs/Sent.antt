@@ -15,7 +15,7 @@ use Rattle.peer_route.specs.Parcel.{Setting, Parcel, Asked, message_of}
 use Rattle.peer_route.specs.Trail.{Trail, place, asks, trail, send_events, read_events, poll_spends, drop_spends, stream_makes, open_makes, take_does, clone_makes, gone_at, unstream_does, queue_does, main_sets, close_does, second_place, events_of, first_events, next_serial, or_zero}
 use Rattle.rule_match.specs.Rule.{Rule}
 use Rattle.rule_match.specs.Bytes.{rule_in_bytes}
-use Rattle.peer_route.specs.Answers.{IsAnswer, IsClose, IsCalled, IsSendOf, Legal, sent_answer, write_fault}
+use Rattle.peer_route.specs.Answers.{IsAnswer, IsClose, IsCalled, IsSendOf, Legal, sent_answer}
 use Rattle.peer_route.specs.StreamLaws.{sent_of, sent_by, all_sent, IsPutOf}
 
 -- what events that send nothing leave

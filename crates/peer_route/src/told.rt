@@ -258,7 +258,11 @@ pub(crate) fn named(route: &mut Route, alloc: Global, name: &str) -> bool {
 }
 
 /// Issues an error to the return, and whether it has a sender.
-pub(crate) fn error_is_signed(route: &mut Route, alloc: Global, served: bool) -> Result<bool, Kind> {
+pub(crate) fn error_is_signed(
+    route: &mut Route,
+    alloc: Global,
+    served: bool,
+) -> Result<bool, Kind> {
     let Ok(name) = ErrorName::try_from("a.b") else {
         return Err(Kind::Other);
     };

@@ -16,9 +16,7 @@ use peer_route::{CallFlags, Letter, Outgoing, read_body};
 use std::alloc::{AllocError, Global};
 use wire_body::Body;
 use wire_message::{Builder, Error, Flags, Message, Result};
-use wire_names::{
-    BusName, Bytes, ErrorName, InterfaceName, MemberName, NamesError, ObjectPath,
-};
+use wire_names::{BusName, Bytes, ErrorName, InterfaceName, MemberName, NamesError, ObjectPath};
 use wire_number::Endian;
 use wire_signature::VariantError;
 
@@ -210,10 +208,7 @@ fn with_body<'a>(
 
 /// The header of a call, before its letters are looked at. Refused exactly where a word is outside its grammar, for the
 /// first such word.
-fn call_builder<'a>(
-    words: &'a Outgoing,
-    takes_fds: bool,
-) -> Result<Builder<'a>>
+fn call_builder<'a>(words: &'a Outgoing, takes_fds: bool) -> Result<Builder<'a>>
     ensures { MakesDraft result (call_draft (setting_by None None takes_fds) words.now) }
 {
     let destination = bus_name(&words.destination)?;
@@ -226,20 +221,14 @@ fn call_builder<'a>(
 
 /// The header of a signal, before its letters are looked at. Refused exactly where a word is outside its grammar, for the
 /// first such word.
-fn signal_builder<'a>(
-    words: &'a Outgoing,
-    takes_fds: bool,
-) -> Result<Builder<'a>>
+fn signal_builder<'a>(words: &'a Outgoing, takes_fds: bool) -> Result<Builder<'a>>
     ensures { MakesDraft result (signal_draft (setting_by None None takes_fds) words.now) }
 {
     let destination = bus_name(&words.destination)?;
     let path = object_path(&words.path)?;
     let interface = needed_interface(&words.interface)?;
     let member = member_name(&words.member)?;
-    Ok(with_destination(
-        Message::signal(&path, &interface, &member),
-        &destination,
-    ))
+    Ok(with_destination(Message::signal(&path, &interface, &member), &destination))
 }
 
 /// The method call of these words, to a sink that takes descriptors or none; its sender isn't set yet.

@@ -104,11 +104,7 @@ fn letter_of<'a>(
             };
             reply_letter(alloc, message, body)
         }
-        Words::Error {
-            stream,
-            name,
-            body,
-        } => {
+        Words::Error { stream, name, body } => {
             let Some(message) = given_last(given, streams, lane, *stream) else {
                 return Err(Error::UnknownHandle);
             };
@@ -131,11 +127,7 @@ fn letter_of<'a>(
 }
 
 /// Issues one message, sent by the peer; no call is served by it.
-fn issue_one(
-    alloc: Global,
-    route: &mut Route,
-    letter: Letter<'_>,
-) -> wire_message::Result<Issued>
+fn issue_one(alloc: Global, route: &mut Route, letter: Letter<'_>) -> wire_message::Result<Issued>
     requires { length letter.fds < 2 ^ 32 }
     ensures issues { (h : List Event) → Left route.old h → IssuesOne route.old route.new (sent_by route.old.name false letter.entry) h result }
     ensures placed { IfOk result (WaitsOne route.old route.new) }

@@ -12,9 +12,9 @@ returns-in_err-draw-clause-refused c =
     let p = err_from_is_err_and c.from_residual.result c.from_residual.ensures.1 in
     let rest = into_iter_items c.next.new.self in
     let all : c.args.list.items ≡ c.loop-letter.yielded ++ c.in-Some.letter ∷ rest =
-        sym c.into_iter-letter-iterator.ensures.into_iter_gives.0
-        ∙ taken_front c.into_iter-letter-iterator.result c.loop-letter.yielded c.loop-letter.letter-iterator c.loop-letter.yielded_by
-        ∙ ap (λ ys. c.loop-letter.yielded ++ ys) c.in-Some.ensures.steps.0 in
+    sym c.into_iter-letter-iterator.ensures.into_iter_gives.0
+    ∙ taken_front c.into_iter-letter-iterator.result c.loop-letter.yielded c.loop-letter.letter-iterator c.loop-letter.yielded_by
+    ∙ ap (λ ys. c.loop-letter.yielded ++ ys) c.in-Some.ensures.steps.0 in
     rw (p.1, p.2)
     (subst (λ ps. NotDrawn c.args.calls.now c.args.serials.now ps c.in_err-draw.field-0.0) (sym all)
     (not_drawn _ _ _ _ _ _ c.in-Some.letter rest _ c.loop-letter.invariant c.in_err-draw.ensures.refused))

@@ -1,5 +1,5 @@
 -- The messages are put by the history, or what was done is taken back.
-use Rattle.std.proofs.Common.{◌≡◌, ◌∙◌, sym, ap, refl, map, subst, length, true, false, List, Vec, Global}
+use Rattle.std.proofs.Common.{◌≡◌, ◌∙◌, sym, ap, refl, map, subst, false, List, Vec, Global}
 use Rattle.std.specs.List.{list_any}
 use Rattle.std.proofs.lemmas.List.{length-map}
 use Rattle.peer_route.specs.declared.route.Issued.{Issued}
@@ -23,8 +23,8 @@ returns-then-is_some_deep-clause-issues c h left = (
 pub returns-in-Ok-clause-issues : goal.returns-in-Ok-clause-issues
 returns-in-Ok-clause-issues c h left =
     let shallow : list_any is_deep (map (sent_by c.args.self.now.name c.args.served) c.args.list.items) ≡ false =
-        deep_sent c.args.self.now.name c.args.served c.args.list.items
-        ∙ ap (list_any is_deep) (sym c.as_slice.ensures.value) ∙ sym c.is_some_deep.ensures ∙ c.if-is_some_deep.false in
+    deep_sent c.args.self.now.name c.args.served c.args.list.items
+    ∙ ap (list_any is_deep) (sym c.as_slice.ensures.value) ∙ sym c.is_some_deep.ensures ∙ c.if-is_some_deep.false in
     issued_all items c.args.self.now c.put_all.new.self (map (sent_by c.args.self.now.name c.args.served) c.args.list.items) h c.in-Ok.issued shallow left c.in-Ok.ensures.puts
 
 pub returns-in-Ok-clause-placed : goal.returns-in-Ok-clause-placed
@@ -35,7 +35,7 @@ returns-in-Ok-clause-placed c =
 pub returns-in-Err-clause-issues : goal.returns-in-Err-clause-issues
 returns-in-Err-clause-issues c h left =
     let shallow : list_any is_deep (map (sent_by c.args.self.now.name c.args.served) c.args.list.items) ≡ false =
-        deep_sent c.args.self.now.name c.args.served c.args.list.items
-        ∙ ap (list_any is_deep) (sym c.as_slice.ensures.value) ∙ sym c.is_some_deep.ensures ∙ c.if-is_some_deep.false in
+    deep_sent c.args.self.now.name c.args.served c.args.list.items
+    ∙ ap (list_any is_deep) (sym c.as_slice.ensures.value) ∙ sym c.is_some_deep.ensures ∙ c.if-is_some_deep.false in
     refused_all items c.args.self.now c.put_all.new.self c.take_back.new.self (map (sent_by c.args.self.now.name c.args.served) c.args.list.items) h c.in-Err.error shallow left
     (c.take_back.ensures ∙ back_same c.args.self.now c.put_all.new.self _ _ _ _ c.mark-mark.ensures c.in-Err.ensures.more) c.in-Err.ensures.puts

@@ -1,5 +1,5 @@
 -- All messages are put, or it is said why not.
-use Rattle.std.proofs.Common.{◌≡◌, refl, sym, ap, subst, map, List, Vec, Global, Ok, Err}
+use Rattle.std.proofs.Common.{refl, sym, subst, map, List, Vec, Global, Ok, Err}
 use Rattle.std.specs.List.{AllByRecursion}
 use Rattle.std.proofs.lemmas.Result.{err_from_is_err_and}
 use Rattle.wire_message.specs.declared.error.Error.TheVariants as errors

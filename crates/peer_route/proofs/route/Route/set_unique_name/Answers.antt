@@ -1,5 +1,5 @@
 -- The peer that had no name has this.
-use Rattle.std.proofs.Common.{◌≡◌, sym, ap, ◌∙◌, subst, refl, ◌∷◌, Option, None, Some, is_some, true, false}
+use Rattle.std.proofs.Common.{◌≡◌, sym, ap, ◌∙◌, subst, refl, ◌∷◌, Option, None, Some, is_some, false}
 use Rattle.std.proofs.lemmas.Bool.{true≢false}
 use Rattle.peer_route.specs.History.{Named}
 use Rattle.peer_route.specs.Left.{View, Left}

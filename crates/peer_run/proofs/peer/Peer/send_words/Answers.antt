@@ -32,19 +32,19 @@ returns-in-Ok-issue_one-clause-sent g c =
     let now_out : Outlet = record { held = g.W.Sink.held c.args.half.now.sink; room = g.W.Sink.room c.args.half.now.sink; faults = g.W.Sink.faults c.args.half.now.sink } in
     let after_out : Outlet = record { held = g.W.Sink.held c.send.new.half.sink; room = g.W.Sink.room c.send.new.half.sink; faults = g.W.Sink.faults c.send.new.half.sink } in
     let made : MakesAsked (Ok letter) (asks_with (setting_by None None takes) given c.args.words.now) =
-        subst (λ (gs : List (Option Seen)). MakesAsked (Ok letter) (asks_with (setting_by None None takes) (λ n. kept_at gs (place 0 c.args.lane n p.streams)) c.args.words.now)) c.as_slice.ensures.value
-        (subst (λ (b : Bool). MakesAsked (Ok letter) (asks_with (setting_by None None b) (λ n. kept_at c.as_slice.result.now (place 0 c.args.lane n p.streams)) c.args.words.now))
-        c.can_pass_unix_fd-takes_fds.ensures c.in-Ok.ensures) in
+    subst (λ (gs : List (Option Seen)). MakesAsked (Ok letter) (asks_with (setting_by None None takes) (λ n. kept_at gs (place 0 c.args.lane n p.streams)) c.args.words.now)) c.as_slice.ensures.value
+    (subst (λ (b : Bool). MakesAsked (Ok letter) (asks_with (setting_by None None b) (λ n. kept_at c.as_slice.result.now (place 0 c.args.lane n p.streams)) c.args.words.now))
+    c.can_pass_unix_fd-takes_fds.ensures c.in-Ok.ensures) in
     IfOk-weaker c.send.result _ _ (λ answer sent setting es can f fine.
-        let k : Follows setting p es = subst (λ v. Follows setting v es) (sym c.self.view_is) f in
-        let named = letter_named setting given c.args.words.now letter
-            (subst (λ (b : Bool). MakesAsked (Ok letter) (asks_with (setting_by None None b) given c.args.words.now)) (sym can) made) in
-        let issues : IssuesOne p.core q.core (sent_by setting.name false letter) (trail setting es).events (Ok issued) =
-            subst (λ n. IssuesOne p.core q.core (sent_by n false letter) (trail setting es).events (Ok issued)) (k.left.name ∙ trail_name setting es)
-            (c.in-Ok-issue_one.ensures.issues (trail setting es).events k.left) in
-        letter_sent setting p q c.send.new.self es c.args.lane c.args.words.now (sent_by setting.name false letter) issued now_out after_out c.args.half.now.writing c.send.new.half.writing answer
-        (sym (asks_kept setting p es c.args.lane c.args.words.now k) ∙ named) k issues fine refl refl refl
-        (λ m at plain half. sent m at (subst (λ b. is_unsupported m.unix_fds b ≡ false) can plain) half)) c.send.ensures.sent
+    let k : Follows setting p es = subst (λ v. Follows setting v es) (sym c.self.view_is) f in
+    let named = letter_named setting given c.args.words.now letter
+    (subst (λ (b : Bool). MakesAsked (Ok letter) (asks_with (setting_by None None b) given c.args.words.now)) (sym can) made) in
+    let issues : IssuesOne p.core q.core (sent_by setting.name false letter) (trail setting es).events (Ok issued) =
+    subst (λ n. IssuesOne p.core q.core (sent_by n false letter) (trail setting es).events (Ok issued)) (k.left.name ∙ trail_name setting es)
+    (c.in-Ok-issue_one.ensures.issues (trail setting es).events k.left) in
+    letter_sent setting p q c.send.new.self es c.args.lane c.args.words.now (sent_by setting.name false letter) issued now_out after_out c.args.half.now.writing c.send.new.half.writing answer
+    (sym (asks_kept setting p es c.args.lane c.args.words.now k) ∙ named) k issues fine refl refl refl
+    (λ m at plain half. sent m at (subst (λ b. is_unsupported m.unix_fds b ≡ false) can plain) half)) c.send.ensures.sent
 
 pub returns-in-Err-clause-sent : goal.returns-in-Err-clause-sent
 returns-in-Err-clause-sent g c =
@@ -52,13 +52,13 @@ returns-in-Err-clause-sent g c =
     let p : PeerView = record { core = c.self.inside.route; names = c.self.inside.names; streams = c.self.inside.streams; given = c.self.inside.given.items } in
     let given : ℕ → Option Seen = λ n. kept_at p.given (place 0 c.args.lane n p.streams) in
     let made : MakesAsked (Err c.in-Err.error) (asks_with (setting_by None None takes) given c.args.words.now) =
-        subst (λ (gs : List (Option Seen)). MakesAsked (Err c.in-Err.error) (asks_with (setting_by None None takes) (λ n. kept_at gs (place 0 c.args.lane n p.streams)) c.args.words.now)) c.as_slice.ensures.value
-        (subst (λ (b : Bool). MakesAsked (Err c.in-Err.error) (asks_with (setting_by None None b) (λ n. kept_at c.as_slice.result.now (place 0 c.args.lane n p.streams)) c.args.words.now))
-        c.can_pass_unix_fd-takes_fds.ensures c.in-Err.ensures) in
+    subst (λ (gs : List (Option Seen)). MakesAsked (Err c.in-Err.error) (asks_with (setting_by None None takes) (λ n. kept_at gs (place 0 c.args.lane n p.streams)) c.args.words.now)) c.as_slice.ensures.value
+    (subst (λ (b : Bool). MakesAsked (Err c.in-Err.error) (asks_with (setting_by None None b) (λ n. kept_at c.as_slice.result.now (place 0 c.args.lane n p.streams)) c.args.words.now))
+    c.can_pass_unix_fd-takes_fds.ensures c.in-Err.ensures) in
     let now_out : Outlet = record { held = g.W.Sink.held c.args.half.now.sink; room = g.W.Sink.room c.args.half.now.sink; faults = g.W.Sink.faults c.args.half.now.sink } in
     letter_refused_of _ takes p c.args.self.now c.args.lane c.args.words.now c.in-Err.error c.refused.result now_out c.args.half.now.writing c.self.view_is
     (λ setting can. refusal_named setting given c.args.words.now c.in-Err.error
-        (subst (λ (b : Bool). MakesAsked (Err c.in-Err.error) (asks_with (setting_by None None b) given c.args.words.now)) (sym can) made))
+    (subst (λ (b : Bool). MakesAsked (Err c.in-Err.error) (asks_with (setting_by None None b) given c.args.words.now)) (sym can) made))
     c.refused.ensures
 
 pub returns-in-Err-issue_one-clause-sent : goal.returns-in-Err-issue_one-clause-sent
@@ -71,15 +71,15 @@ returns-in-Err-issue_one-clause-sent g c =
     let given : ℕ → Option Seen = λ n. kept_at p.given (place 0 c.args.lane n p.streams) in
     let now_out : Outlet = record { held = g.W.Sink.held c.args.half.now.sink; room = g.W.Sink.room c.args.half.now.sink; faults = g.W.Sink.faults c.args.half.now.sink } in
     let made : MakesAsked (Ok letter) (asks_with (setting_by None None takes) given c.args.words.now) =
-        subst (λ (gs : List (Option Seen)). MakesAsked (Ok letter) (asks_with (setting_by None None takes) (λ n. kept_at gs (place 0 c.args.lane n p.streams)) c.args.words.now)) c.as_slice.ensures.value
-        (subst (λ (b : Bool). MakesAsked (Ok letter) (asks_with (setting_by None None b) (λ n. kept_at c.as_slice.result.now (place 0 c.args.lane n p.streams)) c.args.words.now))
-        c.can_pass_unix_fd-takes_fds.ensures c.in-Ok.ensures) in
+    subst (λ (gs : List (Option Seen)). MakesAsked (Ok letter) (asks_with (setting_by None None takes) (λ n. kept_at gs (place 0 c.args.lane n p.streams)) c.args.words.now)) c.as_slice.ensures.value
+    (subst (λ (b : Bool). MakesAsked (Ok letter) (asks_with (setting_by None None b) (λ n. kept_at c.as_slice.result.now (place 0 c.args.lane n p.streams)) c.args.words.now))
+    c.can_pass_unix_fd-takes_fds.ensures c.in-Ok.ensures) in
     IfOk-weaker c.not_issued.result _ _ (λ answer is setting es can f fine.
-        let k : Follows setting p es = subst (λ v. Follows setting v es) (sym c.self.view_is) f in
-        let named = letter_named setting given c.args.words.now letter
-            (subst (λ (b : Bool). MakesAsked (Ok letter) (asks_with (setting_by None None b) given c.args.words.now)) (sym can) made) in
-        let issues : IssuesOne p.core q.core (sent_by setting.name false letter) (trail setting es).events (Err error) =
-            subst (λ n. IssuesOne p.core q.core (sent_by n false letter) (trail setting es).events (Err error)) (k.left.name ∙ trail_name setting es)
-            (c.in-Err-issue_one.ensures.issues (trail setting es).events k.left) in
-        letter_not_sent setting p q es c.args.lane c.args.words.now (sent_by setting.name false letter) error answer now_out c.args.half.now.writing
-        (sym (asks_kept setting p es c.args.lane c.args.words.now k) ∙ named) k issues is refl refl refl fine) (unsent_ok error c.not_issued.result c.not_issued.ensures)
+    let k : Follows setting p es = subst (λ v. Follows setting v es) (sym c.self.view_is) f in
+    let named = letter_named setting given c.args.words.now letter
+    (subst (λ (b : Bool). MakesAsked (Ok letter) (asks_with (setting_by None None b) given c.args.words.now)) (sym can) made) in
+    let issues : IssuesOne p.core q.core (sent_by setting.name false letter) (trail setting es).events (Err error) =
+    subst (λ n. IssuesOne p.core q.core (sent_by n false letter) (trail setting es).events (Err error)) (k.left.name ∙ trail_name setting es)
+    (c.in-Err-issue_one.ensures.issues (trail setting es).events k.left) in
+    letter_not_sent setting p q es c.args.lane c.args.words.now (sent_by setting.name false letter) error answer now_out c.args.half.now.writing
+    (sym (asks_kept setting p es c.args.lane c.args.words.now k) ∙ named) k issues is refl refl refl fine) (unsent_ok error c.not_issued.result c.not_issued.ensures)
