@@ -1,9 +1,8 @@
 -- A command that sends asks for one message: what issuing the list of that message gives, and whose name it bears.
-use Rattle.std.proofs.Common.{◌≡◌, ℕ, ◌≤◌, ◌||◌, ◌&&◌, not, refl, sym, ◌∙◌, ap, subst, arith, inl, inr, Bool, true, false, List, [], ◌∷◌, ◌++◌, length, Option, Some, None, Result, Ok, Err}
+use Rattle.std.proofs.Common.{◌≡◌, ℕ, ◌||◌, ◌&&◌, not, refl, sym, ◌∙◌, ap, subst, arith, inl, inr, Bool, true, false, List, [], ◌∷◌, ◌++◌, length, Option, Some, None, Ok, Err}
 use Rattle.std.proofs.lemmas.List.{length_push}
 use Rattle.wire_tree.specs.Datum.{Datum}
 use Rattle.wire_signature.specs.declared.error.VariantError.TheVariants as faults
-use Rattle.wire_message.specs.Circle.{IsNext, AllTaken}
 use Rattle.wire_message.specs.Draft.{Draft, are_misplaced}
 use Rattle.wire_message.specs.Drafts.{reply_draft, error_draft}
 use Rattle.wire_message.specs.Primary.{head_of}
@@ -17,11 +16,11 @@ use Rattle.peer_route.specs.declared.words.Outgoing.{Outgoing}
 use Rattle.peer_route.specs.declared.words.Words.{Words}
 use Rattle.peer_route.specs.declared.words.Words.TheVariants as words
 use Rattle.peer_route.specs.declared.writer.Writer.TheVariants as writers
-use Rattle.peer_route.specs.Parcel.{Setting, Parcel, Asked, message_of, sent_by}
-use Rattle.peer_route.specs.CallMessage.{expects, fds_of, values_in, words_refusal, name_refusal, asked_of, call_draft, signal_draft, call_asked, signal_asked, reply_asked, error_asked, sent_from}
-use Rattle.peer_route.specs.History.{Event, put, calls, pending, last_serial, writer}
+use Rattle.peer_route.specs.Parcel.{Setting, Parcel, Asked, sent_by}
+use Rattle.peer_route.specs.CallMessage.{fds_of, values_in, words_refusal, name_refusal, asked_of, call_draft, signal_draft, call_asked, signal_asked, reply_asked, error_asked, sent_from}
+use Rattle.peer_route.specs.History.{Event, writer}
 use Rattle.peer_route.specs.Left.{View, Left}
-use Rattle.peer_route.specs.Issuing.{is_deep, IsTooLong, put_of, call_number, issued_of, AreDrawn, AreShort, SomeLong, issued_each, put_each, IssuesAll, AreInOrder, Waits}
+use Rattle.peer_route.specs.Issuing.{is_deep, issued_of, AreDrawn, AreShort, SomeLong, issued_each, put_each, IssuesAll, AreInOrder, Waits}
 use Rattle.peer_route.specs.Trail.{asks_with}
 use Rattle.peer_run.specs.CallWords.{MakesAsked}
 use Rattle.peer_run.specs.OneLetter.{IssuesOne, WaitsOne}

@@ -1,5 +1,5 @@
 -- The list of the one message is issued.
-use Rattle.std.proofs.Common.{◌≡◌, ◌∙◌, ◌++◌, ◌∷◌, [], ◌<◌, ◌^◌, length, ap, sym, subst}
+use Rattle.std.proofs.Common.{◌∙◌, ◌++◌, ◌∷◌, [], ◌<◌, ◌^◌, length, ap, sym, subst}
 use Rattle.std.specs.List.{AllByRecursion}
 use Rattle.peer_route.specs.Parcel.{Parcel}
 use Rattle.peer_run.proofs.peer.issue_one.Goals as goal
