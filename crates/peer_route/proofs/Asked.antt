@@ -1,5 +1,5 @@
 -- What is asked to be sent can be written, and the sink takes it.
-use Rattle.std.proofs.Common.{◌≡◌, ℕ, ◌≤◌, refl, ◌∙◌, ap, subst, arith, Bool, true, false, not, ◌&&◌, List, [], ◌∷◌, Option, Some, None, Ok}
+use Rattle.std.proofs.Common.{◌≡◌, ℕ, ◌≤◌, ◌<◌, ◌^◌, refl, sym, ◌∙◌, ap, subst, length, arith, Bool, true, false, not, ◌&&◌, List, [], ◌∷◌, Option, Some, None, Ok}
 use Rattle.wire_number.specs.declared.endian.Endian.{Endian}
 use Rattle.wire_number.specs.declared.endian.Endian.TheVariants.{Little}
 use Rattle.wire_tree.specs.Datum.{Datum, data_of}
@@ -16,9 +16,12 @@ use Rattle.peer_route.specs.declared.words.Outgoing.{Outgoing}
 use Rattle.peer_route.specs.Parcel.{Setting, Parcel}
 use Rattle.peer_route.specs.CallMessage.{fds_of, values_in, asked_of, member_asked, call_draft, signal_draft, call_asked, signal_asked, reply_asked, error_asked, sent_from, words_refusal, name_refusal}
 use Rattle.peer_route.specs.Trail.{asks_with}
-use Rattle.peer_route.specs.Left.{AreWritable}
 use Rattle.peer_route.proofs.BodyWords.{word_found}
 use Rattle.peer_route.proofs.AnyOrder.{spelled_shallow, spelled_fit}
+
+-- each array of the values is within its limit in the message's order, and no value opens more than 64 containers at once
+abbrev pub AreWritable : Parcel → Type 0
+AreWritable parcel = (depths (data_of parcel.values) ≤ 64) × AllFit parcel.draft.order 0 (data_of parcel.values)
 
 -- what stands where a message is asked for
 record Stood (values : Option (List Datum)) (unsupported : Bool) (fds : List ℕ) (parcel : Parcel) : Type 0 where
@@ -64,6 +67,11 @@ are_refused (fd ∷ fds) takes = not takes
 pub record CanGo (setting : Setting) (parcel : Parcel) : Type 0 where
   pub written : AreWritable parcel
   pub taken : are_refused parcel.fds setting.takes_fds ≡ false
+  pub few : length parcel.fds < 2 ^ 32
+
+few_fds : (asks_one : Bool) → length (fds_of asks_one) < 2 ^ 32
+few_fds true = omega arith
+few_fds false = omega arith
 
 fds_taken : (asks_one takes : Bool) → (asks_one && not takes) ≡ false → are_refused (fds_of asks_one) takes ≡ false
 fds_taken true takes e = e
@@ -74,6 +82,7 @@ can_go : (setting : Setting) (word : Option (List ℕ)) (asks_one unsupported : 
 can_go setting word asks_one unsupported parcel s f = record {
   written = (values_shallow word parcel.values s.there, values_fit parcel.draft.order word parcel.values s.there);
   taken = ap (λ fds. are_refused fds setting.takes_fds) s.same ∙ fds_taken asks_one setting.takes_fds (f s.supported);
+  few = subst (λ (fds : List ℕ). length fds < 2 ^ 32) (sym s.same) (few_fds asks_one);
 }
 
 member_goes : (setting : Setting) (out : Outgoing) (draft : Draft) (parcel : Parcel) → member_asked setting out draft ≡ Ok parcel → CanGo setting parcel

@@ -8,7 +8,7 @@ use Rattle.peer_route.specs.declared.words.Words.TheVariants as words
 use Rattle.peer_route.specs.declared.answer.Answer.{Answer}
 use Rattle.peer_route.specs.declared.answer.Answer.TheVariants as answers
 use Rattle.peer_route.specs.declared.answer.Entry.{Entry}
-use Rattle.peer_route.specs.History.{Event, Took, Shut, Put, Wrote, Fault, Spent, Made, Did, Main, Deed, Gave, Told, Gone, Asked, by_position, edit}
+use Rattle.peer_route.specs.History.{Event, Took, Shut, Put, Wrote, Fault, Spent, Made, Did, Main, Named, Deed, Gave, Told, Gone, Asked, by_position, edit}
 use Rattle.peer_route.specs.Streams.{Stream, streams, new_stream, done_by, is_there, is_open, gave_last, take_at, take_answer}
 use Rattle.peer_route.specs.Parcel.{Setting}
 use Rattle.peer_route.specs.CallMessage.{reply_asked, error_asked}
@@ -54,6 +54,7 @@ closed_event (Spent call) h k g = g
 closed_event (Made making) h k g = closed_append (streams h) (new_stream h (streams h) making ∷ []) k g
 closed_event (Did j deed) h k g = closed_edit deed j k (streams h) g
 closed_event (Main limit) h k g = g
+closed_event (Named name) h k g = g
 
 closed_events : (es h : List Event) (k : ℕ) → closed_at (streams h) k ≡ true → closed_at (streams (es ++ h)) k ≡ true
 closed_events [] h k g = g

@@ -15,12 +15,12 @@ use Rattle.peer_route.specs.declared.polled.Polled.{Polled}
 use Rattle.peer_route.specs.declared.polled.Polled.TheVariants as polled
 use Rattle.peer_route.specs.declared.calls.Slot.{Slot}
 use Rattle.peer_route.specs.declared.calls.Slot.TheVariants as slots
-use Rattle.peer_route.specs.History.{Event, Took, Shut, Wrote, Fault, Spent, Made, Making, Plain, Ruled, Cloned, Did, Main, Deed, Gave, Told, Gone, Asked, Call, edit, read, closing, worse, shuts, done, is_reply, is_serial, calls, found, bears, is_gone, first_of, pending, waits_with, poll_answer, poll_events, polled_at, polled_by, drop_answer, drop_events, dropped_at}
+use Rattle.peer_route.specs.History.{Event, Took, Shut, Wrote, Fault, Spent, Made, Making, Plain, Ruled, Cloned, Did, Main, Named, Deed, Gave, Told, Gone, Asked, Call, edit, read, closing, worse, shuts, done, is_reply, is_serial, calls, found, bears, is_gone, first_of, first_name, pending, waits_with, poll_answer, poll_events, polled_at, polled_by, drop_answer, drop_events, dropped_at}
 use Rattle.peer_route.specs.Streams.{busy, main, is_open, is_over as nothing_comes, take_answer, take_events}
 use Rattle.peer_route.specs.Left.{Held, empty_held, with_stream, wants_of, asked_for, main_asked, is_over, after_take, kept_at, held_gives, ended_by, LeftStreams, is_busy, is_empty_slot, slot_of, slot_by, is_waiting, AreDistinct, CallsView, waiting_serial, is_number, LeftCalls, View, Left}
 use Rattle.peer_route.proofs.Plain.{list_any-map, list_any-along, position-None}
 use Rattle.peer_route.proofs.CallsMade.{calls_early, places, places_rise, places-edit, places-fail}
-use Rattle.peer_route.proofs.StreamsMade.{streams_shut, streams_wrote, streams_fault, streams_spent, streams_main, streams_made, streams_cloned, streams_ended, streams_taken, taken_gives, ended_left, open_left, over_any}
+use Rattle.peer_route.proofs.StreamsMade.{streams_shut, streams_wrote, streams_fault, streams_spent, streams_main, streams_named, streams_made, streams_cloned, streams_ended, streams_taken, taken_gives, ended_left, open_left, over_any}
 use Rattle.peer_route.proofs.RuledStreams.{streams_ruled, streams_asked, main_left}
 use Rattle.peer_route.proofs.Slots.{arrived, slots_took, arrived_nowhere, arrived_past, arrived_first, arrived_distinct, gone_distinct, slots_spent, slots_kept, slots_lost, waits-slot}
 
@@ -162,6 +162,7 @@ left_wrote v h left = record {
   places = left.places;
   done = ap (λ n. n + 1) left.done;
   writer = left.writer;
+  name = left.name;
 }
 
 -- the write of a call failed
@@ -200,6 +201,7 @@ left_fault v cv h left after = record {
   places = left.places ∙ sym (places-fail (done h) (calls h));
   done = ap (λ n. n + 1) left.done;
   writer = ap (λ w. worse w writers.Failed) left.writer;
+  name = left.name;
 }
 
 left_spent : (v : View) (cv : CallsView) (k : ℕ) (h : List Event) → Left v h → LeftCalls cv (Spent k ∷ h) → Left (record v { calls = cv }) (Spent k ∷ h)
@@ -213,6 +215,7 @@ left_spent v cv k h left after = record {
   places = left.places ∙ sym (places-edit k (calls h));
   done = left.done;
   writer = left.writer;
+  name = left.name;
 }
 
 left_same : (v : View) (cv : CallsView) (h : List Event) → Left v h → LeftCalls cv h → Left (record v { calls = cv }) h
@@ -226,6 +229,7 @@ left_same v cv h left after = record {
   places = left.places;
   done = left.done;
   writer = left.writer;
+  name = left.name;
 }
 
 pub left_polled : (v : View) (cv : CallsView) (k : ℕ) (r : Result (Polled Seen) Error) (h : List Event) → Left v h
@@ -251,6 +255,7 @@ left_took v cv sv m h left after streams_after = record {
   places = left.places;
   done = left.done;
   writer = left.writer;
+  name = left.name;
 }
 
 pub left_shut : (v : View) (cv : CallsView) (error : Error) (h : List Event) → Left v h → LeftCalls cv (Shut error ∷ h) → Left (record v { calls = cv; writer = worse v.writer (shuts error) }) (Shut error ∷ h)
@@ -264,6 +269,7 @@ left_shut v cv error h left after = record {
   places = left.places;
   done = left.done;
   writer = ap (λ w. worse w (shuts error)) left.writer;
+  name = left.name;
 }
 
 calls_made : (making : Making) (v : CallsView) (h : List Event) → LeftCalls v h → LeftCalls v (Made making ∷ h)
@@ -289,6 +295,7 @@ left_made_so v sv making h left after = record {
   places = left.places;
   done = left.done;
   writer = left.writer;
+  name = left.name;
 }
 
 pub left_made : (v : View) (told : Bool) (h : List Event) → told ≡ is_some v.calls.closing → Left v h
@@ -317,6 +324,26 @@ left_main v limit h left = record {
   places = left.places;
   done = left.done;
   writer = left.writer;
+  name = left.name;
+}
+
+-- the peer gets its name
+calls_named : (name : List ℕ) (v : CallsView) (h : List Event) → LeftCalls v h → LeftCalls v (Named name ∷ h)
+unfolding slot_of found
+calls_named name v h left = record { slots = left.slots; closing = left.closing; distinct = left.distinct }
+
+pub left_named : (v : View) (name : List ℕ) (h : List Event) → v.name ≡ None → Left v h → Left (record v { name = Some name }) (Named name ∷ h)
+left_named v name h none left = record {
+  calls = calls_named name v.calls h left.calls;
+  streams = streams_named name v.streams h left.streams;
+  main = left.main;
+  read = left.read;
+  last = left.last;
+  outbox = left.outbox;
+  places = left.places;
+  done = left.done;
+  writer = left.writer;
+  name = ap (λ o. first_name o name) (sym none ∙ left.name);
 }
 
 -- a stream did something
@@ -332,6 +359,7 @@ left_did v sv limit k deed h left after capacity = record {
   places = left.places;
   done = left.done;
   writer = left.writer;
+  name = left.name;
 }
 
 left_idle : (v : View) (sv : List (Option Held)) (h : List Event) → Left v h → LeftStreams sv h → Left (record v { streams = sv }) h
@@ -345,6 +373,7 @@ left_idle v sv h left after = record {
   places = left.places;
   done = left.done;
   writer = left.writer;
+  name = left.name;
 }
 
 left_gave : (v : View) (sv : List (Option Held)) (k : ℕ) (r : Result (Polled Seen) Error) (h : List Event) → Left v h

@@ -12,7 +12,7 @@ use Rattle.peer_route.specs.declared.words.Words.{Words}
 use Rattle.peer_route.specs.declared.words.Words.TheVariants as words
 use Rattle.peer_route.specs.declared.answer.Answer.{Answer}
 use Rattle.peer_route.specs.declared.answer.Answer.TheVariants as answers
-use Rattle.peer_route.specs.History.{Event, Took, Shut, Put, Wrote, Fault, Spent, Made, Did, Main, Deed, Gave, Told, Gone, Asked, edit, closing, writer}
+use Rattle.peer_route.specs.History.{Event, Took, Shut, Put, Wrote, Fault, Spent, Made, Did, Main, Named, Deed, Gave, Told, Gone, Asked, edit, closing, writer}
 use Rattle.peer_route.specs.Streams.{Stream, streams, new_stream, done_by}
 use Rattle.peer_route.specs.Parcel as parcels
 use Rattle.peer_route.specs.Trail.{Trail, place, failed_put, send_events, read_events, poll_spends, drop_spends, stream_makes, take_does, clone_makes, gone_at, unstream_does, queue_does, main_sets, second_place, events_of, open_makes, close_does}
@@ -33,6 +33,7 @@ Only p (Fault ∷ xs) = Only p xs
 Only p (Spent call ∷ xs) = Only p xs
 Only p (Made making ∷ xs) = Only p xs
 Only p (Main limit ∷ xs) = Only p xs
+Only p (Named name ∷ xs) = Only p xs
 
 only_failed : (p : ℕ → Deed → Type 0) (w : Writer) (m : Seen) (expects : Bool) → Only p (failed_put w (Put m expects))
 only_failed p writers.Fine m expects = tt
@@ -164,3 +165,4 @@ stays (Wrote ∷ xs) h k s only at = stays xs h k s only at
 stays (Fault ∷ xs) h k s only at = stays xs h k s only at
 stays (Spent call ∷ xs) h k s only at = stays xs h k s only at
 stays (Main limit ∷ xs) h k s only at = stays xs h k s only at
+stays (Named name ∷ xs) h k s only at = stays xs h k s only at

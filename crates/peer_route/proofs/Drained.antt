@@ -15,7 +15,7 @@ use Rattle.peer_route.specs.declared.words.Words.TheVariants as words
 use Rattle.peer_route.specs.declared.answer.Answer.{Answer}
 use Rattle.peer_route.specs.declared.answer.Answer.TheVariants as answers
 use Rattle.peer_route.specs.declared.answer.Entry.{Entry}
-use Rattle.peer_route.specs.History.{Event, Took, Shut, Put, Wrote, Fault, Spent, Made, Did, Main, Told, read, closing, first_of, by_position}
+use Rattle.peer_route.specs.History.{Event, Took, Shut, Put, Wrote, Fault, Spent, Made, Did, Main, Named, Told, read, closing, first_of, by_position}
 use Rattle.peer_route.specs.Streams.{Stream, streams, plain_stream, tell, matched, offered, held, limit_of, busy, is_full, take_by, take_at, take_answer}
 use Rattle.peer_route.specs.Parcel.{Setting}
 use Rattle.peer_route.specs.Trail.{Trail, place, count, trail, more, read_events, take_does, second_place, events_of, new_streams}
@@ -54,6 +54,7 @@ closing_stays (Spent call ∷ xs) h error e = closing_stays xs h error e
 closing_stays (Made making ∷ xs) h error e = closing_stays xs h error e
 closing_stays (Did j deed ∷ xs) h error e = closing_stays xs h error e
 closing_stays (Main limit ∷ xs) h error e = closing_stays xs h error e
+closing_stays (Named name ∷ xs) h error e = closing_stays xs h error e
 
 -- a closed peer reads nothing more
 reads_none : (t : Trail) (lane : ℕ) (w : Words) (a : Answer) (error : Error) → closing t.events ≡ Some error

@@ -1,11 +1,11 @@
 -- The map from each serial that is waited for to the place of its slot.
-use Rattle.std.proofs.Common.{inl, inr, ◌⊎◌, ◌≡◌, ℕ, ◌<◌, ◌≤◌, ◌==◌, ◌||◌, zero, suc, refl, sym, ◌∙◌, ap, subst, Bool, true, false, ◌&&◌, is_none, is_some, List, [], ◌∷◌, ◌++◌, length, get_or, set, Option, Some, None, IsSome}
+use Rattle.std.proofs.Common.{inl, inr, ◌⊎◌, ◌≡◌, ℕ, ◌+◌, ◌<◌, ◌≤◌, ◌==◌, ◌||◌, zero, suc, refl, sym, ◌∙◌, ap, subst, Bool, true, false, ◌&&◌, is_none, is_some, List, [], ◌∷◌, ◌++◌, length, get_or, set, take, arith, Option, Some, None, IsSome}
 use Rattle.std.specs.List.{list_any}
 use Rattle.std.specs.Ordering.{nat_cmp, eq_by_cmp}
 use Rattle.std.specs.Cmp.{unsigned_tied}
 use Rattle.std.specs.BTreeMap.{BTreeMap, get, UpdatesBy}
 use Rattle.std.proofs.lemmas.Bool.{cases_eq, cases_lt, and_right, true≢false, false≢true, both_ways, eqb-true, eq-eqb, ne_eqb}
-use Rattle.std.proofs.lemmas.List.{get_or_default, get_or_past, get_or_append_left, get_or_push, get_or-set_same, get_or-set_other}
+use Rattle.std.proofs.lemmas.List.{take_all, length-set, take_more_set, take-set, take-take, get_or_default, get_or_past, get_or_append_left, get_or_push, get_or-set_same, get_or-set_other}
 use Rattle.std.proofs.lemmas.Option.{none-some}
 use Rattle.peer_route.specs.declared.calls.Slot.{Slot}
 use Rattle.peer_route.specs.declared.calls.Slot.TheVariants as slots
@@ -219,3 +219,28 @@ pub answers_shut : (ss : List Slot) (error : Option Error) (v : CallsView) (mess
 unfolding answers_call
 answers_shut ss None v message e is_shut = absurd (false≢true is_shut)
 answers_shut ss (Some error) v message e is_shut = ap (λ (w : CallsView). is_none w.closing && list_any (takes message) w.slots) e
+
+-- ---- the last slot is taken back
+
+at_gone : (ss : List Slot) (k : ℕ) → at (ss ++ slots.Gone ∷ []) k ≡ at ss k
+at_gone [] zero = refl
+at_gone [] (suc k) = refl
+at_gone (s ∷ ss) zero = refl
+at_gone (s ∷ ss) (suc k) = at_gone ss k
+
+index_less : (m : BTreeMap ℕ ℕ) (ss : List Slot) → IsIndex m (ss ++ slots.Gone ∷ []) → IsIndex m ss
+index_less m ss i = record {
+  there = λ serial place e. ap (is_waiting serial) (sym (at_gone ss place)) ∙ i.there serial place e;
+  whole = λ serial place w. i.whole serial place (ap (is_waiting serial) (at_gone ss place) ∙ w);
+  circle = i.circle;
+}
+
+-- The last slot is emptied and taken away.
+pub taken_back : (m n : BTreeMap ℕ ℕ) (ss now popped : List Slot) (count last : ℕ) → last + 1 ≡ length ss → count ≤ last → now ≡ set ss last slots.Gone → popped ≡ take last now
+    → (IsIndex m ss → IsIndex n now) → (take count popped ≡ take count ss) × (IsIndex m ss → IsIndex n popped)
+taken_back m n ss now popped count last e le is_now is_popped i =
+    let same : popped ≡ take last ss = is_popped ∙ ap (take last) is_now ∙ take-set ss last slots.Gone in
+    let whole : now ≡ popped ++ slots.Gone ∷ [] =
+    is_now ∙ sym (take_all (last + 1) (set ss last slots.Gone) (omega (arith, e, length-set ss last slots.Gone)))
+    ∙ take_more_set ss last slots.Gone (omega (arith, e)) ∙ ap (λ xs. xs ++ slots.Gone ∷ []) (sym same) in
+    (ap (take count) same ∙ take-take count last ss le, λ j. index_less n popped (subst (IsIndex n) whole (i j)))

@@ -14,7 +14,11 @@ pub mod Asked
 pub mod Core
 pub mod OpenStreams
 pub mod NextSerial
-pub mod Issuing
+pub mod Issues
+pub mod Drawn
+pub mod Built
+pub mod Placed
+pub mod Naming
 pub mod Steps
 pub mod ByPosition
 pub mod Once

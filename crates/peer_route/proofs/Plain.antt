@@ -1,6 +1,9 @@
 -- Plain facts about lists: the first place that passes a test, one element changed, numbers that rise.
 use Rattle.std.proofs.Common.{inl, inr, get_or, ◌≡◌, ℕ, ◌+◌, ◌<◌, ◌≤◌, zero, suc, refl, sym, ◌∙◌, ap, arith, Bool, true, false, not, ◌||◌, cond, ltb, is_some, List, [], ◌∷◌, ◌++◌, length, map, Some, None}
 use Rattle.std.specs.List.{list_any, position, position_or_len}
+use Rattle.std.specs.Iterator.{Yields}
+use Rattle.std.specs.Vec.Iter.{into_iter_items, into_iter_steps}
+use Rattle.std.specs.declared.vec.IntoIter.{IntoIter}
 use Rattle.std.proofs.lemmas.Bool.{cases_lt, lt-ltb, le-ltb}
 
 -- a test of the images is a test of the elements
@@ -73,3 +76,8 @@ pub After-at : (n : ℕ) (xs : List ℕ) (k : ℕ) → k < length xs → After n
 After-at n [] k lt a = absurd (omega arith)
 After-at n (x ∷ xs) zero lt a = a.0
 After-at n (x ∷ xs) (suc k) lt a = After-at n xs k (omega arith) a.1
+
+-- what the iterator of a vector gave, and what it has left, are the vector's
+pub taken_front : {X A : Type 0} (s : IntoIter X A) (xs : List X) (t : IntoIter X A) → Yields into_iter_steps s xs t → into_iter_items s ≡ xs ++ into_iter_items t
+taken_front s [] t y = ap into_iter_items y
+taken_front s (x ∷ xs) t y = y.1.0 ∙ ap (λ ys. x ∷ ys) (taken_front y.0 xs t y.2)

@@ -135,12 +135,14 @@ ranked_entry t lane (words.Queue number limit) a is r = subst (Ranked 0) (sym (q
 ranked_entry t lane (words.MainQueue limit) a is r = subst (Ranked 0) (sym (main_read t.events limit a)) r
 ranked_entry t lane words.Close a is r = subst (Ranked 0) (sym (close_read t.events a)) r
 
-ranked_first : (queue : Option ℕ) → Ranked 0 (read (first_events queue))
-ranked_first None = tt
-ranked_first (Some limit) = tt
+ranked_first : (name : Option (List ℕ)) (queue : Option ℕ) → Ranked 0 (read (first_events name queue))
+ranked_first None None = tt
+ranked_first None (Some limit) = tt
+ranked_first (Some name) None = tt
+ranked_first (Some name) (Some limit) = tt
 
 ranked : (setting : Setting) (es : List Entry) → Legal setting es → Ranked 0 (read (trail setting es).events)
-ranked setting [] legal = ranked_first setting.queue
+ranked setting [] legal = ranked_first setting.name setting.queue
 ranked setting (e ∷ es) legal = ranked_entry (trail setting es) e.lane e.words e.answer legal.0 (ranked setting es legal.1)
 
 -- ---- what a search finds

@@ -15,7 +15,7 @@ use Rattle.peer_route.specs.Parcel.{Setting, Parcel, Asked, message_of}
 use Rattle.peer_route.specs.Trail.{Trail, place, asks, trail, send_events, read_events, poll_spends, drop_spends, stream_makes, open_makes, take_does, clone_makes, gone_at, unstream_does, queue_does, main_sets, close_does, second_place, events_of, first_events, next_serial, or_zero}
 use Rattle.rule_match.specs.Rule.{Rule}
 use Rattle.rule_match.specs.Bytes.{rule_in_bytes}
-use Rattle.peer_route.specs.Answers.{IsAnswer, IsClose, IsCalled, IsSendOf, Legal, sent_answer, write_fault}
+use Rattle.peer_route.specs.Answers.{IsAnswer, IsClose, IsCalled, IsSendOf, Legal, sent_answer}
 use Rattle.peer_route.specs.StreamLaws.{sent_of, sent_by, all_sent, IsPutOf}
 
 -- what events that send nothing leave
@@ -143,12 +143,14 @@ pub trail_setting : (setting : Setting) (es : List Entry) → (trail setting es)
 trail_setting setting [] = refl
 trail_setting setting (e ∷ es) = trail_setting setting es
 
-sent_first : (queue : Option ℕ) → IsPutOf (is_failed (first_events queue)) (put (first_events queue)) []
-sent_first None = refl
-sent_first (Some limit) = refl
+sent_first : (name : Option (List ℕ)) (queue : Option ℕ) → IsPutOf (is_failed (first_events name queue)) (put (first_events name queue)) []
+sent_first None None = refl
+sent_first None (Some limit) = refl
+sent_first (Some name) None = refl
+sent_first (Some name) (Some limit) = refl
 
 pub put_sent : (setting : Setting) (es : List Entry) → Legal setting es → IsPutOf (is_failed (trail setting es).events) (put (trail setting es).events) (all_sent setting es)
-put_sent setting [] legal = sent_first setting.queue
+put_sent setting [] legal = sent_first setting.name setting.queue
 put_sent setting (e ∷ es) legal = sent_step (trail setting es) e.lane e.words e.answer (all_sent setting es) legal.0 (put_sent setting es legal.1)
 
 -- ---- after closing

@@ -220,10 +220,12 @@ lanes_step t lane (words.Queue n limit) a is e =
 lanes_step t lane (words.MainQueue limit) a is e = lane_none t lane (words.MainQueue limit) a (main_makes limit a) (ap (new_streams lane) is) e
 lanes_step t lane words.Close a is e = lane_none t lane words.Close a (close_makes a) (close_streams lane a is) e
 
-lanes_first : (queue : Option ℕ) → 0 ≡ length (streams (first_events queue))
-lanes_first None = refl
-lanes_first (Some limit) = refl
+lanes_first : (name : Option (List ℕ)) (queue : Option ℕ) → 0 ≡ length (streams (first_events name queue))
+lanes_first None None = refl
+lanes_first None (Some limit) = refl
+lanes_first (Some name) None = refl
+lanes_first (Some name) (Some limit) = refl
 
 pub lanes : (setting : Setting) (es : List Entry) → Legal setting es → length (trail setting es).streams ≡ length (streams (trail setting es).events)
-lanes setting [] legal = lanes_first setting.queue
+lanes setting [] legal = lanes_first setting.name setting.queue
 lanes setting (e ∷ es) legal = lanes_step (trail setting es) e.lane e.words e.answer legal.0 (lanes setting es legal.1)

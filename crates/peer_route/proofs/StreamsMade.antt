@@ -9,7 +9,7 @@ use Rattle.std.proofs.lemmas.Bool.{ne_eqb}
 use Rattle.wire_message.specs.Front.{Seen}
 use Rattle.wire_message.specs.declared.error.Error.{Error}
 use Rattle.wire_message.specs.declared.error.Error.TheVariants as errors
-use Rattle.peer_route.specs.History.{Event, Took, Shut, Put, Wrote, Fault, Spent, Made, Did, Main, Plain, Cloned, Gave, Told, Gone, read, closing, edit}
+use Rattle.peer_route.specs.History.{Event, Took, Shut, Put, Wrote, Fault, Spent, Made, Did, Main, Named, Plain, Cloned, Gave, Told, Gone, read, closing, edit}
 use Rattle.rule_match.specs.Rule.{Rule}
 use Rattle.rule_match.specs.Accepting.{accepts}
 use Rattle.peer_route.specs.declared.queue.Subscription.{Subscription}
@@ -44,6 +44,10 @@ streams_spent k v h left = record { queues = left.queues; within = all_within_sa
 pub streams_main : (limit : ℕ) (v : List (Option Held)) (h : List Event) → LeftStreams v h → LeftStreams v (Main limit ∷ h)
 unfolding held_of held offered matched
 streams_main limit v h left = record { queues = left.queues; within = all_within_same (Main limit ∷ h) h (streams h) refl left.within }
+
+pub streams_named : (name : List ℕ) (v : List (Option Held)) (h : List Event) → LeftStreams v h → LeftStreams v (Named name ∷ h)
+unfolding held_of held offered matched
+streams_named name v h left = record { queues = left.queues; within = all_within_same (Named name ∷ h) h (streams h) refl left.within }
 
 -- ---- a message comes
 

@@ -7,7 +7,7 @@ use Rattle.peer_route.specs.declared.words.Words.{Words}
 use Rattle.peer_route.specs.declared.words.Words.TheVariants as words
 use Rattle.peer_route.specs.declared.answer.Answer.{Answer}
 use Rattle.peer_route.specs.declared.answer.Entry.{Entry}
-use Rattle.peer_route.specs.History.{Event, Took, Shut, Put, Wrote, Fault, Spent, Made, Did, Main, Making, Plain, Ruled, Cloned, Deed, Gave, Told, Gone, Asked, edit, closing}
+use Rattle.peer_route.specs.History.{Event, Took, Shut, Put, Wrote, Fault, Spent, Made, Did, Main, Named, Making, Plain, Ruled, Cloned, Deed, Gave, Told, Gone, Asked, edit, closing}
 use Rattle.peer_route.specs.Streams.{Stream, streams, clone_of, new_stream, give, done_by, matched, held}
 use Rattle.peer_route.specs.Left.{IsWithin}
 use Rattle.peer_route.specs.Parcel.{Setting}
@@ -70,6 +70,7 @@ within_events (Wrote ∷ xs) h only w = all_within_same (Wrote ∷ xs ++ h) (xs 
 within_events (Fault ∷ xs) h only w = all_within_same (Fault ∷ xs ++ h) (xs ++ h) (streams (xs ++ h)) refl (within_events xs h only w)
 within_events (Spent call ∷ xs) h only w = all_within_same (Spent call ∷ xs ++ h) (xs ++ h) (streams (xs ++ h)) refl (within_events xs h only w)
 within_events (Main limit ∷ xs) h only w = all_within_same (Main limit ∷ xs ++ h) (xs ++ h) (streams (xs ++ h)) refl (within_events xs h only w)
+within_events (Named name ∷ xs) h only w = all_within_same (Named name ∷ xs ++ h) (xs ++ h) (streams (xs ++ h)) refl (within_events xs h only w)
 
 -- ---- an item
 
@@ -105,10 +106,12 @@ within_entry t lane (words.TakeBefore n before) a is all =
     within_take t.events (place 0 lane n t.streams) a (take_entry t lane (words.TakeBefore n before) a n is (eq-eqb n n refl)) all
 within_entry t lane w a is all = within_events (events_of t lane w a) t.events (only_entry GivesNone t lane w a (λ j. tt) (λ j n. tt) (λ n e. cc)) all
 
-within_first : (queue : Option ℕ) → AllWithin (first_events queue)
-within_first None = tt
-within_first (Some limit) = tt
+within_first : (name : Option (List ℕ)) (queue : Option ℕ) → AllWithin (first_events name queue)
+within_first None None = tt
+within_first None (Some limit) = tt
+within_first (Some name) None = tt
+within_first (Some name) (Some limit) = tt
 
 pub all_within : (setting : Setting) (es : List Entry) → Legal setting es → AllWithin (trail setting es).events
-all_within setting [] legal = within_first setting.queue
+all_within setting [] legal = within_first setting.name setting.queue
 all_within setting (e ∷ es) legal = within_entry (trail setting es) e.lane e.words e.answer legal.0 (all_within setting es legal.1)

@@ -6,7 +6,7 @@ use Rattle.wire_message.specs.declared.error.IoKind.{IoKind}
 use Rattle.wire_message.specs.declared.error.IoKind.TheVariants as kinds
 use Rattle.peer_route.specs.declared.writer.Writer.{Writer}
 use Rattle.peer_route.specs.declared.writer.Writer.TheVariants as writers
-use Rattle.peer_route.specs.History.{Event, Took, Shut, Put, Wrote, Fault, Spent, Made, Did, Main, is_failed, worse, shuts_by, shuts, writer}
+use Rattle.peer_route.specs.History.{Event, Took, Shut, Put, Wrote, Fault, Spent, Made, Did, Main, Named, is_failed, worse, shuts_by, shuts, writer}
 
 worse_fine : (w cause : Writer) → worse w cause ≡ writers.Fine → (w ≡ writers.Fine) × (cause ≡ writers.Fine)
 worse_fine writers.Fine cause e = (refl, e)
@@ -25,6 +25,7 @@ fine_unfailed (Spent call ∷ h) e = fine_unfailed h e
 fine_unfailed (Made making ∷ h) e = fine_unfailed h e
 fine_unfailed (Did j deed ∷ h) e = fine_unfailed h e
 fine_unfailed (Main limit ∷ h) e = fine_unfailed h e
+fine_unfailed (Named name ∷ h) e = fine_unfailed h e
 
 pub worse_stays : (w cause : Writer) → w ≢ writers.Fine → worse w cause ≡ w
 worse_stays writers.Fine cause ne = absurd (ne refl)
@@ -43,6 +44,7 @@ writer_stays (Spent call ∷ xs) h ne = writer_stays xs h ne
 writer_stays (Made making ∷ xs) h ne = writer_stays xs h ne
 writer_stays (Did j deed ∷ xs) h ne = writer_stays xs h ne
 writer_stays (Main limit ∷ xs) h ne = writer_stays xs h ne
+writer_stays (Named name ∷ xs) h ne = writer_stays xs h ne
 
 -- closing a peer closes its writer, or finds it over before
 pub shut_writer : (w : Writer) → worse w writers.Closed ≢ writers.Fine
@@ -92,3 +94,4 @@ failed_so (Spent call ∷ h) e = failed_so h e
 failed_so (Made making ∷ h) e = failed_so h e
 failed_so (Did j deed ∷ h) e = failed_so h e
 failed_so (Main limit ∷ h) e = failed_so h e
+failed_so (Named name ∷ h) e = failed_so h e

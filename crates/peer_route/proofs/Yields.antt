@@ -15,7 +15,7 @@ use Rattle.peer_route.specs.declared.words.Words.TheVariants as words
 use Rattle.peer_route.specs.declared.answer.Answer.{Answer}
 use Rattle.peer_route.specs.declared.answer.Answer.TheVariants as answers
 use Rattle.peer_route.specs.declared.answer.Entry.{Entry}
-use Rattle.peer_route.specs.History.{Event, Took, Shut, Put, Wrote, Fault, Spent, Made, Did, Main, Making, Plain, Ruled, Cloned, Gave, read, closing}
+use Rattle.peer_route.specs.History.{Event, Took, Shut, Put, Wrote, Fault, Spent, Made, Did, Main, Named, Making, Plain, Ruled, Cloned, Gave, read, closing}
 use Rattle.peer_route.specs.Streams.{Stream, streams, fresh, plain_stream, rule_stream, clone_of, new_stream, give, is_there, is_open, accepted, matched, offered, held, rule_of}
 use Rattle.peer_route.specs.Left.{IsWithin}
 use Rattle.peer_route.specs.Parcel.{Setting}
@@ -76,6 +76,7 @@ flows_events (Spent call ∷ xs) h s n begun given f = flows_events xs h s n beg
 flows_events (Made making ∷ xs) h s n begun given f = flows_events xs h s n begun given f
 flows_events (Did j deed ∷ xs) h s n begun given f = flows_events xs h s n begun given f
 flows_events (Main limit ∷ xs) h s n begun given f = flows_events xs h s n begun given f
+flows_events (Named name ∷ xs) h s n begun given f = flows_events xs h s n begun given f
 
 -- an item
 flows_item : (all own : List Seen) (from skip taken n : ℕ) (rule : Option Rule) (begun : List Seen) (given : List ℕ) (m : Seen) (ms : List Seen) → drop taken (drop skip own) ≡ m ∷ ms

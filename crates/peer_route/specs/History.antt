@@ -40,6 +40,7 @@ pub data Event : Type 0 where
   Made : (making : Making) → Event  -- a stream was made
   Did : (stream : ℕ) (deed : Deed) → Event  -- the stream with this number did it
   Main : (limit : ℕ) → Event  -- the main capacity was set
+  Named : (name : List ℕ) → Event  -- the peer was given its unique name
 
 -- ---- reads and closing
 
@@ -55,6 +56,7 @@ read (Spent call ∷ h) = read h
 read (Made making ∷ h) = read h
 read (Did stream deed ∷ h) = read h
 read (Main limit ∷ h) = read h
+read (Named name ∷ h) = read h
 
 abbrev pub first_of : Option Error → Error → Option Error
 first_of None error = Some error
@@ -72,6 +74,7 @@ closing (Spent call ∷ h) = closing h
 closing (Made making ∷ h) = closing h
 closing (Did stream deed ∷ h) = closing h
 closing (Main limit ∷ h) = closing h
+closing (Named name ∷ h) = closing h
 
 -- ---- the outbox
 
@@ -87,6 +90,7 @@ put (Spent call ∷ h) = put h
 put (Made making ∷ h) = put h
 put (Did stream deed ∷ h) = put h
 put (Main limit ∷ h) = put h
+put (Named name ∷ h) = put h
 
 -- how many of them were written or failed
 abbrev pub done : List Event → ℕ
@@ -100,6 +104,7 @@ done (Spent call ∷ h) = done h
 done (Made making ∷ h) = done h
 done (Did stream deed ∷ h) = done h
 done (Main limit ∷ h) = done h
+done (Named name ∷ h) = done h
 
 -- a write failed
 abbrev pub is_failed : List Event → Bool
@@ -113,6 +118,7 @@ is_failed (Spent call ∷ h) = is_failed h
 is_failed (Made making ∷ h) = is_failed h
 is_failed (Did stream deed ∷ h) = is_failed h
 is_failed (Main limit ∷ h) = is_failed h
+is_failed (Named name ∷ h) = is_failed h
 
 -- the earlier cause stays
 abbrev pub worse : Writer → Writer → Writer
@@ -144,6 +150,7 @@ writer (Spent call ∷ h) = writer h
 writer (Made making ∷ h) = writer h
 writer (Did stream deed ∷ h) = writer h
 writer (Main limit ∷ h) = writer h
+writer (Named name ∷ h) = writer h
 
 -- the last serial that was drawn, 0 before the first
 abbrev pub last_serial : List Event → ℕ
@@ -157,6 +164,27 @@ last_serial (Spent call ∷ h) = last_serial h
 last_serial (Made making ∷ h) = last_serial h
 last_serial (Did stream deed ∷ h) = last_serial h
 last_serial (Main limit ∷ h) = last_serial h
+last_serial (Named name ∷ h) = last_serial h
+
+-- ---- the peer's own name
+
+abbrev pub first_name : Option (List ℕ) → List ℕ → Option (List ℕ)
+first_name None name = Some name
+first_name (Some earlier) name = Some earlier
+
+-- the unique name that the peer was given, the first; none before (D-Bus Specification, "Bus names")
+abbrev pub unique_name : List Event → Option (List ℕ)
+unique_name [] = None
+unique_name (Named name ∷ h) = first_name (unique_name h) name
+unique_name (Took m ∷ h) = unique_name h
+unique_name (Shut error ∷ h) = unique_name h
+unique_name (Put m expects ∷ h) = unique_name h
+unique_name (Wrote ∷ h) = unique_name h
+unique_name (Fault ∷ h) = unique_name h
+unique_name (Spent call ∷ h) = unique_name h
+unique_name (Made making ∷ h) = unique_name h
+unique_name (Did stream deed ∷ h) = unique_name h
+unique_name (Main limit ∷ h) = unique_name h
 
 -- ---- calls
 
@@ -196,6 +224,7 @@ calls (Wrote ∷ h) = calls h
 calls (Made making ∷ h) = calls h
 calls (Did stream deed ∷ h) = calls h
 calls (Main limit ∷ h) = calls h
+calls (Named name ∷ h) = calls h
 
 -- a method return or an error
 abbrev pub is_reply : MessageType → Bool

@@ -1,32 +1,24 @@
 -- What a history leaves of a peer: all that the answers to come depend on.
-use Rattle.std.specs.Prelude.{ℕ, zero, suc, ⊤, ◌≡◌, ◌+◌, ◌<◌, ◌≤◌, ◌⊎◌, nat_lt, max, Bool, true, false, ◌&&◌, ◌==◌, if◌then◌else◌, is_none, List, [], ◌∷◌, ◌++◌, length, map, get_or, slice_get, option_map, Option, Some, None, IsSome, Result, Ok, Err}
+use Rattle.std.specs.Prelude.{ℕ, zero, suc, ⊤, ◌≡◌, ◌+◌, ◌≤◌, nat_lt, max, Bool, true, false, ◌&&◌, ◌==◌, if◌then◌else◌, is_none, List, [], ◌∷◌, ◌++◌, length, map, get_or, slice_get, option_map, Option, Some, None, IsSome, Result, Ok, Err}
 use Rattle.std.specs.List.{list_any, AllByRecursion}
 use Rattle.std.specs.Option.{option_flatten}
 use Rattle.std.specs.Ordering.{nat_cmp}
 use Rattle.std.specs.BTreeMap.{BTreeMap, get}
 use Rattle.wire_message.specs.Front.{Seen}
-use Rattle.wire_message.specs.Circle.{IsNext, AllTaken}
 use Rattle.wire_message.specs.declared.error.Error.{Error}
 use Rattle.wire_message.specs.declared.error.Error.TheVariants as errors
 use Rattle.wire_message.specs.declared.error.IoKind.TheVariants as kinds
 use Rattle.peer_route.specs.declared.calls.Slot.{Slot}
 use Rattle.peer_route.specs.declared.calls.Slot.TheVariants as slots
-use Rattle.peer_route.specs.declared.route.Issued.{Issued}
 use Rattle.peer_route.specs.declared.streams.MessageStream.{MessageStream}
 use Rattle.peer_route.specs.declared.queue.Subscription.{Subscription}
 use Rattle.peer_route.specs.declared.writer.Writer.{Writer}
-use Rattle.peer_route.specs.declared.writer.Writer.TheVariants as writers
 use Rattle.rule_match.specs.Rule.{Rule}
 use Rattle.rule_match.specs.Accepting.{accepts}
 use Rattle.peer_route.specs.Rules.{is_same, usual}
-use Rattle.wire_tree.specs.Datum.{data_of}
-use Rattle.wire_spelling.specs.Spelling.{AllFit, depths}
-use Rattle.wire_signature.specs.declared.error.VariantError.TheVariants as faults
-use Rattle.peer_route.specs.Parcel.{Parcel, message_of}
-use Rattle.peer_route.specs.CallMessage.{expects_reply, expects}
 use Rattle.peer_route.specs.Streams.{Stream, streams, matched, held, main, rule_limit, asked_or, raised, is_open, take_by, first_position}
 use Rattle.peer_route.specs.declared.polled.Polled.{Polled}
-use Rattle.peer_route.specs.History.{Event, Put, Made, Ruled, Cloned, Call, put, edit, last_serial, writer, found, bears, is_gone, pending}
+use Rattle.peer_route.specs.History.{Event, Made, Ruled, Cloned, Call, put, edit, last_serial, writer, unique_name, found, bears, is_gone}
 use Rattle.peer_route.specs.History as events
 
 -- what is kept of a call: that it is over, the serial that it waits for, or its reply
@@ -226,7 +218,7 @@ next_held None = None
 next_held (Some q) = first_position q.items
 
 -- What contracts see of a peer's core: what is kept of each stream that is open; how many messages one without a rule may hold
--- before reads wait; `places` has for each call the place of its message in the outbox.
+-- before reads wait; `places` has for each call the place of its message in the outbox; `name` is the peer's own.
 pub record View : Type 0 where
   pub calls : CallsView
   pub streams : List (Option Held)
@@ -237,6 +229,7 @@ pub record View : Type 0 where
   pub places : List ℕ
   pub done : ℕ
   pub writer : Writer
+  pub name : Option (List ℕ)
 
 -- The history leaves these calls: each with what was found for it, and the first closing error.
 pub record LeftCalls (v : CallsView) (h : List Event) : Type 0 where
@@ -269,73 +262,7 @@ pub record Left (v : View) (h : List Event) : Type 0 where
   pub places : v.places ≡ map (λ c. c.index) (events.calls h)
   pub done : v.done ≡ events.done h
   pub writer : v.writer ≡ writer h
-
--- the core with one more message in the outbox, and the call that waits for its reply, if it expects one
-abbrev pub placed : Bool → View → Seen → ℕ → View
-placed false v m last = record v { last = last; outbox = v.outbox ++ m ∷ [] }
-placed true v m last = record v {
-  calls = record { slots = v.calls.slots ++ slots.Waiting m.serial ∷ []; closing = v.calls.closing };
-  last = last;
-  outbox = v.outbox ++ m ∷ [];
-  places = v.places ++ length v.outbox ∷ [];
-}
-
--- the number of the call that a message makes, if it expects a reply
-abbrev pub call_number : Bool → ℕ → Option ℕ
-call_number true number = Some number
-call_number false number = None
-
--- What placing a message gives: its place, its serial and its call's number. Want of memory changes nothing.
-abbrev pub Places : View → View → Seen → ℕ → Result Issued Error → Type 0
-Places old new m last (Ok issued) =
-    (issued.index ≡ length old.outbox) × (issued.serial ≡ m.serial)
-    × (issued.call ≡ call_number (expects_reply m.kind m.flags) (length old.calls.slots)) × (new ≡ placed (expects_reply m.kind m.flags) old m last)
-Places old new m last (Err errors.Memory) = new ≡ old
-Places old new m last (Err error) = ⊥
-
--- each array of the values is within its limit in the message's order, and no value opens more than 64 containers at once
-abbrev pub AreWritable : Parcel → Type 0
-AreWritable parcel = (depths (data_of parcel.values) ≤ 64) × AllFit parcel.draft.order 0 (data_of parcel.values)
-
--- an array passes its limit, or else the message does
-abbrev pub IsTooLong : Parcel → ℕ → Type 0
-IsTooLong parcel serial =
-    (AllFit parcel.draft.order 0 (data_of parcel.values) → ⊥)
-    ⊎ (AllFit parcel.draft.order 0 (data_of parcel.values) × (134217728 < length (message_of parcel serial).bytes))
-
--- What issuing a message gives, by the history before it. Nothing changes but on Ok, when the message is put.
-abbrev pub Issues : View → View → Parcel → List Event → Result Issued Error → Type 0
-Issues old new parcel h (Ok issued) =
-    IsNext (pending h) (last_serial h) issued.serial
-    × AreWritable parcel
-    × (length (message_of parcel issued.serial).bytes ≤ 134217728)
-    × (writer h ≡ writers.Fine)
-    × (issued.index ≡ length (put h)) × (issued.call ≡ call_number (expects (Ok parcel)) (length (events.calls h)))
-    × Left new (Put (message_of parcel issued.serial) (expects (Ok parcel)) ∷ h)
--- each serial is pending
-Issues old new parcel h (Err errors.SerialsSpent) = AllTaken (pending h) × (new ≡ old)
--- else, a value opens too many containers at once
-Issues old new parcel h (Err (errors.Variant faults.Depth)) =
-    (serial : ℕ) × IsNext (pending h) (last_serial h) serial × (64 < depths (data_of parcel.values)) × (new ≡ old)
--- else, an array or the message would pass its limit
-Issues old new parcel h (Err errors.ExcessData) =
-    (serial : ℕ) × IsNext (pending h) (last_serial h) serial × (depths (data_of parcel.values) ≤ 64) × IsTooLong parcel serial
-    × (new ≡ old)
--- else, an earlier write failed
-Issues old new parcel h (Err (errors.InputOutput kinds.WriteFault)) =
-    (serial : ℕ) × IsNext (pending h) (last_serial h) serial × AreWritable parcel
-    × (length (message_of parcel serial).bytes ≤ 134217728) × (writer h ≡ writers.Failed) × (new ≡ old)
--- else, the peer was closed before
-Issues old new parcel h (Err (errors.InputOutput kinds.Closed)) =
-    (serial : ℕ) × IsNext (pending h) (last_serial h) serial × AreWritable parcel
-    × (length (message_of parcel serial).bytes ≤ 134217728) × (writer h ≡ writers.Closed) × (new ≡ old)
-Issues old new parcel h (Err errors.Memory) = new ≡ old
-Issues old new parcel h (Err error) = ⊥
-
--- A message that was issued waits at the end of the outbox, and no write failed, nor was the peer closed.
-abbrev pub Waits : View → View → Issued → Type 0
-Waits old new issued =
-    (issued.index ≡ length old.outbox) × (issued.index < length new.outbox) × (new.done ≡ old.done) × (old.writer ≡ writers.Fine) × (new.writer ≡ writers.Fine)
+  pub name : v.name ≡ unique_name h
 
 -- What cloning the stream with this number gives: the next number, where it is open; a stream that isn't is unknown. An error
 -- changes nothing.

@@ -9,6 +9,9 @@ pub mod Trail
 pub mod Answers
 pub mod Told
 pub mod Left
+pub mod Issuing
+pub mod Placing
+pub mod ParcelCode
 pub mod Laws
 pub mod StreamLaws
 pub mod Lending

@@ -10,7 +10,7 @@ use Rattle.rule_match.specs.Accepting.{accepts}
 use Rattle.peer_route.specs.Rules.{is_same, usual}
 use Rattle.peer_route.specs.declared.polled.Polled.{Polled}
 use Rattle.peer_route.specs.declared.polled.Polled.TheVariants as polled
-use Rattle.peer_route.specs.History.{Event, Took, Shut, Put, Wrote, Fault, Spent, Made, Did, Main, Making, Plain, Ruled, Cloned, Deed, Gave, Told, Gone, Asked, read, closing, edit}
+use Rattle.peer_route.specs.History.{Event, Took, Shut, Put, Wrote, Fault, Spent, Made, Did, Main, Named, Making, Plain, Ruled, Cloned, Deed, Gave, Told, Gone, Asked, read, closing, edit}
 
 -- A stream that was made: its rule, where it has one; how many messages were read before its start, how many of those that are
 -- its own it passes over, how many items it gave, whether it gave the closing error, and whether it was closed.
@@ -71,6 +71,7 @@ streams (Wrote ∷ h) = streams h
 streams (Fault ∷ h) = streams h
 streams (Spent call ∷ h) = streams h
 streams (Main limit ∷ h) = streams h
+streams (Named name ∷ h) = streams h
 
 -- the stream was made, and not closed
 abbrev pub is_there : Option Stream → Bool
@@ -138,6 +139,7 @@ main (Wrote ∷ h) = main h
 main (Fault ∷ h) = main h
 main (Spent call ∷ h) = main h
 main (Made making ∷ h) = main h
+main (Named name ∷ h) = main h
 
 abbrev pub is_of : Rule → Option Rule → Bool
 is_of rule None = false
@@ -188,6 +190,7 @@ rule_limit rule (Wrote ∷ h) = rule_limit rule h
 rule_limit rule (Fault ∷ h) = rule_limit rule h
 rule_limit rule (Spent call ∷ h) = rule_limit rule h
 rule_limit rule (Main limit ∷ h) = rule_limit rule h
+rule_limit rule (Named name ∷ h) = rule_limit rule h
 
 -- how many messages a stream of this rule, or without one, may hold
 abbrev pub limit_of : List Event → Option Rule → ℕ

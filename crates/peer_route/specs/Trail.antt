@@ -16,7 +16,7 @@ use Rattle.peer_route.specs.Parcel.{Setting, Asked, message_of}
 use Rattle.peer_route.specs.CallMessage.{expects, call_asked, signal_asked, reply_asked, error_asked}
 use Rattle.peer_route.specs.declared.writer.Writer.{Writer}
 use Rattle.peer_route.specs.declared.writer.Writer.TheVariants as writers
-use Rattle.peer_route.specs.History.{Event, Took, Shut, Put, Wrote, Fault, Spent, Made, Plain, Ruled, Cloned, Did, Gave, Told, Gone, Main, closing, writer, last_serial, pending}
+use Rattle.peer_route.specs.History.{Event, Took, Shut, Put, Wrote, Fault, Spent, Made, Plain, Ruled, Cloned, Did, Gave, Told, Gone, Main, Named, closing, writer, last_serial, pending}
 use Rattle.peer_route.specs.History as deeds
 use Rattle.peer_route.specs.Streams.{Stream, streams, gave_last}
 
@@ -241,11 +241,16 @@ more t e = record {
 }
 
 -- before the first entry the capacity is set, if it is given
-abbrev pub first_events : Option ℕ → List Event
-first_events None = []
-first_events (Some limit) = Main limit ∷ []
+abbrev pub queue_set : Option ℕ → List Event
+queue_set None = []
+queue_set (Some limit) = Main limit ∷ []
+
+-- and then the peer gets its unique name, if it has one
+abbrev pub first_events : Option (List ℕ) → Option ℕ → List Event
+first_events None queue = queue_set queue
+first_events (Some name) queue = Named name ∷ queue_set queue
 
 -- what the entries, newest first, of a peer of this setting leave
 abbrev pub trail : Setting → List Entry → Trail
-trail setting [] = record { events = first_events setting.queue; names = []; streams = []; setting = setting }
+trail setting [] = record { events = first_events setting.name setting.queue; names = []; streams = []; setting = setting }
 trail setting (e ∷ es) = more (trail setting es) e

@@ -1,4 +1,4 @@
-ghost use Rattle.std.specs.Prelude.{ℕ, ◌≡◌, ◌+◌, ◌<◌, ◌++◌, ◌∷◌, [], List, length, IfSome, IfNone, OnOk, OnErr, IfOk, None, is_none, slice_set, true, false};
+ghost use Rattle.std.specs.Prelude.{ℕ, ◌≡◌, ◌+◌, ◌<◌, ◌++◌, ◌∷◌, [], List, length, IfSome, IfNone, OnOk, OnErr, IfOk, None, is_none, slice_set, take, true, false};
 ghost use Rattle.peer_route.specs.History.{Event, Took, Shut, Put, Call, poll_answer, poll_events, drop_answer, drop_events, pending, bears, closing, calls};
 ghost use Rattle.peer_route.specs.History as history;
 ghost use Rattle.peer_route.specs.Left.{CallsView, LeftCalls, is_empty_slot, is_number, answers_call, waiting_serial, IsIndex};
@@ -77,6 +77,18 @@ fn forget(slots: &mut [Slot], waiting: &mut BTreeMap<u32, usize>, place: usize)
     }
 }
 
+/// The slots behind the first `count` are taken back, and the serials that they waited for.
+fn take_back_to(slots: &mut Vec<Slot>, waiting: &mut BTreeMap<u32, usize>, count: usize)
+    ensures slots { slots.new.items ≡ take count slots.old.items }
+    ensures waiting { IsIndex waiting.old slots.old.items → IsIndex waiting.new slots.new.items }
+{
+    while slots.len() > count {
+        let last = slots.len() - 1;
+        forget(slots.as_mut_slice(), waiting, last);
+        let _ = slots.pop();
+    }
+}
+
 impl PendingMethodCalls {
     /// No calls.
     pub fn new(alloc: Global) -> PendingMethodCalls
@@ -140,6 +152,20 @@ impl PendingMethodCalls {
         ensures { self.new ≡ record { slots = slice_set self.old.slots call Slot.Gone; closing = self.old.closing } }
     {
         forget(&mut self.slots, &mut self.waiting, call);
+    }
+
+    /// How many calls were made.
+    pub(crate) fn len(&self) -> usize
+        ensures { result ≡ length self.now.slots }
+    {
+        self.slots.len()
+    }
+
+    /// Takes the calls back that were made since there were `count`, as if they had not been made.
+    pub(crate) fn take_back(&mut self, count: usize)
+        ensures { self.new ≡ record { slots = take count self.old.slots; closing = self.old.closing } }
+    {
+        take_back_to(&mut self.slots, &mut self.waiting, count);
     }
 
     /// Answers each call that waits, and each one made later, with the closing error; a later one changes nothing.

@@ -5,7 +5,11 @@ mod answer;
 mod body_word;
 mod calls;
 mod hex;
+#[cfg(test)]
+mod issue_tests;
+mod issuing;
 mod laws;
+mod letter;
 mod owner_rule;
 mod polled;
 mod queue;
@@ -32,6 +36,7 @@ pub use laws::{
     spent_changes_no_other, stream_after_closing_is_over, stream_changes_no_other,
     stream_closed_for_good, stream_ends_once, stream_gives_all, stream_gives_the_first_error,
 };
+pub use letter::Letter;
 pub use polled::Polled;
 pub use route::{Issued, Route};
 pub use streams::MessageStream;

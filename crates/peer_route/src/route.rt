@@ -1,11 +1,10 @@
-ghost use Rattle.std.specs.Prelude.{ℕ, ◌≡◌, ◌≢◌, ◌↔◌, IsTrue, ◌+◌, ◌<◌, ◌≤◌, ◌^◌, ◌-◌, ◌==◌, [], ◌∷◌, ◌++◌, List, length, position, slice_get, option_copied, option_map, Some, None, Ok, Err, true, false, IfOk, IfErr, OnOk, OnErr};
+ghost use Rattle.std.specs.Prelude.{ℕ, ◌≡◌, ◌≢◌, ◌↔◌, IsTrue, ◌+◌, ◌<◌, ◌≤◌, ◌^◌, ◌-◌, ◌==◌, [], ◌∷◌, ◌++◌, List, length, position, slice_get, option_copied, option_map, Some, None, is_none, true, false, IfErr, OnOk};
 ghost use Rattle.std.specs.Borrow.{sem};
 ghost use Rattle.peer_route.specs.Lending.{LendsCalls};
-ghost use Rattle.peer_route.specs.History.{Event, Took, Shut, Put, Wrote, Fault, poll_answer, poll_events, drop_answer, drop_events};
+ghost use Rattle.peer_route.specs.History.{Event, Took, Shut, Wrote, Fault, Named, poll_answer, poll_events, drop_answer, drop_events};
 ghost use Rattle.peer_route.specs.History as history;
 ghost use Rattle.peer_route.specs.Streams.{busy};
-ghost use Rattle.peer_route.specs.CallMessage.{expects_reply};
-ghost use Rattle.peer_route.specs.Left.{Waits, is_busy, View, Left, Issues, Places, placed, waiting_serial};
+ghost use Rattle.peer_route.specs.Left.{is_busy, View, Left};
 ghost use Rattle.wire_message.specs.Front.{Seen};
 ghost use Rattle.wire_message.specs.Closing.{closes};
 
@@ -13,13 +12,10 @@ use crate::calls::PendingMethodCalls;
 use crate::polled::Polled;
 use crate::streams::Streams;
 use crate::writer::Writer;
-use bitflags::Flags as _;
-use std::alloc::{AllocError, AllocFailed, Global};
+use std::alloc::{AllocFailed, Global};
 use std::marker::Model;
-use wire_body::Body;
-use wire_message::{
-    Builder, Error, Flags, IoKind, Message, MessageType, Result, Sequence, Serials,
-};
+use wire_message::{Error, Message, Result, Sequence, Serials};
+use wire_names::OwnedUniqueName;
 
 /// How many messages a stream may hold before reads wait, until it is set.
 const CAPACITY: u64 = 64;
@@ -39,18 +35,20 @@ pub struct Issued {
 /// leaves, and no history.
 #[derive(Drop)]
 pub struct Route {
-    alloc: Global,
+    pub(crate) alloc: Global,
     pub(crate) calls: PendingMethodCalls,
     pub(crate) streams: Streams,
     /// How many messages a stream without a rule may hold before reads wait.
     pub(crate) main: u64,
     received: u64,
-    serials: Serials,
-    outbox: Vec<Message>,
+    pub(crate) serials: Serials,
+    pub(crate) outbox: Vec<Message>,
     /// For each call, by its number, the place of its message in the outbox.
-    places: Vec<u64>,
+    pub(crate) places: Vec<u64>,
     done: u64,
-    writer: Writer,
+    pub(crate) writer: Writer,
+    /// Its unique name, by which it sends.
+    pub(crate) name: Option<OwnedUniqueName>,
 }
 
 impl Model for Route {
@@ -58,7 +56,7 @@ impl Model for Route {
 
     ghost Value = { View };
 
-    ghost view = { λ r. record { calls = r.calls; streams = r.streams; main = r.main; read = r.received; last = r.serials; outbox = r.outbox.items; places = r.places.items; done = r.done; writer = r.writer } };
+    ghost view = { λ r. record { calls = r.calls; streams = r.streams; main = r.main; read = r.received; last = r.serials; outbox = r.outbox.items; places = r.places.items; done = r.done; writer = r.writer; name = r.name } };
 }
 
 /// The number of the call whose message has this place in the outbox.
@@ -66,17 +64,6 @@ fn call_at(places: &[u64], index: u64) -> Option<usize>
     ensures { result ≡ position (λ place. place == index) places.now }
 {
     places.iter().position(|place| *place == index)
-}
-
-/// Whether the message is a method call whose flags leave NoReplyExpected out, so that it waits for a reply.
-#[tactic(auto, unfolding(crate::specs::CallMessage::expects_reply))]
-fn expects_reply(message: &Message) -> bool
-    ensures { result ≡ expects_reply message.now.kind message.now.flags }
-{
-    match message.message_type() {
-        MessageType::MethodCall => !message.header().flags().contains(Flags::NoReplyExpected),
-        MessageType::MethodReturn | MessageType::Error | MessageType::Signal => false,
-    }
 }
 
 impl Route {
@@ -95,94 +82,28 @@ impl Route {
             places: Vec::new(alloc),
             done: 0,
             writer: Writer::Fine,
+            name: None,
         }
     }
 
-    /// Puts the message of a builder in the outbox, with these values as its body, these descriptors, and the next serial, also
-    /// where the builder has one. A method call waits for its reply, but where its flags have NoReplyExpected. The descriptors'
-    /// count is written as the message's `UNIX_FDS` exactly where there are some (D-Bus Specification, "Header Fields").
-    ///
-    /// # Errors
-    ///
-    /// The first that holds: SerialsSpent exactly where each of the 4,294,967,295 serials is pending; Variant of `Depth` exactly
-    /// where a value opens more than 64 containers at once; ExcessData exactly where the elements of an array would take more
-    /// than 67,108,864 bytes, or the message more than 134,217,728; InputOutput(WriteFault) exactly where a write failed before
-    /// the peer was closed, InputOutput(Closed) exactly where it was closed before. An error changes nothing, and draws no
-    /// serial.
-    pub fn issue(&mut self, builder: Builder<'_>, body: &Body, fds: &[u32]) -> Result<Issued>
-        requires { length fds.now < 2 ^ 32 }
-        ensures issues { (h : List Event) → Left self.old h → Issues self.old self.new (record { draft = builder.entry; values = body.now; fds = fds.now }) h result }
-        ensures placed { IfOk result (Waits self.old self.new) }
+    /// Gives the peer its unique name: true exactly where it had none. One that it has stays (D-Bus Specification, "Bus names").
+    pub fn set_unique_name(&mut self, name: OwnedUniqueName) -> bool
+        ensures exact { result ≡ is_none self.old.name }
+        ensures named { IsTrue result → (h : List Event) → Left self.old h → Left self.new (Named name ∷ h) }
+        ensures same { result ≡ false → self.new ≡ self.old }
     {
-        let mut serials = self.serials;
-        let message = builder
-            .without_serial()
-            .build_body_uncounted(self.alloc, &mut serials, &self.calls, body, fds)?;
-        match self.writer {
-            Writer::Fine => self.place(message, serials),
-            Writer::Failed => Err(Error::InputOutput(IoKind::WriteFault)),
-            Writer::Closed => Err(Error::InputOutput(IoKind::Closed)),
+        if self.name.is_some() {
+            return false;
         }
+        self.name = Some(name);
+        true
     }
 
-    /// Puts a message in the outbox, and makes the call that waits for its reply, if it expects one. The message's serial isn't
-    /// 0 and isn't pending. Want of memory changes nothing.
-    fn place(&mut self, message: Message, serials: Serials) -> Result<Issued>
-        requires in_circle { 0 < message.serial }
-        requires free { waiting_serial self.old.calls message.serial ≡ false }
-        ensures { Places self.old self.new message serials result }
+    /// The peer's unique name; None before it got one.
+    pub fn unique_name(&self) -> Option<&OwnedUniqueName>
+        ensures { option_map (λ name. name.now) result ≡ self.now.name }
     {
-        let index = self.outbox.len() as u64;
-        let serial = message.serial_num();
-        let call = if expects_reply(&message) {
-            Some(self.place_call(message, serials)?)
-        } else {
-            self.place_alone(message, serials)?;
-            None
-        };
-        Ok(Issued {
-            index,
-            serial,
-            call,
-        })
-    }
-
-    /// Puts a message in the outbox, and makes the call that waits for its reply: the call's number. The message's serial isn't 0
-    /// and isn't pending. Want of memory changes nothing.
-    fn place_call(
-        &mut self,
-        message: Message,
-        serials: Serials,
-    ) -> std::result::Result<u64, AllocError>
-        requires in_circle { 0 < message.serial }
-        requires free { waiting_serial self.old.calls message.serial ≡ false }
-        ensures number { IfOk result (λ call. call ≡ length self.old.calls.slots) }
-        ensures placed { OnOk result (self.new ≡ placed true self.old message serials) }
-        ensures same { OnErr result (self.new ≡ self.old) }
-    {
-        self.outbox.reserve(1)?;
-        self.places.reserve(1)?;
-        let index = self.outbox.len() as u64;
-        let call = self.calls.register_call(message.serial_num())?;
-        if self.places.push(index).is_err() || self.outbox.push(message).is_err() {
-            unreachable!()
-        }
-        self.serials = serials;
-        Ok(call)
-    }
-
-    /// Puts a message in the outbox that no call waits for. Want of memory changes nothing.
-    fn place_alone(
-        &mut self,
-        message: Message,
-        serials: Serials,
-    ) -> std::result::Result<(), AllocError>
-        ensures placed { OnOk result (self.new ≡ placed false self.old message serials) }
-        ensures same { OnErr result (self.new ≡ self.old) }
-    {
-        self.outbox.push(message)?;
-        self.serials = serials;
-        Ok(())
+        self.name.as_ref()
     }
 
     /// Takes a message that was read: the call that it answers gets it, and each stream. The peer is open and not busy, and

@@ -1,13 +1,16 @@
 //! What tests ask of answers. An `Error` owns memory in many ways, and each place that compares one or lets one go has all of
 //! them to prove; so that is done here alone.
-ghost use Rattle.std.specs.Prelude.{◌≡◌, is_some};
+ghost use Rattle.std.specs.Prelude.{ℕ, ◌≡◌, ◌<◌, ◌^◌, length, is_some, IfOk};
+ghost use Rattle.std.specs.List.{AllByRecursion};
 
-use crate::{Issued, MessageStream, PendingMethodCalls, Polled, Route};
+use crate::{Issued, Letter, MessageStream, PendingMethodCalls, Polled, Route};
 use rule_match::OwnedMatchRule;
 use std::alloc::Global;
 use wire_body::Body;
 use wire_message::{Error, Flags, IoKind, Message, Result as Answer, Taken, header_front};
-use wire_names::{MemberName, ObjectPath};
+use wire_names::{ErrorName, InterfaceName, MemberName, ObjectPath, OwnedUniqueName};
+use wire_signature::VariantError;
+use wire_tree::{Inner, Tree, Value};
 
 /// A method return with serial 1 that answers serial 1 (D-Bus Specification, "Message Format").
 const RETURN: [u8; 24] = [
@@ -22,6 +25,7 @@ pub(crate) enum Kind {
     Closed,
     ExcessData,
     IncorrectEndian,
+    Depth,
     /// Another error, or the test couldn't ask.
     Other,
 }
@@ -45,6 +49,7 @@ fn kind_of(error: &Error) -> Kind {
         Error::InputOutput(IoKind::Closed) => Kind::Closed,
         Error::ExcessData => Kind::ExcessData,
         Error::IncorrectEndian => Kind::IncorrectEndian,
+        Error::Variant(VariantError::Depth) => Kind::Depth,
         _ => Kind::Other,
     }
 }
@@ -112,6 +117,26 @@ pub(crate) fn arrives(route: &mut Route, alloc: Global, position: u64) -> bool {
     route.arrive(message.at(position)).is_ok()
 }
 
+/// Issues one message.
+fn issue_one(
+    route: &mut Route,
+    alloc: Global,
+    letter: Letter<'_>,
+    served: bool,
+) -> Result<Issued, Kind>
+    requires { length letter.fds < 2 ^ 32 }
+{
+    let mut list = Vec::new(alloc);
+    if list.push(letter).is_err() {
+        return Err(Kind::Other);
+    }
+    let mut issued = plain(route.issue(list, served))?;
+    match issued.pop() {
+        Some(issued) => Ok(issued),
+        None => Err(Kind::Other),
+    }
+}
+
 /// Issues the method call of `do` at `/` with these flags.
 pub(crate) fn call_with(
     route: &mut Route,
@@ -131,12 +156,86 @@ pub(crate) fn call_with(
     let Ok(body) = Body::from_values(alloc, Vec::new(alloc)) else {
         return Err(Kind::Other);
     };
-    plain(route.issue(builder, &body, &[]))
+    let letter = Letter {
+        builder,
+        body,
+        fds: Vec::new(alloc),
+    };
+    issue_one(route, alloc, letter, false)
 }
 
 /// Issues the method call of `do` at `/`.
 pub(crate) fn call(route: &mut Route, alloc: Global) -> Result<Issued, Kind> {
     call_with(route, alloc, None)
+}
+
+/// So many variants in one another, and a byte in the innermost, as a body.
+fn variants(alloc: Global, count: usize) -> Result<Body, Kind> {
+    let mut tree = Tree::U8(1);
+    for _ in 0..count {
+        let Ok(inner) = Inner::new(alloc, tree) else {
+            return Err(Kind::Other);
+        };
+        tree = Tree::Variant(inner);
+    }
+    let Ok(value) = Value::from_tree(alloc, tree) else {
+        return Err(Kind::Other);
+    };
+    let mut values = Vec::new(alloc);
+    if values.push(value).is_err() {
+        return Err(Kind::Other);
+    }
+    match Body::from_values(alloc, values) {
+        Ok(body) => Ok(body),
+        Err(_) => Err(Kind::Other),
+    }
+}
+
+/// The method call of `do` at `/`, and a signal whose value is so many variants in one another.
+fn two_letters<'a>(
+    alloc: Global,
+    path: &ObjectPath<'a>,
+    depth: usize,
+) -> Result<Vec<Letter<'a>>, Kind>
+    ensures few { IfOk result (λ list. AllByRecursion (λ p. length p.fds < 2 ^ 32) list.items) }
+{
+    let Ok(member) = MemberName::try_from("do") else {
+        return Err(Kind::Other);
+    };
+    let Ok(interface) = InterfaceName::try_from("a.b") else {
+        return Err(Kind::Other);
+    };
+    let mut list = Vec::new(alloc);
+    let call = Letter {
+        builder: Message::method_call(path, &member),
+        body: variants(alloc, 1)?,
+        fds: Vec::new(alloc),
+    };
+    let signal = Letter {
+        builder: Message::signal(path, &interface, &member),
+        body: variants(alloc, depth)?,
+        fds: Vec::new(alloc),
+    };
+    if list.push(call).is_err() || list.push(signal).is_err() {
+        return Err(Kind::Other);
+    }
+    Ok(list)
+}
+
+/// Issues the method call of `do` at `/` with a signal whose value is so many variants in one another.
+pub(crate) fn call_and_signal(
+    route: &mut Route,
+    alloc: Global,
+    depth: usize,
+) -> Result<(Issued, Issued), Kind> {
+    let Ok(path) = ObjectPath::try_from("/") else {
+        return Err(Kind::Other);
+    };
+    let issued = plain(route.issue(two_letters(alloc, &path, depth)?, false))?;
+    match issued.as_slice() {
+        [call, signal] => Ok((*call, *signal)),
+        _ => Err(Kind::Other),
+    }
 }
 
 /// Opens a stream of the rule that a text is, with a capacity that is asked for, or none.
@@ -148,6 +247,36 @@ pub(crate) fn open_rule(
 ) -> Result<MessageStream, Kind> {
     let rule = plain(OwnedMatchRule::try_from(alloc, text))?;
     plain(route.open_rule(rule, asked))
+}
+
+/// Gives the peer that name; whether it had none.
+pub(crate) fn named(route: &mut Route, alloc: Global, name: &str) -> bool {
+    match OwnedUniqueName::try_from(alloc, name) {
+        Ok(name) => route.set_unique_name(name),
+        Err(_) => false,
+    }
+}
+
+/// Issues an error to the return, and whether it has a sender.
+pub(crate) fn error_is_signed(
+    route: &mut Route,
+    alloc: Global,
+    served: bool,
+) -> Result<bool, Kind> {
+    let Ok(name) = ErrorName::try_from("a.b") else {
+        return Err(Kind::Other);
+    };
+    let message = reply(alloc)?;
+    let letter = Letter {
+        builder: Message::error(&message.header(), &name),
+        body: variants(alloc, 1)?,
+        fds: Vec::new(alloc),
+    };
+    let issued = issue_one(route, alloc, letter, served)?;
+    match route.outbox(issued.index) {
+        Some(put) => Ok(put.header().sender().is_some()),
+        None => Err(Kind::Other),
+    }
 }
 
 /// Closes the peer.

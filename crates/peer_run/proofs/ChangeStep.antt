@@ -292,20 +292,22 @@ follows_main setting p q es lane limit f names same given left =
 -- ---- before the first command
 
 -- the peer keeps nothing but its capacity
-pub follows_first : (setting : Setting) (p : PeerView) → Left p.core (first_events setting.queue) → p.names ≡ [] → p.streams ≡ [] → p.given ≡ [] → Follows setting p []
+pub follows_first : (setting : Setting) (p : PeerView) → Left p.core (first_events setting.name setting.queue) → p.names ≡ [] → p.streams ≡ [] → p.given ≡ [] → Follows setting p []
 follows_first setting p left names same given =
-    let first = first_same setting.queue in
+    let first = first_same setting.name setting.queue in
     let none : p.core.read ≡ 0 = left.read ∙ ap length first.read in
     record {
       left = left;
       names = names;
       streams = same;
-      given = given ∙ sym (first_given setting.queue);
+      given = given ∙ sym (first_given setting.name setting.queue);
       legal = tt;
       within = omega (arith, none);
       written = left.done ∙ first.done ∙ sym (ap length (left.outbox ∙ first.put));
     }
   where
-    first_given : (queue : Option ℕ) → streams.all_given (first_events queue) ≡ []
-    first_given None = refl
-    first_given (Some limit) = refl
+    first_given : (name : Option (List ℕ)) (queue : Option ℕ) → streams.all_given (first_events name queue) ≡ []
+    first_given None None = refl
+    first_given None (Some limit) = refl
+    first_given (Some name) None = refl
+    first_given (Some name) (Some limit) = refl

@@ -6,9 +6,8 @@ use Rattle.wire_message.specs.declared.error.Error.{Error}
 use Rattle.wire_message.specs.declared.error.Error.TheVariants as errors
 use Rattle.wire_message.specs.declared.error.IoKind.TheVariants as kinds
 use Rattle.wire_framing.specs.Source.{MayRise}
-use Rattle.wire_framing.specs.Sink.{Closes, RoomStays, RoomFalls}
+use Rattle.wire_framing.specs.Sink.{Closes, RoomStays}
 use Rattle.wire_framing.specs.declared.write_half.Writing.{Writing}
-use Rattle.wire_framing.specs.declared.write_half.Writing.TheVariants.{Fine}
 use Rattle.peer_route.specs.declared.writer.Writer.{Writer}
 use Rattle.peer_route.specs.declared.writer.Writer.TheVariants as writers
 use Rattle.peer_route.specs.Parcel.{Setting}
@@ -17,8 +16,8 @@ use Rattle.peer_route.specs.declared.answer.Answer.{Answer}
 use Rattle.peer_route.specs.declared.answer.Answer.TheVariants as answers
 use Rattle.peer_route.specs.declared.answer.Entry.{Entry}
 use Rattle.peer_route.specs.History as events
-use Rattle.peer_route.specs.Trail.{Trail, trail, close_does, new_names, new_streams}
-use Rattle.peer_route.specs.Answers.{IsClose, write_fault}
+use Rattle.peer_route.specs.Trail.{trail, close_does, new_names, new_streams}
+use Rattle.peer_route.specs.Answers.{IsClose}
 use Rattle.peer_route.specs.Told.{ReadsTold, CloseTold, ReadTold, left_after}
 use Rattle.peer_route.specs.Left.{Left}
 use Rattle.peer_route.proofs.Given.{given_same}

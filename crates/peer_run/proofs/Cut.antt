@@ -1,5 +1,5 @@
 -- Two histories of the same commands over the same bytes are the same.
-use Rattle.std.proofs.Common.{◌≡◌, ℕ, refl, sym, ◌∙◌, ap, subst, Bool, true, false, List, [], ◌∷◌, ◌++◌, length, map, Option, Some, None, Ok, Err, inl, inr}
+use Rattle.std.proofs.Common.{◌≡◌, ℕ, refl, sym, ◌∙◌, ap, subst, Bool, true, false, List, [], ◌∷◌, length, map, Option, Some, None, Ok, Err, inl, inr}
 use Rattle.wire_message.specs.declared.error.Error.{Error}
 use Rattle.peer_route.specs.Parcel.{Setting, Asked}
 use Rattle.peer_route.specs.declared.words.Words.{Words}

@@ -1,5 +1,5 @@
 -- From what a run keeps to what it gives.
-use Rattle.std.proofs.Common.{◌≡◌, ℕ, refl, ◌-◌, ap, arith, Bool, false, IfSome, append-nil, sym, subst, List, [], ◌∷◌, map, reverse, Option, Some, None, Result, Ok, Err, IfOk}
+use Rattle.std.proofs.Common.{◌≡◌, ℕ, refl, ◌-◌, ap, arith, Bool, false, IfSome, append-nil, sym, subst, List, [], map, reverse, Option, Some, None, Result, Ok, Err, IfOk}
 use Rattle.peer_route.specs.Parcel.{Setting}
 use Rattle.peer_route.specs.declared.words.Command.{Command}
 use Rattle.peer_route.specs.declared.answer.Entry.{Entry}
@@ -23,16 +23,18 @@ told_nothing : (setting : Setting) (left : Option (List ℕ)) (stop : Option Boo
 told_nothing setting None stop = tt
 told_nothing setting (Some bytes) stop = tt
 
-rest_first : (queue : Option ℕ) (left : Option (List ℕ)) (stop : Option Bool)
-    → IfSome left (λ bytes. IsRest (closing (first_events queue)) (left_after bytes (first_events queue)) stop left stop)
-rest_first None left stop = rest_all left stop
-rest_first (Some limit) left stop = rest_all left stop
+rest_first : (name : Option (List ℕ)) (queue : Option ℕ) (left : Option (List ℕ)) (stop : Option Bool)
+    → IfSome left (λ bytes. IsRest (closing (first_events name queue)) (left_after bytes (first_events name queue)) stop left stop)
+rest_first None None left stop = rest_all left stop
+rest_first None (Some limit) left stop = rest_all left stop
+rest_first (Some name) None left stop = rest_all left stop
+rest_first (Some name) (Some limit) left stop = rest_all left stop
 
 -- nothing was read
 pub start_reads : (setting : Setting) (start : Inlet) → Reads setting start start []
 start_reads setting start = record {
   told = told_nothing setting start.left start.stop;
-  rest = rest_first setting.queue start.left start.stop;
+  rest = rest_first setting.name setting.queue start.left start.stop;
   cause = λ f. absurd f;
   kept = omega arith;
 }
@@ -51,20 +53,26 @@ room_still None = tt
 room_still (Some None) = refl
 room_still (Some (Some k)) = (omega arith, let e : k ≡ k - 0 = omega arith in ap (λ n. Some (Some n)) e)
 
-holds_first : (queue : Option ℕ) (room : Option (Option ℕ)) (held : Option (List ℕ)) → IfSome held (λ before. HoldsThen room before held (first_events queue))
-holds_first None room held = holds_same_still room held
-holds_first (Some limit) room None = tt
-holds_first (Some limit) room (Some before) = record { sent = []; appended = sym (append-nil before); bytes = refl; told = writes_nothing room }
+holds_first : (name : Option (List ℕ)) (queue : Option ℕ) (room : Option (Option ℕ)) (held : Option (List ℕ)) → IfSome held (λ before. HoldsThen room before held (first_events name queue))
+holds_first None None room held = holds_same_still room held
+holds_first None (Some limit) room None = tt
+holds_first None (Some limit) room (Some before) = record { sent = []; appended = sym (append-nil before); bytes = refl; told = writes_nothing room }
+holds_first (Some name) None room None = tt
+holds_first (Some name) None room (Some before) = record { sent = []; appended = sym (append-nil before); bytes = refl; told = writes_nothing room }
+holds_first (Some name) (Some limit) room None = tt
+holds_first (Some name) (Some limit) room (Some before) = record { sent = []; appended = sym (append-nil before); bytes = refl; told = writes_nothing room }
 
-room_first : (queue : Option ℕ) (room : Option (Option ℕ)) → RoomFor (is_failed (first_events queue)) room room (put (first_events queue))
-room_first None room = room_still room
-room_first (Some limit) room = room_still room
+room_first : (name : Option (List ℕ)) (queue : Option ℕ) (room : Option (Option ℕ)) → RoomFor (is_failed (first_events name queue)) room room (put (first_events name queue))
+room_first None None room = room_still room
+room_first None (Some limit) room = room_still room
+room_first (Some name) None room = room_still room
+room_first (Some name) (Some limit) room = room_still room
 
 -- nothing was written
 pub start_writes : (setting : Setting) (start : Outlet) → Writes setting start start []
 start_writes setting start = record {
-  holds = holds_first setting.queue start.room start.held;
-  room = room_first setting.queue start.room;
+  holds = holds_first setting.name setting.queue start.room start.held;
+  room = room_first setting.name setting.queue start.room;
   closes = tt;
   tells = λ there. there;
   cause = λ f. absurd f;
@@ -119,13 +127,3 @@ if_ok3 (Ok a) P Q R S f p q r = f a p q r
 if_ok3 (Err e) P Q R S f p q r = tt
 
 -- ---- from command to command
-
--- a command's step is one of any sink that tells the same of file descriptors
-pub stands_by : (name : Option (List ℕ)) (queue : Option ℕ) (told takes : Bool) (start_in : Inlet) (start_out : Outlet) (es : List Entry) (e : Entry) (p q : PeerView) (in_now in_after : Inlet) (out_now out_after : Outlet) (before writing : Writing)
-    → told ≡ takes
-    → ((i : Inlet) (o : Outlet) (hs : List Entry) → Stands (setting_by name queue told) i o p in_now out_now before hs → Stands (setting_by name queue told) i o q in_after out_after writing (e ∷ hs))
-    → Stands (setting_by name queue takes) start_in start_out p in_now out_now before es
-    → Stands (setting_by name queue takes) start_in start_out q in_after out_after writing (e ∷ es)
-stands_by name queue told takes start_in start_out es e p q in_now in_after out_now out_after before writing same step s =
-    subst (λ b. Stands (setting_by name queue b) start_in start_out q in_after out_after writing (e ∷ es)) same
-    (step start_in start_out es (subst (λ b. Stands (setting_by name queue b) start_in start_out p in_now out_now before es) (sym same) s))

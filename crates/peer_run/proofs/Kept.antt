@@ -1,5 +1,5 @@
 -- What an entry leaves of the source or the sink that it doesn't touch.
-use Rattle.std.proofs.Common.{◌≡◌, ℕ, refl, sym, ◌∙◌, Bool, true, false, List, ◌∷◌, ◌++◌, Option, Some, None, IfSome, inl, inr}
+use Rattle.std.proofs.Common.{◌≡◌, ℕ, refl, Bool, true, false, List, ◌∷◌, ◌++◌, Option, Some, None, IfSome, inl, inr}
 use Rattle.wire_message.specs.Front.{Seen}
 use Rattle.wire_message.specs.declared.error.Error.{Error}
 use Rattle.peer_route.specs.Parcel.{Setting}

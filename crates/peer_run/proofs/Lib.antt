@@ -12,6 +12,7 @@ pub mod OpenStep
 pub mod CloseStep
 pub mod SendStep
 pub mod Numbers
+pub mod OneLetter
 pub mod SendEnds
 pub mod SendGrows
 pub mod Ends

@@ -1,5 +1,5 @@
 -- Counts that rise, and what later entries keep of earlier ones.
-use Rattle.std.proofs.Common.{◌≡◌, ℕ, ◌-◌, ◌^◌, ◌≤◌, refl, sym, ◌∙◌, ap, subst, arith, Bool, true, false, List, [], ◌∷◌, ◌++◌, length, Option, Some, None, Result, Ok, Err, ◌⊎◌, inl, inr}
+use Rattle.std.proofs.Common.{◌≡◌, ℕ, ◌-◌, ◌^◌, ◌≤◌, refl, sym, ◌∙◌, ap, subst, arith, Bool, List, [], ◌∷◌, ◌++◌, length, Option, Some, None, Result, Ok, Err, ◌⊎◌, inl, inr}
 use Rattle.std.proofs.lemmas.Bool.{cases_lt}
 use Rattle.wire_message.specs.declared.error.Error.{Error}
 use Rattle.wire_message.specs.declared.error.Error.TheVariants as errors
@@ -89,6 +89,7 @@ AreQuiet (events.Spent k ∷ xs) = AreQuiet xs
 AreQuiet (events.Made making ∷ xs) = AreQuiet xs
 AreQuiet (events.Did k deed ∷ xs) = AreQuiet xs
 AreQuiet (events.Main limit ∷ xs) = AreQuiet xs
+AreQuiet (events.Named name ∷ xs) = AreQuiet xs
 AreQuiet (events.Took m ∷ xs) = ⊥
 AreQuiet (events.Shut error ∷ xs) = ⊥
 AreQuiet (events.Put m expects ∷ xs) = ⊥
@@ -109,6 +110,7 @@ quiet_same (events.Spent k ∷ xs) h q = let r = quiet_same xs h q in record { r
 quiet_same (events.Made making ∷ xs) h q = let r = quiet_same xs h q in record { read = r.read; closing = r.closing; put = r.put; done = r.done; failed = r.failed }
 quiet_same (events.Did k deed ∷ xs) h q = let r = quiet_same xs h q in record { read = r.read; closing = r.closing; put = r.put; done = r.done; failed = r.failed }
 quiet_same (events.Main limit ∷ xs) h q = let r = quiet_same xs h q in record { read = r.read; closing = r.closing; put = r.put; done = r.done; failed = r.failed }
+quiet_same (events.Named name ∷ xs) h q = let r = quiet_same xs h q in record { read = r.read; closing = r.closing; put = r.put; done = r.done; failed = r.failed }
 quiet_same (events.Took m ∷ xs) h q = absurd q
 quiet_same (events.Shut error ∷ xs) h q = absurd q
 quiet_same (events.Put m expects ∷ xs) h q = absurd q
@@ -116,9 +118,11 @@ quiet_same (events.Wrote ∷ xs) h q = absurd q
 quiet_same (events.Fault ∷ xs) h q = absurd q
 
 -- what is set before the first entry
-pub first_same : (queue : Option ℕ) → Same (first_events queue) []
-first_same None = record { read = refl; closing = refl; put = refl; done = refl; failed = refl }
-first_same (Some limit) = record { read = refl; closing = refl; put = refl; done = refl; failed = refl }
+pub first_same : (name : Option (List ℕ)) (queue : Option ℕ) → Same (first_events name queue) []
+first_same None None = record { read = refl; closing = refl; put = refl; done = refl; failed = refl }
+first_same None (Some limit) = record { read = refl; closing = refl; put = refl; done = refl; failed = refl }
+first_same (Some name) None = record { read = refl; closing = refl; put = refl; done = refl; failed = refl }
+first_same (Some name) (Some limit) = record { read = refl; closing = refl; put = refl; done = refl; failed = refl }
 
 pub poll_quiet : (k : Option ℕ) (a : Answer) → AreQuiet (poll_spends k a)
 poll_quiet None a = tt
@@ -210,7 +214,7 @@ earlier A B C (inr b) f = inr (f b)
 
 -- A peer that a fault closed has an entry that says so.
 pub fault_was_read : (setting : Setting) (es : List Entry) → events.closing (trail setting es).events ≡ Some (errors.InputOutput kinds.Fault) → HasReadFault es
-fault_was_read setting [] e = let none = (first_same setting.queue).closing in cc
+fault_was_read setting [] e = let none = (first_same setting.name setting.queue).closing in cc
 fault_was_read setting (e ∷ es) f =
     earlier (IsReadFault e.answer) (ClosedByFault (events.closing (trail setting es).events)) (HasReadFault es)
     (closes_by setting es e.lane e.words e.answer f) (fault_was_read setting es)

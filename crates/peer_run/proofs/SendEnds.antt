@@ -1,6 +1,8 @@
 -- How a command that sends ends, from what issuing and sending gave.
 use Rattle.std.proofs.Common.{◌≡◌, ◌≢◌, ◌==◌, ◌<◌, ℕ, arith, inl, inr, refl, sym, ◌∙◌, ap, subst, Bool, true, false, List, [], ◌∷◌, ◌++◌, length, Option, Some, None, is_some, Result, Ok, Err, IfOk, slice_get}
 use Rattle.std.proofs.lemmas.Bool.Decides.{nat_tests}
+use Rattle.std.proofs.lemmas.Bool.{true≢false}
+use borrow.Author.Tests.{le-ltb}
 use Rattle.wire_message.specs.Front.{Seen}
 use Rattle.wire_message.specs.declared.error.Error.{Error}
 use Rattle.wire_message.specs.declared.error.Error.TheVariants as errors
@@ -12,14 +14,15 @@ use Rattle.peer_route.specs.declared.answer.Answer.TheVariants as answers
 use Rattle.peer_route.specs.declared.answer.Entry.{Entry}
 use Rattle.peer_route.specs.declared.route.Issued.{Issued}
 use Rattle.peer_route.specs.History as events
-use Rattle.peer_route.specs.Trail.{asks, asks_with, kept_at, place, trail, count, next_serial}
+use Rattle.peer_route.specs.Trail.{asks, asks_with, kept_at, given, place, trail, count, next_serial}
 use Rattle.peer_route.specs.declared.writer.Writer.{Writer}
 use Rattle.peer_route.specs.declared.writer.Writer.TheVariants as writers
 use Rattle.peer_route.proofs.Writers.{fine_unfailed, failed_so}
 use Rattle.peer_route.specs.Answers.{send_refusal, sent_answer, write_fault, write_closed}
 use Rattle.peer_route.specs.CallMessage.{expects}
 use Rattle.peer_route.specs.declared.words.Words.{Words}
-use Rattle.peer_route.specs.Left.{View, Left, AreWritable, IsTooLong, Issues, call_number}
+use Rattle.peer_route.specs.Left.{View, Left}
+use Rattle.peer_route.specs.Issuing.{IsTooLong, call_number}
 use Rattle.peer_route.proofs.NextSerial.{next_serial-next}
 use Rattle.peer_route.proofs.Steps.{refused-spent, refused-long, not_refused}
 use Rattle.std.specs.Io.KnownBytes.{Appends}
@@ -31,7 +34,9 @@ use Rattle.wire_framing.specs.declared.write_half.Writing.TheVariants.{Fine}
 use Rattle.peer_run.specs.Stands.{PeerView, Outlet, Follows, Writes, Sent, Sending, WentOut, WriteFailed, named, unsent_answer, NotIssued, IsRefusal, IsReadFault, IsFine, entry}
 use Rattle.wire_message.specs.Draft.{built}
 use Rattle.wire_message.specs.Signed.{counted, fds_field}
-use Rattle.peer_route.proofs.Asked.{are_refused, asked_goes}
+use Rattle.peer_route.proofs.Asked.{AreWritable, CanGo, are_refused, asked_goes}
+use Rattle.peer_route.proofs.Sent.{trail_setting}
+use Rattle.peer_run.specs.OneLetter.{IssuesOne}
 use Rattle.peer_run.specs.CallWords.{MakesAsked}
 use Rattle.peer_run.proofs.HalfStep.{fine_before}
 use Rattle.peer_run.proofs.SendStep.{IsSending, sending_is, asks_kept, entry_events, fault_events, follows_refused, follows_unsent, follows_sent, follows_failed, reads_send, writes_refused, writes_unsent, writes_sent, writes_failed, fault_was_written}
@@ -71,7 +76,7 @@ closed_ne : (w : Writer) → w ≡ writers.Closed → w ≢ writers.Fine
 closed_ne w is e = let z : writers.Closed ≡ writers.Fine = sym is ∙ e in absurd (cc)
 
 unissued : (setting : Setting) (p q : PeerView) (es : List Entry) (lane : ℕ) (w : Words) (parcel : Parcel) (error : Error) (a : Answer)
-    → IsSending (trail setting es) lane w (Ok parcel) → AreWritable parcel → Follows setting p es → Issues p.core q.core parcel (trail setting es).events (Err error)
+    → IsSending (trail setting es) lane w (Ok parcel) → AreWritable parcel → Follows setting p es → IssuesOne p.core q.core parcel (trail setting es).events (Err error)
     → unsent_answer error ≡ Some a → (q.core ≡ p.core) × Unissued setting p es lane w a
 unissued setting p q es lane w parcel errors.SerialsSpent a k fit f i e = (
   i.1,
@@ -79,26 +84,26 @@ unissued setting p q es lane w parcel errors.SerialsSpent a k fit f i e = (
       (unissued_refused setting p es lane w (Ok parcel) errors.SerialsSpent k f (refused-spent (trail setting es).events (Ok parcel) parcel refl i.0)),
 )
 unissued setting p q es lane w parcel errors.ExcessData a k fit f i e = (
-  i.4,
+  i.3,
   as_answer (answers.Refused errors.ExcessData) a (Unissued setting p es lane w) e
       (unissued_refused setting p es lane w (Ok parcel) errors.ExcessData k f
-      (refused-long (trail setting es).events (Ok parcel) parcel i.0 refl i.1 (long_of parcel i.0 fit i.3))),
+      (refused-long (trail setting es).events (Ok parcel) parcel i.0 refl i.1 (long_of parcel i.0 fit i.2))),
 )
 unissued setting p q es lane w parcel (errors.InputOutput kinds.WriteFault) a k fit f i e = (
-  i.5,
+  i.4,
   as_answer write_fault a (Unissued setting p es lane w) e (record {
-    follows = follows_unsent setting p es lane w (Ok parcel) _ k f (not_refused (trail setting es).events (Ok parcel) parcel i.0 refl i.1 i.3) (failed_ne _ i.4) (λ success. rw (i.4) refl);
-    writes = λ start now x. writes_unsent setting start now es lane w (Ok parcel) _ k (failed_ne _ i.4) (λ g. fault_was_written setting es f.legal (failed_so (trail setting es).events i.4)) x;
+    follows = follows_unsent setting p es lane w (Ok parcel) _ k f (not_refused (trail setting es).events (Ok parcel) parcel i.0 refl i.1 i.2.1) (failed_ne _ i.3) (λ success. rw (i.3) refl);
+    writes = λ start now x. writes_unsent setting start now es lane w (Ok parcel) _ k (failed_ne _ i.3) (λ g. fault_was_written setting es f.legal (failed_so (trail setting es).events i.3)) x;
   }),
 )
 unissued setting p q es lane w parcel (errors.InputOutput kinds.Closed) a k fit f i e = (
-  i.5,
+  i.4,
   as_answer write_closed a (Unissued setting p es lane w) e (record {
-    follows = follows_unsent setting p es lane w (Ok parcel) _ k f (not_refused (trail setting es).events (Ok parcel) parcel i.0 refl i.1 i.3) (closed_ne _ i.4) (λ success. rw (i.4) refl);
-    writes = λ start now x. writes_unsent setting start now es lane w (Ok parcel) _ k (closed_ne _ i.4) (λ g. absurd (cc)) x;
+    follows = follows_unsent setting p es lane w (Ok parcel) _ k f (not_refused (trail setting es).events (Ok parcel) parcel i.0 refl i.1 i.2.1) (closed_ne _ i.3) (λ success. rw (i.3) refl);
+    writes = λ start now x. writes_unsent setting start now es lane w (Ok parcel) _ k (closed_ne _ i.3) (λ g. absurd (cc)) x;
   }),
 )
-unissued setting p q es lane w parcel (errors.Variant faults.Depth) a k fit f i e = absurd (let d = fit.0 in let n = i.2 in omega (arith, d, n))
+unissued setting p q es lane w parcel (errors.Variant faults.Depth) a k fit f i e = absurd (true≢false (sym i.0 ∙ le-ltb _ _ fit.0))
 unissued setting p q es lane w parcel errors.Memory a k fit f i e = cc
 unissued setting p q es lane w parcel other a k fit f i e = absurd i
 
@@ -157,20 +162,20 @@ failed_then setting es lane w parcel serial a k answer fine next f =
     cc
 
 sending_by : (setting : Setting) (p q r : PeerView) (es : List Entry) (lane : ℕ) (w : Words) (parcel : Parcel) (issued : Issued) (now after : Outlet) (writing : Writing) (a : Answer) (m : Seen)
-    → IsSending (trail setting es) lane w (Ok parcel) → Follows setting p es → Issues p.core q.core parcel (trail setting es).events (Ok issued)
+    → IsSending (trail setting es) lane w (Ok parcel) → Follows setting p es → IssuesOne p.core q.core parcel (trail setting es).events (Ok issued)
     → q.names ≡ p.names → q.streams ≡ p.streams → q.given ≡ p.given → m ≡ message_of parcel issued.serial → is_some issued.call ≡ expects (Ok parcel)
     → Sent q r lane issued m now after writing a → Sending setting r es lane w now after writing a
 sending_by setting p q r es lane w parcel issued now after writing a m k f i n t g is made (WentOut answer names streams given left appends falls faults still) =
     let h = (trail setting es).events in
     let b = expects (Ok parcel) in
-    let none = not_refused h (Ok parcel) parcel issued.serial refl i.0 i.2 in
+    let none = not_refused h (Ok parcel) parcel issued.serial refl i.0 i.1.1 in
     let to : sent_answer b (count lane p.names) issued.serial ≡ a = sym (answer ∙ ap (λ x. sent_answer x (count lane q.names) issued.serial) made ∙ ap (λ ns. sent_answer b (count lane ns) issued.serial) n) in
     record {
       follows = subst (λ x. Follows setting r (entry lane w x ∷ es)) to
-          (follows_sent setting p r es lane issued.serial w parcel k f none i.3 (next_serial-next h issued.serial i.0)
-          (names ∙ ap (λ x. named x (Some lane) q.names) made ∙ ap (named b (Some lane)) n) (streams ∙ t) (given ∙ g) (left _ i.6));
+          (follows_sent setting p r es lane issued.serial w parcel k f none i.2 (next_serial-next h issued.serial i.0)
+          (names ∙ ap (λ x. named x (Some lane) q.names) made ∙ ap (named b (Some lane)) n) (streams ∙ t) (given ∙ g) (left _ i.5));
       writes = λ start x. subst (λ y. Writes setting start after (entry lane w y ∷ es)) to
-          (writes_sent setting start now after es lane (count lane p.names) issued.serial w parcel k (fine_unfailed h i.3) (subst (λ j. Appends now.held after.held j.bytes) is appends)
+          (writes_sent setting start now after es lane (count lane p.names) issued.serial w parcel k (fine_unfailed h i.2) (subst (λ j. Appends now.held after.held j.bytes) is appends)
           (subst (λ (j : Seen). RoomFalls now.room after.room (length j.bytes)) is falls) faults x);
       reads = λ start now_in x. reads_send setting start now_in es lane w (Ok parcel) a k (never_sent (is_some issued.call) (count lane q.names) issued.serial a answer) x;
       fine = λ e. still;
@@ -178,22 +183,22 @@ sending_by setting p q r es lane w parcel issued now after writing a m k f i n t
 sending_by setting p q r es lane w parcel issued now after writing a m k f i n t g is made (WriteFailed answer names streams given left j part breaks rises over) =
     let h = (trail setting es).events in
     let b = expects (Ok parcel) in
-    let none = not_refused h (Ok parcel) parcel issued.serial refl i.0 i.2 in
+    let none = not_refused h (Ok parcel) parcel issued.serial refl i.0 i.1.1 in
     let next = next_serial-next h issued.serial i.0 in
     record {
       follows = subst (λ x. Follows setting r (entry lane w x ∷ es)) (sym answer)
-          (follows_failed setting p r es lane issued.serial w parcel k f none i.3 next
-          (names ∙ ap (λ x. named x None q.names) made ∙ ap (named b None) n) (streams ∙ t) (given ∙ g) (left _ i.6));
+          (follows_failed setting p r es lane issued.serial w parcel k f none i.2 next
+          (names ∙ ap (λ x. named x None q.names) made ∙ ap (named b None) n) (streams ∙ t) (given ∙ g) (left _ i.5));
       writes = λ start x. subst (λ y. Writes setting start after (entry lane w y ∷ es)) (sym answer)
-          (writes_failed setting start now after es lane issued.serial w parcel j k i.3 next (subst (λ (s : Seen). Part s.bytes now.held after.held j) is part) breaks rises x);
+          (writes_failed setting start now after es lane issued.serial w parcel j k i.2 next (subst (λ (s : Seen). Part s.bytes now.held after.held j) is part) breaks rises x);
       reads = λ start now_in x. reads_send setting start now_in es lane w (Ok parcel) a k (λ e. cc) x;
-      fine = λ e. absurd (failed_then setting es lane w parcel issued.serial a k answer i.3 next e);
+      fine = λ e. absurd (failed_then setting es lane w parcel issued.serial a k answer i.2 next e);
     }
 
 -- a message was issued, and sent or not
 pub sending : (setting : Setting) (p q r : PeerView) (es : List Entry) (lane : ℕ) (w : Words) (parcel : Parcel) (issued : Issued) (now after : Outlet) (takes : Bool) (before writing : Writing) (a : Answer)
     → asks (trail setting es) lane w ≡ Some (Ok parcel) → is_unsupported (counted parcel.draft parcel.fds).fields.unix_fds takes ≡ false
-    → Follows setting p es → Issues p.core q.core parcel (trail setting es).events (Ok issued)
+    → Follows setting p es → IssuesOne p.core q.core parcel (trail setting es).events (Ok issued)
     → IsFine (trail setting es).events before → q.names ≡ p.names → q.streams ≡ p.streams → q.given ≡ p.given
     → ((m : Seen) → slice_get q.core.outbox issued.index ≡ Some m → is_unsupported m.unix_fds takes ≡ false → before ≡ Fine → Sent q r lane issued m now after writing a)
     → Sending setting r es lane w now after writing a
@@ -202,8 +207,8 @@ sending setting p q r es lane w parcel issued now after takes before writing a w
     let m = message_of parcel issued.serial in
     let k = sending_is (trail setting es) lane w (Ok parcel) wants in
     let b = expects (Ok parcel) in
-    sending_by setting p q r es lane w parcel issued now after writing a m k f i n t g refl (ap is_some i.5 ∙ makes_call b (length (events.calls h)))
-    (sent m (waits_there q.core h m b issued.index i.4 i.6) (can_send parcel issued.serial takes can) (fine i.3))
+    sending_by setting p q r es lane w parcel issued now after writing a m k f i n t g refl (ap is_some i.4 ∙ makes_call b (length (events.calls h)))
+    (sent m (waits_there q.core h m b issued.index i.3 i.5) (can_send parcel issued.serial takes can) (fine i.2))
 
 -- ---- nothing was sent
 
@@ -219,7 +224,7 @@ nothing_sent setting p q es lane w asked now writing a k same u never fine = rec
 
 -- a message wasn't issued
 pub not_sending : (setting : Setting) (p q : PeerView) (es : List Entry) (lane : ℕ) (w : Words) (parcel : Parcel) (error : Error) (a : Answer) (now : Outlet) (writing : Writing)
-    → asks (trail setting es) lane w ≡ Some (Ok parcel) → AreWritable parcel → Follows setting p es → Issues p.core q.core parcel (trail setting es).events (Err error)
+    → asks (trail setting es) lane w ≡ Some (Ok parcel) → AreWritable parcel → Follows setting p es → IssuesOne p.core q.core parcel (trail setting es).events (Err error)
     → unsent_answer error ≡ Some a → q.names ≡ p.names → q.streams ≡ p.streams → q.given ≡ p.given → IsFine (trail setting es).events writing
     → Sending setting q es lane w now now writing a
 not_sending setting p q es lane w parcel error a now writing wants fit f i e n t g fine =
@@ -244,11 +249,6 @@ unsent_ok error (Err e) n = tt
 
 -- ---- a command that sends, whole
 
--- what a letter that was made asks for
-made_letter : (asked : Option Asked) (parcel : Parcel) → MakesAsked (Ok parcel) asked → asked ≡ Some (Ok parcel)
-made_letter None parcel m = absurd m
-made_letter (Some asked) parcel m = ap Some m
-
 no_letter : (asked : Option Asked) (error : Error) → (error ≡ errors.Memory → ⊥) → MakesAsked (Err error) asked → asked ≡ Some (Err error)
 no_letter None error n m = absurd m
 no_letter (Some asked) errors.Memory n m = absurd (n refl)
@@ -262,27 +262,30 @@ can_take : (fds : List ℕ) (takes : Bool) → are_refused fds takes ≡ false �
 can_take [] takes e = refl
 can_take (fd ∷ fds) takes e = let z : (length (fd ∷ fds) == 0) ≡ false = grind (arith, nat_tests) in rw z e
 
+-- what is asked for can be written, and the sink takes it
+goes_by : (setting : Setting) (es : List Entry) (lane : ℕ) (w : Words) (parcel : Parcel) → asks (trail setting es) lane w ≡ Some (Ok parcel) → CanGo setting parcel
+goes_by setting es lane w parcel wants =
+    let t = trail setting es in
+    subst (λ s. CanGo s parcel) (trail_setting setting es) (asked_goes t.setting (λ n. given t lane n) w parcel wants)
+
 -- the letter was issued, and sent or not
 pub letter_sent : (setting : Setting) (p q r : PeerView) (es : List Entry) (lane : ℕ) (w : Words) (parcel : Parcel) (issued : Issued) (now after : Outlet) (before writing : Writing) (a : Answer)
-    → MakesAsked (Ok parcel) (kept_asks setting p lane w) → Follows setting p es → Issues p.core q.core parcel (trail setting es).events (Ok issued)
+    → asks (trail setting es) lane w ≡ Some (Ok parcel) → Follows setting p es → IssuesOne p.core q.core parcel (trail setting es).events (Ok issued)
     → IsFine (trail setting es).events before → q.names ≡ p.names → q.streams ≡ p.streams → q.given ≡ p.given
     → ((m : Seen) → slice_get q.core.outbox issued.index ≡ Some m → is_unsupported m.unix_fds setting.takes_fds ≡ false → before ≡ Fine → Sent q r lane issued m now after writing a)
     → Sending setting r es lane w now after writing a
-letter_sent setting p q r es lane w parcel issued now after before writing a made f i fine n t g sent =
-    let is = made_letter (kept_asks setting p lane w) parcel made in
-    let goes = asked_goes setting (λ k. kept_at p.given (place 0 lane k p.streams)) w parcel is in
-    sending setting p q r es lane w parcel issued now after setting.takes_fds before writing a (sym (asks_kept setting p es lane w f) ∙ is)
+letter_sent setting p q r es lane w parcel issued now after before writing a wants f i fine n t g sent =
+    let goes = goes_by setting es lane w parcel wants in
+    sending setting p q r es lane w parcel issued now after setting.takes_fds before writing a wants
     (can_take parcel.fds setting.takes_fds goes.taken) f i fine n t g sent
 
 -- the letter wasn't issued
 pub letter_not_sent : (setting : Setting) (p q : PeerView) (es : List Entry) (lane : ℕ) (w : Words) (parcel : Parcel) (error : Error) (a : Answer) (now : Outlet) (writing : Writing)
-    → MakesAsked (Ok parcel) (kept_asks setting p lane w) → Follows setting p es → Issues p.core q.core parcel (trail setting es).events (Err error)
+    → asks (trail setting es) lane w ≡ Some (Ok parcel) → Follows setting p es → IssuesOne p.core q.core parcel (trail setting es).events (Err error)
     → unsent_answer error ≡ Some a → q.names ≡ p.names → q.streams ≡ p.streams → q.given ≡ p.given → IsFine (trail setting es).events writing
     → Sending setting q es lane w now now writing a
-letter_not_sent setting p q es lane w parcel error a now writing made f i e n t g fine =
-    let is = made_letter (kept_asks setting p lane w) parcel made in
-    let goes = asked_goes setting (λ k. kept_at p.given (place 0 lane k p.streams)) w parcel is in
-    not_sending setting p q es lane w parcel error a now writing (sym (asks_kept setting p es lane w f) ∙ is) goes.written f i e n t g fine
+letter_not_sent setting p q es lane w parcel error a now writing wants f i e n t g fine =
+    not_sending setting p q es lane w parcel error a now writing wants (goes_by setting es lane w parcel wants).written f i e n t g fine
 
 not_memory : (E : Type 0) (error : Error) (a : Answer) → IsRefusal {E = E} error (Ok a) → error ≡ errors.Memory → ⊥
 not_memory E errors.Memory a is e = is
@@ -301,10 +304,10 @@ letter_refused E setting p es lane w error (Ok a) now writing made is f fine =
     not_asked setting p es lane w error a now writing (sym (asks_kept setting p es lane w f) ∙ no_letter (kept_asks setting p lane w) error never made) f (refusal_is E error a never is) fine
 letter_refused E setting p es lane w error (Err e) now writing made is f fine = tt
 
--- the same for each history that the peer follows, by what it has inside
-pub letter_refused_of : (E : Type 0) (setting : Setting) (p v : PeerView) (lane : ℕ) (w : Words) (error : Error) (r : Result Answer E) (now : Outlet) (writing : Writing)
-    → p ≡ v → MakesAsked (Err error) (kept_asks setting p lane w) → IsRefusal error r
-    → IfOk r (λ a. (es : List Entry) → Follows setting v es → IsFine (trail setting es).events writing → Sending setting v es lane w now now writing a)
-letter_refused_of E setting p v lane w error (Ok a) now writing same made is = λ es f fine.
-    letter_refused E setting v es lane w error (Ok a) now writing (subst (λ u. MakesAsked (Err error) (kept_asks setting u lane w)) same made) is f fine
-letter_refused_of E setting p v lane w error (Err e) now writing same made is = tt
+-- the same for each setting and each history that the peer follows, by what it has inside
+pub letter_refused_of : (E : Type 0) (takes : Bool) (p v : PeerView) (lane : ℕ) (w : Words) (error : Error) (r : Result Answer E) (now : Outlet) (writing : Writing)
+    → p ≡ v → ((setting : Setting) → setting.takes_fds ≡ takes → MakesAsked (Err error) (kept_asks setting p lane w)) → IsRefusal error r
+    → IfOk r (λ a. (setting : Setting) (es : List Entry) → setting.takes_fds ≡ takes → Follows setting v es → IsFine (trail setting es).events writing → Sending setting v es lane w now now writing a)
+letter_refused_of E takes p v lane w error (Ok a) now writing same made is = λ setting es can f fine.
+    letter_refused E setting v es lane w error (Ok a) now writing (subst (λ u. MakesAsked (Err error) (kept_asks setting u lane w)) same (made setting can)) is f fine
+letter_refused_of E takes p v lane w error (Err e) now writing same made is = tt

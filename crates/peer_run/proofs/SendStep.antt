@@ -321,7 +321,7 @@ earlier A B C (inl a) f = inl a
 earlier A B C (inr b) f = inr (f b)
 
 pub fault_was_written : (setting : Setting) (es : List Entry) → Legal setting es → events.is_failed (trail setting es).events ≡ true → HasWriteFault es
-fault_was_written setting [] legal f = let none = (first_same setting.queue).failed in cc
+fault_was_written setting [] legal f = let none = (first_same setting.name setting.queue).failed in cc
 fault_was_written setting (e ∷ es) legal f =
     earlier (IsWriteFault e.answer) (events.is_failed (trail setting es).events ≡ true) (HasWriteFault es)
     (fails_by setting es e.lane e.words e.answer legal.0 f) (fault_was_written setting es legal.1)

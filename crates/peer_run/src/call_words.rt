@@ -7,42 +7,18 @@ ghost use Rattle.wire_message.specs.declared.error.Error.TheVariants as errors;
 ghost use Rattle.wire_message.specs.declared.kind.MessageType.TheVariants as types;
 ghost use Rattle.peer_route.specs.Parcel.{Setting};
 ghost use Rattle.peer_route.specs.BodyWord.{ReadsBody};
-ghost use Rattle.peer_route.specs.CallMessage.{flags_number, order_of, is_outside, name_refusal, values_in, call_draft, call_asked, signal_draft, signal_asked, reply_asked, error_asked};
+ghost use Rattle.peer_route.specs.CallMessage.{flags_number, order_of, fds_of, is_outside, name_refusal, values_in, call_draft, call_asked, signal_draft, signal_asked, reply_asked, error_asked};
 ghost use Rattle.peer_run.specs.Stands.{setting_by};
 ghost use Rattle.peer_run.specs.CallWords.{MakesDraft, MakesParcel, lettered, letters_asked};
 
 use bitflags::Flags as _;
-use peer_route::{CallFlags, Outgoing, read_body};
-use std::alloc::Global;
-use std::marker::Model;
+use peer_route::{CallFlags, Letter, Outgoing, read_body};
+use std::alloc::{AllocError, Global};
 use wire_body::Body;
 use wire_message::{Builder, Error, Flags, Message, Result};
-use wire_names::{
-    BusName, Bytes, ErrorName, InterfaceName, MemberName, NamesError, ObjectPath, OwnedUniqueName,
-};
+use wire_names::{BusName, Bytes, ErrorName, InterfaceName, MemberName, NamesError, ObjectPath};
 use wire_number::Endian;
 use wire_signature::VariantError;
-
-/// A message to be sent: its header, the values of its body, and whether the descriptor 0 goes with it.
-pub(crate) struct Letter<'a> {
-    pub(crate) builder: Builder<'a>,
-    pub(crate) body: Body,
-    pub(crate) descriptor: bool,
-}
-
-impl<'a> Model for Letter<'a> {
-    ghost use Rattle.wire_number.specs.contracts.endian.Endian as orders;
-    ghost use Rattle.wire_message.specs.contracts.kind.MessageType as kinds;
-    ghost use Rattle.peer_route.specs.Parcel.{Parcel};
-    ghost use Rattle.peer_route.specs.CallMessage.{fds_of};
-    ghost use Rattle.peer_run.specs.ParcelCode.{parcel_code};
-
-    ghost Value = { Parcel };
-
-    ghost coded = { parcel_code kinds.the_row.coded orders.the_row.coded };
-
-    ghost view = { λ l. record { draft = l.builder; values = l.body; fds = fds_of l.descriptor } };
-}
 
 /// The bus name of a text, if there is a text.
 fn bus_name(text: &Option<Bytes>) -> Result<Option<BusName<'_>>>
@@ -166,17 +142,6 @@ fn with_interface<'a>(builder: Builder<'a>, interface: &Option<InterfaceName<'a>
     }
 }
 
-/// With the sender that is given.
-fn with_sender<'a>(builder: Builder<'a>, name: &'a Option<OwnedUniqueName>) -> Builder<'a>
-    requires { builder.fields.sender ≡ None }
-    ensures { result ≡ record builder.entry { fields = record builder.entry.fields { sender = name.now } } }
-{
-    match name {
-        Some(name) => builder.sender(&name.as_ref()),
-        None => builder,
-    }
-}
-
 /// The flag where it is asked for, else none.
 fn flag_if(asked: bool, flag: Flags) -> Flags
     ensures { result.0 ≡ (if asked then flag.0 else 0) }
@@ -210,9 +175,21 @@ fn with_letters<'a>(builder: Builder<'a>, flags: CallFlags) -> Result<Builder<'a
         .with_flags(flags_of(flags))
 }
 
+/// The list of descriptors: the one number 0 where it is asked for.
+fn fds_of(alloc: Global, descriptor: bool) -> std::result::Result<Vec<u32>, AllocError>
+    ensures { IfOk result (λ fds. fds.items ≡ fds_of descriptor) }
+{
+    let mut fds = Vec::new(alloc);
+    if descriptor {
+        fds.push(0)?;
+    }
+    Ok(fds)
+}
+
 /// The message with those letters and that body: refused where its type can't have the flags, then where it carries a
 /// descriptor and the sink takes none.
 fn with_body<'a>(
+    alloc: Global,
     builder: Builder<'a>,
     body: Body,
     flags: CallFlags,
@@ -225,109 +202,93 @@ fn with_body<'a>(
     if flags.descriptor && !takes_fds {
         return Err(Error::Unsupported);
     }
-    Ok(Letter {
-        builder,
-        body,
-        descriptor: flags.descriptor,
-    })
+    let fds = fds_of(alloc, flags.descriptor)?;
+    Ok(Letter { builder, body, fds })
 }
 
 /// The header of a call, before its letters are looked at. Refused exactly where a word is outside its grammar, for the
 /// first such word.
-fn call_builder<'a>(
-    words: &'a Outgoing,
-    name: &'a Option<OwnedUniqueName>,
-    takes_fds: bool,
-) -> Result<Builder<'a>>
-    ensures { MakesDraft result (call_draft (setting_by name.now None takes_fds) words.now) }
+fn call_builder<'a>(words: &'a Outgoing, takes_fds: bool) -> Result<Builder<'a>>
+    ensures { MakesDraft result (call_draft (setting_by None None takes_fds) words.now) }
 {
     let destination = bus_name(&words.destination)?;
     let path = object_path(&words.path)?;
     let interface = interface_name(&words.interface)?;
     let member = member_name(&words.member)?;
     let builder = with_destination(Message::method_call(&path, &member), &destination);
-    Ok(with_sender(with_interface(builder, &interface), name))
+    Ok(with_interface(builder, &interface))
 }
 
 /// The header of a signal, before its letters are looked at. Refused exactly where a word is outside its grammar, for the
 /// first such word.
-fn signal_builder<'a>(
-    words: &'a Outgoing,
-    name: &'a Option<OwnedUniqueName>,
-    takes_fds: bool,
-) -> Result<Builder<'a>>
-    ensures { MakesDraft result (signal_draft (setting_by name.now None takes_fds) words.now) }
+fn signal_builder<'a>(words: &'a Outgoing, takes_fds: bool) -> Result<Builder<'a>>
+    ensures { MakesDraft result (signal_draft (setting_by None None takes_fds) words.now) }
 {
     let destination = bus_name(&words.destination)?;
     let path = object_path(&words.path)?;
     let interface = needed_interface(&words.interface)?;
     let member = member_name(&words.member)?;
-    let builder = with_destination(Message::signal(&path, &interface, &member), &destination);
-    Ok(with_sender(builder, name))
+    Ok(with_destination(Message::signal(&path, &interface, &member), &destination))
 }
 
-/// The method call of these words, sent by the peer of that name to a sink that takes descriptors or none.
+/// The method call of these words, to a sink that takes descriptors or none; its sender isn't set yet.
 pub(crate) fn call_letter<'a>(
     alloc: Global,
     words: &'a Outgoing,
-    name: &'a Option<OwnedUniqueName>,
     takes_fds: bool,
 ) -> Result<Letter<'a>>
-    ensures { MakesParcel result (call_asked (setting_by name.now None takes_fds) words.now) }
+    ensures { MakesParcel result (call_asked (setting_by None None takes_fds) words.now) }
 {
-    let builder = call_builder(words, name, takes_fds)?;
+    let builder = call_builder(words, takes_fds)?;
     let body = body_in(alloc, &words.body)?;
-    with_body(builder, body, words.flags, takes_fds)
+    with_body(alloc, builder, body, words.flags, takes_fds)
 }
 
-/// The signal of these words, sent by the peer of that name to a sink that takes descriptors or none.
+/// The signal of these words, to a sink that takes descriptors or none; its sender isn't set yet.
 pub(crate) fn signal_letter<'a>(
     alloc: Global,
     words: &'a Outgoing,
-    name: &'a Option<OwnedUniqueName>,
     takes_fds: bool,
 ) -> Result<Letter<'a>>
-    ensures { MakesParcel result (signal_asked (setting_by name.now None takes_fds) words.now) }
+    ensures { MakesParcel result (signal_asked (setting_by None None takes_fds) words.now) }
 {
-    let builder = signal_builder(words, name, takes_fds)?;
+    let builder = signal_builder(words, takes_fds)?;
     let body = body_in(alloc, &words.body)?;
-    with_body(builder, body, words.flags, takes_fds)
+    with_body(alloc, builder, body, words.flags, takes_fds)
 }
 
-/// The method return to a message, with the body of that word.
+/// The method return to a message, with the body of that word; its sender isn't set yet.
 pub(crate) fn reply_letter<'a>(
     alloc: Global,
     message: &'a Message,
-    name: &'a Option<OwnedUniqueName>,
     body: &Option<Bytes>,
 ) -> Result<Letter<'a>>
-    ensures { MakesParcel result (reply_asked (setting_by name.now None false) (Some message.now) body.now) }
+    ensures { MakesParcel result (reply_asked (setting_by None None false) (Some message.now) body.now) }
 {
     let body = body_in(alloc, body)?;
-    let builder = with_sender(Message::method_return(&message.header()), name);
+    let builder = Message::method_return(&message.header());
     Ok(Letter {
         builder,
         body,
-        descriptor: false,
+        fds: Vec::new(alloc),
     })
 }
 
-/// The error of that name to a message, with the body of that word.
+/// The error of that name to a message, with the body of that word; its sender isn't set yet.
 pub(crate) fn error_letter<'a>(
     alloc: Global,
     message: &'a Message,
-    name: &'a Option<OwnedUniqueName>,
     error: &'a Bytes,
     body: &Option<Bytes>,
 ) -> Result<Letter<'a>>
-    ensures { MakesParcel result (error_asked (setting_by name.now None false) (Some message.now) error.now body.now) }
+    ensures { MakesParcel result (error_asked (setting_by None None false) (Some message.now) error.now body.now) }
 {
     let error = error_name(error)?;
     let body = body_in(alloc, body)?;
-    let builder = with_sender(Message::error(&message.header(), &error), name);
+    let builder = Message::error(&message.header(), &error);
     Ok(Letter {
         builder,
         body,
-        descriptor: false,
+        fds: Vec::new(alloc),
     })
 }

@@ -2,13 +2,15 @@ ghost use Rattle.std.specs.Prelude.{ℕ, ◌≡◌, ◌≢◌, ◌+◌, ◌≤�
 ghost use Rattle.peer_route.specs.declared.answer.Entry.{Entry};
 ghost use Rattle.peer_route.specs.declared.words.Words.TheVariants as words;
 ghost use Rattle.peer_route.specs.declared.writer.Writer.TheVariants as writers;
-ghost use Rattle.peer_route.specs.Parcel.{Setting};
-ghost use Rattle.peer_route.specs.CallMessage.{fds_of};
+ghost use Rattle.peer_route.specs.Parcel.{Setting, sent_by};
 ghost use Rattle.peer_route.specs.Trail as trails;
 ghost use Rattle.peer_route.specs.Trail.{trail, asks_with, kept_at};
 ghost use Rattle.peer_route.specs.Answers as shows;
 ghost use Rattle.peer_route.specs.Answers.{sent_answer};
+ghost use Rattle.peer_route.specs.History.{Event};
+ghost use Rattle.peer_route.specs.Left.{Left};
 ghost use Rattle.peer_run.specs.CallWords.{MakesAsked};
+ghost use Rattle.peer_run.specs.OneLetter.{IssuesOne, WaitsOne};
 ghost use Rattle.peer_run.specs.Stands.{PeerView, Inlet, Outlet, Follows, Reads, Writes, Sent, Sending, IsFine, setting_by, sends, given_after, named, entry};
 ghost use Rattle.wire_framing.specs.Receive.{Receives, Takes};
 ghost use Rattle.wire_framing.specs.Writing.{is_unsupported};
@@ -16,15 +18,15 @@ ghost use Rattle.wire_framing.specs.declared.write_half.Writing.TheVariants.{Fin
 ghost use Rattle.wire_message.specs.Front.{Seen};
 ghost use Rattle.wire_message.specs.declared.error.IoKind.TheVariants.{Ended};
 
-use crate::call_words::{Letter, call_letter, error_letter, reply_letter, signal_letter};
+use crate::call_words::{call_letter, error_letter, reply_letter, signal_letter};
 use crate::lanes::Lanes;
 use crate::showing::{not_issued, refused, shown, shown_drop};
-use peer_route::{Answer, Issued, Route, Words};
-use peer_script::Setup;
+use peer_route::{Answer, Issued, Letter, Route, Words};
 use std::alloc::{AllocError, AllocFailed, Global};
 use std::marker::Model;
 use wire_framing::{ReadHalf, Sink, Source, WriteHalf};
 use wire_message::{Error, IoKind, Message, Sequence};
+use wire_names::OwnedUniqueName;
 
 /// Why a run ended early.
 #[derive(Clone, Copy, PartialEq, Eq, Debug)]
@@ -81,38 +83,32 @@ fn given_last<'a>(
     }
 }
 
-/// What a command that sends asks for.
+/// What a command that sends asks for; its sender isn't set yet.
 fn letter_of<'a>(
     alloc: Global,
     given: &'a [Option<Message>],
     streams: &Lanes,
     lane: u32,
-    setup: &'a Setup,
     takes_fds: bool,
     words: &'a Words,
 ) -> wire_message::Result<Letter<'a>>
     requires { sends words.now ≡ true }
-    ensures { MakesAsked result (asks_with (setting_by setup.now.name setup.now.queue takes_fds) (λ number. kept_at given.now (trails.place 0 lane number streams.now)) words.now) }
+    ensures { MakesAsked result (asks_with (setting_by None None takes_fds) (λ number. kept_at given.now (trails.place 0 lane number streams.now)) words.now) }
 {
-    let name = &setup.name;
     match words {
-        Words::Call(words) => call_letter(alloc, words, name, takes_fds),
-        Words::Signal(words) => signal_letter(alloc, words, name, takes_fds),
+        Words::Call(words) => call_letter(alloc, words, takes_fds),
+        Words::Signal(words) => signal_letter(alloc, words, takes_fds),
         Words::Reply { stream, body } => {
             let Some(message) = given_last(given, streams, lane, *stream) else {
                 return Err(Error::UnknownHandle);
             };
-            reply_letter(alloc, message, name, body)
+            reply_letter(alloc, message, body)
         }
-        Words::Error {
-            stream,
-            name: error_name,
-            body,
-        } => {
+        Words::Error { stream, name, body } => {
             let Some(message) = given_last(given, streams, lane, *stream) else {
                 return Err(Error::UnknownHandle);
             };
-            error_letter(alloc, message, name, error_name, body)
+            error_letter(alloc, message, name, body)
         }
         Words::Read
         | Words::Poll(_)
@@ -130,11 +126,19 @@ fn letter_of<'a>(
     }
 }
 
-/// The list of descriptors: the one number 0 where it is asked for.
-fn fds_of(descriptor: bool) -> &'static [u32]
-    ensures { result.now ≡ fds_of descriptor }
+/// Issues one message, sent by the peer; no call is served by it.
+fn issue_one(alloc: Global, route: &mut Route, letter: Letter<'_>) -> wire_message::Result<Issued>
+    requires { length letter.fds < 2 ^ 32 }
+    ensures issues { (h : List Event) → Left route.old h → IssuesOne route.old route.new (sent_by route.old.name false letter.entry) h result }
+    ensures placed { IfOk result (WaitsOne route.old route.new) }
 {
-    if descriptor { &[0] } else { &[] }
+    let mut list = Vec::new(alloc);
+    list.push(letter)?;
+    let mut issued = route.issue(list, false)?;
+    match issued.pop() {
+        Some(issued) => Ok(issued),
+        None => unreachable!(),
+    }
 }
 
 /// Takes one message, the `seq`-th, and no byte more, by a half that kept nothing (D-Bus Specification, "Message
@@ -158,13 +162,16 @@ fn receive<S: Source>(
 }
 
 impl Peer {
-    /// A peer that nothing happened to, whose streams may hold so many messages, if that is set.
-    pub(crate) fn new(alloc: Global, queue: Option<u64>) -> Peer
-        ensures { (setting : Setting) → setting.queue ≡ queue → Follows setting result [] }
+    /// A peer that nothing happened to, with that name, if it has one, whose streams may hold so many messages, if that is set.
+    pub(crate) fn new(alloc: Global, name: Option<OwnedUniqueName>, queue: Option<u64>) -> Peer
+        ensures { (setting : Setting) → setting.name ≡ name → setting.queue ≡ queue → Follows setting result [] }
     {
         let mut route = Route::new(alloc);
         if let Some(limit) = queue {
             route.set_main_max_queued(limit);
+        }
+        if let Some(name) = name {
+            route.set_unique_name(name);
         }
         Peer {
             route,
@@ -319,19 +326,18 @@ impl Peer {
         }
     }
 
-    /// Sends what the command of the setup's peer asks for; it is one that sends.
+    /// Sends what the command asks for; it is one that sends.
     pub(crate) fn send_words<W: Sink>(
         &mut self,
         alloc: Global,
         half: &mut WriteHalf<W>,
         lane: u32,
-        setup: &Setup,
         words: &Words,
     ) -> Result<Answer, RunError>
         requires sends { sends words.now ≡ true }
         requires written { self.old.core.done ≡ length self.old.core.outbox }
-        ensures sent { IfOk result (λ answer. (es : List Entry) → Follows (setting_by setup.now.name setup.now.queue (W.takes half.old.sink)) self.old es → IsFine (trail (setting_by setup.now.name setup.now.queue (W.takes half.old.sink)) es).events half.old.writing
-            → Sending (setting_by setup.now.name setup.now.queue (W.takes half.old.sink)) self.new es lane words.now (record { held = W.held half.old.sink; room = W.room half.old.sink; faults = W.faults half.old.sink })
+        ensures sent { IfOk result (λ answer. (setting : Setting) (es : List Entry) → setting.takes_fds ≡ W.takes half.old.sink → Follows setting self.old es → IsFine (trail setting es).events half.old.writing
+            → Sending setting self.new es lane words.now (record { held = W.held half.old.sink; room = W.room half.old.sink; faults = W.faults half.old.sink })
             (record { held = W.held half.new.sink; room = W.room half.new.sink; faults = W.faults half.new.sink }) half.new.writing answer) }
         ensures grows { W.faults half.old.sink ≤ W.faults half.new.sink }
         ensures takes { W.takes half.new.sink ≡ W.takes half.old.sink }
@@ -343,23 +349,19 @@ impl Peer {
             self.given.as_slice(),
             &self.streams,
             lane,
-            setup,
             takes_fds,
             words,
         );
-        let Letter {
-            builder,
-            body,
-            descriptor,
-        } = match letter {
+        let letter = match letter {
             Ok(letter) => letter,
             Err(error) => return refused(error),
         };
-        match self.route.issue(builder, &body, fds_of(descriptor)) {
+        match issue_one(alloc, &mut self.route, letter) {
             Ok(issued) => self.send(half, lane, issued),
             Err(error) => not_issued(error),
         }
     }
+
     /// Closes the peer; it is closed also where the sink's `close` fails.
     pub(crate) fn close<W: Sink>(&mut self, half: &mut WriteHalf<W>, lane: u32) -> Answer
         ensures closed { (setting : Setting) (es : List Entry) → Follows setting self.old es

@@ -1,18 +1,19 @@
 ghost use Rattle.std.specs.Prelude.{ℕ, ◌≡◌, ◌≤◌, ◌-◌, ◌^◌, length, List, [], ◌∷◌, IfOk};
 ghost use Rattle.peer_route.specs.declared.answer.Entry.{Entry};
+ghost use Rattle.peer_route.specs.Parcel.{Setting};
 ghost use Rattle.peer_run.specs.Stands.{Inlet, Outlet, setting_by, entry};
 ghost use Rattle.peer_run.specs.Runs.{Stands, Runs, command_of};
 
 use crate::peer::{Peer, RunError};
 use peer_route::{Answer, Command, Entry, Words};
 use peer_script::{Setup, Transcript};
-use std::alloc::Global;
+use std::alloc::{AllocError, Global};
 use wire_framing::{ReadHalf, Sink, Source, WriteHalf};
+use wire_names::OwnedUniqueName;
 
 /// The answer of a command.
 fn answer_to<S: Source, W: Sink>(
     alloc: Global,
-    setup: &Setup,
     peer: &mut Peer,
     reader: &mut ReadHalf<S>,
     kept: &mut Vec<u8>,
@@ -22,9 +23,10 @@ fn answer_to<S: Source, W: Sink>(
     requires within { peer.old.core.read ≤ 2 ^ 64 - 2 }
     requires empty { kept.old.items ≡ [] }
     requires written { peer.old.core.done ≡ length peer.old.core.outbox }
-    ensures stands { IfOk result (λ answer. (start_in : Inlet) (start_out : Outlet) (es : List Entry)
-        → Stands (setting_by setup.now.name setup.now.queue (W.takes writer.old.sink)) start_in start_out peer.old (record { left = S.left reader.old.source; stop = S.stop reader.old.source; faults = S.faults reader.old.source }) (record { held = W.held writer.old.sink; room = W.room writer.old.sink; faults = W.faults writer.old.sink }) writer.old.writing es
-        → Stands (setting_by setup.now.name setup.now.queue (W.takes writer.old.sink)) start_in start_out peer.new (record { left = S.left reader.new.source; stop = S.stop reader.new.source; faults = S.faults reader.new.source }) (record { held = W.held writer.new.sink; room = W.room writer.new.sink; faults = W.faults writer.new.sink }) writer.new.writing (entry command.now.lane command.now.words answer ∷ es)) }
+    ensures stands { IfOk result (λ answer. (setting : Setting) (start_in : Inlet) (start_out : Outlet) (es : List Entry)
+        → setting.takes_fds ≡ W.takes writer.old.sink
+        → Stands setting start_in start_out peer.old (record { left = S.left reader.old.source; stop = S.stop reader.old.source; faults = S.faults reader.old.source }) (record { held = W.held writer.old.sink; room = W.room writer.old.sink; faults = W.faults writer.old.sink }) writer.old.writing es
+        → Stands setting start_in start_out peer.new (record { left = S.left reader.new.source; stop = S.stop reader.new.source; faults = S.faults reader.new.source }) (record { held = W.held writer.new.sink; room = W.room writer.new.sink; faults = W.faults writer.new.sink }) writer.new.writing (entry command.now.lane command.now.words answer ∷ es)) }
     ensures empty { IfOk result (λ x. kept.new.items ≡ []) }
     ensures same_source { S.lent reader.new.source ≡ S.lent reader.old.source }
     ensures same_sink { W.lent writer.new.sink ≡ W.lent writer.old.sink }
@@ -48,7 +50,7 @@ fn answer_to<S: Source, W: Sink>(
         Words::Open { max_queued, rule } => peer.open(alloc, lane, *max_queued, rule),
         Words::Close => Ok(peer.close(writer, lane)),
         Words::Call(_) | Words::Signal(_) | Words::Reply { .. } | Words::Error { .. } => {
-            peer.send_words(alloc, writer, lane, setup, &command.words)
+            peer.send_words(alloc, writer, lane, &command.words)
         }
     }
 }
@@ -56,7 +58,6 @@ fn answer_to<S: Source, W: Sink>(
 /// One command and its entry.
 fn step<S: Source, W: Sink>(
     alloc: Global,
-    setup: &Setup,
     peer: &mut Peer,
     reader: &mut ReadHalf<S>,
     kept: &mut Vec<u8>,
@@ -67,9 +68,10 @@ fn step<S: Source, W: Sink>(
     requires empty { kept.old.items ≡ [] }
     requires written { peer.old.core.done ≡ length peer.old.core.outbox }
     ensures command { IfOk result (λ e. command_of e ≡ command.now) }
-    ensures stands { IfOk result (λ e. (start_in : Inlet) (start_out : Outlet) (es : List Entry)
-        → Stands (setting_by setup.now.name setup.now.queue (W.takes writer.old.sink)) start_in start_out peer.old (record { left = S.left reader.old.source; stop = S.stop reader.old.source; faults = S.faults reader.old.source }) (record { held = W.held writer.old.sink; room = W.room writer.old.sink; faults = W.faults writer.old.sink }) writer.old.writing es
-        → Stands (setting_by setup.now.name setup.now.queue (W.takes writer.old.sink)) start_in start_out peer.new (record { left = S.left reader.new.source; stop = S.stop reader.new.source; faults = S.faults reader.new.source }) (record { held = W.held writer.new.sink; room = W.room writer.new.sink; faults = W.faults writer.new.sink }) writer.new.writing (e ∷ es)) }
+    ensures stands { IfOk result (λ e. (setting : Setting) (start_in : Inlet) (start_out : Outlet) (es : List Entry)
+        → setting.takes_fds ≡ W.takes writer.old.sink
+        → Stands setting start_in start_out peer.old (record { left = S.left reader.old.source; stop = S.stop reader.old.source; faults = S.faults reader.old.source }) (record { held = W.held writer.old.sink; room = W.room writer.old.sink; faults = W.faults writer.old.sink }) writer.old.writing es
+        → Stands setting start_in start_out peer.new (record { left = S.left reader.new.source; stop = S.stop reader.new.source; faults = S.faults reader.new.source }) (record { held = W.held writer.new.sink; room = W.room writer.new.sink; faults = W.faults writer.new.sink }) writer.new.writing (e ∷ es)) }
     ensures empty { IfOk result (λ x. kept.new.items ≡ []) }
     ensures same_source { S.lent reader.new.source ≡ S.lent reader.old.source }
     ensures same_sink { W.lent writer.new.sink ≡ W.lent writer.old.sink }
@@ -78,12 +80,25 @@ fn step<S: Source, W: Sink>(
     ensures sink_grows { W.faults writer.old.sink ≤ W.faults writer.new.sink }
 {
     let words = command.words.try_clone(alloc)?;
-    let answer = answer_to(alloc, setup, peer, reader, kept, writer, command)?;
+    let answer = answer_to(alloc, peer, reader, kept, writer, command)?;
     Ok(Entry {
         lane: command.lane,
         words,
         answer,
     })
+}
+
+/// A copy of a name, if there is one.
+fn copied_name(
+    alloc: Global,
+    name: &Option<OwnedUniqueName>,
+) -> Result<Option<OwnedUniqueName>, AllocError>
+    ensures { IfOk result (λ copy. copy ≡ name.now) }
+{
+    match name {
+        Some(name) => Ok(Some(name.try_clone(alloc)?)),
+        None => Ok(None),
+    }
 }
 
 /// Runs the commands over a source and a sink, as the peer of the setup's name, and gives their entries: a legal history of
@@ -107,7 +122,8 @@ pub fn run_peer<S: Source, W: Sink>(
     ensures source_grows { S.faults source.old ≤ S.faults source.new }
     ensures sink_grows { W.faults sink.old ≤ W.faults sink.new }
 {
-    let mut peer = Peer::new(alloc, setup.queue);
+    let name = copied_name(alloc, &setup.name)?;
+    let mut peer = Peer::new(alloc, name, setup.queue);
     let mut reader = ReadHalf::new(source);
     let mut kept = Vec::new(alloc);
     let mut writer = WriteHalf::new(sink);
@@ -115,7 +131,6 @@ pub fn run_peer<S: Source, W: Sink>(
     for command in commands {
         let entry = step(
             alloc,
-            setup,
             &mut peer,
             &mut reader,
             &mut kept,

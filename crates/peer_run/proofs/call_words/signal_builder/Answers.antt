@@ -33,5 +33,5 @@ returns c =
     let p = c.in_ok-path.ensures.ok in
     let i = c.in_ok-interface.ensures.ok in
     let m = c.in_ok-member.ensures.ok in
-    rw (c.with_sender.ensures, c.with_destination-builder.ensures, c.signal.ensures, d.0, p.0, m.0, i.0)
+    rw (c.with_destination.ensures, c.signal.ensures, d.0, p.0, m.0, i.0)
     (refl, good_words _ d.1 (ap not p.1) (ap not i.1) (ap not m.1))

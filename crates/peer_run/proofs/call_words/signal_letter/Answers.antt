@@ -17,5 +17,5 @@ returns-in_err-body c =
 
 pub returns : goal.returns
 returns c =
-    whole types.Signal (setting_by c.args.name.now None c.args.takes_fds) c.args.words.now (Some (unwrap_or c.args.words.now.interface [])) _ _ _
+    whole types.Signal (setting_by None None c.args.takes_fds) c.args.words.now (Some (unwrap_or c.args.words.now.interface [])) _ _ _
     c.in_ok-builder.ensures.0 c.in_ok-builder.ensures.1 c.in_ok-body.ensures c.with_body.ensures

@@ -6,7 +6,7 @@ use Rattle.std.specs.BTreeMap.{UpdatesBy}
 use Rattle.peer_route.specs.declared.calls.Slot.TheVariants.{Waiting}
 use Rattle.peer_route.specs.Left.{CallsView, waiting_serial}
 use Rattle.peer_route.proofs.Index.{registered}
-use Rattle.peer_route.proofs.Issuing.{issued_calls}
+use Rattle.peer_route.proofs.Issues.{issued_calls}
 use Rattle.peer_route.proofs.calls.PendingMethodCalls.register_call.Goals.{then-is_open+in_ok-insert, else-is_open}
 use Rattle.peer_route.proofs.calls.PendingMethodCalls.register_call.Goals as goal
 

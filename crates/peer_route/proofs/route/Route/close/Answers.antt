@@ -1,6 +1,5 @@
-use Rattle.std.proofs.Common.{sym, ◌∙◌, ap, subst, ◌∷◌}
+use Rattle.std.proofs.Common.{sym, subst, ◌∷◌}
 use Rattle.peer_route.specs.History.{Shut, worse, shuts}
-use Rattle.peer_route.specs.declared.writer.Writer.{Writer}
 use Rattle.peer_route.specs.Left.{View, Left, LeftCalls}
 use Rattle.peer_route.proofs.Core.{left_shut}
 use Rattle.peer_route.proofs.route.Route.close.Goals as goal

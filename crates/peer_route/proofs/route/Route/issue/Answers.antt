@@ -1,61 +1,41 @@
--- Issuing draws the serial that building drew, and puts the message that it built.
-use Rattle.std.proofs.Common.{sym, ◌∙◌, ap, subst, Err, Ok}
-use Rattle.std.proofs.lemmas.Result.{err_from_is_err_and}
-use Rattle.wire_message.specs.Draft.{Draft}
-use Rattle.wire_message.specs.Signed.{counted}
-use Rattle.wire_message.specs.Bodies.{BuildsValues}
-use Rattle.peer_route.specs.Parcel.{Parcel}
-use Rattle.peer_route.specs.Left.{View, waiting_serial}
-use Rattle.peer_route.proofs.Issuing.{BuildsParcel, refused, refused_failed, refused_closed, issued, placed_waits, made_free, made_in_circle}
+-- The messages are put by the history, or what was done is taken back.
+use Rattle.std.proofs.Common.{◌≡◌, ◌∙◌, sym, ap, refl, map, subst, false, List, Vec, Global}
+use Rattle.std.specs.List.{list_any}
+use Rattle.std.proofs.lemmas.List.{length-map}
+use Rattle.peer_route.specs.declared.route.Issued.{Issued}
+use Rattle.peer_route.specs.Issuing.{is_deep, Waits}
+use Rattle.peer_route.specs.Parcel.{sent_by}
+use Rattle.peer_route.proofs.Drawn.{deep_sent}
+use Rattle.peer_route.proofs.Issues.{issued_all, refused_all}
+use Rattle.peer_route.proofs.Placed.{all_wait, back_same}
 use Rattle.peer_route.proofs.route.Route.issue.Goals as goal
 
-pub returns-in_err-message-clause-issues : goal.returns-in_err-message-clause-issues
-returns-in_err-message-clause-issues c h left =
-    let parcel : Parcel = record { draft = c.args.builder; values = c.args.body.now; fds = c.args.fds.now } in
-    let P : View → Type 0 = λ v. BuildsParcel v parcel c.build_body_uncounted.new.serials (Err c.in_err-message.field-0.0) in
-    let own = subst (λ (d : Draft). BuildsValues (waiting_serial c.self.inside.calls) (counted d parcel.fds) parcel.values parcel.fds c.self.inside.serials c.build_body_uncounted.new.serials (Err c.in_err-message.field-0.0)) c.without_serial.ensures c.in_err-message.ensures.built in
-    let built = subst P c.self.view_is own in
-    let p = err_from_is_err_and c.from_residual.result c.from_residual.ensures.1 in
-    rw (p.1, p.2) (refused c.args.self.now parcel c.build_body_uncounted.new.serials h c.in_err-message.field-0.0 left built)
+abbrev items : Vec Issued Global → List Issued
+items v = v.items
 
-pub returns-in-Failed-clause-issues : goal.returns-in-Failed-clause-issues
-returns-in-Failed-clause-issues c h left =
-    let parcel : Parcel = record { draft = c.args.builder; values = c.args.body.now; fds = c.args.fds.now } in
-    let P : View → Type 0 = λ v. BuildsParcel v parcel c.build_body_uncounted.new.serials (Ok c.in_ok-message.message) in
-    let own = subst (λ (d : Draft). BuildsValues (waiting_serial c.self.inside.calls) (counted d parcel.fds) parcel.values parcel.fds c.self.inside.serials c.build_body_uncounted.new.serials (Ok c.in_ok-message.message)) c.without_serial.ensures c.in_ok-message.ensures.built in
-    let built = subst P c.self.view_is own in
-    refused_failed c.args.self.now parcel c.in_ok-message.message c.build_body_uncounted.new.serials h left built
-    (ap (λ (v : View). v.writer) (sym c.self.view_is) ∙ c.in-Failed.is)
+pub returns-then-is_some_deep-clause-issues : goal.returns-then-is_some_deep-clause-issues
+returns-then-is_some_deep-clause-issues c h left = (
+  deep_sent c.args.self.now.name c.args.served c.args.list.items
+      ∙ ap (list_any is_deep) (sym c.as_slice.ensures.value) ∙ sym c.is_some_deep.ensures ∙ c.if-is_some_deep.true,
+  refl,
+)
 
-pub returns-in-Closed-clause-issues : goal.returns-in-Closed-clause-issues
-returns-in-Closed-clause-issues c h left =
-    let parcel : Parcel = record { draft = c.args.builder; values = c.args.body.now; fds = c.args.fds.now } in
-    let P : View → Type 0 = λ v. BuildsParcel v parcel c.build_body_uncounted.new.serials (Ok c.in_ok-message.message) in
-    let own = subst (λ (d : Draft). BuildsValues (waiting_serial c.self.inside.calls) (counted d parcel.fds) parcel.values parcel.fds c.self.inside.serials c.build_body_uncounted.new.serials (Ok c.in_ok-message.message)) c.without_serial.ensures c.in_ok-message.ensures.built in
-    let built = subst P c.self.view_is own in
-    refused_closed c.args.self.now parcel c.in_ok-message.message c.build_body_uncounted.new.serials h left built
-    (ap (λ (v : View). v.writer) (sym c.self.view_is) ∙ c.in-Closed.is)
+pub returns-in-Ok-clause-issues : goal.returns-in-Ok-clause-issues
+returns-in-Ok-clause-issues c h left =
+    let shallow : list_any is_deep (map (sent_by c.args.self.now.name c.args.served) c.args.list.items) ≡ false =
+    deep_sent c.args.self.now.name c.args.served c.args.list.items
+    ∙ ap (list_any is_deep) (sym c.as_slice.ensures.value) ∙ sym c.is_some_deep.ensures ∙ c.if-is_some_deep.false in
+    issued_all items c.args.self.now c.put_all.new.self (map (sent_by c.args.self.now.name c.args.served) c.args.list.items) h c.in-Ok.issued shallow left c.in-Ok.ensures.puts
 
-pub returns-in-Fine-clause-issues : goal.returns-in-Fine-clause-issues
-returns-in-Fine-clause-issues c h left =
-    let parcel : Parcel = record { draft = c.args.builder; values = c.args.body.now; fds = c.args.fds.now } in
-    let P : View → Type 0 = λ v. BuildsParcel v parcel c.build_body_uncounted.new.serials (Ok c.in_ok-message.message) in
-    let own = subst (λ (d : Draft). BuildsValues (waiting_serial c.self.inside.calls) (counted d parcel.fds) parcel.values parcel.fds c.self.inside.serials c.build_body_uncounted.new.serials (Ok c.in_ok-message.message)) c.without_serial.ensures c.in_ok-message.ensures.built in
-    let built = subst P c.self.view_is own in
-    issued c.args.self.now c.place.new.self parcel c.in_ok-message.message c.build_body_uncounted.new.serials c.place.result h left built
-    (ap (λ (v : View). v.writer) (sym c.self.view_is) ∙ c.in-Fine.is) c.place.ensures
+pub returns-in-Ok-clause-placed : goal.returns-in-Ok-clause-placed
+returns-in-Ok-clause-placed c =
+    subst (λ n. Waits c.args.self.now c.put_all.new.self n c.in-Ok.issued.items) (length-map c.args.list.items (sent_by c.args.self.now.name c.args.served))
+    (all_wait items c.args.self.now c.put_all.new.self (map (sent_by c.args.self.now.name c.args.served) c.args.list.items) c.in-Ok.issued c.in-Ok.ensures.puts)
 
-pub returns-in-Fine-clause-placed : goal.returns-in-Fine-clause-placed
-returns-in-Fine-clause-placed c =
-    placed_waits c.args.self.now c.place.new.self c.in_ok-message.message c.build_body_uncounted.new.serials c.place.result
-    (ap (λ (v : View). v.writer) (sym c.self.view_is) ∙ c.in-Fine.is) c.place.ensures
-
-pub place-requires : goal.place-requires
-place-requires c =
-    let parcel : Parcel = record { draft = c.args.builder; values = c.args.body.now; fds = c.args.fds.now } in
-    let P : View → Type 0 = λ v. BuildsParcel v parcel c.build_body_uncounted.new.serials (Ok c.in_ok-message.message) in
-    let own = subst (λ (d : Draft). BuildsValues (waiting_serial c.self.inside.calls) (counted d parcel.fds) parcel.values parcel.fds c.self.inside.serials c.build_body_uncounted.new.serials (Ok c.in_ok-message.message)) c.without_serial.ensures c.in_ok-message.ensures.built in
-    let built = subst P c.self.view_is own in record {
-      in_circle = made_in_circle c.args.self.now parcel c.build_body_uncounted.new.serials c.in_ok-message.message built;
-      free = made_free c.args.self.now parcel c.build_body_uncounted.new.serials c.in_ok-message.message built;
-    }
+pub returns-in-Err-clause-issues : goal.returns-in-Err-clause-issues
+returns-in-Err-clause-issues c h left =
+    let shallow : list_any is_deep (map (sent_by c.args.self.now.name c.args.served) c.args.list.items) ≡ false =
+    deep_sent c.args.self.now.name c.args.served c.args.list.items
+    ∙ ap (list_any is_deep) (sym c.as_slice.ensures.value) ∙ sym c.is_some_deep.ensures ∙ c.if-is_some_deep.false in
+    refused_all items c.args.self.now c.put_all.new.self c.take_back.new.self (map (sent_by c.args.self.now.name c.args.served) c.args.list.items) h c.in-Err.error shallow left
+    (c.take_back.ensures ∙ back_same c.args.self.now c.put_all.new.self _ _ _ _ c.mark-mark.ensures c.in-Err.ensures.more) c.in-Err.ensures.puts

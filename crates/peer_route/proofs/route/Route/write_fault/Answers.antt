@@ -1,5 +1,5 @@
 -- The call whose message failed is gone.
-use Rattle.std.proofs.Common.{sym, ◌∙◌, ap, subst, ◌==◌, ◌+◌, ◌∷◌, true, set}
+use Rattle.std.proofs.Common.{sym, ◌∙◌, ap, subst, ◌==◌, ◌+◌, ◌∷◌, set}
 use Rattle.std.specs.List.{position}
 use Rattle.peer_route.specs.History.{Fault, worse}
 use Rattle.peer_route.specs.declared.writer.Writer.TheVariants.{Failed}

@@ -1,4 +1,4 @@
-use Rattle.std.proofs.Common.{refl, sym, subst, List, ℕ, Ok, Err}
+use Rattle.std.proofs.Common.{refl, subst, List, ℕ, Ok, Err}
 use Rattle.std.proofs.lemmas.Result.{IfOk-weaker}
 use Rattle.rule_match.specs.Building.{Gives}
 use Rattle.rule_match.specs.Bytes.{rule_in_bytes}
