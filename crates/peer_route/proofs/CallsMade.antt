@@ -3,7 +3,7 @@
 use Rattle.std.proofs.Common.{◌≡◌, ℕ, ◌<◌, ◌≤◌, zero, suc, refl, ap, arith, true, false, List, [], ◌∷◌, ◌++◌, length, map, length-append}
 use Rattle.std.proofs.lemmas.List.{map-append}
 use Rattle.wire_message.specs.Front.{Seen}
-use Rattle.peer_route.specs.History.{Event, Took, Shut, Put, Wrote, Fault, Spent, Made, Did, Main, Named, Call, read, put, done, calls, new_call, edit, spend, fail_at}
+use Rattle.peer_route.specs.History.{Event, Took, Shut, Put, Wrote, Fault, Spent, Made, Did, Main, OnBus, Added, Removed, Named, Call, read, put, done, calls, new_call, inner_call, edit, spend, fail_at}
 use Rattle.peer_route.proofs.Plain.{Below, Rising, Below-more, Below-push, Rising-push}
 
 abbrev pub places : List Call → List ℕ
@@ -54,6 +54,9 @@ calls_early (Spent k ∷ h) = Early-edit (length (read h)) k (calls h) (calls_ea
 calls_early (Made making ∷ h) = calls_early h
 calls_early (Did stream deed ∷ h) = calls_early h
 calls_early (Main limit ∷ h) = calls_early h
+calls_early (OnBus ∷ h) = calls_early h
+calls_early (Added m rule asked ∷ h) = Early-push (length (read h)) (calls h) (inner_call h m) (omega arith) (calls_early h)
+calls_early (Removed m ∷ h) = Early-push (length (read h)) (calls h) (inner_call h m) (omega arith) (calls_early h)
 calls_early (Named name ∷ h) = calls_early h
 
 -- ---- places
@@ -77,6 +80,13 @@ places_below (Spent k ∷ h) = rw (places-edit k (calls h)) (places_below h)
 places_below (Made making ∷ h) = places_below h
 places_below (Did stream deed ∷ h) = places_below h
 places_below (Main limit ∷ h) = places_below h
+places_below (OnBus ∷ h) = places_below h
+places_below (Added m rule asked ∷ h) =
+    rw (map-append (λ (c : Call). c.index) (calls h) (inner_call h m ∷ []))
+    (Below-push (length (put h)) (length (put h ++ m ∷ [])) (places (calls h)) (below_next h m) (places_below h))
+places_below (Removed m ∷ h) =
+    rw (map-append (λ (c : Call). c.index) (calls h) (inner_call h m ∷ []))
+    (Below-push (length (put h)) (length (put h ++ m ∷ [])) (places (calls h)) (below_next h m) (places_below h))
 places_below (Named name ∷ h) = places_below h
 
 -- their places rise
@@ -94,4 +104,11 @@ places_rise (Spent k ∷ h) = rw (places-edit k (calls h)) (places_rise h)
 places_rise (Made making ∷ h) = places_rise h
 places_rise (Did stream deed ∷ h) = places_rise h
 places_rise (Main limit ∷ h) = places_rise h
+places_rise (OnBus ∷ h) = places_rise h
+places_rise (Added m rule asked ∷ h) =
+    rw (map-append (λ (c : Call). c.index) (calls h) (inner_call h m ∷ []))
+    (Rising-push (length (put h)) (places (calls h)) (places_below h) (places_rise h))
+places_rise (Removed m ∷ h) =
+    rw (map-append (λ (c : Call). c.index) (calls h) (inner_call h m ∷ []))
+    (Rising-push (length (put h)) (places (calls h)) (places_below h) (places_rise h))
 places_rise (Named name ∷ h) = places_rise h

@@ -1,12 +1,12 @@
 -- What becomes of the main capacity and of a rule's.
-use Rattle.std.proofs.Common.{◌≡◌, ◌≢◌, ℕ, max, not, refl, sym, ◌∙◌, ap, Bool, true, false, is_none, if◌then◌else◌, List, ◌∷◌, Option, Some, None, Ok, Err}
+use Rattle.std.proofs.Common.{◌≡◌, ◌≢◌, ℕ, max, refl, sym, ◌∙◌, ap, Bool, true, false, is_none, if◌then◌else◌, List, ◌∷◌, Option, Some, None, Ok, Err}
 use Rattle.std.specs.List.{slice_get}
 use Rattle.wire_message.specs.declared.error.Error.TheVariants as errors
 use Rattle.rule_match.specs.Rule.{Rule}
 use Rattle.rule_match.proofs.Equal.{equal_is_one, one_is_equal}
 use Rattle.peer_route.specs.Rules.{is_same, usual}
 use Rattle.peer_route.specs.History.{Event, Made, Making, Did, Main, Ruled, Asked}
-use Rattle.peer_route.specs.Streams.{Stream, streams, main, plain_asks, is_there, is_open, is_subscribed, asked_or, raised, limit_then, rule_of, is_of, rule_asks, rule_limit, limit_of, limit_answer}
+use Rattle.peer_route.specs.Streams.{Stream, streams, main, plain_asks, runs, runs_at, is_open, is_subscribed, asked_or, raised, limit_then, rule_of, is_of, rule_asks, rule_limit, limit_of, limit_answer}
 
 -- ---- the main one
 
@@ -37,13 +37,13 @@ same_other rule another differ = not_one (is_same rule another) (λ e. differ (e
     not_one false no_ = refl
 
 -- an open stream's
-limit_there : (h : List Event) (k : ℕ) (s : Stream) → slice_get (streams h) k ≡ Some s → s.gone ≡ false → limit_answer h k ≡ Ok (limit_of h s.rule)
+limit_there : (h : List Event) (k : ℕ) (s : Stream) → slice_get (streams h) k ≡ Some s → runs h s ≡ true → limit_answer h k ≡ Ok (limit_of h s.rule)
 unfolding limit_answer is_open
 limit_there h k s at still =
-    ap (λ o. if is_there o then Ok (limit_of h (rule_of o)) else Err errors.UnknownHandle) at
-    ∙ ap (λ b. if not b then Ok (limit_of h s.rule) else Err errors.UnknownHandle) still
+    ap (λ o. if runs_at h o then Ok (limit_of h (rule_of o)) else Err errors.UnknownHandle) at
+    ∙ ap (λ b. if b then Ok (limit_of h s.rule) else Err errors.UnknownHandle) still
 
-pub one_limit : (h : List Event) (j k : ℕ) (s t : Stream) → slice_get (streams h) j ≡ Some s → slice_get (streams h) k ≡ Some t → s.gone ≡ false → t.gone ≡ false
+pub one_limit : (h : List Event) (j k : ℕ) (s t : Stream) → slice_get (streams h) j ≡ Some s → slice_get (streams h) k ≡ Some t → runs h s ≡ true → runs h t ≡ true
     → s.rule ≡ t.rule → limit_answer h j ≡ limit_answer h k
 one_limit h j k s t at there still open_ same = limit_there h j s at still ∙ ap (λ r. Ok (limit_of h r)) same ∙ sym (limit_there h k t there open_)
 

@@ -1,5 +1,5 @@
 -- A stream that was closed is unknown for good.
-use Rattle.std.proofs.Common.{◌≡◌, inl, inr, ℕ, zero, suc, ◌==◌, ◌&&◌, not, refl, sym, ◌∙◌, ap, subst, Bool, true, false, is_some, List, [], ◌∷◌, ◌++◌, Option, Some, None, Err}
+use Rattle.std.proofs.Common.{◌≡◌, inl, inr, ℕ, zero, suc, ◌==◌, ◌&&◌, not, refl, sym, ◌∙◌, ap, subst, ◌||◌, Bool, true, false, if◌then◌else◌, is_some, List, [], ◌∷◌, ◌++◌, map, Option, Some, None, Ok, Err}
 use Rattle.std.specs.List.{slice_get, AllByRecursion}
 use Rattle.std.proofs.lemmas.Bool.{or_cases, eqb-true}
 use Rattle.wire_message.specs.declared.error.Error.TheVariants as errors
@@ -8,8 +8,8 @@ use Rattle.peer_route.specs.declared.words.Words.TheVariants as words
 use Rattle.peer_route.specs.declared.answer.Answer.{Answer}
 use Rattle.peer_route.specs.declared.answer.Answer.TheVariants as answers
 use Rattle.peer_route.specs.declared.answer.Entry.{Entry}
-use Rattle.peer_route.specs.History.{Event, Took, Shut, Put, Wrote, Fault, Spent, Made, Did, Main, Named, Deed, Gave, Told, Gone, Asked, by_position, edit}
-use Rattle.peer_route.specs.Streams.{Stream, streams, new_stream, done_by, is_there, is_open, gave_last, take_at, take_answer}
+use Rattle.peer_route.specs.History.{Event, Took, Shut, Put, Wrote, Fault, Spent, Made, Did, Main, OnBus, Added, Removed, Named, Deed, Gave, Told, Gone, Asked, Opened, done, closing, by_position, edit}
+use Rattle.peer_route.specs.Streams.{Stream, streams, is_since, phase, asks_by, new_stream, asking_stream, done_by, fail_stream, runs, runs_at, is_open, gave_last, held, take_by, take_at, take_answer}
 use Rattle.peer_route.specs.Parcel.{Setting}
 use Rattle.peer_route.specs.CallMessage.{reply_asked, error_asked}
 use Rattle.peer_route.specs.Trail.{Trail, place, given_by, given_at, given, trail, unstream_does, events_of, new_streams}
@@ -36,6 +36,7 @@ closed_deed Gave s g = g
 closed_deed Told s g = g
 closed_deed Gone s g = refl
 closed_deed (Asked limit) s g = g
+closed_deed Opened s g = g
 
 closed_edit : (deed : Deed) (j k : ℕ) (ss : List Stream) → closed_at ss k ≡ true → closed_at (edit j (done_by deed) ss) k ≡ true
 closed_edit deed j k [] g = g
@@ -44,16 +45,24 @@ closed_edit deed zero (suc k) (s ∷ ss) g = g
 closed_edit deed (suc j) zero (s ∷ ss) g = g
 closed_edit deed (suc j) (suc k) (s ∷ ss) g = closed_edit deed j k ss g
 
+closed_fail : (h : List Event) (n k : ℕ) (ss : List Stream) → closed_at ss k ≡ true → closed_at (map (fail_stream h n) ss) k ≡ true
+closed_fail h n k [] g = cc
+closed_fail h n zero (s ∷ ss) g = ap (λ b. b || asks_by n (phase h s)) g
+closed_fail h n (suc k) (s ∷ ss) g = closed_fail h n k ss g
+
 closed_event : (e : Event) (h : List Event) (k : ℕ) → closed_at (streams h) k ≡ true → closed_at (streams (e ∷ h)) k ≡ true
 closed_event (Took m) h k g = g
 closed_event (Shut error) h k g = g
 closed_event (Put m expects) h k g = g
 closed_event Wrote h k g = g
-closed_event Fault h k g = g
+closed_event Fault h k g = closed_fail h (done h) k (streams h) g
 closed_event (Spent call) h k g = g
 closed_event (Made making) h k g = closed_append (streams h) (new_stream h (streams h) making ∷ []) k g
 closed_event (Did j deed) h k g = closed_edit deed j k (streams h) g
 closed_event (Main limit) h k g = g
+closed_event OnBus h k g = g
+closed_event (Added m rule asked) h k g = closed_append (streams h) (asking_stream h m rule ∷ []) k g
+closed_event (Removed m) h k g = g
 closed_event (Named name) h k g = g
 
 closed_events : (es h : List Event) (k : ℕ) → closed_at (streams h) k ≡ true → closed_at (streams (es ++ h)) k ≡ true
@@ -67,15 +76,15 @@ closed_here k [] e = cc
 closed_here zero (s ∷ ss) e = refl
 closed_here (suc k) (s ∷ ss) e = closed_here k ss e
 
-there_made : (o : Option Stream) → is_there o ≡ true → is_some o ≡ true
-there_made None e = cc
-there_made (Some s) e = refl
+there_made : (h : List Event) (o : Option Stream) → runs_at h o ≡ true → is_some o ≡ true
+there_made h None e = cc
+there_made h (Some s) e = refl
 
 -- an open stream was made
 open_made : (h : List Event) (p : Option ℕ) → is_open_at h p ≡ true → (k : ℕ) × (p ≡ Some k) × (is_some (slice_get (streams h) k) ≡ true)
 unfolding is_open
 open_made h None e = cc
-open_made h (Some k) e = (k, refl, there_made (slice_get (streams h) k) e)
+open_made h (Some k) e = (k, refl, there_made h (slice_get (streams h) k) e)
 
 open_gone : (b : Bool) → answers.Gone ≡ where_open b answers.Gone → b ≡ true
 open_gone true e = refl
@@ -131,14 +140,24 @@ closes_by t lane w a number is e gone = cc
 
 -- ---- it is unknown
 
-closed_there : (ss : List Stream) (k : ℕ) → closed_at ss k ≡ true → is_there (slice_get ss k) ≡ false
-closed_there [] k g = cc
-closed_there (s ∷ ss) zero g = ap not g
-closed_there (s ∷ ss) (suc k) g = closed_there ss k g
+not_running : (opened gone since : Bool) → gone ≡ true → (opened && (not gone && since)) ≡ false
+not_running true true since e = refl
+not_running true false since e = cc
+not_running false gone since e = refl
+
+-- a stream that was closed doesn't run
+gone_runs : (h : List Event) (s : Stream) → s.gone ≡ true → runs h s ≡ false
+unfolding runs
+gone_runs h s g = not_running s.opened s.gone (is_since (phase h s)) g
+
+closed_there : (h : List Event) (ss : List Stream) (k : ℕ) → closed_at ss k ≡ true → runs_at h (slice_get ss k) ≡ false
+closed_there h [] k g = cc
+closed_there h (s ∷ ss) zero g = gone_runs h s g
+closed_there h (s ∷ ss) (suc k) g = closed_there h ss k g
 
 closed_take_at : (h : List Event) (ss : List Stream) (k : ℕ) → closed_at ss k ≡ true → take_at h (slice_get ss k) ≡ Err errors.UnknownHandle
 closed_take_at h [] k g = cc
-closed_take_at h (s ∷ ss) zero g = rw g refl
+closed_take_at h (s ∷ ss) zero g = ap (λ b. if b then Ok (take_by (held h s) (closing h) s.told) else Err errors.UnknownHandle) (gone_runs h s g)
 closed_take_at h (s ∷ ss) (suc k) g = closed_take_at h ss k g
 
 closed_given : (h : List Event) (ss : List Stream) (k : ℕ) → closed_at ss k ≡ true → given_by h (slice_get ss k) ≡ None
@@ -164,7 +183,7 @@ not_taken_before t lane number c =
 
 not_open : (t : Trail) (lane number : ℕ) → IsClosed t lane number → is_open_at t.events (place 0 lane number t.streams) ≡ false
 unfolding is_open
-not_open t lane number c = ap (is_open_at t.events) c.named ∙ closed_there (streams t.events) c.k c.closed
+not_open t lane number c = ap (is_open_at t.events) c.named ∙ closed_there t.events (streams t.events) c.k c.closed
 
 none_given : (t : Trail) (lane number : ℕ) → IsClosed t lane number → given t lane number ≡ None
 none_given t lane number c = ap (given_at t.events) c.named ∙ closed_given t.events (streams t.events) c.k c.closed

@@ -1,5 +1,5 @@
 -- The core after each event.
-use Rattle.std.proofs.Common.{◌≡◌, ℕ, ◌+◌, ◌<◌, ◌==◌, is_some, ◌&&◌, is_none, if◌then◌else◌, refl, sym, ◌∙◌, ap, subst, Bool, true, false, not, List, [], ◌∷◌, ◌++◌, length, map, get_or, set, Option, Some, None, Result, Ok, Err, length-append}
+use Rattle.std.proofs.Common.{◌≡◌, ℕ, ◌+◌, ◌<◌, ◌==◌, is_some, ◌&&◌, ◌||◌, is_none, if◌then◌else◌, refl, sym, ◌∙◌, ap, subst, Bool, true, false, not, List, [], ◌∷◌, ◌++◌, length, map, get_or, set, Option, Some, None, Result, Ok, Err, length-append}
 use Rattle.std.specs.List.{list_any, position, slice_get}
 use Rattle.std.specs.Option.{option_map}
 use Rattle.std.proofs.lemmas.List.{set-set, set-get_or}
@@ -15,14 +15,15 @@ use Rattle.peer_route.specs.declared.polled.Polled.{Polled}
 use Rattle.peer_route.specs.declared.polled.Polled.TheVariants as polled
 use Rattle.peer_route.specs.declared.calls.Slot.{Slot}
 use Rattle.peer_route.specs.declared.calls.Slot.TheVariants as slots
-use Rattle.peer_route.specs.History.{Event, Took, Shut, Wrote, Fault, Spent, Made, Making, Plain, Ruled, Cloned, Did, Main, Named, Deed, Gave, Told, Gone, Asked, Call, edit, read, closing, worse, shuts, done, is_reply, is_serial, calls, found, bears, is_gone, first_of, first_name, pending, waits_with, poll_answer, poll_events, polled_at, polled_by, drop_answer, drop_events, dropped_at}
+use Rattle.peer_route.specs.History.{Event, Took, Shut, Wrote, Fault, Spent, Made, Making, Plain, Ruled, Cloned, Did, Main, Deed, Gave, Told, Gone, Asked, Call, edit, read, closing, worse, shuts, done, is_reply, is_serial, calls, found, bears, is_gone, first_of, pending, in_flight, is_awaited, waits_with, poll_answer, poll_events, polled_at, polled_by, Named, first_name}
 use Rattle.peer_route.specs.Streams.{busy, main, is_open, is_over as nothing_comes, take_answer, take_events}
-use Rattle.peer_route.specs.Left.{Held, empty_held, with_stream, wants_of, asked_for, main_asked, is_over, after_take, kept_at, held_gives, ended_by, LeftStreams, is_busy, is_empty_slot, slot_of, slot_by, is_waiting, AreDistinct, CallsView, waiting_serial, is_number, LeftCalls, View, Left}
+use Rattle.peer_route.specs.Left.{Held, empty_held, lost_at, with_stream, wants_of, asked_for, main_asked, is_over, after_take, kept_at, held_gives, ended_by, LeftStreams, is_busy, is_empty_slot, is_inner_slot, reply_kept, slot_of, slot_by, is_flying, is_waiting, AreDistinct, CallsView, waiting_serial, is_number, LeftCalls, View, Left}
 use Rattle.peer_route.proofs.Plain.{list_any-map, list_any-along, position-None}
 use Rattle.peer_route.proofs.CallsMade.{calls_early, places, places_rise, places-edit, places-fail}
-use Rattle.peer_route.proofs.StreamsMade.{streams_shut, streams_wrote, streams_fault, streams_spent, streams_main, streams_named, streams_made, streams_cloned, streams_ended, streams_taken, taken_gives, ended_left, open_left, over_any}
+use Rattle.peer_route.proofs.StreamsMade.{streams_shut, streams_wrote, streams_fault, streams_spent, streams_main, streams_made, streams_cloned, streams_ended, streams_named, taken_gives, ended_left, open_left, over_any}
+use Rattle.peer_route.proofs.StreamsTaken.{streams_taken}
 use Rattle.peer_route.proofs.RuledStreams.{streams_ruled, streams_asked, main_left}
-use Rattle.peer_route.proofs.Slots.{arrived, slots_took, arrived_nowhere, arrived_past, arrived_first, arrived_distinct, gone_distinct, slots_spent, slots_kept, slots_lost, waits-slot}
+use Rattle.peer_route.proofs.Slots.{arrived, slots_took, arrived_nowhere, arrived_past, arrived_first, arrived_distinct, gone_distinct, slots_spent, slots_kept, slots_lost, waits-slot, own-slot}
 
 -- ---- a message comes
 
@@ -45,7 +46,7 @@ took_past m s v h same none left = took m v v h left refl (sym (arrived_past m s
 
 -- the call that waits for it takes it
 pub took_first : (m : Seen) (s k : ℕ) (v new : CallsView) (h : List Event) → ((n : ℕ) → bears n m ≡ (s == n)) → is_waiting s (get_or v.slots k slots.Gone) ≡ true
-    → new.slots ≡ set v.slots k (slots.Replied m) → new.closing ≡ v.closing → LeftCalls v h → closing h ≡ None → LeftCalls new (Took m ∷ h)
+    → new.slots ≡ set v.slots k (reply_kept (is_inner_slot (get_or v.slots k slots.Gone)) m) → new.closing ≡ v.closing → LeftCalls v h → closing h ≡ None → LeftCalls new (Took m ∷ h)
 took_first m s k v new h same at e kept left open_ =
     took m v new h left kept
     (e ∙ sym (arrived_first m s same v.slots k at (left.distinct (left.closing ∙ open_))))
@@ -71,18 +72,20 @@ abbrev pub slot_gives : Option Slot → Option Error → Result (Polled Seen) Er
 slot_gives None error = Err errors.UnknownHandle
 slot_gives (Some slots.Gone) error = Err errors.UnknownHandle
 slot_gives (Some (slots.Replied m)) error = Ok (polled.Now m)
-slot_gives (Some (slots.Waiting n)) error = polled_by None error
+slot_gives (Some (slots.Waiting n inner)) error = if inner then Err errors.UnknownHandle else polled_by None error
 
-slot_gives_by : (gone : Bool) (n : ℕ) (o : Option Seen) (error : Option Error)
-    → slot_gives (Some (if gone then slots.Gone else slot_by n o)) error ≡ (if gone then Err errors.UnknownHandle else polled_by o error)
-slot_gives_by true n o error = refl
-slot_gives_by false n (Some m) error = refl
-slot_gives_by false n None error = refl
+slot_gives_by : (gone inner : Bool) (n : ℕ) (o : Option Seen) (error : Option Error)
+    → slot_gives (Some (if gone then slots.Gone else slot_by inner n o)) error ≡ (if gone || inner then Err errors.UnknownHandle else polled_by o error)
+slot_gives_by true inner n o error = refl
+slot_gives_by false true n (Some m) error = refl
+slot_gives_by false true n None error = refl
+slot_gives_by false false n (Some m) error = refl
+slot_gives_by false false n None error = refl
 
 gives_at : (h : List Event) (o : Option Call) → slot_gives (option_map (slot_of h) o) (closing h) ≡ polled_at h o
 unfolding slot_of
 gives_at h None = refl
-gives_at h (Some c) = slot_gives_by (is_gone c) c.serial (found h c) (closing h)
+gives_at h (Some c) = slot_gives_by (is_gone c) c.inner c.serial (found h c) (closing h)
 
 pub gives : (v : CallsView) (h : List Event) (k : ℕ) → LeftCalls v h → slot_gives (slice_get v.slots k) v.closing ≡ poll_answer h k
 unfolding poll_answer
@@ -107,6 +110,36 @@ pending-left v h left serial =
     (ap (λ b. is_none (closing h) && b)
     (list_any-along (waits_with h serial) (λ c. is_waiting serial (slot_of h c)) (waits-slot h serial) (calls h)
     ∙ sym (list_any-map (is_waiting serial) (slot_of h) (calls h)))))
+
+-- one of the peer's own waits
+pub flying-left : (v : CallsView) (h : List Event) → LeftCalls v h → is_flying v ≡ in_flight h
+unfolding is_flying in_flight
+flying-left v h left =
+    rw left.slots (rw left.closing
+    (ap (λ b. is_none (closing h) && b)
+    (list_any-map is_inner_slot (slot_of h) (calls h)
+    ∙ sym (list_any-along (is_awaited h) (λ c. is_inner_slot (slot_of h c)) (own-slot h) (calls h)))))
+
+pub is_none_not : {A : Type 0} (o : Option A) (b : Bool) → is_some o ≡ not b → is_none o ≡ b
+is_none_not None true e = refl
+is_none_not None false e = cc
+is_none_not (Some x) true e = cc
+is_none_not (Some x) false e = refl
+
+pub flying_open : (ss : List Slot) (error : Option Error) (v : CallsView) (b : Bool) → record { slots = ss; closing = error } ≡ v → is_none error ≡ true → b ≡ list_any is_inner_slot ss → b ≡ is_flying v
+unfolding is_flying
+flying_open ss error v b e open_ is = is ∙ ap (λ x. x && list_any is_inner_slot ss) (sym open_) ∙ ap (λ (w : CallsView). is_none w.closing && list_any is_inner_slot w.slots) e
+
+pub flying_shut : (ss : List Slot) (error : Option Error) (v : CallsView) (b : Bool) → record { slots = ss; closing = error } ≡ v → is_none error ≡ false → b ≡ false → b ≡ is_flying v
+unfolding is_flying
+flying_shut ss error v b e shut_ is = is ∙ ap (λ x. x && list_any is_inner_slot ss) (sym shut_) ∙ ap (λ (w : CallsView). is_none w.closing && list_any is_inner_slot w.slots) e
+
+-- what a poll gives of a slot that nothing is kept of
+pub slot_gives_empty : (s : Slot) (error : Option Error) → is_empty_slot s ≡ true → slot_gives (Some s) error ≡ Err errors.UnknownHandle
+slot_gives_empty slots.Gone error e = refl
+slot_gives_empty (slots.Waiting n true) error e = refl
+slot_gives_empty (slots.Waiting n false) error e = cc
+slot_gives_empty (slots.Replied m) error e = cc
 
 -- ---- what the code reads of its slots
 
@@ -154,6 +187,8 @@ pub left_wrote : (v : View) (h : List Event) → Left v h → Left (record v { d
 unfolding slot_of found
 left_wrote v h left = record {
   calls = record { slots = left.calls.slots; closing = left.calls.closing; distinct = left.calls.distinct };
+  bus = left.bus;
+  name = left.name;
   streams = streams_wrote v.streams h left.streams;
   main = left.main;
   read = left.read;
@@ -162,7 +197,6 @@ left_wrote v h left = record {
   places = left.places;
   done = ap (λ n. n + 1) left.done;
   writer = left.writer;
-  name = left.name;
 }
 
 -- the write of a call failed
@@ -189,11 +223,13 @@ lost_none n ps v h first same at left =
       distinct = left.distinct;
     }
 
-pub left_fault : (v : View) (cv : CallsView) (h : List Event) → Left v h → LeftCalls cv (Fault ∷ h)
-    → Left (record v { calls = cv; done = v.done + 1; writer = worse v.writer writers.Failed }) (Fault ∷ h)
-left_fault v cv h left after = record {
+pub left_fault : (v : View) (n : ℕ) (cv : CallsView) (h : List Event) → n ≡ v.done → Left v h → LeftCalls cv (Fault ∷ h)
+    → Left (record v { calls = cv; streams = map (lost_at n) v.streams; done = v.done + 1; writer = worse v.writer writers.Failed }) (Fault ∷ h)
+left_fault v n cv h e left after = record {
   calls = after;
-  streams = streams_fault v.streams h left.streams;
+  bus = left.bus;
+  name = left.name;
+  streams = streams_fault n v.streams h (e ∙ left.done) left.streams;
   main = left.main;
   read = left.read;
   last = left.last;
@@ -201,12 +237,13 @@ left_fault v cv h left after = record {
   places = left.places ∙ sym (places-fail (done h) (calls h));
   done = ap (λ n. n + 1) left.done;
   writer = ap (λ w. worse w writers.Failed) left.writer;
-  name = left.name;
 }
 
-left_spent : (v : View) (cv : CallsView) (k : ℕ) (h : List Event) → Left v h → LeftCalls cv (Spent k ∷ h) → Left (record v { calls = cv }) (Spent k ∷ h)
+pub left_spent : (v : View) (cv : CallsView) (k : ℕ) (h : List Event) → Left v h → LeftCalls cv (Spent k ∷ h) → Left (record v { calls = cv }) (Spent k ∷ h)
 left_spent v cv k h left after = record {
   calls = after;
+  bus = left.bus;
+  name = left.name;
   streams = streams_spent k v.streams h left.streams;
   main = left.main;
   read = left.read;
@@ -215,12 +252,13 @@ left_spent v cv k h left after = record {
   places = left.places ∙ sym (places-edit k (calls h));
   done = left.done;
   writer = left.writer;
-  name = left.name;
 }
 
-left_same : (v : View) (cv : CallsView) (h : List Event) → Left v h → LeftCalls cv h → Left (record v { calls = cv }) h
+pub left_same : (v : View) (cv : CallsView) (h : List Event) → Left v h → LeftCalls cv h → Left (record v { calls = cv }) h
 left_same v cv h left after = record {
   calls = after;
+  bus = left.bus;
+  name = left.name;
   streams = left.streams;
   main = left.main;
   read = left.read;
@@ -229,7 +267,6 @@ left_same v cv h left after = record {
   places = left.places;
   done = left.done;
   writer = left.writer;
-  name = left.name;
 }
 
 pub left_polled : (v : View) (cv : CallsView) (k : ℕ) (r : Result (Polled Seen) Error) (h : List Event) → Left v h
@@ -247,6 +284,8 @@ pub left_took : (v : View) (cv : CallsView) (sv : List (Option Held)) (m : Seen)
     → Left (record v { calls = cv; streams = sv; read = v.read + 1 }) (Took m ∷ h)
 left_took v cv sv m h left after streams_after = record {
   calls = after;
+  bus = left.bus;
+  name = left.name;
   streams = streams_after;
   main = left.main;
   read = ap (λ n. n + 1) left.read ∙ sym (length-append (read h) (m ∷ []));
@@ -255,12 +294,13 @@ left_took v cv sv m h left after streams_after = record {
   places = left.places;
   done = left.done;
   writer = left.writer;
-  name = left.name;
 }
 
 pub left_shut : (v : View) (cv : CallsView) (error : Error) (h : List Event) → Left v h → LeftCalls cv (Shut error ∷ h) → Left (record v { calls = cv; writer = worse v.writer (shuts error) }) (Shut error ∷ h)
 left_shut v cv error h left after = record {
   calls = after;
+  bus = left.bus;
+  name = left.name;
   streams = streams_shut error v.streams h left.streams;
   main = left.main;
   read = left.read;
@@ -269,7 +309,6 @@ left_shut v cv error h left after = record {
   places = left.places;
   done = left.done;
   writer = ap (λ w. worse w (shuts error)) left.writer;
-  name = left.name;
 }
 
 calls_made : (making : Making) (v : CallsView) (h : List Event) → LeftCalls v h → LeftCalls v (Made making ∷ h)
@@ -287,6 +326,8 @@ calls_main limit v h left = record { slots = left.slots; closing = left.closing;
 left_made_so : (v : View) (sv : List (Option Held)) (making : Making) (h : List Event) → Left v h → LeftStreams sv (Made making ∷ h) → Left (record v { streams = sv }) (Made making ∷ h)
 left_made_so v sv making h left after = record {
   calls = calls_made making v.calls h left.calls;
+  bus = left.bus;
+  name = left.name;
   streams = after;
   main = left.main;
   read = left.read;
@@ -295,7 +336,6 @@ left_made_so v sv making h left after = record {
   places = left.places;
   done = left.done;
   writer = left.writer;
-  name = left.name;
 }
 
 pub left_made : (v : View) (told : Bool) (h : List Event) → told ≡ is_some v.calls.closing → Left v h
@@ -316,6 +356,8 @@ left_cloned v k h there left = left_made_so v (v.streams ++ kept_at v.streams k 
 pub left_main : (v : View) (limit : ℕ) (h : List Event) → Left v h → Left (record v { main = limit }) (Main limit ∷ h)
 left_main v limit h left = record {
   calls = calls_main limit v.calls h left.calls;
+  bus = left.bus;
+  name = left.name;
   streams = streams_main limit v.streams h left.streams;
   main = refl;
   read = left.read;
@@ -324,7 +366,6 @@ left_main v limit h left = record {
   places = left.places;
   done = left.done;
   writer = left.writer;
-  name = left.name;
 }
 
 -- the peer gets its name
@@ -335,6 +376,7 @@ calls_named name v h left = record { slots = left.slots; closing = left.closing;
 pub left_named : (v : View) (name : List ℕ) (h : List Event) → v.name ≡ None → Left v h → Left (record v { name = Some name }) (Named name ∷ h)
 left_named v name h none left = record {
   calls = calls_named name v.calls h left.calls;
+  bus = left.bus;
   streams = streams_named name v.streams h left.streams;
   main = left.main;
   read = left.read;
@@ -347,10 +389,12 @@ left_named v name h none left = record {
 }
 
 -- a stream did something
-left_did : (v : View) (sv : List (Option Held)) (limit k : ℕ) (deed : Deed) (h : List Event) → Left v h → LeftStreams sv (Did k deed ∷ h) → limit ≡ main (Did k deed ∷ h)
+pub left_did : (v : View) (sv : List (Option Held)) (limit k : ℕ) (deed : Deed) (h : List Event) → Left v h → LeftStreams sv (Did k deed ∷ h) → limit ≡ main (Did k deed ∷ h)
     → Left (record v { streams = sv; main = limit }) (Did k deed ∷ h)
 left_did v sv limit k deed h left after capacity = record {
   calls = calls_did k deed v.calls h left.calls;
+  bus = left.bus;
+  name = left.name;
   streams = after;
   main = capacity;
   read = left.read;
@@ -359,12 +403,13 @@ left_did v sv limit k deed h left after capacity = record {
   places = left.places;
   done = left.done;
   writer = left.writer;
-  name = left.name;
 }
 
-left_idle : (v : View) (sv : List (Option Held)) (h : List Event) → Left v h → LeftStreams sv h → Left (record v { streams = sv }) h
+pub left_idle : (v : View) (sv : List (Option Held)) (h : List Event) → Left v h → LeftStreams sv h → Left (record v { streams = sv }) h
 left_idle v sv h left after = record {
   calls = left.calls;
+  bus = left.bus;
+  name = left.name;
   streams = after;
   main = left.main;
   read = left.read;
@@ -373,7 +418,6 @@ left_idle v sv h left after = record {
   places = left.places;
   done = left.done;
   writer = left.writer;
-  name = left.name;
 }
 
 left_gave : (v : View) (sv : List (Option Held)) (k : ℕ) (r : Result (Polled Seen) Error) (h : List Event) → Left v h
@@ -422,57 +466,3 @@ left_asked v k limit h there left =
     let w = wants_of (kept_at v.streams k) in
     left_did v (asked_for w limit v.streams) (main_asked w limit v.main) k (Asked limit) h left (streams_asked k limit v.streams h there left.streams)
     (ap (main_asked w limit) left.main ∙ main_left v.streams h k limit there left.streams)
-
--- ---- drops
-
--- what a slot gives a drop
-abbrev pub slot_drops : Option Slot → Result (Unit {0}) Error
-slot_drops None = Err errors.UnknownHandle
-slot_drops (Some slots.Gone) = Err errors.UnknownHandle
-slot_drops (Some (slots.Replied m)) = Ok tt
-slot_drops (Some (slots.Waiting n)) = Ok tt
-
-slot_drops_by : (gone : Bool) (n : ℕ) (o : Option Seen) → slot_drops (Some (if gone then slots.Gone else slot_by n o)) ≡ (if gone then Err errors.UnknownHandle else Ok tt)
-slot_drops_by true n o = refl
-slot_drops_by false n (Some m) = refl
-slot_drops_by false n None = refl
-
-drops_at : (h : List Event) (o : Option Call) → slot_drops (option_map (slot_of h) o) ≡ dropped_at o
-unfolding slot_of
-drops_at h None = refl
-drops_at h (Some c) = slot_drops_by (is_gone c) c.serial (found h c)
-
-pub drops : (v : CallsView) (h : List Event) (k : ℕ) → LeftCalls v h → slot_drops (slice_get v.slots k) ≡ drop_answer h k
-unfolding drop_answer
-drops v h k left = rw left.slots (rw (slice_get-map (slot_of h) (calls h) k) (drops_at h (slice_get (calls h) k)))
-
-pub drops_slot : (ss : List Slot) (error : Option Error) (v : CallsView) (h : List Event) (k : ℕ) (o : Option Slot)
-    → calls_of ss error ≡ v → slice_get ss k ≡ o → LeftCalls v h → slot_drops o ≡ drop_answer h k
-drops_slot ss error v h k o e at left = ap slot_drops (sym at) ∙ ap (λ (w : CallsView). slot_drops (slice_get w.slots k)) e ∙ drops v h k left
-
-pub left_dropped : (v : View) (cv : CallsView) (k : ℕ) (r : Result (Unit {0}) Error) (h : List Event) → Left v h
-    → LeftCalls cv (drop_events k r ++ h) → Left (record v { calls = cv }) (drop_events k r ++ h)
-left_dropped v cv k (Ok done) h left after = left_spent v cv k h left after
-left_dropped v cv k (Err error) h left after = left_same v cv h left after
-
-is_none_by : (o : Option Error) (b : Bool) → is_some o ≡ b → is_none o ≡ not b
-is_none_by None b e = ap not e
-is_none_by (Some error) b e = ap not e
-
-pub busy_open : (v : View) (b : Bool) → is_some v.calls.closing ≡ false → b ≡ list_any (is_over v.main) v.streams → b ≡ is_busy v
-unfolding is_busy
-busy_open v b open_ e = e ∙ ap (λ x. x && list_any (is_over v.main) v.streams) (sym (is_none_by v.calls.closing false open_))
-
-pub busy_shut : (v : View) (b : Bool) → is_some v.calls.closing ≡ true → b ≡ false → b ≡ is_busy v
-unfolding is_busy
-busy_shut v b shut_ e = e ∙ ap (λ x. x && list_any (is_over v.main) v.streams) (sym (is_none_by v.calls.closing true shut_))
-
-pub slot_drops_gone : (s : Slot) → is_empty_slot s ≡ true → slot_drops (Some s) ≡ Err errors.UnknownHandle
-slot_drops_gone slots.Gone e = refl
-slot_drops_gone (slots.Waiting n) e = cc
-slot_drops_gone (slots.Replied m) e = cc
-
-pub slot_drops_there : (s : Slot) → is_empty_slot s ≡ false → slot_drops (Some s) ≡ Ok tt
-slot_drops_there slots.Gone e = cc
-slot_drops_there (slots.Waiting n) e = refl
-slot_drops_there (slots.Replied m) e = refl

@@ -1,6 +1,8 @@
 -- What the events of an entry do to streams, and what they leave of one.
-use Rattle.std.proofs.Common.{◌≡◌, ◌≢◌, inl, inr, ℕ, refl, sym, ◌∙◌, subst, Bool, true, List, [], ◌∷◌, ◌++◌, Option, Some, None, Ok, Err, Result}
+use Rattle.std.proofs.Common.{◌≡◌, ◌≢◌, inl, inr, ℕ, refl, sym, ◌∙◌, ap, subst, ◌||◌, Bool, true, List, [], ◌∷◌, ◌++◌, map, Option, Some, None, Ok, Err, Result}
 use Rattle.std.specs.List.{slice_get}
+use Rattle.std.specs.Option.{option_map}
+use Rattle.std.proofs.lemmas.Option.{slice_get-map}
 use Rattle.std.proofs.lemmas.Bool.{cases_eq, eq-eqb}
 use Rattle.wire_message.specs.Front.{Seen}
 use Rattle.wire_message.specs.declared.error.Error.{Error}
@@ -12,8 +14,8 @@ use Rattle.peer_route.specs.declared.words.Words.{Words}
 use Rattle.peer_route.specs.declared.words.Words.TheVariants as words
 use Rattle.peer_route.specs.declared.answer.Answer.{Answer}
 use Rattle.peer_route.specs.declared.answer.Answer.TheVariants as answers
-use Rattle.peer_route.specs.History.{Event, Took, Shut, Put, Wrote, Fault, Spent, Made, Did, Main, Named, Deed, Gave, Told, Gone, Asked, edit, closing, writer}
-use Rattle.peer_route.specs.Streams.{Stream, streams, new_stream, done_by}
+use Rattle.peer_route.specs.History.{Event, Took, Shut, Put, Wrote, Fault, Spent, Made, Did, Main, OnBus, Added, Removed, Named, Deed, Gave, Told, Gone, Asked, Opened, done, edit, closing, writer}
+use Rattle.peer_route.specs.Streams.{Stream, streams, phase, asks_by, new_stream, asking_stream, done_by, fail_stream}
 use Rattle.peer_route.specs.Parcel as parcels
 use Rattle.peer_route.specs.Trail.{Trail, place, failed_put, send_events, read_events, poll_spends, drop_spends, stream_makes, take_does, clone_makes, gone_at, unstream_does, queue_does, main_sets, second_place, events_of, open_makes, close_does}
 use Rattle.peer_route.specs.StreamLaws.{is_take}
@@ -33,6 +35,9 @@ Only p (Fault ∷ xs) = Only p xs
 Only p (Spent call ∷ xs) = Only p xs
 Only p (Made making ∷ xs) = Only p xs
 Only p (Main limit ∷ xs) = Only p xs
+Only p (OnBus ∷ xs) = Only p xs
+Only p (Added m rule asked ∷ xs) = Only p xs
+Only p (Removed m ∷ xs) = Only p xs
 Only p (Named name ∷ xs) = Only p xs
 
 only_failed : (p : ℕ → Deed → Type 0) (w : Writer) (m : Seen) (expects : Bool) → Only p (failed_put w (Put m expects))
@@ -131,38 +136,59 @@ Spares k j Gave = j ≢ k
 Spares k j Told = Unit {0}
 Spares k j Gone = Unit {0}
 Spares k j (Asked limit) = Unit {0}
+Spares k j Opened = Unit {0}
 
--- The stream is the same since, but that it may have told the closing error, or be closed.
+-- The stream is the same since, but that it may have told the closing error, be gone, or be open now.
 pub record Stays (ss : List Stream) (k : ℕ) (s : Stream) : Type 0 where
   pub now_told : Bool
   pub now_gone : Bool
-  pub made : slice_get ss k ≡ Some (record s { told = now_told; gone = now_gone })
+  pub now_opened : Bool
+  pub made : slice_get ss k ≡ Some (record s { told = now_told; gone = now_gone; opened = now_opened })
   pub told_on : s.told ≡ true → now_told ≡ true
 
 stays_here : (deed : Deed) (ss : List Stream) (k : ℕ) (s : Stream) → Spares k k deed → Stays ss k s → Stays (edit k (done_by deed) ss) k s
 stays_here Gave ss k s n r = absurd (n refl)
-stays_here Told ss k s n r = record { now_told = true; now_gone = r.now_gone; made = edit_here (done_by Told) k ss _ r.made; told_on = λ e. refl }
-stays_here Gone ss k s n r = record { now_told = r.now_told; now_gone = true; made = edit_here (done_by Gone) k ss _ r.made; told_on = r.told_on }
+stays_here Told ss k s n r =
+    record { now_told = true; now_gone = r.now_gone; now_opened = r.now_opened; made = edit_here (done_by Told) k ss _ r.made; told_on = λ e. refl }
+stays_here Gone ss k s n r =
+    record { now_told = r.now_told; now_gone = true; now_opened = r.now_opened; made = edit_here (done_by Gone) k ss _ r.made; told_on = r.told_on }
 stays_here (Asked limit) ss k s n r =
-    record { now_told = r.now_told; now_gone = r.now_gone; made = edit_here (done_by (Asked limit)) k ss _ r.made; told_on = r.told_on }
+    record { now_told = r.now_told; now_gone = r.now_gone; now_opened = r.now_opened; made = edit_here (done_by (Asked limit)) k ss _ r.made; told_on = r.told_on }
+stays_here Opened ss k s n r =
+    record { now_told = r.now_told; now_gone = r.now_gone; now_opened = true; made = edit_here (done_by Opened) k ss _ r.made; told_on = r.told_on }
 
 stays_deed : (deed : Deed) (ss : List Stream) (j k : ℕ) (s : Stream) → Spares k j deed → Stays ss k s → Stays (edit j (done_by deed) ss) k s
 stays_deed deed ss j k s n r = elim (cases_eq j k) as (λ _. Stays (edit j (done_by deed) ss) k s) [
   | inl same ↦ subst (λ i. Stays (edit i (done_by deed) ss) k s) (sym same) (stays_here deed ss k s (subst (λ i. Spares k i deed) same n) r)
-  | inr ne ↦ record { now_told = r.now_told; now_gone = r.now_gone; made = edit_other (done_by deed) j k ss ne ∙ r.made; told_on = r.told_on }
+  | inr ne ↦ record { now_told = r.now_told; now_gone = r.now_gone; now_opened = r.now_opened; made = edit_other (done_by deed) j k ss ne ∙ r.made; told_on = r.told_on }
 ]
 
+-- behind the streams that were there comes one more
+stays_append : (ss : List Stream) (x : Stream) (k : ℕ) (s : Stream) → Stays ss k s → Stays (ss ++ x ∷ []) k s
+stays_append ss x k s r = record { now_told = r.now_told; now_gone = r.now_gone; now_opened = r.now_opened; made = get_append k ss (x ∷ []) _ r.made; told_on = r.told_on }
+
+-- a failed write may end a stream that waits
+stays_failed : (h : List Event) (n : ℕ) (ss : List Stream) (k : ℕ) (s : Stream) → Stays ss k s → Stays (map (fail_stream h n) ss) k s
+stays_failed h n ss k s r = record {
+  now_told = r.now_told;
+  now_gone = r.now_gone || asks_by n (phase h (record s { told = r.now_told; gone = r.now_gone; opened = r.now_opened }));
+  now_opened = r.now_opened;
+  made = slice_get-map (fail_stream h n) ss k ∙ ap (option_map (fail_stream h n)) r.made;
+  told_on = r.told_on;
+}
+
 pub stays : (xs h : List Event) (k : ℕ) (s : Stream) → Only (Spares k) xs → slice_get (streams h) k ≡ Some s → Stays (streams (xs ++ h)) k s
-stays [] h k s only at = record { now_told = s.told; now_gone = s.gone; made = at; told_on = λ e. e }
+stays [] h k s only at = record { now_told = s.told; now_gone = s.gone; now_opened = s.opened; made = at; told_on = λ e. e }
 stays (Did j deed ∷ xs) h k s only at = stays_deed deed (streams (xs ++ h)) j k s only.0 (stays xs h k s only.1 at)
-stays (Made making ∷ xs) h k s only at =
-    let r = stays xs h k s only at in
-    record { now_told = r.now_told; now_gone = r.now_gone; made = get_append k (streams (xs ++ h)) (new_stream (xs ++ h) (streams (xs ++ h)) making ∷ []) _ r.made; told_on = r.told_on }
+stays (Made making ∷ xs) h k s only at = stays_append (streams (xs ++ h)) (new_stream (xs ++ h) (streams (xs ++ h)) making) k s (stays xs h k s only at)
+stays (Added m rule asked ∷ xs) h k s only at = stays_append (streams (xs ++ h)) (asking_stream (xs ++ h) m rule) k s (stays xs h k s only at)
+stays (Fault ∷ xs) h k s only at = stays_failed (xs ++ h) (done (xs ++ h)) (streams (xs ++ h)) k s (stays xs h k s only at)
 stays (Took m ∷ xs) h k s only at = stays xs h k s only at
 stays (Shut error ∷ xs) h k s only at = stays xs h k s only at
 stays (Put m expects ∷ xs) h k s only at = stays xs h k s only at
 stays (Wrote ∷ xs) h k s only at = stays xs h k s only at
-stays (Fault ∷ xs) h k s only at = stays xs h k s only at
 stays (Spent call ∷ xs) h k s only at = stays xs h k s only at
 stays (Main limit ∷ xs) h k s only at = stays xs h k s only at
+stays (OnBus ∷ xs) h k s only at = stays xs h k s only at
+stays (Removed m ∷ xs) h k s only at = stays xs h k s only at
 stays (Named name ∷ xs) h k s only at = stays xs h k s only at

@@ -15,8 +15,8 @@ use Rattle.peer_route.specs.declared.words.Words.TheVariants as words
 use Rattle.peer_route.specs.declared.answer.Answer.{Answer}
 use Rattle.peer_route.specs.declared.answer.Answer.TheVariants as answers
 use Rattle.peer_route.specs.declared.answer.Entry.{Entry}
-use Rattle.peer_route.specs.History.{Event, Took, Shut, Put, Wrote, Fault, Spent, Made, Did, Main, Named, Told, read, closing, first_of, by_position}
-use Rattle.peer_route.specs.Streams.{Stream, streams, plain_stream, tell, matched, offered, held, limit_of, busy, is_full, take_by, take_at, take_answer}
+use Rattle.peer_route.specs.History.{Event, Took, Shut, Put, Wrote, Fault, Spent, Made, Did, Main, OnBus, Added, Removed, Named, Told, read, closing, first_of, by_position}
+use Rattle.peer_route.specs.Streams.{Stream, phase, streams, plain_stream, tell, matched, offered, held, runs, limit_of, busy, is_full, take_by, take_at, take_answer}
 use Rattle.peer_route.specs.Parcel.{Setting}
 use Rattle.peer_route.specs.Trail.{Trail, place, count, trail, more, read_events, take_does, second_place, events_of, new_streams}
 use Rattle.peer_route.specs.Answers.{IsAnswer, IsReadOf, Legal, shown_take, take_of, take_before_of}
@@ -54,6 +54,9 @@ closing_stays (Spent call ∷ xs) h error e = closing_stays xs h error e
 closing_stays (Made making ∷ xs) h error e = closing_stays xs h error e
 closing_stays (Did j deed ∷ xs) h error e = closing_stays xs h error e
 closing_stays (Main limit ∷ xs) h error e = closing_stays xs h error e
+closing_stays (OnBus ∷ xs) h error e = closing_stays xs h error e
+closing_stays (Added m rule asked ∷ xs) h error e = closing_stays xs h error e
+closing_stays (Removed m ∷ xs) h error e = closing_stays xs h error e
 closing_stays (Named name ∷ xs) h error e = closing_stays xs h error e
 
 -- a closed peer reads nothing more
@@ -77,23 +80,23 @@ reads_none t lane (words.Queue n limit) a error e = queue_read t.events (place 0
 reads_none t lane (words.MainQueue limit) a error e = main_read t.events limit a
 reads_none t lane words.Close a error e = close_read t.events a
 
--- a take says that the stream is over, or was closed
-over_by : (gone : Bool) (items : List Seen) (o : Option Error) (told : Bool) (error : Error) → items ≡ [] → o ≡ Some error → told ≡ true
-    → (if gone then Err errors.UnknownHandle else Ok (take_by items o told)) ≡ (if gone then Err errors.UnknownHandle else Ok polled.Ended)
-over_by gone items o told error e c t =
-    ap (λ ms. if gone then Err errors.UnknownHandle else Ok (take_by ms o told)) e ∙ ap (λ x. if gone then Err errors.UnknownHandle else Ok (take_by [] x told)) c
-    ∙ ap (λ b. if gone then Err errors.UnknownHandle else Ok (take_by [] (Some error) b)) t
+-- a take says that the stream is over, or isn't open
+over_by : (open_ : Bool) (items : List Seen) (o : Option Error) (told : Bool) (error : Error) → items ≡ [] → o ≡ Some error → told ≡ true
+    → (if open_ then Ok (take_by items o told) else Err errors.UnknownHandle) ≡ (if open_ then Ok polled.Ended else Err errors.UnknownHandle)
+over_by open_ items o told error e c t =
+    ap (λ ms. if open_ then Ok (take_by ms o told) else Err errors.UnknownHandle) e ∙ ap (λ x. if open_ then Ok (take_by [] x told) else Err errors.UnknownHandle) c
+    ∙ ap (λ b. if open_ then Ok (take_by [] (Some error) b) else Err errors.UnknownHandle) t
 
-ended_if : (gone : Bool) (r : Result (Polled Seen) Error) → r ≡ (if gone then Err errors.UnknownHandle else Ok polled.Ended)
+ended_if : (open_ : Bool) (r : Result (Polled Seen) Error) → r ≡ (if open_ then Ok polled.Ended else Err errors.UnknownHandle)
     → (r ≡ Ok polled.Ended) ⊎ (r ≡ Err errors.UnknownHandle)
-ended_if true r e = inr e
-ended_if false r e = inl e
+ended_if true r e = inl e
+ended_if false r e = inr e
 
 over_gives : (h : List Event) (k : ℕ) (s : Stream) (error : Error) → slice_get (streams h) k ≡ Some s → held h s ≡ [] → s.told ≡ true → closing h ≡ Some error
     → (take_answer h k ≡ Ok polled.Ended) ⊎ (take_answer h k ≡ Err errors.UnknownHandle)
 unfolding take_answer
 over_gives h k s error made nothing told shut =
-    ended_if s.gone (take_answer h k) (ap (take_at h) made ∙ over_by s.gone (held h s) (closing h) s.told error nothing shut told)
+    ended_if (runs h s) (take_answer h k) (ap (take_at h) made ∙ over_by (runs h s) (held h s) (closing h) s.told error nothing shut told)
 
 -- a stream that gives an item is another one
 holds_other : (h : List Event) (j k : ℕ) (s s₂ : Stream) (m : Seen) (ms : List Seen) → slice_get (streams h) j ≡ Some s → held h s ≡ m ∷ ms
@@ -110,13 +113,13 @@ over_spares t lane₂ w a k s is made nothing =
     (λ n e. take_spares t.events (place 0 lane₂ n t.streams) a k (take_entry t lane₂ w a n is e) (λ j s₂ m ms named at items. holds_other t.events j k s₂ s m ms at items made nothing))
 
 over_step : (t : Trail) (lane₂ : ℕ) (w : Words) (a : Answer) (lane number : ℕ) → IsAnswer t lane₂ w a → Over t lane number → Over (more t (entry lane₂ w a)) lane number
-unfolding held offered matched
+unfolding held offered matched phase
 over_step t lane₂ w a lane number is o =
     let xs = events_of t lane₂ w a in
     let r = stays xs t.events o.k o.stream (over_spares t lane₂ w a o.k o.stream is o.made o.nothing) o.made in
     record {
       k = o.k;
-      stream = record o.stream { told = r.now_told; gone = r.now_gone };
+      stream = record o.stream { told = r.now_told; gone = r.now_gone; opened = r.now_opened };
       error = o.error;
       named = place_append 0 lane number t.streams (new_streams lane₂ a) o.k o.named;
       made = r.made;
@@ -178,7 +181,7 @@ takes_do t lane number w a (inr is) = ap (λ x. events_of t lane x a) is.1
 -- after the last answer the stream is over
 over_told : (t : Trail) (e : Entry) (number k : ℕ) (s : Stream) (error : Error) → IsTake number e.words → place 0 e.lane number t.streams ≡ Some k
     → slice_get (streams t.events) k ≡ Some s → held t.events s ≡ [] → closing t.events ≡ Some error → e.answer ≡ answers.Closed error → Over (more t e) e.lane number
-unfolding held offered matched
+unfolding held offered matched phase
 over_told t e number k s error w named made nothing shut is =
     let xs : events_of t e.lane e.words e.answer ≡ Did k Told ∷ [] = takes_do t e.lane number e.words e.answer w ∙ told_does (place 0 e.lane number t.streams) e.answer k error named is in
     record {
@@ -239,12 +242,12 @@ drained setting older e number error legal w a = drained_by (trail setting older
 -- ---- a stream that is made after the peer was closed
 
 held_nothing : (h : List Event) → held h (plain_stream h) ≡ []
-unfolding held offered matched
+unfolding held offered matched phase
 held_nothing h = drop-length (read h)
 
 over_made : (t : Trail) (lane : ℕ) (error : Error) → length t.streams ≡ length (streams t.events) → closing t.events ≡ Some error
     → Over (more t (entry lane words.Stream (answers.Streaming (count lane t.streams)))) lane (count lane t.streams)
-unfolding held offered matched
+unfolding held offered matched phase
 over_made t lane error e shut = record {
   k = length t.streams;
   stream = plain_stream t.events;

@@ -1,5 +1,5 @@
 -- The message that each stream gave last, after each event.
-use Rattle.std.proofs.Common.{◌≡◌, ℕ, ◌+◌, ◌≤◌, zero, suc, refl, sym, ◌∙◌, ap, arith, Bool, true, false, if◌then◌else◌, List, [], ◌∷◌, ◌++◌, length, drop, map, Option, Some, None, Result, Ok, Err}
+use Rattle.std.proofs.Common.{◌≡◌, ℕ, ◌+◌, ◌≤◌, zero, suc, refl, sym, ◌∙◌, ap, arith, ◌||◌, Bool, true, false, if◌then◌else◌, List, [], ◌∷◌, ◌++◌, length, drop, map, Option, Some, None, Result, Ok, Err}
 use Rattle.std.specs.List.{slice_get, slice_set, AllByRecursion}
 use Rattle.std.specs.Option.{option_map}
 use Rattle.std.proofs.lemmas.List.{map-append, drop-append-le, length-drop}
@@ -7,14 +7,16 @@ use Rattle.std.proofs.lemmas.Option.{slice_get-map}
 use Rattle.wire_message.specs.Front.{Seen}
 use Rattle.wire_message.specs.declared.error.Error.{Error}
 use Rattle.wire_message.specs.declared.error.Error.TheVariants as errors
+use Rattle.rule_match.specs.Rule.{Rule}
 use Rattle.peer_route.specs.declared.polled.Polled.{Polled}
 use Rattle.peer_route.specs.declared.polled.Polled.TheVariants as polled
-use Rattle.peer_route.specs.History.{Event, Took, Made, Did, Main, Making, Plain, Ruled, Cloned, Gone, Asked, read, closing, edit}
-use Rattle.peer_route.specs.Streams.{Stream, streams, clone_of, new_stream, give, tell, end_one, accepted, matched, offered, held, item_at, gave_last, all_given, take_by, take_at, take_answer, take_events}
+use Rattle.peer_route.specs.History.{Event, Took, Fault, Made, Did, Main, Added, Making, Plain, Ruled, Cloned, Gone, Asked, Opened, done, read, closing, edit}
+use Rattle.peer_route.specs.Streams.{Stream, Phase, Asking, Denied, Since, since_in, asks_by, phase, streams, clone_of, new_stream, asking_stream, fail_stream, give, tell, end_one, open_one, accepted, matched, offered, held, item_at, gave_last, all_given, runs, take_by, take_at, take_answer, take_events}
 use Rattle.peer_route.specs.Left.{IsWithin, View, Left}
 use Rattle.peer_route.specs.Trail.{given_by, given_at, kept_by, kept_at}
 use Rattle.peer_route.proofs.Edits.{edit_nothing, map_edit, map_edit_all, set_edit, get_before, get_first}
-use Rattle.peer_route.proofs.Matched.{matched_took, matched_same}
+use Rattle.peer_route.proofs.Matched.{arriving, matched_took, matched_same}
+use Rattle.peer_route.proofs.StreamsMade.{runs_so}
 
 -- what was given, by what the stream offers
 gave_by : (h : List Event) (s : Stream) (ms : List Seen) → offered h s ≡ ms → gave_last h s ≡ (if s.gone then None else item_at ms s.taken)
@@ -43,7 +45,7 @@ gave_took : (m : Seen) (h : List Event) (s : Stream) → IsWithin h s → gave_l
 unfolding gave_last offered
 gave_took m h s w =
     let passed = w.passed in
-    let some = accepted s.rule (m ∷ []) in
+    let some = arriving (phase h s) s.rule m in
     let more : offered (Took m ∷ h) s ≡ offered h s ++ some =
     ap (drop s.skip) (matched_took m h s w.start) ∙ drop-append-le s.skip (matched h s) some (omega arith) in
     gave_by (Took m ∷ h) s (offered h s ++ some) more
@@ -56,6 +58,46 @@ each_took m h (s ∷ ss) w = let a = gave_took m h s w.0 in let b = each_took m 
 -- what streams gave stays when a message comes
 pub given_took : (m : Seen) (v : View) (h : List Event) → Left v h → all_given (Took m ∷ h) ≡ all_given h
 given_took m v h left = each_took m h (streams h) left.streams.within
+
+-- ---- a write fails
+
+drop_nothing : (n : ℕ) → drop {A = Seen} n [] ≡ []
+drop_nothing zero = refl
+drop_nothing (suc n) = refl
+
+item_nothing : (n : ℕ) → item_at [] n ≡ None
+item_nothing zero = refl
+item_nothing (suc n) = refl
+
+accepted_nothing : (rule : Option Rule) → accepted rule [] ≡ []
+accepted_nothing None = refl
+accepted_nothing (Some rule) = refl
+
+-- a stream that waits gave nothing, and is gone where its AddMatch fails
+failed_by : (n skip taken : ℕ) (rule : Option Rule) (gone : Bool) (p : Phase)
+    → (if gone || asks_by n p then None else item_at (drop skip (accepted rule (since_in p))) taken) ≡ (if gone then None else item_at (drop skip (accepted rule (since_in p))) taken)
+failed_by n skip taken rule true p = refl
+failed_by n skip taken rule false (Since ms) = refl
+failed_by n skip taken rule false (Denied m) = refl
+failed_by n skip taken rule false (Asking add) =
+    let none : item_at (drop skip (accepted rule [])) taken ≡ None = ap (λ ms. item_at (drop skip ms) taken) (accepted_nothing rule) ∙ ap (λ ms. item_at ms taken) (drop_nothing skip) ∙ item_nothing taken in
+    either (asks_by n (Asking add)) (item_at (drop skip (accepted rule [])) taken) none
+  where
+    either : (b : Bool) (o : Option Seen) → o ≡ None → (if b then None else o) ≡ o
+    either true o e = sym e
+    either false o e = refl
+
+gave_failed : (h : List Event) (n : ℕ) (s : Stream) → gave_last (Fault ∷ h) (fail_stream h n s) ≡ gave_last h s
+unfolding gave_last offered matched phase
+gave_failed h n s = failed_by n s.skip s.taken s.rule s.gone (phase h s)
+
+each_failed : (h : List Event) (n : ℕ) (ss : List Stream) → map (gave_last (Fault ∷ h)) (map (fail_stream h n) ss) ≡ map (gave_last h) ss
+each_failed h n [] = refl
+each_failed h n (s ∷ ss) = let a = gave_failed h n s in let b = each_failed h n ss in cc
+
+-- what streams gave stays when a write fails
+pub given_fault : (h : List Event) → all_given (Fault ∷ h) ≡ all_given h
+given_fault h = each_failed h (done h) (streams h)
 
 -- ---- a stream is made, closed, or asks for a capacity
 
@@ -76,6 +118,28 @@ given_made making h =
     map-append (gave_last (Made making ∷ h)) (streams h) (new_stream h (streams h) making ∷ [])
     ∙ ap (λ os. os ++ gave_last (Made making ∷ h) (new_stream h (streams h) making) ∷ []) (each_same (Made making ∷ h) h (streams h) refl)
     ∙ ap (λ o. all_given h ++ o ∷ []) (new_gave (Made making ∷ h) h making)
+
+asking_gave : (g h : List Event) (m : Seen) (rule : Rule) → gave_last g (asking_stream h m rule) ≡ None
+unfolding gave_last
+asking_gave g h m rule = refl
+
+-- nor did one that waits for the return to its AddMatch
+pub given_added : (m : Seen) (rule : Rule) (asked : Option ℕ) (h : List Event) → all_given (Added m rule asked ∷ h) ≡ all_given h ++ None ∷ []
+given_added m rule asked h =
+    map-append (gave_last (Added m rule asked ∷ h)) (streams h) (asking_stream h m rule ∷ [])
+    ∙ ap (λ os. os ++ gave_last (Added m rule asked ∷ h) (asking_stream h m rule) ∷ []) (each_same (Added m rule asked ∷ h) h (streams h) refl)
+    ∙ ap (λ o. all_given h ++ o ∷ []) (asking_gave (Added m rule asked ∷ h) h m rule)
+
+opened_gave : (h : List Event) (s : Stream) → gave_last h (open_one s) ≡ gave_last h s
+unfolding gave_last offered matched phase
+opened_gave h s = refl
+
+-- who asked for a stream is told that it is open: what it gave stays
+pub given_opened : (h : List Event) (k : ℕ) → all_given (Did k Opened ∷ h) ≡ all_given h
+given_opened h k =
+    each_same (Did k Opened ∷ h) h (edit k open_one (streams h)) refl
+    ∙ map_edit_all (gave_last h) open_one (λ o. o) (streams h) k (opened_gave h)
+    ∙ edit_nothing k (all_given h)
 
 closed_gave : (h : List Event) (s : Stream) → gave_last h (end_one s) ≡ None
 unfolding gave_last
@@ -109,14 +173,14 @@ given_after k (Ok polled.Ended) gs = gs
 given_after k (Err error) gs = gs
 
 gave_now : (h : List Event) (s : Stream) (m : Seen) (ms : List Seen) → s.gone ≡ false → held h s ≡ m ∷ ms → gave_last h (give s) ≡ Some m
-unfolding gave_last held offered matched
+unfolding gave_last held offered matched phase
 gave_now h s m ms still e =
     ap (λ b. if b then None else item_at (offered h s) (s.taken + 1)) still
     ∙ ap (item_at (offered h s)) (let n : s.taken + 1 ≡ suc s.taken = omega arith in n) ∙ get_first s.taken (offered h s) m ms e
 
 given_by_take : (h : List Event) (k : ℕ) (s : Stream) (items : List Seen) (error : Option Error) (told : Bool) → slice_get (streams h) k ≡ Some s → s.gone ≡ false → held h s ≡ items
     → all_given (take_events k (Ok (take_by items error told)) ++ h) ≡ given_after k (Ok (take_by items error told)) (all_given h)
-unfolding gave_last offered matched
+unfolding gave_last offered matched phase
 given_by_take h k s (m ∷ ms) error told at still e =
     map_edit (gave_last h) give (λ _. Some m) (streams h) k s at (gave_now h s m ms still e) ∙ sym (set_edit (all_given h) k (Some m))
 given_by_take h k s [] None told at still e = refl
@@ -124,16 +188,16 @@ given_by_take h k s [] (Some error) false at still e =
     map_edit_all (gave_last h) tell (λ o. o) (streams h) k (λ x. refl) ∙ edit_nothing k (all_given h)
 given_by_take h k s [] (Some error) true at still e = refl
 
-given_if : (h : List Event) (k : ℕ) (s : Stream) (gone : Bool) → slice_get (streams h) k ≡ Some s → s.gone ≡ gone
-    → all_given (take_events k (if gone then Err errors.UnknownHandle else Ok (take_by (held h s) (closing h) s.told)) ++ h)
-    ≡ given_after k (if gone then Err errors.UnknownHandle else Ok (take_by (held h s) (closing h) s.told)) (all_given h)
-given_if h k s true at e = refl
-given_if h k s false at e = given_by_take h k s (held h s) (closing h) s.told at e refl
+given_if : (h : List Event) (k : ℕ) (s : Stream) (open_ : Bool) → slice_get (streams h) k ≡ Some s → runs h s ≡ open_
+    → all_given (take_events k (if open_ then Ok (take_by (held h s) (closing h) s.told) else Err errors.UnknownHandle) ++ h)
+    ≡ given_after k (if open_ then Ok (take_by (held h s) (closing h) s.told) else Err errors.UnknownHandle) (all_given h)
+given_if h k s false at e = refl
+given_if h k s true at e = let is = runs_so h s e in given_by_take h k s (held h s) (closing h) s.told at is.still refl
 
 given_take_at : (h : List Event) (k : ℕ) (o : Option Stream) → slice_get (streams h) k ≡ o
     → all_given (take_events k (take_at h o) ++ h) ≡ given_after k (take_at h o) (all_given h)
 given_take_at h k None at = refl
-given_take_at h k (Some s) at = given_if h k s s.gone at refl
+given_take_at h k (Some s) at = given_if h k s (runs h s) at refl
 
 pub given_taken : (h : List Event) (k : ℕ) → all_given (take_events k (take_answer h k) ++ h) ≡ given_after k (take_answer h k) (all_given h)
 unfolding take_answer

@@ -32,7 +32,7 @@ some_same a b e = ap (λ o. or_zero o) e
 -- a slot waits for one serial
 waits_for_one : (p q : ℕ) (s : Slot) → is_waiting p s ≡ true → is_waiting q s ≡ true → p ≡ q
 waits_for_one p q slots.Gone a b = absurd (false≢true a)
-waits_for_one p q (slots.Waiting n) a b = sym (eqb-true n p a) ∙ eqb-true n q b
+waits_for_one p q (slots.Waiting n i) a b = sym (eqb-true n p a) ∙ eqb-true n q b
 waits_for_one p q (slots.Replied m) a b = absurd (false≢true a)
 
 pub waits_within : (q k : ℕ) (ss : List Slot) → is_waiting q (at ss k) ≡ true → k < length ss
@@ -123,29 +123,29 @@ module _ (m n : BTreeMap ℕ ℕ) (ss : List Slot) (s k : ℕ) (x : Slot) (idle 
 
 -- ---- one slot more
 
-pushed_waits : (q j s : ℕ) (ss : List Slot) → is_waiting q (at (ss ++ slots.Waiting s ∷ []) j) ≡ true → ((j ≡ length ss) × (s ≡ q)) ⊎ (is_waiting q (at ss j) ≡ true)
-pushed_waits q zero s [] w = inl (refl, eqb-true s q w)
-pushed_waits q (suc j) s [] w = absurd (false≢true w)
-pushed_waits q zero s (y ∷ ss) w = inr w
-pushed_waits q (suc j) s (y ∷ ss) w = elim (pushed_waits q j s ss w) [
+pushed_waits : (q j s : ℕ) (inner : Bool) (ss : List Slot) → is_waiting q (at (ss ++ slots.Waiting s inner ∷ []) j) ≡ true → ((j ≡ length ss) × (s ≡ q)) ⊎ (is_waiting q (at ss j) ≡ true)
+pushed_waits q zero s inner [] w = inl (refl, eqb-true s q w)
+pushed_waits q (suc j) s inner [] w = absurd (false≢true w)
+pushed_waits q zero s inner (y ∷ ss) w = inr w
+pushed_waits q (suc j) s inner (y ∷ ss) w = elim (pushed_waits q j s inner ss w) [
   | inl e ↦ inl (ap suc e.0, e.1)
   | inr v ↦ inr v
 ]
 
-module _ (m n : BTreeMap ℕ ℕ) (ss : List Slot) (s : ℕ) (low : 1 ≤ s) (high : s ≤ 4294967295) (free : list_any (is_waiting s) ss ≡ false)
+module _ (m n : BTreeMap ℕ ℕ) (ss : List Slot) (s : ℕ) (inner : Bool) (low : 1 ≤ s) (high : s ≤ 4294967295) (free : list_any (is_waiting s) ss ≡ false)
     (new : UpdatesBy nat_cmp (nat_cmp s) m n (Some (length ss))) (i : IsIndex m ss) where
-  pushed_there : (q j : ℕ) → get nat_cmp n q ≡ Some j → is_waiting q (at (ss ++ slots.Waiting s ∷ []) j) ≡ true
+  pushed_there : (q j : ℕ) → get nat_cmp n q ≡ Some j → is_waiting q (at (ss ++ slots.Waiting s inner ∷ []) j) ≡ true
   pushed_there q j g = elim (cases_eq s q) [
     | inl e ↦
         let last : length ss ≡ j = some_same (length ss) j (sym new.1 ∙ ap (get nat_cmp n) e ∙ g) in
-        ap (is_waiting q) (get_or_push ss (slots.Waiting s) slots.Gone j last) ∙ eq-eqb s q e
+        ap (is_waiting q) (get_or_push ss (slots.Waiting s inner) slots.Gone j last) ∙ eq-eqb s q e
     | inr ne ↦
         let w = i.there q j (sym (new.2 q (apart s q ne)) ∙ g) in
-        ap (is_waiting q) (get_or_append_left ss (slots.Waiting s ∷ []) slots.Gone j (waits_within q j ss w)) ∙ w
+        ap (is_waiting q) (get_or_append_left ss (slots.Waiting s inner ∷ []) slots.Gone j (waits_within q j ss w)) ∙ w
   ]
 
-  pushed_whole : (q j : ℕ) → is_waiting q (at (ss ++ slots.Waiting s ∷ []) j) ≡ true → get nat_cmp n q ≡ Some j
-  pushed_whole q j w = elim (pushed_waits q j s ss w) [
+  pushed_whole : (q j : ℕ) → is_waiting q (at (ss ++ slots.Waiting s inner ∷ []) j) ≡ true → get nat_cmp n q ≡ Some j
+  pushed_whole q j w = elim (pushed_waits q j s inner ss w) [
     | inl e ↦ ap (get nat_cmp n) (sym e.1) ∙ new.1 ∙ ap (λ k. Some k) (sym e.0)
     | inr v ↦
         new.2 q (apart s q (λ e. both_ways (list_any (is_waiting s) ss) free (waits_at s ss j (ap (λ p. is_waiting p (at ss j)) e ∙ v))))
@@ -158,7 +158,7 @@ module _ (m n : BTreeMap ℕ ℕ) (ss : List Slot) (s : ℕ) (low : 1 ≤ s) (hi
     | inr ne ↦ i.circle q (subst IsSome (new.2 q (apart s q ne)) g)
   ]
 
-  pub index_pushed : IsIndex n (ss ++ slots.Waiting s ∷ [])
+  pub index_pushed : IsIndex n (ss ++ slots.Waiting s inner ∷ [])
   index_pushed = record { there = pushed_there; whole = pushed_whole; circle = pushed_circle }
 
 -- ---- what the code reads of its slots
@@ -197,11 +197,11 @@ unfolding waiting_serial
 free_slots ss v s e free = ap (λ (w : CallsView). is_none w.closing && list_any (is_waiting s) w.slots) e ∙ free
 
 -- an open peer has one call more
-pub registered : (m n : BTreeMap ℕ ℕ) (ss : List Slot) (error : Option Error) (v : CallsView) (s : ℕ) → calls_of ss error ≡ v → error ≡ None
+pub registered : (m n : BTreeMap ℕ ℕ) (ss : List Slot) (error : Option Error) (v : CallsView) (s : ℕ) (inner : Bool) → calls_of ss error ≡ v → error ≡ None
     → waiting_serial v s ≡ false → 1 ≤ s → s ≤ 4294967295 → UpdatesBy nat_cmp (nat_cmp s) m n (Some (length ss)) → (error ≡ None → IsIndex m ss)
-    → IsIndex n (ss ++ slots.Waiting s ∷ [])
-registered m n ss error v s e none free low high new i =
-    index_pushed m n ss s low high (free_slots ss v s (ap (calls_of ss) (sym none) ∙ e) free) new (i none)
+    → IsIndex n (ss ++ slots.Waiting s inner ∷ [])
+registered m n ss error v s inner e none free low high new i =
+    index_pushed m n ss s inner low high (free_slots ss v s (ap (calls_of ss) (sym none) ∙ e) free) new (i none)
 
 -- ---- which call a message answers
 

@@ -1,5 +1,5 @@
 -- Messages are issued: what the core is then, and why they may be refused.
-use Rattle.std.proofs.Common.{◌≡◌, ℕ, ◌+◌, refl, sym, ◌∙◌, ap, subst, arith, inl, inr, Bool, true, false, List, [], ◌∷◌, ◌++◌, length, map, find, None, Ok, Err, append_assoc}
+use Rattle.std.proofs.Common.{◌≡◌, ℕ, ◌+◌, refl, sym, ◌∙◌, ap, subst, arith, inl, inr, Bool, true, false, if◌then◌else◌, List, [], ◌∷◌, ◌++◌, length, map, find, drop, None, Ok, Err, append_assoc}
 use Rattle.std.specs.List.{list_any}
 use Rattle.std.proofs.Math.Seq.{drop-length}
 use Rattle.std.proofs.lemmas.List.{append-nil, map-append, length-map, length_push}
@@ -11,10 +11,10 @@ use Rattle.wire_message.specs.declared.error.Error.TheVariants as errors
 use Rattle.wire_message.specs.declared.error.IoKind.TheVariants as kinds
 use Rattle.peer_route.specs.declared.route.Issued.{Issued}
 use Rattle.peer_route.specs.declared.calls.Slot.TheVariants as slots
-use Rattle.peer_route.specs.History.{Event, Put, Call, read, put, last_serial, calls, found, bears, new_call, pending}
-use Rattle.peer_route.specs.Left.{slot_of, slot_by, is_waiting, AreDistinct, CallsView, waiting_serial, LeftCalls, View, Left}
+use Rattle.peer_route.specs.History.{Event, Put, Call, read, closing, put, last_serial, calls, found, bears, is_gone, call_by, new_call, pending}
+use Rattle.peer_route.specs.Left.{slot_of, slot_by, is_waiting, AreDistinct, CallsView, with_call, waiting_serial, LeftCalls, View, Left}
 use Rattle.peer_route.specs.Issuing.{is_deep, put_of, call_number, issued_of, AreDrawn, RunsOut, put_each, issued_each, IssuesAll}
-use Rattle.peer_route.specs.Placing.{with_call, Draws, Spends, place_of, places_of, issued_at, issued_from, messages_of, with_messages, PutsAll}
+use Rattle.peer_route.specs.Placing.{made_call, Draws, Spends, place_of, places_of, issued_at, issued_from, messages_of, with_messages, PutsAll}
 use Rattle.peer_route.specs.Parcel.{Parcel, message_of}
 use Rattle.peer_route.specs.CallMessage.{expects_reply, expects}
 use Rattle.peer_route.proofs.Core.{pending-left}
@@ -22,7 +22,7 @@ use Rattle.peer_route.proofs.CallsMade.{places}
 use Rattle.peer_route.proofs.StreamsMade.{streams_put}
 use Rattle.peer_route.proofs.Slots.{distinct_push}
 
-IsNext-along : (f g : ℕ → Bool) (last serial : ℕ) → ((n : ℕ) → f n ≡ g n) → IsNext f last serial → IsNext g last serial
+pub IsNext-along : (f g : ℕ → Bool) (last serial : ℕ) → ((n : ℕ) → f n ≡ g n) → IsNext f last serial → IsNext g last serial
 IsNext-along f g last serial e x = record {
   place = x.place;
   one = x.one;
@@ -34,21 +34,35 @@ IsNext-along f g last serial e x = record {
 
 -- ---- a call is issued
 
-slot_new : (h : List Event) (m : Seen) → slot_of h (record { index = length (put h); serial = m.serial; from = length (read h); spent = false; failed = false }) ≡ slots.Waiting m.serial
+slot_same : (g h : List Event) (c : Call) → read g ≡ read h → slot_of h c ≡ slot_of g c
 unfolding slot_of found
-slot_new h m = ap (λ ms. slot_by m.serial (find (bears m.serial) ms)) (drop-length (read h))
+slot_same g h c e = ap (λ ms. if is_gone c then slots.Gone else slot_by c.inner c.serial (find (bears c.serial) (drop c.from ms))) (sym e)
 
-pub issued_calls : (m : Seen) (v new : CallsView) (h : List Event) → new.slots ≡ v.slots ++ slots.Waiting m.serial ∷ [] → new.closing ≡ v.closing
-    → waiting_serial v m.serial ≡ false → LeftCalls v h → LeftCalls new (Put m true ∷ h)
-unfolding slot_of found waiting_serial
-issued_calls m v new h e same free left = record {
-  slots = e ∙ ap (λ ss. ss ++ slots.Waiting m.serial ∷ []) left.slots ∙ sym (map-append (slot_of h) (calls h) (new_call h m ∷ []) ∙ ap (λ s. map (slot_of h) (calls h) ++ s ∷ []) (slot_new h m));
-  closing = same ∙ left.closing;
+pub slots_same : (g h : List Event) → read g ≡ read h → (cs : List Call) → map (slot_of h) cs ≡ map (slot_of g) cs
+slots_same g h e [] = refl
+slots_same g h e (c ∷ cs) = let a = slot_same g h c e in let b = slots_same g h e cs in cc
+
+slot_new : (h : List Event) (m : Seen) (inner : Bool) → slot_of h (call_by h m inner) ≡ slots.Waiting m.serial inner
+unfolding slot_of found
+slot_new h m inner = ap (λ ms. slot_by inner m.serial (find (bears m.serial) ms)) (drop-length (read h))
+
+-- a call more, after an event that reads nothing, closes nothing, and makes one call
+pub called : (m : Seen) (inner : Bool) (v new : CallsView) (g h : List Event) → new ≡ with_call inner m.serial v → read g ≡ read h → closing g ≡ closing h → calls g ≡ calls h ++ call_by h m inner ∷ []
+    → waiting_serial v m.serial ≡ false → LeftCalls v h → LeftCalls new g
+unfolding waiting_serial
+called m inner v new g h e reads shut_ made free left = record {
+  slots = ap (λ (w : CallsView). w.slots) e ∙ ap (λ ss. ss ++ slots.Waiting m.serial inner ∷ []) left.slots
+      ∙ sym (map-append (slot_of h) (calls h) (call_by h m inner ∷ []) ∙ ap (λ s. map (slot_of h) (calls h) ++ s ∷ []) (slot_new h m inner))
+      ∙ ap (map (slot_of h)) (sym made) ∙ slots_same g h reads (calls g);
+  closing = ap (λ (w : CallsView). w.closing) e ∙ left.closing ∙ sym shut_;
   distinct = λ open_.
-      let was : v.closing ≡ None = sym same ∙ open_ in
+      let was : v.closing ≡ None = sym (ap (λ (w : CallsView). w.closing) e) ∙ open_ in
       let none : list_any (is_waiting m.serial) v.slots ≡ false = (rw was at free) in
-      subst AreDistinct (sym e) (distinct_push m.serial v.slots none (left.distinct was));
+      subst AreDistinct (sym (ap (λ (w : CallsView). w.slots) e)) (distinct_push m.serial inner v.slots none (left.distinct was));
 }
+
+pub issued_calls : (m : Seen) (v new : CallsView) (h : List Event) → new ≡ with_call false m.serial v → waiting_serial v m.serial ≡ false → LeftCalls v h → LeftCalls new (Put m true ∷ h)
+issued_calls m v new h e free left = called m false v new (Put m true ∷ h) h e refl refl refl free left
 
 -- a message that no call waits for leaves the calls as they were
 put_calls : (m : Seen) (v : CallsView) (h : List Event) → LeftCalls v h → LeftCalls v (Put m false ∷ h)
@@ -56,55 +70,54 @@ unfolding slot_of found
 put_calls m v h left = record { slots = left.slots; closing = left.closing; distinct = left.distinct }
 
 call_left : (b : Bool) (m : Seen) (serial : ℕ) (v : CallsView) (h : List Event) → m.serial ≡ serial → waiting_serial v serial ≡ false
-    → LeftCalls v h → LeftCalls (with_call b v serial) (Put m b ∷ h)
-call_left true m serial v h e free left =
-    issued_calls m v (with_call true v serial) h (ap (λ n. v.slots ++ slots.Waiting n ∷ []) (sym e)) refl (ap (waiting_serial v) e ∙ free) left
+    → LeftCalls v h → LeftCalls (made_call false b v serial) (Put m b ∷ h)
+call_left true m serial v h e free left = issued_calls m v (with_call false serial v) h (ap (λ n. with_call false n v) (sym e)) (ap (waiting_serial v) e ∙ free) left
 call_left false m serial v h e free left = put_calls m v h left
 
 -- ---- serials are drawn
 
-message_serial : (parcel : Parcel) (serial : ℕ) → (message_of parcel serial).serial ≡ serial
+pub message_serial : (parcel : Parcel) (serial : ℕ) → (message_of parcel serial).serial ≡ serial
 unfolding message_of built
 message_serial parcel serial = refl
 
-next_left : (v : CallsView) (last serial : ℕ) (h : List Event) → LeftCalls v h → last ≡ last_serial h → IsNext (waiting_serial v) last serial → IsNext (pending h) (last_serial h) serial
+pub next_left : (v : CallsView) (last serial : ℕ) (h : List Event) → LeftCalls v h → last ≡ last_serial h → IsNext (waiting_serial v) last serial → IsNext (pending h) (last_serial h) serial
 next_left v last serial h left e next =
     subst (λ n. IsNext (pending h) n serial) e
     (IsNext-along (waiting_serial v) (pending h) last serial (λ n. sym (pending-left v h left n)) next)
 
-spent_left : (v : CallsView) (h : List Event) → LeftCalls v h → AllTaken (waiting_serial v) → AllTaken (pending h)
+pub spent_left : (v : CallsView) (h : List Event) → LeftCalls v h → AllTaken (waiting_serial v) → AllTaken (pending h)
 spent_left v h left all serial a b = pending-left v h left serial ∙ all serial a b
 
 -- The serials that were drawn by what is kept are those of the history.
 drawn_left : (ps : List Parcel) (serials : List ℕ) (v w : CallsView) (last end : ℕ) (h : List Event) → LeftCalls v h → last ≡ last_serial h
-    → Draws v last ps serials w end → AreDrawn h ps serials
+    → Draws false v last ps serials w end → AreDrawn h ps serials
 drawn_left [] [] v w last end h left e d = tt
 drawn_left (p ∷ ps) (serial ∷ serials) v w last end h left e d = (
   next_left v last serial h left e d.0,
-  drawn_left ps serials (with_call (expects (Ok p)) v serial) w serial end (put_of p serial ∷ h)
+  drawn_left ps serials (made_call false (expects (Ok p)) v serial) w serial end (put_of p serial ∷ h)
       (call_left (expects (Ok p)) (message_of p serial) serial v h (message_serial p serial) d.0.free left) (sym (message_serial p serial)) d.1,
 )
 drawn_left [] (serial ∷ serials) v w last end h left e d = absurd d
 drawn_left (p ∷ ps) [] v w last end h left e d = absurd d
 
 -- and where none is left by what is kept, none is by the history
-spends_left : (ps : List Parcel) (v : CallsView) (last : ℕ) (h : List Event) → LeftCalls v h → last ≡ last_serial h → Spends v last ps → RunsOut h ps
+spends_left : (ps : List Parcel) (v : CallsView) (last : ℕ) (h : List Event) → LeftCalls v h → last ≡ last_serial h → Spends false v last ps → RunsOut h ps
 spends_left [] v last h left e x = absurd x
 spends_left (p ∷ ps) v last h left e (inl all) = inl (spent_left v h left all)
 spends_left (p ∷ ps) v last h left e (inr x) =
     inr (
       x.0,
       next_left v last x.0 h left e x.1,
-      spends_left ps (with_call (expects (Ok p)) v x.0) x.0 (put_of p x.0 ∷ h)
+      spends_left ps (made_call false (expects (Ok p)) v x.0) x.0 (put_of p x.0 ∷ h)
           (call_left (expects (Ok p)) (message_of p x.0) x.0 v h (message_serial p x.0) x.1.free left) (sym (message_serial p x.0)) x.2,
     )
 
 -- ---- messages are put
 
 -- the core with one message more, and its call, if it expects a reply
-abbrev placed : Bool → View → Seen → ℕ → View
+abbrev pub placed : Bool → View → Seen → ℕ → View
 placed b v m serial = record v {
-  calls = with_call b v.calls serial;
+  calls = made_call false b v.calls serial;
   last = serial;
   outbox = v.outbox ++ m ∷ [];
   places = v.places ++ place_of (length v.outbox) b;
@@ -120,6 +133,7 @@ left_put : (b : Bool) (v : View) (m : Seen) (serial : ℕ) (h : List Event) → 
     → Left (placed b v m serial) (Put m b ∷ h)
 left_put b v m serial h e left free = record {
   calls = call_left b m serial v.calls h e free left.calls;
+  bus = left.bus;
   streams = streams_put m b v.streams h left.streams;
   main = left.main;
   read = left.read;
@@ -140,12 +154,12 @@ unfolding message_of built
 message_flags parcel serial = refl
 
 -- a message that was built waits for a reply exactly where its draft says so
-same_expects : (parcel : Parcel) (serial : ℕ) → expects_reply (message_of parcel serial).kind (message_of parcel serial).flags ≡ expects (Ok parcel)
+pub same_expects : (parcel : Parcel) (serial : ℕ) → expects_reply (message_of parcel serial).kind (message_of parcel serial).flags ≡ expects (Ok parcel)
 same_expects parcel serial =
     ap (λ k. expects_reply k (message_of parcel serial).flags) (message_kind parcel serial) ∙ ap (expects_reply parcel.draft.kind) (message_flags parcel serial)
 
 -- one message more, and then the others
-placed_more : (v w : View) (b c : Bool) (m : Seen) (ms : List Seen) (calls_then : CallsView) (serial end : ℕ) → c ≡ b → expects_reply m.kind m.flags ≡ b
+pub placed_more : (v w : View) (b c : Bool) (m : Seen) (ms : List Seen) (calls_then : CallsView) (serial end : ℕ) → c ≡ b → expects_reply m.kind m.flags ≡ b
     → with_messages (placed c v m serial) ms calls_then end ≡ with_messages v (m ∷ ms) calls_then end
 placed_more v w b c m ms calls_then serial end e f =
     let n : length (v.outbox ++ m ∷ []) ≡ length v.outbox + 1 = length_push v.outbox m in
@@ -155,7 +169,7 @@ placed_more v w b c m ms calls_then serial end e f =
     ∙ ap (λ k. v.places ++ (place_of (length v.outbox) c ++ places_of k ms)) n
     ∙ ap (λ d. v.places ++ (place_of (length v.outbox) d ++ places_of (length v.outbox + 1) ms)) (e ∙ sym f))
 
-with_none : (v : View) (calls_then : CallsView) (end : ℕ) → calls_then ≡ v.calls → end ≡ v.last → with_messages v [] calls_then end ≡ v
+pub with_none : (v : View) (calls_then : CallsView) (end : ℕ) → calls_then ≡ v.calls → end ≡ v.last → with_messages v [] calls_then end ≡ v
 with_none v calls_then end e f =
     ap (λ c. record v { calls = c; last = end; outbox = v.outbox ++ []; places = v.places ++ [] }) e
     ∙ ap (λ n. record v { last = n; outbox = v.outbox ++ []; places = v.places ++ [] }) f
@@ -163,7 +177,7 @@ with_none v calls_then end e f =
     ∙ ap (λ ns. record v { places = ns }) (append-nil v.places)
 
 -- messages that were put leave the core with them
-put_left : (ps : List Parcel) (serials : List ℕ) (v : View) (w : CallsView) (end : ℕ) (h : List Event) → Left v h → Draws v.calls v.last ps serials w end
+put_left : (ps : List Parcel) (serials : List ℕ) (v : View) (w : CallsView) (end : ℕ) (h : List Event) → Left v h → Draws false v.calls v.last ps serials w end
     → Left (with_messages v (messages_of ps serials) w end) (put_each ps serials h)
 put_left [] [] v w end h left d = subst (λ u. Left u h) (sym (with_none v w end d.0 d.1)) left
 put_left (p ∷ ps) (serial ∷ serials) v w end h left d =
@@ -206,7 +220,7 @@ count_left : (v : View) (h : List Event) → Left v h → length v.places ≡ le
 count_left v h left = ap length left.places ∙ length-map (calls h) (λ (c : Call). c.index)
 
 pub issued_all : {A : Type 0} (items : A → List Issued) (old new : View) (ps : List Parcel) (h : List Event) (issued : A) → list_any is_deep ps ≡ false → Left old h
-    → PutsAll items old new ps (Ok issued) → IssuesAll items old new ps h (Ok issued)
+    → PutsAll false items old new ps (Ok issued) → IssuesAll items old new ps h (Ok issued)
 issued_all items old new ps h issued shallow left p = (
   shallow,
   (
@@ -220,7 +234,7 @@ issued_all items old new ps h issued shallow left p = (
 )
 
 pub refused_all : {A : Type 0} (items : A → List Issued) (old mid new : View) (ps : List Parcel) (h : List Event) (error : Error) → list_any is_deep ps ≡ false → Left old h
-    → new ≡ old → PutsAll items old mid ps (Err error) → IssuesAll items old new ps h (Err error)
+    → new ≡ old → PutsAll false items old mid ps (Err error) → IssuesAll items old new ps h (Err error)
 refused_all items old mid new ps h errors.SerialsSpent shallow left e p = (shallow, spends_left ps old.calls old.last h left.calls left.last p, e)
 refused_all items old mid new ps h errors.ExcessData shallow left e p =
     (shallow, (p.0, drawn_left ps p.0 old.calls mid.calls old.last mid.last h left.calls left.last p.1, p.2), e)

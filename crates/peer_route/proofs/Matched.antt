@@ -1,15 +1,16 @@
 -- The messages that are a stream's: how many of them it passed, that a message that comes is one more, and that it never passes
 -- more than there are.
-use Rattle.std.proofs.Common.{◌≡◌, ℕ, ◌+◌, ◌≤◌, zero, suc, refl, sym, ◌∙◌, ap, subst, arith, Bool, List, [], ◌∷◌, ◌++◌, length, drop, Option, Some, None, length-append}
+use Rattle.std.proofs.Common.{◌≡◌, ℕ, ◌+◌, ◌≤◌, zero, suc, refl, sym, ◌∙◌, ap, subst, arith, Bool, true, false, if◌then◌else◌, List, [], ◌∷◌, ◌++◌, length, drop, Option, Some, None, length-append}
 use Rattle.std.specs.List.{slice_get, AllByRecursion}
 use Rattle.std.proofs.lemmas.List.Elements.{filter-append}
-use Rattle.std.proofs.lemmas.List.{drop-drop, drop-append-le}
+use Rattle.std.proofs.lemmas.List.{drop-drop, append-nil}
 use Rattle.wire_message.specs.Front.{Seen}
-use Rattle.peer_route.specs.History.{Event, Took, read}
+use Rattle.peer_route.specs.History.{Event, Took, Call, bears, read}
 use Rattle.rule_match.specs.Rule.{Rule}
 use Rattle.rule_match.specs.Accepting.{accepts}
-use Rattle.peer_route.specs.Streams.{Stream, fresh, accepted, matched, offered, held}
-use Rattle.peer_route.specs.Left.{IsWithin}
+use Rattle.peer_route.specs.Streams.{Stream, Phase, Asking, Denied, Since, is_return, since_in, phase, fresh, asking_stream, accepted, matched, offered, held}
+use Rattle.peer_route.specs.Left.{start_count, IsWithin}
+use Rattle.peer_route.proofs.Phases.{stepped, phase_took, phase_same}
 
 -- What stands to a stream, by its count.
 pub held_matched : (h : List Event) (s : Stream) → held h s ≡ drop (s.skip + s.taken) (matched h s)
@@ -20,15 +21,35 @@ pub accepted-append : (rule : Option Rule) (xs ys : List Seen) → accepted rule
 accepted-append None xs ys = refl
 accepted-append (Some rule) xs ys = filter-append (accepts rule) xs ys
 
--- a message that comes is one more, if the rule accepts it
-pub matched_took : (m : Seen) (h : List Event) (s : Stream) → s.from ≤ length (read h) → matched (Took m ∷ h) s ≡ matched h s ++ accepted s.rule (m ∷ [])
+-- the message, where the stream runs and its rule accepts it
+abbrev pub arriving : Phase → Option Rule → Seen → List Seen
+arriving (Since ms) rule m = accepted rule (m ∷ [])
+arriving (Denied r) rule m = []
+arriving (Asking add) rule m = []
+
+accepted_nothing : (rule : Option Rule) → accepted rule [] ≡ []
+accepted_nothing None = refl
+accepted_nothing (Some rule) = refl
+
+answered_nothing : (b r : Bool) (add : Call) (m : Seen) → since_in (if b then (if r then Since [] else Denied m) else Asking add) ≡ []
+answered_nothing true true add m = refl
+answered_nothing true false add m = refl
+answered_nothing false r add m = refl
+
+stepped_accepts : (p : Phase) (rule : Option Rule) (m : Seen) → accepted rule (since_in (stepped m p)) ≡ accepted rule (since_in p) ++ arriving p rule m
+stepped_accepts (Since ms) rule m = accepted-append rule ms (m ∷ [])
+stepped_accepts (Denied r) rule m = sym (append-nil (accepted rule []))
+stepped_accepts (Asking add) rule m = ap (accepted rule) (answered_nothing (bears add.serial m) (is_return m.kind) add m) ∙ sym (append-nil (accepted rule []))
+
+-- a message that comes is one more, if the stream runs and its rule accepts it
+pub matched_took : (m : Seen) (h : List Event) (s : Stream) → start_count s.start ≤ length (read h) → matched (Took m ∷ h) s ≡ matched h s ++ arriving (phase h s) s.rule m
 unfolding matched
-matched_took m h s le = ap (accepted s.rule) (drop-append-le s.from (read h) (m ∷ []) le) ∙ accepted-append s.rule (drop s.from (read h)) (m ∷ [])
+matched_took m h s le = ap (λ p. accepted s.rule (since_in p)) (phase_took m h s le) ∙ stepped_accepts (phase h s) s.rule m
 
 -- what was read says what is a stream's
 pub matched_same : (g h : List Event) (s : Stream) → read g ≡ read h → matched g s ≡ matched h s
 unfolding matched
-matched_same g h s e = ap (λ ms. accepted s.rule (drop s.from ms)) e
+matched_same g h s e = ap (λ p. accepted s.rule (since_in p)) (phase_same g h s e)
 
 pub held_same : (g h : List Event) (s : Stream) → read g ≡ read h → held g s ≡ held h s
 held_same g h s e = held_matched g s ∙ ap (drop (s.skip + s.taken)) (matched_same g h s e) ∙ sym (held_matched h s)
@@ -37,7 +58,7 @@ held_same g h s e = held_matched g s ∙ ap (drop (s.skip + s.taken)) (matched_s
 
 pub within_same : (g h : List Event) (s : Stream) → read g ≡ read h → IsWithin h s → IsWithin g s
 within_same g h s e w = record {
-  start = subst (λ (ms : List Seen). s.from ≤ length ms) (sym e) w.start;
+  start = subst (λ (ms : List Seen). start_count s.start ≤ length ms) (sym e) w.start;
   passed = subst (λ (ms : List Seen). s.skip + s.taken ≤ length ms) (sym (matched_same g h s e)) w.passed;
 }
 
@@ -51,7 +72,7 @@ within_took m h s w =
     let passed = w.passed in
     record {
       start = omega (arith, length-append (read h) (m ∷ []));
-      passed = subst (λ (ms : List Seen). s.skip + s.taken ≤ length ms) (sym (matched_took m h s start)) (omega (arith, length-append (matched h s) (accepted s.rule (m ∷ []))));
+      passed = subst (λ (ms : List Seen). s.skip + s.taken ≤ length ms) (sym (matched_took m h s start)) (omega (arith, length-append (matched h s) (arriving (phase h s) s.rule m)));
     }
 
 pub all_within_took : (m : Seen) (h : List Event) (ss : List Stream) → AllByRecursion (IsWithin h) ss → AllByRecursion (IsWithin (Took m ∷ h)) ss
@@ -65,6 +86,9 @@ within_at h (x ∷ ss) (suc k) s at w = within_at h ss k s at w.1
 
 pub within_fresh : (h : List Event) (rule : Option Rule) (told : Bool) → IsWithin h (fresh h rule told)
 within_fresh h rule told = record { start = omega arith; passed = omega arith }
+
+pub within_asking : (h : List Event) (m : Seen) (rule : Rule) → IsWithin h (asking_stream h m rule)
+within_asking h m rule = record { start = omega arith; passed = omega arith }
 
 pub within_push : (h : List Event) (ss : List Stream) (s : Stream) → AllByRecursion (IsWithin h) ss → IsWithin h s → AllByRecursion (IsWithin h) (ss ++ s ∷ [])
 within_push h [] s w one = (one, tt)

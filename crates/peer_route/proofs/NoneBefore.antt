@@ -17,8 +17,8 @@ use Rattle.peer_route.specs.declared.words.Words.TheVariants as words
 use Rattle.peer_route.specs.declared.answer.Answer.{Answer}
 use Rattle.peer_route.specs.declared.answer.Answer.TheVariants as answers
 use Rattle.peer_route.specs.declared.answer.Entry.{Entry}
-use Rattle.peer_route.specs.History.{Event, Call, closing, writer, calls, found, is_gone, polled_by, polled_at, poll_answer, by_position, drop_answer}
-use Rattle.peer_route.specs.Streams.{Stream, streams, held, busy, take_by, take_at, take_answer}
+use Rattle.peer_route.specs.History.{Event, Call, closing, writer, calls, found, is_nobodys, polled_by, polled_at, poll_answer, by_position, drop_answer}
+use Rattle.peer_route.specs.Streams.{Stream, streams, held, runs, busy, take_by, take_at, take_answer}
 use Rattle.peer_route.specs.Parcel.{Setting, Asked}
 use Rattle.peer_route.specs.CallMessage.{expects}
 use Rattle.peer_route.specs.Trail.{Trail, place, count, trail}
@@ -56,7 +56,7 @@ polled_other false None None e = cc
 
 polled_at_other : (h : List Event) (o : Option Call) → polled_at h o ≡ Ok polled.NoneBefore → ⊥
 polled_at_other h None e = cc
-polled_at_other h (Some c) e = polled_other (is_gone c) (found h c) (closing h) e
+polled_at_other h (Some c) e = polled_other (is_nobodys c) (found h c) (closing h) e
 
 answer_other : (h : List Event) (k : ℕ) → poll_answer h k ≡ Ok polled.NoneBefore → ⊥
 unfolding poll_answer
@@ -100,14 +100,14 @@ take_by_other [] None told e = cc
 take_by_other [] (Some error) false e = cc
 take_by_other [] (Some error) true e = cc
 
-take_if_other : (gone : Bool) (items : List Seen) (o : Option Error) (told : Bool)
-    → shown_take (if gone then Err errors.UnknownHandle else Ok (take_by items o told)) ≡ answers.NoneBefore → ⊥
-take_if_other true items o told e = cc
-take_if_other false items o told e = take_by_other items o told e
+take_if_other : (open_ : Bool) (items : List Seen) (o : Option Error) (told : Bool)
+    → shown_take (if open_ then Ok (take_by items o told) else Err errors.UnknownHandle) ≡ answers.NoneBefore → ⊥
+take_if_other true items o told e = take_by_other items o told e
+take_if_other false items o told e = cc
 
 take_at_other : (h : List Event) (o : Option Stream) → shown_take (take_at h o) ≡ answers.NoneBefore → ⊥
 take_at_other h None e = cc
-take_at_other h (Some s) e = take_if_other s.gone (held h s) (closing h) s.told e
+take_at_other h (Some s) e = take_if_other (runs h s) (held h s) (closing h) s.told e
 
 take_other : (h : List Event) (p : Option ℕ) → take_of h p ≡ answers.NoneBefore → ⊥
 unfolding take_answer

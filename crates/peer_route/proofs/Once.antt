@@ -6,7 +6,7 @@ use Rattle.peer_route.specs.declared.words.Words.TheVariants as words
 use Rattle.peer_route.specs.declared.answer.Answer.{Answer}
 use Rattle.peer_route.specs.declared.answer.Answer.TheVariants as answers
 use Rattle.peer_route.specs.declared.answer.Entry.{Entry}
-use Rattle.peer_route.specs.History.{Event, Took, Shut, Put, Wrote, Fault, Spent, Made, Did, Main, Named, Call, calls, new_call, edit, spend, fail_at, done, is_gone, polled_at, poll_answer, by_position, dropped_at, drop_answer}
+use Rattle.peer_route.specs.History.{Event, Took, Shut, Put, Wrote, Fault, Spent, Made, Did, Main, OnBus, Added, Removed, Named, Call, calls, new_call, inner_call, edit, spend, fail_at, done, is_gone, polled_at, poll_answer, by_position, dropped_at, drop_answer}
 use Rattle.peer_route.specs.Parcel.{Setting}
 use Rattle.peer_route.specs.Trail.{Trail, Names, place, asks, trail, poll_spends, drop_spends, events_of, new_names}
 use Rattle.peer_route.specs.Answers.{IsAnswer, Legal, shown, poll_of, before_of, shown_drop, drop_of}
@@ -54,6 +54,9 @@ gone_event (Spent j) h k g = gone_edit j k (calls h) g
 gone_event (Made making) h k g = g
 gone_event (Did stream deed) h k g = g
 gone_event (Main limit) h k g = g
+gone_event OnBus h k g = g
+gone_event (Added m rule asked) h k g = gone_append (calls h) (inner_call h m ∷ []) k g
+gone_event (Removed m) h k g = gone_append (calls h) (inner_call h m ∷ []) k g
 gone_event (Named name) h k g = g
 
 gone_events : (es h : List Event) (k : ℕ) → gone_at (calls h) k ≡ true → gone_at (calls (es ++ h)) k ≡ true

@@ -5,14 +5,12 @@ use Rattle.std.specs.Option.{option_map}
 use Rattle.std.proofs.lemmas.List.{length-map}
 use Rattle.wire_message.specs.declared.error.Error.{Error}
 use Rattle.wire_message.specs.declared.error.Error.TheVariants as errors
-use Rattle.wire_message.specs.declared.error.IoKind.TheVariants as kinds
-use Rattle.rule_match.specs.Rule.{Rule}
-use Rattle.peer_route.specs.History.{Event, Made, Did, Ruled, Cloned, Gone, Asked, edit}
+use Rattle.peer_route.specs.History.{Event, Made, Did, Cloned, Gone, Asked, edit}
 use Rattle.peer_route.specs.Streams.{streams, limit_of, rule_of, is_open, known, are_open, close_answer, ask_answer, limit_answer}
 use Rattle.peer_route.specs.declared.queue.Subscription.{Subscription}
-use Rattle.peer_route.specs.Left.{Held, held_of, kept_at, limit_or, wants_of, asked_for, main_asked, with_stream, ClonesHeld, View, Left, Clones, OpensRule}
+use Rattle.peer_route.specs.Left.{Held, held_of, kept_at, limit_or, wants_of, asked_for, main_asked, ClonesHeld, View, Left, Clones}
 use Rattle.peer_route.proofs.RuledStreams.{limit_left}
-use Rattle.peer_route.proofs.Core.{open_so, left_cloned, left_ended, left_ruled, left_asked}
+use Rattle.peer_route.proofs.Core.{open_so, left_cloned, left_ended, left_asked}
 
 -- ---- clones
 
@@ -92,20 +90,3 @@ asks_rule v k limit h there some left =
     let w = wants_of (kept_at v.streams k) in
     let Q : ℕ → Type 0 = λ n. Left (record v { streams = asked_for w limit v.streams; main = n }) (Did k (Asked limit) ∷ h) in
     subst Q (main_kept w limit v.main some) (left_asked v k limit h there left)
-
--- ---- streams of a rule
-
-pub opens : (v : View) (rule : Rule) (asked : Option ℕ) (sv : List (Option Held)) (number : ℕ) (h : List Event) → is_some v.calls.closing ≡ false
-    → number ≡ length v.streams → sv ≡ with_stream rule asked v.streams → Left v h
-    → OpensRule v (record v { streams = sv }) rule asked h (Ok (record { number = number }))
-opens v rule asked sv number h open_ e new left =
-    let Q : List (Option Held) → Type 0 = λ qs. Left (record v { streams = qs }) (Made (Ruled rule asked) ∷ h) in
-    (sym left.calls.closing ∙ none_by v.calls.closing open_, e ∙ streams_len v h left, subst Q (sym new) (left_ruled v rule asked h left))
-  where
-    none_by : (o : Option Error) → is_some o ≡ false → o ≡ None
-    none_by None none = refl
-    none_by (Some error) none = cc
-
-pub opens_not : (v : View) (rule : Rule) (asked : Option ℕ) (h : List Event) → is_some v.calls.closing ≡ true → Left v h
-    → OpensRule v v rule asked h (Err (errors.InputOutput kinds.Closed))
-opens_not v rule asked h shut_ left = (ap is_some (sym left.calls.closing) ∙ shut_, refl)

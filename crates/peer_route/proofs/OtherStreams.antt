@@ -3,11 +3,11 @@ use Rattle.std.proofs.Common.{◌≡◌, ◌≢◌, ℕ, refl, ◌∙◌, ap, �
 use Rattle.std.specs.List.{slice_get}
 use Rattle.rule_match.specs.Rule.{Rule}
 use Rattle.peer_route.specs.History.{Event, Made, Did, Main, Making, Ruled, Deed, Asked}
-use Rattle.peer_route.specs.Streams.{Stream, streams, done_by, matched, offered, held, rule_stream, take_at, take_answer}
+use Rattle.peer_route.specs.Streams.{Stream, streams, phase, done_by, matched, offered, held, runs, rule_stream, take_at, take_answer}
 use Rattle.peer_route.proofs.Edits.{edit_other, edit_nothing, get_before}
 
 did_at : (h : List Event) (j : ℕ) (deed : Deed) (o : Option Stream) → take_at (Did j deed ∷ h) o ≡ take_at h o
-unfolding held offered matched
+unfolding runs held offered matched phase
 did_at h j deed None = refl
 did_at h j deed (Some s) = refl
 
@@ -16,7 +16,7 @@ unfolding take_answer
 did_other h j k deed ne = ap (take_at (Did j deed ∷ h)) (edit_other (done_by deed) j k (streams h) ne) ∙ did_at h j deed (slice_get (streams h) k)
 
 main_at : (h : List Event) (limit : ℕ) (o : Option Stream) → take_at (Main limit ∷ h) o ≡ take_at h o
-unfolding held offered matched
+unfolding runs held offered matched phase
 main_at h limit None = refl
 main_at h limit (Some s) = refl
 
@@ -30,7 +30,7 @@ asked_keeps h limit j k =
     ap (λ ss. take_at (Did j (Asked limit) ∷ h) (slice_get ss k)) (edit_nothing j (streams h)) ∙ did_at h j (Asked limit) (slice_get (streams h) k)
 
 made_at : (h : List Event) (making : Making) (o : Option Stream) → take_at (Made making ∷ h) o ≡ take_at h o
-unfolding held offered matched
+unfolding runs held offered matched phase
 made_at h making None = refl
 made_at h making (Some s) = refl
 

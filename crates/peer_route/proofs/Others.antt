@@ -5,7 +5,7 @@ use Rattle.std.proofs.lemmas.Bool.{cases_Bool, eqb-true, eq-eqb, or_parts}
 use Rattle.wire_message.specs.Front.{Seen}
 use Rattle.wire_message.specs.declared.error.Error.{Error}
 use Rattle.wire_message.specs.declared.error.Error.TheVariants as errors
-use Rattle.peer_route.specs.History.{Event, Took, Spent, Call, read, closing, calls, found, bears, is_reply, is_serial, is_gone, edit, spend, polled_by, polled_at, poll_answer, waits_with, pending}
+use Rattle.peer_route.specs.History.{Event, Took, Spent, Call, read, closing, calls, found, bears, is_reply, is_serial, is_gone, is_nobodys, edit, spend, polled_by, polled_at, poll_answer, waits_with, pending}
 use Rattle.peer_route.specs.Laws.{IsPast}
 
 -- ---- a message comes
@@ -42,12 +42,18 @@ past_by true f g o e keeps = refl
 past_by false None g o e keeps = cc
 past_by false (Some r) g o e keeps = ap (λ x. polled_by x o) (keeps r refl)
 
+-- a call that is over, or the peer's own, or has its reply
+past_own : (gone inner some : Bool) → (gone || some) ≡ true → (gone || inner || some) ≡ true
+past_own true inner some e = refl
+past_own false true some e = refl
+past_own false false some e = e
+
 past_call : (h : List Event) (m : Seen) (c : Call) → IsPast h m c → polled_at (Took m ∷ h) (Some c) ≡ polled_at h (Some c)
 unfolding found
 past_call h m c (inl other) =
-    ap (λ f. if is_gone c then Err errors.UnknownHandle else polled_by f (closing h)) (find_other (bears c.serial) c.from (read h) m other)
+    ap (λ f. if is_nobodys c then Err errors.UnknownHandle else polled_by f (closing h)) (find_other (bears c.serial) c.from (read h) m other)
 past_call h m c (inr over) =
-    past_by (is_gone c) (found h c) (found (Took m ∷ h) c) (closing h) over (λ r e. find_first (bears c.serial) c.from (read h) m r e)
+    past_by (is_nobodys c) (found h c) (found (Took m ∷ h) c) (closing h) (past_own (is_gone c) c.inner (is_some (found h c)) over) (λ r e. find_first (bears c.serial) c.from (read h) m r e)
 
 past_at : (h : List Event) (m : Seen) (o : Option Call) → IfSome o (IsPast h m) → polled_at (Took m ∷ h) o ≡ polled_at h o
 past_at h m None past = refl

@@ -1,10 +1,13 @@
 -- What streams hold, message by message.
-use Rattle.std.proofs.Common.{◌≡◌, ℕ, ◌+◌, ◌-◌, ◌<◌, ◌≤◌, zero, suc, refl, sym, ◌∙◌, ap, arith, List, [], ◌∷◌, length, map, get_or, set, take, drop, drop-cons, ◌++◌, Option, Some, None}
-use Rattle.std.proofs.lemmas.List.{map-set, set-set, set-get_or, drop_all, take_all, append-nil}
+use Rattle.std.proofs.Common.{◌≡◌, ℕ, ◌+◌, ◌-◌, ◌<◌, ◌≤◌, zero, suc, Bool, true, false, if◌then◌else◌, refl, sym, ◌∙◌, ap, arith, List, [], ◌∷◌, length, map, get_or, set, take, drop, drop-cons, ◌++◌, Option, Some, None}
+use Rattle.std.proofs.lemmas.List.{map-set, set-set, set-get_or, drop_all, take_all, append-nil, length_push}
+use Rattle.std.specs.Prelude.{option_to_list, is_some}
 use Rattle.wire_message.specs.Front.{Seen}
 use Rattle.peer_route.specs.History.{edit}
+use Rattle.peer_route.specs.declared.progress.Progress.{Progress}
+use Rattle.peer_route.specs.declared.progress.Progress.TheVariants as steps
 use Rattle.rule_match.specs.Rule.{Rule}
-use Rattle.peer_route.specs.Left.{Held, queued, queued_first, shared, or_else, limit_if, wants_of}
+use Rattle.peer_route.specs.Left.{Held, pushed, pushed_by, queued, queued_first, denies_by, denies, denied_count, repeated, settled_by, settled_at, arrived_at, shared, or_else, limit_if, wants_of}
 
 pub queued_first-length : (n : ℕ) (m : Seen) (qs : List (Option Held)) → length (queued_first n m qs) ≡ length qs
 queued_first-length zero m qs = refl
@@ -152,3 +155,106 @@ shared_past rule qs i o e lt at is = e ∙ shared_at rule qs i o lt at ∙ ap (�
 
 pub shared_none : (rule : Rule) (qs : List (Option Held)) (i : ℕ) → shared rule qs ≡ shared rule (drop i qs) → length qs ≤ i → None ≡ shared rule qs
 shared_none rule qs i e past = sym (e ∙ ap (shared rule) (drop_all i qs past))
+
+-- ---- copies for the streams that a message denies
+
+denied_cons : (m : Seen) (q : Option Held) (qs : List (Option Held)) (b : Bool) → denies m q ≡ b → denied_count m (q ∷ qs) ≡ (if b then denied_count m qs + 1 else denied_count m qs)
+denied_cons m q qs b e = ap (λ x. if x then denied_count m qs + 1 else denied_count m qs) e
+
+-- the count with one stream passed
+pub denied_here : (m : Seen) (qs : List (Option Held)) (i count : ℕ) (q : Option Held) → count + denied_count m (drop i qs) ≡ denied_count m qs → i < length qs → q ≡ get_or qs i q
+    → denies m q ≡ true → count + 1 + denied_count m (drop (i + 1) qs) ≡ denied_count m qs
+denied_here m qs i count q e lt at is =
+    let one : i + 1 ≡ suc i = omega arith in
+    let split : denied_count m (drop i qs) ≡ denied_count m (drop (suc i) qs) + 1 =
+    ap (denied_count m) (drop-cons qs i q lt) ∙ ap (λ p. denied_count m (p ∷ drop (suc i) qs)) (sym at) ∙ denied_cons m q (drop (suc i) qs) true is in
+    rw one (omega (arith, e, split))
+
+pub denied_past : (m : Seen) (qs : List (Option Held)) (i count : ℕ) (q : Option Held) → count + denied_count m (drop i qs) ≡ denied_count m qs → i < length qs → q ≡ get_or qs i q
+    → denies m q ≡ false → count + denied_count m (drop (i + 1) qs) ≡ denied_count m qs
+denied_past m qs i count q e lt at is =
+    let one : i + 1 ≡ suc i = omega arith in
+    let split : denied_count m (drop i qs) ≡ denied_count m (drop (suc i) qs) =
+    ap (denied_count m) (drop-cons qs i q lt) ∙ ap (λ p. denied_count m (p ∷ drop (suc i) qs)) (sym at) ∙ denied_cons m q (drop (suc i) qs) false is in
+    rw one (omega (arith, e, split))
+
+pub denied_all : (m : Seen) (qs : List (Option Held)) (i count : ℕ) → count + denied_count m (drop i qs) ≡ denied_count m qs → length qs ≤ i → count ≡ denied_count m qs
+denied_all m qs i count e past =
+    let none : denied_count m (drop i qs) ≡ 0 = ap (denied_count m) (drop_all i qs past) in
+    omega (arith, e, none)
+
+-- pushing a message denies no stream
+denied_pushed : (m : Seen) (q : Held) (p : Progress) → q.progress ≡ p → denies m (Some (pushed_by p m q)) ≡ denies_by m p
+denied_pushed m q steps.Runs e = ap (denies_by m) e
+denied_pushed m q (steps.Waits serial index) e = ap (denies_by m) e
+denied_pushed m q (steps.Denied r) e = ap (denies_by m) e
+
+denied_one : (m : Seen) (q : Option Held) → denies m (queued m q) ≡ denies m q
+denied_one m None = refl
+denied_one m (Some q) = denied_pushed m q q.progress refl
+
+pub denied_queued : (m : Seen) (qs : List (Option Held)) → denied_count m (map (queued m) qs) ≡ denied_count m qs
+denied_queued m [] = refl
+denied_queued m (q ∷ qs) = rw (denied_one m q, denied_queued m qs) refl
+
+progress_pushed : (m : Seen) (q : Held) (p : Progress) → q.progress ≡ p → (pushed_by p m q).progress ≡ p
+progress_pushed m q steps.Runs e = e
+progress_pushed m q (steps.Waits serial index) e = e
+progress_pushed m q (steps.Denied r) e = e
+
+settled_one : (m : Seen) (q : Option Held) → settled_at m (queued m q) ≡ arrived_at m q
+settled_one m None = refl
+settled_one m (Some q) = ap (λ p. Some (settled_by p m (pushed m q))) (progress_pushed m q q.progress refl)
+
+-- a stream is settled once it was pushed to
+pub settled_queued : (m : Seen) (qs : List (Option Held)) → map (settled_at m) (map (queued m) qs) ≡ map (arrived_at m) qs
+settled_queued m [] = refl
+settled_queued m (q ∷ qs) = let a = settled_one m q in let b = settled_queued m qs in cc
+
+-- the copies that are left once one more stream was passed
+copies_by : (m : Seen) (qs : List (Option Held)) (i : ℕ) (q : Option Held) (b : Bool) → i < length qs → q ≡ get_or qs i q → denies m q ≡ b
+    → denied_count m (drop i qs) ≡ (if b then denied_count m (drop (i + 1) qs) + 1 else denied_count m (drop (i + 1) qs))
+copies_by m qs i q b lt at is =
+    let one : i + 1 ≡ suc i = omega arith in
+    rw one (ap (denied_count m) (drop-cons qs i q lt) ∙ ap (λ p. denied_count m (p ∷ drop (suc i) qs)) (sym at) ∙ denied_cons m q (drop (suc i) qs) b is)
+
+pub copies_here : (m : Seen) (qs : List (Option Held)) (i : ℕ) (q : Option Held) (copies : List Seen) → i < length qs → q ≡ get_or qs i q → denies m q ≡ true
+    → copies ≡ repeated (denied_count m (drop i qs)) m → copies ≡ repeated (denied_count m (drop (i + 1) qs)) m ++ m ∷ []
+copies_here m qs i q copies lt at is e =
+    let one : denied_count m (drop (i + 1) qs) + 1 ≡ suc (denied_count m (drop (i + 1) qs)) = omega arith in
+    e ∙ ap (λ n. repeated n m) (copies_by m qs i q true lt at is ∙ one)
+
+pub copies_past : (m : Seen) (qs : List (Option Held)) (i : ℕ) (q : Option Held) (copies : List Seen) → i < length qs → q ≡ get_or qs i q → denies m q ≡ false
+    → copies ≡ repeated (denied_count m (drop i qs)) m → copies ≡ repeated (denied_count m (drop (i + 1) qs)) m
+copies_past m qs i q copies lt at is e = e ∙ ap (λ n. repeated n m) (copies_by m qs i q false lt at is)
+
+-- what stands at the next place is as it was
+pub each_ahead : {A : Type 0} (f : A → A) (n : ℕ) (xs ys : List A) (x : A) → ys ≡ each_first f n xs → n < length ys → x ≡ get_or ys n x → (n < length xs) × (x ≡ get_or xs n x)
+each_ahead f n xs ys x e lt at =
+    let len : length ys ≡ length xs = ap length e ∙ each_first-length f n xs in
+    (omega arith, at ∙ ap (λ zs. get_or zs n x) e ∙ ahead_by f n xs x)
+  where
+    ahead_by : {A : Type 0} (g : A → A) (k : ℕ) (zs : List A) (d : A) → get_or (each_first g k zs) k d ≡ get_or zs k d
+    ahead_by g zero zs d = refl
+    ahead_by g (suc k) [] d = refl
+    ahead_by g (suc k) (z ∷ zs) d = ahead_by g k zs d
+
+-- the last of some
+snoc_same : (xs ys : List Seen) (m x : Seen) → xs ++ m ∷ [] ≡ ys ++ x ∷ [] → (xs ≡ ys) × (m ≡ x)
+snoc_same [] [] m x e = (refl, cc)
+snoc_same [] (y ∷ []) m x e = absurd (cc)
+snoc_same [] (y ∷ z ∷ ys) m x e = absurd (cc)
+snoc_same (z ∷ []) [] m x e = absurd (cc)
+snoc_same (z ∷ y ∷ xs) [] m x e = absurd (cc)
+snoc_same (z ∷ xs) (y ∷ ys) m x e =
+    let same : z ≡ y = cc in
+    let rest = snoc_same xs ys m x (cc) in
+    (rw same (ap (λ zs. y ∷ zs) rest.0), rest.1)
+
+-- what a pop gives and leaves
+pub popped : (m : Seen) (xs ys : List Seen) (o : Option Seen) → xs ++ m ∷ [] ≡ ys ++ option_to_list o → is_some o ≡ true → (o ≡ Some m) × (ys ≡ xs)
+popped m xs ys None e there = cc
+popped m xs ys (Some x) e there = let p = snoc_same xs ys m x e in (ap (λ y. Some y) (sym p.1), sym p.0)
+
+pub longer : (xs : List Seen) (m : Seen) (n : ℕ) → n ≡ length (xs ++ m ∷ []) → 0 < n
+longer xs m n e = omega (arith, e, length_push xs m)

@@ -1,35 +1,46 @@
 -- What streams hold after one of a rule is opened, or after one asks for more.
-use Rattle.std.proofs.Common.{◌≡◌, ℕ, refl, sym, ◌∙◌, ap, max, Bool, true, false, not, if◌then◌else◌, ◌&&◌, ◌||◌, is_none, List, [], ◌∷◌, ◌++◌, map, Option, Some, None}
+use Rattle.std.proofs.Common.{◌≡◌, ℕ, refl, sym, ◌∙◌, ap, max, Bool, true, false, not, if◌then◌else◌, ◌&&◌, ◌||◌, is_none, is_some, List, [], ◌∷◌, ◌++◌, length, map, Option, Some, None}
 use Rattle.std.specs.List.{slice_get, list_any}
 use Rattle.std.specs.Option.{option_map}
+use Rattle.std.proofs.Math.Seq.{drop-length}
 use Rattle.std.proofs.lemmas.List.{map-append}
 use Rattle.wire_message.specs.Front.{Seen}
 use Rattle.rule_match.specs.Rule.{Rule}
 use Rattle.peer_route.specs.declared.queue.Subscription.{Subscription}
 use Rattle.peer_route.specs.Rules.{is_same}
-use Rattle.peer_route.specs.History.{Event, Made, Did, Ruled, Asked, edit}
-use Rattle.peer_route.specs.Streams.{Stream, streams, rule_stream, done_by, main, rule_of, plain_asks, is_of, subscribes, is_subscribed, raised, limit_then, rule_asks, rule_limit, limit_of, is_there, is_open, matched, offered, held, rule_answer}
-use Rattle.peer_route.specs.Left.{Held, held_of, kept_by, kept_at, subscription, empty_held, raise_held, raise_all, or_else, shared, limit_or, limit_now, with_stream, wants_of, asked_for, main_asked, LeftStreams}
+use Rattle.peer_route.specs.History.{Event, Made, Did, Added, Ruled, Asked, inner_call, read, put, edit}
+use Rattle.peer_route.specs.Streams.{Stream, Phase, Asking, Denied, Since, is_since, is_denied, since_reply, phase, streams, rule_stream, asking_stream, done_by, main, rule_of, plain_asks, is_of, subscribes, is_subscribed, raised, limit_then, asked_limit, rule_asks, rule_limit, limit_of, runs, runs_at, is_open, matched, offered, held, rule_answer}
+use Rattle.peer_route.specs.Left.{Held, held_by, held_of, kept_by, kept_at, subscription, wants_by, progress_by, empty_held, asking_held, raise_held, raise_all, or_else, shared, limit_or, limit_now, with_stream, with_asking, wants_of, asked_for, main_asked, IsWithin, LeftStreams}
 use Rattle.peer_route.proofs.SameRule.{same_self, same_one}
 use Rattle.peer_route.proofs.Edits.{edit-none}
-use Rattle.peer_route.proofs.Matched.{all_within_same, within_fresh, within_push}
-use Rattle.peer_route.proofs.StreamsMade.{kept_of, kept_left, held_open, held_gone, held_fresh, limit_by}
+use Rattle.peer_route.proofs.Phases.{phase_same}
+use Rattle.peer_route.proofs.Matched.{held_same, all_within_same, within_fresh, within_asking, within_push}
+use Rattle.peer_route.proofs.StreamsMade.{kept_of, kept_left, kept_runs, runs_so, held_fresh, phase_fresh, held_nothing, limit_by}
+
+-- what is kept of a stream, by its rule, its phase and what it holds
+abbrev shown : List Event → Option Rule → Stream → Phase → List Seen → Held
+shown h o s p items = record { wants = wants_by p (option_map (subscription h) o); progress = progress_by p; items = items; told = s.told; opened = s.opened }
+
+abbrev with_limit : Rule → ℕ → Stream → Phase → List Seen → Held
+with_limit r n s p items = record { wants = wants_by p (Some (record { rule = r; limit = n })); progress = progress_by p; items = items; told = s.told; opened = s.opened }
 
 -- ---- the other streams of a rule are raised
 
-kept_raised : (g h : List Event) (rule : Rule) (asked : Option ℕ) (gone : Bool) (o : Option Rule) (items : List Seen) (told : Bool)
-    → ((r : Rule) → gone ≡ false → o ≡ Some r → rule_limit r g ≡ (if is_same r rule then raised asked (rule_limit r h) else rule_limit r h))
-    → kept_by gone (option_map (subscription g) o) items told ≡ option_map (raise_held rule asked) (kept_by gone (option_map (subscription h) o) items told)
-kept_raised g h rule asked true o items told e = refl
-kept_raised g h rule asked false None items told e = refl
-kept_raised g h rule asked false (Some r) items told e =
-    ap (λ n. Some (record { wants = Some (record { rule = r; limit = n }); items = items; told = told })) (e r refl refl)
+kept_raised : (g h : List Event) (rule : Rule) (asked : Option ℕ) (gone : Bool) (o : Option Rule) (s : Stream) (p : Phase) (items : List Seen)
+    → ((r : Rule) → gone ≡ false → is_denied p ≡ false → o ≡ Some r → rule_limit r g ≡ (if is_same r rule then raised asked (rule_limit r h) else rule_limit r h))
+    → kept_by gone (shown g o s p items) ≡ option_map (raise_held rule asked) (kept_by gone (shown h o s p items))
+kept_raised g h rule asked true o s p items e = refl
+kept_raised g h rule asked false None s (Since ms) items e = refl
+kept_raised g h rule asked false None s (Asking add) items e = refl
+kept_raised g h rule asked false o s (Denied m) items e = refl
+kept_raised g h rule asked false (Some r) s (Since ms) items e = ap (λ n. Some (with_limit r n s (Since ms) items)) (e r refl refl refl)
+kept_raised g h rule asked false (Some r) s (Asking add) items e = ap (λ n. Some (with_limit r n s (Asking add) items)) (e r refl refl refl)
 
-kept_same : (g h : List Event) (gone : Bool) (o : Option Rule) (items : List Seen) (told : Bool) → ((r : Rule) → rule_limit r g ≡ rule_limit r h)
-    → kept_by gone (option_map (subscription g) o) items told ≡ kept_by gone (option_map (subscription h) o) items told
-kept_same g h true o items told e = refl
-kept_same g h false None items told e = refl
-kept_same g h false (Some r) items told e = ap (λ n. Some (record { wants = Some (record { rule = r; limit = n }); items = items; told = told })) (e r)
+kept_same : (g h : List Event) (gone : Bool) (o : Option Rule) (s : Stream) (p : Phase) (items : List Seen) → ((r : Rule) → rule_limit r g ≡ rule_limit r h)
+    → kept_by gone (shown g o s p items) ≡ kept_by gone (shown h o s p items)
+kept_same g h true o s p items e = refl
+kept_same g h false None s p items e = refl
+kept_same g h false (Some r) s p items e = ap (λ n. Some (with_limit r n s p items)) (e r)
 
 -- ---- a stream of a rule is opened
 
@@ -41,29 +52,37 @@ or_there : (b c : Bool) → c ≡ true → (b || c) ≡ true
 or_there true c e = refl
 or_there false c e = e
 
--- an open stream of a rule subscribes to it
-subscribed_here : (r : Rule) (s : Stream) → s.gone ≡ false → s.rule ≡ Some r → subscribes r s ≡ true
-subscribed_here r s open_ of = ap (λ b. not b && is_of r s.rule) open_ ∙ ap (is_of r) of ∙ same_self r
+-- a stream of a rule that lives subscribes to it
+subscribed_here : (h : List Event) (r : Rule) (s : Stream) → s.gone ≡ false → is_denied (phase h s) ≡ false → s.rule ≡ Some r → subscribes h r s ≡ true
+subscribed_here h r s open_ granted of =
+    ap (λ b. (not b && not (is_denied (phase h s))) && is_of r s.rule) open_ ∙ ap (λ b. not b && is_of r s.rule) granted ∙ ap (is_of r) of ∙ same_self r
 
-opened_limit : (h : List Event) (r rule : Rule) (asked : Option ℕ) → is_subscribed h r ≡ true
-    → rule_limit r (Made (Ruled rule asked) ∷ h) ≡ (if is_same r rule then raised asked (rule_limit r h) else rule_limit r h)
-opened_limit h r rule asked there = ap (λ b. if is_same r rule then limit_then b r asked (rule_limit r h) else rule_limit r h) there
+-- an event after which all has been read as before, and a stream of the rule asks for more
+record Raises (g h : List Event) (rule : Rule) (asked : Option ℕ) : Type 0 where
+  reads : read g ≡ read h
+  limits : (r : Rule) → rule_limit r g ≡ asked_limit h r rule asked (rule_limit r h)
 
-opened_one : (h : List Event) (rule : Rule) (asked : Option ℕ) (s : Stream) → ((r : Rule) → subscribes r s ≡ true → is_subscribed h r ≡ true)
-    → held_of (Made (Ruled rule asked) ∷ h) s ≡ option_map (raise_held rule asked) (held_of h s)
-unfolding held_of held offered matched
-opened_one h rule asked s all =
-    kept_raised (Made (Ruled rule asked) ∷ h) h rule asked s.gone s.rule (held h s) s.told
-    (λ r open_ of. opened_limit h r rule asked (all r (subscribed_here r s open_ of)))
+raised_limit : (g h : List Event) (r rule : Rule) (asked : Option ℕ) → Raises g h rule asked → is_subscribed h r ≡ true
+    → rule_limit r g ≡ (if is_same r rule then raised asked (rule_limit r h) else rule_limit r h)
+raised_limit g h r rule asked e there = e.limits r ∙ ap (λ b. if is_same r rule then limit_then b r asked (rule_limit r h) else rule_limit r h) there
 
-opened_each : (h : List Event) (rule : Rule) (asked : Option ℕ) (ss : List Stream) → ((r : Rule) → list_any (subscribes r) ss ≡ true → is_subscribed h r ≡ true)
-    → map (held_of (Made (Ruled rule asked) ∷ h)) ss ≡ raise_all rule asked (map (held_of h) ss)
-opened_each h rule asked [] all = refl
-opened_each h rule asked (s ∷ ss) all =
-    ap (λ q. q ∷ map (held_of (Made (Ruled rule asked) ∷ h)) ss)
-    (opened_one h rule asked s (λ r e. all r (or_here (subscribes r s) (list_any (subscribes r) ss) e)))
+opened_one : (g h : List Event) (rule : Rule) (asked : Option ℕ) (s : Stream) → Raises g h rule asked → ((r : Rule) → subscribes h r s ≡ true → is_subscribed h r ≡ true)
+    → held_of g s ≡ option_map (raise_held rule asked) (held_of h s)
+unfolding held_of
+opened_one g h rule asked s e all =
+    ap (λ p. kept_by s.gone (shown g s.rule s p (held g s))) (phase_same g h s e.reads)
+    ∙ ap (λ items. kept_by s.gone (shown g s.rule s (phase h s) items)) (held_same g h s e.reads)
+    ∙ kept_raised g h rule asked s.gone s.rule s (phase h s) (held h s)
+    (λ r open_ granted of. raised_limit g h r rule asked e (all r (subscribed_here h r s open_ granted of)))
+
+opened_each : (g h : List Event) (rule : Rule) (asked : Option ℕ) (ss : List Stream) → Raises g h rule asked → ((r : Rule) → list_any (subscribes h r) ss ≡ true → is_subscribed h r ≡ true)
+    → map (held_of g) ss ≡ raise_all rule asked (map (held_of h) ss)
+opened_each g h rule asked [] e all = refl
+opened_each g h rule asked (s ∷ ss) e all =
+    ap (λ q. q ∷ map (held_of g) ss)
+    (opened_one g h rule asked s e (λ r w. all r (or_here (subscribes h r s) (list_any (subscribes h r) ss) w)))
     ∙ ap (λ qs. option_map (raise_held rule asked) (held_of h s) ∷ qs)
-    (opened_each h rule asked ss (λ r e. all r (or_there (subscribes r s) (list_any (subscribes r) ss) e)))
+    (opened_each g h rule asked ss e (λ r w. all r (or_there (subscribes h r s) (list_any (subscribes h r) ss) w)))
 
 -- the capacity that the open streams of a rule share is the rule's
 shared_by : (h : List Event) (rule r : Rule) (qs : List (Option Held)) (b c : Bool) → is_same rule r ≡ b → shared rule qs ≡ (if c then Some (rule_limit rule h) else None)
@@ -71,19 +90,26 @@ shared_by : (h : List Event) (rule r : Rule) (qs : List (Option Held)) (b c : Bo
 shared_by h rule r qs true c same e = rw same (ap (λ (x : Rule). Some (rule_limit x h)) (sym (same_one rule r same)))
 shared_by h rule r qs false c same e = rw same e
 
-shared_kept : (h : List Event) (rule : Rule) (gone : Bool) (o : Option Rule) (items : List Seen) (told : Bool) (qs : List (Option Held)) (c : Bool)
+shared_kept : (h : List Event) (rule : Rule) (gone : Bool) (o : Option Rule) (s : Stream) (p : Phase) (items : List Seen) (qs : List (Option Held)) (c : Bool)
     → shared rule qs ≡ (if c then Some (rule_limit rule h) else None)
-    → shared rule (kept_by gone (option_map (subscription h) o) items told ∷ qs) ≡ (if (not gone && is_of rule o) || c then Some (rule_limit rule h) else None)
-shared_kept h rule true o items told qs c e = e
-shared_kept h rule false None items told qs c e = e
-shared_kept h rule false (Some r) items told qs c e = shared_by h rule r qs (is_same rule r) c refl e
+    → shared rule (kept_by gone (shown h o s p items) ∷ qs) ≡ (if ((not gone && not (is_denied p)) && is_of rule o) || c then Some (rule_limit rule h) else None)
+shared_kept h rule true o s p items qs c e = e
+shared_kept h rule false o s (Denied m) items qs c e = e
+shared_kept h rule false None s (Since ms) items qs c e = e
+shared_kept h rule false None s (Asking add) items qs c e = e
+shared_kept h rule false (Some r) s (Since ms) items qs c e = shared_by h rule r qs (is_same rule r) c refl e
+shared_kept h rule false (Some r) s (Asking add) items qs c e = shared_by h rule r qs (is_same rule r) c refl e
 
 shared_each : (h : List Event) (rule : Rule) (ss : List Stream)
-    → shared rule (map (held_of h) ss) ≡ (if list_any (subscribes rule) ss then Some (rule_limit rule h) else None)
+    → shared rule (map (held_of h) ss) ≡ (if list_any (subscribes h rule) ss then Some (rule_limit rule h) else None)
 unfolding held_of
 shared_each h rule [] = refl
 shared_each h rule (s ∷ ss) =
-    shared_kept h rule s.gone s.rule (held h s) s.told (map (held_of h) ss) (list_any (subscribes rule) ss) (shared_each h rule ss)
+    shared_kept h rule s.gone s.rule s (phase h s) (held h s) (map (held_of h) ss) (list_any (subscribes h rule) ss) (shared_each h rule ss)
+
+some_if : {A : Type 0} (b : Bool) (x : A) → is_some (if b then Some x else None) ≡ b
+some_if true x = refl
+some_if false x = refl
 
 pub shared_limit : (v : List (Option Held)) (h : List Event) (rule : Rule) → LeftStreams v h
     → shared rule v ≡ (if is_subscribed h rule then Some (rule_limit rule h) else None)
@@ -94,50 +120,84 @@ limit_kept : (rule : Rule) (asked : Option ℕ) (limit : ℕ) (b : Bool) → lim
 limit_kept rule asked limit true = refl
 limit_kept rule asked limit false = refl
 
-new_limit : (v : List (Option Held)) (h : List Event) (rule : Rule) (asked : Option ℕ) → LeftStreams v h
-    → limit_now rule asked (shared rule v) ≡ rule_limit rule (Made (Ruled rule asked) ∷ h)
-new_limit v h rule asked left =
+-- the core has a capacity of a rule exactly where a stream of it is open, or being opened
+pub subscribed_left : (v : List (Option Held)) (h : List Event) (rule : Rule) → LeftStreams v h → is_some (shared rule v) ≡ is_subscribed h rule
+subscribed_left v h rule left = ap is_some (shared_limit v h rule left) ∙ some_if (is_subscribed h rule) (rule_limit rule h)
+
+new_limit : (v : List (Option Held)) (g h : List Event) (rule : Rule) (asked : Option ℕ) → Raises g h rule asked → LeftStreams v h
+    → limit_now rule asked (shared rule v) ≡ rule_limit rule g
+new_limit v g h rule asked e left =
     ap (limit_now rule asked) (shared_limit v h rule left)
     ∙ limit_kept rule asked (rule_limit rule h) (is_subscribed h rule)
     ∙ sym (ap (λ b. if b then limit_then (is_subscribed h rule) rule asked (rule_limit rule h) else rule_limit rule h) (same_self rule))
+    ∙ sym (e.limits rule)
+
+-- the streams of a history once a stream more was made that raises the others
+opened_all : (v : List (Option Held)) (g h : List Event) (rule : Rule) (asked : Option ℕ) (q : Option Held) (s : Stream) → Raises g h rule asked → q ≡ held_of g s → IsWithin h s
+    → streams g ≡ streams h ++ s ∷ [] → LeftStreams v h → LeftStreams (raise_all rule asked v ++ q ∷ []) g
+unfolding is_subscribed
+opened_all v g h rule asked q s e is within made left = record {
+  queues = ap (λ x. raise_all rule asked v ++ x ∷ []) is
+      ∙ ap (λ qs. raise_all rule asked qs ++ held_of g s ∷ []) left.queues
+      ∙ ap (λ qs. qs ++ held_of g s ∷ []) (sym (opened_each g h rule asked (streams h) e (λ r w. w)))
+      ∙ sym (map-append (held_of g) (streams h) (s ∷ []))
+      ∙ ap (map (held_of g)) (sym made);
+  within = rw made (all_within_same g h (streams h ++ s ∷ []) e.reads (within_push h (streams h) s left.within within));
+}
 
 opened_new : (v : List (Option Held)) (h : List Event) (rule : Rule) (asked : Option ℕ) → LeftStreams v h
     → Some (empty_held (Some (record { rule = rule; limit = limit_now rule asked (shared rule v) })) false) ≡ held_of (Made (Ruled rule asked) ∷ h) (rule_stream h rule)
-unfolding held_of held offered matched
+unfolding held_of
 opened_new v h rule asked left =
-    ap (λ n. Some (empty_held (Some (record { rule = rule; limit = n })) false)) (new_limit v h rule asked left)
-    ∙ ap (λ ms. Some (record { wants = Some (subscription (Made (Ruled rule asked) ∷ h) rule); items = ms; told = false })) (sym (held_fresh h (Some rule) false))
+    let g : List Event = Made (Ruled rule asked) ∷ h in
+    let s = rule_stream h rule in
+    ap (λ n. Some (with_limit rule n s (Since []) [])) (new_limit v g h rule asked (record { reads = refl; limits = λ r. refl }) left)
+    ∙ ap (λ items. Some (shown g (Some rule) s (Since []) items)) (sym (held_same g h s refl ∙ held_fresh h (Some rule) false))
+    ∙ ap (λ p. Some (shown g (Some rule) s p (held g s))) (sym (phase_same g h s refl ∙ phase_fresh h (Some rule) false))
 
 pub streams_ruled : (rule : Rule) (asked : Option ℕ) (v : List (Option Held)) (h : List Event) → LeftStreams v h
     → LeftStreams (with_stream rule asked v) (Made (Ruled rule asked) ∷ h)
-unfolding is_subscribed
 streams_ruled rule asked v h left =
-    let s = rule_stream h rule in
-    let g : List Event = Made (Ruled rule asked) ∷ h in record {
-      queues = ap (λ q. raise_all rule asked v ++ q ∷ []) (opened_new v h rule asked left)
-          ∙ ap (λ qs. raise_all rule asked qs ++ held_of g s ∷ []) left.queues
-          ∙ ap (λ qs. qs ++ held_of g s ∷ []) (sym (opened_each h rule asked (streams h) (λ r e. e)))
-          ∙ sym (map-append (held_of g) (streams h) (s ∷ []));
-      within = all_within_same g h (streams h ++ s ∷ []) refl (within_push h (streams h) s left.within (within_fresh h (Some rule) false));
-    }
+    opened_all v (Made (Ruled rule asked) ∷ h) h rule asked _ (rule_stream h rule) (record { reads = refl; limits = λ r. refl })
+    (opened_new v h rule asked left) (within_fresh h (Some rule) false) refl left
+
+-- nothing that was read answers an AddMatch that is put now
+phase_asking : (h : List Event) (m : Seen) (rule : Rule) → phase h (asking_stream h m rule) ≡ Asking (inner_call h m)
+unfolding phase
+phase_asking h m rule = ap (since_reply (inner_call h m)) (drop-length (read h))
+
+asking_new : (v : List (Option Held)) (h : List Event) (m : Seen) (rule : Rule) (asked : Option ℕ) → LeftStreams v h
+    → Some (asking_held (record { rule = rule; limit = limit_now rule asked (shared rule v) }) m.serial (length (put h))) ≡ held_of (Added m rule asked ∷ h) (asking_stream h m rule)
+unfolding held_of
+asking_new v h m rule asked left =
+    let g : List Event = Added m rule asked ∷ h in
+    let s = asking_stream h m rule in
+    ap (λ n. Some (with_limit rule n s (Asking (inner_call h m)) [])) (new_limit v g h rule asked (record { reads = refl; limits = λ r. refl }) left)
+    ∙ ap (λ items. Some (shown g (Some rule) s (Asking (inner_call h m)) items)) (sym (held_same g h s refl ∙ held_nothing h s (ap is_since (phase_asking h m rule))))
+    ∙ ap (λ p. Some (shown g (Some rule) s p (held g s))) (sym (phase_same g h s refl ∙ phase_asking h m rule))
+
+pub streams_asking : (m : Seen) (rule : Rule) (asked : Option ℕ) (v : List (Option Held)) (h : List Event) → LeftStreams v h
+    → LeftStreams (with_asking rule asked m.serial (length (put h)) v) (Added m rule asked ∷ h)
+streams_asking m rule asked v h left =
+    opened_all v (Added m rule asked ∷ h) h rule asked _ (asking_stream h m rule) (record { reads = refl; limits = λ r. refl })
+    (asking_new v h m rule asked left) (within_asking h m rule) refl left
 
 -- ---- what an open stream wants
 
-open_by : (b : Bool) → not b ≡ true → b ≡ false
-open_by true e = sym e
-open_by false e = refl
+wants_since : (p : Phase) (wants : Option Subscription) → is_since p ≡ true → wants_by p wants ≡ wants
+wants_since (Since ms) wants e = refl
+wants_since (Asking add) wants e = cc
+wants_since (Denied m) wants e = cc
 
-gone_by : (b : Bool) → not b ≡ false → b ≡ true
-gone_by true e = refl
-gone_by false e = sym e
+wants_there : (h : List Event) (o : Option Stream) → runs_at h o ≡ true → wants_of (kept_of h o) ≡ option_map (subscription h) (rule_of o)
+wants_there h None there = cc
+wants_there h (Some s) there =
+    ap wants_of (kept_runs h s ∙ ap (λ b. if b then Some (held_by h s) else None) there)
+    ∙ wants_since (phase h s) (option_map (subscription h) s.rule) (runs_so h s there).since
 
-wants_there : (h : List Event) (o : Option Stream) → is_there o ≡ true → wants_of (kept_of h o) ≡ option_map (subscription h) (rule_of o)
-wants_there h None there = refl
-wants_there h (Some s) there = ap wants_of (held_open h s (open_by s.gone there))
-
-wants_none : (h : List Event) (o : Option Stream) → is_there o ≡ false → wants_of (kept_of h o) ≡ None
+wants_none : (h : List Event) (o : Option Stream) → runs_at h o ≡ false → wants_of (kept_of h o) ≡ None
 wants_none h None there = refl
-wants_none h (Some s) there = ap wants_of (held_gone h s (gone_by s.gone there))
+wants_none h (Some s) there = ap wants_of (kept_runs h s ∙ ap (λ b. if b then Some (held_by h s) else None) there)
 
 pub wants_left : (v : List (Option Held)) (h : List Event) (k : ℕ) → is_open h k ≡ true → LeftStreams v h
     → wants_of (kept_at v k) ≡ option_map (subscription h) (rule_of (slice_get (streams h) k))
@@ -147,9 +207,9 @@ wants_left v h k there left = ap wants_of (kept_left v h k left) ∙ wants_there
 -- ---- more is asked for
 
 plain_one : (h : List Event) (k limit : ℕ) (s : Stream) → rule_of (slice_get (streams h) k) ≡ None → held_of h s ≡ held_of (Did k (Asked limit) ∷ h) s
-unfolding held_of held offered matched
+unfolding held_of held offered matched phase
 plain_one h k limit s none =
-    sym (kept_same (Did k (Asked limit) ∷ h) h s.gone s.rule (held h s) s.told (λ r. ap (λ o. rule_asks r o (rule_limit r h) limit) none))
+    sym (kept_same (Did k (Asked limit) ∷ h) h s.gone s.rule s (phase h s) (held h s) (λ r. ap (λ o. rule_asks r o (rule_limit r h) limit) none))
 
 asked_plain : (h : List Event) (k limit : ℕ) (ss : List Stream) → rule_of (slice_get (streams h) k) ≡ None
     → map (held_of h) ss ≡ map (held_of (Did k (Asked limit) ∷ h)) ss
@@ -159,10 +219,10 @@ asked_plain h k limit (s ∷ ss) none =
 
 asked_one : (h : List Event) (k limit : ℕ) (rule : Rule) (s : Stream) → rule_of (slice_get (streams h) k) ≡ Some rule
     → option_map (raise_held rule (Some limit)) (held_of h s) ≡ held_of (Did k (Asked limit) ∷ h) s
-unfolding held_of held offered matched
+unfolding held_of held offered matched phase
 asked_one h k limit rule s of =
-    sym (kept_raised (Did k (Asked limit) ∷ h) h rule (Some limit) s.gone s.rule (held h s) s.told
-    (λ r open_ own. ap (λ o. rule_asks r o (rule_limit r h) limit) of))
+    sym (kept_raised (Did k (Asked limit) ∷ h) h rule (Some limit) s.gone s.rule s (phase h s) (held h s)
+    (λ r open_ granted own. ap (λ o. rule_asks r o (rule_limit r h) limit) of))
 
 asked_ruled : (h : List Event) (k limit : ℕ) (rule : Rule) (ss : List Stream) → rule_of (slice_get (streams h) k) ≡ Some rule
     → raise_all rule (Some limit) (map (held_of h) ss) ≡ map (held_of (Did k (Asked limit) ∷ h)) ss
@@ -193,7 +253,7 @@ main_by : (h : List Event) (o : Option Rule) (limit n : ℕ) → main_asked (opt
 main_by h None limit n = refl
 main_by h (Some rule) limit n = refl
 
-main_at : (h : List Event) (o : Option Stream) (limit n : ℕ) → is_there o ≡ true → main_asked (option_map (subscription h) (rule_of o)) limit n ≡ plain_asks o n limit
+main_at : (h : List Event) (o : Option Stream) (limit n : ℕ) → runs_at h o ≡ true → main_asked (option_map (subscription h) (rule_of o)) limit n ≡ plain_asks o n limit
 main_at h None limit n there = cc
 main_at h (Some s) limit n there = main_by h s.rule limit n
 
@@ -208,7 +268,7 @@ rule_by : (h : List Event) (o : Option Rule) → option_map (λ (s : Subscriptio
 rule_by h None = refl
 rule_by h (Some rule) = refl
 
-rule_at : (h : List Event) (o : Option Stream) (b : Bool) → is_there o ≡ b
+rule_at : (h : List Event) (o : Option Stream) (b : Bool) → runs_at h o ≡ b
     → option_map (λ (s : Subscription). s.rule) (wants_of (kept_of h o)) ≡ (if b then rule_of o else None)
 rule_at h o true e = ap (option_map (λ (s : Subscription). s.rule)) (wants_there h o e) ∙ rule_by h (rule_of o)
 rule_at h o false e = ap (option_map (λ (s : Subscription). s.rule)) (wants_none h o e)
@@ -218,17 +278,18 @@ pub rule_left : (v : List (Option Held)) (h : List Event) (k : ℕ) → LeftStre
 unfolding rule_answer is_open
 rule_left v h k left =
     ap (λ q. option_map (λ (s : Subscription). s.rule) (wants_of q)) (kept_left v h k left)
-    ∙ rule_at h (slice_get (streams h) k) (is_there (slice_get (streams h) k)) refl
+    ∙ rule_at h (slice_get (streams h) k) (runs_at h (slice_get (streams h) k)) refl
 
-limit_at : (h : List Event) (o : Option Stream) → option_map (λ (q : Held). limit_or (main h) q.wants) (kept_of h o) ≡ (if is_there o then Some (limit_of h (rule_of o)) else None)
-unfolding held_of
+limit_use : (h : List Event) (s : Stream) (b : Bool) (p : Phase) (items : List Seen) → (b ≡ true → is_since p ≡ true)
+    → option_map (λ (q : Held). limit_or (main h) q.wants) (if b then Some (shown h s.rule s p items) else None) ≡ (if b then Some (limit_of h s.rule) else None)
+limit_use h s false p items e = refl
+limit_use h s true p items e = ap (λ w. Some (limit_or (main h) w)) (wants_since p (option_map (subscription h) s.rule) (e refl)) ∙ ap (λ n. Some n) (limit_by h s.rule)
+
+limit_at : (h : List Event) (o : Option Stream) → option_map (λ (q : Held). limit_or (main h) q.wants) (kept_of h o) ≡ (if runs_at h o then Some (limit_of h (rule_of o)) else None)
 limit_at h None = refl
-limit_at h (Some s) = by s.gone (held h s) s.told
-  where
-    by : (gone : Bool) (items : List Seen) (told : Bool)
-        → option_map (λ (q : Held). limit_or (main h) q.wants) (kept_by gone (option_map (subscription h) s.rule) items told) ≡ (if not gone then Some (limit_of h s.rule) else None)
-    by true items told = refl
-    by false items told = ap (λ n. Some n) (limit_by h s.rule)
+limit_at h (Some s) =
+    ap (option_map (λ (q : Held). limit_or (main h) q.wants)) (kept_runs h s)
+    ∙ limit_use h s (runs h s) (phase h s) (held h s) (λ e. (runs_so h s e).since)
 
 pub limit_left : (v : List (Option Held)) (h : List Event) (k : ℕ) → LeftStreams v h
     → option_map (λ (q : Held). limit_or (main h) q.wants) (kept_at v k) ≡ (if is_open h k then Some (limit_of h (rule_of (slice_get (streams h) k))) else None)

@@ -1,13 +1,12 @@
 -- Rules that are one, and a stream that asks for more, set aside while the other streams of its rule are raised.
-use Rattle.std.proofs.Common.{◌≡◌, ℕ, refl, sym, ◌∙◌, ap, max, true, if◌then◌else◌, List, set, get_or, Option, Some, None, is_some}
+use Rattle.std.proofs.Common.{◌≡◌, ℕ, refl, sym, ◌∙◌, ap, max, Bool, true, false, if◌then◌else◌, List, set, get_or, Option, Some, None, is_some}
 use Rattle.std.specs.List.{slice_get}
-use Rattle.std.specs.Option.{option_map, option_flatten}
-use Rattle.std.proofs.lemmas.List.{set-get_or}
+use Rattle.std.specs.Option.{option_map, option_flatten, option_and_then}
 use Rattle.rule_match.specs.Rule.{Rule}
 use Rattle.rule_match.proofs.Equal.{equal_is_one, one_is_equal}
 use Rattle.peer_route.specs.declared.queue.Subscription.{Subscription}
 use Rattle.peer_route.specs.Rules.{is_same}
-use Rattle.peer_route.specs.Left.{Held, kept_at, raise, raise_held, raise_own, raise_all, wants_of, asked_for}
+use Rattle.peer_route.specs.Left.{Held, is_usable, if_usable, kept_at, raise, raise_held, raise_own, raise_all, wants_of, asked_for}
 use Rattle.peer_route.proofs.Queues.{put_changed, put_same}
 
 pub same_self : (r : Rule) → is_same r r ≡ true
@@ -44,26 +43,51 @@ asks_plain : (xs : List (Option Held)) (k limit : ℕ) (q : Held) (w : Option Su
 asks_plain xs k limit q None at e of = ap (λ y. set (set xs k None) k (Some y)) (own_none q limit e) ∙ put_same xs k None (Some q) at
 asks_plain xs k limit q (Some s) at e of = cc
 
--- what is kept there
-pub wants_read : (xs : List (Option Held)) (k : ℕ) (o : Option Held) → slice_get xs k ≡ Some o → wants_of o ≡ wants_of (kept_at xs k)
-wants_read xs k o at = ap (λ (p : Option (Option Held)). wants_of (option_flatten p)) (sym at)
+-- what can be used is what is kept
+usable_by : (q : Held) (b : Bool) → is_some (if b then Some q else None) ≡ true → (if b then Some q else None) ≡ Some q
+usable_by q true e = refl
+usable_by q false e = cc
 
-pub asks_of_rule : (xs : List (Option Held)) (k limit : ℕ) (q : Held) (r : Rule) → Some q ≡ get_or xs k (Some q) → slice_get xs k ≡ Some (Some q)
+usable_same : (o : Option Held) → is_some (option_and_then if_usable o) ≡ true → option_and_then if_usable o ≡ o
+usable_same None e = refl
+usable_same (Some q) e = usable_by q (is_usable q) e
+
+kept_read : (xs : List (Option Held)) (k : ℕ) (o : Option Held) → slice_get xs k ≡ Some o → is_some (kept_at xs k) ≡ true → kept_at xs k ≡ o
+kept_read xs k o at live =
+    let is : kept_at xs k ≡ option_and_then if_usable o = ap (λ (p : Option (Option Held)). option_and_then if_usable (option_flatten p)) at in
+    is ∙ usable_same o (ap is_some (sym is) ∙ live)
+
+-- what is kept there
+pub wants_read : (xs : List (Option Held)) (k : ℕ) (o : Option Held) → slice_get xs k ≡ Some o → is_some (kept_at xs k) ≡ true → wants_of o ≡ wants_of (kept_at xs k)
+wants_read xs k o at live = ap wants_of (sym (kept_read xs k o at live))
+
+pub asks_of_rule : (xs : List (Option Held)) (k limit : ℕ) (q : Held) (r : Rule) → Some q ≡ get_or xs k (Some q) → slice_get xs k ≡ Some (Some q) → is_some (kept_at xs k) ≡ true
     → Some r ≡ option_map (λ (s : Subscription). s.rule) q.wants
     → set (raise_all r (Some limit) (set xs k None)) k (Some (raise_own limit q)) ≡ asked_for (wants_of (kept_at xs k)) limit xs
-asks_of_rule xs k limit q r at there of = asks_ruled xs k limit q q.wants r at refl of ∙ ap (λ w. asked_for w limit xs) (wants_read xs k (Some q) there)
+asks_of_rule xs k limit q r at there live of = asks_ruled xs k limit q q.wants r at refl of ∙ ap (λ w. asked_for w limit xs) (wants_read xs k (Some q) there live)
 
-pub asks_of_none : (xs : List (Option Held)) (k limit : ℕ) (q : Held) → Some q ≡ get_or xs k (Some q) → slice_get xs k ≡ Some (Some q)
+pub asks_of_none : (xs : List (Option Held)) (k limit : ℕ) (q : Held) → Some q ≡ get_or xs k (Some q) → slice_get xs k ≡ Some (Some q) → is_some (kept_at xs k) ≡ true
     → None ≡ option_map (λ (s : Subscription). s.rule) q.wants
     → set (set xs k None) k (Some (raise_own limit q)) ≡ asked_for (wants_of (kept_at xs k)) limit xs
-asks_of_none xs k limit q at there of = asks_plain xs k limit q q.wants at refl of ∙ ap (λ w. asked_for w limit xs) (wants_read xs k (Some q) there)
+asks_of_none xs k limit q at there live of = asks_plain xs k limit q q.wants at refl of ∙ ap (λ w. asked_for w limit xs) (wants_read xs k (Some q) there live)
 
 -- whether there is a rule
 pub has_rule : (w : Option Subscription) (o : Option Rule) → o ≡ option_map (λ (s : Subscription). s.rule) w → is_some o ≡ is_some w
 has_rule None o e = ap is_some e
 has_rule (Some s) o e = ap is_some e
 
--- nothing is there to be raised
-pub asks_of_nothing : (xs : List (Option Held)) (k limit : ℕ) (o : Option Held) → o ≡ get_or xs k o → slice_get xs k ≡ Some o → o ≡ None → set xs k None ≡ asked_for (wants_of (kept_at xs k)) limit xs
-asks_of_nothing xs k limit None at there e = ap (set xs k) at ∙ set-get_or xs k None ∙ ap (λ w. asked_for w limit xs) (wants_read xs k None there)
-asks_of_nothing xs k limit (Some q) at there e = cc
+-- a stream that isn't open has nothing to be raised
+idle_by : (o : Option Held) → is_some o ≡ false → wants_of o ≡ None
+idle_by None e = refl
+idle_by (Some q) e = cc
+
+pub asks_idle : (xs : List (Option Held)) (k limit : ℕ) → is_some (kept_at xs k) ≡ false → xs ≡ asked_for (wants_of (kept_at xs k)) limit xs
+asks_idle xs k limit e = ap (λ w. asked_for w limit xs) (sym (idle_by (kept_at xs k) e))
+
+pub wants_idle : (xs : List (Option Held)) (k : ℕ) → is_some (kept_at xs k) ≡ false → false ≡ is_some (wants_of (kept_at xs k))
+wants_idle xs k e = sym (ap is_some (idle_by (kept_at xs k) e))
+
+-- one that is open is there
+pub there_so : (o : Option Held) → o ≡ None → is_some (option_and_then if_usable o) ≡ true → ⊥
+there_so None e live = cc
+there_so (Some q) e live = cc

@@ -8,8 +8,8 @@ use Rattle.std.proofs.lemmas.Bool.{cases_eq, or_parts, or_from, or_left, or_righ
 use Rattle.wire_message.specs.Front.{Seen}
 use Rattle.peer_route.specs.declared.calls.Slot.{Slot}
 use Rattle.peer_route.specs.declared.calls.Slot.TheVariants as slots
-use Rattle.peer_route.specs.History.{Event, Took, Call, read, found, bears, is_gone, fail_at, edit, spend, waits_with}
-use Rattle.peer_route.specs.Left.{slot_of, slot_by, is_waiting, takes, AreDistinct}
+use Rattle.peer_route.specs.History.{Event, Took, Call, read, found, bears, is_gone, fail_at, edit, spend, waits_with, is_awaited}
+use Rattle.peer_route.specs.Left.{reply_kept, slot_of, slot_by, is_waiting, is_inner_slot, takes, AreDistinct}
 use Rattle.peer_route.proofs.Plain.{list_any-along, After, Rising, After-at}
 use Rattle.peer_route.proofs.CallsMade.{Early, places}
 
@@ -18,18 +18,23 @@ use Rattle.peer_route.proofs.CallsMade.{Early, places}
 -- what a slot is after the message
 abbrev pub arrived : Seen → Slot → Slot
 arrived m slots.Gone = slots.Gone
-arrived m (slots.Waiting n) = if bears n m then slots.Replied m else slots.Waiting n
+arrived m (slots.Waiting n inner) = if bears n m then reply_kept inner m else slots.Waiting n inner
 arrived m (slots.Replied r) = slots.Replied r
 
-slot_found : (b : Bool) (serial : ℕ) (m : Seen) → slot_by serial (cond b (Some m) None) ≡ (if b then slots.Replied m else slots.Waiting serial)
-slot_found true serial m = refl
-slot_found false serial m = refl
+slot_found : (b inner : Bool) (serial : ℕ) (m : Seen) → slot_by inner serial (cond b (Some m) None) ≡ (if b then reply_kept inner m else slots.Waiting serial inner)
+slot_found true inner serial m = refl
+slot_found false inner serial m = refl
 
-slot_took_by : (gone : Bool) (serial : ℕ) (o : Option Seen) (m : Seen)
-    → (if gone then slots.Gone else slot_by serial (option_or o (find (bears serial) (m ∷ [])))) ≡ arrived m (if gone then slots.Gone else slot_by serial o)
-slot_took_by true serial o m = refl
-slot_took_by false serial (Some r) m = refl
-slot_took_by false serial None m = slot_found (bears serial m) serial m
+-- a reply that is kept takes nothing
+reply_arrived : (inner : Bool) (r m : Seen) → reply_kept inner r ≡ arrived m (reply_kept inner r)
+reply_arrived true r m = refl
+reply_arrived false r m = refl
+
+slot_took_by : (gone inner : Bool) (serial : ℕ) (o : Option Seen) (m : Seen)
+    → (if gone then slots.Gone else slot_by inner serial (option_or o (find (bears serial) (m ∷ [])))) ≡ arrived m (if gone then slots.Gone else slot_by inner serial o)
+slot_took_by true inner serial o m = refl
+slot_took_by false inner serial (Some r) m = reply_arrived inner r m
+slot_took_by false inner serial None m = slot_found (bears serial m) inner serial m
 
 found_took : (m : Seen) (h : List Event) (c : Call) → c.from ≤ length (read h)
     → find (bears c.serial) (drop c.from (read h ++ m ∷ [])) ≡ option_or (find (bears c.serial) (drop c.from (read h))) (find (bears c.serial) (m ∷ []))
@@ -40,8 +45,8 @@ found_took m h c le =
 slot_took : (m : Seen) (h : List Event) (c : Call) → c.from ≤ length (read h) → slot_of (Took m ∷ h) c ≡ arrived m (slot_of h c)
 unfolding slot_of found
 slot_took m h c le =
-    ap (λ o. if is_gone c then slots.Gone else slot_by c.serial o) (found_took m h c le)
-    ∙ slot_took_by (is_gone c) c.serial (find (bears c.serial) (drop c.from (read h))) m
+    ap (λ o. if is_gone c then slots.Gone else slot_by c.inner c.serial o) (found_took m h c le)
+    ∙ slot_took_by (is_gone c) c.inner c.serial (find (bears c.serial) (drop c.from (read h))) m
 
 -- each slot takes the message that its call waits for
 pub slots_took : (m : Seen) (h : List Event) (cs : List Call) → Early (length (read h)) cs → map (slot_of (Took m ∷ h)) cs ≡ map (arrived m) (map (slot_of h) cs)
@@ -51,7 +56,7 @@ slots_took m h (c ∷ cs) e = let a = slot_took m h c e.0 in let b = slots_took 
 pub arrived_nowhere : (m : Seen) → ((n : ℕ) → bears n m ≡ false) → (ss : List Slot) → map (arrived m) ss ≡ ss
 arrived_nowhere m none [] = refl
 arrived_nowhere m none (slots.Gone ∷ ss) = ap (λ xs. slots.Gone ∷ xs) (arrived_nowhere m none ss)
-arrived_nowhere m none (slots.Waiting n ∷ ss) = rw (none n) (ap (λ xs. slots.Waiting n ∷ xs) (arrived_nowhere m none ss))
+arrived_nowhere m none (slots.Waiting n i ∷ ss) = rw (none n) (ap (λ xs. slots.Waiting n i ∷ xs) (arrived_nowhere m none ss))
 arrived_nowhere m none (slots.Replied r ∷ ss) = ap (λ xs. slots.Replied r ∷ xs) (arrived_nowhere m none ss)
 
 eqb-flip : (a b : ℕ) → eqb a b ≡ false → eqb b a ≡ false
@@ -67,12 +72,12 @@ eqb-comm a b = elim (cases_eq a b) as (λ _. eqb a b ≡ eqb b a) [
 pub takes_nowhere : (m : Seen) → ((n : ℕ) → bears n m ≡ false) → (ss : List Slot) → list_any (takes m) ss ≡ false
 takes_nowhere m none [] = refl
 takes_nowhere m none (slots.Gone ∷ ss) = takes_nowhere m none ss
-takes_nowhere m none (slots.Waiting n ∷ ss) = or_from (bears n m) (list_any (takes m) ss) (none n) (takes_nowhere m none ss)
+takes_nowhere m none (slots.Waiting n i ∷ ss) = or_from (bears n m) (list_any (takes m) ss) (none n) (takes_nowhere m none ss)
 takes_nowhere m none (slots.Replied r ∷ ss) = takes_nowhere m none ss
 
 takes_same : (m : Seen) (s : ℕ) → ((n : ℕ) → bears n m ≡ (s == n)) → (x : Slot) → takes m x ≡ is_waiting s x
 takes_same m s same slots.Gone = refl
-takes_same m s same (slots.Waiting n) = same n ∙ eqb-comm s n
+takes_same m s same (slots.Waiting n i) = same n ∙ eqb-comm s n
 takes_same m s same (slots.Replied r) = refl
 
 -- a slot takes it exactly where one waits for its serial
@@ -83,9 +88,9 @@ takes_at m s ss same = sym (list_any-along (takes m) (is_waiting s) (takes_same 
 pub arrived_past : (m : Seen) (s : ℕ) → ((n : ℕ) → bears n m ≡ (s == n)) → (ss : List Slot) → list_any (is_waiting s) ss ≡ false → map (arrived m) ss ≡ ss
 arrived_past m s same [] none = refl
 arrived_past m s same (slots.Gone ∷ ss) none = ap (λ xs. slots.Gone ∷ xs) (arrived_past m s same ss none)
-arrived_past m s same (slots.Waiting n ∷ ss) none =
+arrived_past m s same (slots.Waiting n i ∷ ss) none =
     let parts = or_parts (n == s) (list_any (is_waiting s) ss) none in
-    rw (same n ∙ eqb-flip n s parts.0) (ap (λ xs. slots.Waiting n ∷ xs) (arrived_past m s same ss parts.1))
+    rw (same n ∙ eqb-flip n s parts.0) (ap (λ xs. slots.Waiting n i ∷ xs) (arrived_past m s same ss parts.1))
 arrived_past m s same (slots.Replied r ∷ ss) none = ap (λ xs. slots.Replied r ∷ xs) (arrived_past m s same ss none)
 
 -- a slot waits, so that some slot does
@@ -99,43 +104,52 @@ waits_once n s ss k at none e = both_ways (list_any (is_waiting s) ss) (subst (�
 
 -- the first slot that waits for its serial is the only one that changes
 pub arrived_first : (m : Seen) (s : ℕ) → ((n : ℕ) → bears n m ≡ (s == n)) → (ss : List Slot) (k : ℕ)
-    → is_waiting s (get_or ss k slots.Gone) ≡ true → AreDistinct ss → map (arrived m) ss ≡ set ss k (slots.Replied m)
+    → is_waiting s (get_or ss k slots.Gone) ≡ true → AreDistinct ss → map (arrived m) ss ≡ set ss k (reply_kept (is_inner_slot (get_or ss k slots.Gone)) m)
 arrived_first m s same [] k at d = refl
 arrived_first m s same (slots.Gone ∷ ss) zero at d = absurd (false≢true at)
 arrived_first m s same (slots.Gone ∷ ss) (suc k) at d = ap (λ xs. slots.Gone ∷ xs) (arrived_first m s same ss k at d)
 arrived_first m s same (slots.Replied r ∷ ss) zero at d = absurd (false≢true at)
 arrived_first m s same (slots.Replied r ∷ ss) (suc k) at d = ap (λ xs. slots.Replied r ∷ xs) (arrived_first m s same ss k at d)
-arrived_first m s same (slots.Waiting n ∷ ss) zero at d =
+arrived_first m s same (slots.Waiting n i ∷ ss) zero at d =
     let e = eqb-true n s at in
-    let rest : list_any (is_waiting s) ss ≡ false = subst (λ i. list_any (is_waiting i) ss ≡ false) e d.0 in
-    rw (same n ∙ eq-eqb s n (sym e)) (ap (λ xs. slots.Replied m ∷ xs) (arrived_past m s same ss rest))
-arrived_first m s same (slots.Waiting n ∷ ss) (suc k) at d =
+    let rest : list_any (is_waiting s) ss ≡ false = subst (λ j. list_any (is_waiting j) ss ≡ false) e d.0 in
+    rw (same n ∙ eq-eqb s n (sym e)) (ap (λ xs. reply_kept i m ∷ xs) (arrived_past m s same ss rest))
+arrived_first m s same (slots.Waiting n i ∷ ss) (suc k) at d =
     let other : eqb n s ≡ false = false_from_ne_true (n == s) (λ q. waits_once n s ss k at d.0 (eqb-true n s q)) in
-    rw (same n ∙ eqb-flip n s other) (ap (λ xs. slots.Waiting n ∷ xs) (arrived_first m s same ss k at d.1))
+    rw (same n ∙ eqb-flip n s other) (ap (λ xs. slots.Waiting n i ∷ xs) (arrived_first m s same ss k at d.1))
 
-arrived_waits_by : (b : Bool) (m : Seen) (n k : ℕ) (more : Bool) → ((k == n) || more) ≡ false → (is_waiting n (if b then slots.Replied m else slots.Waiting k) || more) ≡ false
-arrived_waits_by true m n k more e = (or_parts (k == n) more e).1
-arrived_waits_by false m n k more e = e
+-- a reply that is kept doesn't wait
+pub reply_waits : (inner : Bool) (m : Seen) (n : ℕ) → is_waiting n (reply_kept inner m) ≡ false
+reply_waits true m n = refl
+reply_waits false m n = refl
+
+arrived_waits_by : (b inner : Bool) (m : Seen) (n k : ℕ) (more : Bool) → ((k == n) || more) ≡ false → (is_waiting n (if b then reply_kept inner m else slots.Waiting k inner) || more) ≡ false
+arrived_waits_by true inner m n k more e = or_from (is_waiting n (reply_kept inner m)) more (reply_waits inner m n) (or_parts (k == n) more e).1
+arrived_waits_by false inner m n k more e = e
 
 arrived_waits : (m : Seen) (n : ℕ) (ss : List Slot) → list_any (is_waiting n) ss ≡ false → list_any (is_waiting n) (map (arrived m) ss) ≡ false
 arrived_waits m n [] none = refl
 arrived_waits m n (slots.Gone ∷ ss) none = arrived_waits m n ss none
-arrived_waits m n (slots.Waiting k ∷ ss) none =
+arrived_waits m n (slots.Waiting k i ∷ ss) none =
     let parts = or_parts (k == n) (list_any (is_waiting n) ss) none in
-    arrived_waits_by (bears k m) m n k (list_any (is_waiting n) (map (arrived m) ss))
+    arrived_waits_by (bears k m) i m n k (list_any (is_waiting n) (map (arrived m) ss))
     (or_from (k == n) (list_any (is_waiting n) (map (arrived m) ss)) parts.0 (arrived_waits m n ss parts.1))
 arrived_waits m n (slots.Replied r ∷ ss) none = arrived_waits m n ss none
 
-arrived_distinct_by : (b : Bool) (m : Seen) (k : ℕ) (ss : List Slot) → list_any (is_waiting k) ss ≡ false → AreDistinct ss
-    → AreDistinct ((if b then slots.Replied m else slots.Waiting k) ∷ ss)
-arrived_distinct_by true m k ss none d = d
-arrived_distinct_by false m k ss none d = (none, d)
+reply_distinct : (inner : Bool) (m : Seen) (ss : List Slot) → AreDistinct ss → AreDistinct (reply_kept inner m ∷ ss)
+reply_distinct true m ss d = d
+reply_distinct false m ss d = d
+
+arrived_distinct_by : (b inner : Bool) (m : Seen) (k : ℕ) (ss : List Slot) → list_any (is_waiting k) ss ≡ false → AreDistinct ss
+    → AreDistinct ((if b then reply_kept inner m else slots.Waiting k inner) ∷ ss)
+arrived_distinct_by true inner m k ss none d = reply_distinct inner m ss d
+arrived_distinct_by false inner m k ss none d = (none, d)
 
 pub arrived_distinct : (m : Seen) (ss : List Slot) → AreDistinct ss → AreDistinct (map (arrived m) ss)
 arrived_distinct m [] d = tt
 arrived_distinct m (slots.Gone ∷ ss) d = arrived_distinct m ss d
-arrived_distinct m (slots.Waiting k ∷ ss) d =
-    arrived_distinct_by (bears k m) m k (map (arrived m) ss) (arrived_waits m k ss d.0) (arrived_distinct m ss d.1)
+arrived_distinct m (slots.Waiting k i ∷ ss) d =
+    arrived_distinct_by (bears k m) i m k (map (arrived m) ss) (arrived_waits m k ss d.0) (arrived_distinct m ss d.1)
 arrived_distinct m (slots.Replied r ∷ ss) d = arrived_distinct m ss d
 
 -- ---- a call goes
@@ -150,10 +164,10 @@ gone_waits n (s ∷ ss) (suc k) none =
 pub gone_distinct : (ss : List Slot) (k : ℕ) → AreDistinct ss → AreDistinct (set ss k slots.Gone)
 gone_distinct [] k d = d
 gone_distinct (slots.Gone ∷ ss) zero d = d
-gone_distinct (slots.Waiting n ∷ ss) zero d = d.1
+gone_distinct (slots.Waiting n i ∷ ss) zero d = d.1
 gone_distinct (slots.Replied r ∷ ss) zero d = d
 gone_distinct (slots.Gone ∷ ss) (suc k) d = gone_distinct ss k d
-gone_distinct (slots.Waiting n ∷ ss) (suc k) d = (gone_waits n ss k d.0, gone_distinct ss k d.1)
+gone_distinct (slots.Waiting n i ∷ ss) (suc k) d = (gone_waits n ss k d.0, gone_distinct ss k d.1)
 gone_distinct (slots.Replied r ∷ ss) (suc k) d = gone_distinct ss k d
 
 -- a call whose answer was given
@@ -176,14 +190,14 @@ kept_by false false x = refl
 slot_lost : (h : List Event) (n : ℕ) (c : Call) → (c.index == n) ≡ true → slot_of h (fail_at n c) ≡ slots.Gone
 unfolding slot_of found
 slot_lost h n c e =
-    ap (λ b. if c.spent || (c.failed || b) then slots.Gone else slot_by c.serial (find (bears c.serial) (drop c.from (read h)))) e
-    ∙ lost_by c.spent c.failed (slot_by c.serial (find (bears c.serial) (drop c.from (read h))))
+    ap (λ b. if c.spent || (c.failed || b) then slots.Gone else slot_by c.inner c.serial (find (bears c.serial) (drop c.from (read h)))) e
+    ∙ lost_by c.spent c.failed (slot_by c.inner c.serial (find (bears c.serial) (drop c.from (read h))))
 
 slot_kept : (h : List Event) (n : ℕ) (c : Call) → (c.index == n) ≡ false → slot_of h (fail_at n c) ≡ slot_of h c
 unfolding slot_of found
 slot_kept h n c e =
-    ap (λ b. if c.spent || (c.failed || b) then slots.Gone else slot_by c.serial (find (bears c.serial) (drop c.from (read h)))) e
-    ∙ kept_by c.spent c.failed (slot_by c.serial (find (bears c.serial) (drop c.from (read h))))
+    ap (λ b. if c.spent || (c.failed || b) then slots.Gone else slot_by c.inner c.serial (find (bears c.serial) (drop c.from (read h)))) e
+    ∙ kept_by c.spent c.failed (slot_by c.inner c.serial (find (bears c.serial) (drop c.from (read h))))
 
 -- no call's message stands at the place
 pub slots_kept : (h : List Event) (n : ℕ) (cs : List Call) → list_any (λ i. i == n) (places cs) ≡ false → map (slot_of h) (map (fail_at n) cs) ≡ map (slot_of h) cs
@@ -214,30 +228,50 @@ slots_lost h n (c ∷ cs) (suc k) lt at r =
 
 -- ---- a call is made
 
-waits_push : (n s : ℕ) (ss : List Slot) → list_any (is_waiting n) ss ≡ false → (s == n) ≡ false → list_any (is_waiting n) (ss ++ slots.Waiting s ∷ []) ≡ false
-waits_push n s [] none e = or_from (s == n) false e refl
-waits_push n s (x ∷ ss) none e =
+waits_push : (n s : ℕ) (inner : Bool) (ss : List Slot) → list_any (is_waiting n) ss ≡ false → (s == n) ≡ false → list_any (is_waiting n) (ss ++ slots.Waiting s inner ∷ []) ≡ false
+waits_push n s inner [] none e = or_from (s == n) false e refl
+waits_push n s inner (x ∷ ss) none e =
     let parts = or_parts (is_waiting n x) (list_any (is_waiting n) ss) none in
-    or_from (is_waiting n x) (list_any (is_waiting n) (ss ++ slots.Waiting s ∷ [])) parts.0 (waits_push n s ss parts.1 e)
+    or_from (is_waiting n x) (list_any (is_waiting n) (ss ++ slots.Waiting s inner ∷ [])) parts.0 (waits_push n s inner ss parts.1 e)
 
-pub distinct_push : (s : ℕ) (ss : List Slot) → list_any (is_waiting s) ss ≡ false → AreDistinct ss → AreDistinct (ss ++ slots.Waiting s ∷ [])
-distinct_push s [] none d = (refl, tt)
-distinct_push s (slots.Gone ∷ ss) none d = distinct_push s ss none d
-distinct_push s (slots.Waiting n ∷ ss) none d =
+pub distinct_push : (s : ℕ) (inner : Bool) (ss : List Slot) → list_any (is_waiting s) ss ≡ false → AreDistinct ss → AreDistinct (ss ++ slots.Waiting s inner ∷ [])
+distinct_push s inner [] none d = (refl, tt)
+distinct_push s inner (slots.Gone ∷ ss) none d = distinct_push s inner ss none d
+distinct_push s inner (slots.Waiting n i ∷ ss) none d =
     let parts = or_parts (n == s) (list_any (is_waiting s) ss) none in
-    (waits_push n s ss d.0 (eqb-flip n s parts.0), distinct_push s ss parts.1 d.1)
-distinct_push s (slots.Replied r ∷ ss) none d = distinct_push s ss none d
+    (waits_push n s inner ss d.0 (eqb-flip n s parts.0), distinct_push s inner ss parts.1 d.1)
+distinct_push s inner (slots.Replied r ∷ ss) none d = distinct_push s inner ss none d
 
 -- ---- which serials are pending
 
-waits_by : (spent failed : Bool) (o : Option Seen) (n serial : ℕ)
-    → (not (spent || failed) && is_none o && (n == serial)) ≡ is_waiting serial (if spent || failed then slots.Gone else slot_by n o)
-waits_by true failed o n serial = refl
-waits_by false true o n serial = refl
-waits_by false false (Some m) n serial = refl
-waits_by false false None n serial = refl
+waits_by : (spent failed inner : Bool) (o : Option Seen) (n serial : ℕ)
+    → (not (spent || failed) && is_none o && (n == serial)) ≡ is_waiting serial (if spent || failed then slots.Gone else slot_by inner n o)
+waits_by true failed inner o n serial = refl
+waits_by false true inner o n serial = refl
+waits_by false false inner (Some m) n serial = sym (reply_waits inner m serial)
+waits_by false false inner None n serial = refl
 
 -- a call waits with a serial exactly where its slot does
 pub waits-slot : (h : List Event) (serial : ℕ) (c : Call) → waits_with h serial c ≡ is_waiting serial (slot_of h c)
 unfolding slot_of
-waits-slot h serial c = waits_by c.spent c.failed (found h c) c.serial serial
+waits-slot h serial c = waits_by c.spent c.failed c.inner (found h c) c.serial serial
+
+reply_inner : (inner : Bool) (m : Seen) → is_inner_slot (reply_kept inner m) ≡ false
+reply_inner true m = refl
+reply_inner false m = refl
+
+own_by : (spent failed inner : Bool) (o : Option Seen) (n : ℕ)
+    → (inner && (not (spent || failed) && is_none o)) ≡ is_inner_slot (if spent || failed then slots.Gone else slot_by inner n o)
+own_by true failed true o n = refl
+own_by true failed false o n = refl
+own_by false true true o n = refl
+own_by false true false o n = refl
+own_by false false true (Some m) n = refl
+own_by false false false (Some m) n = refl
+own_by false false true None n = refl
+own_by false false false None n = refl
+
+-- one of the peer's own waits exactly where its slot does
+pub own-slot : (h : List Event) (c : Call) → is_awaited h c ≡ is_inner_slot (slot_of h c)
+unfolding slot_of
+own-slot h c = own_by c.spent c.failed c.inner (found h c) c.serial

@@ -1,5 +1,6 @@
 -- Each stream that was made has its lane.
 use Rattle.std.proofs.Common.{◌≡◌, inl, inr, ℕ, ◌+◌, refl, sym, ◌∙◌, ap, Bool, true, false, List, [], ◌∷◌, ◌++◌, length, Option, Some, None, Result, Ok, Err, length-append, append-nil}
+use Rattle.std.proofs.lemmas.List.{length-map}
 use Rattle.wire_message.specs.Front.{Seen}
 use Rattle.wire_message.specs.declared.kind.MessageType.{MessageType}
 use Rattle.wire_message.specs.declared.kind.MessageType.TheVariants as types
@@ -15,8 +16,8 @@ use Rattle.peer_route.specs.declared.words.Words.TheVariants as words
 use Rattle.peer_route.specs.declared.answer.Answer.{Answer}
 use Rattle.peer_route.specs.declared.answer.Answer.TheVariants as answers
 use Rattle.peer_route.specs.declared.answer.Entry.{Entry}
-use Rattle.peer_route.specs.History.{Event, Put, Cloned, Gone, Asked, read, closing, writer, poll_answer, by_position, drop_answer}
-use Rattle.peer_route.specs.Streams.{streams, plain_stream, new_stream, give, tell, done_by, busy, take_answer, rule_stream}
+use Rattle.peer_route.specs.History.{Event, Put, Cloned, Gone, Asked, done, read, closing, writer, poll_answer, by_position, drop_answer}
+use Rattle.peer_route.specs.Streams.{streams, plain_stream, new_stream, give, tell, done_by, fail_stream, busy, take_answer, rule_stream}
 use Rattle.peer_route.specs.Parcel.{Setting}
 use Rattle.peer_route.specs.Parcel as parcels
 use Rattle.peer_route.specs.Trail.{Trail, place, count, trail, more, failed_put, send_events, read_events, poll_spends, drop_spends, take_does, clone_makes, gone_at, unstream_does, queue_does, main_sets, second_place, events_of, first_events, new_streams, open_makes, close_does}
@@ -103,7 +104,7 @@ abbrev MakesNone : List Event → Type 0
 MakesNone xs = (h : List Event) → length (streams (xs ++ h)) ≡ length (streams h)
 
 failed_makes : (w : Writer) (m : Seen) (expects : Bool) → MakesNone (failed_put w (Put m expects))
-failed_makes writers.Fine m expects h = refl
+failed_makes writers.Fine m expects h = length-map (streams h) (fail_stream (Put m expects ∷ h) (done h))
 failed_makes writers.Failed m expects h = refl
 failed_makes writers.Closed m expects h = refl
 

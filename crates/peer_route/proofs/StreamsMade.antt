@@ -1,53 +1,93 @@
 -- What streams hold after each event.
-use Rattle.std.proofs.Common.{◌≡◌, ℕ, ◌+◌, zero, suc, refl, sym, ◌∙◌, ap, arith, Bool, true, false, not, cond, if◌then◌else◌, ◌&&◌, nat_lt, is_some, List, [], ◌∷◌, ◌++◌, length, drop, map, Option, Some, None, Ok, Err}
+use Rattle.std.proofs.Common.{◌≡◌, ℕ, ◌+◌, zero, suc, refl, sym, ◌∙◌, ap, arith, subst, Bool, true, false, not, cond, if◌then◌else◌, ◌&&◌, ◌||◌, ◌==◌, nat_lt, is_some, List, [], ◌∷◌, ◌++◌, length, drop, map, Option, Some, None, Ok, Err}
 use Rattle.std.specs.List.{slice_get, list_any, AllByRecursion}
-use Rattle.std.specs.Option.{option_map, option_flatten}
+use Rattle.std.specs.Option.{option_map, option_flatten, option_and_then}
 use Rattle.std.proofs.Math.Seq.{drop-length}
 use Rattle.std.proofs.lemmas.List.{map-append, append-nil, drop-append-le}
 use Rattle.std.proofs.lemmas.Option.{slice_get-map}
 use Rattle.std.proofs.lemmas.Bool.{ne_eqb}
+use Rattle.std.proofs.lemmas.Bool.Decides.{nat_tests}
 use Rattle.wire_message.specs.Front.{Seen}
 use Rattle.wire_message.specs.declared.error.Error.{Error}
 use Rattle.wire_message.specs.declared.error.Error.TheVariants as errors
-use Rattle.peer_route.specs.History.{Event, Took, Shut, Put, Wrote, Fault, Spent, Made, Did, Main, Named, Plain, Cloned, Gave, Told, Gone, read, closing, edit}
+use Rattle.peer_route.specs.History.{Event, Took, Shut, Put, Wrote, Fault, Spent, Made, Did, Main, OnBus, Removed, Named, Plain, Cloned, Gone, Call, bears, done, read, closing, edit}
 use Rattle.rule_match.specs.Rule.{Rule}
 use Rattle.rule_match.specs.Accepting.{accepts}
 use Rattle.peer_route.specs.declared.queue.Subscription.{Subscription}
-use Rattle.peer_route.specs.Streams.{Stream, streams, fresh, plain_stream, accepted, limit_of, clone_of, give, tell, end_one, main, matched, offered, held, is_full, is_there, is_open, is_over as nothing_comes, take_by, take_at, take_answer, take_events, first_position, next_at, next_position}
-use Rattle.peer_route.specs.Left.{Held, held_of, subscription, empty_held, wants_it, limit_or, kept_by, kept_at, queued, is_over, after_by, after_take, held_gives, next_held, ended_by, IsWithin, LeftStreams}
+use Rattle.peer_route.specs.Streams.{Stream, Phase, Asking, Denied, Since, is_return, since_in, is_since, asks_by, phase, streams, fresh, plain_stream, fail_stream, accepted, limit_of, clone_of, end_one, main, matched, offered, held, is_full, runs, runs_at, is_open, is_over as nothing_comes, take_by, take_at, take_answer, first_position, next_at, next_position}
+use Rattle.peer_route.specs.Left.{Held, held_by, held_of, subscription, progress_by, wants_by, waits_by, is_running, is_usable, if_usable, empty_held, wants_it, limit_or, kept_by, any_at, kept_at, answered_by, with_one, arrived_at, lost_at, is_over, held_gives, next_held, ended_by, IsWithin, LeftStreams}
 use Rattle.peer_route.proofs.Plain.{list_any-map, list_any-along}
-use Rattle.peer_route.proofs.Edits.{map_edit, map_edit_all, edit-same, edit-past, drop_next}
-use Rattle.peer_route.proofs.Matched.{held_matched, matched_took, all_within_same, all_within_took, within_at, within_fresh, within_push}
+use Rattle.peer_route.proofs.Edits.{map_edit_all}
+use Rattle.peer_route.proofs.Phases.{stepped, phase_took}
+use Rattle.peer_route.proofs.Matched.{arriving, held_matched, matched_took, all_within_same, all_within_took, within_at, within_fresh, within_push}
 
 -- ---- events that change no stream
 
 pub streams_shut : (error : Error) (v : List (Option Held)) (h : List Event) → LeftStreams v h → LeftStreams v (Shut error ∷ h)
-unfolding held_of held offered matched
+unfolding held_of held offered matched phase
 streams_shut error v h left = record { queues = left.queues; within = all_within_same (Shut error ∷ h) h (streams h) refl left.within }
 
 pub streams_put : (m : Seen) (expects : Bool) (v : List (Option Held)) (h : List Event) → LeftStreams v h → LeftStreams v (Put m expects ∷ h)
-unfolding held_of held offered matched
+unfolding held_of held offered matched phase
 streams_put m expects v h left = record { queues = left.queues; within = all_within_same (Put m expects ∷ h) h (streams h) refl left.within }
 
 pub streams_wrote : (v : List (Option Held)) (h : List Event) → LeftStreams v h → LeftStreams v (Wrote ∷ h)
-unfolding held_of held offered matched
+unfolding held_of held offered matched phase
 streams_wrote v h left = record { queues = left.queues; within = all_within_same (Wrote ∷ h) h (streams h) refl left.within }
 
-pub streams_fault : (v : List (Option Held)) (h : List Event) → LeftStreams v h → LeftStreams v (Fault ∷ h)
-unfolding held_of held offered matched
-streams_fault v h left = record { queues = left.queues; within = all_within_same (Fault ∷ h) h (streams h) refl left.within }
-
 pub streams_spent : (k : ℕ) (v : List (Option Held)) (h : List Event) → LeftStreams v h → LeftStreams v (Spent k ∷ h)
-unfolding held_of held offered matched
+unfolding held_of held offered matched phase
 streams_spent k v h left = record { queues = left.queues; within = all_within_same (Spent k ∷ h) h (streams h) refl left.within }
 
 pub streams_main : (limit : ℕ) (v : List (Option Held)) (h : List Event) → LeftStreams v h → LeftStreams v (Main limit ∷ h)
-unfolding held_of held offered matched
+unfolding held_of held offered matched phase
 streams_main limit v h left = record { queues = left.queues; within = all_within_same (Main limit ∷ h) h (streams h) refl left.within }
 
+pub streams_bus : (v : List (Option Held)) (h : List Event) → LeftStreams v h → LeftStreams v (OnBus ∷ h)
+unfolding held_of held offered matched phase
+streams_bus v h left = record { queues = left.queues; within = all_within_same (OnBus ∷ h) h (streams h) refl left.within }
+
 pub streams_named : (name : List ℕ) (v : List (Option Held)) (h : List Event) → LeftStreams v h → LeftStreams v (Named name ∷ h)
-unfolding held_of held offered matched
+unfolding held_of held offered matched phase
 streams_named name v h left = record { queues = left.queues; within = all_within_same (Named name ∷ h) h (streams h) refl left.within }
+
+pub streams_removed : (m : Seen) (v : List (Option Held)) (h : List Event) → LeftStreams v h → LeftStreams v (Removed m ∷ h)
+unfolding held_of held offered matched phase
+streams_removed m v h left = record { queues = left.queues; within = all_within_same (Removed m ∷ h) h (streams h) refl left.within }
+
+-- ---- a write fails
+
+fail_by : (n : ℕ) (p : Phase) (gone : Bool) (q : Held) → q.progress ≡ progress_by p → kept_by (gone || asks_by n p) q ≡ lost_at n (kept_by gone q)
+fail_by n p true q e = refl
+fail_by n (Since ms) false q e = ap (λ x. if waits_by n x then None else Some q) (sym e)
+fail_by n (Denied m) false q e = ap (λ x. if waits_by n x then None else Some q) (sym e)
+fail_by n (Asking add) false q e = kept_if (add.index == n) q ∙ ap (λ x. if waits_by n x then None else Some q) (sym e)
+  where
+    kept_if : (b : Bool) (k : Held) → kept_by b k ≡ (if b then None else Some k)
+    kept_if true k = refl
+    kept_if false k = refl
+
+held_failed : (h : List Event) (n : ℕ) (s : Stream) → held_of (Fault ∷ h) (fail_stream h n s) ≡ lost_at n (held_of h s)
+unfolding held_of held offered matched phase
+held_failed h n s = fail_by n (phase h s) s.gone (held_by h s) refl
+
+all_failed : (h : List Event) (n : ℕ) (ss : List Stream) → map (lost_at n) (map (held_of h) ss) ≡ map (held_of (Fault ∷ h)) (map (fail_stream h n) ss)
+all_failed h n [] = refl
+all_failed h n (s ∷ ss) = let a = held_failed h n s in let b = all_failed h n ss in cc
+
+fail_within : (h : List Event) (n : ℕ) (s : Stream) → IsWithin h s → IsWithin (Fault ∷ h) (fail_stream h n s)
+unfolding matched phase
+fail_within h n s w = record { start = w.start; passed = w.passed }
+
+all_fail_within : (h : List Event) (n : ℕ) (ss : List Stream) → AllByRecursion (IsWithin h) ss → AllByRecursion (IsWithin (Fault ∷ h)) (map (fail_stream h n) ss)
+all_fail_within h n [] w = tt
+all_fail_within h n (s ∷ ss) w = (fail_within h n s w.0, all_fail_within h n ss w.1)
+
+pub streams_fault : (n : ℕ) (v : List (Option Held)) (h : List Event) → n ≡ done h → LeftStreams v h → LeftStreams (map (lost_at n) v) (Fault ∷ h)
+streams_fault n v h e left = record {
+  queues = ap (map (lost_at n)) left.queues ∙ all_failed h n (streams h) ∙ ap (λ i. map (held_of (Fault ∷ h)) (map (fail_stream h i) (streams h))) e;
+  within = subst (λ i. AllByRecursion (IsWithin (Fault ∷ h)) (map (fail_stream h i) (streams h))) e (all_fail_within h n (streams h) left.within);
+}
 
 -- ---- a message comes
 
@@ -60,34 +100,60 @@ one_more : (rule : Option Rule) (h : List Event) (m : Seen) (items : List Seen)
 one_more None h m items = refl
 one_more (Some rule) h m items = one_by (accepts rule m) items m
 
-queued_kept : (gone : Bool) (wants : Option Subscription) (m : Seen) (items more : List Seen) (told : Bool) → more ≡ (if wants_it wants m then items ++ m ∷ [] else items)
-    → kept_by gone wants more told ≡ queued m (kept_by gone wants items told)
-queued_kept true wants m items more told e = refl
-queued_kept false wants m items more told e = ap (λ ms. Some (record { wants = wants; items = ms; told = told })) e
-
--- each stream holds one message more, if it is one of its own
-held_more : (m : Seen) (h : List Event) (s : Stream) → IsWithin h s → held (Took m ∷ h) s ≡ held h s ++ accepted s.rule (m ∷ [])
+-- each stream that runs holds one message more, if it is one of its own
+held_more : (m : Seen) (h : List Event) (s : Stream) → IsWithin h s → held (Took m ∷ h) s ≡ held h s ++ arriving (phase h s) s.rule m
 held_more m h s within =
     held_matched (Took m ∷ h) s ∙ ap (drop (s.skip + s.taken)) (matched_took m h s within.start)
-    ∙ drop-append-le (s.skip + s.taken) (matched h s) (accepted s.rule (m ∷ [])) within.passed
-    ∙ ap (λ ms. ms ++ accepted s.rule (m ∷ [])) (sym (held_matched h s))
+    ∙ drop-append-le (s.skip + s.taken) (matched h s) (arriving (phase h s) s.rule m) within.passed
+    ∙ ap (λ ms. ms ++ arriving (phase h s) s.rule m) (sym (held_matched h s))
 
-held_took : (m : Seen) (h : List Event) (s : Stream) → IsWithin h s → held_of (Took m ∷ h) s ≡ queued m (held_of h s)
+-- what is kept of a stream, by its phase and what it holds
+abbrev pub by_phase : List Event → Stream → Phase → List Seen → Held
+by_phase h s p items = record { wants = wants_by p (option_map (subscription h) s.rule); progress = progress_by p; items = items; told = s.told; opened = s.opened }
+
+answered_one : (b r : Bool) (h : List Event) (s : Stream) (add : Call) (m : Seen) (items : List Seen)
+    → by_phase h s (if b then (if r then Since [] else Denied m) else Asking add) items ≡ (if b then answered_by r m (by_phase h s (Asking add) items) else by_phase h s (Asking add) items)
+answered_one true true h s add m items = refl
+answered_one true false h s add m items = refl
+answered_one false r h s add m items = refl
+
+one_held : (h : List Event) (s : Stream) (p : Phase) (m : Seen) (items : List Seen) → by_phase h s (stepped m p) (items ++ arriving p s.rule m) ≡ with_one m (by_phase h s p items)
+one_held h s (Since ms) m items = ap (λ xs. by_phase h s (Since ms) xs) (one_more s.rule h m items)
+one_held h s (Denied r) m items = ap (λ xs. by_phase h s (Denied r) xs) (append-nil items)
+one_held h s (Asking add) m items =
+    ap (λ xs. by_phase h s (stepped m (Asking add)) xs) (append-nil items)
+    ∙ answered_one (bears add.serial m) (is_return m.kind) h s add m items
+
+kept_one : (gone : Bool) (k q : Held) (m : Seen) → k ≡ with_one m q → kept_by gone k ≡ arrived_at m (kept_by gone q)
+kept_one true k q m e = refl
+kept_one false k q m e = ap (λ x. Some x) e
+
+held_took : (m : Seen) (h : List Event) (s : Stream) → IsWithin h s → held_of (Took m ∷ h) s ≡ arrived_at m (held_of h s)
 unfolding held_of
 held_took m h s within =
-    queued_kept s.gone (option_map (subscription h) s.rule) m (held h s) (held (Took m ∷ h) s) s.told (held_more m h s within ∙ one_more s.rule h m (held h s))
+    kept_one s.gone (held_by (Took m ∷ h) s) (held_by h s) m
+    (ap (λ p. by_phase h s p (held (Took m ∷ h) s)) (phase_took m h s within.start)
+    ∙ ap (λ items. by_phase h s (stepped m (phase h s)) items) (held_more m h s within)
+    ∙ one_held h s (phase h s) m (held h s))
 
-all_took : (m : Seen) (h : List Event) (ss : List Stream) → AllByRecursion (IsWithin h) ss → map (queued m) (map (held_of h) ss) ≡ map (held_of (Took m ∷ h)) ss
+all_took : (m : Seen) (h : List Event) (ss : List Stream) → AllByRecursion (IsWithin h) ss → map (arrived_at m) (map (held_of h) ss) ≡ map (held_of (Took m ∷ h)) ss
 all_took m h [] w = refl
 all_took m h (s ∷ ss) w = let a = held_took m h s w.0 in let b = all_took m h ss w.1 in cc
 
-pub streams_took : (m : Seen) (v : List (Option Held)) (h : List Event) → LeftStreams v h → LeftStreams (map (queued m) v) (Took m ∷ h)
+pub streams_took : (m : Seen) (v : List (Option Held)) (h : List Event) → LeftStreams v h → LeftStreams (map (arrived_at m) v) (Took m ∷ h)
 streams_took m v h left = record {
-  queues = ap (map (queued m)) left.queues ∙ all_took m h (streams h) left.within;
+  queues = ap (map (arrived_at m)) left.queues ∙ all_took m h (streams h) left.within;
   within = all_within_took m h (streams h) left.within;
 }
 
 -- ---- a stream is made
+
+abbrev no_messages : List Seen
+no_messages = []
+
+drop_nothing : (n : ℕ) → drop n no_messages ≡ no_messages
+drop_nothing zero = refl
+drop_nothing (suc n) = refl
 
 accepted_none : (rule : Option Rule) → accepted rule [] ≡ []
 accepted_none None = refl
@@ -95,16 +161,23 @@ accepted_none (Some rule) = refl
 
 -- nothing that was read is a new stream's
 pub held_fresh : (h : List Event) (rule : Option Rule) (told : Bool) → held h (fresh h rule told) ≡ []
-unfolding held offered matched
+unfolding held offered matched phase
 held_fresh h rule told = ap (accepted rule) (drop-length (read h)) ∙ accepted_none rule
+
+-- a new stream runs
+pub phase_fresh : (h : List Event) (rule : Option Rule) (told : Bool) → phase h (fresh h rule told) ≡ Since []
+unfolding phase
+phase_fresh h rule told = ap (λ ms. Since ms) (drop-length (read h))
 
 pub held_new : (h : List Event) → held_of h (plain_stream h) ≡ Some (empty_held None (is_some (closing h)))
 unfolding held_of
-held_new h = ap (λ items. Some (record { wants = None; items = items; told = is_some (closing h) })) (held_fresh h None (is_some (closing h)))
+held_new h =
+    ap (λ p. Some (by_phase h (plain_stream h) p (held h (plain_stream h)))) (phase_fresh h None (is_some (closing h)))
+    ∙ ap (λ items. Some (by_phase h (plain_stream h) (Since []) items)) (held_fresh h None (is_some (closing h)))
 
 pub streams_made : (told : Bool) (v : List (Option Held)) (h : List Event) → told ≡ is_some (closing h) → LeftStreams v h
     → LeftStreams (v ++ Some (empty_held None told) ∷ []) (Made Plain ∷ h)
-unfolding held_of held offered matched
+unfolding held_of held offered matched phase
 streams_made told v h e left = record {
   queues = ap (λ qs. qs ++ Some (empty_held None told) ∷ []) left.queues
       ∙ ap (λ b. map (held_of h) (streams h) ++ Some (empty_held None b) ∷ []) e
@@ -116,12 +189,12 @@ streams_made told v h e left = record {
 
 -- ---- one stream changes
 
-within_edit : (h : List Event) (f : Stream → Stream) (ss : List Stream) (k : ℕ) (s : Stream) → slice_get ss k ≡ Some s → IsWithin h (f s) → AllByRecursion (IsWithin h) ss → AllByRecursion (IsWithin h) (edit k f ss)
+pub within_edit : (h : List Event) (f : Stream → Stream) (ss : List Stream) (k : ℕ) (s : Stream) → slice_get ss k ≡ Some s → IsWithin h (f s) → AllByRecursion (IsWithin h) ss → AllByRecursion (IsWithin h) (edit k f ss)
 within_edit h f [] k s at one w = w
 within_edit h f (x ∷ ss) zero s at one w = let same : x ≡ s = cc in (rw same one, w.1)
 within_edit h f (x ∷ ss) (suc k) s at one w = (w.0, within_edit h f ss k s at one w.1)
 
-within_each : (h : List Event) (f : Stream → Stream) → ((s : Stream) → IsWithin h s → IsWithin h (f s)) → (ss : List Stream) (k : ℕ) → AllByRecursion (IsWithin h) ss → AllByRecursion (IsWithin h) (edit k f ss)
+pub within_each : (h : List Event) (f : Stream → Stream) → ((s : Stream) → IsWithin h s → IsWithin h (f s)) → (ss : List Stream) (k : ℕ) → AllByRecursion (IsWithin h) ss → AllByRecursion (IsWithin h) (edit k f ss)
 within_each h f each [] k w = w
 within_each h f each (x ∷ ss) zero w = (each x w.0, w.1)
 within_each h f each (x ∷ ss) (suc k) w = (w.0, within_each h f each ss k w.1)
@@ -129,32 +202,76 @@ within_each h f each (x ∷ ss) (suc k) w = (w.0, within_each h f each ss k w.1)
 -- ---- what is kept of one stream
 
 -- what is kept of a stream that may be there
+abbrev pub any_of : List Event → Option Stream → Option Held
+any_of h o = option_flatten (option_map (held_of h) o)
+
+-- the same, where it is open
 abbrev pub kept_of : List Event → Option Stream → Option Held
-kept_of h o = option_flatten (option_map (held_of h) o)
+kept_of h o = option_and_then if_usable (any_of h o)
+
+pub any_left : (v : List (Option Held)) (h : List Event) (k : ℕ) → LeftStreams v h → any_at v k ≡ any_of h (slice_get (streams h) k)
+any_left v h k left = ap (λ qs. any_at qs k) left.queues ∙ ap option_flatten (slice_get-map (held_of h) (streams h) k)
 
 pub kept_left : (v : List (Option Held)) (h : List Event) (k : ℕ) → LeftStreams v h → kept_at v k ≡ kept_of h (slice_get (streams h) k)
-kept_left v h k left = ap (λ qs. kept_at qs k) left.queues ∙ ap option_flatten (slice_get-map (held_of h) (streams h) k)
+kept_left v h k left = ap (option_and_then if_usable) (any_left v h k left)
 
 -- the rule of a stream, with what its streams may hold
 abbrev pub wanted : List Event → Stream → Option Subscription
 wanted h s = option_map (subscription h) s.rule
 
-pub held_open : (h : List Event) (s : Stream) → s.gone ≡ false → held_of h s ≡ Some (record { wants = wanted h s; items = held h s; told = s.told })
+pub held_open : (h : List Event) (s : Stream) → s.gone ≡ false → held_of h s ≡ Some (held_by h s)
 unfolding held_of
-held_open h s is = ap (λ b. kept_by b (wanted h s) (held h s) s.told) is
+held_open h s is = ap (λ b. kept_by b (held_by h s)) is
 
 pub held_gone : (h : List Event) (s : Stream) → s.gone ≡ true → held_of h s ≡ None
 unfolding held_of
-held_gone h s is = ap (λ b. kept_by b (wanted h s) (held h s) s.told) is
+held_gone h s is = ap (λ b. kept_by b (held_by h s)) is
 
-there_by : (gone : Bool) (wants : Option Subscription) (items : List Seen) (told : Bool) → is_some (kept_by gone wants items told) ≡ not gone
-there_by true wants items told = refl
-there_by false wants items told = refl
+-- a stream runs exactly where its phase says so
+pub running_since : (p : Phase) → is_running (progress_by p) ≡ is_since p
+running_since (Since ms) = refl
+running_since (Asking add) = refl
+running_since (Denied m) = refl
 
-there_at : (h : List Event) (o : Option Stream) → is_some (kept_of h o) ≡ is_there o
-unfolding held_of
+-- what is known of a stream that is open
+pub record Runs (h : List Event) (s : Stream) : Type 0 where
+  pub still : s.gone ≡ false
+  pub usable : is_usable (held_by h s) ≡ true
+  pub since : is_since (phase h s) ≡ true
+
+three : (a b c d : Bool) → d ≡ c → (a && (not b && c)) ≡ true → (b ≡ false) × ((a && d) ≡ true) × (c ≡ true)
+three true false true d same e = (refl, same, refl)
+three true false false d same e = cc
+three true true c d same e = cc
+three false b c d same e = cc
+
+pub runs_so : (h : List Event) (s : Stream) → runs h s ≡ true → Runs h s
+unfolding runs
+runs_so h s e =
+    let t = three s.opened s.gone (is_since (phase h s)) (is_running (progress_by (phase h s))) (running_since (phase h s)) e in
+    record { still = t.0; usable = t.1; since = t.2 }
+
+kept_by_use : (opened gone since : Bool) (q : Held) → is_usable q ≡ (opened && since)
+    → option_and_then if_usable (kept_by gone q) ≡ (if opened && (not gone && since) then Some q else None)
+kept_by_use opened true since q e = sym (none_by opened q)
+  where
+    none_by : (b : Bool) (k : Held) → (if b && false then Some k else None) ≡ None
+    none_by true k = refl
+    none_by false k = refl
+kept_by_use opened false since q e = ap (λ b. if b then Some q else None) e
+
+-- of a stream something is kept that can be used exactly where it runs
+pub kept_runs : (h : List Event) (s : Stream) → kept_of h (Some s) ≡ (if runs h s then Some (held_by h s) else None)
+unfolding held_of runs
+kept_runs h s = kept_by_use s.opened s.gone (is_since (phase h s)) (held_by h s) (ap (λ b. s.opened && b) (running_since (phase h s)))
+
+some_by : {A : Type 0} (b : Bool) (x : A) → is_some (if b then Some x else None) ≡ b
+some_by true x = refl
+some_by false x = refl
+
+there_at : (h : List Event) (o : Option Stream) → is_some (kept_of h o) ≡ runs_at h o
 there_at h None = refl
-there_at h (Some s) = there_by s.gone (wanted h s) (held h s) s.told
+there_at h (Some s) = ap is_some (kept_runs h s) ∙ some_by (runs h s) (held_by h s)
 
 -- a stream is open exactly where something is kept of it
 pub open_left : (v : List (Option Held)) (h : List Event) (k : ℕ) → LeftStreams v h → is_some (kept_at v k) ≡ is_open h k
@@ -164,37 +281,38 @@ open_left v h k left = ap is_some (kept_left v h k left) ∙ there_at h (slice_g
 -- ---- a clone is made
 
 clone_within : (h : List Event) (s : Stream) → IsWithin h s → IsWithin h (clone_of h (Some s))
-unfolding matched
+unfolding matched phase
 clone_within h s w = record { start = w.start; passed = let le = w.passed in omega arith }
 
-clone_holds : (h : List Event) (s : Stream) → s.gone ≡ false → held_of h (clone_of h (Some s)) ≡ held_of h s
-unfolding matched
-clone_holds h s is =
+clone_items : (h : List Event) (s : Stream) → held h (clone_of h (Some s)) ≡ held h s
+unfolding matched phase
+clone_items h s =
     let c = clone_of h (Some s) in
     let none : s.skip + s.taken + 0 ≡ s.skip + s.taken = omega arith in
-    held_open h c refl
-    ∙ ap (λ items. Some (record { wants = wanted h s; items = items; told = s.told })) (held_matched h c ∙ ap (λ n. drop n (matched h s)) none ∙ sym (held_matched h s))
-    ∙ sym (held_open h s is)
+    held_matched h c ∙ ap (λ n. drop n (matched h s)) none ∙ sym (held_matched h s)
 
-cloned_by : (h : List Event) (k : ℕ) (v : List (Option Held)) (o : Option Stream) → slice_get (streams h) k ≡ o → is_there o ≡ true → LeftStreams v h
+clone_holds : (h : List Event) (s : Stream) → s.gone ≡ false → held_of h (clone_of h (Some s)) ≡ Some (held_by h s)
+unfolding phase
+clone_holds h s is =
+    held_open h (clone_of h (Some s)) refl
+    ∙ ap (λ items. Some (by_phase h s (phase h s) items)) (clone_items h s)
+
+cloned_by : (h : List Event) (k : ℕ) (v : List (Option Held)) (o : Option Stream) → slice_get (streams h) k ≡ o → runs_at h o ≡ true → LeftStreams v h
     → LeftStreams (v ++ kept_of h o ∷ []) (Made (Cloned k) ∷ h)
-unfolding held_of held offered matched
+unfolding held_of held offered matched phase
 cloned_by h k v None at there left = cc
 cloned_by h k v (Some s) at there left =
-    let is : s.gone ≡ false = open_by s.gone there in
+    let is = runs_so h s there in
+    let kept : kept_of h (Some s) ≡ Some (held_by h s) = kept_runs h s ∙ ap (λ b. if b then Some (held_by h s) else None) there in
     let c = clone_of h (Some s) in
     let made : streams (Made (Cloned k) ∷ h) ≡ streams h ++ c ∷ [] = ap (λ o. streams h ++ clone_of h o ∷ []) at in record {
-      queues = ap (λ qs. qs ++ held_of h s ∷ []) left.queues
-          ∙ ap (λ q. map (held_of h) (streams h) ++ q ∷ []) (sym (clone_holds h s is))
+      queues = ap (λ qs. qs ++ kept_of h (Some s) ∷ []) left.queues
+          ∙ ap (λ q. map (held_of h) (streams h) ++ q ∷ []) (kept ∙ sym (clone_holds h s is.still))
           ∙ sym (map-append (held_of h) (streams h) (c ∷ []))
           ∙ ap (map (held_of h)) (sym made);
       within = rw made (all_within_same (Made (Cloned k) ∷ h) h (streams h ++ c ∷ []) refl
           (within_push h (streams h) c left.within (clone_within h s (within_at h (streams h) k s at left.within))));
     }
-  where
-    open_by : (b : Bool) → not b ≡ true → b ≡ false
-    open_by true e = sym e
-    open_by false e = refl
 
 -- a stream more that holds what an open one holds
 pub streams_cloned : (k : ℕ) (v : List (Option Held)) (h : List Event) → is_open h k ≡ true → LeftStreams v h → LeftStreams (v ++ kept_at v k ∷ []) (Made (Cloned k) ∷ h)
@@ -204,14 +322,14 @@ streams_cloned k v h there left = rw (kept_left v h k left) (cloned_by h k v (sl
 -- ---- a stream is closed
 
 end_within : (h : List Event) (s : Stream) → IsWithin h s → IsWithin h (end_one s)
-unfolding matched
+unfolding matched phase
 end_within h s w = record { start = w.start; passed = w.passed }
 
 end_holds : (h : List Event) (s : Stream) → held_of h (end_one s) ≡ None
 end_holds h s = held_gone h (end_one s) refl
 
 pub streams_ended : (k : ℕ) (v : List (Option Held)) (h : List Event) → LeftStreams v h → LeftStreams (edit k (λ q. None) v) (Did k Gone ∷ h)
-unfolding held_of held offered matched
+unfolding held_of held offered matched phase
 streams_ended k v h left = record {
   queues = ap (edit k (λ q. None)) left.queues ∙ sym (map_edit_all (held_of h) end_one (λ q. None) (streams h) k (end_holds h));
   within = all_within_same (Did k Gone ∷ h) h (edit k end_one (streams h)) refl (within_each h end_one (end_within h) (streams h) k left.within);
@@ -219,134 +337,54 @@ streams_ended k v h left = record {
 
 -- ---- takes
 
-gives_by : (gone : Bool) (wants : Option Subscription) (items : List Seen) (told : Bool) (o : Option Error)
-    → held_gives (kept_by gone wants items told) o ≡ (if gone then Err errors.UnknownHandle else Ok (take_by items o told))
-gives_by true wants items told o = refl
-gives_by false wants items told o = refl
+gives_by : (b : Bool) (q : Held) (o : Option Error) → held_gives (if b then Some q else None) o ≡ (if b then Ok (take_by q.items o q.told) else Err errors.UnknownHandle)
+gives_by true q o = refl
+gives_by false q o = refl
 
 gives_at : (h : List Event) (o : Option Stream) → held_gives (kept_of h o) (closing h) ≡ take_at h o
-unfolding held_of
 gives_at h None = refl
-gives_at h (Some s) = gives_by s.gone (wanted h s) (held h s) s.told (closing h)
+gives_at h (Some s) = ap (λ q. held_gives q (closing h)) (kept_runs h s) ∙ gives_by (runs h s) (held_by h s) (closing h)
 
 pub taken_gives : (v : List (Option Held)) (h : List Event) (k : ℕ) → LeftStreams v h → held_gives (kept_at v k) (closing h) ≡ take_answer h k
 unfolding take_answer
 taken_gives v h k left = ap (λ q. held_gives q (closing h)) (kept_left v h k left) ∙ gives_at h (slice_get (streams h) k)
 
-next_by : (gone : Bool) (wants : Option Subscription) (items : List Seen) (told : Bool) → next_held (kept_by gone wants items told) ≡ (if gone then None else first_position items)
-next_by true wants items told = refl
-next_by false wants items told = refl
+next_by : (b : Bool) (q : Held) → next_held (if b then Some q else None) ≡ (if b then first_position q.items else None)
+next_by true q = refl
+next_by false q = refl
 
 next_at_held : (h : List Event) (o : Option Stream) → next_held (kept_of h o) ≡ next_at h o
-unfolding held_of
 next_at_held h None = refl
-next_at_held h (Some s) = next_by s.gone (wanted h s) (held h s) s.told
+next_at_held h (Some s) = ap next_held (kept_runs h s) ∙ next_by (runs h s) (held_by h s)
 
 pub held_next : (v : List (Option Held)) (h : List Event) (k : ℕ) → LeftStreams v h → next_held (kept_at v k) ≡ next_position h k
 unfolding next_position
 held_next v h k left = ap next_held (kept_left v h k left) ∙ next_at_held h (slice_get (streams h) k)
 
-ended_items : (wants : Option Subscription) (items : List Seen) (told : Bool) (o : Option Error)
-    → ended_by (Some (record { wants = wants; items = items; told = told })) (is_some o) ≡ nothing_comes (Ok (take_by items o told))
-ended_items wants (m ∷ ms) told None = refl
-ended_items wants (m ∷ ms) true (Some error) = ne_eqb (suc (length ms)) 0 (λ e. omega (arith, e))
-ended_items wants (m ∷ ms) false (Some error) = refl
-ended_items wants [] told None = refl
-ended_items wants [] true (Some error) = refl
-ended_items wants [] false (Some error) = refl
+ended_items : (q : Held) (items : List Seen) (told : Bool) (o : Option Error) → q.items ≡ items → q.told ≡ told → ended_by (Some q) (is_some o) ≡ nothing_comes (Ok (take_by items o told))
+ended_items q items told o e t = ap (λ x. is_some o && x && (length q.items == 0)) t ∙ ap (λ xs. is_some o && told && (length xs == 0)) e ∙ by items told o
+  where
+    by : (xs : List Seen) (b : Bool) (p : Option Error) → (is_some p && b && (length xs == 0)) ≡ nothing_comes (Ok (take_by xs p b))
+    by (m ∷ ms) b None = refl
+    by (m ∷ ms) true (Some error) = ne_eqb (suc (length ms)) 0 (λ w. omega (arith, w))
+    by (m ∷ ms) false (Some error) = refl
+    by [] b None = refl
+    by [] true (Some error) = refl
+    by [] false (Some error) = refl
 
-ended_gone : (gone : Bool) (wants : Option Subscription) (items : List Seen) (told : Bool) (o : Option Error)
-    → ended_by (kept_by gone wants items told) (is_some o) ≡ nothing_comes (if gone then Err errors.UnknownHandle else Ok (take_by items o told))
-ended_gone true wants items told o = refl
-ended_gone false wants items told o = ended_items wants items told o
+ended_use : (b : Bool) (q : Held) (o : Option Error)
+    → ended_by (if b then Some q else None) (is_some o) ≡ nothing_comes (if b then Ok (take_by q.items o q.told) else Err errors.UnknownHandle)
+ended_use true q o = ended_items q q.items q.told o refl refl
+ended_use false q o = refl
 
 ended_at : (h : List Event) (o : Option Stream) → ended_by (kept_of h o) (is_some (closing h)) ≡ nothing_comes (take_at h o)
-unfolding held_of
 ended_at h None = refl
-ended_at h (Some s) = ended_gone s.gone (wanted h s) (held h s) s.told (closing h)
+ended_at h (Some s) = ap (λ q. ended_by q (is_some (closing h))) (kept_runs h s) ∙ ended_use (runs h s) (held_by h s) (closing h)
 
 -- nothing comes exactly where a take says so
 pub ended_left : (v : List (Option Held)) (h : List Event) (k : ℕ) → LeftStreams v h → ended_by (kept_at v k) (is_some (closing h)) ≡ nothing_comes (take_answer h k)
 unfolding take_answer
 ended_left v h k left = ap (λ q. ended_by q (is_some (closing h))) (kept_left v h k left) ∙ ended_at h (slice_get (streams h) k)
-
--- an item
-gave : (h : List Event) (k : ℕ) (v : List (Option Held)) (s : Stream) (m : Seen) (ms : List Seen) (o : Option Error) → slice_get (streams h) k ≡ Some s → s.gone ≡ false → held h s ≡ m ∷ ms
-    → LeftStreams v h → LeftStreams (edit k (option_map (after_take o)) v) (Did k Gave ∷ h)
-unfolding held_of held offered matched
-gave h k v s m ms o at is e left =
-    let next = drop_next (s.skip + s.taken) (matched h s) m ms (sym (held_matched h s) ∙ e) in
-    let before = within_at h (streams h) k s at left.within in
-    let one_more : s.skip + (s.taken + 1) ≡ s.skip + s.taken + 1 = omega arith in
-    let one : held_of h (give s) ≡ option_map (after_take o) (held_of h s) =
-    held_open h (give s) is
-    ∙ ap (λ items. Some (record { wants = wanted h s; items = items; told = s.told })) (held_matched h (give s) ∙ ap (λ n. drop n (matched h s)) one_more ∙ next.0)
-    ∙ ap (λ items. Some (after_by (wanted h s) items o s.told)) (sym e)
-    ∙ ap (option_map (after_take o)) (sym (held_open h s is)) in
-    let within : IsWithin h (give s) = record { start = before.start; passed = rw one_more next.1 } in
-    record {
-      queues = ap (edit k (option_map (after_take o))) left.queues ∙ sym (map_edit (held_of h) give (option_map (after_take o)) (streams h) k s at one);
-      within = all_within_same (Did k Gave ∷ h) h (edit k give (streams h)) refl (within_edit h give (streams h) k s at within left.within);
-    }
-
--- the closing error
-told_error : (h : List Event) (k : ℕ) (v : List (Option Held)) (s : Stream) (error : Error) → slice_get (streams h) k ≡ Some s → s.gone ≡ false → held h s ≡ []
-    → LeftStreams v h → LeftStreams (edit k (option_map (after_take (Some error))) v) (Did k Told ∷ h)
-unfolding held_of held offered matched
-told_error h k v s error at is e left =
-    let before = within_at h (streams h) k s at left.within in
-    let one : held_of h (tell s) ≡ option_map (after_take (Some error)) (held_of h s) =
-    held_open h (tell s) is
-    ∙ ap (λ items. Some (record { wants = wanted h s; items = items; told = true })) e ∙ ap (λ items. Some (after_by (wanted h s) items (Some error) s.told)) (sym e)
-    ∙ ap (option_map (after_take (Some error))) (sym (held_open h s is)) in
-    let within : IsWithin h (tell s) = record { start = before.start; passed = before.passed } in
-    record {
-      queues = ap (edit k (option_map (after_take (Some error)))) left.queues ∙ sym (map_edit (held_of h) tell (option_map (after_take (Some error))) (streams h) k s at one);
-      within = all_within_same (Did k Told ∷ h) h (edit k tell (streams h)) refl (within_edit h tell (streams h) k s at within left.within);
-    }
-
--- nothing
-gave_nothing : (h : List Event) (k : ℕ) (v : List (Option Held)) (s : Stream) (o : Option Error) → slice_get (streams h) k ≡ Some s → option_map (after_take o) (held_of h s) ≡ held_of h s
-    → LeftStreams v h → LeftStreams (edit k (option_map (after_take o)) v) h
-gave_nothing h k v s o at e left = record {
-  queues = edit-same (option_map (after_take o)) v k (held_of h s) (ap (λ qs. slice_get qs k) left.queues ∙ slice_get-map (held_of h) (streams h) k ∙ ap (option_map (held_of h)) at) e ∙ left.queues;
-  within = left.within;
-}
-
-quiet_gone : (h : List Event) (s : Stream) (o : Option Error) → s.gone ≡ true → option_map (after_take o) (held_of h s) ≡ held_of h s
-quiet_gone h s o is = ap (option_map (after_take o)) (held_gone h s is) ∙ sym (held_gone h s is)
-
--- an open stream that holds nothing
-held_empty : (h : List Event) (s : Stream) → s.gone ≡ false → held h s ≡ [] → held_of h s ≡ Some (record { wants = wanted h s; items = []; told = s.told })
-held_empty h s is e = held_open h s is ∙ ap (λ items. Some (record { wants = wanted h s; items = items; told = s.told })) e
-
-quiet_open : (h : List Event) (s : Stream) → s.gone ≡ false → held h s ≡ [] → option_map (after_take None) (held_of h s) ≡ held_of h s
-quiet_open h s is e = ap (option_map (after_take None)) (held_empty h s is e) ∙ sym (held_empty h s is e)
-
-quiet_ended : (h : List Event) (s : Stream) (error : Error) → s.gone ≡ false → held h s ≡ [] → s.told ≡ true → option_map (after_take (Some error)) (held_of h s) ≡ held_of h s
-quiet_ended h s error is e told =
-    ap (option_map (after_take (Some error))) (held_empty h s is e) ∙ ap (λ b. Some (record { wants = wanted h s; items = []; told = b })) (sym told) ∙ sym (held_empty h s is e)
-
-taken_by : (h : List Event) (k : ℕ) (v : List (Option Held)) (s : Stream) (gone : Bool) (items : List Seen) (o : Option Error) (told : Bool) → slice_get (streams h) k ≡ Some s
-    → s.gone ≡ gone → held h s ≡ items → s.told ≡ told → LeftStreams v h
-    → LeftStreams (edit k (option_map (after_take o)) v) (take_events k (if gone then Err errors.UnknownHandle else Ok (take_by items o told)) ++ h)
-taken_by h k v s true items o told at is e t left = gave_nothing h k v s o at (quiet_gone h s o is) left
-taken_by h k v s false (m ∷ ms) o told at is e t left = gave h k v s m ms o at is e left
-taken_by h k v s false [] None told at is e t left = gave_nothing h k v s None at (quiet_open h s is e) left
-taken_by h k v s false [] (Some error) false at is e t left = told_error h k v s error at is e left
-taken_by h k v s false [] (Some error) true at is e t left = gave_nothing h k v s (Some error) at (quiet_ended h s error is e t) left
-
-taken_at : (h : List Event) (k : ℕ) (v : List (Option Held)) (o : Option Stream) → slice_get (streams h) k ≡ o → LeftStreams v h
-    → LeftStreams (edit k (option_map (after_take (closing h))) v) (take_events k (take_at h o) ++ h)
-taken_at h k v None at left = record {
-  queues = edit-past (option_map (after_take (closing h))) v k (ap (λ qs. slice_get qs k) left.queues ∙ slice_get-map (held_of h) (streams h) k ∙ ap (option_map (held_of h)) at) ∙ left.queues;
-  within = left.within;
-}
-taken_at h k v (Some s) at left = taken_by h k v s s.gone (held h s) (closing h) s.told at refl refl refl left
-
-pub streams_taken : (k : ℕ) (v : List (Option Held)) (h : List Event) → LeftStreams v h → LeftStreams (edit k (option_map (after_take (closing h))) v) (take_events k (take_answer h k) ++ h)
-unfolding take_answer
-streams_taken k v h left = taken_at h k v (slice_get (streams h) k) refl left
 
 -- ---- full streams
 
@@ -354,14 +392,34 @@ pub limit_by : (h : List Event) (rule : Option Rule) → limit_or (main h) (opti
 limit_by h None = refl
 limit_by h (Some rule) = refl
 
-over_by : (gone : Bool) (capacity limit : ℕ) (wants : Option Subscription) (items : List Seen) (told : Bool) → limit_or capacity wants ≡ limit
-    → is_over capacity (kept_by gone wants items told) ≡ (not gone && nat_lt limit (length items))
-over_by true capacity limit wants items told e = refl
-over_by false capacity limit wants items told e = ap (λ n. nat_lt n (length items)) e
+-- what holds nothing isn't over
+none_over : (n : ℕ) → nat_lt n 0 ≡ false
+none_over n = grind (arith, nat_tests)
+
+over_phase : (h : List Event) (s : Stream) (p : Phase) (items : List Seen) → (is_since p ≡ false → items ≡ [])
+    → nat_lt (limit_or (main h) (by_phase h s p items).wants) (length items) ≡ nat_lt (limit_of h s.rule) (length items)
+over_phase h s (Since ms) items e = ap (λ n. nat_lt n (length items)) (limit_by h s.rule)
+over_phase h s (Asking add) items e = ap (λ n. nat_lt n (length items)) (limit_by h s.rule)
+over_phase h s (Denied m) items e = rw (e refl) (none_over (main h) ∙ sym (none_over (limit_of h s.rule)))
+
+-- a stream that doesn't run holds nothing
+nothing_by : (s : Stream) (p : Phase) → is_since p ≡ false → drop s.taken (drop s.skip (accepted s.rule (since_in p))) ≡ []
+nothing_by s (Since ms) e = cc
+nothing_by s (Asking add) e = ap (λ ms. drop s.taken (drop s.skip ms)) (accepted_none s.rule) ∙ ap (drop s.taken) (drop_nothing s.skip) ∙ drop_nothing s.taken
+nothing_by s (Denied m) e = ap (λ ms. drop s.taken (drop s.skip ms)) (accepted_none s.rule) ∙ ap (drop s.taken) (drop_nothing s.skip) ∙ drop_nothing s.taken
+
+pub held_nothing : (h : List Event) (s : Stream) → is_since (phase h s) ≡ false → held h s ≡ []
+unfolding held offered matched
+held_nothing h s e = nothing_by s (phase h s) e
+
+over_by : (gone : Bool) (capacity limit : ℕ) (q : Held) → nat_lt (limit_or capacity q.wants) (length q.items) ≡ nat_lt limit (length q.items)
+    → is_over capacity (kept_by gone q) ≡ (not gone && nat_lt limit (length q.items))
+over_by true capacity limit q e = refl
+over_by false capacity limit q e = e
 
 over_full : (h : List Event) (s : Stream) → is_over (main h) (held_of h s) ≡ is_full h s
 unfolding held_of is_full
-over_full h s = over_by s.gone (main h) (limit_of h s.rule) (wanted h s) (held h s) s.told (limit_by h s.rule)
+over_full h s = over_by s.gone (main h) (limit_of h s.rule) (held_by h s) (over_phase h s (phase h s) (held h s) (held_nothing h s))
 
 pub over_any : (v : List (Option Held)) (h : List Event) → LeftStreams v h → list_any (is_over (main h)) v ≡ list_any (is_full h) (streams h)
 over_any v h left =

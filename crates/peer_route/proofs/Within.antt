@@ -1,5 +1,5 @@
 -- No stream starts above what was read, or passed more than was its own.
-use Rattle.std.proofs.Common.{◌≡◌, ℕ, ◌+◌, ◌≤◌, zero, suc, refl, sym, ◌∙◌, subst, arith, false, is_some, List, [], ◌∷◌, ◌++◌, length, Option, Some, None}
+use Rattle.std.proofs.Common.{◌≡◌, ℕ, ◌+◌, ◌≤◌, zero, suc, refl, sym, ◌∙◌, subst, arith, false, is_some, List, [], ◌∷◌, ◌++◌, length, map, Option, Some, None}
 use Rattle.std.specs.List.{slice_get, AllByRecursion}
 use Rattle.std.proofs.lemmas.Bool.{eq-eqb}
 use Rattle.wire_message.specs.Front.{Seen}
@@ -7,14 +7,14 @@ use Rattle.peer_route.specs.declared.words.Words.{Words}
 use Rattle.peer_route.specs.declared.words.Words.TheVariants as words
 use Rattle.peer_route.specs.declared.answer.Answer.{Answer}
 use Rattle.peer_route.specs.declared.answer.Entry.{Entry}
-use Rattle.peer_route.specs.History.{Event, Took, Shut, Put, Wrote, Fault, Spent, Made, Did, Main, Named, Making, Plain, Ruled, Cloned, Deed, Gave, Told, Gone, Asked, edit, closing}
-use Rattle.peer_route.specs.Streams.{Stream, streams, clone_of, new_stream, give, done_by, matched, held}
+use Rattle.peer_route.specs.History.{Event, Took, Shut, Put, Wrote, Fault, Spent, Made, Did, Main, OnBus, Added, Removed, Named, Making, Plain, Ruled, Cloned, Deed, Gave, Told, Gone, Asked, Opened, done, edit, closing}
+use Rattle.peer_route.specs.Streams.{Stream, streams, phase, clone_of, new_stream, asking_stream, fail_stream, give, done_by, matched, held}
 use Rattle.peer_route.specs.Left.{IsWithin}
 use Rattle.peer_route.specs.Parcel.{Setting}
 use Rattle.peer_route.specs.Trail.{Trail, place, trail, take_does, events_of, first_events}
 use Rattle.peer_route.specs.Answers.{IsAnswer, Legal}
 use Rattle.peer_route.proofs.Edits.{drop_next}
-use Rattle.peer_route.proofs.Matched.{held_matched, all_within_same, all_within_took, within_at, within_fresh, within_push}
+use Rattle.peer_route.proofs.Matched.{held_matched, all_within_same, all_within_took, within_at, within_fresh, within_asking, within_push}
 use Rattle.peer_route.proofs.Deeds.{Only, only_entry}
 use Rattle.peer_route.proofs.Takes.{TakeOf, Quiet, Item, Tells, Ends, take_entry, item_does, told_does, ended_does}
 
@@ -24,7 +24,7 @@ AllWithin h = AllByRecursion (IsWithin h) (streams h)
 -- ---- events
 
 within_clone : (h : List Event) (k : ℕ) (o : Option Stream) → slice_get (streams h) k ≡ o → AllWithin h → IsWithin h (clone_of h o)
-unfolding matched
+unfolding matched phase
 within_clone h k None at w = within_fresh h None (is_some (closing h))
 within_clone h k (Some s) at w = let one = within_at h (streams h) k s at w in let passed = one.passed in record { start = one.start; passed = omega arith }
 
@@ -39,19 +39,30 @@ GivesNone j Gave = ⊥
 GivesNone j Told = Unit {0}
 GivesNone j Gone = Unit {0}
 GivesNone j (Asked limit) = Unit {0}
+GivesNone j Opened = Unit {0}
 
 within_deed : (h : List Event) (j : ℕ) (deed : Deed) (s : Stream) → GivesNone j deed → IsWithin h s → IsWithin h (done_by deed s)
-unfolding matched
+unfolding matched phase
 within_deed h j Gave s n w = absurd n
 within_deed h j Told s n w = record { start = w.start; passed = w.passed }
 within_deed h j Gone s n w = record { start = w.start; passed = w.passed }
 within_deed h j (Asked limit) s n w = w
+within_deed h j Opened s n w = record { start = w.start; passed = w.passed }
 
 within_edit : (h : List Event) (j i : ℕ) (deed : Deed) (ss : List Stream) → GivesNone i deed → AllByRecursion (IsWithin h) ss
     → AllByRecursion (IsWithin h) (edit j (done_by deed) ss)
 within_edit h j i deed [] n w = w
 within_edit h zero i deed (s ∷ ss) n w = (within_deed h i deed s n w.0, w.1)
 within_edit h (suc j) i deed (s ∷ ss) n w = (w.0, within_edit h j i deed ss n w.1)
+
+-- a failed write ends streams that wait, and moves none
+fail_within : (h : List Event) (n : ℕ) (s : Stream) → IsWithin h s → IsWithin (Fault ∷ h) (fail_stream h n s)
+unfolding matched phase
+fail_within h n s w = record { start = w.start; passed = w.passed }
+
+within_failed : (h : List Event) (n : ℕ) (ss : List Stream) → AllByRecursion (IsWithin h) ss → AllByRecursion (IsWithin (Fault ∷ h)) (map (fail_stream h n) ss)
+within_failed h n [] w = tt
+within_failed h n (s ∷ ss) w = (fail_within h n s w.0, within_failed h n ss w.1)
 
 within_events : (xs h : List Event) → Only GivesNone xs → AllWithin h → AllWithin (xs ++ h)
 within_events [] h only w = w
@@ -67,10 +78,16 @@ within_events (Did j deed ∷ xs) h only w =
 within_events (Shut error ∷ xs) h only w = all_within_same (Shut error ∷ xs ++ h) (xs ++ h) (streams (xs ++ h)) refl (within_events xs h only w)
 within_events (Put m expects ∷ xs) h only w = all_within_same (Put m expects ∷ xs ++ h) (xs ++ h) (streams (xs ++ h)) refl (within_events xs h only w)
 within_events (Wrote ∷ xs) h only w = all_within_same (Wrote ∷ xs ++ h) (xs ++ h) (streams (xs ++ h)) refl (within_events xs h only w)
-within_events (Fault ∷ xs) h only w = all_within_same (Fault ∷ xs ++ h) (xs ++ h) (streams (xs ++ h)) refl (within_events xs h only w)
+within_events (Fault ∷ xs) h only w = within_failed (xs ++ h) (done (xs ++ h)) (streams (xs ++ h)) (within_events xs h only w)
 within_events (Spent call ∷ xs) h only w = all_within_same (Spent call ∷ xs ++ h) (xs ++ h) (streams (xs ++ h)) refl (within_events xs h only w)
 within_events (Main limit ∷ xs) h only w = all_within_same (Main limit ∷ xs ++ h) (xs ++ h) (streams (xs ++ h)) refl (within_events xs h only w)
+within_events (OnBus ∷ xs) h only w = all_within_same (OnBus ∷ xs ++ h) (xs ++ h) (streams (xs ++ h)) refl (within_events xs h only w)
+within_events (Removed m ∷ xs) h only w = all_within_same (Removed m ∷ xs ++ h) (xs ++ h) (streams (xs ++ h)) refl (within_events xs h only w)
 within_events (Named name ∷ xs) h only w = all_within_same (Named name ∷ xs ++ h) (xs ++ h) (streams (xs ++ h)) refl (within_events xs h only w)
+within_events (Added m rule asked ∷ xs) h only w =
+    let g = xs ++ h in
+    let rest = within_events xs h only w in
+    all_within_same (Added m rule asked ∷ g) g (streams g ++ asking_stream g m rule ∷ []) refl (within_push g (streams g) (asking_stream g m rule) rest (within_asking g m rule))
 
 -- ---- an item
 
@@ -82,7 +99,7 @@ within_gave h (suc k) (x ∷ ss) s at one w = (w.0, within_gave h k ss s at one 
 
 within_item : (h : List Event) (k : ℕ) (s : Stream) (m : Seen) (ms : List Seen) → slice_get (streams h) k ≡ Some s → held h s ≡ m ∷ ms → AllWithin h
     → AllWithin (Did k Gave ∷ h)
-unfolding matched
+unfolding matched phase
 within_item h k s m ms at e w =
     let one = within_at h (streams h) k s at w in
     let le : s.skip + s.taken + 1 ≤ length (matched h s) = (drop_next (s.skip + s.taken) (matched h s) m ms (sym (held_matched h s) ∙ e)).1 in

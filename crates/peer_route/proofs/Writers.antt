@@ -1,12 +1,12 @@
 -- What became of a peer's writer stays, and where nothing did, no write failed.
-use Rattle.std.proofs.Common.{◌≡◌, ◌≢◌, refl, sym, ◌∙◌, ap, true, false, List, [], ◌∷◌, ◌++◌}
+use Rattle.std.proofs.Common.{◌≡◌, ◌≢◌, refl, sym, ◌∙◌, ap, true, false, is_some, Option, Some, None, List, [], ◌∷◌, ◌++◌}
 use Rattle.wire_message.specs.declared.error.Error.{Error}
 use Rattle.wire_message.specs.declared.error.Error.TheVariants as errors
 use Rattle.wire_message.specs.declared.error.IoKind.{IoKind}
 use Rattle.wire_message.specs.declared.error.IoKind.TheVariants as kinds
 use Rattle.peer_route.specs.declared.writer.Writer.{Writer}
 use Rattle.peer_route.specs.declared.writer.Writer.TheVariants as writers
-use Rattle.peer_route.specs.History.{Event, Took, Shut, Put, Wrote, Fault, Spent, Made, Did, Main, Named, is_failed, worse, shuts_by, shuts, writer}
+use Rattle.peer_route.specs.History.{Event, Took, Shut, Put, Wrote, Fault, Spent, Made, Did, Main, OnBus, Added, Removed, Named, is_failed, first_of, closing, worse, shuts_by, shuts, writer}
 
 worse_fine : (w cause : Writer) → worse w cause ≡ writers.Fine → (w ≡ writers.Fine) × (cause ≡ writers.Fine)
 worse_fine writers.Fine cause e = (refl, e)
@@ -25,6 +25,9 @@ fine_unfailed (Spent call ∷ h) e = fine_unfailed h e
 fine_unfailed (Made making ∷ h) e = fine_unfailed h e
 fine_unfailed (Did j deed ∷ h) e = fine_unfailed h e
 fine_unfailed (Main limit ∷ h) e = fine_unfailed h e
+fine_unfailed (OnBus ∷ h) e = fine_unfailed h e
+fine_unfailed (Added m rule asked ∷ h) e = fine_unfailed h e
+fine_unfailed (Removed m ∷ h) e = fine_unfailed h e
 fine_unfailed (Named name ∷ h) e = fine_unfailed h e
 
 pub worse_stays : (w cause : Writer) → w ≢ writers.Fine → worse w cause ≡ w
@@ -44,6 +47,9 @@ writer_stays (Spent call ∷ xs) h ne = writer_stays xs h ne
 writer_stays (Made making ∷ xs) h ne = writer_stays xs h ne
 writer_stays (Did j deed ∷ xs) h ne = writer_stays xs h ne
 writer_stays (Main limit ∷ xs) h ne = writer_stays xs h ne
+writer_stays (OnBus ∷ xs) h ne = writer_stays xs h ne
+writer_stays (Added m rule asked ∷ xs) h ne = writer_stays xs h ne
+writer_stays (Removed m ∷ xs) h ne = writer_stays xs h ne
 writer_stays (Named name ∷ xs) h ne = writer_stays xs h ne
 
 -- closing a peer closes its writer, or finds it over before
@@ -94,4 +100,33 @@ failed_so (Spent call ∷ h) e = failed_so h e
 failed_so (Made making ∷ h) e = failed_so h e
 failed_so (Did j deed ∷ h) e = failed_so h e
 failed_so (Main limit ∷ h) e = failed_so h e
+failed_so (OnBus ∷ h) e = failed_so h e
+failed_so (Added m rule asked ∷ h) e = failed_so h e
+failed_so (Removed m ∷ h) e = failed_so h e
 failed_so (Named name ∷ h) e = failed_so h e
+
+-- a writer that was closed is a closed peer's
+first_there : (o : Option Error) (error : Error) → is_some (first_of o error) ≡ true
+first_there None error = refl
+first_there (Some earlier) error = refl
+
+worse_closed : (w : Writer) → worse w writers.Failed ≡ writers.Closed → w ≡ writers.Closed
+worse_closed writers.Fine e = absurd (cc)
+worse_closed writers.Failed e = absurd (cc)
+worse_closed writers.Closed e = refl
+
+pub closed_shut : (h : List Event) → writer h ≡ writers.Closed → is_some (closing h) ≡ true
+closed_shut [] e = absurd (cc)
+closed_shut (Shut error ∷ h) e = first_there (closing h) error
+closed_shut (Fault ∷ h) e = closed_shut h (worse_closed (writer h) e)
+closed_shut (Wrote ∷ h) e = closed_shut h e
+closed_shut (Took m ∷ h) e = closed_shut h e
+closed_shut (Put m expects ∷ h) e = closed_shut h e
+closed_shut (Spent call ∷ h) e = closed_shut h e
+closed_shut (Made making ∷ h) e = closed_shut h e
+closed_shut (Did j deed ∷ h) e = closed_shut h e
+closed_shut (Main limit ∷ h) e = closed_shut h e
+closed_shut (OnBus ∷ h) e = closed_shut h e
+closed_shut (Added m rule asked ∷ h) e = closed_shut h e
+closed_shut (Removed m ∷ h) e = closed_shut h e
+closed_shut (Named name ∷ h) e = closed_shut h e

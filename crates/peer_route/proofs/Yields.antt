@@ -15,9 +15,9 @@ use Rattle.peer_route.specs.declared.words.Words.TheVariants as words
 use Rattle.peer_route.specs.declared.answer.Answer.{Answer}
 use Rattle.peer_route.specs.declared.answer.Answer.TheVariants as answers
 use Rattle.peer_route.specs.declared.answer.Entry.{Entry}
-use Rattle.peer_route.specs.History.{Event, Took, Shut, Put, Wrote, Fault, Spent, Made, Did, Main, Named, Making, Plain, Ruled, Cloned, Gave, read, closing}
-use Rattle.peer_route.specs.Streams.{Stream, streams, fresh, plain_stream, rule_stream, clone_of, new_stream, give, is_there, is_open, accepted, matched, offered, held, rule_of}
-use Rattle.peer_route.specs.Left.{IsWithin}
+use Rattle.peer_route.specs.History.{Event, Took, Shut, Put, Wrote, Fault, Spent, Made, Did, Main, OnBus, Added, Removed, Named, Making, Plain, Ruled, Cloned, Gave, read, closing}
+use Rattle.peer_route.specs.Streams.{Stream, Phase, Asking, Denied, Since, is_since, phase, streams, fresh, plain_stream, rule_stream, clone_of, new_stream, give, runs_at, is_open, accepted, matched, offered, held, rule_of}
+use Rattle.peer_route.specs.Left.{start_count, IsWithin}
 use Rattle.peer_route.specs.Parcel.{Setting}
 use Rattle.peer_route.specs.Trail.{Trail, Names, place, count, trail, more, take_does, open_makes, clone_makes, events_of, new_streams}
 use Rattle.peer_route.specs.Answers.{IsAnswer, Legal, where_open, is_open_at, open_of}
@@ -25,7 +25,9 @@ use Rattle.peer_route.specs.StreamLaws.{positions, is_take, item_by, items_given
 use Rattle.peer_route.proofs.Once.{place_append, legal_from}
 use Rattle.peer_route.proofs.Lanes.{apart}
 use Rattle.peer_route.proofs.Edits.{edit_here, get_new, take_one, drop_next}
-use Rattle.peer_route.proofs.Matched.{held_matched, accepted-append, matched_took, within_at}
+use Rattle.peer_route.proofs.Phases.{stepped, phase_took}
+use Rattle.peer_route.proofs.Matched.{held_matched, accepted-append, arriving, matched_took, within_at}
+use Rattle.peer_route.proofs.StreamsMade.{runs_so}
 use Rattle.peer_route.proofs.Deeds.{Only, Spares, only_entry, stays}
 use Rattle.peer_route.proofs.Takes.{TakeOf, Quiet, Item, Tells, Ends, take_entry, item_does, told_does, ended_does, take_spares}
 use Rattle.peer_route.proofs.Within.{AllWithin, all_within}
@@ -60,23 +62,47 @@ flows_took all own from skip taken n rule begun given m f =
       given_is = f.given_is ∙ ap positions (sym (ap (take taken) grown ∙ take-append-le taken (drop skip own) some (omega (arith, length-drop skip own))));
     }
 
-flows_events : (xs h : List Event) (s : Stream) (n : ℕ) (begun : List Seen) (given : List ℕ)
-    → Flows (read h) (matched h s) s.from s.skip s.taken n s.rule begun given → Flows (read (xs ++ h)) (matched (xs ++ h) s) s.from s.skip s.taken n s.rule begun given
-unfolding matched
-flows_events [] h s n begun given f = f
-flows_events (Took m ∷ xs) h s n begun given f =
-    let r = flows_events xs h s n begun given f in
-    subst (λ ms. Flows (read (xs ++ h) ++ m ∷ []) ms s.from s.skip s.taken n s.rule begun given) (sym (matched_took m (xs ++ h) s r.start))
-    (flows_took (read (xs ++ h)) (matched (xs ++ h) s) s.from s.skip s.taken n s.rule begun given m r)
-flows_events (Shut error ∷ xs) h s n begun given f = flows_events xs h s n begun given f
-flows_events (Put m expects ∷ xs) h s n begun given f = flows_events xs h s n begun given f
-flows_events (Wrote ∷ xs) h s n begun given f = flows_events xs h s n begun given f
-flows_events (Fault ∷ xs) h s n begun given f = flows_events xs h s n begun given f
-flows_events (Spent call ∷ xs) h s n begun given f = flows_events xs h s n begun given f
-flows_events (Made making ∷ xs) h s n begun given f = flows_events xs h s n begun given f
-flows_events (Did j deed ∷ xs) h s n begun given f = flows_events xs h s n begun given f
-flows_events (Main limit ∷ xs) h s n begun given f = flows_events xs h s n begun given f
-flows_events (Named name ∷ xs) h s n begun given f = flows_events xs h s n begun given f
+-- The stream runs, and what was read flows to it.
+abbrev Goes : List Event → Stream → ℕ → List Seen → List ℕ → Type 0
+Goes h s n begun given = (is_since (phase h s) ≡ true) × Flows (read h) (matched h s) (start_count s.start) s.skip s.taken n s.rule begun given
+
+since_stepped : (m : Seen) (p : Phase) → is_since p ≡ true → is_since (stepped m p) ≡ true
+since_stepped m (Since ms) e = refl
+since_stepped m (Asking add) e = cc
+since_stepped m (Denied r) e = cc
+
+-- one that runs takes the message, if its rule accepts it
+arriving_since : (p : Phase) (rule : Option Rule) (m : Seen) → is_since p ≡ true → arriving p rule m ≡ accepted rule (m ∷ [])
+arriving_since (Since ms) rule m e = refl
+arriving_since (Asking add) rule m e = cc
+arriving_since (Denied r) rule m e = cc
+
+goes_took : (m : Seen) (h : List Event) (s : Stream) (n : ℕ) (begun : List Seen) (given : List ℕ) → Goes h s n begun given → Goes (Took m ∷ h) s n begun given
+goes_took m h s n begun given r =
+    let flows = r.1 in
+    let start = flows.start in (
+      ap is_since (phase_took m h s start) ∙ since_stepped m (phase h s) r.0,
+      subst (λ ms. Flows (read h ++ m ∷ []) ms (start_count s.start) s.skip s.taken n s.rule begun given)
+          (sym (matched_took m h s start ∙ ap (λ ms. matched h s ++ ms) (arriving_since (phase h s) s.rule m r.0)))
+          (flows_took (read h) (matched h s) (start_count s.start) s.skip s.taken n s.rule begun given m flows),
+    )
+
+goes_events : (xs h : List Event) (s : Stream) (n : ℕ) (begun : List Seen) (given : List ℕ) → Goes h s n begun given → Goes (xs ++ h) s n begun given
+unfolding matched phase
+goes_events [] h s n begun given f = f
+goes_events (Took m ∷ xs) h s n begun given f = goes_took m (xs ++ h) s n begun given (goes_events xs h s n begun given f)
+goes_events (Shut error ∷ xs) h s n begun given f = goes_events xs h s n begun given f
+goes_events (Put m expects ∷ xs) h s n begun given f = goes_events xs h s n begun given f
+goes_events (Wrote ∷ xs) h s n begun given f = goes_events xs h s n begun given f
+goes_events (Fault ∷ xs) h s n begun given f = goes_events xs h s n begun given f
+goes_events (Spent call ∷ xs) h s n begun given f = goes_events xs h s n begun given f
+goes_events (Made making ∷ xs) h s n begun given f = goes_events xs h s n begun given f
+goes_events (Did j deed ∷ xs) h s n begun given f = goes_events xs h s n begun given f
+goes_events (Main limit ∷ xs) h s n begun given f = goes_events xs h s n begun given f
+goes_events (OnBus ∷ xs) h s n begun given f = goes_events xs h s n begun given f
+goes_events (Added m rule asked ∷ xs) h s n begun given f = goes_events xs h s n begun given f
+goes_events (Removed m ∷ xs) h s n begun given f = goes_events xs h s n begun given f
+goes_events (Named name ∷ xs) h s n begun given f = goes_events xs h s n begun given f
 
 -- an item
 flows_item : (all own : List Seen) (from skip taken n : ℕ) (rule : Option Rule) (begun : List Seen) (given : List ℕ) (m : Seen) (ms : List Seen) → drop taken (drop skip own) ≡ m ∷ ms
@@ -101,33 +127,33 @@ pub record Flow (names : Names) (h : List Event) (lane number n : ℕ) (rule : O
   named : place 0 lane number names ≡ Some k
   made : slice_get (streams h) k ≡ Some stream
   of_rule : stream.rule ≡ rule
-  flows : Flows (read h) (matched h stream) stream.from stream.skip stream.taken n stream.rule begun given
+  goes : Goes h stream n begun given
 
 -- events that are no item of the stream
 kept : (names later : Names) (xs h : List Event) (lane number n : ℕ) (rule : Option Rule) (begun : List Seen) (given : List ℕ) (f : Flow names h lane number n rule begun given)
     → Only (Spares f.k) xs → Flow (names ++ later) (xs ++ h) lane number n rule begun given
-unfolding matched
+unfolding matched phase
 kept names later xs h lane number n rule begun given f only =
     let r = stays xs h f.k f.stream only f.made in
     record {
       k = f.k;
-      stream = record f.stream { told = r.now_told; gone = r.now_gone };
+      stream = record f.stream { told = r.now_told; gone = r.now_gone; opened = r.now_opened };
       named = place_append 0 lane number names later f.k f.named;
       made = r.made;
       of_rule = f.of_rule;
-      flows = flows_events xs h f.stream n begun given f.flows;
+      goes = goes_events xs h f.stream n begun given f.goes;
     }
 
 gave : (names later : Names) (h : List Event) (lane number n : ℕ) (rule : Option Rule) (begun : List Seen) (given : List ℕ) (f : Flow names h lane number n rule begun given)
     (m : Seen) (ms : List Seen) → held h f.stream ≡ m ∷ ms → Flow (names ++ later) (Did f.k Gave ∷ h) lane number n rule begun (given ++ m.position ∷ [])
-unfolding matched held offered
+unfolding matched held offered phase
 gave names later h lane number n rule begun given f m ms e = record {
   k = f.k;
   stream = give f.stream;
   named = place_append 0 lane number names later f.k f.named;
   made = edit_here give f.k (streams h) f.stream f.made;
   of_rule = f.of_rule;
-  flows = flows_item (read h) (matched h f.stream) f.stream.from f.stream.skip f.stream.taken n f.stream.rule begun given m ms e f.flows;
+  goes = (f.goes.0, flows_item (read h) (matched h f.stream) (start_count f.stream.start) f.stream.skip f.stream.taken n f.stream.rule begun given m ms e f.goes.1);
 }
 
 flow_along : (names : Names) (h : List Event) (lane number n : ℕ) (rule : Option Rule) (begun : List Seen) (given more_given : List ℕ) → given ≡ more_given
@@ -233,14 +259,15 @@ yields_from setting newer e older number rule begun legal start =
     let n = length (read (trail setting older).events) in
     let f = flow_all setting newer e older number n rule begun legal start in
     let s = f.stream in
+    let flows = f.goes.1 in
     record {
       k = f.k;
       stream = s;
       named = f.named;
       made = f.made;
-      items = ap (λ ps. ps ++ positions (held h s)) f.flows.given_is
+      items = ap (λ ps. ps ++ positions (held h s)) flows.given_is
           ∙ sym (map-append (λ (m : Seen). m.position) (take s.taken (drop s.skip (matched h s))) (held h s))
-          ∙ ap positions (take-append-drop s.taken (drop s.skip (matched h s)) ∙ f.flows.offers ∙ ap (λ r. begun ++ accepted r (drop n (read h))) f.of_rule);
+          ∙ ap positions (take-append-drop s.taken (drop s.skip (matched h s)) ∙ flows.offers ∙ ap (λ r. begun ++ accepted r (drop n (read h))) f.of_rule);
     }
 
 -- ---- a stream that was made
@@ -269,21 +296,21 @@ pub stream_is : (t : Trail) (e : Entry) → IsAnswer t e.lane e.words e.answer �
 stream_is t e a w = subst (λ x. IsAnswer t e.lane x e.answer) w a
 
 flow_new : (names : Names) (h : List Event) (lane n : ℕ) (begun : List Seen) (making : Making) → length names ≡ length (streams h)
-    → (s : Stream) → new_stream h (streams h) making ≡ s → Flows (read h) (matched h s) s.from s.skip s.taken n s.rule begun []
+    → (s : Stream) → new_stream h (streams h) making ≡ s → Goes h s n begun []
     → Flow (names ++ Some lane ∷ []) (Made making ∷ h) lane (count lane names) n s.rule begun []
-unfolding matched
-flow_new names h lane n begun making e s is flows = record {
+unfolding matched phase
+flow_new names h lane n begun making e s is goes = record {
   k = length names;
   stream = s;
   named = place_new 0 lane names ∙ ap Some (omega arith);
   made = ap (λ x. slice_get (streams h ++ x ∷ []) (length names)) is ∙ ap (slice_get (streams h ++ s ∷ [])) e ∙ get_new (streams h) s;
   of_rule = refl;
-  flows = flows;
+  goes = goes;
 }
 
-flows_fresh : (h : List Event) (rule : Option Rule) (told : Bool) → Flows (read h) (matched h (fresh h rule told)) (length (read h)) 0 0 (length (read h)) rule [] []
-unfolding matched
-flows_fresh h rule told = record { start = omega arith; passed = omega arith; early = omega arith; offers = refl; given_is = refl }
+goes_fresh : (h : List Event) (rule : Option Rule) (told : Bool) → Goes h (fresh h rule told) (length (read h)) [] []
+unfolding matched phase
+goes_fresh h rule told = (refl, record { start = omega arith; passed = omega arith; early = omega arith; offers = refl; given_is = refl })
 
 -- an entry that made a stream by this command
 entry_is : (e : Entry) (w : Words) (a : Answer) → e.words ≡ w → e.answer ≡ a → entry e.lane w a ≡ e
@@ -300,7 +327,7 @@ flow_start setting e older number legal w a =
     let is = stream_is t e legal.0 w in
     subst (λ k. FlowOf (trail setting (e ∷ older)) e.lane k n None [] []) (number_is e.answer (count e.lane t.streams) number is a)
     (subst (λ y. FlowOf (more t y) e.lane (count e.lane t.streams) n None [] []) (entry_is e words.Stream (answers.Streaming (count e.lane t.streams)) w is)
-    (flow_new t.streams t.events e.lane n [] Plain (lanes setting older legal.1) (plain_stream t.events) refl (flows_fresh t.events None (is_some (closing t.events)))))
+    (flow_new t.streams t.events e.lane n [] Plain (lanes setting older legal.1) (plain_stream t.events) refl (goes_fresh t.events None (is_some (closing t.events)))))
 
 -- what a stream gave, and what it holds
 pub yields : (setting : Setting) (newer : List Entry) (e : Entry) (older : List Entry) (number : ℕ) → Legal setting (newer ++ e ∷ older) → e.words ≡ words.Stream → e.answer ≡ answers.Streaming number
@@ -331,7 +358,7 @@ flow_opened setting e older number asked text rule legal w r a =
     subst (λ k. FlowOf (trail setting (e ∷ older)) e.lane k n (Some rule) [] []) (number_is e.answer (count e.lane t.streams) number is a)
     (subst (λ y. FlowOf (more t y) e.lane (count e.lane t.streams) n (Some rule) [] []) (entry_is e (words.Open asked text) new w is)
     (subst (λ xs. Flow (t.streams ++ Some e.lane ∷ []) (xs ++ t.events) e.lane (count e.lane t.streams) n (Some rule) [] []) (ap (λ x. open_makes x asked new) (sym r))
-    (flow_new t.streams t.events e.lane n [] (Ruled rule asked) (lanes setting older legal.1) (rule_stream t.events rule) refl (flows_fresh t.events (Some rule) false))))
+    (flow_new t.streams t.events e.lane n [] (Ruled rule asked) (lanes setting older legal.1) (rule_stream t.events rule) refl (goes_fresh t.events (Some rule) false))))
 
 -- what a stream of a rule gave, and what it holds
 pub opened_yields : (setting : Setting) (newer : List Entry) (e : Entry) (older : List Entry) (number : ℕ) (asked : Option ℕ) (text : List ℕ) (rule : Rule) → Legal setting (newer ++ e ∷ older)
@@ -348,10 +375,11 @@ record Original (h : List Event) (p : Option ℕ) : Type 0 where
   stream : Stream
   named : p ≡ Some k
   made : slice_get (streams h) k ≡ Some stream
+  since : is_since (phase h stream) ≡ true
 
-original_at : (h : List Event) (k : ℕ) (o : Option Stream) → slice_get (streams h) k ≡ o → is_there o ≡ true → Original h (Some k)
+original_at : (h : List Event) (k : ℕ) (o : Option Stream) → slice_get (streams h) k ≡ o → runs_at h o ≡ true → Original h (Some k)
 original_at h k None at e = cc
-original_at h k (Some s) at e = record { k = k; stream = s; named = refl; made = at }
+original_at h k (Some s) at e = let is = runs_so h s e in record { k = k; stream = s; named = refl; made = at; since = is.since }
 
 original : (h : List Event) (p : Option ℕ) → is_open_at h p ≡ true → Original h p
 unfolding is_open
@@ -362,19 +390,20 @@ pub opened : (b : Bool) (there a : Answer) → a ≡ where_open b there → ((er
 opened true there a is not_refused = (refl, is)
 opened false there a is not_refused = absurd (not_refused errors.UnknownHandle is)
 
-flows_clone : (h : List Event) (s : Stream) → IsWithin h s
-    → Flows (read h) (matched h (clone_of h (Some s))) s.from (s.skip + s.taken) 0 (length (read h)) s.rule (held h s) []
-unfolding matched
-flows_clone h s w =
+goes_clone : (h : List Event) (s : Stream) → IsWithin h s → is_since (phase h s) ≡ true → Goes h (clone_of h (Some s)) (length (read h)) (held h s) []
+unfolding matched phase
+goes_clone h s w since =
     let passed = w.passed in
-    let nothing : accepted s.rule (drop (length (read h)) (read h)) ≡ [] = ap (accepted s.rule) (drop-length (read h)) ∙ accepted_none s.rule in
-    record {
-      start = w.start;
-      passed = omega arith;
-      early = omega arith;
-      offers = sym (held_matched h s) ∙ sym (append-nil (held h s)) ∙ ap (λ ms. held h s ++ ms) (sym nothing);
-      given_is = refl;
-    }
+    let nothing : accepted s.rule (drop (length (read h)) (read h)) ≡ [] = ap (accepted s.rule) (drop-length (read h)) ∙ accepted_none s.rule in (
+      since,
+      record {
+        start = w.start;
+        passed = omega arith;
+        early = omega arith;
+        offers = sym (held_matched h s) ∙ sym (append-nil (held h s)) ∙ ap (λ ms. held h s ++ ms) (sym nothing);
+        given_is = refl;
+      },
+    )
   where
     accepted_none : (rule : Option Rule) → accepted rule [] ≡ []
     accepted_none None = refl
@@ -395,7 +424,7 @@ flow_clone names h lane p e w o =
     (subst (λ r. Flow (names ++ Some lane ∷ []) (Made (Cloned o.k) ∷ h) lane (count lane names) n r (held_in h p) []) (sym (rule_there h p o))
     (subst (λ ms. Flow (names ++ Some lane ∷ []) (Made (Cloned o.k) ∷ h) lane (count lane names) n o.stream.rule ms []) (sym (held_there h p o))
     (flow_new names h lane n (held h o.stream) (Cloned o.k) e (clone_of h (Some o.stream)) (ap (clone_of h) o.made)
-    (flows_clone h o.stream (within_at h (streams h) o.k o.stream o.made w)))))
+    (goes_clone h o.stream (within_at h (streams h) o.k o.stream o.made w) o.since))))
 
 clone_is : (t : Trail) (e : Entry) (original : ℕ) → IsAnswer t e.lane e.words e.answer → e.words ≡ words.Clone original
     → e.answer ≡ where_open (is_open_at t.events (place 0 e.lane original t.streams)) (answers.Streaming (count e.lane t.streams))

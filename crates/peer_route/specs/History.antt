@@ -29,6 +29,7 @@ pub data Deed : Type 0 where
   Told : Deed  -- it gave the closing error
   Gone : Deed  -- it was closed
   Asked : (limit : ℕ) → Deed  -- it asked for this capacity
+  Opened : Deed  -- who asked for it was told that it is open
 
 pub data Event : Type 0 where
   Took : (m : Seen) → Event  -- a read took the message
@@ -40,6 +41,9 @@ pub data Event : Type 0 where
   Made : (making : Making) → Event  -- a stream was made
   Did : (stream : ℕ) (deed : Deed) → Event  -- the stream with this number did it
   Main : (limit : ℕ) → Event  -- the main capacity was set
+  OnBus : Event  -- the peer stands on a message bus
+  Added : (m : Seen) (rule : Rule) (asked : Option ℕ) → Event  -- AddMatch was put, and a stream of the rule made that waits for its return
+  Removed : (m : Seen) → Event  -- RemoveMatch was put
   Named : (name : List ℕ) → Event  -- the peer was given its unique name
 
 -- ---- reads and closing
@@ -56,6 +60,9 @@ read (Spent call ∷ h) = read h
 read (Made making ∷ h) = read h
 read (Did stream deed ∷ h) = read h
 read (Main limit ∷ h) = read h
+read (OnBus ∷ h) = read h
+read (Added m rule asked ∷ h) = read h
+read (Removed m ∷ h) = read h
 read (Named name ∷ h) = read h
 
 abbrev pub first_of : Option Error → Error → Option Error
@@ -74,6 +81,9 @@ closing (Spent call ∷ h) = closing h
 closing (Made making ∷ h) = closing h
 closing (Did stream deed ∷ h) = closing h
 closing (Main limit ∷ h) = closing h
+closing (OnBus ∷ h) = closing h
+closing (Added m rule asked ∷ h) = closing h
+closing (Removed m ∷ h) = closing h
 closing (Named name ∷ h) = closing h
 
 -- ---- the outbox
@@ -90,6 +100,9 @@ put (Spent call ∷ h) = put h
 put (Made making ∷ h) = put h
 put (Did stream deed ∷ h) = put h
 put (Main limit ∷ h) = put h
+put (OnBus ∷ h) = put h
+put (Added m rule asked ∷ h) = put h ++ m ∷ []
+put (Removed m ∷ h) = put h ++ m ∷ []
 put (Named name ∷ h) = put h
 
 -- how many of them were written or failed
@@ -104,6 +117,9 @@ done (Spent call ∷ h) = done h
 done (Made making ∷ h) = done h
 done (Did stream deed ∷ h) = done h
 done (Main limit ∷ h) = done h
+done (OnBus ∷ h) = done h
+done (Added m rule asked ∷ h) = done h
+done (Removed m ∷ h) = done h
 done (Named name ∷ h) = done h
 
 -- a write failed
@@ -118,6 +134,9 @@ is_failed (Spent call ∷ h) = is_failed h
 is_failed (Made making ∷ h) = is_failed h
 is_failed (Did stream deed ∷ h) = is_failed h
 is_failed (Main limit ∷ h) = is_failed h
+is_failed (OnBus ∷ h) = is_failed h
+is_failed (Added m rule asked ∷ h) = is_failed h
+is_failed (Removed m ∷ h) = is_failed h
 is_failed (Named name ∷ h) = is_failed h
 
 -- the earlier cause stays
@@ -150,6 +169,9 @@ writer (Spent call ∷ h) = writer h
 writer (Made making ∷ h) = writer h
 writer (Did stream deed ∷ h) = writer h
 writer (Main limit ∷ h) = writer h
+writer (OnBus ∷ h) = writer h
+writer (Added m rule asked ∷ h) = writer h
+writer (Removed m ∷ h) = writer h
 writer (Named name ∷ h) = writer h
 
 -- the last serial that was drawn, 0 before the first
@@ -164,15 +186,33 @@ last_serial (Spent call ∷ h) = last_serial h
 last_serial (Made making ∷ h) = last_serial h
 last_serial (Did stream deed ∷ h) = last_serial h
 last_serial (Main limit ∷ h) = last_serial h
+last_serial (OnBus ∷ h) = last_serial h
+last_serial (Added m rule asked ∷ h) = m.serial
+last_serial (Removed m ∷ h) = m.serial
 last_serial (Named name ∷ h) = last_serial h
 
--- ---- the peer's own name
+-- the peer stands on a message bus, which sends it the signals that it asks for
+abbrev pub on_bus : List Event → Bool
+on_bus [] = false
+on_bus (OnBus ∷ h) = true
+on_bus (Took m ∷ h) = on_bus h
+on_bus (Shut error ∷ h) = on_bus h
+on_bus (Put m expects ∷ h) = on_bus h
+on_bus (Wrote ∷ h) = on_bus h
+on_bus (Fault ∷ h) = on_bus h
+on_bus (Spent call ∷ h) = on_bus h
+on_bus (Made making ∷ h) = on_bus h
+on_bus (Did stream deed ∷ h) = on_bus h
+on_bus (Main limit ∷ h) = on_bus h
+on_bus (Added m rule asked ∷ h) = on_bus h
+on_bus (Removed m ∷ h) = on_bus h
+on_bus (Named name ∷ h) = on_bus h
 
 abbrev pub first_name : Option (List ℕ) → List ℕ → Option (List ℕ)
 first_name None name = Some name
 first_name (Some earlier) name = Some earlier
 
--- the unique name that the peer was given, the first; none before (D-Bus Specification, "Bus names")
+-- the peer's unique name: the first that it was given
 abbrev pub unique_name : List Event → Option (List ℕ)
 unique_name [] = None
 unique_name (Named name ∷ h) = first_name (unique_name h) name
@@ -185,20 +225,31 @@ unique_name (Spent call ∷ h) = unique_name h
 unique_name (Made making ∷ h) = unique_name h
 unique_name (Did stream deed ∷ h) = unique_name h
 unique_name (Main limit ∷ h) = unique_name h
+unique_name (OnBus ∷ h) = unique_name h
+unique_name (Added m rule asked ∷ h) = unique_name h
+unique_name (Removed m ∷ h) = unique_name h
 
 -- ---- calls
 
 -- A call that was issued: the place of its message in the outbox, its serial, how many messages were read before it was
--- put, whether its answer was given or it was dropped, and whether its write failed.
+-- put, whether its answer was given or it was dropped, whether its write failed, and whether it is the peer's own: an AddMatch
+-- or a RemoveMatch, which nobody polls.
 pub record Call : Type 0 where
   pub index : ℕ
   pub serial : ℕ
   pub from : ℕ
   pub spent : Bool
   pub failed : Bool
+  pub inner : Bool
+
+abbrev pub call_by : List Event → Seen → Bool → Call
+call_by h m inner = record { index = length (put h); serial = m.serial; from = length (read h); spent = false; failed = false; inner = inner }
 
 abbrev pub new_call : List Event → Seen → Call
-new_call h m = record { index = length (put h); serial = m.serial; from = length (read h); spent = false; failed = false }
+new_call h m = call_by h m false
+
+abbrev pub inner_call : List Event → Seen → Call
+inner_call h m = call_by h m true
 
 -- the element at a place is changed
 abbrev pub edit : {A : Type 0} → ℕ → (A → A) → List A → List A
@@ -224,6 +275,9 @@ calls (Wrote ∷ h) = calls h
 calls (Made making ∷ h) = calls h
 calls (Did stream deed ∷ h) = calls h
 calls (Main limit ∷ h) = calls h
+calls (OnBus ∷ h) = calls h
+calls (Added m rule asked ∷ h) = calls h ++ inner_call h m ∷ []
+calls (Removed m ∷ h) = calls h ++ inner_call h m ∷ []
 calls (Named name ∷ h) = calls h
 
 -- a method return or an error
@@ -249,6 +303,10 @@ found h c = find (bears c.serial) (drop c.from (read h))
 abbrev pub is_gone : Call → Bool
 is_gone c = c.spent || c.failed
 
+-- it is over, or the peer's own, so that a poll of it is refused
+abbrev pub is_nobodys : Call → Bool
+is_nobodys c = is_gone c || c.inner
+
 abbrev pub polled_by : Option Seen → Option Error → Result (Polled Seen) Error
 polled_by (Some m) error = Ok (polled.Now m)
 polled_by None (Some error) = Ok (polled.Closed error)
@@ -256,11 +314,11 @@ polled_by None None = Ok polled.NotYet
 
 abbrev pub polled_at : List Event → Option Call → Result (Polled Seen) Error
 polled_at h None = Err errors.UnknownHandle
-polled_at h (Some c) = if is_gone c then Err errors.UnknownHandle else polled_by (found h c) (closing h)
+polled_at h (Some c) = if is_nobodys c then Err errors.UnknownHandle else polled_by (found h c) (closing h)
 
 -- What a poll of the call with this number gives: its reply, which is the first message read after it that bears its
 -- serial; else the closing error; else nothing yet. A call that wasn't made, or whose answer was given, or that was dropped,
--- is unknown.
+-- is unknown, and so is one of the peer's own.
 unfoldable pub poll_answer : List Event → ℕ → Result (Polled Seen) Error
 poll_answer h k = polled_at h (slice_get (calls h) k)
 
@@ -291,11 +349,20 @@ waits_with h serial c = not (is_gone c) && is_none (found h c) && (c.serial == s
 unfoldable pub pending : List Event → ℕ → Bool
 pending h serial = is_none (closing h) && list_any (waits_with h serial) (calls h)
 
+-- the call is an AddMatch or a RemoveMatch that waits for its reply
+abbrev pub is_awaited : List Event → Call → Bool
+is_awaited h c = c.inner && (not (is_gone c) && is_none (found h c))
+
+-- An AddMatch or a RemoveMatch of the peer is on its way: its message was put, its write didn't fail, its reply wasn't read, and
+-- the peer is open.
+unfoldable pub in_flight : List Event → Bool
+in_flight h = is_none (closing h) && list_any (is_awaited h) (calls h)
+
 -- What dropping the call with this number gives: a call that still waits for its answer, or has one, is dropped. One that
 -- wasn't made, or is over, is unknown.
 abbrev pub dropped_at : Option Call → Result (Unit {0}) Error
 dropped_at None = Err errors.UnknownHandle
-dropped_at (Some c) = if is_gone c then Err errors.UnknownHandle else Ok tt
+dropped_at (Some c) = if is_nobodys c then Err errors.UnknownHandle else Ok tt
 
 unfoldable pub drop_answer : List Event → ℕ → Result (Unit {0}) Error
 drop_answer h k = dropped_at (slice_get (calls h) k)

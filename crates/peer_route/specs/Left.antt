@@ -1,5 +1,5 @@
 -- What a history leaves of a peer: all that the answers to come depend on.
-use Rattle.std.specs.Prelude.{ℕ, zero, suc, ⊤, ◌≡◌, ◌+◌, ◌≤◌, nat_lt, max, Bool, true, false, ◌&&◌, ◌==◌, if◌then◌else◌, is_none, List, [], ◌∷◌, ◌++◌, length, map, get_or, slice_get, option_map, Option, Some, None, IsSome, Result, Ok, Err}
+use Rattle.std.specs.Prelude.{ℕ, zero, suc, ⊤, ◌≡◌, ◌+◌, ◌≤◌, nat_lt, max, Bool, true, false, not, ◌&&◌, ◌==◌, if◌then◌else◌, is_none, List, [], ◌∷◌, ◌++◌, length, map, get_or, slice_get, option_map, option_and_then, Option, Some, None, IsSome, Result, Ok, Err}
 use Rattle.std.specs.List.{list_any, AllByRecursion}
 use Rattle.std.specs.Option.{option_flatten}
 use Rattle.std.specs.Ordering.{nat_cmp}
@@ -7,50 +7,64 @@ use Rattle.std.specs.BTreeMap.{BTreeMap, get}
 use Rattle.wire_message.specs.Front.{Seen}
 use Rattle.wire_message.specs.declared.error.Error.{Error}
 use Rattle.wire_message.specs.declared.error.Error.TheVariants as errors
-use Rattle.wire_message.specs.declared.error.IoKind.TheVariants as kinds
 use Rattle.peer_route.specs.declared.calls.Slot.{Slot}
 use Rattle.peer_route.specs.declared.calls.Slot.TheVariants as slots
 use Rattle.peer_route.specs.declared.streams.MessageStream.{MessageStream}
 use Rattle.peer_route.specs.declared.queue.Subscription.{Subscription}
+use Rattle.peer_route.specs.declared.progress.Progress.{Progress}
+use Rattle.peer_route.specs.declared.progress.Progress.TheVariants as steps
 use Rattle.peer_route.specs.declared.writer.Writer.{Writer}
 use Rattle.rule_match.specs.Rule.{Rule}
 use Rattle.rule_match.specs.Accepting.{accepts}
 use Rattle.peer_route.specs.Rules.{is_same, usual}
-use Rattle.peer_route.specs.Streams.{Stream, streams, matched, held, main, rule_limit, asked_or, raised, is_open, take_by, first_position}
+use Rattle.peer_route.specs.Streams.{Stream, Start, Behind, OnReturn, Phase, Asking, Denied, Since, phase, is_return, streams, matched, held, main, rule_limit, asked_or, raised, is_open, take_by, first_position}
+use Rattle.peer_route.specs.declared.progress.OpenState.{OpenState}
+use Rattle.peer_route.specs.declared.progress.OpenState.TheVariants as states
 use Rattle.peer_route.specs.declared.polled.Polled.{Polled}
 use Rattle.peer_route.specs.History.{Event, Made, Ruled, Cloned, Call, put, edit, last_serial, writer, unique_name, found, bears, is_gone}
 use Rattle.peer_route.specs.History as events
 
+-- what is kept of a reply: nothing where the call is one of the peer's own
+abbrev pub reply_kept : Bool → Seen → Slot
+reply_kept true m = slots.Gone
+reply_kept false m = slots.Replied m
+
 -- what is kept of a call: that it is over, the serial that it waits for, or its reply
-abbrev pub slot_by : ℕ → Option Seen → Slot
-slot_by serial None = slots.Waiting serial
-slot_by serial (Some m) = slots.Replied m
+abbrev pub slot_by : Bool → ℕ → Option Seen → Slot
+slot_by inner serial None = slots.Waiting serial inner
+slot_by inner serial (Some m) = reply_kept inner m
 
 unfoldable pub slot_of : List Event → Call → Slot
-slot_of h c = if is_gone c then slots.Gone else slot_by c.serial (found h c)
+slot_of h c = if is_gone c then slots.Gone else slot_by c.inner c.serial (found h c)
 
 -- the slot waits for this serial
 abbrev pub is_waiting : ℕ → Slot → Bool
-is_waiting serial (slots.Waiting n) = n == serial
+is_waiting serial (slots.Waiting n inner) = n == serial
 is_waiting serial slots.Gone = false
 is_waiting serial (slots.Replied m) = false
 
--- nothing is kept of the call
+-- nothing is kept of the call that a poll could give
 abbrev pub is_empty_slot : Slot → Bool
 is_empty_slot slots.Gone = true
-is_empty_slot (slots.Waiting n) = false
+is_empty_slot (slots.Waiting n inner) = inner
 is_empty_slot (slots.Replied m) = false
+
+-- one of the peer's own waits
+abbrev pub is_inner_slot : Slot → Bool
+is_inner_slot (slots.Waiting n inner) = inner
+is_inner_slot slots.Gone = false
+is_inner_slot (slots.Replied m) = false
 
 -- the slot waits for a serial that the message bears
 abbrev pub takes : Seen → Slot → Bool
-takes m (slots.Waiting n) = bears n m
+takes m (slots.Waiting n inner) = bears n m
 takes m slots.Gone = false
 takes m (slots.Replied r) = false
 
 -- no two slots wait for one serial
 abbrev pub AreDistinct : List Slot → Type 0
 AreDistinct [] = ⊤
-AreDistinct (slots.Waiting serial ∷ ss) = (list_any (is_waiting serial) ss ≡ false) × AreDistinct ss
+AreDistinct (slots.Waiting serial inner ∷ ss) = (list_any (is_waiting serial) ss ≡ false) × AreDistinct ss
 AreDistinct (slots.Gone ∷ ss) = AreDistinct ss
 AreDistinct (slots.Replied m ∷ ss) = AreDistinct ss
 
@@ -62,6 +76,10 @@ pub record CallsView : Type 0 where
 -- the serials that are pending, as the core has them
 unfoldable pub waiting_serial : CallsView → ℕ → Bool
 waiting_serial v serial = is_none v.closing && list_any (is_waiting serial) v.slots
+
+-- an AddMatch or a RemoveMatch is on its way, as the core has it
+unfoldable pub is_flying : CallsView → Bool
+is_flying v = is_none v.closing && list_any is_inner_slot v.slots
 
 -- the message answers a call that waits; after the closing error none waits
 unfoldable pub answers_call : CallsView → Seen → Bool
@@ -78,40 +96,136 @@ abbrev pub is_number : Option ℕ → ℕ → Bool
 is_number None serial = false
 is_number (Some n) serial = n == serial
 
--- what is kept of a stream: its rule, where it has one, with how many messages it may hold; those that it holds; and whether it
--- gave the closing error
+-- what is kept of a stream: its rule, where it has one, with how many messages it may hold; how far it is opened; the messages
+-- that it holds; whether it gave the closing error; and whether who asked for it was told that it is open
 pub record Held : Type 0 where
   pub wants : Option Subscription
+  pub progress : Progress
   pub items : List Seen
   pub told : Bool
+  pub opened : Bool
+
+-- how far a stream is opened, with the serial and the place of its AddMatch, or the error that denied it
+abbrev pub progress_by : Phase → Progress
+progress_by (Since ms) = steps.Runs
+progress_by (Denied m) = steps.Denied m
+progress_by (Asking add) = steps.Waits add.serial add.index
+
+-- a stream that was denied has no rule any more
+abbrev pub wants_by : Phase → Option Subscription → Option Subscription
+wants_by (Denied m) wants = None
+wants_by (Asking add) wants = wants
+wants_by (Since ms) wants = wants
 
 -- nothing is kept of a stream that was closed
-abbrev pub kept_by : Bool → Option Subscription → List Seen → Bool → Option Held
-kept_by true wants items told = None
-kept_by false wants items told = Some (record { wants = wants; items = items; told = told })
+abbrev pub kept_by : Bool → Held → Option Held
+kept_by true q = None
+kept_by false q = Some q
 
 -- a rule, with how many messages each of its streams may hold
 abbrev pub subscription : List Event → Rule → Subscription
 subscription h rule = record { rule = rule; limit = rule_limit rule h }
 
-unfoldable pub held_of : List Event → Stream → Option Held
-held_of h s = kept_by s.gone (option_map (subscription h) s.rule) (held h s) s.told
+-- what is kept of a stream that wasn't closed
+abbrev pub held_by : List Event → Stream → Held
+held_by h s = record {
+  wants = wants_by (phase h s) (option_map (subscription h) s.rule);
+  progress = progress_by (phase h s);
+  items = held h s;
+  told = s.told;
+  opened = s.opened;
+}
 
--- what a stream is kept by at first
+unfoldable pub held_of : List Event → Stream → Option Held
+held_of h s = kept_by s.gone (held_by h s)
+
+-- what a stream that is open at once is kept by at first
 abbrev pub empty_held : Option Subscription → Bool → Held
-empty_held wants told = record { wants = wants; items = []; told = told }
+empty_held wants told = record { wants = wants; progress = steps.Runs; items = []; told = told; opened = true }
+
+-- what a stream that waits for the return to its AddMatch is kept by at first
+abbrev pub asking_held : Subscription → ℕ → ℕ → Held
+asking_held wants serial index = record { wants = Some wants; progress = steps.Waits serial index; items = []; told = false; opened = false }
+
+abbrev pub is_running : Progress → Bool
+is_running steps.Runs = true
+is_running (steps.Waits serial index) = false
+is_running (steps.Denied m) = false
+
+-- the stream is open
+abbrev pub is_usable : Held → Bool
+is_usable q = q.opened && is_running q.progress
 
 -- the message is one of the stream's
 abbrev pub wants_it : Option Subscription → Seen → Bool
 wants_it None m = true
 wants_it (Some s) m = accepts s.rule m
 
--- a stream with one message more, if it is one of its own
+-- a stream that runs with one message more, if it is one of its own
+abbrev pub pushed_by : Progress → Seen → Held → Held
+pushed_by steps.Runs m q = record q { items = if wants_it q.wants m then q.items ++ m ∷ [] else q.items }
+pushed_by (steps.Waits serial index) m q = q
+pushed_by (steps.Denied r) m q = q
+
+abbrev pub pushed : Seen → Held → Held
+pushed m q = pushed_by q.progress m q
+
+-- the reply to a stream's AddMatch: its return opens it, an error denies it
+abbrev pub answered_by : Bool → Seen → Held → Held
+answered_by true m q = record q { progress = steps.Runs }
+answered_by false m q = record q { wants = None; progress = steps.Denied m }
+
+-- a stream that waits once the message came, which may be the reply to its AddMatch
+abbrev pub settled_by : Progress → Seen → Held → Held
+settled_by steps.Runs m q = q
+settled_by (steps.Waits serial index) m q = if bears serial m then answered_by (is_return m.kind) m q else q
+settled_by (steps.Denied r) m q = q
+
+abbrev pub settled : Seen → Held → Held
+settled m q = settled_by q.progress m q
+
+-- a stream once the message came
 abbrev pub with_one : Seen → Held → Held
-with_one m q = record q { items = if wants_it q.wants m then q.items ++ m ∷ [] else q.items }
+with_one m q = settled_by q.progress m (pushed m q)
+
+abbrev pub arrived_at : Seen → Option Held → Option Held
+arrived_at m q = option_map (with_one m) q
+
+abbrev pub settled_at : Seen → Option Held → Option Held
+settled_at m q = option_map (settled m) q
 
 abbrev pub queued : Seen → Option Held → Option Held
-queued m q = option_map (with_one m) q
+queued m q = option_map (pushed m) q
+
+-- the message denies a stream that waits
+abbrev pub denies_by : Seen → Progress → Bool
+denies_by m (steps.Waits serial index) = bears serial m && not (is_return m.kind)
+denies_by m steps.Runs = false
+denies_by m (steps.Denied r) = false
+
+abbrev pub denies : Seen → Option Held → Bool
+denies m None = false
+denies m (Some q) = denies_by m q.progress
+
+-- how many streams the message denies
+abbrev pub denied_count : Seen → List (Option Held) → ℕ
+denied_count m [] = 0
+denied_count m (q ∷ qs) = if denies m q then denied_count m qs + 1 else denied_count m qs
+
+abbrev pub repeated : ℕ → Seen → List Seen
+repeated zero m = []
+repeated (suc n) m = repeated n m ++ m ∷ []
+
+-- the stream waits for the return to the AddMatch that has this place in the outbox
+abbrev pub waits_by : ℕ → Progress → Bool
+waits_by index (steps.Waits serial n) = n == index
+waits_by index steps.Runs = false
+waits_by index (steps.Denied r) = false
+
+-- it is gone once the write of that one failed
+abbrev pub lost_at : ℕ → Option Held → Option Held
+lost_at index None = None
+lost_at index (Some q) = if waits_by index q.progress then None else Some q
 
 -- the first so many streams with one message more
 abbrev pub queued_first : ℕ → Seen → List (Option Held) → List (Option Held)
@@ -130,13 +244,14 @@ is_over main None = false
 is_over main (Some q) = nat_lt (limit_or main q.wants) (length q.items)
 
 -- a stream after a take: without its first message, or with the closing error told
-abbrev pub after_by : Option Subscription → List Seen → Option Error → Bool → Held
-after_by wants (m ∷ ms) closing told = record { wants = wants; items = ms; told = told }
-after_by wants [] None told = record { wants = wants; items = []; told = told }
-after_by wants [] (Some error) told = record { wants = wants; items = []; told = true }
+abbrev pub after_by : Held → List Seen → Option Error → Held
+after_by q (m ∷ ms) closing = record q { items = ms }
+after_by q [] None = q
+after_by q [] (Some error) = record q { told = true }
 
+-- nothing is taken from a stream that isn't open
 abbrev pub after_take : Option Error → Held → Held
-after_take closing q = after_by q.wants q.items closing q.told
+after_take closing q = if is_usable q then after_by q q.items closing else q
 
 -- the capacity of a rule, where a stream of it asks for more
 abbrev pub raise : Rule → Option ℕ → Subscription → Subscription
@@ -191,9 +306,49 @@ abbrev pub main_asked : Option Subscription → ℕ → ℕ → ℕ
 main_asked None limit main = max main limit
 main_asked (Some s) limit main = main
 
+-- one stream more, of this rule, that waits for the return to the AddMatch of this serial and place
+abbrev pub with_asking : Rule → Option ℕ → ℕ → ℕ → List (Option Held) → List (Option Held)
+with_asking rule asked serial index qs =
+    raise_all rule asked qs ++ Some (asking_held (record { rule = rule; limit = limit_now rule asked (shared rule qs) }) serial index) ∷ []
+
 -- what is kept at a place; nothing behind the last
+abbrev pub any_at : List (Option Held) → ℕ → Option Held
+any_at qs k = option_flatten (slice_get qs k)
+
+-- where that is open
+abbrev pub if_usable : Held → Option Held
+if_usable q = if is_usable q then Some q else None
+
+-- what is kept of the stream at a place, where it is open
 abbrev pub kept_at : List (Option Held) → ℕ → Option Held
-kept_at qs k = option_flatten (slice_get qs k)
+kept_at qs k = option_and_then if_usable (any_at qs k)
+
+-- what asking gives whether a stream at a place is open
+abbrev pub asked_by : Progress → Option Error → OpenState
+asked_by (steps.Waits serial index) None = states.NotYet
+asked_by (steps.Waits serial index) (Some error) = states.Over error
+asked_by (steps.Denied m) closing = states.Refused m
+asked_by steps.Runs closing = states.Open
+
+abbrev pub held_opening : Option Held → Option Error → OpenState
+held_opening None closing = states.Unknown
+held_opening (Some q) closing = if q.opened then states.Unknown else asked_by q.progress closing
+
+-- the stream will not be open
+abbrev pub is_end : OpenState → Bool
+is_end states.Unknown = false
+is_end states.NotYet = false
+is_end states.Open = false
+is_end (states.Refused m) = true
+is_end (states.Over error) = true
+
+-- and what it leaves
+abbrev pub opened_held : OpenState → Option Held → Option Held
+opened_held states.Unknown q = q
+opened_held states.NotYet q = q
+opened_held states.Open q = option_map (λ (k : Held). record k { opened = true }) q
+opened_held (states.Refused m) q = None
+opened_held (states.Over error) q = None
 
 abbrev pub held_gives : Option Held → Option Error → Result (Polled Seen) Error
 held_gives None closing = Err errors.UnknownHandle
@@ -221,6 +376,8 @@ next_held (Some q) = first_position q.items
 -- before reads wait; `places` has for each call the place of its message in the outbox; `name` is the peer's own.
 pub record View : Type 0 where
   pub calls : CallsView
+  pub bus : Bool
+  pub name : Option (List ℕ)
   pub streams : List (Option Held)
   pub main : ℕ
   pub read : ℕ
@@ -229,7 +386,6 @@ pub record View : Type 0 where
   pub places : List ℕ
   pub done : ℕ
   pub writer : Writer
-  pub name : Option (List ℕ)
 
 -- The history leaves these calls: each with what was found for it, and the first closing error.
 pub record LeftCalls (v : CallsView) (h : List Event) : Type 0 where
@@ -237,9 +393,14 @@ pub record LeftCalls (v : CallsView) (h : List Event) : Type 0 where
   pub closing : v.closing ≡ events.closing h
   pub distinct : v.closing ≡ None → AreDistinct v.slots
 
+-- the number of messages behind which a stream begins, or its AddMatch was put
+abbrev pub start_count : Start → ℕ
+start_count (Behind count) = count
+start_count (OnReturn add) = add.from
+
 -- no stream starts above what was read, or passed more than was its own
 pub record IsWithin (h : List Event) (s : Stream) : Type 0 where
-  pub start : s.from ≤ length (events.read h)
+  pub start : start_count s.start ≤ length (events.read h)
   pub passed : s.skip + s.taken ≤ length (matched h s)
 
 -- The history leaves these streams: each with what it holds, or nothing where it was closed.
@@ -254,6 +415,8 @@ is_busy v = is_none v.calls.closing && list_any (is_over v.main) v.streams
 -- The history leaves this core.
 pub record Left (v : View) (h : List Event) : Type 0 where
   pub calls : LeftCalls v.calls h
+  pub bus : v.bus ≡ events.on_bus h
+  pub name : v.name ≡ events.unique_name h
   pub streams : LeftStreams v.streams h
   pub main : v.main ≡ main h
   pub read : v.read ≡ length (events.read h)
@@ -262,7 +425,10 @@ pub record Left (v : View) (h : List Event) : Type 0 where
   pub places : v.places ≡ map (λ c. c.index) (events.calls h)
   pub done : v.done ≡ events.done h
   pub writer : v.writer ≡ writer h
-  pub name : v.name ≡ unique_name h
+
+-- one call more, which waits for a reply to this serial
+abbrev pub with_call : Bool → ℕ → CallsView → CallsView
+with_call inner serial v = record { slots = v.slots ++ slots.Waiting serial inner ∷ []; closing = v.closing }
 
 -- What cloning the stream with this number gives: the next number, where it is open; a stream that isn't is unknown. An error
 -- changes nothing.
@@ -271,11 +437,3 @@ Clones old new k h (Ok stream) = (is_open h k ≡ true) × (stream.number ≡ le
 Clones old new k h (Err errors.UnknownHandle) = (is_open h k ≡ false) × (new ≡ old)
 Clones old new k h (Err errors.Memory) = new ≡ old
 Clones old new k h (Err error) = ⊥
-
--- What opening a stream of this rule gives: the next number, on an open peer; on a closed one there is none. An error changes
--- nothing.
-abbrev pub OpensRule : View → View → Rule → Option ℕ → List Event → Result MessageStream Error → Type 0
-OpensRule old new rule asked h (Ok stream) = (events.closing h ≡ None) × (stream.number ≡ length (streams h)) × Left new (Made (Ruled rule asked) ∷ h)
-OpensRule old new rule asked h (Err (errors.InputOutput kinds.Closed)) = IsSome (events.closing h) × (new ≡ old)
-OpensRule old new rule asked h (Err errors.Memory) = new ≡ old
-OpensRule old new rule asked h (Err error) = ⊥

@@ -1,5 +1,7 @@
 pub mod Hex
 pub mod BodyWord
+pub mod Bus
+pub mod Leaving
 pub mod Parcel
 pub mod CallMessage
 pub mod Rules

@@ -7,42 +7,41 @@ use Rattle.wire_message.specs.declared.error.Error.{Error}
 use Rattle.wire_message.specs.declared.error.Error.TheVariants as errors
 use Rattle.wire_message.specs.declared.error.IoKind.TheVariants as kinds
 use Rattle.peer_route.specs.declared.calls.Slot.{Slot}
-use Rattle.peer_route.specs.declared.calls.Slot.TheVariants as slots
 use Rattle.peer_route.specs.declared.route.Issued.{Issued}
 use Rattle.peer_route.specs.declared.writer.Writer.TheVariants as writers
 use Rattle.peer_route.specs.Parcel.{Parcel, message_of}
 use Rattle.peer_route.specs.CallMessage.{expects, expects_reply}
 use Rattle.peer_route.specs.Trail.{or_zero}
-use Rattle.peer_route.specs.Left.{CallsView, waiting_serial, View}
+use Rattle.peer_route.specs.Left.{CallsView, with_call, waiting_serial, View}
 use Rattle.peer_route.specs.Issuing.{is_deep, IsShort, IsTooLong, AreShort, SomeLong, call_number}
 
 -- ---- serials
 
--- the calls with one more that waits for this serial, if a reply is expected
-abbrev pub with_call : Bool → CallsView → ℕ → CallsView
-with_call true v serial = record { slots = v.slots ++ slots.Waiting serial ∷ []; closing = v.closing }
-with_call false v serial = v
+-- the calls with one more that waits for this serial, if a reply is expected; whether it is the peer's own
+abbrev pub made_call : Bool → Bool → CallsView → ℕ → CallsView
+made_call inner true v serial = with_call inner serial v
+made_call inner false v serial = v
 
 -- The serials that messages draw, by the calls and the last serial before; and the calls and the last serial after them.
-abbrev pub Draws : CallsView → ℕ → List Parcel → List ℕ → CallsView → ℕ → Type 0
-Draws v last [] [] w end = (w ≡ v) × (end ≡ last)
-Draws v last (p ∷ ps) (serial ∷ serials) w end =
-    IsNext (waiting_serial v) last serial × Draws (with_call (expects (Ok p)) v serial) serial ps serials w end
-Draws v last [] (serial ∷ serials) w end = ⊥
-Draws v last (p ∷ ps) [] w end = ⊥
+abbrev pub Draws : Bool → CallsView → ℕ → List Parcel → List ℕ → CallsView → ℕ → Type 0
+Draws inner v last [] [] w end = (w ≡ v) × (end ≡ last)
+Draws inner v last (p ∷ ps) (serial ∷ serials) w end =
+    IsNext (waiting_serial v) last serial × Draws inner (made_call inner (expects (Ok p)) v serial) serial ps serials w end
+Draws inner v last [] (serial ∷ serials) w end = ⊥
+Draws inner v last (p ∷ ps) [] w end = ⊥
 
 -- Some message finds no serial.
-abbrev pub Spends : CallsView → ℕ → List Parcel → Type 0
-Spends v last [] = ⊥
-Spends v last (p ∷ ps) =
+abbrev pub Spends : Bool → CallsView → ℕ → List Parcel → Type 0
+Spends inner v last [] = ⊥
+Spends inner v last (p ∷ ps) =
     AllTaken (waiting_serial v)
-    ⊎ ((serial : ℕ) × IsNext (waiting_serial v) last serial × Spends (with_call (expects (Ok p)) v serial) serial ps)
+    ⊎ ((serial : ℕ) × IsNext (waiting_serial v) last serial × Spends inner (made_call inner (expects (Ok p)) v serial) serial ps)
 
 -- why nothing is drawn
-abbrev pub NotDrawn : CallsView → ℕ → List Parcel → Error → Type 0
-NotDrawn v last ps errors.SerialsSpent = Spends v last ps
-NotDrawn v last ps errors.Memory = ⊤
-NotDrawn v last ps error = ⊥
+abbrev pub NotDrawn : Bool → CallsView → ℕ → List Parcel → Error → Type 0
+NotDrawn inner v last ps errors.SerialsSpent = Spends inner v last ps
+NotDrawn inner v last ps errors.Memory = ⊤
+NotDrawn inner v last ps error = ⊥
 
 -- why the serial of one message isn't drawn
 abbrev pub NotDrawnOne : CallsView → Error → Type 0
@@ -143,20 +142,20 @@ with_messages v ms calls last = record v {
 }
 
 -- What putting the messages of a command gives, by what is kept. None has a value that opens too many containers.
-abbrev pub PutsAll : {A : Type 0} → (A → List Issued) → View → View → List Parcel → Result A Error → Type 0
-PutsAll items old new ps (Ok issued) =
-    (serials : List ℕ) × Draws old.calls old.last ps serials new.calls new.last × AreShort ps serials × (old.writer ≡ writers.Fine)
+abbrev pub PutsAll : {A : Type 0} → Bool → (A → List Issued) → View → View → List Parcel → Result A Error → Type 0
+PutsAll inner items old new ps (Ok issued) =
+    (serials : List ℕ) × Draws inner old.calls old.last ps serials new.calls new.last × AreShort ps serials × (old.writer ≡ writers.Fine)
     × (items issued ≡ issued_from (length old.outbox) (length old.places) (messages_of ps serials))
     × (new ≡ with_messages old (messages_of ps serials) new.calls new.last)
-PutsAll items old new ps (Err errors.SerialsSpent) = Spends old.calls old.last ps
-PutsAll items old new ps (Err errors.ExcessData) =
-    (serials : List ℕ) × Draws old.calls old.last ps serials new.calls new.last × SomeLong ps serials
-PutsAll items old new ps (Err (errors.InputOutput kinds.WriteFault)) =
-    (serials : List ℕ) × Draws old.calls old.last ps serials new.calls new.last × AreShort ps serials × (old.writer ≡ writers.Failed)
-PutsAll items old new ps (Err (errors.InputOutput kinds.Closed)) =
-    (serials : List ℕ) × Draws old.calls old.last ps serials new.calls new.last × AreShort ps serials × (old.writer ≡ writers.Closed)
-PutsAll items old new ps (Err errors.Memory) = ⊤
-PutsAll items old new ps (Err error) = ⊥
+PutsAll inner items old new ps (Err errors.SerialsSpent) = Spends inner old.calls old.last ps
+PutsAll inner items old new ps (Err errors.ExcessData) =
+    (serials : List ℕ) × Draws inner old.calls old.last ps serials new.calls new.last × SomeLong ps serials
+PutsAll inner items old new ps (Err (errors.InputOutput kinds.WriteFault)) =
+    (serials : List ℕ) × Draws inner old.calls old.last ps serials new.calls new.last × AreShort ps serials × (old.writer ≡ writers.Failed)
+PutsAll inner items old new ps (Err (errors.InputOutput kinds.Closed)) =
+    (serials : List ℕ) × Draws inner old.calls old.last ps serials new.calls new.last × AreShort ps serials × (old.writer ≡ writers.Closed)
+PutsAll inner items old new ps (Err errors.Memory) = ⊤
+PutsAll inner items old new ps (Err error) = ⊥
 
 -- Calls were made, messages placed and serials drawn, and nothing else changed.
 pub record IsMore (old new : View) : Type 0 where

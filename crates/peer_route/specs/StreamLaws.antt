@@ -11,7 +11,7 @@ use Rattle.peer_route.specs.declared.answer.Answer.TheVariants as answers
 use Rattle.peer_route.specs.declared.answer.Entry.{Entry}
 use Rattle.peer_route.specs.Parcel.{Setting, Asked, message_of}
 use Rattle.peer_route.specs.History.{Event, read, closing}
-use Rattle.peer_route.specs.Streams.{Stream, streams, accepted, held, rule_of, limit_of}
+use Rattle.peer_route.specs.Streams.{Stream, streams, accepted, held, runs, rule_of, limit_of}
 use Rattle.peer_route.specs.Trail.{Trail, place, asks, trail}
 
 -- ---- streams
@@ -130,7 +130,7 @@ pub record IsDrained (t : Trail) (lane number : ℕ) (error : Error) : Type 0 wh
   pub stream : Stream
   pub named : place 0 lane number t.streams ≡ Some k
   pub made : slice_get (streams t.events) k ≡ Some stream
-  pub still : stream.gone ≡ false
+  pub still : runs t.events stream ≡ true
   pub nothing : held t.events stream ≡ []
   pub first : closing t.events ≡ Some error
 

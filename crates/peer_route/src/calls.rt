@@ -1,7 +1,8 @@
-ghost use Rattle.std.specs.Prelude.{ℕ, ◌≡◌, ◌+◌, ◌<◌, ◌++◌, ◌∷◌, [], List, length, IfSome, IfNone, OnOk, OnErr, IfOk, None, is_none, slice_set, take, true, false};
-ghost use Rattle.peer_route.specs.History.{Event, Took, Shut, Put, Call, poll_answer, poll_events, drop_answer, drop_events, pending, bears, closing, calls};
+ghost use Rattle.std.specs.Prelude.{Bool, ℕ, ◌≡◌, ◌+◌, ◌<◌, ◌++◌, ◌∷◌, [], List, length, IfSome, IfNone, OnOk, OnErr, IfOk, None, is_none, slice_set, take, true, false};
+ghost use Rattle.std.specs.List.{list_any};
+ghost use Rattle.peer_route.specs.History.{Event, Took, Shut, Put, Call, poll_answer, poll_events, drop_answer, drop_events, in_flight, bears, closing, calls};
 ghost use Rattle.peer_route.specs.History as history;
-ghost use Rattle.peer_route.specs.Left.{CallsView, LeftCalls, is_empty_slot, is_number, answers_call, waiting_serial, IsIndex};
+ghost use Rattle.peer_route.specs.Left.{CallsView, LeftCalls, is_empty_slot, is_inner_slot, reply_kept, with_call, is_flying, is_number, answers_call, waiting_serial, IsIndex};
 ghost use Rattle.wire_message.specs.Front.{Seen};
 ghost use Rattle.wire_message.specs.Closing.{closes};
 
@@ -17,8 +18,13 @@ use wire_message::{ClosingError, Error, Message, MessageType, Sequence, Taken};
 pub enum Slot {
     /// Its answer was given, or its message failed.
     Gone,
-    /// It waits for a reply to this serial.
-    Waiting(u32),
+    /// It waits for a reply.
+    Waiting {
+        /// To this serial.
+        serial: u32,
+        /// Whether it is one of the peer's own, an AddMatch or a RemoveMatch, which nobody polls.
+        inner: bool,
+    },
     /// Its reply came.
     Replied(Message),
 }
@@ -53,11 +59,43 @@ fn answered(message: &Message) -> Option<u32>
     }
 }
 
-/// Whether nothing is kept of the call any more.
+/// Whether nothing is kept of the call that a poll could give.
 fn is_gone(slot: &Slot) -> bool
     ensures { result ≡ is_empty_slot slot.now }
 {
-    matches!(slot, Slot::Gone)
+    match slot {
+        Slot::Gone => true,
+        Slot::Waiting { inner, .. } => *inner,
+        Slot::Replied(_) => false,
+    }
+}
+
+/// Whether one of the peer's own calls waits.
+fn is_inner(slot: &Slot) -> bool
+    ensures { result ≡ is_inner_slot slot.now }
+{
+    match slot {
+        Slot::Waiting { inner, .. } => *inner,
+        Slot::Gone | Slot::Replied(_) => false,
+    }
+}
+
+/// Whether one of the peer's own calls is among these and waits.
+fn is_some_inner(slots: &[Slot]) -> bool
+    ensures { result ≡ list_any is_inner_slot slots.now }
+{
+    slots.iter().any(is_inner)
+}
+
+/// The reply to a call; nothing is kept of one to the peer's own.
+fn reply_kept(inner: bool, message: Message) -> Slot
+    ensures { result ≡ reply_kept inner message }
+{
+    if inner {
+        Slot::Gone
+    } else {
+        Slot::Replied(message)
+    }
 }
 
 /// Nothing is kept any more of the call with this place: its serial, if it waited, is waited for no more. Nothing changes past
@@ -70,7 +108,7 @@ fn forget(slots: &mut [Slot], waiting: &mut BTreeMap<u32, usize>, place: usize)
         return;
     }
     match mem::replace(&mut slots[place], Slot::Gone) {
-        Slot::Waiting(serial) => {
+        Slot::Waiting { serial, .. } => {
             let _ = waiting.remove(&serial);
         }
         Slot::Gone | Slot::Replied(_) => {}
@@ -108,8 +146,20 @@ impl PendingMethodCalls {
         requires free { waiting_serial self.old serial ≡ false }
         ensures err { OnErr result (self.new ≡ self.old) }
         ensures number { IfOk result (λ k. k ≡ length self.old.slots) }
-        ensures ok { OnOk result (self.new ≡ record { slots = self.old.slots ++ Slot.Waiting serial ∷ []; closing = self.old.closing }) }
+        ensures ok { OnOk result (self.new ≡ with_call false serial self.old) }
         ensures left { OnOk result ((h : List Event) (m : Seen) → m.serial ≡ serial → LeftCalls self.old h → LeftCalls self.new (Put m true ∷ h)) }
+    {
+        self.register(serial, false)
+    }
+
+    /// A new call whose message has this serial, one of the peer's own or another's, and its number. The serial isn't 0 and isn't
+    /// pending. Want of memory changes nothing.
+    pub(crate) fn register(&mut self, serial: u32, inner: bool) -> Result<u64, AllocError>
+        requires in_circle { 0 < serial }
+        requires free { waiting_serial self.old serial ≡ false }
+        ensures err { OnErr result (self.new ≡ self.old) }
+        ensures number { IfOk result (λ k. k ≡ length self.old.slots) }
+        ensures ok { OnOk result (self.new ≡ with_call inner serial self.old) }
     {
         let place = self.slots.len();
         let is_open = self.closing.is_none();
@@ -118,7 +168,7 @@ impl PendingMethodCalls {
         if is_open {
             self.waiting.insert(serial, place)?;
         }
-        if self.slots.push(Slot::Waiting(serial)).is_err() {
+        if self.slots.push(Slot::Waiting { serial, inner }).is_err() {
             unreachable!()
         }
         Ok(place as u64)
@@ -141,7 +191,8 @@ impl PendingMethodCalls {
         match self.waiting.remove(&serial) {
             None => Some(message),
             Some(place) => {
-                self.slots[place] = Slot::Replied(message);
+                let inner = is_inner(&self.slots[place]);
+                self.slots[place] = reply_kept(inner, message);
                 None
             }
         }
@@ -178,6 +229,14 @@ impl PendingMethodCalls {
         }
     }
 
+    /// Whether an AddMatch or a RemoveMatch is on its way, on an open peer.
+    pub(crate) fn is_flying(&self) -> bool
+        ensures view { result ≡ is_flying self.now }
+        ensures flying { (h : List Event) → LeftCalls self.now h → result ≡ in_flight h }
+    {
+        self.closing.is_none() && is_some_inner(&self.slots)
+    }
+
     /// The error that closed the peer.
     pub fn closing(&self) -> Option<Error>
         ensures { result ≡ self.now.closing }
@@ -198,13 +257,16 @@ impl PendingMethodCalls {
             return Err(Error::UnknownHandle);
         }
         let place = call as usize;
+        if is_gone(&self.slots[place]) {
+            return Err(Error::UnknownHandle);
+        }
         match mem::replace(&mut self.slots[place], Slot::Gone) {
             Slot::Gone => Err(Error::UnknownHandle),
             Slot::Replied(message) => Ok(Polled::Now(message)),
-            Slot::Waiting(serial) => match self.closing {
+            Slot::Waiting { serial, inner } => match self.closing {
                 Some(error) => Ok(Polled::Closed(Error::from(error))),
                 None => {
-                    self.slots[place] = Slot::Waiting(serial);
+                    self.slots[place] = Slot::Waiting { serial, inner };
                     Ok(Polled::NotYet)
                 }
             },

@@ -7,7 +7,7 @@ ghost use Rattle.peer_route.specs.History.{Event};
 ghost use Rattle.peer_route.specs.Issuing.{is_deep, IssuesAll, Waits};
 ghost use Rattle.peer_route.specs.Left.{Left, waiting_serial};
 ghost use Rattle.peer_route.specs.Parcel.{sent_by};
-ghost use Rattle.peer_route.specs.Placing.{with_call, Draws, NotDrawn, NotDrawnOne, AreMade, numbered, numbered_each, own_message, IsReady, IsOwnShort, NotMade, place_of, places_of, issued_at, issued_from, Grows, PutsAll, IsMore, Marks, back_to};
+ghost use Rattle.peer_route.specs.Placing.{made_call, Draws, NotDrawn, NotDrawnOne, AreMade, numbered, numbered_each, own_message, IsReady, IsOwnShort, NotMade, place_of, places_of, issued_at, issued_from, Grows, PutsAll, IsMore, Marks, back_to};
 
 use crate::calls::PendingMethodCalls;
 use crate::letter::{Letter, expects_reply};
@@ -20,7 +20,7 @@ use wire_signature::VariantError;
 
 /// How much was made, drawn and placed before a command's messages: what a refusal goes back to.
 #[derive(Clone, Copy)]
-struct Mark {
+pub(crate) struct Mark {
     calls: usize,
     serials: Serials,
     outbox: usize,
@@ -39,15 +39,16 @@ fn draw<'a>(
     calls: &mut PendingMethodCalls,
     serials: &mut Serials,
     letter: Letter<'a>,
+    inner: bool,
 ) -> Result<Letter<'a>>
     ensures drawn { IfOk result (λ drawn. (serial : ℕ) × IsNext (waiting_serial calls.old) serials.old serial × (serials.new ≡ serial)
-        × (calls.new ≡ with_call (expects (Ok letter.entry)) calls.old serial) × (drawn ≡ numbered serial letter.entry)) }
+        × (calls.new ≡ made_call inner (expects (Ok letter.entry)) calls.old serial) × (drawn ≡ numbered serial letter.entry)) }
     ensures refused { IfErr result (λ e. NotDrawnOne calls.old e) }
     ensures same { OnErr result (calls.new ≡ calls.old) }
 {
     let serial = serials.next_uncounted(calls)?;
     if letter.expects_reply() {
-        calls.register_call(serial)?;
+        calls.register(serial, inner)?;
     }
     Ok(letter.numbered(serial))
 }
@@ -58,15 +59,16 @@ fn draw_each<'a>(
     calls: &mut PendingMethodCalls,
     serials: &mut Serials,
     list: Vec<Letter<'a>>,
+    inner: bool,
 ) -> Result<Vec<Letter<'a>>>
-    ensures drawn { IfOk result (λ drawn. (numbers : List ℕ) × Draws calls.old serials.old list.entry.items numbers calls.new serials.new
+    ensures drawn { IfOk result (λ drawn. (numbers : List ℕ) × Draws inner calls.old serials.old list.entry.items numbers calls.new serials.new
         × (drawn.items ≡ numbered_each list.entry.items numbers)) }
-    ensures refused { IfErr result (λ e. NotDrawn calls.old serials.old list.entry.items e) }
+    ensures refused { IfErr result (λ e. NotDrawn inner calls.old serials.old list.entry.items e) }
     ensures made { AreMade calls.old calls.new }
 {
     let mut drawn = Vec::new(alloc);
     for letter in list {
-        drawn.push(draw(calls, serials, letter)?)?;
+        drawn.push(draw(calls, serials, letter, inner)?)?;
     }
     Ok(drawn)
 }
@@ -164,7 +166,7 @@ impl Route {
             return Err(Error::Variant(VariantError::Depth));
         }
         let mark = self.mark();
-        match self.put_all(list, served) {
+        match self.put_all(list, served, false) {
             Ok(issued) => Ok(issued),
             Err(error) => {
                 self.take_back(mark);
@@ -174,7 +176,7 @@ impl Route {
     }
 
     /// How much is there now.
-    fn mark(&self) -> Mark
+    pub(crate) fn mark(&self) -> Mark
         ensures { Marks self.now result.calls result.serials result.outbox result.places }
     {
         Mark {
@@ -186,13 +188,18 @@ impl Route {
     }
 
     /// Puts messages as `issue` does; where it is refused, some of it may have been done.
-    fn put_all(&mut self, list: Vec<Letter<'_>>, served: bool) -> Result<Vec<Issued>>
+    pub(crate) fn put_all(
+        &mut self,
+        list: Vec<Letter<'_>>,
+        served: bool,
+        inner: bool,
+    ) -> Result<Vec<Issued>>
         requires few { AllByRecursion (λ p. length p.fds < 2 ^ 32) list.items }
         requires shallow { list_any is_deep list.items ≡ false }
-        ensures puts { PutsAll (λ issued. issued.items) self.old self.new (map (sent_by self.old.name served) list.entry.items) result }
+        ensures puts { PutsAll inner (λ issued. issued.items) self.old self.new (map (sent_by self.old.name served) list.entry.items) result }
         ensures more { IsMore self.old self.new }
     {
-        let drawn = draw_each(self.alloc, &mut self.calls, &mut self.serials, list)?;
+        let drawn = draw_each(self.alloc, &mut self.calls, &mut self.serials, list, inner)?;
         let messages = build_each(self.alloc, &self.calls, &self.name, served, drawn)?;
         match self.writer {
             Writer::Fine => Ok(place_each(
@@ -207,7 +214,7 @@ impl Route {
     }
 
     /// Takes back what was made, drawn and placed since the mark.
-    fn take_back(&mut self, mark: Mark)
+    pub(crate) fn take_back(&mut self, mark: Mark)
         ensures { self.new ≡ back_to self.old mark.calls mark.serials mark.outbox mark.places }
     {
         self.calls.take_back(mark.calls);

@@ -8,7 +8,7 @@ ghost use Rattle.peer_route.specs.History.{Event, Took, Spent, Made, Making, Rul
 ghost use Rattle.rule_match.specs.Rule.{Rule};
 ghost use Rattle.rule_match.specs.Bytes.{rule_in_bytes};
 ghost use Rattle.peer_route.specs.Rules.{usual};
-ghost use Rattle.peer_route.specs.Streams.{Stream, streams, main, rule_limit, is_subscribed, asked_or, raised, limit_answer, take_answer};
+ghost use Rattle.peer_route.specs.Streams.{Stream, streams, main, rule_limit, is_subscribed, runs, asked_or, raised, limit_answer, take_answer};
 ghost use Rattle.peer_route.specs.Parcel.{Setting};
 ghost use Rattle.peer_route.specs.Trail.{trail};
 ghost use Rattle.peer_route.specs.Answers.{Legal};
@@ -110,7 +110,7 @@ pub fn main_capacity()
 /// rule of an owner's changes, else 64; a later one of the rule that asks for more raises it, and a smaller request is passed
 /// over. What is asked for by another rule's stream, or is set for streams without a rule, changes nothing of it.
 pub fn rule_capacity()
-    ensures one { (h : List Event) (j k : ℕ) (s t : Stream) → slice_get (streams h) j ≡ Some s → slice_get (streams h) k ≡ Some t → s.gone ≡ false → t.gone ≡ false → s.rule ≡ t.rule → limit_answer h j ≡ limit_answer h k }
+    ensures one { (h : List Event) (j k : ℕ) (s t : Stream) → slice_get (streams h) j ≡ Some s → slice_get (streams h) k ≡ Some t → runs h s ≡ true → runs h t ≡ true → s.rule ≡ t.rule → limit_answer h j ≡ limit_answer h k }
     ensures first { (h : List Event) (rule : Rule) (asked : Option ℕ) → is_subscribed h rule ≡ false → rule_limit rule (Made (Ruled rule asked) ∷ h) ≡ asked_or asked (usual rule) }
     ensures later { (h : List Event) (rule : Rule) (asked : Option ℕ) → is_subscribed h rule ≡ true → rule_limit rule (Made (Ruled rule asked) ∷ h) ≡ raised asked (rule_limit rule h) }
     ensures asked { (h : List Event) (limit j : ℕ) (s : Stream) (rule : Rule) → slice_get (streams h) j ≡ Some s → s.rule ≡ Some rule → rule_limit rule (Did j (Asked limit) ∷ h) ≡ max (rule_limit rule h) limit }

@@ -9,9 +9,14 @@ mod hex;
 mod issue_tests;
 mod issuing;
 mod laws;
+mod leaving;
 mod letter;
+mod opening;
+#[cfg(test)]
+mod opening_tests;
 mod owner_rule;
 mod polled;
+mod progress;
 mod queue;
 mod route;
 mod route_streams;
@@ -36,8 +41,11 @@ pub use laws::{
     spent_changes_no_other, stream_after_closing_is_over, stream_changes_no_other,
     stream_closed_for_good, stream_ends_once, stream_gives_all, stream_gives_the_first_error,
 };
+pub use leaving::Spent;
 pub use letter::Letter;
+pub use opening::{Opened, Opening, Opens};
 pub use polled::Polled;
+pub use progress::{OpenState, Progress};
 pub use route::{Issued, Route};
 pub use streams::MessageStream;
 pub use words::{CallFlags, Command, Outgoing, Words};

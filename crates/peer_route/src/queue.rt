@@ -1,14 +1,16 @@
-ghost use Rattle.std.specs.Prelude.{ℕ, ◌≡◌, ◌∷◌, ◌++◌, [], length, Option, Some, None, OnOk, OnErr, IfOk, option_map, nat_lt, true, false};
+ghost use Rattle.std.specs.Prelude.{ℕ, ◌≡◌, ◌∷◌, ◌++◌, [], length, Option, Some, None, OnOk, OnErr, IfOk, option_map, option_and_then, nat_lt, true, false};
 ghost use Rattle.peer_route.specs.Rules.{is_same};
 ghost use Rattle.peer_route.specs.Streams.{take_by, first_position, raised};
-ghost use Rattle.peer_route.specs.Left.{Held, empty_held, ended_by, wants_it, with_one, queued, is_over, limit_or, limit_if, raise, raise_held, raise_own, after_take, held_gives, wants_of};
+ghost use Rattle.peer_route.specs.Left.{Held, empty_held, asking_held, is_running, is_usable, if_usable, ended_by, wants_it, pushed, queued, denies_by, denies, settled, settled_at, waits_by, lost_at, is_over, limit_or, limit_if, raise, raise_held, raise_own, after_by, after_take, held_gives, held_opening, opened_held, is_end, wants_of};
 ghost use Rattle.wire_message.specs.Front.{Seen};
 
 use crate::polled::Polled;
+use crate::progress::{OpenState, Progress, bears, is_return};
 use rule_match::OwnedMatchRule;
 use std::alloc::{AllocError, Global};
 use std::collections::VecDeque;
 use std::marker::Model;
+use std::mem;
 use wire_message::{Error, Message};
 
 /// A rule, and how many messages each open stream of it may hold.
@@ -79,13 +81,15 @@ fn clone_subscription(
     }
 }
 
-/// What is kept of a stream: its rule, if it has one; the messages that it didn't give yet; and whether it gave the closing
-/// error.
+/// What is kept of a stream: its rule, if it has one; how far it is opened; the messages that it didn't give yet; whether it
+/// gave the closing error; and whether who asked for it was told that it is open.
 #[derive(Drop)]
 pub(crate) struct Queue {
     wants: Option<Subscription>,
+    progress: Progress,
     items: VecDeque<Message>,
     told: bool,
+    opened: bool,
 }
 
 impl Model for Queue {
@@ -93,18 +97,57 @@ impl Model for Queue {
 
     ghost Value = { Held };
 
-    ghost view = { λ q. record { wants = q.wants; items = q.items.items; told = q.told } };
+    ghost view = { λ q. record { wants = q.wants; progress = q.progress; items = q.items.items; told = q.told; opened = q.opened } };
 }
 
 impl Queue {
-    /// A stream that holds nothing.
+    /// A stream that is open, and holds nothing.
     pub(crate) fn new(alloc: Global, wants: Option<Subscription>, told: bool) -> Queue
         ensures { result ≡ empty_held wants told }
     {
         Queue {
             wants,
+            progress: Progress::Runs,
             items: VecDeque::new(alloc),
             told,
+            opened: true,
+        }
+    }
+
+    /// A stream that waits for the return to its AddMatch, which has this serial and this place in the outbox.
+    pub(crate) fn asking(alloc: Global, wants: Subscription, serial: u32, index: u64) -> Queue
+        ensures { result ≡ asking_held wants serial index }
+    {
+        Queue {
+            wants: Some(wants),
+            progress: Progress::Waits { serial, index },
+            items: VecDeque::new(alloc),
+            told: false,
+            opened: false,
+        }
+    }
+
+    /// Whether it takes messages.
+    fn runs(&self) -> bool
+        ensures { result ≡ is_running self.now.progress }
+    {
+        matches!(self.progress, Progress::Runs)
+    }
+
+    /// Whether it is open: it takes messages, and who asked for it was told so.
+    pub(crate) fn is_usable(&self) -> bool
+        ensures { result ≡ is_usable self.now }
+    {
+        self.opened && self.runs()
+    }
+
+    /// Whether the message denies it.
+    fn denies(&self, message: &Message) -> bool
+        ensures { result ≡ denies_by message.now self.now.progress }
+    {
+        match &self.progress {
+            Progress::Waits { serial, .. } => bears(*serial, message) && !is_return(message),
+            Progress::Runs | Progress::Denied(_) => false,
         }
     }
 
@@ -118,12 +161,12 @@ impl Queue {
         }
     }
 
-    /// One message more, if it is one of the stream's; it shares its bytes.
+    /// One message more, if it runs and the message is one of its own; it shares its bytes.
     fn push(&mut self, message: &Message) -> Result<(), AllocError>
         ensures err { OnErr result (self.new ≡ self.old) }
-        ensures ok { OnOk result (self.new ≡ with_one message.now self.old) }
+        ensures ok { OnOk result (self.new ≡ pushed message.now self.old) }
     {
-        if self.wants(message) {
+        if self.runs() && self.wants(message) {
             let copy = message.try_clone()?;
             self.items.push_back(copy)?;
         }
@@ -132,10 +175,64 @@ impl Queue {
 
     /// Takes back the message that was pushed last.
     fn take_back(&mut self, message: &Message)
-        ensures { (q : Held) → self.old ≡ with_one message.now q → self.new ≡ q }
+        ensures { (q : Held) → self.old ≡ pushed message.now q → self.new ≡ q }
     {
-        if self.wants(message) {
+        if self.runs() && self.wants(message) {
             let _ = self.items.pop_back();
+        }
+    }
+
+    /// The message may be the reply to its AddMatch: the return opens it; an error denies it, and is kept by that copy.
+    fn settle(&mut self, message: &Message, copy: Option<Message>)
+        requires { denies_by message.now self.old.progress ≡ true → copy ≡ Some message.now }
+        ensures { self.new ≡ settled message.now self.old }
+    {
+        let Progress::Waits { serial, .. } = &self.progress else {
+            return;
+        };
+        if !bears(*serial, message) {
+            return;
+        }
+        if is_return(message) {
+            self.progress = Progress::Runs;
+            return;
+        }
+        let Some(copy) = copy else { unreachable!() };
+        self.wants = None;
+        self.progress = Progress::Denied(copy);
+    }
+
+    /// Whether the stream is open, as who asked for it is told now. Nothing more is asked of one that will not be.
+    fn ask(&mut self, closing: Option<Error>) -> OpenState
+        ensures told { result ≡ held_opening (Some self.old) closing }
+        ensures left { is_end result ≡ false → Some self.new ≡ opened_held result (Some self.old) }
+    {
+        if self.opened {
+            return OpenState::Unknown;
+        }
+        match mem::replace(&mut self.progress, Progress::Runs) {
+            Progress::Denied(message) => OpenState::Refused(message),
+            Progress::Runs => {
+                self.opened = true;
+                OpenState::Open
+            }
+            Progress::Waits { serial, index } => match closing {
+                Some(error) => OpenState::Over(error),
+                None => {
+                    self.progress = Progress::Waits { serial, index };
+                    OpenState::NotYet
+                }
+            },
+        }
+    }
+
+    /// Whether the stream waits for the return to an AddMatch with this place in the outbox.
+    fn asks_by(&self, index: u64) -> bool
+        ensures { result ≡ waits_by index self.now.progress }
+    {
+        match &self.progress {
+            Progress::Waits { index: place, .. } => *place == index,
+            Progress::Runs | Progress::Denied(_) => false,
         }
     }
 
@@ -148,10 +245,13 @@ impl Queue {
             items.push_back(message.try_clone()?)?;
         }
         let wants = clone_subscription(&self.wants, alloc)?;
+        let progress = self.progress.try_clone()?;
         Ok(Queue {
             wants,
+            progress,
             items,
             told: self.told,
+            opened: self.opened,
         })
     }
 
@@ -228,7 +328,7 @@ impl Queue {
     /// The first message; else nothing yet; on a closed peer the closing error once, then the end.
     fn take(&mut self, closing: Option<Error>) -> Polled<Message>
         ensures gives { result ≡ take_by self.old.items closing self.old.told }
-        ensures left { self.new ≡ after_take closing self.old }
+        ensures left { self.new ≡ after_by self.old self.old.items closing }
     {
         if let Some(message) = self.items.pop_front() {
             return Polled::Now(message);
@@ -244,7 +344,7 @@ impl Queue {
     }
 }
 
-/// One message more for a stream that is open. Want of memory changes nothing.
+/// One message more for a stream that takes messages. Want of memory changes nothing.
 pub(crate) fn push_to(queue: &mut Option<Queue>, message: &Message) -> Result<(), AllocError>
     ensures err { OnErr result (queue.new ≡ queue.old) }
     ensures ok { OnOk result (queue.new ≡ queued message.now queue.old) }
@@ -255,7 +355,7 @@ pub(crate) fn push_to(queue: &mut Option<Queue>, message: &Message) -> Result<()
     }
 }
 
-/// Takes the message that was pushed last back from a stream that is open.
+/// Takes the message that was pushed last back.
 pub(crate) fn take_back_from(queue: &mut Option<Queue>, message: &Message)
     ensures { (q : Option Held) → queue.old ≡ queued message.now q → queue.new ≡ q }
 {
@@ -264,7 +364,40 @@ pub(crate) fn take_back_from(queue: &mut Option<Queue>, message: &Message)
     }
 }
 
-/// A stream of this rule asks for more, where it is open.
+/// Whether the message denies the stream.
+pub(crate) fn denies(queue: &Option<Queue>, message: &Message) -> bool
+    ensures { result ≡ denies message.now queue.now }
+{
+    match queue {
+        Some(queue) => queue.denies(message),
+        None => false,
+    }
+}
+
+/// The message may be the reply to the stream's AddMatch; where it denies the stream, it is kept by that copy.
+pub(crate) fn settle_in(queue: &mut Option<Queue>, message: &Message, copy: Option<Message>)
+    requires { denies message.now queue.old ≡ true → copy ≡ Some message.now }
+    ensures { queue.new ≡ settled_at message.now queue.old }
+{
+    if let Some(queue) = queue {
+        queue.settle(message, copy);
+    }
+}
+
+/// The stream is gone where it waits for the return to an AddMatch with this place in the outbox.
+pub(crate) fn lose_in(queue: &mut Option<Queue>, index: u64)
+    ensures { queue.new ≡ lost_at index queue.old }
+{
+    let asks = match queue {
+        Some(queue) => queue.asks_by(index),
+        None => false,
+    };
+    if asks {
+        *queue = None;
+    }
+}
+
+/// A stream of this rule asks for more.
 pub(crate) fn raise_in(queue: &mut Option<Queue>, rule: &OwnedMatchRule, asked: Option<u64>)
     ensures { queue.new ≡ option_map (raise_held rule.now asked) queue.old }
 {
@@ -273,7 +406,7 @@ pub(crate) fn raise_in(queue: &mut Option<Queue>, rule: &OwnedMatchRule, asked: 
     }
 }
 
-/// Its capacity, where it is open and of this rule.
+/// Its capacity, where it is of this rule.
 pub(crate) fn limit_in(queue: &Option<Queue>, rule: &OwnedMatchRule) -> Option<u64>
     ensures { result ≡ limit_if rule.now (wants_of queue.now) }
 {
@@ -283,7 +416,7 @@ pub(crate) fn limit_in(queue: &Option<Queue>, rule: &OwnedMatchRule) -> Option<u
     }
 }
 
-/// Whether the stream is open and holds more than it may.
+/// Whether the stream holds more than it may.
 pub(crate) fn is_full(queue: &Option<Queue>, main: u64) -> bool
     ensures { result ≡ is_over main queue.now }
 {
@@ -298,12 +431,12 @@ pub(crate) fn take_from(
     queue: &mut Option<Queue>,
     closing: Option<Error>,
 ) -> Result<Polled<Message>, Error>
-    ensures gives { result ≡ held_gives queue.old closing }
+    ensures gives { result ≡ held_gives (option_and_then if_usable queue.old) closing }
     ensures left { queue.new ≡ option_map (after_take closing) queue.old }
 {
     match queue {
-        Some(queue) => Ok(queue.take(closing)),
-        None => Err(Error::UnknownHandle),
+        Some(queue) if queue.is_usable() => Ok(queue.take(closing)),
+        _ => Err(Error::UnknownHandle),
     }
 }
 
@@ -312,4 +445,21 @@ pub(crate) fn close(queue: &mut Option<Queue>)
     ensures { queue.new ≡ None }
 {
     *queue = None;
+}
+
+/// Whether the stream is open, as who asked for it is told now; a stream that will not be is gone. `closing` is what closed the
+/// peer.
+pub(crate) fn ask_in(queue: &mut Option<Queue>, closing: Option<Error>) -> OpenState
+    ensures told { result ≡ held_opening queue.old closing }
+    ensures left { queue.new ≡ opened_held (held_opening queue.old closing) queue.old }
+{
+    let Some(asked) = queue else {
+        return OpenState::Unknown;
+    };
+    let state = asked.ask(closing);
+    if state.is_end() {
+        *queue = None;
+        return state;
+    }
+    state
 }

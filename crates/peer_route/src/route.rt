@@ -1,7 +1,7 @@
-ghost use Rattle.std.specs.Prelude.{ℕ, ◌≡◌, ◌≢◌, ◌↔◌, IsTrue, ◌+◌, ◌<◌, ◌≤◌, ◌^◌, ◌-◌, ◌==◌, [], ◌∷◌, ◌++◌, List, length, position, slice_get, option_copied, option_map, Some, None, is_none, true, false, IfErr, OnOk};
+ghost use Rattle.std.specs.Prelude.{ℕ, ◌≡◌, ◌≢◌, ◌↔◌, IsTrue, ◌+◌, ◌<◌, ◌≤◌, ◌^◌, ◌-◌, ◌==◌, [], ◌∷◌, ◌++◌, List, length, position, slice_get, option_copied, option_map, is_none, Some, None, Ok, Err, true, false, IfOk, IfErr, OnOk, OnErr};
 ghost use Rattle.std.specs.Borrow.{sem};
 ghost use Rattle.peer_route.specs.Lending.{LendsCalls};
-ghost use Rattle.peer_route.specs.History.{Event, Took, Shut, Wrote, Fault, Named, poll_answer, poll_events, drop_answer, drop_events};
+ghost use Rattle.peer_route.specs.History.{Event, Took, Shut, Put, Wrote, Fault, Named, poll_answer, poll_events, drop_answer, drop_events};
 ghost use Rattle.peer_route.specs.History as history;
 ghost use Rattle.peer_route.specs.Streams.{busy};
 ghost use Rattle.peer_route.specs.Left.{is_busy, View, Left};
@@ -37,6 +37,10 @@ pub struct Issued {
 pub struct Route {
     pub(crate) alloc: Global,
     pub(crate) calls: PendingMethodCalls,
+    /// Whether the peer stands on a message bus.
+    pub(crate) bus: bool,
+    /// Its unique name, by which it sends.
+    pub(crate) name: Option<OwnedUniqueName>,
     pub(crate) streams: Streams,
     /// How many messages a stream without a rule may hold before reads wait.
     pub(crate) main: u64,
@@ -47,8 +51,6 @@ pub struct Route {
     pub(crate) places: Vec<u64>,
     done: u64,
     pub(crate) writer: Writer,
-    /// Its unique name, by which it sends.
-    pub(crate) name: Option<OwnedUniqueName>,
 }
 
 impl Model for Route {
@@ -56,7 +58,7 @@ impl Model for Route {
 
     ghost Value = { View };
 
-    ghost view = { λ r. record { calls = r.calls; streams = r.streams; main = r.main; read = r.received; last = r.serials; outbox = r.outbox.items; places = r.places.items; done = r.done; writer = r.writer; name = r.name } };
+    ghost view = { λ r. record { calls = r.calls; bus = r.bus; name = r.name; streams = r.streams; main = r.main; read = r.received; last = r.serials; outbox = r.outbox.items; places = r.places.items; done = r.done; writer = r.writer } };
 }
 
 /// The number of the call whose message has this place in the outbox.
@@ -74,6 +76,8 @@ impl Route {
         Route {
             alloc,
             calls: PendingMethodCalls::new(alloc),
+            bus: false,
+            name: None,
             streams: Streams::new(alloc),
             main: CAPACITY,
             received: 0,
@@ -82,7 +86,6 @@ impl Route {
             places: Vec::new(alloc),
             done: 0,
             writer: Writer::Fine,
-            name: None,
         }
     }
 
@@ -242,6 +245,7 @@ impl Route {
     {
         self.done += 1;
         self.writer = self.writer.then(Writer::Failed);
+        self.streams.lose(index);
         if let Some(call) = call_at(&self.places, index) {
             self.calls.lose(call);
         }

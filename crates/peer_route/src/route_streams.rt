@@ -2,22 +2,15 @@
 ghost use Rattle.std.specs.Prelude.{ℕ, ◌≡◌, ◌++◌, ◌∷◌, List, length, option_map, OnOk, OnErr, IfOk};
 ghost use Rattle.peer_route.specs.History.{Event, Made, Plain, Main};
 ghost use Rattle.peer_route.specs.History as history;
-ghost use Rattle.peer_route.specs.Streams.{main, take_answer, take_events, next_position, is_over, are_open, close_answer, close_events, ask_answer, ask_events, limit_answer, rule_answer};
-ghost use Rattle.peer_route.specs.Left.{Left, Clones, OpensRule};
+ghost use Rattle.peer_route.specs.Streams.{main, take_answer, take_events, next_position, is_over, are_open, ask_answer, ask_events, limit_answer, rule_answer};
+ghost use Rattle.peer_route.specs.Left.{Left, Clones};
 
 use crate::polled::{Polled, by_position};
 use crate::route::Route;
 use crate::streams::MessageStream;
 use rule_match::OwnedMatchRule;
 use std::alloc::AllocError;
-use wire_message::{Error, IoKind, Message, Result, Sequence};
-
-/// The stream's number, where there is one.
-fn number_of(stream: Option<MessageStream>) -> Option<u64>
-    ensures { result ≡ option_map (λ s. s.number) stream }
-{
-    stream.map(|stream| stream.number)
-}
+use wire_message::{Error, Message, Result, Sequence};
 
 impl Route {
     /// Opens a stream of all messages that are read from now on. One that is opened on a closed peer is ended. Want of memory
@@ -29,27 +22,6 @@ impl Route {
     {
         let told = self.calls.closing().is_some();
         let number = self.streams.open(told)?;
-        Ok(MessageStream { number })
-    }
-
-    /// Opens a stream of those messages that are read from now on and that the rule accepts. All open streams of one rule share
-    /// one capacity: the rule's first stream gives it the one that is asked for, or 8 where the rule is one of an owner's changes
-    /// (the bus's NameOwnerChanged of one name), else 64; a later one that asks for more raises it.
-    ///
-    /// # Errors
-    ///
-    /// InputOutput(Closed) exactly where the peer is closed; Memory. An error changes nothing.
-    pub fn open_rule(
-        &mut self,
-        rule: OwnedMatchRule,
-        max_queued: Option<u64>,
-    ) -> Result<MessageStream>
-        ensures { (h : List Event) → Left self.old h → OpensRule self.old self.new rule max_queued h result }
-    {
-        if self.calls.closing().is_some() {
-            return Err(Error::InputOutput(IoKind::Closed));
-        }
-        let number = self.streams.open_rule(rule, max_queued)?;
         Ok(MessageStream { number })
     }
 
@@ -74,38 +46,13 @@ impl Route {
     }
 
     /// Whether the stream with this number is open, and the second, where there is one, and they are two.
-    fn are_open(&self, stream: u64, second: Option<u64>) -> bool
+    pub(crate) fn are_open(&self, stream: u64, second: Option<u64>) -> bool
         ensures { (h : List Event) → Left self.now h → result ≡ are_open h stream second }
     {
         match second {
             Some(other) => self.streams.are_two(stream, other),
             None => self.streams.is_open(stream),
         }
-    }
-
-    /// Closes the stream, and then the second, in one step; what they hold goes away. Takes no memory.
-    ///
-    /// # Errors
-    ///
-    /// UnknownHandle exactly where one of them isn't open, or they are one. An error changes nothing.
-    pub fn close_stream(
-        &mut self,
-        stream: MessageStream,
-        second: Option<MessageStream>,
-    ) -> Result<()>
-        ensures answer { (h : List Event) → Left self.old h → result ≡ close_answer h stream.number (option_map (λ s. s.number) second) }
-        ensures left { (h : List Event) → Left self.old h → Left self.new (close_events stream.number (option_map (λ s. s.number) second) result ++ h) }
-    {
-        let MessageStream { number } = stream;
-        let other = number_of(second);
-        if !self.are_open(number, other) {
-            return Err(Error::UnknownHandle);
-        }
-        self.streams.end(number);
-        if let Some(other) = other {
-            self.streams.end(other);
-        }
-        Ok(())
     }
 
     /// How many messages the stream may hold before reads wait.

@@ -1,13 +1,15 @@
 ghost use Rattle.std.specs.Prelude.{ℕ, ◌≡◌, ◌+◌, ◌<◌, ◌≤◌, ◌++◌, ◌∷◌, ◌&&◌, ◌==◌, not, [], List, length, Option, Some, None, OnOk, OnErr, IfOk, map, option_map, is_some};
 ghost use Rattle.std.specs.List.{list_any};
 ghost use Rattle.peer_route.specs.History.{edit};
-ghost use Rattle.peer_route.specs.Left.{Held, empty_held, queued, queued_first, is_over, limit_or, raise_all, shared, limit_now, with_stream, wants_of, asked_for, after_take, kept_at, held_gives, next_held, ended_by, ClonesHeld};
+ghost use Rattle.peer_route.specs.Left.{Held, empty_held, queued, queued_first, denied_count, repeated, settled_at, arrived_at, lost_at, with_asking, any_at, held_opening, opened_held, is_over, limit_or, raise_all, shared, limit_now, with_stream, wants_of, asked_for, after_take, kept_at, held_gives, next_held, ended_by, ClonesHeld};
+ghost use Rattle.peer_route.specs.Leaving.{without_both, is_without};
 
 use crate::owner_rule::usual;
 use crate::polled::Polled;
+use crate::progress::OpenState;
 use crate::queue::{
-    Queue, Subscription, close, is_full, limit_in, push_to, raise_in, raised, take_back_from,
-    take_from,
+    Queue, Subscription, ask_in, close, denies, is_full, limit_in, lose_in, push_to, raise_in,
+    raised, settle_in, take_back_from, take_from,
 };
 use rule_match::OwnedMatchRule;
 use std::alloc::{AllocError, Global};
@@ -49,6 +51,56 @@ fn take_back_each(queues: &mut Vec<Option<Queue>>, count: usize, message: &Messa
     }
 }
 
+/// How many streams the message denies.
+fn count_denied(queues: &[Option<Queue>], message: &Message) -> usize
+    ensures { result ≡ denied_count message.now queues.now }
+{
+    let mut count = 0;
+    for queue in queues {
+        if denies(queue, message) {
+            count += 1;
+        }
+    }
+    count
+}
+
+/// So many copies of a message, which share its bytes.
+fn copies_of(alloc: Global, message: &Message, count: usize) -> Result<Vec<Message>, AllocError>
+    ensures { IfOk result (λ copies. copies.items ≡ repeated count message.now) }
+{
+    let mut copies = Vec::new(alloc);
+    let mut made = 0;
+    while made < count {
+        copies.push(message.try_clone()?)?;
+        made += 1;
+    }
+    Ok(copies)
+}
+
+/// The message may be the reply to the AddMatch of each stream that waits. For each that it denies there is a copy.
+fn settle_each(queues: &mut Vec<Option<Queue>>, message: &Message, mut copies: Vec<Message>)
+    requires { copies.items ≡ repeated (denied_count message.now queues.old.items) message.now }
+    ensures { queues.new.items ≡ map (settled_at message.now) queues.old.items }
+{
+    for queue in queues.iter_mut() {
+        let copy = if denies(queue, message) {
+            copies.pop()
+        } else {
+            None
+        };
+        settle_in(queue, message, copy);
+    }
+}
+
+/// Each stream that waits for the return to an AddMatch with this place in the outbox is gone.
+fn lose_each(queues: &mut Vec<Option<Queue>>, index: u64)
+    ensures { queues.new.items ≡ map (lost_at index) queues.old.items }
+{
+    for queue in queues.iter_mut() {
+        lose_in(queue, index);
+    }
+}
+
 /// A stream of this rule asks for more: each open one of the rule may hold it.
 fn raise_each(queues: &mut Vec<Option<Queue>>, rule: &OwnedMatchRule, asked: Option<u64>)
     ensures { queues.new.items ≡ raise_all rule.now asked queues.old.items }
@@ -68,6 +120,30 @@ fn shared(queues: &[Option<Queue>], rule: &OwnedMatchRule) -> Option<u64>
         }
     }
     None
+}
+
+/// Whether a stream is of this rule, but those at these places.
+fn stays(queues: &[Option<Queue>], rule: &OwnedMatchRule, one: u64, before: Option<u64>) -> bool
+    ensures { result ≡ is_some (shared rule.now (without_both one before queues.now)) }
+{
+    let mut place = 0;
+    while place < queues.len() {
+        if !is_without(one, before, place as u64) && limit_in(&queues[place], rule).is_some() {
+            return true;
+        }
+        place += 1;
+    }
+    false
+}
+
+/// Whether the stream at this place is one of those.
+fn is_without(one: u64, before: Option<u64>, place: u64) -> bool
+    ensures { result ≡ is_without one before place }
+{
+    match before {
+        Some(before) => place == one || place == before,
+        None => place == one,
+    }
 }
 
 /// What a new stream of this rule may hold: the rule's first has what is asked for, or what is usual.
@@ -142,11 +218,68 @@ impl Streams {
         Ok(place as u64)
     }
 
-    /// What is kept of the stream with this number; None where it was closed, or never made.
+    /// A new stream of this rule that waits for the return to its AddMatch, which has this serial and this place in the outbox; and
+    /// its number. Where it asks for more than the rule's streams may hold, they may hold it too.
+    pub(crate) fn open_asking(
+        &mut self,
+        rule: OwnedMatchRule,
+        asked: Option<u64>,
+        serial: u32,
+        index: u64,
+    ) -> Result<u64, AllocError>
+        ensures err { OnErr result (self.new ≡ self.old) }
+        ensures number { IfOk result (λ k. k ≡ length self.old) }
+        ensures ok { OnOk result (self.new ≡ with_asking rule asked serial index self.old) }
+    {
+        let place = self.queues.len();
+        let limit = limit_now(&rule, asked, shared(self.queues.as_slice(), &rule));
+        // its place is made first: want of memory changes nothing
+        self.queues.push(None)?;
+        raise_each(&mut self.queues, &rule, asked);
+        let wants = Subscription { rule, limit };
+        self.queues[place] = Some(Queue::asking(self.alloc, wants, serial, index));
+        Ok(place as u64)
+    }
+
+    /// Whether the stream with this number is open, as who asked for it is told now; one that will not be is gone. `closing` is
+    /// what closed the peer.
+    pub(crate) fn ask_open(&mut self, stream: u64, closing: Option<Error>) -> OpenState
+        ensures told { result ≡ held_opening (any_at self.old stream) closing }
+        ensures left { self.new ≡ edit stream (opened_held (held_opening (any_at self.old stream) closing)) self.old }
+    {
+        if stream >= self.queues.len() as u64 {
+            return OpenState::Unknown;
+        }
+        ask_in(&mut self.queues[stream as usize], closing)
+    }
+
+    /// Each stream that waits for the return to an AddMatch with this place in the outbox is gone.
+    pub(crate) fn lose(&mut self, index: u64)
+        ensures { self.new ≡ map (lost_at index) self.old }
+    {
+        lose_each(&mut self.queues, index);
+    }
+
+    /// What is kept of the stream with this number; None where it isn't open.
     fn queue(&self, stream: u64) -> Option<&Queue>
         ensures { option_map (λ q. q.now) result ≡ kept_at self.now stream }
     {
-        self.queues.get(stream as usize)?.as_ref()
+        let queue = self.queues.get(stream as usize)?.as_ref()?;
+        if queue.is_usable() { Some(queue) } else { None }
+    }
+
+    /// Whether a stream of this rule is open, or being opened.
+    pub(crate) fn has_rule(&self, rule: &OwnedMatchRule) -> bool
+        ensures { result ≡ is_some (shared rule.now self.now) }
+    {
+        shared(self.queues.as_slice(), rule).is_some()
+    }
+
+    /// Whether a stream of this rule is open, or being opened, but for these.
+    pub(crate) fn stays(&self, rule: &OwnedMatchRule, stream: u64, before: Option<u64>) -> bool
+        ensures { result ≡ is_some (shared rule.now (without_both stream before self.now)) }
+    {
+        stays(self.queues.as_slice(), rule, stream, before)
     }
 
     /// Whether the stream with this number is open.
@@ -177,7 +310,7 @@ impl Streams {
         Ok(number)
     }
 
-    /// Closes the stream with this number; one that isn't open stays as it is.
+    /// Closes the stream with this number.
     pub(crate) fn end(&mut self, stream: u64)
         ensures { self.new ≡ edit stream (λ q. None) self.old }
     {
@@ -186,16 +319,20 @@ impl Streams {
         }
     }
 
-    /// Gives a message to each stream that is open. Want of memory changes nothing.
+    /// Gives a message to each stream that runs, and opens or denies each whose AddMatch it answers. Want of memory changes
+    /// nothing.
     pub(crate) fn arrive(&mut self, message: &Message) -> Result<(), AllocError>
         ensures err { OnErr result (self.new ≡ self.old) }
-        ensures ok { OnOk result (self.new ≡ map (queued message.now) self.old) }
+        ensures ok { OnOk result (self.new ≡ map (arrived_at message.now) self.old) }
     {
+        let denied = count_denied(self.queues.as_slice(), message);
+        let copies = copies_of(self.alloc, message, denied)?;
         let count = push_each(&mut self.queues, message);
         if count < self.queues.len() {
             take_back_each(&mut self.queues, count, message);
             return Err(AllocError);
         }
+        settle_each(&mut self.queues, message, copies);
         Ok(())
     }
 
@@ -228,7 +365,7 @@ impl Streams {
         ensures has { result ≡ is_some (wants_of (kept_at self.old stream)) }
         ensures raised { self.new ≡ asked_for (wants_of (kept_at self.old stream)) limit self.old }
     {
-        if stream >= self.queues.len() as u64 {
+        if stream >= self.queues.len() as u64 || !self.is_open(stream) {
             return false;
         }
         let place = stream as usize;

@@ -1,6 +1,6 @@
 use crate::told::{
-    Kind, Told, arrives, call, call_with, close, closed_by, goes_to_a_call, let_calls_go,
-    let_route_go, open_rule, plain, register, told_by,
+    Gone, Kind, Told, arrives, call, call_with, close, closed_by, goes_to_a_call, let_calls_go,
+    let_route_go, open_rule, plain, register, spend, told_by,
 };
 use crate::{
     Issued, MessageStream, PendingMethodCalls, Route, answered_by_the_closing_error,
@@ -236,7 +236,7 @@ fn a_closed_stream_is_unknown(rt: HostRuntime) {
     let mut route = Route::new(rt.alloc());
     let stream = route.open().expect(&rt, "no memory");
     assert!(rt; !route.is_terminated(&stream));
-    assert_eq!(rt; plain(route.close_stream(stream, None)), Ok(()));
+    assert_eq!(rt; spend(&mut route, stream, None), Gone::Closed(None));
     let gone = MessageStream { number: 0 };
     assert!(rt; route.is_terminated(&gone));
     assert_eq!(rt; told_by(route.take(&gone)), UNKNOWN);
@@ -252,13 +252,11 @@ fn two_streams_are_closed_at_once(rt: HostRuntime) {
     let mut route = Route::new(rt.alloc());
     let first = route.open().expect(&rt, "no memory");
     let second = route.open().expect(&rt, "no memory");
-    let twice = route.close_stream(
-        MessageStream { number: 0 },
-        Some(MessageStream { number: 0 }),
-    );
-    assert_eq!(rt; plain(twice), Err(Kind::UnknownHandle));
+    let (one, same) = (MessageStream { number: 0 }, MessageStream { number: 0 });
+    let twice = spend(&mut route, one, Some(same));
+    assert_eq!(rt; twice, Gone::Over(Kind::UnknownHandle));
     assert!(rt; !route.is_terminated(&first));
-    assert_eq!(rt; plain(route.close_stream(first, Some(second))), Ok(()));
+    assert_eq!(rt; spend(&mut route, first, Some(second)), Gone::Closed(None));
     assert!(rt; route.is_terminated(&MessageStream { number: 0 }));
     assert!(rt; route.is_terminated(&MessageStream { number: 1 }));
     let_route_go(route);
@@ -283,7 +281,7 @@ fn a_closed_stream_keeps_no_read_back(rt: HostRuntime) {
     assert_eq!(rt; route.main_max_queued(), 0);
     assert!(rt; arrives(&mut route, rt.alloc(), 1));
     assert!(rt; route.busy());
-    assert_eq!(rt; plain(route.close_stream(stream, None)), Ok(()));
+    assert_eq!(rt; spend(&mut route, stream, None), Gone::Closed(None));
     assert!(rt; !route.busy());
     let_route_go(route);
 }

@@ -3,7 +3,9 @@
 ghost use Rattle.std.specs.Prelude.{ℕ, ◌≡◌, ◌<◌, ◌^◌, length, is_some, IfOk};
 ghost use Rattle.std.specs.List.{AllByRecursion};
 
-use crate::{Issued, Letter, MessageStream, PendingMethodCalls, Polled, Route};
+use crate::{
+    Issued, Letter, MessageStream, Opened, Opening, Opens, PendingMethodCalls, Polled, Route, Spent,
+};
 use rule_match::OwnedMatchRule;
 use std::alloc::Global;
 use wire_body::Body;
@@ -17,6 +19,12 @@ const RETURN: [u8; 24] = [
     108, 2, 0, 1, 0, 0, 0, 0, 1, 0, 0, 0, 8, 0, 0, 0, 5, 1, 117, 0, 1, 0, 0, 0,
 ];
 
+/// The error `a.b` with serial 1 that answers serial 1.
+const ERROR: [u8; 40] = [
+    108, 3, 0, 1, 0, 0, 0, 0, 1, 0, 0, 0, 24, 0, 0, 0, 4, 1, 115, 0, 3, 0, 0, 0, 97, 46, 98, 0, 0,
+    0, 0, 0, 5, 1, 117, 0, 1, 0, 0, 0,
+];
+
 /// What a call was refused for, or what closed a peer.
 #[derive(Clone, Copy, PartialEq, Eq, Debug)]
 pub(crate) enum Kind {
@@ -26,6 +34,7 @@ pub(crate) enum Kind {
     ExcessData,
     IncorrectEndian,
     Depth,
+    Busy,
     /// Another error, or the test couldn't ask.
     Other,
 }
@@ -42,12 +51,32 @@ pub(crate) enum Told {
     Refused(Kind),
 }
 
+/// What became of a stream that waits for the return to its AddMatch.
+#[derive(Drop)]
+pub(crate) enum Fate {
+    Open(MessageStream),
+    NotYet(Opening),
+    Refused,
+    Over(Kind),
+    Memory,
+}
+
+/// What closing streams gave.
+#[derive(Clone, Copy, PartialEq, Eq, Debug)]
+pub(crate) enum Gone {
+    /// They are closed, with the serial of the last RemoveMatch.
+    Closed(Option<u32>),
+    Back(Kind),
+    Over(Kind),
+}
+
 fn kind_of(error: &Error) -> Kind {
     match error {
         Error::UnknownHandle => Kind::UnknownHandle,
         Error::InputOutput(IoKind::WriteFault) => Kind::WriteFault,
         Error::InputOutput(IoKind::Closed) => Kind::Closed,
         Error::ExcessData => Kind::ExcessData,
+        Error::Busy => Kind::Busy,
         Error::IncorrectEndian => Kind::IncorrectEndian,
         Error::Variant(VariantError::Depth) => Kind::Depth,
         _ => Kind::Other,
@@ -96,17 +125,20 @@ fn reply(alloc: Global) -> Result<Message, Kind> {
     Ok(message.at(1))
 }
 
+/// The error, at position 1.
+fn denial(alloc: Global) -> Result<Message, Kind> {
+    let (message, _) = plain(header_front(alloc, &ERROR))?;
+    Ok(message.at(1))
+}
+
 /// Whether the return, at position 1, goes to a call.
 pub(crate) fn goes_to_a_call(calls: &mut PendingMethodCalls, alloc: Global) -> Result<bool, Kind> {
     let message = reply(alloc)?;
     Ok(calls.complete_call(message).is_none())
 }
 
-/// The return arrives at that position, where the peer takes a message, and none but this comes next; else it doesn't.
-pub(crate) fn arrives(route: &mut Route, alloc: Global, position: u64) -> bool {
-    let Ok(message) = reply(alloc) else {
-        return false;
-    };
+/// The message arrives at that position, where the peer takes a message, and none but this comes next; else it doesn't.
+fn comes(route: &mut Route, message: Message, position: u64) -> bool {
     if closed_by(route.closing()).is_some() || route.busy() {
         return false;
     }
@@ -115,6 +147,22 @@ pub(crate) fn arrives(route: &mut Route, alloc: Global, position: u64) -> bool {
         return false;
     }
     route.arrive(message.at(position)).is_ok()
+}
+
+/// The return arrives at that position, where the peer takes a message, and none but this comes next; else it doesn't.
+pub(crate) fn arrives(route: &mut Route, alloc: Global, position: u64) -> bool {
+    match reply(alloc) {
+        Ok(message) => comes(route, message, position),
+        Err(_) => false,
+    }
+}
+
+/// The error arrives so.
+pub(crate) fn denied(route: &mut Route, alloc: Global, position: u64) -> bool {
+    match denial(alloc) {
+        Ok(message) => comes(route, message, position),
+        Err(_) => false,
+    }
 }
 
 /// Issues one message.
@@ -238,15 +286,55 @@ pub(crate) fn call_and_signal(
     }
 }
 
+/// Closes a stream, or two in one step.
+pub(crate) fn spend(
+    route: &mut Route,
+    stream: MessageStream,
+    second: Option<MessageStream>,
+) -> Gone {
+    match route.close_stream(stream, second) {
+        Spent::Gone(last) => Gone::Closed(last),
+        Spent::Back(_, _, error) => Gone::Back(kind_of(&error)),
+        Spent::Over(error) => Gone::Over(kind_of(&error)),
+    }
+}
+
 /// Opens a stream of the rule that a text is, with a capacity that is asked for, or none.
+fn opens(route: &mut Route, alloc: Global, text: &str, asked: Option<u64>) -> Result<Opens, Kind> {
+    let rule = plain(OwnedMatchRule::try_from(alloc, text))?;
+    plain(route.open_rule(rule, asked))
+}
+
+/// The stream of the rule that a text is, where it is open at once.
 pub(crate) fn open_rule(
     route: &mut Route,
     alloc: Global,
     text: &str,
     asked: Option<u64>,
 ) -> Result<MessageStream, Kind> {
-    let rule = plain(OwnedMatchRule::try_from(alloc, text))?;
-    plain(route.open_rule(rule, asked))
+    match opens(route, alloc, text, asked)? {
+        Opens::Open(stream) => Ok(stream),
+        Opens::Opening(_) => Err(Kind::Other),
+    }
+}
+
+/// The opening of a stream of the rule that a text is, where the bus is asked for it.
+pub(crate) fn opening(route: &mut Route, alloc: Global, text: &str) -> Result<Opening, Kind> {
+    match opens(route, alloc, text, None)? {
+        Opens::Opening(opening) => Ok(opening),
+        Opens::Open(_) => Err(Kind::Other),
+    }
+}
+
+/// What became of the stream.
+pub(crate) fn shown(route: &mut Route, opening: Opening) -> Fate {
+    match route.poll_open(opening) {
+        Opened::Open(stream) => Fate::Open(stream),
+        Opened::NotYet(opening) => Fate::NotYet(opening),
+        Opened::Memory(_) => Fate::Memory,
+        Opened::Refused(_) => Fate::Refused,
+        Opened::Over(error) => Fate::Over(kind_of(&error)),
+    }
 }
 
 /// Gives the peer that name; whether it had none.

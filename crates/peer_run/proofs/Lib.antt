@@ -8,6 +8,8 @@ pub mod PollStep
 pub mod StreamStep
 pub mod TakeStep
 pub mod ChangeStep
+pub mod NoBus
+pub mod LeaveStep
 pub mod OpenStep
 pub mod CloseStep
 pub mod SendStep

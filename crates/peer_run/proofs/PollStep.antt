@@ -175,14 +175,14 @@ follows_unknown_before setting p es lane number before f none =
 -- a poll's closing error is the peer's
 closed_at : (h : List events.Event) (c : Option events.Call) (error : Error) → events.polled_at h c ≡ Ok (polled.Closed error) → events.closing h ≡ Some error
 closed_at h None error e = cc
-closed_at h (Some c) error e = closed_if (events.is_gone c) e
+closed_at h (Some c) error e = closed_if (events.is_nobodys c) e
   where
     closed_by : (found : Option Seen) (closing : Option Error) → events.polled_by found closing ≡ Ok (polled.Closed error) → closing ≡ Some error
     closed_by (Some m) closing e = cc
     closed_by None (Some other) e = cc
     closed_by None None e = cc
 
-    closed_if : (gone : Bool) → (if gone then Err errors.UnknownHandle else events.polled_by (events.found h c) (events.closing h)) ≡ Ok (polled.Closed error) → events.closing h ≡ Some error
+    closed_if : (nobodys : Bool) → (if nobodys then Err errors.UnknownHandle else events.polled_by (events.found h c) (events.closing h)) ≡ Ok (polled.Closed error) → events.closing h ≡ Some error
     closed_if true e = cc
     closed_if false e = closed_by (events.found h c) (events.closing h) e
 

@@ -95,6 +95,9 @@ AreQuiet (events.Shut error ∷ xs) = ⊥
 AreQuiet (events.Put m expects ∷ xs) = ⊥
 AreQuiet (events.Wrote ∷ xs) = ⊥
 AreQuiet (events.Fault ∷ xs) = ⊥
+AreQuiet (events.OnBus ∷ xs) = ⊥
+AreQuiet (events.Added m rule asked ∷ xs) = ⊥
+AreQuiet (events.Removed m ∷ xs) = ⊥
 
 -- what such events leave as it was
 pub record Same (g h : List events.Event) : Type 0 where
@@ -116,6 +119,9 @@ quiet_same (events.Shut error ∷ xs) h q = absurd q
 quiet_same (events.Put m expects ∷ xs) h q = absurd q
 quiet_same (events.Wrote ∷ xs) h q = absurd q
 quiet_same (events.Fault ∷ xs) h q = absurd q
+quiet_same (events.OnBus ∷ xs) h q = absurd q
+quiet_same (events.Added m rule asked ∷ xs) h q = absurd q
+quiet_same (events.Removed m ∷ xs) h q = absurd q
 
 -- what is set before the first entry
 pub first_same : (name : Option (List ℕ)) (queue : Option ℕ) → Same (first_events name queue) []

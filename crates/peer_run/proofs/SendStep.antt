@@ -27,7 +27,7 @@ use Rattle.peer_route.specs.Left.{Left}
 use Rattle.peer_route.proofs.Steps.{encodings-append}
 use Rattle.peer_route.proofs.Refused.{send_refused}
 use Rattle.peer_route.proofs.Sent.{trail_setting}
-use Rattle.peer_route.proofs.Given.{given_same, kept_given}
+use Rattle.peer_route.proofs.Given.{given_same, given_fault, kept_given}
 use Rattle.peer_run.specs.Stands.{PeerView, Inlet, Outlet, Follows, Reads, Writes, Holds, HoldsThen, RoomFor, IsReadFault, HasWriteFault, IsWriteFault, named, entry}
 use Rattle.peer_run.proofs.Quiet.{follows_more, quiet_same, poll_quiet, drop_quiet, stream_quiet, take_quiet, rise_after, rise_before, clone_quiet, unstream_quiet, queue_quiet, main_quiet, open_quiet, first_same}
 use Rattle.peer_run.proofs.Kept.{reads_kept, writes_kept, is_close, close_told}
@@ -225,7 +225,7 @@ follows_failed setting p q es lane serial w parcel k f r fine next names streams
     (names ∙ ap (named b None) f.names ∙ failed_names (trail setting es).names b ∙ ap (λ x. (trail setting es).names ++ failed_name x b) (sym fine)
     ∙ ap (λ (o : Option Asked). (trail setting es).names ++ new_names h lane o write_fault) (sym k.wants))
     (streams ∙ f.streams ∙ sym (append-nil (trail setting es).streams))
-    (given ∙ f.given ∙ sym (given_same (events.Fault ∷ events.Put (message_of parcel serial) b ∷ h) h refl refl)) f.legal
+    (given ∙ f.given ∙ sym (given_fault (events.Put (message_of parcel serial) b ∷ h) ∙ given_same (events.Put (message_of parcel serial) b ∷ h) h refl refl)) f.legal
     (k.answer write_fault (rw (r, fine) (inr refl)))
     (let same : q.core.read ≡ p.core.read = left.read ∙ sym f.left.read in rw same f.within)
     (left.done ∙ ap (λ n. n + 1) (sym f.left.done ∙ f.written ∙ ap length f.left.outbox) ∙ sym (length_push (events.put h) _) ∙ ap length (sym left.outbox))

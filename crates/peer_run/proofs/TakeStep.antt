@@ -167,14 +167,14 @@ closed_by [] None told error e = cc
 closed_by [] (Some other) false error e = cc
 closed_by [] (Some other) true error e = cc
 
-closed_if : (gone : Bool) (given : Polled Seen) (error : Error) → (if gone then Err errors.UnknownHandle else Ok given) ≡ Ok (polled.Closed error) → given ≡ polled.Closed error
+closed_if : (runs : Bool) (given : Polled Seen) (error : Error) → (if runs then Ok given else Err errors.UnknownHandle) ≡ Ok (polled.Closed error) → given ≡ polled.Closed error
 closed_if true given error e = cc
 closed_if false given error e = cc
 
 closed_at : (h : List events.Event) (s : Option streams.Stream) (error : Error) → streams.take_at h s ≡ Ok (polled.Closed error) → events.closing h ≡ Some error
 closed_at h None error e = cc
 closed_at h (Some s) error e =
-    closed_by (streams.held h s) (events.closing h) s.told error (closed_if s.gone (streams.take_by (streams.held h s) (events.closing h) s.told) error e)
+    closed_by (streams.held h s) (events.closing h) s.told error (closed_if (streams.runs h s) (streams.take_by (streams.held h s) (events.closing h) s.told) error e)
 
 take_closed : (h : List events.Event) (k : ℕ) (error : Error) → streams.take_answer h k ≡ Ok (polled.Closed error) → events.closing h ≡ Some error
 unfolding streams.take_answer

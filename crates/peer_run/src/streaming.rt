@@ -10,7 +10,7 @@ ghost use Rattle.peer_run.specs.Stands.{Inlet, Outlet, Follows, Reads, Writes, g
 
 use crate::peer::{Peer, RunError};
 use crate::showing::refused;
-use peer_route::{Answer, MessageStream, Polled};
+use peer_route::{Answer, MessageStream, Opens, Polled, Spent};
 use rule_match::OwnedMatchRule;
 use std::alloc::{AllocError, Global};
 use wire_message::{Error, Message, Sequence};
@@ -59,7 +59,9 @@ impl Peer {
             Err(error) => return refused(error),
         };
         match self.route.open_rule(rule, max_queued) {
-            Ok(_) => Ok(self.made(lane)?),
+            Ok(Opens::Open(_)) => Ok(self.made(lane)?),
+            // No command puts the peer on a bus, so no stream ever waits for one.
+            Ok(Opens::Opening(_)) => refused(Error::Busy),
             Err(error) => refused(error),
         }
     }
@@ -175,11 +177,13 @@ impl Peer {
             .route
             .close_stream(MessageStream { number: stream }, None)
         {
-            Ok(()) => {
+            Spent::Gone(_) => {
                 self.forget(stream);
                 Answer::Gone
             }
-            Err(error) => Answer::Refused(error),
+            Spent::Over(error) => Answer::Refused(error),
+            // No command puts the peer on a bus, so no stream is ever handed back.
+            Spent::Back(_, _, error) => Answer::Refused(error),
         }
     }
 
@@ -202,12 +206,14 @@ impl Peer {
             Some(MessageStream { number: other }),
         );
         match closed {
-            Ok(()) => {
+            Spent::Gone(_) => {
                 self.forget(stream);
                 self.forget(other);
                 Answer::Gone
             }
-            Err(error) => Answer::Refused(error),
+            Spent::Over(error) => Answer::Refused(error),
+            // No command puts the peer on a bus, so no stream is ever handed back.
+            Spent::Back(_, _, error) => Answer::Refused(error),
         }
     }
 

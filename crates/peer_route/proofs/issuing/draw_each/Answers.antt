@@ -16,22 +16,22 @@ returns-in_err-draw-clause-refused c =
     ∙ taken_front c.into_iter-letter-iterator.result c.loop-letter.yielded c.loop-letter.letter-iterator c.loop-letter.yielded_by
     ∙ ap (λ ys. c.loop-letter.yielded ++ ys) c.in-Some.ensures.steps.0 in
     rw (p.1, p.2)
-    (subst (λ ps. NotDrawn c.args.calls.now c.args.serials.now ps c.in_err-draw.field-0.0) (sym all)
-    (not_drawn _ _ _ _ _ _ c.in-Some.letter rest _ c.loop-letter.invariant c.in_err-draw.ensures.refused))
+    (subst (λ ps. NotDrawn c.args.inner c.args.calls.now c.args.serials.now ps c.in_err-draw.field-0.0) (sym all)
+    (not_drawn c.args.inner _ _ _ _ _ _ c.in-Some.letter rest _ c.loop-letter.invariant c.in_err-draw.ensures.refused))
 
 pub returns-in_err-draw-clause-made : goal.returns-in_err-draw-clause-made
 returns-in_err-draw-clause-made c =
-    let m = made_by _ _ _ _ _ _ c.loop-letter.invariant in
+    let m = made_by c.args.inner _ _ _ _ _ _ c.loop-letter.invariant in
     (m.0, c.in_err-draw.ensures.same ∙ m.1)
 
 pub loop-letter-preserved : goal.loop-letter-preserved
 loop-letter-preserved c =
-    let d = drawing_more _ _ _ _ _ _ _ _ _ _ c.loop-letter.invariant c.in_ok-draw.ensures.drawn in
+    let d = drawing_more c.args.inner _ _ _ _ _ _ _ _ _ _ c.loop-letter.invariant c.in_ok-draw.ensures.drawn in
     (d.0, d.1, c.in_ok-push.ensures.items ∙ d.2)
 
 pub returns-in_err-push-clause-made : goal.returns-in_err-push-clause-made
 returns-in_err-push-clause-made c =
-    made_by _ _ _ _ _ _ (drawing_more _ _ _ _ _ _ _ _ c.in-Some.letter c.in_ok-draw.field-0 c.loop-letter.invariant c.in_ok-draw.ensures.drawn)
+    made_by c.args.inner _ _ _ _ _ _ (drawing_more c.args.inner _ _ _ _ _ _ _ _ c.in-Some.letter c.in_ok-draw.field-0 c.loop-letter.invariant c.in_ok-draw.ensures.drawn)
 
 pub returns-clause-made : goal.returns-clause-made
-returns-clause-made c = made_by _ _ _ _ _ _ c.loop-letter.invariant
+returns-clause-made c = made_by c.args.inner _ _ _ _ _ _ c.loop-letter.invariant

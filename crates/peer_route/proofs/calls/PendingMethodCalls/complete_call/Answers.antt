@@ -1,13 +1,20 @@
 -- The call that waits for the message's reply serial takes it.
-use Rattle.std.proofs.Common.{refl, sym, ◌∙◌, ap, set, get_or, is_some, subst, ◌∷◌}
+use Rattle.std.proofs.Common.{◌≡◌, ℕ, Bool, true, false, length, refl, sym, ◌∙◌, ap, set, get_or, is_some, subst, ◌∷◌}
 use Rattle.std.specs.List.{list_any}
 use Rattle.std.proofs.lemmas.Bool.{false≢true}
+use Rattle.std.proofs.lemmas.List.{get_or_read_under}
+use Rattle.wire_message.specs.Front.{Seen}
 use Rattle.peer_route.specs.History.{Took}
-use Rattle.peer_route.specs.Left.{CallsView, LeftCalls, is_waiting}
-use Rattle.peer_route.specs.declared.calls.Slot.TheVariants.{Gone, Replied}
+use Rattle.peer_route.specs.Left.{CallsView, LeftCalls, is_waiting, is_inner_slot, reply_kept}
+use Rattle.peer_route.specs.declared.calls.Slot.TheVariants.{Gone}
 use Rattle.peer_route.proofs.Core.{took_by_none, took_past, took_first}
 use Rattle.peer_route.proofs.Index.{any_index, waits_within, index_removed, open_none, pending_open, answers_none, answers_serial, answers_shut}
 use Rattle.peer_route.proofs.calls.PendingMethodCalls.complete_call.Goals as goal
+
+-- what is kept of a reply waits for none
+kept_idle : (q : ℕ) (inner : Bool) (m : Seen) → is_waiting q (reply_kept inner m) ≡ false
+kept_idle q true m = refl
+kept_idle q false m = refl
 
 -- ---- a closed peer
 
@@ -52,12 +59,18 @@ index_mut-requires c =
     let was = i.there c.in-Some.serial c.in-Some-remove.place (sym c.remove.ensures.value ∙ c.in-Some-remove.is) in
     rw c.self.inside.slots.ok.0 (waits_within c.in-Some.serial c.in-Some-remove.place c.self.inside.slots.items was)
 
+pub index-requires : goal.index-requires
+index-requires c =
+    let i = c.self.invariant (open_none c.self.inside.closing (sym c.is_some.ensures ∙ c.if-is_some.false)) in
+    let was = i.there c.in-Some.serial c.in-Some-remove.place (sym c.remove.ensures.value ∙ c.in-Some-remove.is) in
+    rw c.self.inside.slots.ok.0 (waits_within c.in-Some.serial c.in-Some-remove.place c.self.inside.slots.items was)
+
 pub invariant_of-self-in-Some-remove : goal.invariant_of-self-in-Some-remove
 invariant_of-self-in-Some-remove c open_ =
     let i = c.self.invariant open_ in
     let was = i.there c.in-Some.serial c.in-Some-remove.place (sym c.remove.ensures.value ∙ c.in-Some-remove.is) in
-    index_removed c.self.inside.waiting c.remove.new.self c.self.inside.slots.items c.in-Some.serial c.in-Some-remove.place _ (λ q. refl) was
-    c.remove.ensures.updates i
+    index_removed c.self.inside.waiting c.remove.new.self c.self.inside.slots.items c.in-Some.serial c.in-Some-remove.place c.reply_kept.result
+    (λ q. ap (is_waiting q) c.reply_kept.ensures ∙ kept_idle q c.is_inner-inner.result c.args.message) was c.remove.ensures.updates i
 
 pub returns-in-Some-remove-clause-exact : goal.returns-in-Some-remove-clause-exact
 returns-in-Some-remove-clause-exact c =
@@ -69,9 +82,15 @@ returns-in-Some-remove-clause-exact c =
 pub returns-in-Some-remove-clause-none : goal.returns-in-Some-remove-clause-none
 returns-in-Some-remove-clause-none c h left =
     let none = open_none c.self.inside.closing (sym c.is_some.ensures ∙ c.if-is_some.false) in
-    let was = (c.self.invariant none).there c.in-Some.serial c.in-Some-remove.place (sym c.remove.ensures.value ∙ c.in-Some-remove.is) in
-    took_first c.args.message c.in-Some.serial c.in-Some-remove.place c.args.self.now _ h c.in-Some.ensures
-    (ap (λ (v : CallsView). is_waiting c.in-Some.serial (get_or v.slots c.in-Some-remove.place Gone)) (sym c.self.view_is) ∙ was)
-    (ap (λ (v : CallsView). set v.slots c.in-Some-remove.place (Replied c.args.message)) c.self.view_is)
+    let m = c.args.message in
+    let k = c.in-Some-remove.place in
+    let items = c.self.inside.slots.items in
+    let was = (c.self.invariant none).there c.in-Some.serial k (sym c.remove.ensures.value ∙ c.in-Some-remove.is) in
+    let slot : c.index.result.now ≡ get_or items k Gone =
+    get_or_read_under items k (length items) c.index.result.now Gone c.index.ensures (waits_within c.in-Some.serial k items was) refl in
+    took_first m c.in-Some.serial k c.args.self.now _ h c.in-Some.ensures
+    (ap (λ (v : CallsView). is_waiting c.in-Some.serial (get_or v.slots k Gone)) (sym c.self.view_is) ∙ was)
+    (ap (set items k) (c.reply_kept.ensures ∙ ap (λ b. reply_kept b m) (c.is_inner-inner.ensures ∙ ap is_inner_slot slot))
+    ∙ ap (λ (v : CallsView). set v.slots k (reply_kept (is_inner_slot (get_or v.slots k Gone)) m)) c.self.view_is)
     (ap (λ (v : CallsView). v.closing) c.self.view_is) left
     (sym left.closing ∙ ap (λ (v : CallsView). v.closing) (sym c.self.view_is) ∙ none)

@@ -2,7 +2,8 @@
 use Rattle.std.proofs.Common.{sym, ◌∙◌, ap, Some, None}
 use Rattle.std.proofs.lemmas.Option.{slice_get_past, slice_get_read}
 use Rattle.peer_route.specs.Left.{CallsView}
-use Rattle.peer_route.proofs.Core.{drops_slot, slot_drops_gone, slot_drops_there, spent}
+use Rattle.peer_route.proofs.Core.{spent}
+use Rattle.peer_route.proofs.Drops.{drops_slot, slot_drops_gone, slot_drops_there}
 use Rattle.peer_route.proofs.calls.PendingMethodCalls.drop_call.Goals as goal
 
 pub returns-then-call-len-clause-answer : goal.returns-then-call-len-clause-answer

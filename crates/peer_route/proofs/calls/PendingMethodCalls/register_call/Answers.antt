@@ -1,36 +1,16 @@
--- While the peer is open, the map has the new call's serial.
-use Rattle.std.proofs.Common.{rules, arith, ◌≡◌, sym, ◌∙◌, ap, ◌++◌, ◌∷◌, [], Some, length, subst, is_some}
-use Rattle.std.proofs.lemmas.Bool.{true≢false}
-use Rattle.std.specs.Ordering.{nat_cmp}
-use Rattle.std.specs.BTreeMap.{UpdatesBy}
-use Rattle.peer_route.specs.declared.calls.Slot.TheVariants.{Waiting}
-use Rattle.peer_route.specs.Left.{CallsView, waiting_serial}
-use Rattle.peer_route.proofs.Index.{registered}
+-- The call is issued.
+use Rattle.std.proofs.Common.{OnOk, Result, Ok, Err, sym, ◌∙◌, ap, false}
+use Rattle.peer_route.specs.Left.{waiting_serial, with_call}
 use Rattle.peer_route.proofs.Issues.{issued_calls}
-use Rattle.peer_route.proofs.calls.PendingMethodCalls.register_call.Goals.{then-is_open+in_ok-insert, else-is_open}
 use Rattle.peer_route.proofs.calls.PendingMethodCalls.register_call.Goals as goal
 
-pub invariant_of-self-2 : goal.invariant_of-self-2
-invariant_of-self-2 c open_ = elim c.if-is_open.branch [
-  | then-is_open+in_ok-insert w ↦
-      let items : c.push.new.self.items ≡ c.self.inside.slots.items ++ Waiting c.args.serial ∷ [] = search rules in
-      let place : c.len-place.result ≡ length c.self.inside.slots.items = search rules in
-      rw (ap (λ i. i.waiting) w.self-inside-is, items)
-      (registered c.self.inside.waiting w.insert.new.self c.self.inside.slots.items c.self.inside.closing c.args.self.now c.args.serial c.self.view_is
-      (sym (ap (λ i. i.closing) w.self-inside-is) ∙ open_) c.requires.free c.requires.in_circle (omega (arith, c.ranges.serial.fits))
-      (subst (λ n. UpdatesBy nat_cmp (nat_cmp c.args.serial) c.self.inside.waiting w.insert.new.self (Some n)) place w.in_ok-insert.ensures.updates) c.self.invariant)
-  | else-is_open w ↦ absurd (true≢false (sym w.if-is_open.ensures ∙ ap is_some (sym (ap (λ i. i.closing) w.self-inside-is) ∙ open_)))
-]
+on-ok : {A E P Q : Type 0} (r : Result A E) → OnOk r P → (P → Q) → OnOk r Q
+on-ok (Ok x) p f = f p
+on-ok (Err e) p f = tt
 
--- the call is issued
 pub returns-clause-left : goal.returns-clause-left
-returns-clause-left c h m e left =
-    let same : (c.push.new.self.items ≡ c.self.inside.slots.items ++ Waiting c.args.serial ∷ []) × (c.if-is_open.self-inside.closing ≡ c.self.inside.closing) =
-    elim c.if-is_open.branch [
-      | then-is_open+in_ok-insert w ↦ (search rules, ap (λ i. i.closing) w.self-inside-is)
-      | else-is_open w ↦ (search rules, ap (λ i. i.closing) w.self-inside-is)
-    ] in
+returns-clause-left c =
+    on-ok c.register.result c.register.ensures.ok (λ is h m e left.
     issued_calls m c.args.self.now _ h
-    (same.0 ∙ ap (λ (v : CallsView). v.slots ++ Waiting c.args.serial ∷ []) c.self.view_is ∙ ap (λ n. c.args.self.now.slots ++ Waiting n ∷ []) (sym e))
-    (same.1 ∙ ap (λ (v : CallsView). v.closing) c.self.view_is)
-    (ap (waiting_serial c.args.self.now) e ∙ c.requires.free) left
+    (is ∙ ap (λ n. with_call false n c.args.self.now) (sym e))
+    (ap (waiting_serial c.args.self.now) e ∙ c.requires.free) left)

@@ -1,7 +1,7 @@
 -- The message went to the call that waits for it, and to each stream.
 use Rattle.std.proofs.Common.{rules, sym, ◌+◌, ◌∙◌, subst, ◌∷◌, ◌≡◌, List, Option, Some, None, map, IfSome, IfNone}
 use Rattle.peer_route.specs.History.{Event, Took, closing}
-use Rattle.peer_route.specs.Left.{View, Left, LeftCalls, queued}
+use Rattle.peer_route.specs.Left.{View, Left, LeftCalls, arrived_at}
 use Rattle.peer_route.proofs.Core.{left_took}
 use Rattle.peer_route.proofs.StreamsMade.{streams_took}
 use Rattle.peer_route.proofs.route.Route.arrive.Goals as goal
@@ -14,7 +14,7 @@ either (Some m) P Q R none some p q = q some
 pub returns-clause-left : goal.returns-clause-left
 returns-clause-left c h left =
     let P : View → Type 0 = λ v. LeftCalls v.calls h in
-    let Q : View → Type 0 = λ v. Left (record v { calls = c.complete_call.new.self; streams = map (queued c.args.message) v.streams; read = v.read + 1 }) (Took c.args.message ∷ h) in
+    let Q : View → Type 0 = λ v. Left (record v { calls = c.complete_call.new.self; streams = map (arrived_at c.args.message) v.streams; read = v.read + 1 }) (Took c.args.message ∷ h) in
     let was = subst P (sym c.self.view_is) left.calls in
     let open_ : closing h ≡ None = sym left.calls.closing ∙ c.requires.is_open in
     let calls : LeftCalls c.complete_call.new.self (Took c.args.message ∷ h) =
@@ -22,8 +22,8 @@ returns-clause-left c h left =
     ((h : List Event) → LeftCalls c.self.inside.calls h → closing h ≡ None → LeftCalls c.complete_call.new.self (Took c.args.message ∷ h))
     (LeftCalls c.complete_call.new.self (Took c.args.message ∷ h))
     c.complete_call.ensures.none c.complete_call.ensures.left (λ took. took h was) (λ back. back h was open_) in
-    let all : c.arrive.new.self ≡ map (queued c.args.message) c.self.inside.streams = search rules in
+    let all : c.arrive.new.self ≡ map (arrived_at c.args.message) c.self.inside.streams = search rules in
     rw all
     (subst Q (sym c.self.view_is)
-    (left_took c.args.self.now c.complete_call.new.self (map (queued c.args.message) c.args.self.now.streams) c.args.message h left calls
+    (left_took c.args.self.now c.complete_call.new.self (map (arrived_at c.args.message) c.args.self.now.streams) c.args.message h left calls
     (streams_took c.args.message c.args.self.now.streams h left.streams)))

@@ -1,35 +1,59 @@
--- The one stream is closed, and then the second.
-use Rattle.std.proofs.Common.{sym, ◌∙◌, ap, subst, [], ◌∷◌, ◌++◌, ℕ, Option, None}
-use Rattle.peer_route.specs.History.{Did, Gone, edit}
-use Rattle.peer_route.specs.Streams.{are_open, gone_then}
-use Rattle.peer_route.specs.Left.{View, Left}
-use Rattle.peer_route.proofs.Core.{left_ended}
-use Rattle.peer_route.proofs.OpenStreams.{close_so, ends_two}
+-- The streams are closed, or handed back, or they are spent.
+use Rattle.std.proofs.Common.{◌≡◌, sym, ◌∙◌, ap, subst, true, ◌&&◌, Ok, Err, ℕ, Option}
+use Rattle.std.proofs.lemmas.Bool.{true≢false}
+use Rattle.wire_message.specs.declared.error.Error.TheVariants as errors
+use Rattle.peer_route.specs.Streams.{are_open}
+use Rattle.peer_route.specs.Left.{View, is_flying}
+use Rattle.peer_route.specs.Leaving.{number_of, have_rules, ended, left_rules, Tells, ClosesStreams}
+use Rattle.peer_route.specs.declared.leaving.Spent.TheVariants as spent
+use Rattle.peer_route.proofs.Placed.{back_same}
+use Rattle.peer_route.proofs.Leavings.{closes_gone, closes_over, closes_busy, closes_back}
 use Rattle.peer_route.proofs.route.Route.close_stream.Goals as goal
-use Rattle.peer_route.proofs.route.Route.close_stream.Goals.{in-Some, in_default}
 
-pub returns-then-not-are_open-clause-answer : goal.returns-then-not-are_open-clause-answer
-returns-then-not-are_open-clause-answer c h left =
+pub returns-then-close_waits : goal.returns-then-close_waits
+returns-then-close_waits c h left =
     let k = c.args.stream.number in
-    sym (close_so h k _ _ (sym c.if-not-are_open.true ∙ c.are_open.ensures h left ∙ ap (are_open h k) c.number_of-other.ensures))
+    let there : are_open h k (number_of c.args.second) ≡ true = sym (c.are_open.ensures h left ∙ ap (are_open h k) c.number_of-other.ensures) ∙ c.if-not-are_open.false in
+    closes_busy c.args.self.now h c.args.stream c.args.second left there
+    (ap (λ (o : Option ℕ). is_flying c.args.self.now.calls && have_rules c.args.self.now k o) (sym c.number_of-other.ensures) ∙ sym c.close_waits.ensures ∙ c.if-close_waits.true)
 
-pub returns-clause-answer : goal.returns-clause-answer
-returns-clause-answer c h left =
+pub returns-in-Ok : goal.returns-in-Ok
+returns-in-Ok c h left =
+    let v = c.args.self.now in
     let k = c.args.stream.number in
-    sym (close_so h k _ _ (sym c.if-not-are_open.false ∙ c.are_open.ensures h left ∙ ap (are_open h k) c.number_of-other.ensures))
+    let there : are_open h k (number_of c.args.second) ≡ true = sym (c.are_open.ensures h left ∙ ap (are_open h k) c.number_of-other.ensures) ∙ c.if-not-are_open.false in
+    let idle = ap (λ (o : Option ℕ). is_flying v.calls && have_rules v k o) (sym c.number_of-other.ensures) ∙ sym c.close_waits.ensures ∙ c.if-close_waits.false in
+    let tells = subst (λ (o : Option ℕ). Tells v c.tell.new.self (left_rules v k o) (Ok c.in-Ok.last)) c.number_of-other.ensures c.in-Ok.ensures.tells in
+    rw (c.end_both.ensures, c.number_of-other.ensures)
+    (closes_gone v c.tell.new.self h k (number_of c.args.second) c.in-Ok.last left there idle tells c.in-Ok.ensures.more)
 
-pub returns-clause-left : goal.returns-clause-left
-returns-clause-left c h left =
+pub returns-then-is_memory : goal.returns-then-is_memory
+returns-then-is_memory c h left =
+    let v = c.args.self.now in
+    let m = c.mark-mark.result in
     let k = c.args.stream.number in
-    let R : Option ℕ → Type 0 = λ o. Left c.match-other.self (gone_then o (Did k Gone ∷ []) ++ h) in
-    elim c.match-other.branch [
-      | in-Some w ↦
-          let j = w.in-Some.other in
-          let Q : View → Type 0 = λ v. Left (record v { streams = edit j (λ q. None) (edit k (λ q. None) v.streams) }) (Did j Gone ∷ Did k Gone ∷ h) in
-          subst R (sym (sym c.number_of-other.ensures ∙ w.in-Some.is))
-          (rw (w.self-is, w.end-in-Some.ensures, c.end.ensures) (subst Q (sym c.self.view_is) (ends_two c.args.self.now h k j left)))
-      | in_default w ↦
-          let Q : View → Type 0 = λ v. Left (record v { streams = edit k (λ q. None) v.streams }) (Did k Gone ∷ h) in
-          subst R (sym (sym c.number_of-other.ensures ∙ w.in_default.is))
-          (rw (w.self-is, c.end.ensures) (subst Q (sym c.self.view_is) (left_ended c.args.self.now k h left)))
-    ]
+    let o = number_of c.args.second in
+    let e : c.in-Err.error ≡ errors.Memory = c.is_memory.ensures.0 c.if-is_memory.true in
+    let there : are_open h k o ≡ true = sym (c.are_open.ensures h left ∙ ap (are_open h k) c.number_of-other.ensures) ∙ c.if-not-are_open.false in
+    let idle = ap (λ (j : Option ℕ). is_flying v.calls && have_rules v k j) (sym c.number_of-other.ensures) ∙ sym c.close_waits.ensures ∙ c.if-close_waits.false in
+    let tells = subst (λ (j : Option ℕ). Tells v c.tell.new.self (left_rules v k j) (Err c.in-Err.error)) c.number_of-other.ensures c.in-Err.ensures.tells in
+    let same : c.take_back.new.self ≡ v = c.take_back.ensures ∙ back_same true v c.tell.new.self m.calls m.serials m.outbox m.places c.mark-mark.ensures c.in-Err.ensures.more in
+    closes_back v c.tell.new.self c.take_back.new.self h c.args.stream c.args.second c.in-Err.error left there idle tells e same
+
+pub returns-else-is_memory : goal.returns-else-is_memory
+returns-else-is_memory c h left =
+    let v = c.args.self.now in
+    let m = c.mark-mark.result in
+    let k = c.args.stream.number in
+    let o = number_of c.args.second in
+    let error = c.in-Err.error in
+    let there : are_open h k o ≡ true = sym (c.are_open.ensures h left ∙ ap (are_open h k) c.number_of-other.ensures) ∙ c.if-not-are_open.false in
+    let idle = ap (λ (j : Option ℕ). is_flying v.calls && have_rules v k j) (sym c.number_of-other.ensures) ∙ sym c.close_waits.ensures ∙ c.if-close_waits.false in
+    let tells = subst (λ (j : Option ℕ). Tells v c.tell.new.self (left_rules v k j) (Err error)) c.number_of-other.ensures c.in-Err.ensures.tells in
+    let some : error ≡ errors.Memory → ⊥ = λ e. true≢false (sym (c.is_memory.ensures.1 e) ∙ c.if-is_memory.false) in
+    let same : c.take_back.new.self ≡ v = c.take_back.ensures ∙ back_same true v c.tell.new.self m.calls m.serials m.outbox m.places c.mark-mark.ensures c.in-Err.ensures.more in
+    let new : c.end_both-in-Err.new.self ≡ record v { streams = ended k o v.streams } =
+    c.end_both-in-Err.ensures
+    ∙ ap (λ (j : Option ℕ). record c.take_back.new.self { streams = ended k j c.take_back.new.self.streams }) c.number_of-other.ensures
+    ∙ ap (λ (u : View). record u { streams = ended k o u.streams }) same in
+    subst (λ (u : View). ClosesStreams v u k o h (spent.Over error)) (sym new) (closes_over v c.tell.new.self h k o error left there idle tells some)

@@ -1,7 +1,7 @@
 use Rattle.std.proofs.Common.{sym, subst, ◌++◌}
 use Rattle.peer_route.specs.History.{drop_events}
 use Rattle.peer_route.specs.Left.{View, Left, LeftCalls}
-use Rattle.peer_route.proofs.Core.{left_dropped}
+use Rattle.peer_route.proofs.Drops.{left_dropped}
 use Rattle.peer_route.proofs.route.Route.drop_call.Goals as goal
 
 pub returns-clause-left : goal.returns-clause-left

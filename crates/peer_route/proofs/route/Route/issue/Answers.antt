@@ -15,7 +15,7 @@ items v = v.items
 
 pub returns-then-is_some_deep-clause-issues : goal.returns-then-is_some_deep-clause-issues
 returns-then-is_some_deep-clause-issues c h left = (
-  deep_sent c.args.self.now.name c.args.served c.args.list.items
+  deep_sent false c.args.self.now.name c.args.served c.args.list.items
       ∙ ap (list_any is_deep) (sym c.as_slice.ensures.value) ∙ sym c.is_some_deep.ensures ∙ c.if-is_some_deep.true,
   refl,
 )
@@ -23,19 +23,19 @@ returns-then-is_some_deep-clause-issues c h left = (
 pub returns-in-Ok-clause-issues : goal.returns-in-Ok-clause-issues
 returns-in-Ok-clause-issues c h left =
     let shallow : list_any is_deep (map (sent_by c.args.self.now.name c.args.served) c.args.list.items) ≡ false =
-    deep_sent c.args.self.now.name c.args.served c.args.list.items
+    deep_sent false c.args.self.now.name c.args.served c.args.list.items
     ∙ ap (list_any is_deep) (sym c.as_slice.ensures.value) ∙ sym c.is_some_deep.ensures ∙ c.if-is_some_deep.false in
     issued_all items c.args.self.now c.put_all.new.self (map (sent_by c.args.self.now.name c.args.served) c.args.list.items) h c.in-Ok.issued shallow left c.in-Ok.ensures.puts
 
 pub returns-in-Ok-clause-placed : goal.returns-in-Ok-clause-placed
 returns-in-Ok-clause-placed c =
     subst (λ n. Waits c.args.self.now c.put_all.new.self n c.in-Ok.issued.items) (length-map c.args.list.items (sent_by c.args.self.now.name c.args.served))
-    (all_wait items c.args.self.now c.put_all.new.self (map (sent_by c.args.self.now.name c.args.served) c.args.list.items) c.in-Ok.issued c.in-Ok.ensures.puts)
+    (all_wait false items c.args.self.now c.put_all.new.self (map (sent_by c.args.self.now.name c.args.served) c.args.list.items) c.in-Ok.issued c.in-Ok.ensures.puts)
 
 pub returns-in-Err-clause-issues : goal.returns-in-Err-clause-issues
 returns-in-Err-clause-issues c h left =
     let shallow : list_any is_deep (map (sent_by c.args.self.now.name c.args.served) c.args.list.items) ≡ false =
-    deep_sent c.args.self.now.name c.args.served c.args.list.items
+    deep_sent false c.args.self.now.name c.args.served c.args.list.items
     ∙ ap (list_any is_deep) (sym c.as_slice.ensures.value) ∙ sym c.is_some_deep.ensures ∙ c.if-is_some_deep.false in
     refused_all items c.args.self.now c.put_all.new.self c.take_back.new.self (map (sent_by c.args.self.now.name c.args.served) c.args.list.items) h c.in-Err.error shallow left
-    (c.take_back.ensures ∙ back_same c.args.self.now c.put_all.new.self _ _ _ _ c.mark-mark.ensures c.in-Err.ensures.more) c.in-Err.ensures.puts
+    (c.take_back.ensures ∙ back_same false c.args.self.now c.put_all.new.self _ _ _ _ c.mark-mark.ensures c.in-Err.ensures.more) c.in-Err.ensures.puts

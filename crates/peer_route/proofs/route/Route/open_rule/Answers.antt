@@ -1,14 +1,39 @@
--- On an open peer the stream is opened with its rule's capacity.
-use Rattle.std.proofs.Common.{sym, ◌∙◌, ap, subst, is_some, length, Ok}
-use Rattle.peer_route.specs.Left.{View, OpensRule, with_stream}
-use Rattle.peer_route.proofs.OpenStreams.{opens}
+-- What opening gives: at once, by an AddMatch that was put, or not.
+use Rattle.std.proofs.Common.{◌≡◌, sym, ◌∙◌, ap, subst, is_some, length, true, false, ◌∷◌}
+use Rattle.peer_route.specs.History.{Made, Ruled}
+use Rattle.peer_route.specs.Streams.{asks_bus}
+use Rattle.peer_route.specs.Left.{View, Left, is_flying, with_stream}
+use Rattle.peer_route.proofs.Openings.{IsIdle, idle_so, asks_so, opens_once, opens_asking, opens_not}
+use Rattle.peer_route.proofs.Placed.{back_same}
 use Rattle.peer_route.proofs.route.Route.open_rule.Goals as goal
 
-pub returns : goal.returns
-returns c h left =
-    let Q : View → Type 0 = λ v. OpensRule c.args.self.now (record v { streams = c.open_rule.new.self }) c.args.rule c.args.max_queued h (Ok (record { number = c.in_ok-number.number })) in
-    subst Q (sym c.self.view_is)
-    (opens c.args.self.now c.args.rule c.args.max_queued c.open_rule.new.self c.in_ok-number.number h
-    (sym (c.is_some.ensures ∙ ap is_some c.closing.ensures ∙ ap (λ (v : View). is_some v.calls.closing) c.self.view_is) ∙ c.if-is_some.false)
-    (c.in_ok-number.ensures.number ∙ ap (λ (v : View). length v.streams) c.self.view_is)
-    (c.in_ok-number.ensures.ok ∙ ap (λ (v : View). with_stream c.args.rule c.args.max_queued v.streams) c.self.view_is) left)
+pub returns-then-not-asks_bus : goal.returns-then-not-asks_bus
+returns-then-not-asks_bus c h left =
+    let v = c.args.self.now in
+    let open_ = ap (λ (w : View). is_some w.calls.closing) (sym c.self.view_is) ∙ ap is_some (sym c.closing.ensures) ∙ sym c.is_some.ensures ∙ c.if-is_some.false in
+    let flies = ap (λ (w : View). is_flying w.calls) (sym c.self.view_is) ∙ sym c.is_flying.ensures.view ∙ c.if-is_flying.false in
+    let idle : IsIdle h = idle_so v h open_ flies left in
+    let none : asks_bus h c.args.rule ≡ false = sym (asks_so v c.args.rule h left) ∙ sym c.if-not-asks_bus.ensures in
+    let Q : View → Type 0 = λ w. Left (record w { streams = c.open_rule.new.self }) (Made (Ruled c.args.rule c.args.max_queued) ∷ h) in
+    let once = opens_once v c.args.rule c.args.max_queued c.open_rule.new.self c.in_ok-number.number h idle none
+    (c.in_ok-number.ensures.number ∙ ap (λ (w : View). length w.streams) c.self.view_is)
+    (c.in_ok-number.ensures.ok ∙ ap (λ (w : View). with_stream c.args.rule c.args.max_queued w.streams) c.self.view_is) left in
+    (once.0, once.1, (once.2.0, once.2.1, subst Q (sym c.self.view_is) once.2.2))
+
+pub returns-in-Ok : goal.returns-in-Ok
+returns-in-Ok c h left =
+    let v = c.args.self.now in
+    let open_ = ap (λ (w : View). is_some w.calls.closing) (sym c.self.view_is) ∙ ap is_some (sym c.closing.ensures) ∙ sym c.is_some.ensures ∙ c.if-is_some.false in
+    let flies = ap (λ (w : View). is_flying w.calls) (sym c.self.view_is) ∙ sym c.is_flying.ensures.view ∙ c.if-is_flying.false in
+    let asks : asks_bus h c.args.rule ≡ true = sym (asks_so v c.args.rule h left) ∙ sym c.if-not-asks_bus.ensures in
+    opens_asking v c.put_asking.new.self c.args.rule c.args.max_queued c.in-Ok.opening h (idle_so v h open_ flies left) asks c.in-Ok.ensures.asks left
+
+pub returns-in-Err : goal.returns-in-Err
+returns-in-Err c h left =
+    let v = c.args.self.now in
+    let k = c.mark-mark.result in
+    let open_ = ap (λ (w : View). is_some w.calls.closing) (sym c.self.view_is) ∙ ap is_some (sym c.closing.ensures) ∙ sym c.is_some.ensures ∙ c.if-is_some.false in
+    let flies = ap (λ (w : View). is_flying w.calls) (sym c.self.view_is) ∙ sym c.is_flying.ensures.view ∙ c.if-is_flying.false in
+    let asks : asks_bus h c.args.rule ≡ true = sym (asks_so v c.args.rule h left) ∙ sym c.if-not-asks_bus.ensures in
+    let same = c.take_back.ensures ∙ back_same true v c.put_asking.new.self k.calls k.serials k.outbox k.places c.mark-mark.ensures c.in-Err.ensures.more in
+    opens_not v c.put_asking.new.self c.take_back.new.self c.args.rule c.args.max_queued c.in-Err.error h (idle_so v h open_ flies left) asks same c.in-Err.ensures.asks left

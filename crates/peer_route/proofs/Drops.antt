@@ -1,0 +1,69 @@
+-- What dropping a call gives and leaves, and whether the peer takes a message now.
+use Rattle.std.proofs.Common.{◌≡◌, ℕ, is_some, ◌&&◌, ◌||◌, is_none, if◌then◌else◌, refl, sym, ◌∙◌, ap, Bool, true, false, not, List, ◌++◌, Option, Some, None, Result, Ok, Err}
+use Rattle.std.specs.List.{list_any, slice_get}
+use Rattle.std.specs.Option.{option_map}
+use Rattle.std.proofs.lemmas.Option.{slice_get-map}
+use Rattle.wire_message.specs.Front.{Seen}
+use Rattle.wire_message.specs.declared.error.Error.{Error}
+use Rattle.wire_message.specs.declared.error.Error.TheVariants as errors
+use Rattle.peer_route.specs.declared.calls.Slot.{Slot}
+use Rattle.peer_route.specs.declared.calls.Slot.TheVariants as slots
+use Rattle.peer_route.specs.History.{Event, Call, calls, found, is_gone, drop_answer, drop_events, dropped_at}
+use Rattle.peer_route.specs.Left.{is_over, is_busy, is_empty_slot, slot_of, slot_by, CallsView, LeftCalls, View, Left}
+use Rattle.peer_route.proofs.Core.{calls_of, left_spent, left_same}
+
+-- what a slot gives a drop
+abbrev pub slot_drops : Option Slot → Result (Unit {0}) Error
+slot_drops None = Err errors.UnknownHandle
+slot_drops (Some slots.Gone) = Err errors.UnknownHandle
+slot_drops (Some (slots.Replied m)) = Ok tt
+slot_drops (Some (slots.Waiting n inner)) = if inner then Err errors.UnknownHandle else Ok tt
+
+slot_drops_by : (gone inner : Bool) (n : ℕ) (o : Option Seen) → slot_drops (Some (if gone then slots.Gone else slot_by inner n o)) ≡ (if gone || inner then Err errors.UnknownHandle else Ok tt)
+slot_drops_by true inner n o = refl
+slot_drops_by false true n (Some m) = refl
+slot_drops_by false true n None = refl
+slot_drops_by false false n (Some m) = refl
+slot_drops_by false false n None = refl
+
+drops_at : (h : List Event) (o : Option Call) → slot_drops (option_map (slot_of h) o) ≡ dropped_at o
+unfolding slot_of
+drops_at h None = refl
+drops_at h (Some c) = slot_drops_by (is_gone c) c.inner c.serial (found h c)
+
+pub drops : (v : CallsView) (h : List Event) (k : ℕ) → LeftCalls v h → slot_drops (slice_get v.slots k) ≡ drop_answer h k
+unfolding drop_answer
+drops v h k left = rw left.slots (rw (slice_get-map (slot_of h) (calls h) k) (drops_at h (slice_get (calls h) k)))
+
+pub drops_slot : (ss : List Slot) (error : Option Error) (v : CallsView) (h : List Event) (k : ℕ) (o : Option Slot)
+    → calls_of ss error ≡ v → slice_get ss k ≡ o → LeftCalls v h → slot_drops o ≡ drop_answer h k
+drops_slot ss error v h k o e at left = ap slot_drops (sym at) ∙ ap (λ (w : CallsView). slot_drops (slice_get w.slots k)) e ∙ drops v h k left
+
+pub left_dropped : (v : View) (cv : CallsView) (k : ℕ) (r : Result (Unit {0}) Error) (h : List Event) → Left v h
+    → LeftCalls cv (drop_events k r ++ h) → Left (record v { calls = cv }) (drop_events k r ++ h)
+left_dropped v cv k (Ok done) h left after = left_spent v cv k h left after
+left_dropped v cv k (Err error) h left after = left_same v cv h left after
+
+is_none_by : (o : Option Error) (b : Bool) → is_some o ≡ b → is_none o ≡ not b
+is_none_by None b e = ap not e
+is_none_by (Some error) b e = ap not e
+
+pub busy_open : (v : View) (b : Bool) → is_some v.calls.closing ≡ false → b ≡ list_any (is_over v.main) v.streams → b ≡ is_busy v
+unfolding is_busy
+busy_open v b open_ e = e ∙ ap (λ x. x && list_any (is_over v.main) v.streams) (sym (is_none_by v.calls.closing false open_))
+
+pub busy_shut : (v : View) (b : Bool) → is_some v.calls.closing ≡ true → b ≡ false → b ≡ is_busy v
+unfolding is_busy
+busy_shut v b shut_ e = e ∙ ap (λ x. x && list_any (is_over v.main) v.streams) (sym (is_none_by v.calls.closing true shut_))
+
+pub slot_drops_gone : (s : Slot) → is_empty_slot s ≡ true → slot_drops (Some s) ≡ Err errors.UnknownHandle
+slot_drops_gone slots.Gone e = refl
+slot_drops_gone (slots.Waiting n true) e = refl
+slot_drops_gone (slots.Waiting n false) e = cc
+slot_drops_gone (slots.Replied m) e = cc
+
+pub slot_drops_there : (s : Slot) → is_empty_slot s ≡ false → slot_drops (Some s) ≡ Ok tt
+slot_drops_there slots.Gone e = cc
+slot_drops_there (slots.Waiting n true) e = cc
+slot_drops_there (slots.Waiting n false) e = refl
+slot_drops_there (slots.Replied m) e = refl

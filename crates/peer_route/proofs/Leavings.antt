@@ -1,0 +1,344 @@
+-- The bus is told which rules have no stream any more: by what is kept, and by the history.
+use Rattle.std.proofs.Common.{◌≡◌, ℕ, zero, suc, ◌+◌, ◌<◌, ◌≤◌, refl, sym, ◌∙◌, ap, subst, inl, inr, codes, Bool, true, false, not, ◌&&◌, ◌||◌, ◌==◌, if◌then◌else◌, is_none, is_some, List, [], ◌∷◌, ◌++◌, length, map, Option, Some, None, Ok, Err, option_to_list}
+use Rattle.std.specs.List.{slice_get}
+use Rattle.std.proofs.lemmas.List.{append-nil, map-append}
+use Rattle.wire_tree.specs.Datum.{data_of}
+use Rattle.wire_spelling.specs.Spelling.{AllFit}
+use Rattle.wire_signature.specs.declared.error.VariantError.TheVariants as faults
+use Rattle.wire_message.specs.Front.{Seen}
+use Rattle.wire_message.specs.declared.error.Error.{Error}
+use Rattle.wire_message.specs.declared.error.Error.TheVariants as errors
+use Rattle.wire_message.specs.declared.error.IoKind.TheVariants as kinds
+use Rattle.rule_match.specs.Rule.{Rule}
+use Rattle.peer_route.specs.declared.route.Issued.{Issued}
+use Rattle.peer_route.specs.Parcel.{Parcel, message_of, sent_by}
+use Rattle.peer_route.specs.CallMessage.{expects, expects_reply}
+use Rattle.peer_route.specs.History.{Event, in_flight, Did, Gone, Removed, Call, inner_call, edit, closing, calls, on_bus, unique_name}
+use Rattle.peer_route.specs.Streams.{Stream, streams, end_one, rule_of, is_open, are_open, has_rule, has_rule_at, close_waits, may_be_signal, leaves, leaves_by, leaving, rule_answer}
+use Rattle.peer_route.specs.Left.{Held, CallsView, View, Left, kept_at, shared, waiting_serial, is_flying, with_call}
+use Rattle.peer_route.specs.Issuing.{AreShort, SomeLong}
+use Rattle.peer_route.specs.Placing.{IsMore, made_call, Draws, Spends, PutsAll, messages_of, with_messages, issued_from, place_of}
+use Rattle.peer_route.specs.Leaving.{remove_parcel, remove_message, AreTold, TellsNone, AreBrief, SomeNotBrief, removed_each, last_of, some_rules, TellsBus, gone_both, MayClose, number_of, ClosesStreams, have_rules, ended, without, left_by, rule_kept, left_rules, removals, last_issued, MakesRemoval, MakesRemovals, Tells, SomeNoText}
+use Rattle.peer_route.specs.declared.streams.MessageStream.{MessageStream}
+use Rattle.peer_route.specs.declared.leaving.Spent.TheVariants as spent
+use Rattle.peer_route.proofs.Core.{left_ended, flying-left}
+use Rattle.peer_route.proofs.CallsMade.{places}
+use Rattle.peer_route.proofs.StreamsMade.{streams_removed}
+use Rattle.peer_route.proofs.RuledStreams.{subscribed_left, rule_left}
+use Rattle.peer_route.proofs.Issues.{called, message_serial, same_expects, next_left, spent_left, placed_more, with_none}
+use Rattle.peer_route.proofs.BusMessages.{match_expects, refused_any}
+
+-- ---- a RemoveMatch is put
+
+-- the core with one message of the peer's own more
+abbrev placed_own : View → Seen → ℕ → View
+placed_own v m serial = record v {
+  calls = with_call true serial v.calls;
+  last = serial;
+  outbox = v.outbox ++ m ∷ [];
+  places = v.places ++ length v.outbox ∷ [];
+}
+
+left_removed : (v : View) (m : Seen) (serial : ℕ) (h : List Event) → m.serial ≡ serial → Left v h → waiting_serial v.calls serial ≡ false → Left (placed_own v m serial) (Removed m ∷ h)
+left_removed v m serial h e left free = record {
+  calls = called m true v.calls (with_call true serial v.calls) (Removed m ∷ h) h (ap (λ n. with_call true n v.calls) (sym e)) refl refl refl (ap (waiting_serial v.calls) e ∙ free) left.calls;
+  bus = left.bus;
+  name = left.name;
+  streams = streams_removed m v.streams h left.streams;
+  main = left.main;
+  read = left.read;
+  last = sym e;
+  outbox = ap (λ ms. ms ++ m ∷ []) left.outbox;
+  places = ap (λ ns. ns ++ length v.outbox ∷ []) left.places ∙ ap (λ ms. places (calls h) ++ length ms ∷ []) left.outbox
+      ∙ sym (map-append (λ (c : Call). c.index) (calls h) (inner_call h m ∷ []));
+  done = left.done;
+  writer = left.writer;
+}
+
+removal_expects : (name : Option (List ℕ)) (rule : Rule) → expects (Ok (remove_parcel name rule)) ≡ true
+removal_expects name rule = match_expects (codes "RemoveMatch") name rule
+
+-- ---- all of them
+
+told_left : (rules : List Rule) (serials : List ℕ) (v : View) (w : CallsView) (end : ℕ) (h : List Event) → Left v h → Draws true v.calls v.last (removals v.name rules) serials w end
+    → Left (with_messages v (messages_of (removals v.name rules) serials) w end) (removed_each rules serials h)
+told_left [] [] v w end h left d = subst (λ u. Left u h) (sym (with_none v w end d.0 d.1)) left
+told_left (rule ∷ rules) (serial ∷ serials) v w end h left d =
+    let p = remove_parcel v.name rule in
+    let m = message_of p serial in
+    let n = remove_message h rule serial in
+    let same : m ≡ n = ap (λ name. message_of (remove_parcel name rule) serial) left.name in
+    let one : Left (placed_own v m serial) (Removed n ∷ h) =
+    subst (λ x. Left (placed_own v m serial) (Removed x ∷ h)) same (left_removed v m serial h (message_serial p serial) left d.0.free) in
+    let more : Draws true (with_call true serial v.calls) serial (removals v.name rules) serials w end =
+    subst (λ b. Draws true (made_call true b v.calls serial) serial (removals v.name rules) serials w end) (removal_expects v.name rule) d.1 in
+    subst (λ u. Left u (removed_each rules serials (Removed n ∷ h)))
+    (placed_more v v true true m (messages_of (removals v.name rules) serials) w serial end refl (same_expects p serial ∙ removal_expects v.name rule))
+    (told_left rules serials (placed_own v m serial) w end (Removed n ∷ h) one more)
+told_left [] (serial ∷ serials) v w end h left d = absurd d
+told_left (rule ∷ rules) [] v w end h left d = absurd d
+
+told_drawn : (rules : List Rule) (serials : List ℕ) (v : View) (w : CallsView) (end : ℕ) (h : List Event) → Left v h → Draws true v.calls v.last (removals v.name rules) serials w end → AreTold h rules serials
+told_drawn [] [] v w end h left d = tt
+told_drawn (rule ∷ rules) (serial ∷ serials) v w end h left d =
+    let p = remove_parcel v.name rule in
+    let m = message_of p serial in
+    let n = remove_message h rule serial in
+    let same : m ≡ n = ap (λ name. message_of (remove_parcel name rule) serial) left.name in
+    let one : Left (placed_own v m serial) (Removed n ∷ h) =
+    subst (λ x. Left (placed_own v m serial) (Removed x ∷ h)) same (left_removed v m serial h (message_serial p serial) left d.0.free) in
+    let more : Draws true (with_call true serial v.calls) serial (removals v.name rules) serials w end =
+    subst (λ b. Draws true (made_call true b v.calls serial) serial (removals v.name rules) serials w end) (removal_expects v.name rule) d.1 in
+    (next_left v.calls v.last serial h left.calls left.last d.0, told_drawn rules serials (placed_own v m serial) w end (Removed n ∷ h) one more)
+told_drawn [] (serial ∷ serials) v w end h left d = absurd d
+told_drawn (rule ∷ rules) [] v w end h left d = absurd d
+
+told_brief : (rules : List Rule) (serials : List ℕ) (name : Option (List ℕ)) (h : List Event) → name ≡ unique_name h → AreShort (removals name rules) serials → AreBrief h rules serials
+told_brief [] serials name h e short = tt
+told_brief (rule ∷ rules) [] name h e short = tt
+told_brief (rule ∷ rules) (serial ∷ serials) name h e short =
+    (subst (λ o. length (message_of (remove_parcel o rule) serial).bytes ≤ 134217728) e short.0.1, told_brief rules serials name (Removed (remove_message h rule serial) ∷ h) e short.1)
+
+fits : (name : Option (List ℕ)) (rule : Rule) → AllFit (remove_parcel name rule).draft.order 0 (data_of (remove_parcel name rule).values)
+unfolding AllFit
+fits name rule = (tt, tt)
+
+told_long : (rules : List Rule) (serials : List ℕ) (name : Option (List ℕ)) (h : List Event) → name ≡ unique_name h → SomeLong (removals name rules) serials → SomeNotBrief h rules serials
+told_long [] serials name h e long = absurd long
+told_long (rule ∷ rules) [] name h e long = absurd long
+told_long (rule ∷ rules) (serial ∷ serials) name h e (inl (inl unfit)) = absurd (unfit (fits name rule))
+told_long (rule ∷ rules) (serial ∷ serials) name h e (inl (inr x)) = inl (subst (λ o. 134217728 < length (message_of (remove_parcel o rule) serial).bytes) e x.1)
+told_long (rule ∷ rules) (serial ∷ serials) name h e (inr more) = inr (told_long rules serials name (Removed (remove_message h rule serial) ∷ h) e more)
+
+told_none : (rules : List Rule) (v : View) (h : List Event) → Left v h → Spends true v.calls v.last (removals v.name rules) → TellsNone h rules
+told_none [] v h left x = absurd x
+told_none (rule ∷ rules) v h left (inl all) = inl (spent_left v.calls h left.calls all)
+told_none (rule ∷ rules) v h left (inr x) =
+    let serial = x.0 in
+    let p = remove_parcel v.name rule in
+    let m = message_of p serial in
+    let n = remove_message h rule serial in
+    let same : m ≡ n = ap (λ name. message_of (remove_parcel name rule) serial) left.name in
+    let one : Left (placed_own v m serial) (Removed n ∷ h) =
+    subst (λ y. Left (placed_own v m serial) (Removed y ∷ h)) same (left_removed v m serial h (message_serial p serial) left x.1.free) in
+    let more : Spends true (with_call true serial v.calls) serial (removals v.name rules) =
+    subst (λ b. Spends true (made_call true b v.calls serial) serial (removals v.name rules)) (removal_expects v.name rule) x.2 in
+    inr (serial, next_left v.calls v.last serial h left.calls left.last x.1, told_none rules (placed_own v m serial) (Removed n ∷ h) one more)
+
+-- the serial of the last
+told_last : (rules : List Rule) (serials : List ℕ) (name : Option (List ℕ)) (v w : CallsView) (last end place count : ℕ) → Draws true v last (removals name rules) serials w end
+    → last_issued (issued_from place count (messages_of (removals name rules) serials)) ≡ last_of serials
+told_last [] [] name v w last end place count d = refl
+told_last (rule ∷ []) (serial ∷ []) name v w last end place count d = ap Some (message_serial (remove_parcel name rule) serial)
+told_last (rule ∷ r ∷ rules) (serial ∷ s ∷ serials) name v w last end place count d =
+    told_last (r ∷ rules) (s ∷ serials) name (made_call true (expects (Ok (remove_parcel name rule))) v serial) w serial end (place + 1)
+    (count + length (place_of place (expects_reply (message_of (remove_parcel name rule) serial).kind (message_of (remove_parcel name rule) serial).flags))) d.1
+told_last [] (serial ∷ serials) name v w last end place count d = absurd d
+told_last (rule ∷ rules) [] name v w last end place count d = absurd d
+told_last (rule ∷ []) (serial ∷ s ∷ serials) name v w last end place count d = absurd d.1
+told_last (rule ∷ r ∷ rules) (serial ∷ []) name v w last end place count d = absurd d.1
+
+-- ---- what telling gives, once the streams are closed
+
+-- the core with these streams in place of its own
+abbrev pub closed_view : View → List (Option Held) → View
+closed_view v qs = record v { streams = qs }
+
+pub tells_bus : (v mid : View) (qs : List (Option Held)) (rules : List Rule) (h : List Event) (last : Option ℕ) → Tells v mid rules (Ok last) → Left (closed_view v qs) h
+    → TellsBus (closed_view mid qs) h rules (Ok last)
+tells_bus v mid qs [] h last t left = ([], tt, tt, (λ e. cc), t.0, subst (λ (u : View). Left (closed_view u qs) h) (sym t.1) left)
+tells_bus v mid qs (rule ∷ rules) h last t left =
+    let p = t.1 in
+    let g = closed_view v qs in
+    let serials = p.0 in (
+      serials,
+      told_drawn (rule ∷ rules) serials g mid.calls mid.last h left p.1,
+      told_brief (rule ∷ rules) serials v.name h left.name p.2,
+      (λ e. sym left.writer ∙ p.3),
+      t.2 ∙ ap last_issued p.4 ∙ told_last (rule ∷ rules) serials v.name v.calls mid.calls v.last mid.last (length v.outbox) (length v.places) p.1,
+      subst (λ (u : View). Left (closed_view u qs) (removed_each (rule ∷ rules) serials h)) (sym p.5)
+          (told_left (rule ∷ rules) serials g mid.calls mid.last h left p.1),
+    )
+
+pub tells_not : (v mid : View) (qs : List (Option Held)) (rules : List Rule) (h : List Event) (error : Error) → Tells v mid rules (Err error) → (error ≡ errors.Memory → ⊥) → Left (closed_view v qs) h
+    → TellsBus (closed_view v qs) h rules (Err error)
+tells_not v mid qs [] h error t some left = absurd t
+tells_not v mid qs (rule ∷ rules) h errors.SerialsSpent t some left = (told_none (rule ∷ rules) (closed_view v qs) h left t, left)
+tells_not v mid qs (rule ∷ rules) h errors.ExcessData t some left =
+    ((t.0, told_drawn (rule ∷ rules) t.0 (closed_view v qs) mid.calls mid.last h left t.1, told_long (rule ∷ rules) t.0 v.name h left.name t.2), left)
+tells_not v mid qs (rule ∷ rules) h (errors.Variant faults.Malformed) t some left = (t, left)
+tells_not v mid qs (rule ∷ rules) h (errors.InputOutput kinds.WriteFault) t some left =
+    ((refl, (t.0, told_drawn (rule ∷ rules) t.0 (closed_view v qs) mid.calls mid.last h left t.1, told_brief (rule ∷ rules) t.0 v.name h left.name t.2)), sym left.writer ∙ t.3, left)
+tells_not v mid qs (rule ∷ rules) h (errors.InputOutput kinds.Closed) t some left =
+    ((refl, (t.0, told_drawn (rule ∷ rules) t.0 (closed_view v qs) mid.calls mid.last h left t.1, told_brief (rule ∷ rules) t.0 v.name h left.name t.2)), sym left.writer ∙ t.3, left)
+tells_not v mid qs (rule ∷ rules) h errors.Memory t some left = absurd (some refl)
+tells_not v mid qs (rule ∷ rules) h other t some left = absurd t
+
+-- what making the messages is refused for
+pub tells_unmade : {A : Type 0} (v : View) (items : A → List Parcel) (rules : List Rule) (error : Error) → MakesRemovals items rules (Err error) → Tells v v rules (Err error)
+tells_unmade v items [] (errors.Variant faults.Malformed) x = absurd x
+tells_unmade v items [] errors.Memory x = let e : false ≡ true = x in cc
+tells_unmade v items [] other x = absurd x
+tells_unmade v items (rule ∷ rules) (errors.Variant faults.Malformed) x = x
+tells_unmade v items (rule ∷ rules) errors.Memory x = tt
+tells_unmade v items (rule ∷ rules) other x = absurd x
+
+text_behind : (rs qs : List Rule) → SomeNoText qs → SomeNoText (rs ++ qs)
+text_behind [] qs x = x
+text_behind (rule ∷ rs) qs x = inr (text_behind rs qs x)
+
+some_behind : (rs qs : List Rule) → some_rules qs ≡ true → some_rules (rs ++ qs) ≡ true
+some_behind [] qs x = x
+some_behind (rule ∷ rs) qs x = refl
+
+pub unmade_second : {A : Type 0} (items : A → List Parcel) (rs qs : List Rule) (error : Error) → MakesRemoval qs (Err error) → MakesRemovals items (rs ++ qs) (Err error)
+unmade_second items rs qs (errors.Variant faults.Malformed) x = text_behind rs qs x
+unmade_second items rs qs errors.Memory x = some_behind rs qs x
+unmade_second items rs qs other x = absurd x
+
+pub some_listed : (first second : Option Parcel) (rs qs : List Rule) → option_to_list first ≡ removals None rs → option_to_list second ≡ removals None qs → (is_some first || is_some second) ≡ true
+    → some_rules (rs ++ qs) ≡ true
+some_listed first second (rule ∷ rs) qs e f some = refl
+some_listed first second [] (rule ∷ qs) e f some = refl
+some_listed None None [] [] e f some = cc
+some_listed (Some p) second [] [] e f some = cc
+some_listed None (Some p) [] [] e f some = cc
+
+-- the messages, sent by the peer
+removals_sent : (name : Option (List ℕ)) (rules : List Rule) → map (sent_by name false) (removals None rules) ≡ removals name rules
+removals_sent name [] = refl
+removals_sent name (rule ∷ rules) = ap (λ ps. remove_parcel name rule ∷ ps) (removals_sent name rules)
+
+pub tells_unput : {A : Type 0} (items : A → List Issued) (old mid : View) (rules : List Rule) (ps : List Parcel) (error : Error) → ps ≡ removals None rules → (ps ≡ [] → ⊥)
+    → PutsAll true items old mid (map (sent_by old.name false) ps) (Err error) → Tells old mid rules (Err error)
+tells_unput items old mid [] ps error e some x = absurd (some e)
+tells_unput items old mid (rule ∷ rules) ps error e some x =
+    unput old mid rule rules error
+    (refused_any true items (λ (is : List Issued). is) old mid (removals old.name (rule ∷ rules)) error
+    (subst (λ qs. PutsAll true items old mid qs (Err error)) (ap (map (sent_by old.name false)) e ∙ removals_sent old.name (rule ∷ rules)) x))
+  where
+    unput : (old mid : View) (rule : Rule) (rules : List Rule) (error : Error) → PutsAll true (λ (is : List Issued). is) old mid (removals old.name (rule ∷ rules)) (Err error) → Tells old mid (rule ∷ rules) (Err error)
+    unput old mid rule rules errors.SerialsSpent x = x
+    unput old mid rule rules errors.ExcessData x = x
+    unput old mid rule rules (errors.InputOutput kinds.WriteFault) x = x
+    unput old mid rule rules (errors.InputOutput kinds.Closed) x = x
+    unput old mid rule rules errors.Memory x = x
+    unput old mid rule rules other x = absurd x
+
+pub tells_put : {A : Type 0} (items : A → List Issued) (old mid : View) (rules : List Rule) (ps : List Parcel) (issued : A) (last : Option ℕ) → ps ≡ removals None rules → (ps ≡ [] → ⊥)
+    → PutsAll true items old mid (map (sent_by old.name false) ps) (Ok issued) → last ≡ last_issued (items issued) → Tells old mid rules (Ok last)
+tells_put items old mid [] ps issued last e some x l = absurd (some e)
+tells_put items old mid (rule ∷ rules) ps issued last e some x l =
+    let y = subst (λ qs. PutsAll true items old mid qs (Ok issued)) (ap (map (sent_by old.name false)) e ∙ removals_sent old.name (rule ∷ rules)) x in
+    (items issued, y, l)
+
+-- ---- which rules
+
+rule_edit : (k j : ℕ) (xs : List Stream) → rule_of (slice_get (edit k end_one xs) j) ≡ rule_of (slice_get xs j)
+rule_edit k j [] = refl
+rule_edit zero zero (x ∷ xs) = refl
+rule_edit zero (suc j) (x ∷ xs) = refl
+rule_edit (suc k) zero (x ∷ xs) = refl
+rule_edit (suc k) (suc j) (x ∷ xs) = rule_edit k j xs
+
+answered_open : (b : Bool) (o : Option Rule) → b ≡ true → (if b then o else None) ≡ o
+answered_open true o e = refl
+answered_open false o e = cc
+
+rule_so : (v : View) (h : List Event) (k : ℕ) → Left v h → is_open h k ≡ true → rule_kept (kept_at v.streams k) ≡ rule_of (slice_get (streams h) k)
+unfolding rule_answer
+rule_so v h k left there = rule_left v.streams h k left.streams ∙ answered_open (is_open h k) (rule_of (slice_get (streams h) k)) there
+
+-- by the core `w` that the history `g` leaves
+tell_so : (v w : View) (g : List Event) (o : Option Rule) → v.bus ≡ w.bus → v.calls.closing ≡ w.calls.closing → Left w g → left_by v w.streams o ≡ leaves_by g o
+tell_so v w g None b c left = refl
+tell_so v w g (Some rule) b c left =
+    ap (λ x. if x && (is_none v.calls.closing && (may_be_signal rule.kind && not (is_some (shared rule w.streams)))) then rule ∷ [] else []) (b ∙ left.bus)
+    ∙ ap (λ x. if on_bus g && (is_none x && (may_be_signal rule.kind && not (is_some (shared rule w.streams)))) then rule ∷ [] else []) (c ∙ left.calls.closing)
+    ∙ ap (λ x. if on_bus g && (is_none (closing g) && (may_be_signal rule.kind && not x)) then rule ∷ [] else []) (subscribed_left w.streams g rule left.streams)
+
+two_open : (a b c : Bool) → ((a && b) && c) ≡ true → (a ≡ true) × (b ≡ true)
+two_open true true c e = (refl, refl)
+two_open true false c e = cc
+two_open false b c e = cc
+
+pub leaving_so : (v : View) (h : List Event) (k : ℕ) (o : Option ℕ) → Left v h → are_open h k o ≡ true → left_rules v k o ≡ leaving h k o
+unfolding leaving
+leaving_so v h k None left there =
+    let w = closed_view v (without k v.streams) in
+    append-nil (left_by v (without k v.streams) (rule_kept (kept_at v.streams k)))
+    ∙ ap (left_by v (without k v.streams)) (rule_so v h k left there ∙ sym (rule_edit k k (streams h)))
+    ∙ tell_so v w (Did k Gone ∷ h) (rule_of (slice_get (streams (Did k Gone ∷ h)) k)) refl refl (left_ended v k h left)
+leaving_so v h k (Some j) left there =
+    let w = closed_view v (without k v.streams) in
+    let x = closed_view v (without j (without k v.streams)) in
+    let first = left_ended v k h left in
+    let second = left_ended w j (Did k Gone ∷ h) first in
+    let both = two_open (is_open h k) (is_open h j) (not (k == j)) there in
+    ap (λ o. left_by v (without k v.streams) o ++ left_by v (without j (without k v.streams)) (rule_kept (kept_at v.streams j))) (rule_so v h k left both.0 ∙ sym (rule_edit k k (streams h)))
+    ∙ ap (λ rs. rs ++ left_by v (without j (without k v.streams)) (rule_kept (kept_at v.streams j))) (tell_so v w (Did k Gone ∷ h) (rule_of (slice_get (streams (Did k Gone ∷ h)) k)) refl refl first)
+    ∙ ap (λ o. leaves (Did k Gone ∷ h) k ++ left_by v (without j (without k v.streams)) o) (rule_so v h j left both.1 ∙ sym (rule_edit k j (streams h)) ∙ sym (rule_edit j j (edit k end_one (streams h))))
+    ∙ ap (λ rs. leaves (Did k Gone ∷ h) k ++ rs) (tell_so v x (Did j Gone ∷ Did k Gone ∷ h) (rule_of (slice_get (streams (Did j Gone ∷ Did k Gone ∷ h)) j)) refl refl second)
+
+-- ---- the streams are closed
+
+gone_left : (v : View) (h : List Event) (k : ℕ) (o : Option ℕ) → Left v h → Left (closed_view v (ended k o v.streams)) (gone_both k o h)
+gone_left v h k None left = left_ended v k h left
+gone_left v h k (Some j) left = left_ended (closed_view v (without k v.streams)) j (Did k Gone ∷ h) (left_ended v k h left)
+
+have_so : (v : View) (h : List Event) (k : ℕ) (o : Option ℕ) → Left v h → are_open h k o ≡ true → have_rules v k o ≡ (has_rule h k || has_rule_at h o)
+have_so v h k None left there = ap (λ r. is_some r || false) (rule_so v h k left there)
+have_so v h k (Some j) left there =
+    let both = two_open (is_open h k) (is_open h j) (not (k == j)) there in
+    ap (λ r. is_some r || is_some (rule_kept (kept_at v.streams j))) (rule_so v h k left both.0) ∙ ap (λ r. has_rule h k || is_some r) (rule_so v h j left both.1)
+
+waits_so : (v : View) (h : List Event) (k : ℕ) (o : Option ℕ) → Left v h → are_open h k o ≡ true → (is_flying v.calls && have_rules v k o) ≡ close_waits h k o
+unfolding close_waits
+waits_so v h k o left there = ap (λ b. b && have_rules v k o) (flying-left v.calls h left.calls) ∙ ap (λ b. in_flight h && b) (have_so v h k o left there)
+
+pub closes_unknown : (v : View) (h : List Event) (k : ℕ) (o : Option ℕ) → are_open h k o ≡ false → ClosesStreams v v k o h (spent.Over errors.UnknownHandle)
+closes_unknown v h k o e = (e, refl)
+
+pub closes_busy : (v : View) (h : List Event) (s : MessageStream) (t : Option MessageStream) → Left v h → are_open h s.number (number_of t) ≡ true
+    → (is_flying v.calls && have_rules v s.number (number_of t)) ≡ true → ClosesStreams v v s.number (number_of t) h (spent.Back s t errors.Busy)
+closes_busy v h s t left there busy = (there, sym (waits_so v h s.number (number_of t) left there) ∙ busy, refl, refl, refl)
+
+pub closes_gone : (v mid : View) (h : List Event) (k : ℕ) (o last : Option ℕ) → Left v h → are_open h k o ≡ true → (is_flying v.calls && have_rules v k o) ≡ false
+    → Tells v mid (left_rules v k o) (Ok last) → IsMore v mid → ClosesStreams v (closed_view mid (ended k o mid.streams)) k o h (spent.Gone last)
+closes_gone v mid h k o last left there idle t more =
+    let kept : mid.streams ≡ v.streams = ap (λ (u : View). u.streams) more.same in (
+      (there, sym (waits_so v h k o left there) ∙ idle),
+      subst (λ qs. TellsBus (closed_view mid (ended k o qs)) (gone_both k o h) (leaving h k o) (Ok last)) (sym kept)
+          (subst (λ rs. TellsBus (closed_view mid (ended k o v.streams)) (gone_both k o h) rs (Ok last)) (leaving_so v h k o left there)
+          (tells_bus v mid (ended k o v.streams) (left_rules v k o) (gone_both k o h) last t (gone_left v h k o left))),
+    )
+
+closes_by : (v mid new : View) (h : List Event) (k : ℕ) (o : Option ℕ) (rules : List Rule) (error : Error) → Tells v mid rules (Err error) → (error ≡ errors.Memory → ⊥) → MayClose h k o
+    → TellsBus new (gone_both k o h) (leaving h k o) (Err error) → ClosesStreams v new k o h (spent.Over error)
+closes_by v mid new h k o [] error t some may x = absurd t
+closes_by v mid new h k o (rule ∷ rules) errors.UnknownHandle t some may x = absurd t
+closes_by v mid new h k o rules errors.Memory t some may x = absurd (some refl)
+closes_by v mid new h k o rules other t some may x = (may, x)
+
+pub closes_over : (v mid : View) (h : List Event) (k : ℕ) (o : Option ℕ) (error : Error) → Left v h → are_open h k o ≡ true → (is_flying v.calls && have_rules v k o) ≡ false
+    → Tells v mid (left_rules v k o) (Err error) → (error ≡ errors.Memory → ⊥) → ClosesStreams v (closed_view v (ended k o v.streams)) k o h (spent.Over error)
+closes_over v mid h k o error left there idle t some =
+    closes_by v mid (closed_view v (ended k o v.streams)) h k o (left_rules v k o) error t some (there, sym (waits_so v h k o left there) ∙ idle)
+    (subst (λ rs. TellsBus (closed_view v (ended k o v.streams)) (gone_both k o h) rs (Err error)) (leaving_so v h k o left there)
+    (tells_not v mid (ended k o v.streams) (left_rules v k o) (gone_both k o h) error t some (gone_left v h k o left)))
+
+tells_some : (v mid : View) (rules : List Rule) (error : Error) → Tells v mid rules (Err error) → some_rules rules ≡ true
+tells_some v mid [] error t = absurd t
+tells_some v mid (rule ∷ rules) error t = refl
+
+pub closes_back : (v mid new : View) (h : List Event) (s : MessageStream) (t : Option MessageStream) (error : Error) → Left v h → are_open h s.number (number_of t) ≡ true
+    → (is_flying v.calls && have_rules v s.number (number_of t)) ≡ false → Tells v mid (left_rules v s.number (number_of t)) (Err error) → error ≡ errors.Memory → new ≡ v
+    → ClosesStreams v new s.number (number_of t) h (spent.Back s t error)
+closes_back v mid new h s t error left there idle tells e same =
+    subst (λ x. ClosesStreams v new s.number (number_of t) h (spent.Back s t x)) (sym e) (
+      (there, sym (waits_so v h s.number (number_of t) left there) ∙ idle),
+      ap some_rules (sym (leaving_so v h s.number (number_of t) left there)) ∙ tells_some v mid (left_rules v s.number (number_of t)) error tells,
+      refl,
+      refl,
+      same,
+    )
