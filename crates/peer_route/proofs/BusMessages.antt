@@ -12,7 +12,7 @@ use Rattle.peer_route.specs.Parcel.{Parcel}
 use Rattle.peer_route.specs.CallMessage.{expects, expects_reply}
 use Rattle.peer_route.specs.Issuing.{is_deep}
 use Rattle.peer_route.specs.Left.{View}
-use Rattle.peer_route.specs.Bus.{match_parcel}
+use Rattle.peer_route.specs.BusCall.{match_parcel}
 use Rattle.peer_route.specs.Placing.{PutsAll}
 
 -- the names of what is asked

@@ -1,20 +1,23 @@
--- A stream that was closed is unknown for good.
-use Rattle.std.proofs.Common.{◌≡◌, inl, inr, ℕ, zero, suc, ◌==◌, ◌&&◌, not, refl, sym, ◌∙◌, ap, subst, ◌||◌, Bool, true, false, if◌then◌else◌, is_some, List, [], ◌∷◌, ◌++◌, map, Option, Some, None, Ok, Err}
+-- A stream that was closed, or that the bus denied, is unknown for good.
+use Rattle.std.proofs.Common.{◌≡◌, inl, inr, ℕ, zero, suc, ◌==◌, ◌&&◌, not, refl, sym, ◌∙◌, ap, subst, ◌||◌, Bool, true, false, if◌then◌else◌, is_some, List, [], ◌∷◌, ◌++◌, map, Option, Some, None, Ok, Err, append_assoc}
 use Rattle.std.specs.List.{slice_get, AllByRecursion}
 use Rattle.std.proofs.lemmas.Bool.{or_cases, eqb-true}
 use Rattle.wire_message.specs.declared.error.Error.TheVariants as errors
+use Rattle.rule_match.specs.Rule.{Rule}
 use Rattle.peer_route.specs.declared.words.Words.{Words}
 use Rattle.peer_route.specs.declared.words.Words.TheVariants as words
 use Rattle.peer_route.specs.declared.answer.Answer.{Answer}
 use Rattle.peer_route.specs.declared.answer.Answer.TheVariants as answers
 use Rattle.peer_route.specs.declared.answer.Entry.{Entry}
 use Rattle.peer_route.specs.History.{Event, Took, Shut, Put, Wrote, Fault, Spent, Made, Did, Main, OnBus, Added, Removed, Named, Deed, Gave, Told, Gone, Asked, Opened, done, closing, by_position, edit}
-use Rattle.peer_route.specs.Streams.{Stream, streams, is_since, phase, asks_by, new_stream, asking_stream, done_by, fail_stream, runs, runs_at, is_open, gave_last, held, take_by, take_at, take_answer}
+use Rattle.peer_route.specs.Streams.{Stream, streams, is_since, phase, asks_by, new_stream, asking_stream, done_by, fail_stream, runs, runs_at, is_open, gave_last, held, take_by, take_at, take_answer, leaving, gone_then, opening_at, opening_answer}
+use Rattle.peer_route.specs.declared.progress.OpenState.TheVariants as states
 use Rattle.peer_route.specs.Parcel.{Setting}
 use Rattle.peer_route.specs.CallMessage.{reply_asked, error_asked}
-use Rattle.peer_route.specs.Trail.{Trail, place, given_by, given_at, given, trail, unstream_does, events_of, new_streams}
-use Rattle.peer_route.specs.Answers.{IsAnswer, IsSendOf, Legal, shown_take, take_of, take_before_of, where_open, is_open_at, are_open_at}
-use Rattle.peer_route.specs.StreamLaws.{names_stream, closes_stream, IsNoStream}
+use Rattle.peer_route.specs.Trail.{Trail, place, given_by, given_at, given, trail, opened_does, removals, wrote_each, fault_each, wrote_first, leave_with, unstream_does, events_of, new_streams}
+use Rattle.peer_route.specs.Answers.{IsAnswer, IsSendOf, IsLeaveOf, Legal, shown_opening, opened_of, shown_take, take_of, take_before_of, where_open, is_open_at, are_open_at}
+use Rattle.peer_route.specs.StreamLaws.{names_stream, closes_stream, says_closed, says_denied, IsNoStream}
+use Rattle.peer_route.proofs.BusAnswers.{OfLeave, Leaves, Unknown, Delays, leave_answered}
 use Rattle.peer_route.proofs.Edits.{edit_there}
 use Rattle.peer_route.proofs.Once.{place_append, legal_from}
 
@@ -86,10 +89,6 @@ unfolding is_open
 open_made h None e = cc
 open_made h (Some k) e = (k, refl, there_made h (slice_get (streams h) k) e)
 
-open_gone : (b : Bool) → answers.Gone ≡ where_open b answers.Gone → b ≡ true
-open_gone true e = refl
-open_gone false e = cc
-
 two_open : (a b c : Bool) → (a && b && c) ≡ true → (a ≡ true) × (b ≡ true)
 two_open true true c e = (refl, refl)
 two_open true false c e = cc
@@ -99,44 +98,99 @@ two_open false b c e = cc
 abbrev Closes : List Event → List Event → Option ℕ → Type 0
 Closes xs h p = (k : ℕ) × (p ≡ Some k) × (closed_at (streams (xs ++ h)) k ≡ true)
 
-closes_one : (h : List Event) (p : Option ℕ) → is_open_at h p ≡ true → Closes (unstream_does p None answers.Gone) h p
-closes_one h p e =
-    let m = open_made h p e in
-    (m.0, m.1, subst (λ o. closed_at (streams (unstream_does o None answers.Gone ++ h)) m.0 ≡ true) (sym m.1) (closed_here m.0 (streams h) m.2))
+closes_front : (xs ys h : List Event) (k : ℕ) → closed_at (streams (ys ++ h)) k ≡ true → closed_at (streams ((xs ++ ys) ++ h)) k ≡ true
+closes_front xs ys h k g = subst (λ (zs : List Event). closed_at (streams zs) k ≡ true) (sym (append_assoc xs ys h)) (closed_events xs (ys ++ h) k g)
 
-closes_both : (h : List Event) (p q : Option ℕ) → is_open_at h p ≡ true → is_open_at h q ≡ true
-    → Closes (unstream_does p q answers.Gone) h p × Closes (unstream_does p q answers.Gone) h q
-closes_both h p q e f =
+-- whatever becomes of telling the bus
+closes_leave : (writes : List Rule → List Event) (h : List Event) (i : ℕ) (j : Option ℕ) (k : ℕ) → closed_at (streams (gone_then j (Did i Gone ∷ []) ++ h)) k ≡ true
+    → closed_at (streams (leave_with writes h i j ++ h)) k ≡ true
+closes_leave writes h i j k g =
+    closes_front (writes (leaving h i j) ++ removals (gone_then j (Did i Gone ∷ h)) (leaving h i j)) (gone_then j (Did i Gone ∷ [])) h k g
+
+closes_said : (h : List Event) (i : ℕ) (j : Option ℕ) (a : Answer) (k : ℕ) → says_closed a ≡ true → closed_at (streams (gone_then j (Did i Gone ∷ []) ++ h)) k ≡ true
+    → closed_at (streams (unstream_does h (Some i) j a ++ h)) k ≡ true
+closes_said h i j (answers.Gone last) k e g = closes_leave wrote_each h i j k g
+closes_said h i j (answers.SendFailed error) k e g = closes_leave fault_each h i j k g
+closes_said h i j (answers.SentFirst error) k e g = closes_leave wrote_first h i j k g
+closes_said h i j (answers.Untold error) k e g = g
+closes_said h i j a k e g = cc
+
+closes_one : (h : List Event) (p : Option ℕ) (a : Answer) → says_closed a ≡ true → is_open_at h p ≡ true → Closes (unstream_does h p None a) h p
+closes_one h p a said e =
+    let m = open_made h p e in
+    (m.0, m.1, subst (λ o. closed_at (streams (unstream_does h o None a ++ h)) m.0 ≡ true) (sym m.1) (closes_said h m.0 None a m.0 said (closed_here m.0 (streams h) m.2)))
+
+closes_both : (h : List Event) (p q : Option ℕ) (a : Answer) → says_closed a ≡ true → is_open_at h p ≡ true → is_open_at h q ≡ true
+    → Closes (unstream_does h p q a) h p × Closes (unstream_does h p q a) h q
+closes_both h p q a said e f =
     let m = open_made h p e in
     let n = open_made h q f in
     let first : closed_at (streams (Did m.0 Gone ∷ h)) m.0 ≡ true = closed_here m.0 (streams h) m.2 in
     let there : is_some (slice_get (streams (Did m.0 Gone ∷ h)) n.0) ≡ true = edit_there (done_by Gone) m.0 n.0 (streams h) ∙ n.2 in
-    let does : unstream_does p q answers.Gone ≡ Did n.0 Gone ∷ Did m.0 Gone ∷ [] =
-    ap (λ o. unstream_does o q answers.Gone) m.1 ∙ ap (λ o. unstream_does (Some m.0) o answers.Gone) n.1 in (
-      (m.0, m.1, subst (λ xs. closed_at (streams (xs ++ h)) m.0 ≡ true) (sym does) (closed_edit Gone n.0 m.0 (streams (Did m.0 Gone ∷ h)) first)),
-      (n.0, n.1, subst (λ xs. closed_at (streams (xs ++ h)) n.0 ≡ true) (sym does) (closed_here n.0 (streams (Did m.0 Gone ∷ h)) there)),
+    let does : unstream_does h p q a ≡ unstream_does h (Some m.0) (Some n.0) a =
+    ap (λ o. unstream_does h o q a) m.1 ∙ ap (λ o. unstream_does h (Some m.0) o a) n.1 in (
+      (
+        m.0,
+        m.1,
+        subst (λ xs. closed_at (streams (xs ++ h)) m.0 ≡ true) (sym does)
+            (closes_said h m.0 (Some n.0) a m.0 said (closed_edit Gone n.0 m.0 (streams (Did m.0 Gone ∷ h)) first)),
+      ),
+      (
+        n.0,
+        n.1,
+        subst (λ xs. closed_at (streams (xs ++ h)) n.0 ≡ true) (sym does)
+            (closes_said h m.0 (Some n.0) a n.0 said (closed_here n.0 (streams (Did m.0 Gone ∷ h)) there)),
+      ),
     )
 
 closes_at : (t : Trail) (lane n number : ℕ) (xs : List Event) → (n == number) ≡ true → Closes xs t.events (place 0 lane n t.streams) → Closes xs t.events (place 0 lane number t.streams)
 closes_at t lane n number xs e c = subst (λ i. Closes xs t.events (place 0 lane i t.streams)) (eqb-true n number e) c
 
-closes_by : (t : Trail) (lane : ℕ) (w : Words) (a : Answer) (number : ℕ) → IsAnswer t lane w a → closes_stream number w ≡ true → a ≡ answers.Gone
+-- streams that an entry closed were open
+said_open : (open_ : Bool) (a : Answer) → OfLeave open_ a → says_closed a ≡ true → open_ ≡ true
+said_open open_ a (Leaves there said) e = there
+said_open open_ a (Unknown is) e = let q : false ≡ true = ap says_closed (sym is) ∙ e in cc
+said_open open_ a (Delays is) e = let q : false ≡ true = ap says_closed (sym is) ∙ e in cc
+
+closes_by : (t : Trail) (lane : ℕ) (w : Words) (a : Answer) (number : ℕ) → IsAnswer t lane w a → closes_stream number w ≡ true → says_closed a ≡ true
     → Closes (events_of t lane w a) t.events (place 0 lane number t.streams)
-closes_by t lane (words.Unstream n None) a number is e gone =
-    subst (λ x. Closes (events_of t lane (words.Unstream n None) x) t.events (place 0 lane number t.streams)) (sym gone)
-    (closes_at t lane n number (unstream_does (place 0 lane n t.streams) None answers.Gone) e
-    (closes_one t.events (place 0 lane n t.streams) (open_gone (is_open_at t.events (place 0 lane n t.streams)) (sym gone ∙ is))))
-closes_by t lane (words.Unstream n (Some second)) a number is e gone =
+closes_by t lane (words.Unstream n None) a number is e said =
+    let p = place 0 lane n t.streams in
+    closes_at t lane n number (unstream_does t.events p None a) e
+    (closes_one t.events p a said (said_open (is_open_at t.events p) a (leave_answered (is_open_at t.events p) t.events p None a is) said))
+closes_by t lane (words.Unstream n (Some second)) a number is e said =
     let p = place 0 lane n t.streams in
     let q = place 0 lane second t.streams in
-    let open_ = two_open (is_open_at t.events p) (is_open_at t.events q) (not (n == second)) (open_gone (are_open_at t.events lane t.streams n (Some second)) (sym gone ∙ is)) in
-    let both = closes_both t.events p q open_.0 open_.1 in
-    subst (λ x. Closes (events_of t lane (words.Unstream n (Some second)) x) t.events (place 0 lane number t.streams)) (sym gone)
-    (elim (or_cases (n == number) (second == number) e) as (λ _. Closes (unstream_does p q answers.Gone) t.events (place 0 lane number t.streams)) [
-      | inl one ↦ closes_at t lane n number (unstream_does p q answers.Gone) one both.0
-      | inr two ↦ closes_at t lane second number (unstream_does p q answers.Gone) two both.1
-    ])
-closes_by t lane w a number is e gone = cc
+    let there = are_open_at t.events lane t.streams n (Some second) in
+    let open_ = two_open (is_open_at t.events p) (is_open_at t.events q) (not (n == second)) (said_open there a (leave_answered there t.events p q a is) said) in
+    let both = closes_both t.events p q a said open_.0 open_.1 in
+    elim (or_cases (n == number) (second == number) e) as (λ _. Closes (unstream_does t.events p q a) t.events (place 0 lane number t.streams)) [
+      | inl one ↦ closes_at t lane n number (unstream_does t.events p q a) one both.0
+      | inr two ↦ closes_at t lane second number (unstream_does t.events p q a) two both.1
+    ]
+closes_by t lane w a number is e said = cc
+
+-- ---- or is denied
+
+denied_does : (k : ℕ) (a : Answer) → says_denied a ≡ true → opened_does (Some k) a ≡ Did k Gone ∷ []
+denied_does k (answers.MethodError m) e = refl
+denied_does k (answers.InvalidReply position) e = refl
+denied_does k (answers.Closed error) e = refl
+denied_does k a e = cc
+
+denied_made : (h : List Event) (o : Option Stream) → says_denied (shown_opening (opening_at h o)) ≡ true → is_some o ≡ true
+denied_made h None e = cc
+denied_made h (Some s) e = refl
+
+closes_denied : (h : List Event) (p : Option ℕ) (a : Answer) → a ≡ opened_of h p → says_denied a ≡ true → Closes (opened_does p a) h p
+unfolding opening_answer
+closes_denied h None a is e = let q : false ≡ true = ap says_denied (sym is) ∙ e in cc
+closes_denied h (Some k) a is e = (
+  k,
+  refl,
+  subst (λ xs. closed_at (streams (xs ++ h)) k ≡ true) (sym (denied_does k a e))
+      (closed_here k (streams h) (denied_made h (slice_get (streams h) k) (ap says_denied (sym is) ∙ e))),
+)
 
 -- ---- it is unknown
 
@@ -185,11 +239,24 @@ not_open : (t : Trail) (lane number : ℕ) → IsClosed t lane number → is_ope
 unfolding is_open
 not_open t lane number c = ap (is_open_at t.events) c.named ∙ closed_there t.events (streams t.events) c.k c.closed
 
+closed_opening : (h : List Event) (ss : List Stream) (k : ℕ) → closed_at ss k ≡ true → opening_at h (slice_get ss k) ≡ states.Unknown
+closed_opening h [] k g = cc
+closed_opening h (s ∷ ss) zero g = rw g refl
+closed_opening h (s ∷ ss) (suc k) g = closed_opening h ss k g
+
+not_opened : (t : Trail) (lane number : ℕ) → IsClosed t lane number → opened_of t.events (place 0 lane number t.streams) ≡ answers.Refused errors.UnknownHandle
+unfolding opening_answer
+not_opened t lane number c = ap (opened_of t.events) c.named ∙ ap shown_opening (closed_opening t.events (streams t.events) c.k c.closed)
+
 none_given : (t : Trail) (lane number : ℕ) → IsClosed t lane number → given t lane number ≡ None
 none_given t lane number c = ap (given_at t.events) c.named ∙ closed_given t.events (streams t.events) c.k c.closed
 
 refused_where : (a there : Answer) (b : Bool) → a ≡ where_open b there → b ≡ false → a ≡ answers.Refused errors.UnknownHandle
 refused_where a there b is e = is ∙ ap (λ x. where_open x there) e
+
+refused_leave : (open_ : Bool) (h : List Event) (p q : Option ℕ) (a : Answer) → IsLeaveOf open_ h p q a → open_ ≡ false → a ≡ answers.Refused errors.UnknownHandle
+refused_leave true h p q a is e = cc
+refused_leave false h p q a is e = is
 
 first_not : (a b c : Bool) → a ≡ false → (a && b && c) ≡ false
 first_not false b c e = refl
@@ -209,11 +276,12 @@ no_stream t lane (words.Take n) a number is c e = is ∙ not_taken t lane n (nam
 no_stream t lane (words.TakeBefore n before) a number is c e = is ∙ not_taken_before t lane n (named_at t lane n number e c)
 no_stream t lane (words.Clone n) a number is c e = refused_where a _ _ is (not_open t lane n (named_at t lane n number e c))
 no_stream t lane (words.Queue n limit) a number is c e = refused_where a _ _ is (not_open t lane n (named_at t lane n number e c))
-no_stream t lane (words.Unstream n None) a number is c e = refused_where a _ _ is (not_open t lane n (named_at t lane n number e c))
+no_stream t lane (words.Opened n) a number is c e = is ∙ not_opened t lane n (named_at t lane n number e c)
+no_stream t lane (words.Unstream n None) a number is c e = refused_leave _ _ _ _ a is (not_open t lane n (named_at t lane n number e c))
 no_stream t lane (words.Unstream n (Some second)) a number is c e =
     let p = is_open_at t.events (place 0 lane n t.streams) in
     let q = is_open_at t.events (place 0 lane second t.streams) in
-    refused_where a answers.Gone (p && q && not (n == second)) is (elim (or_cases (n == number) (second == number) e) as (λ _. (p && q && not (n == second)) ≡ false) [
+    refused_leave (p && q && not (n == second)) _ _ _ a is (elim (or_cases (n == number) (second == number) e) as (λ _. (p && q && not (n == second)) ≡ false) [
       | inl one ↦ first_not p q (not (n == second)) (not_open t lane n (named_at t lane n number one c))
       | inr two ↦ second_not p q (not (n == second)) (not_open t lane second (named_at t lane second number two c))
     ])
@@ -228,15 +296,26 @@ no_stream t lane w a number is c e = cc
 closed_more : (setting : Setting) (e : Entry) (es : List Entry) (lane number : ℕ) → IsClosed (trail setting es) lane number → IsClosed (trail setting (e ∷ es)) lane number
 closed_more setting e es lane number c = record {
   k = c.k;
-  named = place_append 0 lane number (trail setting es).streams (new_streams e.lane e.answer) c.k c.named;
+  named = place_append 0 lane number (trail setting es).streams (new_streams (trail setting es) e.lane e.words e.answer) c.k c.named;
   closed = closed_events (events_of (trail setting es) e.lane e.words e.answer) (trail setting es).events c.k c.closed;
 }
 
-closed_after : (setting : Setting) (e : Entry) (es : List Entry) (number : ℕ) → Legal setting (e ∷ es) → closes_stream number e.words ≡ true → e.answer ≡ answers.Gone
+closed_now : (setting : Setting) (e : Entry) (es : List Entry) (number : ℕ) → Closes (events_of (trail setting es) e.lane e.words e.answer) (trail setting es).events (place 0 e.lane number (trail setting es).streams)
     → IsClosed (trail setting (e ∷ es)) e.lane number
-closed_after setting e es number legal w gone =
-    let c = closes_by (trail setting es) e.lane e.words e.answer number legal.0 w gone in
-    record { k = c.0; named = place_append 0 e.lane number (trail setting es).streams (new_streams e.lane e.answer) c.0 c.1; closed = c.2 }
+closed_now setting e es number c =
+    record { k = c.0; named = place_append 0 e.lane number (trail setting es).streams (new_streams (trail setting es) e.lane e.words e.answer) c.0 c.1; closed = c.2 }
+
+closed_after : (setting : Setting) (e : Entry) (es : List Entry) (number : ℕ) → Legal setting (e ∷ es) → closes_stream number e.words ≡ true → says_closed e.answer ≡ true
+    → IsClosed (trail setting (e ∷ es)) e.lane number
+closed_after setting e es number legal w said = closed_now setting e es number (closes_by (trail setting es) e.lane e.words e.answer number legal.0 w said)
+
+denied_after : (setting : Setting) (e : Entry) (es : List Entry) (number : ℕ) → Legal setting (e ∷ es) → e.words ≡ words.Opened number → says_denied e.answer ≡ true
+    → IsClosed (trail setting (e ∷ es)) e.lane number
+denied_after setting e es number legal w said =
+    let t = trail setting es in
+    let p = place 0 e.lane number t.streams in
+    let is : e.answer ≡ opened_of t.events p = subst (λ x. IsAnswer t e.lane x e.answer) w legal.0 in
+    closed_now setting e es number (subst (λ x. Closes (events_of t e.lane x e.answer) t.events p) (sym w) (closes_denied t.events p e.answer is said))
 
 unknown_entry : (t : Trail) (x : Entry) (lane number : ℕ) → IsAnswer t x.lane x.words x.answer → IsClosed t lane number → IsNoStream lane number x
 unknown_entry t x lane number is c same named = no_stream t x.lane x.words x.answer number is (subst (λ l. IsClosed t l number) (sym same) c) named
@@ -249,6 +328,11 @@ closed_later setting (x ∷ newer) older e lane number legal c =
     (closed_more setting x (newer ++ e ∷ older) lane number rest.0, (unknown_entry (trail setting (newer ++ e ∷ older)) x lane number legal.0 rest.0, rest.1))
 
 pub closed_for_good : (setting : Setting) (newer older : List Entry) (e : Entry) (number : ℕ) → Legal setting (newer ++ e ∷ older) → closes_stream number e.words ≡ true
-    → e.answer ≡ answers.Gone → AllByRecursion (IsNoStream e.lane number) newer
-closed_for_good setting newer older e number legal w gone =
-    (closed_later setting newer older e e.lane number legal (closed_after setting e older number (legal_from setting newer (e ∷ older) legal) w gone)).1
+    → says_closed e.answer ≡ true → AllByRecursion (IsNoStream e.lane number) newer
+closed_for_good setting newer older e number legal w said =
+    (closed_later setting newer older e e.lane number legal (closed_after setting e older number (legal_from setting newer (e ∷ older) legal) w said)).1
+
+pub denied_for_good : (setting : Setting) (newer older : List Entry) (e : Entry) (number : ℕ) → Legal setting (newer ++ e ∷ older) → e.words ≡ words.Opened number
+    → says_denied e.answer ≡ true → AllByRecursion (IsNoStream e.lane number) newer
+denied_for_good setting newer older e number legal w said =
+    (closed_later setting newer older e e.lane number legal (denied_after setting e older number (legal_from setting newer (e ∷ older) legal) w said)).1

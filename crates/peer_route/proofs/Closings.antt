@@ -5,8 +5,8 @@ use Rattle.wire_message.specs.declared.error.Error.{Error}
 use Rattle.peer_route.specs.declared.answer.Answer.{Answer}
 use Rattle.peer_route.specs.declared.answer.Answer.TheVariants as answers
 use Rattle.peer_route.specs.History.{Event}
-use Rattle.peer_route.specs.Streams.{is_open, known, are_open, close_events, ask_events}
-use Rattle.peer_route.specs.Trail.{Names, place, unstream_does, queue_does}
+use Rattle.peer_route.specs.Streams.{is_open, known, are_open, ask_events}
+use Rattle.peer_route.specs.Trail.{Names, place, queue_does}
 use Rattle.peer_route.specs.Answers.{where_open, is_open_at, are_open_at}
 use Rattle.peer_route.proofs.Lanes.{apart}
 
@@ -56,11 +56,6 @@ shown_known a true = refl
 shown_known a false = refl
 
 -- the events are those of the core
-pub closes_so : (k : ℕ) (j : Option ℕ) (r : Result (Unit {0}) Error) → unstream_does (Some k) j (shown_by answers.Gone r) ≡ close_events k j r
-closes_so k None (Ok done) = refl
-closes_so k (Some j) (Ok done) = refl
-closes_so k j (Err error) = refl
-
 pub asks_so : (k limit : ℕ) (r : Result (Unit {0}) Error) → queue_does (Some k) limit (shown_by answers.Set r) ≡ ask_events k limit r
 asks_so k limit (Ok done) = refl
 asks_so k limit (Err error) = refl

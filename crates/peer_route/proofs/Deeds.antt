@@ -4,7 +4,6 @@ use Rattle.std.specs.List.{slice_get}
 use Rattle.std.specs.Option.{option_map}
 use Rattle.std.proofs.lemmas.Option.{slice_get-map}
 use Rattle.std.proofs.lemmas.Bool.{cases_eq, eq-eqb}
-use Rattle.wire_message.specs.Front.{Seen}
 use Rattle.wire_message.specs.declared.error.Error.{Error}
 use Rattle.rule_match.specs.Rule.{Rule}
 use Rattle.rule_match.specs.Bytes.{rule_in_bytes}
@@ -15,9 +14,9 @@ use Rattle.peer_route.specs.declared.words.Words.TheVariants as words
 use Rattle.peer_route.specs.declared.answer.Answer.{Answer}
 use Rattle.peer_route.specs.declared.answer.Answer.TheVariants as answers
 use Rattle.peer_route.specs.History.{Event, Took, Shut, Put, Wrote, Fault, Spent, Made, Did, Main, OnBus, Added, Removed, Named, Deed, Gave, Told, Gone, Asked, Opened, done, edit, closing, writer}
-use Rattle.peer_route.specs.Streams.{Stream, streams, phase, asks_by, new_stream, asking_stream, done_by, fail_stream}
+use Rattle.peer_route.specs.Streams.{Stream, streams, phase, asks_by, new_stream, asking_stream, done_by, fail_stream, leaving, gone_then}
 use Rattle.peer_route.specs.Parcel as parcels
-use Rattle.peer_route.specs.Trail.{Trail, place, failed_put, send_events, read_events, poll_spends, drop_spends, stream_makes, take_does, clone_makes, gone_at, unstream_does, queue_does, main_sets, second_place, events_of, open_makes, close_does}
+use Rattle.peer_route.specs.Trail.{Trail, place, failed_put, send_events, read_events, poll_spends, drop_spends, stream_makes, opened_does, take_does, clone_makes, removal, removals, wrote_each, fault_each, wrote_first, leave_with, unstream_does, queue_does, main_sets, second_place, events_of, open_makes, close_does}
 use Rattle.peer_route.specs.StreamLaws.{is_take}
 use Rattle.peer_route.proofs.Edits.{edit_other, edit_here, get_append}
 
@@ -40,15 +39,15 @@ Only p (Added m rule asked ∷ xs) = Only p xs
 Only p (Removed m ∷ xs) = Only p xs
 Only p (Named name ∷ xs) = Only p xs
 
-only_failed : (p : ℕ → Deed → Type 0) (w : Writer) (m : Seen) (expects : Bool) → Only p (failed_put w (Put m expects))
-only_failed p writers.Fine m expects = tt
-only_failed p writers.Failed m expects = tt
-only_failed p writers.Closed m expects = tt
+only_failed : (p : ℕ → Deed → Type 0) (w : Writer) (e : Event) → Only p (e ∷ []) → Only p (failed_put w e)
+only_failed p writers.Fine e one = one
+only_failed p writers.Failed e one = tt
+only_failed p writers.Closed e one = tt
 
 only_send : (p : ℕ → Deed → Type 0) (h : List Event) (asked : parcels.Asked) (a : Answer) → Only p (send_events h asked a)
 only_send p h (Ok parcel) (answers.Called call serial) = tt
 only_send p h (Ok parcel) (answers.Sent serial) = tt
-only_send p h (Ok parcel) (answers.SendFailed error) = only_failed p (writer h) _ _
+only_send p h (Ok parcel) (answers.SendFailed error) = only_failed p (writer h) _ tt
 only_send p h (Ok parcel) a = tt
 only_send p h (Err error) a = tt
 
@@ -75,10 +74,20 @@ only_stream : (p : ℕ → Deed → Type 0) (a : Answer) → Only p (stream_make
 only_stream p (answers.Streaming number) = tt
 only_stream p a = tt
 
-only_open : (p : ℕ → Deed → Type 0) (found : Result Rule Error) (asked : Option ℕ) (a : Answer) → Only p (open_makes found asked a)
-only_open p (Ok rule) asked (answers.Streaming number) = tt
-only_open p (Ok rule) asked a = tt
-only_open p (Err error) asked a = tt
+only_open : (p : ℕ → Deed → Type 0) (h : List Event) (found : Result Rule Error) (asked : Option ℕ) (a : Answer) → Only p (open_makes h found asked a)
+only_open p h (Ok rule) asked (answers.Streaming number) = tt
+only_open p h (Ok rule) asked (answers.Opening number serial) = tt
+only_open p h (Ok rule) asked (answers.SendFailed error) = only_failed p (writer h) _ tt
+only_open p h (Ok rule) asked a = tt
+only_open p h (Err error) asked a = tt
+
+only_opened : (p : ℕ → Deed → Type 0) (o : Option ℕ) (a : Answer) → ((j : ℕ) → p j Gone) → ((j : ℕ) → p j Opened) → Only p (opened_does o a)
+only_opened p None a gone opens = tt
+only_opened p (Some j) answers.Opened gone opens = (opens j, tt)
+only_opened p (Some j) (answers.MethodError m) gone opens = (gone j, tt)
+only_opened p (Some j) (answers.InvalidReply position) gone opens = (gone j, tt)
+only_opened p (Some j) (answers.Closed error) gone opens = (gone j, tt)
+only_opened p (Some j) a gone opens = tt
 
 only_close : (p : ℕ → Deed → Type 0) (a : Answer) → Only p (close_does a)
 only_close p answers.Shut = tt
@@ -90,13 +99,58 @@ only_clone p None a = tt
 only_clone p (Some j) (answers.Streaming number) = tt
 only_clone p (Some j) a = tt
 
-only_gone : (p : ℕ → Deed → Type 0) (o : Option ℕ) (xs : List Event) → ((j : ℕ) → p j Gone) → Only p xs → Only p (gone_at o xs)
-only_gone p None xs gone rest = rest
-only_gone p (Some j) xs gone rest = (gone j, rest)
+only_more : (p : ℕ → Deed → Type 0) (xs ys : List Event) → Only p xs → Only p ys → Only p (xs ++ ys)
+only_more p [] ys first rest = rest
+only_more p (Did j deed ∷ xs) ys first rest = (first.0, only_more p xs ys first.1 rest)
+only_more p (Took m ∷ xs) ys first rest = only_more p xs ys first rest
+only_more p (Shut error ∷ xs) ys first rest = only_more p xs ys first rest
+only_more p (Put m expects ∷ xs) ys first rest = only_more p xs ys first rest
+only_more p (Wrote ∷ xs) ys first rest = only_more p xs ys first rest
+only_more p (Fault ∷ xs) ys first rest = only_more p xs ys first rest
+only_more p (Spent call ∷ xs) ys first rest = only_more p xs ys first rest
+only_more p (Made making ∷ xs) ys first rest = only_more p xs ys first rest
+only_more p (Main limit ∷ xs) ys first rest = only_more p xs ys first rest
+only_more p (OnBus ∷ xs) ys first rest = only_more p xs ys first rest
+only_more p (Added m rule asked ∷ xs) ys first rest = only_more p xs ys first rest
+only_more p (Removed m ∷ xs) ys first rest = only_more p xs ys first rest
+only_more p (Named name ∷ xs) ys first rest = only_more p xs ys first rest
 
-only_unstream : (p : ℕ → Deed → Type 0) (o q : Option ℕ) (a : Answer) → ((j : ℕ) → p j Gone) → Only p (unstream_does o q a)
-only_unstream p o q answers.Gone gone = only_gone p q (gone_at o []) gone (only_gone p o [] gone tt)
-only_unstream p o q a gone = tt
+only_wrote : (p : ℕ → Deed → Type 0) (rules : List Rule) → Only p (wrote_each rules)
+only_wrote p [] = tt
+only_wrote p (rule ∷ rules) = only_wrote p rules
+
+only_fault : (p : ℕ → Deed → Type 0) (rules : List Rule) → Only p (fault_each rules)
+only_fault p [] = tt
+only_fault p (rule ∷ rules) = only_fault p rules
+
+only_first : (p : ℕ → Deed → Type 0) (rules : List Rule) → Only p (wrote_first rules)
+only_first p [] = tt
+only_first p (rule ∷ rules) = only_more p (fault_each rules) (Wrote ∷ []) (only_fault p rules) tt
+
+only_removals : (p : ℕ → Deed → Type 0) (h : List Event) (rules : List Rule) → Only p (removals h rules)
+only_removals p h [] = tt
+only_removals p h (rule ∷ rules) = only_more p (removals (removal h rule ∷ h) rules) (removal h rule ∷ []) (only_removals p (removal h rule ∷ h) rules) tt
+
+only_gone : (p : ℕ → Deed → Type 0) (k : ℕ) (q : Option ℕ) → ((j : ℕ) → p j Gone) → Only p (gone_then q (Did k Gone ∷ []))
+only_gone p k None gone = (gone k, tt)
+only_gone p k (Some j) gone = (gone j, (gone k, tt))
+
+-- streams are closed, and the bus is told, or not all of it goes out
+only_leave : (p : ℕ → Deed → Type 0) (writes : List Rule → List Event) (h : List Event) (k : ℕ) (q : Option ℕ) → ((j : ℕ) → p j Gone) → ((rules : List Rule) → Only p (writes rules))
+    → Only p (leave_with writes h k q)
+only_leave p writes h k q gone only =
+    let rules = leaving h k q in
+    let told = removals (gone_then q (Did k Gone ∷ h)) rules in
+    only_more p (writes rules ++ told) (gone_then q (Did k Gone ∷ []))
+    (only_more p (writes rules) told (only rules) (only_removals p (gone_then q (Did k Gone ∷ h)) rules)) (only_gone p k q gone)
+
+only_unstream : (p : ℕ → Deed → Type 0) (h : List Event) (o q : Option ℕ) (a : Answer) → ((j : ℕ) → p j Gone) → Only p (unstream_does h o q a)
+only_unstream p h None q a gone = tt
+only_unstream p h (Some k) q (answers.Gone last) gone = only_leave p wrote_each h k q gone (only_wrote p)
+only_unstream p h (Some k) q (answers.SendFailed error) gone = only_leave p fault_each h k q gone (only_fault p)
+only_unstream p h (Some k) q (answers.SentFirst error) gone = only_leave p wrote_first h k q gone (only_first p)
+only_unstream p h (Some k) q (answers.Untold error) gone = only_gone p k q gone
+only_unstream p h (Some k) q a gone = tt
 
 only_queue : (p : ℕ → Deed → Type 0) (o : Option ℕ) (limit : ℕ) (a : Answer) → ((j n : ℕ) → p j (Asked n)) → Only p (queue_does o limit a)
 only_queue p None limit a asks = tt
@@ -107,26 +161,27 @@ only_main : (p : ℕ → Deed → Type 0) (limit : ℕ) (a : Answer) → Only p 
 only_main p limit answers.Set = tt
 only_main p limit a = tt
 
--- An entry closes streams, or asks for a capacity, or is a take.
-pub only_entry : (p : ℕ → Deed → Type 0) (t : Trail) (lane : ℕ) (w : Words) (a : Answer) → ((j : ℕ) → p j Gone) → ((j n : ℕ) → p j (Asked n))
+-- An entry closes streams, or says that one is open, or asks for a capacity, or is a take.
+pub only_entry : (p : ℕ → Deed → Type 0) (t : Trail) (lane : ℕ) (w : Words) (a : Answer) → ((j : ℕ) → p j Gone) → ((j : ℕ) → p j Opened) → ((j n : ℕ) → p j (Asked n))
     → ((n : ℕ) → is_take n w ≡ true → Only p (take_does (place 0 lane n t.streams) a)) → Only p (events_of t lane w a)
-only_entry p t lane (words.Call out) a gone asks takes = only_send p t.events _ a
-only_entry p t lane (words.Signal out) a gone asks takes = only_send p t.events _ a
-only_entry p t lane (words.Reply stream body) a gone asks takes = only_send p t.events _ a
-only_entry p t lane (words.Error stream name body) a gone asks takes = only_send p t.events _ a
-only_entry p t lane words.Read a gone asks takes = only_read p (closing t.events) a
-only_entry p t lane (words.Poll n) a gone asks takes = only_poll p (place 0 lane n t.names) a
-only_entry p t lane (words.Before n before) a gone asks takes = only_poll p (place 0 lane n t.names) a
-only_entry p t lane (words.Drop n) a gone asks takes = only_drop p (place 0 lane n t.names) a
-only_entry p t lane words.Stream a gone asks takes = only_stream p a
-only_entry p t lane (words.Open max_queued rule) a gone asks takes = only_open p (rule_in_bytes rule) max_queued a
-only_entry p t lane (words.Take n) a gone asks takes = takes n (eq-eqb n n refl)
-only_entry p t lane (words.TakeBefore n before) a gone asks takes = takes n (eq-eqb n n refl)
-only_entry p t lane (words.Clone n) a gone asks takes = only_clone p (place 0 lane n t.streams) a
-only_entry p t lane (words.Unstream n second) a gone asks takes = only_unstream p (place 0 lane n t.streams) (second_place lane second t.streams) a gone
-only_entry p t lane (words.Queue n limit) a gone asks takes = only_queue p (place 0 lane n t.streams) limit a asks
-only_entry p t lane (words.MainQueue limit) a gone asks takes = only_main p limit a
-only_entry p t lane words.Close a gone asks takes = only_close p a
+only_entry p t lane (words.Call out) a gone opens asks takes = only_send p t.events _ a
+only_entry p t lane (words.Signal out) a gone opens asks takes = only_send p t.events _ a
+only_entry p t lane (words.Reply stream body) a gone opens asks takes = only_send p t.events _ a
+only_entry p t lane (words.Error stream name body) a gone opens asks takes = only_send p t.events _ a
+only_entry p t lane words.Read a gone opens asks takes = only_read p (closing t.events) a
+only_entry p t lane (words.Poll n) a gone opens asks takes = only_poll p (place 0 lane n t.names) a
+only_entry p t lane (words.Before n before) a gone opens asks takes = only_poll p (place 0 lane n t.names) a
+only_entry p t lane (words.Drop n) a gone opens asks takes = only_drop p (place 0 lane n t.names) a
+only_entry p t lane words.Stream a gone opens asks takes = only_stream p a
+only_entry p t lane (words.Open max_queued rule) a gone opens asks takes = only_open p t.events (rule_in_bytes rule) max_queued a
+only_entry p t lane (words.Opened n) a gone opens asks takes = only_opened p (place 0 lane n t.streams) a gone opens
+only_entry p t lane (words.Take n) a gone opens asks takes = takes n (eq-eqb n n refl)
+only_entry p t lane (words.TakeBefore n before) a gone opens asks takes = takes n (eq-eqb n n refl)
+only_entry p t lane (words.Clone n) a gone opens asks takes = only_clone p (place 0 lane n t.streams) a
+only_entry p t lane (words.Unstream n second) a gone opens asks takes = only_unstream p t.events (place 0 lane n t.streams) (second_place lane second t.streams) a gone
+only_entry p t lane (words.Queue n limit) a gone opens asks takes = only_queue p (place 0 lane n t.streams) limit a asks
+only_entry p t lane (words.MainQueue limit) a gone opens asks takes = only_main p limit a
+only_entry p t lane words.Close a gone opens asks takes = only_close p a
 
 -- ---- a stream that gives nothing
 

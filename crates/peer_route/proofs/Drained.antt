@@ -22,7 +22,7 @@ use Rattle.peer_route.specs.Trail.{Trail, place, count, trail, more, read_events
 use Rattle.peer_route.specs.Answers.{IsAnswer, IsReadOf, Legal, shown_take, take_of, take_before_of}
 use Rattle.peer_route.specs.StreamLaws.{is_take, IsTake, IsEnded, IsLast, IsDrained, HoldsTooMany}
 use Rattle.peer_route.proofs.Once.{place_append, legal_from}
-use Rattle.peer_route.proofs.Read.{send_read, poll_read, drop_read, stream_read, take_read, clone_read, unstream_read, queue_read, main_read, open_read, close_read}
+use Rattle.peer_route.proofs.Read.{send_read, poll_read, drop_read, stream_read, take_read, clone_read, unstream_read, queue_read, main_read, open_read, opened_read, close_read}
 use Rattle.peer_route.proofs.Edits.{edit_here, get_new}
 use Rattle.peer_route.proofs.Deeds.{Only, Spares, only_entry, stays}
 use Rattle.peer_route.proofs.Takes.{TakeOf, Quiet, Item, Tells, Ends, take_entry, told_does, ended_does, take_spares}
@@ -72,6 +72,7 @@ reads_none t lane (words.Before n before) a error e = poll_read t.events (place 
 reads_none t lane (words.Drop n) a error e = drop_read t.events (place 0 lane n t.names) a
 reads_none t lane words.Stream a error e = stream_read t.events a
 reads_none t lane (words.Open max_queued rule) a error e = open_read t.events (rule_in_bytes rule) max_queued a
+reads_none t lane (words.Opened n) a error e = opened_read t.events (place 0 lane n t.streams) a
 reads_none t lane (words.Take n) a error e = take_read t.events (place 0 lane n t.streams) a
 reads_none t lane (words.TakeBefore n before) a error e = take_read t.events (place 0 lane n t.streams) a
 reads_none t lane (words.Clone n) a error e = clone_read t.events (place 0 lane n t.streams) a
@@ -109,7 +110,7 @@ holds_other h j k s s₂ m ms at items made nothing same =
 over_spares : (t : Trail) (lane₂ : ℕ) (w : Words) (a : Answer) (k : ℕ) (s : Stream) → IsAnswer t lane₂ w a → slice_get (streams t.events) k ≡ Some s → held t.events s ≡ []
     → Only (Spares k) (events_of t lane₂ w a)
 over_spares t lane₂ w a k s is made nothing =
-    only_entry (Spares k) t lane₂ w a (λ j. tt) (λ j n. tt)
+    only_entry (Spares k) t lane₂ w a (λ j. tt) (λ j. tt) (λ j n. tt)
     (λ n e. take_spares t.events (place 0 lane₂ n t.streams) a k (take_entry t lane₂ w a n is e) (λ j s₂ m ms named at items. holds_other t.events j k s₂ s m ms at items made nothing))
 
 over_step : (t : Trail) (lane₂ : ℕ) (w : Words) (a : Answer) (lane number : ℕ) → IsAnswer t lane₂ w a → Over t lane number → Over (more t (entry lane₂ w a)) lane number
@@ -121,7 +122,7 @@ over_step t lane₂ w a lane number is o =
       k = o.k;
       stream = record o.stream { told = r.now_told; gone = r.now_gone; opened = r.now_opened };
       error = o.error;
-      named = place_append 0 lane number t.streams (new_streams lane₂ a) o.k o.named;
+      named = place_append 0 lane number t.streams (new_streams t lane₂ w a) o.k o.named;
       made = r.made;
       nothing = held_same (xs ++ t.events) t.events o.stream (reads_none t lane₂ w a o.error o.shut) ∙ o.nothing;
       told = r.told_on o.told;
@@ -188,7 +189,7 @@ over_told t e number k s error w named made nothing shut is =
       k = k;
       stream = tell s;
       error = error;
-      named = place_append 0 e.lane number t.streams (new_streams e.lane e.answer) k named;
+      named = place_append 0 e.lane number t.streams (new_streams t e.lane e.words e.answer) k named;
       made = ap (λ ys. slice_get (streams (ys ++ t.events)) k) xs ∙ edit_here tell k (streams t.events) s made;
       nothing = ap (λ ys. held (ys ++ t.events) (tell s)) xs ∙ nothing;
       told = refl;
@@ -203,7 +204,7 @@ over_ended t e number k s error w named made nothing shut told is =
       k = k;
       stream = s;
       error = error;
-      named = place_append 0 e.lane number t.streams (new_streams e.lane e.answer) k named;
+      named = place_append 0 e.lane number t.streams (new_streams t e.lane e.words e.answer) k named;
       made = ap (λ ys. slice_get (streams (ys ++ t.events)) k) xs ∙ made;
       nothing = ap (λ ys. held (ys ++ t.events) s) xs ∙ nothing;
       told = told;

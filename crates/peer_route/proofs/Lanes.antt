@@ -8,13 +8,14 @@ use Rattle.wire_message.specs.declared.kind.MessageType.{MessageType}
 use Rattle.wire_message.specs.declared.kind.MessageType.TheVariants as types
 use Rattle.peer_route.specs.declared.polled.Polled.{Polled}
 use Rattle.peer_route.specs.declared.polled.Polled.TheVariants as polled
+use Rattle.peer_route.specs.declared.words.Words.{Words}
 use Rattle.peer_route.specs.declared.words.Words.TheVariants as words
 use Rattle.peer_route.specs.declared.answer.Answer.{Answer}
 use Rattle.peer_route.specs.declared.answer.Answer.TheVariants as answers
 use Rattle.peer_route.specs.declared.answer.Entry.{Entry}
 use Rattle.peer_route.specs.History.{Event, poll_answer, by_position, drop_answer}
 use Rattle.peer_route.specs.Parcel.{Setting, Asked}
-use Rattle.peer_route.specs.Trail.{Trail, Names, place, count, asks, trail, poll_spends, drop_spends, events_of, new_names}
+use Rattle.peer_route.specs.Trail.{Trail, Names, place, count, trail, poll_spends, drop_spends, events_of, sent_names, new_names}
 use Rattle.peer_route.specs.Answers.{IsAnswer, Legal, error_answer, reply_by, shown, poll_of, before_of, shown_drop, drop_of}
 use Rattle.peer_route.specs.Laws.{IsPoll, SamePoll}
 use Rattle.peer_route.proofs.Once.{poll_is, before_is, drop_is}
@@ -79,17 +80,17 @@ apart names lane number lane₂ number₂ j k p q differ same =
 
 -- ---- a poll makes no call
 
-error_names : (h : List Event) (lane : ℕ) (w : Option Asked) (m : Seen) (name : Option (List ℕ)) → new_names h lane w (error_answer m name) ≡ []
+error_names : (h : List Event) (lane : ℕ) (w : Option Asked) (m : Seen) (name : Option (List ℕ)) → sent_names h lane w (error_answer m name) ≡ []
 error_names h lane w m (Some name) = refl
 error_names h lane w m None = refl
 
-reply_names : (h : List Event) (lane : ℕ) (w : Option Asked) (m : Seen) (kind : MessageType) → new_names h lane w (reply_by m kind) ≡ []
+reply_names : (h : List Event) (lane : ℕ) (w : Option Asked) (m : Seen) (kind : MessageType) → sent_names h lane w (reply_by m kind) ≡ []
 reply_names h lane w m types.MethodReturn = refl
 reply_names h lane w m types.MethodCall = refl
 reply_names h lane w m types.Error = error_names h lane w m m.error_name
 reply_names h lane w m types.Signal = refl
 
-shown_names : (h : List Event) (lane : ℕ) (w : Option Asked) (r : Result (Polled Seen) Error) → new_names h lane w (shown r) ≡ []
+shown_names : (h : List Event) (lane : ℕ) (w : Option Asked) (r : Result (Polled Seen) Error) → sent_names h lane w (shown r) ≡ []
 shown_names h lane w (Ok (polled.Now m)) = reply_names h lane w m m.kind
 shown_names h lane w (Ok polled.NotYet) = refl
 shown_names h lane w (Ok polled.NoneBefore) = refl
@@ -97,35 +98,36 @@ shown_names h lane w (Ok (polled.Closed error)) = refl
 shown_names h lane w (Ok polled.Ended) = refl
 shown_names h lane w (Err error) = refl
 
-poll_names : (h : List Event) (lane : ℕ) (w : Option Asked) (p : Option ℕ) → new_names h lane w (poll_of h p) ≡ []
+poll_names : (h : List Event) (lane : ℕ) (w : Option Asked) (p : Option ℕ) → sent_names h lane w (poll_of h p) ≡ []
 poll_names h lane w None = refl
 poll_names h lane w (Some k) = shown_names h lane w (poll_answer h k)
 
-before_names : (h : List Event) (lane : ℕ) (w : Option Asked) (p : Option ℕ) → new_names h lane w (before_of h p) ≡ []
+before_names : (h : List Event) (lane : ℕ) (w : Option Asked) (p : Option ℕ) → sent_names h lane w (before_of h p) ≡ []
 before_names h lane w None = refl
 before_names h lane w (Some k) = shown_names h lane w (by_position (poll_answer h k))
 
-kept_by : (t : Trail) (e : Entry) (a : Answer) → e.answer ≡ a → new_names t.events e.lane (asks t e.lane e.words) a ≡ []
-    → t.names ++ new_names t.events e.lane (asks t e.lane e.words) e.answer ≡ t.names
-kept_by t e a is none = ap (λ x. t.names ++ new_names t.events e.lane (asks t e.lane e.words) x) is ∙ ap (λ ns. t.names ++ ns) none ∙ append-nil t.names
+kept_by : (t : Trail) (e : Entry) (w : Words) (a : Answer) → e.words ≡ w → e.answer ≡ a → new_names t e.lane w a ≡ [] → t.names ++ new_names t e.lane e.words e.answer ≡ t.names
+kept_by t e w a does is none =
+    ap (λ x. t.names ++ new_names t e.lane x e.answer) does ∙ ap (λ x. t.names ++ new_names t e.lane w x) is ∙ ap (λ ns. t.names ++ ns) none ∙ append-nil t.names
 
-names_kept : (t : Trail) (e : Entry) (number : ℕ) → IsAnswer t e.lane e.words e.answer → IsPoll number e.words → t.names ++ new_names t.events e.lane (asks t e.lane e.words) e.answer ≡ t.names
+names_kept : (t : Trail) (e : Entry) (number : ℕ) → IsAnswer t e.lane e.words e.answer → IsPoll number e.words → t.names ++ new_names t e.lane e.words e.answer ≡ t.names
 names_kept t e number a (inl w) =
-    let p = place 0 e.lane number t.names in kept_by t e (poll_of t.events p) (poll_is t e number a w) (poll_names t.events e.lane (asks t e.lane e.words) p)
+    let p = place 0 e.lane number t.names in kept_by t e (words.Poll number) (poll_of t.events p) w (poll_is t e number a w) (poll_names t.events e.lane None p)
 names_kept t e number a (inr w) =
-    let p = place 0 e.lane number t.names in kept_by t e (before_of t.events p) (before_is t e number w.0 a w.1) (before_names t.events e.lane (asks t e.lane e.words) p)
+    let p = place 0 e.lane number t.names in
+    kept_by t e (words.Before number w.0) (before_of t.events p) w.1 (before_is t e number w.0 a w.1) (before_names t.events e.lane None p)
 
-drop_shown_names : (h : List Event) (lane : ℕ) (w : Option Asked) (r : Result (Unit {0}) Error) → new_names h lane w (shown_drop r) ≡ []
+drop_shown_names : (h : List Event) (lane : ℕ) (w : Option Asked) (r : Result (Unit {0}) Error) → sent_names h lane w (shown_drop r) ≡ []
 drop_shown_names h lane w (Ok done) = refl
 drop_shown_names h lane w (Err error) = refl
 
-drop_names : (h : List Event) (lane : ℕ) (w : Option Asked) (p : Option ℕ) → new_names h lane w (drop_of h p) ≡ []
+drop_names : (h : List Event) (lane : ℕ) (w : Option Asked) (p : Option ℕ) → sent_names h lane w (drop_of h p) ≡ []
 drop_names h lane w None = refl
 drop_names h lane w (Some k) = drop_shown_names h lane w (drop_answer h k)
 
-names_kept_drop : (t : Trail) (e : Entry) (number : ℕ) → IsAnswer t e.lane e.words e.answer → e.words ≡ words.Drop number → t.names ++ new_names t.events e.lane (asks t e.lane e.words) e.answer ≡ t.names
+names_kept_drop : (t : Trail) (e : Entry) (number : ℕ) → IsAnswer t e.lane e.words e.answer → e.words ≡ words.Drop number → t.names ++ new_names t e.lane e.words e.answer ≡ t.names
 names_kept_drop t e number a w =
-    let p = place 0 e.lane number t.names in kept_by t e (drop_of t.events p) (drop_is t e number a w) (drop_names t.events e.lane (asks t e.lane e.words) p)
+    let p = place 0 e.lane number t.names in kept_by t e (words.Drop number) (drop_of t.events p) w (drop_is t e number a w) (drop_names t.events e.lane None p)
 
 -- ---- what a poll leaves
 
@@ -162,7 +164,7 @@ keeps t e number lane other k (inr w) differ q =
     ∙ drops_other t.events (place 0 e.lane number t.names) k e.answer (λ j p. apart t.names e.lane number lane other j k p q differ)
 
 all_names_kept : (t : Trail) (e : Entry) (number : ℕ) → IsAnswer t e.lane e.words e.answer → IsPoll number e.words ⊎ (e.words ≡ words.Drop number)
-    → t.names ++ new_names t.events e.lane (asks t e.lane e.words) e.answer ≡ t.names
+    → t.names ++ new_names t e.lane e.words e.answer ≡ t.names
 all_names_kept t e number a (inl w) = names_kept t e number a w
 all_names_kept t e number a (inr w) = names_kept_drop t e number a w
 

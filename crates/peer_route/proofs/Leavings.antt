@@ -1,7 +1,7 @@
 -- The bus is told which rules have no stream any more: by what is kept, and by the history.
-use Rattle.std.proofs.Common.{◌≡◌, ℕ, zero, suc, ◌+◌, ◌<◌, ◌≤◌, refl, sym, ◌∙◌, ap, subst, inl, inr, codes, Bool, true, false, not, ◌&&◌, ◌||◌, ◌==◌, if◌then◌else◌, is_none, is_some, List, [], ◌∷◌, ◌++◌, length, map, Option, Some, None, Ok, Err, option_to_list}
+use Rattle.std.proofs.Common.{◌≡◌, ℕ, zero, suc, ◌+◌, ◌<◌, ◌≤◌, refl, sym, ◌∙◌, ap, subst, arith, inl, inr, codes, Bool, true, false, not, ◌&&◌, ◌||◌, ◌==◌, if◌then◌else◌, is_none, is_some, List, [], ◌∷◌, ◌++◌, length, map, Option, Some, None, Ok, Err, option_to_list}
 use Rattle.std.specs.List.{slice_get}
-use Rattle.std.proofs.lemmas.List.{append-nil, map-append}
+use Rattle.std.proofs.lemmas.List.{append-nil, map-append, length-append}
 use Rattle.wire_tree.specs.Datum.{data_of}
 use Rattle.wire_spelling.specs.Spelling.{AllFit}
 use Rattle.wire_signature.specs.declared.error.VariantError.TheVariants as faults
@@ -18,7 +18,8 @@ use Rattle.peer_route.specs.Streams.{Stream, streams, end_one, rule_of, is_open,
 use Rattle.peer_route.specs.Left.{Held, CallsView, View, Left, kept_at, shared, waiting_serial, is_flying, with_call}
 use Rattle.peer_route.specs.Issuing.{AreShort, SomeLong}
 use Rattle.peer_route.specs.Placing.{IsMore, made_call, Draws, Spends, PutsAll, messages_of, with_messages, issued_from, place_of}
-use Rattle.peer_route.specs.Leaving.{remove_parcel, remove_message, AreTold, TellsNone, AreBrief, SomeNotBrief, removed_each, last_of, some_rules, TellsBus, gone_both, MayClose, number_of, ClosesStreams, have_rules, ended, without, left_by, rule_kept, left_rules, removals, last_issued, MakesRemoval, MakesRemovals, Tells, SomeNoText}
+use Rattle.peer_route.specs.BusCall.{remove_parcel, remove_message, last_of, some_rules, SomeNoText, AreTexts}
+use Rattle.peer_route.specs.Leaving.{AreTold, TellsNone, AreBrief, SomeNotBrief, removed_each, TellsBus, gone_both, MayClose, number_of, ClosesStreams, TellsNow, have_rules, ended, without, left_by, rule_kept, must_tell, second_left, left_rules, removals, last_issued, MakesRemoval, MakesRemovals, Tells}
 use Rattle.peer_route.specs.declared.streams.MessageStream.{MessageStream}
 use Rattle.peer_route.specs.declared.leaving.Spent.TheVariants as spent
 use Rattle.peer_route.proofs.Core.{left_ended, flying-left}
@@ -27,6 +28,7 @@ use Rattle.peer_route.proofs.StreamsMade.{streams_removed}
 use Rattle.peer_route.proofs.RuledStreams.{subscribed_left, rule_left}
 use Rattle.peer_route.proofs.Issues.{called, message_serial, same_expects, next_left, spent_left, placed_more, with_none}
 use Rattle.peer_route.proofs.BusMessages.{match_expects, refused_any}
+use Rattle.peer_route.proofs.Placed.{all_wait}
 
 -- ---- a RemoveMatch is put
 
@@ -146,16 +148,17 @@ closed_view v qs = record v { streams = qs }
 
 pub tells_bus : (v mid : View) (qs : List (Option Held)) (rules : List Rule) (h : List Event) (last : Option ℕ) → Tells v mid rules (Ok last) → Left (closed_view v qs) h
     → TellsBus (closed_view mid qs) h rules (Ok last)
-tells_bus v mid qs [] h last t left = ([], tt, tt, (λ e. cc), t.0, subst (λ (u : View). Left (closed_view u qs) h) (sym t.1) left)
+tells_bus v mid qs [] h last t left = (tt, [], tt, tt, (λ e. cc), t.0, subst (λ (u : View). Left (closed_view u qs) h) (sym t.1) left)
 tells_bus v mid qs (rule ∷ rules) h last t left =
-    let p = t.1 in
+    let p = t.2 in
     let g = closed_view v qs in
     let serials = p.0 in (
+      t.0,
       serials,
       told_drawn (rule ∷ rules) serials g mid.calls mid.last h left p.1,
       told_brief (rule ∷ rules) serials v.name h left.name p.2,
       (λ e. sym left.writer ∙ p.3),
-      t.2 ∙ ap last_issued p.4 ∙ told_last (rule ∷ rules) serials v.name v.calls mid.calls v.last mid.last (length v.outbox) (length v.places) p.1,
+      t.3 ∙ ap last_issued p.4 ∙ told_last (rule ∷ rules) serials v.name v.calls mid.calls v.last mid.last (length v.outbox) (length v.places) p.1,
       subst (λ (u : View). Left (closed_view u qs) (removed_each (rule ∷ rules) serials h)) (sym p.5)
           (told_left (rule ∷ rules) serials g mid.calls mid.last h left p.1),
     )
@@ -163,16 +166,16 @@ tells_bus v mid qs (rule ∷ rules) h last t left =
 pub tells_not : (v mid : View) (qs : List (Option Held)) (rules : List Rule) (h : List Event) (error : Error) → Tells v mid rules (Err error) → (error ≡ errors.Memory → ⊥) → Left (closed_view v qs) h
     → TellsBus (closed_view v qs) h rules (Err error)
 tells_not v mid qs [] h error t some left = absurd t
-tells_not v mid qs (rule ∷ rules) h errors.SerialsSpent t some left = (told_none (rule ∷ rules) (closed_view v qs) h left t, left)
+tells_not v mid qs (rule ∷ rules) h errors.SerialsSpent t some left = (t.0, told_none (rule ∷ rules) (closed_view v qs) h left t.1, left)
 tells_not v mid qs (rule ∷ rules) h errors.ExcessData t some left =
-    ((t.0, told_drawn (rule ∷ rules) t.0 (closed_view v qs) mid.calls mid.last h left t.1, told_long (rule ∷ rules) t.0 v.name h left.name t.2), left)
+    (t.0, (t.1.0, told_drawn (rule ∷ rules) t.1.0 (closed_view v qs) mid.calls mid.last h left t.1.1, told_long (rule ∷ rules) t.1.0 v.name h left.name t.1.2), left)
 tells_not v mid qs (rule ∷ rules) h (errors.Variant faults.Malformed) t some left = (t, left)
 tells_not v mid qs (rule ∷ rules) h (errors.InputOutput kinds.WriteFault) t some left =
-    ((refl, (t.0, told_drawn (rule ∷ rules) t.0 (closed_view v qs) mid.calls mid.last h left t.1, told_brief (rule ∷ rules) t.0 v.name h left.name t.2)), sym left.writer ∙ t.3, left)
+    (t.0, (refl, (t.1.0, told_drawn (rule ∷ rules) t.1.0 (closed_view v qs) mid.calls mid.last h left t.1.1, told_brief (rule ∷ rules) t.1.0 v.name h left.name t.1.2)), sym left.writer ∙ t.1.3, left)
 tells_not v mid qs (rule ∷ rules) h (errors.InputOutput kinds.Closed) t some left =
-    ((refl, (t.0, told_drawn (rule ∷ rules) t.0 (closed_view v qs) mid.calls mid.last h left t.1, told_brief (rule ∷ rules) t.0 v.name h left.name t.2)), sym left.writer ∙ t.3, left)
+    (t.0, (refl, (t.1.0, told_drawn (rule ∷ rules) t.1.0 (closed_view v qs) mid.calls mid.last h left t.1.1, told_brief (rule ∷ rules) t.1.0 v.name h left.name t.1.2)), sym left.writer ∙ t.1.3, left)
 tells_not v mid qs (rule ∷ rules) h errors.Memory t some left = absurd (some refl)
-tells_not v mid qs (rule ∷ rules) h other t some left = absurd t
+tells_not v mid qs (rule ∷ rules) h other t some left = absurd t.1
 
 -- what making the messages is refused for
 pub tells_unmade : {A : Type 0} (v : View) (items : A → List Parcel) (rules : List Rule) (error : Error) → MakesRemovals items rules (Err error) → Tells v v rules (Err error)
@@ -186,6 +189,18 @@ tells_unmade v items (rule ∷ rules) other x = absurd x
 text_behind : (rs qs : List Rule) → SomeNoText qs → SomeNoText (rs ++ qs)
 text_behind [] qs x = x
 text_behind (rule ∷ rs) qs x = inr (text_behind rs qs x)
+
+texts_both : (rs qs : List Rule) → AreTexts rs → AreTexts qs → AreTexts (rs ++ qs)
+texts_both [] qs a b = b
+texts_both (rule ∷ rs) qs a b = (a.0, texts_both rs qs a.1 b)
+
+-- the messages of both
+pub made_both : (first second : Option Parcel) (rs qs : List Rule) (list : List Parcel) → list ≡ option_to_list first ++ option_to_list second → MakesRemoval rs (Ok first) → MakesRemoval qs (Ok second)
+    → (list ≡ removals None (rs ++ qs)) × AreTexts (rs ++ qs)
+made_both first second rs qs list e a b = (
+  e ∙ ap (λ ps. ps ++ option_to_list second) a.0 ∙ ap (λ ps. removals None rs ++ ps) b.0 ∙ sym (map-append (remove_parcel None) rs qs),
+  texts_both rs qs a.1 b.1,
+)
 
 some_behind : (rs qs : List Rule) → some_rules qs ≡ true → some_rules (rs ++ qs) ≡ true
 some_behind [] qs x = x
@@ -209,28 +224,62 @@ removals_sent : (name : Option (List ℕ)) (rules : List Rule) → map (sent_by 
 removals_sent name [] = refl
 removals_sent name (rule ∷ rules) = ap (λ ps. remove_parcel name rule ∷ ps) (removals_sent name rules)
 
-pub tells_unput : {A : Type 0} (items : A → List Issued) (old mid : View) (rules : List Rule) (ps : List Parcel) (error : Error) → ps ≡ removals None rules → (ps ≡ [] → ⊥)
+pub tells_unput : {A : Type 0} (items : A → List Issued) (old mid : View) (rules : List Rule) (ps : List Parcel) (error : Error) → ps ≡ removals None rules → AreTexts rules → (ps ≡ [] → ⊥)
     → PutsAll true items old mid (map (sent_by old.name false) ps) (Err error) → Tells old mid rules (Err error)
-tells_unput items old mid [] ps error e some x = absurd (some e)
-tells_unput items old mid (rule ∷ rules) ps error e some x =
-    unput old mid rule rules error
+tells_unput items old mid [] ps error e texts some x = absurd (some e)
+tells_unput items old mid (rule ∷ rules) ps error e texts some x =
+    unput old mid rule rules error texts
     (refused_any true items (λ (is : List Issued). is) old mid (removals old.name (rule ∷ rules)) error
     (subst (λ qs. PutsAll true items old mid qs (Err error)) (ap (map (sent_by old.name false)) e ∙ removals_sent old.name (rule ∷ rules)) x))
   where
-    unput : (old mid : View) (rule : Rule) (rules : List Rule) (error : Error) → PutsAll true (λ (is : List Issued). is) old mid (removals old.name (rule ∷ rules)) (Err error) → Tells old mid (rule ∷ rules) (Err error)
-    unput old mid rule rules errors.SerialsSpent x = x
-    unput old mid rule rules errors.ExcessData x = x
-    unput old mid rule rules (errors.InputOutput kinds.WriteFault) x = x
-    unput old mid rule rules (errors.InputOutput kinds.Closed) x = x
-    unput old mid rule rules errors.Memory x = x
-    unput old mid rule rules other x = absurd x
+    unput : (old mid : View) (rule : Rule) (rules : List Rule) (error : Error) → AreTexts (rule ∷ rules) → PutsAll true (λ (is : List Issued). is) old mid (removals old.name (rule ∷ rules)) (Err error) → Tells old mid (rule ∷ rules) (Err error)
+    unput old mid rule rules errors.SerialsSpent texts x = (texts, x)
+    unput old mid rule rules errors.ExcessData texts x = (texts, x)
+    unput old mid rule rules (errors.InputOutput kinds.WriteFault) texts x = (texts, x)
+    unput old mid rule rules (errors.InputOutput kinds.Closed) texts x = (texts, x)
+    unput old mid rule rules errors.Memory texts x = tt
+    unput old mid rule rules other texts x = absurd x
 
-pub tells_put : {A : Type 0} (items : A → List Issued) (old mid : View) (rules : List Rule) (ps : List Parcel) (issued : A) (last : Option ℕ) → ps ≡ removals None rules → (ps ≡ [] → ⊥)
+pub tells_put : {A : Type 0} (items : A → List Issued) (old mid : View) (rules : List Rule) (ps : List Parcel) (issued : A) (last : Option ℕ) → ps ≡ removals None rules → AreTexts rules → (ps ≡ [] → ⊥)
     → PutsAll true items old mid (map (sent_by old.name false) ps) (Ok issued) → last ≡ last_issued (items issued) → Tells old mid rules (Ok last)
-tells_put items old mid [] ps issued last e some x l = absurd (some e)
-tells_put items old mid (rule ∷ rules) ps issued last e some x l =
+tells_put items old mid [] ps issued last e texts some x l = absurd (some e)
+tells_put items old mid (rule ∷ rules) ps issued last e texts some x l =
     let y = subst (λ qs. PutsAll true items old mid qs (Ok issued)) (ap (map (sent_by old.name false)) e ∙ removals_sent old.name (rule ∷ rules)) x in
-    (items issued, y, l)
+    (texts, items issued, y, l)
+
+-- ---- they wait
+
+one_at_most : (rule : Rule) (b : Bool) → length (if b then rule ∷ [] else []) ≤ 1
+one_at_most rule true = omega arith
+one_at_most rule false = omega arith
+
+left_few : (v : View) (qs : List (Option Held)) (o : Option Rule) → length (left_by v qs o) ≤ 1
+left_few v qs None = omega arith
+left_few v qs (Some rule) = one_at_most rule (must_tell v rule qs)
+
+second_few : (v : View) (k : ℕ) (o : Option ℕ) → length (second_left v k o) ≤ 1
+second_few v k None = omega arith
+second_few v k (Some j) = left_few v (without j (without k v.streams)) (rule_kept (kept_at v.streams j))
+
+rules_few : (v : View) (k : ℕ) (o : Option ℕ) → length (left_rules v k o) ≤ 2
+rules_few v k o =
+    let rs = left_by v (without k v.streams) (rule_kept (kept_at v.streams k)) in
+    omega (arith, length-append rs (second_left v k o), left_few v (without k v.streams) (rule_kept (kept_at v.streams k)), second_few v k o)
+
+now_by : (old mid : View) (rules : List Rule) (last : Option ℕ) → Tells old mid rules (Ok last) → length rules ≤ 2 → (qs : List (Option Held)) → TellsNow old (closed_view mid qs) (spent.Gone last)
+now_by old mid rules None t few qs = tt
+now_by old mid [] (Some serial) t few qs = let e : Some serial ≡ None = t.0 in cc
+now_by old mid (rule ∷ []) (Some serial) t few qs =
+    let w = all_wait true (λ (is : List Issued). is) old mid (removals old.name (rule ∷ [])) t.1 t.2 in
+    (inl w.2, w.3, w.4, w.5)
+now_by old mid (rule ∷ other ∷ []) (Some serial) t few qs =
+    let w = all_wait true (λ (is : List Issued). is) old mid (removals old.name (rule ∷ other ∷ [])) t.1 t.2 in
+    (inr w.2, w.3, w.4, w.5)
+now_by old mid (rule ∷ other ∷ more ∷ rules) (Some serial) t few qs = absurd (omega (arith, few))
+
+-- so many RemoveMatch wait at the end of the outbox as there are rules, which are no more than two
+pub tells_now : (old mid : View) (k : ℕ) (o last : Option ℕ) (qs : List (Option Held)) → Tells old mid (left_rules old k o) (Ok last) → TellsNow old (closed_view mid qs) (spent.Gone last)
+tells_now old mid k o last qs t = now_by old mid (left_rules old k o) last t (rules_few old k o) qs
 
 -- ---- which rules
 
@@ -316,7 +365,7 @@ closes_gone v mid h k o last left there idle t more =
 closes_by : (v mid new : View) (h : List Event) (k : ℕ) (o : Option ℕ) (rules : List Rule) (error : Error) → Tells v mid rules (Err error) → (error ≡ errors.Memory → ⊥) → MayClose h k o
     → TellsBus new (gone_both k o h) (leaving h k o) (Err error) → ClosesStreams v new k o h (spent.Over error)
 closes_by v mid new h k o [] error t some may x = absurd t
-closes_by v mid new h k o (rule ∷ rules) errors.UnknownHandle t some may x = absurd t
+closes_by v mid new h k o (rule ∷ rules) errors.UnknownHandle t some may x = absurd t.1
 closes_by v mid new h k o rules errors.Memory t some may x = absurd (some refl)
 closes_by v mid new h k o rules other t some may x = (may, x)
 

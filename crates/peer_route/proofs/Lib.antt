@@ -25,6 +25,7 @@ pub mod Issues
 pub mod Drawn
 pub mod Built
 pub mod Placed
+pub mod Tellings
 pub mod Naming
 pub mod Steps
 pub mod ByPosition
@@ -34,10 +35,13 @@ pub mod Others
 pub mod Lanes
 pub mod StreamLanes
 pub mod Edits
+pub mod BusAnswers
 pub mod Deeds
 pub mod Takes
 pub mod Within
+pub mod Flowing
 pub mod Yields
+pub mod YieldsAsked
 pub mod Drained
 pub mod ClosedStreams
 pub mod Closings

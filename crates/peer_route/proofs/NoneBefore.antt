@@ -1,12 +1,11 @@
 -- Only a poll or a take by position is answered that there is none before it.
-use Rattle.std.proofs.Common.{inl, inr, ◌≡◌, ℕ, refl, sym, ◌∙◌, subst, Bool, true, false, if◌then◌else◌, List, [], ◌∷◌, Option, Some, None, Result, Ok, Err}
+use Rattle.std.proofs.Common.{inl, inr, ◌≡◌, ℕ, refl, sym, ◌∙◌, ap, subst, Bool, true, false, if◌then◌else◌, List, [], ◌∷◌, Option, Some, None, Result, Ok, Err}
 use Rattle.std.specs.List.{slice_get}
 use Rattle.wire_message.specs.Front.{Seen}
 use Rattle.wire_message.specs.declared.kind.MessageType.{MessageType}
 use Rattle.wire_message.specs.declared.kind.MessageType.TheVariants as types
 use Rattle.wire_message.specs.declared.error.Error.{Error}
 use Rattle.wire_message.specs.declared.error.Error.TheVariants as errors
-use Rattle.rule_match.specs.Rule.{Rule}
 use Rattle.rule_match.specs.Bytes.{rule_in_bytes}
 use Rattle.peer_route.specs.declared.writer.Writer.TheVariants as writers
 use Rattle.peer_route.specs.declared.writer.Writer.{Writer}
@@ -18,12 +17,16 @@ use Rattle.peer_route.specs.declared.answer.Answer.{Answer}
 use Rattle.peer_route.specs.declared.answer.Answer.TheVariants as answers
 use Rattle.peer_route.specs.declared.answer.Entry.{Entry}
 use Rattle.peer_route.specs.History.{Event, Call, closing, writer, calls, found, is_nobodys, polled_by, polled_at, poll_answer, by_position, drop_answer}
-use Rattle.peer_route.specs.Streams.{Stream, streams, held, runs, busy, take_by, take_at, take_answer}
+use Rattle.peer_route.specs.Streams.{Stream, streams, held, runs, busy, take_by, take_at, take_answer, opening_answer}
+use Rattle.peer_route.specs.declared.progress.OpenState.{OpenState}
+use Rattle.peer_route.specs.declared.progress.OpenState.TheVariants as states
 use Rattle.peer_route.specs.Parcel.{Setting, Asked}
 use Rattle.peer_route.specs.CallMessage.{expects}
-use Rattle.peer_route.specs.Trail.{Trail, place, count, trail}
-use Rattle.peer_route.specs.Answers.{IsAnswer, IsRead, IsReadOf, IsCalled, IsSendOf, Legal, write_fault, write_closed, open_of, sent_answer, error_answer, reply_by, shown, poll_of, before_of, shown_drop, drop_of, shown_take, take_of, take_before_of, where_open}
+use Rattle.peer_route.specs.Trail.{Trail, place, second_place, count, trail, next_serial, or_zero}
+use Rattle.peer_route.specs.Answers.{IsAnswer, IsRead, IsReadOf, IsCalled, IsSendOf, Legal, write_fault, write_closed, sent_answer, error_answer, reply_by, shown, poll_of, before_of, shown_drop, drop_of, shown_take, take_of, take_before_of, where_open, are_open_at, shown_opening, opened_of}
+use Rattle.peer_route.specs.StreamLaws.{says_closed}
 use Rattle.peer_route.specs.Laws.{IsByPosition, IsNothingYet}
+use Rattle.peer_route.proofs.BusAnswers.{OfOpen, Refused, Waits, AtOnce, Asks, Fails, open_answered, OfLeave, Leaves, Unknown, Delays, leave_answered}
 
 -- ---- a message that is sent, and a read
 
@@ -120,11 +123,29 @@ open_other : (b : Bool) (a : Answer) → (a ≡ answers.NoneBefore → ⊥) → 
 open_other true a other e = other e
 open_other false a other e = cc
 
--- a stream of a rule is opened, or refused
-opened_other : (found : Result Rule Error) (shut : Option Error) (number : ℕ) → open_of found shut (answers.Streaming number) ≡ answers.NoneBefore → ⊥
-opened_other (Err error) shut number e = cc
-opened_other (Ok rule) None number e = cc
-opened_other (Ok rule) (Some error) number e = cc
+-- a stream of a rule is opened, or refused, or the bus is asked
+rule_other : (t : Trail) (lane : ℕ) (a : Answer) → OfOpen t lane a → a ≡ answers.NoneBefore → ⊥
+rule_other t lane a (Refused error is) e = let q : answers.Refused error ≡ answers.NoneBefore = sym is ∙ e in cc
+rule_other t lane a (Waits is) e = let q : answers.Busy ≡ answers.NoneBefore = sym is ∙ e in cc
+rule_other t lane a (AtOnce is) e = let q : answers.Streaming (count lane t.streams) ≡ answers.NoneBefore = sym is ∙ e in cc
+rule_other t lane a (Asks is) e = let q : answers.Opening (count lane t.streams) (or_zero (next_serial t.events)) ≡ answers.NoneBefore = sym is ∙ e in cc
+rule_other t lane a (Fails error is) e = let q : answers.SendFailed error ≡ answers.NoneBefore = sym is ∙ e in cc
+
+state_other : (state : OpenState) → shown_opening state ≡ answers.NoneBefore → ⊥
+state_other states.Unknown e = cc
+state_other states.NotYet e = cc
+state_other states.Open e = cc
+state_other (states.Refused m) e = error_other m m.error_name e
+state_other (states.Over error) e = cc
+
+opened_other : (h : List Event) (p : Option ℕ) → opened_of h p ≡ answers.NoneBefore → ⊥
+opened_other h None e = cc
+opened_other h (Some k) e = state_other (opening_answer h k) e
+
+leave_other : (open_ : Bool) (a : Answer) → OfLeave open_ a → a ≡ answers.NoneBefore → ⊥
+leave_other open_ a (Leaves there said) e = let q : true ≡ false = sym said ∙ ap says_closed e in cc
+leave_other open_ a (Unknown is) e = let q : answers.Refused errors.UnknownHandle ≡ answers.NoneBefore = sym is ∙ e in cc
+leave_other open_ a (Delays is) e = let q : answers.Busy ≡ answers.NoneBefore = sym is ∙ e in cc
 
 -- ---- entries
 
@@ -138,11 +159,13 @@ only_by t lane (words.Poll n) a is e = poll_other t.events (place 0 lane n t.nam
 only_by t lane (words.Before n before) a is e = tt
 only_by t lane (words.Drop n) a is e = drop_other t.events (place 0 lane n t.names) (sym is ∙ e)
 only_by t lane words.Stream a is e = let q = sym is ∙ e in cc
-only_by t lane (words.Open max_queued rule) a is e = opened_other (rule_in_bytes rule) (closing t.events) _ (sym is ∙ e)
+only_by t lane (words.Open max_queued rule) a is e = rule_other t lane a (open_answered t lane (rule_in_bytes rule) a is) e
+only_by t lane (words.Opened n) a is e = opened_other t.events (place 0 lane n t.streams) (sym is ∙ e)
 only_by t lane (words.Take n) a is e = take_other t.events (place 0 lane n t.streams) (sym is ∙ e)
 only_by t lane (words.TakeBefore n before) a is e = tt
 only_by t lane (words.Clone n) a is e = open_other _ (answers.Streaming (count lane t.streams)) (λ q. cc) (sym is ∙ e)
-only_by t lane (words.Unstream n second) a is e = open_other _ answers.Gone (λ q. cc) (sym is ∙ e)
+only_by t lane (words.Unstream n second) a is e =
+    leave_other _ a (leave_answered (are_open_at t.events lane t.streams n second) t.events (place 0 lane n t.streams) (second_place lane second t.streams) a is) e
 only_by t lane (words.Queue n limit) a is e = open_other _ answers.Set (λ q. cc) (sym is ∙ e)
 only_by t lane (words.MainQueue limit) a is e = let q = sym is ∙ e in cc
 only_by t lane words.Close a (inl is) e = let q = sym is ∙ e in cc

@@ -8,7 +8,7 @@ use Rattle.peer_route.specs.declared.answer.Answer.TheVariants as answers
 use Rattle.peer_route.specs.declared.answer.Entry.{Entry}
 use Rattle.peer_route.specs.History.{Event, Took, Shut, Put, Wrote, Fault, Spent, Made, Did, Main, OnBus, Added, Removed, Named, Call, calls, new_call, inner_call, edit, spend, fail_at, done, is_gone, polled_at, poll_answer, by_position, dropped_at, drop_answer}
 use Rattle.peer_route.specs.Parcel.{Setting}
-use Rattle.peer_route.specs.Trail.{Trail, Names, place, asks, trail, poll_spends, drop_spends, events_of, new_names}
+use Rattle.peer_route.specs.Trail.{Trail, Names, place, trail, poll_spends, drop_spends, events_of, new_names}
 use Rattle.peer_route.specs.Answers.{IsAnswer, Legal, shown, poll_of, before_of, shown_drop, drop_of}
 use Rattle.peer_route.specs.Laws.{IsPoll, IsFinal, IsUnknown}
 use Rattle.peer_route.proofs.ByPosition.{before_by}
@@ -156,12 +156,12 @@ over_now t e number a (inr w) f =
 over_after : (setting : Setting) (e : Entry) (es : List Entry) (number : ℕ) → Legal setting (e ∷ es) → IsPoll number e.words → IsFinal e.answer → IsOver (trail setting (e ∷ es)) e.lane number
 over_after setting e es number legal w f =
     let now = over_now (trail setting es) e number legal.0 w f in
-    (now.0, place_append 0 e.lane number (trail setting es).names (new_names (trail setting es).events e.lane (asks (trail setting es) e.lane e.words) e.answer) now.0 now.1, now.2)
+    (now.0, place_append 0 e.lane number (trail setting es).names (new_names (trail setting es) e.lane e.words e.answer) now.0 now.1, now.2)
 
 over_more : (setting : Setting) (e : Entry) (es : List Entry) (lane number : ℕ) → IsOver (trail setting es) lane number → IsOver (trail setting (e ∷ es)) lane number
 over_more setting e es lane number over = (
   over.0,
-  place_append 0 lane number (trail setting es).names (new_names (trail setting es).events e.lane (asks (trail setting es) e.lane e.words) e.answer) over.0 over.1,
+  place_append 0 lane number (trail setting es).names (new_names (trail setting es) e.lane e.words e.answer) over.0 over.1,
   gone_events (events_of (trail setting es) e.lane e.words e.answer) (trail setting es).events over.0 over.2,
 )
 
@@ -220,7 +220,7 @@ dropped_now t e number a w f = rw (w, f) (dropped_over t.events (place 0 e.lane 
 dropped_after : (setting : Setting) (e : Entry) (es : List Entry) (number : ℕ) → Legal setting (e ∷ es) → e.words ≡ words.Drop number → e.answer ≡ answers.Dropped → IsOver (trail setting (e ∷ es)) e.lane number
 dropped_after setting e es number legal w f =
     let now = dropped_now (trail setting es) e number legal.0 w f in
-    (now.0, place_append 0 e.lane number (trail setting es).names (new_names (trail setting es).events e.lane (asks (trail setting es) e.lane e.words) e.answer) now.0 now.1, now.2)
+    (now.0, place_append 0 e.lane number (trail setting es).names (new_names (trail setting es) e.lane e.words e.answer) now.0 now.1, now.2)
 
 pub dropped : (setting : Setting) (newer older : List Entry) (e : Entry) (number : ℕ) → Legal setting (newer ++ e ∷ older) → e.words ≡ words.Drop number → e.answer ≡ answers.Dropped → AllByRecursion (IsUnknown e.lane number) newer
 dropped setting newer older e number legal w f = (unknown_later setting newer older e number legal (dropped_after setting e older number (legal_from setting newer (e ∷ older) legal) w f)).1

@@ -17,13 +17,14 @@ use Rattle.peer_route.specs.declared.words.Words.TheVariants as words
 use Rattle.peer_route.specs.declared.answer.Answer.{Answer}
 use Rattle.peer_route.specs.declared.answer.Answer.TheVariants as answers
 use Rattle.peer_route.specs.declared.answer.Entry.{Entry}
-use Rattle.peer_route.specs.History.{Event, Put, Call, read, closing, calls, found, bears, is_nobodys, polled_by, polled_at, poll_answer, writer}
+use Rattle.peer_route.specs.History.{Event, Put, Wrote, Fault, Added, Removed, Did, Gone, Call, read, closing, calls, found, bears, is_nobodys, polled_by, polled_at, poll_answer, writer}
 use Rattle.peer_route.specs.Streams.{busy}
 use Rattle.peer_route.specs.Parcel.{Setting, Asked}
-use Rattle.peer_route.specs.Trail.{Trail, place, trail, failed_put, send_events, read_events, poll_spends, drop_spends, stream_makes, take_does, clone_makes, gone_at, unstream_does, queue_does, main_sets, second_place, events_of, first_events, open_makes, close_does}
+use Rattle.peer_route.specs.Trail.{Trail, place, trail, failed_put, send_events, read_events, poll_spends, drop_spends, stream_makes, take_does, clone_makes, unstream_does, queue_does, main_sets, second_place, events_of, queue_set, bus_set, first_events, open_makes, opened_does, close_does}
 use Rattle.peer_route.specs.Answers.{IsAnswer, IsReadOf, Legal, error_answer, reply_by, shown, poll_of}
 use Rattle.peer_route.specs.Laws.{IsPoll, IsReplyAt, IsFirstReply, IsCutOff}
 use Rattle.peer_route.proofs.Once.{polled_is}
+use Rattle.peer_route.proofs.Tellings.{IsTelling, tellings_same, unstream_tellings}
 
 -- ---- positions
 
@@ -77,10 +78,25 @@ pub stream_read : (h : List Event) (a : Answer) → read (stream_makes a ++ h) �
 stream_read h (answers.Streaming number) = refl
 stream_read h a = refl
 
-pub open_read : (h : List Event) (found : Result Rule Error) (asked : Option ℕ) (a : Answer) → read (open_makes found asked a ++ h) ≡ read h
+asked_read : (w : Writer) (h : List Event) (m : Seen) (rule : Rule) (asked : Option ℕ) → read (failed_put w (Added m rule asked) ++ h) ≡ read h
+asked_read writers.Fine h m rule asked = refl
+asked_read writers.Failed h m rule asked = refl
+asked_read writers.Closed h m rule asked = refl
+
+pub open_read : (h : List Event) (found : Result Rule Error) (asked : Option ℕ) (a : Answer) → read (open_makes h found asked a ++ h) ≡ read h
 open_read h (Ok rule) asked (answers.Streaming number) = refl
+open_read h (Ok rule) asked (answers.Opening number serial) = refl
+open_read h (Ok rule) asked (answers.SendFailed error) = asked_read (writer h) h _ rule asked
 open_read h (Ok rule) asked a = refl
 open_read h (Err error) asked a = refl
+
+pub opened_read : (h : List Event) (p : Option ℕ) (a : Answer) → read (opened_does p a ++ h) ≡ read h
+opened_read h None a = refl
+opened_read h (Some k) answers.Opened = refl
+opened_read h (Some k) (answers.MethodError m) = refl
+opened_read h (Some k) (answers.InvalidReply position) = refl
+opened_read h (Some k) (answers.Closed error) = refl
+opened_read h (Some k) a = refl
 
 pub close_read : (h : List Event) (a : Answer) → read (close_does a ++ h) ≡ read h
 close_read h answers.Shut = refl
@@ -98,13 +114,15 @@ clone_read h None a = refl
 clone_read h (Some k) (answers.Streaming number) = refl
 clone_read h (Some k) a = refl
 
-gone_read : (p : Option ℕ) (xs h : List Event) → read (gone_at p xs ++ h) ≡ read (xs ++ h)
-gone_read None xs h = refl
-gone_read (Some k) xs h = refl
+telling_read : (e : Event) (h : List Event) → IsTelling e → read (e ∷ h) ≡ read h
+telling_read (Did k Gone) h is = refl
+telling_read (Removed m) h is = refl
+telling_read Wrote h is = refl
+telling_read Fault h is = refl
+telling_read e h is = absurd is
 
-pub unstream_read : (h : List Event) (p q : Option ℕ) (a : Answer) → read (unstream_does p q a ++ h) ≡ read h
-unstream_read h p q answers.Gone = gone_read q (gone_at p []) h ∙ gone_read p [] h
-unstream_read h p q a = refl
+pub unstream_read : (h : List Event) (p q : Option ℕ) (a : Answer) → read (unstream_does h p q a ++ h) ≡ read h
+unstream_read h p q a = tellings_same read telling_read (unstream_does h p q a) h (unstream_tellings h p q a)
 
 pub queue_read : (h : List Event) (p : Option ℕ) (limit : ℕ) (a : Answer) → read (queue_does p limit a ++ h) ≡ read h
 queue_read h None limit a = refl
@@ -126,6 +144,7 @@ ranked_entry t lane (words.Before number before) a is r = subst (Ranked 0) (sym 
 ranked_entry t lane (words.Drop number) a is r = subst (Ranked 0) (sym (drop_read t.events (place 0 lane number t.names) a)) r
 ranked_entry t lane words.Stream a is r = subst (Ranked 0) (sym (stream_read t.events a)) r
 ranked_entry t lane (words.Open max_queued rule) a is r = subst (Ranked 0) (sym (open_read t.events (rule_in_bytes rule) max_queued a)) r
+ranked_entry t lane (words.Opened number) a is r = subst (Ranked 0) (sym (opened_read t.events (place 0 lane number t.streams) a)) r
 ranked_entry t lane (words.Take number) a is r = subst (Ranked 0) (sym (take_read t.events (place 0 lane number t.streams) a)) r
 ranked_entry t lane (words.TakeBefore number before) a is r = subst (Ranked 0) (sym (take_read t.events (place 0 lane number t.streams) a)) r
 ranked_entry t lane (words.Clone number) a is r = subst (Ranked 0) (sym (clone_read t.events (place 0 lane number t.streams) a)) r
@@ -135,14 +154,20 @@ ranked_entry t lane (words.Queue number limit) a is r = subst (Ranked 0) (sym (q
 ranked_entry t lane (words.MainQueue limit) a is r = subst (Ranked 0) (sym (main_read t.events limit a)) r
 ranked_entry t lane words.Close a is r = subst (Ranked 0) (sym (close_read t.events a)) r
 
-ranked_first : (name : Option (List ℕ)) (queue : Option ℕ) → Ranked 0 (read (first_events name queue))
-ranked_first None None = tt
-ranked_first None (Some limit) = tt
-ranked_first (Some name) None = tt
-ranked_first (Some name) (Some limit) = tt
+queue_unread : (queue : Option ℕ) → Ranked 0 (read (queue_set queue))
+queue_unread None = tt
+queue_unread (Some limit) = tt
+
+bus_unread : (bus : Bool) (queue : Option ℕ) → Ranked 0 (read (bus_set bus (queue_set queue)))
+bus_unread true queue = queue_unread queue
+bus_unread false queue = queue_unread queue
+
+ranked_first : (bus : Bool) (name : Option (List ℕ)) (queue : Option ℕ) → Ranked 0 (read (first_events bus name queue))
+ranked_first bus None queue = bus_unread bus queue
+ranked_first bus (Some name) queue = bus_unread bus queue
 
 ranked : (setting : Setting) (es : List Entry) → Legal setting es → Ranked 0 (read (trail setting es).events)
-ranked setting [] legal = ranked_first setting.name setting.queue
+ranked setting [] legal = ranked_first setting.bus setting.name setting.queue
 ranked setting (e ∷ es) legal = ranked_entry (trail setting es) e.lane e.words e.answer legal.0 (ranked setting es legal.1)
 
 -- ---- what a search finds

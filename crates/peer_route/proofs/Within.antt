@@ -16,6 +16,7 @@ use Rattle.peer_route.specs.Answers.{IsAnswer, Legal}
 use Rattle.peer_route.proofs.Edits.{drop_next}
 use Rattle.peer_route.proofs.Matched.{held_matched, all_within_same, all_within_took, within_at, within_fresh, within_asking, within_push}
 use Rattle.peer_route.proofs.Deeds.{Only, only_entry}
+use Rattle.peer_route.proofs.StreamLanes.{first_streams}
 use Rattle.peer_route.proofs.Takes.{TakeOf, Quiet, Item, Tells, Ends, take_entry, item_does, told_does, ended_does}
 
 abbrev pub AllWithin : List Event → Type 0
@@ -121,14 +122,9 @@ within_entry t lane (words.Take n) a is all =
     within_take t.events (place 0 lane n t.streams) a (take_entry t lane (words.Take n) a n is (eq-eqb n n refl)) all
 within_entry t lane (words.TakeBefore n before) a is all =
     within_take t.events (place 0 lane n t.streams) a (take_entry t lane (words.TakeBefore n before) a n is (eq-eqb n n refl)) all
-within_entry t lane w a is all = within_events (events_of t lane w a) t.events (only_entry GivesNone t lane w a (λ j. tt) (λ j n. tt) (λ n e. cc)) all
-
-within_first : (name : Option (List ℕ)) (queue : Option ℕ) → AllWithin (first_events name queue)
-within_first None None = tt
-within_first None (Some limit) = tt
-within_first (Some name) None = tt
-within_first (Some name) (Some limit) = tt
+within_entry t lane w a is all = within_events (events_of t lane w a) t.events (only_entry GivesNone t lane w a (λ j. tt) (λ j. tt) (λ j n. tt) (λ n e. cc)) all
 
 pub all_within : (setting : Setting) (es : List Entry) → Legal setting es → AllWithin (trail setting es).events
-all_within setting [] legal = within_first setting.name setting.queue
+all_within setting [] legal =
+    let h = first_events setting.bus setting.name setting.queue in subst (AllByRecursion (IsWithin h)) (sym (first_streams setting.bus setting.name setting.queue)) tt
 all_within setting (e ∷ es) legal = within_entry (trail setting es) e.lane e.words e.answer legal.0 (all_within setting es legal.1)

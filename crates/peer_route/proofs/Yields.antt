@@ -1,13 +1,12 @@
 -- What streams give, entry by entry.
-use Rattle.std.proofs.Common.{◌≡◌, ◌≢◌, ℕ, ◌+◌, ◌≤◌, ◌==◌, ◌&&◌, zero, suc, refl, sym, ◌∙◌, ap, subst, arith, Bool, true, false, is_some, if◌then◌else◌, List, [], ◌∷◌, ◌++◌, length, take, drop, Option, Some, None, Ok, length-append, append_assoc, append-nil}
+use Rattle.std.proofs.Common.{◌≡◌, ℕ, ◌+◌, ◌≤◌, ◌==◌, zero, suc, refl, sym, ◌∙◌, ap, subst, arith, Bool, true, false, is_some, if◌then◌else◌, List, [], ◌∷◌, ◌++◌, length, take, drop, Option, Some, None, Ok, length-append, append_assoc, append-nil}
 use Rattle.std.specs.List.{slice_get}
 use Rattle.std.proofs.Math.Seq.{drop-length}
-use Rattle.std.proofs.lemmas.Bool.{eqb-true, eq-eqb}
+use Rattle.std.proofs.lemmas.Bool.{eq-eqb}
 use Rattle.std.proofs.lemmas.List.{map-append, take-append-drop, drop-append-le, take-append-le, length-drop, drop-drop}
 use Rattle.wire_message.specs.Front.{Seen}
 use Rattle.wire_message.specs.declared.error.Error.{Error}
 use Rattle.wire_message.specs.declared.error.Error.TheVariants as errors
-use Rattle.wire_message.specs.declared.error.IoKind.TheVariants as kinds
 use Rattle.rule_match.specs.Rule.{Rule}
 use Rattle.rule_match.specs.Bytes.{rule_in_bytes}
 use Rattle.peer_route.specs.declared.words.Words.{Words}
@@ -19,19 +18,18 @@ use Rattle.peer_route.specs.History.{Event, Took, Shut, Put, Wrote, Fault, Spent
 use Rattle.peer_route.specs.Streams.{Stream, Phase, Asking, Denied, Since, is_since, phase, streams, fresh, plain_stream, rule_stream, clone_of, new_stream, give, runs_at, is_open, accepted, matched, offered, held, rule_of}
 use Rattle.peer_route.specs.Left.{start_count, IsWithin}
 use Rattle.peer_route.specs.Parcel.{Setting}
-use Rattle.peer_route.specs.Trail.{Trail, Names, place, count, trail, more, take_does, open_makes, clone_makes, events_of, new_streams}
-use Rattle.peer_route.specs.Answers.{IsAnswer, Legal, where_open, is_open_at, open_of}
-use Rattle.peer_route.specs.StreamLaws.{positions, is_take, item_by, items_given, Yields, held_by, held_in, holds, rule_in, rule_at}
-use Rattle.peer_route.proofs.Once.{place_append, legal_from}
-use Rattle.peer_route.proofs.Lanes.{apart}
-use Rattle.peer_route.proofs.Edits.{edit_here, get_new, take_one, drop_next}
+use Rattle.peer_route.specs.Trail.{Trail, Names, place, count, trail, more, next_serial, or_zero, open_makes, clone_makes}
+use Rattle.peer_route.specs.Answers.{IsAnswer, Legal, where_open, is_open_at}
+use Rattle.peer_route.specs.StreamLaws.{positions, Yields, held_by, held_in, holds, rule_in, rule_at}
+use Rattle.peer_route.proofs.Once.{legal_from}
+use Rattle.peer_route.proofs.Edits.{get_new, take_one, drop_next}
 use Rattle.peer_route.proofs.Phases.{stepped, phase_took}
 use Rattle.peer_route.proofs.Matched.{held_matched, accepted-append, arriving, matched_took, within_at}
 use Rattle.peer_route.proofs.StreamsMade.{runs_so}
-use Rattle.peer_route.proofs.Deeds.{Only, Spares, only_entry, stays}
-use Rattle.peer_route.proofs.Takes.{TakeOf, Quiet, Item, Tells, Ends, take_entry, item_does, told_does, ended_does, take_spares}
 use Rattle.peer_route.proofs.Within.{AllWithin, all_within}
 use Rattle.peer_route.proofs.StreamLanes.{entry, lanes}
+use Rattle.peer_route.proofs.BusAnswers.{OfOpen, Refused, Waits, AtOnce, Asks, Fails, open_answered}
+use Rattle.peer_route.proofs.Flowing.{Flowing, Flow, FlowOf, flow_all}
 
 -- ---- what a stream offers
 
@@ -120,146 +118,38 @@ flows_item all own from skip taken n rule begun given m ms e f =
 
 -- ---- entries
 
--- Behind these events the lane's number names a stream of this rule that began so, and these are the positions of what it gave.
-pub record Flow (names : Names) (h : List Event) (lane number n : ℕ) (rule : Option Rule) (begun : List Seen) (given : List ℕ) : Type 0 where
-  k : ℕ
-  stream : Stream
-  named : place 0 lane number names ≡ Some k
-  made : slice_get (streams h) k ≡ Some stream
-  of_rule : stream.rule ≡ rule
-  goes : Goes h stream n begun given
+-- the stream has this rule, runs, and began so
+abbrev pub Begun : ℕ → Option Rule → List Seen → List Event → Stream → List ℕ → Type 0
+Begun n rule begun h s given = (s.rule ≡ rule) × Goes h s n begun given
 
--- events that are no item of the stream
-kept : (names later : Names) (xs h : List Event) (lane number n : ℕ) (rule : Option Rule) (begun : List Seen) (given : List ℕ) (f : Flow names h lane number n rule begun given)
-    → Only (Spares f.k) xs → Flow (names ++ later) (xs ++ h) lane number n rule begun given
+begun_same : (n : ℕ) (rule : Option Rule) (begun : List Seen) (h : List Event) (s : Stream) (given : List ℕ) (a b c : Bool) → Begun n rule begun h s given
+    → Begun n rule begun h (record s { told = a; gone = b; opened = c }) given
 unfolding matched phase
-kept names later xs h lane number n rule begun given f only =
-    let r = stays xs h f.k f.stream only f.made in
-    record {
-      k = f.k;
-      stream = record f.stream { told = r.now_told; gone = r.now_gone; opened = r.now_opened };
-      named = place_append 0 lane number names later f.k f.named;
-      made = r.made;
-      of_rule = f.of_rule;
-      goes = goes_events xs h f.stream n begun given f.goes;
-    }
+begun_same n rule begun h s given a b c g = g
 
-gave : (names later : Names) (h : List Event) (lane number n : ℕ) (rule : Option Rule) (begun : List Seen) (given : List ℕ) (f : Flow names h lane number n rule begun given)
-    (m : Seen) (ms : List Seen) → held h f.stream ≡ m ∷ ms → Flow (names ++ later) (Did f.k Gave ∷ h) lane number n rule begun (given ++ m.position ∷ [])
+begun_item : (n : ℕ) (rule : Option Rule) (begun : List Seen) (h : List Event) (k : ℕ) (s : Stream) (given : List ℕ) (m : Seen) (ms : List Seen) → held h s ≡ m ∷ ms → Begun n rule begun h s given
+    → Begun n rule begun (Did k Gave ∷ h) (give s) (given ++ m.position ∷ [])
 unfolding matched held offered phase
-gave names later h lane number n rule begun given f m ms e = record {
-  k = f.k;
-  stream = give f.stream;
-  named = place_append 0 lane number names later f.k f.named;
-  made = edit_here give f.k (streams h) f.stream f.made;
-  of_rule = f.of_rule;
-  goes = (f.goes.0, flows_item (read h) (matched h f.stream) (start_count f.stream.start) f.stream.skip f.stream.taken n f.stream.rule begun given m ms e f.goes.1);
+begun_item n rule begun h k s given m ms e g =
+    (g.0, (g.1.0, flows_item (read h) (matched h s) (start_count s.start) s.skip s.taken n s.rule begun given m ms e g.1.1))
+
+begun_flowing : (n : ℕ) (rule : Option Rule) (begun : List Seen) → Flowing (Begun n rule begun)
+begun_flowing n rule begun = record {
+  along = λ xs h s given g. (g.0, goes_events xs h s n begun given g.1);
+  same = begun_same n rule begun;
+  item = begun_item n rule begun;
 }
-
-flow_along : (names : Names) (h : List Event) (lane number n : ℕ) (rule : Option Rule) (begun : List Seen) (given more_given : List ℕ) → given ≡ more_given
-    → Flow names h lane number n rule begun given → Flow names h lane number n rule begun more_given
-flow_along names h lane number n rule begun given more_given e f = subst (Flow names h lane number n rule begun) e f
-
--- a take of the stream that gives no item
-own_quiet : (names later : Names) (xs h : List Event) (a : Answer) (lane number n : ℕ) (rule : Option Rule) (begun : List Seen) (given : List ℕ) (f : Flow names h lane number n rule begun given)
-    → item_by true a ≡ [] → Only (Spares f.k) xs → Flow (names ++ later) (xs ++ h) lane number n rule begun (given ++ item_by true a)
-own_quiet names later xs h a lane number n rule begun given f none only =
-    flow_along (names ++ later) (xs ++ h) lane number n rule begun given (given ++ item_by true a) (sym (append-nil given) ∙ ap (λ ps. given ++ ps) (sym none))
-    (kept names later xs h lane number n rule begun given f only)
-
-own_item : (names later : Names) (h : List Event) (a : Answer) (lane number n : ℕ) (rule : Option Rule) (begun : List Seen) (given : List ℕ) (f : Flow names h lane number n rule begun given)
-    (k : ℕ) (s : Stream) (m : Seen) (ms : List Seen) → k ≡ f.k → slice_get (streams h) k ≡ Some s → held h s ≡ m ∷ ms → a ≡ answers.Item m.position
-    → Flow (names ++ later) (Did k Gave ∷ h) lane number n rule begun (given ++ item_by true a)
-own_item names later h a lane number n rule begun given f k s m ms same at e is =
-    let one : f.stream ≡ s = (let q : Some f.stream ≡ Some s = sym f.made ∙ ap (slice_get (streams h)) (sym same) ∙ at in cc) in
-    subst (λ j. Flow (names ++ later) (Did j Gave ∷ h) lane number n rule begun (given ++ item_by true a)) (sym same)
-    (flow_along (names ++ later) (Did f.k Gave ∷ h) lane number n rule begun (given ++ m.position ∷ []) (given ++ item_by true a) (ap (λ x. given ++ item_by true x) (sym is))
-    (gave names later h lane number n rule begun given f m ms (ap (held h) one ∙ e)))
-
--- a take of the stream
-flow_own : (names later : Names) (h : List Event) (a : Answer) (lane number n : ℕ) (rule : Option Rule) (begun : List Seen) (given : List ℕ) → TakeOf h (place 0 lane number names) a
-    → Flow names h lane number n rule begun given
-    → Flow (names ++ later) (take_does (place 0 lane number names) a ++ h) lane number n rule begun (given ++ item_by true a)
-flow_own names later h a lane number n rule begun given (Quiet none item last) f =
-    own_quiet names later (take_does (place 0 lane number names) a) h a lane number n rule begun given f item (subst (Only (Spares f.k)) (sym none) tt)
-flow_own names later h a lane number n rule begun given (Item k s m ms named at e is) f =
-    let same : k ≡ f.k = (let q : Some k ≡ Some f.k = sym named ∙ f.named in cc) in
-    subst (λ xs. Flow (names ++ later) (xs ++ h) lane number n rule begun (given ++ item_by true a)) (sym (item_does (place 0 lane number names) a k m.position named is))
-    (own_item names later h a lane number n rule begun given f k s m ms same at e is)
-flow_own names later h a lane number n rule begun given (Tells k s error named at still e shut is) f =
-    own_quiet names later (take_does (place 0 lane number names) a) h a lane number n rule begun given f (ap (item_by true) is)
-    (subst (Only (Spares f.k)) (sym (told_does (place 0 lane number names) a k error named is)) (tt, tt))
-flow_own names later h a lane number n rule begun given (Ends k s error named at e shut told is) f =
-    own_quiet names later (take_does (place 0 lane number names) a) h a lane number n rule begun given f (ap (item_by true) is)
-    (subst (Only (Spares f.k)) (sym (ended_does (place 0 lane number names) a k named is)) tt)
-
--- a take of another one
-flow_other : (names later : Names) (h : List Event) (a : Answer) (lane₂ i lane number n : ℕ) (rule : Option Rule) (begun : List Seen) (given : List ℕ) → TakeOf h (place 0 lane₂ i names) a
-    → (lane ≡ lane₂ → number ≢ i) → Flow names h lane number n rule begun given
-    → Flow (names ++ later) (take_does (place 0 lane₂ i names) a ++ h) lane number n rule begun (given ++ [])
-flow_other names later h a lane₂ i lane number n rule begun given kind differ f =
-    flow_along (names ++ later) (take_does (place 0 lane₂ i names) a ++ h) lane number n rule begun given (given ++ []) (sym (append-nil given))
-    (kept names later (take_does (place 0 lane₂ i names) a) h lane number n rule begun given f
-    (take_spares h (place 0 lane₂ i names) a f.k kind (λ j s m ms named at e. apart names lane₂ i lane number j f.k named f.named differ)))
-
-flow_take : (names later : Names) (h : List Event) (a : Answer) (lane₂ i lane number n : ℕ) (rule : Option Rule) (begun : List Seen) (given : List ℕ) (b c : Bool) → (lane₂ == lane) ≡ b → (i == number) ≡ c
-    → TakeOf h (place 0 lane₂ i names) a → Flow names h lane number n rule begun given
-    → Flow (names ++ later) (take_does (place 0 lane₂ i names) a ++ h) lane number n rule begun (given ++ item_by (b && c) a)
-flow_take names later h a lane₂ i lane number n rule begun given true true p q kind f =
-    let one : place 0 lane₂ i names ≡ place 0 lane number names = ap (λ l. place 0 l i names) (eqb-true lane₂ lane p) ∙ ap (λ x. place 0 lane x names) (eqb-true i number q) in
-    subst (λ o. Flow (names ++ later) (take_does o a ++ h) lane number n rule begun (given ++ item_by true a)) (sym one)
-    (flow_own names later h a lane number n rule begun given (subst (λ o. TakeOf h o a) one kind) f)
-flow_take names later h a lane₂ i lane number n rule begun given true false p q kind f =
-    flow_other names later h a lane₂ i lane number n rule begun given kind (λ l m. let e : (i == number) ≡ true = eq-eqb i number (sym m) in cc) f
-flow_take names later h a lane₂ i lane number n rule begun given false c p q kind f =
-    flow_other names later h a lane₂ i lane number n rule begun given kind (λ l m. let e : (lane₂ == lane) ≡ true = eq-eqb lane₂ lane (sym l) in cc) f
-
-and_false : (b : Bool) → (b && false) ≡ false
-and_false true = refl
-and_false false = refl
-
--- an entry that is no take
-flow_past : (t : Trail) (lane₂ : ℕ) (w : Words) (a : Answer) (lane number n : ℕ) (rule : Option Rule) (begun : List Seen) (given : List ℕ) → ((i : ℕ) → is_take i w ≡ false)
-    → Flow t.streams t.events lane number n rule begun given
-    → Flow (t.streams ++ new_streams lane₂ a) (events_of t lane₂ w a ++ t.events) lane number n rule begun (given ++ item_by ((lane₂ == lane) && is_take number w) a)
-flow_past t lane₂ w a lane number n rule begun given past f =
-    let none : given ≡ given ++ item_by ((lane₂ == lane) && is_take number w) a =
-    sym (append-nil given) ∙ ap (λ b. given ++ item_by b a) (sym (ap (λ b. (lane₂ == lane) && b) (past number) ∙ and_false (lane₂ == lane))) in
-    flow_along (t.streams ++ new_streams lane₂ a) (events_of t lane₂ w a ++ t.events) lane number n rule begun given _ none
-    (kept t.streams (new_streams lane₂ a) (events_of t lane₂ w a) t.events lane number n rule begun given f
-    (only_entry (Spares f.k) t lane₂ w a (λ j. tt) (λ j i. tt) (λ i e. let q = past i in cc)))
-
-flow_step : (t : Trail) (lane₂ : ℕ) (w : Words) (a : Answer) (lane number n : ℕ) (rule : Option Rule) (begun : List Seen) (given : List ℕ) → IsAnswer t lane₂ w a
-    → Flow t.streams t.events lane number n rule begun given
-    → Flow (t.streams ++ new_streams lane₂ a) (events_of t lane₂ w a ++ t.events) lane number n rule begun (given ++ item_by ((lane₂ == lane) && is_take number w) a)
-flow_step t lane₂ (words.Take i) a lane number n rule begun given is f =
-    flow_take t.streams (new_streams lane₂ a) t.events a lane₂ i lane number n rule begun given (lane₂ == lane) (i == number) refl refl
-    (take_entry t lane₂ (words.Take i) a i is (eq-eqb i i refl)) f
-flow_step t lane₂ (words.TakeBefore i before) a lane number n rule begun given is f =
-    flow_take t.streams (new_streams lane₂ a) t.events a lane₂ i lane number n rule begun given (lane₂ == lane) (i == number) refl refl
-    (take_entry t lane₂ (words.TakeBefore i before) a i is (eq-eqb i i refl)) f
-flow_step t lane₂ w a lane number n rule begun given is f = flow_past t lane₂ w a lane number n rule begun given (λ i. refl) f
-
-abbrev pub FlowOf : Trail → ℕ → ℕ → ℕ → Option Rule → List Seen → List ℕ → Type 0
-FlowOf t lane number n rule begun given = Flow t.streams t.events lane number n rule begun given
-
-flow_all : (setting : Setting) (newer : List Entry) (e : Entry) (older : List Entry) (number n : ℕ) (rule : Option Rule) (begun : List Seen) → Legal setting (newer ++ e ∷ older)
-    → FlowOf (trail setting (e ∷ older)) e.lane number n rule begun [] → FlowOf (trail setting (newer ++ e ∷ older)) e.lane number n rule begun (items_given e.lane number newer)
-flow_all setting [] e older number n rule begun legal f = f
-flow_all setting (x ∷ newer) e older number n rule begun legal f =
-    flow_step (trail setting (newer ++ e ∷ older)) x.lane x.words x.answer e.lane number n rule begun (items_given e.lane number newer) legal.0
-    (flow_all setting newer e older number n rule begun legal.1 f)
 
 -- what was given and what is held
 yields_from : (setting : Setting) (newer : List Entry) (e : Entry) (older : List Entry) (number : ℕ) (rule : Option Rule) (begun : List Seen) → Legal setting (newer ++ e ∷ older)
-    → FlowOf (trail setting (e ∷ older)) e.lane number (length (read (trail setting older).events)) rule begun [] → Yields setting newer e older number rule begun
+    → FlowOf (Begun (length (read (trail setting older).events)) rule begun) (trail setting (e ∷ older)) e.lane number [] → Yields setting newer e older number rule begun
 unfolding held offered
 yields_from setting newer e older number rule begun legal start =
     let h = (trail setting (newer ++ e ∷ older)).events in
     let n = length (read (trail setting older).events) in
-    let f = flow_all setting newer e older number n rule begun legal start in
+    let f = flow_all (Begun n rule begun) (begun_flowing n rule begun) setting newer e older number legal start in
     let s = f.stream in
-    let flows = f.goes.1 in
+    let flows = f.flows.1.1 in
     record {
       k = f.k;
       stream = s;
@@ -267,7 +157,7 @@ yields_from setting newer e older number rule begun legal start =
       made = f.made;
       items = ap (λ ps. ps ++ positions (held h s)) flows.given_is
           ∙ sym (map-append (λ (m : Seen). m.position) (take s.taken (drop s.skip (matched h s))) (held h s))
-          ∙ ap positions (take-append-drop s.taken (drop s.skip (matched h s)) ∙ flows.offers ∙ ap (λ r. begun ++ accepted r (drop n (read h))) f.of_rule);
+          ∙ ap positions (take-append-drop s.taken (drop s.skip (matched h s)) ∙ flows.offers ∙ ap (λ r. begun ++ accepted r (drop n (read h))) f.flows.0);
     }
 
 -- ---- a stream that was made
@@ -297,15 +187,14 @@ stream_is t e a w = subst (λ x. IsAnswer t e.lane x e.answer) w a
 
 flow_new : (names : Names) (h : List Event) (lane n : ℕ) (begun : List Seen) (making : Making) → length names ≡ length (streams h)
     → (s : Stream) → new_stream h (streams h) making ≡ s → Goes h s n begun []
-    → Flow (names ++ Some lane ∷ []) (Made making ∷ h) lane (count lane names) n s.rule begun []
+    → Flow (Begun n s.rule begun) (names ++ Some lane ∷ []) (Made making ∷ h) lane (count lane names) []
 unfolding matched phase
 flow_new names h lane n begun making e s is goes = record {
   k = length names;
   stream = s;
   named = place_new 0 lane names ∙ ap Some (omega arith);
   made = ap (λ x. slice_get (streams h ++ x ∷ []) (length names)) is ∙ ap (slice_get (streams h ++ s ∷ [])) e ∙ get_new (streams h) s;
-  of_rule = refl;
-  goes = goes;
+  flows = (refl, goes);
 }
 
 goes_fresh : (h : List Event) (rule : Option Rule) (told : Bool) → Goes h (fresh h rule told) (length (read h)) [] []
@@ -313,20 +202,20 @@ unfolding matched phase
 goes_fresh h rule told = (refl, record { start = omega arith; passed = omega arith; early = omega arith; offers = refl; given_is = refl })
 
 -- an entry that made a stream by this command
-entry_is : (e : Entry) (w : Words) (a : Answer) → e.words ≡ w → e.answer ≡ a → entry e.lane w a ≡ e
+pub entry_is : (e : Entry) (w : Words) (a : Answer) → e.words ≡ w → e.answer ≡ a → entry e.lane w a ≡ e
 entry_is e w a p q = ap (λ y. entry e.lane y a) (sym p) ∙ ap (entry e.lane e.words) (sym q)
 
 number_is : (a : Answer) (n number : ℕ) → a ≡ answers.Streaming n → a ≡ answers.Streaming number → n ≡ number
 number_is a n number is e = let same : answers.Streaming n ≡ answers.Streaming number = sym is ∙ e in cc
 
 flow_start : (setting : Setting) (e : Entry) (older : List Entry) (number : ℕ) → Legal setting (e ∷ older) → e.words ≡ words.Stream → e.answer ≡ answers.Streaming number
-    → FlowOf (trail setting (e ∷ older)) e.lane number (length (read (trail setting older).events)) None [] []
+    → FlowOf (Begun (length (read (trail setting older).events)) None []) (trail setting (e ∷ older)) e.lane number []
 flow_start setting e older number legal w a =
     let t = trail setting older in
     let n = length (read t.events) in
     let is = stream_is t e legal.0 w in
-    subst (λ k. FlowOf (trail setting (e ∷ older)) e.lane k n None [] []) (number_is e.answer (count e.lane t.streams) number is a)
-    (subst (λ y. FlowOf (more t y) e.lane (count e.lane t.streams) n None [] []) (entry_is e words.Stream (answers.Streaming (count e.lane t.streams)) w is)
+    subst (λ k. FlowOf (Begun n None []) (trail setting (e ∷ older)) e.lane k []) (number_is e.answer (count e.lane t.streams) number is a)
+    (subst (λ y. FlowOf (Begun n None []) (more t y) e.lane (count e.lane t.streams) []) (entry_is e words.Stream (answers.Streaming (count e.lane t.streams)) w is)
     (flow_new t.streams t.events e.lane n [] Plain (lanes setting older legal.1) (plain_stream t.events) refl (goes_fresh t.events None (is_some (closing t.events)))))
 
 -- what a stream gave, and what it holds
@@ -337,27 +226,28 @@ yields setting newer e older number legal w a =
 
 -- ---- a stream of a rule
 
-open_is : (t : Trail) (e : Entry) (asked : Option ℕ) (text : List ℕ) (rule : Rule) → IsAnswer t e.lane e.words e.answer → e.words ≡ words.Open asked text → rule_in_bytes text ≡ Ok rule
-    → e.answer ≡ open_of (Ok rule) (closing t.events) (answers.Streaming (count e.lane t.streams))
-open_is t e asked text rule a w r =
-    subst (λ x. IsAnswer t e.lane x e.answer) w a ∙ ap (λ x. open_of x (closing t.events) (answers.Streaming (count e.lane t.streams))) r
+-- what opened a stream at once made the lane's next one
+made_at_once : (t : Trail) (lane : ℕ) (a : Answer) (number : ℕ) → OfOpen t lane a → a ≡ answers.Streaming number → a ≡ answers.Streaming (count lane t.streams)
+made_at_once t lane a number (Refused error is) e = let q : answers.Refused error ≡ answers.Streaming number = sym is ∙ e in cc
+made_at_once t lane a number (Waits is) e = let q : answers.Busy ≡ answers.Streaming number = sym is ∙ e in cc
+made_at_once t lane a number (AtOnce is) e = is
+made_at_once t lane a number (Asks is) e = let q : answers.Opening (count lane t.streams) (or_zero (next_serial t.events)) ≡ answers.Streaming number = sym is ∙ e in cc
+made_at_once t lane a number (Fails error is) e = let q : answers.SendFailed error ≡ answers.Streaming number = sym is ∙ e in cc
 
--- where it was made, the peer was open
-open_made : (shut : Option Error) (rule : Rule) (there a : Answer) (number : ℕ) → a ≡ open_of (Ok rule) shut there → a ≡ answers.Streaming number → a ≡ there
-open_made None rule there a number is e = is
-open_made (Some error) rule there a number is e = let q : answers.Refused (errors.InputOutput kinds.Closed) ≡ answers.Streaming number = sym is ∙ e in cc
+pub open_is : (t : Trail) (e : Entry) (asked : Option ℕ) (text : List ℕ) → IsAnswer t e.lane e.words e.answer → e.words ≡ words.Open asked text → OfOpen t e.lane e.answer
+open_is t e asked text a w = open_answered t e.lane (rule_in_bytes text) e.answer (subst (λ x. IsAnswer t e.lane x e.answer) w a)
 
 flow_opened : (setting : Setting) (e : Entry) (older : List Entry) (number : ℕ) (asked : Option ℕ) (text : List ℕ) (rule : Rule) → Legal setting (e ∷ older) → e.words ≡ words.Open asked text
     → rule_in_bytes text ≡ Ok rule → e.answer ≡ answers.Streaming number
-    → FlowOf (trail setting (e ∷ older)) e.lane number (length (read (trail setting older).events)) (Some rule) [] []
+    → FlowOf (Begun (length (read (trail setting older).events)) (Some rule) []) (trail setting (e ∷ older)) e.lane number []
 flow_opened setting e older number asked text rule legal w r a =
     let t = trail setting older in
     let n = length (read t.events) in
     let new = answers.Streaming (count e.lane t.streams) in
-    let is = open_made (closing t.events) rule new e.answer number (open_is t e asked text rule legal.0 w r) a in
-    subst (λ k. FlowOf (trail setting (e ∷ older)) e.lane k n (Some rule) [] []) (number_is e.answer (count e.lane t.streams) number is a)
-    (subst (λ y. FlowOf (more t y) e.lane (count e.lane t.streams) n (Some rule) [] []) (entry_is e (words.Open asked text) new w is)
-    (subst (λ xs. Flow (t.streams ++ Some e.lane ∷ []) (xs ++ t.events) e.lane (count e.lane t.streams) n (Some rule) [] []) (ap (λ x. open_makes x asked new) (sym r))
+    let is = made_at_once t e.lane e.answer number (open_is t e asked text legal.0 w) a in
+    subst (λ k. FlowOf (Begun n (Some rule) []) (trail setting (e ∷ older)) e.lane k []) (number_is e.answer (count e.lane t.streams) number is a)
+    (subst (λ y. FlowOf (Begun n (Some rule) []) (more t y) e.lane (count e.lane t.streams) []) (entry_is e (words.Open asked text) new w is)
+    (subst (λ xs. Flow (Begun n (Some rule) []) (t.streams ++ Some e.lane ∷ []) (xs ++ t.events) e.lane (count e.lane t.streams) []) (ap (λ x. open_makes t.events x asked new) (sym r))
     (flow_new t.streams t.events e.lane n [] (Ruled rule asked) (lanes setting older legal.1) (rule_stream t.events rule) refl (goes_fresh t.events (Some rule) false))))
 
 -- what a stream of a rule gave, and what it holds
@@ -416,13 +306,13 @@ rule_there : (h : List Event) (p : Option ℕ) (o : Original h p) → rule_in h 
 rule_there h p o = ap (rule_in h) o.named ∙ ap rule_of o.made
 
 flow_clone : (names : Names) (h : List Event) (lane : ℕ) (p : Option ℕ) → length names ≡ length (streams h) → AllWithin h → Original h p
-    → Flow (names ++ Some lane ∷ []) (clone_makes p (answers.Streaming (count lane names)) ++ h) lane (count lane names) (length (read h)) (rule_in h p) (held_in h p) []
+    → Flow (Begun (length (read h)) (rule_in h p) (held_in h p)) (names ++ Some lane ∷ []) (clone_makes p (answers.Streaming (count lane names)) ++ h) lane (count lane names) []
 flow_clone names h lane p e w o =
     let n = length (read h) in
-    subst (λ xs. Flow (names ++ Some lane ∷ []) (xs ++ h) lane (count lane names) n (rule_in h p) (held_in h p) [])
+    subst (λ xs. Flow (Begun n (rule_in h p) (held_in h p)) (names ++ Some lane ∷ []) (xs ++ h) lane (count lane names) [])
     (sym (ap (λ q. clone_makes q (answers.Streaming (count lane names))) o.named))
-    (subst (λ r. Flow (names ++ Some lane ∷ []) (Made (Cloned o.k) ∷ h) lane (count lane names) n r (held_in h p) []) (sym (rule_there h p o))
-    (subst (λ ms. Flow (names ++ Some lane ∷ []) (Made (Cloned o.k) ∷ h) lane (count lane names) n o.stream.rule ms []) (sym (held_there h p o))
+    (subst (λ r. Flow (Begun n r (held_in h p)) (names ++ Some lane ∷ []) (Made (Cloned o.k) ∷ h) lane (count lane names) []) (sym (rule_there h p o))
+    (subst (λ ms. Flow (Begun n o.stream.rule ms) (names ++ Some lane ∷ []) (Made (Cloned o.k) ∷ h) lane (count lane names) []) (sym (held_there h p o))
     (flow_new names h lane n (held h o.stream) (Cloned o.k) e (clone_of h (Some o.stream)) (ap (clone_of h) o.made)
     (goes_clone h o.stream (within_at h (streams h) o.k o.stream o.made w) o.since))))
 
@@ -431,7 +321,7 @@ clone_is : (t : Trail) (e : Entry) (original : ℕ) → IsAnswer t e.lane e.word
 clone_is t e original a w = subst (λ x. IsAnswer t e.lane x e.answer) w a
 
 flow_cloned : (setting : Setting) (e : Entry) (older : List Entry) (number first : ℕ) → Legal setting (e ∷ older) → e.words ≡ words.Clone first → e.answer ≡ answers.Streaming number
-    → FlowOf (trail setting (e ∷ older)) e.lane number (length (read (trail setting older).events)) (rule_at (trail setting older) e.lane first) (holds (trail setting older) e.lane first) []
+    → FlowOf (Begun (length (read (trail setting older).events)) (rule_at (trail setting older) e.lane first) (holds (trail setting older) e.lane first)) (trail setting (e ∷ older)) e.lane number []
 flow_cloned setting e older number first legal w a =
     let t = trail setting older in
     let n = length (read t.events) in
@@ -439,8 +329,8 @@ flow_cloned setting e older number first legal w a =
     let new = answers.Streaming (count e.lane t.streams) in
     let o = opened (is_open_at t.events p) new e.answer (clone_is t e first legal.0 w)
     (λ error r. let q : answers.Streaming number ≡ answers.Refused error = sym a ∙ r in cc) in
-    subst (λ k. FlowOf (trail setting (e ∷ older)) e.lane k n (rule_in t.events p) (held_in t.events p) []) (number_is e.answer (count e.lane t.streams) number o.1 a)
-    (subst (λ y. FlowOf (more t y) e.lane (count e.lane t.streams) n (rule_in t.events p) (held_in t.events p) []) (entry_is e (words.Clone first) new w o.1)
+    subst (λ k. FlowOf (Begun n (rule_in t.events p) (held_in t.events p)) (trail setting (e ∷ older)) e.lane k []) (number_is e.answer (count e.lane t.streams) number o.1 a)
+    (subst (λ y. FlowOf (Begun n (rule_in t.events p) (held_in t.events p)) (more t y) e.lane (count e.lane t.streams) []) (entry_is e (words.Clone first) new w o.1)
     (flow_clone t.streams t.events e.lane p (lanes setting older legal.1) (all_within setting older legal.1) (original t.events p o.0)))
 
 -- what a clone gave, and what it holds

@@ -1,5 +1,5 @@
 -- One entry's answer, from the entries before it; and a whole history whose answers are these.
-use Rattle.std.specs.Prelude.{ℕ, ⊤, ◌≡◌, ◌+◌, ◌-◌, ◌^◌, ◌<◌, ◌==◌, ◌&&◌, ◌⊎◌, Bool, true, false, not, nat_lt, if◌then◌else◌, List, [], ◌∷◌, length, Option, Some, None, Result, Ok, Err}
+use Rattle.std.specs.Prelude.{ℕ, ⊤, ◌≡◌, ◌+◌, ◌-◌, ◌^◌, ◌<◌, ◌==◌, ◌&&◌, ◌||◌, ◌⊎◌, is_some, Bool, true, false, not, nat_lt, if◌then◌else◌, List, [], ◌∷◌, length, Option, Some, None, Result, Ok, Err}
 use Rattle.wire_message.specs.Front.{Seen, Front}
 use Rattle.wire_message.specs.Outcome.{IsReadError}
 use Rattle.wire_message.specs.declared.kind.MessageType.{MessageType}
@@ -7,7 +7,10 @@ use Rattle.wire_message.specs.declared.kind.MessageType.TheVariants as types
 use Rattle.wire_message.specs.declared.error.Error.{Error}
 use Rattle.wire_message.specs.declared.error.Error.TheVariants as errors
 use Rattle.wire_message.specs.declared.error.IoKind.TheVariants as kinds
+use Rattle.wire_signature.specs.declared.error.VariantError.TheVariants as faults
+use Rattle.wire_tree.specs.Datum.{string, IsTextOf}
 use Rattle.rule_match.specs.Rule.{Rule}
+use Rattle.rule_match.specs.Text.{rule_text}
 use Rattle.rule_match.specs.Bytes.{rule_in_bytes}
 use Rattle.peer_route.specs.declared.writer.Writer.{Writer}
 use Rattle.peer_route.specs.declared.writer.Writer.TheVariants as writers
@@ -20,9 +23,12 @@ use Rattle.peer_route.specs.declared.answer.Answer.TheVariants as answers
 use Rattle.peer_route.specs.declared.answer.Entry.{Entry}
 use Rattle.peer_route.specs.Parcel.{Setting, Parcel, Asked, message_of}
 use Rattle.peer_route.specs.CallMessage.{expects, call_asked, signal_asked, reply_asked, error_asked}
-use Rattle.peer_route.specs.History.{Event, read, closing, writer, poll_answer, by_position, drop_answer}
-use Rattle.peer_route.specs.Streams.{busy, take_answer, is_open, open_refusal}
-use Rattle.peer_route.specs.Trail.{Trail, Names, trail, place, count, given, next_serial, or_zero}
+use Rattle.peer_route.specs.declared.progress.OpenState.{OpenState}
+use Rattle.peer_route.specs.declared.progress.OpenState.TheVariants as states
+use Rattle.peer_route.specs.History.{Event, Did, Gone, read, closing, writer, in_flight, unique_name, poll_answer, by_position, drop_answer}
+use Rattle.peer_route.specs.Streams.{busy, take_answer, is_open, asks_bus, leaving, close_waits, gone_then, opening_answer}
+use Rattle.peer_route.specs.BusCall.{add_parcel, remove_message, last_of, some_rules, SomeNoText, AreTexts}
+use Rattle.peer_route.specs.Trail.{Trail, Names, trail, place, second_place, count, given, next_serial, or_zero, removal, removal_serials}
 
 -- ---- a message that is sent
 
@@ -38,6 +44,10 @@ send_refusal h (Ok parcel) = long_refusal (next_serial h) parcel
 
 abbrev pub write_fault : Answer
 write_fault = answers.SendFailed (errors.InputOutput kinds.WriteFault)
+
+-- of two messages the second wasn't sent, or not whole
+abbrev pub first_fault : Answer
+first_fault = answers.SentFirst (errors.InputOutput kinds.WriteFault)
 
 abbrev pub write_closed : Answer
 write_closed = answers.SendFailed (errors.InputOutput kinds.Closed)
@@ -154,14 +164,93 @@ are_open_at h lane names number None = is_open_at h (place 0 lane number names)
 are_open_at h lane names number (Some second) =
     is_open_at h (place 0 lane number names) && is_open_at h (place 0 lane second names) && not (number == second)
 
--- A text that is no rule is refused by its fault; a rule, on a closed peer; else it is a stream.
-abbrev pub opened_by : Option Error → Answer → Answer
-opened_by (Some error) answer = answers.Refused error
-opened_by None answer = answer
+-- ---- a stream of a rule
 
-abbrev pub open_of : Result Rule Error → Option Error → Answer → Answer
-open_of (Err error) closed answer = answers.Refused error
-open_of (Ok rule) closed answer = opened_by (open_refusal closed) answer
+-- AddMatch is to be sent: where the rule's text is no string of a message, none is.
+abbrev pub IsAskOf : Trail → ℕ → Rule → Answer → Type 0
+IsAskOf t lane rule answer =
+    ((IsTextOf string (rule_text rule) → ⊥) × (answer ≡ answers.Refused (errors.Variant faults.Malformed)))
+    ⊎ (IsTextOf string (rule_text rule)
+    × IsCalled (long_refusal (next_serial t.events) (add_parcel (unique_name t.events) rule)) (writer t.events)
+    (answers.Opening (count lane t.streams) (or_zero (next_serial t.events))) answer)
+
+-- The bus has to be asked, or else the stream is open at once.
+abbrev pub IsNewOf : Trail → ℕ → Rule → Bool → Answer → Type 0
+IsNewOf t lane rule true answer = IsAskOf t lane rule answer
+IsNewOf t lane rule false answer = answer ≡ answers.Streaming (count lane t.streams)
+
+-- A closed peer has no new stream of a rule; and while an AddMatch or a RemoveMatch is on its way nothing is opened.
+abbrev pub IsRuleOf : Trail → ℕ → Rule → Option Error → Bool → Answer → Type 0
+IsRuleOf t lane rule (Some error) flies answer = answer ≡ answers.Refused (errors.InputOutput kinds.Closed)
+IsRuleOf t lane rule None true answer = answer ≡ answers.Busy
+IsRuleOf t lane rule None false answer = IsNewOf t lane rule (asks_bus t.events rule) answer
+
+-- A text that is no rule is refused by its fault.
+abbrev pub IsOpenOf : Trail → ℕ → Result Rule Error → Answer → Type 0
+IsOpenOf t lane (Err error) answer = answer ≡ answers.Refused error
+IsOpenOf t lane (Ok rule) answer = IsRuleOf t lane rule (closing t.events) (in_flight t.events) answer
+
+-- what is shown of asking whether a stream is open: the error that denied it, with its name or without; what closed the peer
+abbrev pub shown_opening : OpenState → Answer
+shown_opening states.Unknown = answers.Refused errors.UnknownHandle
+shown_opening states.NotYet = answers.NotYet
+shown_opening states.Open = answers.Opened
+shown_opening (states.Refused m) = error_answer m m.error_name
+shown_opening (states.Over error) = answers.Closed error
+
+abbrev pub opened_of : List Event → Option ℕ → Answer
+opened_of h None = answers.Refused errors.UnknownHandle
+opened_of h (Some k) = shown_opening (opening_answer h k)
+
+-- ---- closing streams
+
+-- each RemoveMatch finds a serial
+abbrev pub have_serials : List Event → List Rule → Bool
+have_serials h [] = true
+have_serials h (rule ∷ rules) = is_some (next_serial h) && have_serials (removal h rule ∷ h) rules
+
+-- some passes its limit
+abbrev pub some_long : List Event → List Rule → Bool
+some_long h [] = false
+some_long h (rule ∷ rules) =
+    nat_lt 134217728 (length (remove_message h rule (or_zero (next_serial h))).bytes) || some_long (removal h rule ∷ h) rules
+
+-- why no RemoveMatch is put, the first case that holds
+abbrev pub tell_refusal : List Event → List Rule → Option Error
+tell_refusal h rules = if have_serials h rules then (if some_long h rules then Some errors.ExcessData else None) else Some errors.SerialsSpent
+
+-- All went out; or the write of the first failed, or of the second.
+abbrev pub WentOut : List Event → List Rule → Answer → Type 0
+WentOut h [] answer = ⊥
+WentOut h (rule ∷ more) answer =
+    (answer ≡ answers.Gone (last_of (removal_serials h (rule ∷ more)))) ⊎ (answer ≡ write_fault) ⊎ ((some_rules more ≡ true) × (answer ≡ first_fault))
+
+abbrev pub IsToldBy : Option Error → Writer → List Event → List Rule → Answer → Type 0
+IsToldBy (Some error) met h rules answer = answer ≡ answers.Untold error
+IsToldBy None writers.Failed h rules answer = answer ≡ answers.Untold (errors.InputOutput kinds.WriteFault)
+IsToldBy None writers.Closed h rules answer = answer ≡ answers.Untold (errors.InputOutput kinds.Closed)
+IsToldBy None writers.Fine h rules answer = WentOut h rules answer
+
+-- The bus is told of these rules, if there are any, once the streams are closed; where the text of one is no string of a message, it
+-- isn't.
+abbrev pub IsTold : List Event → List Rule → Answer → Type 0
+IsTold h [] answer = answer ≡ answers.Gone None
+IsTold h (rule ∷ rules) answer =
+    (SomeNoText (rule ∷ rules) × (answer ≡ answers.Untold (errors.Variant faults.Malformed)))
+    ⊎ (AreTexts (rule ∷ rules) × IsToldBy (tell_refusal h (rule ∷ rules)) (writer h) h (rule ∷ rules) answer)
+
+-- Streams that are open are closed, unless that has to wait.
+abbrev pub IsLeaveBy : Bool → List Event → ℕ → Option ℕ → Answer → Type 0
+IsLeaveBy true h k j answer = answer ≡ answers.Busy
+IsLeaveBy false h k j answer = IsTold (gone_then j (Did k Gone ∷ h)) (leaving h k j) answer
+
+abbrev pub IsLeaveAt : List Event → Option ℕ → Option ℕ → Answer → Type 0
+IsLeaveAt h None j answer = answer ≡ answers.Refused errors.UnknownHandle
+IsLeaveAt h (Some k) j answer = IsLeaveBy (close_waits h k j) h k j answer
+
+abbrev pub IsLeaveOf : Bool → List Event → Option ℕ → Option ℕ → Answer → Type 0
+IsLeaveOf true h k j answer = IsLeaveAt h k j answer
+IsLeaveOf false h k j answer = answer ≡ answers.Refused errors.UnknownHandle
 
 -- ---- closing the peer
 
@@ -183,13 +272,14 @@ IsAnswer t lane (words.Poll number) answer = answer ≡ poll_of t.events (place 
 IsAnswer t lane (words.Before number before) answer = answer ≡ before_of t.events (place 0 lane number t.names)
 IsAnswer t lane (words.Drop number) answer = answer ≡ drop_of t.events (place 0 lane number t.names)
 IsAnswer t lane words.Stream answer = answer ≡ answers.Streaming (count lane t.streams)
-IsAnswer t lane (words.Open max_queued rule) answer =
-    answer ≡ open_of (rule_in_bytes rule) (closing t.events) (answers.Streaming (count lane t.streams))
+IsAnswer t lane (words.Open max_queued rule) answer = IsOpenOf t lane (rule_in_bytes rule) answer
+IsAnswer t lane (words.Opened number) answer = answer ≡ opened_of t.events (place 0 lane number t.streams)
 IsAnswer t lane (words.Take number) answer = answer ≡ take_of t.events (place 0 lane number t.streams)
 IsAnswer t lane (words.TakeBefore number before) answer = answer ≡ take_before_of t.events (place 0 lane number t.streams)
 IsAnswer t lane (words.Clone number) answer =
     answer ≡ where_open (is_open_at t.events (place 0 lane number t.streams)) (answers.Streaming (count lane t.streams))
-IsAnswer t lane (words.Unstream number second) answer = answer ≡ where_open (are_open_at t.events lane t.streams number second) answers.Gone
+IsAnswer t lane (words.Unstream number second) answer =
+    IsLeaveOf (are_open_at t.events lane t.streams number second) t.events (place 0 lane number t.streams) (second_place lane second t.streams) answer
 IsAnswer t lane (words.Queue number limit) answer = answer ≡ where_open (is_open_at t.events (place 0 lane number t.streams)) answers.Set
 IsAnswer t lane (words.MainQueue limit) answer = answer ≡ answers.Set
 IsAnswer t lane words.Close answer = IsClose answer

@@ -1,14 +1,9 @@
 -- What a peer asks of the bus for its streams, and what opening a stream of a rule gives (D-Bus Specification, "Message Bus
 -- Messages", `org.freedesktop.DBus.AddMatch` and `org.freedesktop.DBus.RemoveMatch`).
-use Rattle.std.specs.Prelude.{ℕ, ◌≡◌, ◌<◌, ◌≤◌, true, false, List, [], ◌∷◌, length, Option, Some, None, IsSome, Result, Ok, Err, codes}
-use Rattle.wire_number.specs.declared.endian.Endian.TheVariants.{Little}
+use Rattle.std.specs.Prelude.{ℕ, ◌≡◌, ◌+◌, ◌<◌, ◌≤◌, true, false, List, [], ◌∷◌, length, Option, None, IsSome, Result, Ok, Err}
 use Rattle.wire_signature.specs.declared.error.VariantError.TheVariants as faults
 use Rattle.wire_tree.specs.Datum.{Datum, text, string, IsTextOf}
 use Rattle.wire_message.specs.Circle.{IsNext, AllTaken}
-use Rattle.wire_message.specs.Field.{no_fields}
-use Rattle.wire_message.specs.Front.{Seen}
-use Rattle.wire_message.specs.Draft.{Draft}
-use Rattle.wire_message.specs.declared.kind.MessageType.TheVariants as types
 use Rattle.wire_message.specs.declared.error.Error.{Error}
 use Rattle.wire_message.specs.declared.error.Error.TheVariants as errors
 use Rattle.wire_message.specs.declared.error.IoKind.TheVariants as kinds
@@ -22,57 +17,31 @@ use Rattle.peer_route.specs.declared.opening.Opened.TheVariants as opened
 use Rattle.peer_route.specs.declared.progress.OpenState.{OpenState}
 use Rattle.peer_route.specs.declared.progress.OpenState.TheVariants as states
 use Rattle.peer_route.specs.Parcel.{Parcel, message_of}
-use Rattle.peer_route.specs.History.{Event, Made, Ruled, Added, closing, pending, last_serial, writer, put, in_flight, unique_name}
+use Rattle.peer_route.specs.History.{Event, Made, Ruled, Added, closing, pending, last_serial, writer, put, in_flight}
 use Rattle.peer_route.specs.Streams.{streams, asks_bus}
 use Rattle.peer_route.specs.declared.opening.Opening.{Opening}
 use Rattle.peer_route.specs.declared.route.Issued.{Issued}
+use Rattle.peer_route.specs.BusCall.{add_parcel, add_message}
 use Rattle.peer_route.specs.Issuing.{IsShort}
 use Rattle.peer_route.specs.Left.{View, with_asking, Left}
 use Rattle.peer_route.specs.Placing.{Draws, with_messages, PutsAll}
-
-abbrev pub bus_name : List ℕ
-bus_name = codes "org.freedesktop.DBus"
-
--- the call of a method of the bus, by the peer of this name
-abbrev pub bus_draft : Option (List ℕ) → List ℕ → Draft
-bus_draft name member = record {
-  kind = types.MethodCall;
-  order = Little;
-  flags = 0;
-  serial = None;
-  fields = record no_fields {
-    path = Some (codes "/org/freedesktop/DBus");
-    interface = Some bus_name;
-    member = Some member;
-    destination = Some bus_name;
-    sender = name;
-  };
-}
-
--- that call with a rule's text
-abbrev pub match_parcel : List ℕ → Option (List ℕ) → Rule → Parcel
-match_parcel member name rule = record { draft = bus_draft name member; values = text string (rule_text rule) ∷ []; fds = [] }
-
--- The bus is asked for what the rule accepts.
-abbrev pub add_parcel : Option (List ℕ) → Rule → Parcel
-add_parcel name rule = match_parcel (codes "AddMatch") name rule
-
--- the message of it with this serial
-abbrev pub add_message : List Event → Rule → ℕ → Seen
-add_message h rule serial = message_of (add_parcel (unique_name h) rule) serial
 
 -- The stream is open at once; or AddMatch was put, and it waits for the return.
 abbrev pub IsOpened : View → Rule → Option ℕ → List Event → Opens → Type 0
 IsOpened new rule asked h (opens.Open stream) =
     (asks_bus h rule ≡ false) × (stream.number ≡ length (streams h)) × Left new (Made (Ruled rule asked) ∷ h)
 IsOpened new rule asked h (opens.Opening o) =
-    (asks_bus h rule ≡ true) × (writer h ≡ writers.Fine) × IsNext (pending h) (last_serial h) o.serial
+    (asks_bus h rule ≡ true) × IsTextOf string (rule_text rule) × (writer h ≡ writers.Fine) × IsNext (pending h) (last_serial h) o.serial
     × (length (add_message h rule o.serial).bytes ≤ 134217728)
     × (o.number ≡ length (streams h)) × (o.index ≡ length (put h)) × Left new (Added (add_message h rule o.serial) rule asked ∷ h)
 
 -- nothing was opened: the peer is open, nothing of its own is on its way, and the bus would have to be asked
 abbrev pub WouldAsk : List Event → Rule → Type 0
 WouldAsk h rule = (closing h ≡ None) × (in_flight h ≡ false) × (asks_bus h rule ≡ true)
+
+-- and there is a message to ask it by
+abbrev pub WouldSend : List Event → Rule → Type 0
+WouldSend h rule = WouldAsk h rule × IsTextOf string (rule_text rule)
 
 -- What opening a stream of this rule gives. An error changes nothing.
 abbrev pub OpensRule : View → View → Rule → Option ℕ → List Event → Result Opens Error → Type 0
@@ -81,15 +50,23 @@ OpensRule old new rule asked h (Err (errors.InputOutput kinds.Closed)) = IsSome 
 OpensRule old new rule asked h (Err errors.Busy) = (closing h ≡ None) × (in_flight h ≡ true) × (new ≡ old)
 -- the rule's text is no string of a message: it is longer than 4,294,967,295 bytes
 OpensRule old new rule asked h (Err (errors.Variant faults.Malformed)) = WouldAsk h rule × (IsTextOf string (rule_text rule) → ⊥) × (new ≡ old)
-OpensRule old new rule asked h (Err errors.SerialsSpent) = WouldAsk h rule × AllTaken (pending h) × (new ≡ old)
+OpensRule old new rule asked h (Err errors.SerialsSpent) = WouldSend h rule × AllTaken (pending h) × (new ≡ old)
 OpensRule old new rule asked h (Err errors.ExcessData) =
-    WouldAsk h rule × ((serial : ℕ) × IsNext (pending h) (last_serial h) serial × (134217728 < length (add_message h rule serial).bytes)) × (new ≡ old)
+    WouldSend h rule × ((serial : ℕ) × IsNext (pending h) (last_serial h) serial × (134217728 < length (add_message h rule serial).bytes)) × (new ≡ old)
 OpensRule old new rule asked h (Err (errors.InputOutput kinds.WriteFault)) =
-    WouldAsk h rule
+    WouldSend h rule
     × ((serial : ℕ) × IsNext (pending h) (last_serial h) serial × (length (add_message h rule serial).bytes ≤ 134217728))
     × (writer h ≡ writers.Failed) × (new ≡ old)
 OpensRule old new rule asked h (Err errors.Memory) = new ≡ old
 OpensRule old new rule asked h (Err error) = ⊥
+
+-- The AddMatch waits at the end of the outbox; no write failed, nor was the peer closed.
+abbrev pub AsksNow : View → View → Result Opens Error → Type 0
+AsksNow old new (Ok (opens.Opening o)) =
+    (o.index ≡ length old.outbox) × (length new.outbox ≡ length old.outbox + 1) × (new.done ≡ old.done)
+    × (old.writer ≡ writers.Fine) × (new.writer ≡ writers.Fine)
+AsksNow old new (Ok (opens.Open stream)) = Unit {0}
+AsksNow old new (Err error) = Unit {0}
 
 -- what is shown of it: the stream, where it is open; the opening again; the error that denied it, or what closed the peer
 abbrev pub IsShownAs : Opening → OpenState → Opened → Type 0
@@ -104,14 +81,14 @@ IsShownAs o state shown = ⊥
 
 -- the body with a rule's text
 abbrev pub MakesBody : Result (List Datum) Error → Rule → Type 0
-MakesBody (Ok body) rule = body ≡ text string (rule_text rule) ∷ []
+MakesBody (Ok body) rule = (body ≡ text string (rule_text rule) ∷ []) × IsTextOf string (rule_text rule)
 MakesBody (Err (errors.Variant faults.Malformed)) rule = IsTextOf string (rule_text rule) → ⊥
 MakesBody (Err errors.Memory) rule = Unit {0}
 MakesBody (Err error) rule = ⊥
 
 -- the message with it, to be sent
 abbrev pub MakesLetter : Result Parcel Error → Parcel → Rule → Type 0
-MakesLetter (Ok letter) parcel rule = letter ≡ parcel
+MakesLetter (Ok letter) parcel rule = (letter ≡ parcel) × IsTextOf string (rule_text rule)
 MakesLetter (Err (errors.Variant faults.Malformed)) parcel rule = IsTextOf string (rule_text rule) → ⊥
 MakesLetter (Err errors.Memory) parcel rule = Unit {0}
 MakesLetter (Err error) parcel rule = ⊥
@@ -122,13 +99,15 @@ pub record Asks (old new : View) (rule : Rule) (asked : Option ℕ) (o : Opening
   pub index : o.index ≡ length old.outbox
   pub drawn : Draws true old.calls old.last (add_parcel old.name rule ∷ []) (o.serial ∷ []) new.calls new.last
   pub short : IsShort (add_parcel old.name rule) o.serial
+  pub is_text : IsTextOf string (rule_text rule)
   pub fine : old.writer ≡ writers.Fine
   pub view : new ≡ record (with_messages old (message_of (add_parcel old.name rule) o.serial ∷ []) new.calls new.last) { streams = with_asking rule asked o.serial (length old.outbox) old.streams }
 
 -- What putting the one message with a rule's text gives, by what is kept.
 abbrev pub PutsMatch : View → View → Parcel → Rule → Result Issued Error → Type 0
 PutsMatch old new parcel rule (Err (errors.Variant faults.Malformed)) = IsTextOf string (rule_text rule) → ⊥
-PutsMatch old new parcel rule result = PutsAll true (λ i. i ∷ []) old new (parcel ∷ []) result
+PutsMatch old new parcel rule (Err errors.Memory) = Unit {0}
+PutsMatch old new parcel rule result = IsTextOf string (rule_text rule) × PutsAll true (λ i. i ∷ []) old new (parcel ∷ []) result
 
 -- What putting the AddMatch of a rule gives, by what is kept.
 abbrev pub AsksFor : View → View → Rule → Option ℕ → Result Opening Error → Type 0

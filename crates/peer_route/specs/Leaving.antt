@@ -1,35 +1,24 @@
 -- What closing streams asks of the bus, and gives (D-Bus Specification, "Message Bus Messages",
 -- `org.freedesktop.DBus.RemoveMatch`).
-use Rattle.std.specs.Prelude.{ℕ, ⊤, ◌≡◌, ◌<◌, ◌≤◌, ◌⊎◌, ◌&&◌, ◌||◌, ◌==◌, not, is_none, is_some, if◌then◌else◌, Bool, true, false, List, [], ◌∷◌, ◌++◌, length, map, Option, Some, None, Result, Ok, Err, codes, option_map, option_to_list}
+use Rattle.std.specs.Prelude.{ℕ, ⊤, ◌≡◌, ◌+◌, ◌<◌, ◌≤◌, ◌⊎◌, ◌&&◌, ◌||◌, ◌==◌, not, is_none, is_some, if◌then◌else◌, Bool, true, false, List, [], ◌∷◌, ◌++◌, length, map, Option, Some, None, Result, Ok, Err, option_map, option_to_list}
 use Rattle.wire_signature.specs.declared.error.VariantError.TheVariants as faults
-use Rattle.wire_tree.specs.Datum.{string, IsTextOf}
-use Rattle.wire_message.specs.Front.{Seen}
 use Rattle.wire_message.specs.Circle.{IsNext, AllTaken}
 use Rattle.wire_message.specs.declared.error.Error.{Error}
 use Rattle.wire_message.specs.declared.error.Error.TheVariants as errors
 use Rattle.wire_message.specs.declared.error.IoKind.TheVariants as kinds
 use Rattle.rule_match.specs.Rule.{Rule}
-use Rattle.rule_match.specs.Text.{rule_text}
 use Rattle.peer_route.specs.declared.writer.Writer.TheVariants as writers
 use Rattle.peer_route.specs.declared.queue.Subscription.{Subscription}
 use Rattle.peer_route.specs.declared.streams.MessageStream.{MessageStream}
 use Rattle.peer_route.specs.declared.leaving.Spent.{Spent}
 use Rattle.peer_route.specs.declared.leaving.Spent.TheVariants as spent
 use Rattle.peer_route.specs.declared.route.Issued.{Issued}
-use Rattle.peer_route.specs.Parcel.{Parcel, message_of}
-use Rattle.peer_route.specs.History.{Event, Removed, Did, Gone, edit, pending, last_serial, writer, unique_name}
+use Rattle.peer_route.specs.Parcel.{Parcel}
+use Rattle.peer_route.specs.History.{Event, Removed, Did, Gone, edit, pending, last_serial, writer}
 use Rattle.peer_route.specs.Streams.{are_open, close_waits, leaving, may_be_signal}
 use Rattle.peer_route.specs.Left.{Held, View, Left, kept_at, wants_of, shared}
-use Rattle.peer_route.specs.Bus.{match_parcel}
+use Rattle.peer_route.specs.BusCall.{remove_parcel, remove_message, last_of, some_rules, SomeNoText, AreTexts}
 use Rattle.peer_route.specs.Placing.{PutsAll}
-
--- The bus is told that what the rule accepts isn't wanted any more.
-abbrev pub remove_parcel : Option (List ℕ) → Rule → Parcel
-remove_parcel name rule = match_parcel (codes "RemoveMatch") name rule
-
--- the message of it with this serial
-abbrev pub remove_message : List Event → Rule → ℕ → Seen
-remove_message h rule serial = message_of (remove_parcel (unique_name h) rule) serial
 
 -- The serials that the RemoveMatch of these rules draw, one after another.
 abbrev pub AreTold : List Event → List Rule → List ℕ → Type 0
@@ -64,33 +53,19 @@ removed_each [] serials h = h
 removed_each (rule ∷ rules) [] h = h
 removed_each (rule ∷ rules) (serial ∷ serials) h = removed_each rules serials (Removed (remove_message h rule serial) ∷ h)
 
-abbrev pub last_of : List ℕ → Option ℕ
-last_of [] = None
-last_of (serial ∷ []) = Some serial
-last_of (serial ∷ more ∷ serials) = last_of (more ∷ serials)
-
-abbrev pub some_rules : List Rule → Bool
-some_rules [] = false
-some_rules (rule ∷ rules) = true
-
 -- There are rules to tell of, a serial for each RemoveMatch, and each passes no limit.
 abbrev pub MayTell : List Event → List Rule → Type 0
 MayTell h rules = (some_rules rules ≡ true) × ((serials : List ℕ) × AreTold h rules serials × AreBrief h rules serials)
 
--- the text of some rule is no string of a message
-abbrev pub SomeNoText : List Rule → Type 0
-SomeNoText [] = ⊥
-SomeNoText (rule ∷ rules) = (IsTextOf string (rule_text rule) → ⊥) ⊎ SomeNoText rules
-
 -- What telling the bus gives, after the streams were closed: `h` has that already.
 abbrev pub TellsBus : View → List Event → List Rule → Result (Option ℕ) Error → Type 0
 TellsBus new h rules (Ok last) =
-    (serials : List ℕ) × AreTold h rules serials × AreBrief h rules serials × (some_rules rules ≡ true → writer h ≡ writers.Fine)
+    AreTexts rules × (serials : List ℕ) × AreTold h rules serials × AreBrief h rules serials × (some_rules rules ≡ true → writer h ≡ writers.Fine)
     × (last ≡ last_of serials) × Left new (removed_each rules serials h)
-TellsBus new h rules (Err errors.SerialsSpent) = TellsNone h rules × Left new h
-TellsBus new h rules (Err errors.ExcessData) = ((serials : List ℕ) × AreTold h rules serials × SomeNotBrief h rules serials) × Left new h
-TellsBus new h rules (Err (errors.InputOutput kinds.WriteFault)) = MayTell h rules × (writer h ≡ writers.Failed) × Left new h
-TellsBus new h rules (Err (errors.InputOutput kinds.Closed)) = MayTell h rules × (writer h ≡ writers.Closed) × Left new h
+TellsBus new h rules (Err errors.SerialsSpent) = AreTexts rules × TellsNone h rules × Left new h
+TellsBus new h rules (Err errors.ExcessData) = AreTexts rules × ((serials : List ℕ) × AreTold h rules serials × SomeNotBrief h rules serials) × Left new h
+TellsBus new h rules (Err (errors.InputOutput kinds.WriteFault)) = AreTexts rules × MayTell h rules × (writer h ≡ writers.Failed) × Left new h
+TellsBus new h rules (Err (errors.InputOutput kinds.Closed)) = AreTexts rules × MayTell h rules × (writer h ≡ writers.Closed) × Left new h
 -- the text of a rule is no string of a message: it is longer than 4,294,967,295 bytes
 TellsBus new h rules (Err (errors.Variant faults.Malformed)) = SomeNoText rules × Left new h
 TellsBus new h rules (Err error) = ⊥
@@ -119,6 +94,15 @@ ClosesStreams old new k j h (spent.Back s t error) = ⊥
 ClosesStreams old new k j h (spent.Over errors.UnknownHandle) = (are_open h k j ≡ false) × (new ≡ old)
 ClosesStreams old new k j h (spent.Over errors.Memory) = ⊥
 ClosesStreams old new k j h (spent.Over error) = MayClose h k j × TellsBus new (gone_both k j h) (leaving h k j) (Err error)
+
+-- One RemoveMatch waits at the end of the outbox, or two; no write failed, nor was the peer closed.
+abbrev pub TellsNow : View → View → Spent → Type 0
+TellsNow old new (spent.Gone (Some serial)) =
+    ((length new.outbox ≡ length old.outbox + 1) ⊎ (length new.outbox ≡ length old.outbox + 2)) × (new.done ≡ old.done)
+    × (old.writer ≡ writers.Fine) × (new.writer ≡ writers.Fine)
+TellsNow old new (spent.Gone None) = Unit {0}
+TellsNow old new (spent.Back s t error) = Unit {0}
+TellsNow old new (spent.Over error) = Unit {0}
 
 -- ---- on the way
 
@@ -174,14 +158,14 @@ removals name rules = map (remove_parcel name) rules
 
 -- what making the one message of these, if there is one, gives
 abbrev pub MakesRemoval : List Rule → Result (Option Parcel) Error → Type 0
-MakesRemoval rules (Ok parcel) = option_to_list parcel ≡ removals None rules
+MakesRemoval rules (Ok parcel) = (option_to_list parcel ≡ removals None rules) × AreTexts rules
 MakesRemoval rules (Err (errors.Variant faults.Malformed)) = SomeNoText rules
 MakesRemoval rules (Err errors.Memory) = some_rules rules ≡ true
 MakesRemoval rules (Err error) = ⊥
 
 -- and all of them
 abbrev pub MakesRemovals : {A : Type 0} → (A → List Parcel) → List Rule → Result A Error → Type 0
-MakesRemovals items rules (Ok parcels) = items parcels ≡ removals None rules
+MakesRemovals items rules (Ok parcels) = (items parcels ≡ removals None rules) × AreTexts rules
 MakesRemovals items rules (Err (errors.Variant faults.Malformed)) = SomeNoText rules
 MakesRemovals items rules (Err errors.Memory) = some_rules rules ≡ true
 MakesRemovals items rules (Err error) = ⊥
@@ -196,6 +180,7 @@ abbrev pub Tells : View → View → List Rule → Result (Option ℕ) Error →
 Tells old new [] (Ok last) = (last ≡ None) × (new ≡ old)
 Tells old new [] (Err error) = ⊥
 Tells old new (rule ∷ rules) (Ok last) =
-    (issued : List Issued) × PutsAll true (λ (is : List Issued). is) old new (removals old.name (rule ∷ rules)) (Ok issued) × (last ≡ last_issued issued)
+    AreTexts (rule ∷ rules) × (issued : List Issued) × PutsAll true (λ (is : List Issued). is) old new (removals old.name (rule ∷ rules)) (Ok issued) × (last ≡ last_issued issued)
 Tells old new (rule ∷ rules) (Err (errors.Variant faults.Malformed)) = SomeNoText (rule ∷ rules)
-Tells old new (rule ∷ rules) (Err error) = PutsAll true (λ (is : List Issued). is) old new (removals old.name (rule ∷ rules)) (Err error)
+Tells old new (rule ∷ rules) (Err errors.Memory) = ⊤
+Tells old new (rule ∷ rules) (Err error) = AreTexts (rule ∷ rules) × PutsAll true (λ (is : List Issued). is) old new (removals old.name (rule ∷ rules)) (Err error)

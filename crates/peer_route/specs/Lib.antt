@@ -1,5 +1,6 @@
 pub mod Hex
 pub mod BodyWord
+pub mod BusCall
 pub mod Bus
 pub mod Leaving
 pub mod Parcel

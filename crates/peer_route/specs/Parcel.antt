@@ -9,9 +9,10 @@ use Rattle.wire_message.specs.declared.kind.MessageType.{MessageType}
 use Rattle.wire_message.specs.declared.kind.MessageType.TheVariants as types
 use Rattle.wire_message.specs.declared.error.Error.{Error}
 
--- What a peer is given at its start: its unique name, if it has one; whether its sink takes file descriptors; and how many
--- messages a stream may hold, if that is set.
+-- What a peer is given at its start: whether it stands on a message bus; its unique name, if it has one; whether its sink takes file
+-- descriptors; and how many messages a stream may hold, if that is set.
 pub record Setting : Type 0 where
+  pub bus : Bool
   pub name : Option (List ℕ)
   pub takes_fds : Bool
   pub queue : Option ℕ

@@ -1,18 +1,20 @@
 -- What the laws of streams, of busy reads and of what was sent say, in words of their own.
-use Rattle.std.specs.Prelude.{ℕ, ⊤, ◌≡◌, ◌==◌, ◌<◌, ◌&&◌, ◌||◌, ◌⊎◌, Bool, true, false, List, [], ◌∷◌, ◌++◌, length, map, drop, slice_get, Option, Some, None, Ok}
+use Rattle.std.specs.Prelude.{ℕ, ⊤, ◌≡◌, ◌==◌, ◌<◌, ◌&&◌, ◌||◌, ◌⊎◌, Bool, true, false, List, [], ◌∷◌, ◌++◌, if◌then◌else◌, length, map, drop, slice_get, Option, Some, None, Result, Ok}
 use Rattle.wire_message.specs.Front.{Seen}
 use Rattle.wire_message.specs.declared.error.Error.{Error}
 use Rattle.wire_message.specs.declared.error.Error.TheVariants as errors
 use Rattle.rule_match.specs.Rule.{Rule}
+use Rattle.rule_match.specs.Bytes.{rule_in_bytes}
 use Rattle.peer_route.specs.declared.words.Words.{Words}
 use Rattle.peer_route.specs.declared.words.Words.TheVariants as words
 use Rattle.peer_route.specs.declared.answer.Answer.{Answer}
 use Rattle.peer_route.specs.declared.answer.Answer.TheVariants as answers
 use Rattle.peer_route.specs.declared.answer.Entry.{Entry}
 use Rattle.peer_route.specs.Parcel.{Setting, Asked, message_of}
-use Rattle.peer_route.specs.History.{Event, read, closing}
-use Rattle.peer_route.specs.Streams.{Stream, streams, accepted, held, runs, rule_of, limit_of}
-use Rattle.peer_route.specs.Trail.{Trail, place, asks, trail}
+use Rattle.peer_route.specs.History.{Event, Did, Gone, read, closing, bears}
+use Rattle.peer_route.specs.Streams.{Stream, streams, accepted, held, runs, rule_of, limit_of, is_return, leaving, gone_then}
+use Rattle.peer_route.specs.BusCall.{add_message, remove_message}
+use Rattle.peer_route.specs.Trail.{Trail, place, second_place, asks, trail, next_serial, or_zero, removal}
 
 -- ---- streams
 
@@ -32,6 +34,7 @@ is_take number (words.Before n before) = false
 is_take number (words.Drop n) = false
 is_take number words.Stream = false
 is_take number (words.Open max_queued rule) = false
+is_take number (words.Opened n) = false
 is_take number (words.Clone n) = false
 is_take number (words.Unstream n second) = false
 is_take number (words.Queue n limit) = false
@@ -57,6 +60,22 @@ pub record Yields (setting : Setting) (newer : List Entry) (e : Entry) (older : 
   pub made : slice_get (streams (trail setting (newer ++ e ∷ older)).events) k ≡ Some stream
   pub items : items_given e.lane number newer ++ positions (held (trail setting (newer ++ e ∷ older)).events stream)
       ≡ positions (begun ++ accepted rule (drop (length (read (trail setting older).events)) (read (trail setting (newer ++ e ∷ older)).events)))
+
+-- The messages behind the return to this serial, which is the first of these that bears it; none where that is an error, or none
+-- does.
+abbrev pub after_return : ℕ → List Seen → List Seen
+after_return serial [] = []
+after_return serial (m ∷ ms) = if bears serial m then (if is_return m.kind then ms else []) else after_return serial ms
+
+-- The entry asked the bus for the lane's stream with this number, by an AddMatch of this serial. What it gave, and behind that what
+-- it didn't give, are the positions of those messages that were read behind the return to that and that the rule accepts, in order.
+pub record YieldsAsked (setting : Setting) (newer : List Entry) (e : Entry) (older : List Entry) (number serial : ℕ) (rule : Rule) : Type 0 where
+  pub k : ℕ
+  pub stream : Stream
+  pub named : place 0 e.lane number (trail setting (newer ++ e ∷ older)).streams ≡ Some k
+  pub made : slice_get (streams (trail setting (newer ++ e ∷ older)).events) k ≡ Some stream
+  pub items : items_given e.lane number newer ++ positions (held (trail setting (newer ++ e ∷ older)).events stream)
+      ≡ positions (accepted (Some rule) (after_return serial (drop (length (read (trail setting older).events)) (read (trail setting (newer ++ e ∷ older)).events))))
 
 abbrev pub held_by : List Event → Option Stream → List Seen
 held_by h None = []
@@ -95,6 +114,7 @@ names_stream number (words.Clone n) = n == number
 names_stream number (words.Unstream n None) = n == number
 names_stream number (words.Unstream n (Some second)) = (n == number) || (second == number)
 names_stream number (words.Queue n limit) = n == number
+names_stream number (words.Opened n) = n == number
 names_stream number (words.Reply n body) = n == number
 names_stream number (words.Error n name body) = n == number
 names_stream number (words.Call w) = false
@@ -113,6 +133,21 @@ abbrev pub closes_stream : ℕ → Words → Bool
 closes_stream number (words.Unstream n None) = n == number
 closes_stream number (words.Unstream n (Some second)) = (n == number) || (second == number)
 closes_stream number w = false
+
+-- the answer says that the streams are closed, whether the bus was told or wasn't
+abbrev pub says_closed : Answer → Bool
+says_closed (answers.Gone last) = true
+says_closed (answers.SendFailed error) = true
+says_closed (answers.SentFirst error) = true
+says_closed (answers.Untold error) = true
+says_closed answer = false
+
+-- the answer says that a stream for which the bus was asked will not be open
+abbrev pub says_denied : Answer → Bool
+says_denied (answers.MethodError m) = true
+says_denied (answers.InvalidReply position) = true
+says_denied (answers.Closed error) = true
+says_denied answer = false
 
 -- where the entry's command names this lane's stream of this number, it is refused, as one that was never made
 abbrev pub IsNoStream : ℕ → ℕ → Entry → Type 0
@@ -156,12 +191,39 @@ abbrev pub sent_by : Option Asked → Answer → List Seen
 sent_by None answer = []
 sent_by (Some asked) answer = sent_of asked answer
 
+-- the AddMatch of an entry whose answer says that it was sent
+abbrev pub asked_by : List Event → Result Rule Error → Answer → List Seen
+asked_by h (Ok rule) (answers.Opening number serial) = add_message h rule serial ∷ []
+asked_by h found answer = []
+
+-- the RemoveMatch of each of these rules
+abbrev pub tellings : List Event → List Rule → List Seen
+tellings h [] = []
+tellings h (rule ∷ rules) = remove_message h rule (or_zero (next_serial h)) ∷ tellings (removal h rule ∷ h) rules
+
+abbrev pub first_one : List Seen → List Seen
+first_one [] = []
+first_one (m ∷ ms) = m ∷ []
+
+-- those of an entry whose answer says that they were sent
+abbrev pub told_by : List Event → Option ℕ → Option ℕ → Answer → List Seen
+told_by h (Some k) j (answers.Gone last) = tellings (gone_then j (Did k Gone ∷ h)) (leaving h k j)
+told_by h (Some k) j (answers.SentFirst error) = first_one (tellings (gone_then j (Did k Gone ∷ h)) (leaving h k j))
+told_by h k j answer = []
+
+-- the messages of an entry whose answer says that they were sent
+abbrev pub sent_in : Trail → ℕ → Words → Answer → List Seen
+sent_in t lane (words.Open max_queued rule) answer = asked_by t.events (rule_in_bytes rule) answer
+sent_in t lane (words.Unstream number second) answer = told_by t.events (place 0 lane number t.streams) (second_place lane second t.streams) answer
+sent_in t lane w answer = sent_by (asks t lane w) answer
+
 -- the messages that the entries of a peer of this setting say were sent, oldest first; the entries are newest first
 abbrev pub all_sent : Setting → List Entry → List Seen
 all_sent setting [] = []
-all_sent setting (e ∷ es) = all_sent setting es ++ sent_by (asks (trail setting es) e.lane e.words) e.answer
+all_sent setting (e ∷ es) = all_sent setting es ++ sent_in (trail setting es) e.lane e.words e.answer
 
--- what was put, by whether a write failed: the messages that were sent, in order; after a failed write one more, which failed
+-- what was put, by whether a write failed: the messages that were sent, in order; after a failed write behind them the one whose
+-- write it was, and those that were put with it
 abbrev pub IsPutOf : Bool → List Seen → List Seen → Type 0
 IsPutOf false put sent = put ≡ sent
-IsPutOf true put sent = (m : Seen) × (put ≡ sent ++ m ∷ [])
+IsPutOf true put sent = (m : Seen) × (more : List Seen) × (put ≡ sent ++ m ∷ more)

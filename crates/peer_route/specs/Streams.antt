@@ -4,7 +4,6 @@ use Rattle.std.specs.List.{list_any}
 use Rattle.wire_message.specs.Front.{Seen}
 use Rattle.wire_message.specs.declared.error.Error.{Error}
 use Rattle.wire_message.specs.declared.error.Error.TheVariants as errors
-use Rattle.wire_message.specs.declared.error.IoKind.TheVariants as kinds
 use Rattle.rule_match.specs.Rule.{Rule}
 use Rattle.rule_match.specs.Accepting.{accepts}
 use Rattle.peer_route.specs.Rules.{is_same, usual}
@@ -448,8 +447,3 @@ limit_answer h k = if is_open h k then Ok (limit_of h (rule_of (slice_get (strea
 -- The rule of the stream with this number; none where it has none, or isn't open.
 unfoldable pub rule_answer : List Event → ℕ → Option Rule
 rule_answer h k = if is_open h k then rule_of (slice_get (streams h) k) else None
-
--- What opening a stream of a rule gives: on a closed peer there is none.
-abbrev pub open_refusal : Option Error → Option Error
-open_refusal None = None
-open_refusal (Some error) = Some (errors.InputOutput kinds.Closed)

@@ -55,6 +55,7 @@ ReadTold stop bytes h closed (words.Before number before) answer = ⊤
 ReadTold stop bytes h closed (words.Drop number) answer = ⊤
 ReadTold stop bytes h closed words.Stream answer = ⊤
 ReadTold stop bytes h closed (words.Open max_queued rule) answer = ⊤
+ReadTold stop bytes h closed (words.Opened number) answer = ⊤
 ReadTold stop bytes h closed (words.Take number) answer = ⊤
 ReadTold stop bytes h closed (words.TakeBefore number before) answer = ⊤
 ReadTold stop bytes h closed (words.Clone number) answer = ⊤
@@ -81,12 +82,13 @@ abbrev pub ClosesTold : Option (Option ℕ) → List Entry → Type 0
 ClosesTold room [] = ⊤
 ClosesTold room (e ∷ es) = CloseTold room e.words e.answer × ClosesTold room es
 
--- What the sink got of what was put: all of it; after a failed write all but the last message, and of that a proper prefix.
+-- What the sink got of what was put: all of it; after a failed write those before the message whose write it was, and of that a
+-- proper prefix.
 abbrev pub IsSentBytes : Bool → List Seen → List ℕ → Type 0
 IsSentBytes false ms sent = sent ≡ encodings ms
 IsSentBytes true ms sent =
-    (before : List Seen) × (last : Seen) × (n : ℕ) × (ms ≡ before ++ last ∷ []) × (n < length last.bytes)
-    × (sent ≡ encodings before ++ take n last.bytes)
+    (before : List Seen) × (failed : Seen) × (after : List Seen) × (n : ℕ) × (ms ≡ before ++ failed ∷ after) × (n < length failed.bytes)
+    × (sent ≡ encodings before ++ take n failed.bytes)
 
 abbrev pub IsSentOf : List Event → List ℕ → Type 0
 IsSentOf h sent = IsSentBytes (is_failed h) (put h) sent

@@ -1,5 +1,5 @@
 -- What entries are as events, and what a lane's numbers name.
-use Rattle.std.specs.Prelude.{ℕ, zero, suc, ◌+◌, ◌==◌, Bool, true, false, if◌then◌else◌, List, [], ◌∷◌, ◌++◌, slice_get, Option, Some, None, Result, Ok, Err}
+use Rattle.std.specs.Prelude.{ℕ, zero, suc, ◌+◌, ◌==◌, Bool, true, false, if◌then◌else◌, List, [], ◌∷◌, ◌++◌, map, slice_get, Option, Some, None, Result, Ok, Err}
 use Rattle.wire_message.specs.Circle.{serial_after}
 use Rattle.wire_message.specs.Front.{Seen}
 use Rattle.wire_message.specs.declared.error.Error.{Error}
@@ -16,9 +16,10 @@ use Rattle.peer_route.specs.Parcel.{Setting, Asked, message_of}
 use Rattle.peer_route.specs.CallMessage.{expects, call_asked, signal_asked, reply_asked, error_asked}
 use Rattle.peer_route.specs.declared.writer.Writer.{Writer}
 use Rattle.peer_route.specs.declared.writer.Writer.TheVariants as writers
-use Rattle.peer_route.specs.History.{Event, Took, Shut, Put, Wrote, Fault, Spent, Made, Plain, Ruled, Cloned, Did, Gave, Told, Gone, Main, Named, closing, writer, last_serial, pending}
+use Rattle.peer_route.specs.History.{Event, Took, Shut, Put, Wrote, Fault, Spent, Made, Plain, Ruled, Cloned, Did, Gave, Told, Gone, Main, OnBus, Added, Removed, Named, closing, writer, last_serial, pending}
 use Rattle.peer_route.specs.History as deeds
-use Rattle.peer_route.specs.Streams.{Stream, streams, gave_last}
+use Rattle.peer_route.specs.Streams.{Stream, streams, gave_last, leaving, gone_then}
+use Rattle.peer_route.specs.BusCall.{add_message, remove_message}
 
 -- ---- serials
 
@@ -37,7 +38,8 @@ or_zero (Some n) = n
 
 -- ---- the numbers of a lane
 
--- For each call, or each stream, by its number among all, the lane that it belongs to; none where its message failed.
+-- For each call, or each stream, by its number among all, the lane that it belongs to; none where its message failed, or where the
+-- call is the peer's own.
 abbrev pub Names : Type 0
 Names = List (Option ℕ)
 
@@ -97,6 +99,7 @@ asks_with setting given (words.Before number before) = None
 asks_with setting given (words.Drop number) = None
 asks_with setting given words.Stream = None
 asks_with setting given (words.Open max_queued rule) = None
+asks_with setting given (words.Opened number) = None
 asks_with setting given (words.Take number) = None
 asks_with setting given (words.TakeBefore number before) = None
 asks_with setting given (words.Clone number) = None
@@ -146,10 +149,21 @@ abbrev pub stream_makes : Answer → List Event
 stream_makes (answers.Streaming number) = Made Plain ∷ []
 stream_makes answer = []
 
--- a stream of a rule
-abbrev pub open_makes : Result Rule Error → Option ℕ → Answer → List Event
-open_makes (Ok rule) asked (answers.Streaming number) = Made (Ruled rule asked) ∷ []
-open_makes found asked answer = []
+-- a stream of a rule: one that is open at once, or one for which AddMatch went out, or didn't
+abbrev pub open_makes : List Event → Result Rule Error → Option ℕ → Answer → List Event
+open_makes h (Ok rule) asked (answers.Streaming number) = Made (Ruled rule asked) ∷ []
+open_makes h (Ok rule) asked (answers.Opening number serial) = Wrote ∷ Added (add_message h rule serial) rule asked ∷ []
+open_makes h (Ok rule) asked (answers.SendFailed error) =
+    failed_put (writer h) (Added (add_message h rule (or_zero (next_serial h))) rule asked)
+open_makes h found asked answer = []
+
+-- who asked for a stream is told that it is open, or that it will not be
+abbrev pub opened_does : Option ℕ → Answer → List Event
+opened_does (Some k) answers.Opened = Did k deeds.Opened ∷ []
+opened_does (Some k) (answers.MethodError m) = Did k Gone ∷ []
+opened_does (Some k) (answers.InvalidReply position) = Did k Gone ∷ []
+opened_does (Some k) (answers.Closed error) = Did k Gone ∷ []
+opened_does k answer = []
 
 abbrev pub take_does : Option ℕ → Answer → List Event
 take_does (Some k) (answers.Item position) = Did k Gave ∷ []
@@ -160,14 +174,44 @@ abbrev pub clone_makes : Option ℕ → Answer → List Event
 clone_makes (Some k) (answers.Streaming number) = Made (Cloned k) ∷ []
 clone_makes k answer = []
 
-abbrev pub gone_at : Option ℕ → List Event → List Event
-gone_at None h = h
-gone_at (Some k) h = Did k Gone ∷ h
+-- the bus is told of a rule, by the next serial
+abbrev pub removal : List Event → Rule → Event
+removal h rule = Removed (remove_message h rule (or_zero (next_serial h)))
 
--- where the second is named, it is closed after the first
-abbrev pub unstream_does : Option ℕ → Option ℕ → Answer → List Event
-unstream_does k j answers.Gone = gone_at j (gone_at k [])
-unstream_does k j answer = []
+-- and of each of these, in order; newest first
+abbrev pub removals : List Event → List Rule → List Event
+removals h [] = []
+removals h (rule ∷ rules) = removals (removal h rule ∷ h) rules ++ removal h rule ∷ []
+
+-- the serials by which it is told
+abbrev pub removal_serials : List Event → List Rule → List ℕ
+removal_serials h [] = []
+removal_serials h (rule ∷ rules) = or_zero (next_serial h) ∷ removal_serials (removal h rule ∷ h) rules
+
+-- a message for each of these rules was written
+abbrev pub wrote_each : List Rule → List Event
+wrote_each rules = map (λ rule. Wrote) rules
+
+-- none could be
+abbrev pub fault_each : List Rule → List Event
+fault_each rules = map (λ rule. Fault) rules
+
+-- only the first was
+abbrev pub wrote_first : List Rule → List Event
+wrote_first [] = []
+wrote_first (rule ∷ rules) = fault_each rules ++ Wrote ∷ []
+
+-- the streams are closed, and the bus is told of the rules that have none any more
+abbrev pub leave_with : (List Rule → List Event) → List Event → ℕ → Option ℕ → List Event
+leave_with writes h k j = writes (leaving h k j) ++ removals (gone_then j (Did k Gone ∷ h)) (leaving h k j) ++ gone_then j (Did k Gone ∷ [])
+
+-- The streams are closed, where a second is named that one after the first, and the bus is told; or it isn't.
+abbrev pub unstream_does : List Event → Option ℕ → Option ℕ → Answer → List Event
+unstream_does h (Some k) j (answers.Gone last) = leave_with wrote_each h k j
+unstream_does h (Some k) j (answers.SendFailed error) = leave_with fault_each h k j
+unstream_does h (Some k) j (answers.SentFirst error) = leave_with wrote_first h k j
+unstream_does h (Some k) j (answers.Untold error) = gone_then j (Did k Gone ∷ [])
+unstream_does h k j answer = []
 
 abbrev pub queue_does : Option ℕ → ℕ → Answer → List Event
 queue_does (Some k) limit answers.Set = Did k (deeds.Asked limit) ∷ []
@@ -200,11 +244,13 @@ events_of t lane (words.Poll number) answer = poll_spends (place 0 lane number t
 events_of t lane (words.Before number before) answer = poll_spends (place 0 lane number t.names) answer
 events_of t lane (words.Drop number) answer = drop_spends (place 0 lane number t.names) answer
 events_of t lane words.Stream answer = stream_makes answer
-events_of t lane (words.Open max_queued rule) answer = open_makes (rule_in_bytes rule) max_queued answer
+events_of t lane (words.Open max_queued rule) answer = open_makes t.events (rule_in_bytes rule) max_queued answer
+events_of t lane (words.Opened number) answer = opened_does (place 0 lane number t.streams) answer
 events_of t lane (words.Take number) answer = take_does (place 0 lane number t.streams) answer
 events_of t lane (words.TakeBefore number before) answer = take_does (place 0 lane number t.streams) answer
 events_of t lane (words.Clone number) answer = clone_makes (place 0 lane number t.streams) answer
-events_of t lane (words.Unstream number second) answer = unstream_does (place 0 lane number t.streams) (second_place lane second t.streams) answer
+events_of t lane (words.Unstream number second) answer =
+    unstream_does t.events (place 0 lane number t.streams) (second_place lane second t.streams) answer
 events_of t lane (words.Queue number limit) answer = queue_does (place 0 lane number t.streams) limit answer
 events_of t lane (words.MainQueue limit) answer = main_sets limit answer
 events_of t lane words.Close answer = close_does answer
@@ -221,22 +267,53 @@ failed_name writers.Fine false = []
 failed_name writers.Failed wants = []
 failed_name writers.Closed wants = []
 
--- the call that an entry made, and its lane
-abbrev pub new_names : List Event → ℕ → Option Asked → Answer → Names
-new_names h lane asked (answers.Called call serial) = Some lane ∷ []
-new_names h lane asked (answers.SendFailed error) = failed_name (writer h) (wants_reply asked)
-new_names h lane asked answer = []
+-- the call that a command which sends made, and its lane
+abbrev pub sent_names : List Event → ℕ → Option Asked → Answer → Names
+sent_names h lane asked (answers.Called call serial) = Some lane ∷ []
+sent_names h lane asked (answers.SendFailed error) = failed_name (writer h) (wants_reply asked)
+sent_names h lane asked answer = []
 
--- the stream that an entry made, and its lane
-abbrev pub new_streams : ℕ → Answer → Names
-new_streams lane (answers.Streaming number) = Some lane ∷ []
-new_streams lane answer = []
+-- an AddMatch is a call of the peer's own, and so nobody's
+abbrev pub open_names : List Event → Answer → Names
+open_names h (answers.Opening number serial) = None ∷ []
+open_names h (answers.SendFailed error) = failed_name (writer h) true
+open_names h answer = []
+
+-- and so is each RemoveMatch
+abbrev pub leave_names : List Event → Option ℕ → Option ℕ → Answer → Names
+leave_names h (Some k) j (answers.Gone last) = map (λ rule. None) (leaving h k j)
+leave_names h (Some k) j (answers.SendFailed error) = map (λ rule. None) (leaving h k j)
+leave_names h (Some k) j (answers.SentFirst error) = map (λ rule. None) (leaving h k j)
+leave_names h k j answer = []
+
+-- the calls that an entry made, and whose they are
+abbrev pub new_names : Trail → ℕ → Words → Answer → Names
+new_names t lane (words.Open max_queued rule) answer = open_names t.events answer
+new_names t lane (words.Unstream number second) answer =
+    leave_names t.events (place 0 lane number t.streams) (second_place lane second t.streams) answer
+new_names t lane w answer = sent_names t.events lane (asks t lane w) answer
+
+-- a stream that was made, and its lane
+abbrev pub made_streams : ℕ → Answer → Names
+made_streams lane (answers.Streaming number) = Some lane ∷ []
+made_streams lane answer = []
+
+-- one for which AddMatch went out; where its write failed it is nobody's
+abbrev pub asked_streams : List Event → ℕ → Answer → Names
+asked_streams h lane (answers.Opening number serial) = Some lane ∷ []
+asked_streams h lane (answers.SendFailed error) = failed_name (writer h) true
+asked_streams h lane answer = made_streams lane answer
+
+-- the stream that an entry made, and whose it is
+abbrev pub new_streams : Trail → ℕ → Words → Answer → Names
+new_streams t lane (words.Open max_queued rule) answer = asked_streams t.events lane answer
+new_streams t lane w answer = made_streams lane answer
 
 abbrev pub more : Trail → Entry → Trail
 more t e = record {
   events = events_of t e.lane e.words e.answer ++ t.events;
-  names = t.names ++ new_names t.events e.lane (asks t e.lane e.words) e.answer;
-  streams = t.streams ++ new_streams e.lane e.answer;
+  names = t.names ++ new_names t e.lane e.words e.answer;
+  streams = t.streams ++ new_streams t e.lane e.words e.answer;
   setting = t.setting;
 }
 
@@ -245,12 +322,20 @@ abbrev pub queue_set : Option ℕ → List Event
 queue_set None = []
 queue_set (Some limit) = Main limit ∷ []
 
--- and then the peer gets its unique name, if it has one
-abbrev pub first_events : Option (List ℕ) → Option ℕ → List Event
-first_events None queue = queue_set queue
-first_events (Some name) queue = Named name ∷ queue_set queue
+-- then the peer is put on a message bus, if it is one's
+abbrev pub bus_set : Bool → List Event → List Event
+bus_set false h = h
+bus_set true h = OnBus ∷ h
+
+-- and gets its unique name, if it has one
+abbrev pub name_set : Option (List ℕ) → List Event → List Event
+name_set None h = h
+name_set (Some name) h = Named name ∷ h
+
+abbrev pub first_events : Bool → Option (List ℕ) → Option ℕ → List Event
+first_events bus name queue = name_set name (bus_set bus (queue_set queue))
 
 -- what the entries, newest first, of a peer of this setting leave
 abbrev pub trail : Setting → List Entry → Trail
-trail setting [] = record { events = first_events setting.name setting.queue; names = []; streams = []; setting = setting }
+trail setting [] = record { events = first_events setting.bus setting.name setting.queue; names = []; streams = []; setting = setting }
 trail setting (e ∷ es) = more (trail setting es) e

@@ -10,8 +10,12 @@ pub enum Answer {
     Sent(u32),
     /// The command did nothing, for this reason.
     Refused(Error),
-    /// The message wasn't sent, or not whole.
+    /// The message wasn't sent, or not whole; of several, the first.
     SendFailed(Error),
+    /// The first of the command's messages was sent; the next wasn't, or not whole.
+    SentFirst(Error),
+    /// The stream, or both, are closed, but the bus isn't told: no message was put, for this reason.
+    Untold(Error),
     /// The message that was read.
     Got(Message),
     /// The error that closed the peer.
@@ -28,18 +32,23 @@ pub enum Answer {
     NoneBefore,
     /// The call's answer is waited for no more.
     Dropped,
-    /// The read took nothing, since a stream holds more than its capacity.
+    /// The read took nothing, since a stream holds more than its capacity; or no stream of a rule was opened or closed, since a
+    /// message by which the peer asked or told the bus is on its way.
     Busy,
     /// The stream was opened: its number in its lane.
     Streaming(u64),
+    /// The bus was asked for the stream: its number in its lane, and the serial of the AddMatch.
+    Opening { number: u64, serial: u32 },
+    /// The stream, for which the bus was asked, is open.
+    Opened,
     /// The position of the message that the stream gave.
     Item(u64),
     /// The stream holds nothing, and more may come.
     Empty,
     /// The stream is over: it holds nothing, nothing comes any more, and the closing error isn't given again.
     Ended,
-    /// The stream, or both, are closed.
-    Gone,
+    /// The stream, or both, are closed; the serial of the last RemoveMatch that was sent, if one was.
+    Gone(Option<u32>),
     /// The capacity is set, or asked for.
     Set,
     /// The peer is closed.

@@ -12,7 +12,7 @@ ghost use Rattle.peer_route.specs.Streams.{Stream, streams, main, rule_limit, is
 ghost use Rattle.peer_route.specs.Parcel.{Setting};
 ghost use Rattle.peer_route.specs.Trail.{trail};
 ghost use Rattle.peer_route.specs.Answers.{Legal};
-ghost use Rattle.peer_route.specs.StreamLaws.{Yields, holds, rule_at, closes_stream, IsNoStream, IsTake, IsEnded, IsLast, IsDrained, HoldsTooMany, IsPutOf, all_sent};
+ghost use Rattle.peer_route.specs.StreamLaws.{Yields, holds, rule_at, closes_stream, says_closed, says_denied, IsNoStream, IsTake, IsEnded, IsLast, IsDrained, HoldsTooMany, IsPutOf, all_sent, YieldsAsked};
 ghost use Rattle.peer_route.specs.Laws.{IsPoll, IsFinal, IsReplyAt, IsUnknown, IsFirstReply, IsCutOff, IsPast, SamePoll, IsByPosition, IsNothingYet};
 
 use crate::answer::Answer;
@@ -78,10 +78,24 @@ pub fn clone_goes_on_where_its_original_is()
         → Yields setting newer e older number (rule_at (trail setting older) e.lane original) (holds (trail setting older) e.lane original) }
 {}
 
-/// A stream that was closed is unknown from then on: each later command of that lane that names its number is refused, whatever
-/// comes.
+/// A stream that was closed is unknown from then on, whether the bus was told or couldn't be: each later command of that lane that
+/// names its number is refused, whatever comes.
 pub fn stream_closed_for_good()
-    ensures { (setting : Setting) (newer older : List Entry) (e : Entry) (number : ℕ) → Legal setting (newer ++ e ∷ older) → closes_stream number e.words ≡ true → e.answer ≡ Answer.Gone → AllByRecursion (IsNoStream e.lane number) newer }
+    ensures { (setting : Setting) (newer older : List Entry) (e : Entry) (number : ℕ) → Legal setting (newer ++ e ∷ older) → closes_stream number e.words ≡ true → says_closed e.answer ≡ true → AllByRecursion (IsNoStream e.lane number) newer }
+{}
+
+/// A stream for which the bus was asked gives exactly what was read behind the return to its AddMatch and what its rule accepts, in
+/// order: nothing from before it, and where the bus denied it, or no reply came, nothing (D-Bus Specification, "Message Bus
+/// Messages", `org.freedesktop.DBus.AddMatch`).
+pub fn asked_stream_gives_what_comes_behind_the_return()
+    ensures { (setting : Setting) (newer : List Entry) (e : Entry) (older : List Entry) (number serial : ℕ) (asked : Option ℕ) (text : List ℕ) (rule : Rule) → Legal setting (newer ++ e ∷ older) → e.words ≡ Words.Open asked text
+        → rule_in_bytes text ≡ Ok rule → e.answer ≡ Answer.Opening number serial → YieldsAsked setting newer e older number serial rule }
+{}
+
+/// A stream that the bus denied, or that no reply came for before the peer was closed, is unknown once that was said: each later
+/// command of that lane that names its number is refused, whatever comes.
+pub fn stream_denied_for_good()
+    ensures { (setting : Setting) (newer older : List Entry) (e : Entry) (number : ℕ) → Legal setting (newer ++ e ∷ older) → e.words ≡ Words.Opened number → says_denied e.answer ≡ true → AllByRecursion (IsNoStream e.lane number) newer }
 {}
 
 /// What a stream does changes what no other gives: neither its items, nor its end, nor its closing, nor a capacity that it asks
@@ -162,8 +176,8 @@ pub fn busy_where_a_stream_is_full()
     ensures same { (setting : Setting) (older : List Entry) (e : Entry) → e.words ≡ Words.Read → e.answer ≡ Answer.Busy → (trail setting (e ∷ older)).events ≡ (trail setting older).events }
 {}
 
-/// What is put in the outbox is what the answers say was sent: the messages of the calls that were answered with a serial, in
-/// order; where a write failed, one message more, the last, whose write it was.
+/// What is put in the outbox is what the answers say was sent: the messages of the commands that were answered with a serial, in
+/// order; where a write failed, behind them the message whose write it was, and those that its command put with it.
 pub fn put_is_what_was_sent()
     ensures { (setting : Setting) (es : List Entry) → Legal setting es → IsPutOf (is_failed (trail setting es).events) (put (trail setting es).events) (all_sent setting es) }
 {}

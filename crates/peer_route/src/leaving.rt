@@ -2,7 +2,7 @@
 ghost use Rattle.std.specs.Prelude.{ℕ, ◌≡◌, ◌↔◌, IsTrue, ◌++◌, ◌&&◌, ◌||◌, is_some, true, List, IfOk, IfErr, option_to_list};
 ghost use Rattle.peer_route.specs.History.{Event};
 ghost use Rattle.peer_route.specs.Left.{Left, kept_at, is_flying};
-ghost use Rattle.peer_route.specs.Leaving.{must_tell, without_both, left_by, rule_kept, left_rules, number_of, have_rules, ended, MakesRemoval, MakesRemovals, second_left, Tells, last_issued, ClosesStreams};
+ghost use Rattle.peer_route.specs.Leaving.{must_tell, without_both, left_by, rule_kept, left_rules, number_of, have_rules, ended, MakesRemoval, MakesRemovals, second_left, Tells, last_issued, ClosesStreams, TellsNow};
 ghost use Rattle.peer_route.specs.Placing.{IsMore};
 
 use crate::letter::Letter;
@@ -171,7 +171,8 @@ impl Route {
     /// InputOutput(WriteFault) exactly where a write failed before. Variant of `Malformed` only where a rule's text is longer than
     /// 4,294,967,295 bytes. Of a closed peer's streams nothing is told.
     pub fn close_stream(&mut self, stream: MessageStream, second: Option<MessageStream>) -> Spent
-        ensures { (h : List Event) → Left self.old h → ClosesStreams self.old self.new stream.number (number_of second) h result }
+        ensures closes { (h : List Event) → Left self.old h → ClosesStreams self.old self.new stream.number (number_of second) h result }
+        ensures waits { TellsNow self.old self.new result }
     {
         let (number, other) = (stream.number, number_of(&second));
         if !self.are_open(number, other) {

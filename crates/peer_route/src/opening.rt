@@ -3,7 +3,8 @@ ghost use Rattle.std.specs.Prelude.{◌≡◌, ◌&&◌, ◌++◌, ◌∷◌, no
 ghost use Rattle.wire_names.specs.Names.{is_member_name};
 ghost use Rattle.peer_route.specs.History.{Event, OnBus, on_bus};
 ghost use Rattle.peer_route.specs.Streams.{opening_answer, opening_events, may_be_signal};
-ghost use Rattle.peer_route.specs.Bus.{OpensRule, IsShownAs, AsksFor, PutsMatch, MakesBody, MakesLetter, bus_draft, match_parcel};
+ghost use Rattle.peer_route.specs.Bus.{OpensRule, AsksNow, IsShownAs, AsksFor, PutsMatch, MakesBody, MakesLetter};
+ghost use Rattle.peer_route.specs.BusCall.{bus_draft, match_parcel};
 ghost use Rattle.peer_route.specs.Left.{Left, shared};
 ghost use Rattle.peer_route.specs.Placing.{IsMore};
 
@@ -186,7 +187,8 @@ impl Route {
     /// failed. Variant of `Malformed` only where the rule's text is longer than 4,294,967,295 bytes. Memory for want of memory.
     /// An error changes nothing.
     pub fn open_rule(&mut self, rule: OwnedMatchRule, max_queued: Option<u64>) -> Result<Opens>
-        ensures { (h : List Event) → Left self.old h → OpensRule self.old self.new rule max_queued h result }
+        ensures opens { (h : List Event) → Left self.old h → OpensRule self.old self.new rule max_queued h result }
+        ensures waits { AsksNow self.old self.new result }
     {
         if self.calls.closing().is_some() {
             return Err(Error::InputOutput(IoKind::Closed));

@@ -231,7 +231,8 @@ impl Route {
         requires first { index ≡ self.old.done }
         requires there { index < length self.old.outbox }
         requires unfailed { self.old.writer ≢ Writer.Failed }
-        ensures { (h : List Event) → Left self.old h → Left self.new (Wrote ∷ h) }
+        ensures left { (h : List Event) → Left self.old h → Left self.new (Wrote ∷ h) }
+        ensures moves { (self.new.outbox ≡ self.old.outbox) × (self.new.done ≡ self.old.done + 1) × (self.new.writer ≡ self.old.writer) }
     {
         self.done += 1;
     }
@@ -241,7 +242,8 @@ impl Route {
     pub fn write_fault(&mut self, index: u64)
         requires first { index ≡ self.old.done }
         requires there { index < length self.old.outbox }
-        ensures { (h : List Event) → Left self.old h → Left self.new (Fault ∷ h) }
+        ensures left { (h : List Event) → Left self.old h → Left self.new (Fault ∷ h) }
+        ensures moves { (self.new.outbox ≡ self.old.outbox) × (self.new.done ≡ self.old.done + 1) }
     {
         self.done += 1;
         self.writer = self.writer.then(Writer::Failed);

@@ -80,6 +80,8 @@ pub enum Words {
         /// The rule's text.
         rule: Bytes,
     },
+    /// Ask whether the lane's stream with this number, from 0 on, for which the bus was asked, is open.
+    Opened(u64),
     /// Take the next item of the lane's stream with this number, from 0 on.
     Take(u64),
     /// Take it by position.
@@ -166,6 +168,7 @@ impl Words {
                 max_queued: *max_queued,
                 rule: rule.try_clone(alloc)?,
             },
+            Words::Opened(number) => Words::Opened(*number),
             Words::Take(number) => Words::Take(*number),
             Words::TakeBefore { stream, before } => Words::TakeBefore {
                 stream: *stream,

@@ -1,8 +1,6 @@
--- A clone, a stream that is closed, a capacity: each is one entry more.
+-- A clone, a capacity: each is one entry more.
 use Rattle.std.proofs.Common.{◌≡◌, ℕ, refl, sym, ◌∙◌, ap, subst, Bool, true, false, List, [], ◌∷◌, ◌++◌, length, arith, Option, Some, None, Result, Ok, Err, IfOk}
-use Rattle.std.specs.List.{slice_set}
 use Rattle.std.proofs.lemmas.List.{append-nil}
-use Rattle.wire_message.specs.Front.{Seen}
 use Rattle.wire_message.specs.declared.error.Error.{Error}
 use Rattle.wire_message.specs.declared.error.Error.TheVariants as errors
 use Rattle.peer_route.specs.Parcel.{Setting, Asked}
@@ -13,15 +11,15 @@ use Rattle.peer_route.specs.declared.answer.Answer.TheVariants as answers
 use Rattle.peer_route.specs.declared.answer.Entry.{Entry}
 use Rattle.peer_route.specs.History as events
 use Rattle.peer_route.specs.Streams as streams
-use Rattle.peer_route.specs.Trail.{Trail, trail, place, count, events_of, new_names, new_streams, clone_makes, unstream_does, second_place, queue_does, first_events}
-use Rattle.peer_route.specs.Answers.{IsAnswer, where_open, is_open_at, are_open_at}
+use Rattle.peer_route.specs.Trail.{Trail, trail, place, count, events_of, sent_names, made_streams, clone_makes, queue_does, first_events}
+use Rattle.peer_route.specs.Answers.{IsAnswer, where_open, is_open_at}
 use Rattle.peer_route.specs.Told.{ReadTold}
 use Rattle.peer_route.specs.Left.{Left, Clones}
-use Rattle.peer_route.proofs.Given.{given_made, given_gone, given_gone_both, given_asked, given_main}
-use Rattle.peer_route.proofs.Closings.{one_open, two_open, first_unnamed, second_unnamed, shown_by, shown_known, closes_so, asks_so}
+use Rattle.peer_route.proofs.Given.{given_made, given_asked, given_main}
+use Rattle.peer_route.proofs.Closings.{shown_by, shown_known, asks_so}
 use Rattle.peer_route.proofs.Refused.{refused_changes_nothing}
 use Rattle.peer_run.specs.Stands.{PeerView, Inlet, Outlet, Follows, Reads, Writes, IsReadFault, IsWriteFault, IsRefusal, entry}
-use Rattle.peer_run.proofs.Quiet.{AreQuiet, first_same, clone_quiet, unstream_quiet, queue_quiet, main_quiet}
+use Rattle.peer_run.proofs.Quiet.{AreQuiet, first_same, clone_quiet, queue_quiet, main_quiet}
 use Rattle.peer_run.proofs.Kept.{is_close}
 use Rattle.peer_run.proofs.QuietStep.{follows_quiet, reads_quiet, writes_quiet}
 
@@ -36,13 +34,6 @@ pub clone_still : (t : Trail) (lane number : ℕ) → IsStill t lane (words.Clon
 clone_still t lane number = record { quiet = λ a. clone_quiet (place 0 lane number t.streams) a; told = told; other = refl }
   where
     told : (stop : Option Bool) (bytes : List ℕ) (closing : Option Error) (a : Answer) → ReadTold stop bytes t.events closing (words.Clone number) a
-    told stop bytes None a = tt
-    told stop bytes (Some error) a = tt
-
-pub unstream_still : (t : Trail) (lane number : ℕ) (second : Option ℕ) → IsStill t lane (words.Unstream number second)
-unstream_still t lane number second = record { quiet = λ a. unstream_quiet (place 0 lane number t.streams) (second_place lane second t.streams) a; told = told; other = refl }
-  where
-    told : (stop : Option Bool) (bytes : List ℕ) (closing : Option Error) (a : Answer) → ReadTold stop bytes t.events closing (words.Unstream number second) a
     told stop bytes None a = tt
     told stop bytes (Some error) a = tt
 
@@ -63,21 +54,18 @@ main_still t lane limit = record { quiet = λ a. main_quiet limit a; told = told
 -- the answer is none of a read, and none of a failed send
 abbrev pub IsPlain : Answer → Type 0
 IsPlain (answers.Streaming number) = Unit {0}
-IsPlain answers.Gone = Unit {0}
 IsPlain answers.Set = Unit {0}
 IsPlain (answers.Refused error) = Unit {0}
 IsPlain a = ⊥
 
 no_read : (a : Answer) → IsPlain a → IsReadFault a → ⊥
 no_read (answers.Streaming number) p e = cc
-no_read answers.Gone p e = cc
 no_read answers.Set p e = cc
 no_read (answers.Refused error) p e = cc
 no_read a p e = absurd p
 
 no_write : (a : Answer) → IsPlain a → IsWriteFault a → ⊥
 no_write (answers.Streaming number) p e = cc
-no_write answers.Gone p e = cc
 no_write answers.Set p e = cc
 no_write (answers.Refused error) p e = cc
 no_write a p e = absurd p
@@ -109,7 +97,7 @@ follows_refused setting p es lane w error f answer =
     }
 
 -- the lane's number names the same stream by the history
-here : (setting : Setting) (p : PeerView) (es : List Entry) (lane number : ℕ) (o : Option ℕ) → Follows setting p es → place 0 lane number p.streams ≡ o
+pub here : (setting : Setting) (p : PeerView) (es : List Entry) (lane number : ℕ) (o : Option ℕ) → Follows setting p es → place 0 lane number p.streams ≡ o
     → place 0 lane number (trail setting es).streams ≡ o
 here setting p es lane number o f at = ap (λ ns. place 0 lane number ns) (sym f.streams) ∙ at
 
@@ -152,94 +140,6 @@ clone_refused p q lane number k errors.Memory (Ok a) named said names made given
 clone_refused p q lane number k error (Ok a) named said names made given is = λ setting es f. absurd (said (trail setting es).events f.left)
 clone_refused p q lane number k error (Err e) named said names made given is = tt
 
--- ---- closing
-
-shown_names : (h : List events.Event) (lane : ℕ) (w : Option Asked) (r : Result (Unit {0}) Error) → new_names h lane w (shown_by answers.Gone r) ≡ []
-shown_names h lane w (Ok done) = refl
-shown_names h lane w (Err error) = refl
-
-shown_streams : (lane : ℕ) (r : Result (Unit {0}) Error) → new_streams lane (shown_by answers.Gone r) ≡ []
-shown_streams lane (Ok done) = refl
-shown_streams lane (Err error) = refl
-
--- for each stream the message that it gave last, once these are closed
-abbrev pub forgotten : {A E : Type 0} → ℕ → Option ℕ → Result A E → List (Option Seen) → List (Option Seen)
-forgotten k None (Ok done) gs = slice_set gs k None
-forgotten k (Some j) (Ok done) gs = slice_set (slice_set gs k None) j None
-forgotten k j (Err error) gs = gs
-
-given_closed : (h : List events.Event) (k : ℕ) (j : Option ℕ) (r : Result (Unit {0}) Error)
-    → streams.all_given (streams.close_events k j r ++ h) ≡ forgotten k j r (streams.all_given h)
-given_closed h k None (Ok done) = given_gone h k
-given_closed h k (Some j) (Ok done) = given_gone_both h k j
-given_closed h k j (Err error) = refl
-
--- what the core gave of closing
-follows_closed : (setting : Setting) (p q : PeerView) (es : List Entry) (lane number : ℕ) (second : Option ℕ) (k : ℕ) (j : Option ℕ) (r : Result (Unit {0}) Error)
-    → Follows setting p es → place 0 lane number p.streams ≡ Some k → second_place lane second (trail setting es).streams ≡ j
-    → are_open_at (trail setting es).events lane (trail setting es).streams number second ≡ streams.are_open (trail setting es).events k j
-    → r ≡ streams.close_answer (trail setting es).events k j
-    → q.names ≡ p.names → q.streams ≡ p.streams → q.given ≡ forgotten k j r p.given → Left q.core (streams.close_events k j r ++ (trail setting es).events)
-    → Follows setting q (entry lane (words.Unstream number second) (shown_by answers.Gone r) ∷ es)
-unfolding streams.close_answer
-follows_closed setting p q es lane number second k j r f named at₂ both answer names same given left =
-    let t = trail setting es in
-    let a = shown_by answers.Gone r in
-    let at = here setting p es lane number (Some k) f named in
-    follows_quiet setting p q es lane (words.Unstream number second) a (unstream_does (Some k) j a) f
-    (ap (λ o. unstream_does o (second_place lane second t.streams) a) at ∙ ap (λ o. unstream_does (Some k) o a) at₂)
-    (unstream_quiet (Some k) j a)
-    (subst (λ xs. Left q.core (xs ++ t.events)) (sym (closes_so k j r)) left)
-    names (shown_names t.events lane None r) (same ∙ sym (append-nil p.streams) ∙ ap (λ ns. p.streams ++ ns) (sym (shown_streams lane r)))
-    (given ∙ ap (forgotten k j r) f.given ∙ sym (given_closed t.events k j r) ∙ ap (λ xs. streams.all_given (xs ++ t.events)) (sym (closes_so k j r)))
-    (ap (shown_by answers.Gone) answer ∙ shown_known answers.Gone (streams.are_open t.events k j) ∙ ap (λ b. where_open b answers.Gone) (sym both))
-
-pub follows_one : (setting : Setting) (p q : PeerView) (es : List Entry) (lane number k : ℕ) (r : Result (Unit {0}) Error)
-    → Follows setting p es → place 0 lane number p.streams ≡ Some k → r ≡ streams.close_answer (trail setting es).events k None
-    → q.names ≡ p.names → q.streams ≡ p.streams → q.given ≡ forgotten k None r p.given → Left q.core (streams.close_events k None r ++ (trail setting es).events)
-    → Follows setting q (entry lane (words.Unstream number None) (shown_by answers.Gone r) ∷ es)
-follows_one setting p q es lane number k r f named answer names same given left =
-    let t = trail setting es in
-    follows_closed setting p q es lane number None k None r f named refl (one_open t.events lane t.streams number k (here setting p es lane number (Some k) f named)) answer names same given left
-
-pub follows_two : (setting : Setting) (p q : PeerView) (es : List Entry) (lane number second k j : ℕ) (r : Result (Unit {0}) Error)
-    → Follows setting p es → place 0 lane number p.streams ≡ Some k → place 0 lane second p.streams ≡ Some j → r ≡ streams.close_answer (trail setting es).events k (Some j)
-    → q.names ≡ p.names → q.streams ≡ p.streams → q.given ≡ forgotten k (Some j) r p.given → Left q.core (streams.close_events k (Some j) r ++ (trail setting es).events)
-    → Follows setting q (entry lane (words.Unstream number (Some second)) (shown_by answers.Gone r) ∷ es)
-follows_two setting p q es lane number second k j r f named named₂ answer names same given left =
-    let t = trail setting es in
-    let at₂ = here setting p es lane second (Some j) f named₂ in
-    follows_closed setting p q es lane number (Some second) k (Some j) r f named at₂
-    (two_open t.events lane t.streams number second k j (here setting p es lane number (Some k) f named) at₂) answer names same given left
-
--- the lane's number, or one of two, names nothing
-unnamed : (setting : Setting) (p : PeerView) (es : List Entry) (lane number : ℕ) (second : Option ℕ) → Follows setting p es
-    → are_open_at (trail setting es).events lane (trail setting es).streams number second ≡ false
-    → Follows setting p (entry lane (words.Unstream number second) (answers.Refused errors.UnknownHandle) ∷ es)
-unnamed setting p es lane number second f shut =
-    follows_refused setting p es lane (words.Unstream number second) errors.UnknownHandle f (sym (ap (λ b. where_open b answers.Gone) shut))
-
-pub one_unknown : (setting : Setting) (p : PeerView) (es : List Entry) (lane number : ℕ) → Follows setting p es → place 0 lane number p.streams ≡ None
-    → Follows setting p (entry lane (words.Unstream number None) (answers.Refused errors.UnknownHandle) ∷ es)
-one_unknown setting p es lane number f none =
-    unnamed setting p es lane number None f (ap (is_open_at (trail setting es).events) (here setting p es lane number None f none))
-
-pub first_unknown : (setting : Setting) (p : PeerView) (es : List Entry) (lane number second : ℕ) → Follows setting p es → place 0 lane number p.streams ≡ None
-    → Follows setting p (entry lane (words.Unstream number (Some second)) (answers.Refused errors.UnknownHandle) ∷ es)
-first_unknown setting p es lane number second f none =
-    let t = trail setting es in
-    unnamed setting p es lane number (Some second) f (first_unnamed t.events lane t.streams number second (here setting p es lane number None f none))
-
-pub second_unknown : (setting : Setting) (p : PeerView) (es : List Entry) (lane number second : ℕ) → Follows setting p es → place 0 lane second p.streams ≡ None
-    → Follows setting p (entry lane (words.Unstream number (Some second)) (answers.Refused errors.UnknownHandle) ∷ es)
-second_unknown setting p es lane number second f none =
-    let t = trail setting es in
-    unnamed setting p es lane number (Some second) f (second_unnamed t.events lane t.streams number second (here setting p es lane second None f none))
-
-pub closed_plain : (r : Result (Unit {0}) Error) → IsPlain (shown_by answers.Gone r)
-closed_plain (Ok done) = tt
-closed_plain (Err error) = tt
-
 -- ---- capacities
 
 pub queue_unknown : (setting : Setting) (p : PeerView) (es : List Entry) (lane number limit : ℕ) → Follows setting p es → place 0 lane number p.streams ≡ None
@@ -249,11 +149,11 @@ queue_unknown setting p es lane number limit f none =
     follows_refused setting p es lane (words.Queue number limit) errors.UnknownHandle f
     (sym (ap (λ o. where_open (is_open_at t.events o) answers.Set) (here setting p es lane number None f none)))
 
-asked_names : (h : List events.Event) (lane : ℕ) (w : Option Asked) (r : Result (Unit {0}) Error) → new_names h lane w (shown_by answers.Set r) ≡ []
+asked_names : (h : List events.Event) (lane : ℕ) (w : Option Asked) (r : Result (Unit {0}) Error) → sent_names h lane w (shown_by answers.Set r) ≡ []
 asked_names h lane w (Ok done) = refl
 asked_names h lane w (Err error) = refl
 
-asked_streams : (lane : ℕ) (r : Result (Unit {0}) Error) → new_streams lane (shown_by answers.Set r) ≡ []
+asked_streams : (lane : ℕ) (r : Result (Unit {0}) Error) → made_streams lane (shown_by answers.Set r) ≡ []
 asked_streams lane (Ok done) = refl
 asked_streams lane (Err error) = refl
 
@@ -292,22 +192,26 @@ follows_main setting p q es lane limit f names same given left =
 -- ---- before the first command
 
 -- the peer keeps nothing but its capacity
-pub follows_first : (setting : Setting) (p : PeerView) → Left p.core (first_events setting.name setting.queue) → p.names ≡ [] → p.streams ≡ [] → p.given ≡ [] → Follows setting p []
+pub follows_first : (setting : Setting) (p : PeerView) → Left p.core (first_events setting.bus setting.name setting.queue) → p.names ≡ [] → p.streams ≡ [] → p.given ≡ [] → Follows setting p []
 follows_first setting p left names same given =
-    let first = first_same setting.name setting.queue in
+    let first = first_same setting.bus setting.name setting.queue in
     let none : p.core.read ≡ 0 = left.read ∙ ap length first.read in
     record {
       left = left;
       names = names;
       streams = same;
-      given = given ∙ sym (first_given setting.name setting.queue);
+      given = given ∙ sym (first_given setting.bus setting.name setting.queue);
       legal = tt;
       within = omega (arith, none);
       written = left.done ∙ first.done ∙ sym (ap length (left.outbox ∙ first.put));
     }
   where
-    first_given : (name : Option (List ℕ)) (queue : Option ℕ) → streams.all_given (first_events name queue) ≡ []
-    first_given None None = refl
-    first_given None (Some limit) = refl
-    first_given (Some name) None = refl
-    first_given (Some name) (Some limit) = refl
+    first_given : (bus : Bool) (name : Option (List ℕ)) (queue : Option ℕ) → streams.all_given (first_events bus name queue) ≡ []
+    first_given false None None = refl
+    first_given false None (Some limit) = refl
+    first_given false (Some name) None = refl
+    first_given false (Some name) (Some limit) = refl
+    first_given true None None = refl
+    first_given true None (Some limit) = refl
+    first_given true (Some name) None = refl
+    first_given true (Some name) (Some limit) = refl

@@ -16,7 +16,7 @@ use Rattle.peer_route.specs.declared.answer.Answer.{Answer}
 use Rattle.peer_route.specs.declared.answer.Answer.TheVariants as answers
 use Rattle.peer_route.specs.declared.answer.Entry.{Entry}
 use Rattle.peer_route.specs.History as events
-use Rattle.peer_route.specs.Trail.{trail, close_does, new_names, new_streams}
+use Rattle.peer_route.specs.Trail.{trail, close_does, sent_names, made_streams}
 use Rattle.peer_route.specs.Answers.{IsClose}
 use Rattle.peer_route.specs.Told.{ReadsTold, CloseTold, ReadTold, left_after}
 use Rattle.peer_route.specs.Left.{Left}
@@ -46,7 +46,7 @@ does_shut : (r : Result (Unit {0}) Error) → close_does (shown_close r) ≡ shu
 does_shut (Ok done) = refl
 does_shut (Err error) = refl
 
-makes_no_stream : (lane : ℕ) (r : Result (Unit {0}) Error) → new_streams lane (shown_close r) ≡ []
+makes_no_stream : (lane : ℕ) (r : Result (Unit {0}) Error) → made_streams lane (shown_close r) ≡ []
 makes_no_stream lane (Ok done) = refl
 makes_no_stream lane (Err error) = refl
 
@@ -57,7 +57,7 @@ closed_is (Err error) is = is
 
 -- ---- the peer
 
-not_asked : (w : Writer) (h : List events.Event) (lane : ℕ) (r : Result (Unit {0}) Error) → events.writer h ≡ w → new_names h lane None (shown_close r) ≡ []
+not_asked : (w : Writer) (h : List events.Event) (lane : ℕ) (r : Result (Unit {0}) Error) → events.writer h ≡ w → sent_names h lane None (shown_close r) ≡ []
 not_asked w h lane (Ok done) e = refl
 not_asked writers.Fine h lane (Err error) e = rw e refl
 not_asked writers.Failed h lane (Err error) e = rw e refl

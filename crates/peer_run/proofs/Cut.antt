@@ -1,6 +1,8 @@
 -- Two histories of the same commands over the same bytes are the same.
-use Rattle.std.proofs.Common.{◌≡◌, ℕ, refl, sym, ◌∙◌, ap, subst, Bool, true, false, List, [], ◌∷◌, length, map, Option, Some, None, Ok, Err, inl, inr}
+use Rattle.std.proofs.Common.{◌≡◌, ℕ, refl, sym, ◌∙◌, ap, subst, Bool, true, false, List, [], ◌∷◌, length, map, Option, Some, None, Result, Ok, Err, inl, inr}
 use Rattle.wire_message.specs.declared.error.Error.{Error}
+use Rattle.rule_match.specs.Rule.{Rule}
+use Rattle.rule_match.specs.Bytes.{rule_in_bytes}
 use Rattle.peer_route.specs.Parcel.{Setting, Asked}
 use Rattle.peer_route.specs.declared.words.Words.{Words}
 use Rattle.peer_route.specs.declared.words.Words.TheVariants as words
@@ -11,10 +13,11 @@ use Rattle.peer_route.specs.History as events
 use Rattle.peer_route.specs.Trail.{Trail, trail}
 use Rattle.peer_route.specs.declared.writer.Writer.{Writer}
 use Rattle.peer_route.specs.declared.writer.Writer.TheVariants as writers
-use Rattle.peer_route.specs.Answers.{Legal, IsAnswer, IsCalled, IsClose, IsSent, IsSendOf, IsReadOf, send_refusal}
-use Rattle.peer_route.specs.Streams.{busy}
+use Rattle.peer_route.specs.Answers.{Legal, IsAnswer, IsCalled, IsClose, IsSent, IsSendOf, IsReadOf, send_refusal, IsOpenOf, IsRuleOf, IsNewOf, IsAskOf, tell_refusal, WentOut, IsToldBy, IsTold, IsLeaveBy, IsLeaveOf}
+use Rattle.peer_route.specs.Streams.{busy, asks_bus, leaving, close_waits, gone_then}
+use Rattle.peer_route.specs.BusCall.{SomeNoText, AreTexts}
 use Rattle.peer_route.specs.Told.{ReadsTold, ReadTold, ReadOpenTold}
-use Rattle.peer_run.specs.Stands.{IsWriteFault, HasWriteFault}
+use Rattle.peer_run.specs.Stands.{send_error, IsWriteFault, HasWriteFault}
 use Rattle.peer_run.specs.Runs.{command_of}
 
 -- a call's answer is one of two, and one of them fails
@@ -22,8 +25,8 @@ same_sent : (w : Writer) (success a b : Answer) → (IsWriteFault a → ⊥) →
 same_sent writers.Failed success a b p q x y = x ∙ sym y
 same_sent writers.Closed success a b p q x y = x ∙ sym y
 same_sent writers.Fine success a b p q (inl x) (inl y) = x ∙ sym y
-same_sent writers.Fine success a b p q (inr x) y = absurd (p x)
-same_sent writers.Fine success a b p q (inl x) (inr y) = absurd (q y)
+same_sent writers.Fine success a b p q (inr x) y = absurd (p (ap send_error x))
+same_sent writers.Fine success a b p q (inl x) (inr y) = absurd (q (ap send_error y))
 
 same_called : (refusal : Option Error) (w : Writer) (success a b : Answer) → (IsWriteFault a → ⊥) → (IsWriteFault b → ⊥) → IsCalled refusal w success a → IsCalled refusal w success b → a ≡ b
 same_called (Some error) w success a b p q x y = x ∙ sym y
@@ -35,8 +38,71 @@ same_send t lane (Ok parcel) a b p q x y = same_called (send_refusal t.events (O
 
 same_close : (a b : Answer) → (IsWriteFault a → ⊥) → (IsWriteFault b → ⊥) → IsClose a → IsClose b → a ≡ b
 same_close a b p q (inl x) (inl y) = x ∙ sym y
-same_close a b p q (inr x) y = absurd (p x)
-same_close a b p q (inl x) (inr y) = absurd (q y)
+same_close a b p q (inr x) y = absurd (p (ap send_error x))
+same_close a b p q (inl x) (inr y) = absurd (q (ap send_error y))
+
+-- ---- a stream of a rule
+
+same_ask : (t : Trail) (lane : ℕ) (rule : Rule) (a b : Answer) → (IsWriteFault a → ⊥) → (IsWriteFault b → ⊥) → IsAskOf t lane rule a → IsAskOf t lane rule b → a ≡ b
+same_ask t lane rule a b p q (inl x) (inl y) = x.1 ∙ sym y.1
+same_ask t lane rule a b p q (inl x) (inr y) = absurd (x.0 y.0)
+same_ask t lane rule a b p q (inr x) (inl y) = absurd (y.0 x.0)
+same_ask t lane rule a b p q (inr x) (inr y) = same_called _ (events.writer t.events) _ a b p q x.1 y.1
+
+same_new : (t : Trail) (lane : ℕ) (rule : Rule) (asks : Bool) (a b : Answer) → (IsWriteFault a → ⊥) → (IsWriteFault b → ⊥) → IsNewOf t lane rule asks a → IsNewOf t lane rule asks b → a ≡ b
+same_new t lane rule true a b p q x y = same_ask t lane rule a b p q x y
+same_new t lane rule false a b p q x y = x ∙ sym y
+
+same_rule : (t : Trail) (lane : ℕ) (rule : Rule) (closed : Option Error) (flies : Bool) (a b : Answer) → (IsWriteFault a → ⊥) → (IsWriteFault b → ⊥)
+    → IsRuleOf t lane rule closed flies a → IsRuleOf t lane rule closed flies b → a ≡ b
+same_rule t lane rule (Some error) flies a b p q x y = x ∙ sym y
+same_rule t lane rule None true a b p q x y = x ∙ sym y
+same_rule t lane rule None false a b p q x y = same_new t lane rule (asks_bus t.events rule) a b p q x y
+
+same_opening : (t : Trail) (lane : ℕ) (found : Result Rule Error) (a b : Answer) → (IsWriteFault a → ⊥) → (IsWriteFault b → ⊥) → IsOpenOf t lane found a → IsOpenOf t lane found b → a ≡ b
+same_opening t lane (Err error) a b p q x y = x ∙ sym y
+same_opening t lane (Ok rule) a b p q x y = same_rule t lane rule (events.closing t.events) (events.in_flight t.events) a b p q x y
+
+-- ---- streams that are closed
+
+-- each text is one, or some isn't
+no_text : (rules : List Rule) → SomeNoText rules → AreTexts rules → ⊥
+no_text [] none all = none
+no_text (rule ∷ rules) (inl none) all = none all.0
+no_text (rule ∷ rules) (inr none) all = no_text rules none all.1
+
+same_out : (h : List events.Event) (rules : List Rule) (a b : Answer) → (IsWriteFault a → ⊥) → (IsWriteFault b → ⊥) → WentOut h rules a → WentOut h rules b → a ≡ b
+same_out h [] a b p q x y = absurd x
+same_out h (rule ∷ rules) a b p q (inl x) (inl y) = x ∙ sym y
+same_out h (rule ∷ rules) a b p q (inr (inl x)) y = absurd (p (ap send_error x))
+same_out h (rule ∷ rules) a b p q (inr (inr x)) y = absurd (p (ap send_error x.1))
+same_out h (rule ∷ rules) a b p q (inl x) (inr (inl y)) = absurd (q (ap send_error y))
+same_out h (rule ∷ rules) a b p q (inl x) (inr (inr y)) = absurd (q (ap send_error y.1))
+
+same_told_by : (refusal : Option Error) (w : Writer) (h : List events.Event) (rules : List Rule) (a b : Answer) → (IsWriteFault a → ⊥) → (IsWriteFault b → ⊥)
+    → IsToldBy refusal w h rules a → IsToldBy refusal w h rules b → a ≡ b
+same_told_by (Some error) w h rules a b p q x y = x ∙ sym y
+same_told_by None writers.Failed h rules a b p q x y = x ∙ sym y
+same_told_by None writers.Closed h rules a b p q x y = x ∙ sym y
+same_told_by None writers.Fine h rules a b p q x y = same_out h rules a b p q x y
+
+same_told : (h : List events.Event) (rules : List Rule) (a b : Answer) → (IsWriteFault a → ⊥) → (IsWriteFault b → ⊥) → IsTold h rules a → IsTold h rules b → a ≡ b
+same_told h [] a b p q x y = x ∙ sym y
+same_told h (rule ∷ rules) a b p q (inl x) (inl y) = x.1 ∙ sym y.1
+same_told h (rule ∷ rules) a b p q (inl x) (inr y) = absurd (no_text (rule ∷ rules) x.0 y.0)
+same_told h (rule ∷ rules) a b p q (inr x) (inl y) = absurd (no_text (rule ∷ rules) y.0 x.0)
+same_told h (rule ∷ rules) a b p q (inr x) (inr y) = same_told_by (tell_refusal h (rule ∷ rules)) (events.writer h) h (rule ∷ rules) a b p q x.1 y.1
+
+same_leave_by : (waits : Bool) (h : List events.Event) (k : ℕ) (j : Option ℕ) (a b : Answer) → (IsWriteFault a → ⊥) → (IsWriteFault b → ⊥) → IsLeaveBy waits h k j a → IsLeaveBy waits h k j b → a ≡ b
+same_leave_by true h k j a b p q x y = x ∙ sym y
+same_leave_by false h k j a b p q x y = same_told (gone_then j (events.Did k events.Gone ∷ h)) (leaving h k j) a b p q x y
+
+same_leave : (open_ : Bool) (h : List events.Event) (k j : Option ℕ) (a b : Answer) → (IsWriteFault a → ⊥) → (IsWriteFault b → ⊥) → IsLeaveOf open_ h k j a → IsLeaveOf open_ h k j b → a ≡ b
+same_leave false h k j a b p q x y = x ∙ sym y
+same_leave true h None j a b p q x y = x ∙ sym y
+same_leave true h (Some k) j a b p q x y = same_leave_by (close_waits h k j) h k j a b p q x y
+
+-- ---- a read
 
 same_open : (full stop : Bool) (bytes : List ℕ) (h : List events.Event) (a b : Answer)
     → IsReadOf None full (length (events.read h)) a → IsReadOf None full (length (events.read h)) b
@@ -67,10 +133,11 @@ same_answer setting es stop bytes lane words.Stream a b fa fb x y p q = x ∙ sy
 same_answer setting es stop bytes lane (words.Take number) a b fa fb x y p q = x ∙ sym y
 same_answer setting es stop bytes lane (words.TakeBefore number before) a b fa fb x y p q = x ∙ sym y
 same_answer setting es stop bytes lane (words.Clone number) a b fa fb x y p q = x ∙ sym y
-same_answer setting es stop bytes lane (words.Unstream number second) a b fa fb x y p q = x ∙ sym y
+same_answer setting es stop bytes lane (words.Unstream number second) a b fa fb x y p q = same_leave _ (trail setting es).events _ _ a b fa fb x y
 same_answer setting es stop bytes lane (words.Queue number limit) a b fa fb x y p q = x ∙ sym y
 same_answer setting es stop bytes lane (words.MainQueue limit) a b fa fb x y p q = x ∙ sym y
-same_answer setting es stop bytes lane (words.Open max_queued rule) a b fa fb x y p q = x ∙ sym y
+same_answer setting es stop bytes lane (words.Open max_queued rule) a b fa fb x y p q = same_opening (trail setting es) lane (rule_in_bytes rule) a b fa fb x y
+same_answer setting es stop bytes lane (words.Opened number) a b fa fb x y p q = x ∙ sym y
 same_answer setting es stop bytes lane words.Close a b fa fb x y p q = same_close a b fa fb x y
 
 -- what is known of the newest entry

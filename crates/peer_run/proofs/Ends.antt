@@ -1,40 +1,35 @@
 -- From what a run keeps to what it gives.
-use Rattle.std.proofs.Common.{◌≡◌, ℕ, refl, ◌-◌, ap, arith, Bool, false, IfSome, append-nil, sym, subst, List, [], map, reverse, Option, Some, None, Result, Ok, Err, IfOk}
+use Rattle.std.proofs.Common.{◌≡◌, ℕ, refl, arith, Bool, false, IfSome, append-nil, sym, subst, List, [], map, reverse, Option, Some, None, Result, Ok, Err, IfOk}
 use Rattle.peer_route.specs.Parcel.{Setting}
 use Rattle.peer_route.specs.declared.words.Command.{Command}
 use Rattle.peer_route.specs.declared.answer.Entry.{Entry}
-use Rattle.peer_route.specs.History.{Event, closing, put, is_failed}
+use Rattle.peer_route.specs.History.{Event, read, closing, put, is_failed}
 use Rattle.peer_route.specs.Trail.{trail, first_events}
 use Rattle.peer_route.specs.Told.{IsSentOf, WritesTold, ReadsTold, left_after}
-use Rattle.wire_framing.specs.Sink.{RoomFalls}
 use Rattle.wire_framing.specs.declared.write_half.Writing.{Writing}
-use Rattle.peer_script.specs.Script.{Script}
+use Rattle.peer_script.specs.Script.{Script, is_bus, name_of}
 use Rattle.peer_run.specs.Stands.{Inlet, Outlet, PeerView, Reads, Writes, Holds, HoldsThen, RoomFor, IsRest, setting_by}
 use Rattle.peer_run.specs.Runs.{Stands, Runs, command_of}
+use Rattle.peer_run.proofs.Quiet.{first_same}
+use Rattle.peer_run.proofs.Outlets.{falls_none}
 use Rattle.peer_run.specs.Program.{setting_of, source_bytes, source_breaks, IsRunOf}
 
 -- ---- before the first command
-
-rest_all : (left : Option (List ℕ)) (stop : Option Bool) → IfSome left (λ bytes. IsRest None (left_after bytes []) stop left stop)
-rest_all None stop = tt
-rest_all (Some bytes) stop = (refl, refl)
 
 told_nothing : (setting : Setting) (left : Option (List ℕ)) (stop : Option Bool) → IfSome left (λ bytes. ReadsTold setting stop bytes [])
 told_nothing setting None stop = tt
 told_nothing setting (Some bytes) stop = tt
 
-rest_first : (name : Option (List ℕ)) (queue : Option ℕ) (left : Option (List ℕ)) (stop : Option Bool)
-    → IfSome left (λ bytes. IsRest (closing (first_events name queue)) (left_after bytes (first_events name queue)) stop left stop)
-rest_first None None left stop = rest_all left stop
-rest_first None (Some limit) left stop = rest_all left stop
-rest_first (Some name) None left stop = rest_all left stop
-rest_first (Some name) (Some limit) left stop = rest_all left stop
+rest_none : (h : List Event) (left : Option (List ℕ)) (stop : Option Bool) → closing h ≡ None → read h ≡ [] → IfSome left (λ bytes. IsRest (closing h) (left_after bytes h) stop left stop)
+rest_none h None stop c r = tt
+rest_none h (Some bytes) stop c r = rw (c, r) (refl, refl)
 
 -- nothing was read
 pub start_reads : (setting : Setting) (start : Inlet) → Reads setting start start []
 start_reads setting start = record {
   told = told_nothing setting start.left start.stop;
-  rest = rest_first setting.name setting.queue start.left start.stop;
+  rest = rest_none (first_events setting.bus setting.name setting.queue) start.left start.stop (first_same setting.bus setting.name setting.queue).closing
+      (first_same setting.bus setting.name setting.queue).read;
   cause = λ f. absurd f;
   kept = omega arith;
 }
@@ -44,35 +39,20 @@ writes_nothing None = tt
 writes_nothing (Some None) = refl
 writes_nothing (Some (Some k)) = omega arith
 
-holds_same_still : (room : Option (Option ℕ)) (held : Option (List ℕ)) → IfSome held (λ before. HoldsThen room before held [])
-holds_same_still room None = tt
-holds_same_still room (Some before) = record { sent = []; appended = sym (append-nil before); bytes = refl; told = writes_nothing room }
+holds_none : (h : List Event) (room : Option (Option ℕ)) (held : Option (List ℕ)) → is_failed h ≡ false → put h ≡ [] → IfSome held (λ before. HoldsThen room before held h)
+holds_none h room None f p = tt
+holds_none h room (Some before) f p = record { sent = []; appended = sym (append-nil before); bytes = rw (f, p) refl; told = rw (f, p) (writes_nothing room) }
 
-room_still : (room : Option (Option ℕ)) → RoomFalls room room 0
-room_still None = tt
-room_still (Some None) = refl
-room_still (Some (Some k)) = (omega arith, let e : k ≡ k - 0 = omega arith in ap (λ n. Some (Some n)) e)
-
-holds_first : (name : Option (List ℕ)) (queue : Option ℕ) (room : Option (Option ℕ)) (held : Option (List ℕ)) → IfSome held (λ before. HoldsThen room before held (first_events name queue))
-holds_first None None room held = holds_same_still room held
-holds_first None (Some limit) room None = tt
-holds_first None (Some limit) room (Some before) = record { sent = []; appended = sym (append-nil before); bytes = refl; told = writes_nothing room }
-holds_first (Some name) None room None = tt
-holds_first (Some name) None room (Some before) = record { sent = []; appended = sym (append-nil before); bytes = refl; told = writes_nothing room }
-holds_first (Some name) (Some limit) room None = tt
-holds_first (Some name) (Some limit) room (Some before) = record { sent = []; appended = sym (append-nil before); bytes = refl; told = writes_nothing room }
-
-room_first : (name : Option (List ℕ)) (queue : Option ℕ) (room : Option (Option ℕ)) → RoomFor (is_failed (first_events name queue)) room room (put (first_events name queue))
-room_first None None room = room_still room
-room_first None (Some limit) room = room_still room
-room_first (Some name) None room = room_still room
-room_first (Some name) (Some limit) room = room_still room
+room_none : (h : List Event) (room : Option (Option ℕ)) → is_failed h ≡ false → put h ≡ [] → RoomFor (is_failed h) room room (put h)
+room_none h room f p = rw (f, p) (falls_none room)
 
 -- nothing was written
 pub start_writes : (setting : Setting) (start : Outlet) → Writes setting start start []
 start_writes setting start = record {
-  holds = holds_first setting.name setting.queue start.room start.held;
-  room = room_first setting.name setting.queue start.room;
+  holds = holds_none (first_events setting.bus setting.name setting.queue) start.room start.held (first_same setting.bus setting.name setting.queue).failed
+      (first_same setting.bus setting.name setting.queue).put;
+  room = room_none (first_events setting.bus setting.name setting.queue) start.room (first_same setting.bus setting.name setting.queue).failed
+      (first_same setting.bus setting.name setting.queue).put;
   closes = tt;
   tells = λ there. there;
   cause = λ f. absurd f;
@@ -103,11 +83,11 @@ sent_of room held h w =
 pub run_of : (start_in : Inlet) (start_out : Outlet) (end_in : Inlet) (end_out : Outlet) (s : Script) (takes : Bool) (entries : List Entry) (held : List ℕ)
     → start_in.left ≡ Some (source_bytes s.given) → start_in.stop ≡ Some (source_breaks s.given)
     → start_out.held ≡ Some [] → start_out.room ≡ Some s.outfault → end_out.held ≡ Some held → takes ≡ s.fds
-    → Runs (setting_by s.name s.queue takes) start_in start_out end_in end_out s.commands entries → IsRunOf s entries held
+    → Runs (setting_by (is_bus s.kind) (name_of s.kind) s.queue takes) start_in start_out end_in end_out s.commands entries → IsRunOf s entries held
 run_of start_in start_out end_in end_out s takes entries held left stop before room after fds run =
     let h = (trail (setting_of s) (reverse entries)).events in
     let r : Runs (setting_of s) start_in start_out end_in end_out s.commands entries =
-    subst (λ b. Runs (setting_by s.name s.queue b) start_in start_out end_in end_out s.commands entries) fds run in
+    subst (λ b. Runs (setting_by (is_bus s.kind) (name_of s.kind) s.queue b) start_in start_out end_in end_out s.commands entries) fds run in
     let reads = rw (left, stop) at r.reads in
     let writes = rw (before, room, after) at r.writes in
     let w = sent_of s.outfault held h writes in
@@ -121,9 +101,9 @@ run_of start_in start_out end_in end_out s takes entries held left stop before r
       closes = closes;
     }
 
+-- ---- from command to command
+
 -- three facts of one outcome
 pub if_ok3 : {A E : Type 0} (r : Result A E) (P Q R S : A → Type 0) → ((a : A) → P a → Q a → R a → S a) → IfOk r P → IfOk r Q → IfOk r R → IfOk r S
 if_ok3 (Ok a) P Q R S f p q r = f a p q r
 if_ok3 (Err e) P Q R S f p q r = tt
-
--- ---- from command to command

@@ -1,130 +1,322 @@
--- Streams are closed by a command, of a peer that stands on no bus: nothing is told to one, and nothing has to wait.
-use Rattle.std.proofs.Common.{◌≡◌, ℕ, refl, sym, ◌∙◌, ap, subst, true, false, ◌&&◌, ◌||◌, not, is_none, if◌then◌else◌, List, [], ◌∷◌, ◌++◌, Option, Some, None, Result, Ok, Err}
-use Rattle.std.specs.List.{slice_get}
-use Rattle.std.proofs.lemmas.Bool.{false≢true}
-use Rattle.wire_signature.specs.declared.error.VariantError.TheVariants as faults
+-- Streams are closed by a command, and the bus is told, or isn't: one entry more.
+use Rattle.std.proofs.Common.{◌≡◌, ℕ, ◌+◌, refl, sym, ◌∙◌, ap, subst, arith, Bool, true, List, [], ◌∷◌, ◌++◌, length, length-append, map, Option, Some, None}
+use Rattle.std.proofs.lemmas.List.{append-nil}
 use Rattle.wire_message.specs.declared.error.Error.{Error}
-use Rattle.wire_message.specs.declared.error.Error.TheVariants as errors
-use Rattle.wire_message.specs.declared.error.IoKind.TheVariants as kinds
+use Rattle.wire_framing.specs.declared.write_half.Writing.{Writing}
 use Rattle.rule_match.specs.Rule.{Rule}
+use Rattle.peer_route.specs.Parcel.{Setting}
+use Rattle.peer_route.specs.declared.words.Words.{Words}
 use Rattle.peer_route.specs.declared.words.Words.TheVariants as words
+use Rattle.peer_route.specs.declared.answer.Answer.{Answer}
 use Rattle.peer_route.specs.declared.answer.Answer.TheVariants as answers
 use Rattle.peer_route.specs.declared.answer.Entry.{Entry}
-use Rattle.peer_route.specs.declared.leaving.Spent.TheVariants as spent
-use Rattle.peer_route.specs.declared.streams.MessageStream.{MessageStream}
-use Rattle.peer_route.specs.History.{Event, Did, Gone, on_bus, in_flight, closing}
-use Rattle.peer_route.specs.Streams.{streams, rule_of, is_subscribed, may_be_signal, leaves_by, leaving, has_rule, has_rule_at, close_waits, are_open, known, close_answer, close_events}
-use Rattle.peer_route.specs.Leaving.{TellsBus, some_rules, gone_both, ClosesStreams}
+use Rattle.peer_route.specs.History.{Event, Did, Gone, Wrote, Fault}
+use Rattle.peer_route.specs.History as events
+use Rattle.peer_route.specs.Streams.{all_given, are_open, leaving, gone_then}
+use Rattle.peer_route.specs.BusCall.{some_rules}
+use Rattle.peer_route.specs.Trail.{Trail, trail, place, second_place, removals, wrote_each, fault_each, wrote_first, unstream_does, leave_names, made_streams}
+use Rattle.peer_route.specs.Answers.{IsAnswer, IsLeaveOf, IsTold, are_open_at, write_fault, first_fault}
+use Rattle.peer_route.specs.Told.{ReadTold}
+use Rattle.peer_route.specs.StreamLaws.{tellings}
+use Rattle.peer_route.specs.Leaving.{MayClose}
 use Rattle.peer_route.specs.Left.{View, Left}
-use Rattle.peer_route.specs.Parcel.{Setting}
-use Rattle.peer_route.specs.Trail.{trail, place}
-use Rattle.peer_run.specs.Stands.{PeerView, Follows, entry}
-use Rattle.peer_run.proofs.NoBus.{none_bus, none_flies}
-use Rattle.peer_run.proofs.ChangeStep.{forgotten, follows_one, follows_two}
+use Rattle.peer_route.proofs.Given.{given_gone, given_gone_both}
+use Rattle.peer_route.proofs.Closings.{one_open, two_open}
+use Rattle.peer_route.proofs.Tellings.{leave_parts}
+use Rattle.peer_run.specs.Stands.{PeerView, Inlet, Outlet, Follows, Reads, IsFine, IsReadFault, entry}
+use Rattle.peer_run.specs.Tells.{forgotten, Tells}
+use Rattle.peer_route.proofs.Tellings.{removals_put}
+use Rattle.peer_run.proofs.Telling.{IsPut, told_all, told_none, told_first, Keeps, keeps_then, removals_keep, removals_done, tellings_long, tellings_each, wrote_keeps, wrote_put, wrote_done, fault_keeps, fault_put, fault_done}
+use Rattle.peer_run.proofs.ChangeStep.{here}
+use Rattle.peer_run.proofs.Quiet.{follows_more}
+use Rattle.peer_run.proofs.Kept.{reads_kept}
 
--- they are closed
-abbrev pub gone_ok : Result (Unit {0}) Error
-gone_ok = Ok tt
+-- ---- the streams that the command names
 
--- ---- without a bus
+-- A command that closes streams: its lane, the number or the two that it names, and which streams those are.
+pub record Leave : Type 0 where
+  pub lane : ℕ
+  pub number : ℕ
+  pub second : Option ℕ
+  pub k : ℕ
+  pub j : Option ℕ
 
-leaves_none : (h : List Event) (o : Option Rule) → on_bus h ≡ false → leaves_by h o ≡ []
-leaves_none h None none = refl
-leaves_none h (Some rule) none =
-    ap (λ b. if b && (is_none (closing h) && (may_be_signal rule.kind && not (is_subscribed h rule))) then rule ∷ [] else []) none
+abbrev pub word : Leave → Words
+word c = words.Unstream c.number c.second
 
-leaving_none : (h : List Event) (k : ℕ) (o : Option ℕ) → on_bus h ≡ false → leaving h k o ≡ []
-unfolding leaving
-leaving_none h k None none = leaves_none (Did k Gone ∷ h) (rule_of (slice_get (streams (Did k Gone ∷ h)) k)) none
-leaving_none h k (Some j) none =
-    ap (λ rs. rs ++ leaves_by (Did j Gone ∷ Did k Gone ∷ h) (rule_of (slice_get (streams (Did j Gone ∷ Did k Gone ∷ h)) j))) (leaves_none (Did k Gone ∷ h) (rule_of (slice_get (streams (Did k Gone ∷ h)) k)) none)
-    ∙ leaves_none (Did j Gone ∷ Did k Gone ∷ h) (rule_of (slice_get (streams (Did j Gone ∷ Did k Gone ∷ h)) j)) none
+-- the entry with this answer
+abbrev pub left_entry : Leave → Answer → Entry
+left_entry c a = entry c.lane (word c) a
 
-waits_none : (h : List Event) (k : ℕ) (o : Option ℕ) → in_flight h ≡ false → close_waits h k o ≡ false
-unfolding close_waits
-waits_none h k o none = ap (λ b. b && (has_rule h k || has_rule_at h o)) none
+-- the history once the streams are closed
+abbrev pub gone : List Event → Leave → List Event
+gone h c = gone_then c.j (Did c.k Gone ∷ h)
 
-gone_left : (v : View) (h : List Event) (k : ℕ) (o : Option ℕ) → Left v (gone_both k o h) → Left v (close_events k o gone_ok ++ h)
-gone_left v h k None left = left
-gone_left v h k (Some j) left = left
+-- the rules of which the bus is to be told
+abbrev pub rules_of : List Event → Leave → List Rule
+rules_of h c = leaving h c.k c.j
 
--- ---- what closing gives then
+-- the history once it was, and before the messages are written
+abbrev pub told_of : List Event → Leave → List Rule → List Event
+told_of h c rules = removals (gone h c) rules ++ gone h c
 
-gone_known : (old new : View) (k : ℕ) (o last : Option ℕ) (h : List Event) → ClosesStreams old new k o h (spent.Gone last) → on_bus h ≡ false
-    → (Ok tt ≡ close_answer h k o) × Left new (close_events k o gone_ok ++ h)
-unfolding close_answer
-gone_known old new k o last h x none =
-    let y = subst (λ rs. TellsBus new (gone_both k o h) rs (Ok last)) (leaving_none h k o none) x.1 in
-    (ap known (sym x.0.0), gone_left new h k o y.5)
+-- what the lane's number, or two, name
+pub record Named (t : Trail) (c : Leave) : Type 0 where
+  pub first : place 0 c.lane c.number t.streams ≡ Some c.k
+  pub other : second_place c.lane c.second t.streams ≡ c.j
+  pub both : are_open_at t.events c.lane t.streams c.number c.second ≡ are_open t.events c.k c.j
 
-none_told : (new : View) (g : List Event) (error : Error) → TellsBus new g [] (Err error) → ⊥
-none_told new g errors.SerialsSpent x = x.0
-none_told new g errors.ExcessData x = x.0.2
-none_told new g (errors.InputOutput kinds.WriteFault) x = let e : false ≡ true = x.0.0 in cc
-none_told new g (errors.InputOutput kinds.Closed) x = let e : false ≡ true = x.0.0 in cc
-none_told new g (errors.Variant faults.Malformed) x = x.0
-none_told new g other x = x
+-- the lane's number names the same stream by the history
+pub one_named : (setting : Setting) (p : PeerView) (es : List Entry) (lane number k : ℕ) → Follows setting p es → place 0 lane number p.streams ≡ Some k
+    → Named (trail setting es) (record { lane = lane; number = number; second = None; k = k; j = None })
+one_named setting p es lane number k f at =
+    let t = trail setting es in
+    let first = here setting p es lane number (Some k) f at in
+    record { first = first; other = refl; both = one_open t.events lane t.streams number k first }
 
-over_by : (old new : View) (k : ℕ) (o : Option ℕ) (h : List Event) (error : Error) → ClosesStreams old new k o h (spent.Over error) → leaving h k o ≡ []
-    → (error ≡ errors.UnknownHandle) × (are_open h k o ≡ false) × (new ≡ old)
-over_by old new k o h errors.UnknownHandle x none = (refl, x.0, x.1)
-over_by old new k o h errors.Memory x none = absurd x
-over_by old new k o h error x none = absurd (none_told new (gone_both k o h) error (subst (λ rs. TellsBus new (gone_both k o h) rs (Err error)) none x.1))
+pub two_named : (setting : Setting) (p : PeerView) (es : List Entry) (lane number second k j : ℕ) → Follows setting p es → place 0 lane number p.streams ≡ Some k
+    → place 0 lane second p.streams ≡ Some j → Named (trail setting es) (record { lane = lane; number = number; second = Some second; k = k; j = Some j })
+two_named setting p es lane number second k j f at at₂ =
+    let t = trail setting es in
+    let first = here setting p es lane number (Some k) f at in
+    let other = here setting p es lane second (Some j) f at₂ in
+    record { first = first; other = other; both = two_open t.events lane t.streams number second k j first other }
 
-over_known : (old new : View) (k : ℕ) (o : Option ℕ) (h : List Event) (error : Error) → ClosesStreams old new k o h (spent.Over error) → on_bus h ≡ false
-    → (error ≡ errors.UnknownHandle) × (Err errors.UnknownHandle ≡ close_answer h k o) × (new ≡ old)
-unfolding close_answer
-over_known old new k o h error x none =
-    let y = over_by old new k o h error x (leaving_none h k o none) in
-    (y.0, ap known (sym y.1), y.2)
+-- the answer, by what the core gave
+pub leaves_by : (t : Trail) (c : Leave) (a : Answer) → Named t c → IsLeaveOf (are_open t.events c.k c.j) t.events (Some c.k) c.j a → IsAnswer t c.lane (word c) a
+leaves_by t c a n is =
+    subst (λ b. IsLeaveOf b t.events (place 0 c.lane c.number t.streams) (second_place c.lane c.second t.streams) a) (sym n.both)
+    (subst (λ o. IsLeaveOf (are_open t.events c.k c.j) t.events o (second_place c.lane c.second t.streams) a) (sym n.first)
+    (subst (λ o. IsLeaveOf (are_open t.events c.k c.j) t.events (Some c.k) o a) (sym n.other) is))
 
-back_by : (old new : View) (k : ℕ) (o : Option ℕ) (h : List Event) (s : MessageStream) (t : Option MessageStream) (error : Error) → ClosesStreams old new k o h (spent.Back s t error)
-    → close_waits h k o ≡ false → leaving h k o ≡ [] → ⊥
-back_by old new k o h s t errors.Busy x idle none = false≢true (sym idle ∙ x.1)
-back_by old new k o h s t errors.Memory x idle none = false≢true (ap some_rules (sym none) ∙ x.1)
-back_by old new k o h s t error x idle none = x
+pub may_leave : (h : List Event) (c : Leave) (a : Answer) → MayClose h c.k c.j → IsTold (gone h c) (rules_of h c) a → IsLeaveOf (are_open h c.k c.j) h (Some c.k) c.j a
+may_leave h c a may told = rw (may.0, may.1) told
 
--- ---- the steps
+-- its events
+pub leaves_events : (setting : Setting) (es : List Entry) (c : Leave) (a : Answer) → Named (trail setting es) c
+    → (trail setting (left_entry c a ∷ es)).events ≡ unstream_does (trail setting es).events (Some c.k) c.j a ++ (trail setting es).events
+leaves_events setting es c a n =
+    let t = trail setting es in
+    ap (λ o. unstream_does t.events o (second_place c.lane c.second t.streams) a ++ t.events) n.first
+    ∙ ap (λ o. unstream_does t.events (Some c.k) o a ++ t.events) n.other
 
-pub one_gone : (setting : Setting) (p q : PeerView) (es : List Entry) (lane number k : ℕ) (last : Option ℕ) → Follows setting p es → place 0 lane number p.streams ≡ Some k
-    → ((h : List Event) → Left p.core h → ClosesStreams p.core q.core k None h (spent.Gone last))
-    → q.names ≡ p.names → q.streams ≡ p.streams → q.given ≡ forgotten k None gone_ok p.given
-    → Follows setting q (entry lane (words.Unstream number None) answers.Gone ∷ es)
-one_gone setting p q es lane number k last f named said names same given =
-    let g = gone_known p.core q.core k None last (trail setting es).events (said (trail setting es).events f.left) (none_bus setting es) in
-    follows_one setting p q es lane number k (Ok tt) f named g.0 names same given g.1
+-- whose its calls are
+pub leaves_names : (t : Trail) (c : Leave) (a : Answer) → Named t c
+    → leave_names t.events (place 0 c.lane c.number t.streams) (second_place c.lane c.second t.streams) a ≡ leave_names t.events (Some c.k) c.j a
+leaves_names t c a n =
+    ap (λ o. leave_names t.events o (second_place c.lane c.second t.streams) a) n.first ∙ ap (λ o. leave_names t.events (Some c.k) o a) n.other
 
-pub two_gone : (setting : Setting) (p q : PeerView) (es : List Entry) (lane number second k j : ℕ) (last : Option ℕ) → Follows setting p es → place 0 lane number p.streams ≡ Some k
-    → place 0 lane second p.streams ≡ Some j → ((h : List Event) → Left p.core h → ClosesStreams p.core q.core k (Some j) h (spent.Gone last))
-    → q.names ≡ p.names → q.streams ≡ p.streams → q.given ≡ forgotten k (Some j) gone_ok p.given
-    → Follows setting q (entry lane (words.Unstream number (Some second)) answers.Gone ∷ es)
-two_gone setting p q es lane number second k j last f named named₂ said names same given =
-    let g = gone_known p.core q.core k (Some j) last (trail setting es).events (said (trail setting es).events f.left) (none_bus setting es) in
-    follows_two setting p q es lane number second k j (Ok tt) f named named₂ g.0 names same given g.1
+pub unstream_told : (h : List Event) (number : ℕ) (second : Option ℕ) (stop : Option Bool) (bytes : List ℕ) (closing : Option Error) (a : Answer) → ReadTold stop bytes h closing (words.Unstream number second) a
+unstream_told h number second stop bytes None a = tt
+unstream_told h number second stop bytes (Some error) a = tt
 
-pub one_over : (setting : Setting) (p q : PeerView) (es : List Entry) (lane number k : ℕ) (error : Error) → Follows setting p es → place 0 lane number p.streams ≡ Some k
-    → ((h : List Event) → Left p.core h → ClosesStreams p.core q.core k None h (spent.Over error))
-    → q.names ≡ p.names → q.streams ≡ p.streams → q.given ≡ p.given
-    → Follows setting q (entry lane (words.Unstream number None) (answers.Refused error) ∷ es)
-one_over setting p q es lane number k error f named said names same given =
+-- ---- streams that are closed
+
+-- what closing them leaves as it was
+pub record IsGone (g h : List Event) : Type 0 where
+  pub read : events.read g ≡ events.read h
+  pub closing : events.closing g ≡ events.closing h
+  pub put : events.put g ≡ events.put h
+  pub done : events.done g ≡ events.done h
+  pub failed : events.is_failed g ≡ events.is_failed h
+  pub writer : events.writer g ≡ events.writer h
+
+gone_by : (h : List Event) (k : ℕ) (j : Option ℕ) → IsGone (gone_then j (Did k Gone ∷ h)) h
+gone_by h k None = record { read = refl; closing = refl; put = refl; done = refl; failed = refl; writer = refl }
+gone_by h k (Some j) = record { read = refl; closing = refl; put = refl; done = refl; failed = refl; writer = refl }
+
+pub gone_is : (h : List Event) (c : Leave) → IsGone (gone h c) h
+gone_is h c = gone_by h c.k c.j
+
+given_by : (h : List Event) (k : ℕ) (j : Option ℕ) → all_given (gone_then j (Did k Gone ∷ h)) ≡ forgotten k j (all_given h)
+given_by h k None = given_gone h k
+given_by h k (Some j) = given_gone_both h k j
+
+pub gone_given : (h : List Event) (c : Leave) → all_given (gone h c) ≡ forgotten c.k c.j (all_given h)
+gone_given h c = given_by h c.k c.j
+
+-- ---- the bus is told
+
+-- what the writes of so many messages leave
+record AreWrites (xs : List Event) (n : ℕ) : Type 0 where
+  keeps : (h : List Event) → Keeps (xs ++ h) h
+  put : (h : List Event) → events.put (xs ++ h) ≡ events.put h
+  done : (h : List Event) → events.done (xs ++ h) ≡ events.done h + n
+
+wrote_are : (rules : List Rule) → AreWrites (wrote_each rules) (length rules)
+wrote_are rules = record { keeps = wrote_keeps rules; put = wrote_put rules; done = wrote_done rules }
+
+fault_are : (rules : List Rule) → AreWrites (fault_each rules) (length rules)
+fault_are rules = record { keeps = fault_keeps rules; put = fault_put rules; done = fault_done rules }
+
+first_are : (rule other : Rule) → AreWrites (Fault ∷ Wrote ∷ []) (length (rule ∷ other ∷ []))
+first_are rule other = record {
+  keeps = λ h. keeps_then (Fault ∷ Wrote ∷ h) (Wrote ∷ h) h (fault_keeps (other ∷ []) (Wrote ∷ h)) (wrote_keeps (rule ∷ []) h);
+  put = λ h. refl;
+  done = λ h. omega arith;
+}
+
+-- An entry that closes streams, and by which the bus is told of these rules.
+pub record Leaves (setting : Setting) (p r : PeerView) (es : List Entry) (c : Leave) (a : Answer) (xs : List Event) (rules : List Rule) : Type 0 where
+  named : Named (trail setting es) c
+  follows : Follows setting p es
+  may : MayClose (trail setting es).events c.k c.j
+  told : IsTold (gone (trail setting es).events c) rules a
+  is : rules_of (trail setting es).events c ≡ rules
+  writes : AreWrites xs (length rules)
+  does : unstream_does (trail setting es).events (Some c.k) c.j a ++ (trail setting es).events ≡ xs ++ told_of (trail setting es).events c rules
+  makes : leave_names (trail setting es).events (Some c.k) c.j a ≡ map (λ rule. None) rules
+  none : made_streams c.lane a ≡ []
+  left : Left r.core (xs ++ told_of (trail setting es).events c rules)
+  names : r.names ≡ p.names ++ map (λ m. None) (tellings (gone (trail setting es).events c) rules)
+  streams : r.streams ≡ p.streams
+  given : r.given ≡ forgotten c.k c.j p.given
+
+-- what it leaves
+record LeftAt (x h : List Event) (c : Leave) (rules : List Rule) : Type 0 where
+  read : events.read x ≡ events.read h
+  closing : events.closing x ≡ events.closing h
+  given : all_given x ≡ forgotten c.k c.j (all_given h)
+  put : events.put x ≡ events.put h ++ tellings (gone h c) rules
+  done : events.done x ≡ events.done h + length rules
+
+left_at : (h : List Event) (c : Leave) (rules : List Rule) (xs : List Event) → AreWrites xs (length rules) → LeftAt (xs ++ told_of h c rules) h c rules
+left_at h c rules xs w =
+    let g = gone h c in
+    let t = told_of h c rules in
+    let a = w.keeps t in
+    let b = removals_keep g rules in
+    let z = gone_is h c in
+    record {
+      read = a.read ∙ b.read ∙ z.read;
+      closing = a.closing ∙ b.closing ∙ z.closing;
+      given = a.given ∙ b.given ∙ gone_given h c;
+      put = w.put t ∙ removals_put g rules ∙ ap (λ ms. ms ++ tellings g rules) z.put;
+      done = w.done t ∙ ap (λ n. n + length rules) (removals_done g rules ∙ z.done);
+    }
+
+pub leaves_trail : (setting : Setting) (p r : PeerView) (es : List Entry) (c : Leave) (a : Answer) (xs : List Event) (rules : List Rule) → Leaves setting p r es c a xs rules
+    → (trail setting (left_entry c a ∷ es)).events ≡ xs ++ told_of (trail setting es).events c rules
+leaves_trail setting p r es c a xs rules x = leaves_events setting es c a x.named ∙ x.does
+
+pub leaves_follow : (setting : Setting) (p r : PeerView) (es : List Entry) (c : Leave) (a : Answer) (xs : List Event) (rules : List Rule) → Leaves setting p r es c a xs rules
+    → Follows setting r (left_entry c a ∷ es)
+leaves_follow setting p r es c a xs rules x =
+    let t = trail setting es in
+    let h = t.events in
+    let g = gone h c in
+    let f = x.follows in
+    let at = left_at h c rules xs x.writes in
+    let reads : r.core.read ≡ p.core.read = x.left.read ∙ ap length at.read ∙ sym f.left.read in
+    let did : r.core.done ≡ events.done h + length rules = x.left.done ∙ at.done in
+    let all : events.done h ≡ length (events.put h) = sym f.left.done ∙ f.written ∙ ap length f.left.outbox in
+    let long : length r.core.outbox ≡ length (events.put h) + length (tellings g rules) = ap length (x.left.outbox ∙ at.put) ∙ length-append (events.put h) (tellings g rules) in
+    let each = tellings_long g rules in
+    follows_more setting r es (left_entry c a) (xs ++ told_of h c rules) (leaves_trail setting p r es c a xs rules x) x.left
+    (x.names ∙ ap (λ ns. ns ++ map (λ m. None) (tellings g rules)) f.names
+    ∙ ap (λ ns. t.names ++ ns) (tellings_each None g rules ∙ sym (leaves_names t c a x.named ∙ x.makes)))
+    (x.streams ∙ f.streams ∙ sym (append-nil t.streams) ∙ ap (λ ns. t.streams ++ ns) (sym x.none))
+    (x.given ∙ ap (forgotten c.k c.j) f.given ∙ sym at.given) f.legal
+    (leaves_by t c a x.named (may_leave h c a x.may (subst (λ rs. IsTold g rs a) (sym x.is) x.told)))
+    (rw reads f.within)
+    (omega (arith, did, all, long, each))
+
+pub leaves_read : (setting : Setting) (p r : PeerView) (es : List Entry) (c : Leave) (a : Answer) (xs : List Event) (rules : List Rule) → Leaves setting p r es c a xs rules → (IsReadFault a → ⊥)
+    → (start now : Inlet) → Reads setting start now es → Reads setting start now (left_entry c a ∷ es)
+leaves_read setting p r es c a xs rules x never start now reads =
     let h = (trail setting es).events in
-    let x = over_known p.core q.core k None h error (said h f.left) (none_bus setting es) in
-    subst (λ e. Follows setting q (entry lane (words.Unstream number None) (answers.Refused e) ∷ es)) (sym x.0)
-    (follows_one setting p q es lane number k (Err errors.UnknownHandle) f named x.1 names same given (subst (λ v. Left v h) (sym x.2) f.left))
+    let at = left_at h c rules xs x.writes in
+    let same = leaves_trail setting p r es c a xs rules x in
+    reads_kept setting start now es c.lane (word c) a (ap events.read same ∙ at.read) (ap events.closing same ∙ at.closing)
+    (λ stop bytes. unstream_told h c.number c.second stop bytes (events.closing h) a) (λ f. absurd (never f)) reads
 
-pub two_over : (setting : Setting) (p q : PeerView) (es : List Entry) (lane number second k j : ℕ) (error : Error) → Follows setting p es → place 0 lane number p.streams ≡ Some k
-    → place 0 lane second p.streams ≡ Some j → ((h : List Event) → Left p.core h → ClosesStreams p.core q.core k (Some j) h (spent.Over error))
-    → q.names ≡ p.names → q.streams ≡ p.streams → q.given ≡ p.given
-    → Follows setting q (entry lane (words.Unstream number (Some second)) (answers.Refused error) ∷ es)
-two_over setting p q es lane number second k j error f named named₂ said names same given =
-    let h = (trail setting es).events in
-    let x = over_known p.core q.core k (Some j) h error (said h f.left) (none_bus setting es) in
-    subst (λ e. Follows setting q (entry lane (words.Unstream number (Some second)) (answers.Refused e) ∷ es)) (sym x.0)
-    (follows_two setting p q es lane number second k j (Err errors.UnknownHandle) f named named₂ x.1 names same given (subst (λ v. Left v h) (sym x.2) f.left))
+-- what it puts
+pub leaves_put : (setting : Setting) (p r : PeerView) (es : List Entry) (c : Leave) (a : Answer) (xs : List Event) (rules : List Rule) → Leaves setting p r es c a xs rules
+    → events.put (trail setting (left_entry c a ∷ es)).events ≡ events.put (trail setting es).events ++ tellings (gone (trail setting es).events c) rules
+leaves_put setting p r es c a xs rules x =
+    let at = left_at (trail setting es).events c rules xs x.writes in
+    ap events.put (leaves_trail setting p r es c a xs rules x) ∙ at.put
 
--- no stream is handed back
-pub back_never : (setting : Setting) (p : PeerView) (new : View) (es : List Entry) (k : ℕ) (o : Option ℕ) (s : MessageStream) (t : Option MessageStream) (error : Error) → Follows setting p es
-    → ((h : List Event) → Left p.core h → ClosesStreams p.core new k o h (spent.Back s t error)) → ⊥
-back_never setting p new es k o s t error f said =
+-- ---- how it ends
+
+-- What the core closed and put, and what became of the messages.
+pub record Closed (setting : Setting) (p r : PeerView) (v : View) (es : List Entry) (c : Leave) (last : Option ℕ) (now after : Outlet) (before writing : Writing) (a : Answer) : Type 0 where
+  pub named : Named (trail setting es) c
+  pub follows : Follows setting p es
+  pub fine : IsFine (trail setting es).events before
+  pub may : MayClose (trail setting es).events c.k c.j
+  pub is : IsPut v (gone (trail setting es).events c) (rules_of (trail setting es).events c) last
+  pub names : r.names ≡ p.names ++ map (λ m. None) (tellings (gone (trail setting es).events c) (rules_of (trail setting es).events c))
+  pub streams : r.streams ≡ p.streams
+  pub given : r.given ≡ forgotten c.k c.j p.given
+  pub tells : Tells v r.core last (tellings (gone (trail setting es).events c) (rules_of (trail setting es).events c)) now after before writing a
+
+-- all went out, or there was none
+pub all_leaves : (setting : Setting) (p r : PeerView) (v : View) (es : List Entry) (c : Leave) (last : Option ℕ) (now after : Outlet) (before writing : Writing) (a : Answer)
+    → Closed setting p r v es c last now after before writing a
+    → Left r.core (wrote_each (rules_of (trail setting es).events c) ++ told_of (trail setting es).events c (rules_of (trail setting es).events c))
+    → Leaves setting p r es c (answers.Gone last) (wrote_each (rules_of (trail setting es).events c)) (rules_of (trail setting es).events c)
+all_leaves setting p r v es c last now after before writing a x left =
     let h = (trail setting es).events in
-    back_by p.core new k o h s t error (said h f.left) (waits_none h k o (none_flies setting es)) (leaving_none h k o (none_bus setting es))
+    record {
+      named = x.named;
+      follows = x.follows;
+      may = x.may;
+      told = told_all v (gone h c) (rules_of h c) last x.is;
+      is = refl;
+      writes = wrote_are (rules_of h c);
+      does = leave_parts wrote_each h c.k c.j;
+      makes = refl;
+      none = refl;
+      left = left;
+      names = x.names;
+      streams = x.streams;
+      given = x.given;
+    }
+
+-- none did
+pub none_leaves : (setting : Setting) (p r : PeerView) (v : View) (es : List Entry) (c : Leave) (last : Option ℕ) (now after : Outlet) (before writing : Writing) (a : Answer)
+    → Closed setting p r v es c last now after before writing a → some_rules (rules_of (trail setting es).events c) ≡ true
+    → Left r.core (fault_each (rules_of (trail setting es).events c) ++ told_of (trail setting es).events c (rules_of (trail setting es).events c))
+    → Leaves setting p r es c write_fault (fault_each (rules_of (trail setting es).events c)) (rules_of (trail setting es).events c)
+none_leaves setting p r v es c last now after before writing a x some left =
+    let h = (trail setting es).events in
+    record {
+      named = x.named;
+      follows = x.follows;
+      may = x.may;
+      told = told_none v (gone h c) (rules_of h c) last x.is some;
+      is = refl;
+      writes = fault_are (rules_of h c);
+      does = leave_parts fault_each h c.k c.j;
+      makes = refl;
+      none = refl;
+      left = left;
+      names = x.names;
+      streams = x.streams;
+      given = x.given;
+    }
+
+-- only the first did
+pub first_leaves : (setting : Setting) (p r : PeerView) (v : View) (es : List Entry) (c : Leave) (last : Option ℕ) (now after : Outlet) (before writing : Writing) (a : Answer) (rule other : Rule)
+    → Closed setting p r v es c last now after before writing a → rules_of (trail setting es).events c ≡ rule ∷ other ∷ []
+    → Left r.core (Fault ∷ Wrote ∷ told_of (trail setting es).events c (rule ∷ other ∷ []))
+    → Leaves setting p r es c first_fault (Fault ∷ Wrote ∷ []) (rule ∷ other ∷ [])
+first_leaves setting p r v es c last now after before writing a rule other x two left =
+    let h = (trail setting es).events in
+    let g = gone h c in
+    record {
+      named = x.named;
+      follows = x.follows;
+      may = x.may;
+      told = told_first v g rule other [] last (subst (λ rs. IsPut v g rs last) two x.is);
+      is = two;
+      writes = first_are rule other;
+      does = leave_parts wrote_first h c.k c.j ∙ ap (λ rs. wrote_first rs ++ told_of h c rs) two;
+      makes = ap (λ rs. map (λ rule. None) rs) two;
+      none = refl;
+      left = left;
+      names = x.names ∙ ap (λ rs. p.names ++ map (λ m. None) (tellings g rs)) two;
+      streams = x.streams;
+      given = x.given;
+    }

@@ -17,7 +17,7 @@ use Rattle.peer_route.specs.declared.answer.Answer.{Answer}
 use Rattle.peer_route.specs.declared.answer.Answer.TheVariants as answers
 use Rattle.peer_route.specs.declared.answer.Entry.{Entry}
 use Rattle.peer_route.specs.History as events
-use Rattle.peer_route.specs.Trail.{Trail, trail, asks, poll_spends, events_of, place, new_names, new_streams}
+use Rattle.peer_route.specs.Trail.{Trail, trail, poll_spends, events_of, place, sent_names, made_streams, new_names, new_streams}
 use Rattle.peer_route.specs.Answers.{IsAnswer, shown, error_answer, reply_by, poll_of, before_of}
 use Rattle.peer_route.specs.Told.{ReadTold}
 use Rattle.peer_route.specs.Streams.{all_given}
@@ -49,14 +49,14 @@ spends_shown k (Ok polled.Ended) = refl
 spends_shown k (Err error) = refl
 
 -- a poll makes no call
-no_names : (h : List events.Event) (lane : ℕ) (w : Option Asked) (r : Result (Polled Seen) Error) → new_names h lane w (shown r) ≡ []
+no_names : (h : List events.Event) (lane : ℕ) (w : Option Asked) (r : Result (Polled Seen) Error) → sent_names h lane w (shown r) ≡ []
 no_names h lane w (Ok (polled.Now m)) = no_names_now m.kind
   where
-    no_names_now_error : (name : Option (List ℕ)) → new_names h lane w (error_answer m name) ≡ []
+    no_names_now_error : (name : Option (List ℕ)) → sent_names h lane w (error_answer m name) ≡ []
     no_names_now_error (Some name) = refl
     no_names_now_error None = refl
 
-    no_names_now : (kind : MessageType) → new_names h lane w (reply_by m kind) ≡ []
+    no_names_now : (kind : MessageType) → sent_names h lane w (reply_by m kind) ≡ []
     no_names_now types.MethodReturn = refl
     no_names_now types.MethodCall = refl
     no_names_now types.Error = no_names_now_error m.error_name
@@ -68,14 +68,14 @@ no_names h lane w (Ok polled.Ended) = refl
 no_names h lane w (Err error) = refl
 
 -- a poll makes no stream
-no_streams : (lane : ℕ) (r : Result (Polled Seen) Error) → new_streams lane (shown r) ≡ []
+no_streams : (lane : ℕ) (r : Result (Polled Seen) Error) → made_streams lane (shown r) ≡ []
 no_streams lane (Ok (polled.Now m)) = no_streams_now m.kind
   where
-    no_streams_now_error : (name : Option (List ℕ)) → new_streams lane (error_answer m name) ≡ []
+    no_streams_now_error : (name : Option (List ℕ)) → made_streams lane (error_answer m name) ≡ []
     no_streams_now_error (Some name) = refl
     no_streams_now_error None = refl
 
-    no_streams_now : (kind : MessageType) → new_streams lane (reply_by m kind) ≡ []
+    no_streams_now : (kind : MessageType) → made_streams lane (reply_by m kind) ≡ []
     no_streams_now types.MethodReturn = refl
     no_streams_now types.MethodCall = refl
     no_streams_now types.Error = no_streams_now_error m.error_name
@@ -97,21 +97,23 @@ given_spent (Some k) a h = refl
 
 -- ---- a poll, by position or not
 
--- the command's events are those of a poll of the lane's call with this number, and it reads nothing
+-- The command's events are those of a poll of the lane's call with this number; it sends nothing by itself, and reads nothing.
 pub record IsPolling (t : Trail) (lane number : ℕ) (w : Words) : Type 0 where
   pub spends : (a : Answer) → events_of t lane w a ≡ poll_spends (place 0 lane number t.names) a
+  pub calls : (a : Answer) → new_names t lane w a ≡ sent_names t.events lane None a
+  pub makes : (a : Answer) → new_streams t lane w a ≡ made_streams lane a
   pub quiet : (stop : Option Bool) (bytes : List ℕ) (closing : Option Error) (a : Answer) → ReadTold stop bytes t.events closing w a
   pub other : is_close w ≡ false
 
 pub polling : (t : Trail) (lane number : ℕ) → IsPolling t lane number (words.Poll number)
-polling t lane number = record { spends = λ a. refl; quiet = λ stop bytes closing a. told stop bytes closing a; other = refl }
+polling t lane number = record { spends = λ a. refl; calls = λ a. refl; makes = λ a. refl; quiet = λ stop bytes closing a. told stop bytes closing a; other = refl }
   where
     told : (stop : Option Bool) (bytes : List ℕ) (closing : Option Error) (a : Answer) → ReadTold stop bytes t.events closing (words.Poll number) a
     told stop bytes None a = tt
     told stop bytes (Some error) a = tt
 
 pub polling_before : (t : Trail) (lane number before : ℕ) → IsPolling t lane number (words.Before number before)
-polling_before t lane number before = record { spends = λ a. refl; quiet = λ stop bytes closing a. told stop bytes closing a; other = refl }
+polling_before t lane number before = record { spends = λ a. refl; calls = λ a. refl; makes = λ a. refl; quiet = λ stop bytes closing a. told stop bytes closing a; other = refl }
   where
     told : (stop : Option Bool) (bytes : List ℕ) (closing : Option Error) (a : Answer) → ReadTold stop bytes t.events closing (words.Before number before) a
     told stop bytes None a = tt
@@ -126,7 +128,8 @@ follows_by setting p q es lane number k w r polls f at answer names streams give
     follows_quiet setting p q es lane w (shown r) (poll_spends (Some k) (shown r)) f (polls.spends (shown r) ∙ ap (λ o. poll_spends o (shown r)) at)
     (poll_quiet (Some k) (shown r))
     (subst (λ xs. Left q.core (xs ++ (trail setting es).events)) (sym (spends_shown k r)) left)
-    names (no_names (trail setting es).events lane (asks (trail setting es) lane w) r) (streams ∙ sym (append-nil p.streams) ∙ ap (λ ns. p.streams ++ ns) (sym (no_streams lane r)))
+    names (polls.calls (shown r) ∙ no_names (trail setting es).events lane None r)
+    (streams ∙ sym (append-nil p.streams) ∙ ap (λ ns. p.streams ++ ns) (sym (polls.makes (shown r) ∙ no_streams lane r)))
     (given ∙ f.given ∙ sym (given_spent (Some k) (shown r) (trail setting es).events)) answer
 
 -- the lane's number names a call of the peer: the same that it names by the history
@@ -158,7 +161,8 @@ unknown_by : (setting : Setting) (p : PeerView) (es : List Entry) (lane number :
     → Follows setting p (entry lane w (answers.Refused errors.UnknownHandle) ∷ es)
 unknown_by setting p es lane number w polls f at answer =
     follows_quiet setting p p es lane w (answers.Refused errors.UnknownHandle) [] f
-    (polls.spends (answers.Refused errors.UnknownHandle) ∙ ap (λ o. poll_spends o (answers.Refused errors.UnknownHandle)) at) tt f.left refl refl (sym (append-nil p.streams)) f.given answer
+    (polls.spends (answers.Refused errors.UnknownHandle) ∙ ap (λ o. poll_spends o (answers.Refused errors.UnknownHandle)) at) tt f.left refl (polls.calls (answers.Refused errors.UnknownHandle))
+    (sym (append-nil p.streams) ∙ ap (λ ns. p.streams ++ ns) (sym (polls.makes (answers.Refused errors.UnknownHandle)))) f.given answer
 
 pub follows_unknown : (setting : Setting) (p : PeerView) (es : List Entry) (lane number : ℕ) → Follows setting p es → place 0 lane number p.names ≡ None
     → Follows setting p (entry lane (words.Poll number) (answers.Refused errors.UnknownHandle) ∷ es)

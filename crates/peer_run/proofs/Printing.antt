@@ -9,7 +9,8 @@ use Rattle.peer_route.specs.Answers.{Legal}
 use Rattle.peer_route.proofs.Once.{once, legal_from}
 use Rattle.peer_route.proofs.Read.{by_the_first, by_the_closing_error}
 use Rattle.peer_route.proofs.Yields.{yields, opened_yields, clone_yields}
-use Rattle.peer_route.proofs.ClosedStreams.{closed_for_good}
+use Rattle.peer_route.proofs.YieldsAsked.{asked_yields}
+use Rattle.peer_route.proofs.ClosedStreams.{closed_for_good, denied_for_good}
 use Rattle.peer_route.proofs.Drained.{ended, busy_there}
 use Rattle.peer_route.proofs.Sent.{put_sent}
 use Rattle.peer_script.specs.Script.{Script, line_count}
@@ -42,9 +43,11 @@ streams_are : (s : Script) (h : List Entry) (sent : List ℕ) → Legal (setting
 streams_are s h sent legal = record {
   yields = λ newer older e number is w a. yields (setting_of s) newer e older number (subst (Legal (setting_of s)) is legal) w a;
   rules = λ newer older e number asked text rule is w found a. opened_yields (setting_of s) newer e older number asked text rule (subst (Legal (setting_of s)) is legal) w found a;
+  asked = λ newer older e number serial asked text rule is w found a. asked_yields (setting_of s) newer e older number serial asked text rule (subst (Legal (setting_of s)) is legal) w found a;
   clones = λ newer older e number original is w a. clone_yields (setting_of s) newer e older number original (subst (Legal (setting_of s)) is legal) w a;
   ends = λ newer older e number is w last. ended (setting_of s) newer older e number (subst (Legal (setting_of s)) is legal) w last;
   closes = λ newer older e number is w a. closed_for_good (setting_of s) newer older e number (subst (Legal (setting_of s)) is legal) w a;
+  denied = λ newer older e number is w a. denied_for_good (setting_of s) newer older e number (subst (Legal (setting_of s)) is legal) w a;
   waits = λ newer older e is w many. busy_there (setting_of s) older e (legal_from (setting_of s) newer (e ∷ older) (subst (Legal (setting_of s)) is legal)) w many;
 }
 

@@ -7,7 +7,7 @@ use Rattle.peer_route.specs.declared.words.Words.{Words}
 use Rattle.peer_route.specs.declared.answer.Answer.{Answer}
 use Rattle.peer_route.specs.declared.answer.Entry.{Entry}
 use Rattle.peer_route.specs.History as events
-use Rattle.peer_route.specs.Trail.{trail, asks, events_of, new_names, new_streams}
+use Rattle.peer_route.specs.Trail.{trail, events_of, new_names, new_streams}
 use Rattle.peer_route.specs.Answers.{IsAnswer}
 use Rattle.peer_route.specs.Told.{ReadTold}
 use Rattle.peer_route.specs.Streams.{all_given}
@@ -18,7 +18,7 @@ use Rattle.peer_run.proofs.Kept.{reads_kept, writes_kept, is_close, close_told}
 
 pub follows_quiet : (setting : Setting) (p q : PeerView) (es : List Entry) (lane : ℕ) (w : Words) (a : Answer) (xs : List events.Event) → Follows setting p es
     → events_of (trail setting es) lane w a ≡ xs → AreQuiet xs → Left q.core (xs ++ (trail setting es).events)
-    → q.names ≡ p.names → new_names (trail setting es).events lane (asks (trail setting es) lane w) a ≡ [] → q.streams ≡ p.streams ++ new_streams lane a
+    → q.names ≡ p.names → new_names (trail setting es) lane w a ≡ [] → q.streams ≡ p.streams ++ new_streams (trail setting es) lane w a
     → q.given ≡ all_given (xs ++ (trail setting es).events) → IsAnswer (trail setting es) lane w a
     → Follows setting q (entry lane w a ∷ es)
 follows_quiet setting p q es lane w a xs f are quiet left names no_names streams given answer =
@@ -26,7 +26,7 @@ follows_quiet setting p q es lane w a xs f are quiet left names no_names streams
     let reads : q.core.read ≡ p.core.read = left.read ∙ ap length same.read ∙ sym f.left.read in
     follows_more setting q es (entry lane w a) (xs ++ (trail setting es).events) (ap (λ ys. ys ++ (trail setting es).events) are) left
     (names ∙ f.names ∙ sym (append-nil (trail setting es).names) ∙ ap (λ ns. (trail setting es).names ++ ns) (sym no_names))
-    (streams ∙ ap (λ ns. ns ++ new_streams lane a) f.streams)
+    (streams ∙ ap (λ ns. ns ++ new_streams (trail setting es) lane w a) f.streams)
     given f.legal answer (rw reads f.within)
     (left.done ∙ same.done ∙ sym f.left.done ∙ f.written ∙ ap length (f.left.outbox ∙ sym same.put ∙ sym left.outbox))
 

@@ -31,7 +31,7 @@ use Rattle.wire_framing.specs.Send.{Part}
 use Rattle.wire_framing.specs.Writing.{is_unsupported, Sends}
 use Rattle.wire_framing.specs.declared.write_half.Writing.{Writing}
 use Rattle.wire_framing.specs.declared.write_half.Writing.TheVariants.{Fine}
-use Rattle.peer_run.specs.Stands.{PeerView, Outlet, Follows, Writes, Sent, Sending, WentOut, WriteFailed, named, unsent_answer, NotIssued, IsRefusal, IsReadFault, IsFine, entry}
+use Rattle.peer_run.specs.Stands.{PeerView, Outlet, Follows, Writes, Written, DidWrite, DidFail, Sent, Sending, WentOut, WriteFailed, named, unsent_answer, NotIssued, IsRefusal, IsReadFault, IsFine, entry}
 use Rattle.wire_message.specs.Draft.{built}
 use Rattle.wire_message.specs.Signed.{counted, fds_field}
 use Rattle.peer_route.proofs.Asked.{AreWritable, CanGo, are_refused, asked_goes}
@@ -39,7 +39,8 @@ use Rattle.peer_route.proofs.Sent.{trail_setting}
 use Rattle.peer_run.specs.OneLetter.{IssuesOne}
 use Rattle.peer_run.specs.CallWords.{MakesAsked}
 use Rattle.peer_run.proofs.HalfStep.{fine_before}
-use Rattle.peer_run.proofs.SendStep.{IsSending, sending_is, asks_kept, entry_events, fault_events, follows_refused, follows_unsent, follows_sent, follows_failed, reads_send, writes_refused, writes_unsent, writes_sent, writes_failed, fault_was_written}
+use Rattle.peer_run.proofs.SendStep.{IsSending, sending_is, asks_kept, entry_events, fault_events, follows_refused, follows_unsent, follows_sent, follows_failed, reads_send, writes_refused, writes_unsent, writes_sent, writes_failed}
+use Rattle.peer_run.proofs.Faults.{fault_was_written}
 
 -- ---- nothing was issued
 
@@ -69,7 +70,7 @@ long_of : (parcel : Parcel) (serial : ℕ) → AreWritable parcel → IsTooLong 
 long_of parcel serial fit (inl unfit) = absurd (unfit fit.1)
 long_of parcel serial fit (inr long) = long.1
 
-failed_ne : (w : Writer) → w ≡ writers.Failed → w ≢ writers.Fine
+pub failed_ne : (w : Writer) → w ≡ writers.Failed → w ≢ writers.Fine
 failed_ne w is e = let z : writers.Failed ≡ writers.Fine = sym is ∙ e in absurd (cc)
 
 closed_ne : (w : Writer) → w ≡ writers.Closed → w ≢ writers.Fine
@@ -107,7 +108,7 @@ unissued setting p q es lane w parcel (errors.Variant faults.Depth) a k fit f i 
 unissued setting p q es lane w parcel errors.Memory a k fit f i e = cc
 unissued setting p q es lane w parcel other a k fit f i e = absurd i
 
-same_peer : (p q : PeerView) → q.core ≡ p.core → q.names ≡ p.names → q.streams ≡ p.streams → q.given ≡ p.given → p ≡ q
+pub same_peer : (p q : PeerView) → q.core ≡ p.core → q.names ≡ p.names → q.streams ≡ p.streams → q.given ≡ p.given → p ≡ q
 same_peer p q c n s g =
     ap (λ (v : View). record { core = v; names = p.names; streams = p.streams; given = p.given }) (sym c)
     ∙ ap (λ ns. record { core = q.core; names = ns; streams = p.streams; given = p.given }) (sym n)
@@ -121,7 +122,7 @@ never_read other a e f = cc
 
 -- ---- a message was issued
 
-at_end : (xs : List Seen) (m : Seen) → slice_get (xs ++ m ∷ []) (length xs) ≡ Some m
+pub at_end : (xs : List Seen) (m : Seen) → slice_get (xs ++ m ∷ []) (length xs) ≡ Some m
 at_end [] m = refl
 at_end (x ∷ xs) m = at_end xs m
 
@@ -130,7 +131,7 @@ waits_there : (v : View) (h : List events.Event) (m : Seen) (expects : Bool) (in
 waits_there v h m expects index e l = ap (λ xs. slice_get xs index) l.outbox ∙ ap (slice_get (events.put h ++ m ∷ [])) e ∙ at_end (events.put h) m
 
 -- the sink takes what goes with the message
-can_send : (parcel : Parcel) (serial : ℕ) (takes : Bool) → is_unsupported (counted parcel.draft parcel.fds).fields.unix_fds takes ≡ false → is_unsupported (message_of parcel serial).unix_fds takes ≡ false
+pub can_send : (parcel : Parcel) (serial : ℕ) (takes : Bool) → is_unsupported (counted parcel.draft parcel.fds).fields.unix_fds takes ≡ false → is_unsupported (message_of parcel serial).unix_fds takes ≡ false
 unfolding message_of built
 can_send parcel serial takes e = e
 
@@ -139,13 +140,35 @@ makes_call true number = refl
 makes_call false number = refl
 
 -- a write that failed leaves a proper part
-pub not_out : (old new : PeerView) (lane : ℕ) (issued : Issued) (m : Seen) (now after : Outlet) (writing : Writing) (error : Error) → (error ≡ errors.Memory → ⊥)
+pub did_fail : (old new : View) (m : Seen) (now after : Outlet) (writing : Writing) (error : Error) → (error ≡ errors.Memory → ⊥)
     → Sends {A = Unit {0}} (Err error) writing m.bytes now.held after.held now.room after.room now.faults after.faults
-    → new.names ≡ named (is_some issued.call) None old.names → new.streams ≡ old.streams → new.given ≡ old.given → ((h : List events.Event) → Left old.core h → Left new.core (events.Fault ∷ h))
-    → Sent old new lane issued m now after writing (answers.SendFailed error)
-not_out old new lane issued m now after writing (errors.InputOutput kinds.WriteFault) never s names streams given left = WriteFailed refl names streams given left s.0 s.1 s.2 s.3 s.4
-not_out old new lane issued m now after writing errors.Memory never s names streams given left = absurd (never refl)
-not_out old new lane issued m now after writing other never s names streams given left = absurd s
+    → ((h : List events.Event) → Left old h → Left new (events.Fault ∷ h)) → Written old new m now after writing (Some error)
+did_fail old new m now after writing (errors.InputOutput kinds.WriteFault) never s left = DidFail refl left s.0 s.1 s.2 s.3 s.4
+did_fail old new m now after writing errors.Memory never s left = absurd (never refl)
+did_fail old new m now after writing other never s left = absurd s
+
+-- the message that was issued was written
+pub went : (old mid new : PeerView) (lane : ℕ) (issued : Issued) (m : Seen) (now after : Outlet) (writing : Writing) (answer : Answer) → Written old.core mid.core m now after writing None
+    → mid ≡ record old { core = mid.core } → answer ≡ sent_answer (is_some issued.call) (count lane mid.names) issued.serial
+    → new ≡ record mid { names = named (is_some issued.call) (Some lane) mid.names } → Sent old new lane issued m now after writing answer
+went old mid new lane issued m now after writing answer (DidWrite none left appends falls faults still) rest answered made =
+    let b = is_some issued.call in
+    WentOut (answered ∙ ap (λ (v : PeerView). sent_answer b (count lane v.names) issued.serial) rest)
+    (ap (λ (v : PeerView). v.names) made ∙ ap (λ (v : PeerView). named b (Some lane) v.names) rest)
+    (ap (λ (v : PeerView). v.streams) made ∙ ap (λ (v : PeerView). v.streams) rest) (ap (λ (v : PeerView). v.given) made ∙ ap (λ (v : PeerView). v.given) rest)
+    (λ h l. subst (λ (v : PeerView). Left v.core (events.Wrote ∷ h)) (sym made) (left h l)) appends falls faults still
+went old mid new lane issued m now after writing answer (DidFail failed left n part breaks rises over) rest answered made = absurd (cc)
+
+-- its write failed
+pub not_out : (old mid new : PeerView) (lane : ℕ) (issued : Issued) (m : Seen) (now after : Outlet) (writing : Writing) (error : Error) → Written old.core mid.core m now after writing (Some error)
+    → mid ≡ record old { core = mid.core } → new ≡ record mid { names = named (is_some issued.call) None mid.names } → Sent old new lane issued m now after writing (answers.SendFailed error)
+not_out old mid new lane issued m now after writing error (DidWrite none left appends falls faults still) rest made = absurd (cc)
+not_out old mid new lane issued m now after writing error (DidFail failed left n part breaks rises over) rest made =
+    let same : error ≡ errors.InputOutput kinds.WriteFault = cc in
+    WriteFailed (ap answers.SendFailed same)
+    (ap (λ (v : PeerView). v.names) made ∙ ap (λ (v : PeerView). named (is_some issued.call) None v.names) rest)
+    (ap (λ (v : PeerView). v.streams) made ∙ ap (λ (v : PeerView). v.streams) rest) (ap (λ (v : PeerView). v.given) made ∙ ap (λ (v : PeerView). v.given) rest)
+    (λ h l. subst (λ (v : PeerView). Left v.core (events.Fault ∷ h)) (sym made) (left h l)) n part breaks rises over
 
 never_sent : (expects_one : Bool) (number serial : ℕ) (a : Answer) → a ≡ sent_answer expects_one number serial → IsReadFault a → ⊥
 never_sent true number serial a e f = cc

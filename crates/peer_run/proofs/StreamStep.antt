@@ -10,7 +10,7 @@ use Rattle.peer_route.specs.declared.answer.Answer.TheVariants as answers
 use Rattle.peer_route.specs.declared.answer.Entry.{Entry}
 use Rattle.peer_route.specs.History as events
 use Rattle.peer_route.specs.Streams as streams
-use Rattle.peer_route.specs.Trail.{trail, drop_spends, place, count, new_names, new_streams}
+use Rattle.peer_route.specs.Trail.{trail, drop_spends, place, count, sent_names, made_streams}
 use Rattle.peer_route.specs.Answers.{shown_drop, drop_of}
 use Rattle.peer_route.specs.Told.{ReadTold}
 use Rattle.peer_route.specs.Left.{Left}
@@ -25,11 +25,11 @@ drop_shown_spends : (k : ℕ) (r : Result (Unit {0}) Error) → drop_spends (Som
 drop_shown_spends k (Ok done) = refl
 drop_shown_spends k (Err error) = refl
 
-drop_names : (h : List events.Event) (lane : ℕ) (w : Option Asked) (r : Result (Unit {0}) Error) → new_names h lane w (shown_drop r) ≡ []
+drop_names : (h : List events.Event) (lane : ℕ) (w : Option Asked) (r : Result (Unit {0}) Error) → sent_names h lane w (shown_drop r) ≡ []
 drop_names h lane w (Ok done) = refl
 drop_names h lane w (Err error) = refl
 
-drop_streams : (lane : ℕ) (r : Result (Unit {0}) Error) → new_streams lane (shown_drop r) ≡ []
+drop_streams : (lane : ℕ) (r : Result (Unit {0}) Error) → made_streams lane (shown_drop r) ≡ []
 drop_streams lane (Ok done) = refl
 drop_streams lane (Err error) = refl
 

@@ -16,7 +16,7 @@ use Rattle.peer_route.specs.declared.answer.Answer.TheVariants as answers
 use Rattle.peer_route.specs.declared.answer.Entry.{Entry}
 use Rattle.peer_route.specs.History as events
 use Rattle.peer_route.specs.Streams as streams
-use Rattle.peer_route.specs.Trail.{Trail, trail, asks, take_does, events_of, place, new_names, new_streams}
+use Rattle.peer_route.specs.Trail.{Trail, trail, take_does, events_of, place, sent_names, made_streams, new_names, new_streams}
 use Rattle.peer_route.specs.Answers.{IsAnswer, shown_take, take_of, take_before_of}
 use Rattle.peer_route.specs.Told.{ReadTold}
 use Rattle.peer_route.specs.Left.{Left}
@@ -36,7 +36,7 @@ take_shown_does k (Ok (polled.Closed error)) = refl
 take_shown_does k (Ok polled.Ended) = refl
 take_shown_does k (Err error) = refl
 
-take_names : (h : List events.Event) (lane : ℕ) (w : Option Asked) (r : Result (Polled Seen) Error) → new_names h lane w (shown_take r) ≡ []
+take_names : (h : List events.Event) (lane : ℕ) (w : Option Asked) (r : Result (Polled Seen) Error) → sent_names h lane w (shown_take r) ≡ []
 take_names h lane w (Ok (polled.Now m)) = refl
 take_names h lane w (Ok polled.NotYet) = refl
 take_names h lane w (Ok polled.NoneBefore) = refl
@@ -44,7 +44,7 @@ take_names h lane w (Ok (polled.Closed error)) = refl
 take_names h lane w (Ok polled.Ended) = refl
 take_names h lane w (Err error) = refl
 
-take_streams : (lane : ℕ) (r : Result (Polled Seen) Error) → new_streams lane (shown_take r) ≡ []
+take_streams : (lane : ℕ) (r : Result (Polled Seen) Error) → made_streams lane (shown_take r) ≡ []
 take_streams lane (Ok (polled.Now m)) = refl
 take_streams lane (Ok polled.NotYet) = refl
 take_streams lane (Ok polled.NoneBefore) = refl
@@ -84,21 +84,23 @@ given_before h k r answer =
 
 -- ---- a take, by position or not
 
--- the command's events are those of a take from the lane's stream with this number, and it reads nothing
+-- The command's events are those of a take from the lane's stream with this number; it sends nothing, and reads nothing.
 pub record IsTaking (t : Trail) (lane number : ℕ) (w : Words) : Type 0 where
   pub does : (a : Answer) → events_of t lane w a ≡ take_does (place 0 lane number t.streams) a
+  pub calls : (a : Answer) → new_names t lane w a ≡ sent_names t.events lane None a
+  pub makes : (a : Answer) → new_streams t lane w a ≡ made_streams lane a
   pub quiet : (stop : Option Bool) (bytes : List ℕ) (closing : Option Error) (a : Answer) → ReadTold stop bytes t.events closing w a
   pub other : is_close w ≡ false
 
 pub taking : (t : Trail) (lane number : ℕ) → IsTaking t lane number (words.Take number)
-taking t lane number = record { does = λ a. refl; quiet = λ stop bytes closing a. told stop bytes closing a; other = refl }
+taking t lane number = record { does = λ a. refl; calls = λ a. refl; makes = λ a. refl; quiet = λ stop bytes closing a. told stop bytes closing a; other = refl }
   where
     told : (stop : Option Bool) (bytes : List ℕ) (closing : Option Error) (a : Answer) → ReadTold stop bytes t.events closing (words.Take number) a
     told stop bytes None a = tt
     told stop bytes (Some error) a = tt
 
 pub taking_before : (t : Trail) (lane number before : ℕ) → IsTaking t lane number (words.TakeBefore number before)
-taking_before t lane number before = record { does = λ a. refl; quiet = λ stop bytes closing a. told stop bytes closing a; other = refl }
+taking_before t lane number before = record { does = λ a. refl; calls = λ a. refl; makes = λ a. refl; quiet = λ stop bytes closing a. told stop bytes closing a; other = refl }
   where
     told : (stop : Option Bool) (bytes : List ℕ) (closing : Option Error) (a : Answer) → ReadTold stop bytes t.events closing (words.TakeBefore number before) a
     told stop bytes None a = tt
@@ -114,7 +116,8 @@ follows_by setting p q es lane number k w r takes f at answer gives names stream
     follows_quiet setting p q es lane w (shown_take r) (take_does (Some k) (shown_take r)) f (takes.does (shown_take r) ∙ ap (λ o. take_does o (shown_take r)) at)
     (take_quiet (Some k) (shown_take r))
     (subst (λ xs. Left q.core (xs ++ (trail setting es).events)) (sym (take_shown_does k r)) left)
-    names (take_names (trail setting es).events lane (asks (trail setting es) lane w) r) (streams_same ∙ sym (append-nil p.streams) ∙ ap (λ ns. p.streams ++ ns) (sym (take_streams lane r)))
+    names (takes.calls (shown_take r) ∙ take_names (trail setting es).events lane None r)
+    (streams_same ∙ sym (append-nil p.streams) ∙ ap (λ ns. p.streams ++ ns) (sym (takes.makes (shown_take r) ∙ take_streams lane r)))
     (given ∙ ap (given_after k r) f.given ∙ gives ∙ ap (λ xs. streams.all_given (xs ++ (trail setting es).events)) (sym (take_shown_does k r))) answer
 
 -- the lane's number names a stream of the peer: the same that it names by the history
@@ -146,7 +149,8 @@ unknown_by : (setting : Setting) (p : PeerView) (es : List Entry) (lane number :
     → Follows setting p (entry lane w (answers.Refused errors.UnknownHandle) ∷ es)
 unknown_by setting p es lane number w takes f at answer =
     follows_quiet setting p p es lane w (answers.Refused errors.UnknownHandle) [] f
-    (takes.does (answers.Refused errors.UnknownHandle) ∙ ap (λ o. take_does o (answers.Refused errors.UnknownHandle)) at) tt f.left refl refl (sym (append-nil p.streams)) f.given answer
+    (takes.does (answers.Refused errors.UnknownHandle) ∙ ap (λ o. take_does o (answers.Refused errors.UnknownHandle)) at) tt f.left refl (takes.calls (answers.Refused errors.UnknownHandle))
+    (sym (append-nil p.streams) ∙ ap (λ ns. p.streams ++ ns) (sym (takes.makes (answers.Refused errors.UnknownHandle)))) f.given answer
 
 pub follows_take_unknown : (setting : Setting) (p : PeerView) (es : List Entry) (lane number : ℕ) → Follows setting p es → place 0 lane number p.streams ≡ None
     → Follows setting p (entry lane (words.Take number) (answers.Refused errors.UnknownHandle) ∷ es)

@@ -4,3 +4,4 @@ pub mod Runs
 pub mod Program
 pub mod Numbers
 pub mod OneLetter
+pub mod Tells

@@ -14,9 +14,9 @@ use Rattle.peer_route.specs.Trail.{trail}
 use Rattle.peer_route.specs.Answers.{Legal}
 use Rattle.peer_route.specs.Told.{ReadsTold, ClosesTold, IsSentOf, WritesTold}
 use Rattle.peer_route.specs.Laws.{IsPoll, IsFinal, IsReplyAt, IsFirstReply, IsCutOff, IsUnknown}
-use Rattle.peer_route.specs.StreamLaws.{Yields, holds, rule_at, closes_stream, IsNoStream, IsTake, IsEnded, IsLast, HoldsTooMany, IsPutOf, all_sent}
+use Rattle.peer_route.specs.StreamLaws.{Yields, YieldsAsked, holds, rule_at, closes_stream, says_closed, says_denied, IsNoStream, IsTake, IsEnded, IsLast, HoldsTooMany, IsPutOf, all_sent}
 use Rattle.peer_script.specs.Word.{same}
-use Rattle.peer_script.specs.Script.{Given, Gave, Broke, Script, line_count}
+use Rattle.peer_script.specs.Script.{Given, Gave, Broke, Script, is_bus, name_of, line_count}
 use Rattle.peer_script.specs.Reading.{IsWithin, script_of}
 use Rattle.peer_script.specs.Transcript.{transcript_text}
 use Rattle.wire_framing.specs.Source.{MayRise}
@@ -59,7 +59,7 @@ source_breaks (Broke ∷ given) = true
 
 -- what a script gives its peer at its start
 abbrev pub setting_of : Script → Setting
-setting_of s = record { name = s.name; takes_fds = s.fds; queue = s.queue }
+setting_of s = record { bus = is_bus s.kind; name = name_of s.kind; takes_fds = s.fds; queue = s.queue }
 
 -- Reads take the messages that stand in the source's bytes, in order, however these are cut; a busy read and a read of a
 -- closed peer take nothing.
@@ -87,6 +87,12 @@ RulesYield setting h =
     (newer older : List Entry) (e : Entry) (number : ℕ) (asked : Option ℕ) (text : List ℕ) (rule : Rule) → h ≡ newer ++ e ∷ older → e.words ≡ words.Open asked text → rule_in_bytes text ≡ Ok rule
     → e.answer ≡ answers.Streaming number → Yields setting newer e older number (Some rule) []
 
+-- what the entries of a stream say for which the bus was asked, from the one that asked it on
+abbrev pub AskedYield : Setting → List Entry → Type 0
+AskedYield setting h =
+    (newer older : List Entry) (e : Entry) (number serial : ℕ) (asked : Option ℕ) (text : List ℕ) (rule : Rule) → h ≡ newer ++ e ∷ older → e.words ≡ words.Open asked text → rule_in_bytes text ≡ Ok rule
+    → e.answer ≡ answers.Opening number serial → YieldsAsked setting newer e older number serial rule
+
 -- what a clone's entries say, from the one that made it on
 abbrev pub ClonesYield : Setting → List Entry → Type 0
 ClonesYield setting h =
@@ -95,7 +101,12 @@ ClonesYield setting h =
 
 abbrev pub StreamsClose : List Entry → Type 0
 StreamsClose h =
-    (newer older : List Entry) (e : Entry) (number : ℕ) → h ≡ newer ++ e ∷ older → closes_stream number e.words ≡ true → e.answer ≡ answers.Gone
+    (newer older : List Entry) (e : Entry) (number : ℕ) → h ≡ newer ++ e ∷ older → closes_stream number e.words ≡ true → says_closed e.answer ≡ true
+    → AllByRecursion (IsNoStream e.lane number) newer
+
+abbrev pub StreamsDenied : List Entry → Type 0
+StreamsDenied h =
+    (newer older : List Entry) (e : Entry) (number : ℕ) → h ≡ newer ++ e ∷ older → e.words ≡ words.Opened number → says_denied e.answer ≡ true
     → AllByRecursion (IsNoStream e.lane number) newer
 
 abbrev pub StreamsEnd : List Entry → Type 0
@@ -105,13 +116,16 @@ abbrev pub FullStreamsWait : Setting → List Entry → Type 0
 FullStreamsWait setting h = (newer older : List Entry) (e : Entry) → h ≡ newer ++ e ∷ older → e.words ≡ words.Read → HoldsTooMany (trail setting older).events → e.answer ≡ answers.Busy
 
 -- Each stream gives exactly the messages that were read since it was made and that its rule accepts, in order, a clone before
--- them what its original held; it ends once; one that was closed is unknown from then on; and where an open one holds more than it may, reads wait.
+-- them what its original held; one for which the bus was asked, those behind the return to its AddMatch. It ends once; one that was
+-- closed, or denied, is unknown from then on; and where an open one holds more than it may, reads wait.
 pub record StreamsAre (s : Script) (h : List Entry) (sent : List ℕ) : Type 0 where
   pub yields : StreamsYield (setting_of s) h
   pub rules : RulesYield (setting_of s) h
+  pub asked : AskedYield (setting_of s) h
   pub clones : ClonesYield (setting_of s) h
   pub ends : StreamsEnd h
   pub closes : StreamsClose h
+  pub denied : StreamsDenied h
   pub waits : FullStreamsWait (setting_of s) h
 
 -- The bytes sent are the encodings of the messages that were put, in order, up to the sink's fault, perhaps with a proper
@@ -137,7 +151,7 @@ pub record Prints (Such : Script → List Entry → List ℕ → Type 0) (input 
   pub legal : Legal (setting_of script) (reverse entries)
   pub each : map command_of entries ≡ script.commands
   pub such : Such script (reverse entries) sent
-  pub gained : Appends before after (transcript_text script.name script.queue script.fds script.outfault script.given entries sent)
+  pub gained : Appends before after (transcript_text script.kind script.queue script.fds script.outfault script.given entries sent)
 
 -- The input passes a limit, or is no script text; what the output gained says so, with the first line outside.
 abbrev pub Refuses : List ℕ → Option (List ℕ) → Option (List ℕ) → Type 0
@@ -176,7 +190,7 @@ pub record IsRunOf (s : Script) (entries : List Entry) (sent : List ℕ) : Type 
 -- A script's commands were run, and its transcript was printed; or not, as above.
 pub data Shows (s : Script) (before after : Option (List ℕ)) (faults faults' : ℕ) (result : ℕ) : Type 0 where
   Shown : (entries : List Entry) (sent : List ℕ) → IsRunOf s entries sent → result ≡ 0
-      → Appends before after (transcript_text s.name s.queue s.fds s.outfault s.given entries sent) → faults' ≡ faults → Shows s before after faults faults' result
+      → Appends before after (transcript_text s.kind s.queue s.fds s.outfault s.given entries sent) → faults' ≡ faults → Shows s before after faults faults' result
   ShownPart : result ≡ 5 → MayRise faults faults' → Shows s before after faults faults' result
   ShownNot : result ≡ 1 → faults' ≡ faults → Shows s before after faults faults' result
 

@@ -86,9 +86,16 @@ pub record Reads (setting : Setting) (start now : Inlet) (es : List Entry) : Typ
 
 -- ---- the sink
 
--- a send, or a closing, that the sink's failing call ended
+-- why something wasn't sent
+abbrev pub send_error : Answer → Option Error
+send_error (answers.SendFailed error) = Some error
+send_error (answers.SentFirst error) = Some error
+send_error (answers.Untold error) = Some error
+send_error answer = None
+
+-- a send, or a closing, that the sink's failing call ended, or an earlier one
 abbrev pub IsWriteFault : Answer → Type 0
-IsWriteFault answer = answer ≡ answers.SendFailed (errors.InputOutput kinds.WriteFault)
+IsWriteFault answer = send_error answer ≡ Some (errors.InputOutput kinds.WriteFault)
 
 abbrev pub HasWriteFault : List Entry → Type 0
 HasWriteFault [] = ⊥
@@ -121,6 +128,15 @@ pub record Writes (setting : Setting) (start now : Outlet) (es : List Entry) : T
 -- the half that writes met nothing, where no write of the history failed and the peer wasn't closed
 abbrev pub IsFine : List Event → Writing → Type 0
 IsFine h writing = writer h ≡ writers.Fine → writing ≡ Fine
+
+-- The message that was the first of those that wait was written; or its write failed. `writing` is what the half that wrote has met.
+pub data Written (old new : View) (m : Seen) (now after : Outlet) (writing : Writing) (failed : Option Error) : Type 0 where
+  DidWrite : failed ≡ None → ((h : List Event) → Left old h → Left new (Wrote ∷ h))
+      → Appends now.held after.held m.bytes → RoomFalls now.room after.room (length m.bytes) → after.faults ≡ now.faults → writing ≡ Fine
+      → Written old new m now after writing failed
+  DidFail : failed ≡ Some (errors.InputOutput kinds.WriteFault) → ((h : List Event) → Left old h → Left new (Fault ∷ h))
+      → (n : ℕ) → Part m.bytes now.held after.held n → RoomBreaks now.room after.room n → MayRise now.faults after.faults → writing ≡ Failed
+      → Written old new m now after writing failed
 
 -- whose the calls are with the one that a message makes, if it makes one
 abbrev pub named : Bool → Option ℕ → Names → Names
@@ -165,7 +181,47 @@ IsRefusal errors.Memory (Ok answer) = ⊥
 IsRefusal error (Ok answer) = answer ≡ answers.Refused error
 IsRefusal error (Err e) = error ≡ errors.Memory
 
--- the command is one that sends a message
+-- a stream of a rule that wasn't opened; not want of memory
+abbrev pub IsUnopened : {E : Type 0} → Error → Result Answer E → Type 0
+IsUnopened errors.Memory (Ok answer) = ⊥
+IsUnopened errors.Busy (Ok answer) = answer ≡ answers.Busy
+IsUnopened (errors.InputOutput kinds.WriteFault) (Ok answer) = answer ≡ answers.SendFailed (errors.InputOutput kinds.WriteFault)
+IsUnopened error (Ok answer) = answer ≡ answers.Refused error
+IsUnopened error (Err e) = error ≡ errors.Memory
+
+-- what is shown where a stream will not be open, by its error
+abbrev pub over_answer : Error → Answer
+over_answer errors.UnknownHandle = answers.Refused errors.UnknownHandle
+over_answer error = answers.Closed error
+
+-- AddMatch was written, or its write failed with this
+abbrev pub ask_answer : Option Error → ℕ → ℕ → Answer
+ask_answer None number serial = answers.Opening number serial
+ask_answer (Some error) number serial = answers.SendFailed error
+
+-- whose the stream is then
+abbrev pub ask_owner : Option Error → ℕ → Option ℕ
+ask_owner None lane = Some lane
+ask_owner (Some error) lane = None
+
+-- The AddMatch with this serial was written, and its stream is the lane's next; or its write failed, and the stream is nobody's. The
+-- call is nobody's.
+pub record Asks (old new : PeerView) (lane serial : ℕ) (m : Seen) (now after : Outlet) (writing : Writing) (answer : Answer) : Type 0 where
+  pub failed : Option Error
+  pub written : Written old.core new.core m now after writing failed
+  pub answered : answer ≡ ask_answer failed (count lane old.streams) serial
+  pub names : new.names ≡ old.names ++ None ∷ []
+  pub streams : new.streams ≡ old.streams ++ ask_owner failed lane ∷ []
+  pub given : new.given ≡ old.given ++ None ∷ []
+
+-- streams that stay open
+abbrev pub IsKeptOpen : {E : Type 0} → Error → Result Answer E → Type 0
+IsKeptOpen errors.Memory (Ok answer) = ⊥
+IsKeptOpen errors.Busy (Ok answer) = answer ≡ answers.Busy
+IsKeptOpen error (Ok answer) = answer ≡ answers.Refused error
+IsKeptOpen error (Err e) = error ≡ errors.Memory
+
+-- the command is one that sends a message by itself
 abbrev pub sends : Words → Bool
 sends (words.Call w) = true
 sends (words.Signal w) = true
@@ -183,11 +239,13 @@ sends (words.Unstream number second) = false
 sends (words.Queue number limit) = false
 sends (words.MainQueue limit) = false
 sends (words.Open max_queued rule) = false
+sends (words.Opened number) = false
 sends words.Close = false
 
--- a peer of this name, whose streams may hold so many messages, and whose sink takes file descriptors or takes none
-abbrev pub setting_by : Option (List ℕ) → Option ℕ → Bool → Setting
-setting_by name queue takes = record { name = name; takes_fds = takes; queue = queue }
+-- a peer on a message bus or on none, of this name, whose streams may hold so many messages, and whose sink takes file descriptors
+-- or takes none
+abbrev pub setting_by : Bool → Option (List ℕ) → Option ℕ → Bool → Setting
+setting_by bus name queue takes = record { bus = bus; name = name; takes_fds = takes; queue = queue }
 
 -- what a command that sends, or closes the peer, leaves, by what the sink told before it and after it
 pub record Sending (setting : Setting) (p : PeerView) (es : List Entry) (lane : ℕ) (w : Words) (now after : Outlet) (writing : Writing) (answer : Answer) : Type 0 where

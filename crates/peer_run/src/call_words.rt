@@ -209,7 +209,7 @@ fn with_body<'a>(
 /// The header of a call, before its letters are looked at. Refused exactly where a word is outside its grammar, for the
 /// first such word.
 fn call_builder<'a>(words: &'a Outgoing, takes_fds: bool) -> Result<Builder<'a>>
-    ensures { MakesDraft result (call_draft (setting_by None None takes_fds) words.now) }
+    ensures { MakesDraft result (call_draft (setting_by false None None takes_fds) words.now) }
 {
     let destination = bus_name(&words.destination)?;
     let path = object_path(&words.path)?;
@@ -222,7 +222,7 @@ fn call_builder<'a>(words: &'a Outgoing, takes_fds: bool) -> Result<Builder<'a>>
 /// The header of a signal, before its letters are looked at. Refused exactly where a word is outside its grammar, for the
 /// first such word.
 fn signal_builder<'a>(words: &'a Outgoing, takes_fds: bool) -> Result<Builder<'a>>
-    ensures { MakesDraft result (signal_draft (setting_by None None takes_fds) words.now) }
+    ensures { MakesDraft result (signal_draft (setting_by false None None takes_fds) words.now) }
 {
     let destination = bus_name(&words.destination)?;
     let path = object_path(&words.path)?;
@@ -237,7 +237,7 @@ pub(crate) fn call_letter<'a>(
     words: &'a Outgoing,
     takes_fds: bool,
 ) -> Result<Letter<'a>>
-    ensures { MakesParcel result (call_asked (setting_by None None takes_fds) words.now) }
+    ensures { MakesParcel result (call_asked (setting_by false None None takes_fds) words.now) }
 {
     let builder = call_builder(words, takes_fds)?;
     let body = body_in(alloc, &words.body)?;
@@ -250,7 +250,7 @@ pub(crate) fn signal_letter<'a>(
     words: &'a Outgoing,
     takes_fds: bool,
 ) -> Result<Letter<'a>>
-    ensures { MakesParcel result (signal_asked (setting_by None None takes_fds) words.now) }
+    ensures { MakesParcel result (signal_asked (setting_by false None None takes_fds) words.now) }
 {
     let builder = signal_builder(words, takes_fds)?;
     let body = body_in(alloc, &words.body)?;
@@ -263,7 +263,7 @@ pub(crate) fn reply_letter<'a>(
     message: &'a Message,
     body: &Option<Bytes>,
 ) -> Result<Letter<'a>>
-    ensures { MakesParcel result (reply_asked (setting_by None None false) (Some message.now) body.now) }
+    ensures { MakesParcel result (reply_asked (setting_by false None None false) (Some message.now) body.now) }
 {
     let body = body_in(alloc, body)?;
     let builder = Message::method_return(&message.header());
@@ -281,7 +281,7 @@ pub(crate) fn error_letter<'a>(
     error: &'a Bytes,
     body: &Option<Bytes>,
 ) -> Result<Letter<'a>>
-    ensures { MakesParcel result (error_asked (setting_by None None false) (Some message.now) error.now body.now) }
+    ensures { MakesParcel result (error_asked (setting_by false None None false) (Some message.now) error.now body.now) }
 {
     let error = error_name(error)?;
     let body = body_in(alloc, body)?;

@@ -4,17 +4,22 @@
 mod call_words;
 mod lanes;
 mod laws;
+mod leaving;
 mod main_call;
+mod opening;
 mod peer;
 mod run;
 mod showing;
 mod streaming;
+mod writing;
 
 pub use laws::cut_anyhow;
 pub use main_call::peer_main;
 pub use peer::RunError;
 pub use peer_route::{Answer, CallFlags, Command, Entry, Words};
-pub use peer_script::{ScriptError, Setup, Transcript, Word, read_script, write_transcript};
+pub use peer_script::{
+    PeerKind, ScriptError, Setup, Transcript, Word, read_script, write_transcript,
+};
 pub use run::run_peer;
 pub use wire_framing::{
     Failed, MemorySink, MemorySource, Piece, Refusal, Sink, Source, StdSink, StdSource,

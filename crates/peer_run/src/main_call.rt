@@ -60,7 +60,7 @@ fn sink_of(alloc: Global, outfault: Option<u64>, takes_fds: bool) -> MemorySink
 
 /// Runs the commands over the setup's pieces and its sink, and prints the transcript.
 fn run_commands<O: Sink>(alloc: Global, setup: &Setup, commands: &[Command], output: &mut O) -> u8
-    ensures { Shows (script_from setup.now.name setup.now.queue setup.now.fds setup.now.outfault setup.now.pieces.items commands.now) (O.held output.old) (O.held output.new) (O.faults output.old) (O.faults output.new) result }
+    ensures { Shows (script_from setup.now.kind setup.now.queue setup.now.fds setup.now.outfault setup.now.pieces.items commands.now) (O.held output.old) (O.held output.new) (O.faults output.old) (O.faults output.new) result }
 {
     let mut source = MemorySource::new(&setup.pieces);
     let mut sink = sink_of(alloc, setup.outfault, setup.fds);
@@ -114,8 +114,9 @@ pub fn peer_main<R, I: Source, O: Sink>(
         × IfSome (I.left input.old) (λ bytes. Prints ReadsAre bytes (O.held output.old) (O.held output.new)) }
     // a polled call is answered at most once, by the first later reply that bears its serial, else by the closing error
     ensures polls { result ≡ 0 → IfSome (I.left input.old) (λ bytes. Prints PollsAre bytes (O.held output.old) (O.held output.new)) }
-    // each stream gives exactly the messages that were read since it was made, a clone before them what its original held, then
-    // the end; a closed one is unknown; a full one makes reads wait
+    // each stream gives exactly the messages that were read since it was made, a clone before them what its original held, one for
+    // which the bus was asked those behind the return to its AddMatch, then the end; a closed one, or a denied one, is unknown; a
+    // full one makes reads wait
     ensures streams { result ≡ 0 → IfSome (I.left input.old) (λ bytes. Prints StreamsAre bytes (O.held output.old) (O.held output.new)) }
     // the bytes sent, printed behind the entries, are the encodings of what was put, up to the sink's fault
     ensures sends { result ≡ 0 → IfSome (I.left input.old) (λ bytes. Prints SentIs bytes (O.held output.old) (O.held output.new)) }

@@ -53,7 +53,7 @@ impl<T: Drop> From<AllocFailed<T>> for RunError {
 #[derive(Drop)]
 pub(crate) struct Peer {
     pub(crate) route: Route,
-    names: Lanes,
+    pub(crate) names: Lanes,
     pub(crate) streams: Lanes,
     pub(crate) given: Vec<Option<Message>>,
 }
@@ -93,7 +93,7 @@ fn letter_of<'a>(
     words: &'a Words,
 ) -> wire_message::Result<Letter<'a>>
     requires { sends words.now ≡ true }
-    ensures { MakesAsked result (asks_with (setting_by None None takes_fds) (λ number. kept_at given.now (trails.place 0 lane number streams.now)) words.now) }
+    ensures { MakesAsked result (asks_with (setting_by false None None takes_fds) (λ number. kept_at given.now (trails.place 0 lane number streams.now)) words.now) }
 {
     match words {
         Words::Call(words) => call_letter(alloc, words, takes_fds),
@@ -122,6 +122,7 @@ fn letter_of<'a>(
         | Words::Queue { .. }
         | Words::MainQueue(_)
         | Words::Open { .. }
+        | Words::Opened(_)
         | Words::Close => unreachable!(),
     }
 }
@@ -162,13 +163,22 @@ fn receive<S: Source>(
 }
 
 impl Peer {
-    /// A peer that nothing happened to, with that name, if it has one, whose streams may hold so many messages, if that is set.
-    pub(crate) fn new(alloc: Global, name: Option<OwnedUniqueName>, queue: Option<u64>) -> Peer
-        ensures { (setting : Setting) → setting.name ≡ name → setting.queue ≡ queue → Follows setting result [] }
+    /// A peer that nothing happened to, on a message bus or on none, with that name, if it has one, whose streams may hold so many
+    /// messages, if that is set.
+    pub(crate) fn new(
+        alloc: Global,
+        bus: bool,
+        name: Option<OwnedUniqueName>,
+        queue: Option<u64>,
+    ) -> Peer
+        ensures { (setting : Setting) → setting.bus ≡ bus → setting.name ≡ name → setting.queue ≡ queue → Follows setting result [] }
     {
         let mut route = Route::new(alloc);
         if let Some(limit) = queue {
             route.set_main_max_queued(limit);
+        }
+        if bus {
+            route.set_bus();
         }
         if let Some(name) = name {
             route.set_unique_name(name);
@@ -307,22 +317,12 @@ impl Peer {
         ensures takes { W.takes half.new.sink ≡ W.takes half.old.sink }
         ensures same { W.lent half.new.sink ≡ W.lent half.old.sink }
     {
-        let Some(message) = self.route.outbox(issued.index) else {
-            unreachable!()
-        };
-        match half.send_message(message) {
-            Ok(()) => {
-                self.route.wrote(issued.index);
-                Ok(self.went_out(lane, issued)?)
+        match self.write(half, issued.index)? {
+            None => Ok(self.went_out(lane, issued)?),
+            Some(error) => {
+                self.lost(issued)?;
+                Ok(Answer::SendFailed(error))
             }
-            Err(error) => match error {
-                Error::Memory => Err(RunError::Memory),
-                _ => {
-                    self.route.write_fault(issued.index);
-                    self.lost(issued)?;
-                    Ok(Answer::SendFailed(error))
-                }
-            },
         }
     }
 

@@ -1,6 +1,7 @@
-ghost use Rattle.std.specs.Prelude.{ℕ, ◌≡◌, ◌≤◌, ◌-◌, ◌^◌, length, List, [], ◌∷◌, IfOk};
+ghost use Rattle.std.specs.Prelude.{ℕ, ◌≡◌, ◌≤◌, ◌-◌, ◌^◌, length, List, [], ◌∷◌, IfOk, option_map};
 ghost use Rattle.peer_route.specs.declared.answer.Entry.{Entry};
 ghost use Rattle.peer_route.specs.Parcel.{Setting};
+ghost use Rattle.peer_script.specs.Script.{is_bus, name_of};
 ghost use Rattle.peer_run.specs.Stands.{Inlet, Outlet, setting_by, entry};
 ghost use Rattle.peer_run.specs.Runs.{Stands, Runs, command_of};
 
@@ -44,10 +45,11 @@ fn answer_to<S: Source, W: Sink>(
         Words::Take(number) => Ok(peer.take(lane, *number)),
         Words::TakeBefore { stream, before } => Ok(peer.take_before(lane, *stream, *before)),
         Words::Clone(number) => peer.clone_stream(lane, *number),
-        Words::Unstream { stream, second } => Ok(peer.unstream(lane, *stream, *second)),
+        Words::Unstream { stream, second } => peer.unstream(writer, lane, *stream, *second),
         Words::Queue { stream, limit } => Ok(peer.queue(lane, *stream, *limit)),
         Words::MainQueue(limit) => Ok(peer.main_queue(lane, *limit)),
-        Words::Open { max_queued, rule } => peer.open(alloc, lane, *max_queued, rule),
+        Words::Open { max_queued, rule } => peer.open(alloc, writer, lane, *max_queued, rule),
+        Words::Opened(number) => Ok(peer.opened(lane, *number)),
         Words::Close => Ok(peer.close(writer, lane)),
         Words::Call(_) | Words::Signal(_) | Words::Reply { .. } | Words::Error { .. } => {
             peer.send_words(alloc, writer, lane, &command.words)
@@ -91,9 +93,9 @@ fn step<S: Source, W: Sink>(
 /// A copy of a name, if there is one.
 fn copied_name(
     alloc: Global,
-    name: &Option<OwnedUniqueName>,
+    name: Option<&OwnedUniqueName>,
 ) -> Result<Option<OwnedUniqueName>, AllocError>
-    ensures { IfOk result (λ copy. copy ≡ name.now) }
+    ensures { IfOk result (λ copy. copy ≡ option_map (λ name. name.now) name.entry) }
 {
     match name {
         Some(name) => Ok(Some(name.try_clone(alloc)?)),
@@ -101,8 +103,8 @@ fn copied_name(
     }
 }
 
-/// Runs the commands over a source and a sink, as the peer of the setup's name, and gives their entries: a legal history of
-/// the commands of a peer of that name and that capacity, whose sink takes file descriptors where it says so, each once and in order, whose
+/// Runs the commands over a source and a sink, as the peer of the setup's kind, and gives their entries: a legal history of
+/// the commands of a peer of that kind, that name and that capacity, whose sink takes file descriptors where it says so, each once and in order, whose
 /// reads are what stands at the front of the source's bytes and whose messages are what the sink got, up to its first fault.
 /// All reads go through one half over the source, all sends through one over the sink. Fails only for want of memory; the
 /// source and the sink are then in any state.
@@ -113,7 +115,7 @@ pub fn run_peer<S: Source, W: Sink>(
     sink: &mut W,
     commands: &[Command],
 ) -> Result<Transcript, RunError>
-    ensures run { IfOk result (λ t. Runs (setting_by setup.now.name setup.now.queue (W.takes sink.old))
+    ensures run { IfOk result (λ t. Runs (setting_by (is_bus setup.now.kind) (name_of setup.now.kind) setup.now.queue (W.takes sink.old))
         (record { left = S.left source.old; stop = S.stop source.old; faults = S.faults source.old })
         (record { held = W.held sink.old; room = W.room sink.old; faults = W.faults sink.old })
         (record { left = S.left source.new; stop = S.stop source.new; faults = S.faults source.new })
@@ -122,8 +124,8 @@ pub fn run_peer<S: Source, W: Sink>(
     ensures source_grows { S.faults source.old ≤ S.faults source.new }
     ensures sink_grows { W.faults sink.old ≤ W.faults sink.new }
 {
-    let name = copied_name(alloc, &setup.name)?;
-    let mut peer = Peer::new(alloc, name, setup.queue);
+    let name = copied_name(alloc, setup.kind.name())?;
+    let mut peer = Peer::new(alloc, setup.kind.is_bus(), name, setup.queue);
     let mut reader = ReadHalf::new(source);
     let mut kept = Vec::new(alloc);
     let mut writer = WriteHalf::new(sink);

@@ -1,11 +1,27 @@
 //! What the core gave, as answers.
-ghost use Rattle.std.specs.Prelude.{◌≡◌};
+ghost use Rattle.std.specs.Prelude.{◌≡◌, ◌≢◌};
+ghost use Rattle.wire_message.specs.declared.error.Error.TheVariants as errors;
+ghost use Rattle.peer_route.specs.declared.opening.Opening.{Opening};
+ghost use Rattle.peer_route.specs.declared.progress.OpenState.{OpenState};
+ghost use Rattle.peer_route.specs.declared.progress.OpenState.TheVariants as states;
+ghost use Rattle.peer_route.specs.Bus.{IsShownAs};
 ghost use Rattle.peer_route.specs.Answers as shows;
-ghost use Rattle.peer_run.specs.Stands.{NotIssued, IsRefusal};
+ghost use Rattle.peer_run.specs.Stands.{NotIssued, IsRefusal, IsUnopened, IsKeptOpen, over_answer};
 
 use crate::peer::RunError;
-use peer_route::{Answer, Polled};
-use wire_message::{Error, Message, MessageType};
+use peer_route::{Answer, Opened, Polled};
+use wire_message::{Error, IoKind, Message, MessageType};
+
+/// What is shown of an error reply: the error, where it has a name, or its position.
+fn shown_error(message: Message) -> Answer
+    ensures { result ≡ shows.error_answer message message.error_name }
+{
+    if message.header().error_name().is_some() {
+        Answer::MethodError(message)
+    } else {
+        Answer::InvalidReply(message.recv_position())
+    }
+}
 
 /// What is shown of a reply: its position, and the name of an error that has one.
 fn shown_reply(message: Message) -> Answer
@@ -13,13 +29,7 @@ fn shown_reply(message: Message) -> Answer
 {
     match message.message_type() {
         MessageType::MethodReturn => Answer::Reply(message.recv_position()),
-        MessageType::Error => {
-            if message.header().error_name().is_some() {
-                Answer::MethodError(message)
-            } else {
-                Answer::InvalidReply(message.recv_position())
-            }
-        }
+        MessageType::Error => shown_error(message),
         MessageType::MethodCall | MessageType::Signal => {
             Answer::InvalidReply(message.recv_position())
         }
@@ -67,6 +77,53 @@ pub(crate) fn refused(error: Error) -> Result<Answer, RunError>
 {
     match error {
         Error::Memory => Err(RunError::Memory),
+        _ => Ok(Answer::Refused(error)),
+    }
+}
+
+/// What is answered where a stream of a rule wasn't opened.
+pub(crate) fn unopened(error: Error) -> Result<Answer, RunError>
+    ensures { IsUnopened error result }
+{
+    match error {
+        Error::Memory => Err(RunError::Memory),
+        Error::Busy => Ok(Answer::Busy),
+        Error::InputOutput(IoKind::WriteFault) => Ok(Answer::SendFailed(error)),
+        _ => Ok(Answer::Refused(error)),
+    }
+}
+
+/// What is shown of asking whether a stream is open, for which the bus was asked.
+pub(crate) fn shown_opening(opened: Opened) -> Answer
+    ensures { (o : Opening) (state : OpenState) → IsShownAs o state opened → state ≢ states.Over errors.UnknownHandle → result ≡ shows.shown_opening state }
+{
+    match opened {
+        Opened::Open(_) => Answer::Opened,
+        Opened::NotYet(_) => Answer::NotYet,
+        // The core takes no memory to tell.
+        Opened::Memory(_) => Answer::NotYet,
+        Opened::Refused(message) => shown_error(message),
+        Opened::Over(error) => shown_over(error),
+    }
+}
+
+/// What is shown where a stream will not be open, or isn't one for which the bus was asked.
+fn shown_over(error: Error) -> Answer
+    ensures { result ≡ over_answer error }
+{
+    match error {
+        Error::UnknownHandle => Answer::Refused(error),
+        _ => Answer::Closed(error),
+    }
+}
+
+/// What is answered where streams stay open: an AddMatch or a RemoveMatch is on its way, or want of memory.
+pub(crate) fn kept_open(error: Error) -> Result<Answer, RunError>
+    ensures { IsKeptOpen error result }
+{
+    match error {
+        Error::Memory => Err(RunError::Memory),
+        Error::Busy => Ok(Answer::Busy),
         _ => Ok(Answer::Refused(error)),
     }
 }

@@ -10,15 +10,13 @@ ghost use Rattle.peer_run.specs.Stands.{Inlet, Outlet, Follows, Reads, Writes, g
 
 use crate::peer::{Peer, RunError};
 use crate::showing::refused;
-use peer_route::{Answer, MessageStream, Opens, Polled, Spent};
-use rule_match::OwnedMatchRule;
-use std::alloc::{AllocError, Global};
+use peer_route::{Answer, MessageStream, Polled};
+use std::alloc::AllocError;
 use wire_message::{Error, Message, Sequence};
-use wire_names::Bytes;
 
 impl Peer {
     /// The lane's next stream, which the core made: its number is answered. It has given nothing.
-    fn made(&mut self, lane: u32) -> Result<Answer, AllocError>
+    pub(crate) fn made(&mut self, lane: u32) -> Result<Answer, AllocError>
         ensures answer { IfOk result (λ answer. answer ≡ answers.Streaming (trails.count lane self.old.streams)) }
         ensures made { OnOk result (self.new ≡ record self.old { streams = self.old.streams ++ Some lane ∷ []; given = self.old.given ++ None ∷ [] }) }
     {
@@ -38,32 +36,6 @@ impl Peer {
     {
         let _ = self.route.open()?;
         Ok(self.made(lane)?)
-    }
-
-    /// Opens a stream of the rule that a text is, for the lane.
-    pub(crate) fn open(
-        &mut self,
-        alloc: Global,
-        lane: u32,
-        max_queued: Option<u64>,
-        text: &Bytes,
-    ) -> Result<Answer, RunError>
-        ensures follows { IfOk result (λ answer. (setting : Setting) (es : List Entry) → Follows setting self.old es → Follows setting self.new (entry lane (words.Open max_queued text.now) answer ∷ es)) }
-        ensures reads { IfOk result (λ answer. (setting : Setting) (start now : Inlet) (es : List Entry) → Follows setting self.old es
-            → Reads setting start now es → Reads setting start now (entry lane (words.Open max_queued text.now) answer ∷ es)) }
-        ensures writes { IfOk result (λ answer. (setting : Setting) (start now : Outlet) (es : List Entry) → Follows setting self.old es
-            → Writes setting start now es → Writes setting start now (entry lane (words.Open max_queued text.now) answer ∷ es)) }
-    {
-        let rule = match OwnedMatchRule::try_from_bytes(alloc, text.as_slice()) {
-            Ok(rule) => rule,
-            Err(error) => return refused(error),
-        };
-        match self.route.open_rule(rule, max_queued) {
-            Ok(Opens::Open(_)) => Ok(self.made(lane)?),
-            // No command puts the peer on a bus, so no stream ever waits for one.
-            Ok(Opens::Opening(_)) => refused(Error::Busy),
-            Err(error) => refused(error),
-        }
     }
 
     /// What is shown of a take from the stream with this number; an item that it gave is kept.
@@ -136,84 +108,6 @@ impl Peer {
         match self.route.clone_stream(&MessageStream { number: original }) {
             Ok(_) => Ok(self.made(lane)?),
             Err(error) => refused(error),
-        }
-    }
-
-    /// What the stream with this number gave last is kept no more.
-    fn forget(&mut self, stream: u64)
-        ensures { self.new ≡ record self.old { given = slice_set self.old.given stream None } }
-    {
-        if let Some(slot) = self.given.get_mut(stream as usize) {
-            *slot = None;
-        }
-    }
-
-    /// Closes the lane's stream with this number, and then the second.
-    pub(crate) fn unstream(&mut self, lane: u32, number: u64, second: Option<u64>) -> Answer
-        ensures follows { (setting : Setting) (es : List Entry) → Follows setting self.old es → Follows setting self.new (entry lane (words.Unstream number second) result ∷ es) }
-        ensures reads { (setting : Setting) (start now : Inlet) (es : List Entry) → Follows setting self.old es
-            → Reads setting start now es → Reads setting start now (entry lane (words.Unstream number second) result ∷ es) }
-        ensures writes { (setting : Setting) (start now : Outlet) (es : List Entry) → Follows setting self.old es
-            → Writes setting start now es → Writes setting start now (entry lane (words.Unstream number second) result ∷ es) }
-    {
-        match second {
-            Some(second) => self.unstream_two(lane, number, second),
-            None => self.unstream_one(lane, number),
-        }
-    }
-
-    /// Closes the lane's stream with this number.
-    fn unstream_one(&mut self, lane: u32, number: u64) -> Answer
-        ensures follows { (setting : Setting) (es : List Entry) → Follows setting self.old es → Follows setting self.new (entry lane (words.Unstream number None) result ∷ es) }
-        ensures reads { (setting : Setting) (start now : Inlet) (es : List Entry) → Follows setting self.old es
-            → Reads setting start now es → Reads setting start now (entry lane (words.Unstream number None) result ∷ es) }
-        ensures writes { (setting : Setting) (start now : Outlet) (es : List Entry) → Follows setting self.old es
-            → Writes setting start now es → Writes setting start now (entry lane (words.Unstream number None) result ∷ es) }
-    {
-        let Some(stream) = self.streams.place(lane, number) else {
-            return Answer::Refused(Error::UnknownHandle);
-        };
-        match self
-            .route
-            .close_stream(MessageStream { number: stream }, None)
-        {
-            Spent::Gone(_) => {
-                self.forget(stream);
-                Answer::Gone
-            }
-            Spent::Over(error) => Answer::Refused(error),
-            // No command puts the peer on a bus, so no stream is ever handed back.
-            Spent::Back(_, _, error) => Answer::Refused(error),
-        }
-    }
-
-    /// Closes the lane's stream with the first number, and then that with the second.
-    fn unstream_two(&mut self, lane: u32, number: u64, second: u64) -> Answer
-        ensures follows { (setting : Setting) (es : List Entry) → Follows setting self.old es → Follows setting self.new (entry lane (words.Unstream number (Some second)) result ∷ es) }
-        ensures reads { (setting : Setting) (start now : Inlet) (es : List Entry) → Follows setting self.old es
-            → Reads setting start now es → Reads setting start now (entry lane (words.Unstream number (Some second)) result ∷ es) }
-        ensures writes { (setting : Setting) (start now : Outlet) (es : List Entry) → Follows setting self.old es
-            → Writes setting start now es → Writes setting start now (entry lane (words.Unstream number (Some second)) result ∷ es) }
-    {
-        let Some(stream) = self.streams.place(lane, number) else {
-            return Answer::Refused(Error::UnknownHandle);
-        };
-        let Some(other) = self.streams.place(lane, second) else {
-            return Answer::Refused(Error::UnknownHandle);
-        };
-        let closed = self.route.close_stream(
-            MessageStream { number: stream },
-            Some(MessageStream { number: other }),
-        );
-        match closed {
-            Spent::Gone(_) => {
-                self.forget(stream);
-                self.forget(other);
-                Answer::Gone
-            }
-            Spent::Over(error) => Answer::Refused(error),
-            // No command puts the peer on a bus, so no stream is ever handed back.
-            Spent::Back(_, _, error) => Answer::Refused(error),
         }
     }
 

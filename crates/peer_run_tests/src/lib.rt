@@ -2,6 +2,8 @@
 #![tactic(auto)]
 
 #[cfg(test)]
+mod bus;
+#[cfg(test)]
 mod cases;
 #[cfg(test)]
 mod harness;

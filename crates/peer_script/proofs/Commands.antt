@@ -98,6 +98,7 @@ entry_words (words.Drop number) = codes "drop" ∷ decimal number ∷ []
 entry_words words.Stream = codes "stream" ∷ []
 entry_words (words.Take number) = codes "take" ∷ decimal number ∷ []
 entry_words (words.TakeBefore stream before) = codes "takebefore" ∷ decimal stream ∷ decimal before ∷ []
+entry_words (words.Opened number) = codes "opened" ∷ decimal number ∷ []
 entry_words (words.Clone stream) = codes "clone" ∷ decimal stream ∷ []
 entry_words (words.Unstream stream None) = codes "unstream" ∷ decimal stream ∷ []
 entry_words (words.Unstream stream (Some second)) = codes "unstream" ∷ decimal stream ∷ decimal second ∷ []
@@ -149,6 +150,7 @@ words_spaced (words.Drop number) = simp append-nil
 words_spaced words.Stream = refl
 words_spaced (words.Take number) = simp append-nil
 words_spaced (words.TakeBefore stream before) = take_before_spaced (decimal stream) (decimal before)
+words_spaced (words.Opened number) = simp append-nil
 words_spaced (words.Clone stream) = simp append-nil
 words_spaced (words.Unstream stream None) = simp append-nil
 words_spaced (words.Unstream stream (Some second)) = unstream_spaced (decimal stream) (decimal second)
@@ -198,6 +200,9 @@ are_words (words.Drop number) h =
 are_words (words.Take number) h =
     let name : IsWord (codes "take") = record { bytes = refl; some = omega arith; other = refl } in
     All-from_recursion IsWord (entry_words (words.Take number)) (name, (number_is_word number h, tt))
+are_words (words.Opened number) h =
+    let name : IsWord (codes "opened") = record { bytes = refl; some = omega arith; other = refl } in
+    All-from_recursion IsWord (entry_words (words.Opened number)) (name, (number_is_word number h, tt))
 are_words (words.Clone stream) h =
     let name : IsWord (codes "clone") = record { bytes = refl; some = omega arith; other = refl } in
     All-from_recursion IsWord (entry_words (words.Clone stream)) (name, (number_is_word stream h, tt))
@@ -249,6 +254,7 @@ command_again (words.Drop number) h = rw (number_again number h) refl
 command_again words.Stream h = refl
 command_again (words.Take number) h = rw (number_again number h) refl
 command_again (words.TakeBefore stream before) h = rw (number_again stream h.0, number_again before h.1) refl
+command_again (words.Opened number) h = rw (number_again number h) refl
 command_again (words.Clone stream) h = rw (number_again stream h) refl
 command_again (words.Unstream stream None) h = rw (number_again stream h.0) refl
 command_again (words.Unstream stream (Some second)) h = rw (number_again stream h.0, number_again second h.1) refl
@@ -277,6 +283,7 @@ no_head a (words.Drop number) c ds = head_none a (codes "drop") c (decimal numbe
 no_head a words.Stream c ds = head_none a (codes "stream") c [] ds
 no_head a (words.Take number) c ds = head_none a (codes "take") c (decimal number ∷ []) ds
 no_head a (words.TakeBefore stream before) c ds = head_none a (codes "takebefore") c (decimal stream ∷ decimal before ∷ []) ds
+no_head a (words.Opened number) c ds = head_none a (codes "opened") c (decimal number ∷ []) ds
 no_head a (words.Clone stream) c ds = head_none a (codes "clone") c (decimal stream ∷ []) ds
 no_head a (words.Unstream stream None) c ds = head_none a (codes "unstream") c (decimal stream ∷ []) ds
 no_head a (words.Unstream stream (Some second)) c ds = head_none a (codes "unstream") c (decimal stream ∷ decimal second ∷ []) ds

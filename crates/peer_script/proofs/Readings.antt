@@ -1,12 +1,13 @@
 -- Each script's text is read.
 use Rattle.std.proofs.Common.{ℕ, ◌≡◌, ◌+◌, ◌≤◌, Bool, true, false, List, [], ◌∷◌, ◌++◌, length, map, Option, Some, None, Ok, refl, sym, ap, ◌∙◌, arith, append_assoc, append-nil, length-append}
 use Rattle.peer_route.specs.declared.words.Command.{Command}
+use Rattle.peer_script.specs.declared.kind.PeerKind.{PeerKind}
 use Rattle.peer_script.specs.declared.line.Line.{Line}
-use Rattle.peer_script.specs.declared.line.Line.TheVariants.{Direct, Capacity, Fds, OutFault, Do, Sent}
+use Rattle.peer_script.specs.declared.line.Line.TheVariants.{Peer, Capacity, Fds, OutFault, Do, Sent}
 use Rattle.peer_script.specs.declared.reading.Stage.{Stage}
 use Rattle.peer_script.specs.declared.reading.Stage.TheVariants.{Start, Head, Queued, Sink, Pieces, Commands, Over}
 use Rattle.peer_script.specs.Script.{Given, Gave, Broke, Script, ScriptText, line_of, parts, capacity_lines, fds_lines, outfault_lines, given_line, sent_lines, script_lines}
-use Rattle.peer_script.specs.Reading.{Step, begun, with_name, with_queue, with_fds, with_outfault, more_given, more_command, take_line, then_read, read_lines, script_of}
+use Rattle.peer_script.specs.Reading.{Step, begun, with_kind, with_queue, with_fds, with_outfault, more_given, more_command, take_line, then_read, read_lines, script_of}
 use Rattle.peer_script.proofs.Read.{lines_step}
 use Rattle.peer_script.proofs.Grammar.{body, Fits, joined, front, none_or}
 
@@ -113,12 +114,12 @@ read_commands (c ∷ cs) stage b s n (line ∷ lines) f e =
 read_given : (gs : List Given) (stage : Stage) (cs : List Command) (b : Bool) (s : Script) (n : ℕ) (lines : List (List ℕ)) → Fits stage None gs cs b → map line_of lines ≡ map Some (body None gs cs b)
     → read_lines (record { stage = stage; script = s }) n (lines ++ [] ∷ []) ≡ Ok (joined s None gs cs)
 read_given [] stage cs b s n lines f e =
-    read_commands cs stage b s n lines f e ∙ ap (λ l. Ok (record { name = s.name; queue = s.queue; fds = s.fds; outfault = s.outfault; given = l; commands = s.commands ++ cs })) (sym (append-nil s.given))
+    read_commands cs stage b s n lines f e ∙ ap (λ l. Ok (record { kind = s.kind; queue = s.queue; fds = s.fds; outfault = s.outfault; given = l; commands = s.commands ++ cs })) (sym (append-nil s.given))
 read_given (g ∷ gs) stage cs b s n [] f e = absurd (cc)
 read_given (g ∷ gs) stage cs b s n (line ∷ lines) f e =
     read_on stage s _ n line lines (record { stage = Pieces; script = more_given s g }) (takes_given stage s (line_of line) g gs cs b f cc)
     (read_given gs Pieces cs b (more_given s g) (n + 1) lines refl (cc)
-    ∙ ap (λ l. Ok (record { name = s.name; queue = s.queue; fds = s.fds; outfault = s.outfault; given = l; commands = s.commands ++ cs })) (append_assoc s.given (g ∷ []) gs))
+    ∙ ap (λ l. Ok (record { kind = s.kind; queue = s.queue; fds = s.fds; outfault = s.outfault; given = l; commands = s.commands ++ cs })) (append_assoc s.given (g ∷ []) gs))
 
 read_head : (out : Option ℕ) (stage : Stage) (gs : List Given) (cs : List Command) (b : Bool) (s : Script) (n : ℕ) (lines : List (List ℕ)) → IsHead stage
     → map line_of lines ≡ map Some (body out gs cs b) → read_lines (record { stage = stage; script = s }) n (lines ++ [] ∷ []) ≡ Ok (joined s out gs cs)
@@ -157,40 +158,40 @@ takes_fds Pieces s o h e = absurd h
 takes_fds Commands s o h e = absurd h
 takes_fds Over s o h e = absurd h
 
-read_fds : (fds : Bool) (stage : Stage) (out : Option ℕ) (gs : List Given) (cs : List Command) (b : Bool) (name : Option (List ℕ)) (queue : Option ℕ) (n : ℕ) (lines : List (List ℕ)) → IsFront stage
+read_fds : (fds : Bool) (stage : Stage) (out : Option ℕ) (gs : List Given) (cs : List Command) (b : Bool) (kind : PeerKind) (queue : Option ℕ) (n : ℕ) (lines : List (List ℕ)) → IsFront stage
     → map line_of lines ≡ map Some (fds_lines fds ++ outfault_lines out ++ map given_line gs ++ map Do cs ++ sent_lines b)
-    → read_lines (record { stage = stage; script = front name queue false }) n (lines ++ [] ∷ []) ≡ Ok (record { name = name; queue = queue; fds = fds; outfault = out; given = gs; commands = cs })
-read_fds false stage out gs cs b name queue n lines h e =
-    read_head out stage gs cs b (front name queue false) n lines (front_head stage h) e ∙ ap (λ o. Ok (record { name = name; queue = queue; fds = false; outfault = o; given = gs; commands = cs })) (none_or out)
-read_fds true stage out gs cs b name queue n [] h e = absurd (cc)
-read_fds true stage out gs cs b name queue n (line ∷ lines) h e =
-    read_on stage (front name queue false) _ n line lines (record { stage = Sink; script = front name queue true }) (takes_fds stage (front name queue false) (line_of line) h cc)
-    (read_head out Sink gs cs b (front name queue true) (n + 1) lines tt (cc))
-    ∙ ap (λ o. Ok (record { name = name; queue = queue; fds = true; outfault = o; given = gs; commands = cs })) (none_or out)
+    → read_lines (record { stage = stage; script = front kind queue false }) n (lines ++ [] ∷ []) ≡ Ok (record { kind = kind; queue = queue; fds = fds; outfault = out; given = gs; commands = cs })
+read_fds false stage out gs cs b kind queue n lines h e =
+    read_head out stage gs cs b (front kind queue false) n lines (front_head stage h) e ∙ ap (λ o. Ok (record { kind = kind; queue = queue; fds = false; outfault = o; given = gs; commands = cs })) (none_or out)
+read_fds true stage out gs cs b kind queue n [] h e = absurd (cc)
+read_fds true stage out gs cs b kind queue n (line ∷ lines) h e =
+    read_on stage (front kind queue false) _ n line lines (record { stage = Sink; script = front kind queue true }) (takes_fds stage (front kind queue false) (line_of line) h cc)
+    (read_head out Sink gs cs b (front kind queue true) (n + 1) lines tt (cc))
+    ∙ ap (λ o. Ok (record { kind = kind; queue = queue; fds = true; outfault = o; given = gs; commands = cs })) (none_or out)
 
 takes_queue : (s : Script) (o : Option Line) (limit : ℕ) → o ≡ Some (Capacity limit) → take_line Head s o ≡ Some (record { stage = Queued; script = with_queue s limit })
 unfolding take_line
 takes_queue s o limit e = ap (take_line Head s) e
 
-read_queue : (queue : Option ℕ) (fds : Bool) (out : Option ℕ) (gs : List Given) (cs : List Command) (b : Bool) (name : Option (List ℕ)) (n : ℕ) (lines : List (List ℕ))
+read_queue : (queue : Option ℕ) (fds : Bool) (out : Option ℕ) (gs : List Given) (cs : List Command) (b : Bool) (kind : PeerKind) (n : ℕ) (lines : List (List ℕ))
     → map line_of lines ≡ map Some (capacity_lines queue ++ fds_lines fds ++ outfault_lines out ++ map given_line gs ++ map Do cs ++ sent_lines b)
-    → read_lines (record { stage = Head; script = front name None false }) n (lines ++ [] ∷ []) ≡ Ok (record { name = name; queue = queue; fds = fds; outfault = out; given = gs; commands = cs })
-read_queue None fds out gs cs b name n lines e = read_fds fds Head out gs cs b name None n lines tt e
-read_queue (Some limit) fds out gs cs b name n [] e = absurd (cc)
-read_queue (Some limit) fds out gs cs b name n (line ∷ lines) e =
-    read_on Head (front name None false) _ n line lines (record { stage = Queued; script = front name (Some limit) false }) (takes_queue (front name None false) (line_of line) limit cc)
-    (read_fds fds Queued out gs cs b name (Some limit) (n + 1) lines tt (cc))
+    → read_lines (record { stage = Head; script = front kind None false }) n (lines ++ [] ∷ []) ≡ Ok (record { kind = kind; queue = queue; fds = fds; outfault = out; given = gs; commands = cs })
+read_queue None fds out gs cs b kind n lines e = read_fds fds Head out gs cs b kind None n lines tt e
+read_queue (Some limit) fds out gs cs b kind n [] e = absurd (cc)
+read_queue (Some limit) fds out gs cs b kind n (line ∷ lines) e =
+    read_on Head (front kind None false) _ n line lines (record { stage = Queued; script = front kind (Some limit) false }) (takes_queue (front kind None false) (line_of line) limit cc)
+    (read_fds fds Queued out gs cs b kind (Some limit) (n + 1) lines tt (cc))
 
-takes_direct : (s : Script) (name : Option (List ℕ)) (o : Option Line) → o ≡ Some (Direct name) → take_line Start s o ≡ Some (record { stage = Head; script = with_name s name })
+takes_peer : (s : Script) (kind : PeerKind) (o : Option Line) → o ≡ Some (Peer kind) → take_line Start s o ≡ Some (record { stage = Head; script = with_kind s kind })
 unfolding take_line
-takes_direct s name o e = ap (take_line Start s) e
+takes_peer s kind o e = ap (take_line Start s) e
 
 from_lines : (lines : List (List ℕ)) (bytes : List ℕ) (s : Script) (b : Bool) → parts bytes ≡ lines ++ [] ∷ [] → map line_of lines ≡ map Some (script_lines s b)
     → read_lines begun 1 (parts bytes) ≡ Ok s
 from_lines [] bytes s b p e = absurd (cc)
 from_lines (line ∷ lines) bytes s b p e =
-    ap (read_lines begun 1) p ∙ read_on Start begun.script _ 1 line lines (record { stage = Head; script = with_name begun.script s.name }) (takes_direct begun.script s.name (line_of line) cc)
-    (read_queue s.queue s.fds s.outfault s.given s.commands b s.name (1 + 1) lines cc)
+    ap (read_lines begun 1) p ∙ read_on Start begun.script _ 1 line lines (record { stage = Head; script = with_kind begun.script s.kind }) (takes_peer begun.script s.kind (line_of line) cc)
+    (read_queue s.queue s.fds s.outfault s.given s.commands b s.kind (1 + 1) lines cc)
 
 pub reading_of_text : (bytes : List ℕ) (s : Script) → ScriptText bytes s → script_of bytes ≡ Ok s
 unfolding script_of

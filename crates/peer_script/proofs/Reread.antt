@@ -13,13 +13,15 @@ use Rattle.peer_route.specs.declared.words.Command.{Command}
 use Rattle.peer_route.specs.declared.answer.Answer.{Answer}
 use Rattle.peer_route.specs.declared.answer.Answer.TheVariants as answers
 use Rattle.peer_route.specs.declared.answer.Entry.{Entry}
+use Rattle.peer_script.specs.declared.kind.PeerKind.{PeerKind}
+use Rattle.peer_script.specs.declared.kind.PeerKind.TheVariants as peers
 use Rattle.peer_script.specs.declared.line.Line.{Line}
-use Rattle.peer_script.specs.declared.line.Line.TheVariants.{Direct, Capacity, Fds, OutFault, In, InFault, Do, Sent}
+use Rattle.peer_script.specs.declared.line.Line.TheVariants.{Peer, Capacity, Fds, OutFault, In, InFault, Do, Sent}
 use Rattle.wire_names.specs.Names.{is_unique_name}
 use Rattle.peer_script.specs.Word.{same, words_of, number_of, text_of, text_word}
 use Rattle.peer_route.specs.Hex.{bytes_of, hex_digit, hex_two, hex_word}
 use Rattle.peer_script.specs.Script.{Given, Gave, Broke, ScriptText, given_line, capacity_lines, fds_lines, outfault_lines, parts, lane_words, command_words, command_line, head_line, line_of, script_lines}
-use Rattle.peer_script.specs.Transcript.{or_empty, shown_byte, shown_text, io_word, error_word, words_text, answer_text, entry_text, given_text, direct_text, capacity_text, fds_text, outfault_text, sent_word, transcript_text}
+use Rattle.peer_script.specs.Transcript.{or_empty, shown_byte, shown_text, io_word, error_word, words_text, answer_text, untold_word, is_io, entry_text, given_text, peer_text, capacity_text, fds_text, outfault_text, sent_word, transcript_text}
 use Rattle.peer_script.specs.Again.{command_of, HasBytes, HasNumbers, CanBeRead, IsGiven, IsName, IsCount}
 use Rattle.peer_route.proofs.Spelled.{bytes_again}
 use Rattle.peer_script.proofs.Grammar.{mapped}
@@ -111,12 +113,23 @@ error_line errors.SerialsSpent h = refl
 error_line errors.UnknownHandle h = refl
 error_line errors.Busy h = refl
 
+untold_line : (io : Bool) → list_all line_byte (untold_word io) ≡ true
+untold_line true = refl
+untold_line false = refl
+
 answer_line : (a : Answer) → HasNumbers a → list_all line_byte (answer_text a) ≡ true
 unfolding answer_text
 answer_line (answers.Called call serial) h =
     let first = joined line_byte (codes "call ") (decimal call) refl (number_line call h.0) in
     let second = joined line_byte (codes "call " ++ decimal call) (codes " serial ") first refl in
     joined line_byte (codes "call " ++ decimal call ++ codes " serial ") (decimal serial) second (number_line serial h.1)
+answer_line (answers.Opening number serial) h =
+    let first = joined line_byte (codes "opening ") (decimal number) refl (number_line number h.0) in
+    let second = joined line_byte (codes "opening " ++ decimal number) (codes " serial ") first refl in
+    joined line_byte (codes "opening " ++ decimal number ++ codes " serial ") (decimal serial) second (number_line serial h.1)
+answer_line answers.Opened h = refl
+answer_line (answers.SentFirst error) h = joined line_byte (codes "sendfailed ") (error_word error) refl (error_line error h)
+answer_line (answers.Untold error) h = joined line_byte (untold_word (is_io error)) (error_word error) (untold_line (is_io error)) (error_line error h)
 answer_line (answers.Sent serial) h = joined line_byte (codes "sent ") (decimal serial) refl (number_line serial h)
 answer_line (answers.MethodError m) h =
     let first = joined line_byte (codes "methoderror ") (decimal m.position) refl (number_line m.position h.0) in
@@ -142,7 +155,8 @@ answer_line (answers.Streaming number) h = joined line_byte (codes "stream ") (d
 answer_line (answers.Item position) h = joined line_byte (codes "item ") (decimal position) refl (number_line position h)
 answer_line answers.Empty h = refl
 answer_line answers.Ended h = refl
-answer_line answers.Gone h = refl
+answer_line (answers.Gone None) h = refl
+answer_line (answers.Gone (Some serial)) h = joined line_byte (codes "gone serial ") (decimal serial) refl (number_line serial h)
 answer_line answers.Set h = refl
 answer_line answers.Shut h = refl
 
@@ -216,35 +230,46 @@ dash_again : head_line (codes "sent" ∷ (45 ∷ []) ∷ []) ≡ Some Sent
 unfolding head_line
 dash_again = refl
 
-direct_alone : line_of (codes "direct") ≡ Some (Direct None)
+direct_alone : line_of (codes "direct") ≡ Some (Peer (peers.Direct None))
 unfolding line_of head_line
 direct_alone = refl
 
-name_again : (name word : List ℕ) → text_of word ≡ Some name → is_unique_name name ≡ true → head_line (codes "direct" ∷ word ∷ []) ≡ Some (Direct (Some name))
+direct_again : (name word : List ℕ) → text_of word ≡ Some name → is_unique_name name ≡ true → head_line (codes "direct" ∷ word ∷ []) ≡ Some (Peer (peers.Direct (Some name)))
 unfolding head_line
-name_again name word e f = rw (e, f) refl
+direct_again name word e f = rw (e, f) refl
 
-direct_words : Option (List ℕ) → List ℕ
-direct_words None = codes "direct"
-direct_words (Some name) = codes "direct " ++ text_word name
+bus_again : (name word : List ℕ) → text_of word ≡ Some name → is_unique_name name ≡ true → head_line (codes "bus" ∷ word ∷ []) ≡ Some (Peer (peers.Bus name))
+unfolding head_line
+bus_again name word e f = rw (e, f) refl
 
-direct_ends : (name : Option (List ℕ)) (rest : List ℕ) → direct_text name ++ rest ≡ direct_words name ++ 10 ∷ rest
-unfolding direct_text direct_words
-direct_ends None rest = refl
-direct_ends (Some name) rest = append_assoc (codes "direct " ++ text_word name) (10 ∷ []) rest
+peer_words : PeerKind → List ℕ
+peer_words (peers.Direct None) = codes "direct"
+peer_words (peers.Direct (Some name)) = codes "direct " ++ text_word name
+peer_words (peers.Bus name) = codes "bus " ++ text_word name
 
-direct_bytes : (name : Option (List ℕ)) → IsName name → list_all line_byte (direct_words name) ≡ true
-unfolding direct_words
-direct_bytes None h = refl
-direct_bytes (Some name) h = joined line_byte (codes "direct ") (text_word name) refl (word_line (text_word name) (text_bytes name h.0.bytes))
+peer_ends : (kind : PeerKind) (rest : List ℕ) → peer_text kind ++ rest ≡ peer_words kind ++ 10 ∷ rest
+unfolding peer_text peer_words
+peer_ends (peers.Direct None) rest = refl
+peer_ends (peers.Direct (Some name)) rest = append_assoc (codes "direct " ++ text_word name) (10 ∷ []) rest
+peer_ends (peers.Bus name) rest = append_assoc (codes "bus " ++ text_word name) (10 ∷ []) rest
 
-direct_again : (name : Option (List ℕ)) → IsName name → line_of (direct_words name) ≡ Some (Direct name)
-unfolding direct_words
-direct_again None h = direct_alone
-direct_again (Some name) h =
+peer_bytes : (kind : PeerKind) → IsName kind → list_all line_byte (peer_words kind) ≡ true
+unfolding peer_words
+peer_bytes (peers.Direct None) h = refl
+peer_bytes (peers.Direct (Some name)) h = joined line_byte (codes "direct ") (text_word name) refl (word_line (text_word name) (text_bytes name h.0.bytes))
+peer_bytes (peers.Bus name) h = joined line_byte (codes "bus ") (text_word name) refl (word_line (text_word name) (text_bytes name h.0.bytes))
+
+peer_again : (kind : PeerKind) → IsName kind → line_of (peer_words kind) ≡ Some (Peer kind)
+unfolding peer_words
+peer_again (peers.Direct None) h = direct_alone
+peer_again (peers.Direct (Some name)) h =
     let direct : IsWord (codes "direct") = record { bytes = refl; some = omega arith; other = refl } in
-    head_again (codes "direct " ++ text_word name) (Direct (Some name))
-    (ap head_line (two_words (codes "direct") (text_word name) direct (text_is_word name h.0)) ∙ name_again name (text_word name) (text_again name h.0.some h.0.bytes) h.1)
+    head_again (codes "direct " ++ text_word name) (Peer (peers.Direct (Some name)))
+    (ap head_line (two_words (codes "direct") (text_word name) direct (text_is_word name h.0)) ∙ direct_again name (text_word name) (text_again name h.0.some h.0.bytes) h.1)
+peer_again (peers.Bus name) h =
+    let bus : IsWord (codes "bus") = record { bytes = refl; some = omega arith; other = refl } in
+    head_again (codes "bus " ++ text_word name) (Peer (peers.Bus name))
+    (ap head_line (two_words (codes "bus") (text_word name) bus (text_is_word name h.0)) ∙ bus_again name (text_word name) (text_again name h.0.some h.0.bytes) h.1)
 
 infault_again : line_of (codes "infault") ≡ Some InFault
 unfolding line_of head_line
@@ -394,40 +419,40 @@ lines_joined qs fs outs ins dos =
 whole_ends : (d q f o gs es s w : List ℕ) → (((((((d ++ q) ++ f) ++ o) ++ gs) ++ es) ++ s) ++ w) ++ 10 ∷ [] ≡ d ++ (q ++ (f ++ (o ++ (gs ++ (es ++ ((s ++ w) ++ 10 ∷ []))))))
 whole_ends d q f o gs es s w = simp append_assoc
 
-all_lines : Option (List ℕ) → Option ℕ → Bool → Option ℕ → List Given → List Entry → List ℕ → List (List ℕ)
-all_lines name queue fds out gs es sent =
-    direct_words name ∷ (capacity_words queue ++ (fds_words fds ++ (outfault_words out ++ (map given_words gs ++ (map entry_line es ++ sent_text sent ∷ [])))))
+all_lines : PeerKind → Option ℕ → Bool → Option ℕ → List Given → List Entry → List ℕ → List (List ℕ)
+all_lines kind queue fds out gs es sent =
+    peer_words kind ∷ (capacity_words queue ++ (fds_words fds ++ (outfault_words out ++ (map given_words gs ++ (map entry_line es ++ sent_text sent ∷ [])))))
 
-whole_parts : (name : Option (List ℕ)) (queue : Option ℕ) (fds : Bool) (out : Option ℕ) (gs : List Given) (es : List Entry) (sent : List ℕ)
-    → IsName name → IsCount queue → IsCount out → All IsGiven gs → All CanBeRead es → All (λ b. b < 256) sent
-    → parts (transcript_text name queue fds out gs es sent) ≡ all_lines name queue fds out gs es sent ++ [] ∷ []
+whole_parts : (kind : PeerKind) (queue : Option ℕ) (fds : Bool) (out : Option ℕ) (gs : List Given) (es : List Entry) (sent : List ℕ)
+    → IsName kind → IsCount queue → IsCount out → All IsGiven gs → All CanBeRead es → All (λ b. b < 256) sent
+    → parts (transcript_text kind queue fds out gs es sent) ≡ all_lines kind queue fds out gs es sent ++ [] ∷ []
 unfolding transcript_text all_lines sent_text
-whole_parts name queue fds out gs es sent n q o p e s =
+whole_parts kind queue fds out gs es sent n q o p e s =
     let last = sent_text sent ++ 10 ∷ [] in
     let entries = flat_map entry_text es ++ last in
     let source = flat_map given_text gs ++ entries in
     let sink = outfault_text out ++ source in
     let head = fds_text fds ++ sink in
-    ap parts (whole_ends (direct_text name) (capacity_text queue) (fds_text fds) (outfault_text out) (flat_map given_text gs) (flat_map entry_text es) (codes "sent ") (sent_word sent)
-    ∙ direct_ends name (capacity_text queue ++ head))
-    ∙ line_part (direct_words name) (capacity_text queue ++ head) (direct_bytes name n)
-    ∙ ap (λ l. direct_words name ∷ l) (capacity_parts queue head q ∙ ap (λ l. capacity_words queue ++ l)
+    ap parts (whole_ends (peer_text kind) (capacity_text queue) (fds_text fds) (outfault_text out) (flat_map given_text gs) (flat_map entry_text es) (codes "sent ") (sent_word sent)
+    ∙ peer_ends kind (capacity_text queue ++ head))
+    ∙ line_part (peer_words kind) (capacity_text queue ++ head) (peer_bytes kind n)
+    ∙ ap (λ l. peer_words kind ∷ l) (capacity_parts queue head q ∙ ap (λ l. capacity_words queue ++ l)
     (fds_parts fds sink ∙ ap (λ l. fds_words fds ++ l)
     (outfault_parts out source o ∙ ap (λ l. outfault_words out ++ l)
     (given_parts gs entries p ∙ ap (λ l. map given_words gs ++ l)
     (entries_parts es last e ∙ ap (λ l. map entry_line es ++ l) (line_part (sent_text sent) [] (sent_bytes sent s)))))))
-    ∙ ap (λ l. direct_words name ∷ l) (simp append_assoc)
+    ∙ ap (λ l. peer_words kind ∷ l) (simp append_assoc)
 
 -- a part of the lines, and what stands behind it
 then_lines : (xs ys : List (List ℕ)) (ls : List Line) (ms : List (Option Line)) → map line_of xs ≡ map Some ls → map line_of ys ≡ ms → map line_of (xs ++ ys) ≡ map Some ls ++ ms
 then_lines xs ys ls ms e h = mapped line_of xs ys ∙ ap (λ l. l ++ map line_of ys) e ∙ ap (λ l. map Some ls ++ l) h
 
-whole_lines : (name : Option (List ℕ)) (queue : Option ℕ) (fds : Bool) (out : Option ℕ) (gs : List Given) (es : List Entry) (sent : List ℕ)
-    → IsName name → IsCount queue → IsCount out → All IsGiven gs → All CanBeRead es → All (λ b. b < 256) sent
-    → map line_of (all_lines name queue fds out gs es sent)
-    ≡ map Some (script_lines (record { name = name; queue = queue; fds = fds; outfault = out; given = gs; commands = map command_of es }) true)
+whole_lines : (kind : PeerKind) (queue : Option ℕ) (fds : Bool) (out : Option ℕ) (gs : List Given) (es : List Entry) (sent : List ℕ)
+    → IsName kind → IsCount queue → IsCount out → All IsGiven gs → All CanBeRead es → All (λ b. b < 256) sent
+    → map line_of (all_lines kind queue fds out gs es sent)
+    ≡ map Some (script_lines (record { kind = kind; queue = queue; fds = fds; outfault = out; given = gs; commands = map command_of es }) true)
 unfolding all_lines
-whole_lines name queue fds out gs es sent n q o p e s =
+whole_lines kind queue fds out gs es sent n q o p e s =
     let qs = capacity_lines queue in
     let fs = fds_lines fds in
     let outs = outfault_lines out in
@@ -437,21 +462,21 @@ whole_lines name queue fds out gs es sent n q o p e s =
     let source = map given_words gs ++ last in
     let sink = outfault_words out ++ source in
     let head = fds_words fds ++ sink in
-    ap (λ x. x ∷ map line_of (capacity_words queue ++ head)) (direct_again name n)
-    ∙ ap (λ l. Some (Direct name) ∷ l) (then_lines (capacity_words queue) head qs _ (capacity_again queue q)
+    ap (λ x. x ∷ map line_of (capacity_words queue ++ head)) (peer_again kind n)
+    ∙ ap (λ l. Some (Peer kind) ∷ l) (then_lines (capacity_words queue) head qs _ (capacity_again queue q)
     (then_lines (fds_words fds) sink fs _ (fds_again fds)
     (then_lines (outfault_words out) source outs _ (outfault_again out o)
     (then_lines (map given_words gs) last ins _ (all_given gs p)
     (then_lines (map entry_line es) (sent_text sent ∷ []) dos _ (entries_again es e) (ap (λ x. x ∷ []) (sent_reads sent s)))))))
-    ∙ ap (λ l. Some (Direct name) ∷ l) (lines_joined qs fs outs ins dos)
+    ∙ ap (λ l. Some (Peer kind) ∷ l) (lines_joined qs fs outs ins dos)
 
-pub transcript_again : (name : Option (List ℕ)) (queue : Option ℕ) (fds : Bool) (out : Option ℕ) (gs : List Given) (es : List Entry) (sent : List ℕ)
-    → IsName name → IsCount queue → IsCount out → All IsGiven gs → All CanBeRead es → All (λ b. b < 256) sent
-    → ScriptText (transcript_text name queue fds out gs es sent) (record { name = name; queue = queue; fds = fds; outfault = out; given = gs; commands = map command_of es })
-transcript_again name queue fds out gs es sent n q o p e s =
+pub transcript_again : (kind : PeerKind) (queue : Option ℕ) (fds : Bool) (out : Option ℕ) (gs : List Given) (es : List Entry) (sent : List ℕ)
+    → IsName kind → IsCount queue → IsCount out → All IsGiven gs → All CanBeRead es → All (λ b. b < 256) sent
+    → ScriptText (transcript_text kind queue fds out gs es sent) (record { kind = kind; queue = queue; fds = fds; outfault = out; given = gs; commands = map command_of es })
+transcript_again kind queue fds out gs es sent n q o p e s =
     record {
-      lines = all_lines name queue fds out gs es sent;
+      lines = all_lines kind queue fds out gs es sent;
       sent = true;
-      ended = whole_parts name queue fds out gs es sent n q o p e s;
-      each = whole_lines name queue fds out gs es sent n q o p e s;
+      ended = whole_parts kind queue fds out gs es sent n q o p e s;
+      each = whole_lines kind queue fds out gs es sent n q o p e s;
     }

@@ -4,9 +4,11 @@ use Rattle.std.proofs.KnownBytes.{Appends-nil}
 use Rattle.wire_framing.specs.declared.sink.Refusal.TheVariants as refusals
 use Rattle.wire_framing.specs.Sink.{RoomFalls}
 use Rattle.peer_route.specs.declared.answer.Entry.{Entry}
+use Rattle.peer_script.specs.declared.kind.PeerKind.{PeerKind}
+use Rattle.peer_script.specs.declared.kind.PeerKind.TheVariants as kinds
 use Rattle.peer_script.specs.Output.{WritesAll}
 use Rattle.peer_script.specs.Script.{Given}
-use Rattle.peer_script.specs.Transcript.{direct_text, transcript_text}
+use Rattle.peer_script.specs.Transcript.{peer_text, transcript_text}
 
 room_none : (room : Option (Option ℕ)) → RoomFalls room room 0
 room_none None = tt
@@ -17,7 +19,8 @@ pub nothing_written : (A : Type 0) (bytes : List ℕ) (held : Option (List ℕ))
     → WritesAll {A = A} (Err refusals.Memory) bytes held held room room faults faults
 nothing_written A bytes held room faults h = (0, record { proper = h; gone = Appends-nil held }, room_none room, refl)
 
-pub some_text : (name : Option (List ℕ)) (queue : Option ℕ) (fds : Bool) (outfault : Option ℕ) (given : List Given) (entries : List Entry) (sent : List ℕ) → 0 < length (transcript_text name queue fds outfault given entries sent)
-unfolding transcript_text direct_text
-some_text None queue fds outfault given entries sent = omega arith
-some_text (Some name) queue fds outfault given entries sent = omega arith
+pub some_text : (kind : PeerKind) (queue : Option ℕ) (fds : Bool) (outfault : Option ℕ) (given : List Given) (entries : List Entry) (sent : List ℕ) → 0 < length (transcript_text kind queue fds outfault given entries sent)
+unfolding transcript_text peer_text
+some_text (kinds.Direct None) queue fds outfault given entries sent = omega arith
+some_text (kinds.Direct (Some name)) queue fds outfault given entries sent = omega arith
+some_text (kinds.Bus name) queue fds outfault given entries sent = omega arith

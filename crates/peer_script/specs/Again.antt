@@ -12,6 +12,8 @@ use Rattle.wire_message.specs.Texts.{message_line}
 use Rattle.wire_message.specs.declared.error.Error.{Error}
 use Rattle.wire_message.specs.declared.error.Error.TheVariants as errors
 use Rattle.wire_names.specs.Names.{IsUniqueName}
+use Rattle.peer_script.specs.declared.kind.PeerKind.{PeerKind}
+use Rattle.peer_script.specs.declared.kind.PeerKind.TheVariants as kinds
 use Rattle.peer_script.specs.Script.{Given, Gave, Broke, is_absent}
 use Rattle.peer_script.specs.Reading.{script_of}
 use Rattle.peer_script.specs.Transcript.{or_empty, transcript_text}
@@ -69,6 +71,7 @@ HasText (words.Unstream stream second) = (stream < 2 ^ 64) × IsCount second
 HasText (words.Queue stream limit) = (stream < 2 ^ 64) × (limit < 2 ^ 64)
 HasText (words.MainQueue limit) = limit < 2 ^ 64
 HasText (words.Open max_queued rule) = IsCount max_queued × SomeBytes rule
+HasText (words.Opened number) = number < 2 ^ 64
 HasText words.Close = Unit {0}
 
 -- the name of a missing parameter is of bytes
@@ -86,16 +89,20 @@ HasNumbers (answers.Reply position) = position < 2 ^ 64
 HasNumbers (answers.InvalidReply position) = position < 2 ^ 64
 HasNumbers (answers.Refused error) = HasBytes error
 HasNumbers (answers.SendFailed error) = HasBytes error
+HasNumbers (answers.SentFirst error) = HasBytes error
+HasNumbers (answers.Untold error) = HasBytes error
 HasNumbers (answers.Closed error) = HasBytes error
 HasNumbers answers.NotYet = Unit {0}
 HasNumbers answers.NoneBefore = Unit {0}
 HasNumbers answers.Busy = Unit {0}
 HasNumbers answers.Dropped = Unit {0}
 HasNumbers (answers.Streaming number) = number < 2 ^ 64
+HasNumbers (answers.Opening number serial) = (number < 2 ^ 64) × (serial < 2 ^ 64)
+HasNumbers answers.Opened = Unit {0}
 HasNumbers (answers.Item position) = position < 2 ^ 64
 HasNumbers answers.Empty = Unit {0}
 HasNumbers answers.Ended = Unit {0}
-HasNumbers answers.Gone = Unit {0}
+HasNumbers (answers.Gone last) = IsCount last
 HasNumbers answers.Set = Unit {0}
 HasNumbers answers.Shut = Unit {0}
 
@@ -111,14 +118,15 @@ IsGiven (Gave piece) = SomeBytes piece
 IsGiven Broke = Unit {0}
 
 -- a unique name of bytes, where there is one
-abbrev pub IsName : Option (List ℕ) → Type 0
-IsName None = Unit {0}
-IsName (Some name) = SomeBytes name × IsUniqueName name
+abbrev pub IsName : PeerKind → Type 0
+IsName (kinds.Direct None) = Unit {0}
+IsName (kinds.Direct (Some name)) = SomeBytes name × IsUniqueName name
+IsName (kinds.Bus name) = SomeBytes name × IsUniqueName name
 
 -- The transcript is read again as the script of its header lines and of its entries' commands.
 abbrev pub TranscriptsAreRead : Type 0
 TranscriptsAreRead =
-    (name : Option (List ℕ)) (queue : Option ℕ) (fds : Bool) (outfault : Option ℕ) (given : List Given) (entries : List Entry) (sent : List ℕ)
-    → IsName name → IsCount queue → IsCount outfault → All IsGiven given → All CanBeRead entries → All (λ b. b < 256) sent
-    → script_of (transcript_text name queue fds outfault given entries sent)
-    ≡ Ok (record { name = name; queue = queue; fds = fds; outfault = outfault; given = given; commands = map command_of entries })
+    (kind : PeerKind) (queue : Option ℕ) (fds : Bool) (outfault : Option ℕ) (given : List Given) (entries : List Entry) (sent : List ℕ)
+    → IsName kind → IsCount queue → IsCount outfault → All IsGiven given → All CanBeRead entries → All (λ b. b < 256) sent
+    → script_of (transcript_text kind queue fds outfault given entries sent)
+    ≡ Ok (record { kind = kind; queue = queue; fds = fds; outfault = outfault; given = given; commands = map command_of entries })

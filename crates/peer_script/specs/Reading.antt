@@ -4,8 +4,10 @@ use Rattle.peer_route.specs.declared.words.Command.{Command}
 use Rattle.wire_framing.specs.declared.memory.Piece.{Piece}
 use Rattle.wire_framing.specs.declared.memory.Piece.TheVariants.{Bytes, Fault}
 use Rattle.wire_framing.specs.Source.{MayRise}
+use Rattle.peer_script.specs.declared.kind.PeerKind.{PeerKind}
+use Rattle.peer_script.specs.declared.kind.PeerKind.TheVariants as kinds
 use Rattle.peer_script.specs.declared.line.Line.{Line}
-use Rattle.peer_script.specs.declared.line.Line.TheVariants.{Direct, Capacity, Fds, OutFault, In, InFault, Do, Sent}
+use Rattle.peer_script.specs.declared.line.Line.TheVariants.{Peer, Capacity, Fds, OutFault, In, InFault, Do, Sent}
 use Rattle.peer_script.specs.declared.reading.Stage.{Stage}
 use Rattle.peer_script.specs.declared.reading.Stage.TheVariants.{Start, Head, Queued, Sink, Pieces, Commands, Over}
 use Rattle.peer_script.specs.declared.reading.Progress.{Progress}
@@ -19,10 +21,10 @@ pub record Step : Type 0 where
   pub script : Script
 
 abbrev pub begun : Step
-begun = record { stage = Start; script = record { name = None; queue = None; fds = false; outfault = None; given = []; commands = [] } }
+begun = record { stage = Start; script = record { kind = kinds.Direct None; queue = None; fds = false; outfault = None; given = []; commands = [] } }
 
-abbrev pub with_name : Script → Option (List ℕ) → Script
-with_name s name = record s { name = name }
+abbrev pub with_kind : Script → PeerKind → Script
+with_kind s kind = record s { kind = kind }
 
 abbrev pub with_queue : Script → ℕ → Script
 with_queue s limit = record s { queue = Some limit }
@@ -41,7 +43,7 @@ more_command s command = record s { commands = s.commands ++ command ∷ [] }
 
 -- one line more, where it may come at this stage
 unfoldable pub take_line : Stage → Script → Option Line → Option Step
-take_line Start s (Some (Direct name)) = Some (record { stage = Head; script = with_name s name })
+take_line Start s (Some (Peer kind)) = Some (record { stage = Head; script = with_kind s kind })
 take_line Head s (Some (Capacity limit)) = Some (record { stage = Queued; script = with_queue s limit })
 take_line Head s (Some Fds) = Some (record { stage = Sink; script = with_fds s })
 take_line Head s (Some (OutFault count)) = Some (record { stage = Pieces; script = with_outfault s count })
@@ -109,12 +111,12 @@ abbrev pub given : List Piece → List Given
 given pieces = map given_of pieces
 
 -- the script that a setup's parts and commands are
-abbrev pub script_from : Option (List ℕ) → Option ℕ → Bool → Option ℕ → List Piece → List Command → Script
-script_from name queue fds outfault pieces commands = record { name = name; queue = queue; fds = fds; outfault = outfault; given = given pieces; commands = commands }
+abbrev pub script_from : PeerKind → Option ℕ → Bool → Option ℕ → List Piece → List Command → Script
+script_from kind queue fds outfault pieces commands = record { kind = kind; queue = queue; fds = fds; outfault = outfault; given = given pieces; commands = commands }
 
 -- what was read so far
 abbrev pub said : Progress → Script
-said p = script_from p.name p.queue p.fds p.outfault p.pieces.items p.commands.items
+said p = script_from p.kind p.queue p.fds p.outfault p.pieces.items p.commands.items
 
 -- The first line, without its end, and what stands behind that; or there is no end.
 abbrev pub SplitsLine : {A : Type 0} → (A → List ℕ) → (A → List ℕ) → List ℕ → Option A → Type 0

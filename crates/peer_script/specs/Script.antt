@@ -1,5 +1,5 @@
--- Script text: a list of lines, each ended by one byte 0x0a: `direct`, perhaps with the peer's unique name, perhaps how many
--- messages a stream may hold, perhaps the line that its sink takes descriptors, perhaps the bytes that the sink takes, what the
+-- Script text: a list of lines, each ended by one byte 0x0a: `direct`, perhaps with the peer's unique name, or `bus` with it, perhaps
+-- how many messages a stream may hold, perhaps the line that its sink takes descriptors, perhaps the bytes that the sink takes, what the
 -- source gives, the commands, and perhaps one `sent` line, which is passed over.
 use Rattle.std.specs.Prelude.{ℕ, ◌≡◌, ◌+◌, Bool, true, false, ◌&&◌, ◌||◌, ◌==◌, nat_le, if◌then◌else◌, List, [], ◌∷◌, ◌++◌, map, codes, Option, Some, None, is_some}
 use Rattle.std.specs.List.{slice_split, list_any}
@@ -10,7 +10,9 @@ use Rattle.peer_route.specs.declared.words.CallFlags.{CallFlags}
 use Rattle.peer_route.specs.declared.words.Outgoing.{Outgoing}
 use Rattle.peer_route.specs.declared.words.Command.{Command}
 use Rattle.peer_script.specs.declared.line.Line.{Line}
-use Rattle.peer_script.specs.declared.line.Line.TheVariants.{Direct, Capacity, Fds, OutFault, In, InFault, Do, Sent}
+use Rattle.peer_script.specs.declared.kind.PeerKind.{PeerKind}
+use Rattle.peer_script.specs.declared.kind.PeerKind.TheVariants as kinds
+use Rattle.peer_script.specs.declared.line.Line.TheVariants.{Peer, Capacity, Fds, OutFault, In, InFault, Do, Sent}
 use Rattle.peer_script.specs.Word.{same, words_of, number_of, text_of, flags_word}
 use Rattle.peer_route.specs.Hex.{bytes_of}
 
@@ -19,16 +21,26 @@ pub data Given : Type 0 where
   Gave : (piece : List ℕ) → Given
   Broke : Given
 
--- What a script says: the peer's unique name, where it has one; how many messages a stream may hold, where that is set;
+-- What a script says: whether the peer stands on a message bus, and its unique name, where it has one; how many messages a stream may hold, where that is set;
 -- whether its sink takes file descriptors; after how many bytes the sink fails a write, where it does; what the source gives;
 -- the commands.
 pub record Script : Type 0 where
-  pub name : Option (List ℕ)
+  pub kind : PeerKind
   pub queue : Option ℕ
   pub fds : Bool
   pub outfault : Option ℕ
   pub given : List Given
   pub commands : List Command
+
+-- the peer stands on a message bus
+abbrev pub is_bus : PeerKind → Bool
+is_bus (kinds.Direct name) = false
+is_bus (kinds.Bus name) = true
+
+-- its unique name, where it has one
+abbrev pub name_of : PeerKind → Option (List ℕ)
+name_of (kinds.Direct name) = name
+name_of (kinds.Bus name) = Some name
 
 -- ---- a line
 
@@ -100,8 +112,8 @@ flags_of word = if same word (flags_word (named_flags word)) then Some (named_fl
 abbrev pub closing_two : ℕ → ℕ → Words
 closing_two stream second = words.Unstream stream (Some second)
 
--- The words of a command, without its lane: `read`, `stream`, `close`, `poll C`, `drop C`, `take S`, `clone S`, `unstream S`,
--- `mainqueue N`, `reply S B`, `before C Q`, `takebefore S Q`, `unstream S T`, `queue S N`, `open Q R`, `error S NAME B`,
+-- The words of a command, without its lane: `read`, `stream`, `close`, `poll C`, `drop C`, `take S`, `opened S`, `clone S`,
+-- `unstream S`, `mainqueue N`, `reply S B`, `before C Q`, `takebefore S Q`, `unstream S T`, `queue S N`, `open Q R`, `error S NAME B`,
 -- `call D P I M F B`, `signal D P I M F B`. A signal has an interface, so that a `-` there is a text; so is a rule's.
 unfoldable pub command_words : List (List ℕ) → Option Words
 command_words (name ∷ []) =
@@ -113,6 +125,7 @@ command_words (name ∷ number ∷ []) =
     if same name (codes "poll") then numbered words.Poll (number_of number)
     else if same name (codes "drop") then numbered words.Drop (number_of number)
     else if same name (codes "take") then numbered words.Take (number_of number)
+    else if same name (codes "opened") then numbered words.Opened (number_of number)
     else if same name (codes "clone") then numbered words.Clone (number_of number)
     else if same name (codes "unstream") then numbered (λ stream. words.Unstream stream None) (number_of number)
     else if same name (codes "mainqueue") then numbered words.MainQueue (number_of number)
@@ -158,10 +171,18 @@ before_answer (a ∷ b ∷ c ∷ rest) = if (a == 32) && (b == 61) && (c == 32) 
 abbrev pub command_line : List ℕ → Option Command
 command_line line = lane_words (words_of (before_answer line))
 
--- a name behind `direct` is a unique name
+-- a name behind `direct` or `bus` is a unique name
+abbrev pub unique_of : Option (List ℕ) → Option (List ℕ)
+unique_of (Some name) = if is_unique_name name then Some name else None
+unique_of None = None
+
 abbrev pub direct_line : Option (List ℕ) → Option Line
-direct_line (Some name) = if is_unique_name name then Some (Direct (Some name)) else None
+direct_line (Some name) = Some (Peer (kinds.Direct (Some name)))
 direct_line None = None
+
+abbrev pub bus_line : Option (List ℕ) → Option Line
+bus_line (Some name) = Some (Peer (kinds.Bus name))
+bus_line None = None
 
 abbrev pub in_line : Option (List ℕ) → Option Line
 in_line (Some piece) = Some (In piece)
@@ -185,12 +206,13 @@ do_line None = None
 -- the header lines and the `sent` line, by their words
 unfoldable pub head_line : List (List ℕ) → Option Line
 head_line (name ∷ []) =
-    if same name (codes "direct") then Some (Direct None)
+    if same name (codes "direct") then Some (Peer (kinds.Direct None))
     else if same name (codes "fds") then Some Fds
     else if same name (codes "infault") then Some InFault
     else None
 head_line (name ∷ word ∷ []) =
-    if same name (codes "direct") then direct_line (text_of word)
+    if same name (codes "direct") then direct_line (unique_of (text_of word))
+    else if same name (codes "bus") then bus_line (unique_of (text_of word))
     else if same name (codes "in") then in_line (bytes_of word)
     else if same name (codes "queue") then capacity_line (number_of word)
     else if same name (codes "outfault") then outfault_line (number_of word)
@@ -240,9 +262,9 @@ sent_lines false = []
 
 -- the lines of a script, in their order
 abbrev pub script_lines : Script → Bool → List Line
-script_lines s sent = Direct s.name ∷ capacity_lines s.queue ++ fds_lines s.fds ++ outfault_lines s.outfault ++ map given_line s.given ++ map Do s.commands ++ sent_lines sent
+script_lines s sent = Peer s.kind ∷ capacity_lines s.queue ++ fds_lines s.fds ++ outfault_lines s.outfault ++ map given_line s.given ++ map Do s.commands ++ sent_lines sent
 
--- The bytes are the text of this script: each line is ended, and the lines are `direct`, perhaps `queue`, perhaps `fds`, perhaps
+-- The bytes are the text of this script: each line is ended, and the lines are `direct` or `bus`, perhaps `queue`, perhaps `fds`, perhaps
 -- `outfault`, the source's lines, the commands, and perhaps one `sent`.
 pub record ScriptText (bytes : List ℕ) (s : Script) : Type 0 where
   pub lines : List (List ℕ)

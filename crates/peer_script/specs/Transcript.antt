@@ -15,6 +15,8 @@ use Rattle.peer_route.specs.declared.answer.Answer.TheVariants as answers
 use Rattle.peer_route.specs.declared.answer.Entry.{Entry}
 use Rattle.peer_script.specs.Word.{text_word, optional_word, flags_word}
 use Rattle.peer_route.specs.Hex.{hex_two, hex_word}
+use Rattle.peer_script.specs.declared.kind.PeerKind.{PeerKind}
+use Rattle.peer_script.specs.declared.kind.PeerKind.TheVariants as peers
 use Rattle.peer_script.specs.Script.{Given, Gave, Broke}
 
 abbrev pub or_empty : Option (List ℕ) → List ℕ
@@ -89,13 +91,26 @@ words_text (words.Unstream stream (Some second)) = codes "unstream " ++ decimal 
 words_text (words.Queue stream limit) = codes "queue " ++ decimal stream ++ 32 ∷ [] ++ decimal limit
 words_text (words.MainQueue limit) = codes "mainqueue " ++ decimal limit
 words_text (words.Open max_queued rule) = codes "open " ++ optional_decimal max_queued ++ 32 ∷ [] ++ text_word rule
+words_text (words.Opened number) = codes "opened " ++ decimal number
 words_text words.Close = codes "close"
+
+-- the bus can't be written to
+abbrev pub is_io : Error → Bool
+is_io (errors.InputOutput kind) = true
+is_io error = false
+
+-- what stands before the error by which the bus can't be told: it can't be written to, or else there is no message
+abbrev pub untold_word : Bool → List ℕ
+untold_word true = codes "sendfailed "
+untold_word false = codes "refused "
 
 unfoldable pub answer_text : Answer → List ℕ
 answer_text (answers.Called call serial) = codes "call " ++ decimal call ++ codes " serial " ++ decimal serial
 answer_text (answers.Sent serial) = codes "sent " ++ decimal serial
 answer_text (answers.Refused error) = codes "refused " ++ error_word error
 answer_text (answers.SendFailed error) = codes "sendfailed " ++ error_word error
+answer_text (answers.SentFirst error) = codes "sendfailed " ++ error_word error
+answer_text (answers.Untold error) = untold_word (is_io error) ++ error_word error
 answer_text (answers.Got m) = codes "got " ++ decimal m.position ++ 32 ∷ [] ++ decimal (length m.bytes) ++ 32 ∷ [] ++ shown_text (message_line m)
 answer_text (answers.Closed error) = codes "closed " ++ error_word error
 answer_text (answers.Reply position) = codes "reply " ++ decimal position
@@ -106,10 +121,13 @@ answer_text answers.NoneBefore = codes "nonebefore"
 answer_text answers.Busy = codes "busy"
 answer_text answers.Dropped = codes "dropped"
 answer_text (answers.Streaming number) = codes "stream " ++ decimal number
+answer_text (answers.Opening number serial) = codes "opening " ++ decimal number ++ codes " serial " ++ decimal serial
+answer_text answers.Opened = codes "opened"
 answer_text (answers.Item position) = codes "item " ++ decimal position
 answer_text answers.Empty = codes "empty"
 answer_text answers.Ended = codes "ended"
-answer_text answers.Gone = codes "gone"
+answer_text (answers.Gone None) = codes "gone"
+answer_text (answers.Gone (Some serial)) = codes "gone serial " ++ decimal serial
 answer_text answers.Set = codes "ok"
 answer_text answers.Shut = codes "closed"
 
@@ -121,9 +139,10 @@ unfoldable pub given_text : Given → List ℕ
 given_text (Gave piece) = codes "in " ++ hex_word piece ++ 10 ∷ []
 given_text Broke = codes "infault" ++ 10 ∷ []
 
-unfoldable pub direct_text : Option (List ℕ) → List ℕ
-direct_text None = codes "direct" ++ 10 ∷ []
-direct_text (Some name) = codes "direct " ++ text_word name ++ 10 ∷ []
+unfoldable pub peer_text : PeerKind → List ℕ
+peer_text (peers.Direct None) = codes "direct" ++ 10 ∷ []
+peer_text (peers.Direct (Some name)) = codes "direct " ++ text_word name ++ 10 ∷ []
+peer_text (peers.Bus name) = codes "bus " ++ text_word name ++ 10 ∷ []
 
 unfoldable pub capacity_text : Option ℕ → List ℕ
 capacity_text None = []
@@ -142,7 +161,7 @@ abbrev pub sent_word : List ℕ → List ℕ
 sent_word [] = 45 ∷ []
 sent_word (b ∷ bs) = hex_word (b ∷ bs)
 
-unfoldable pub transcript_text : Option (List ℕ) → Option ℕ → Bool → Option ℕ → List Given → List Entry → List ℕ → List ℕ
-transcript_text name queue fds outfault given entries sent =
-    direct_text name ++ capacity_text queue ++ fds_text fds ++ outfault_text outfault ++ flat_map given_text given ++ flat_map entry_text entries
+unfoldable pub transcript_text : PeerKind → Option ℕ → Bool → Option ℕ → List Given → List Entry → List ℕ → List ℕ
+transcript_text kind queue fds outfault given entries sent =
+    peer_text kind ++ capacity_text queue ++ fds_text fds ++ outfault_text outfault ++ flat_map given_text given ++ flat_map entry_text entries
     ++ codes "sent " ++ sent_word sent ++ 10 ∷ []

@@ -2,6 +2,8 @@
 #![tactic(auto)]
 
 mod error;
+mod head;
+mod kind;
 mod laws;
 mod line;
 mod numbers;
@@ -15,6 +17,7 @@ mod transcript;
 mod word;
 
 pub use error::ScriptError;
+pub use kind::PeerKind;
 pub use laws::{script_texts_are_read, transcripts_are_read_again};
 pub use output::write_all;
 pub use script::{Setup, Word, read_script};

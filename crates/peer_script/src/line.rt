@@ -1,10 +1,11 @@
 //! What a line is.
 ghost use Rattle.std.specs.Prelude.{◌≡◌, [], ◌∷◌, ◌++◌, length, take, map, IfOk, Some, None};
-ghost use Rattle.peer_script.specs.Script.{before_answer, lane_words, command_words, command_line, head_line, line_of, outgoing_of, sending, reply_of, error_of, present, optional_of, optional_number, open_of, has_letter, named_flags, flags_of, in_lane, direct_line, in_line, capacity_line, outfault_line, sent_line, is_absent};
+ghost use Rattle.peer_script.specs.Script.{before_answer, lane_words, command_words, command_line, head_line, line_of, outgoing_of, sending, reply_of, error_of, present, optional_of, optional_number, open_of, has_letter, named_flags, flags_of, in_lane, unique_of, direct_line, bus_line, in_line, capacity_line, outfault_line, sent_line, is_absent};
 ghost use Rattle.peer_script.specs.Word.{number_of, text_of};
 ghost use Rattle.peer_route.specs.Hex.{bytes_of};
 ghost use Rattle.peer_route.specs.declared.words.Words.TheVariants as words;
 
+use crate::kind::PeerKind;
 use crate::numbers::{
     before_of, closing_two, lone_command, numbered_command, queue_of, take_before_of,
 };
@@ -22,8 +23,8 @@ const ABSENT: &[u8] = b"-";
 /// What a line of a script is.
 #[derive(Drop)]
 pub(crate) enum Line {
-    /// The peer has no bus, and perhaps a unique name.
-    Direct(Option<OwnedUniqueName>),
+    /// What kind of peer it is, and its unique name, where it has one.
+    Peer(PeerKind),
     /// How many messages a stream may hold.
     Capacity(u64),
     /// The sink takes file descriptors.
@@ -326,16 +327,36 @@ fn command_line(alloc: Global, line: &[u8]) -> Result<Option<Command>, AllocErro
     lane_words(alloc, words.as_slice())
 }
 
-/// The line of `direct` with a name, which must be a unique name.
-fn direct_line(alloc: Global, word: &[u8]) -> Result<Option<Line>, AllocError>
-    ensures { IfOk result (λ line. line ≡ direct_line (text_of word.now)) }
+/// The unique name that a word is.
+fn unique_of(alloc: Global, word: &[u8]) -> Result<Option<OwnedUniqueName>, AllocError>
+    ensures { IfOk result (λ name. name ≡ unique_of (text_of word.now)) }
 {
     let Some(text) = text_of(alloc, word)? else {
         return Ok(None);
     };
     match UniqueName::try_from_bytes(text.as_slice()) {
-        Ok(name) => Ok(Some(Line::Direct(Some(name.to_owned(alloc)?)))),
+        Ok(name) => Ok(Some(name.to_owned(alloc)?)),
         Err(_) => Ok(None),
+    }
+}
+
+/// The line of `direct` with a name.
+fn direct_line(alloc: Global, word: &[u8]) -> Result<Option<Line>, AllocError>
+    ensures { IfOk result (λ line. line ≡ direct_line (unique_of (text_of word.now))) }
+{
+    match unique_of(alloc, word)? {
+        Some(name) => Ok(Some(Line::Peer(PeerKind::Direct(Some(name))))),
+        None => Ok(None),
+    }
+}
+
+/// The line of `bus` with a name.
+fn bus_line(alloc: Global, word: &[u8]) -> Result<Option<Line>, AllocError>
+    ensures { IfOk result (λ line. line ≡ bus_line (unique_of (text_of word.now))) }
+{
+    match unique_of(alloc, word)? {
+        Some(name) => Ok(Some(Line::Peer(PeerKind::Bus(name)))),
+        None => Ok(None),
     }
 }
 
@@ -378,7 +399,7 @@ fn lone_head(name: &[u8]) -> Option<Line>
     ensures { result ≡ head_line (name.now ∷ []) }
 {
     if same(name, b"direct") {
-        Some(Line::Direct(None))
+        Some(Line::Peer(PeerKind::Direct(None)))
     } else if same(name, b"fds") {
         Some(Line::Fds)
     } else if same(name, b"infault") {
@@ -395,6 +416,8 @@ fn head_of(alloc: Global, name: &[u8], word: &[u8]) -> Result<Option<Line>, Allo
 {
     if same(name, b"direct") {
         direct_line(alloc, word)
+    } else if same(name, b"bus") {
+        bus_line(alloc, word)
     } else if same(name, b"in") {
         in_line(alloc, word)
     } else if same(name, b"queue") {

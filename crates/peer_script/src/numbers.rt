@@ -44,6 +44,8 @@ pub(crate) fn numbered_command(name: &[u8], number: &[u8]) -> Option<Words>
         Some(Words::Drop(number_of(number)?))
     } else if same(name, b"take") {
         Some(Words::Take(number_of(number)?))
+    } else if same(name, b"opened") {
+        Some(Words::Opened(number_of(number)?))
     } else if same(name, b"clone") {
         Some(Words::Clone(number_of(number)?))
     } else if same(name, b"unstream") {

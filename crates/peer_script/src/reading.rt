@@ -4,17 +4,18 @@ ghost use Rattle.peer_script.specs.Reading.{SplitsLine, TakesLine, TellsText, ma
 ghost use Rattle.peer_script.specs.declared.line.Line.TheVariants as lines;
 
 use crate::error::ScriptError;
+use crate::kind::PeerKind;
 use crate::line::{Line, line_of};
 use crate::script::Setup;
 use peer_route::Command;
 use std::alloc::{AllocError, Global};
 use wire_framing::Piece;
-use wire_names::{Bytes, OwnedUniqueName};
+use wire_names::Bytes;
 
 /// How far a script has come.
 #[derive(Clone, Copy)]
 pub(crate) enum Stage {
-    /// `direct` is wanted.
+    /// `direct` or `bus` is wanted.
     Start,
     /// `queue`, `fds`, `outfault`, the source's lines, commands or `sent` may come.
     Head,
@@ -34,7 +35,7 @@ pub(crate) enum Stage {
 #[derive(Drop)]
 struct Progress {
     stage: Stage,
-    name: Option<OwnedUniqueName>,
+    kind: PeerKind,
     queue: Option<u64>,
     fds: bool,
     outfault: Option<u64>,
@@ -43,12 +44,12 @@ struct Progress {
 }
 
 #[tactic(auto, using(crate::proofs::Pieces::pushed), unfolding(crate::specs::Reading::take_line))]
-fn take_direct(progress: &mut Progress, name: Option<OwnedUniqueName>) -> Result<bool, AllocError>
-    ensures { TakesLine result progress.old progress.new (lines.Direct name) }
+fn take_peer(progress: &mut Progress, kind: PeerKind) -> Result<bool, AllocError>
+    ensures { TakesLine result progress.old progress.new (lines.Peer kind) }
 {
     match progress.stage {
         Stage::Start => {
-            progress.name = name;
+            progress.kind = kind;
             progress.stage = Stage::Head;
             Ok(true)
         }
@@ -164,7 +165,7 @@ fn take_line(progress: &mut Progress, line: Line) -> Result<bool, AllocError>
     ensures { TakesLine result progress.old progress.new line }
 {
     match line {
-        Line::Direct(name) => take_direct(progress, name),
+        Line::Peer(kind) => take_peer(progress, kind),
         Line::Capacity(limit) => take_capacity(progress, limit),
         Line::Fds => take_fds(progress),
         Line::OutFault(count) => take_outfault(progress, count),
@@ -202,11 +203,11 @@ fn may_end(stage: Stage) -> bool
 /// The script of a text.
 pub(crate) fn read_text(alloc: Global, text: &[u8]) -> Result<(Setup, Vec<Command>), ScriptError>
     requires { length text.now < 2 ^ 63 }
-    ensures { TellsText (λ x. script_from x.0.name x.0.queue x.0.fds x.0.outfault x.0.pieces.items x.1.items) text.now result }
+    ensures { TellsText (λ x. script_from x.0.kind x.0.queue x.0.fds x.0.outfault x.0.pieces.items x.1.items) text.now result }
 {
     let mut progress = Progress {
         stage: Stage::Start,
-        name: None,
+        kind: PeerKind::Direct(None),
         queue: None,
         fds: false,
         outfault: None,
@@ -229,7 +230,7 @@ pub(crate) fn read_text(alloc: Global, text: &[u8]) -> Result<(Setup, Vec<Comman
         return Err(ScriptError::Line(number));
     }
     let Progress {
-        name,
+        kind,
         queue,
         fds,
         outfault,
@@ -238,7 +239,7 @@ pub(crate) fn read_text(alloc: Global, text: &[u8]) -> Result<(Setup, Vec<Comman
         ..
     } = progress;
     let setup = Setup {
-        name,
+        kind,
         queue,
         fds,
         outfault,

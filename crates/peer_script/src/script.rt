@@ -4,11 +4,11 @@ ghost use Rattle.peer_script.specs.Script.{line_count};
 ghost use Rattle.peer_script.specs.Reading.{script_from, TellsScript, FaultsTell, ReadsInput};
 
 use crate::error::ScriptError;
+use crate::kind::PeerKind;
 use crate::reading::read_text;
 use peer_route::Command;
 use std::alloc::Global;
 use wire_framing::{Piece, Source};
-use wire_names::OwnedUniqueName;
 
 /// The most bytes that a script has.
 const LIMIT: usize = 1_073_741_824;
@@ -22,8 +22,8 @@ const STEP: usize = 65_536;
 /// What stands in a script before its commands.
 #[derive(Drop)]
 pub struct Setup {
-    /// The peer's unique name, where it has one.
-    pub name: Option<OwnedUniqueName>,
+    /// What kind of peer it is, and its unique name, where it has one.
+    pub kind: PeerKind,
     /// How many messages a stream may hold before reads wait; None where it is what it is without being set, 64.
     pub queue: Option<u64>,
     /// Whether the peer's sink takes messages with file descriptors.
@@ -100,7 +100,7 @@ pub fn read_script<I: Source>(
     word: Word,
     input: &mut I,
 ) -> Result<(Setup, Vec<Command>), ScriptError>
-    ensures told { IfSome (I.left input.old) (λ bytes. TellsScript (λ x. script_from x.0.name x.0.queue x.0.fds x.0.outfault x.0.pieces.items x.1.items) bytes result) }
+    ensures told { IfSome (I.left input.old) (λ bytes. TellsScript (λ x. script_from x.0.kind x.0.queue x.0.fds x.0.outfault x.0.pieces.items x.1.items) bytes result) }
     ensures faults { FaultsTell result (I.stop input.old) (I.faults input.old) (I.faults input.new) }
 {
     let Word::Run = word;

@@ -1,9 +1,11 @@
-use crate::{ScriptError, Setup, Transcript, Word, read_script, write_all, write_transcript};
+use crate::{
+    PeerKind, ScriptError, Setup, Transcript, Word, read_script, write_all, write_transcript,
+};
 use peer_route::{Answer, CallFlags, Command, Entry, Outgoing, Words};
 use std::alloc::Global;
 use std::test::Fail;
 use wire_framing::{MemorySink, MemorySource, Piece, Refusal};
-use wire_message::header_front;
+use wire_message::{Error, IoKind, header_front};
 use wire_names::{Bytes, OwnedUniqueName};
 
 /// A method return of serial 1 to the call of serial 1, without a body: 24 bytes.
@@ -115,7 +117,7 @@ fn reads_scripts(rt: HostRuntime) -> Result<(), Fail> {
 #[test]
 fn names_the_first_line_outside(rt: HostRuntime) -> Result<(), Fail> {
     let alloc = rt.alloc();
-    let table: [(&[u8], u64); 68] = [
+    let table: [(&[u8], u64); 72] = [
         (b"", 1),
         (b"direct", 1),
         (b"\n", 1),
@@ -150,6 +152,10 @@ fn names_the_first_line_outside(rt: HostRuntime) -> Result<(), Fail> {
         (b"direct a.b\n", 1),
         (b"direct :1\n", 1),
         (b"direct :1.2 :1.3\n", 1),
+        (b"bus\n", 1),
+        (b"bus a.b\n", 1),
+        (b"direct\nbus :1.5\n", 2),
+        (b"bus :1.5\nopened\n", 2),
         (b"direct\ncall = / - do - -\n", 2),
         (b"direct\ncall - / - do bn -\n", 2),
         (b"direct\ncall - / - do nn -\n", 2),
@@ -292,7 +298,7 @@ fn writes_each_answer(rt: HostRuntime) -> Result<(), Fail> {
         })?;
     }
     let setup = Setup {
-        name: Some(OwnedUniqueName::try_from(alloc, ":1.7")?),
+        kind: PeerKind::Direct(Some(OwnedUniqueName::try_from(alloc, ":1.7")?)),
         queue: Some(5),
         fds: true,
         outfault: Some(9),
@@ -344,7 +350,7 @@ fn writes_a_transcript(rt: HostRuntime) -> Result<(), Fail> {
     let mut pieces = Vec::new(alloc);
     pieces.push(Piece::Bytes(RETURN.to_vec(alloc)?))?;
     let setup = Setup {
-        name: None,
+        kind: PeerKind::Direct(None),
         queue: None,
         fds: false,
         outfault: None,
@@ -363,7 +369,7 @@ fn writes_a_transcript(rt: HostRuntime) -> Result<(), Fail> {
 fn answer_to(words: &Words) -> Answer {
     match words {
         Words::Clone(_) => Answer::Streaming(1),
-        Words::Unstream { .. } => Answer::Gone,
+        Words::Unstream { .. } => Answer::Gone(None),
         Words::Queue { .. } | Words::MainQueue(_) => Answer::Set,
         Words::Open { .. } => Answer::Streaming(0),
         Words::Close => Answer::Shut,
@@ -421,6 +427,62 @@ fn writes_capacities_clones_and_closings(rt: HostRuntime) -> Result<(), Fail> {
     ];
     for (text, written) in table {
         let sink = transcript_of(alloc, text)?;
+        assert_eq!(rt; sink.bytes(), written);
+    }
+    Ok(())
+}
+
+/// The transcript of one entry with this answer.
+fn answered(alloc: Global, answer: Answer) -> Result<MemorySink, Fail> {
+    let mut entries = Vec::new(alloc);
+    entries.push(Entry {
+        lane: 0,
+        words: Words::Opened(7),
+        answer,
+    })?;
+    let setup = Setup {
+        kind: PeerKind::Bus(OwnedUniqueName::try_from(alloc, ":1.5")?),
+        queue: None,
+        fds: false,
+        outfault: None,
+        pieces: Vec::new(alloc),
+    };
+    let mut sink = MemorySink::new(alloc, false);
+    write_transcript(alloc, &setup, &Transcript { entries }, b"", &mut sink)?;
+    Ok(sink)
+}
+
+#[test]
+fn writes_what_the_bus_is_asked_and_told(rt: HostRuntime) -> Result<(), Fail> {
+    let alloc = rt.alloc();
+    let table: [(Answer, &[u8]); 6] = [
+        (
+            Answer::Opening {
+                number: 0,
+                serial: 1,
+            },
+            b"bus :1.5\n0 opened 7 = opening 0 serial 1\nsent -\n",
+        ),
+        (Answer::Opened, b"bus :1.5\n0 opened 7 = opened\nsent -\n"),
+        (
+            Answer::Gone(Some(4_294_967_295)),
+            b"bus :1.5\n0 opened 7 = gone serial 4294967295\nsent -\n",
+        ),
+        (
+            Answer::SentFirst(Error::InputOutput(IoKind::WriteFault)),
+            b"bus :1.5\n0 opened 7 = sendfailed InputOutput.WriteFault\nsent -\n",
+        ),
+        (
+            Answer::Untold(Error::InputOutput(IoKind::WriteFault)),
+            b"bus :1.5\n0 opened 7 = sendfailed InputOutput.WriteFault\nsent -\n",
+        ),
+        (
+            Answer::Untold(Error::SerialsSpent),
+            b"bus :1.5\n0 opened 7 = refused SerialsSpent\nsent -\n",
+        ),
+    ];
+    for (answer, written) in table {
+        let sink = answered(alloc, answer)?;
         assert_eq!(rt; sink.bytes(), written);
     }
     Ok(())

@@ -3,11 +3,13 @@ ghost use Rattle.std.specs.Prelude.{ℕ, ◌≡◌, ◌++◌, [], ◌∷◌, len
 ghost use Rattle.std.specs.List.{flat_map};
 ghost use Rattle.wire_message.specs.Texts.{message_line};
 ghost use Rattle.peer_script.specs.Word.{text_word, optional_word, flags_word};
-ghost use Rattle.peer_script.specs.Transcript.{or_empty, shown_byte, shown_text, io_word, error_word, outgoing_text, optional_decimal, words_text, answer_text, entry_text, given_text, direct_text, capacity_text, fds_text, outfault_text, sent_word, transcript_text};
+ghost use Rattle.peer_script.specs.Transcript.{or_empty, shown_byte, shown_text, io_word, error_word, outgoing_text, optional_decimal, words_text, answer_text, untold_word, is_io, entry_text, given_text, sent_word, transcript_text};
+ghost use Rattle.peer_route.specs.declared.answer.Answer.TheVariants as answers;
 ghost use Rattle.peer_route.specs.declared.words.Words.TheVariants as words;
 ghost use Rattle.peer_script.specs.Reading.{given_of, given};
 ghost use Rattle.peer_script.specs.Output.{WritesAll};
 
+use crate::head::{put_capacity, put_fds, put_outfault, put_peer};
 use crate::output::write_all;
 use crate::script::Setup;
 use crate::text::{put, put_flags, put_hex, put_hex_byte, put_number, put_optional, put_text};
@@ -15,7 +17,7 @@ use peer_route::{Answer, Entry, Outgoing, Words};
 use std::alloc::{AllocError, Global};
 use wire_framing::{Piece, Refusal, Sink};
 use wire_message::{Error, IoKind, Message};
-use wire_names::{Bytes, OwnedUniqueName};
+use wire_names::Bytes;
 
 /// What commands were answered.
 #[derive(Drop)]
@@ -198,17 +200,44 @@ fn put_words(alloc: Global, text: &mut Vec<u8>, words: &Words) -> Result<(), All
         }
         Words::MainQueue(limit) => put_with_number(alloc, text, b"mainqueue ", *limit),
         Words::Open { max_queued, rule } => put_open(alloc, text, *max_queued, rule),
+        Words::Opened(number) => put_with_number(alloc, text, b"opened ", *number),
         Words::Close => put(text, b"close"),
     }
 }
 
-fn put_called(alloc: Global, text: &mut Vec<u8>, call: u64, serial: u32) -> Result<(), AllocError>
-    ensures { OnOk result (text.new.items ≡ text.old.items ++ codes "call " ++ decimal call ++ codes " serial " ++ decimal serial) }
+/// What was made, with its number and the serial of its message.
+fn put_made(
+    alloc: Global,
+    text: &mut Vec<u8>,
+    what: &[u8],
+    number: u64,
+    serial: u32,
+) -> Result<(), AllocError>
+    ensures { OnOk result (text.new.items ≡ text.old.items ++ what.now ++ decimal number ++ codes " serial " ++ decimal serial) }
 {
-    put(text, b"call ")?;
-    put_number(alloc, text, call)?;
-    put(text, b" serial ")?;
-    put_number(alloc, text, u64::from(serial))
+    put_with_number(alloc, text, what, number)?;
+    put_with_number(alloc, text, b" serial ", u64::from(serial))
+}
+
+/// Streams are closed; the serial of the last message by which the bus was told, if one was sent.
+#[tactic(auto, unfolding(crate::specs::Transcript::answer_text))]
+fn put_gone(alloc: Global, text: &mut Vec<u8>, last: Option<u32>) -> Result<(), AllocError>
+    ensures { OnOk result (text.new.items ≡ text.old.items ++ answer_text (answers.Gone last)) }
+{
+    match last {
+        None => put(text, b"gone"),
+        Some(serial) => put_with_number(alloc, text, b"gone serial ", u64::from(serial)),
+    }
+}
+
+/// What stands before the error by which the bus can't be told.
+fn untold_word(error: &Error) -> &'static [u8]
+    ensures { result.now ≡ untold_word (is_io error.now) }
+{
+    match error {
+        Error::InputOutput(_) => b"sendfailed ",
+        _ => b"refused ",
+    }
 }
 
 fn put_shown_byte(text: &mut Vec<u8>, byte: u8) -> Result<(), AllocError>
@@ -262,7 +291,7 @@ fn put_with_error(text: &mut Vec<u8>, what: &[u8], error: &Error) -> Result<(), 
     put_error(text, error)
 }
 
-fn put_with_number(
+pub(crate) fn put_with_number(
     alloc: Global,
     text: &mut Vec<u8>,
     what: &[u8],
@@ -293,10 +322,12 @@ fn put_answer(alloc: Global, text: &mut Vec<u8>, answer: &Answer) -> Result<(), 
     ensures { OnOk result (text.new.items ≡ text.old.items ++ answer_text answer.now) }
 {
     match answer {
-        Answer::Called { call, serial } => put_called(alloc, text, *call, *serial),
+        Answer::Called { call, serial } => put_made(alloc, text, b"call ", *call, *serial),
         Answer::Sent(serial) => put_with_number(alloc, text, b"sent ", u64::from(*serial)),
         Answer::Refused(error) => put_with_error(text, b"refused ", error),
         Answer::SendFailed(error) => put_with_error(text, b"sendfailed ", error),
+        Answer::SentFirst(error) => put_with_error(text, b"sendfailed ", error),
+        Answer::Untold(error) => put_with_error(text, untold_word(error), error),
         Answer::Got(message) => put_got(alloc, text, message),
         Answer::Closed(error) => put_with_error(text, b"closed ", error),
         Answer::Reply(position) => put_with_number(alloc, text, b"reply ", *position),
@@ -307,10 +338,12 @@ fn put_answer(alloc: Global, text: &mut Vec<u8>, answer: &Answer) -> Result<(), 
         Answer::Busy => put(text, b"busy"),
         Answer::Dropped => put(text, b"dropped"),
         Answer::Streaming(number) => put_with_number(alloc, text, b"stream ", *number),
+        Answer::Opening { number, serial } => put_made(alloc, text, b"opening ", *number, *serial),
+        Answer::Opened => put(text, b"opened"),
         Answer::Item(position) => put_with_number(alloc, text, b"item ", *position),
         Answer::Empty => put(text, b"empty"),
         Answer::Ended => put(text, b"ended"),
-        Answer::Gone => put(text, b"gone"),
+        Answer::Gone(last) => put_gone(alloc, text, *last),
         Answer::Set => put(text, b"ok"),
         Answer::Shut => put(text, b"closed"),
     }
@@ -370,53 +403,6 @@ fn put_sent(text: &mut Vec<u8>, sent: &[u8]) -> Result<(), AllocError>
     }
 }
 
-#[tactic(auto, unfolding(crate::specs::Transcript::capacity_text))]
-fn put_capacity(alloc: Global, text: &mut Vec<u8>, limit: Option<u64>) -> Result<(), AllocError>
-    ensures { OnOk result (text.new.items ≡ text.old.items ++ capacity_text limit) }
-{
-    match limit {
-        None => Ok(()),
-        Some(limit) => {
-            put_with_number(alloc, text, b"queue ", limit)?;
-            put(text, b"\n")
-        }
-    }
-}
-
-#[tactic(auto, unfolding(crate::specs::Transcript::fds_text))]
-fn put_fds(text: &mut Vec<u8>, fds: bool) -> Result<(), AllocError>
-    ensures { OnOk result (text.new.items ≡ text.old.items ++ fds_text fds) }
-{
-    if fds { put(text, b"fds\n") } else { Ok(()) }
-}
-
-#[tactic(auto, unfolding(crate::specs::Transcript::outfault_text))]
-fn put_outfault(alloc: Global, text: &mut Vec<u8>, count: Option<u64>) -> Result<(), AllocError>
-    ensures { OnOk result (text.new.items ≡ text.old.items ++ outfault_text count) }
-{
-    match count {
-        None => Ok(()),
-        Some(count) => {
-            put_with_number(alloc, text, b"outfault ", count)?;
-            put(text, b"\n")
-        }
-    }
-}
-
-#[tactic(auto, unfolding(crate::specs::Transcript::direct_text))]
-fn put_direct(text: &mut Vec<u8>, name: &Option<OwnedUniqueName>) -> Result<(), AllocError>
-    ensures { OnOk result (text.new.items ≡ text.old.items ++ direct_text name.now) }
-{
-    match name {
-        None => put(text, b"direct\n"),
-        Some(name) => {
-            put(text, b"direct ")?;
-            put_text(text, name.as_str().as_bytes())?;
-            put(text, b"\n")
-        }
-    }
-}
-
 #[tactic(auto, unfolding(crate::specs::Transcript::transcript_text))]
 fn put_transcript(
     alloc: Global,
@@ -425,9 +411,9 @@ fn put_transcript(
     entries: &[Entry],
     sent: &[u8],
 ) -> Result<(), AllocError>
-    ensures { OnOk result (text.new.items ≡ text.old.items ++ transcript_text setup.now.name setup.now.queue setup.now.fds setup.now.outfault (given setup.now.pieces.items) entries.now sent.now) }
+    ensures { OnOk result (text.new.items ≡ text.old.items ++ transcript_text setup.now.kind setup.now.queue setup.now.fds setup.now.outfault (given setup.now.pieces.items) entries.now sent.now) }
 {
-    put_direct(text, &setup.name)?;
+    put_peer(text, &setup.kind)?;
     put_capacity(alloc, text, setup.queue)?;
     put_fds(text, setup.fds)?;
     put_outfault(alloc, text, setup.outfault)?;
@@ -448,7 +434,7 @@ pub fn write_transcript<O: Sink>(
     sent: &[u8],
     output: &mut O,
 ) -> Result<(), Refusal>
-    ensures text { WritesAll result (transcript_text setup.now.name setup.now.queue setup.now.fds setup.now.outfault (given setup.now.pieces.items) transcript.now.entries.items sent.now) (O.held output.old) (O.held output.new) (O.room output.old) (O.room output.new) (O.faults output.old) (O.faults output.new) }
+    ensures text { WritesAll result (transcript_text setup.now.kind setup.now.queue setup.now.fds setup.now.outfault (given setup.now.pieces.items) transcript.now.entries.items sent.now) (O.held output.old) (O.held output.new) (O.room output.old) (O.room output.new) (O.faults output.old) (O.faults output.new) }
     ensures fds { O.takes output.new ≡ O.takes output.old }
 {
     let mut text = Vec::new(alloc);

@@ -1,4 +1,4 @@
-use Rattle.std.proofs.Common.{Some, None, [], unwrap_or}
+use Rattle.std.proofs.Common.{Some, None, [], unwrap_or, false}
 use Rattle.std.proofs.lemmas.Result.{err_from_is_err_and}
 use Rattle.wire_message.specs.declared.kind.MessageType.TheVariants as types
 use Rattle.peer_run.specs.Stands.{setting_by}
@@ -17,5 +17,5 @@ returns-in_err-body c =
 
 pub returns : goal.returns
 returns c =
-    whole types.Signal (setting_by None None c.args.takes_fds) c.args.words.now (Some (unwrap_or c.args.words.now.interface [])) _ _ _
+    whole types.Signal (setting_by false None None c.args.takes_fds) c.args.words.now (Some (unwrap_or c.args.words.now.interface [])) _ _ _
     c.in_ok-builder.ensures.0 c.in_ok-builder.ensures.1 c.in_ok-body.ensures c.with_body.ensures

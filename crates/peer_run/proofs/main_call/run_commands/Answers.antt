@@ -15,9 +15,9 @@ returns-in-Ok-write_transcript g c =
     let source = c.new-source.ensures.left ∙ ap Some (ap told_bytes c.deref.ensures.value ∙ told_given pieces) in
     let stop = c.new-source.ensures.stop ∙ ap Some (ap told_stop c.deref.ensures.value ∙ told_breaks pieces) in
     let held = c.run_peer.new.sink.bytes.items in
-    let is = run_of _ _ _ _ (script_from setup.name setup.queue setup.fds setup.outfault pieces c.args.commands.now) _ c.in-Ok.transcript.entries.items held
+    let is = run_of _ _ _ _ (script_from setup.kind setup.queue setup.fds setup.outfault pieces c.args.commands.now) _ c.in-Ok.transcript.entries.items held
     source stop (ap Some c.sink_of-sink.ensures.bytes) (ap Some c.sink_of-sink.ensures.room) refl c.sink_of-sink.ensures.fds c.in-Ok.ensures.run in
-    let text = ap (λ sent. transcript_text setup.name setup.queue setup.fds setup.outfault (given pieces) c.in-Ok.transcript.entries.items sent) c.bytes.ensures in
+    let text = ap (λ sent. transcript_text setup.kind setup.queue setup.fds setup.outfault (given pieces) c.in-Ok.transcript.entries.items sent) c.bytes.ensures in
     Shown c.in-Ok.transcript.entries.items held is refl
     (subst (λ t. Appends (g.O.Sink.held c.args.output.now) (g.O.Sink.held c.write_transcript.new.output) t) text c.in-Ok-write_transcript.ensures.text.0)
     c.in-Ok-write_transcript.ensures.text.2

@@ -10,6 +10,6 @@ returns-in-Err-Limit g c = ends_limit _ _ _ _ _ _ _ _ (rw c.in-Err-Limit.field-0
 pub returns-in-Ok : goal.returns-in-Ok
 returns-in-Ok g c =
     let setup = c.in-Ok.setup in
-    shown_done (script_from setup.name setup.queue setup.fds setup.outfault setup.pieces.items c.in-Ok.commands.items) _ _ _ _ _ _ _ (g.I.Source.left c.args.input.now) c.in-Ok.ensures.told
-    (subst (λ commands. Shows (script_from setup.name setup.queue setup.fds setup.outfault setup.pieces.items commands) (g.O.Sink.held c.args.output.now) (g.O.Sink.held c.run_commands.new.output)
+    shown_done (script_from setup.kind setup.queue setup.fds setup.outfault setup.pieces.items c.in-Ok.commands.items) _ _ _ _ _ _ _ (g.I.Source.left c.args.input.now) c.in-Ok.ensures.told
+    (subst (λ commands. Shows (script_from setup.kind setup.queue setup.fds setup.outfault setup.pieces.items commands) (g.O.Sink.held c.args.output.now) (g.O.Sink.held c.run_commands.new.output)
     (g.O.Sink.faults c.args.output.now) (g.O.Sink.faults c.run_commands.new.output) c.run_commands.result) c.as_slice.ensures.value c.run_commands.ensures)

@@ -1,3 +1,4 @@
+use Rattle.std.proofs.lemmas.Result.{IfOk-weaker}
 use Rattle.peer_route.specs.declared.words.Words.TheVariants as words
 use Rattle.peer_run.proofs.Ends.{if_ok3}
 use Rattle.peer_run.proofs.HalfStep.{fine_before}
@@ -69,15 +70,16 @@ returns-in-TakeBefore-clause-stands g c setting start_in start_out es takes s =
     })
 
 pub returns-in-Unstream-clause-stands : goal.returns-in-Unstream-clause-stands
-returns-in-Unstream-clause-stands g c setting start_in start_out es takes s =
-    let before = fine_before setting es c.args.command.now.lane c.args.command.now.words c.unstream.result in
-    let step = rw (c.in-Unstream.is) at before in
-    rw (c.in-Unstream.is) (record {
-      follows = c.unstream.ensures.follows setting es s.follows;
-      reads = c.unstream.ensures.reads setting start_in _ es s.follows s.reads;
-      writes = c.unstream.ensures.writes setting start_out _ es s.follows s.writes;
-      fine = λ e. s.fine (step e);
-    })
+returns-in-Unstream-clause-stands g c =
+    rw (c.in-Unstream.is) (IfOk-weaker c.unstream.result _ _
+    (λ answer sent setting start_in start_out es takes s.
+    let done = sent setting es s.follows s.fine in
+    record {
+      follows = done.follows;
+      reads = done.reads start_in _ s.reads;
+      writes = done.writes start_out s.writes;
+      fine = done.fine;
+    }) c.unstream.ensures.sent)
 
 pub returns-in-Queue-clause-stands : goal.returns-in-Queue-clause-stands
 returns-in-Queue-clause-stands g c setting start_in start_out es takes s =
@@ -113,13 +115,26 @@ returns-in-Clone-clause-stands g c =
 
 pub returns-in-Open-clause-stands : goal.returns-in-Open-clause-stands
 returns-in-Open-clause-stands g c =
-    rw (c.in-Open.is) (if_ok3 c.open.result _ _ _ _
-    (λ answer f r w setting start_in start_out es takes s. record {
-      follows = f setting es s.follows;
-      reads = r setting start_in _ es s.follows s.reads;
-      writes = w setting start_out _ es s.follows s.writes;
-      fine = λ e. s.fine (fine_before setting es c.args.command.now.lane (words.Open c.in-Open.max_queued c.in-Open.rule) answer e);
-    }) c.open.ensures.follows c.open.ensures.reads c.open.ensures.writes)
+    rw (c.in-Open.is) (IfOk-weaker c.open.result _ _
+    (λ answer sent setting start_in start_out es takes s.
+    let done = sent setting es s.follows s.fine in
+    record {
+      follows = done.follows;
+      reads = done.reads start_in _ s.reads;
+      writes = done.writes start_out s.writes;
+      fine = done.fine;
+    }) c.open.ensures.sent)
+
+pub returns-in-Opened-clause-stands : goal.returns-in-Opened-clause-stands
+returns-in-Opened-clause-stands g c setting start_in start_out es takes s =
+    let before = fine_before setting es c.args.command.now.lane c.args.command.now.words c.opened.result in
+    let step = rw (c.in-Opened.is) at before in
+    rw (c.in-Opened.is) (record {
+      follows = c.opened.ensures.follows setting es s.follows;
+      reads = c.opened.ensures.reads setting start_in _ es s.follows s.reads;
+      writes = c.opened.ensures.writes setting start_out _ es s.follows s.writes;
+      fine = λ e. s.fine (step e);
+    })
 
 pub returns-in-Close-clause-stands : goal.returns-in-Close-clause-stands
 returns-in-Close-clause-stands g c setting start_in start_out es takes s =
@@ -130,3 +145,25 @@ returns-in-Close-clause-stands g c setting start_in start_out es takes s =
       writes = done.writes start_out s.writes;
       fine = done.fine;
     })
+
+pub returns-in-Stream-clause-stands : goal.returns-in-Stream-clause-stands
+returns-in-Stream-clause-stands g c =
+    rw (c.in-Stream.is) (if_ok3 c.stream.result _ _ _ _
+    (λ answer f r w setting start_in start_out es takes s. record {
+      follows = f setting es s.follows;
+      reads = r setting start_in _ es s.follows s.reads;
+      writes = w setting start_out _ es s.follows s.writes;
+      fine = λ e. s.fine (fine_before setting es c.args.command.now.lane words.Stream answer e);
+    }) c.stream.ensures.follows c.stream.ensures.reads c.stream.ensures.writes)
+
+pub returns-in-Call-clause-stands : goal.returns-in-Call-clause-stands
+returns-in-Call-clause-stands g c =
+    IfOk-weaker c.send_words.result _ _
+    (λ answer sent setting start_in start_out es takes s.
+    let done = sent setting es takes s.follows s.fine in
+    record {
+      follows = done.follows;
+      reads = done.reads start_in _ s.reads;
+      writes = done.writes start_out s.writes;
+      fine = done.fine;
+    }) c.send_words.ensures.sent

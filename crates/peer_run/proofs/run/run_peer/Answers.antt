@@ -1,5 +1,6 @@
 use Rattle.std.proofs.Common.{[], ◌∷◌, ◌++◌, map, take, sym, ◌∙◌, ap, arith, refl}
 use Rattle.std.proofs.lemmas.List.{take_more, reverse-append, map_push}
+use Rattle.peer_script.specs.Script.{is_bus, name_of}
 use Rattle.peer_run.specs.Runs.{command_of}
 use Rattle.peer_run.specs.Stands.{setting_by}
 use Rattle.peer_run.proofs.Ends.{start_reads, start_writes}
@@ -7,10 +8,10 @@ use Rattle.peer_run.proofs.run.run_peer.Goals as goal
 
 pub loop-command-init : goal.loop-command-init
 loop-command-init g c =
-    let setting = setting_by c.args.setup.now.name c.args.setup.now.queue (g.W.Sink.takes c.args.sink.now) in
+    let setting = setting_by (is_bus c.args.setup.now.kind) (name_of c.args.setup.now.kind) c.args.setup.now.queue (g.W.Sink.takes c.args.sink.now) in
     rw (c.new-entries.ensures.items) (record {
       stands = rw (c.new-reader.ensures, c.new-writer.ensures.sink)
-          (record { follows = c.new-peer.ensures setting (sym c.in_ok-name.ensures) refl; reads = start_reads setting _; writes = start_writes setting _; fine = λ e. c.new-writer.ensures.fine });
+          (record { follows = c.new-peer.ensures setting (sym c.is_bus.ensures) (sym (c.in_ok-name.ensures ∙ c.name.ensures)) refl; reads = start_reads setting _; writes = start_writes setting _; fine = λ e. c.new-writer.ensures.fine });
       commands = refl;
       takes = rw (c.new-writer.ensures.sink) refl;
       empty = c.new-kept.ensures.items;
@@ -26,7 +27,7 @@ loop-command-preserved g c =
     let item = c.in_ok-entry.ensures.command ∙ c.command-item.is in
     record {
       stands = rw (c.in_ok-push.ensures.items, reverse-append c.loop-command.entries.items (c.in_ok-entry.entry ∷ []))
-          (c.in_ok-entry.ensures.stands (setting_by c.args.setup.now.name c.args.setup.now.queue (g.W.Sink.takes c.args.sink.now)) _ _ _ (sym inv.takes) inv.stands);
+          (c.in_ok-entry.ensures.stands (setting_by (is_bus c.args.setup.now.kind) (name_of c.args.setup.now.kind) c.args.setup.now.queue (g.W.Sink.takes c.args.sink.now)) _ _ _ (sym inv.takes) inv.stands);
       commands = ap (map command_of) (c.in_ok-push.ensures.items) ∙ map_push command_of c.loop-command.entries.items c.in_ok-entry.entry
           ∙ ap (λ xs. xs ++ command_of c.in_ok-entry.entry ∷ []) inv.commands
           ∙ ap (λ x. take c.loop-command.command-index c.args.commands.now ++ x ∷ []) item

@@ -1,5 +1,5 @@
 -- A line of another number of words is no command.
-use Rattle.std.proofs.Common.{rules, ◌≡◌, ◌<◌, refl, sym, arith, map, length, None, List, [], ◌∷◌, ℕ, Bor}
+use Rattle.std.proofs.Common.{rules, ◌≡◌, ◌<◌, refl, arith, map, length, None, List, [], ◌∷◌, ℕ, Bor}
 use Rattle.peer_script.specs.Script.{command_words}
 use Rattle.peer_script.proofs.line.command_words.Goals as goal
 use Rattle.peer_script.proofs.line.command_words.Goals.{in_default-via-then-words-lt1, in_default-via-else-words-lt1+else-words-lt2+else-words-lt3+else-words-lt4+else-words-lt5+then-words-lt7, in_default-via-else-words-lt1+else-words-lt2+else-words-lt3+else-words-lt4+else-words-lt5+else-words-lt7+else-words-lt8}

@@ -4,21 +4,21 @@ use Rattle.std.proofs.lemmas.Bool.{true≢false}
 use Rattle.wire_message.specs.declared.error.Error.TheVariants as errors
 use Rattle.peer_route.specs.Streams.{are_open}
 use Rattle.peer_route.specs.Left.{View, is_flying}
-use Rattle.peer_route.specs.Leaving.{number_of, have_rules, ended, left_rules, Tells, ClosesStreams}
+use Rattle.peer_route.specs.Leaving.{number_of, have_rules, ended, left_rules, Tells, ClosesStreams, TellsNow}
 use Rattle.peer_route.specs.declared.leaving.Spent.TheVariants as spent
 use Rattle.peer_route.proofs.Placed.{back_same}
-use Rattle.peer_route.proofs.Leavings.{closes_gone, closes_over, closes_busy, closes_back}
+use Rattle.peer_route.proofs.Leavings.{closes_gone, closes_over, closes_busy, closes_back, tells_now}
 use Rattle.peer_route.proofs.route.Route.close_stream.Goals as goal
 
-pub returns-then-close_waits : goal.returns-then-close_waits
-returns-then-close_waits c h left =
+pub returns-then-close_waits-clause-closes : goal.returns-then-close_waits-clause-closes
+returns-then-close_waits-clause-closes c h left =
     let k = c.args.stream.number in
     let there : are_open h k (number_of c.args.second) ≡ true = sym (c.are_open.ensures h left ∙ ap (are_open h k) c.number_of-other.ensures) ∙ c.if-not-are_open.false in
     closes_busy c.args.self.now h c.args.stream c.args.second left there
     (ap (λ (o : Option ℕ). is_flying c.args.self.now.calls && have_rules c.args.self.now k o) (sym c.number_of-other.ensures) ∙ sym c.close_waits.ensures ∙ c.if-close_waits.true)
 
-pub returns-in-Ok : goal.returns-in-Ok
-returns-in-Ok c h left =
+pub returns-in-Ok-clause-closes : goal.returns-in-Ok-clause-closes
+returns-in-Ok-clause-closes c h left =
     let v = c.args.self.now in
     let k = c.args.stream.number in
     let there : are_open h k (number_of c.args.second) ≡ true = sym (c.are_open.ensures h left ∙ ap (are_open h k) c.number_of-other.ensures) ∙ c.if-not-are_open.false in
@@ -27,8 +27,13 @@ returns-in-Ok c h left =
     rw (c.end_both.ensures, c.number_of-other.ensures)
     (closes_gone v c.tell.new.self h k (number_of c.args.second) c.in-Ok.last left there idle tells c.in-Ok.ensures.more)
 
-pub returns-then-is_memory : goal.returns-then-is_memory
-returns-then-is_memory c h left =
+pub returns-in-Ok-clause-waits : goal.returns-in-Ok-clause-waits
+returns-in-Ok-clause-waits c =
+    subst (λ (w : View). TellsNow c.args.self.now w (spent.Gone c.in-Ok.last)) (sym c.end_both.ensures)
+    (tells_now c.args.self.now c.tell.new.self c.args.stream.number c.number_of-other.result c.in-Ok.last (ended c.args.stream.number c.number_of-other.result c.tell.new.self.streams) c.in-Ok.ensures.tells)
+
+pub returns-then-is_memory-clause-closes : goal.returns-then-is_memory-clause-closes
+returns-then-is_memory-clause-closes c h left =
     let v = c.args.self.now in
     let m = c.mark-mark.result in
     let k = c.args.stream.number in
@@ -40,8 +45,8 @@ returns-then-is_memory c h left =
     let same : c.take_back.new.self ≡ v = c.take_back.ensures ∙ back_same true v c.tell.new.self m.calls m.serials m.outbox m.places c.mark-mark.ensures c.in-Err.ensures.more in
     closes_back v c.tell.new.self c.take_back.new.self h c.args.stream c.args.second c.in-Err.error left there idle tells e same
 
-pub returns-else-is_memory : goal.returns-else-is_memory
-returns-else-is_memory c h left =
+pub returns-else-is_memory-clause-closes : goal.returns-else-is_memory-clause-closes
+returns-else-is_memory-clause-closes c h left =
     let v = c.args.self.now in
     let m = c.mark-mark.result in
     let k = c.args.stream.number in

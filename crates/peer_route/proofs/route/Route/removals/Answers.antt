@@ -21,4 +21,4 @@ returns-in_err-listed c =
     let p = err_from_is_err_and c.from_residual-in_err-listed.result c.from_residual-in_err-listed.ensures.1 in
     rw (p.1, p.2)
     (some_listed c.in_ok-first.first c.in_ok-second.second (left_by v (without_both c.args.stream None v.streams) (rule_kept (kept_at v.streams c.args.stream))) (second_left v c.args.stream c.args.second)
-    c.in_ok-first.ensures c.in_ok-second.ensures c.in_err-listed.ensures.some)
+    c.in_ok-first.ensures.0 c.in_ok-second.ensures.0 c.in_err-listed.ensures.some)

@@ -22,12 +22,12 @@ returns-in_err-issued-clause-tells c =
     let some : c.in_ok-list.list.items ≡ [] → ⊥ = λ e.
     absurd (true≢false (sym (ap (λ n. n == 0) (c.in_ok-list.list.ok.0 ∙ ap length e)) ∙ sym c.is_empty.ensures ∙ c.if-is_empty.false)) in
     rw (p.1, p.2)
-    (tells_unput issued_of c.args.self.now c.put_all.new.self (left_rules c.args.self.now c.args.stream c.args.second) c.in_ok-list.list.items c.in_err-issued.field-0.0 c.in_ok-list.ensures some
+    (tells_unput issued_of c.args.self.now c.put_all.new.self (left_rules c.args.self.now c.args.stream c.args.second) c.in_ok-list.list.items c.in_err-issued.field-0.0 c.in_ok-list.ensures.0 c.in_ok-list.ensures.1 some
     c.in_err-issued.ensures.puts)
 
 pub returns-clause-tells : goal.returns-clause-tells
 returns-clause-tells c =
     let some : c.in_ok-list.list.items ≡ [] → ⊥ = λ e.
     absurd (true≢false (sym (ap (λ n. n == 0) (c.in_ok-list.list.ok.0 ∙ ap length e)) ∙ sym c.is_empty.ensures ∙ c.if-is_empty.false)) in
-    tells_put issued_of c.args.self.now c.put_all.new.self (left_rules c.args.self.now c.args.stream c.args.second) c.in_ok-list.list.items c.in_ok-issued.issued c.last_issued.result c.in_ok-list.ensures some
+    tells_put issued_of c.args.self.now c.put_all.new.self (left_rules c.args.self.now c.args.stream c.args.second) c.in_ok-list.list.items c.in_ok-issued.issued c.last_issued.result c.in_ok-list.ensures.0 c.in_ok-list.ensures.1 some
     c.in_ok-issued.ensures.puts c.last_issued.ensures

@@ -8,8 +8,8 @@ use Rattle.peer_route.specs.declared.calls.Slot.TheVariants.{Gone}
 use Rattle.peer_route.proofs.Core.{lost, lost_none, left_fault}
 use Rattle.peer_route.proofs.route.Route.write_fault.Goals as goal
 
-pub returns-in-Some : goal.returns-in-Some
-returns-in-Some c h left =
+pub returns-in-Some-clause-left : goal.returns-in-Some-clause-left
+returns-in-Some-clause-left c h left =
     let Q : View → Type 0 = λ v. Left (record v { calls = c.lose-in-Some.new.self; streams = map (lost_at c.args.index) v.streams; done = v.done + 1; writer = worse v.writer Failed }) (Fault ∷ h) in
     rw (c.then-self-inside.ensures, c.lose.ensures) (subst Q (sym c.self.view_is)
     (left_fault c.args.self.now c.args.index c.lose-in-Some.new.self h c.requires.first left
@@ -20,8 +20,8 @@ returns-in-Some c h left =
     (ap (λ (v : CallsView). v.closing) c.lose-in-Some.ensures ∙ ap (λ (v : View). v.calls.closing) c.self.view_is)
     left.calls)))
 
-pub returns-in_default : goal.returns-in_default
-returns-in_default c h left =
+pub returns-in_default-clause-left : goal.returns-in_default-clause-left
+returns-in_default-clause-left c h left =
     let Q : View → Type 0 = λ v. Left (record v { streams = map (lost_at c.args.index) v.streams; done = v.done + 1; writer = worse v.writer Failed }) (Fault ∷ h) in
     rw (c.then-self-inside.ensures, c.lose.ensures) (subst Q (sym c.self.view_is)
     (left_fault c.args.self.now c.args.index c.args.self.now.calls h c.requires.first left

@@ -4,7 +4,7 @@ use Rattle.peer_route.specs.Left.{View, Left}
 use Rattle.peer_route.proofs.Core.{left_wrote}
 use Rattle.peer_route.proofs.route.Route.wrote.Goals as goal
 
-pub returns : goal.returns
-returns c h left =
+pub returns-clause-left : goal.returns-clause-left
+returns-clause-left c h left =
     let P : View → Type 0 = λ v. Left (record v { done = v.done + 1 }) (Wrote ∷ h) in
     subst P (sym c.self.view_is) (left_wrote c.args.self.now h left)

@@ -1,0 +1,73 @@
+-- The calls by which a peer asks the bus for what a rule accepts, and tells it that this isn't wanted any more (D-Bus
+-- Specification, "Message Bus Messages", `org.freedesktop.DBus.AddMatch` and `org.freedesktop.DBus.RemoveMatch`).
+use Rattle.std.specs.Prelude.{ℕ, Bool, true, false, ◌⊎◌, List, [], ◌∷◌, Option, Some, None, codes}
+use Rattle.std.specs.List.{AllByRecursion}
+use Rattle.wire_number.specs.declared.endian.Endian.TheVariants.{Little}
+use Rattle.wire_tree.specs.Datum.{text, string, IsTextOf}
+use Rattle.wire_message.specs.Field.{no_fields}
+use Rattle.wire_message.specs.Front.{Seen}
+use Rattle.wire_message.specs.Draft.{Draft}
+use Rattle.wire_message.specs.declared.kind.MessageType.TheVariants as types
+use Rattle.rule_match.specs.Rule.{Rule}
+use Rattle.rule_match.specs.Text.{rule_text}
+use Rattle.peer_route.specs.Parcel.{Parcel, message_of}
+use Rattle.peer_route.specs.History.{Event, unique_name}
+
+abbrev pub bus_name : List ℕ
+bus_name = codes "org.freedesktop.DBus"
+
+-- the call of a method of the bus, by the peer of this name
+abbrev pub bus_draft : Option (List ℕ) → List ℕ → Draft
+bus_draft name member = record {
+  kind = types.MethodCall;
+  order = Little;
+  flags = 0;
+  serial = None;
+  fields = record no_fields {
+    path = Some (codes "/org/freedesktop/DBus");
+    interface = Some bus_name;
+    member = Some member;
+    destination = Some bus_name;
+    sender = name;
+  };
+}
+
+-- that call with a rule's text
+abbrev pub match_parcel : List ℕ → Option (List ℕ) → Rule → Parcel
+match_parcel member name rule = record { draft = bus_draft name member; values = text string (rule_text rule) ∷ []; fds = [] }
+
+-- The bus is asked for what the rule accepts.
+abbrev pub add_parcel : Option (List ℕ) → Rule → Parcel
+add_parcel name rule = match_parcel (codes "AddMatch") name rule
+
+-- the message of it with this serial
+abbrev pub add_message : List Event → Rule → ℕ → Seen
+add_message h rule serial = message_of (add_parcel (unique_name h) rule) serial
+
+-- The bus is told that what the rule accepts isn't wanted any more.
+abbrev pub remove_parcel : Option (List ℕ) → Rule → Parcel
+remove_parcel name rule = match_parcel (codes "RemoveMatch") name rule
+
+-- the message of it with this serial
+abbrev pub remove_message : List Event → Rule → ℕ → Seen
+remove_message h rule serial = message_of (remove_parcel (unique_name h) rule) serial
+
+-- ---- several rules
+
+abbrev pub last_of : List ℕ → Option ℕ
+last_of [] = None
+last_of (serial ∷ []) = Some serial
+last_of (serial ∷ more ∷ serials) = last_of (more ∷ serials)
+
+abbrev pub some_rules : List Rule → Bool
+some_rules [] = false
+some_rules (rule ∷ rules) = true
+
+-- the text of some rule is no string of a message
+abbrev pub SomeNoText : List Rule → Type 0
+SomeNoText [] = ⊥
+SomeNoText (rule ∷ rules) = (IsTextOf string (rule_text rule) → ⊥) ⊎ SomeNoText rules
+
+-- the text of each is one
+abbrev pub AreTexts : List Rule → Type 0
+AreTexts rules = AllByRecursion (λ rule. IsTextOf string (rule_text rule)) rules
