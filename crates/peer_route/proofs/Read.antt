@@ -1,5 +1,5 @@
 -- What answered a call, and where it stands among the messages read.
-use Rattle.std.proofs.Common.{inl, inr, ◌≡◌, ◌⊎◌, ℕ, zero, suc, ◌+◌, cond, if◌then◌else◌, arith, refl, sym, ◌∙◌, ap, subst, Bool, true, false, List, [], ◌∷◌, ◌++◌, length, drop, Option, Some, None, Result, Ok, Err}
+use Rattle.std.proofs.Common.{inl, inr, ◌≡◌, ◌⊎◌, ℕ, zero, suc, ◌+◌, ◌<◌, cond, if◌then◌else◌, arith, refl, sym, ◌∙◌, ap, subst, Bool, true, false, List, [], ◌∷◌, ◌++◌, length, drop, Option, Some, None, Result, Ok, Err}
 use Rattle.std.specs.List.{slice_get, find, AllByRecursion}
 use Rattle.wire_message.specs.Front.{Seen}
 use Rattle.wire_message.specs.declared.kind.MessageType.{MessageType}
@@ -169,6 +169,17 @@ ranked_first bus (Some name) queue = bus_unread bus queue
 ranked : (setting : Setting) (es : List Entry) → Legal setting es → Ranked 0 (read (trail setting es).events)
 ranked setting [] legal = ranked_first setting.bus setting.name setting.queue
 ranked setting (e ∷ es) legal = ranked_entry (trail setting es) e.lane e.words e.answer legal.0 (ranked setting es legal.1)
+
+-- a message that was read has the position of its place
+pub at_place : (setting : Setting) (es : List Entry) (i : ℕ) (m : Seen) → Legal setting es → slice_get (read (trail setting es).events) i ≡ Some m → m.position ≡ i + 1
+at_place setting es i m legal at = ranked_at 0 (read (trail setting es).events) i m (ranked setting es legal) at ∙ omega arith
+
+pub in_order : (setting : Setting) (es : List Entry) (i j : ℕ) (m n : Seen) → Legal setting es → i < j → slice_get (read (trail setting es).events) i ≡ Some m
+    → slice_get (read (trail setting es).events) j ≡ Some n → m.position < n.position
+in_order setting es i j m n legal less at at₂ =
+    let p = at_place setting es i m legal at in
+    let q = at_place setting es j n legal at₂ in
+    omega (arith, less, p, q)
 
 -- ---- what a search finds
 

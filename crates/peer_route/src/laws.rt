@@ -1,10 +1,10 @@
 //! Laws of every history, each the contract of a function that does nothing.
-ghost use Rattle.std.specs.Prelude.{◌≡◌, ◌≢◌, ◌⊎◌, ◌<◌, ℕ, max, length, List, Option, [], ◌∷◌, ◌++◌, IfSome, Some, None, Ok, true, false, slice_get};
+ghost use Rattle.std.specs.Prelude.{◌≡◌, ◌≢◌, ◌⊎◌, ◌+◌, ◌<◌, ℕ, max, length, List, Option, [], ◌∷◌, ◌++◌, IfSome, Some, None, Ok, true, false, slice_get};
 ghost use Rattle.std.specs.List.{AllByRecursion};
 ghost use Rattle.wire_message.specs.Front.{Seen};
 ghost use Rattle.wire_message.specs.declared.error.Error.{Error};
 ghost use Rattle.peer_route.specs.declared.answer.Entry.{Entry};
-ghost use Rattle.peer_route.specs.History.{Event, Took, Spent, Made, Making, Ruled, Did, Main, Deed, Asked, calls, closing, is_failed, writer, is_serial, pending, poll_answer, put};
+ghost use Rattle.peer_route.specs.History.{Event, Took, Spent, Made, Making, Ruled, Did, Main, Deed, Asked, calls, closing, is_failed, writer, is_serial, pending, poll_answer, put, read};
 ghost use Rattle.rule_match.specs.Rule.{Rule};
 ghost use Rattle.rule_match.specs.Bytes.{rule_in_bytes};
 ghost use Rattle.peer_route.specs.Rules.{usual};
@@ -36,6 +36,13 @@ pub fn dropped_for_good()
 /// the position is its place among the messages read, from 1 on (D-Bus Specification, "Message Format", `REPLY_SERIAL`).
 pub fn answered_by_the_first()
     ensures { (setting : Setting) (older : List Entry) (e : Entry) (number q : ℕ) → Legal setting (e ∷ older) → IsPoll number e.words → IsReplyAt q e.answer → IsFirstReply (trail setting older) e.lane number q e.answer }
+{}
+
+/// Messages of one peer arrive in the order of their positions: the one that was read behind so many others has the position one
+/// above that number. So of two messages the one that arrived first has the lesser `Sequence`.
+pub fn arrival_order_is_the_order_of_positions()
+    ensures position { (setting : Setting) (es : List Entry) (i : ℕ) (m : Seen) → Legal setting es → slice_get (read (trail setting es).events) i ≡ Some m → m.position ≡ i + 1 }
+    ensures order { (setting : Setting) (es : List Entry) (i j : ℕ) (m n : Seen) → Legal setting es → i < j → slice_get (read (trail setting es).events) i ≡ Some m → slice_get (read (trail setting es).events) j ≡ Some n → m.position < n.position }
 {}
 
 /// A call is answered with the error that closed the peer only where no reply came: no message read after the call was put
