@@ -21,7 +21,5 @@ mod laws;
 mod member;
 mod path;
 mod small;
-#[cfg(test)]
-mod tests;
 mod unique;
 mod well_known;

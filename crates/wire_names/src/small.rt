@@ -15,9 +15,16 @@ use std::hash::{Hash, Hasher};
 use std::marker::Model;
 
 /// A `String` that contracts see as the list of its bytes.
-#[derive(Debug, Drop)]
+#[derive(Debug)]
 pub struct Text {
     string: String,
+}
+
+// Written out: a derived one is taken apart again wherever a type that holds a text ends.
+impl Drop for Text {
+    fn drop(self) {
+        let Text { string: _ } = self;
+    }
 }
 
 impl Model for Text {
@@ -40,7 +47,8 @@ impl Text {
     pub fn into_string(self) -> String
         ensures { string_bytes result ≡ self }
     {
-        self.string
+        let Text { string } = self;
+        string
     }
 
     pub fn from_str(alloc: Global, text: &str) -> Result<Text, AllocError>
@@ -209,9 +217,15 @@ impl<'a> Hash for TextRef<'a> {
 }
 
 /// A `Vec<u8>` that contracts see as the list of its bytes.
-#[derive(Debug, Drop)]
+#[derive(Debug)]
 pub struct Bytes {
     bytes: Vec<u8>,
+}
+
+impl Drop for Bytes {
+    fn drop(self) {
+        let Bytes { bytes: _ } = self;
+    }
 }
 
 impl Model for Bytes {
@@ -236,7 +250,8 @@ impl Bytes {
     pub fn into_vec(self) -> Vec<u8>
         ensures { result.items ≡ self }
     {
-        self.bytes
+        let Bytes { bytes } = self;
+        bytes
     }
 
     pub fn from_slice(alloc: Global, bytes: &[u8]) -> Result<Bytes, AllocError>
