@@ -6,5 +6,3 @@ pub use crate::laws::two_kinds_have_two_names;
 
 mod kind;
 mod laws;
-#[cfg(test)]
-mod tests;
