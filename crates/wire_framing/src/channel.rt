@@ -16,10 +16,18 @@ use std::sync::{Arc, Wait};
 
 /// One end of a connection within the process. What a pipe holds is told by no clause, since another thread may change it at
 /// any time.
-#[derive(Drop)]
 pub struct Channel<R: Wait + Copy> {
     reader: Reader<R>,
     writer: Writer<R>,
+}
+
+impl<R: Wait + Copy> Drop for Channel<R> {
+    fn drop(self) {
+        let Channel {
+            reader: _,
+            writer: _,
+        } = self;
+    }
 }
 
 /// The source of an end. A read waits until the other end wrote or closed, or until this end closed. Once it is let go, what
@@ -108,7 +116,8 @@ impl<R: Wait + Copy> Socket for Channel<R> {
     ghost sink = { λ c. c.writer };
 
     fn split(self) -> Split<ReadHalf<Reader<R>>, WriteHalf<Writer<R>>> {
-        Split::new(ReadHalf::new(self.reader), WriteHalf::new(self.writer))
+        let Channel { reader, writer } = self;
+        Split::new(ReadHalf::new(reader), WriteHalf::new(writer))
     }
 }
 

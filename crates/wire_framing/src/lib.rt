@@ -2,15 +2,9 @@
 //! (D-Bus Specification, "Message Protocol").
 #![tactic(auto)]
 
-#[cfg(test)]
-mod answers;
 mod boxes;
 mod channel;
-#[cfg(test)]
-mod channel_tests;
 mod gather;
-#[cfg(test)]
-mod half_tests;
 mod lent;
 mod memory;
 mod pipe;
@@ -19,13 +13,9 @@ mod receive;
 mod send;
 mod sink;
 mod socket;
-#[cfg(test)]
-mod socket_tests;
 mod sockets;
 mod source;
 mod streams;
-#[cfg(test)]
-mod tests;
 mod write_half;
 
 pub use channel::{Channel, Reader, Writer};

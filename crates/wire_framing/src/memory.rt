@@ -10,12 +10,19 @@ use crate::source::{Failed, Source};
 use std::alloc::Global;
 
 /// What a memory source gives.
-#[derive(Drop)]
 pub enum Piece {
     /// Bytes, of which a read gives no more than these.
     Bytes(Vec<u8>),
     /// One read fails.
     Fault,
+}
+
+impl Drop for Piece {
+    fn drop(self) {
+        match self {
+            Piece::Bytes(_) | Piece::Fault => {}
+        }
+    }
 }
 
 /// A source over pieces in memory. It tells its bytes until its first failed call, how often it was asked, and its widest
@@ -99,13 +106,24 @@ impl<'a> Source for MemorySource<'a> {
 }
 
 /// A sink in memory. It tells its bytes, where its one write fails, and how often it was asked to close.
-#[derive(Drop)]
 pub struct MemorySink {
     bytes: Vec<u8>,
     room: Option<u64>,
     takes_fds: bool,
     faults: u64,
     closes: u64,
+}
+
+impl Drop for MemorySink {
+    fn drop(self) {
+        let MemorySink {
+            bytes: _,
+            room: _,
+            takes_fds: _,
+            faults: _,
+            closes: _,
+        } = self;
+    }
 }
 
 impl MemorySink {
@@ -161,7 +179,14 @@ impl MemorySink {
     pub fn into_bytes(self) -> Vec<u8>
         ensures { result.items ≡ self.bytes.items }
     {
-        self.bytes
+        let MemorySink {
+            bytes,
+            room: _,
+            takes_fds: _,
+            faults: _,
+            closes: _,
+        } = self;
+        bytes
     }
 }
 

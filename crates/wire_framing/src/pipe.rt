@@ -9,7 +9,6 @@ use std::sync::{Condvar, Mutex, Wait};
 const CAPACITY: usize = 32;
 
 /// What a pipe holds.
-#[derive(Drop)]
 struct Held {
     /// The bytes of each message; none is empty.
     messages: VecDeque<Vec<u8>>,
@@ -19,6 +18,17 @@ struct Held {
     ended: bool,
     /// Whether the end that reads was closed: what is written is passed over.
     shut: bool,
+}
+
+impl Drop for Held {
+    fn drop(self) {
+        let Held {
+            messages: _,
+            read: _,
+            ended: _,
+            shut: _,
+        } = self;
+    }
 }
 
 impl Held {
@@ -69,10 +79,18 @@ impl Held {
 }
 
 /// A pipe from the one end of a channel to the other.
-#[derive(Drop)]
 pub(crate) struct Pipe {
     held: Mutex<Held>,
     changed: Condvar,
+}
+
+impl Drop for Pipe {
+    fn drop(self) {
+        let Pipe {
+            held: _,
+            changed: _,
+        } = self;
+    }
 }
 
 impl Pipe {

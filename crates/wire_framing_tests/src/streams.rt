@@ -1,0 +1,145 @@
+//! Real streams and sockets, and broken ones.
+
+use crate::answers::{RETURN, count_of, send_behind};
+use std::alloc::Global;
+use std::io;
+use std::io::{Read, Write};
+use std::net::{Ipv4Addr, SocketAddr, TcpListener, TcpStream};
+use std::os::unix::net::UnixStream;
+use std::test::Fail;
+use wire_framing::{
+    BoxedSplit, Failed, ReadHalf, Refusal, Sink, SocketSink, SocketSource, Source, Split, StdSink,
+    StdSource, StreamSocket, WriteHalf, Writing,
+};
+use wire_message::{Error, IoKind, Result as Answer};
+
+/// Sends one return to this sink, and closes it.
+fn send_one<W: Sink>(alloc: Global, half: &mut WriteHalf<W>) -> Answer<()> {
+    send_behind(alloc, half, 0, 1)?;
+    half.close()
+}
+
+/// How many returns come of this source.
+fn comes<S: Source + Drop>(alloc: Global, source: S) -> Option<u8> {
+    count_of(alloc, &mut ReadHalf::new(source))
+}
+
+/// Whether the one socket gets what the other sends and closes.
+fn passes_one<S: Read + Write + StreamSocket + Drop>(
+    alloc: Global,
+    near: S,
+    far: S,
+) -> Answer<bool> {
+    let mut half = WriteHalf::new(SocketSink::new(near));
+    send_one(alloc, &mut half)?;
+    Ok(!half.can_pass_unix_fd() && comes(alloc, SocketSource::new(far)) == Some(1))
+}
+
+#[test]
+fn over_tcp(rt: HostRuntime) -> Result<(), Fail> {
+    let listener = TcpListener::bind(&rt, SocketAddr::from((Ipv4Addr::LOCALHOST, 0)))?;
+    let near = TcpStream::connect(&rt, listener.local_addr()?)?;
+    let (far, _) = listener.accept()?;
+    assert!(rt; passes_one(rt.alloc(), near, far)?);
+    Ok(())
+}
+
+#[test]
+fn over_unix(rt: HostRuntime) -> Result<(), Fail> {
+    let (near, far) = UnixStream::pair(&rt)?;
+    assert!(rt; passes_one(rt.alloc(), near, far)?);
+    Ok(())
+}
+
+#[test]
+fn over_a_pipe(rt: HostRuntime) -> Result<(), Fail> {
+    let (far, near) = io::pipe(&rt)?;
+    send_one(rt.alloc(), &mut WriteHalf::new(StdSink::new(near)))?;
+    assert_eq!(rt; comes(rt.alloc(), StdSource::new(far)), Some(1));
+    Ok(())
+}
+
+/// Two halves over the ends of a pipe, in boxes.
+fn boxed(rt: &HostRuntime, alloc: Global) -> Result<BoxedSplit, Fail> {
+    let (far, near) = io::pipe(rt)?;
+    let source: Box<dyn Source + Send + Drop> = Box::new(alloc, StdSource::new(far))?;
+    let sink: Box<dyn Sink + Send + Drop> = Box::new(alloc, StdSink::new(near))?;
+    Ok(Split::new(ReadHalf::new(source), WriteHalf::new(sink)))
+}
+
+#[test]
+fn in_boxes(rt: HostRuntime) -> Result<(), Fail> {
+    let mut halves = boxed(&rt, rt.alloc())?;
+    assert!(rt; !halves.read().can_pass_unix_fd() && !halves.write().can_pass_unix_fd());
+    send_one(rt.alloc(), halves.write_mut())?;
+    let (mut reads, writes) = halves.take();
+    drop(writes);
+    assert_eq!(rt; count_of(rt.alloc(), &mut reads), Some(1));
+    Ok(())
+}
+
+#[test]
+fn straight_out(rt: HostRuntime) {
+    assert_eq!(rt; StdSink::new(io::writer(&rt)).write(b"pipit\n"), Ok(6));
+}
+
+/// A reader, a writer and a socket that fail.
+#[derive(Drop)]
+struct Broken;
+
+fn a_fault<T>() -> io::Result<T> {
+    Err(io::Error::from(io::ErrorKind::BrokenPipe))
+}
+
+impl Read for Broken {
+    fn read(&mut self, _buf: &mut [u8]) -> io::Result<usize> {
+        a_fault()
+    }
+}
+
+impl Write for Broken {
+    fn write(&mut self, _buf: &[u8]) -> io::Result<usize> {
+        a_fault()
+    }
+
+    fn flush(&mut self) -> io::Result<()> {
+        a_fault()
+    }
+}
+
+impl StreamSocket for Broken {
+    fn shut_down(&self) -> io::Result<()> {
+        a_fault()
+    }
+}
+
+#[test]
+fn broken_ones(rt: HostRuntime) {
+    assert_eq!(rt; StdSource::new(Broken).read(&mut [0; 4]), Err(Failed));
+    assert_eq!(rt; StdSink::new(Broken).write(&RETURN), Err(Refusal::Failed));
+    assert_eq!(rt; SocketSink::new(Broken).close(), Err(Failed));
+}
+
+/// A writer that takes what comes and can't be flushed.
+#[derive(Drop)]
+struct Unflushed;
+
+impl Write for Unflushed {
+    fn write(&mut self, buf: &[u8]) -> io::Result<usize> {
+        Ok(buf.len())
+    }
+
+    fn flush(&mut self) -> io::Result<()> {
+        a_fault()
+    }
+}
+
+#[test]
+fn one_that_cannot_be_flushed(rt: HostRuntime) -> Result<(), Fail> {
+    let mut half = WriteHalf::new(StdSink::new(Unflushed));
+    send_behind(rt.alloc(), &mut half, 0, 1)?;
+    let answer = half.close();
+    assert!(rt; matches!(&answer, Err(Error::InputOutput(IoKind::WriteFault))));
+    assert_eq!(rt; half.writing(), Writing::Closed);
+    Ok(())
+}
