@@ -12,6 +12,4 @@ pub use crate::text::{
 mod endian;
 mod number;
 mod padding;
-#[cfg(test)]
-mod tests;
 mod text;

@@ -16,8 +16,6 @@ mod error;
 mod laws;
 mod read;
 mod signature;
-#[cfg(test)]
-mod tests;
 mod text;
 mod value_type;
 mod walk;

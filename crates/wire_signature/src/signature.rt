@@ -8,9 +8,15 @@ use std::alloc::{AllocError, Global};
 use std::marker::Model;
 
 /// A list of complete types, as the signature of a message's body (D-Bus Specification, "Valid Signatures").
-#[derive(Drop)]
 pub struct Signature {
     types: Vec<ValueType>,
+}
+
+// Written out: a derived one is taken apart again wherever a type that holds a signature ends.
+impl Drop for Signature {
+    fn drop(self) {
+        let Signature { types: _ } = self;
+    }
 }
 
 impl Model for Signature {
