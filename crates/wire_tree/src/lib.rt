@@ -11,8 +11,6 @@ mod hash;
 mod laws;
 mod same;
 mod sound;
-#[cfg(test)]
-mod tests;
 mod tree;
 mod typed;
 mod value;

@@ -39,23 +39,41 @@ pub enum Tree {
 
 /// Trees in their order.
 #[cycle(tree)]
-#[derive(Drop)]
 pub struct Trees {
     items: Vec<Tree>,
 }
 
+impl Drop for Trees {
+    #[cycle(tree)]
+    fn drop(self) {
+        let Trees { items: _ } = self;
+    }
+}
+
 /// Keys and values in their order.
 #[cycle(tree)]
-#[derive(Drop)]
 pub struct Entries {
     pairs: Vec<(Tree, Tree)>,
 }
 
+impl Drop for Entries {
+    #[cycle(tree)]
+    fn drop(self) {
+        let Entries { pairs: _ } = self;
+    }
+}
+
 /// The tree that a variant holds.
 #[cycle(tree)]
-#[derive(Drop)]
 pub struct Inner {
     tree: Box<Tree>,
+}
+
+impl Drop for Inner {
+    #[cycle(tree)]
+    fn drop(self) {
+        let Inner { tree: _ } = self;
+    }
 }
 
 impl Model for Trees {
@@ -140,7 +158,8 @@ impl Trees {
     pub fn into_vec(self) -> Vec<Tree>
         ensures { map datum_of result.items ≡ self }
     {
-        self.items
+        let Trees { items } = self;
+        items
     }
 }
 
@@ -165,7 +184,8 @@ impl Entries {
     pub fn into_vec(self) -> Vec<(Tree, Tree)>
         ensures { map pair_of result.items ≡ self }
     {
-        self.pairs
+        let Entries { pairs } = self;
+        pairs
     }
 }
 
@@ -191,6 +211,7 @@ impl Inner {
     pub fn into_tree(self) -> Tree
         ensures { datum_of result ≡ self }
     {
-        Box::into_inner(self.tree)
+        let Inner { tree } = self;
+        Box::into_inner(tree)
     }
 }

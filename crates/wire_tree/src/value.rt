@@ -21,9 +21,15 @@ use wire_signature::{ValueType, VariantError};
 /// A value that a message may hold: a tree that keeps the rules of its type (D-Bus Specification, "Type System").
 ///
 /// Drop recurses with the tree: one that is made by hand, millions of levels deep, exhausts the stack.
-#[derive(Drop)]
 pub struct Value {
     tree: Tree,
+}
+
+// Written out: a derived one is taken apart again wherever a type that holds a value ends.
+impl Drop for Value {
+    fn drop(self) {
+        let Value { tree: _ } = self;
+    }
 }
 
 impl Model for Value {
@@ -87,7 +93,8 @@ impl Value {
         ensures tree { datum_of result ≡ self }
         ensures formed { IsFormed self }
     {
-        self.tree
+        let Value { tree } = self;
+        tree
     }
 
     /// The type of the value. It fails only for want of memory.
