@@ -5,12 +5,20 @@ ghost use Rattle.peer_script.specs.Script.{is_bus, name_of};
 use wire_names::OwnedUniqueName;
 
 /// What kind of peer a script is of.
-#[derive(Drop)]
 pub enum PeerKind {
     /// One that stands on no message bus, and perhaps has a unique name.
     Direct(Option<OwnedUniqueName>),
     /// One that stands on a message bus, by this unique name.
     Bus(OwnedUniqueName),
+}
+
+impl Drop for PeerKind {
+    fn drop(self) {
+        match self {
+            PeerKind::Direct(_) => {}
+            PeerKind::Bus(_) => {}
+        }
+    }
 }
 
 impl PeerKind {

@@ -10,8 +10,6 @@ mod numbers;
 mod output;
 mod reading;
 mod script;
-#[cfg(test)]
-mod tests;
 mod text;
 mod transcript;
 mod word;

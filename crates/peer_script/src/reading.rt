@@ -1,6 +1,6 @@
 //! A script is read line by line.
 ghost use Rattle.std.specs.Prelude.{ℕ, ◌≡◌, ◌+◌, ◌<◌, ◌≤◌, ◌^◌, length, take, drop, List, Some, None, Ok, Err};
-ghost use Rattle.peer_script.specs.Reading.{SplitsLine, TakesLine, TellsText, may_end, script_from};
+ghost use Rattle.peer_script.specs.Reading.{SplitsLine, TakesLine, TellsText, may_end, said, script_from};
 ghost use Rattle.peer_script.specs.declared.line.Line.TheVariants as lines;
 
 use crate::error::ScriptError;
@@ -32,7 +32,6 @@ pub(crate) enum Stage {
 }
 
 /// What was read of a script.
-#[derive(Drop)]
 struct Progress {
     stage: Stage,
     kind: PeerKind,
@@ -41,6 +40,45 @@ struct Progress {
     outfault: Option<u64>,
     pieces: Vec<Piece>,
     commands: Vec<Command>,
+}
+
+impl Drop for Progress {
+    fn drop(self) {
+        let Progress {
+            stage: _,
+            kind: _,
+            queue: _,
+            fds: _,
+            outfault: _,
+            pieces: _,
+            commands: _,
+        } = self;
+    }
+}
+
+impl Progress {
+    /// What was read, without how far it came.
+    fn into_script(self) -> (Setup, Vec<Command>)
+        ensures { script_from result.0.kind result.0.queue result.0.fds result.0.outfault result.0.pieces.items result.1.items ≡ said self }
+    {
+        let Progress {
+            stage: _,
+            kind,
+            queue,
+            fds,
+            outfault,
+            pieces,
+            commands,
+        } = self;
+        let setup = Setup {
+            kind,
+            queue,
+            fds,
+            outfault,
+            pieces,
+        };
+        (setup, commands)
+    }
 }
 
 #[tactic(auto, using(crate::proofs::Pieces::pushed), unfolding(crate::specs::Reading::take_line))]
@@ -229,21 +267,5 @@ pub(crate) fn read_text(alloc: Global, text: &[u8]) -> Result<(Setup, Vec<Comman
     if !rest.is_empty() || !may_end(progress.stage) {
         return Err(ScriptError::Line(number));
     }
-    let Progress {
-        kind,
-        queue,
-        fds,
-        outfault,
-        pieces,
-        commands,
-        ..
-    } = progress;
-    let setup = Setup {
-        kind,
-        queue,
-        fds,
-        outfault,
-        pieces,
-    };
-    Ok((setup, commands))
+    Ok(progress.into_script())
 }

@@ -20,7 +20,6 @@ const LINE_LIMIT: usize = 1_000_000;
 const STEP: usize = 65_536;
 
 /// What stands in a script before its commands.
-#[derive(Drop)]
 pub struct Setup {
     /// What kind of peer it is, and its unique name, where it has one.
     pub kind: PeerKind,
@@ -32,6 +31,18 @@ pub struct Setup {
     pub outfault: Option<u64>,
     /// What the peer's source gives.
     pub pieces: Vec<Piece>,
+}
+
+impl Drop for Setup {
+    fn drop(self) {
+        let Setup {
+            kind: _,
+            queue: _,
+            fds: _,
+            outfault: _,
+            pieces: _,
+        } = self;
+    }
 }
 
 /// Which scripts are read.
