@@ -63,8 +63,18 @@ fn print_told(rt: &impl Print, alloc: Global, setup: &Setup) -> io::Result<()> {
         setup,
         Answer::SentFirst(Error::InputOutput(IoKind::WriteFault)),
     )?;
-    print(rt, alloc, setup, Answer::Closed(Error::InputOutput(IoKind::TimedOut)))?;
-    print(rt, alloc, setup, Answer::Refused(Error::MissingParameter("a path")))
+    print(
+        rt,
+        alloc,
+        setup,
+        Answer::Closed(Error::InputOutput(IoKind::TimedOut)),
+    )?;
+    print(
+        rt,
+        alloc,
+        setup,
+        Answer::Refused(Error::MissingParameter("a path")),
+    )
 }
 
 /// As many empty lines, as one piece.
