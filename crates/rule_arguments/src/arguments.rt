@@ -11,10 +11,16 @@ use std::marker::Model;
 use wire_names::Text;
 
 /// The argument of an index, from 0 on, and the text that it is to be.
-#[derive(Debug, Drop)]
+#[derive(Debug)]
 pub struct Argument {
     pub index: u8,
     pub text: Text,
+}
+
+impl Drop for Argument {
+    fn drop(self) {
+        let Argument { index: _, text: _ } = self;
+    }
 }
 
 impl PartialEq for Argument {
@@ -106,9 +112,15 @@ fn put_among(arguments: &mut Vec<Argument>, argument: Argument) -> Result<(), Al
 }
 
 /// Arguments of ascending indices.
-#[derive(Debug, Drop)]
+#[derive(Debug)]
 pub struct Arguments {
     items: Vec<Argument>,
+}
+
+impl Drop for Arguments {
+    fn drop(self) {
+        let Arguments { items: _ } = self;
+    }
 }
 
 impl Model for Arguments {
