@@ -1,0 +1,39 @@
+//! What is printed of match rules.
+use crate::read::{message_of, rule_of};
+use rule_match::Builder;
+use std::alloc::Global;
+use wire_message::Message;
+
+/// The rule as it is printed.
+pub(crate) fn rule_line(alloc: Global, digits: &str) -> anyhow::Result<String> {
+    let rule = rule_of(alloc, digits)?;
+    Ok(format!(in alloc; "{rule}\n")?)
+}
+
+/// Whether the rule matches the message.
+fn is_match(alloc: Global, digits: &str) -> anyhow::Result<bool> {
+    let (rule, message) = digits.split_once(' ').unwrap_or((digits, ""));
+    let rule = rule_of(alloc, rule)?;
+    Ok(rule.matches(&message_of(alloc, message)?))
+}
+
+/// `yes` where the rule matches the message, else `no`.
+pub(crate) fn match_line(alloc: Global, digits: &str) -> anyhow::Result<String> {
+    let word = if is_match(alloc, digits)? {
+        "yes\n"
+    } else {
+        "no\n"
+    };
+    Ok(String::from_str(alloc, word)?)
+}
+
+/// Writes a line with the rule of the message's header.
+pub(crate) fn write_header_rule(
+    alloc: Global,
+    out: &mut String,
+    message: &Message,
+) -> anyhow::Result<()> {
+    let rule = Builder::from(alloc, &message.header())?.build();
+    writeln!(out, "  {rule}")?;
+    Ok(())
+}
