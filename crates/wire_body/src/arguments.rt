@@ -10,7 +10,6 @@ use wire_signature::VariantError;
 use wire_tree::Value;
 
 /// The values of a body that have not been taken yet.
-#[derive(Drop)]
 pub struct Arguments {
     rest: IntoIter<Value>,
 }
@@ -27,6 +26,12 @@ impl Model for Arguments {
     ghost coded = { coded_list datum_code };
 
     ghost view = { λ a. into_iter_items a.rest };
+}
+
+impl Drop for Arguments {
+    fn drop(self) {
+        let Arguments { rest: _ } = self;
+    }
 }
 
 impl Arguments {

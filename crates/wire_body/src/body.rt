@@ -10,7 +10,6 @@ use wire_signature::{Signature, VariantError};
 use wire_tree::Value;
 
 /// The values of a message's body, and its signature: their types (D-Bus Specification, "Message Format").
-#[derive(Drop)]
 pub struct Body {
     values: Vec<Value>,
     signature: Signature,
@@ -29,6 +28,15 @@ impl Model for Body {
     ghost view = { λ b. b.values.items };
 
     ghost invariant = { λ b. b.signature ≡ map type_of b.values.items };
+}
+
+impl Drop for Body {
+    fn drop(self) {
+        let Body {
+            values: _,
+            signature: _,
+        } = self;
+    }
 }
 
 impl Body {
@@ -80,7 +88,11 @@ impl Body {
     pub fn into_values(self) -> Vec<Value>
         ensures { result.items ≡ self }
     {
-        self.values
+        let Body {
+            values,
+            signature: _,
+        } = self;
+        values
     }
 }
 

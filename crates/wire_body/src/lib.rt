@@ -20,7 +20,5 @@ mod key;
 mod kind;
 mod message;
 mod numbers;
-#[cfg(test)]
-mod tests;
 mod texts;
 mod tuples;

@@ -19,7 +19,5 @@ mod reader;
 mod single;
 mod skipping;
 mod taking;
-#[cfg(test)]
-mod tests;
 mod walk;
 mod words;

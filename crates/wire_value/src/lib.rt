@@ -32,17 +32,11 @@ pub use wire_tree::{
 mod append;
 mod basics;
 mod bodies;
-#[cfg(test)]
-mod body_tests;
 mod decoding;
 mod depth;
 mod encoding;
 mod error;
 mod number;
 mod read;
-#[cfg(test)]
-mod spelled;
-#[cfg(test)]
-mod tests;
 mod write;
 mod write_leaf;
