@@ -1,9 +1,10 @@
 //! Values that a message may hold.
-ghost use Rattle.std.specs.Prelude.{◌≡◌, IfErr, IfOk};
+ghost use Rattle.std.specs.Prelude.{◌≡◌, ◌↔◌, IfErr, IfOk, IsTrue};
 ghost use Rattle.std.specs.Cmp.{decided, partial_equiv_from_equiv};
 ghost use Rattle.std.specs.Hash.{same_Alike};
 ghost use Rattle.wire_tree.specs.Check.{TellsFormed};
 ghost use Rattle.wire_tree.specs.Datum.{IsFormed, type_of};
+ghost use Rattle.wire_tree.specs.DatumView.{datum_of};
 ghost use Rattle.wire_tree.specs.Equal.{same, writes};
 ghost use Rattle.wire_tree.specs.EqualTells.{same_decides};
 
@@ -47,6 +48,13 @@ impl Model for Value {
     ghost invariant = { λ v. IsFormed (datum_of v.tree) };
 }
 
+/// Whether a tree is a value that a message may hold.
+fn is_formed(alloc: Global, tree: &Tree) -> Result<bool, AllocError>
+    ensures { IfOk result (λ formed. IsTrue formed ↔ IsFormed (datum_of tree.now)) }
+{
+    Ok(type_of(alloc, tree)?.is_some() && is_sound(alloc, tree)?)
+}
+
 impl Value {
     ghost use Rattle.wire_tree.specs.DatumView.{datum_of};
 
@@ -66,10 +74,10 @@ impl Value {
     pub fn from_tree(alloc: Global, tree: Tree) -> Result<Value, VariantError>
         ensures { TellsFormed result (datum_of tree) }
     {
-        if type_of(alloc, &tree)?.is_some() && is_sound(alloc, &tree)? {
-            Ok(Value { tree })
-        } else {
-            Err(VariantError::Malformed)
+        match is_formed(alloc, &tree) {
+            Ok(true) => Ok(Value { tree }),
+            Ok(false) => Err(VariantError::Malformed),
+            Err(_) => Err(VariantError::Memory),
         }
     }
 
