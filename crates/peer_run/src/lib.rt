@@ -16,7 +16,7 @@ mod writing;
 pub use laws::cut_anyhow;
 pub use main_call::peer_main;
 pub use peer::RunError;
-pub use peer_route::{Answer, CallFlags, Command, Entry, Words};
+pub use peer_route::{Answer, CallFlags, Command, Entry, Outgoing, Words};
 pub use peer_script::{
     PeerKind, ScriptError, Setup, Transcript, Word, read_script, write_transcript,
 };
@@ -24,3 +24,9 @@ pub use run::run_peer;
 pub use wire_framing::{
     Failed, MemorySink, MemorySource, Piece, Refusal, Sink, Source, StdSink, StdSource,
 };
+pub use wire_message::fdo::StandardError;
+pub use wire_message::{Error, IoKind, Message};
+pub use wire_names::{
+    Bytes, NamesError, OwnedErrorName, OwnedInterfaceName, OwnedObjectPath, OwnedUniqueName, Text,
+};
+pub use wire_signature::VariantError;

@@ -2,8 +2,12 @@
 #![tactic(auto)]
 
 use peer_run::{StdSink, StdSource, peer_main};
+use std::io::ErrorKind;
 use std::process::ExitCode;
 use std::{env, io};
+
+/// The status where there is no memory for the words.
+const MEMORY: u8 = 1;
 
 /// The words behind the program's name.
 fn words(rt: &HostRuntime) -> io::Result<Vec<String>> {
@@ -14,11 +18,27 @@ fn words(rt: &HostRuntime) -> io::Result<Vec<String>> {
     Ok(words)
 }
 
-fn main(rt: HostRuntime) -> ExitCode {
-    let Ok(words) = words(&rt) else {
-        return ExitCode::from(1);
-    };
+/// Runs the program of those words.
+fn run(rt: &HostRuntime, words: &[String]) -> u8 {
     let mut input = StdSource::new(rt.stdin());
-    let mut output = StdSink::new(io::writer(&rt));
-    ExitCode::from(peer_main(&rt, rt.alloc(), words.as_slice(), &mut input, &mut output))
+    let mut output = StdSink::new(io::writer(rt));
+    peer_main(rt, rt.alloc(), words, &mut input, &mut output)
+}
+
+/// The status where the words can't be had.
+fn without_words(rt: &HostRuntime, kind: ErrorKind) -> u8 {
+    if kind == ErrorKind::InvalidData {
+        // A word that is no UTF-8 is none of the program's, and neither is the empty word, which needs no memory.
+        return run(rt, &[String::new(rt.alloc())]);
+    }
+    let _ = println!(rt; "memory");
+    MEMORY
+}
+
+fn main(rt: HostRuntime) -> ExitCode {
+    let status = match words(&rt) {
+        Ok(words) => run(&rt, words.as_slice()),
+        Err(error) => without_words(&rt, error.kind()),
+    };
+    ExitCode::from(status)
 }

@@ -1,0 +1,92 @@
+use crate::row::Fault;
+use peer_run::{MemorySink, MemorySource, Piece, peer_main};
+use std::alloc::{AllocError, Global};
+
+/// A script, and what the program must end with.
+#[derive(Clone, Copy)]
+pub(crate) struct Wanted<'a> {
+    pub(crate) input: &'a [u8],
+    pub(crate) output: &'a [u8],
+    pub(crate) status: u8,
+    pub(crate) fault: Fault,
+}
+
+/// How the program ended.
+#[derive(Clone, Copy, PartialEq, Eq, Debug)]
+pub(crate) enum Ended {
+    /// With the wanted status, and it printed what is wanted.
+    Wanted,
+    /// With the first status; the second was wanted.
+    Status(u8, u8),
+    /// It printed something else.
+    Output,
+}
+
+/// The program's words.
+fn words_of(alloc: Global, text: &str) -> Result<Vec<String>, AllocError> {
+    let mut words = Vec::new(alloc);
+    if text != "-" {
+        for word in text.split(',') {
+            words.push(String::from_str(alloc, word)?)?;
+        }
+    }
+    Ok(words)
+}
+
+/// The script in pieces of that many bytes; the last may be shorter.
+fn pieces_of(alloc: Global, wanted: &Wanted<'_>, size: usize) -> Result<Vec<Piece>, AllocError> {
+    let mut pieces = Vec::new(alloc);
+    for piece in wanted.input.chunks(size.max(1)) {
+        pieces.push(Piece::Bytes(Vec::from_slice(alloc, piece)?))?;
+    }
+    if wanted.fault == Fault::Input {
+        pieces.push(Piece::Fault)?;
+    }
+    Ok(pieces)
+}
+
+/// Where the program prints to.
+fn sink_of(alloc: Global, wanted: &Wanted<'_>) -> MemorySink {
+    if wanted.fault == Fault::Output {
+        MemorySink::with_fault(alloc, wanted.output.len() as u64, false)
+    } else {
+        MemorySink::new(alloc, false)
+    }
+}
+
+/// How the program ends on the script in pieces of that size.
+fn ended_in_pieces(
+    rt: &HostRuntime,
+    words: &[String],
+    wanted: &Wanted<'_>,
+    size: usize,
+) -> Result<Ended, AllocError> {
+    let pieces = pieces_of(rt.alloc(), wanted, size)?;
+    let mut source = MemorySource::new(pieces.as_slice());
+    let mut sink = sink_of(rt.alloc(), wanted);
+    let status = peer_main(rt, rt.alloc(), words, &mut source, &mut sink);
+    if status != wanted.status {
+        return Ok(Ended::Status(status, wanted.status));
+    }
+    if sink.bytes() != wanted.output {
+        return Ok(Ended::Output);
+    }
+    Ok(Ended::Wanted)
+}
+
+/// How the program ends on the script as a whole, a byte at a time and in thirds: the first that isn't as wanted.
+pub(crate) fn ended_of(
+    rt: &HostRuntime,
+    words: &str,
+    wanted: &Wanted<'_>,
+) -> Result<Ended, AllocError> {
+    let words = words_of(rt.alloc(), words)?;
+    let length = wanted.input.len();
+    for size in [length, 1, length / 3 + 1] {
+        let ended = ended_in_pieces(rt, words.as_slice(), wanted, size)?;
+        if ended != Ended::Wanted {
+            return Ok(ended);
+        }
+    }
+    Ok(Ended::Wanted)
+}
