@@ -8,10 +8,18 @@ use std::marker::Model;
 
 /// Whose the calls, or the streams, are: for each, by its number among all, its lane, or none. For each lane the numbers
 /// of its own are kept too, in order, so that a lane's number is looked up and not counted.
-#[derive(Drop)]
 pub(crate) struct Lanes {
     owners: Vec<Option<u32>>,
     lanes: BTreeMap<u32, Vec<u64>>,
+}
+
+impl Drop for Lanes {
+    fn drop(self) {
+        let Lanes {
+            owners: _,
+            lanes: _,
+        } = self;
+    }
 }
 
 impl Model for Lanes {

@@ -50,12 +50,22 @@ impl<T: Drop> From<AllocFailed<T>> for RunError {
 #[allow(dead_code)]
 /// A peer's core, and whose its calls and its streams are: for each, by its number, its lane; none where a call's message
 /// failed. For each stream, by its number, the message that it gave last is kept.
-#[derive(Drop)]
 pub(crate) struct Peer {
     pub(crate) route: Route,
     pub(crate) names: Lanes,
     pub(crate) streams: Lanes,
     pub(crate) given: Vec<Option<Message>>,
+}
+
+impl Drop for Peer {
+    fn drop(self) {
+        let Peer {
+            route: _,
+            names: _,
+            streams: _,
+            given: _,
+        } = self;
+    }
 }
 
 impl Model for Peer {
