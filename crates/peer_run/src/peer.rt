@@ -234,7 +234,7 @@ impl Peer {
                 self.route.arrive(message)?;
                 Ok(Answer::Got(copy))
             }
-            Err(error) => match error {
+            Err(error) => match &error {
                 Error::Memory => Err(RunError::Memory),
                 _ => {
                     self.route.close(&error);
@@ -354,15 +354,14 @@ impl Peer {
         ensures same { W.lent half.new.sink ≡ W.lent half.old.sink }
     {
         let takes_fds = half.can_pass_unix_fd();
-        let letter = letter_of(
+        let letter = match letter_of(
             alloc,
             self.given.as_slice(),
             &self.streams,
             lane,
             takes_fds,
             words,
-        );
-        let letter = match letter {
+        ) {
             Ok(letter) => letter,
             Err(error) => return refused(error),
         };

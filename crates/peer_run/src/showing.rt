@@ -64,7 +64,7 @@ pub(crate) fn shown_drop(dropped: wire_message::Result<()>) -> Answer
 pub(crate) fn not_issued(error: Error) -> Result<Answer, RunError>
     ensures { NotIssued error result }
 {
-    match error {
+    match &error {
         Error::Memory => Err(RunError::Memory),
         Error::InputOutput(_) => Ok(Answer::SendFailed(error)),
         _ => Ok(Answer::Refused(error)),
@@ -75,7 +75,7 @@ pub(crate) fn not_issued(error: Error) -> Result<Answer, RunError>
 pub(crate) fn refused(error: Error) -> Result<Answer, RunError>
     ensures { IsRefusal error result }
 {
-    match error {
+    match &error {
         Error::Memory => Err(RunError::Memory),
         _ => Ok(Answer::Refused(error)),
     }
@@ -85,7 +85,7 @@ pub(crate) fn refused(error: Error) -> Result<Answer, RunError>
 pub(crate) fn unopened(error: Error) -> Result<Answer, RunError>
     ensures { IsUnopened error result }
 {
-    match error {
+    match &error {
         Error::Memory => Err(RunError::Memory),
         Error::Busy => Ok(Answer::Busy),
         Error::InputOutput(IoKind::WriteFault) => Ok(Answer::SendFailed(error)),
@@ -111,7 +111,7 @@ pub(crate) fn shown_opening(opened: Opened) -> Answer
 fn shown_over(error: Error) -> Answer
     ensures { result ≡ over_answer error }
 {
-    match error {
+    match &error {
         Error::UnknownHandle => Answer::Refused(error),
         _ => Answer::Closed(error),
     }
@@ -121,7 +121,7 @@ fn shown_over(error: Error) -> Answer
 pub(crate) fn kept_open(error: Error) -> Result<Answer, RunError>
     ensures { IsKeptOpen error result }
 {
-    match error {
+    match &error {
         Error::Memory => Err(RunError::Memory),
         Error::Busy => Ok(Answer::Busy),
         _ => Ok(Answer::Refused(error)),

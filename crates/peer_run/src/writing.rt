@@ -38,7 +38,7 @@ impl Peer {
                 self.route.wrote(index);
                 Ok(None)
             }
-            Err(error) => match error {
+            Err(error) => match &error {
                 Error::Memory => Err(RunError::Memory),
                 _ => {
                     self.route.write_fault(index);
