@@ -15,9 +15,15 @@ use wire_names::{
 const ARGUMENTS: u8 = 64;
 
 /// A rule that is being built. A call that sets a part again replaces it.
-#[derive(Debug, Drop)]
+#[derive(Debug)]
 pub struct Builder {
     rule: MatchRule,
+}
+
+impl Drop for Builder {
+    fn drop(self) {
+        let Builder { rule: _ } = self;
+    }
 }
 
 impl Model for Builder {
@@ -66,13 +72,14 @@ impl Builder {
     pub fn build(self) -> MatchRule
         ensures { result ≡ self }
     {
-        self.rule
+        let Builder { rule } = self;
+        rule
     }
 
     pub fn msg_type(self, kind: MessageType) -> Builder
         ensures { result ≡ record self { kind = Some kind } }
     {
-        let mut rule = self.rule;
+        let Builder { mut rule } = self;
         rule.kind = Some(kind);
         Builder { rule }
     }
@@ -81,7 +88,7 @@ impl Builder {
     pub fn sender(self, name: OwnedBusName) -> Builder
         ensures { result ≡ record self { sender = Some name } }
     {
-        let mut rule = self.rule;
+        let Builder { mut rule } = self;
         rule.sender = Some(name);
         Builder { rule }
     }
@@ -89,7 +96,7 @@ impl Builder {
     pub fn interface(self, name: OwnedInterfaceName) -> Builder
         ensures { result ≡ record self { interface = Some name } }
     {
-        let mut rule = self.rule;
+        let Builder { mut rule } = self;
         rule.interface = Some(name);
         Builder { rule }
     }
@@ -97,7 +104,7 @@ impl Builder {
     pub fn member(self, name: OwnedMemberName) -> Builder
         ensures { result ≡ record self { member = Some name } }
     {
-        let mut rule = self.rule;
+        let Builder { mut rule } = self;
         rule.member = Some(name);
         Builder { rule }
     }
@@ -106,7 +113,7 @@ impl Builder {
     pub fn path(self, path: OwnedObjectPath) -> Builder
         ensures { result ≡ record self { path = Some (Path path) } }
     {
-        let mut rule = self.rule;
+        let Builder { mut rule } = self;
         rule.path = Some(PathSpec::Path(path));
         Builder { rule }
     }
@@ -115,7 +122,7 @@ impl Builder {
     pub fn path_namespace(self, path: OwnedObjectPath) -> Builder
         ensures { result ≡ record self { path = Some (PathNamespace path) } }
     {
-        let mut rule = self.rule;
+        let Builder { mut rule } = self;
         rule.path = Some(PathSpec::PathNamespace(path));
         Builder { rule }
     }
@@ -123,25 +130,25 @@ impl Builder {
     pub fn destination(self, name: OwnedUniqueName) -> Builder
         ensures { result ≡ record self { destination = Some name } }
     {
-        let mut rule = self.rule;
+        let Builder { mut rule } = self;
         rule.destination = Some(name);
         Builder { rule }
     }
 
-    fn put_arg(self, argument: Argument) -> Result<Builder, AllocError>
+    pub(crate) fn put_arg(self, argument: Argument) -> Result<Builder, AllocError>
         requires { IsTrue (is_argument argument) }
         ensures { IfOk result (λ b. b ≡ record self { args = put argument self.args }) }
     {
-        let mut rule = self.rule;
+        let Builder { mut rule } = self;
         rule.args.put(argument)?;
         Ok(Builder { rule })
     }
 
-    fn put_arg_path(self, argument: Argument) -> Result<Builder, AllocError>
+    pub(crate) fn put_arg_path(self, argument: Argument) -> Result<Builder, AllocError>
         requires { IsTrue (is_path_argument argument) }
         ensures { IfOk result (λ b. b ≡ record self { arg_paths = put argument self.arg_paths }) }
     {
-        let mut rule = self.rule;
+        let Builder { mut rule } = self;
         rule.arg_paths.put(argument)?;
         Ok(Builder { rule })
     }
@@ -205,11 +212,11 @@ impl Builder {
         }
     }
 
-    fn set_namespace(self, name: Text) -> Builder
+    pub(crate) fn set_namespace(self, name: Text) -> Builder
         requires { IsTrue (is_namespace name) }
         ensures { result ≡ record self { arg0ns = Some name } }
     {
-        let mut rule = self.rule;
+        let Builder { mut rule } = self;
         rule.arg0ns = Some(name);
         Builder { rule }
     }
@@ -230,22 +237,10 @@ impl Builder {
     }
 
     /// The rule with a part more.
-    #[tactic(auto, unfolding(crate::specs::Building::with_part))]
     pub(crate) fn with(self, part: Part) -> Result<Builder, AllocError>
         requires { IsPart part }
         ensures { IfOk result (λ b. b ≡ with_part part self) }
     {
-        match part {
-            Part::Kind(kind) => Ok(self.msg_type(kind)),
-            Part::Sender(name) => Ok(self.sender(name)),
-            Part::Interface(name) => Ok(self.interface(name)),
-            Part::Member(name) => Ok(self.member(name)),
-            Part::Path(path) => Ok(self.path(path)),
-            Part::PathNamespace(path) => Ok(self.path_namespace(path)),
-            Part::Destination(name) => Ok(self.destination(name)),
-            Part::Arg(argument) => self.put_arg(argument),
-            Part::ArgPath(argument) => self.put_arg_path(argument),
-            Part::Arg0Namespace(name) => Ok(self.set_namespace(name)),
-        }
+        part.put_into(self)
     }
 }

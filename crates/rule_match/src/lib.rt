@@ -11,20 +11,14 @@ pub use crate::place::PathSpec;
 pub use crate::rule::MatchRule;
 pub use rule_arguments::Argument;
 
-#[cfg(test)]
-mod answers;
 mod building;
 mod component;
 mod display;
 mod header;
 mod key;
 mod laws;
-#[cfg(test)]
-mod match_tests;
 mod matching;
 mod owned;
 mod part;
 mod place;
 mod rule;
-#[cfg(test)]
-mod tests;

@@ -11,9 +11,15 @@ use std::ops::Deref;
 use wire_message::Error;
 
 /// A [`MatchRule`] as a value of its own.
-#[derive(Debug, Drop, PartialEq, Eq, Hash)]
+#[derive(Debug, PartialEq, Eq, Hash)]
 pub struct OwnedMatchRule {
     rule: MatchRule,
+}
+
+impl Drop for OwnedMatchRule {
+    fn drop(self) {
+        let OwnedMatchRule { rule: _ } = self;
+    }
 }
 
 impl Model for OwnedMatchRule {
@@ -58,7 +64,8 @@ impl OwnedMatchRule {
     pub fn into_inner(self) -> MatchRule
         ensures { result ≡ self }
     {
-        self.rule
+        let OwnedMatchRule { rule } = self;
+        rule
     }
 
     pub fn inner(&self) -> &MatchRule

@@ -5,10 +5,19 @@ use std::alloc::{AllocError, Global};
 use wire_names::OwnedObjectPath;
 
 /// The path that a rule wants: one path, or a path and all below it.
-#[derive(Debug, Drop, PartialEq, Eq, Hash)]
+#[derive(Debug, PartialEq, Eq, Hash)]
 pub enum PathSpec {
     Path(OwnedObjectPath),
     PathNamespace(OwnedObjectPath),
+}
+
+impl Drop for PathSpec {
+    fn drop(self) {
+        match self {
+            PathSpec::Path(_) => {}
+            PathSpec::PathNamespace(_) => {}
+        }
+    }
 }
 
 impl PathSpec {

@@ -15,7 +15,7 @@ use wire_names::{
 
 /// Which messages are wanted: those that match each part that is there (D-Bus Specification, "Match Rules"). A rule owns
 /// its texts.
-#[derive(Debug, Drop, PartialEq, Eq, Hash)]
+#[derive(Debug, PartialEq, Eq, Hash)]
 pub struct MatchRule {
     pub(crate) kind: Option<MessageType>,
     pub(crate) sender: Option<OwnedBusName>,
@@ -26,6 +26,22 @@ pub struct MatchRule {
     pub(crate) args: Arguments,
     pub(crate) arg_paths: Arguments,
     pub(crate) arg0ns: Option<Text>,
+}
+
+impl Drop for MatchRule {
+    fn drop(self) {
+        let MatchRule {
+            kind: _,
+            sender: _,
+            interface: _,
+            member: _,
+            path: _,
+            destination: _,
+            args: _,
+            arg_paths: _,
+            arg0ns: _,
+        } = self;
+    }
 }
 
 impl Model for MatchRule {

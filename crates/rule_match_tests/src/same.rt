@@ -1,0 +1,78 @@
+//! Rules that are one, as such and as values of their own, and the laws.
+use rule_match::{MatchRule, OwnedMatchRule};
+use std::alloc::Global;
+use std::hash::{DefaultHasher, Hash, Hasher};
+use std::test::Fail;
+use wire_message::Result;
+
+const RULE: &str = "type='error',sender=':1.2',path='/a',arg5='x',arg0namespace='org'";
+
+fn hashed(rule: &MatchRule) -> u64 {
+    let mut state = DefaultHasher::new();
+    rule.hash(&mut state);
+    state.finish()
+}
+
+/// Whether two rules are equal, one, and hashed alike.
+fn are_one(rule: &MatchRule, other: &MatchRule) -> bool {
+    *rule == *other && rule_match::is_one_rule(rule, other) && hashed(rule) == hashed(other)
+}
+
+/// Whether a rule is its copy.
+fn is_copied(alloc: Global, rule: &MatchRule) -> Result<bool> {
+    let copy = rule.to_owned(alloc)?.into_owned();
+    Ok(are_one(rule, &copy))
+}
+
+#[test]
+fn a_rule_is_its_copy(rt: HostRuntime) -> std::result::Result<(), Fail> {
+    let rule = MatchRule::try_from(rt.alloc(), RULE)?;
+    assert!(rt; is_copied(rt.alloc(), &rule)?);
+    Ok(())
+}
+
+#[test]
+fn another_part_makes_another_rule(rt: HostRuntime) -> std::result::Result<(), Fail> {
+    let rule = MatchRule::try_from(rt.alloc(), RULE)?;
+    let other = MatchRule::try_from(rt.alloc(), "type='error'")?;
+    assert!(rt; rule != other && !rule_match::is_one_rule(&rule, &other));
+    Ok(())
+}
+
+/// Whether the rule is this one, whichever way it is lent.
+fn is_rule(owned: &OwnedMatchRule, rule: &MatchRule) -> bool {
+    *owned.inner() == *rule && **owned == *rule && *owned.borrow() == *rule && owned.equals(rule)
+}
+
+/// Whether a value of its own read from the text is that rule, and gives it back.
+fn is_owned_of_text(alloc: Global, rule: &MatchRule) -> Result<bool> {
+    let owned = OwnedMatchRule::try_from(alloc, RULE)?;
+    Ok(is_rule(&owned, rule) && owned.into_inner() == *rule)
+}
+
+/// Whether a value of its own made of the rule is the one that is read from the bytes.
+fn is_owned_of_bytes(alloc: Global, rule: MatchRule) -> Result<bool> {
+    let owned = OwnedMatchRule::from(rule);
+    let read = OwnedMatchRule::try_from_bytes(alloc, RULE.as_bytes())?;
+    Ok(owned == read)
+}
+
+#[test]
+fn rules_are_owned(rt: HostRuntime) -> std::result::Result<(), Fail> {
+    let rule = MatchRule::try_from(rt.alloc(), RULE)?;
+    assert!(rt; is_owned_of_text(rt.alloc(), &rule)?);
+    assert!(rt; is_owned_of_bytes(rt.alloc(), rule)?);
+    Ok(())
+}
+
+/// The laws as a caller takes them.
+#[test]
+fn the_laws_are_taken(rt: HostRuntime) -> std::result::Result<(), Fail> {
+    rule_match::rules_are_read_again();
+    rule_match::bytes_and_texts_agree();
+    rule_match::a_message_matches_its_header();
+    rule_match::accepting_is_matching();
+    let rule = MatchRule::try_from(rt.alloc(), RULE)?;
+    rule_match::rules_hold_their_grammar(&rule);
+    Ok(())
+}
