@@ -14,7 +14,6 @@ use wire_signature::{Signature, VariantError};
 use wire_value::decode_body;
 
 /// The body of a message (D-Bus Specification, "Message Format").
-#[derive(Drop)]
 pub struct Body<'a> {
     message: &'a Message,
 }
@@ -25,6 +24,12 @@ impl<'a> Model for Body<'a> {
     ghost Value = { Seen };
 
     ghost view = { λ b. b.message.now };
+}
+
+impl<'a> Drop for Body<'a> {
+    fn drop(self) {
+        let Body { message: _ } = self;
+    }
 }
 
 /// The signature of a body of these arguments. `Malformed` comes exactly where their types together are none, since no bytes

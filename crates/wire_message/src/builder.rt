@@ -23,7 +23,6 @@ use wire_number::{Endian, put_padding, put_word};
 use wire_signature::VariantError;
 
 /// A message that isn't built yet.
-#[derive(Drop)]
 pub struct Builder<'a> {
     pub(crate) kind: MessageType,
     pub(crate) order: Endian,
@@ -40,6 +39,18 @@ impl<'a> Model for Builder<'a> {
     ghost view = { λ b. record { kind = b.kind; order = b.order; flags = b.flags; serial = b.serial; fields = header_fields b.fields } };
 
     ghost invariant = { λ b. IsDraft (record { kind = b.kind; order = b.order; flags = b.flags; serial = b.serial; fields = header_fields b.fields }) };
+}
+
+impl<'a> Drop for Builder<'a> {
+    fn drop(self) {
+        let Builder {
+            kind: _,
+            order: _,
+            flags: _,
+            serial: _,
+            fields: _,
+        } = self;
+    }
 }
 
 /// The byte of a byte order.

@@ -1,9 +1,10 @@
 //! What goes wrong with messages and peers.
-ghost use Rattle.std.specs.Prelude.{◌≡◌, IfOk};
+ghost use Rattle.std.specs.Prelude.{◌≡◌, [], IfOk};
 ghost use Rattle.wire_message.specs.declared.error.Error.TheVariants.{Memory};
 ghost use Rattle.wire_message.specs.ErrorKinds.{error_of_variant, error_of_names};
+ghost use Rattle.wire_message.specs.FdoErrors.{Becomes};
 
-use crate::fdo::StandardError;
+use crate::fdo::{self, Kind, StandardError};
 use crate::message::Message;
 use std::alloc::{AllocError, AllocFailed, Global};
 use wire_names::{NamesError, OwnedErrorName, OwnedInterfaceName, OwnedObjectPath, Text};
@@ -28,7 +29,7 @@ pub enum IoKind {
 ///
 /// Two errors are equal where they are of one variant and hold the same beside it; of two `MethodError` what they hold is
 /// not looked at.
-#[derive(Debug, Drop)]
+#[derive(Debug)]
 #[derive_where(PartialEq, Eq)]
 pub enum Error {
     /// There is no such interface.
@@ -82,6 +83,35 @@ pub enum Error {
     Busy,
 }
 
+impl Drop for Error {
+    fn drop(self) {
+        match self {
+            Error::InterfaceNotFound => {}
+            Error::InputOutput(_) => {}
+            Error::InvalidField => {}
+            Error::ExcessData => {}
+            Error::Variant(_) => {}
+            Error::Names(_) => {}
+            Error::IncorrectEndian => {}
+            Error::InvalidReply => {}
+            Error::MethodError(_, _, _) => {}
+            Error::MissingField => {}
+            Error::InvalidGUID => {}
+            Error::Unsupported => {}
+            Error::FDO(_) => {}
+            Error::NameTaken => {}
+            Error::InvalidMatchRule => {}
+            Error::Failure(_) => {}
+            Error::MissingParameter(_) => {}
+            Error::InterfaceExists(_, _) => {}
+            Error::Memory => {}
+            Error::SerialsSpent => {}
+            Error::UnknownHandle => {}
+            Error::Busy => {}
+        }
+    }
+}
+
 /// A result with this crate's error.
 pub type Result<T> = std::result::Result<T, Error>;
 
@@ -123,6 +153,15 @@ impl From<NamesError> for Error {
             _ => Error::Names(kind),
         }
     }
+}
+
+/// The empty text, in the memory of a name that is given up, so that it takes none.
+fn emptied(name: OwnedErrorName) -> Text
+    ensures { result ≡ [] }
+{
+    let mut string = name.into_text().into_string();
+    string.clear();
+    Text::from_string(string)
 }
 
 /// A copy of a text that may be absent.
@@ -170,5 +209,26 @@ impl Error {
             Error::UnknownHandle => Error::UnknownHandle,
             Error::Busy => Error::Busy,
         })
+    }
+    /// As the conversion to [`fdo::Error`].
+    pub(crate) fn into_fdo(self) -> fdo::Error
+        ensures { Becomes self.entry result }
+    {
+        match self {
+            Error::MethodError(name, detail, message) => {
+                match Kind::from_name(name.as_str()) {
+                    Some(kind) => {
+                        let text = match detail {
+                            Some(text) => text,
+                            None => emptied(name),
+                        };
+                        fdo::Error::Std(StandardError { kind, text })
+                    }
+                    None => fdo::Error::ZBus(Error::MethodError(name, detail, message)),
+                }
+            }
+            Error::FDO(error) => fdo::Error::Std(error),
+            other => fdo::Error::ZBus(other),
+        }
     }
 }

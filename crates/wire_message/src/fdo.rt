@@ -1,5 +1,5 @@
 //! The standard errors, as errors that are given (D-Bus Specification, "Types of messages", "Errors").
-ghost use Rattle.std.specs.Prelude.{◌≡◌, [], Some, IfOk};
+ghost use Rattle.std.specs.Prelude.{◌≡◌, Some, IfOk};
 ghost use Rattle.wire_message.specs.ErrorTexts.{standard_text};
 ghost use Rattle.wire_message.specs.FdoErrors.{Becomes, error_within, fdo_text};
 
@@ -7,13 +7,19 @@ use crate::error;
 pub use fdo_kinds::Kind;
 use std::alloc::{AllocError, Global};
 use std::fmt;
-use wire_names::{OwnedErrorName, Text};
+use wire_names::Text;
 
 /// One of the standard errors: its kind, and what it says.
-#[derive(Debug, Drop, PartialEq, Eq)]
+#[derive(Debug, PartialEq, Eq)]
 pub struct StandardError {
     pub kind: Kind,
     pub text: Text,
+}
+
+impl Drop for StandardError {
+    fn drop(self) {
+        let StandardError { kind: _, text: _ } = self;
+    }
 }
 
 impl StandardError {
@@ -40,7 +46,7 @@ impl fmt::Display for StandardError {
 /// What a call of an object's method gives where it fails: one of the standard errors, or any other.
 ///
 /// Two are equal where both are standard errors of one kind and one text, or both are others that are equal.
-#[derive(Debug, Drop, PartialEq, Eq)]
+#[derive(Debug, PartialEq, Eq)]
 pub enum Error {
     /// An error that is none of the standard ones.
     ZBus(error::Error),
@@ -48,7 +54,26 @@ pub enum Error {
     Std(StandardError),
 }
 
+impl Drop for Error {
+    fn drop(self) {
+        match self {
+            Error::ZBus(_) => {}
+            Error::Std(_) => {}
+        }
+    }
+}
+
 impl Error {
+    /// As the conversion to [`error::Error`].
+    fn into_within(self) -> error::Error
+        ensures { result ≡ error_within self.entry }
+    {
+        match self {
+            Error::ZBus(error) => error,
+            Error::Std(error) => error::Error::FDO(error),
+        }
+    }
+
     /// The same error; a message in it shares its bytes. It fails only for want of memory.
     pub fn try_clone(&self, alloc: Global) -> std::result::Result<Error, AllocError>
         ensures { IfOk result (λ copy. copy ≡ self.now) }
@@ -63,37 +88,13 @@ impl Error {
 /// A result with [`Error`].
 pub type Result<T> = std::result::Result<T, Error>;
 
-/// The empty text, in the memory of a name that is given up, so that it takes none.
-fn emptied(name: OwnedErrorName) -> Text
-    ensures { result ≡ [] }
-{
-    let mut string = name.into_text().into_string();
-    string.clear();
-    Text::from_string(string)
-}
-
 impl From<error::Error> for Error {
     ghost from_gives = { λ error given. Becomes error given };
 
     /// The same error by its kind. A method's error with the name of a standard error is that one, with its detail as the text,
     /// or the empty text where it has none. It takes no memory.
     fn from(error: error::Error) -> Error {
-        match error {
-            error::Error::MethodError(name, detail, message) => {
-                match Kind::from_name(name.as_str()) {
-                    Some(kind) => {
-                        let text = match detail {
-                            Some(text) => text,
-                            None => emptied(name),
-                        };
-                        Error::Std(StandardError { kind, text })
-                    }
-                    None => Error::ZBus(error::Error::MethodError(name, detail, message)),
-                }
-            }
-            error::Error::FDO(error) => Error::Std(error),
-            other => Error::ZBus(other),
-        }
+        error.into_fdo()
     }
 }
 
@@ -102,10 +103,7 @@ impl From<Error> for error::Error {
 
     /// The error that is held; a standard error is [`error::Error::FDO`]. It takes no memory.
     fn from(given: Error) -> error::Error {
-        match given {
-            Error::ZBus(error) => error,
-            Error::Std(error) => error::Error::FDO(error),
-        }
+        given.into_within()
     }
 }
 

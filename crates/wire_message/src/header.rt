@@ -18,7 +18,6 @@ use wire_number::Endian;
 
 /// The header of a message (D-Bus Specification, "Message Format", "Header Fields"): the part that each message has, as a copy
 /// that can be changed, and the header fields, whose texts are the message's own bytes.
-#[derive(Drop)]
 pub struct Header<'a> {
     primary: PrimaryHeader,
     message: &'a Message,
@@ -31,6 +30,15 @@ impl<'a> Model for Header<'a> {
     ghost Value = { Head };
 
     ghost view = { λ h. record { primary = h.primary; fields = fields_of h.message.now } };
+}
+
+impl<'a> Drop for Header<'a> {
+    fn drop(self) {
+        let Header {
+            primary: _,
+            message: _,
+        } = self;
+    }
 }
 
 /// The bytes of a span.
@@ -87,7 +95,11 @@ impl<'a> Header<'a> {
     pub fn into_primary(self) -> PrimaryHeader
         ensures { result ≡ self.entry.primary }
     {
-        self.primary
+        let Header {
+            primary,
+            message: _,
+        } = self;
+        primary
     }
 
     /// What the message is.

@@ -2,20 +2,14 @@
 //! (D-Bus Specification, "Message Protocol").
 #![tactic(auto)]
 
-#[cfg(test)]
-mod answers;
 mod bodies;
 mod body;
 mod builder;
-#[cfg(test)]
-mod call_tests;
 mod closing;
 mod dbus_error;
 mod display;
 mod endian_sig;
 mod error;
-#[cfg(test)]
-mod error_tests;
 mod error_texts;
 pub mod fdo;
 mod field;
@@ -23,8 +17,6 @@ mod flags;
 mod from_message;
 mod front;
 mod header;
-#[cfg(test)]
-mod header_tests;
 mod kind;
 mod laws;
 mod message;
@@ -33,13 +25,9 @@ mod primary;
 mod raw_body;
 mod reading;
 mod replies;
-#[cfg(test)]
-mod reply_tests;
 mod sequence;
 mod serials;
 mod steps;
-#[cfg(test)]
-mod tests;
 mod whole;
 mod writing;
 

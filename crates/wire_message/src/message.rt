@@ -24,7 +24,6 @@ pub(crate) struct Parts {
 
 /// A message on its own bytes, with its position among the messages that a peer read, from 1 on (0 where it wasn't
 /// read). A clone shares the bytes.
-#[derive(Drop)]
 pub struct Message {
     pub(crate) bytes: ArcSlice<u8>,
     position: u64,
@@ -45,6 +44,17 @@ impl Model for Message {
     ghost invariant = { λ m. Stands (arc_slice_items m.bytes) m.parts.kind m.parts.order m.parts.flags m.parts.serial m.parts.places };
 }
 
+impl Drop for Message {
+    fn drop(self) {
+        let Message {
+            bytes: _,
+            position: _,
+            parts: _,
+            fds: _,
+        } = self;
+    }
+}
+
 impl Message {
     /// The parts of a message as one.
     pub(crate) fn from_parts(bytes: ArcSlice<u8>, parts: Parts) -> Message
@@ -63,11 +73,17 @@ impl Message {
     pub(crate) fn with_fds(self, fds: Option<ArcSlice<u32>>) -> Message
         ensures { result ≡ record self { fds = numbers_in fds } }
     {
+        let Message {
+            bytes,
+            position,
+            parts,
+            fds: _,
+        } = self;
         Message {
+            bytes,
+            position,
+            parts,
             fds,
-            bytes: self.bytes,
-            position: self.position,
-            parts: self.parts,
         }
     }
 
@@ -121,11 +137,17 @@ impl Message {
     pub fn at(self, position: u64) -> Message
         ensures { result ≡ record self { position = position } }
     {
+        let Message {
+            bytes,
+            position: _,
+            parts,
+            fds,
+        } = self;
         Message {
+            bytes,
             position,
-            bytes: self.bytes,
-            parts: self.parts,
-            fds: self.fds,
+            parts,
+            fds,
         }
     }
 

@@ -9,7 +9,7 @@ use std::marker::Model;
 use wire_number::read_u32;
 
 /// The part of a header that each message has (D-Bus Specification, "Message Format").
-#[derive(Debug, Drop)]
+#[derive(Debug)]
 pub struct PrimaryHeader {
     endian_sig: EndianSig,
     msg_type: MessageType,
@@ -28,6 +28,19 @@ impl Model for PrimaryHeader {
     ghost view = { λ p. record { endian_sig = p.endian_sig; msg_type = p.msg_type; flags = p.flags.0; protocol_version = p.protocol_version; body_len = p.body_len; serial_num = p.serial_num } };
 
     ghost invariant = { λ p. 0 < p.serial_num };
+}
+
+impl Drop for PrimaryHeader {
+    fn drop(self) {
+        let PrimaryHeader {
+            endian_sig: _,
+            msg_type: _,
+            flags: _,
+            protocol_version: _,
+            body_len: _,
+            serial_num: _,
+        } = self;
+    }
 }
 
 impl PrimaryHeader {
