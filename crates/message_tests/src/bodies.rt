@@ -1,40 +1,43 @@
 //! Bodies of messages, as arguments. The bytes are worked by hand from the D-Bus Specification, "Marshaling".
-use crate::support::Nothing;
+use crate::support::{Nothing, do_call, holds};
 use std::alloc::Global;
-use std::process::Abort;
-use std::test::Fail;
-use wire_message::{Error, Message, Serials};
-use wire_value::{
-    Array, Endian, InterfaceName, MemberName, ObjectPath, Signature, Text, VariantError, to,
-};
+use wire_message::{Body, Message, Result, Serials, built_bodies_are_read_again};
+use wire_value::{Array, Endian, Signature, Text, to};
 
 /// Four numbers of 4 bytes behind the length of their array, in little order.
 const NUMBERS: &[u8] =
     b"\x10\x00\x00\x00\x01\x00\x00\x00\x02\x00\x00\x00\x03\x00\x00\x00\x04\x00\x00\x00";
 
-#[test]
-fn numbers_are_read(rt: HostRuntime) -> Result<(), Fail> {
-    let alloc = rt.alloc();
+fn message_of_numbers(alloc: Global) -> Result<Message> {
+    let types = Signature::try_from(alloc, "ai")?;
     let mut serials = Serials::new();
-    let path = ObjectPath::try_from("/")?;
-    let interface = InterfaceName::try_from("test.test")?;
-    let member = MemberName::try_from("test")?;
-    let signature = Signature::try_from(alloc, "ai")?;
-    let signal = Message::signal(&path, &interface, &member).build_raw_body_uncounted(
-        alloc,
-        &mut serials,
-        &Nothing,
-        NUMBERS,
-        &signature,
-        &[],
-    )?;
-    let (numbers,) = signal.body().deserialize::<(Array<i32>,)>(alloc)?;
-    assert_eq!(rt; numbers.as_slice(), [1, 2, 3, 4].as_slice());
-    let other = signal.body().deserialize::<(u32,)>(alloc);
-    assert!(rt; other.err() == Some(Error::Variant(VariantError::SignatureMismatch)));
-    let (length,) = signal.body().deserialize_unchecked::<(u32,)>(alloc)?;
-    assert_eq!(rt; length, 16);
-    Ok(())
+    do_call()?.build_raw_body_uncounted(alloc, &mut serials, &Nothing, NUMBERS, &types, &[])
+}
+
+fn are_four(alloc: Global, body: &Body<'_>) -> Result<bool> {
+    let (numbers,) = body.deserialize::<(Array<i32>,)>(alloc)?;
+    Ok(numbers.as_slice() == [1, 2, 3, 4].as_slice())
+}
+
+/// Whether the first of the body is the length of the array, where its signature isn't asked.
+fn begins_with_length(alloc: Global, body: &Body<'_>) -> Result<bool> {
+    let (length,) = body.deserialize_unchecked::<(u32,)>(alloc)?;
+    Ok(length == 16)
+}
+
+fn numbers_of(alloc: Global, message: &Message) -> Result<bool> {
+    let body = message.body();
+    Ok(are_four(alloc, &body)? && begins_with_length(alloc, &body)?)
+}
+
+fn numbers_are_found(alloc: Global) -> Result<bool> {
+    let message = message_of_numbers(alloc)?;
+    numbers_of(alloc, &message)
+}
+
+#[test]
+fn numbers_are_read(rt: HostRuntime) {
+    assert!(rt; holds(numbers_are_found(rt.alloc())));
 }
 
 /// A string of seven bytes, then a number on the next multiple of 4.
@@ -42,32 +45,61 @@ const LITTLE: &[u8] = b"\x07\0\0\0kaboom!\0\x20\0\0\0";
 
 const BIG: &[u8] = b"\0\0\0\x07kaboom!\0\0\0\0\x20";
 
-/// The body in this order is these bytes, and they are read as what they were made of.
-fn there_and_back(rt: &impl Abort, alloc: Global, order: Endian, bytes: &[u8]) -> Result<(), Fail> {
+/// A call with the text and the number, as values, and two descriptors.
+fn call_of_values(alloc: Global, order: Endian) -> Result<Message> {
+    let values = to(alloc, (Text::from_str(alloc, "kaboom!")?, 32i32))?;
     let mut serials = Serials::new();
-    let path = ObjectPath::try_from("/")?;
-    let member = MemberName::try_from("do")?;
-    let arguments = to(alloc, (Text::from_str(alloc, "kaboom!")?, 32i32))?;
-    let call = Message::method_call(&path, &member)
-        .endian(order)
-        .build_body_uncounted(alloc, &mut serials, &Nothing, &arguments, &[3, 4])?;
-    let body = call.body();
-    assert_eq!(rt; body.data(), bytes);
-    assert_eq!(rt; body.len(), 16);
-    assert!(rt; !body.is_empty());
-    assert_eq!(rt; body.signature(alloc)?.to_text(alloc)?.as_str(), "si");
-    assert_eq!(rt; body.message().fds(), [3, 4].as_slice());
+    let call = do_call()?.endian(order);
+    call.build_body_uncounted(alloc, &mut serials, &Nothing, &values, &[3, 4])
+}
+
+/// The same as arguments, without descriptors.
+fn call_of_arguments(alloc: Global, order: Endian) -> Result<Message> {
+    let text = Text::from_str(alloc, "kaboom!")?;
+    let call = do_call()?.endian(order);
+    call.build_uncounted(alloc, &mut Serials::new(), &Nothing, (text, 32i32))
+}
+
+/// Whether the body is these bytes.
+fn is_body(body: &Body<'_>, bytes: &[u8]) -> bool {
+    body.data() == bytes && body.len() == 16 && !body.is_empty()
+}
+
+/// Whether the body's signature is right.
+fn has_types(alloc: Global, body: &Body<'_>) -> Result<bool> {
+    let types = body.signature(alloc)?;
+    Ok(types.to_text(alloc)?.as_str() == "si")
+}
+
+/// Whether the arguments are the text and the number.
+fn are_arguments(alloc: Global, body: &Body<'_>) -> Result<bool> {
     let (text, number) = body.deserialize::<(Text, i32)>(alloc)?;
-    assert_eq!(rt; text.as_str(), "kaboom!");
-    assert_eq!(rt; number, 32);
-    // A boolean is 0 or 1, and the string's length is neither.
-    let none = body.deserialize_unchecked::<(bool,)>(alloc);
-    assert!(rt; none.err() == Some(Error::Variant(VariantError::Malformed)));
-    Ok(())
+    Ok(number == 32 && text.as_str() == "kaboom!")
+}
+
+fn is_right(alloc: Global, message: &Message, bytes: &[u8], fds: &[u32]) -> Result<bool> {
+    let body = message.body();
+    if !is_body(&body, bytes) || body.message().fds() != fds {
+        return Ok(false);
+    }
+    Ok(has_types(alloc, &body)? && are_arguments(alloc, &body)?)
+}
+
+fn values_are_read(alloc: Global, order: Endian, bytes: &[u8]) -> Result<bool> {
+    let message = call_of_values(alloc, order)?;
+    is_right(alloc, &message, bytes, &[3, 4])
+}
+
+fn arguments_are_read(alloc: Global, order: Endian, bytes: &[u8]) -> Result<bool> {
+    let message = call_of_arguments(alloc, order)?;
+    is_right(alloc, &message, bytes, &[])
 }
 
 #[test]
-fn bodies_are_read_in_both_orders(rt: HostRuntime) -> Result<(), Fail> {
-    there_and_back(&rt, rt.alloc(), Endian::Little, LITTLE)?;
-    there_and_back(&rt, rt.alloc(), Endian::Big, BIG)
+fn bodies_are_read_in_both_orders(rt: HostRuntime) {
+    built_bodies_are_read_again::<(Text, i32)>();
+    for (order, bytes) in &[(Endian::Little, LITTLE), (Endian::Big, BIG)] {
+        assert!(rt; holds(values_are_read(rt.alloc(), *order, bytes)));
+        assert!(rt; holds(arguments_are_read(rt.alloc(), *order, bytes)));
+    }
 }

@@ -212,7 +212,7 @@ impl Error {
     }
     /// As the conversion to [`fdo::Error`].
     pub(crate) fn into_fdo(self) -> fdo::Error
-        ensures { Becomes self.entry result }
+        ensures { Becomes self result }
     {
         match self {
             Error::MethodError(name, detail, message) => {

@@ -66,7 +66,7 @@ impl Drop for Error {
 impl Error {
     /// As the conversion to [`error::Error`].
     fn into_within(self) -> error::Error
-        ensures { result ≡ error_within self.entry }
+        ensures { result ≡ error_within self }
     {
         match self {
             Error::ZBus(error) => error,
