@@ -8,114 +8,150 @@ use wire_names::{
     OwnedWellKnownName, UniqueName, WellKnownName, only_the_bus_is_both,
 };
 
-fn in_order<N: Ord>(low: &N, high: &N) -> bool {
-    low == low && low != high && low < high
-}
-
-fn prints<N: Display>(alloc: Global, name: &N, text: &str) -> Result<bool, AllocError> {
-    Ok(name.to_string(alloc)?.as_str() == text)
-}
-
-// Goes once through the calls of a borrowed name.
-macro_rules! lent {
-    ($alloc:ident, $low:expr, $high:expr) => {{
-        let low = $low?;
-        let high = $high?;
-        Ok(in_order(&low.as_ref(), &high) && prints($alloc, &low, low.as_str())?)
-    }};
-}
-
-// Goes once through the calls of an owned name.
-macro_rules! owned {
-    ($alloc:ident, $name:ident, $owned:ident, $low:literal, $high:literal) => {{
-        let low = $name::try_from($low)?.to_owned($alloc)?;
-        let high = $owned::try_from($alloc, $high)?.try_clone($alloc)?;
-        Ok(in_order(&low, &high) && low.as_ref().as_str() == $low && prints($alloc, &high, high.as_str())?)
-    }};
-}
-
 fn unique_lent(alloc: Global) -> Result<bool, NamesError> {
-    lent!(
-        alloc,
-        UniqueName::try_from(":1.2"),
-        UniqueName::try_from_bytes(b":1.3")
+    Ok(
+        UniqueName::try_from_bytes(b":1.2")?
+            .as_ref()
+            .to_owned(alloc)?
+            .into_text()
+            .as_str()
+            == ":1.2",
     )
 }
 
 fn unique_owned(alloc: Global) -> Result<bool, NamesError> {
-    owned!(alloc, UniqueName, OwnedUniqueName, ":1.2", ":1.3")
+    Ok(
+        OwnedUniqueName::try_from(alloc, ":1.2")?
+            .try_clone(alloc)?
+            .as_ref()
+            .as_str()
+            == ":1.2",
+    )
 }
 
 fn well_known_lent(alloc: Global) -> Result<bool, NamesError> {
-    lent!(
-        alloc,
-        WellKnownName::try_from("a.b"),
-        WellKnownName::try_from("a.c")
+    Ok(
+        WellKnownName::try_from("a.b")?
+            .as_ref()
+            .to_owned(alloc)?
+            .into_text()
+            .as_str()
+            == "a.b",
     )
 }
 
 fn well_known_owned(alloc: Global) -> Result<bool, NamesError> {
-    owned!(alloc, WellKnownName, OwnedWellKnownName, "a.b", "a.c")
+    Ok(
+        OwnedWellKnownName::try_from(alloc, "a.b")?
+            .try_clone(alloc)?
+            .as_ref()
+            .as_str()
+            == "a.b",
+    )
 }
 
 fn bus_lent(alloc: Global) -> Result<bool, NamesError> {
-    lent!(
-        alloc,
-        BusName::try_from(":1.2"),
-        BusName::try_from_bytes(b"a.b")
+    Ok(
+        BusName::try_from_bytes(b":1.2")?
+            .as_ref()
+            .to_owned(alloc)?
+            .as_str()
+            == ":1.2",
     )
 }
 
 fn bus_owned(alloc: Global) -> Result<bool, NamesError> {
-    owned!(alloc, BusName, OwnedBusName, ":1.2", "a.b")
+    Ok(
+        OwnedBusName::try_from(alloc, ":1.2")?
+            .try_clone(alloc)?
+            .as_ref()
+            .as_str()
+            == ":1.2",
+    )
 }
 
 fn interface_lent(alloc: Global) -> Result<bool, NamesError> {
-    lent!(
-        alloc,
-        InterfaceName::try_from("a.b"),
-        InterfaceName::try_from_bytes(b"a.c")
+    Ok(
+        InterfaceName::try_from_bytes(b"a.b")?
+            .as_ref()
+            .to_owned(alloc)?
+            .into_text()
+            .as_str()
+            == "a.b",
     )
 }
 
 fn interface_owned(alloc: Global) -> Result<bool, NamesError> {
-    owned!(alloc, InterfaceName, OwnedInterfaceName, "a.b", "a.c")
+    Ok(
+        OwnedInterfaceName::try_from(alloc, "a.b")?
+            .try_clone(alloc)?
+            .as_ref()
+            .as_str()
+            == "a.b",
+    )
 }
 
 fn error_lent(alloc: Global) -> Result<bool, NamesError> {
-    lent!(
-        alloc,
-        ErrorName::try_from("a.b"),
-        ErrorName::try_from_bytes(b"a.c")
+    Ok(
+        ErrorName::try_from_bytes(b"a.b")?
+            .as_ref()
+            .to_owned(alloc)?
+            .into_text()
+            .as_str()
+            == "a.b",
     )
 }
 
 fn error_owned(alloc: Global) -> Result<bool, NamesError> {
-    owned!(alloc, ErrorName, OwnedErrorName, "a.b", "a.c")
+    Ok(
+        OwnedErrorName::try_from(alloc, "a.b")?
+            .try_clone(alloc)?
+            .as_ref()
+            .as_str()
+            == "a.b",
+    )
 }
 
 fn member_lent(alloc: Global) -> Result<bool, NamesError> {
-    lent!(
-        alloc,
-        MemberName::try_from("Get"),
-        MemberName::try_from_bytes(b"Set")
+    Ok(
+        MemberName::try_from_bytes(b"Get")?
+            .as_ref()
+            .to_owned(alloc)?
+            .into_text()
+            .as_str()
+            == "Get",
     )
 }
 
 fn member_owned(alloc: Global) -> Result<bool, NamesError> {
-    owned!(alloc, MemberName, OwnedMemberName, "Get", "Set")
+    Ok(
+        OwnedMemberName::try_from(alloc, "Get")?
+            .try_clone(alloc)?
+            .as_ref()
+            .as_str()
+            == "Get",
+    )
 }
 
 fn path_lent(alloc: Global) -> Result<bool, NamesError> {
-    lent!(
-        alloc,
-        ObjectPath::try_from("/"),
-        ObjectPath::try_from_bytes(b"/a")
+    Ok(
+        ObjectPath::try_from_bytes(b"/a")?
+            .as_ref()
+            .to_owned(alloc)?
+            .into_text()
+            .as_str()
+            == "/a",
     )
 }
 
 fn path_owned(alloc: Global) -> Result<bool, NamesError> {
-    owned!(alloc, ObjectPath, OwnedObjectPath, "/", "/a")
+    Ok(
+        OwnedObjectPath::try_from(alloc, "/a")?
+            .try_clone(alloc)?
+            .as_ref()
+            .as_str()
+            == "/a",
+    )
 }
 
 #[test]
@@ -150,17 +186,20 @@ fn calls_of_owned_names(rt: HostRuntime) {
     }
 }
 
-// Bytes outside of ASCII, and such as are no UTF-8.
-#[test]
-fn other_bytes_are_no_names(rt: HostRuntime) {
-    for bytes in [b"/\xc3\xa9".as_slice(), b"/\xff"] {
-        assert!(rt; ObjectPath::try_from_bytes(bytes) == Err(NamesError::Path));
-    }
+fn in_order<N: Ord>(low: &N, high: &N) -> bool {
+    low == low && low != high && low < high
 }
 
-fn text_given_back(alloc: Global) -> Result<bool, NamesError> {
-    let text = OwnedMemberName::try_from(alloc, "Get")?.into_text();
-    Ok(text.as_str() == "Get")
+fn are_in_order() -> Result<bool, NamesError> {
+    Ok(in_order(&BusName::try_from(":1.2")?, &BusName::try_from("a.b")?))
+}
+
+fn prints<N: Display>(alloc: Global, name: &N, text: &str) -> Result<bool, AllocError> {
+    Ok(name.to_string(alloc)?.as_str() == text)
+}
+
+fn printed(alloc: Global) -> Result<bool, NamesError> {
+    Ok(prints(alloc, &OwnedBusName::try_from(alloc, "a.b")?, "a.b")?)
 }
 
 fn held(alloc: Global) -> Result<HashSet<OwnedMemberName>, NamesError> {
@@ -169,11 +208,16 @@ fn held(alloc: Global) -> Result<HashSet<OwnedMemberName>, NamesError> {
     Ok(names)
 }
 
+fn is_held(
+    alloc: Global,
+    names: &HashSet<OwnedMemberName>,
+    name: &str,
+) -> Result<bool, NamesError> {
+    Ok(names.contains(&OwnedMemberName::try_from(alloc, name)?))
+}
+
 fn is_a_key(alloc: Global, names: &HashSet<OwnedMemberName>) -> Result<bool, NamesError> {
-    Ok(
-        names.contains(&OwnedMemberName::try_from(alloc, "Get")?)
-            && !names.contains(&OwnedMemberName::try_from(alloc, "Set")?),
-    )
+    Ok(is_held(alloc, names, "Get")? && !is_held(alloc, names, "Set")?)
 }
 
 fn keys(alloc: Global) -> Result<bool, NamesError> {
@@ -181,8 +225,20 @@ fn keys(alloc: Global) -> Result<bool, NamesError> {
 }
 
 #[test]
-fn names_are_texts_and_keys(rt: HostRuntime) {
+fn names_are_ordered_printed_and_keys(rt: HostRuntime) {
     only_the_bus_is_both();
-    assert!(rt; text_given_back(rt.alloc()) == Ok(true));
-    assert!(rt; keys(rt.alloc()) == Ok(true));
+    for answer in [are_in_order(), printed(rt.alloc()), keys(rt.alloc())] {
+        assert!(rt; answer == Ok(true));
+    }
+}
+
+/// Bytes outside of ASCII, and such as are no UTF-8.
+fn others_are_no_paths() -> bool {
+    ObjectPath::try_from_bytes(b"/\xc3\xa9") == Err(NamesError::Path)
+        && ObjectPath::try_from_bytes(b"/\xff") == Err(NamesError::Path)
+}
+
+#[test]
+fn other_bytes_are_no_names(rt: HostRuntime) {
+    assert!(rt; others_are_no_paths());
 }

@@ -28,7 +28,7 @@ fn is_in_just(letters: &str, text: &str) -> bool {
 }
 
 // Worked by hand from the D-Bus Specification, "Valid Names" and "Valid Object Paths".
-const TEXTS: [(&str, &str); 39] = [
+const TEXTS: &[(&str, &str)] = &[
     ("", ""),
     ("a", "M"),
     ("_1", "M"),
@@ -70,11 +70,19 @@ const TEXTS: [(&str, &str); 39] = [
     ("/a.b", ""),
 ];
 
+/// Whether each text is in the grammars beside it, and in no other.
+fn are_in_theirs(rows: &[(&str, &str)]) -> bool {
+    for (text, letters) in rows {
+        if !is_in_just(letters, text) {
+            return false;
+        }
+    }
+    true
+}
+
 #[test]
 fn texts_are_in_their_grammars(rt: HostRuntime) {
-    for (text, letters) in TEXTS {
-        assert!(rt; is_in_just(letters, text), "of {text}");
-    }
+    assert!(rt; are_in_theirs(TEXTS));
 }
 
 /// The text with as many `a` behind it as make it so long.
@@ -87,7 +95,7 @@ fn filled(alloc: Global, start: &str, length: usize) -> Result<String, AllocErro
 }
 
 /// A start of a text, the grammars of it with 255 bytes, and with 256.
-const STARTS: [(&str, &str, &str); 5] = [
+const STARTS: &[(&str, &str, &str)] = &[
     ("", "M", ""),
     ("a.", "WBIE", ""),
     ("a-.", "WB", ""),
@@ -95,10 +103,19 @@ const STARTS: [(&str, &str, &str); 5] = [
     ("/", "P", "P"),
 ];
 
+fn is_filled_in(
+    alloc: Global,
+    letters: &str,
+    start: &str,
+    length: usize,
+) -> Result<bool, AllocError> {
+    Ok(is_in_just(letters, filled(alloc, start, length)?.as_str()))
+}
+
 fn names_end_there(alloc: Global) -> Result<bool, AllocError> {
     for (start, letters, longer_letters) in STARTS {
-        if !is_in_just(letters, filled(alloc, start, 255)?.as_str())
-            || !is_in_just(longer_letters, filled(alloc, start, 256)?.as_str())
+        if !is_filled_in(alloc, letters, start, 255)?
+            || !is_filled_in(alloc, longer_letters, start, 256)?
         {
             return Ok(false);
         }

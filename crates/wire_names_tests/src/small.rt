@@ -1,6 +1,5 @@
 //! Texts and bytes.
 use std::alloc::{AllocError, Global};
-use std::collections::HashSet;
 use wire_names::{Bytes, Text};
 
 fn text(alloc: Global) -> Result<bool, AllocError> {
@@ -28,16 +27,6 @@ fn bytes_again(alloc: Global) -> Result<bool, AllocError> {
     )
 }
 
-fn held(alloc: Global) -> Result<HashSet<Bytes>, AllocError> {
-    let mut held = HashSet::new(alloc);
-    held.insert(Bytes::from_slice(alloc, &[0, 255])?)?;
-    Ok(held)
-}
-
-fn is_a_key(alloc: Global) -> Result<bool, AllocError> {
-    Ok(held(alloc)?.contains(&Bytes::from_slice(alloc, &[0, 255])?))
-}
-
 #[test]
 fn they_give_back_what_they_took(rt: HostRuntime) {
     let alloc = rt.alloc();
@@ -46,7 +35,6 @@ fn they_give_back_what_they_took(rt: HostRuntime) {
         text_again(alloc),
         bytes(alloc),
         bytes_again(alloc),
-        is_a_key(alloc),
     ] {
         assert!(rt; answer == Ok(true));
     }

@@ -94,8 +94,14 @@ fn is_of(alloc: Global, tree: Tree, kind: &str) -> Result<bool, VariantError> {
 }
 
 // The letters are those of the table in the D-Bus Specification, "Summary of types".
+const NUMBERS: &[&str] = &["y", "b", "n", "q", "i", "u", "x", "t", "d", "h"];
+
+const TEXTS: &[(&str, &str)] = &[("s", ""), ("o", "/"), ("g", "")];
+
+const CONTAINERS: &[&str] = &["an", "a(yai)", "a{iy}", "(y)", "v"];
+
 fn numbers_are_taken(alloc: Global) -> Result<bool, VariantError> {
-    for letter in ["y", "b", "n", "q", "i", "u", "x", "t", "d", "h"] {
+    for letter in NUMBERS {
         if !is_of(alloc, number(letter), letter)? {
             return Ok(false);
         }
@@ -104,7 +110,7 @@ fn numbers_are_taken(alloc: Global) -> Result<bool, VariantError> {
 }
 
 fn texts_are_taken(alloc: Global) -> Result<bool, VariantError> {
-    for (letter, chars) in [("s", ""), ("o", "/"), ("g", "")] {
+    for (letter, chars) in TEXTS {
         if !is_of(alloc, text(alloc, letter, chars)?, letter)? {
             return Ok(false);
         }
@@ -113,7 +119,7 @@ fn texts_are_taken(alloc: Global) -> Result<bool, VariantError> {
 }
 
 fn containers_are_taken(alloc: Global) -> Result<bool, VariantError> {
-    for kind in ["an", "a(yai)", "a{iy}", "(y)", "v"] {
+    for kind in CONTAINERS {
         if !is_of(alloc, container(alloc, kind)?, kind)? {
             return Ok(false);
         }
@@ -138,14 +144,16 @@ fn is_refused(alloc: Global, tree: Tree) -> bool {
 }
 
 // D-Bus Specification, "String-like types", "Valid Object Paths", "Valid Signatures".
+const NO_TEXTS: &[(&str, &str)] = &[
+    ("s", "a\0"),
+    ("o", "/a/"),
+    ("o", ""),
+    ("g", "a"),
+    ("g", "()"),
+];
+
 fn texts_are_refused(alloc: Global) -> Result<bool, VariantError> {
-    for (letter, chars) in [
-        ("s", "a\0"),
-        ("o", "/a/"),
-        ("o", ""),
-        ("g", "a"),
-        ("g", "()"),
-    ] {
+    for (letter, chars) in NO_TEXTS {
         if !is_refused(alloc, text(alloc, letter, chars)?) {
             return Ok(false);
         }
@@ -169,7 +177,7 @@ fn unsound(alloc: Global, case: &str) -> Result<Tree, VariantError> {
     }
 }
 
-const UNSOUND: [&str; 10] = [
+const UNSOUND: &[&str] = &[
     "an element of another type",
     "a 0 byte in an array",
     "a field of another type",
@@ -237,7 +245,7 @@ fn is_its_copy(alloc: Global, kind: &str) -> Result<bool, VariantError> {
 }
 
 fn copies(alloc: Global) -> Result<bool, VariantError> {
-    for kind in ["an", "a{iy}", "(y)", "v"] {
+    for kind in CONTAINERS {
         if !is_its_copy(alloc, kind)? {
             return Ok(false);
         }
