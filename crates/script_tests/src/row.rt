@@ -1,5 +1,5 @@
 /// What fails while a script is read or its transcript is printed.
-#[derive(Clone, Copy, PartialEq, Eq, Debug)]
+#[derive(Clone, Copy)]
 pub(crate) enum Fault {
     Nothing,
     /// The input fails behind the script's bytes.

@@ -12,7 +12,7 @@ pub(crate) struct Wanted<'a> {
 }
 
 /// How the program ended.
-#[derive(Clone, Copy, PartialEq, Eq, Debug)]
+#[derive(Clone, Copy)]
 pub(crate) enum Ended {
     /// With the wanted status, and it printed what is wanted.
     Wanted,
@@ -39,7 +39,7 @@ fn pieces_of(alloc: Global, wanted: &Wanted<'_>, size: usize) -> Result<Vec<Piec
     for piece in wanted.input.chunks(size.max(1)) {
         pieces.push(Piece::Bytes(Vec::from_slice(alloc, piece)?))?;
     }
-    if wanted.fault == Fault::Input {
+    if matches!(wanted.fault, Fault::Input) {
         pieces.push(Piece::Fault)?;
     }
     Ok(pieces)
@@ -47,7 +47,7 @@ fn pieces_of(alloc: Global, wanted: &Wanted<'_>, size: usize) -> Result<Vec<Piec
 
 /// Where the program prints to.
 fn sink_of(alloc: Global, wanted: &Wanted<'_>) -> MemorySink {
-    if wanted.fault == Fault::Output {
+    if matches!(wanted.fault, Fault::Output) {
         MemorySink::with_fault(alloc, wanted.output.len() as u64, false)
     } else {
         MemorySink::new(alloc, false)
@@ -84,7 +84,7 @@ pub(crate) fn ended_of(
     let length = wanted.input.len();
     for size in [length, 1, length / 3 + 1] {
         let ended = ended_in_pieces(rt, words.as_slice(), wanted, size)?;
-        if ended != Ended::Wanted {
+        if !matches!(ended, Ended::Wanted) {
             return Ok(ended);
         }
     }
