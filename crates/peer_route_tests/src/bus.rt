@@ -76,7 +76,8 @@ fn is_told(route: &mut Route, alloc: Global, stream: MessageStream) -> bool {
         return false;
     }
     match open_at_once(route, alloc, "type='signal'", None) {
-        Some(second) => closes(route, stream, Some(second), Some(2)) && holds(route, 1, &REMOVE_MATCH),
+        Some(second) => closes(route, stream, Some(second), Some(2))
+            && holds(route, 1, &REMOVE_MATCH),
         None => false,
     }
 }

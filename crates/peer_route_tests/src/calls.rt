@@ -1,7 +1,7 @@
 //! Calls: put, written, answered, dropped, and ended with the peer.
 use crate::support::{
-    arrives, calls_and_signals, calls_as, fails, gives, gives_closing, gives_none_before, gives_nothing,
-    goes_to_a_call, holds, is_shut, registers, writes,
+    arrives, calls_and_signals, calls_as, fails, gives, gives_closing, gives_none_before,
+    gives_nothing, goes_to_a_call, holds, is_shut, registers, writes,
 };
 use peer_route::{Issued, PendingMethodCalls, Route};
 use std::alloc::Global;

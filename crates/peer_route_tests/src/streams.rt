@@ -82,7 +82,9 @@ fn is_ruled(route: &mut Route, alloc: Global) -> bool {
     let Some(returns) = open_at_once(route, alloc, "type='method_return'", None) else {
         return false;
     };
-    route.match_rule(&returns).is_some() && arrives(route, alloc, 1) && gives(route.take(&returns), 1)
+    route.match_rule(&returns).is_some()
+        && arrives(route, alloc, 1)
+        && gives(route.take(&returns), 1)
 }
 
 #[test]

@@ -2,9 +2,7 @@
 ghost use Rattle.std.specs.Prelude.{ℕ, ◌<◌, ◌^◌, length, IfOk};
 ghost use Rattle.std.specs.List.{AllByRecursion};
 
-use peer_route::{
-    Issued, Letter, MessageStream, Opens, PendingMethodCalls, Polled, Route, Spent,
-};
+use peer_route::{Issued, Letter, MessageStream, Opens, PendingMethodCalls, Polled, Route, Spent};
 use rule_match::OwnedMatchRule;
 use std::alloc::Global;
 use wire_body::Body;
