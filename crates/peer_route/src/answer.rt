@@ -2,7 +2,6 @@ use crate::words::Words;
 use wire_message::{Error, Message};
 
 /// What a command was answered.
-#[derive(Drop)]
 pub enum Answer {
     /// The call was sent: its number in its lane, and its serial.
     Called { call: u64, serial: u32 },
@@ -55,8 +54,41 @@ pub enum Answer {
     Shut,
 }
 
+impl Drop for Answer {
+    fn drop(self) {
+        match self {
+            Answer::Called { call: _, serial: _ } => {}
+            Answer::Sent(_) => {}
+            Answer::Refused(_) => {}
+            Answer::SendFailed(_) => {}
+            Answer::SentFirst(_) => {}
+            Answer::Untold(_) => {}
+            Answer::Got(_) => {}
+            Answer::Closed(_) => {}
+            Answer::Reply(_) => {}
+            Answer::MethodError(_) => {}
+            Answer::InvalidReply(_) => {}
+            Answer::NotYet => {}
+            Answer::NoneBefore => {}
+            Answer::Dropped => {}
+            Answer::Busy => {}
+            Answer::Streaming(_) => {}
+            Answer::Opening {
+                number: _,
+                serial: _,
+            } => {}
+            Answer::Opened => {}
+            Answer::Item(_) => {}
+            Answer::Empty => {}
+            Answer::Ended => {}
+            Answer::Gone(_) => {}
+            Answer::Set => {}
+            Answer::Shut => {}
+        }
+    }
+}
+
 /// One entry of a history: a lane's command and its answer.
-#[derive(Drop)]
 pub struct Entry {
     /// Whose command it was.
     pub lane: u32,
@@ -64,4 +96,14 @@ pub struct Entry {
     pub words: Words,
     /// Its answer.
     pub answer: Answer,
+}
+
+impl Drop for Entry {
+    fn drop(self) {
+        let Entry {
+            lane: _,
+            words: _,
+            answer: _,
+        } = self;
+    }
 }

@@ -30,12 +30,21 @@ pub enum Slot {
 }
 
 /// The calls of a peer, by the order in which they were made, with their answers.
-#[derive(Drop)]
 pub struct PendingMethodCalls {
     slots: Vec<Slot>,
     /// While the peer is open: for each serial that is waited for, the place of the slot that waits, so that none is searched for.
     waiting: BTreeMap<u32, usize>,
     closing: Option<ClosingError>,
+}
+
+impl Drop for PendingMethodCalls {
+    fn drop(self) {
+        let PendingMethodCalls {
+            slots: _,
+            waiting: _,
+            closing: _,
+        } = self;
+    }
 }
 
 impl Model for PendingMethodCalls {

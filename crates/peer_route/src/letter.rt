@@ -16,11 +16,20 @@ use wire_value::is_shallow;
 
 /// A message to be sent (D-Bus Specification, "Message Format"): its header, the values of its body, and the file descriptors
 /// that go with it.
-#[derive(Drop)]
 pub struct Letter<'a> {
     pub builder: Builder<'a>,
     pub body: Body,
     pub fds: Vec<u32>,
+}
+
+impl<'a> Drop for Letter<'a> {
+    fn drop(self) {
+        let Letter {
+            builder: _,
+            body: _,
+            fds: _,
+        } = self;
+    }
 }
 
 impl<'a> Model for Letter<'a> {

@@ -5,15 +5,11 @@ mod answer;
 mod body_word;
 mod calls;
 mod hex;
-#[cfg(test)]
-mod issue_tests;
 mod issuing;
 mod laws;
 mod leaving;
 mod letter;
 mod opening;
-#[cfg(test)]
-mod opening_tests;
 mod owner_rule;
 mod polled;
 mod progress;
@@ -21,10 +17,6 @@ mod queue;
 mod route;
 mod route_streams;
 mod streams;
-#[cfg(test)]
-mod tests;
-#[cfg(test)]
-mod told;
 mod words;
 mod writer;
 

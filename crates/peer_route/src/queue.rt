@@ -14,12 +14,17 @@ use std::mem;
 use wire_message::{Error, Message};
 
 /// A rule, and how many messages each open stream of it may hold.
-#[derive(Drop)]
 pub struct Subscription {
     /// Which messages are the stream's.
     pub(crate) rule: OwnedMatchRule,
     /// How many it may hold before reads wait.
     pub(crate) limit: u64,
+}
+
+impl Drop for Subscription {
+    fn drop(self) {
+        let Subscription { rule: _, limit: _ } = self;
+    }
 }
 
 /// The larger of a capacity and the one that is asked for, if one is.
@@ -83,13 +88,24 @@ fn clone_subscription(
 
 /// What is kept of a stream: its rule, if it has one; how far it is opened; the messages that it didn't give yet; whether it
 /// gave the closing error; and whether who asked for it was told that it is open.
-#[derive(Drop)]
 pub(crate) struct Queue {
     wants: Option<Subscription>,
     progress: Progress,
     items: VecDeque<Message>,
     told: bool,
     opened: bool,
+}
+
+impl Drop for Queue {
+    fn drop(self) {
+        let Queue {
+            wants: _,
+            progress: _,
+            items: _,
+            told: _,
+            opened: _,
+        } = self;
+    }
 }
 
 impl Model for Queue {

@@ -33,7 +33,6 @@ pub struct Issued {
 
 /// The core of a peer: its calls, what was read, what closed it, its serials and its outbox. It holds what a history
 /// leaves, and no history.
-#[derive(Drop)]
 pub struct Route {
     pub(crate) alloc: Global,
     pub(crate) calls: PendingMethodCalls,
@@ -51,6 +50,25 @@ pub struct Route {
     pub(crate) places: Vec<u64>,
     done: u64,
     pub(crate) writer: Writer,
+}
+
+impl Drop for Route {
+    fn drop(self) {
+        let Route {
+            alloc: _,
+            calls: _,
+            bus: _,
+            name: _,
+            streams: _,
+            main: _,
+            received: _,
+            serials: _,
+            outbox: _,
+            places: _,
+            done: _,
+            writer: _,
+        } = self;
+    }
 }
 
 impl Model for Route {

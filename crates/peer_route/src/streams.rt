@@ -160,10 +160,18 @@ fn limit_now(rule: &OwnedMatchRule, asked: Option<u64>, shared: Option<u64>) -> 
 }
 
 /// The streams of a peer, in the order in which they were made; nothing is kept of one that was closed.
-#[derive(Drop)]
 pub(crate) struct Streams {
     alloc: Global,
     queues: Vec<Option<Queue>>,
+}
+
+impl Drop for Streams {
+    fn drop(self) {
+        let Streams {
+            alloc: _,
+            queues: _,
+        } = self;
+    }
 }
 
 impl Model for Streams {

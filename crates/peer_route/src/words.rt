@@ -19,7 +19,6 @@ pub struct CallFlags {
 }
 
 /// The words of a method call or of a signal.
-#[derive(Drop)]
 pub struct Outgoing {
     /// The connection that it is for, if one is named.
     pub destination: Option<Bytes>,
@@ -35,8 +34,20 @@ pub struct Outgoing {
     pub body: Option<Bytes>,
 }
 
+impl Drop for Outgoing {
+    fn drop(self) {
+        let Outgoing {
+            destination: _,
+            path: _,
+            interface: _,
+            member: _,
+            flags: _,
+            body: _,
+        } = self;
+    }
+}
+
 /// What a command asks for. Texts are kept as they stand: one outside its grammar is refused when the command runs.
-#[derive(Drop)]
 pub enum Words {
     /// A method call of a member at an object path.
     Call(Outgoing),
@@ -111,6 +122,47 @@ pub enum Words {
     MainQueue(u64),
     /// Close the peer.
     Close,
+}
+
+impl Drop for Words {
+    fn drop(self) {
+        match self {
+            Words::Call(_) => {}
+            Words::Signal(_) => {}
+            Words::Reply { stream: _, body: _ } => {}
+            Words::Error {
+                stream: _,
+                name: _,
+                body: _,
+            } => {}
+            Words::Read => {}
+            Words::Poll(_) => {}
+            Words::Before { call: _, before: _ } => {}
+            Words::Drop(_) => {}
+            Words::Stream => {}
+            Words::Open {
+                max_queued: _,
+                rule: _,
+            } => {}
+            Words::Opened(_) => {}
+            Words::Take(_) => {}
+            Words::TakeBefore {
+                stream: _,
+                before: _,
+            } => {}
+            Words::Clone(_) => {}
+            Words::Unstream {
+                stream: _,
+                second: _,
+            } => {}
+            Words::Queue {
+                stream: _,
+                limit: _,
+            } => {}
+            Words::MainQueue(_) => {}
+            Words::Close => {}
+        }
+    }
 }
 
 /// The same text again, if there is one.
@@ -190,10 +242,15 @@ impl Words {
 }
 
 /// A command of a lane.
-#[derive(Drop)]
 pub struct Command {
     /// Whose command it is; each lane numbers its calls, and its streams, from 0 on.
     pub lane: u32,
     /// What it asks for.
     pub words: Words,
+}
+
+impl Drop for Command {
+    fn drop(self) {
+        let Command { lane: _, words: _ } = self;
+    }
 }

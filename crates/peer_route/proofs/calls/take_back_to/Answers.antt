@@ -7,8 +7,8 @@ use Rattle.peer_route.specs.declared.calls.Slot.TheVariants as slots
 use Rattle.peer_route.proofs.Index.{taken_back}
 use Rattle.peer_route.proofs.calls.take_back_to.Goals as goal
 
-pub loop-slots-preserved-in-loop-slots-3 : goal.loop-slots-preserved-in-loop-slots-3
-loop-slots-preserved-in-loop-slots-3 c =
+pub loop-slots-preserved-in-loop-slots-2 : goal.loop-slots-preserved-in-loop-slots-2
+loop-slots-preserved-in-loop-slots-2 c =
     let ss = c.loop-slots.slots.items in
     let last = c.len-last.result - 1 in
     let now_is : c.forget.new.slots ≡ set ss last slots.Gone = c.forget.ensures.slots ∙ ap (λ xs. set xs last slots.Gone) c.as_mut_slice.ensures.value in
