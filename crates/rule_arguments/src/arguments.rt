@@ -1,5 +1,5 @@
 //! The arguments that a rule wants, in the order of their indices.
-ghost use Rattle.std.specs.Prelude.{◌≡◌, ◌<◌, ◌≤◌, ◌≢◌, nat_le, length, slice_index_or, false, IfOk, OnOk, IsTrue, []};
+ghost use Rattle.std.specs.Prelude.{◌≡◌, ◌<◌, ◌≤◌, ◌≢◌, nat_le, length, slice_index_or, false, IfOk, OnOk, OnErr, IsTrue, []};
 ghost use Rattle.std.specs.List.{position_or_len};
 ghost use Rattle.std.specs.Option.{SomeIff};
 ghost use Rattle.rule_arguments.specs.declared.arguments.Argument.{Argument};
@@ -100,7 +100,8 @@ fn has_index(arguments: &[Argument], place: usize, index: u8) -> bool
 /// Puts an argument at its place, in place of one of its own index.
 fn put_among(arguments: &mut Vec<Argument>, argument: Argument) -> Result<(), AllocError>
     requires { IsTrue (is_ascending arguments.old.items) }
-    ensures { OnOk result (arguments.new.items ≡ put argument arguments.old.items) }
+    ensures put { OnOk result (arguments.new.items ≡ put argument arguments.old.items) }
+    ensures kept { OnErr result (arguments.new.items ≡ arguments.old.items) }
 {
     let place = place_of(arguments.as_slice(), argument.index);
     if has_index(arguments.as_slice(), place, argument.index) {
@@ -147,10 +148,11 @@ impl Arguments {
         self.items.as_slice()
     }
 
-    /// Puts an argument at its place, in place of one of its own index.
+    /// Puts an argument at its place, in place of one of its own index. Want of memory leaves the arguments as they were.
     pub fn put(&mut self, argument: Argument) -> Result<(), AllocError>
         requires { IsTrue (is_ascending self.old) }
-        ensures { OnOk result (self.new ≡ put argument self.old) }
+        ensures put { OnOk result (self.new ≡ put argument self.old) }
+        ensures kept { OnErr result (self.new ≡ self.old) }
     {
         put_among(&mut self.items, argument)
     }

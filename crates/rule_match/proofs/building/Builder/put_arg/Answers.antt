@@ -2,5 +2,5 @@ use Rattle.rule_match.specs.RuleView.{rule_seen}
 use Rattle.rule_match.proofs.Kept.{with_argument}
 use Rattle.rule_match.proofs.building.Builder.put_arg.Goals as goal
 
-pub invariant_of-rule : goal.invariant_of-rule
-invariant_of-rule c = rw c.in_ok-put.ensures (with_argument (rule_seen c.rule.inside) c.args.argument c.rule.invariant c.requires)
+pub invariant_of-rule-2 : goal.invariant_of-rule-2
+invariant_of-rule-2 c = rw c.in_ok-put.ensures.put (with_argument (rule_seen c.rule.inside) c.args.argument c.rule.invariant c.requires)
