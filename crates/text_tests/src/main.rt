@@ -24,17 +24,16 @@ use std::io;
 /// What the line is printed as.
 fn shown(alloc: Global, line: &str) -> anyhow::Result<String> {
     let (word, text) = line.split_once(' ').unwrap_or((line, ""));
-    match word {
-        "kind" => names::kind(alloc, text),
-        "unique" => names::unique(alloc, text),
-        "well-known" => names::well_known(alloc, text),
-        "bus" => names::bus(alloc, text),
-        "interface" => names::interface(alloc, text),
-        "error" => names::error(alloc, text),
-        "member" => names::member(alloc, text),
-        "path" => names::path(alloc, text),
-        "text" => names::text(alloc, text),
-        _ => messages::shown(alloc, word, text),
+    match names::shown(alloc, word, text)? {
+        Some(shown) => Ok(shown),
+        None => messages::shown(alloc, word, text),
+    }
+}
+
+fn print_line(rt: &impl Print, alloc: Global, line: &str) -> io::Result<()> {
+    match shown(alloc, line) {
+        Ok(text) => println!(rt; "{text}"),
+        Err(error) => println!(rt; "refused: {error}"),
     }
 }
 
@@ -43,10 +42,7 @@ fn main(rt: HostRuntime) -> io::Result<()> {
     errors::print_all(&rt, alloc)?;
     answers::print_all(&rt, alloc)?;
     for line in rt.lines(alloc) {
-        match shown(alloc, line?.as_str()) {
-            Ok(text) => println!(rt; "{text}")?,
-            Err(error) => println!(rt; "refused: {error}")?,
-        }
+        print_line(&rt, alloc, line?.as_str())?;
     }
     Ok(())
 }
