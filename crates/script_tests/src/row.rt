@@ -17,15 +17,19 @@ pub(crate) struct Row<'a> {
     pub(crate) fault: Fault,
 }
 
-/// The status, and what fails.
-fn ending_of(text: &str) -> Option<(u8, Fault)> {
-    let (status, fault) = match text.split_once(' ') {
-        None => (text, Fault::Nothing),
-        Some((status, "input")) => (status, Fault::Input),
-        Some((status, "output")) => (status, Fault::Output),
-        Some(_) => return None,
-    };
-    Some((status.parse::<u8>().ok()?, fault))
+/// What the fourth word says.
+fn fault_of(word: &str) -> Option<Fault> {
+    match word {
+        "" => Some(Fault::Nothing),
+        "input" => Some(Fault::Input),
+        "output" => Some(Fault::Output),
+        _ => None,
+    }
+}
+
+/// The status that a word is.
+fn status_of(word: &str) -> Option<u8> {
+    word.parse::<u8>().ok()
 }
 
 impl<'a> Row<'a> {
@@ -33,12 +37,12 @@ impl<'a> Row<'a> {
     pub(crate) fn of(line: &'a str) -> Option<Row<'a>> {
         let (name, rest) = line.split_once(' ')?;
         let (words, ending) = rest.split_once(' ')?;
-        let (status, fault) = ending_of(ending)?;
+        let (status, fault) = ending.split_once(' ').unwrap_or((ending, ""));
         Some(Row {
             name,
             words,
-            status,
-            fault,
+            status: status_of(status)?,
+            fault: fault_of(fault)?,
         })
     }
 }

@@ -18,8 +18,8 @@ fn print(rt: &impl Print, alloc: Global, error: Error) -> io::Result<()> {
     print_lent(rt, alloc, &error)
 }
 
-/// Those that hold a kind.
-fn print_kinds(rt: &impl Print, alloc: Global) -> io::Result<()> {
+/// Those of reading and writing.
+fn print_io(rt: &impl Print, alloc: Global) -> io::Result<()> {
     for kind in [
         IoKind::Ended,
         IoKind::Fault,
@@ -29,6 +29,11 @@ fn print_kinds(rt: &impl Print, alloc: Global) -> io::Result<()> {
     ] {
         print(rt, alloc, Error::InputOutput(kind))?;
     }
+    Ok(())
+}
+
+/// Those of values, each behind what the kind is printed as.
+fn print_variants(rt: &impl Print, alloc: Global) -> io::Result<()> {
     for kind in [
         VariantError::Signature,
         VariantError::Depth,
@@ -39,6 +44,11 @@ fn print_kinds(rt: &impl Print, alloc: Global) -> io::Result<()> {
         println!(rt; "{kind}")?;
         print(rt, alloc, Error::Variant(kind))?;
     }
+    Ok(())
+}
+
+/// Those of names, each behind what the kind is printed as.
+fn print_names(rt: &impl Print, alloc: Global) -> io::Result<()> {
     for kind in [
         NamesError::Unique,
         NamesError::WellKnown,
@@ -97,7 +107,9 @@ fn interface_exists(alloc: Global) -> Result<Error, NamesError> {
 
 /// Prints each error but those that answer calls.
 pub(crate) fn print_all(rt: &impl Print, alloc: Global) -> io::Result<()> {
-    print_kinds(rt, alloc)?;
+    print_io(rt, alloc)?;
+    print_variants(rt, alloc)?;
+    print_names(rt, alloc)?;
     print_plain(rt, alloc)?;
     print_others(rt, alloc)?;
     print(rt, alloc, standard_error(alloc)?)?;

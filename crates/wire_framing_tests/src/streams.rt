@@ -87,29 +87,29 @@ fn straight_out(rt: HostRuntime) {
 #[derive(Drop)]
 struct Broken;
 
-fn a_fault<T>() -> io::Result<T> {
-    Err(io::Error::from(io::ErrorKind::BrokenPipe))
+fn fault() -> io::Error {
+    io::Error::from(io::ErrorKind::BrokenPipe)
 }
 
 impl Read for Broken {
     fn read(&mut self, _buf: &mut [u8]) -> io::Result<usize> {
-        a_fault()
+        Err(fault())
     }
 }
 
 impl Write for Broken {
     fn write(&mut self, _buf: &[u8]) -> io::Result<usize> {
-        a_fault()
+        Err(fault())
     }
 
     fn flush(&mut self) -> io::Result<()> {
-        a_fault()
+        Err(fault())
     }
 }
 
 impl StreamSocket for Broken {
     fn shut_down(&self) -> io::Result<()> {
-        a_fault()
+        Err(fault())
     }
 }
 
@@ -130,7 +130,7 @@ impl Write for Unflushed {
     }
 
     fn flush(&mut self) -> io::Result<()> {
-        a_fault()
+        Err(fault())
     }
 }
 

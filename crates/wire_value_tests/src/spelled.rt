@@ -3,7 +3,7 @@
 use wire_number::Endian;
 
 /// A type, an order, and the spellings of the type's sample at the eight places.
-pub(crate) const ROWS: [(&str, Endian, &str); 38] = [
+pub(crate) const ROWS: &[(&str, Endian, &str)] = &[
     ("y", Endian::Little, "7f 7f 7f 7f 7f 7f 7f 7f"),
     ("y", Endian::Big, "7f 7f 7f 7f 7f 7f 7f 7f"),
     (

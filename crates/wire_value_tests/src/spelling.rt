@@ -7,13 +7,11 @@ use wire_spelling::{
 
 /// One of each: a byte, numbers, a flag, a string, a path, a signature, two bytes of an array. Worked by hand from the D-Bus
 /// Specification, "Marshaling (Wire Format)".
-const ONE_OF_EACH: [u8; 50] = [
-    7, 0, 1, 2, 1, 0, 0, 0, 4, 0, 0, 0, 0, 0, 0, 0, 9, 0, 0, 0, 0, 0, 0, 0, 1, 0, 0, 0, 65, 0, 0,
-    0, 1, 0, 0, 0, 47, 0, 1, 121, 0, 0, 0, 0, 2, 0, 0, 0, 5, 6,
-];
+const ONE_OF_EACH: &[u8] =
+    b"\x07\0\x01\x02\x01\0\0\0\x04\0\0\0\0\0\0\0\x09\0\0\0\0\0\0\0\x01\0\0\0A\0\0\0\x01\0\0\0/\0\x01y\0\0\0\0\x02\0\0\0\x05\x06";
 
 /// The same: a string of two letters behind a byte, and a variant that holds a number.
-const VALUES: [u8; 18] = [9, 0, 0, 0, 0, 0, 0, 2, 65, 66, 0, 1, 113, 0, 0, 5, 1, 2];
+const VALUES: &[u8] = b"\x09\0\0\0\0\0\0\x02AB\0\x01q\0\0\x05\x01\x02";
 
 /// Behind the numbers, where they are those of the bytes.
 fn behind_numbers(reader: Reader<'_>) -> Option<Reader<'_>> {
@@ -23,7 +21,7 @@ fn behind_numbers(reader: Reader<'_>) -> Option<Reader<'_>> {
     let (flag, next) = next.boolean(order)?;
     let (number, next) = next.uint32(order)?;
     let (long, next) = next.uint64(order)?;
-    if (byte, short, flag, number, long) == (7, 0x201, true, 4, 9) {
+    if byte == 7 && short == 0x201 && flag && number == 4 && long == 9 {
         Some(next)
     } else {
         None
@@ -44,48 +42,49 @@ fn behind_texts(reader: Reader<'_>) -> Option<Reader<'_>> {
     }
 }
 
-/// How many bytes are the elements, and how many stand behind them and their padding.
-fn array_lengths(reader: Reader<'_>) -> Option<(usize, usize)> {
+/// Whether two bytes are the elements, and nothing stands behind them and their padding.
+fn is_array(reader: Reader<'_>) -> Option<bool> {
     let (elements, end) = reader.elements(Endian::Little, 1)?;
-    Some((elements.rest.len(), end.align(2)?.rest.len()))
+    Some(elements.rest.len() == 2 && end.align(2)?.rest.is_empty())
+}
+
+fn are_read(bytes: &[u8]) -> Option<bool> {
+    let texts = behind_numbers(Reader::new(0, bytes))?;
+    is_array(behind_texts(texts)?)
 }
 
 #[test]
 fn a_reader_reads(rt: HostRuntime) {
-    let lengths = behind_numbers(Reader::new(0, &ONE_OF_EACH))
-        .and_then(behind_texts)
-        .and_then(array_lengths);
-    assert_eq!(rt; lengths, Some((2, 0)));
+    assert!(rt; matches!(are_read(ONE_OF_EACH), Some(true)));
 }
 
-/// How many bytes the first two values take, which are passed by the text of their types.
-fn passed_by_text() -> Option<(usize, usize)> {
-    let order = Endian::Big;
-    let types = b"ysv";
-    let first = skip_by_text(order, 0, types, &VALUES)?;
-    let rest = types.get(first_type(types)?..)?;
-    Some((first, skip_by_text(order, 1, rest, &VALUES[1..])?))
+/// Whether the first two values, which are passed by the text of their types, take 1 and 10 bytes.
+fn are_passed_by_text(types: &[u8], bytes: &[u8]) -> Option<bool> {
+    let first = skip_by_text(Endian::Big, 0, types, bytes)?;
+    let types = types.get(first_type(types)?..)?;
+    let second = skip_by_text(Endian::Big, 1, types, bytes.get(1..)?)?;
+    Some(first == 1 && second == 10)
 }
 
 /// Whether the variant takes five bytes, and six where padding stands before its number.
-fn variant_is_passed(any: &ValueType) -> bool {
-    let rest = &VALUES[11..];
-    skip(Endian::Big, 11, any, rest) == Some(5)
-        && skip(Endian::Big, 0, any, rest) == Some(6)
-        && boundary(any) == 1
+fn is_passed(any: &ValueType, bytes: &[u8]) -> Option<bool> {
+    let behind = skip(Endian::Big, 11, any, bytes)?;
+    let alone = skip(Endian::Big, 0, any, bytes)?;
+    Some(behind == 5 && alone == 6 && boundary(any) == 1)
 }
 
 #[test]
 fn values_are_passed(rt: HostRuntime) -> Result<(), Fail> {
     let any = ValueType::try_from(rt.alloc(), "v")?;
-    assert!(rt; variant_is_passed(&any));
-    assert_eq!(rt; passed_by_text(), Some((1, 10)));
+    let is_right = matches!(is_passed(&any, &VALUES[11..]), Some(true));
+    assert!(rt; is_right);
     Ok(())
 }
 
 #[test]
-fn bytes_are_text(rt: HostRuntime) {
-    assert_eq!(rt; utf8(b"a"), Some("a"));
+fn values_are_passed_by_text(rt: HostRuntime) {
+    assert!(rt; matches!(are_passed_by_text(b"ysv", VALUES), Some(true)));
+    assert!(rt; utf8(b"a").is_some());
     one_spelling();
     one_value();
     no_spelling_begins_another();

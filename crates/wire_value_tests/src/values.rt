@@ -29,18 +29,21 @@ fn is_read(
     }
 }
 
-/// How many bytes are passed by the type, and by its text.
-fn passed(
+/// Whether all the bytes are passed by the type, and by its text.
+fn is_passed(
     order: Endian,
     place: usize,
     value_type: &ValueType,
     types: &str,
     bytes: &[u8],
-) -> (Option<usize>, Option<usize>) {
-    (
+) -> bool {
+    match (
         skip(order, place, value_type, bytes),
         skip_by_text(order, place, types.as_bytes(), bytes),
-    )
+    ) {
+        (Some(count), Some(same)) => count == bytes.len() && same == bytes.len(),
+        _ => false,
+    }
 }
 
 /// Whether the bytes at the place are the value's.
@@ -51,96 +54,123 @@ fn is_spelled(
     (types, value_type, value): (&str, &ValueType, &Value),
     bytes: &[u8],
 ) -> bool {
-    let all = Some(bytes.len());
     is_written(alloc, order, place, value, bytes)
         && is_read(alloc, order, place, value_type, value, bytes)
-        && passed(order, place, value_type, types, bytes) == (all, all)
+        && is_passed(order, place, value_type, types, bytes)
 }
 
-/// The first of the places at which the value is spelled by other bytes.
-fn wrong_place(
+/// Whether these digits are of the value's bytes.
+fn is_spelled_by(
+    alloc: Global,
+    order: Endian,
+    place: usize,
+    value: (&str, &ValueType, &Value),
+    digits: &str,
+) -> bool {
+    match hex::decode(alloc, digits) {
+        Ok(bytes) => is_spelled(alloc, order, place, value, bytes.as_slice()),
+        Err(_) => false,
+    }
+}
+
+/// Whether the value is spelled so at the places 0 to 7.
+fn is_spelled_at_all(
     alloc: Global,
     order: Endian,
     value: (&str, &ValueType, &Value),
     places: &str,
-) -> Option<usize> {
+) -> bool {
     for (place, digits) in places.split(' ').enumerate() {
-        let is_right = match hex::decode(alloc, digits) {
-            Ok(bytes) => is_spelled(alloc, order, place, value, bytes.as_slice()),
-            Err(_) => false,
-        };
-        if !is_right {
-            return Some(place);
+        if !is_spelled_by(alloc, order, place, value, digits) {
+            return false;
         }
     }
-    None
+    true
 }
 
 /// The same of the sample of a type.
-fn wrong_sample(
+fn is_sample_spelled(
     alloc: Global,
-    order: Endian,
-    types: &str,
-    places: &str,
-) -> Result<Option<usize>, VariantError> {
+    (types, order, places): (&str, Endian, &str),
+) -> Result<bool, VariantError> {
     let value_type = ValueType::try_from(alloc, types)?;
     let value = Value::from_tree(alloc, sample(alloc, types)?)?;
-    Ok(wrong_place(alloc, order, (types, &value_type, &value), places))
+    Ok(is_spelled_at_all(alloc, order, (types, &value_type, &value), places))
+}
+
+fn are_spelled(alloc: Global, rows: &[(&str, Endian, &str)]) -> Result<bool, VariantError> {
+    for row in rows {
+        if !is_sample_spelled(alloc, *row)? {
+            return Ok(false);
+        }
+    }
+    Ok(true)
 }
 
 /// Expected bytes: see `spelled`.
 #[test]
 fn each_type_at_each_place(rt: HostRuntime) -> Result<(), Fail> {
-    for (types, order, places) in ROWS.iter() {
-        let wrong = wrong_sample(rt.alloc(), *order, types, places)?;
-        assert_eq!(rt; wrong, None, "{types}");
-    }
+    assert!(rt; are_spelled(rt.alloc(), ROWS)?);
     Ok(())
 }
 
 /// Whether nothing is read of the bytes, and nothing is passed.
 fn is_refused(alloc: Global, types: &str, bytes: &[u8]) -> Result<bool, VariantError> {
-    let order = Endian::Little;
     let value_type = ValueType::try_from(alloc, types)?;
-    let read = decode(alloc, order, 0, &value_type, bytes);
+    let read = decode(alloc, Endian::Little, 0, &value_type, bytes);
     Ok(
         matches!(&read, Err(VariantError::Malformed))
-            && passed(order, 0, &value_type, types, bytes) == (None, None),
+            && skip(Endian::Little, 0, &value_type, bytes).is_none()
+            && skip_by_text(Endian::Little, 0, types.as_bytes(), bytes).is_none(),
     )
 }
 
+fn are_refused(alloc: Global, rows: &[(&str, &[u8])]) -> Result<bool, VariantError> {
+    for (types, bytes) in rows {
+        if !is_refused(alloc, types, bytes)? {
+            return Ok(false);
+        }
+    }
+    Ok(true)
+}
+
 /// By the rules of the D-Bus Specification, "Marshaling (Wire Format)", worked by hand.
+const REFUSED: &[(&str, &[u8])] = &[
+    ("b", b"\x02\0\0\0"),
+    ("q", b"\x01"),
+    ("(yq)", b"\x01\x07\x02\0"),
+    ("s", b"\x01\0\0\0A\x01"),
+    ("s", b"\x01\0\0\0A"),
+    ("s", b"\x01\0\0\0\0\0"),
+    ("s", b"\x01\0\0\0\xff\0"),
+    ("o", b"\x02\0\0\0a/\0"),
+    ("g", b"\x01a\0"),
+    ("v", b"\x02yy\0\x01\x02"),
+    ("v", b"\0\0\x01"),
+    ("aq", b"\x03\0\0\0\x01\0\x02\0"),
+    ("ax", b"\0\0\0\0"),
+    ("ay", b"\xff\xff\xff\xff\x01\x02\x03\x04\x05\x06"),
+];
+
 #[test]
 fn bytes_that_spell_nothing(rt: HostRuntime) -> Result<(), Fail> {
-    let rows: [(&str, &[u8]); 14] = [
-        ("b", &[2, 0, 0, 0]),
-        ("q", &[1]),
-        ("(yq)", &[1, 7, 2, 0]),
-        ("s", &[1, 0, 0, 0, 65, 1]),
-        ("s", &[1, 0, 0, 0, 65]),
-        ("s", &[1, 0, 0, 0, 0, 0]),
-        ("s", &[1, 0, 0, 0, 255, 0]),
-        ("o", &[2, 0, 0, 0, 97, 47, 0]),
-        ("g", &[1, 97, 0]),
-        ("v", &[2, 121, 121, 0, 1, 2]),
-        ("v", &[0, 0, 1]),
-        ("aq", &[3, 0, 0, 0, 1, 0, 2, 0]),
-        ("ax", &[0, 0, 0, 0]),
-        ("ay", &[255, 255, 255, 255, 1, 2, 3, 4, 5, 6]),
-    ];
-    for (types, bytes) in rows.iter() {
-        assert!(rt; is_refused(rt.alloc(), types, bytes)?, "{types}");
-    }
+    assert!(rt; are_refused(rt.alloc(), REFUSED)?);
     Ok(())
+}
+
+/// The signatures of so many variants in one another.
+fn variants(alloc: Global) -> Result<Vec<u8>, VariantError> {
+    let mut bytes = Vec::new(alloc);
+    for _ in 0..350000 {
+        bytes.extend_from_slice(b"\x01v\0")?;
+    }
+    Ok(bytes)
 }
 
 /// A megabyte of variants in variants exhausts no stack.
 #[test]
 fn a_megabyte_of_variants(rt: HostRuntime) -> Result<(), Fail> {
-    let mut bytes = Vec::new(rt.alloc());
-    for _ in 0..350000 {
-        bytes.extend_from_slice(&[1, 118, 0])?;
-    }
+    let bytes = variants(rt.alloc())?;
     assert!(rt; is_refused(rt.alloc(), "v", bytes.as_slice())?);
     Ok(())
 }
