@@ -19,15 +19,25 @@ fn copy_is_equal(alloc: Global, error: &fdo::Error) -> Result<bool> {
     Ok(copy == *error)
 }
 
-/// A standard error that is given stays what it is among all errors.
 fn copies_are_equal(alloc: Global) -> Result<bool> {
     let error = fdo::Error::Std(failed(alloc)?);
-    Ok(copy_is_equal(alloc, &error)? && Error::from(error).description() == Some("FDO error"))
+    copy_is_equal(alloc, &error)
+}
+
+fn is_standard(error: &Error) -> bool {
+    matches!(error, Error::FDO(_))
+}
+
+/// A standard error that is given stays what it is among all errors.
+fn given_is_standard(alloc: Global) -> Result<bool> {
+    let error = Error::from(fdo::Error::Std(failed(alloc)?));
+    Ok(is_standard(&error))
 }
 
 #[test]
 fn errors_are_copied(rt: HostRuntime) {
     assert!(rt; holds(copies_are_equal(rt.alloc())));
+    assert!(rt; holds(given_is_standard(rt.alloc())));
 }
 
 /// Whether the errors are equal.
@@ -72,6 +82,6 @@ fn is_shown(alloc: Global, error: EncodeError, want: &str) -> Result<bool> {
 #[test]
 fn faults_of_encoding_are_shown(rt: HostRuntime) {
     for (error, text) in &ENCODINGS {
-        assert!(rt; holds(is_shown(rt.alloc(), *error, text)), "{text}");
+        assert!(rt; holds(is_shown(rt.alloc(), *error, text)));
     }
 }
