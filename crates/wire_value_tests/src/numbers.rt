@@ -34,7 +34,7 @@ fn is_written(alloc: Global) -> Result<bool, AllocError> {
     Ok(out.len() == 19 && &out[..16] == WRITTEN.as_slice())
 }
 
-fn is_read_again(bytes: &[u8]) -> bool {
+fn is_read_again(bytes: &[u8; 16]) -> bool {
     read_word(Endian::Big, &bytes[..5]) == Some((0x0102_0304, &bytes[4..5]))
         && read_signature_text(&bytes[4..]) == Some((&bytes[5..7], &bytes[8..]))
         && read_text(Endian::Little, &bytes[8..]) == Some((&bytes[12..15], &bytes[16..]))
@@ -45,5 +45,5 @@ fn is_read_again(bytes: &[u8]) -> bool {
 fn numbers_and_paddings(rt: HostRuntime) {
     assert!(rt; paddings_are_right() && numbers_are_right());
     assert!(rt; is_written(rt.alloc()) == Ok(true));
-    assert!(rt; is_read_again(WRITTEN.as_slice()));
+    assert!(rt; is_read_again(&WRITTEN));
 }
