@@ -1,5 +1,6 @@
 //! Prints what texts the errors, the names, the standard errors' kinds and the messages have. First comes each error with
-//! what describes it; then, for each line of the input, a word and a text, what the text is printed as:
+//! what describes it, then what of transcripts no script reaches; and then, for each line of the input, a word and a text,
+//! what the text is printed as:
 //!
 //! - `kind NAME`: the kind of standard errors with this name, and its name; `-` where there is none.
 //! - `unique`, `well-known`, `bus`, `interface`, `error`, `member`, `path` and a name: the name, and its owned form.
@@ -12,6 +13,7 @@
 //! `refused` and the error where the text is no such thing.
 #![tactic(auto)]
 
+mod answers;
 mod errors;
 mod messages;
 mod names;
@@ -38,6 +40,7 @@ fn print_line(rt: &impl Print, alloc: Global, line: &str) -> io::Result<()> {
 fn main(rt: HostRuntime) -> io::Result<()> {
     let alloc = rt.alloc();
     errors::print_all(&rt, alloc)?;
+    answers::print_all(&rt, alloc)?;
     for line in rt.lines(alloc) {
         print_line(&rt, alloc, line?.as_str())?;
     }
