@@ -1,7 +1,7 @@
 //! What is printed of match rules.
 use crate::read::{message_of, rule_of};
-use rule_match::Builder;
-use std::alloc::Global;
+use rule_match::{Builder, MatchRule};
+use std::alloc::{AllocError, Global};
 use wire_message::Message;
 
 /// The rule as it is printed.
@@ -27,13 +27,18 @@ pub(crate) fn match_line(alloc: Global, digits: &str) -> anyhow::Result<String> 
     Ok(String::from_str(alloc, word)?)
 }
 
+/// The rule of the message's header.
+fn header_rule(alloc: Global, message: &Message) -> Result<MatchRule, AllocError> {
+    let header = message.header();
+    Ok(Builder::from(alloc, &header)?.build())
+}
+
 /// Writes a line with the rule of the message's header.
 pub(crate) fn write_header_rule(
     alloc: Global,
     out: &mut String,
     message: &Message,
-) -> anyhow::Result<()> {
-    let rule = Builder::from(alloc, &message.header())?.build();
-    writeln!(out, "  {rule}")?;
-    Ok(())
+) -> Result<(), AllocError> {
+    let rule = header_rule(alloc, message)?;
+    writeln!(out, "  {rule}")
 }
