@@ -48,7 +48,10 @@ fn asked(route: &mut Route, alloc: Global) -> Option<Opening> {
 fn not_yet(opened: Opened) -> Option<Opening> {
     match opened {
         Opened::NotYet(opening) => Some(opening),
-        _ => None,
+        Opened::Open(_) => None,
+        Opened::Memory(_) => None,
+        Opened::Refused(_) => None,
+        Opened::Over(_) => None,
     }
 }
 
@@ -56,7 +59,10 @@ fn not_yet(opened: Opened) -> Option<Opening> {
 fn opened(opened: Opened) -> Option<MessageStream> {
     match opened {
         Opened::Open(stream) => Some(stream),
-        _ => None,
+        Opened::NotYet(_) => None,
+        Opened::Memory(_) => None,
+        Opened::Refused(_) => None,
+        Opened::Over(_) => None,
     }
 }
 
