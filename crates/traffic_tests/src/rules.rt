@@ -10,11 +10,16 @@ pub(crate) fn rule_line(alloc: Global, digits: &str) -> anyhow::Result<String> {
     Ok(format!(in alloc; "{rule}\n")?)
 }
 
+/// Whether the rule matches the message, asked of lent ones.
+fn is_accepted(rule: &MatchRule, message: &Message) -> bool {
+    rule.matches(message)
+}
+
 /// Whether the rule matches the message.
 fn is_match(alloc: Global, digits: &str) -> anyhow::Result<bool> {
     let (rule, message) = digits.split_once(' ').unwrap_or((digits, ""));
     let rule = rule_of(alloc, rule)?;
-    Ok(rule.matches(&message_of(alloc, message)?))
+    Ok(is_accepted(&rule, &message_of(alloc, message)?))
 }
 
 /// `yes` where the rule matches the message, else `no`.
