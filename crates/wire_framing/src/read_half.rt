@@ -13,14 +13,9 @@ use std::alloc::Global;
 use wire_message::{Error, IoKind, Message, Result, header_front};
 
 /// The half of a connection that reads, over a source of bytes.
+#[derive(Drop)]
 pub struct ReadHalf<S> {
     source: S,
-}
-
-impl<S: Drop> Drop for ReadHalf<S> {
-    fn drop(self) {
-        let ReadHalf { source: _ } = self;
-    }
 }
 
 /// Takes the first bytes away.
@@ -82,8 +77,7 @@ impl<S: Source> ReadHalf<S> {
     pub fn into_source(self) -> S
         ensures { result ≡ self.source }
     {
-        let ReadHalf { source } = self;
-        source
+        self.source
     }
 
     /// Takes one message, the `seq`-th, of the bytes that are kept and then of the source's, and no byte more: 16 bytes,

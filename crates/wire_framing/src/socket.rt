@@ -28,15 +28,10 @@ pub trait Socket {
 }
 
 /// The two halves of a connection.
+#[derive(Drop)]
 pub struct Split<R, W> {
     read: R,
     write: W,
-}
-
-impl<R: Drop, W: Drop> Drop for Split<R, W> {
-    fn drop(self) {
-        let Split { read: _, write: _ } = self;
-    }
 }
 
 /// The two halves of a connection of whatever kind, over boxes that the caller made.
@@ -88,7 +83,6 @@ impl<R, W> Split<R, W> {
     pub fn take(self) -> (R, W)
         ensures { result ≡ (self.read, self.write) }
     {
-        let Split { read, write } = self;
-        (read, write)
+        (self.read, self.write)
     }
 }

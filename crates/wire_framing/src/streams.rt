@@ -8,18 +8,10 @@ use crate::source::{Failed, Source};
 use std::io::{ErrorKind, Read, Write};
 
 /// A source over a reader, as `rt.stdin()`. Each error of the reader is a fault, an interrupted read among them.
+#[derive(Drop)]
 pub struct StdSource<R> {
     reader: R,
     faults: u64,
-}
-
-impl<R: Drop> Drop for StdSource<R> {
-    fn drop(self) {
-        let StdSource {
-            reader: _,
-            faults: _,
-        } = self;
-    }
 }
 
 impl<R: Read> StdSource<R> {
@@ -56,20 +48,11 @@ impl<R: Read> Source for StdSource<R> {
 
 /// A sink over a writer, as `io::writer(&rt)`, which writes straight out. Each error of the writer but want of memory is a
 /// fault, an interrupted write among them, and so is a write that takes nothing. It takes no file descriptors.
+#[derive(Drop)]
 pub struct StdSink<W> {
     writer: W,
     faults: u64,
     closes: u64,
-}
-
-impl<W: Drop> Drop for StdSink<W> {
-    fn drop(self) {
-        let StdSink {
-            writer: _,
-            faults: _,
-            closes: _,
-        } = self;
-    }
 }
 
 impl<W: Write> StdSink<W> {

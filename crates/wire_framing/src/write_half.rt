@@ -21,18 +21,10 @@ pub enum Writing {
 
 /// The half of a connection that writes, over a sink of bytes. What it met first stays: after a failed write, after
 /// `close`, and after want of memory in the middle of a message nothing is written any more.
+#[derive(Drop)]
 pub struct WriteHalf<W> {
     sink: W,
     writing: Writing,
-}
-
-impl<W: Drop> Drop for WriteHalf<W> {
-    fn drop(self) {
-        let WriteHalf {
-            sink: _,
-            writing: _,
-        } = self;
-    }
 }
 
 /// Why nothing is written any more.
@@ -122,8 +114,7 @@ impl<W: Sink> WriteHalf<W> {
     pub fn into_sink(self) -> W
         ensures { result ≡ self.sink }
     {
-        let WriteHalf { sink, writing: _ } = self;
-        sink
+        self.sink
     }
 
     /// Writes all bytes of the message.
