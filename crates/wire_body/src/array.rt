@@ -73,9 +73,9 @@ impl<T: Argument> Argument for Array<T> {
     }
 
     fn from_tree(alloc: Global, tree: Tree) -> Result<Array<T>, VariantError> {
-        match tree {
-            Tree::Array(element, elements) => array_of_kind(alloc, &element, elements),
-            _ => Err(VariantError::SignatureMismatch),
+        match tree.into_array() {
+            Some((element, elements)) => array_of_kind(alloc, &element, elements),
+            None => Err(VariantError::SignatureMismatch),
         }
     }
 }

@@ -1,5 +1,5 @@
 //! Dicts as arguments.
-ghost use Rattle.std.specs.Prelude.{◌≡◌, IfErr, IfOk, map, refl};
+ghost use Rattle.std.specs.Prelude.{◌≡◌, ◌∷◌, [], IfErr, IfOk, map, refl};
 ghost use Rattle.wire_signature.specs.Shape.{IsType, dict as dict_of};
 ghost use Rattle.wire_signature.specs.declared.error.VariantError.TheVariants.{Memory};
 ghost use Rattle.wire_tree.specs.Datum.{AreEntries, dict, entries_of};
@@ -77,9 +77,9 @@ impl<K: Key, V: Argument> Argument for Dict<K, V> {
     }
 
     fn from_tree(alloc: Global, tree: Tree) -> Result<Dict<K, V>, VariantError> {
-        match tree {
-            Tree::Dict(key, value, entries) => dict_of_kind(alloc, key, &value, entries),
-            _ => Err(VariantError::SignatureMismatch),
+        match tree.into_dict() {
+            Some((key, value, entries)) => dict_of_kind(alloc, key, &value, entries),
+            None => Err(VariantError::SignatureMismatch),
         }
     }
 }
@@ -115,11 +115,25 @@ fn trees_of<K: Key, V: Argument>(
     ensures error { IfErr result (λ e. e ≡ Memory) }
 {
     let mut trees = Vec::new(alloc);
-    for (key, value) in entries {
-        let key = key.into_tree(alloc)?;
-        trees.push((key, value.into_tree(alloc)?))?;
+    for entry in entries {
+        trees.push(trees_of_entry(alloc, entry)?)?;
     }
     Ok(trees)
+}
+
+fn trees_of_entry<K: Key, V: Argument>(
+    alloc: Global,
+    entry: (K, V),
+) -> Result<(Tree, Tree), VariantError>
+    requires key { IsType K.kind }
+    requires value { IsType V.kind }
+    ensures value { IfOk result (λ trees. pair_of trees ≡ both K.datum V.datum entry) }
+    ensures round { IfOk result (λ trees. both K.read V.read (both K.datum V.datum entry) ≡ entry) }
+    ensures error { IfErr result (λ e. e ≡ Memory) }
+{
+    let (key, value) = entry;
+    let key = key.into_tree(alloc)?;
+    Ok((key, value.into_tree(alloc)?))
 }
 
 fn entries_read<K: Key, V: Argument>(
@@ -131,9 +145,21 @@ fn entries_read<K: Key, V: Argument>(
     ensures error { IfErr result (λ e. e ≡ Memory) }
 {
     let mut entries = Vec::new(alloc);
-    for (key, value) in trees {
-        let key = K::from_tree(alloc, key)?;
-        entries.push((key, V::from_tree(alloc, value)?))?;
+    for each in trees {
+        entries.push(entry_read(alloc, each)?)?;
     }
     Ok(entries)
+}
+
+fn entry_read<K: Key, V: Argument>(
+    alloc: Global,
+    trees: (Tree, Tree),
+) -> Result<(K, V), VariantError>
+    requires { AreEntries K.basic V.kind (entries_of (map pair_of (trees ∷ []))) }
+    ensures value { IfOk result (λ entry. entry ≡ both K.read V.read (pair_of trees)) }
+    ensures error { IfErr result (λ e. e ≡ Memory) }
+{
+    let (key, value) = trees;
+    let key = K::from_tree(alloc, key)?;
+    Ok((key, V::from_tree(alloc, value)?))
 }

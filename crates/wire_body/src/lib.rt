@@ -18,6 +18,7 @@ mod chain;
 mod dict;
 mod key;
 mod kind;
+mod long_tuples;
 mod message;
 mod numbers;
 mod texts;

@@ -31,8 +31,8 @@ impl Argument for u8 {
     }
 
     fn from_tree(_alloc: Global, tree: Tree) -> Result<u8, VariantError> {
-        match tree {
-            Tree::U8(x) => Ok(x),
+        match &tree {
+            Tree::U8(x) => Ok(*x),
             _ => Err(VariantError::SignatureMismatch),
         }
     }
@@ -58,8 +58,8 @@ impl Argument for i16 {
     }
 
     fn from_tree(_alloc: Global, tree: Tree) -> Result<i16, VariantError> {
-        match tree {
-            Tree::I16(x) => Ok(x),
+        match &tree {
+            Tree::I16(x) => Ok(*x),
             _ => Err(VariantError::SignatureMismatch),
         }
     }
@@ -85,8 +85,8 @@ impl Argument for u16 {
     }
 
     fn from_tree(_alloc: Global, tree: Tree) -> Result<u16, VariantError> {
-        match tree {
-            Tree::U16(x) => Ok(x),
+        match &tree {
+            Tree::U16(x) => Ok(*x),
             _ => Err(VariantError::SignatureMismatch),
         }
     }
@@ -112,8 +112,8 @@ impl Argument for i32 {
     }
 
     fn from_tree(_alloc: Global, tree: Tree) -> Result<i32, VariantError> {
-        match tree {
-            Tree::I32(x) => Ok(x),
+        match &tree {
+            Tree::I32(x) => Ok(*x),
             _ => Err(VariantError::SignatureMismatch),
         }
     }
@@ -139,8 +139,8 @@ impl Argument for u32 {
     }
 
     fn from_tree(_alloc: Global, tree: Tree) -> Result<u32, VariantError> {
-        match tree {
-            Tree::U32(x) => Ok(x),
+        match &tree {
+            Tree::U32(x) => Ok(*x),
             _ => Err(VariantError::SignatureMismatch),
         }
     }
@@ -166,8 +166,8 @@ impl Argument for i64 {
     }
 
     fn from_tree(_alloc: Global, tree: Tree) -> Result<i64, VariantError> {
-        match tree {
-            Tree::I64(x) => Ok(x),
+        match &tree {
+            Tree::I64(x) => Ok(*x),
             _ => Err(VariantError::SignatureMismatch),
         }
     }
@@ -193,8 +193,8 @@ impl Argument for u64 {
     }
 
     fn from_tree(_alloc: Global, tree: Tree) -> Result<u64, VariantError> {
-        match tree {
-            Tree::U64(x) => Ok(x),
+        match &tree {
+            Tree::U64(x) => Ok(*x),
             _ => Err(VariantError::SignatureMismatch),
         }
     }
@@ -220,8 +220,8 @@ impl Argument for bool {
     }
 
     fn from_tree(_alloc: Global, tree: Tree) -> Result<bool, VariantError> {
-        match tree {
-            Tree::Bool(x) => Ok(x),
+        match &tree {
+            Tree::Bool(x) => Ok(*x),
             _ => Err(VariantError::SignatureMismatch),
         }
     }
@@ -253,8 +253,8 @@ impl Argument for Double {
     }
 
     fn from_tree(_alloc: Global, tree: Tree) -> Result<Double, VariantError> {
-        match tree {
-            Tree::F64(bits) => Ok(Double { bits }),
+        match &tree {
+            Tree::F64(bits) => Ok(Double { bits: *bits }),
             _ => Err(VariantError::SignatureMismatch),
         }
     }
@@ -286,8 +286,8 @@ impl Argument for Fd {
     }
 
     fn from_tree(_alloc: Global, tree: Tree) -> Result<Fd, VariantError> {
-        match tree {
-            Tree::Fd(index) => Ok(Fd { index }),
+        match &tree {
+            Tree::Fd(index) => Ok(Fd { index: *index }),
             _ => Err(VariantError::SignatureMismatch),
         }
     }

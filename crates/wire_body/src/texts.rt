@@ -34,10 +34,7 @@ impl Argument for Text {
     }
 
     fn from_tree(alloc: Global, tree: Tree) -> Result<Text, VariantError> {
-        match tree {
-            Tree::Str(text) => Ok(text),
-            _ => Err(VariantError::SignatureMismatch),
-        }
+        tree.into_str().ok_or(VariantError::SignatureMismatch)
     }
 }
 
@@ -61,8 +58,8 @@ impl Argument for OwnedObjectPath {
     }
 
     fn from_tree(alloc: Global, tree: Tree) -> Result<OwnedObjectPath, VariantError> {
-        match tree {
-            Tree::Path(text) => path_of(alloc, &text),
+        match &tree {
+            Tree::Path(text) => path_of(alloc, text),
             _ => Err(VariantError::SignatureMismatch),
         }
     }
@@ -88,8 +85,8 @@ impl Argument for Signature {
     }
 
     fn from_tree(alloc: Global, tree: Tree) -> Result<Signature, VariantError> {
-        match tree {
-            Tree::Sig(text) => signature_of(alloc, &text),
+        match &tree {
+            Tree::Sig(text) => signature_of(alloc, text),
             _ => Err(VariantError::SignatureMismatch),
         }
     }
@@ -115,9 +112,9 @@ impl Argument for Value {
     }
 
     fn from_tree(alloc: Global, tree: Tree) -> Result<Value, VariantError> {
-        match tree {
-            Tree::Variant(inner) => Ok(Value::from_formed(inner.into_tree())),
-            _ => Err(VariantError::SignatureMismatch),
+        match tree.into_variant() {
+            Some(inner) => Ok(Value::from_formed(inner.into_tree())),
+            None => Err(VariantError::SignatureMismatch),
         }
     }
 }

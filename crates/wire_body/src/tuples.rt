@@ -1,4 +1,4 @@
-//! Tuples of arguments as bodies.
+//! Tuples of one to six arguments as bodies.
 ghost use Rattle.std.specs.Prelude.{◌∷◌, [], refl};
 ghost use Rattle.wire_body.specs.Chained.{first_of, rest_of, same_cons};
 
@@ -35,7 +35,8 @@ impl<A: Argument> ToBody for (A,) {
 impl<A: Argument> FromBody for (A,) {
     fn from_arguments(alloc: Global, arguments: Arguments) -> Result<(A,), VariantError> {
         let all = Then::<A, ()>::from_arguments(alloc, arguments)?;
-        Ok((all.first,))
+        let Then { first, rest: () } = all;
+        Ok((first,))
     }
 }
 
@@ -57,7 +58,7 @@ impl<A: Argument, B: Argument> ToBody for (A, B) {
     fn into_values(self, alloc: Global) -> Result<Vec<Value>, VariantError> {
         let (first, second) = self;
         let all = Then {
-            first: first,
+            first,
             rest: Then {
                 first: second,
                 rest: (),
@@ -70,7 +71,14 @@ impl<A: Argument, B: Argument> ToBody for (A, B) {
 impl<A: Argument, B: Argument> FromBody for (A, B) {
     fn from_arguments(alloc: Global, arguments: Arguments) -> Result<(A, B), VariantError> {
         let all = Then::<A, Then<B, ()>>::from_arguments(alloc, arguments)?;
-        Ok((all.first, all.rest.first))
+        let Then {
+            first,
+            rest: Then {
+                first: second,
+                rest: (),
+            },
+        } = all;
+        Ok((first, second))
     }
 }
 
@@ -92,7 +100,7 @@ impl<A: Argument, B: Argument, C: Argument> ToBody for (A, B, C) {
     fn into_values(self, alloc: Global) -> Result<Vec<Value>, VariantError> {
         let (first, second, third) = self;
         let all = Then {
-            first: first,
+            first,
             rest: Then {
                 first: second,
                 rest: Then {
@@ -108,7 +116,17 @@ impl<A: Argument, B: Argument, C: Argument> ToBody for (A, B, C) {
 impl<A: Argument, B: Argument, C: Argument> FromBody for (A, B, C) {
     fn from_arguments(alloc: Global, arguments: Arguments) -> Result<(A, B, C), VariantError> {
         let all = Then::<A, Then<B, Then<C, ()>>>::from_arguments(alloc, arguments)?;
-        Ok((all.first, all.rest.first, all.rest.rest.first))
+        let Then {
+            first,
+            rest: Then {
+                first: second,
+                rest: Then {
+                    first: third,
+                    rest: (),
+                },
+            },
+        } = all;
+        Ok((first, second, third))
     }
 }
 
@@ -130,7 +148,7 @@ impl<A: Argument, B: Argument, C: Argument, D: Argument> ToBody for (A, B, C, D)
     fn into_values(self, alloc: Global) -> Result<Vec<Value>, VariantError> {
         let (first, second, third, fourth) = self;
         let all = Then {
-            first: first,
+            first,
             rest: Then {
                 first: second,
                 rest: Then {
@@ -149,12 +167,20 @@ impl<A: Argument, B: Argument, C: Argument, D: Argument> ToBody for (A, B, C, D)
 impl<A: Argument, B: Argument, C: Argument, D: Argument> FromBody for (A, B, C, D) {
     fn from_arguments(alloc: Global, arguments: Arguments) -> Result<(A, B, C, D), VariantError> {
         let all = Then::<A, Then<B, Then<C, Then<D, ()>>>>::from_arguments(alloc, arguments)?;
-        Ok((
-            all.first,
-            all.rest.first,
-            all.rest.rest.first,
-            all.rest.rest.rest.first,
-        ))
+        let Then {
+            first,
+            rest: Then {
+                first: second,
+                rest: Then {
+                    first: third,
+                    rest: Then {
+                        first: fourth,
+                        rest: (),
+                    },
+                },
+            },
+        } = all;
+        Ok((first, second, third, fourth))
     }
 }
 
@@ -176,7 +202,7 @@ impl<A: Argument, B: Argument, C: Argument, D: Argument, E: Argument> ToBody for
     fn into_values(self, alloc: Global) -> Result<Vec<Value>, VariantError> {
         let (first, second, third, fourth, fifth) = self;
         let all = Then {
-            first: first,
+            first,
             rest: Then {
                 first: second,
                 rest: Then {
@@ -203,13 +229,23 @@ impl<A: Argument, B: Argument, C: Argument, D: Argument, E: Argument> FromBody f
         let all = Then::<A, Then<B, Then<C, Then<D, Then<E, ()>>>>>::from_arguments(
             alloc, arguments,
         )?;
-        Ok((
-            all.first,
-            all.rest.first,
-            all.rest.rest.first,
-            all.rest.rest.rest.first,
-            all.rest.rest.rest.rest.first,
-        ))
+        let Then {
+            first,
+            rest: Then {
+                first: second,
+                rest: Then {
+                    first: third,
+                    rest: Then {
+                        first: fourth,
+                        rest: Then {
+                            first: fifth,
+                            rest: (),
+                        },
+                    },
+                },
+            },
+        } = all;
+        Ok((first, second, third, fourth, fifth))
     }
 }
 
@@ -232,7 +268,7 @@ impl<A: Argument, B: Argument, C: Argument, D: Argument, E: Argument, F: Argumen
     fn into_values(self, alloc: Global) -> Result<Vec<Value>, VariantError> {
         let (first, second, third, fourth, fifth, sixth) = self;
         let all = Then {
-            first: first,
+            first,
             rest: Then {
                 first: second,
                 rest: Then {
@@ -263,44 +299,8 @@ impl<A: Argument, B: Argument, C: Argument, D: Argument, E: Argument, F: Argumen
         let all = Then::<A, Then<B, Then<C, Then<D, Then<E, Then<F, ()>>>>>>::from_arguments(
             alloc, arguments,
         )?;
-        Ok((
-            all.first,
-            all.rest.first,
-            all.rest.rest.first,
-            all.rest.rest.rest.first,
-            all.rest.rest.rest.rest.first,
-            all.rest.rest.rest.rest.rest.first,
-        ))
-    }
-}
-
-impl<
-    A: Argument,
-    B: Argument,
-    C: Argument,
-    D: Argument,
-    E: Argument,
-    F: Argument,
-    G: Argument,
-> ToBody for (A, B, C, D, E, F, G) {
-    ghost kinds = { A.kind ∷ B.kind ∷ C.kind ∷ D.kind ∷ E.kind ∷ F.kind ∷ G.kind ∷ [] };
-
-    ghost datums = { λ x. A.datum x.0 ∷ B.datum x.1 ∷ C.datum x.2 ∷ D.datum x.3 ∷ E.datum x.4 ∷ F.datum x.5 ∷ G.datum x.6 ∷ [] };
-
-    ghost read = { λ ds. (A.read (first_of ds), B.read (first_of (rest_of ds)), C.read (first_of (rest_of (rest_of ds))), D.read (first_of (rest_of (rest_of (rest_of ds)))), E.read (first_of (rest_of (rest_of (rest_of (rest_of ds))))), F.read (first_of (rest_of (rest_of (rest_of (rest_of (rest_of ds)))))), G.read (first_of (rest_of (rest_of (rest_of (rest_of (rest_of (rest_of ds)))))))) };
-
-    ghost all_have_fields = { (A.has_fields, (B.has_fields, (C.has_fields, (D.has_fields, (E.has_fields, (F.has_fields, (G.has_fields, tt))))))) };
-
-    ghost of_kinds = { λ x. (same_cons _ _ _ _ (A.of_kind x.0) (same_cons _ _ _ _ (B.of_kind x.1) (same_cons _ _ _ _ (C.of_kind x.2) (same_cons _ _ _ _ (D.of_kind x.3) (same_cons _ _ _ _ (E.of_kind x.4) (same_cons _ _ _ _ (F.of_kind x.5) (same_cons _ _ _ _ (G.of_kind x.6) refl))))))) };
-
-    fn write_kinds(out: &mut String) -> Result<(), AllocError> {
-        Then::<A, Then<B, Then<C, Then<D, Then<E, Then<F, Then<G, ()>>>>>>>::write_kinds(out)
-    }
-
-    fn into_values(self, alloc: Global) -> Result<Vec<Value>, VariantError> {
-        let (first, second, third, fourth, fifth, sixth, seventh) = self;
-        let all = Then {
-            first: first,
+        let Then {
+            first,
             rest: Then {
                 first: second,
                 rest: Then {
@@ -311,133 +311,13 @@ impl<
                             first: fifth,
                             rest: Then {
                                 first: sixth,
-                                rest: Then {
-                                    first: seventh,
-                                    rest: (),
-                                },
+                                rest: (),
                             },
                         },
                     },
                 },
             },
-        };
-        all.into_values(alloc)
-    }
-}
-
-impl<
-    A: Argument,
-    B: Argument,
-    C: Argument,
-    D: Argument,
-    E: Argument,
-    F: Argument,
-    G: Argument,
-> FromBody for (A, B, C, D, E, F, G) {
-    fn from_arguments(
-        alloc: Global,
-        arguments: Arguments,
-    ) -> Result<(A, B, C, D, E, F, G), VariantError> {
-        let all = Then::<
-            A,
-            Then<B, Then<C, Then<D, Then<E, Then<F, Then<G, ()>>>>>>,
-        >::from_arguments(alloc, arguments)?;
-        Ok((
-            all.first,
-            all.rest.first,
-            all.rest.rest.first,
-            all.rest.rest.rest.first,
-            all.rest.rest.rest.rest.first,
-            all.rest.rest.rest.rest.rest.first,
-            all.rest.rest.rest.rest.rest.rest.first,
-        ))
-    }
-}
-
-impl<
-    A: Argument,
-    B: Argument,
-    C: Argument,
-    D: Argument,
-    E: Argument,
-    F: Argument,
-    G: Argument,
-    H: Argument,
-> ToBody for (A, B, C, D, E, F, G, H) {
-    ghost kinds = { A.kind ∷ B.kind ∷ C.kind ∷ D.kind ∷ E.kind ∷ F.kind ∷ G.kind ∷ H.kind ∷ [] };
-
-    ghost datums = { λ x. A.datum x.0 ∷ B.datum x.1 ∷ C.datum x.2 ∷ D.datum x.3 ∷ E.datum x.4 ∷ F.datum x.5 ∷ G.datum x.6 ∷ H.datum x.7 ∷ [] };
-
-    ghost read = { λ ds. (A.read (first_of ds), B.read (first_of (rest_of ds)), C.read (first_of (rest_of (rest_of ds))), D.read (first_of (rest_of (rest_of (rest_of ds)))), E.read (first_of (rest_of (rest_of (rest_of (rest_of ds))))), F.read (first_of (rest_of (rest_of (rest_of (rest_of (rest_of ds)))))), G.read (first_of (rest_of (rest_of (rest_of (rest_of (rest_of (rest_of ds))))))), H.read (first_of (rest_of (rest_of (rest_of (rest_of (rest_of (rest_of (rest_of ds))))))))) };
-
-    ghost all_have_fields = { (A.has_fields, (B.has_fields, (C.has_fields, (D.has_fields, (E.has_fields, (F.has_fields, (G.has_fields, (H.has_fields, tt)))))))) };
-
-    ghost of_kinds = { λ x. (same_cons _ _ _ _ (A.of_kind x.0) (same_cons _ _ _ _ (B.of_kind x.1) (same_cons _ _ _ _ (C.of_kind x.2) (same_cons _ _ _ _ (D.of_kind x.3) (same_cons _ _ _ _ (E.of_kind x.4) (same_cons _ _ _ _ (F.of_kind x.5) (same_cons _ _ _ _ (G.of_kind x.6) (same_cons _ _ _ _ (H.of_kind x.7) refl)))))))) };
-
-    fn write_kinds(out: &mut String) -> Result<(), AllocError> {
-        Then::<A, Then<B, Then<C, Then<D, Then<E, Then<F, Then<G, Then<H, ()>>>>>>>>::write_kinds(
-            out,
-        )
-    }
-
-    fn into_values(self, alloc: Global) -> Result<Vec<Value>, VariantError> {
-        let (first, second, third, fourth, fifth, sixth, seventh, eighth) = self;
-        let all = Then {
-            first: first,
-            rest: Then {
-                first: second,
-                rest: Then {
-                    first: third,
-                    rest: Then {
-                        first: fourth,
-                        rest: Then {
-                            first: fifth,
-                            rest: Then {
-                                first: sixth,
-                                rest: Then {
-                                    first: seventh,
-                                    rest: Then {
-                                        first: eighth,
-                                        rest: (),
-                                    },
-                                },
-                            },
-                        },
-                    },
-                },
-            },
-        };
-        all.into_values(alloc)
-    }
-}
-
-impl<
-    A: Argument,
-    B: Argument,
-    C: Argument,
-    D: Argument,
-    E: Argument,
-    F: Argument,
-    G: Argument,
-    H: Argument,
-> FromBody for (A, B, C, D, E, F, G, H) {
-    fn from_arguments(
-        alloc: Global,
-        arguments: Arguments,
-    ) -> Result<(A, B, C, D, E, F, G, H), VariantError> {
-        let all = Then::<
-            A,
-            Then<B, Then<C, Then<D, Then<E, Then<F, Then<G, Then<H, ()>>>>>>>,
-        >::from_arguments(alloc, arguments)?;
-        Ok((
-            all.first,
-            all.rest.first,
-            all.rest.rest.first,
-            all.rest.rest.rest.first,
-            all.rest.rest.rest.rest.first,
-            all.rest.rest.rest.rest.rest.first,
-            all.rest.rest.rest.rest.rest.rest.first,
-            all.rest.rest.rest.rest.rest.rest.rest.first,
-        ))
+        } = all;
+        Ok((first, second, third, fourth, fifth, sixth))
     }
 }

@@ -7,7 +7,7 @@ use std::marker::Model;
 use wire_signature::VariantError;
 
 /// What closed a peer.
-#[derive(Clone, Copy, PartialEq, Eq, Debug)]
+#[derive(Clone, Copy, Debug)]
 enum Cause {
     InputOutput(IoKind),
     Variant(VariantError),

@@ -13,7 +13,7 @@ use std::sync::ArcSlice;
 use wire_number::Endian;
 
 /// What a message's header says.
-#[derive(Clone, Copy, Debug)]
+#[derive(Clone, Copy)]
 pub(crate) struct Parts {
     pub(crate) kind: MessageType,
     pub(crate) order: Endian,

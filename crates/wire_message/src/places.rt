@@ -6,21 +6,21 @@ ghost use Rattle.wire_message.specs.Places.{span_text, found_fields, AreSpans, I
 use crate::field::FieldCode;
 
 /// From the place of the first byte to the place behind the last.
-#[derive(Clone, Copy, Debug)]
+#[derive(Clone, Copy)]
 pub(crate) struct Span {
     pub(crate) start: usize,
     pub(crate) end: usize,
 }
 
 /// A field's value, as it was found.
-#[derive(Clone, Copy, Debug)]
+#[derive(Clone, Copy)]
 pub(crate) enum Found {
     Text(Span),
     Number(u32),
 }
 
 /// The header fields: texts by their places, and numbers.
-#[derive(Clone, Copy, Debug)]
+#[derive(Clone, Copy)]
 pub(crate) struct Places {
     pub(crate) path: Option<Span>,
     pub(crate) interface: Option<Span>,

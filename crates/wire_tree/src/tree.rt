@@ -9,7 +9,6 @@ use wire_signature::{BasicType, ValueType};
 ///
 /// Drop recurses with the tree: one that is made by hand, millions of levels deep, exhausts the stack.
 #[cycle(tree)]
-#[derive(Drop)]
 pub enum Tree {
     U8(u8),
     Bool(bool),
@@ -35,6 +34,31 @@ pub enum Tree {
     Struct(Trees),
     /// A value with its type.
     Variant(Inner),
+}
+
+impl Drop for Tree {
+    #[cycle(tree)]
+    fn drop(self) {
+        match self {
+            Tree::U8(_) => {}
+            Tree::Bool(_) => {}
+            Tree::I16(_) => {}
+            Tree::U16(_) => {}
+            Tree::I32(_) => {}
+            Tree::U32(_) => {}
+            Tree::I64(_) => {}
+            Tree::U64(_) => {}
+            Tree::F64(_) => {}
+            Tree::Str(_) => {}
+            Tree::Path(_) => {}
+            Tree::Sig(_) => {}
+            Tree::Fd(_) => {}
+            Tree::Array(_, _) => {}
+            Tree::Dict(_, _, _) => {}
+            Tree::Struct(_) => {}
+            Tree::Variant(_) => {}
+        }
+    }
 }
 
 /// Trees in their order.
@@ -135,6 +159,59 @@ impl Model for Inner {
     ghost use Rattle.wire_tree.specs.DatumFalls.{deep_le-size_of};
 
     ghost size_decreases = { λ a h. deep_le-size_of a.tree.value };
+}
+
+impl Tree {
+    ghost use Rattle.std.specs.Prelude.{◌≡◌, IfNone, IfSome};
+    ghost use Rattle.wire_signature.specs.Shape.{Shape, array as array_of, basic, dict as dict_of, variant as any};
+    ghost use Rattle.wire_signature.specs.declared.basic.BasicType.{BasicType};
+    ghost use Rattle.wire_signature.specs.declared.basic.BasicType.TheVariants as basics;
+    ghost use Rattle.wire_tree.specs.Datum.{array, data_of, dict, entries_of, string, text, type_of, variant};
+    ghost use Rattle.wire_tree.specs.DatumView.{datum_of};
+
+    /// The text, exactly where the tree is a string.
+    pub fn into_str(self) -> Option<Text>
+        ensures some { IfSome result (λ bytes. datum_of self ≡ text string bytes) }
+        ensures none { IfNone result (type_of (datum_of self) ≡ basic basics.String → ⊥) }
+    {
+        match self {
+            Tree::Str(text) => Some(text),
+            _ => None,
+        }
+    }
+
+    /// The elements and their type, exactly where the tree is an array.
+    pub fn into_array(self) -> Option<(ValueType, Trees)>
+        ensures some { IfSome result (λ it. datum_of self ≡ array it.0 (data_of it.1)) }
+        ensures none { IfNone result ((t : Shape) → type_of (datum_of self) ≡ array_of t → ⊥) }
+    {
+        match self {
+            Tree::Array(element, elements) => Some((element, elements)),
+            _ => None,
+        }
+    }
+
+    /// The entries and the types of their keys and values, exactly where the tree is a dict.
+    pub fn into_dict(self) -> Option<(BasicType, ValueType, Entries)>
+        ensures some { IfSome result (λ it. datum_of self ≡ dict it.0 it.1 (entries_of it.2)) }
+        ensures none { IfNone result ((k : BasicType) (v : Shape) → type_of (datum_of self) ≡ dict_of k v → ⊥) }
+    {
+        match self {
+            Tree::Dict(key, value, entries) => Some((key, value, entries)),
+            _ => None,
+        }
+    }
+
+    /// What the tree holds, exactly where it is a variant.
+    pub fn into_variant(self) -> Option<Inner>
+        ensures some { IfSome result (λ inner. datum_of self ≡ variant inner) }
+        ensures none { IfNone result (type_of (datum_of self) ≡ any → ⊥) }
+    {
+        match self {
+            Tree::Variant(inner) => Some(inner),
+            _ => None,
+        }
+    }
 }
 
 impl Trees {

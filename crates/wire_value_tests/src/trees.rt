@@ -273,6 +273,22 @@ fn inner_given_back(alloc: Global) -> Result<bool, VariantError> {
     Ok(matches!(inner.as_tree(), Tree::U8(1)) && matches!(&inner.into_tree(), Tree::U8(1)))
 }
 
+fn text_and_variant_taken(alloc: Global) -> Result<bool, VariantError> {
+    let inner = variant(alloc, Tree::U8(1))?.into_variant();
+    Ok(
+        matches!(&inner, Some(inner) if matches!(inner.as_tree(), Tree::U8(1)))
+            && matches!(&text(alloc, "s", "ab")?.into_str(), Some(text) if text.as_str() == "ab"),
+    )
+}
+
+fn lists_taken(alloc: Global) -> Result<bool, VariantError> {
+    let entries = dict(alloc, Tree::I32(1), Tree::U8(2))?.into_dict();
+    Ok(
+        matches!(&entries, Some((_, _, entries)) if entries.as_slice().len() == 1)
+            && matches!(&array(alloc, "y", Tree::U8(1))?.into_array(), Some((_, trees)) if trees.as_slice().len() == 1),
+    )
+}
+
 fn type_written(alloc: Global) -> Result<bool, VariantError> {
     let mut out = String::new(alloc);
     write_type(&mut out, alloc, &container(alloc, "a{iy}")?)?;
@@ -290,6 +306,8 @@ fn calls_of_values_and_trees(rt: HostRuntime) {
         lists_given_back(alloc),
         entries_given_back(alloc),
         inner_given_back(alloc),
+        text_and_variant_taken(alloc),
+        lists_taken(alloc),
         type_written(alloc),
     ] {
         assert!(rt; answer == Ok(true));

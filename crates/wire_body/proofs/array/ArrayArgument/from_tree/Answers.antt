@@ -1,15 +1,14 @@
 use Rattle.std.proofs.Common.{map, subst, sym}
 use Rattle.wire_signature.specs.Shape.{array as array_of}
 use Rattle.wire_tree.specs.Datum.{type_of}
-use Rattle.wire_tree.specs.DatumView.{datum_of}
 use Rattle.wire_tree.proofs.Lists.{list_of-data_of}
 use Rattle.wire_body.specs.Arguments.{TellsRead}
 use Rattle.wire_body.specs.Kinds.{elements_in}
 use Rattle.wire_body.proofs.array.ArrayArgument.from_tree.Goals as goal
 
-pub returns-in-Array : goal.returns-in-Array
-returns-in-Array g c =
-    let k = subst (λ xs. TellsRead c.array_of_kind.result (map g.T.Argument.read xs) (array_of c.in-Array.element) (array_of g.T.Argument.kind))
-    (sym (list_of-data_of c.in-Array.elements)) c.array_of_kind.ensures in
-    subst (λ t. TellsRead c.array_of_kind.result (map g.T.Argument.read (elements_in (datum_of t))) (type_of (datum_of t)) (array_of g.T.Argument.kind))
-    (sym c.in-Array.is) k
+pub returns-in-Some : goal.returns-in-Some
+returns-in-Some g c =
+    let k = subst (λ xs. TellsRead c.array_of_kind.result (map g.T.Argument.read xs) (array_of c.in-Some.element) (array_of g.T.Argument.kind))
+    (sym (list_of-data_of c.in-Some.elements)) c.array_of_kind.ensures in
+    subst (λ d. TellsRead c.array_of_kind.result (map g.T.Argument.read (elements_in d)) (type_of d) (array_of g.T.Argument.kind))
+    (sym c.in-Some.ensures.some) k
