@@ -13,7 +13,7 @@ use Rattle.wire_message.specs.declared.error.Error.{Error}
 use Rattle.peer_route.specs.declared.words.Words.{Words}
 use Rattle.peer_route.specs.declared.words.Words.TheVariants as words
 use Rattle.peer_route.specs.declared.words.Outgoing.{Outgoing}
-use Rattle.peer_route.specs.Parcel.{Setting, Parcel}
+use Rattle.peer_route.specs.Parcel.{Parcel}
 use Rattle.peer_route.specs.CallMessage.{fds_of, values_in, asked_of, member_asked, call_draft, signal_draft, call_asked, signal_asked, reply_asked, error_asked, sent_from, words_refusal, name_refusal}
 use Rattle.peer_route.specs.Trail.{asks_with}
 use Rattle.peer_route.proofs.BodyWords.{word_found}
@@ -64,9 +64,9 @@ are_refused [] takes = false
 are_refused (fd ∷ fds) takes = not takes
 
 -- what is asked for can be written, and the sink takes it
-pub record CanGo (setting : Setting) (parcel : Parcel) : Type 0 where
+pub record CanGo (takes_fds : Bool) (parcel : Parcel) : Type 0 where
   pub written : AreWritable parcel
-  pub taken : are_refused parcel.fds setting.takes_fds ≡ false
+  pub taken : are_refused parcel.fds takes_fds ≡ false
   pub few : length parcel.fds < 2 ^ 32
 
 few_fds : (asks_one : Bool) → length (fds_of asks_one) < 2 ^ 32
@@ -77,49 +77,49 @@ fds_taken : (asks_one takes : Bool) → (asks_one && not takes) ≡ false → ar
 fds_taken true takes e = e
 fds_taken false takes e = refl
 
-can_go : (setting : Setting) (word : Option (List ℕ)) (asks_one unsupported : Bool) (parcel : Parcel) → Stood (values_in word) unsupported (fds_of asks_one) parcel
-    → (unsupported ≡ false → (asks_one && not setting.takes_fds) ≡ false) → CanGo setting parcel
-can_go setting word asks_one unsupported parcel s f = record {
+can_go : (takes_fds : Bool) (word : Option (List ℕ)) (asks_one unsupported : Bool) (parcel : Parcel) → Stood (values_in word) unsupported (fds_of asks_one) parcel
+    → (unsupported ≡ false → (asks_one && not takes_fds) ≡ false) → CanGo takes_fds parcel
+can_go takes_fds word asks_one unsupported parcel s f = record {
   written = (values_shallow word parcel.values s.there, values_fit parcel.draft.order word parcel.values s.there);
-  taken = ap (λ fds. are_refused fds setting.takes_fds) s.same ∙ fds_taken asks_one setting.takes_fds (f s.supported);
+  taken = ap (λ fds. are_refused fds takes_fds) s.same ∙ fds_taken asks_one takes_fds (f s.supported);
   few = subst (λ (fds : List ℕ). length fds < 2 ^ 32) (sym s.same) (few_fds asks_one);
 }
 
-member_goes : (setting : Setting) (out : Outgoing) (draft : Draft) (parcel : Parcel) → member_asked setting out draft ≡ Ok parcel → CanGo setting parcel
-member_goes setting out draft parcel e =
-    can_go setting out.body out.flags.descriptor (out.flags.descriptor && not setting.takes_fds) parcel
-    (stood (words_refusal draft) (values_in out.body) (are_misplaced draft.kind draft.flags) (out.flags.descriptor && not setting.takes_fds) draft (fds_of out.flags.descriptor) parcel e)
+member_goes : (takes_fds : Bool) (out : Outgoing) (draft : Draft) (parcel : Parcel) → member_asked takes_fds out draft ≡ Ok parcel → CanGo takes_fds parcel
+member_goes takes_fds out draft parcel e =
+    can_go takes_fds out.body out.flags.descriptor (out.flags.descriptor && not takes_fds) parcel
+    (stood (words_refusal draft) (values_in out.body) (are_misplaced draft.kind draft.flags) (out.flags.descriptor && not takes_fds) draft (fds_of out.flags.descriptor) parcel e)
     (λ f. f)
 
-reply_goes : (setting : Setting) (m : Option Seen) (word : Option (List ℕ)) (parcel : Parcel) → reply_asked setting m word ≡ Ok parcel → CanGo setting parcel
-reply_goes setting None word parcel e = absurd (cc)
-reply_goes setting (Some m) word parcel e =
-    can_go setting word false false parcel
-    (stood None (values_in word) false false (sent_from setting.name (reply_draft types.MethodReturn (head_of m))) [] parcel e) (λ f. refl)
+reply_goes : (name : Option (List ℕ)) (takes_fds : Bool) (m : Option Seen) (word : Option (List ℕ)) (parcel : Parcel) → reply_asked name m word ≡ Ok parcel → CanGo takes_fds parcel
+reply_goes name takes_fds None word parcel e = absurd (cc)
+reply_goes name takes_fds (Some m) word parcel e =
+    can_go takes_fds word false false parcel
+    (stood None (values_in word) false false (sent_from name (reply_draft types.MethodReturn (head_of m))) [] parcel e) (λ f. refl)
 
-error_goes : (setting : Setting) (m : Option Seen) (text : List ℕ) (word : Option (List ℕ)) (parcel : Parcel) → error_asked setting m text word ≡ Ok parcel → CanGo setting parcel
-error_goes setting None text word parcel e = absurd (cc)
-error_goes setting (Some m) text word parcel e =
-    can_go setting word false false parcel
-    (stood (name_refusal text) (values_in word) false false (sent_from setting.name (error_draft (head_of m) text)) [] parcel e) (λ f. refl)
+error_goes : (name : Option (List ℕ)) (takes_fds : Bool) (m : Option Seen) (text : List ℕ) (word : Option (List ℕ)) (parcel : Parcel) → error_asked name m text word ≡ Ok parcel → CanGo takes_fds parcel
+error_goes name takes_fds None text word parcel e = absurd (cc)
+error_goes name takes_fds (Some m) text word parcel e =
+    can_go takes_fds word false false parcel
+    (stood (name_refusal text) (values_in word) false false (sent_from name (error_draft (head_of m) text)) [] parcel e) (λ f. refl)
 
-pub asked_goes : (setting : Setting) (given : ℕ → Option Seen) (w : Words) (parcel : Parcel) → asks_with setting given w ≡ Some (Ok parcel) → CanGo setting parcel
-asked_goes setting given (words.Call out) parcel e = member_goes setting out (call_draft setting out) parcel (let f : call_asked setting out ≡ Ok parcel = cc in f)
-asked_goes setting given (words.Signal out) parcel e = member_goes setting out (signal_draft setting out) parcel (let f : signal_asked setting out ≡ Ok parcel = cc in f)
-asked_goes setting given (words.Reply stream body) parcel e = reply_goes setting (given stream) body parcel (let f : reply_asked setting (given stream) body ≡ Ok parcel = cc in f)
-asked_goes setting given (words.Error stream text body) parcel e =
-    error_goes setting (given stream) text body parcel (let f : error_asked setting (given stream) text body ≡ Ok parcel = cc in f)
-asked_goes setting given words.Read parcel e = absurd (cc)
-asked_goes setting given (words.Poll number) parcel e = absurd (cc)
-asked_goes setting given (words.Before number before) parcel e = absurd (cc)
-asked_goes setting given (words.Drop number) parcel e = absurd (cc)
-asked_goes setting given words.Stream parcel e = absurd (cc)
-asked_goes setting given (words.Open max_queued rule) parcel e = absurd (cc)
-asked_goes setting given (words.Opened number) parcel e = absurd (cc)
-asked_goes setting given (words.Take number) parcel e = absurd (cc)
-asked_goes setting given (words.TakeBefore number before) parcel e = absurd (cc)
-asked_goes setting given (words.Clone number) parcel e = absurd (cc)
-asked_goes setting given (words.Unstream number second) parcel e = absurd (cc)
-asked_goes setting given (words.Queue number limit) parcel e = absurd (cc)
-asked_goes setting given (words.MainQueue limit) parcel e = absurd (cc)
-asked_goes setting given words.Close parcel e = absurd (cc)
+pub asked_goes : (name : Option (List ℕ)) (takes_fds : Bool) (given : ℕ → Option Seen) (w : Words) (parcel : Parcel) → asks_with name takes_fds given w ≡ Some (Ok parcel) → CanGo takes_fds parcel
+asked_goes name takes_fds given (words.Call out) parcel e = member_goes takes_fds out (call_draft name out) parcel (let f : call_asked name takes_fds out ≡ Ok parcel = cc in f)
+asked_goes name takes_fds given (words.Signal out) parcel e = member_goes takes_fds out (signal_draft name out) parcel (let f : signal_asked name takes_fds out ≡ Ok parcel = cc in f)
+asked_goes name takes_fds given (words.Reply stream body) parcel e = reply_goes name takes_fds (given stream) body parcel (let f : reply_asked name (given stream) body ≡ Ok parcel = cc in f)
+asked_goes name takes_fds given (words.Error stream text body) parcel e =
+    error_goes name takes_fds (given stream) text body parcel (let f : error_asked name (given stream) text body ≡ Ok parcel = cc in f)
+asked_goes name takes_fds given words.Read parcel e = absurd (cc)
+asked_goes name takes_fds given (words.Poll number) parcel e = absurd (cc)
+asked_goes name takes_fds given (words.Before number before) parcel e = absurd (cc)
+asked_goes name takes_fds given (words.Drop number) parcel e = absurd (cc)
+asked_goes name takes_fds given words.Stream parcel e = absurd (cc)
+asked_goes name takes_fds given (words.Open max_queued rule) parcel e = absurd (cc)
+asked_goes name takes_fds given (words.Opened number) parcel e = absurd (cc)
+asked_goes name takes_fds given (words.Take number) parcel e = absurd (cc)
+asked_goes name takes_fds given (words.TakeBefore number before) parcel e = absurd (cc)
+asked_goes name takes_fds given (words.Clone number) parcel e = absurd (cc)
+asked_goes name takes_fds given (words.Unstream number second) parcel e = absurd (cc)
+asked_goes name takes_fds given (words.Queue number limit) parcel e = absurd (cc)
+asked_goes name takes_fds given (words.MainQueue limit) parcel e = absurd (cc)
+asked_goes name takes_fds given words.Close parcel e = absurd (cc)

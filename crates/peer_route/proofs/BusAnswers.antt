@@ -31,8 +31,7 @@ open_called t lane None writers.Fine a (inl is) = Asks is
 open_called t lane None writers.Fine a (inr is) = Fails _ is
 
 open_ask : (t : Trail) (lane : ℕ) (rule : Rule) (a : Answer) → IsAskOf t lane rule a → OfOpen t lane a
-open_ask t lane rule a (inl is) = Refused _ is.1
-open_ask t lane rule a (inr is) = open_called t lane _ (writer t.events) a is.1
+open_ask t lane rule a is = open_called t lane _ (writer t.events) a is
 
 open_new : (t : Trail) (lane : ℕ) (rule : Rule) (asks : Bool) (a : Answer) → IsNewOf t lane rule asks a → OfOpen t lane a
 open_new t lane rule true a is = open_ask t lane rule a is
@@ -69,8 +68,7 @@ told_by_closed None writers.Fine h rules a is = went_closed h rules a is
 
 told_closed : (h : List Event) (rules : List Rule) (a : Answer) → IsTold h rules a → says_closed a ≡ true
 told_closed h [] a is = ap says_closed is
-told_closed h (rule ∷ rules) a (inl is) = ap says_closed is.1
-told_closed h (rule ∷ rules) a (inr is) = told_by_closed (tell_refusal h (rule ∷ rules)) (writer h) h (rule ∷ rules) a is.1
+told_closed h (rule ∷ rules) a is = told_by_closed (tell_refusal h (rule ∷ rules)) (writer h) h (rule ∷ rules) a is
 
 leave_by : (waits : Bool) (h : List Event) (k : ℕ) (j : Option ℕ) (a : Answer) → IsLeaveBy waits h k j a → OfLeave true a
 leave_by true h k j a is = Delays is

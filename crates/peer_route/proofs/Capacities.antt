@@ -3,10 +3,10 @@ use Rattle.std.proofs.Common.{◌≡◌, ◌≢◌, ℕ, max, refl, sym, ◌∙�
 use Rattle.std.specs.List.{slice_get}
 use Rattle.wire_message.specs.declared.error.Error.TheVariants as errors
 use Rattle.rule_match.specs.Rule.{Rule}
-use Rattle.rule_match.proofs.Equal.{equal_is_one, one_is_equal}
 use Rattle.peer_route.specs.Rules.{is_same, usual}
 use Rattle.peer_route.specs.History.{Event, Made, Making, Did, Main, Ruled, Asked}
 use Rattle.peer_route.specs.Streams.{Stream, streams, main, plain_asks, runs, runs_at, is_open, is_subscribed, asked_or, raised, limit_then, rule_of, is_of, rule_asks, rule_limit, limit_of, limit_answer}
+use Rattle.peer_route.proofs.SameRule.{same_self, same_one}
 
 -- ---- the main one
 
@@ -24,13 +24,8 @@ main_made h making = refl
 
 -- ---- a rule's
 
-same_self : (rule : Rule) → is_same rule rule ≡ true
-unfolding is_same
-same_self rule = one_is_equal rule rule refl
-
 same_other : (rule another : Rule) → rule ≢ another → is_same rule another ≡ false
-unfolding is_same
-same_other rule another differ = not_one (is_same rule another) (λ e. differ (equal_is_one rule another e))
+same_other rule another differ = not_one (is_same rule another) (λ e. differ (same_one rule another e))
   where
     not_one : (b : Bool) → (b ≡ true → ⊥) → b ≡ false
     not_one true no_ = absurd (no_ refl)

@@ -9,7 +9,7 @@ use Rattle.peer_route.specs.declared.words.Words.TheVariants as words
 use Rattle.peer_route.specs.declared.answer.Answer.{Answer}
 use Rattle.peer_route.specs.declared.answer.Answer.TheVariants as answers
 use Rattle.peer_route.specs.declared.answer.Entry.{Entry}
-use Rattle.peer_route.specs.History.{Event, Took, Shut, Put, Wrote, Fault, Spent, Made, Did, Main, OnBus, Added, Removed, Named, Deed, Gave, Told, Gone, Asked, Opened, done, closing, by_position, edit}
+use Rattle.peer_route.specs.History.{Event, Took, Shut, Put, Wrote, Fault, Spent, Made, Did, Main, OnBus, Added, Removed, Named, Deed, Gave, Told, Gone, Asked, Opened, done, closing, unique_name, by_position, edit}
 use Rattle.peer_route.specs.Streams.{Stream, streams, is_since, phase, asks_by, new_stream, asking_stream, done_by, fail_stream, runs, runs_at, is_open, gave_last, held, take_by, take_at, take_answer, leaving, gone_then, opening_at, opening_answer}
 use Rattle.peer_route.specs.declared.progress.OpenState.TheVariants as states
 use Rattle.peer_route.specs.Parcel.{Setting}
@@ -286,9 +286,9 @@ no_stream t lane (words.Unstream n (Some second)) a number is c e =
       | inr two ↦ second_not p q (not (n == second)) (not_open t lane second (named_at t lane second number two c))
     ])
 no_stream t lane (words.Reply n body) a number is c e =
-    subst (λ o. IsSendOf t lane (reply_asked t.setting o body) a) (none_given t lane n (named_at t lane n number e c)) is
+    subst (λ o. IsSendOf t lane (reply_asked (unique_name t.events) o body) a) (none_given t lane n (named_at t lane n number e c)) is
 no_stream t lane (words.Error n name body) a number is c e =
-    subst (λ o. IsSendOf t lane (error_asked t.setting o name body) a) (none_given t lane n (named_at t lane n number e c)) is
+    subst (λ o. IsSendOf t lane (error_asked (unique_name t.events) o name body) a) (none_given t lane n (named_at t lane n number e c)) is
 no_stream t lane w a number is c e = cc
 
 -- ---- entries

@@ -1,24 +1,27 @@
 -- The bus is told which rules have no stream any more: by what is kept, and by the history.
 use Rattle.std.proofs.Common.{◌≡◌, ℕ, zero, suc, ◌+◌, ◌<◌, ◌≤◌, refl, sym, ◌∙◌, ap, subst, arith, inl, inr, codes, Bool, true, false, not, ◌&&◌, ◌||◌, ◌==◌, if◌then◌else◌, is_none, is_some, List, [], ◌∷◌, ◌++◌, length, map, Option, Some, None, Ok, Err, option_to_list}
-use Rattle.std.specs.List.{slice_get}
+use Rattle.std.specs.List.{slice_get, list_all}
+use Rattle.std.proofs.lemmas.List.Folds.{list_all-map}
 use Rattle.std.proofs.lemmas.List.{append-nil, map-append, length-append}
 use Rattle.wire_tree.specs.Datum.{data_of}
 use Rattle.wire_spelling.specs.Spelling.{AllFit}
-use Rattle.wire_signature.specs.declared.error.VariantError.TheVariants as faults
 use Rattle.wire_message.specs.Front.{Seen}
 use Rattle.wire_message.specs.declared.error.Error.{Error}
 use Rattle.wire_message.specs.declared.error.Error.TheVariants as errors
 use Rattle.wire_message.specs.declared.error.IoKind.TheVariants as kinds
 use Rattle.rule_match.specs.Rule.{Rule}
 use Rattle.peer_route.specs.declared.route.Issued.{Issued}
-use Rattle.peer_route.specs.Parcel.{Parcel, message_of, sent_by}
+use Rattle.peer_route.specs.Parcel.{message_of}
 use Rattle.peer_route.specs.CallMessage.{expects, expects_reply}
 use Rattle.peer_route.specs.History.{Event, in_flight, Did, Gone, Removed, Call, inner_call, edit, closing, calls, on_bus, unique_name}
 use Rattle.peer_route.specs.Streams.{Stream, streams, end_one, rule_of, is_open, are_open, has_rule, has_rule_at, close_waits, may_be_signal, leaves, leaves_by, leaving, rule_answer}
 use Rattle.peer_route.specs.Left.{Held, CallsView, View, Left, kept_at, shared, waiting_serial, is_flying, with_call}
 use Rattle.peer_route.specs.Issuing.{AreShort, SomeLong}
-use Rattle.peer_route.specs.Placing.{IsMore, made_call, Draws, Spends, PutsAll, messages_of, with_messages, issued_from, place_of}
-use Rattle.peer_route.specs.BusCall.{remove_parcel, remove_message, last_of, some_rules, SomeNoText, AreTexts}
+use Rattle.peer_route.specs.Placing.{IsMore, made_call, Draws, Spends, messages_of, with_messages, issued_from, place_of}
+use Rattle.peer_route.specs.BusCall.{remove_parcel, remove_message, last_of, some_rules}
+use Rattle.peer_route.specs.Bus.{letter_about, rule_call, PutsOwn}
+use Rattle.peer_route.specs.declared.opening.RuleCall.{RuleCall}
+use Rattle.peer_route.specs.declared.opening.RuleCalls.{RuleCalls}
 use Rattle.peer_route.specs.Leaving.{AreTold, TellsNone, AreBrief, SomeNotBrief, removed_each, TellsBus, gone_both, MayClose, number_of, ClosesStreams, TellsNow, have_rules, ended, without, left_by, rule_kept, must_tell, second_left, left_rules, removals, last_issued, MakesRemoval, MakesRemovals, Tells}
 use Rattle.peer_route.specs.declared.streams.MessageStream.{MessageStream}
 use Rattle.peer_route.specs.declared.leaving.Spent.TheVariants as spent
@@ -28,6 +31,7 @@ use Rattle.peer_route.proofs.StreamsMade.{streams_removed}
 use Rattle.peer_route.proofs.RuledStreams.{subscribed_left, rule_left}
 use Rattle.peer_route.proofs.Issues.{called, message_serial, same_expects, next_left, spent_left, placed_more, with_none}
 use Rattle.peer_route.proofs.BusMessages.{match_expects, refused_any}
+use Rattle.peer_route.proofs.RuleCalls.{puts_about}
 use Rattle.peer_route.proofs.Placed.{all_wait}
 
 -- ---- a RemoveMatch is put
@@ -148,17 +152,16 @@ closed_view v qs = record v { streams = qs }
 
 pub tells_bus : (v mid : View) (qs : List (Option Held)) (rules : List Rule) (h : List Event) (last : Option ℕ) → Tells v mid rules (Ok last) → Left (closed_view v qs) h
     → TellsBus (closed_view mid qs) h rules (Ok last)
-tells_bus v mid qs [] h last t left = (tt, [], tt, tt, (λ e. cc), t.0, subst (λ (u : View). Left (closed_view u qs) h) (sym t.1) left)
+tells_bus v mid qs [] h last t left = ([], tt, tt, (λ e. cc), t.0, subst (λ (u : View). Left (closed_view u qs) h) (sym t.1) left)
 tells_bus v mid qs (rule ∷ rules) h last t left =
-    let p = t.2 in
+    let p = t.1 in
     let g = closed_view v qs in
     let serials = p.0 in (
-      t.0,
       serials,
       told_drawn (rule ∷ rules) serials g mid.calls mid.last h left p.1,
       told_brief (rule ∷ rules) serials v.name h left.name p.2,
       (λ e. sym left.writer ∙ p.3),
-      t.3 ∙ ap last_issued p.4 ∙ told_last (rule ∷ rules) serials v.name v.calls mid.calls v.last mid.last (length v.outbox) (length v.places) p.1,
+      t.2 ∙ ap last_issued p.4 ∙ told_last (rule ∷ rules) serials v.name v.calls mid.calls v.last mid.last (length v.outbox) (length v.places) p.1,
       subst (λ (u : View). Left (closed_view u qs) (removed_each (rule ∷ rules) serials h)) (sym p.5)
           (told_left (rule ∷ rules) serials g mid.calls mid.last h left p.1),
     )
@@ -166,86 +169,69 @@ tells_bus v mid qs (rule ∷ rules) h last t left =
 pub tells_not : (v mid : View) (qs : List (Option Held)) (rules : List Rule) (h : List Event) (error : Error) → Tells v mid rules (Err error) → (error ≡ errors.Memory → ⊥) → Left (closed_view v qs) h
     → TellsBus (closed_view v qs) h rules (Err error)
 tells_not v mid qs [] h error t some left = absurd t
-tells_not v mid qs (rule ∷ rules) h errors.SerialsSpent t some left = (t.0, told_none (rule ∷ rules) (closed_view v qs) h left t.1, left)
+tells_not v mid qs (rule ∷ rules) h errors.SerialsSpent t some left = (told_none (rule ∷ rules) (closed_view v qs) h left t, left)
 tells_not v mid qs (rule ∷ rules) h errors.ExcessData t some left =
-    (t.0, (t.1.0, told_drawn (rule ∷ rules) t.1.0 (closed_view v qs) mid.calls mid.last h left t.1.1, told_long (rule ∷ rules) t.1.0 v.name h left.name t.1.2), left)
-tells_not v mid qs (rule ∷ rules) h (errors.Variant faults.Malformed) t some left = (t, left)
+    ((t.0, told_drawn (rule ∷ rules) t.0 (closed_view v qs) mid.calls mid.last h left t.1, told_long (rule ∷ rules) t.0 v.name h left.name t.2), left)
 tells_not v mid qs (rule ∷ rules) h (errors.InputOutput kinds.WriteFault) t some left =
-    (t.0, (refl, (t.1.0, told_drawn (rule ∷ rules) t.1.0 (closed_view v qs) mid.calls mid.last h left t.1.1, told_brief (rule ∷ rules) t.1.0 v.name h left.name t.1.2)), sym left.writer ∙ t.1.3, left)
+    ((refl, (t.0, told_drawn (rule ∷ rules) t.0 (closed_view v qs) mid.calls mid.last h left t.1, told_brief (rule ∷ rules) t.0 v.name h left.name t.2)), sym left.writer ∙ t.3, left)
 tells_not v mid qs (rule ∷ rules) h (errors.InputOutput kinds.Closed) t some left =
-    (t.0, (refl, (t.1.0, told_drawn (rule ∷ rules) t.1.0 (closed_view v qs) mid.calls mid.last h left t.1.1, told_brief (rule ∷ rules) t.1.0 v.name h left.name t.1.2)), sym left.writer ∙ t.1.3, left)
+    ((refl, (t.0, told_drawn (rule ∷ rules) t.0 (closed_view v qs) mid.calls mid.last h left t.1, told_brief (rule ∷ rules) t.0 v.name h left.name t.2)), sym left.writer ∙ t.3, left)
 tells_not v mid qs (rule ∷ rules) h errors.Memory t some left = absurd (some refl)
-tells_not v mid qs (rule ∷ rules) h other t some left = absurd t.1
+tells_not v mid qs (rule ∷ rules) h other t some left = absurd t
 
 -- what making the messages is refused for
-pub tells_unmade : {A : Type 0} (v : View) (items : A → List Parcel) (rules : List Rule) (error : Error) → MakesRemovals items rules (Err error) → Tells v v rules (Err error)
-tells_unmade v items [] (errors.Variant faults.Malformed) x = absurd x
-tells_unmade v items [] errors.Memory x = let e : false ≡ true = x in cc
-tells_unmade v items [] other x = absurd x
-tells_unmade v items (rule ∷ rules) (errors.Variant faults.Malformed) x = x
-tells_unmade v items (rule ∷ rules) errors.Memory x = tt
-tells_unmade v items (rule ∷ rules) other x = absurd x
-
-text_behind : (rs qs : List Rule) → SomeNoText qs → SomeNoText (rs ++ qs)
-text_behind [] qs x = x
-text_behind (rule ∷ rs) qs x = inr (text_behind rs qs x)
-
-texts_both : (rs qs : List Rule) → AreTexts rs → AreTexts qs → AreTexts (rs ++ qs)
-texts_both [] qs a b = b
-texts_both (rule ∷ rs) qs a b = (a.0, texts_both rs qs a.1 b)
+pub tells_unmade : (v : View) (rules : List Rule) (error : Error) → MakesRemovals rules (Err error) → Tells v v rules (Err error)
+tells_unmade v [] errors.Memory x = let e : false ≡ true = x in cc
+tells_unmade v [] other x = absurd x
+tells_unmade v (rule ∷ rules) errors.Memory x = tt
+tells_unmade v (rule ∷ rules) other x = absurd x
 
 -- the messages of both
-pub made_both : (first second : Option Parcel) (rs qs : List Rule) (list : List Parcel) → list ≡ option_to_list first ++ option_to_list second → MakesRemoval rs (Ok first) → MakesRemoval qs (Ok second)
-    → (list ≡ removals None (rs ++ qs)) × AreTexts (rs ++ qs)
-made_both first second rs qs list e a b = (
-  e ∙ ap (λ ps. ps ++ option_to_list second) a.0 ∙ ap (λ ps. removals None rs ++ ps) b.0 ∙ sym (map-append (remove_parcel None) rs qs),
-  texts_both rs qs a.1 b.1,
-)
+letters_both : (member : List ℕ) (rules : List Rule) → map (λ (c : RuleCall). c.letter) (map (rule_call member) rules) ≡ map (letter_about member) rules
+letters_both member [] = refl
+letters_both member (rule ∷ rules) = ap (λ ps. letter_about member rule ∷ ps) (letters_both member rules)
+
+calls_both : (first second : Option RuleCall) (rs qs : List Rule) → MakesRemoval rs (Ok first) → MakesRemoval qs (Ok second)
+    → option_to_list first ++ option_to_list second ≡ map (rule_call (codes "RemoveMatch")) (rs ++ qs)
+calls_both first second rs qs a b =
+    ap (λ cs. cs ++ option_to_list second) a ∙ ap (λ cs. map (rule_call (codes "RemoveMatch")) rs ++ cs) b ∙ sym (map-append (rule_call (codes "RemoveMatch")) rs qs)
+
+pub made_both : (first second : Option RuleCall) (rs qs : List Rule) (calls : RuleCalls) → calls.letters.items ≡ map (λ (c : RuleCall). c.letter) (option_to_list first ++ option_to_list second)
+    → calls.fit ≡ list_all (λ (c : RuleCall). c.fits) (option_to_list first ++ option_to_list second) → MakesRemoval rs (Ok first) → MakesRemoval qs (Ok second) → MakesRemovals (rs ++ qs) (Ok calls)
+made_both first second rs qs calls e f a b =
+    let both = calls_both first second rs qs a b in (
+      e ∙ ap (map (λ (c : RuleCall). c.letter)) both ∙ letters_both (codes "RemoveMatch") (rs ++ qs),
+      f ∙ ap (list_all (λ (c : RuleCall). c.fits)) both ∙ list_all-map (λ (c : RuleCall). c.fits) (rule_call (codes "RemoveMatch")) (rs ++ qs),
+    )
 
 some_behind : (rs qs : List Rule) → some_rules qs ≡ true → some_rules (rs ++ qs) ≡ true
 some_behind [] qs x = x
 some_behind (rule ∷ rs) qs x = refl
 
-pub unmade_second : {A : Type 0} (items : A → List Parcel) (rs qs : List Rule) (error : Error) → MakesRemoval qs (Err error) → MakesRemovals items (rs ++ qs) (Err error)
-unmade_second items rs qs (errors.Variant faults.Malformed) x = text_behind rs qs x
-unmade_second items rs qs errors.Memory x = some_behind rs qs x
-unmade_second items rs qs other x = absurd x
+pub unmade_second : (rs qs : List Rule) (error : Error) → MakesRemoval qs (Err error) → MakesRemovals (rs ++ qs) (Err error)
+unmade_second rs qs errors.Memory x = some_behind rs qs x
+unmade_second rs qs other x = absurd x
 
-pub some_listed : (first second : Option Parcel) (rs qs : List Rule) → option_to_list first ≡ removals None rs → option_to_list second ≡ removals None qs → (is_some first || is_some second) ≡ true
-    → some_rules (rs ++ qs) ≡ true
+pub some_listed : (first second : Option RuleCall) (rs qs : List Rule) → MakesRemoval rs (Ok first) → MakesRemoval qs (Ok second) → (is_some first || is_some second) ≡ true → some_rules (rs ++ qs) ≡ true
 some_listed first second (rule ∷ rs) qs e f some = refl
 some_listed first second [] (rule ∷ qs) e f some = refl
 some_listed None None [] [] e f some = cc
 some_listed (Some p) second [] [] e f some = cc
 some_listed None (Some p) [] [] e f some = cc
 
--- the messages, sent by the peer
-removals_sent : (name : Option (List ℕ)) (rules : List Rule) → map (sent_by name false) (removals None rules) ≡ removals name rules
-removals_sent name [] = refl
-removals_sent name (rule ∷ rules) = ap (λ ps. remove_parcel name rule ∷ ps) (removals_sent name rules)
+-- the messages, put as the peer's own
+pub tells_unput : {A : Type 0} (items : A → List Issued) (old mid : View) (rules : List Rule) (calls : RuleCalls) (error : Error) → MakesRemovals rules (Ok calls) → (calls.letters.items ≡ [] → ⊥)
+    → PutsOwn calls.fit items old mid calls.letters.items (Err error) → Tells old mid rules (Err error)
+tells_unput items old mid [] calls error m some x = absurd (some m.0)
+tells_unput items old mid (rule ∷ rules) calls error m some x =
+    refused_any true items (λ (is : List Issued). is) old mid (removals old.name (rule ∷ rules)) error
+    (puts_about items (codes "RemoveMatch") old mid (rule ∷ rules) calls.letters.items calls.fit (Err error) m.0 m.1 x)
 
-pub tells_unput : {A : Type 0} (items : A → List Issued) (old mid : View) (rules : List Rule) (ps : List Parcel) (error : Error) → ps ≡ removals None rules → AreTexts rules → (ps ≡ [] → ⊥)
-    → PutsAll true items old mid (map (sent_by old.name false) ps) (Err error) → Tells old mid rules (Err error)
-tells_unput items old mid [] ps error e texts some x = absurd (some e)
-tells_unput items old mid (rule ∷ rules) ps error e texts some x =
-    unput old mid rule rules error texts
-    (refused_any true items (λ (is : List Issued). is) old mid (removals old.name (rule ∷ rules)) error
-    (subst (λ qs. PutsAll true items old mid qs (Err error)) (ap (map (sent_by old.name false)) e ∙ removals_sent old.name (rule ∷ rules)) x))
-  where
-    unput : (old mid : View) (rule : Rule) (rules : List Rule) (error : Error) → AreTexts (rule ∷ rules) → PutsAll true (λ (is : List Issued). is) old mid (removals old.name (rule ∷ rules)) (Err error) → Tells old mid (rule ∷ rules) (Err error)
-    unput old mid rule rules errors.SerialsSpent texts x = (texts, x)
-    unput old mid rule rules errors.ExcessData texts x = (texts, x)
-    unput old mid rule rules (errors.InputOutput kinds.WriteFault) texts x = (texts, x)
-    unput old mid rule rules (errors.InputOutput kinds.Closed) texts x = (texts, x)
-    unput old mid rule rules errors.Memory texts x = tt
-    unput old mid rule rules other texts x = absurd x
-
-pub tells_put : {A : Type 0} (items : A → List Issued) (old mid : View) (rules : List Rule) (ps : List Parcel) (issued : A) (last : Option ℕ) → ps ≡ removals None rules → AreTexts rules → (ps ≡ [] → ⊥)
-    → PutsAll true items old mid (map (sent_by old.name false) ps) (Ok issued) → last ≡ last_issued (items issued) → Tells old mid rules (Ok last)
-tells_put items old mid [] ps issued last e texts some x l = absurd (some e)
-tells_put items old mid (rule ∷ rules) ps issued last e texts some x l =
-    let y = subst (λ qs. PutsAll true items old mid qs (Ok issued)) (ap (map (sent_by old.name false)) e ∙ removals_sent old.name (rule ∷ rules)) x in
-    (texts, items issued, y, l)
+pub tells_put : {A : Type 0} (items : A → List Issued) (old mid : View) (rules : List Rule) (calls : RuleCalls) (issued : A) (last : Option ℕ) → MakesRemovals rules (Ok calls) → (calls.letters.items ≡ [] → ⊥)
+    → PutsOwn calls.fit items old mid calls.letters.items (Ok issued) → last ≡ last_issued (items issued) → Tells old mid rules (Ok last)
+tells_put items old mid [] calls issued last m some x l = absurd (some m.0)
+tells_put items old mid (rule ∷ rules) calls issued last m some x l =
+    (items issued, puts_about items (codes "RemoveMatch") old mid (rule ∷ rules) calls.letters.items calls.fit (Ok issued) m.0 m.1 x, l)
 
 -- ---- they wait
 
@@ -270,10 +256,10 @@ now_by : (old mid : View) (rules : List Rule) (last : Option ℕ) → Tells old 
 now_by old mid rules None t few qs = tt
 now_by old mid [] (Some serial) t few qs = let e : Some serial ≡ None = t.0 in cc
 now_by old mid (rule ∷ []) (Some serial) t few qs =
-    let w = all_wait true (λ (is : List Issued). is) old mid (removals old.name (rule ∷ [])) t.1 t.2 in
+    let w = all_wait true (λ (is : List Issued). is) old mid (removals old.name (rule ∷ [])) t.0 t.1 in
     (inl w.2, w.3, w.4, w.5)
 now_by old mid (rule ∷ other ∷ []) (Some serial) t few qs =
-    let w = all_wait true (λ (is : List Issued). is) old mid (removals old.name (rule ∷ other ∷ [])) t.1 t.2 in
+    let w = all_wait true (λ (is : List Issued). is) old mid (removals old.name (rule ∷ other ∷ [])) t.0 t.1 in
     (inr w.2, w.3, w.4, w.5)
 now_by old mid (rule ∷ other ∷ more ∷ rules) (Some serial) t few qs = absurd (omega (arith, few))
 
@@ -365,7 +351,7 @@ closes_gone v mid h k o last left there idle t more =
 closes_by : (v mid new : View) (h : List Event) (k : ℕ) (o : Option ℕ) (rules : List Rule) (error : Error) → Tells v mid rules (Err error) → (error ≡ errors.Memory → ⊥) → MayClose h k o
     → TellsBus new (gone_both k o h) (leaving h k o) (Err error) → ClosesStreams v new k o h (spent.Over error)
 closes_by v mid new h k o [] error t some may x = absurd t
-closes_by v mid new h k o (rule ∷ rules) errors.UnknownHandle t some may x = absurd t.1
+closes_by v mid new h k o (rule ∷ rules) errors.UnknownHandle t some may x = absurd t
 closes_by v mid new h k o rules errors.Memory t some may x = absurd (some refl)
 closes_by v mid new h k o rules other t some may x = (may, x)
 

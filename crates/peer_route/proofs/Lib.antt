@@ -18,6 +18,7 @@ pub mod Drops
 pub mod OpenStreams
 pub mod NextSerial
 pub mod BusMessages
+pub mod RuleCalls
 pub mod Openings
 pub mod Without
 pub mod Leavings
@@ -51,5 +52,6 @@ pub mod Sent
 pub mod Index
 pub mod Waiting
 pub mod Writers
+pub mod Written
 pub mod Refused
 pub mod NoneBefore

@@ -109,10 +109,10 @@ close_named (answers.SendFailed error) h = refl
 close_named a h = refl
 
 entry_named : (t : Trail) (lane : ℕ) (w : Words) (a : Answer) (h : List Event) → unique_name (events_of t lane w a ++ h) ≡ unique_name h
-entry_named t lane (words.Call w) a h = send_named t.events (call_asked t.setting w) a h
-entry_named t lane (words.Signal w) a h = send_named t.events (signal_asked t.setting w) a h
-entry_named t lane (words.Reply stream body) a h = send_named t.events (reply_asked t.setting (given t lane stream) body) a h
-entry_named t lane (words.Error stream name body) a h = send_named t.events (error_asked t.setting (given t lane stream) name body) a h
+entry_named t lane (words.Call w) a h = send_named t.events (call_asked (unique_name t.events) t.setting.takes_fds w) a h
+entry_named t lane (words.Signal w) a h = send_named t.events (signal_asked (unique_name t.events) t.setting.takes_fds w) a h
+entry_named t lane (words.Reply stream body) a h = send_named t.events (reply_asked (unique_name t.events) (given t lane stream) body) a h
+entry_named t lane (words.Error stream name body) a h = send_named t.events (error_asked (unique_name t.events) (given t lane stream) name body) a h
 entry_named t lane words.Read a h = read_named (closing t.events) a h
 entry_named t lane (words.Poll number) a h = poll_named (place 0 lane number t.names) a h
 entry_named t lane (words.Before number before) a h = poll_named (place 0 lane number t.names) a h

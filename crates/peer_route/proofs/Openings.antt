@@ -6,12 +6,10 @@ use Rattle.std.proofs.lemmas.List.{map-append, length-map, length-append}
 use Rattle.std.proofs.lemmas.Bool.{false≢true}
 use Rattle.wire_message.specs.Front.{Seen}
 use Rattle.wire_message.specs.Circle.{IsNext, AllTaken}
-use Rattle.wire_signature.specs.declared.error.VariantError.TheVariants as faults
 use Rattle.wire_message.specs.declared.error.Error.{Error}
 use Rattle.wire_message.specs.declared.error.Error.TheVariants as errors
 use Rattle.wire_message.specs.declared.error.IoKind.TheVariants as kinds
 use Rattle.rule_match.specs.Rule.{Rule}
-use Rattle.rule_match.specs.Text.{rule_text}
 use Rattle.peer_route.specs.declared.writer.Writer.TheVariants as writers
 use Rattle.peer_route.specs.declared.opening.Opens.TheVariants as opens
 use Rattle.peer_route.specs.declared.opening.Opening.{Opening}
@@ -21,13 +19,13 @@ use Rattle.peer_route.specs.History.{Event, Made, Ruled, Did, Gone, Opened, OnBu
 use Rattle.peer_route.specs.Streams.{Stream, Phase, Asking, Denied, Since, phase, streams, asks_bus, may_be_signal, open_one, matched, offered, held, opening_by, opening_at, opening_answer, opening_events}
 use Rattle.peer_route.specs.Left.{Held, held_by, held_of, progress_by, kept_by, any_at, shared, asked_by, held_opening, opened_held, is_flying, with_stream, with_asking, with_call, slot_of, CallsView, waiting_serial, LeftCalls, LeftStreams, IsWithin, View, Left}
 use Rattle.peer_route.specs.BusCall.{add_parcel, add_message}
-use Rattle.peer_route.specs.Bus.{OpensRule, AsksNow, PutsMatch, Asks, AsksFor}
+use Rattle.peer_route.specs.Bus.{OpensRule, AsksNow, Asks, AsksFor}
 use Rattle.peer_route.specs.Parcel.{Parcel, message_of}
 use Rattle.peer_route.specs.CallMessage.{expects}
 use Rattle.peer_route.specs.Issuing.{IsShort, AreShort, SomeLong}
 use Rattle.peer_route.specs.declared.route.Issued.{Issued}
-use Rattle.peer_route.specs.Placing.{made_call, Draws, Spends, place_of, places_of, issued_at, issued_from, messages_of, with_messages}
-use Rattle.wire_tree.specs.Datum.{data_of, string, IsTextOf}
+use Rattle.peer_route.specs.Placing.{made_call, Draws, Spends, place_of, places_of, issued_at, issued_from, messages_of, with_messages, PutsAll}
+use Rattle.wire_tree.specs.Datum.{data_of}
 use Rattle.wire_spelling.specs.Spelling.{AllFit}
 use Rattle.peer_route.proofs.Core.{flying-left, left_ruled, left_idle, left_did}
 use Rattle.peer_route.proofs.CallsMade.{places}
@@ -115,11 +113,11 @@ left_added v m rule asked h left free = record {
 asks_by : (old mid : View) (rule : Rule) (asked : Option ℕ) (i : Issued) (number : ℕ) (serials : List ℕ)
     → Draws true old.calls old.last (add_parcel old.name rule ∷ []) serials mid.calls mid.last → AreShort (add_parcel old.name rule ∷ []) serials → old.writer ≡ writers.Fine
     → i ∷ [] ≡ issued_from (length old.outbox) (length old.places) (messages_of (add_parcel old.name rule ∷ []) serials)
-    → mid ≡ with_messages old (messages_of (add_parcel old.name rule ∷ []) serials) mid.calls mid.last → number ≡ length mid.streams → IsTextOf string (rule_text rule)
+    → mid ≡ with_messages old (messages_of (add_parcel old.name rule ∷ []) serials) mid.calls mid.last → number ≡ length mid.streams
     → Asks old (record mid { streams = with_asking rule asked i.serial i.index mid.streams }) rule asked (record { number = number; index = i.index; serial = i.serial })
-asks_by old mid rule asked i number [] d short fine e view n text = absurd d
-asks_by old mid rule asked i number (serial ∷ more ∷ serials) d short fine e view n text = absurd d.1
-asks_by old mid rule asked i number (serial ∷ []) d short fine e view n text =
+asks_by old mid rule asked i number [] d short fine e view n = absurd d
+asks_by old mid rule asked i number (serial ∷ more ∷ serials) d short fine e view n = absurd d.1
+asks_by old mid rule asked i number (serial ∷ []) d short fine e view n =
     let p = add_parcel old.name rule in
     let is : i ≡ issued_at (length old.outbox) (length old.places) (message_of p serial) = cc in
     let own : i.serial ≡ serial = ap (λ (j : Issued). j.serial) is ∙ message_serial p serial in
@@ -129,16 +127,15 @@ asks_by old mid rule asked i number (serial ∷ []) d short fine e view n text =
       index = place;
       drawn = subst (λ k. Draws true old.calls old.last (p ∷ []) (k ∷ []) mid.calls mid.last) (sym own) d;
       short = subst (IsShort p) (sym own) short.0;
-      is_text = text;
       fine = fine;
       view = ap (λ (v : View). record v { streams = with_asking rule asked i.serial i.index v.streams }) view
           ∙ ap (λ k. record (with_messages old (message_of p serial ∷ []) mid.calls mid.last) { streams = with_asking rule asked i.serial k old.streams }) place
           ∙ ap (λ k. record (with_messages old (message_of p k ∷ []) mid.calls mid.last) { streams = with_asking rule asked i.serial (length old.outbox) old.streams }) (sym own);
     }
 
-pub asks_put : (old mid : View) (rule : Rule) (asked : Option ℕ) (i : Issued) (number : ℕ) → PutsMatch old mid (add_parcel old.name rule) rule (Ok i) → number ≡ length mid.streams
+pub asks_put : (old mid : View) (rule : Rule) (asked : Option ℕ) (i : Issued) (number : ℕ) → PutsAll true (λ (j : Issued). j ∷ []) old mid (add_parcel old.name rule ∷ []) (Ok i) → number ≡ length mid.streams
     → Asks old (record mid { streams = with_asking rule asked i.serial i.index mid.streams }) rule asked (record { number = number; index = i.index; serial = i.serial })
-asks_put old mid rule asked i number p n = asks_by old mid rule asked i number p.1.0 p.1.1 p.1.2 p.1.3 p.1.4 p.1.5 n p.0
+asks_put old mid rule asked i number p n = asks_by old mid rule asked i number p.0 p.1 p.2 p.3 p.4 p.5 n
 
 asks_view : (old new : View) (rule : Rule) (asked : Option ℕ) (o : Opening) → Asks old new rule asked o
     → new ≡ asked_view old (message_of (add_parcel old.name rule) o.serial) o.serial rule asked
@@ -265,7 +262,6 @@ opens_asking old new rule asked o h idle asks a left =
       idle.1,
       (
         asks,
-        a.is_text,
         sym left.writer ∙ a.fine,
         next_left old.calls old.last o.serial h left.calls left.last a.drawn.0,
         subst (λ (n : Seen). length n.bytes ≤ 134217728) (message_so old rule o.serial h left) a.short.1,
@@ -298,19 +294,18 @@ pub opens_not : (old mid new : View) (rule : Rule) (asked : Option ℕ) (error :
     → new ≡ old → AsksFor old mid rule asked (Err error) → Left old h → OpensRule old new rule asked h (Err error)
 unfolding AllFit
 opens_not old mid new rule asked errors.SerialsSpent h idle asks same a left =
-    (((idle.0, idle.1, asks), a.0), spent_left old.calls h left.calls (spent_one old.calls old.last (add_parcel old.name rule) a.1), same)
+    ((idle.0, idle.1, asks), spent_left old.calls h left.calls (spent_one old.calls old.last (add_parcel old.name rule) a), same)
 opens_not old mid new rule asked errors.ExcessData h idle asks same a left =
-    let x = long_one (add_parcel old.name rule) a.1.0 old.calls mid.calls old.last mid.last a.1.1 (tt, tt) a.1.2 in
-    (((idle.0, idle.1, asks), a.0), (x.0, next_left old.calls old.last x.0 h left.calls left.last x.1, subst (λ (n : Seen). 134217728 < length n.bytes) (message_so old rule x.0 h left) x.2), same)
-opens_not old mid new rule asked (errors.Variant faults.Malformed) h idle asks same a left = ((idle.0, idle.1, asks), a, same)
+    let x = long_one (add_parcel old.name rule) a.0 old.calls mid.calls old.last mid.last a.1 (tt, tt) a.2 in
+    ((idle.0, idle.1, asks), (x.0, next_left old.calls old.last x.0 h left.calls left.last x.1, subst (λ (n : Seen). 134217728 < length n.bytes) (message_so old rule x.0 h left) x.2), same)
 opens_not old mid new rule asked (errors.InputOutput kinds.WriteFault) h idle asks same a left =
-    let x = short_one (add_parcel old.name rule) a.1.0 old.calls mid.calls old.last mid.last a.1.1 a.1.2 in
-    (((idle.0, idle.1, asks), a.0), (x.0, next_left old.calls old.last x.0 h left.calls left.last x.1, subst (λ (n : Seen). length n.bytes ≤ 134217728) (message_so old rule x.0 h left) x.2), sym left.writer ∙ a.1.3, same)
+    let x = short_one (add_parcel old.name rule) a.0 old.calls mid.calls old.last mid.last a.1 a.2 in
+    ((idle.0, idle.1, asks), (x.0, next_left old.calls old.last x.0 h left.calls left.last x.1, subst (λ (n : Seen). length n.bytes ≤ 134217728) (message_so old rule x.0 h left) x.2), sym left.writer ∙ a.3, same)
 opens_not old mid new rule asked (errors.InputOutput kinds.Closed) h idle asks same a left =
-    let shut_ : is_some (closing h) ≡ true = closed_shut h (sym left.writer ∙ a.1.3) in
+    let shut_ : is_some (closing h) ≡ true = closed_shut h (sym left.writer ∙ a.3) in
     absurd (false≢true (sym (ap is_some idle.0) ∙ shut_))
 opens_not old mid new rule asked errors.Memory h idle asks same a left = same
-opens_not old mid new rule asked other h idle asks same a left = absurd a.1
+opens_not old mid new rule asked other h idle asks same a left = absurd a
 
 -- the AddMatch waits at the end of the outbox
 pub asks_now : (old new : View) (rule : Rule) (asked : Option ℕ) (o : Opening) → Asks old new rule asked o → AsksNow old new (Ok (opens.Opening o))

@@ -1,5 +1,6 @@
 -- What was put is what the answers say was sent.
-use Rattle.std.proofs.Common.{◌≡◌, ◌≢◌, Result, inl, inr, ℕ, refl, sym, ◌∙◌, ap, Bool, true, false, List, [], ◌∷◌, ◌++◌, Option, Some, None, Ok, Err, append_assoc, append-nil, subst}
+use Rattle.std.proofs.Common.{◌≡◌, ◌≢◌, Result, inl, inr, ℕ, ◌+◌, refl, sym, ◌∙◌, ap, arith, Bool, true, false, List, [], ◌∷◌, ◌++◌, length, take, Option, Some, None, Ok, Err, append_assoc, append-nil, subst, length-append}
+use Rattle.std.proofs.Math.Seq.{take-append_seam}
 use Rattle.wire_message.specs.Front.{Seen}
 use Rattle.wire_message.specs.declared.error.Error.{Error}
 use Rattle.peer_route.specs.declared.words.Words.{Words}
@@ -9,7 +10,7 @@ use Rattle.peer_route.specs.declared.answer.Answer.TheVariants as answers
 use Rattle.peer_route.specs.declared.answer.Entry.{Entry}
 use Rattle.peer_route.specs.declared.writer.Writer.{Writer}
 use Rattle.peer_route.specs.declared.writer.Writer.TheVariants as writers
-use Rattle.peer_route.specs.History.{Event, Did, Gone, closing, put, is_failed, in_flight, writer}
+use Rattle.peer_route.specs.History.{Event, Did, Gone, closing, put, written, is_failed, in_flight, writer}
 use Rattle.peer_route.specs.Streams.{asks_bus, leaving, close_waits, gone_then}
 use Rattle.peer_route.specs.BusCall.{add_message, remove_message, some_rules}
 use Rattle.peer_route.proofs.Writers.{fine_unfailed, writer_stays, shut_writer}
@@ -19,14 +20,20 @@ use Rattle.rule_match.specs.Rule.{Rule}
 use Rattle.rule_match.specs.Bytes.{rule_in_bytes}
 use Rattle.peer_route.specs.Answers.{IsAnswer, IsClose, IsCalled, IsSendOf, IsNewOf, IsRuleOf, IsOpenOf, tell_refusal, WentOut, IsToldBy, IsTold, IsLeaveBy, IsLeaveAt, IsLeaveOf, are_open_at, Legal, sent_answer}
 use Rattle.peer_route.specs.StreamLaws.{sent_of, sent_by, asked_by, tellings, first_one, told_by, sent_in, all_sent, IsPutOf}
+use Rattle.peer_route.proofs.Written.{written_sent}
 use Rattle.peer_route.proofs.Tellings.{wrote_all_put, fault_all_put, first_all_put, wrote_all_failed, fault_all_failed, first_all_failed}
+
+-- what was put, where its order alone is looked at: what was sent, and after a failed write a message behind it
+abbrev IsPutBy : Bool → List Seen → List Seen → Type 0
+IsPutBy false put sent = put ≡ sent
+IsPutBy true put sent = (m : Seen) × (more : List Seen) × (put ≡ sent ++ m ∷ more)
 
 -- what events that send nothing leave
 record SendsNone (g h : List Event) : Type 0 where
   put_same : put g ≡ put h
   failed_same : is_failed g ≡ is_failed h
 
-none_sent : (g h : List Event) (sent : List Seen) → SendsNone g h → IsPutOf (is_failed h) (put h) sent → IsPutOf (is_failed g) (put g) (sent ++ [])
+none_sent : (g h : List Event) (sent : List Seen) → SendsNone g h → IsPutBy (is_failed h) (put h) sent → IsPutBy (is_failed g) (put g) (sent ++ [])
 none_sent g h sent n p = rw (n.failed_same, n.put_same, append-nil sent) p
 
 read_none : (o : Option Error) (a : Answer) (h : List Event) → SendsNone (read_events o a ++ h) h
@@ -92,84 +99,83 @@ main_none limit a h = record { put_same = refl; failed_same = refl }
 
 -- a message that went out
 put_sent_now : (h : List Event) (parcel : Parcel) (expects : Bool) (call serial : ℕ) (sent : List Seen) → is_failed h ≡ false → put h ≡ sent
-    → IsPutOf (is_failed (send_events h (Ok parcel) (sent_answer expects call serial) ++ h)) (put (send_events h (Ok parcel) (sent_answer expects call serial) ++ h))
+    → IsPutBy (is_failed (send_events h (Ok parcel) (sent_answer expects call serial) ++ h)) (put (send_events h (Ok parcel) (sent_answer expects call serial) ++ h))
     (sent ++ sent_of (Ok parcel) (sent_answer expects call serial))
 put_sent_now h parcel true call serial sent f p = rw f (ap (λ ms. ms ++ message_of parcel serial ∷ []) p)
 put_sent_now h parcel false call serial sent f p = rw f (ap (λ ms. ms ++ message_of parcel serial ∷ []) p)
 
 -- a message that was sent, failed or was refused, where there was one
 sent_parcel : (h : List Event) (parcel : Parcel) (r : Option Error) (w : Writer) (expects : Bool) (call serial : ℕ) (a : Answer) (sent : List Seen) → writer h ≡ w
-    → IsCalled r w (sent_answer expects call serial) a → IsPutOf (is_failed h) (put h) sent
-    → IsPutOf (is_failed (send_events h (Ok parcel) a ++ h)) (put (send_events h (Ok parcel) a ++ h)) (sent ++ sent_of (Ok parcel) a)
+    → IsCalled r w (sent_answer expects call serial) a → IsPutBy (is_failed h) (put h) sent
+    → IsPutBy (is_failed (send_events h (Ok parcel) a ++ h)) (put (send_events h (Ok parcel) a ++ h)) (sent ++ sent_of (Ok parcel) a)
 sent_parcel h parcel (Some error) w expects call serial a sent f is p = rw is (rw (append-nil sent) p)
 sent_parcel h parcel None writers.Failed expects call serial a sent f is p = rw (is, f) (rw (append-nil sent) p)
 sent_parcel h parcel None writers.Closed expects call serial a sent f is p = rw (is, f) (rw (append-nil sent) p)
 sent_parcel h parcel None writers.Fine expects call serial a sent f (inl is) p =
     let unfailed = fine_unfailed h f in
-    rw is (put_sent_now h parcel expects call serial sent unfailed (subst (λ b. IsPutOf b (put h) sent) unfailed p))
+    rw is (put_sent_now h parcel expects call serial sent unfailed (subst (λ b. IsPutBy b (put h) sent) unfailed p))
 sent_parcel h parcel None writers.Fine expects call serial a sent f (inr is) p =
     let m = message_of parcel (or_zero (next_serial h)) in
-    let same : put h ≡ sent = subst (λ b. IsPutOf b (put h) sent) (fine_unfailed h f) p in
+    let same : put h ≡ sent = subst (λ b. IsPutBy b (put h) sent) (fine_unfailed h f) p in
     rw (is, f) (m, [], ap (λ ms. ms ++ m ∷ []) (same ∙ sym (append-nil sent)))
 
 -- and where there was none
-sent_asked : (t : Trail) (lane : ℕ) (asked : Asked) (a : Answer) (sent : List Seen) → IsSendOf t lane asked a → IsPutOf (is_failed t.events) (put t.events) sent
-    → IsPutOf (is_failed (send_events t.events asked a ++ t.events)) (put (send_events t.events asked a ++ t.events)) (sent ++ sent_by (Some asked) a)
+sent_asked : (t : Trail) (lane : ℕ) (asked : Asked) (a : Answer) (sent : List Seen) → IsSendOf t lane asked a → IsPutBy (is_failed t.events) (put t.events) sent
+    → IsPutBy (is_failed (send_events t.events asked a ++ t.events)) (put (send_events t.events asked a ++ t.events)) (sent ++ sent_by (Some asked) a)
 sent_asked t lane (Ok parcel) a sent is p = sent_parcel t.events parcel _ (writer t.events) _ _ _ a sent refl is p
-sent_asked t lane (Err error) a sent is p = subst (λ ms. IsPutOf (is_failed t.events) (put t.events) ms) (sym (append-nil sent)) p
+sent_asked t lane (Err error) a sent is p = subst (λ ms. IsPutBy (is_failed t.events) (put t.events) ms) (sym (append-nil sent)) p
 
 -- ---- a stream of a rule
 
 -- an AddMatch that went out, failed or was refused
 asks_parcel : (h : List Event) (rule : Rule) (asked : Option ℕ) (r : Option Error) (w : Writer) (number serial : ℕ) (a : Answer) (sent : List Seen) → writer h ≡ w
-    → IsCalled r w (answers.Opening number serial) a → IsPutOf (is_failed h) (put h) sent
-    → IsPutOf (is_failed (open_makes h (Ok rule) asked a ++ h)) (put (open_makes h (Ok rule) asked a ++ h)) (sent ++ asked_by h (Ok rule) a)
+    → IsCalled r w (answers.Opening number serial) a → IsPutBy (is_failed h) (put h) sent
+    → IsPutBy (is_failed (open_makes h (Ok rule) asked a ++ h)) (put (open_makes h (Ok rule) asked a ++ h)) (sent ++ asked_by h (Ok rule) a)
 asks_parcel h rule asked (Some error) w number serial a sent f is p = rw is (rw (append-nil sent) p)
 asks_parcel h rule asked None writers.Failed number serial a sent f is p = rw (is, f) (rw (append-nil sent) p)
 asks_parcel h rule asked None writers.Closed number serial a sent f is p = rw (is, f) (rw (append-nil sent) p)
 asks_parcel h rule asked None writers.Fine number serial a sent f (inl is) p =
     let unfailed = fine_unfailed h f in
-    let same : put h ≡ sent = subst (λ b. IsPutOf b (put h) sent) unfailed p in
+    let same : put h ≡ sent = subst (λ b. IsPutBy b (put h) sent) unfailed p in
     rw (is, unfailed) (ap (λ ms. ms ++ add_message h rule serial ∷ []) same)
 asks_parcel h rule asked None writers.Fine number serial a sent f (inr is) p =
     let m = add_message h rule (or_zero (next_serial h)) in
-    let same : put h ≡ sent = subst (λ b. IsPutOf b (put h) sent) (fine_unfailed h f) p in
+    let same : put h ≡ sent = subst (λ b. IsPutBy b (put h) sent) (fine_unfailed h f) p in
     rw (is, f) (m, [], ap (λ ms. ms ++ m ∷ []) (same ∙ sym (append-nil sent)))
 
-sent_new : (t : Trail) (lane : ℕ) (rule : Rule) (asked : Option ℕ) (asks : Bool) (a : Answer) (sent : List Seen) → IsNewOf t lane rule asks a → IsPutOf (is_failed t.events) (put t.events) sent
-    → IsPutOf (is_failed (open_makes t.events (Ok rule) asked a ++ t.events)) (put (open_makes t.events (Ok rule) asked a ++ t.events)) (sent ++ asked_by t.events (Ok rule) a)
-sent_new t lane rule asked true a sent (inl none) p = rw none.1 (rw (append-nil sent) p)
-sent_new t lane rule asked true a sent (inr is) p = asks_parcel t.events rule asked _ (writer t.events) _ _ a sent refl is.1 p
+sent_new : (t : Trail) (lane : ℕ) (rule : Rule) (asked : Option ℕ) (asks : Bool) (a : Answer) (sent : List Seen) → IsNewOf t lane rule asks a → IsPutBy (is_failed t.events) (put t.events) sent
+    → IsPutBy (is_failed (open_makes t.events (Ok rule) asked a ++ t.events)) (put (open_makes t.events (Ok rule) asked a ++ t.events)) (sent ++ asked_by t.events (Ok rule) a)
+sent_new t lane rule asked true a sent is p = asks_parcel t.events rule asked _ (writer t.events) _ _ a sent refl is p
 sent_new t lane rule asked false a sent is p = rw is (rw (append-nil sent) p)
 
-sent_rule : (t : Trail) (lane : ℕ) (rule : Rule) (asked : Option ℕ) (o : Option Error) (flies : Bool) (a : Answer) (sent : List Seen) → IsRuleOf t lane rule o flies a → IsPutOf (is_failed t.events) (put t.events) sent
-    → IsPutOf (is_failed (open_makes t.events (Ok rule) asked a ++ t.events)) (put (open_makes t.events (Ok rule) asked a ++ t.events)) (sent ++ asked_by t.events (Ok rule) a)
+sent_rule : (t : Trail) (lane : ℕ) (rule : Rule) (asked : Option ℕ) (o : Option Error) (flies : Bool) (a : Answer) (sent : List Seen) → IsRuleOf t lane rule o flies a → IsPutBy (is_failed t.events) (put t.events) sent
+    → IsPutBy (is_failed (open_makes t.events (Ok rule) asked a ++ t.events)) (put (open_makes t.events (Ok rule) asked a ++ t.events)) (sent ++ asked_by t.events (Ok rule) a)
 sent_rule t lane rule asked (Some error) flies a sent is p = rw is (rw (append-nil sent) p)
 sent_rule t lane rule asked None true a sent is p = rw is (rw (append-nil sent) p)
 sent_rule t lane rule asked None false a sent is p = sent_new t lane rule asked (asks_bus t.events rule) a sent is p
 
-sent_open : (t : Trail) (lane : ℕ) (found : Result Rule Error) (asked : Option ℕ) (a : Answer) (sent : List Seen) → IsOpenOf t lane found a → IsPutOf (is_failed t.events) (put t.events) sent
-    → IsPutOf (is_failed (open_makes t.events found asked a ++ t.events)) (put (open_makes t.events found asked a ++ t.events)) (sent ++ asked_by t.events found a)
+sent_open : (t : Trail) (lane : ℕ) (found : Result Rule Error) (asked : Option ℕ) (a : Answer) (sent : List Seen) → IsOpenOf t lane found a → IsPutBy (is_failed t.events) (put t.events) sent
+    → IsPutBy (is_failed (open_makes t.events found asked a ++ t.events)) (put (open_makes t.events found asked a ++ t.events)) (sent ++ asked_by t.events found a)
 sent_open t lane (Ok rule) asked a sent is p = sent_rule t lane rule asked (closing t.events) (in_flight t.events) a sent is p
 sent_open t lane (Err error) asked a sent is p = rw (append-nil sent) p
 
 -- ---- streams that are closed
 
 -- messages that went out, after those before
-put_more : (failed now : Bool) (was is more sent : List Seen) → now ≡ failed → is ≡ was ++ more → failed ≡ false → IsPutOf failed was sent → IsPutOf now is (sent ++ more)
+put_more : (failed now : Bool) (was is more sent : List Seen) → now ≡ failed → is ≡ was ++ more → failed ≡ false → IsPutBy failed was sent → IsPutBy now is (sent ++ more)
 put_more failed now was is more sent e s unfailed p =
-    let same : was ≡ sent = subst (λ b. IsPutOf b was sent) unfailed p in
+    let same : was ≡ sent = subst (λ b. IsPutBy b was sent) unfailed p in
     rw (e, unfailed) (s ∙ ap (λ ms. ms ++ more) same)
 
 -- and then one whose write failed
-put_fault : (failed now : Bool) (was is told before more sent : List Seen) (m : Seen) → now ≡ true → is ≡ was ++ (before ++ m ∷ more) → told ≡ before → failed ≡ false → IsPutOf failed was sent
-    → IsPutOf now is (sent ++ told)
+put_fault : (failed now : Bool) (was is told before more sent : List Seen) (m : Seen) → now ≡ true → is ≡ was ++ (before ++ m ∷ more) → told ≡ before → failed ≡ false → IsPutBy failed was sent
+    → IsPutBy now is (sent ++ told)
 put_fault failed now was is told before more sent m e s t unfailed p =
-    let same : was ≡ sent = subst (λ b. IsPutOf b was sent) unfailed p in
+    let same : was ≡ sent = subst (λ b. IsPutBy b was sent) unfailed p in
     rw (e, t) (m, more, s ∙ ap (λ ms. ms ++ (before ++ m ∷ more)) same ∙ sym (append_assoc sent before (m ∷ more)))
 
 -- nothing was put
-put_none : (failed now : Bool) (was is told sent : List Seen) → now ≡ failed → is ≡ was → told ≡ [] → IsPutOf failed was sent → IsPutOf now is (sent ++ told)
+put_none : (failed now : Bool) (was is told sent : List Seen) → now ≡ failed → is ≡ was → told ≡ [] → IsPutBy failed was sent → IsPutBy now is (sent ++ told)
 put_none failed now was is told sent e s t p = rw (e, s, t, append-nil sent) p
 
 gone_writer : (k : ℕ) (j : Option ℕ) (h : List Event) → writer (gone_then j (Did k Gone ∷ h)) ≡ writer h
@@ -179,14 +185,14 @@ gone_writer k (Some j) h = refl
 -- what was put by the entry's answer
 abbrev LeavePuts : List Event → ℕ → Option ℕ → Answer → List Seen → Type 0
 LeavePuts h k j a sent =
-    IsPutOf (is_failed (unstream_does h (Some k) j a ++ h)) (put (unstream_does h (Some k) j a ++ h)) (sent ++ told_by h (Some k) j a)
+    IsPutBy (is_failed (unstream_does h (Some k) j a ++ h)) (put (unstream_does h (Some k) j a ++ h)) (sent ++ told_by h (Some k) j a)
 
-untold_put : (h : List Event) (k : ℕ) (j : Option ℕ) (error : Error) (a : Answer) (sent : List Seen) → a ≡ answers.Untold error → IsPutOf (is_failed h) (put h) sent → LeavePuts h k j a sent
+untold_put : (h : List Event) (k : ℕ) (j : Option ℕ) (error : Error) (a : Answer) (sent : List Seen) → a ≡ answers.Untold error → IsPutBy (is_failed h) (put h) sent → LeavePuts h k j a sent
 untold_put h k j error a sent is p = let n = gone_none k j h in subst (λ x. LeavePuts h k j x sent) (sym is) (none_sent _ h sent n p)
 
 -- where there are rules, and the peer writes
 out_put : (h : List Event) (k : ℕ) (j : Option ℕ) (rule : Rule) (more : List Rule) (a : Answer) (sent : List Seen) → leaving h k j ≡ rule ∷ more → writer h ≡ writers.Fine
-    → WentOut (gone_then j (Did k Gone ∷ h)) (rule ∷ more) a → IsPutOf (is_failed h) (put h) sent → LeavePuts h k j a sent
+    → WentOut (gone_then j (Did k Gone ∷ h)) (rule ∷ more) a → IsPutBy (is_failed h) (put h) sent → LeavePuts h k j a sent
 out_put h k j rule more a sent e fine (inl is) p =
     subst (λ x. LeavePuts h k j x sent) (sym is)
     (put_more (is_failed h) (is_failed (leave_with wrote_each h k j ++ h)) (put h) (put (leave_with wrote_each h k j ++ h)) (tellings (gone_then j (Did k Gone ∷ h)) (leaving h k j)) sent
@@ -209,47 +215,46 @@ out_put h k j rule (second ∷ more) a sent e fine (inr (inr is)) p =
     (first_all_put h k j ∙ ap (λ rs. put h ++ tellings g rs) e) (ap (λ rs. first_one (tellings g rs)) e) (fine_unfailed h fine) p)
 
 told_put_by : (h : List Event) (k : ℕ) (j : Option ℕ) (r : Option Error) (w : Writer) (rule : Rule) (more : List Rule) (a : Answer) (sent : List Seen) → leaving h k j ≡ rule ∷ more → writer h ≡ w
-    → IsToldBy r w (gone_then j (Did k Gone ∷ h)) (rule ∷ more) a → IsPutOf (is_failed h) (put h) sent → LeavePuts h k j a sent
+    → IsToldBy r w (gone_then j (Did k Gone ∷ h)) (rule ∷ more) a → IsPutBy (is_failed h) (put h) sent → LeavePuts h k j a sent
 told_put_by h k j (Some error) w rule more a sent e f is p = untold_put h k j error a sent is p
 told_put_by h k j None writers.Failed rule more a sent e f is p = untold_put h k j _ a sent is p
 told_put_by h k j None writers.Closed rule more a sent e f is p = untold_put h k j _ a sent is p
 told_put_by h k j None writers.Fine rule more a sent e f is p = out_put h k j rule more a sent e f is p
 
 told_put : (h : List Event) (k : ℕ) (j : Option ℕ) (rules : List Rule) (a : Answer) (sent : List Seen) → leaving h k j ≡ rules → IsTold (gone_then j (Did k Gone ∷ h)) rules a
-    → IsPutOf (is_failed h) (put h) sent → LeavePuts h k j a sent
+    → IsPutBy (is_failed h) (put h) sent → LeavePuts h k j a sent
 told_put h k j [] a sent e is p =
     let g = gone_then j (Did k Gone ∷ h) in
     subst (λ x. LeavePuts h k j x sent) (sym is)
     (put_none (is_failed h) (is_failed (leave_with wrote_each h k j ++ h)) (put h) (put (leave_with wrote_each h k j ++ h)) (tellings g (leaving h k j)) sent
     (wrote_all_failed h k j) (wrote_all_put h k j ∙ ap (λ rs. put h ++ tellings g rs) e ∙ append-nil (put h)) (ap (tellings g) e) p)
-told_put h k j (rule ∷ more) a sent e (inl none) p = untold_put h k j _ a sent none.1 p
-told_put h k j (rule ∷ more) a sent e (inr is) p =
+told_put h k j (rule ∷ more) a sent e is p =
     let g = gone_then j (Did k Gone ∷ h) in
-    told_put_by h k j (tell_refusal g (rule ∷ more)) (writer g) rule more a sent e (sym (gone_writer k j h)) is.1 p
+    told_put_by h k j (tell_refusal g (rule ∷ more)) (writer g) rule more a sent e (sym (gone_writer k j h)) is p
 
-sent_leave_by : (h : List Event) (k : ℕ) (j : Option ℕ) (waits : Bool) (a : Answer) (sent : List Seen) → IsLeaveBy waits h k j a → IsPutOf (is_failed h) (put h) sent → LeavePuts h k j a sent
+sent_leave_by : (h : List Event) (k : ℕ) (j : Option ℕ) (waits : Bool) (a : Answer) (sent : List Seen) → IsLeaveBy waits h k j a → IsPutBy (is_failed h) (put h) sent → LeavePuts h k j a sent
 sent_leave_by h k j true a sent is p = subst (λ x. LeavePuts h k j x sent) (sym is) (rw (append-nil sent) p)
 sent_leave_by h k j false a sent is p = told_put h k j (leaving h k j) a sent refl is p
 
-sent_leave_at : (h : List Event) (o j : Option ℕ) (a : Answer) (sent : List Seen) → IsLeaveAt h o j a → IsPutOf (is_failed h) (put h) sent
-    → IsPutOf (is_failed (unstream_does h o j a ++ h)) (put (unstream_does h o j a ++ h)) (sent ++ told_by h o j a)
+sent_leave_at : (h : List Event) (o j : Option ℕ) (a : Answer) (sent : List Seen) → IsLeaveAt h o j a → IsPutBy (is_failed h) (put h) sent
+    → IsPutBy (is_failed (unstream_does h o j a ++ h)) (put (unstream_does h o j a ++ h)) (sent ++ told_by h o j a)
 sent_leave_at h None j a sent is p = rw (append-nil sent) p
 sent_leave_at h (Some k) j a sent is p = sent_leave_by h k j (close_waits h k j) a sent is p
 
-unknown_put : (h : List Event) (o j : Option ℕ) (error : Error) (sent : List Seen) → IsPutOf (is_failed h) (put h) sent
-    → IsPutOf (is_failed (unstream_does h o j (answers.Refused error) ++ h)) (put (unstream_does h o j (answers.Refused error) ++ h)) (sent ++ told_by h o j (answers.Refused error))
+unknown_put : (h : List Event) (o j : Option ℕ) (error : Error) (sent : List Seen) → IsPutBy (is_failed h) (put h) sent
+    → IsPutBy (is_failed (unstream_does h o j (answers.Refused error) ++ h)) (put (unstream_does h o j (answers.Refused error) ++ h)) (sent ++ told_by h o j (answers.Refused error))
 unknown_put h None j error sent p = rw (append-nil sent) p
 unknown_put h (Some k) j error sent p = rw (append-nil sent) p
 
-sent_leave : (h : List Event) (there : Bool) (o j : Option ℕ) (a : Answer) (sent : List Seen) → IsLeaveOf there h o j a → IsPutOf (is_failed h) (put h) sent
-    → IsPutOf (is_failed (unstream_does h o j a ++ h)) (put (unstream_does h o j a ++ h)) (sent ++ told_by h o j a)
+sent_leave : (h : List Event) (there : Bool) (o j : Option ℕ) (a : Answer) (sent : List Seen) → IsLeaveOf there h o j a → IsPutBy (is_failed h) (put h) sent
+    → IsPutBy (is_failed (unstream_does h o j a ++ h)) (put (unstream_does h o j a ++ h)) (sent ++ told_by h o j a)
 sent_leave h true o j a sent is p = sent_leave_at h o j a sent is p
 sent_leave h false o j a sent is p = rw is (unknown_put h o j _ sent p)
 
 -- ---- every entry
 
-sent_step : (t : Trail) (lane : ℕ) (w : Words) (a : Answer) (sent : List Seen) → IsAnswer t lane w a → IsPutOf (is_failed t.events) (put t.events) sent
-    → IsPutOf (is_failed (events_of t lane w a ++ t.events)) (put (events_of t lane w a ++ t.events)) (sent ++ sent_in t lane w a)
+sent_step : (t : Trail) (lane : ℕ) (w : Words) (a : Answer) (sent : List Seen) → IsAnswer t lane w a → IsPutBy (is_failed t.events) (put t.events) sent
+    → IsPutBy (is_failed (events_of t lane w a ++ t.events)) (put (events_of t lane w a ++ t.events)) (sent ++ sent_in t lane w a)
 sent_step t lane (words.Call out) a sent is p = sent_asked t lane _ a sent is p
 sent_step t lane (words.Signal out) a sent is p = sent_asked t lane _ a sent is p
 sent_step t lane (words.Reply stream body) a sent is p = sent_asked t lane _ a sent is p
@@ -275,21 +280,33 @@ pub trail_setting : (setting : Setting) (es : List Entry) → (trail setting es)
 trail_setting setting [] = refl
 trail_setting setting (e ∷ es) = trail_setting setting es
 
-sent_queue : (queue : Option ℕ) → IsPutOf (is_failed (queue_set queue)) (put (queue_set queue)) []
+sent_queue : (queue : Option ℕ) → IsPutBy (is_failed (queue_set queue)) (put (queue_set queue)) []
 sent_queue None = refl
 sent_queue (Some limit) = refl
 
-sent_bus : (bus : Bool) (queue : Option ℕ) → IsPutOf (is_failed (bus_set bus (queue_set queue))) (put (bus_set bus (queue_set queue))) []
+sent_bus : (bus : Bool) (queue : Option ℕ) → IsPutBy (is_failed (bus_set bus (queue_set queue))) (put (bus_set bus (queue_set queue))) []
 sent_bus true queue = sent_queue queue
 sent_bus false queue = sent_queue queue
 
-sent_first : (bus : Bool) (name : Option (List ℕ)) (queue : Option ℕ) → IsPutOf (is_failed (first_events bus name queue)) (put (first_events bus name queue)) []
+sent_first : (bus : Bool) (name : Option (List ℕ)) (queue : Option ℕ) → IsPutBy (is_failed (first_events bus name queue)) (put (first_events bus name queue)) []
 sent_first bus None queue = sent_bus bus queue
 sent_first bus (Some name) queue = sent_bus bus queue
 
-pub put_sent : (setting : Setting) (es : List Entry) → Legal setting es → IsPutOf (is_failed (trail setting es).events) (put (trail setting es).events) (all_sent setting es)
-put_sent setting [] legal = sent_first setting.bus setting.name setting.queue
-put_sent setting (e ∷ es) legal = sent_step (trail setting es) e.lane e.words e.answer (all_sent setting es) legal.0 (put_sent setting es legal.1)
+put_by : (setting : Setting) (es : List Entry) → Legal setting es → IsPutBy (is_failed (trail setting es).events) (put (trail setting es).events) (all_sent setting es)
+put_by setting [] legal = sent_first setting.bus setting.name setting.queue
+put_by setting (e ∷ es) legal = sent_step (trail setting es) e.lane e.words e.answer (all_sent setting es) legal.0 (put_by setting es legal.1)
+
+counted : (failed : Bool) (count : ℕ) (put sent : List Seen) → count ≡ length sent → IsPutBy failed put sent → IsPutOf failed count put sent
+counted false count put sent c p = (c ∙ ap length (sym p), sym p)
+counted true count put sent c p =
+    let long : length put ≡ length sent + length (p.0 ∷ p.1) = ap length p.2 ∙ length-append sent (p.0 ∷ p.1) in
+    (omega (arith, c, long), sym (ap (λ n. take n put) c ∙ ap (take (length sent)) p.2 ∙ take-append_seam sent (p.0 ∷ p.1)))
+
+pub put_sent : (setting : Setting) (es : List Entry) → Legal setting es
+    → IsPutOf (is_failed (trail setting es).events) (written (trail setting es).events) (put (trail setting es).events) (all_sent setting es)
+put_sent setting es legal =
+    counted (is_failed (trail setting es).events) (written (trail setting es).events) (put (trail setting es).events) (all_sent setting es)
+    (written_sent setting es) (put_by setting es legal)
 
 -- ---- after closing
 
@@ -316,9 +333,8 @@ stuck_add h rule asked None writers.Closed number serial a f ne is = rw (is, f) 
 
 stuck_new : (t : Trail) (lane : ℕ) (rule : Rule) (asked : Option ℕ) (asks : Bool) (a : Answer) → writer t.events ≢ writers.Fine → IsNewOf t lane rule asks a
     → SendsNone (open_makes t.events (Ok rule) asked a ++ t.events) t.events
-stuck_new t lane rule asked true a ne (inl none) = rw none.1 (record { put_same = refl; failed_same = refl })
-stuck_new t lane rule asked true a ne (inr is) =
-    let none = stuck_add t.events rule asked _ (writer t.events) _ _ a refl ne is.1 in
+stuck_new t lane rule asked true a ne is =
+    let none = stuck_add t.events rule asked _ (writer t.events) _ _ a refl ne is in
     record { put_same = ap (λ xs. put (xs ++ t.events)) none; failed_same = ap (λ xs. is_failed (xs ++ t.events)) none }
 stuck_new t lane rule asked false a ne is = rw is (record { put_same = refl; failed_same = refl })
 
@@ -349,10 +365,9 @@ stuck_told h k j [] a e ne is =
       put_same = wrote_all_put h k j ∙ ap (λ rs. put h ++ tellings (gone_then j (Did k Gone ∷ h)) rs) e ∙ append-nil (put h);
       failed_same = wrote_all_failed h k j;
     })
-stuck_told h k j (rule ∷ more) a e ne (inl none) = subst (LeavesNone h (Some k) j) (sym none.1) (gone_none k j h)
-stuck_told h k j (rule ∷ more) a e ne (inr is) =
+stuck_told h k j (rule ∷ more) a e ne is =
     let g = gone_then j (Did k Gone ∷ h) in
-    stuck_told_by h k j (tell_refusal g (rule ∷ more)) (writer g) (rule ∷ more) a (λ q. ne (sym (gone_writer k j h) ∙ q)) is.1
+    stuck_told_by h k j (tell_refusal g (rule ∷ more)) (writer g) (rule ∷ more) a (λ q. ne (sym (gone_writer k j h) ∙ q)) is
 
 stuck_leave_by : (h : List Event) (k : ℕ) (j : Option ℕ) (waits : Bool) (a : Answer) → writer h ≢ writers.Fine → IsLeaveBy waits h k j a → LeavesNone h (Some k) j a
 stuck_leave_by h k j true a ne is = subst (LeavesNone h (Some k) j) (sym is) (record { put_same = refl; failed_same = refl })

@@ -7,10 +7,7 @@ use Rattle.wire_message.specs.declared.kind.MessageType.TheVariants as types
 use Rattle.wire_message.specs.declared.error.Error.{Error}
 use Rattle.wire_message.specs.declared.error.Error.TheVariants as errors
 use Rattle.wire_message.specs.declared.error.IoKind.TheVariants as kinds
-use Rattle.wire_signature.specs.declared.error.VariantError.TheVariants as faults
-use Rattle.wire_tree.specs.Datum.{string, IsTextOf}
 use Rattle.rule_match.specs.Rule.{Rule}
-use Rattle.rule_match.specs.Text.{rule_text}
 use Rattle.rule_match.specs.Bytes.{rule_in_bytes}
 use Rattle.peer_route.specs.declared.writer.Writer.{Writer}
 use Rattle.peer_route.specs.declared.writer.Writer.TheVariants as writers
@@ -27,7 +24,7 @@ use Rattle.peer_route.specs.declared.progress.OpenState.{OpenState}
 use Rattle.peer_route.specs.declared.progress.OpenState.TheVariants as states
 use Rattle.peer_route.specs.History.{Event, Did, Gone, read, closing, writer, in_flight, unique_name, poll_answer, by_position, drop_answer}
 use Rattle.peer_route.specs.Streams.{busy, take_answer, is_open, asks_bus, leaving, close_waits, gone_then, opening_answer}
-use Rattle.peer_route.specs.BusCall.{add_parcel, remove_message, last_of, some_rules, SomeNoText, AreTexts}
+use Rattle.peer_route.specs.BusCall.{add_parcel, remove_message, last_of, some_rules}
 use Rattle.peer_route.specs.Trail.{Trail, Names, trail, place, second_place, count, given, next_serial, or_zero, removal, removal_serials}
 
 -- ---- a message that is sent
@@ -166,13 +163,11 @@ are_open_at h lane names number (Some second) =
 
 -- ---- a stream of a rule
 
--- AddMatch is to be sent: where the rule's text is no string of a message, none is.
+-- AddMatch is to be sent.
 abbrev pub IsAskOf : Trail → ℕ → Rule → Answer → Type 0
 IsAskOf t lane rule answer =
-    ((IsTextOf string (rule_text rule) → ⊥) × (answer ≡ answers.Refused (errors.Variant faults.Malformed)))
-    ⊎ (IsTextOf string (rule_text rule)
-    × IsCalled (long_refusal (next_serial t.events) (add_parcel (unique_name t.events) rule)) (writer t.events)
-    (answers.Opening (count lane t.streams) (or_zero (next_serial t.events))) answer)
+    IsCalled (long_refusal (next_serial t.events) (add_parcel (unique_name t.events) rule)) (writer t.events)
+    (answers.Opening (count lane t.streams) (or_zero (next_serial t.events))) answer
 
 -- The bus has to be asked, or else the stream is open at once.
 abbrev pub IsNewOf : Trail → ℕ → Rule → Bool → Answer → Type 0
@@ -231,13 +226,10 @@ IsToldBy None writers.Failed h rules answer = answer ≡ answers.Untold (errors.
 IsToldBy None writers.Closed h rules answer = answer ≡ answers.Untold (errors.InputOutput kinds.Closed)
 IsToldBy None writers.Fine h rules answer = WentOut h rules answer
 
--- The bus is told of these rules, if there are any, once the streams are closed; where the text of one is no string of a message, it
--- isn't.
+-- The bus is told of these rules, if there are any, once the streams are closed.
 abbrev pub IsTold : List Event → List Rule → Answer → Type 0
 IsTold h [] answer = answer ≡ answers.Gone None
-IsTold h (rule ∷ rules) answer =
-    (SomeNoText (rule ∷ rules) × (answer ≡ answers.Untold (errors.Variant faults.Malformed)))
-    ⊎ (AreTexts (rule ∷ rules) × IsToldBy (tell_refusal h (rule ∷ rules)) (writer h) h (rule ∷ rules) answer)
+IsTold h (rule ∷ rules) answer = IsToldBy (tell_refusal h (rule ∷ rules)) (writer h) h (rule ∷ rules) answer
 
 -- Streams that are open are closed, unless that has to wait.
 abbrev pub IsLeaveBy : Bool → List Event → ℕ → Option ℕ → Answer → Type 0
@@ -262,11 +254,12 @@ IsClose answer = (answer ≡ answers.Shut) ⊎ (answer ≡ write_fault)
 
 -- The answer of a lane's command after this trail.
 abbrev pub IsAnswer : Trail → ℕ → Words → Answer → Type 0
-IsAnswer t lane (words.Call w) answer = IsSendOf t lane (call_asked t.setting w) answer
-IsAnswer t lane (words.Signal w) answer = IsSendOf t lane (signal_asked t.setting w) answer
-IsAnswer t lane (words.Reply stream body) answer = IsSendOf t lane (reply_asked t.setting (given t lane stream) body) answer
-IsAnswer t lane (words.Error stream name body) answer =
-    IsSendOf t lane (error_asked t.setting (given t lane stream) name body) answer
+IsAnswer t lane (words.Call w) answer = IsSendOf t lane (call_asked (unique_name t.events) t.setting.takes_fds w) answer
+IsAnswer t lane (words.Signal w) answer = IsSendOf t lane (signal_asked (unique_name t.events) t.setting.takes_fds w) answer
+IsAnswer t lane (words.Reply stream body) answer =
+    IsSendOf t lane (reply_asked (unique_name t.events) (given t lane stream) body) answer
+IsAnswer t lane (words.Error stream text body) answer =
+    IsSendOf t lane (error_asked (unique_name t.events) (given t lane stream) text body) answer
 IsAnswer t lane words.Read answer = IsReadOf (closing t.events) (busy t.events) (length (read t.events)) answer
 IsAnswer t lane (words.Poll number) answer = answer ≡ poll_of t.events (place 0 lane number t.names)
 IsAnswer t lane (words.Before number before) answer = answer ≡ before_of t.events (place 0 lane number t.names)

@@ -1,8 +1,7 @@
 -- What a peer asks of the bus for its streams, and what opening a stream of a rule gives (D-Bus Specification, "Message Bus
 -- Messages", `org.freedesktop.DBus.AddMatch` and `org.freedesktop.DBus.RemoveMatch`).
-use Rattle.std.specs.Prelude.{ℕ, ◌≡◌, ◌+◌, ◌<◌, ◌≤◌, true, false, List, [], ◌∷◌, length, Option, None, IsSome, Result, Ok, Err}
-use Rattle.wire_signature.specs.declared.error.VariantError.TheVariants as faults
-use Rattle.wire_tree.specs.Datum.{Datum, text, string, IsTextOf}
+use Rattle.std.specs.Prelude.{ℕ, ⊤, ◌≡◌, ◌+◌, ◌<◌, ◌≤◌, nat_le, Bool, true, false, List, [], ◌∷◌, length, map, Option, Some, None, IsSome, Result, Ok, Err}
+use Rattle.wire_tree.specs.Datum.{Datum, text, string}
 use Rattle.wire_message.specs.Circle.{IsNext, AllTaken}
 use Rattle.wire_message.specs.declared.error.Error.{Error}
 use Rattle.wire_message.specs.declared.error.Error.TheVariants as errors
@@ -16,22 +15,23 @@ use Rattle.peer_route.specs.declared.opening.Opened.{Opened}
 use Rattle.peer_route.specs.declared.opening.Opened.TheVariants as opened
 use Rattle.peer_route.specs.declared.progress.OpenState.{OpenState}
 use Rattle.peer_route.specs.declared.progress.OpenState.TheVariants as states
-use Rattle.peer_route.specs.Parcel.{Parcel, message_of}
+use Rattle.peer_route.specs.Parcel.{Parcel, message_of, sent_by}
 use Rattle.peer_route.specs.History.{Event, Made, Ruled, Added, closing, pending, last_serial, writer, put, in_flight}
 use Rattle.peer_route.specs.Streams.{streams, asks_bus}
 use Rattle.peer_route.specs.declared.opening.Opening.{Opening}
+use Rattle.peer_route.specs.declared.opening.RuleCall.{RuleCall}
 use Rattle.peer_route.specs.declared.route.Issued.{Issued}
-use Rattle.peer_route.specs.BusCall.{add_parcel, add_message}
+use Rattle.peer_route.specs.BusCall.{bus_draft, add_parcel, add_message}
 use Rattle.peer_route.specs.Issuing.{IsShort}
 use Rattle.peer_route.specs.Left.{View, with_asking, Left}
-use Rattle.peer_route.specs.Placing.{Draws, with_messages, PutsAll}
+use Rattle.peer_route.specs.Placing.{Draws, Spends, with_messages, PutsAll}
 
 -- The stream is open at once; or AddMatch was put, and it waits for the return.
 abbrev pub IsOpened : View → Rule → Option ℕ → List Event → Opens → Type 0
 IsOpened new rule asked h (opens.Open stream) =
     (asks_bus h rule ≡ false) × (stream.number ≡ length (streams h)) × Left new (Made (Ruled rule asked) ∷ h)
 IsOpened new rule asked h (opens.Opening o) =
-    (asks_bus h rule ≡ true) × IsTextOf string (rule_text rule) × (writer h ≡ writers.Fine) × IsNext (pending h) (last_serial h) o.serial
+    (asks_bus h rule ≡ true) × (writer h ≡ writers.Fine) × IsNext (pending h) (last_serial h) o.serial
     × (length (add_message h rule o.serial).bytes ≤ 134217728)
     × (o.number ≡ length (streams h)) × (o.index ≡ length (put h)) × Left new (Added (add_message h rule o.serial) rule asked ∷ h)
 
@@ -39,22 +39,16 @@ IsOpened new rule asked h (opens.Opening o) =
 abbrev pub WouldAsk : List Event → Rule → Type 0
 WouldAsk h rule = (closing h ≡ None) × (in_flight h ≡ false) × (asks_bus h rule ≡ true)
 
--- and there is a message to ask it by
-abbrev pub WouldSend : List Event → Rule → Type 0
-WouldSend h rule = WouldAsk h rule × IsTextOf string (rule_text rule)
-
 -- What opening a stream of this rule gives. An error changes nothing.
 abbrev pub OpensRule : View → View → Rule → Option ℕ → List Event → Result Opens Error → Type 0
 OpensRule old new rule asked h (Ok o) = (closing h ≡ None) × (in_flight h ≡ false) × IsOpened new rule asked h o
 OpensRule old new rule asked h (Err (errors.InputOutput kinds.Closed)) = IsSome (closing h) × (new ≡ old)
 OpensRule old new rule asked h (Err errors.Busy) = (closing h ≡ None) × (in_flight h ≡ true) × (new ≡ old)
--- the rule's text is no string of a message: it is longer than 4,294,967,295 bytes
-OpensRule old new rule asked h (Err (errors.Variant faults.Malformed)) = WouldAsk h rule × (IsTextOf string (rule_text rule) → ⊥) × (new ≡ old)
-OpensRule old new rule asked h (Err errors.SerialsSpent) = WouldSend h rule × AllTaken (pending h) × (new ≡ old)
+OpensRule old new rule asked h (Err errors.SerialsSpent) = WouldAsk h rule × AllTaken (pending h) × (new ≡ old)
 OpensRule old new rule asked h (Err errors.ExcessData) =
-    WouldSend h rule × ((serial : ℕ) × IsNext (pending h) (last_serial h) serial × (134217728 < length (add_message h rule serial).bytes)) × (new ≡ old)
+    WouldAsk h rule × ((serial : ℕ) × IsNext (pending h) (last_serial h) serial × (134217728 < length (add_message h rule serial).bytes)) × (new ≡ old)
 OpensRule old new rule asked h (Err (errors.InputOutput kinds.WriteFault)) =
-    WouldSend h rule
+    WouldAsk h rule
     × ((serial : ℕ) × IsNext (pending h) (last_serial h) serial × (length (add_message h rule serial).bytes ≤ 134217728))
     × (writer h ≡ writers.Failed) × (new ≡ old)
 OpensRule old new rule asked h (Err errors.Memory) = new ≡ old
@@ -79,19 +73,42 @@ IsShownAs o state shown = ⊥
 
 -- ---- on the way
 
--- the body with a rule's text
-abbrev pub MakesBody : Result (List Datum) Error → Rule → Type 0
-MakesBody (Ok body) rule = (body ≡ text string (rule_text rule) ∷ []) × IsTextOf string (rule_text rule)
-MakesBody (Err (errors.Variant faults.Malformed)) rule = IsTextOf string (rule_text rule) → ⊥
-MakesBody (Err errors.Memory) rule = Unit {0}
+-- a string of a message may be as long as the rule's text
+abbrev pub fits_string : Rule → Bool
+fits_string rule = nat_le (length (rule_text rule)) 4294967295
+
+-- the body with a rule's text; None where no string may be as long
+abbrev pub MakesBody : Result (Option (List Datum)) Error → Rule → Type 0
+MakesBody (Ok (Some body)) rule = (body ≡ text string (rule_text rule) ∷ []) × (fits_string rule ≡ true)
+MakesBody (Ok None) rule = fits_string rule ≡ false
+MakesBody (Err errors.Memory) rule = ⊤
 MakesBody (Err error) rule = ⊥
 
--- the message with it, to be sent
-abbrev pub MakesLetter : Result Parcel Error → Parcel → Rule → Type 0
-MakesLetter (Ok letter) parcel rule = (letter ≡ parcel) × IsTextOf string (rule_text rule)
-MakesLetter (Err (errors.Variant faults.Malformed)) parcel rule = IsTextOf string (rule_text rule) → ⊥
-MakesLetter (Err errors.Memory) parcel rule = Unit {0}
-MakesLetter (Err error) parcel rule = ⊥
+abbrev pub body_if : Bool → Rule → List Datum
+body_if true rule = text string (rule_text rule) ∷ []
+body_if false rule = []
+
+-- The call about a rule: with the rule's text, or without it where no string may be as long.
+abbrev pub letter_about : List ℕ → Rule → Parcel
+letter_about member rule = record { draft = bus_draft None member; values = body_if (fits_string rule) rule; fds = [] }
+
+abbrev pub rule_call : List ℕ → Rule → RuleCall
+rule_call member rule = record { letter = letter_about member rule; fits = fits_string rule }
+
+-- what making it gives
+abbrev pub MakesLetter : Result RuleCall Error → List ℕ → Rule → Type 0
+MakesLetter (Ok call) member rule = call ≡ rule_call member rule
+MakesLetter (Err errors.Memory) member rule = ⊤
+MakesLetter (Err error) member rule = ⊥
+
+-- What putting such calls gives, by what is kept. Where one is without its rule's text, their serials are drawn, and they are refused as
+-- too long.
+abbrev pub PutsOwn : {A : Type 0} → Bool → (A → List Issued) → View → View → List Parcel → Result A Error → Type 0
+PutsOwn true items old new ps result = PutsAll true items old new (map (sent_by old.name false) ps) result
+PutsOwn false items old new ps (Err errors.SerialsSpent) = Spends true old.calls old.last ps
+PutsOwn false items old new ps (Err errors.ExcessData) = (serials : List ℕ) × Draws true old.calls old.last ps serials new.calls new.last
+PutsOwn false items old new ps (Err errors.Memory) = ⊤
+PutsOwn false items old new ps result = ⊥
 
 -- The AddMatch of a rule was put with this serial, and a stream waits for its return.
 pub record Asks (old new : View) (rule : Rule) (asked : Option ℕ) (o : Opening) : Type 0 where
@@ -99,17 +116,10 @@ pub record Asks (old new : View) (rule : Rule) (asked : Option ℕ) (o : Opening
   pub index : o.index ≡ length old.outbox
   pub drawn : Draws true old.calls old.last (add_parcel old.name rule ∷ []) (o.serial ∷ []) new.calls new.last
   pub short : IsShort (add_parcel old.name rule) o.serial
-  pub is_text : IsTextOf string (rule_text rule)
   pub fine : old.writer ≡ writers.Fine
   pub view : new ≡ record (with_messages old (message_of (add_parcel old.name rule) o.serial ∷ []) new.calls new.last) { streams = with_asking rule asked o.serial (length old.outbox) old.streams }
-
--- What putting the one message with a rule's text gives, by what is kept.
-abbrev pub PutsMatch : View → View → Parcel → Rule → Result Issued Error → Type 0
-PutsMatch old new parcel rule (Err (errors.Variant faults.Malformed)) = IsTextOf string (rule_text rule) → ⊥
-PutsMatch old new parcel rule (Err errors.Memory) = Unit {0}
-PutsMatch old new parcel rule result = IsTextOf string (rule_text rule) × PutsAll true (λ i. i ∷ []) old new (parcel ∷ []) result
 
 -- What putting the AddMatch of a rule gives, by what is kept.
 abbrev pub AsksFor : View → View → Rule → Option ℕ → Result Opening Error → Type 0
 AsksFor old new rule asked (Ok o) = Asks old new rule asked o
-AsksFor old new rule asked (Err error) = PutsMatch old new (add_parcel old.name rule) rule (Err error)
+AsksFor old new rule asked (Err error) = PutsAll true (λ (i : Issued). i ∷ []) old new (add_parcel old.name rule ∷ []) (Err error)

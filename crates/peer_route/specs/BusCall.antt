@@ -1,9 +1,8 @@
 -- The calls by which a peer asks the bus for what a rule accepts, and tells it that this isn't wanted any more (D-Bus
 -- Specification, "Message Bus Messages", `org.freedesktop.DBus.AddMatch` and `org.freedesktop.DBus.RemoveMatch`).
-use Rattle.std.specs.Prelude.{ℕ, Bool, true, false, ◌⊎◌, List, [], ◌∷◌, Option, Some, None, codes}
-use Rattle.std.specs.List.{AllByRecursion}
+use Rattle.std.specs.Prelude.{ℕ, Bool, true, false, List, [], ◌∷◌, Option, Some, None, codes}
 use Rattle.wire_number.specs.declared.endian.Endian.TheVariants.{Little}
-use Rattle.wire_tree.specs.Datum.{text, string, IsTextOf}
+use Rattle.wire_tree.specs.Datum.{text, string}
 use Rattle.wire_message.specs.Field.{no_fields}
 use Rattle.wire_message.specs.Front.{Seen}
 use Rattle.wire_message.specs.Draft.{Draft}
@@ -62,12 +61,3 @@ last_of (serial ∷ more ∷ serials) = last_of (more ∷ serials)
 abbrev pub some_rules : List Rule → Bool
 some_rules [] = false
 some_rules (rule ∷ rules) = true
-
--- the text of some rule is no string of a message
-abbrev pub SomeNoText : List Rule → Type 0
-SomeNoText [] = ⊥
-SomeNoText (rule ∷ rules) = (IsTextOf string (rule_text rule) → ⊥) ⊎ SomeNoText rules
-
--- the text of each is one
-abbrev pub AreTexts : List Rule → Type 0
-AreTexts rules = AllByRecursion (λ rule. IsTextOf string (rule_text rule)) rules

@@ -19,7 +19,7 @@ use Rattle.wire_message.specs.declared.error.Error.TheVariants as errors
 use Rattle.peer_route.specs.declared.words.CallFlags.{CallFlags}
 use Rattle.peer_route.specs.declared.words.Outgoing.{Outgoing}
 use Rattle.peer_route.specs.BodyWord.{body_values}
-use Rattle.peer_route.specs.Parcel.{Setting, Asked}
+use Rattle.peer_route.specs.Parcel.{Asked}
 
 -- ---- flags
 
@@ -88,9 +88,9 @@ asked_of None (Some values) false false draft fds = Ok (record { draft = draft; 
 -- ---- calls and signals
 
 -- The message of a member at a path: in big order exactly where it is asked for, with those flags, and with the destination
--- that is given. Its sender is the peer's name, where the peer has one.
-abbrev pub member_draft : MessageType → Setting → Outgoing → Option (List ℕ) → Draft
-member_draft kind setting words interface = record {
+-- that is given. Its sender is the peer of this name, where the peer has one.
+abbrev pub member_draft : MessageType → Option (List ℕ) → Outgoing → Option (List ℕ) → Draft
+member_draft kind name words interface = record {
   kind = kind;
   order = order_of words.flags.big;
   flags = flags_number words.flags;
@@ -100,28 +100,29 @@ member_draft kind setting words interface = record {
     interface = interface;
     member = Some words.member;
     destination = words.destination;
-    sender = setting.name;
+    sender = name;
   };
 }
 
-abbrev pub member_asked : Setting → Outgoing → Draft → Asked
-member_asked setting words draft =
+-- where the sink takes descriptors, or takes none
+abbrev pub member_asked : Bool → Outgoing → Draft → Asked
+member_asked takes_fds words draft =
     asked_of (words_refusal draft) (values_in words.body) (are_misplaced draft.kind draft.flags)
-    (words.flags.descriptor && not setting.takes_fds) draft (fds_of words.flags.descriptor)
+    (words.flags.descriptor && not takes_fds) draft (fds_of words.flags.descriptor)
 
 -- a method call, with the interface that is given
-abbrev pub call_draft : Setting → Outgoing → Draft
-call_draft setting words = member_draft types.MethodCall setting words words.interface
+abbrev pub call_draft : Option (List ℕ) → Outgoing → Draft
+call_draft name words = member_draft types.MethodCall name words words.interface
 
-abbrev pub call_asked : Setting → Outgoing → Asked
-call_asked setting words = member_asked setting words (call_draft setting words)
+abbrev pub call_asked : Option (List ℕ) → Bool → Outgoing → Asked
+call_asked name takes_fds words = member_asked takes_fds words (call_draft name words)
 
 -- A signal. It must have an interface: none is refused as the empty text, which is no interface.
-abbrev pub signal_draft : Setting → Outgoing → Draft
-signal_draft setting words = member_draft types.Signal setting words (Some (unwrap_or words.interface []))
+abbrev pub signal_draft : Option (List ℕ) → Outgoing → Draft
+signal_draft name words = member_draft types.Signal name words (Some (unwrap_or words.interface []))
 
-abbrev pub signal_asked : Setting → Outgoing → Asked
-signal_asked setting words = member_asked setting words (signal_draft setting words)
+abbrev pub signal_asked : Option (List ℕ) → Bool → Outgoing → Asked
+signal_asked name takes_fds words = member_asked takes_fds words (signal_draft name words)
 
 -- ---- replies
 
@@ -129,15 +130,15 @@ signal_asked setting words = member_asked setting words (signal_draft setting wo
 abbrev pub sent_from : Option (List ℕ) → Draft → Draft
 sent_from name draft = record draft { fields = record draft.fields { sender = name } }
 
--- The method return to a message, of whatever type: in its byte order, with its serial as the reply serial, and its sender as
--- the destination. Without a message there is nothing to answer.
-abbrev pub reply_asked : Setting → Option Seen → Option (List ℕ) → Asked
-reply_asked setting None word = Err errors.UnknownHandle
-reply_asked setting (Some m) word =
-    asked_of None (values_in word) false false (sent_from setting.name (reply_draft types.MethodReturn (head_of m))) []
+-- The method return to a message, of whatever type, by the peer of this name: in the message's byte order, with its serial as the
+-- reply serial, and its sender as the destination. Without a message there is nothing to answer.
+abbrev pub reply_asked : Option (List ℕ) → Option Seen → Option (List ℕ) → Asked
+reply_asked name None word = Err errors.UnknownHandle
+reply_asked name (Some m) word =
+    asked_of None (values_in word) false false (sent_from name (reply_draft types.MethodReturn (head_of m))) []
 
--- the same by an error of that name
-abbrev pub error_asked : Setting → Option Seen → List ℕ → Option (List ℕ) → Asked
-error_asked setting None name word = Err errors.UnknownHandle
-error_asked setting (Some m) name word =
-    asked_of (name_refusal name) (values_in word) false false (sent_from setting.name (error_draft (head_of m) name)) []
+-- the same by the error of that text
+abbrev pub error_asked : Option (List ℕ) → Option Seen → List ℕ → Option (List ℕ) → Asked
+error_asked name None text word = Err errors.UnknownHandle
+error_asked name (Some m) text word =
+    asked_of (name_refusal text) (values_in word) false false (sent_from name (error_draft (head_of m) text)) []

@@ -122,6 +122,23 @@ done (Added m rule asked ∷ h) = done h
 done (Removed m ∷ h) = done h
 done (Named name ∷ h) = done h
 
+-- how many of them were written
+abbrev pub written : List Event → ℕ
+written [] = 0
+written (Wrote ∷ h) = written h + 1
+written (Fault ∷ h) = written h
+written (Took m ∷ h) = written h
+written (Shut error ∷ h) = written h
+written (Put m expects ∷ h) = written h
+written (Spent call ∷ h) = written h
+written (Made making ∷ h) = written h
+written (Did stream deed ∷ h) = written h
+written (Main limit ∷ h) = written h
+written (OnBus ∷ h) = written h
+written (Added m rule asked ∷ h) = written h
+written (Removed m ∷ h) = written h
+written (Named name ∷ h) = written h
+
 -- a write failed
 abbrev pub is_failed : List Event → Bool
 is_failed [] = false

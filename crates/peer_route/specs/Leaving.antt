@@ -1,7 +1,7 @@
 -- What closing streams asks of the bus, and gives (D-Bus Specification, "Message Bus Messages",
 -- `org.freedesktop.DBus.RemoveMatch`).
-use Rattle.std.specs.Prelude.{ℕ, ⊤, ◌≡◌, ◌+◌, ◌<◌, ◌≤◌, ◌⊎◌, ◌&&◌, ◌||◌, ◌==◌, not, is_none, is_some, if◌then◌else◌, Bool, true, false, List, [], ◌∷◌, ◌++◌, length, map, Option, Some, None, Result, Ok, Err, option_map, option_to_list}
-use Rattle.wire_signature.specs.declared.error.VariantError.TheVariants as faults
+use Rattle.std.specs.Prelude.{ℕ, ⊤, ◌≡◌, ◌+◌, ◌<◌, ◌≤◌, ◌⊎◌, ◌&&◌, ◌||◌, ◌==◌, not, is_none, is_some, if◌then◌else◌, Bool, true, false, List, [], ◌∷◌, ◌++◌, length, map, Option, Some, None, Result, Ok, Err, codes, option_map, option_to_list}
+use Rattle.std.specs.List.{list_all}
 use Rattle.wire_message.specs.Circle.{IsNext, AllTaken}
 use Rattle.wire_message.specs.declared.error.Error.{Error}
 use Rattle.wire_message.specs.declared.error.Error.TheVariants as errors
@@ -17,7 +17,10 @@ use Rattle.peer_route.specs.Parcel.{Parcel}
 use Rattle.peer_route.specs.History.{Event, Removed, Did, Gone, edit, pending, last_serial, writer}
 use Rattle.peer_route.specs.Streams.{are_open, close_waits, leaving, may_be_signal}
 use Rattle.peer_route.specs.Left.{Held, View, Left, kept_at, wants_of, shared}
-use Rattle.peer_route.specs.BusCall.{remove_parcel, remove_message, last_of, some_rules, SomeNoText, AreTexts}
+use Rattle.peer_route.specs.declared.opening.RuleCall.{RuleCall}
+use Rattle.peer_route.specs.declared.opening.RuleCalls.{RuleCalls}
+use Rattle.peer_route.specs.BusCall.{remove_parcel, remove_message, last_of, some_rules}
+use Rattle.peer_route.specs.Bus.{fits_string, letter_about, rule_call}
 use Rattle.peer_route.specs.Placing.{PutsAll}
 
 -- The serials that the RemoveMatch of these rules draw, one after another.
@@ -60,14 +63,12 @@ MayTell h rules = (some_rules rules ≡ true) × ((serials : List ℕ) × AreTol
 -- What telling the bus gives, after the streams were closed: `h` has that already.
 abbrev pub TellsBus : View → List Event → List Rule → Result (Option ℕ) Error → Type 0
 TellsBus new h rules (Ok last) =
-    AreTexts rules × (serials : List ℕ) × AreTold h rules serials × AreBrief h rules serials × (some_rules rules ≡ true → writer h ≡ writers.Fine)
+    (serials : List ℕ) × AreTold h rules serials × AreBrief h rules serials × (some_rules rules ≡ true → writer h ≡ writers.Fine)
     × (last ≡ last_of serials) × Left new (removed_each rules serials h)
-TellsBus new h rules (Err errors.SerialsSpent) = AreTexts rules × TellsNone h rules × Left new h
-TellsBus new h rules (Err errors.ExcessData) = AreTexts rules × ((serials : List ℕ) × AreTold h rules serials × SomeNotBrief h rules serials) × Left new h
-TellsBus new h rules (Err (errors.InputOutput kinds.WriteFault)) = AreTexts rules × MayTell h rules × (writer h ≡ writers.Failed) × Left new h
-TellsBus new h rules (Err (errors.InputOutput kinds.Closed)) = AreTexts rules × MayTell h rules × (writer h ≡ writers.Closed) × Left new h
--- the text of a rule is no string of a message: it is longer than 4,294,967,295 bytes
-TellsBus new h rules (Err (errors.Variant faults.Malformed)) = SomeNoText rules × Left new h
+TellsBus new h rules (Err errors.SerialsSpent) = TellsNone h rules × Left new h
+TellsBus new h rules (Err errors.ExcessData) = ((serials : List ℕ) × AreTold h rules serials × SomeNotBrief h rules serials) × Left new h
+TellsBus new h rules (Err (errors.InputOutput kinds.WriteFault)) = MayTell h rules × (writer h ≡ writers.Failed) × Left new h
+TellsBus new h rules (Err (errors.InputOutput kinds.Closed)) = MayTell h rules × (writer h ≡ writers.Closed) × Left new h
 TellsBus new h rules (Err error) = ⊥
 
 -- the history once these streams were closed
@@ -157,18 +158,17 @@ abbrev pub removals : Option (List ℕ) → List Rule → List Parcel
 removals name rules = map (remove_parcel name) rules
 
 -- what making the one message of these, if there is one, gives
-abbrev pub MakesRemoval : List Rule → Result (Option Parcel) Error → Type 0
-MakesRemoval rules (Ok parcel) = (option_to_list parcel ≡ removals None rules) × AreTexts rules
-MakesRemoval rules (Err (errors.Variant faults.Malformed)) = SomeNoText rules
+abbrev pub MakesRemoval : List Rule → Result (Option RuleCall) Error → Type 0
+MakesRemoval rules (Ok call) = option_to_list call ≡ map (rule_call (codes "RemoveMatch")) rules
 MakesRemoval rules (Err errors.Memory) = some_rules rules ≡ true
 MakesRemoval rules (Err error) = ⊥
 
--- and all of them
-abbrev pub MakesRemovals : {A : Type 0} → (A → List Parcel) → List Rule → Result A Error → Type 0
-MakesRemovals items rules (Ok parcels) = (items parcels ≡ removals None rules) × AreTexts rules
-MakesRemovals items rules (Err (errors.Variant faults.Malformed)) = SomeNoText rules
-MakesRemovals items rules (Err errors.Memory) = some_rules rules ≡ true
-MakesRemovals items rules (Err error) = ⊥
+-- and all of them; whether each has its rule's text
+abbrev pub MakesRemovals : List Rule → Result RuleCalls Error → Type 0
+MakesRemovals rules (Ok calls) =
+    (calls.letters.items ≡ map (letter_about (codes "RemoveMatch")) rules) × (calls.fit ≡ list_all fits_string rules)
+MakesRemovals rules (Err errors.Memory) = some_rules rules ≡ true
+MakesRemovals rules (Err error) = ⊥
 
 abbrev pub last_issued : List Issued → Option ℕ
 last_issued [] = None
@@ -180,7 +180,5 @@ abbrev pub Tells : View → View → List Rule → Result (Option ℕ) Error →
 Tells old new [] (Ok last) = (last ≡ None) × (new ≡ old)
 Tells old new [] (Err error) = ⊥
 Tells old new (rule ∷ rules) (Ok last) =
-    AreTexts (rule ∷ rules) × (issued : List Issued) × PutsAll true (λ (is : List Issued). is) old new (removals old.name (rule ∷ rules)) (Ok issued) × (last ≡ last_issued issued)
-Tells old new (rule ∷ rules) (Err (errors.Variant faults.Malformed)) = SomeNoText (rule ∷ rules)
-Tells old new (rule ∷ rules) (Err errors.Memory) = ⊤
-Tells old new (rule ∷ rules) (Err error) = AreTexts (rule ∷ rules) × PutsAll true (λ (is : List Issued). is) old new (removals old.name (rule ∷ rules)) (Err error)
+    (issued : List Issued) × PutsAll true (λ (is : List Issued). is) old new (removals old.name (rule ∷ rules)) (Ok issued) × (last ≡ last_issued issued)
+Tells old new (rule ∷ rules) (Err error) = PutsAll true (λ (is : List Issued). is) old new (removals old.name (rule ∷ rules)) (Err error)

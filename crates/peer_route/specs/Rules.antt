@@ -1,20 +1,47 @@
 -- Rules as subscriptions: when two are one, and how many messages a rule's streams may hold where nothing else is asked for
 -- (D-Bus Specification, "Match Rules").
 use Rattle.std.specs.Prelude.{ℕ, Bool, true, false, ◌&&◌, ◌==◌, is_none, if◌then◌else◌, List, [], ◌∷◌, Option, Some, None, codes}
+use Rattle.std.specs.Cmp.Lexicographic.{pointwise}
+use Rattle.std.specs.Option.{option_eq}
 use Rattle.wire_names.specs.declared.bus.OwnedBusName.{OwnedBusName}
-use Rattle.wire_names.specs.declared.bus.OwnedBusName.TheVariants.{Unique}
+use Rattle.wire_names.specs.declared.bus.OwnedBusName.TheVariants.{Unique, WellKnown}
+use Rattle.wire_message.specs.Front.{kind_code}
 use Rattle.wire_message.specs.declared.kind.MessageType.{MessageType}
 use Rattle.wire_message.specs.declared.kind.MessageType.TheVariants as types
 use Rattle.rule_arguments.specs.declared.arguments.Argument.{Argument}
 use Rattle.rule_arguments.specs.Passing.{same}
+use Rattle.rule_arguments.specs.SameArgument.{same_argument}
 use Rattle.rule_match.specs.declared.place.PathSpec.{PathSpec}
-use Rattle.rule_match.specs.declared.place.PathSpec.TheVariants.{Path}
+use Rattle.rule_match.specs.declared.place.PathSpec.TheVariants.{Path, PathNamespace}
 use Rattle.rule_match.specs.Rule.{Rule}
-use Rattle.rule_match.specs.contracts.rule.MatchRulePartialEq.TheImpl.{ghosts as of_rules}
 
--- Two rules are one where each part is the same.
+-- ---- when two rules are one
+
+abbrev pub same_kind : MessageType → MessageType → Bool
+same_kind kind other = kind_code kind == kind_code other
+
+abbrev pub same_name : OwnedBusName → OwnedBusName → Bool
+same_name (Unique name) (Unique other) = same name other
+same_name (WellKnown name) (WellKnown other) = same name other
+same_name name other = false
+
+abbrev pub same_place : PathSpec → PathSpec → Bool
+same_place (Path path) (Path other) = same path other
+same_place (PathNamespace path) (PathNamespace other) = same path other
+same_place place other = false
+
+-- Two rules are one where each part is the same: neither has it, or both have it and it is the same.
 unfoldable pub is_same : Rule → Rule → Bool
-is_same r s = of_rules.eq r s
+is_same r s =
+    option_eq same_kind r.kind s.kind
+    && (option_eq same_name r.sender s.sender
+    && (option_eq same r.interface s.interface
+    && (option_eq same r.member s.member
+    && (option_eq same_place r.path s.path
+    && (option_eq same r.destination s.destination
+    && (pointwise same_argument r.args s.args && (pointwise same_argument r.arg_paths s.arg_paths && option_eq same r.arg0ns s.arg0ns)))))))
+
+-- ---- a rule's usual capacity
 
 abbrev pub is_signal : Option MessageType → Bool
 is_signal (Some types.Signal) = true

@@ -1,5 +1,5 @@
 -- What the laws of streams, of busy reads and of what was sent say, in words of their own.
-use Rattle.std.specs.Prelude.{ℕ, ⊤, ◌≡◌, ◌==◌, ◌<◌, ◌&&◌, ◌||◌, ◌⊎◌, Bool, true, false, List, [], ◌∷◌, ◌++◌, if◌then◌else◌, length, map, drop, slice_get, Option, Some, None, Result, Ok}
+use Rattle.std.specs.Prelude.{ℕ, ⊤, ◌≡◌, ◌==◌, ◌<◌, ◌&&◌, ◌||◌, ◌⊎◌, Bool, true, false, List, [], ◌∷◌, ◌++◌, if◌then◌else◌, length, map, drop, take, slice_get, Option, Some, None, Result, Ok}
 use Rattle.wire_message.specs.Front.{Seen}
 use Rattle.wire_message.specs.declared.error.Error.{Error}
 use Rattle.wire_message.specs.declared.error.Error.TheVariants as errors
@@ -222,8 +222,8 @@ abbrev pub all_sent : Setting → List Entry → List Seen
 all_sent setting [] = []
 all_sent setting (e ∷ es) = all_sent setting es ++ sent_in (trail setting es) e.lane e.words e.answer
 
--- what was put, by whether a write failed: the messages that were sent, in order; after a failed write behind them the one whose
--- write it was, and those that were put with it
-abbrev pub IsPutOf : Bool → List Seen → List Seen → Type 0
-IsPutOf false put sent = put ≡ sent
-IsPutOf true put sent = (m : Seen) × (more : List Seen) × (put ≡ sent ++ m ∷ more)
+-- What was put, by whether a write failed and how many messages were written: those that were sent are just those that were
+-- written, the first of what was put. Where no write failed that is all; where one failed it is that of the message behind them.
+abbrev pub IsPutOf : Bool → ℕ → List Seen → List Seen → Type 0
+IsPutOf false count put sent = (count ≡ length put) × (sent ≡ put)
+IsPutOf true count put sent = (count < length put) × (sent ≡ take count put)

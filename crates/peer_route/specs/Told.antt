@@ -1,6 +1,6 @@
 -- What the outside told: the reads are what stands in the source's bytes, and a send fails where the sink's room ends. It
 -- stands apart from `Legal`, over the same history.
-use Rattle.std.specs.Prelude.{ℕ, ⊤, ◌≡◌, ◌<◌, ◌≤◌, ◌⊎◌, Bool, true, false, List, [], ◌∷◌, ◌++◌, length, drop, take, Option, Some, None, Result, Ok, Err}
+use Rattle.std.specs.Prelude.{ℕ, ⊤, ◌≡◌, ◌+◌, ◌-◌, ◌<◌, ◌⊎◌, nat_le, nat_lt, if◌then◌else◌, Bool, true, false, List, [], ◌∷◌, ◌++◌, length, drop, take, slice_get, Option, Some, None, Result, Ok, Err}
 use Rattle.std.specs.List.{flat_map}
 use Rattle.wire_message.specs.Front.{Seen}
 use Rattle.wire_message.specs.Outcome.{outcome, ending_of}
@@ -13,7 +13,7 @@ use Rattle.peer_route.specs.declared.answer.Answer.{Answer}
 use Rattle.peer_route.specs.declared.answer.Answer.TheVariants as answers
 use Rattle.peer_route.specs.declared.answer.Entry.{Entry}
 use Rattle.peer_route.specs.Parcel.{Setting}
-use Rattle.peer_route.specs.History.{Event, read, closing, put, is_failed}
+use Rattle.peer_route.specs.History.{Event, read, closing, put, written, is_failed}
 use Rattle.peer_route.specs.Streams.{busy}
 use Rattle.peer_route.specs.Trail.{trail}
 
@@ -82,21 +82,37 @@ abbrev pub ClosesTold : Option (Option ℕ) → List Entry → Type 0
 ClosesTold room [] = ⊤
 ClosesTold room (e ∷ es) = CloseTold room e.words e.answer × ClosesTold room es
 
--- What the sink got of what was put: all of it; after a failed write those before the message whose write it was, and of that a
--- proper prefix.
-abbrev pub IsSentBytes : Bool → List Seen → List ℕ → Type 0
-IsSentBytes false ms sent = sent ≡ encodings ms
-IsSentBytes true ms sent =
-    (before : List Seen) × (failed : Seen) × (after : List Seen) × (n : ℕ) × (ms ≡ before ++ failed ∷ after) × (n < length failed.bytes)
-    × (sent ≡ encodings before ++ take n failed.bytes)
+-- What the sink got of what was put, by how many messages were written. Where no write failed, all of them were, and it got their
+-- encodings. Where one failed, it is that of the first message that wasn't written: the sink got the encodings of those before it,
+-- and of it a proper prefix.
+abbrev pub IsSentBytes : Bool → ℕ → List Seen → List ℕ → Type 0
+IsSentBytes false count ms sent = (count ≡ length ms) × (sent ≡ encodings ms)
+IsSentBytes true count ms sent =
+    (broken : Seen) × (n : ℕ) × (slice_get ms count ≡ Some broken) × (n < length broken.bytes) × (sent ≡ encodings (take count ms) ++ take n broken.bytes)
 
 abbrev pub IsSentOf : List Event → List ℕ → Type 0
-IsSentOf h sent = IsSentBytes (is_failed h) (put h) sent
+IsSentOf h sent = IsSentBytes (is_failed h) (written h) (put h) sent
 
--- Where the sink says that no write fails, none does. Where it has room for so many bytes, the first message that ends past
--- them fails, and no other, and the sink got just those bytes.
-abbrev pub WritesTold : Option (Option ℕ) → Bool → List Seen → List ℕ → Type 0
-WritesTold None failed ms sent = ⊤
-WritesTold (Some None) failed ms sent = failed ≡ false
-WritesTold (Some (Some room)) false ms sent = length (encodings ms) ≤ room
-WritesTold (Some (Some room)) true ms sent = (length sent ≡ room) × (room < length (encodings ms))
+-- How many of the messages, from the first on, end within so many bytes; one that ends exactly there does.
+abbrev pub fitting : ℕ → List Seen → ℕ
+fitting room [] = 0
+fitting room (m ∷ ms) = if nat_le (length m.bytes) room then fitting (room - length m.bytes) ms + 1 else 0
+
+-- Where the sink says that no write fails, none failed. Where it has room for so many bytes, those of all messages that were put so
+-- far were written that end within them, and a write failed exactly where some message ends past them: it is that of the first such.
+abbrev pub WriteTold : Option (Option ℕ) → List Event → Type 0
+WriteTold None h = ⊤
+WriteTold (Some None) h = is_failed h ≡ false
+WriteTold (Some (Some room)) h = (written h ≡ fitting room (put h)) × (is_failed h ≡ nat_lt room (length (encodings (put h))))
+
+-- So it is at each entry.
+abbrev pub WritesTold : Setting → Option (Option ℕ) → List Entry → Type 0
+WritesTold setting room [] = ⊤
+WritesTold setting room (e ∷ es) = WriteTold room (trail setting (e ∷ es)).events × WritesTold setting room es
+
+-- After a failed write the sink holds just the bytes that it had room for.
+abbrev pub IsCutAt : Option (Option ℕ) → Bool → List ℕ → Type 0
+IsCutAt (Some (Some room)) true sent = length sent ≡ room
+IsCutAt (Some (Some room)) false sent = ⊤
+IsCutAt (Some None) failed sent = ⊤
+IsCutAt None failed sent = ⊤

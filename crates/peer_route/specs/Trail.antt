@@ -16,7 +16,7 @@ use Rattle.peer_route.specs.Parcel.{Setting, Asked, message_of}
 use Rattle.peer_route.specs.CallMessage.{expects, call_asked, signal_asked, reply_asked, error_asked}
 use Rattle.peer_route.specs.declared.writer.Writer.{Writer}
 use Rattle.peer_route.specs.declared.writer.Writer.TheVariants as writers
-use Rattle.peer_route.specs.History.{Event, Took, Shut, Put, Wrote, Fault, Spent, Made, Plain, Ruled, Cloned, Did, Gave, Told, Gone, Main, OnBus, Added, Removed, Named, closing, writer, last_serial, pending}
+use Rattle.peer_route.specs.History.{Event, Took, Shut, Put, Wrote, Fault, Spent, Made, Plain, Ruled, Cloned, Did, Gave, Told, Gone, Main, OnBus, Added, Removed, Named, closing, writer, last_serial, pending, unique_name}
 use Rattle.peer_route.specs.History as deeds
 use Rattle.peer_route.specs.Streams.{Stream, streams, gave_last, leaving, gone_then}
 use Rattle.peer_route.specs.BusCall.{add_message, remove_message}
@@ -57,7 +57,8 @@ count lane [] = 0
 count lane (None ∷ names) = count lane names
 count lane (Some l ∷ names) = if l == lane then count lane names + 1 else count lane names
 
--- what entries leave: events, newest first; whose the calls and the streams are; and what the peer was given at its start
+-- What entries leave: events, newest first; whose the calls and the streams are; and what the peer was given at its start. Its name
+-- is what the events say.
 pub record Trail : Type 0 where
   pub events : List Event
   pub names : Names
@@ -87,29 +88,30 @@ kept_at gs (Some k) = kept_by (slice_get gs k)
 abbrev pub given : Trail → ℕ → ℕ → Option Seen
 given t lane number = given_at t.events (place 0 lane number t.streams)
 
--- What a command asks to be sent, by the message that each stream of its lane gave last; none where it is no command that sends.
-abbrev pub asks_with : Setting → (ℕ → Option Seen) → Words → Option Asked
-asks_with setting given (words.Call w) = Some (call_asked setting w)
-asks_with setting given (words.Signal w) = Some (signal_asked setting w)
-asks_with setting given (words.Reply stream body) = Some (reply_asked setting (given stream) body)
-asks_with setting given (words.Error stream name body) = Some (error_asked setting (given stream) name body)
-asks_with setting given words.Read = None
-asks_with setting given (words.Poll number) = None
-asks_with setting given (words.Before number before) = None
-asks_with setting given (words.Drop number) = None
-asks_with setting given words.Stream = None
-asks_with setting given (words.Open max_queued rule) = None
-asks_with setting given (words.Opened number) = None
-asks_with setting given (words.Take number) = None
-asks_with setting given (words.TakeBefore number before) = None
-asks_with setting given (words.Clone number) = None
-asks_with setting given (words.Unstream number second) = None
-asks_with setting given (words.Queue number limit) = None
-asks_with setting given (words.MainQueue limit) = None
-asks_with setting given words.Close = None
+-- What a command asks to be sent by the peer of this name, to a sink that takes descriptors or takes none, by the message that each
+-- stream of its lane gave last; none where it is no command that sends.
+abbrev pub asks_with : Option (List ℕ) → Bool → (ℕ → Option Seen) → Words → Option Asked
+asks_with name takes_fds given (words.Call w) = Some (call_asked name takes_fds w)
+asks_with name takes_fds given (words.Signal w) = Some (signal_asked name takes_fds w)
+asks_with name takes_fds given (words.Reply stream body) = Some (reply_asked name (given stream) body)
+asks_with name takes_fds given (words.Error stream text body) = Some (error_asked name (given stream) text body)
+asks_with name takes_fds given words.Read = None
+asks_with name takes_fds given (words.Poll number) = None
+asks_with name takes_fds given (words.Before number before) = None
+asks_with name takes_fds given (words.Drop number) = None
+asks_with name takes_fds given words.Stream = None
+asks_with name takes_fds given (words.Open max_queued rule) = None
+asks_with name takes_fds given (words.Opened number) = None
+asks_with name takes_fds given (words.Take number) = None
+asks_with name takes_fds given (words.TakeBefore number before) = None
+asks_with name takes_fds given (words.Clone number) = None
+asks_with name takes_fds given (words.Unstream number second) = None
+asks_with name takes_fds given (words.Queue number limit) = None
+asks_with name takes_fds given (words.MainQueue limit) = None
+asks_with name takes_fds given words.Close = None
 
 abbrev pub asks : Trail → ℕ → Words → Option Asked
-asks t lane w = asks_with t.setting (λ number. given t lane number) w
+asks t lane w = asks_with (unique_name t.events) t.setting.takes_fds (λ number. given t lane number) w
 
 -- ---- events of an entry
 
@@ -233,12 +235,12 @@ second_place lane None names = None
 second_place lane (Some number) names = place 0 lane number names
 
 abbrev pub events_of : Trail → ℕ → Words → Answer → List Event
-events_of t lane (words.Call w) answer = send_events t.events (call_asked t.setting w) answer
-events_of t lane (words.Signal w) answer = send_events t.events (signal_asked t.setting w) answer
+events_of t lane (words.Call w) answer = send_events t.events (call_asked (unique_name t.events) t.setting.takes_fds w) answer
+events_of t lane (words.Signal w) answer = send_events t.events (signal_asked (unique_name t.events) t.setting.takes_fds w) answer
 events_of t lane (words.Reply stream body) answer =
-    send_events t.events (reply_asked t.setting (given t lane stream) body) answer
-events_of t lane (words.Error stream name body) answer =
-    send_events t.events (error_asked t.setting (given t lane stream) name body) answer
+    send_events t.events (reply_asked (unique_name t.events) (given t lane stream) body) answer
+events_of t lane (words.Error stream text body) answer =
+    send_events t.events (error_asked (unique_name t.events) (given t lane stream) text body) answer
 events_of t lane words.Read answer = read_events (closing t.events) answer
 events_of t lane (words.Poll number) answer = poll_spends (place 0 lane number t.names) answer
 events_of t lane (words.Before number before) answer = poll_spends (place 0 lane number t.names) answer

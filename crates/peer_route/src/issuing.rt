@@ -1,5 +1,5 @@
 //! The messages of one command are put in the outbox all or none.
-ghost use Rattle.std.specs.Prelude.{ℕ, ◌≡◌, ◌<◌, ◌++◌, ◌∷◌, ◌^◌, [], List, length, map, false, IfOk, IfErr, OnOk, OnErr, Ok};
+ghost use Rattle.std.specs.Prelude.{ℕ, ◌≡◌, ◌<◌, ◌++◌, ◌∷◌, ◌^◌, [], List, length, map, true, false, IfOk, IfErr, OnOk, OnErr, Ok};
 ghost use Rattle.std.specs.List.{list_any, AllByRecursion};
 ghost use Rattle.wire_message.specs.Circle.{IsNext};
 ghost use Rattle.peer_route.specs.CallMessage.{expects, expects_reply};
@@ -211,6 +211,16 @@ impl Route {
             Writer::Failed => Err(Error::InputOutput(IoKind::WriteFault)),
             Writer::Closed => Err(Error::InputOutput(IoKind::Closed)),
         }
+    }
+
+    /// Draws the serials of calls of the peer's own, and makes the calls that wait for their replies; they aren't put.
+    pub(crate) fn draw_own(&mut self, list: Vec<Letter<'_>>) -> Result<()>
+        ensures drawn { OnOk result ((serials : List ℕ) × Draws true self.old.calls self.old.last list.entry.items serials self.new.calls self.new.last) }
+        ensures refused { IfErr result (λ e. NotDrawn true self.old.calls self.old.last list.entry.items e) }
+        ensures more { IsMore self.old self.new }
+    {
+        let _ = draw_each(self.alloc, &mut self.calls, &mut self.serials, list, true)?;
+        Ok(())
     }
 
     /// Takes back what was made, drawn and placed since the mark.

@@ -1,13 +1,14 @@
 //! Laws of every history, each the contract of a function that does nothing.
-ghost use Rattle.std.specs.Prelude.{◌≡◌, ◌≢◌, ◌⊎◌, ◌+◌, ◌<◌, ℕ, max, length, List, Option, [], ◌∷◌, ◌++◌, IfSome, Some, None, Ok, true, false, slice_get};
+ghost use Rattle.std.specs.Prelude.{◌≡◌, ◌≢◌, ◌↔◌, ◌⊎◌, ◌+◌, ◌<◌, ℕ, max, length, List, Option, [], ◌∷◌, ◌++◌, IfSome, Some, None, Ok, true, false, slice_get};
 ghost use Rattle.std.specs.List.{AllByRecursion};
 ghost use Rattle.wire_message.specs.Front.{Seen};
 ghost use Rattle.wire_message.specs.declared.error.Error.{Error};
 ghost use Rattle.peer_route.specs.declared.answer.Entry.{Entry};
-ghost use Rattle.peer_route.specs.History.{Event, Took, Spent, Made, Making, Ruled, Did, Main, Deed, Asked, calls, closing, is_failed, writer, is_serial, pending, poll_answer, put, read};
+ghost use Rattle.peer_route.specs.History.{Event, Took, Spent, Made, Making, Ruled, Did, Main, Deed, Asked, calls, closing, is_failed, writer, is_serial, pending, poll_answer, put, written, read, unique_name};
 ghost use Rattle.rule_match.specs.Rule.{Rule};
 ghost use Rattle.rule_match.specs.Bytes.{rule_in_bytes};
-ghost use Rattle.peer_route.specs.Rules.{usual};
+ghost use Rattle.rule_match.specs.contracts.rule.MatchRulePartialEq.TheImpl.{ghosts as of_rules};
+ghost use Rattle.peer_route.specs.Rules.{is_same, usual};
 ghost use Rattle.peer_route.specs.Streams.{Stream, streams, main, rule_limit, is_subscribed, runs, asked_or, raised, limit_answer, take_answer};
 ghost use Rattle.peer_route.specs.Parcel.{Setting};
 ghost use Rattle.peer_route.specs.Trail.{trail};
@@ -127,6 +128,12 @@ pub fn main_capacity()
     ensures kept { (h : List Event) (limit j : ℕ) (s : Stream) (rule : Rule) → slice_get (streams h) j ≡ Some s → s.rule ≡ Some rule → main (Did j (Asked limit) ∷ h) ≡ main h }
 {}
 
+/// Two rules are one exactly where each part of them is the same, and that is what `==` decides.
+pub fn rules_are_one_where_equal()
+    ensures equal { (r s : Rule) → is_same r s ≡ true ↔ (r ≡ s) }
+    ensures code { (r s : Rule) → of_rules.eq r s ≡ is_same r s }
+{}
+
 /// All open streams of one rule share one capacity. The rule's first stream gives it the one that is asked for, or 8 for the
 /// rule of an owner's changes, else 64; a later one of the rule that asks for more raises it, and a smaller request is passed
 /// over. What is asked for by another rule's stream, or is set for streams without a rule, changes nothing of it.
@@ -183,10 +190,17 @@ pub fn busy_where_a_stream_is_full()
     ensures same { (setting : Setting) (older : List Entry) (e : Entry) → e.words ≡ Words.Read → e.answer ≡ Answer.Busy → (trail setting (e ∷ older)).events ≡ (trail setting older).events }
 {}
 
-/// What is put in the outbox is what the answers say was sent: the messages of the commands that were answered with a serial, in
-/// order; where a write failed, behind them the message whose write it was, and those that its command put with it.
+/// What the answers say was sent is what was written: the messages of the commands that were answered with a serial are, in order,
+/// the first of what was put, as many as were written. Where no write failed that is all that was put; where one failed it is that
+/// of the message right behind them.
 pub fn put_is_what_was_sent()
-    ensures { (setting : Setting) (es : List Entry) → Legal setting es → IsPutOf (is_failed (trail setting es).events) (put (trail setting es).events) (all_sent setting es) }
+    ensures { (setting : Setting) (es : List Entry) → Legal setting es → IsPutOf (is_failed (trail setting es).events) (written (trail setting es).events) (put (trail setting es).events) (all_sent setting es) }
+{}
+
+/// A peer keeps the name that it was given at its start, whatever comes; it is the sender of what it sends (D-Bus Specification,
+/// "Header Fields", `SENDER`).
+pub fn name_stays()
+    ensures { (setting : Setting) (es : List Entry) → unique_name (trail setting es).events ≡ setting.name }
 {}
 
 /// A refused command leaves all as it was: what the entries leave is the same as before it.

@@ -1,12 +1,12 @@
 //! Closing streams, and telling the bus which rules have none any more (D-Bus Specification, "Match Rules").
-ghost use Rattle.std.specs.Prelude.{ℕ, ◌≡◌, ◌↔◌, IsTrue, ◌++◌, ◌&&◌, ◌||◌, is_some, true, List, IfOk, IfErr, option_to_list};
+ghost use Rattle.std.specs.Prelude.{ℕ, ◌≡◌, ◌↔◌, IsTrue, ◌++◌, ◌&&◌, ◌||◌, is_some, true, List, map, IfOk, IfErr, option_to_list};
+ghost use Rattle.std.specs.List.{list_all};
 ghost use Rattle.peer_route.specs.History.{Event};
 ghost use Rattle.peer_route.specs.Left.{Left, kept_at, is_flying};
 ghost use Rattle.peer_route.specs.Leaving.{must_tell, without_both, left_by, rule_kept, left_rules, number_of, have_rules, ended, MakesRemoval, MakesRemovals, second_left, Tells, last_issued, ClosesStreams, TellsNow};
 ghost use Rattle.peer_route.specs.Placing.{IsMore};
 
-use crate::letter::Letter;
-use crate::opening::{match_letter, may_be_signal};
+use crate::opening::{RuleCall, RuleCalls, match_letter, may_be_signal};
 use crate::route::{Issued, Route};
 use crate::streams::MessageStream;
 use rule_match::OwnedMatchRule;
@@ -54,20 +54,26 @@ fn last_issued(mut issued: Vec<Issued>) -> Option<u32>
 /// Those that there are, in order.
 fn listed(
     alloc: Global,
-    first: Option<Letter<'static>>,
-    second: Option<Letter<'static>>,
-) -> std::result::Result<Vec<Letter<'static>>, AllocError>
-    ensures list { IfOk result (λ list. list.items ≡ option_to_list first.entry ++ option_to_list second.entry) }
-    ensures some { IfErr result (λ e. is_some first.entry || is_some second.entry ≡ true) }
+    first: Option<RuleCall>,
+    second: Option<RuleCall>,
+) -> std::result::Result<RuleCalls, AllocError>
+    ensures list { IfOk result (λ calls. calls.letters.items ≡ map (λ c. c.letter) (option_to_list first ++ option_to_list second)) }
+    ensures fit { IfOk result (λ calls. calls.fit ≡ list_all (λ c. c.fits) (option_to_list first ++ option_to_list second)) }
+    ensures some { IfErr result (λ e. is_some first || is_some second ≡ true) }
 {
-    let mut list = Vec::new(alloc);
-    if let Some(letter) = first {
-        list.push(letter)?;
+    let mut letters = Vec::new(alloc);
+    let mut fit = true;
+    if let Some(call) = first {
+        let RuleCall { letter, fits } = call;
+        letters.push(letter)?;
+        fit = fits;
     }
-    if let Some(letter) = second {
-        list.push(letter)?;
+    if let Some(call) = second {
+        let RuleCall { letter, fits } = call;
+        letters.push(letter)?;
+        fit = fit && fits;
     }
-    Ok(list)
+    Ok(RuleCalls { letters, fit })
 }
 
 impl Route {
@@ -82,7 +88,7 @@ impl Route {
     }
 
     /// The message by which the bus is told of the stream's rule, where it has to be.
-    fn removal(&self, stream: u64, before: Option<u64>) -> Result<Option<Letter<'static>>>
+    fn removal(&self, stream: u64, before: Option<u64>) -> Result<Option<RuleCall>>
         ensures { MakesRemoval (left_by self.now (without_both stream before self.now.streams) (rule_kept (kept_at self.now.streams stream))) result }
     {
         match self.streams.rule(stream) {
@@ -96,7 +102,7 @@ impl Route {
     }
 
     /// The same of the second stream, where there is one.
-    fn second_removal(&self, stream: u64, second: Option<u64>) -> Result<Option<Letter<'static>>>
+    fn second_removal(&self, stream: u64, second: Option<u64>) -> Result<Option<RuleCall>>
         ensures { MakesRemoval (second_left self.now stream second) result }
     {
         match second {
@@ -106,8 +112,8 @@ impl Route {
     }
 
     /// The messages by which the bus is told once these streams are closed.
-    fn removals(&self, stream: u64, second: Option<u64>) -> Result<Vec<Letter<'static>>>
-        ensures { MakesRemovals (λ list. list.items) (left_rules self.now stream second) result }
+    fn removals(&self, stream: u64, second: Option<u64>) -> Result<RuleCalls>
+        ensures { MakesRemovals (left_rules self.now stream second) result }
     {
         let first = self.removal(stream, None)?;
         let second = self.second_removal(stream, second)?;
@@ -120,11 +126,11 @@ impl Route {
         ensures tells { Tells self.old self.new (left_rules self.old stream second) result }
         ensures more { IsMore self.old self.new }
     {
-        let list = self.removals(stream, second)?;
-        if list.is_empty() {
+        let calls = self.removals(stream, second)?;
+        if calls.letters.is_empty() {
             return Ok(None);
         }
-        let issued = self.put_all(list, false, true)?;
+        let issued = self.put_own(calls)?;
         Ok(last_issued(issued))
     }
 
@@ -168,8 +174,7 @@ impl Route {
     /// taken. These change nothing. Else
     /// the streams are closed, also where the bus can't be told, by Over with the first that holds: SerialsSpent exactly where some
     /// RemoveMatch finds each of the 4,294,967,295 serials pending, ExcessData exactly where one would pass 134,217,728 bytes,
-    /// InputOutput(WriteFault) exactly where a write failed before. Variant of `Malformed` only where a rule's text is longer than
-    /// 4,294,967,295 bytes. Of a closed peer's streams nothing is told.
+    /// InputOutput(WriteFault) exactly where a write failed before. Of a closed peer's streams nothing is told.
     pub fn close_stream(&mut self, stream: MessageStream, second: Option<MessageStream>) -> Spent
         ensures closes { (h : List Event) → Left self.old h → ClosesStreams self.old self.new stream.number (number_of second) h result }
         ensures waits { TellsNow self.old self.new result }

@@ -28,12 +28,12 @@ pub use laws::{
     answered_by_the_closing_error, answered_by_the_first, answered_once,
     arrival_order_is_the_order_of_positions, asked_stream_gives_what_comes_behind_the_return,
     busy_where_a_stream_is_full, capacity_throws_nothing_away, clone_goes_on_where_its_original_is,
-    dropped_for_good, first_cause_stays, main_capacity, none_before_is_by_position,
+    dropped_for_good, first_cause_stays, main_capacity, name_stays, none_before_is_by_position,
     nothing_is_put_after_closing, put_is_what_was_sent, refused_changes_nothing,
     reply_changes_no_other, rule_capacity, rule_stream_gives_what_it_accepts,
-    spent_changes_no_other, stream_after_closing_is_over, stream_changes_no_other,
-    stream_closed_for_good, stream_denied_for_good, stream_ends_once, stream_gives_all,
-    stream_gives_the_first_error,
+    rules_are_one_where_equal, spent_changes_no_other, stream_after_closing_is_over,
+    stream_changes_no_other, stream_closed_for_good, stream_denied_for_good, stream_ends_once,
+    stream_gives_all, stream_gives_the_first_error,
 };
 pub use leaving::Spent;
 pub use letter::Letter;

@@ -1,18 +1,20 @@
 //! Streams of rules: those that are open at once, and those for which the bus is asked (D-Bus Specification, "Match Rules").
-ghost use Rattle.std.specs.Prelude.{◌≡◌, ◌&&◌, ◌++◌, ◌∷◌, not, is_some, List, IfErr, Some, None, true};
+ghost use Rattle.std.specs.Prelude.{◌≡◌, ◌<◌, ◌^◌, ◌&&◌, ◌++◌, ◌∷◌, [], not, is_some, length, List, IfOk, IfErr, Some, None, true, false};
+ghost use Rattle.std.specs.List.{list_any, AllByRecursion};
+ghost use Rattle.peer_route.specs.Issuing.{is_deep};
 ghost use Rattle.wire_names.specs.Names.{is_member_name};
 ghost use Rattle.peer_route.specs.History.{Event, OnBus, on_bus};
 ghost use Rattle.peer_route.specs.Streams.{opening_answer, opening_events, may_be_signal};
-ghost use Rattle.peer_route.specs.Bus.{OpensRule, AsksNow, IsShownAs, AsksFor, PutsMatch, MakesBody, MakesLetter};
+ghost use Rattle.peer_route.specs.Bus.{OpensRule, AsksNow, IsShownAs, AsksFor, MakesBody, MakesLetter, PutsOwn};
 ghost use Rattle.peer_route.specs.BusCall.{bus_draft, match_parcel};
 ghost use Rattle.peer_route.specs.Left.{Left, shared};
-ghost use Rattle.peer_route.specs.Placing.{IsMore};
+ghost use Rattle.peer_route.specs.Placing.{IsMore, PutsAll};
 
 use crate::letter::Letter;
 use crate::progress::OpenState;
 use crate::route::{Issued, Route};
 use crate::streams::MessageStream;
-use rule_match::{MatchRule, OwnedMatchRule};
+use rule_match::{MatchRule, OwnedMatchRule, rules_hold_their_grammar};
 use std::alloc::Global;
 use wire_body::{Body, to};
 use wire_message::{Builder, Error, IoKind, Message, MessageType, Result};
@@ -89,33 +91,76 @@ fn bus_call(member: &'static str) -> Builder<'static>
         .destination(&destination)
 }
 
-/// The body with a rule's text.
-fn rule_body(alloc: Global, rule: &MatchRule) -> Result<Body>
+/// The call of a method of the bus about a rule; its sender isn't set yet.
+#[derive(Drop)]
+pub(crate) struct RuleCall {
+    /// With the rule's text, if it fits.
+    pub(crate) letter: Letter<'static>,
+    /// Whether a string may be as long as the rule's text.
+    pub(crate) fits: bool,
+}
+
+/// Such calls, in order.
+#[derive(Drop)]
+pub(crate) struct RuleCalls {
+    pub(crate) letters: Vec<Letter<'static>>,
+    /// Whether each has its rule's text.
+    pub(crate) fit: bool,
+}
+
+/// The body with a rule's text; None exactly where no string may be as long, which is above 4,294,967,295 bytes.
+fn rule_body(alloc: Global, rule: &MatchRule) -> Result<Option<Body>>
     ensures { MakesBody result rule.now }
 {
+    rules_hold_their_grammar(rule);
     let text = Text::from_string(rule.to_string(alloc)?);
     match to(alloc, (text,)) {
-        Ok(body) => Ok(body),
-        Err(VariantError::Memory) => Err(Error::Memory),
-        Err(error) => Err(Error::Variant(error)),
+        Ok(body) => Ok(Some(body)),
+        Err(VariantError::Malformed) => Ok(None),
+        Err(error) => {
+            // One string is a signature, so that nothing but memory was wanting.
+            prove!(matches!(&error, VariantError::Memory));
+            Err(Error::Memory)
+        }
     }
 }
 
-/// The call of a method of the bus with a rule's text; its sender isn't set yet.
+/// The body without values.
+fn no_body(alloc: Global) -> Result<Body>
+    ensures value { IfOk result (λ body. body ≡ []) }
+    ensures error { IfErr result (λ e. e ≡ Error.Memory) }
+{
+    match Body::from_values(alloc, Vec::new(alloc)) {
+        Ok(body) => Ok(body),
+        Err(error) => {
+            // No types are a signature, so that nothing but memory was wanting.
+            prove!(matches!(&error, VariantError::Memory));
+            Err(Error::Memory)
+        }
+    }
+}
+
+/// The call of a method of the bus about a rule.
 pub(crate) fn match_letter(
     alloc: Global,
     member: &'static str,
     rule: &MatchRule,
-) -> Result<Letter<'static>>
+) -> Result<RuleCall>
     requires { is_member_name member.now ≡ true }
-    ensures { MakesLetter result (match_parcel member.now None rule.now) rule.now }
+    ensures { MakesLetter result member.now rule.now }
 {
     let body = rule_body(alloc, rule)?;
-    Ok(Letter {
+    let fits = body.is_some();
+    let body = match body {
+        Some(body) => body,
+        None => no_body(alloc)?,
+    };
+    let letter = Letter {
         builder: bus_call(member),
         body,
         fds: Vec::new(alloc),
-    })
+    };
+    Ok(RuleCall { letter, fits })
 }
 
 impl Route {
@@ -140,17 +185,33 @@ impl Route {
         self.bus && may_be_signal(rule.inner()) && !self.streams.has_rule(rule)
     }
 
+    /// Puts calls of the bus, the peer's own, all or none. Where one is without its rule's text, they are refused as too long, once each has
+    /// a serial. Where they are refused, some of it may have been done.
+    pub(crate) fn put_own(&mut self, calls: RuleCalls) -> Result<Vec<Issued>>
+        requires few { AllByRecursion (λ p. length p.fds < 2 ^ 32) calls.letters.items }
+        requires shallow { list_any is_deep calls.letters.items ≡ false }
+        ensures puts { PutsOwn calls.fit (λ issued. issued.items) self.old self.new calls.letters.items result }
+        ensures more { IsMore self.old self.new }
+    {
+        let RuleCalls { letters, fit } = calls;
+        if fit {
+            return self.put_all(letters, false, true);
+        }
+        self.draw_own(letters)?;
+        Err(Error::ExcessData)
+    }
+
     /// Puts the call of a method of the bus with a rule's text, one of the peer's own. Where it is refused, some of it may have been
     /// done.
     fn put_match(&mut self, member: &'static str, rule: &OwnedMatchRule) -> Result<Issued>
         requires { is_member_name member.now ≡ true }
-        ensures puts { PutsMatch self.old self.new (match_parcel member.now self.old.name rule.now) rule.now result }
+        ensures puts { PutsAll true (λ (i : Issued). i ∷ []) self.old self.new (match_parcel member.now self.old.name rule.now ∷ []) result }
         ensures more { IsMore self.old self.new }
     {
-        let letter = match_letter(self.alloc, member, rule.inner())?;
-        let mut list = Vec::new(self.alloc);
-        list.push(letter)?;
-        let mut issued = self.put_all(list, false, true)?;
+        let RuleCall { letter, fits } = match_letter(self.alloc, member, rule.inner())?;
+        let mut letters = Vec::new(self.alloc);
+        letters.push(letter)?;
+        let mut issued = self.put_own(RuleCalls { letters, fit: fits })?;
         match issued.pop() {
             Some(issued) => Ok(issued),
             None => unreachable!(),
@@ -184,8 +245,7 @@ impl Route {
     /// The first that holds: InputOutput(Closed) exactly where the peer is closed; Busy exactly where an AddMatch or a RemoveMatch
     /// of the peer is on its way; and where AddMatch is to be put, SerialsSpent exactly where each of the 4,294,967,295 serials is
     /// pending, ExcessData exactly where the message would pass 134,217,728 bytes, InputOutput(WriteFault) exactly where a write
-    /// failed. Variant of `Malformed` only where the rule's text is longer than 4,294,967,295 bytes. Memory for want of memory.
-    /// An error changes nothing.
+    /// failed. Memory for want of memory. An error changes nothing.
     pub fn open_rule(&mut self, rule: OwnedMatchRule, max_queued: Option<u64>) -> Result<Opens>
         ensures opens { (h : List Event) → Left self.old h → OpensRule self.old self.new rule max_queued h result }
         ensures waits { AsksNow self.old self.new result }

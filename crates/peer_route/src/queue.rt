@@ -38,7 +38,7 @@ pub(crate) fn raised(asked: Option<u64>, limit: u64) -> u64
 }
 
 /// Whether two rules are one.
-#[tactic(auto, unfolding(crate::specs::Rules::is_same))]
+#[tactic(auto, using(crate::proofs::SameRule::code_same))]
 fn are_same(rule: &OwnedMatchRule, other: &OwnedMatchRule) -> bool
     ensures { result ≡ is_same rule.now other.now }
 {

@@ -18,10 +18,10 @@ use Rattle.peer_route.specs.Left.{Left, Clones}
 use Rattle.peer_route.proofs.Given.{given_made, given_asked, given_main}
 use Rattle.peer_route.proofs.Closings.{shown_by, shown_known, asks_so}
 use Rattle.peer_route.proofs.Refused.{refused_changes_nothing}
-use Rattle.peer_run.specs.Stands.{PeerView, Inlet, Outlet, Follows, Reads, Writes, IsReadFault, IsWriteFault, IsRefusal, entry}
+use Rattle.peer_run.specs.Stands.{PeerView, Inlet, Outlet, Follows, Reads, Writes, IsRefusal, is_close, entry}
 use Rattle.peer_run.proofs.Quiet.{AreQuiet, first_same, clone_quiet, queue_quiet, main_quiet}
-use Rattle.peer_run.proofs.Kept.{is_close}
 use Rattle.peer_run.proofs.QuietStep.{follows_quiet, reads_quiet, writes_quiet}
+use Rattle.peer_run.proofs.Kept.{IsWriteFault}
 
 -- ---- commands that neither read nor send
 
@@ -51,18 +51,12 @@ main_still t lane limit = record { quiet = λ a. main_quiet limit a; told = told
     told stop bytes None a = tt
     told stop bytes (Some error) a = tt
 
--- the answer is none of a read, and none of a failed send
+-- the answer is none of a failed send
 abbrev pub IsPlain : Answer → Type 0
 IsPlain (answers.Streaming number) = Unit {0}
 IsPlain answers.Set = Unit {0}
 IsPlain (answers.Refused error) = Unit {0}
 IsPlain a = ⊥
-
-no_read : (a : Answer) → IsPlain a → IsReadFault a → ⊥
-no_read (answers.Streaming number) p e = cc
-no_read answers.Set p e = cc
-no_read (answers.Refused error) p e = cc
-no_read a p e = absurd p
 
 no_write : (a : Answer) → IsPlain a → IsWriteFault a → ⊥
 no_write (answers.Streaming number) p e = cc
@@ -70,15 +64,24 @@ no_write answers.Set p e = cc
 no_write (answers.Refused error) p e = cc
 no_write a p e = absurd p
 
-pub reads_still : (setting : Setting) (start now : Inlet) (es : List Entry) (lane : ℕ) (w : Words) (a : Answer) → IsStill (trail setting es) lane w → IsPlain a
+pub reads_still : (setting : Setting) (start now : Inlet) (es : List Entry) (lane : ℕ) (w : Words) (a : Answer) → IsStill (trail setting es) lane w
     → Reads setting start now es → Reads setting start now (entry lane w a ∷ es)
-reads_still setting start now es lane w a still plain x =
-    reads_quiet setting start now es lane w a (still.quiet a) (λ stop bytes closing. still.told stop bytes closing a) (λ e. absurd (no_read a plain e)) x
+reads_still setting start now es lane w a still x =
+    reads_quiet setting start now es lane w a (still.quiet a) (λ stop bytes closing. still.told stop bytes closing a) x
 
 pub writes_still : (setting : Setting) (start now : Outlet) (es : List Entry) (lane : ℕ) (w : Words) (a : Answer) → IsStill (trail setting es) lane w → IsPlain a
     → Writes setting start now es → Writes setting start now (entry lane w a ∷ es)
 writes_still setting start now es lane w a still plain x =
     writes_quiet setting start now es lane w a (still.quiet a) still.other (λ e. absurd (no_write a plain e)) x
+
+-- a clone that was refused
+pub clone_writes : {E : Type 0} (lane number : ℕ) (error : Error) (r : Result Answer E) → IsRefusal error r
+    → IfOk r (λ a. (setting : Setting) (start now : Outlet) (es : List Entry) → Writes setting start now es → Writes setting start now (entry lane (words.Clone number) a ∷ es))
+clone_writes lane number errors.Memory (Ok a) is = absurd is
+clone_writes lane number error (Ok a) is =
+    λ setting start now es x. subst (λ y. Writes setting start now (entry lane (words.Clone number) y ∷ es)) (sym is)
+    (writes_still setting start now es lane (words.Clone number) (answers.Refused error) (clone_still (trail setting es) lane number) tt x)
+clone_writes lane number error (Err e) is = tt
 
 -- ---- a refusal
 

@@ -1,11 +1,10 @@
 -- Closing the peer: one entry more.
-use Rattle.std.proofs.Common.{◌≡◌, ℕ, ◌≤◌, inl, inr, refl, sym, ◌∙◌, ap, subst, arith, Bool, true, false, List, [], ◌∷◌, ◌++◌, length, Option, Some, None, IsSome, IfSome, IfErr, Result, Ok, Err}
+use Rattle.std.proofs.Common.{◌≡◌, ℕ, inl, inr, refl, sym, ◌∙◌, ap, subst, ◌&&◌, ◌||◌, not, Bool, true, false, List, [], ◌∷◌, ◌++◌, length, Option, Some, None, IsSome, IfSome, IfErr, Result, Ok, Err}
 use Rattle.std.proofs.lemmas.List.{append-nil}
 use Rattle.std.specs.Io.KnownBytes.{Keeps}
 use Rattle.wire_message.specs.declared.error.Error.{Error}
 use Rattle.wire_message.specs.declared.error.Error.TheVariants as errors
 use Rattle.wire_message.specs.declared.error.IoKind.TheVariants as kinds
-use Rattle.wire_framing.specs.Source.{MayRise}
 use Rattle.wire_framing.specs.Sink.{Closes, RoomStays}
 use Rattle.wire_framing.specs.declared.write_half.Writing.{Writing}
 use Rattle.peer_route.specs.declared.writer.Writer.{Writer}
@@ -18,12 +17,13 @@ use Rattle.peer_route.specs.declared.answer.Entry.{Entry}
 use Rattle.peer_route.specs.History as events
 use Rattle.peer_route.specs.Trail.{trail, close_does, sent_names, made_streams}
 use Rattle.peer_route.specs.Answers.{IsClose}
-use Rattle.peer_route.specs.Told.{ReadsTold, CloseTold, ReadTold, left_after}
+use Rattle.peer_route.specs.Told.{ReadsTold, CloseTold, ReadTold, WriteTold}
 use Rattle.peer_route.specs.Left.{Left}
 use Rattle.peer_route.proofs.Given.{given_same}
 use Rattle.peer_route.proofs.Writers.{shut_writer}
-use Rattle.peer_run.specs.Stands.{PeerView, Inlet, Outlet, Follows, Reads, Writes, Sending, IsFine, IsRest, HoldsThen, RoomFor, HasReadFault, HasWriteFault, IsWriteFault, entry}
-use Rattle.peer_run.proofs.Quiet.{follows_more, rise_after, rise_before}
+use Rattle.peer_run.specs.Stands.{PeerView, Inlet, Outlet, Follows, Reads, Writes, Sending, IsFine, IsRest, IsLeft, HoldsThen, RoomFor, Moves, is_broken, is_write_fault, has_broken, entry}
+use Rattle.peer_run.proofs.Quiet.{follows_more}
+use Rattle.peer_run.proofs.Kept.{told_same, told_now}
 
 abbrev shut : events.Event
 shut = events.Shut (errors.InputOutput kinds.Closed)
@@ -79,47 +79,36 @@ follows_close setting p q es lane r f is names same given left =
 
 -- ---- the source
 
-no_read_fault : (r : Result (Unit {0}) Error) → shown_close r ≡ answers.Closed (errors.InputOutput kinds.Fault) → ⊥
-no_read_fault (Ok done) e = cc
-no_read_fault (Err error) e = cc
-
-rest_shut : (o : Option Error) (rest before : List ℕ) (stop : Option Bool) (left : Option (List ℕ)) (now : Option Bool) → IsRest (events.first_of o (errors.InputOutput kinds.Closed)) rest stop left now
-rest_shut None rest before stop left now = tt
-rest_shut (Some error) rest before stop left now = tt
+-- closing the peer leaves the source
+rest_shut : (o : Option Error) (count : ℕ) (rest : List ℕ) (stop : Option Bool) (left : Option (List ℕ)) (now : Option Bool) → IsRest o count rest stop left now
+    → IsRest (events.first_of o (errors.InputOutput kinds.Closed)) count rest stop left now
+rest_shut None count rest stop left now x = x
+rest_shut (Some error) count rest stop left now x = x
 
 told_close : (h : List events.Event) (stop : Option Bool) (bytes : List ℕ) (closing : Option Error) (a : Answer) → ReadTold stop bytes h closing words.Close a
 told_close h stop bytes None a = tt
 told_close h stop bytes (Some error) a = tt
 
 reads_close : (setting : Setting) (start now : Inlet) (es : List Entry) (lane : ℕ) (r : Result (Unit {0}) Error) → Reads setting start now es → Reads setting start now (entry lane words.Close (shown_close r) ∷ es)
-reads_close setting start now es lane r x = record {
-  told = told_all start.left x.told;
-  rest = rest_all start.left;
-  cause = λ f. x.cause (fault f);
-  kept = x.kept;
-}
+reads_close setting start now es lane r x = record { told = told_all start.left x.told; rest = rest_all start.left x.rest }
   where
     told_all : (left : Option (List ℕ)) → IfSome left (λ bytes. ReadsTold setting start.stop bytes es) → IfSome left (λ bytes. ReadsTold setting start.stop bytes (entry lane words.Close (shown_close r) ∷ es))
     told_all None t = tt
     told_all (Some bytes) t = (told_close (trail setting es).events start.stop bytes (events.closing (trail setting es).events) (shown_close r), t)
 
-    rest_all : (left : Option (List ℕ))
-        → IfSome left (λ bytes. IsRest (events.closing (trail setting (entry lane words.Close (shown_close r) ∷ es)).events) (left_after bytes (trail setting (entry lane words.Close (shown_close r) ∷ es)).events) start.stop now.left now.stop)
-    rest_all None = tt
-    rest_all (Some bytes) =
-        subst (λ xs. IsRest (events.closing (xs ++ (trail setting es).events)) (left_after bytes (xs ++ (trail setting es).events)) start.stop now.left now.stop) (sym (does_shut r))
-        (rest_shut (events.closing (trail setting es).events) _ [] start.stop now.left now.stop)
-
-    fault : HasReadFault (entry lane words.Close (shown_close r) ∷ es) → HasReadFault es
-    fault (inl f) = absurd (no_read_fault r f)
-    fault (inr f) = f
+    rest_all : (left : Option (List ℕ)) → IfSome left (λ bytes. IsLeft bytes start.stop (trail setting es).events now.left now.stop)
+        → IfSome left (λ bytes. IsLeft bytes start.stop (trail setting (entry lane words.Close (shown_close r) ∷ es)).events now.left now.stop)
+    rest_all None t = tt
+    rest_all (Some bytes) t =
+        subst (λ xs. IsLeft bytes start.stop (xs ++ (trail setting es).events) now.left now.stop) (sym (does_shut r))
+        (rest_shut (events.closing (trail setting es).events) _ _ start.stop now.left now.stop t)
 
 -- ---- the sink
 
 holds_shut : (room : Option (Option ℕ)) (before : List ℕ) (held held' : Option (List ℕ)) (h : List events.Event) → Keeps held held' → HoldsThen room before held h → HoldsThen room before held' (shut ∷ h)
 holds_shut room before None held' h keeps w = absurd w
 holds_shut room before (Some after) None h keeps w = absurd keeps
-holds_shut room before (Some after) (Some held') h keeps w = record { sent = w.sent; appended = keeps ∙ w.appended; bytes = w.bytes; told = w.told }
+holds_shut room before (Some after) (Some held') h keeps w = record { sent = w.sent; appended = keeps ∙ w.appended; bytes = w.bytes; cut = w.cut }
 
 stays_told : (room room' : Option (Option ℕ)) → RoomStays room room' → IsSome room → IsSome room'
 stays_told None room' f there = absurd (cc)
@@ -135,13 +124,8 @@ room_stays false (Some k) (Some n) after ms s tells x = subst (λ o. RoomFor fal
 record Closing (r : Result (Unit {0}) Error) (now after : Outlet) : Type 0 where
   keeps : Keeps now.held after.held
   stays : RoomStays now.room after.room
-  grows : now.faults ≤ after.faults
   still : (room : Option (Option ℕ)) → (IsSome room → IsSome now.room) → CloseTold room words.Close (shown_close r)
-  cause : IsWriteFault (shown_close r) → MayRise now.faults after.faults
-
-rises_grow : (a b : ℕ) → MayRise a b → a ≤ b
-rises_grow a b (inl f) = omega (arith, f)
-rises_grow a b (inr f) = omega (arith, f.0, f.1)
+  moves : Moves (is_write_fault (shown_close r)) now.faults after.faults
 
 told_ok : (room : Option (Option ℕ)) → CloseTold room words.Close answers.Shut
 told_ok None = tt
@@ -155,21 +139,23 @@ stays_none : (room room' : Option (Option ℕ)) → room ≡ None → RoomStays 
 stays_none None room' none = tt
 stays_none (Some k) room' none = absurd (cc)
 
-closing_of : (r : Result (Unit {0}) Error) (now after : Outlet) → Closes r now.held after.held now.room after.room now.faults after.faults → Closing r now after
-closing_of (Ok done) now after c = record {
-  keeps = c.0;
-  stays = c.1;
-  grows = let same : after.faults ≡ now.faults = c.2 in omega (arith, same);
-  still = λ room tells. told_ok room;
-  cause = λ f. absurd (cc);
-}
-closing_of (Err error) now after c = record {
+closing_of : (r : Result (Unit {0}) Error) (now after : Outlet) → IsClosed r → Closes r now.held after.held now.room after.room now.faults after.faults → Closing r now after
+closing_of (Ok done) now after is c = record { keeps = c.0; stays = c.1; still = λ room tells. told_ok room; moves = c.2 }
+closing_of (Err error) now after is c = record {
   keeps = c.0;
   stays = stays_none now.room after.room c.1;
-  grows = rises_grow now.faults after.faults c.2;
   still = λ room tells. told_err room now.room (answers.SendFailed error) c.1 tells;
-  cause = λ f. c.2;
+  moves = subst (λ e. Moves (is_broken (Some e)) now.faults after.faults) (sym is) c.2;
 }
+
+-- a `close` is no send
+not_sent : (fault old : Bool) → ((fault && not true) || old) ≡ old
+not_sent false old = refl
+not_sent true old = refl
+
+moves_itself : (fault old : Bool) (before now : ℕ) → Moves fault before now → Moves (fault && (true || not old)) before now
+moves_itself false old before now x = x
+moves_itself true old before now x = x
 
 writes_close : (setting : Setting) (start now after : Outlet) (es : List Entry) (lane : ℕ) (r : Result (Unit {0}) Error) → Closing r now after
     → Writes setting start now es → Writes setting start after (entry lane words.Close (shown_close r) ∷ es)
@@ -177,10 +163,11 @@ writes_close setting start now after es lane r c x = record {
   holds = holds_all start.held x.holds;
   room = subst (λ xs. RoomFor (events.is_failed (xs ++ (trail setting es).events)) start.room after.room (events.put (xs ++ (trail setting es).events))) (sym (does_shut r))
       (room_stays (events.is_failed (trail setting es).events) start.room now.room after.room (events.put (trail setting es).events) c.stays x.tells x.room);
+  told = (subst (λ xs. WriteTold start.room (xs ++ (trail setting es).events)) (sym (does_shut r)) (told_same start.room (trail setting es).events (shut ∷ (trail setting es).events) refl refl refl (told_now setting start.room es x.told)), x.told);
   closes = (c.still start.room x.tells, x.closes);
   tells = λ there. stays_told now.room after.room c.stays (x.tells there);
-  cause = cause_of;
-  kept = let grows = c.grows in omega (arith, grows, x.kept);
+  broken = not_sent (is_write_fault (shown_close r)) (has_broken es) ∙ x.broken ∙ sym (ap (λ xs. events.is_failed (xs ++ (trail setting es).events)) (does_shut r));
+  faults = (now.faults, x.faults, moves_itself (is_write_fault (shown_close r)) (has_broken es) now.faults after.faults c.moves);
 }
   where
     holds_all : (held : Option (List ℕ)) → IfSome held (λ before. HoldsThen start.room before now.held (trail setting es).events)
@@ -189,10 +176,6 @@ writes_close setting start now after es lane r c x = record {
     holds_all (Some before) t =
         subst (λ xs. HoldsThen start.room before after.held (xs ++ (trail setting es).events)) (sym (does_shut r))
         (holds_shut start.room before now.held after.held (trail setting es).events c.keeps t)
-
-    cause_of : HasWriteFault (entry lane words.Close (shown_close r) ∷ es) → MayRise start.faults after.faults
-    cause_of (inl f) = rise_after start.faults now.faults after.faults x.kept (c.cause f)
-    cause_of (inr f) = rise_before start.faults now.faults after.faults (x.cause f) c.grows
 
 -- ---- the whole
 
@@ -206,7 +189,7 @@ pub closing : (setting : Setting) (p q : PeerView) (es : List Entry) (lane : ℕ
     → Sending setting q es lane words.Close now after writing (shown_close r)
 closing setting p q es lane r now after writing f is c names same given left = record {
   follows = follows_close setting p q es lane r f is names same given left;
-  writes = λ start x. writes_close setting start now after es lane r (closing_of r now after c) x;
+  writes = λ start x. writes_close setting start now after es lane r (closing_of r now after is c) x;
   reads = λ start now_in x. reads_close setting start now_in es lane r x;
   fine = never_fine setting es lane r writing;
 }

@@ -1,9 +1,10 @@
 -- What the halves of a run keep from command to command.
-use Rattle.std.proofs.Common.{ℕ, ◌≡◌, ◌≢◌, ◌-◌, ◌^◌, ◌≤◌, ◌<◌, ◌⊎◌, inl, inr, refl, sym, ◌∙◌, subst, arith, Bool, List, [], ◌∷◌, length, take, drop, Option, IfOk, IfErr, Result, Ok, Err}
+use Rattle.std.proofs.Common.{ℕ, ◌≡◌, ◌≢◌, ◌-◌, ◌^◌, ◌≤◌, ◌<◌, ◌⊎◌, inl, inr, refl, sym, ◌∙◌, ap, subst, arith, nat_le, if◌then◌else◌, Bool, true, false, List, [], ◌∷◌, length, take, drop, Option, Some, None, IfSome, IfOk, IfErr, Result, Ok, Err}
 use Rattle.std.proofs.lemmas.List.{take_all, drop_all}
 use Rattle.std.proofs.lemmas.Bool.{cases_lt}
+use Rattle.std.proofs.lemmas.Bool.Decides.{nat_tests}
 use Rattle.std.specs.Io.KnownBytes.{Consumes}
-use Rattle.wire_framing.specs.Receive.{Takes, HasCause, spent}
+use Rattle.wire_framing.specs.Receive.{Takes, HasCause, Spends, spent}
 use Rattle.wire_framing.specs.Kept.{TakesKept, rest_of}
 use Rattle.wire_message.specs.Front.{Seen, Front}
 use Rattle.wire_message.specs.Outcome.{IsReadRefusal}
@@ -17,7 +18,7 @@ use Rattle.peer_route.specs.declared.answer.Entry.{Entry}
 use Rattle.peer_route.specs.declared.writer.Writer.TheVariants as writers
 use Rattle.peer_route.specs.History as events
 use Rattle.peer_route.specs.Trail.{trail, events_of}
-use Rattle.peer_run.specs.Stands.{entry}
+use Rattle.peer_run.specs.Stands.{IsRest, lost, entry}
 use Rattle.peer_route.proofs.Writers.{fine_before as writers_before}
 
 -- ---- a read
@@ -75,6 +76,60 @@ pub keeps_err : (seq : ℕ) (result : Result Seen Error) (kept' : List ℕ) (lef
 keeps_err seq (Ok m) kept' left left' stop stop' faults faults' asked asked' within last takes = tt
 keeps_err seq (Err e) kept' left left' stop stop' faults faults' asked asked' within last takes =
     λ never. keeps_none seq (Err e) kept' left left' stop stop' faults faults' asked asked' (λ same. never (let is : e ≡ errors.Memory = cc in is)) within last takes
+
+-- ---- what is left
+
+lost_some : (seq : ℕ) (bytes : List ℕ) → 0 < seq → seq < 2 ^ 64 - 1 → lost (seq - 1) bytes ≡ spent bytes
+lost_some seq bytes some below =
+    let e : nat_le (2 ^ 64 - 2) (seq - 1) ≡ false = grind (arith, nat_tests) in ap (λ b. if b then 0 else spent bytes) e
+
+lost_none : (seq : ℕ) (bytes : List ℕ) → seq ≡ 2 ^ 64 - 1 → lost (seq - 1) bytes ≡ 0
+lost_none seq bytes last =
+    let e : nat_le (2 ^ 64 - 2) (seq - 1) ≡ true = grind (arith, nat_tests) in ap (λ b. if b then 0 else spent bytes) e
+
+behind_it : (seq : ℕ) (bytes : List ℕ) (left' : Option (List ℕ)) → 0 < seq → seq < 2 ^ 64 - 1 → left' ≡ Some (drop (spent bytes) bytes) → left' ≡ Some (drop (lost (seq - 1) bytes) bytes)
+behind_it seq bytes left' some below e = e ∙ ap (λ n. Some (drop n bytes)) (sym (lost_some seq bytes some below))
+
+-- what a read that found no message took
+rest_below : (seq : ℕ) (e : Error) (kept' bytes : List ℕ) (left' : Option (List ℕ)) (stop stop' : Option Bool) (faults faults' : ℕ) (asked asked' : Option ℕ) → 0 < seq → seq < 2 ^ 64 - 1
+    → e ≢ errors.Memory → IsReadRefusal e → Spends {A = Seen} (Err e) (Some bytes) left' → TakesKept (Err e) [] kept' (Some bytes) left' stop stop' faults faults' asked asked'
+    → IsRest (Some e) (seq - 1) bytes stop left' stop'
+rest_below seq (errors.InputOutput kinds.Fault) kept' bytes left' stop stop' faults faults' asked asked' some below never refusal spends takes = tt
+rest_below seq (errors.InputOutput kinds.Ended) kept' bytes left' stop stop' faults faults' asked asked' some below never refusal spends takes =
+    (behind_it seq bytes left' some below spends, takes.came.2)
+rest_below seq (errors.InputOutput kind) kept' bytes left' stop stop' faults faults' asked asked' some below never refusal spends takes = absurd refusal
+rest_below seq errors.Memory kept' bytes left' stop stop' faults faults' asked asked' some below never refusal spends takes = absurd (never refl)
+rest_below seq e kept' bytes left' stop stop' faults faults' asked asked' some below never refusal spends takes =
+    (behind_it seq bytes left' some below spends, takes.came.1)
+
+-- where no position is left, it takes nothing
+rest_last : (seq : ℕ) (bytes : List ℕ) (left' : Option (List ℕ)) (stop stop' : Option Bool) → seq ≡ 2 ^ 64 - 1 → left' ≡ Some bytes → stop' ≡ stop
+    → IsRest (Some (errors.InputOutput kinds.Ended)) (seq - 1) bytes stop left' stop'
+rest_last seq bytes left' stop stop' last still stays = (still ∙ ap (λ n. Some (drop n bytes)) (sym (lost_none seq bytes last)), stays)
+
+rest_told : (seq : ℕ) (e : Error) (kept' bytes : List ℕ) (left' : Option (List ℕ)) (stop stop' : Option Bool) (faults faults' : ℕ) (asked asked' : Option ℕ) → 0 < seq → seq ≤ 2 ^ 64 - 1
+    → e ≢ errors.Memory → IsReadRefusal e → (seq ≡ 2 ^ 64 - 1 → (left' ≡ Some bytes) × (stop' ≡ stop) × (e ≡ errors.InputOutput kinds.Ended))
+    → (seq < 2 ^ 64 - 1 → Spends {A = Seen} (Err e) (Some bytes) left') → (seq < 2 ^ 64 - 1 → TakesKept (Err e) [] kept' (Some bytes) left' stop stop' faults faults' asked asked')
+    → IsRest (Some e) (seq - 1) bytes stop left' stop'
+rest_told seq e kept' bytes left' stop stop' faults faults' asked asked' some within never refusal last spends takes =
+    elim (cases_lt seq (2 ^ 64 - 1)) as (λ _. IsRest (Some e) (seq - 1) bytes stop left' stop') [
+      | inl below ↦ rest_below seq e kept' bytes left' stop stop' faults faults' asked asked' some below never refusal (spends below) (takes below)
+      | inr above ↦
+          let at : seq ≡ 2 ^ 64 - 1 = omega (arith, above, within) in
+          let x = last at in
+          subst (λ o. IsRest (Some o) (seq - 1) bytes stop left' stop') (sym x.2) (rest_last seq bytes left' stop stop' at x.0 x.1)
+    ]
+
+pub rest_read : (seq : ℕ) (result : Result Seen Error) (kept' : List ℕ) (left left' : Option (List ℕ)) (stop stop' : Option Bool) (faults faults' : ℕ) (asked asked' : Option ℕ)
+    → 0 < seq → seq ≤ 2 ^ 64 - 1 → (seq ≡ 2 ^ 64 - 1 → (left' ≡ left) × (stop' ≡ stop) × (result ≡ Err (errors.InputOutput kinds.Ended)))
+    → (seq < 2 ^ 64 - 1 → Spends result left left') → (seq < 2 ^ 64 - 1 → TakesKept result [] kept' left left' stop stop' faults faults' asked asked')
+    → IfErr result (λ e. IsReadRefusal e × HasCause e faults faults')
+    → IfErr result (λ e. e ≢ errors.Memory → IfSome left (λ bytes. IsRest (Some e) (seq - 1) bytes stop left' stop'))
+rest_read seq (Ok m) kept' left left' stop stop' faults faults' asked asked' some within last spends takes error = tt
+rest_read seq (Err e) kept' None left' stop stop' faults faults' asked asked' some within last spends takes error = λ never. tt
+rest_read seq (Err e) kept' (Some bytes) left' stop stop' faults faults' asked asked' some within last spends takes error = λ never.
+    rest_told seq e kept' bytes left' stop stop' faults faults' asked asked' some within never error.0
+    (λ at. let x = last at in (x.0, x.1, let is : e ≡ errors.InputOutput kinds.Ended = cc (x.2) in is)) spends takes
 
 -- ---- a send
 

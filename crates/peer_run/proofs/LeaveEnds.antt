@@ -1,5 +1,5 @@
 -- How a command that closes streams ends, from what the core and the writing gave.
-use Rattle.std.proofs.Common.{◌≡◌, ℕ, ◌+◌, ◌-◌, ◌⊎◌, inl, inr, if◌then◌else◌, drop, IsSome, refl, sym, ◌∙◌, ap, subst, arith, Bool, true, false, List, [], ◌∷◌, ◌++◌, length, map, Option, Some, None, Result, Ok, Err, IfOk, append_assoc}
+use Rattle.std.proofs.Common.{◌≡◌, ℕ, ◌+◌, ◌-◌, ◌⊎◌, inl, inr, if◌then◌else◌, drop, IsSome, refl, sym, ◌∙◌, ap, subst, arith, Bool, true, false, List, [], ◌∷◌, ◌++◌, length, map, Option, Some, None, Result, Ok, Err, IfOk, append_assoc, add-zero}
 use Rattle.std.proofs.lemmas.List.{append-nil}
 use Rattle.std.proofs.Math.Seq.{drop-append_seam}
 use Rattle.std.specs.Io.KnownBytes.{Appends}
@@ -35,15 +35,15 @@ use Rattle.peer_route.proofs.Closings.{first_unnamed, second_unnamed}
 use Rattle.peer_route.proofs.Refused.{refused_changes_nothing}
 use Rattle.peer_route.proofs.Tellings.{gone_before}
 use Rattle.peer_route.proofs.Writers.{fine_unfailed, failed_so}
-use Rattle.peer_run.specs.Stands.{PeerView, Outlet, Follows, Writes, Sending, IsFine, IsReadFault, IsWriteFault, IsKeptOpen, entry}
+use Rattle.peer_run.specs.Stands.{PeerView, Outlet, Follows, Writes, Sending, IsFine, IsKeptOpen, is_broken, entry}
 use Rattle.peer_run.specs.Tells.{waiting, AreBare, AreDue, told_names, forgotten, is_unknown, spent_answer, spent_given, Tells, NoneToTell, AllTold, NoneTold, FirstTold}
 use Rattle.peer_route.proofs.Tellings.{removals_put, removals_failed}
 use Rattle.peer_run.proofs.Telling.{IsPut, told_ok, untold, untold_failed, some_told, none_told, some_put, two_put, removals_done, tellings_each, tellings_bare, wrote_failed}
 use Rattle.peer_run.proofs.ChangeStep.{here}
 use Rattle.peer_run.proofs.Quiet.{follows_more}
-use Rattle.peer_run.proofs.Kept.{reads_kept, writes_kept, close_told}
+use Rattle.peer_run.proofs.Kept.{reads_kept, writes_kept, IsWriteFault}
 use Rattle.peer_run.proofs.HalfStep.{fine_before}
-use Rattle.peer_run.proofs.Faults.{fault_was_written}
+use Rattle.peer_route.proofs.Written.{removals_written, wrote_written, fault_written, tellings_count}
 use Rattle.peer_run.proofs.Outlets.{writes_all, writes_part, encoded_one}
 use Rattle.peer_run.proofs.LeaveStep.{Leave, word, left_entry, Named, leaves_by, may_leave, leaves_events, leaves_names, unstream_told, gone_given, gone, rules_of, told_of, gone_is, leaves_trail, leaves_follow, leaves_read, leaves_put, Closed, all_leaves, none_leaves, first_leaves}
 
@@ -60,6 +60,14 @@ all_failed : (h : List Event) (c : Leave) (rules : List Rule) → events.is_fail
 all_failed h c rules =
     let z = gone_is h c in
     wrote_failed rules (told_of h c rules) ∙ removals_failed (gone h c) rules ∙ z.failed
+
+-- what tells the bus is put, and isn't written yet
+told_written : (h : List Event) (c : Leave) (rules : List Rule) → events.written (told_of h c rules) ≡ events.written h
+told_written h c rules = let z = gone_is h c in removals_written (gone h c) rules ∙ z.written
+
+all_written : (h : List Event) (c : Leave) (rules : List Rule) → events.written (wrote_each rules ++ told_of h c rules) ≡ events.written h + length (tellings (gone h c) rules)
+all_written h c rules =
+    wrote_written rules (told_of h c rules) ∙ ap (λ n. n + length rules) (told_written h c rules) ∙ ap (λ n. events.written h + n) (sym (tellings_count (gone h c) rules))
 
 none_failed : (rules : List Rule) (h : List Event) → some_rules rules ≡ true → events.is_failed (fault_each rules ++ h) ≡ true
 none_failed [] h some = absurd (cc)
@@ -100,8 +108,9 @@ none_to_tell setting p r v es c last now after before writing a x none same outl
           (writes_kept setting start now es c.lane (word c) (answers.Gone last)
           (ap events.is_failed (leaves_trail setting p r es c (answers.Gone last) (wrote_each rules) rules l) ∙ all_failed h c rules)
           (leaves_put setting p r es c (answers.Gone last) (wrote_each rules) rules l ∙ ap (λ rs. events.put h ++ tellings g rs) no ∙ append-nil (events.put h))
-          (close_told start.room (word c) (answers.Gone last) refl) (λ f. absurd (cc)) w);
-      reads = leaves_read setting p r es c (answers.Gone last) (wrote_each rules) rules l (λ f. cc);
+          (ap events.written (leaves_trail setting p r es c (answers.Gone last) (wrote_each rules) rules l) ∙ all_written h c rules ∙ ap (λ rs. events.written h + length (tellings g rs)) no ∙ add-zero (events.written h))
+          refl (λ f. absurd (cc)) w);
+      reads = leaves_read setting p r es c (answers.Gone last) (wrote_each rules) rules l;
       fine = λ e. still ∙ x.fine (fine_before setting es c.lane (word c) (answers.Gone last) e);
     }
 
@@ -123,9 +132,10 @@ went_all setting p r v es c last now after before writing a serial x there left 
       follows = leaves_follow setting p r es c (answers.Gone last) (wrote_each rules) rules l;
       writes = λ start w. writes_all setting start now after es c.lane (word c) (answers.Gone last) (tellings g rules)
           (leaves_put setting p r es c (answers.Gone last) (wrote_each rules) rules l)
+          (ap events.written (leaves_trail setting p r es c (answers.Gone last) (wrote_each rules) rules l) ∙ all_written h c rules)
           (ap events.is_failed (leaves_trail setting p r es c (answers.Gone last) (wrote_each rules) rules l) ∙ all_failed h c rules ∙ unfailed) unfailed
           appends falls faults (λ f. absurd (cc)) refl w;
-      reads = leaves_read setting p r es c (answers.Gone last) (wrote_each rules) rules l (λ f. cc);
+      reads = leaves_read setting p r es c (answers.Gone last) (wrote_each rules) rules l;
       fine = λ e. still;
     }
 
@@ -148,8 +158,9 @@ went_none setting p r v es c last now after before writing a m more n x there le
       follows = leaves_follow setting p r es c write_fault (fault_each rules) rules l;
       writes = λ start w. writes_part setting start now after es c.lane (word c) write_fault [] m more now n
           (leaves_put setting p r es c write_fault (fault_each rules) rules l ∙ ap (λ ms. events.put h ++ ms) there ∙ sym (append_assoc (events.put h) [] (m ∷ more)))
-          failed unfailed (appends_none now.held) (falls_none now.room) refl part breaks rises refl w;
-      reads = leaves_read setting p r es c write_fault (fault_each rules) rules l (λ f. cc);
+          (ap events.written (leaves_trail setting p r es c write_fault (fault_each rules) rules l) ∙ fault_written rules (told_of h c rules) ∙ told_written h c rules ∙ sym (add-zero (events.written h)))
+          failed unfailed (appends_none now.held) (falls_none now.room) refl part breaks rises refl refl w;
+      reads = leaves_read setting p r es c write_fault (fault_each rules) rules l;
       fine = not_fine (trail setting (left_entry c write_fault ∷ es)).events writing failed;
     }
 
@@ -174,8 +185,9 @@ went_first setting p r v es c last now after before writing a m other mid n x th
       follows = leaves_follow setting p r es c first_fault (Fault ∷ Wrote ∷ []) rules l;
       writes = λ start w. writes_part setting start now after es c.lane (word c) first_fault (m ∷ []) other [] mid n
           (leaves_put setting p r es c first_fault (Fault ∷ Wrote ∷ []) rules l ∙ ap (λ rs. events.put h ++ tellings g rs) (sym two.2) ∙ ap (λ ms. events.put h ++ ms) there ∙ sym (append_assoc (events.put h) (m ∷ []) (other ∷ [])))
-          failed unfailed (subst (λ bs. Appends now.held mid.held bs) (sym (encoded_one m)) appends) (subst (λ (bs : List ℕ). RoomFalls now.room mid.room (length bs)) (sym (encoded_one m)) falls) faults part breaks rises refl w;
-      reads = leaves_read setting p r es c first_fault (Fault ∷ Wrote ∷ []) rules l (λ f. cc);
+          (ap events.written (leaves_trail setting p r es c first_fault (Fault ∷ Wrote ∷ []) rules l) ∙ ap (λ n. n + 1) (told_written h c rules))
+          failed unfailed (subst (λ bs. Appends now.held mid.held bs) (sym (encoded_one m)) appends) (subst (λ (bs : List ℕ). RoomFalls now.room mid.room (length bs)) (sym (encoded_one m)) falls) faults part breaks rises refl refl w;
+      reads = leaves_read setting p r es c first_fault (Fault ∷ Wrote ∷ []) rules l;
       fine = not_fine (trail setting (left_entry c first_fault ∷ es)).events writing failed;
     }
 
@@ -279,9 +291,9 @@ gone_ends setting p r v es c last now after before writing a named f fine said n
 -- an answer by which nothing changes
 same_ends : (setting : Setting) (p : PeerView) (es : List Entry) (lane number : ℕ) (second : Option ℕ) (a : Answer) (now : Outlet) (writing : Writing)
     → trail setting (entry lane (words.Unstream number second) a ∷ es) ≡ trail setting es → IsAnswer (trail setting es) lane (words.Unstream number second) a
-    → (IsReadFault a → ⊥) → (IsWriteFault a → ⊥) → Follows setting p es → IsFine (trail setting es).events writing
+    → (IsWriteFault a → ⊥) → Follows setting p es → IsFine (trail setting es).events writing
     → Sending setting p es lane (words.Unstream number second) now now writing a
-same_ends setting p es lane number second a now writing same answer no_read no_write f fine =
+same_ends setting p es lane number second a now writing same answer no_write f fine =
     let t = trail setting es in
     let w = words.Unstream number second in
     record {
@@ -295,9 +307,9 @@ same_ends setting p es lane number second a now writing same answer no_read no_w
         written = f.written;
       };
       writes = λ start x. writes_kept setting start now es lane w a (ap (λ (t : Trail). events.is_failed t.events) same) (ap (λ (t : Trail). events.put t.events) same)
-          (close_told start.room w a refl) (λ e. absurd (no_write e)) x;
+          (ap (λ (t : Trail). events.written t.events) same) refl (λ e. absurd (no_write e)) x;
       reads = λ start now_in x. reads_kept setting start now_in es lane w a (ap (λ (t : Trail). events.read t.events) same) (ap (λ (t : Trail). events.closing t.events) same)
-          (λ stop bytes. unstream_told t.events number second stop bytes (events.closing t.events) a) (λ e. absurd (no_read e)) x;
+          (λ stop bytes. unstream_told t.events number second stop bytes (events.closing t.events) a) x;
       fine = λ e. fine (fine_before setting es lane w a e);
     }
 
@@ -309,7 +321,7 @@ shut_ends setting p es lane number second now writing shut f fine =
     let t = trail setting es in
     let a = answers.Refused errors.UnknownHandle in
     same_ends setting p es lane number second a now writing (refused_changes_nothing setting es (entry lane (words.Unstream number second) a) errors.UnknownHandle refl)
-    (subst (λ b. IsLeaveOf b t.events (place 0 lane number t.streams) (second_place lane second t.streams) a) (sym shut) refl) (λ e. cc) (λ e. cc) f fine
+    (subst (λ b. IsLeaveOf b t.events (place 0 lane number t.streams) (second_place lane second t.streams) a) (sym shut) refl) (λ e. cc) f fine
 
 pub one_unknown : (setting : Setting) (p : PeerView) (es : List Entry) (lane number : ℕ) (now : Outlet) (writing : Writing)
     → Follows setting p es → IsFine (trail setting es).events writing → place 0 lane number p.streams ≡ None
@@ -345,7 +357,7 @@ busy_ends : (setting : Setting) (p : PeerView) (es : List Entry) (c : Leave) (no
     → Sending setting p es c.lane (word c) now now writing answers.Busy
 busy_ends setting p es c now writing named f fine still waits =
     same_ends setting p es c.lane c.number c.second answers.Busy now writing (busy_same setting es c named)
-    (leaves_by (trail setting es) c answers.Busy named (rw (still, waits) refl)) (λ e. cc) (λ e. cc) f fine
+    (leaves_by (trail setting es) c answers.Busy named (rw (still, waits) refl)) (λ e. cc) f fine
 
 -- the core handed the streams back
 pub back_ends : {E : Type 0} (p q : PeerView) (c : Leave) (s : MessageStream) (t : Option MessageStream) (error : Error) (r : Result Answer E) (now : Outlet) (writing : Writing)
@@ -392,6 +404,10 @@ untold_follows setting p r es c error named f may told left names streams given 
     (rw reads f.within)
     (left.done ∙ z.done ∙ sym f.left.done ∙ f.written ∙ ap length (f.left.outbox ∙ sym z.put ∙ sym left.outbox))
 
+broken_is : (error : Error) → is_broken (Some error) ≡ true → error ≡ errors.InputOutput kinds.WriteFault
+broken_is (errors.InputOutput kinds.WriteFault) e = refl
+broken_is error e = absurd (cc)
+
 -- they are closed, and the bus can't be told
 untold_ends : (setting : Setting) (p r : PeerView) (es : List Entry) (c : Leave) (error : Error) (now : Outlet) (writing : Writing) → Named (trail setting es) c → Follows setting p es
     → IsFine (trail setting es).events writing → MayClose (trail setting es).events c.k c.j
@@ -407,11 +423,10 @@ untold_ends setting p r es c error now writing named f fine may tells names stre
     let same : (trail setting (left_entry c a ∷ es)).events ≡ g = leaves_events setting es c a named ∙ gone_before c.k c.j h in
     record {
       follows = untold_follows setting p r es c error named f may told.0 told.1 names streams given;
-      writes = λ start x. writes_kept setting start now es c.lane (word c) a (ap events.is_failed same ∙ z.failed) (ap events.put same ∙ z.put) (close_told start.room (word c) a refl)
-          (λ e. let is : error ≡ errors.InputOutput kinds.WriteFault = cc in
-          fault_was_written setting es f.legal (failed_so h (sym z.writer ∙ untold_failed r.core g (rules_of h c) (subst (λ e. TellsBus r.core g (rules_of h c) (Err e)) is tells)))) x;
+      writes = λ start x. writes_kept setting start now es c.lane (word c) a (ap events.is_failed same ∙ z.failed) (ap events.put same ∙ z.put) (ap events.written same ∙ z.written) refl
+          (λ e. failed_so h (sym z.writer ∙ untold_failed r.core g (rules_of h c) (subst (λ e. TellsBus r.core g (rules_of h c) (Err e)) (broken_is error e) tells))) x;
       reads = λ start now_in x. reads_kept setting start now_in es c.lane (word c) a (ap events.read same ∙ z.read) (ap events.closing same ∙ z.closing)
-          (λ stop bytes. unstream_told h c.number c.second stop bytes (events.closing h) a) (λ e. absurd (cc)) x;
+          (λ stop bytes. unstream_told h c.number c.second stop bytes (events.closing h) a) x;
       fine = λ e. fine (fine_before setting es c.lane (word c) a e);
     }
 

@@ -23,7 +23,7 @@ use Rattle.peer_route.specs.Left.{View, Left}
 use Rattle.peer_route.proofs.Given.{given_gone, given_gone_both}
 use Rattle.peer_route.proofs.Closings.{one_open, two_open}
 use Rattle.peer_route.proofs.Tellings.{leave_parts}
-use Rattle.peer_run.specs.Stands.{PeerView, Inlet, Outlet, Follows, Reads, IsFine, IsReadFault, entry}
+use Rattle.peer_run.specs.Stands.{PeerView, Inlet, Outlet, Follows, Reads, IsFine, entry}
 use Rattle.peer_run.specs.Tells.{forgotten, Tells}
 use Rattle.peer_route.proofs.Tellings.{removals_put}
 use Rattle.peer_run.proofs.Telling.{IsPut, told_all, told_none, told_first, Keeps, keeps_then, removals_keep, removals_done, tellings_long, tellings_each, wrote_keeps, wrote_put, wrote_done, fault_keeps, fault_put, fault_done}
@@ -120,10 +120,11 @@ pub record IsGone (g h : List Event) : Type 0 where
   pub done : events.done g ≡ events.done h
   pub failed : events.is_failed g ≡ events.is_failed h
   pub writer : events.writer g ≡ events.writer h
+  pub written : events.written g ≡ events.written h
 
 gone_by : (h : List Event) (k : ℕ) (j : Option ℕ) → IsGone (gone_then j (Did k Gone ∷ h)) h
-gone_by h k None = record { read = refl; closing = refl; put = refl; done = refl; failed = refl; writer = refl }
-gone_by h k (Some j) = record { read = refl; closing = refl; put = refl; done = refl; failed = refl; writer = refl }
+gone_by h k None = record { read = refl; closing = refl; put = refl; done = refl; failed = refl; writer = refl; written = refl }
+gone_by h k (Some j) = record { read = refl; closing = refl; put = refl; done = refl; failed = refl; writer = refl; written = refl }
 
 pub gone_is : (h : List Event) (c : Leave) → IsGone (gone h c) h
 gone_is h c = gone_by h c.k c.j
@@ -221,14 +222,14 @@ leaves_follow setting p r es c a xs rules x =
     (rw reads f.within)
     (omega (arith, did, all, long, each))
 
-pub leaves_read : (setting : Setting) (p r : PeerView) (es : List Entry) (c : Leave) (a : Answer) (xs : List Event) (rules : List Rule) → Leaves setting p r es c a xs rules → (IsReadFault a → ⊥)
+pub leaves_read : (setting : Setting) (p r : PeerView) (es : List Entry) (c : Leave) (a : Answer) (xs : List Event) (rules : List Rule) → Leaves setting p r es c a xs rules
     → (start now : Inlet) → Reads setting start now es → Reads setting start now (left_entry c a ∷ es)
-leaves_read setting p r es c a xs rules x never start now reads =
+leaves_read setting p r es c a xs rules x start now reads =
     let h = (trail setting es).events in
     let at = left_at h c rules xs x.writes in
     let same = leaves_trail setting p r es c a xs rules x in
     reads_kept setting start now es c.lane (word c) a (ap events.read same ∙ at.read) (ap events.closing same ∙ at.closing)
-    (λ stop bytes. unstream_told h c.number c.second stop bytes (events.closing h) a) (λ f. absurd (never f)) reads
+    (λ stop bytes. unstream_told h c.number c.second stop bytes (events.closing h) a) reads
 
 -- what it puts
 pub leaves_put : (setting : Setting) (p r : PeerView) (es : List Entry) (c : Leave) (a : Answer) (xs : List Event) (rules : List Rule) → Leaves setting p r es c a xs rules

@@ -13,7 +13,7 @@ use Rattle.wire_message.specs.declared.error.Error.{Error}
 use Rattle.wire_message.specs.declared.error.Error.TheVariants as errors
 use Rattle.peer_route.specs.declared.words.CallFlags.{CallFlags}
 use Rattle.peer_route.specs.declared.words.Outgoing.{Outgoing}
-use Rattle.peer_route.specs.Parcel.{Setting, Parcel, Asked}
+use Rattle.peer_route.specs.Parcel.{Parcel, Asked}
 use Rattle.peer_route.specs.BodyWord.{ReadsBody}
 use Rattle.peer_route.specs.CallMessage.{flags_number, order_of, fds_of, is_outside, words_refusal, values_in, asked_of, member_draft, member_asked}
 use Rattle.peer_run.specs.CallWords.{MakesParcel, unflagged, lettered, letters_asked}
@@ -107,16 +107,16 @@ pub words_refused : (error : Error) (refusal : Option Error) (found : Option (Li
     → MakesParcel (Err error) (asked_of refusal found misplaced unsupported d fds)
 words_refused error refusal found misplaced unsupported d fds e = refused error _ (ap (λ o. asked_of o found misplaced unsupported d fds) e)
 
-pub whole : (kind : MessageType) (setting : Setting) (words : Outgoing) (interface : Option (List ℕ)) (made : Draft) (values : List Datum) (r : Result Parcel Error)
-    → made ≡ unflagged (member_draft kind setting words interface) → words_refusal (member_draft kind setting words interface) ≡ None
-    → ReadsBody (Ok values) (values_in words.body) → MakesParcel r (letters_asked made values words.flags setting.takes_fds)
-    → MakesParcel r (member_asked setting words (member_draft kind setting words interface))
-whole kind setting words interface made values r m w b h =
-    let draft = member_draft kind setting words interface in
+pub whole : (kind : MessageType) (name : Option (List ℕ)) (takes_fds : Bool) (words : Outgoing) (interface : Option (List ℕ)) (made : Draft) (values : List Datum) (r : Result Parcel Error)
+    → made ≡ unflagged (member_draft kind name words interface) → words_refusal (member_draft kind name words interface) ≡ None
+    → ReadsBody (Ok values) (values_in words.body) → MakesParcel r (letters_asked made values words.flags takes_fds)
+    → MakesParcel r (member_asked takes_fds words (member_draft kind name words interface))
+whole kind name takes_fds words interface made values r m w b h =
+    let draft = member_draft kind name words interface in
     let wrong = are_misplaced draft.kind draft.flags in
-    let lacks = words.flags.descriptor && not setting.takes_fds in
+    let lacks = words.flags.descriptor && not takes_fds in
     subst (MakesParcel r)
-    (ap (λ d. letters_asked d values words.flags setting.takes_fds) m
+    (ap (λ d. letters_asked d values words.flags takes_fds) m
     ∙ sym (ap (λ o. asked_of o (values_in words.body) wrong lacks draft (fds_of words.flags.descriptor)) w
     ∙ ap (λ o. asked_of None o wrong lacks draft (fds_of words.flags.descriptor)) b)) h
 

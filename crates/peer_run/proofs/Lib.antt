@@ -16,13 +16,14 @@ pub mod LeaveWrites
 pub mod OpenStep
 pub mod OpenedStep
 pub mod CloseStep
-pub mod Faults
 pub mod SendStep
 pub mod Numbers
 pub mod OneLetter
 pub mod SendEnds
 pub mod SendGrows
 pub mod Ends
-pub mod Cut
+pub mod Transcripts
+pub mod OneText
 pub mod HalfStep
 pub mod Printing
+pub mod Closing

@@ -16,7 +16,7 @@ use Rattle.peer_route.specs.declared.words.Outgoing.{Outgoing}
 use Rattle.peer_route.specs.declared.words.Words.{Words}
 use Rattle.peer_route.specs.declared.words.Words.TheVariants as words
 use Rattle.peer_route.specs.declared.writer.Writer.TheVariants as writers
-use Rattle.peer_route.specs.Parcel.{Setting, Parcel, Asked, sent_by}
+use Rattle.peer_route.specs.Parcel.{Parcel, Asked, sent_by}
 use Rattle.peer_route.specs.CallMessage.{fds_of, values_in, words_refusal, name_refusal, asked_of, call_draft, signal_draft, call_asked, signal_asked, reply_asked, error_asked, sent_from}
 use Rattle.peer_route.specs.History.{Event, writer}
 use Rattle.peer_route.specs.Left.{View, Left}
@@ -24,7 +24,6 @@ use Rattle.peer_route.specs.Issuing.{is_deep, issued_of, AreDrawn, AreShort, Som
 use Rattle.peer_route.specs.Trail.{asks_with}
 use Rattle.peer_run.specs.CallWords.{MakesAsked}
 use Rattle.peer_run.specs.OneLetter.{IssuesOne, WaitsOne}
-use Rattle.peer_run.specs.Stands.{setting_by}
 
 -- ---- what issuing one message gives
 
@@ -112,69 +111,68 @@ asked_named name None (Some values) true unsupported draft fds same = refl
 asked_named name None (Some values) false true draft fds same = refl
 asked_named name None (Some values) false false draft fds same = ap Ok (same values)
 
-reply_named : (setting : Setting) (m : Option Seen) (word : Option (List ℕ)) → named_asked setting.name (reply_asked (setting_by false None None setting.takes_fds) m word) ≡ reply_asked setting m word
-reply_named setting None word = refl
-reply_named setting (Some m) word =
-    asked_named setting.name None (values_in word) false false (sent_from None (reply_draft types.MethodReturn (head_of m))) [] (λ vs. refl)
+reply_named : (name : Option (List ℕ)) (m : Option Seen) (word : Option (List ℕ)) → named_asked name (reply_asked None m word) ≡ reply_asked name m word
+reply_named name None word = refl
+reply_named name (Some m) word =
+    asked_named name None (values_in word) false false (sent_from None (reply_draft types.MethodReturn (head_of m))) [] (λ vs. refl)
 
-error_named : (setting : Setting) (m : Option Seen) (text : List ℕ) (word : Option (List ℕ))
-    → named_asked setting.name (error_asked (setting_by false None None setting.takes_fds) m text word) ≡ error_asked setting m text word
-error_named setting None text word = refl
-error_named setting (Some m) text word =
-    asked_named setting.name (name_refusal text) (values_in word) false false (sent_from None (error_draft (head_of m) text)) [] (λ vs. refl)
+error_named : (name : Option (List ℕ)) (m : Option Seen) (text : List ℕ) (word : Option (List ℕ))
+    → named_asked name (error_asked None m text word) ≡ error_asked name m text word
+error_named name None text word = refl
+error_named name (Some m) text word =
+    asked_named name (name_refusal text) (values_in word) false false (sent_from None (error_draft (head_of m) text)) [] (λ vs. refl)
 
-call_named : (setting : Setting) (out : Outgoing) → named_asked setting.name (call_asked (setting_by false None None setting.takes_fds) out) ≡ call_asked setting out
+call_named : (name : Option (List ℕ)) (takes_fds : Bool) (out : Outgoing) → named_asked name (call_asked None takes_fds out) ≡ call_asked name takes_fds out
 unfolding words_refusal
-call_named setting out =
-    let draft = call_draft (setting_by false None None setting.takes_fds) out in
-    asked_named setting.name (words_refusal draft) (values_in out.body) (are_misplaced draft.kind draft.flags) (out.flags.descriptor && not setting.takes_fds) draft (fds_of out.flags.descriptor) (λ vs. refl)
+call_named name takes_fds out =
+    let draft = call_draft None out in
+    asked_named name (words_refusal draft) (values_in out.body) (are_misplaced draft.kind draft.flags) (out.flags.descriptor && not takes_fds) draft (fds_of out.flags.descriptor) (λ vs. refl)
 
-signal_named : (setting : Setting) (out : Outgoing) → named_asked setting.name (signal_asked (setting_by false None None setting.takes_fds) out) ≡ signal_asked setting out
+signal_named : (name : Option (List ℕ)) (takes_fds : Bool) (out : Outgoing) → named_asked name (signal_asked None takes_fds out) ≡ signal_asked name takes_fds out
 unfolding words_refusal
-signal_named setting out =
-    let draft = signal_draft (setting_by false None None setting.takes_fds) out in
-    asked_named setting.name (words_refusal draft) (values_in out.body) (are_misplaced draft.kind draft.flags) (out.flags.descriptor && not setting.takes_fds) draft (fds_of out.flags.descriptor) (λ vs. refl)
+signal_named name takes_fds out =
+    let draft = signal_draft None out in
+    asked_named name (words_refusal draft) (values_in out.body) (are_misplaced draft.kind draft.flags) (out.flags.descriptor && not takes_fds) draft (fds_of out.flags.descriptor) (λ vs. refl)
 
 -- What a peer without a name asks for, sent by the peer of a name, is what that peer asks for.
-asks_named : (setting : Setting) (given : ℕ → Option Seen) (w : Words) → named_asks setting.name (asks_with (setting_by false None None setting.takes_fds) given w) ≡ asks_with setting given w
-asks_named setting given (words.Call out) = ap Some (call_named setting out)
-asks_named setting given (words.Signal out) = ap Some (signal_named setting out)
-asks_named setting given (words.Reply stream body) = ap Some (reply_named setting (given stream) body)
-asks_named setting given (words.Error stream text body) = ap Some (error_named setting (given stream) text body)
-asks_named setting given words.Read = refl
-asks_named setting given (words.Poll number) = refl
-asks_named setting given (words.Opened number) = refl
-asks_named setting given (words.Before number before) = refl
-asks_named setting given (words.Drop number) = refl
-asks_named setting given words.Stream = refl
-asks_named setting given (words.Take number) = refl
-asks_named setting given (words.TakeBefore number before) = refl
-asks_named setting given (words.Clone number) = refl
-asks_named setting given (words.Unstream number second) = refl
-asks_named setting given (words.Queue number limit) = refl
-asks_named setting given (words.MainQueue limit) = refl
-asks_named setting given (words.Open max_queued rule) = refl
-asks_named setting given words.Close = refl
+asks_named : (name : Option (List ℕ)) (takes_fds : Bool) (given : ℕ → Option Seen) (w : Words) → named_asks name (asks_with None takes_fds given w) ≡ asks_with name takes_fds given w
+asks_named name takes_fds given (words.Call out) = ap Some (call_named name takes_fds out)
+asks_named name takes_fds given (words.Signal out) = ap Some (signal_named name takes_fds out)
+asks_named name takes_fds given (words.Reply stream body) = ap Some (reply_named name (given stream) body)
+asks_named name takes_fds given (words.Error stream text body) = ap Some (error_named name (given stream) text body)
+asks_named name takes_fds given words.Read = refl
+asks_named name takes_fds given (words.Poll number) = refl
+asks_named name takes_fds given (words.Opened number) = refl
+asks_named name takes_fds given (words.Before number before) = refl
+asks_named name takes_fds given (words.Drop number) = refl
+asks_named name takes_fds given words.Stream = refl
+asks_named name takes_fds given (words.Take number) = refl
+asks_named name takes_fds given (words.TakeBefore number before) = refl
+asks_named name takes_fds given (words.Clone number) = refl
+asks_named name takes_fds given (words.Unstream number second) = refl
+asks_named name takes_fds given (words.Queue number limit) = refl
+asks_named name takes_fds given (words.MainQueue limit) = refl
+asks_named name takes_fds given (words.Open max_queued rule) = refl
+asks_named name takes_fds given words.Close = refl
 
 ok_named : (name : Option (List ℕ)) (o : Option Asked) (parcel : Parcel) → MakesAsked (Ok parcel) o → named_asks name o ≡ Some (Ok (sent_by name false parcel))
 ok_named name None parcel m = absurd m
 ok_named name (Some asked) parcel m = ap (λ a. Some (named_asked name a)) m
 
 -- the letter that was made, sent by the peer, is what is asked for
-pub letter_named : (setting : Setting) (given : ℕ → Option Seen) (w : Words) (parcel : Parcel) → MakesAsked (Ok parcel) (asks_with (setting_by false None None setting.takes_fds) given w)
-    → asks_with setting given w ≡ Some (Ok (sent_by setting.name false parcel))
-letter_named setting given w parcel m =
-    sym (asks_named setting given w) ∙ ok_named setting.name (asks_with (setting_by false None None setting.takes_fds) given w) parcel m
+pub letter_named : (name : Option (List ℕ)) (takes_fds : Bool) (given : ℕ → Option Seen) (w : Words) (parcel : Parcel) → MakesAsked (Ok parcel) (asks_with None takes_fds given w)
+    → asks_with name takes_fds given w ≡ Some (Ok (sent_by name false parcel))
+letter_named name takes_fds given w parcel m = sym (asks_named name takes_fds given w) ∙ ok_named name (asks_with None takes_fds given w) parcel m
 
 refusal_kept : (name : Option (List ℕ)) (o : Option Asked) (error : Error) → MakesAsked (Err error) o → MakesAsked (Err error) (named_asks name o)
 refusal_kept name None error m = m
 refusal_kept name (Some asked) errors.Memory m = tt
 refusal_kept name (Some asked) other m = ap (named_asked name) m
 
-pub refusal_named : (setting : Setting) (given : ℕ → Option Seen) (w : Words) (error : Error) → MakesAsked (Err error) (asks_with (setting_by false None None setting.takes_fds) given w)
-    → MakesAsked (Err error) (asks_with setting given w)
-refusal_named setting given w error m =
-    subst (MakesAsked (Err error)) (asks_named setting given w) (refusal_kept setting.name (asks_with (setting_by false None None setting.takes_fds) given w) error m)
+pub refusal_named : (name : Option (List ℕ)) (takes_fds : Bool) (given : ℕ → Option Seen) (w : Words) (error : Error) → MakesAsked (Err error) (asks_with None takes_fds given w)
+    → MakesAsked (Err error) (asks_with name takes_fds given w)
+refusal_named name takes_fds given w error m =
+    subst (MakesAsked (Err error)) (asks_named name takes_fds given w) (refusal_kept name (asks_with None takes_fds given w) error m)
 
 pub made_letter : (asked : Option Asked) (parcel : Parcel) → MakesAsked (Ok parcel) asked → asked ≡ Some (Ok parcel)
 made_letter None parcel m = absurd m

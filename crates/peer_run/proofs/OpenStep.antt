@@ -2,19 +2,16 @@
 use Rattle.std.proofs.Common.{◌≡◌, ◌+◌, ◌≤◌, ℕ, Bool, true, false, inl, inr, refl, sym, ◌∙◌, ap, subst, List, [], ◌∷◌, ◌++◌, length, slice_get, Option, Some, None, IsSome, Result, Ok, Err, IfOk}
 use Rattle.std.proofs.lemmas.List.{append-nil, length_push}
 use Rattle.std.specs.Io.KnownBytes.{Appends}
-use Rattle.wire_tree.specs.Datum.{string, IsTextOf}
 use Rattle.wire_message.specs.Circle.{IsNext}
 use Rattle.wire_message.specs.Front.{Seen}
 use Rattle.wire_message.specs.declared.error.Error.{Error}
 use Rattle.wire_message.specs.declared.error.Error.TheVariants as errors
 use Rattle.wire_message.specs.declared.error.IoKind.TheVariants as kinds
-use Rattle.wire_signature.specs.declared.error.VariantError.TheVariants as faults
 use Rattle.wire_framing.specs.Sink.{RoomFalls}
 use Rattle.wire_framing.specs.Writing.{is_unsupported}
 use Rattle.wire_framing.specs.declared.write_half.Writing.{Writing}
 use Rattle.wire_framing.specs.declared.write_half.Writing.TheVariants.{Fine}
 use Rattle.rule_match.specs.Rule.{Rule}
-use Rattle.rule_match.specs.Text.{rule_text}
 use Rattle.rule_match.specs.Building.{Gives}
 use Rattle.rule_match.specs.Bytes.{rule_in_bytes}
 use Rattle.peer_route.specs.Parcel.{Setting}
@@ -34,18 +31,17 @@ use Rattle.peer_route.specs.Trail.{Trail, trail, count, next_serial, or_zero, fa
 use Rattle.peer_route.specs.Answers.{IsOpenOf, IsRuleOf, IsNewOf, IsAskOf, IsCalled, long_refusal, write_fault}
 use Rattle.peer_route.specs.Told.{ReadTold}
 use Rattle.peer_route.specs.Left.{Left}
-use Rattle.peer_route.specs.Bus.{OpensRule, WouldAsk, WouldSend}
+use Rattle.peer_route.specs.Bus.{OpensRule, WouldAsk}
 use Rattle.peer_route.proofs.Given.{given_made, given_added, given_fault, given_same}
 use Rattle.peer_route.proofs.NextSerial.{next_serial-next}
 use Rattle.peer_route.proofs.Steps.{refused-spent, refused-long, not_refused}
 use Rattle.peer_route.proofs.Writers.{fine_unfailed, failed_so}
-use Rattle.peer_run.specs.Stands.{PeerView, Inlet, Outlet, Follows, Reads, Written, DidWrite, DidFail, Asks, Sending, IsReadFault, IsWriteFault, HasWriteFault, IsRefusal, IsUnopened, IsFine, ask_answer, ask_owner, entry}
+use Rattle.peer_run.specs.Stands.{PeerView, Inlet, Outlet, Follows, Reads, Written, DidWrite, DidFail, Asks, Sending, IsRefusal, IsUnopened, IsFine, ask_answer, ask_owner, entry}
 use Rattle.peer_run.proofs.Quiet.{AreQuiet, follows_more, open_unread}
 use Rattle.peer_run.proofs.QuietStep.{follows_quiet, writes_quiet}
-use Rattle.peer_run.proofs.Kept.{reads_kept, writes_kept, close_told}
+use Rattle.peer_run.proofs.Kept.{reads_kept, writes_kept, IsWriteFault}
 use Rattle.peer_run.proofs.HalfStep.{fine_before}
 use Rattle.peer_run.proofs.Outlets.{encoded_one, writes_all, writes_broke}
-use Rattle.peer_run.proofs.Faults.{fault_was_written}
 use Rattle.peer_run.proofs.SendEnds.{at_end, can_send, same_peer}
 
 -- ---- what such a command is
@@ -55,12 +51,12 @@ told_open h asked text stop bytes None a = tt
 told_open h asked text stop bytes (Some error) a = tt
 
 -- it reads nothing
-pub reads_open : (setting : Setting) (start now : Inlet) (es : List Entry) (lane : ℕ) (asked : Option ℕ) (text : List ℕ) (a : Answer) → (IsReadFault a → ⊥)
+pub reads_open : (setting : Setting) (start now : Inlet) (es : List Entry) (lane : ℕ) (asked : Option ℕ) (text : List ℕ) (a : Answer)
     → Reads setting start now es → Reads setting start now (entry lane (words.Open asked text) a ∷ es)
-reads_open setting start now es lane asked text a never x =
+reads_open setting start now es lane asked text a x =
     let h = (trail setting es).events in
     let same = open_unread h (rule_in_bytes text) asked a in
-    reads_kept setting start now es lane (words.Open asked text) a same.0 same.1 (λ stop bytes. told_open h asked text stop bytes (events.closing h) a) (λ e. absurd (never e)) x
+    reads_kept setting start now es lane (words.Open asked text) a same.0 same.1 (λ stop bytes. told_open h asked text stop bytes (events.closing h) a) x
 
 -- what is answered of a rule, by what the trail says
 opened_so : (t : Trail) (lane : ℕ) (found : Result Rule Error) (rule : Rule) (shut : Option Error) (flies : Bool) (a : Answer) → found ≡ Ok rule
@@ -77,15 +73,12 @@ asked_so : (t : Trail) (lane : ℕ) (found : Result Rule Error) (rule : Rule) (a
 asked_so t lane found rule a is would answer = opened_so t lane found rule None false a is would.0 would.1 (new_so t lane rule true a would.2 answer)
 
 -- and there is a message to ask it by
-called_so : (t : Trail) (lane : ℕ) (rule : Rule) (r : Option Error) (w : Writer) (a : Answer) → IsTextOf string (rule_text rule)
+called_so : (t : Trail) (lane : ℕ) (rule : Rule) (r : Option Error) (w : Writer) (a : Answer)
     → long_refusal (next_serial t.events) (add_parcel (events.unique_name t.events) rule) ≡ r → events.writer t.events ≡ w
     → IsCalled r w (answers.Opening (count lane t.streams) (or_zero (next_serial t.events))) a → IsAskOf t lane rule a
-called_so t lane rule r w a is_text refusal writer answer =
-    inr (
-      is_text,
-      subst (λ x. IsCalled (long_refusal (next_serial t.events) (add_parcel (events.unique_name t.events) rule)) x (answers.Opening (count lane t.streams) (or_zero (next_serial t.events))) a) (sym writer)
-          (subst (λ x. IsCalled x w (answers.Opening (count lane t.streams) (or_zero (next_serial t.events))) a) (sym refusal) answer),
-    )
+called_so t lane rule r w a refusal writer answer =
+    subst (λ x. IsCalled (long_refusal (next_serial t.events) (add_parcel (events.unique_name t.events) rule)) x (answers.Opening (count lane t.streams) (or_zero (next_serial t.events))) a) (sym writer)
+    (subst (λ x. IsCalled x w (answers.Opening (count lane t.streams) (or_zero (next_serial t.events))) a) (sym refusal) answer)
 
 -- ---- nothing was opened
 
@@ -94,10 +87,9 @@ pub record IsNothing (t : Trail) (lane : ℕ) (found : Result Rule Error) (asked
   pub names : open_names t.events a ≡ []
   pub streams : asked_streams t.events lane a ≡ []
   pub answer : IsOpenOf t lane found a
-  pub unread : IsReadFault a → ⊥
 
 pub nothing_opened : (setting : Setting) (p : PeerView) (es : List Entry) (lane : ℕ) (asked : Option ℕ) (text : List ℕ) (a : Answer) (now : Outlet) (writing : Writing)
-    → Follows setting p es → IsFine (trail setting es).events writing → IsNothing (trail setting es) lane (rule_in_bytes text) asked a → (IsWriteFault a → HasWriteFault es)
+    → Follows setting p es → IsFine (trail setting es).events writing → IsNothing (trail setting es) lane (rule_in_bytes text) asked a → (IsWriteFault a → events.is_failed (trail setting es).events ≡ true)
     → Sending setting p es lane (words.Open asked text) now now writing a
 nothing_opened setting p es lane asked text a now writing f fine n fault =
     let t = trail setting es in
@@ -106,9 +98,9 @@ nothing_opened setting p es lane asked text a now writing f fine n fault =
       follows = follows_more setting p es (entry lane (words.Open asked text) a) t.events same f.left
           (f.names ∙ sym (append-nil t.names) ∙ ap (λ ns. t.names ++ ns) (sym n.names))
           (f.streams ∙ sym (append-nil t.streams) ∙ ap (λ ns. t.streams ++ ns) (sym n.streams)) f.given f.legal n.answer f.within f.written;
-      writes = λ start x. writes_kept setting start now es lane (words.Open asked text) a (ap events.is_failed same) (ap events.put same)
-          (close_told start.room (words.Open asked text) a refl) fault x;
-      reads = λ start now_in x. reads_open setting start now_in es lane asked text a n.unread x;
+      writes = λ start x. writes_kept setting start now es lane (words.Open asked text) a (ap events.is_failed same) (ap events.put same) (ap events.written same)
+          refl fault x;
+      reads = λ start now_in x. reads_open setting start now_in es lane asked text a x;
       fine = λ x. fine (fine_before setting es lane (words.Open asked text) a x);
     }
 
@@ -122,7 +114,7 @@ busy_makes h (Err e) asked = refl
 
 -- a refusal
 is_refused : (t : Trail) (lane : ℕ) (found : Result Rule Error) (asked : Option ℕ) (error : Error) → IsOpenOf t lane found (answers.Refused error) → IsNothing t lane found asked (answers.Refused error)
-is_refused t lane found asked error answer = record { events = refused_makes t.events found asked error; names = refl; streams = refl; answer = answer; unread = λ e. cc }
+is_refused t lane found asked error answer = record { events = refused_makes t.events found asked error; names = refl; streams = refl; answer = answer }
 
 -- the bus couldn't be asked: a write failed before
 failed_makes : (h : List events.Event) (rule : Rule) (found : Result Rule Error) (asked : Option ℕ) (error : Error) → found ≡ Ok rule → events.writer h ≡ writers.Failed
@@ -137,7 +129,6 @@ is_unsent t lane found rule asked is failed answer = record {
   names = ap (λ w. failed_name w true) failed;
   streams = ap (λ w. failed_name w true) failed;
   answer = answer;
-  unread = λ e. cc;
 }
 
 -- a rule that was read is the text's
@@ -165,18 +156,18 @@ closed_open t lane rule (Some error) flies there = refl
 -- what the core refused, by its error
 record IsKept (setting : Setting) (p : PeerView) (es : List Entry) (lane : ℕ) (asked : Option ℕ) (text : List ℕ) (a : Answer) : Type 0 where
   nothing : IsNothing (trail setting es) lane (rule_in_bytes text) asked a
-  fault : IsWriteFault a → HasWriteFault es
+  fault : IsWriteFault a → events.is_failed (trail setting es).events ≡ true
 
 kept_refused : (setting : Setting) (p : PeerView) (es : List Entry) (lane : ℕ) (asked : Option ℕ) (text : List ℕ) (error : Error) → IsOpenOf (trail setting es) lane (rule_in_bytes text) (answers.Refused error)
     → IsKept setting p es lane asked text (answers.Refused error)
 kept_refused setting p es lane asked text error answer = record { nothing = is_refused (trail setting es) lane (rule_in_bytes text) asked error answer; fault = λ e. cc }
 
 -- there is no AddMatch to put, for this reason
-called_refused : (t : Trail) (lane : ℕ) (rule : Rule) (text : List ℕ) (error : Error) → rule_in_bytes text ≡ Ok rule → WouldSend t.events rule
+called_refused : (t : Trail) (lane : ℕ) (rule : Rule) (text : List ℕ) (error : Error) → rule_in_bytes text ≡ Ok rule → WouldAsk t.events rule
     → long_refusal (next_serial t.events) (add_parcel (events.unique_name t.events) rule) ≡ Some error → IsOpenOf t lane (rule_in_bytes text) (answers.Refused error)
 called_refused t lane rule text error found would refusal =
-    asked_so t lane (rule_in_bytes text) rule (answers.Refused error) found would.0
-    (called_so t lane rule (Some error) (events.writer t.events) (answers.Refused error) would.1 refusal refl refl)
+    asked_so t lane (rule_in_bytes text) rule (answers.Refused error) found would
+    (called_so t lane rule (Some error) (events.writer t.events) (answers.Refused error) refusal refl refl)
 
 not_opened : (setting : Setting) (p q : PeerView) (es : List Entry) (lane : ℕ) (asked : Option ℕ) (text : List ℕ) (rule : Rule) (error : Error) (E : Type 0) (a : Answer) → rule_in_bytes text ≡ Ok rule
     → Follows setting p es → OpensRule p.core q.core rule asked (trail setting es).events (Err error) → IsUnopened {E = E} error (Ok a)
@@ -196,16 +187,9 @@ not_opened setting p q es lane asked text rule errors.Busy E a found f said is =
           names = refl;
           streams = refl;
           answer = opened_so t lane (rule_in_bytes text) rule None true answers.Busy found said.0 said.1 refl;
-          unread = λ e. cc;
         };
         fault = λ e. cc;
       }),
-    )
-not_opened setting p q es lane asked text rule (errors.Variant faults.Malformed) E a found f said is =
-    let t = trail setting es in (
-      said.2,
-      subst (λ x. IsKept setting p es lane asked text x) (sym is) (kept_refused setting p es lane asked text (errors.Variant faults.Malformed)
-          (asked_so t lane (rule_in_bytes text) rule (answers.Refused (errors.Variant faults.Malformed)) found said.0 (inl (said.1, refl)))),
     )
 not_opened setting p q es lane asked text rule errors.SerialsSpent E a found f said is =
     let t = trail setting es in
@@ -227,9 +211,9 @@ not_opened setting p q es lane asked text rule (errors.InputOutput kinds.WriteFa
       said.3,
       subst (λ x. IsKept setting p es lane asked text x) (sym is) (record {
         nothing = is_unsent t lane (rule_in_bytes text) rule asked found said.2
-            (asked_so t lane (rule_in_bytes text) rule write_fault found said.0.0
-            (called_so t lane rule None writers.Failed write_fault said.0.1 (not_refused t.events (Ok parcel) parcel said.1.0 refl said.1.1 said.1.2) said.2 refl));
-        fault = λ e. fault_was_written setting es f.legal (failed_so t.events said.2);
+            (asked_so t lane (rule_in_bytes text) rule write_fault found said.0
+            (called_so t lane rule None writers.Failed write_fault (not_refused t.events (Ok parcel) parcel said.1.0 refl said.1.1 said.1.2) said.2 refl));
+        fault = λ e. failed_so t.events said.2;
       }),
     )
 not_opened setting p q es lane asked text rule errors.Memory E a found f said is = absurd is
@@ -265,7 +249,7 @@ follows_open setting p q es lane asked text rule now writing f is open_ flies as
           names refl made (given ∙ ap (λ gs. gs ++ None ∷ []) f.given ∙ sym (given_made (events.Ruled rule asked) t.events))
           (opened_so t lane (rule_in_bytes text) rule None false a is open_ flies (new_so t lane rule false a asks (ap (λ ns. answers.Streaming (count lane ns)) f.streams)));
       writes = λ start x. writes_quiet setting start now es lane (words.Open asked text) a quiet refl (λ e. cc) x;
-      reads = λ start now_in x. reads_open setting start now_in es lane asked text a (λ e. cc) x;
+      reads = λ start now_in x. reads_open setting start now_in es lane asked text a x;
       fine = λ x. fine (fine_before setting es lane (words.Open asked text) a x);
     }
 
@@ -274,7 +258,7 @@ follows_open setting p q es lane asked text rule now writing f is open_ flies as
 -- what goes before the AddMatch's write
 pub record IsAsking (setting : Setting) (p q : PeerView) (es : List Entry) (asked : Option ℕ) (text : List ℕ) (rule : Rule) (o : Opening) : Type 0 where
   pub found : rule_in_bytes text ≡ Ok rule
-  pub would : WouldSend (trail setting es).events rule
+  pub would : WouldAsk (trail setting es).events rule
   pub fine : events.writer (trail setting es).events ≡ writers.Fine
   pub next : IsNext (events.pending (trail setting es).events) (events.last_serial (trail setting es).events) o.serial
   pub short : length (add_message (trail setting es).events rule o.serial).bytes ≤ 134217728
@@ -288,12 +272,12 @@ pub is_asking : (setting : Setting) (p q : PeerView) (es : List Entry) (asked : 
     → OpensRule p.core q.core rule asked (trail setting es).events (Ok (opens.Opening o)) → q.names ≡ p.names → q.streams ≡ p.streams → q.given ≡ p.given → IsAsking setting p q es asked text rule o
 is_asking setting p q es asked text rule o found said names streams given = record {
   found = found;
-  would = ((said.0, said.1, said.2.0), said.2.1);
-  fine = said.2.2;
-  next = said.2.3;
-  short = said.2.4;
-  index = said.2.6;
-  left = said.2.7;
+  would = (said.0, said.1, said.2.0);
+  fine = said.2.1;
+  next = said.2.2;
+  short = said.2.3;
+  index = said.2.5;
+  left = said.2.6;
   names = names;
   streams = streams;
   given = given;
@@ -341,7 +325,7 @@ follows_asked setting p q r es lane asked text rule o a done owner k f same no_c
     (names ∙ ap (λ ns. ns ++ None ∷ []) (k.names ∙ f.names) ∙ ap (λ ns. t.names ++ ns) (sym no_call))
     (streams ∙ ap (λ ns. ns ++ owner ∷ []) (k.streams ∙ f.streams) ∙ ap (λ ns. t.streams ++ ns) (sym owns))
     (given ∙ ap (λ gs. gs ++ None ∷ []) (k.given ∙ f.given) ∙ sym (given_still ∙ given_added m rule asked h))
-    f.legal (asked_so t lane (rule_in_bytes text) rule a k.found k.would.0 answer)
+    f.legal (asked_so t lane (rule_in_bytes text) rule a k.found k.would answer)
     (let reads : r.core.read ≡ p.core.read = left.read ∙ ap length read ∙ sym f.left.read in rw reads f.within)
     (left.done ∙ done_more ∙ ap (λ n. n + 1) (sym f.left.done ∙ f.written ∙ ap length f.left.outbox) ∙ sym (length_push (events.put h) m) ∙ ap length (sym (left.outbox ∙ put_more)))
 
@@ -366,11 +350,11 @@ asked_out setting p q r es lane asked text rule o now after writing k f names st
     record {
       follows = follows_asked setting p q r es lane asked text rule o a events.Wrote (Some lane) k f same refl refl refl
           (given_same (events.Wrote ∷ events.Added m rule asked ∷ h) (events.Added m rule asked ∷ h) refl refl) refl refl
-          (called_so t lane rule None writers.Fine a k.would.1 (not_long setting p q es asked text rule o k) k.fine (inl to)) names streams given left;
-      writes = λ start x. writes_all setting start now after es lane (words.Open asked text) a (m ∷ []) (ap events.put same) (ap events.is_failed same ∙ fine_unfailed h k.fine) (fine_unfailed h k.fine)
+          (called_so t lane rule None writers.Fine a (not_long setting p q es asked text rule o k) k.fine (inl to)) names streams given left;
+      writes = λ start x. writes_all setting start now after es lane (words.Open asked text) a (m ∷ []) (ap events.put same) (ap events.written same) (ap events.is_failed same ∙ fine_unfailed h k.fine) (fine_unfailed h k.fine)
           (subst (λ bytes. Appends now.held after.held bytes) (sym (encoded_one m)) appends)
           (subst (λ (bytes : List ℕ). RoomFalls now.room after.room (length bytes)) (sym (encoded_one m)) falls) faults (λ e. cc) refl x;
-      reads = λ start now_in x. reads_open setting start now_in es lane asked text a (λ e. cc) x;
+      reads = λ start now_in x. reads_open setting start now_in es lane asked text a x;
       fine = λ e. still;
     }
 
@@ -396,11 +380,11 @@ asked_by setting p q r es lane asked text rule o now after writing a failed k f 
     subst (λ x. Sending setting r es lane (words.Open asked text) now after writing x) (sym (is ∙ ap (λ e. ask_answer e (count lane q.streams) o.serial) error)) (record {
       follows = follows_asked setting p q r es lane asked text rule o write_fault events.Fault None k f same (ap (λ w. failed_name w true) k.fine) (ap (λ w. failed_name w true) k.fine) refl
           (given_fault (events.Added m rule asked ∷ h)) refl refl
-          (called_so t lane rule None writers.Fine write_fault k.would.1 (not_long setting p q es asked text rule o k) k.fine (inr refl)) names
+          (called_so t lane rule None writers.Fine write_fault (not_long setting p q es asked text rule o k) k.fine (inr refl)) names
           (streams ∙ ap (λ e. q.streams ++ ask_owner e lane ∷ []) error) given (left _ k.left);
-      writes = λ start x. writes_broke setting start now after es lane (words.Open asked text) write_fault m [] n (ap events.put same) (ap events.is_failed same) (fine_unfailed h k.fine)
-          part breaks rises refl x;
-      reads = λ start now_in x. reads_open setting start now_in es lane asked text write_fault (λ e. cc) x;
+      writes = λ start x. writes_broke setting start now after es lane (words.Open asked text) write_fault m [] n (ap events.put same) (ap events.written same) (ap events.is_failed same) (fine_unfailed h k.fine)
+          part breaks rises refl refl x;
+      reads = λ start now_in x. reads_open setting start now_in es lane asked text write_fault x;
       fine = λ e. absurd (never_fine (events.writer h) k.fine (sym (ap events.writer same) ∙ e));
     })
 

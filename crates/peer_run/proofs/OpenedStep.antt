@@ -7,7 +7,6 @@ use Rattle.std.proofs.lemmas.Option.{slice_get-map}
 use Rattle.wire_message.specs.Front.{Seen}
 use Rattle.wire_message.specs.declared.error.Error.{Error}
 use Rattle.wire_message.specs.declared.error.Error.TheVariants as errors
-use Rattle.wire_message.specs.declared.error.IoKind.TheVariants as kinds
 use Rattle.rule_match.specs.Rule.{Rule}
 use Rattle.peer_route.specs.Parcel.{Setting}
 use Rattle.peer_route.specs.declared.words.Words.TheVariants as words
@@ -27,10 +26,11 @@ use Rattle.peer_route.specs.Bus.{IsShownAs}
 use Rattle.peer_route.specs.Left.{Left}
 use Rattle.peer_route.proofs.Edits.{set_edit, edit-same}
 use Rattle.peer_route.proofs.Given.{given_gone, given_opened}
-use Rattle.peer_run.specs.Stands.{PeerView, Inlet, Outlet, Follows, Reads, Writes, IsReadFault, IsWriteFault, over_answer, entry}
-use Rattle.peer_run.proofs.Quiet.{opened_quiet, fault_was_read, closed_known}
+use Rattle.peer_run.specs.Stands.{PeerView, Inlet, Outlet, Follows, Reads, Writes, over_answer, entry}
+use Rattle.peer_run.proofs.Quiet.{opened_quiet, closed_known}
 use Rattle.peer_run.proofs.QuietStep.{follows_quiet, reads_quiet, writes_quiet}
 use Rattle.peer_run.proofs.ChangeStep.{follows_refused, here}
+use Rattle.peer_run.proofs.Kept.{IsWriteFault}
 
 -- ---- what is shown
 
@@ -187,18 +187,6 @@ told_opened : (h : List events.Event) (number : ℕ) (a : Answer) (stop : Option
 told_opened h number a stop bytes None = tt
 told_opened h number a stop bytes (Some error) = tt
 
-error_reads : (m : Seen) (name : Option (List ℕ)) → IsReadFault (error_answer m name) → ⊥
-error_reads m None e = cc
-error_reads m (Some name) e = cc
-
--- a fault closed the peer before
-shown_reads : (state : OpenState) → IsReadFault (shown_opening state) → state ≡ states.Over (errors.InputOutput kinds.Fault)
-shown_reads states.Unknown e = absurd (cc)
-shown_reads states.NotYet e = absurd (cc)
-shown_reads states.Open e = absurd (cc)
-shown_reads (states.Refused m) e = absurd (error_reads m m.error_name e)
-shown_reads (states.Over error) e = let same : error ≡ errors.InputOutput kinds.Fault = cc in ap states.Over same
-
 error_writes : (m : Seen) (name : Option (List ℕ)) → IsWriteFault (error_answer m name) → ⊥
 error_writes m None e = cc
 error_writes m (Some name) e = cc
@@ -210,12 +198,11 @@ shown_writes states.Open e = cc
 shown_writes (states.Refused m) e = error_writes m m.error_name e
 shown_writes (states.Over error) e = cc
 
-pub reads_opened : (setting : Setting) (start now : Inlet) (es : List Entry) (lane number k : ℕ) (a : Answer) → a ≡ shown_opening (opening_answer (trail setting es).events k)
+pub reads_opened : (setting : Setting) (start now : Inlet) (es : List Entry) (lane number : ℕ) (a : Answer)
     → Reads setting start now es → Reads setting start now (entry lane (words.Opened number) a ∷ es)
-reads_opened setting start now es lane number k a is x =
+reads_opened setting start now es lane number a x =
     let t = trail setting es in
-    reads_quiet setting start now es lane (words.Opened number) a (opened_quiet (place 0 lane number t.streams) a) (told_opened t.events number a)
-    (λ e. fault_was_read setting es (over_closes t.events k (errors.InputOutput kinds.Fault) (shown_reads (opening_answer t.events k) (sym is ∙ e)))) x
+    reads_quiet setting start now es lane (words.Opened number) a (opened_quiet (place 0 lane number t.streams) a) (told_opened t.events number a) x
 
 pub writes_opened : (setting : Setting) (start now : Outlet) (es : List Entry) (lane number k : ℕ) (a : Answer) → a ≡ shown_opening (opening_answer (trail setting es).events k)
     → Writes setting start now es → Writes setting start now (entry lane (words.Opened number) a ∷ es)
@@ -229,7 +216,7 @@ pub reads_opened_unknown : (setting : Setting) (start now : Inlet) (es : List En
 reads_opened_unknown setting start now es lane number x =
     let t = trail setting es in
     reads_quiet setting start now es lane (words.Opened number) (answers.Refused errors.UnknownHandle) (opened_quiet (place 0 lane number t.streams) (answers.Refused errors.UnknownHandle))
-    (told_opened t.events number (answers.Refused errors.UnknownHandle)) (λ e. cc) x
+    (told_opened t.events number (answers.Refused errors.UnknownHandle)) x
 
 pub writes_opened_unknown : (setting : Setting) (start now : Outlet) (es : List Entry) (lane number : ℕ)
     → Writes setting start now es → Writes setting start now (entry lane (words.Opened number) (answers.Refused errors.UnknownHandle) ∷ es)

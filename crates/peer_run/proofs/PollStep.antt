@@ -1,13 +1,11 @@
 -- A poll is one entry more, by position too.
-use Rattle.std.proofs.Common.{◌≡◌, ℕ, refl, sym, ◌∙◌, ap, subst, Bool, true, false, List, [], ◌∷◌, ◌++◌, Option, Some, None, Result, Ok, Err}
+use Rattle.std.proofs.Common.{◌≡◌, ℕ, refl, sym, ◌∙◌, ap, subst, Bool, false, List, [], ◌∷◌, ◌++◌, Option, Some, None, Result, Ok, Err}
 use Rattle.std.proofs.lemmas.List.{append-nil}
-use Rattle.std.specs.Prelude.{slice_get, if◌then◌else◌}
 use Rattle.wire_message.specs.Front.{Seen}
 use Rattle.wire_message.specs.declared.kind.MessageType.{MessageType}
 use Rattle.wire_message.specs.declared.kind.MessageType.TheVariants as types
 use Rattle.wire_message.specs.declared.error.Error.{Error}
 use Rattle.wire_message.specs.declared.error.Error.TheVariants as errors
-use Rattle.wire_message.specs.declared.error.IoKind.TheVariants as kinds
 use Rattle.peer_route.specs.Parcel.{Setting, Asked}
 use Rattle.peer_route.specs.declared.polled.Polled.{Polled}
 use Rattle.peer_route.specs.declared.polled.Polled.TheVariants as polled
@@ -23,11 +21,10 @@ use Rattle.peer_route.specs.Told.{ReadTold}
 use Rattle.peer_route.specs.Streams.{all_given}
 use Rattle.peer_route.specs.Left.{Left}
 use Rattle.peer_route.proofs.Given.{given_same}
-use Rattle.peer_route.proofs.ByPosition.{closed_so}
-use Rattle.peer_run.specs.Stands.{PeerView, Inlet, Outlet, Follows, Reads, Writes, HasReadFault, IsReadFault, IsWriteFault, entry}
-use Rattle.peer_run.proofs.Quiet.{AreQuiet, poll_quiet, fault_was_read}
-use Rattle.peer_run.proofs.Kept.{is_close}
+use Rattle.peer_run.specs.Stands.{PeerView, Inlet, Outlet, Follows, Reads, Writes, is_close, entry}
+use Rattle.peer_run.proofs.Quiet.{AreQuiet, poll_quiet}
 use Rattle.peer_run.proofs.QuietStep.{follows_quiet, reads_quiet, writes_quiet}
+use Rattle.peer_run.proofs.Kept.{IsWriteFault}
 
 -- what is shown of a poll spends what the poll spent
 error_spends : (k : ℕ) (m : Seen) (name : Option (List ℕ)) → poll_spends (Some k) (error_answer m name) ≡ events.Spent k ∷ []
@@ -176,42 +173,6 @@ follows_unknown_before setting p es lane number before f none =
     let at = named_call setting p es lane number None f none in
     unknown_by setting p es lane number (words.Before number before) (polling_before (trail setting es) lane number before) f at (sym (ap (before_of (trail setting es).events) at))
 
--- a poll's closing error is the peer's
-closed_at : (h : List events.Event) (c : Option events.Call) (error : Error) → events.polled_at h c ≡ Ok (polled.Closed error) → events.closing h ≡ Some error
-closed_at h None error e = cc
-closed_at h (Some c) error e = closed_if (events.is_nobodys c) e
-  where
-    closed_by : (found : Option Seen) (closing : Option Error) → events.polled_by found closing ≡ Ok (polled.Closed error) → closing ≡ Some error
-    closed_by (Some m) closing e = cc
-    closed_by None (Some other) e = cc
-    closed_by None None e = cc
-
-    closed_if : (nobodys : Bool) → (if nobodys then Err errors.UnknownHandle else events.polled_by (events.found h c) (events.closing h)) ≡ Ok (polled.Closed error) → events.closing h ≡ Some error
-    closed_if true e = cc
-    closed_if false e = closed_by (events.found h c) (events.closing h) e
-
-poll_closed : (h : List events.Event) (k : ℕ) (error : Error) → events.poll_answer h k ≡ Ok (polled.Closed error) → events.closing h ≡ Some error
-unfolding events.poll_answer
-poll_closed h k error e = closed_at h (slice_get (events.calls h) k) error e
-
-fault_shown : (r : Result (Polled Seen) Error) → IsReadFault (shown r) → r ≡ Ok (polled.Closed (errors.InputOutput kinds.Fault))
-fault_shown (Ok (polled.Now m)) e = absurd (fault_now m.kind e)
-  where
-    fault_now_error : (name : Option (List ℕ)) → IsReadFault (error_answer m name) → ⊥
-    fault_now_error (Some name) e = cc
-    fault_now_error None e = cc
-
-    fault_now : (kind : MessageType) → IsReadFault (reply_by m kind) → ⊥
-    fault_now types.MethodReturn e = cc
-    fault_now types.MethodCall e = cc
-    fault_now types.Error e = fault_now_error m.error_name e
-    fault_now types.Signal e = cc
-fault_shown (Ok polled.NotYet) e = cc
-fault_shown (Ok polled.NoneBefore) e = cc
-fault_shown (Ok (polled.Closed error)) e = cc
-fault_shown (Ok polled.Ended) e = cc
-fault_shown (Err error) e = cc
-
 no_write_shown : (r : Result (Polled Seen) Error) → IsWriteFault (shown r) → ⊥
 no_write_shown (Ok (polled.Now m)) e = write_now m.kind e
   where
@@ -230,24 +191,20 @@ no_write_shown (Ok (polled.Closed error)) e = cc
 no_write_shown (Ok polled.Ended) e = cc
 no_write_shown (Err error) e = cc
 
-reads_by : (setting : Setting) (start now : Inlet) (es : List Entry) (lane number : ℕ) (w : Words) (a : Answer) → IsPolling (trail setting es) lane number w → (IsReadFault a → HasReadFault es)
+reads_by : (setting : Setting) (start now : Inlet) (es : List Entry) (lane number : ℕ) (w : Words) (a : Answer) → IsPolling (trail setting es) lane number w
     → Reads setting start now es → Reads setting start now (entry lane w a ∷ es)
-reads_by setting start now es lane number w a polls fault x =
+reads_by setting start now es lane number w a polls x =
     reads_quiet setting start now es lane w a (subst AreQuiet (sym (polls.spends a)) (poll_quiet (place 0 lane number (trail setting es).names) a))
-    (λ stop bytes closing. polls.quiet stop bytes closing a) fault x
+    (λ stop bytes closing. polls.quiet stop bytes closing a) x
 
-pub reads_poll : (setting : Setting) (start now : Inlet) (es : List Entry) (lane number k : ℕ) (r : Result (Polled Seen) Error) → r ≡ events.poll_answer (trail setting es).events k
+pub reads_poll : (setting : Setting) (start now : Inlet) (es : List Entry) (lane number : ℕ) (r : Result (Polled Seen) Error)
     → Reads setting start now es → Reads setting start now (entry lane (words.Poll number) (shown r) ∷ es)
-reads_poll setting start now es lane number k r answer x =
-    reads_by setting start now es lane number (words.Poll number) (shown r) (polling (trail setting es) lane number)
-    (λ f. fault_was_read setting es (poll_closed (trail setting es).events k (errors.InputOutput kinds.Fault) (sym answer ∙ fault_shown r f))) x
+reads_poll setting start now es lane number r x = reads_by setting start now es lane number (words.Poll number) (shown r) (polling (trail setting es) lane number) x
 
-pub reads_before : (setting : Setting) (start now : Inlet) (es : List Entry) (lane number before k : ℕ) (r : Result (Polled Seen) Error) → r ≡ events.by_position (events.poll_answer (trail setting es).events k)
+pub reads_before : (setting : Setting) (start now : Inlet) (es : List Entry) (lane number before : ℕ) (r : Result (Polled Seen) Error)
     → Reads setting start now es → Reads setting start now (entry lane (words.Before number before) (shown r) ∷ es)
-reads_before setting start now es lane number before k r answer x =
-    reads_by setting start now es lane number (words.Before number before) (shown r) (polling_before (trail setting es) lane number before)
-    (λ f. fault_was_read setting es (poll_closed (trail setting es).events k (errors.InputOutput kinds.Fault)
-    (closed_so (events.poll_answer (trail setting es).events k) (errors.InputOutput kinds.Fault) (sym answer ∙ fault_shown r f)))) x
+reads_before setting start now es lane number before r x =
+    reads_by setting start now es lane number (words.Before number before) (shown r) (polling_before (trail setting es) lane number before) x
 
 writes_by : (setting : Setting) (start now : Outlet) (es : List Entry) (lane number : ℕ) (w : Words) (r : Result (Polled Seen) Error) → IsPolling (trail setting es) lane number w
     → Writes setting start now es → Writes setting start now (entry lane w (shown r) ∷ es)
@@ -268,9 +225,9 @@ writes_before setting start now es lane number before r x =
 pub reads_unknown : (setting : Setting) (start now : Inlet) (es : List Entry) (lane number : ℕ) → Reads setting start now es
     → Reads setting start now (entry lane (words.Poll number) (answers.Refused errors.UnknownHandle) ∷ es)
 reads_unknown setting start now es lane number x =
-    reads_by setting start now es lane number (words.Poll number) (answers.Refused errors.UnknownHandle) (polling (trail setting es) lane number) (λ f. cc) x
+    reads_by setting start now es lane number (words.Poll number) (answers.Refused errors.UnknownHandle) (polling (trail setting es) lane number) x
 
 pub reads_unknown_before : (setting : Setting) (start now : Inlet) (es : List Entry) (lane number before : ℕ) → Reads setting start now es
     → Reads setting start now (entry lane (words.Before number before) (answers.Refused errors.UnknownHandle) ∷ es)
 reads_unknown_before setting start now es lane number before x =
-    reads_by setting start now es lane number (words.Before number before) (answers.Refused errors.UnknownHandle) (polling_before (trail setting es) lane number before) (λ f. cc) x
+    reads_by setting start now es lane number (words.Before number before) (answers.Refused errors.UnknownHandle) (polling_before (trail setting es) lane number before) x

@@ -1,6 +1,10 @@
 -- From what the parts of the program give to how it ends.
-use Rattle.std.proofs.Common.{◌≡◌, ℕ, ◌<◌, refl, ap, subst, List, [], ◌∷◌, ◌++◌, length, reverse, Option, Some, None, IfSome, ◌⊎◌, inl, Ok}
+use Rattle.std.proofs.Common.{◌≡◌, ℕ, refl, sym, ap, subst, List, [], ◌∷◌, ◌++◌, append-nil, length, reverse, take, Option, inl, inr}
 use Rattle.std.specs.Io.KnownBytes.{Appends}
+use Rattle.std.proofs.KnownBytes.{Appends-nil, Appends-trans}
+use Rattle.std.proofs.Math.Seq.{take-length}
+use Rattle.wire_framing.specs.Source.{MayRise}
+use Rattle.wire_framing.specs.Send.{Part}
 use Rattle.wire_framing.specs.Memory.{told_bytes, told_stop}
 use Rattle.wire_framing.specs.declared.memory.Piece.{Piece}
 use Rattle.wire_framing.specs.declared.memory.Piece.TheVariants.{Bytes, Fault}
@@ -13,9 +17,9 @@ use Rattle.peer_route.proofs.YieldsAsked.{asked_yields}
 use Rattle.peer_route.proofs.ClosedStreams.{closed_for_good, denied_for_good}
 use Rattle.peer_route.proofs.Drained.{ended, busy_there}
 use Rattle.peer_route.proofs.Sent.{put_sent}
-use Rattle.peer_script.specs.Script.{Script, line_count}
-use Rattle.peer_script.specs.Reading.{IsWithin, given, script_of}
-use Rattle.peer_run.specs.Program.{setting_of, Says, Said, SaidPart, SaidNot, Shows, Shown, ShownPart, ShownNot, Ends, Done, NoScript, OutputFailed, NoMemory, Prints, Refuses, IsRunOf, IsWhole, PollsAre, StreamsAre, source_bytes, source_breaks, limit_text}
+use Rattle.peer_script.specs.Script.{Script}
+use Rattle.peer_script.specs.Reading.{given}
+use Rattle.peer_run.specs.Program.{setting_of, Says, Said, SaidPart, SaidNot, Stops, IsRunOf, IsWhole, PollsAre, StreamsAre, source_bytes, source_breaks, memory_text, IsFront, RunsOut, IsCutShort}
 
 -- pieces tell what a script gives
 pub told_given : (pieces : List Piece) → told_bytes pieces ≡ source_bytes (given pieces)
@@ -51,44 +55,60 @@ streams_are s h sent legal = record {
   waits = λ newer older e is w many. busy_there (setting_of s) older e (legal_from (setting_of s) newer (e ∷ older) (subst (Legal (setting_of s)) is legal)) w many;
 }
 
-whole_of : (s : Script) (entries : List Entry) (sent : List ℕ) → IsRunOf s entries sent → IsWhole s (reverse entries) sent
+pub whole_of : (s : Script) (entries : List Entry) (sent : List ℕ) → IsRunOf s entries sent → IsWhole s (reverse entries) sent
 whole_of s entries sent r = record {
   reads = r.reads;
   polls = polls_are s (reverse entries) sent r.legal;
   streams = streams_are s (reverse entries) sent r.legal;
-  sends = record { bytes = r.bytes; room = r.room; closes = r.closes; put_is = put_sent (setting_of s) (reverse entries) r.legal };
+  sends = record { bytes = r.bytes; room = r.room; cut = r.cut; closes = r.closes; put_is = put_sent (setting_of s) (reverse entries) r.legal };
 }
 
--- a script was read, run and shown
-pub shown_done : (s : Script) (before after : Option (List ℕ)) (in_faults in_faults' faults faults' result : ℕ) (input : Option (List ℕ))
-    → IfSome input (λ text. IsWithin text × (script_of text ≡ Ok s)) → Shows s before after faults faults' result
-    → Ends input before after in_faults in_faults' faults faults' result
-shown_done s before after in_faults in_faults' faults faults' result input read (Shown entries sent run zero gained same) = Done zero (prints_of input read) same
-  where
-    prints_of : (input : Option (List ℕ)) → IfSome input (λ text. IsWithin text × (script_of text ≡ Ok s)) → IfSome input (λ text. Prints IsWhole text before after)
-    prints_of None r = tt
-    prints_of (Some text) r = record {
-      script = s;
-      within = r.0;
-      read = r.1;
-      entries = entries;
-      sent = sent;
-      legal = run.legal;
-      each = run.each;
-      such = whole_of s entries sent run;
-      gained = gained;
-    }
-shown_done s before after in_faults in_faults' faults faults' result input read (ShownPart five rose) = OutputFailed five rose
-shown_done s before after in_faults in_faults' faults faults' result input read (ShownNot one same) = NoMemory one same
+-- ---- a front of what would have been printed
 
-limit_refused : (input before after : Option (List ℕ)) → IfSome input (λ bytes. (1073741824 < length bytes) ⊎ (1000000 < line_count bytes)) → Appends before after limit_text
-    → IfSome input (λ bytes. Refuses bytes before after)
-limit_refused None before after h a = tt
-limit_refused (Some bytes) before after h a = inl (h, a)
+map_front : (A B : List ℕ → Type 0) (front : List ℕ) → ((text : List ℕ) → A text → B text) → IsFront A front → IsFront B front
+map_front A B front f (inl none) = inl none
+map_front A B front f (inr (text, is, n, taken)) = inr (text, f text is, n, taken)
 
--- the limit was told
-pub ends_limit : (input before after : Option (List ℕ)) (in_faults in_faults' faults faults' result : ℕ) → IfSome input (λ bytes. (1073741824 < length bytes) ⊎ (1000000 < line_count bytes))
-    → Says 3 limit_text before after faults faults' result → Ends input before after in_faults in_faults' faults faults' result
-ends_limit input before after in_faults in_faults' faults faults' result h (Said r a f) = NoScript r (limit_refused input before after h a) f
-ends_limit input before after in_faults in_faults' faults faults' result h (SaidPart r m) = OutputFailed r m
-ends_limit input before after in_faults in_faults' faults faults' result h (SaidNot r f) = NoMemory r f
+pub map_out : (A B : List ℕ → Type 0) (before after : Option (List ℕ)) → ((text : List ℕ) → A text → B text) → RunsOut A before after → RunsOut B before after
+map_out A B before after f (front, is, n, gained) = (front, map_front A B front f is, n, gained)
+
+pub map_cut : (A B : List ℕ → Type 0) (before after : Option (List ℕ)) → ((text : List ℕ) → A text → B text) → IsCutShort A before after → IsCutShort B before after
+map_cut A B before after f (inl (text, is, n, part)) = inl (text, f text is, n, part)
+map_cut A B before after f (inr (front, is, n, less, gained)) = inr (front, map_front A B front f is, n, less, gained)
+
+pub map_stops : (A B : List ℕ → Type 0) (before after : Option (List ℕ)) (faults faults' result : ℕ) → ((text : List ℕ) → A text → B text)
+    → Stops A before after faults faults' result → Stops B before after faults faults' result
+map_stops A B before after faults faults' result f (inl (five, rose, cut)) = inl (five, rose, map_cut A B before after f cut)
+map_stops A B before after faults faults' result f (inr (one, same, out)) = inr (one, same, map_out A B before after f out)
+
+-- a proper part of a text stands there
+pub part_cut : (Is : List ℕ → Type 0) (text : List ℕ) (before after : Option (List ℕ)) (faults faults' result n : ℕ) → Is text → result ≡ 5 → MayRise faults faults'
+    → Part text before after n → Stops Is before after faults faults' result
+part_cut Is text before after faults faults' result n is five rose part = inl (five, rose, inl (text, is, n, part))
+
+-- and nothing says that there is no memory
+pub part_out : (Is : List ℕ → Type 0) (text : List ℕ) (before after : Option (List ℕ)) (faults faults' result n : ℕ) → Is text → result ≡ 1 → faults' ≡ faults
+    → Part text before after n → Stops Is before after faults faults' result
+part_out Is text before after faults faults' result n is one same part =
+    inr (one, same, (take n text, inr (text, is, n, refl), 0, subst (Appends before after) (sym (append-nil (take n text))) part.gone))
+
+-- a front stands there, and then it is said that there is no memory
+front_memory : (Is : List ℕ → Type 0) (front : List ℕ) (before mid after : Option (List ℕ)) (faults faults' result : ℕ) → IsFront Is front → Appends before mid front
+    → Says 1 memory_text mid after faults faults' result → Stops Is before after faults faults' result
+front_memory Is front before mid after faults faults' result is first (Said one more same) =
+    inr (one, same, (front, is, length memory_text, Appends-trans before mid after front _ first (subst (Appends mid after) (sym (take-length memory_text)) more)))
+front_memory Is front before mid after faults faults' result is first (SaidPart five rose n part) =
+    inl (five, rose, inr (front, is, n, part.proper, Appends-trans before mid after front _ first part.gone))
+front_memory Is front before mid after faults faults' result is first (SaidNot one same n part) =
+    inr (one, same, (front, is, n, Appends-trans before mid after front _ first part.gone))
+
+-- a part of a text stands there, and then it is said that there is no memory
+pub part_memory : (Is : List ℕ → Type 0) (text : List ℕ) (before mid after : Option (List ℕ)) (n faults faults' result : ℕ) → Is text → Part text before mid n
+    → Says 1 memory_text mid after faults faults' result → Stops Is before after faults faults' result
+part_memory Is text before mid after n faults faults' result is part says =
+    front_memory Is (take n text) before mid after faults faults' result (inr (text, is, n, refl)) part.gone says
+
+-- nothing but that is said
+pub only_memory : (Is : List ℕ → Type 0) (before after : Option (List ℕ)) (faults faults' result : ℕ) → Says 1 memory_text before after faults faults' result
+    → Stops Is before after faults faults' result
+only_memory Is before after faults faults' result says = front_memory Is [] before before after faults faults' result (inl refl) (Appends-nil before) says

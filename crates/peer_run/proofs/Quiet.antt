@@ -1,10 +1,8 @@
 -- Counts that rise, and what later entries keep of earlier ones.
-use Rattle.std.proofs.Common.{◌≡◌, ℕ, ◌-◌, ◌^◌, ◌≤◌, refl, sym, ◌∙◌, ap, subst, arith, Bool, true, false, List, [], ◌∷◌, ◌++◌, length, Option, Some, None, Result, Ok, Err, ◌⊎◌, inl, inr}
-use Rattle.std.proofs.lemmas.Bool.{cases_lt}
+use Rattle.std.proofs.Common.{◌≡◌, ℕ, ◌-◌, ◌^◌, ◌≤◌, refl, sym, ◌∙◌, ap, subst, Bool, true, false, List, [], ◌∷◌, ◌++◌, length, Option, Some, None, Result, Ok, Err, ◌⊎◌, inl, inr}
 use Rattle.wire_message.specs.declared.error.Error.{Error}
 use Rattle.wire_message.specs.declared.error.Error.TheVariants as errors
 use Rattle.wire_message.specs.declared.error.IoKind.TheVariants as kinds
-use Rattle.wire_framing.specs.Source.{MayRise}
 use Rattle.wire_message.specs.Front.{Seen}
 use Rattle.rule_match.specs.Rule.{Rule}
 use Rattle.rule_match.specs.Bytes.{rule_in_bytes}
@@ -23,25 +21,7 @@ use Rattle.peer_route.specs.Answers.{Legal, IsAnswer, IsReadOf}
 use Rattle.peer_route.specs.Streams.{all_given, busy}
 use Rattle.peer_route.specs.Left.{Left}
 use Rattle.peer_route.proofs.Tellings.{IsTelling, tellings_same, unstream_tellings}
-use Rattle.peer_run.specs.Stands.{PeerView, Follows, HasReadFault, entry}
-
--- ---- counts
-
-pub rise_after : (a b c : ℕ) → a ≤ b → MayRise b c → MayRise a c
-rise_after a b c h (inl p) = inl (omega arith)
-rise_after a b c h (inr p) =
-    elim (cases_lt a c) as (λ _. MayRise a c) [
-      | inl q ↦ inl q
-      | inr q ↦ inr (omega (arith, p.0, p.1), p.1)
-    ]
-
-pub rise_before : (a b c : ℕ) → MayRise a b → b ≤ c → MayRise a c
-rise_before a b c (inl p) h = inl (omega arith)
-rise_before a b c (inr p) h =
-    elim (cases_lt a c) as (λ _. MayRise a c) [
-      | inl q ↦ inl q
-      | inr q ↦ inr (p.0, omega (arith, p.0, p.1))
-    ]
+use Rattle.peer_run.specs.Stands.{PeerView, Follows, entry}
 
 -- ---- one entry more
 
@@ -124,14 +104,15 @@ pub record Same (g h : List events.Event) : Type 0 where
   pub put : events.put g ≡ events.put h
   pub done : events.done g ≡ events.done h
   pub failed : events.is_failed g ≡ events.is_failed h
+  pub written : events.written g ≡ events.written h
 
 pub quiet_same : (xs h : List events.Event) → AreQuiet xs → Same (xs ++ h) h
-quiet_same [] h q = record { read = refl; closing = refl; put = refl; done = refl; failed = refl }
-quiet_same (events.Spent k ∷ xs) h q = let r = quiet_same xs h q in record { read = r.read; closing = r.closing; put = r.put; done = r.done; failed = r.failed }
-quiet_same (events.Made making ∷ xs) h q = let r = quiet_same xs h q in record { read = r.read; closing = r.closing; put = r.put; done = r.done; failed = r.failed }
-quiet_same (events.Did k deed ∷ xs) h q = let r = quiet_same xs h q in record { read = r.read; closing = r.closing; put = r.put; done = r.done; failed = r.failed }
-quiet_same (events.Main limit ∷ xs) h q = let r = quiet_same xs h q in record { read = r.read; closing = r.closing; put = r.put; done = r.done; failed = r.failed }
-quiet_same (events.Named name ∷ xs) h q = let r = quiet_same xs h q in record { read = r.read; closing = r.closing; put = r.put; done = r.done; failed = r.failed }
+quiet_same [] h q = record { read = refl; closing = refl; put = refl; done = refl; failed = refl; written = refl }
+quiet_same (events.Spent k ∷ xs) h q = let r = quiet_same xs h q in record { read = r.read; closing = r.closing; put = r.put; done = r.done; failed = r.failed; written = r.written }
+quiet_same (events.Made making ∷ xs) h q = let r = quiet_same xs h q in record { read = r.read; closing = r.closing; put = r.put; done = r.done; failed = r.failed; written = r.written }
+quiet_same (events.Did k deed ∷ xs) h q = let r = quiet_same xs h q in record { read = r.read; closing = r.closing; put = r.put; done = r.done; failed = r.failed; written = r.written }
+quiet_same (events.Main limit ∷ xs) h q = let r = quiet_same xs h q in record { read = r.read; closing = r.closing; put = r.put; done = r.done; failed = r.failed; written = r.written }
+quiet_same (events.Named name ∷ xs) h q = let r = quiet_same xs h q in record { read = r.read; closing = r.closing; put = r.put; done = r.done; failed = r.failed; written = r.written }
 quiet_same (events.Took m ∷ xs) h q = absurd q
 quiet_same (events.Shut error ∷ xs) h q = absurd q
 quiet_same (events.Put m expects ∷ xs) h q = absurd q
@@ -143,14 +124,14 @@ quiet_same (events.Removed m ∷ xs) h q = absurd q
 
 -- what is set before the first entry
 pub first_same : (bus : Bool) (name : Option (List ℕ)) (queue : Option ℕ) → Same (first_events bus name queue) []
-first_same false None None = record { read = refl; closing = refl; put = refl; done = refl; failed = refl }
-first_same false None (Some limit) = record { read = refl; closing = refl; put = refl; done = refl; failed = refl }
-first_same false (Some name) None = record { read = refl; closing = refl; put = refl; done = refl; failed = refl }
-first_same false (Some name) (Some limit) = record { read = refl; closing = refl; put = refl; done = refl; failed = refl }
-first_same true None None = record { read = refl; closing = refl; put = refl; done = refl; failed = refl }
-first_same true None (Some limit) = record { read = refl; closing = refl; put = refl; done = refl; failed = refl }
-first_same true (Some name) None = record { read = refl; closing = refl; put = refl; done = refl; failed = refl }
-first_same true (Some name) (Some limit) = record { read = refl; closing = refl; put = refl; done = refl; failed = refl }
+first_same false None None = record { read = refl; closing = refl; put = refl; done = refl; failed = refl; written = refl }
+first_same false None (Some limit) = record { read = refl; closing = refl; put = refl; done = refl; failed = refl; written = refl }
+first_same false (Some name) None = record { read = refl; closing = refl; put = refl; done = refl; failed = refl; written = refl }
+first_same false (Some name) (Some limit) = record { read = refl; closing = refl; put = refl; done = refl; failed = refl; written = refl }
+first_same true None None = record { read = refl; closing = refl; put = refl; done = refl; failed = refl; written = refl }
+first_same true None (Some limit) = record { read = refl; closing = refl; put = refl; done = refl; failed = refl; written = refl }
+first_same true (Some name) None = record { read = refl; closing = refl; put = refl; done = refl; failed = refl; written = refl }
+first_same true (Some name) (Some limit) = record { read = refl; closing = refl; put = refl; done = refl; failed = refl; written = refl }
 
 pub poll_quiet : (k : Option ℕ) (a : Answer) → AreQuiet (poll_spends k a)
 poll_quiet None a = tt
@@ -252,17 +233,6 @@ closes_by setting es lane (words.Unstream number second) a error f =
 closes_by setting es lane (words.Queue number limit) a error f =
     let t = trail setting es in inr (inr (sym (quiet_same (queue_does (place 0 lane number t.streams) limit a) t.events (queue_quiet (place 0 lane number t.streams) limit a)).closing ∙ f))
 closes_by setting es lane (words.MainQueue limit) a error f = inr (inr (sym (quiet_same (main_sets limit a) (trail setting es).events (main_quiet limit a)).closing ∙ f))
-
--- A peer that a fault closed has an entry that says so.
-pub fault_was_read : (setting : Setting) (es : List Entry) → events.closing (trail setting es).events ≡ Some (errors.InputOutput kinds.Fault) → HasReadFault es
-fault_was_read setting [] e = let none = (first_same setting.bus setting.name setting.queue).closing in cc
-fault_was_read setting (e ∷ es) f = by_cause (λ before. fault_was_read setting es before) (closes_by setting es e.lane e.words e.answer (errors.InputOutput kinds.Fault) f)
-  where
-    by_cause : (events.closing (trail setting es).events ≡ Some (errors.InputOutput kinds.Fault) → HasReadFault es)
-        → IsCause e.words e.answer (errors.InputOutput kinds.Fault) (events.closing (trail setting es).events) → HasReadFault (e ∷ es)
-    by_cause earlier (inl read) = inl (read.1)
-    by_cause earlier (inr (inl closed)) = absurd (cc)
-    by_cause earlier (inr (inr before)) = inr (earlier before)
 
 -- what a read was answered is an error of a read
 read_known : (before : Option Error) (full : Bool) (count : ℕ) (a : Answer) → IsReadOf before full count a → a ≡ answers.Closed errors.UnknownHandle → before ≡ Some errors.UnknownHandle

@@ -1,5 +1,5 @@
 -- An entry that reads nothing and sends nothing.
-use Rattle.std.proofs.Common.{◌≡◌, ℕ, sym, ◌∙◌, ap, Bool, false, List, [], ◌∷◌, ◌++◌, length, Option}
+use Rattle.std.proofs.Common.{◌≡◌, ℕ, sym, ◌∙◌, ap, Bool, true, false, List, [], ◌∷◌, ◌++◌, length, Option}
 use Rattle.std.proofs.lemmas.List.{append-nil}
 use Rattle.wire_message.specs.declared.error.Error.{Error}
 use Rattle.peer_route.specs.Parcel.{Setting}
@@ -12,9 +12,9 @@ use Rattle.peer_route.specs.Answers.{IsAnswer}
 use Rattle.peer_route.specs.Told.{ReadTold}
 use Rattle.peer_route.specs.Streams.{all_given}
 use Rattle.peer_route.specs.Left.{Left}
-use Rattle.peer_run.specs.Stands.{PeerView, Inlet, Outlet, Follows, Reads, Writes, HasReadFault, IsReadFault, HasWriteFault, IsWriteFault, entry}
+use Rattle.peer_run.specs.Stands.{PeerView, Inlet, Outlet, Follows, Reads, Writes, is_close, entry}
 use Rattle.peer_run.proofs.Quiet.{AreQuiet, quiet_same, follows_more}
-use Rattle.peer_run.proofs.Kept.{reads_kept, writes_kept, is_close, close_told}
+use Rattle.peer_run.proofs.Kept.{reads_kept, writes_kept, IsWriteFault}
 
 pub follows_quiet : (setting : Setting) (p q : PeerView) (es : List Entry) (lane : ℕ) (w : Words) (a : Answer) (xs : List events.Event) → Follows setting p es
     → events_of (trail setting es) lane w a ≡ xs → AreQuiet xs → Left q.core (xs ++ (trail setting es).events)
@@ -33,16 +33,15 @@ follows_quiet setting p q es lane w a xs f are quiet left names no_names streams
 pub reads_quiet : (setting : Setting) (start now : Inlet) (es : List Entry) (lane : ℕ) (w : Words) (a : Answer)
     → AreQuiet (events_of (trail setting es) lane w a)
     → ((stop : Option Bool) (bytes : List ℕ) (closing : Option Error) → ReadTold stop bytes (trail setting es).events closing w a)
-    → (IsReadFault a → HasReadFault es)
     → Reads setting start now es → Reads setting start now (entry lane w a ∷ es)
-reads_quiet setting start now es lane w a quiet told fault x =
+reads_quiet setting start now es lane w a quiet told x =
     let same = quiet_same (events_of (trail setting es) lane w a) (trail setting es).events quiet in
-    reads_kept setting start now es lane w a same.read same.closing (λ stop bytes. told stop bytes (events.closing (trail setting es).events)) fault x
+    reads_kept setting start now es lane w a same.read same.closing (λ stop bytes. told stop bytes (events.closing (trail setting es).events)) x
 
 pub writes_quiet : (setting : Setting) (start now : Outlet) (es : List Entry) (lane : ℕ) (w : Words) (a : Answer)
     → AreQuiet (events_of (trail setting es) lane w a) → is_close w ≡ false
-    → (IsWriteFault a → HasWriteFault es)
+    → (IsWriteFault a → events.is_failed (trail setting es).events ≡ true)
     → Writes setting start now es → Writes setting start now (entry lane w a ∷ es)
 writes_quiet setting start now es lane w a quiet other fault x =
     let same = quiet_same (events_of (trail setting es) lane w a) (trail setting es).events quiet in
-    writes_kept setting start now es lane w a same.failed same.put (close_told start.room w a other) fault x
+    writes_kept setting start now es lane w a same.failed same.put same.written other fault x

@@ -1,5 +1,5 @@
 -- A read is one entry more.
-use Rattle.std.proofs.Common.{◌≡◌, ◌≢◌, ℕ, ◌+◌, ◌-◌, ◌^◌, ◌≤◌, ◌<◌, refl, sym, ◌∙◌, ap, arith, Bool, true, false, List, ◌∷◌, ◌++◌, length, Option, Some, None, IfSome, inl, inr, Result, Ok, Err}
+use Rattle.std.proofs.Common.{◌≡◌, ◌≢◌, ℕ, ◌+◌, ◌-◌, ◌^◌, ◌≤◌, ◌<◌, refl, sym, ◌∙◌, ap, subst, arith, Bool, true, false, List, ◌∷◌, ◌++◌, length, Option, Some, None, IfSome, inl, inr, Result, Ok, Err}
 use Rattle.std.proofs.lemmas.List.{append-nil, length_push}
 use Rattle.std.specs.Io.KnownBytes.{Consumes}
 use Rattle.wire_message.specs.Front.{Seen, Front}
@@ -22,9 +22,9 @@ use Rattle.peer_route.specs.Told.{ReadsTold, IsOutcome, answer_of, left_after}
 use Rattle.peer_route.specs.Left.{Left}
 use Rattle.peer_route.proofs.Given.{given_same, given_took}
 use Rattle.peer_route.proofs.Steps.{left_after-took}
-use Rattle.peer_run.specs.Stands.{PeerView, Inlet, Follows, Reads, IsRest, HasReadFault, entry}
+use Rattle.peer_run.specs.Stands.{PeerView, Inlet, Follows, Reads, IsRest, IsLeft, ReadMoves, SourceMoves, entry}
 use Rattle.peer_run.proofs.Kept.{reads_kept}
-use Rattle.peer_run.proofs.Quiet.{rise_after, rise_before, follows_more, fault_was_read}
+use Rattle.peer_run.proofs.Quiet.{follows_more}
 
 -- ---- the events of a read
 
@@ -87,7 +87,7 @@ pub reads_busy : (setting : Setting) (start now : Inlet) (es : List Entry) (lane
 reads_busy setting start now es lane c full r =
     let same = at_busy setting es lane c in
     reads_kept setting start now es lane words.Read answers.Busy (ap events.read same) (ap events.closing same)
-    (λ stop bytes. rw (c, full) tt) (λ f. cc) r
+    (λ stop bytes. rw (c, full) tt) r
 
 -- a read's error, which isn't want of memory
 is_read_error : (error : Error) → IsReadRefusal error → error ≢ errors.Memory → IsReadError error
@@ -123,12 +123,7 @@ told_error other found n t = t
 -- what a read of a closed peer leaves
 pub reads_closed : (setting : Setting) (start now : Inlet) (es : List Entry) (lane : ℕ) (error : Error) → events.closing (trail setting es).events ≡ Some error
     → Reads setting start now es → Reads setting start now (entry lane words.Read (answers.Closed error) ∷ es)
-reads_closed setting start now es lane error c r = record {
-  told = told_closed start.left start.stop c r.told;
-  rest = rest_closed start.left c r.rest;
-  cause = λ f. r.cause (earlier_fault c f);
-  kept = r.kept;
-}
+reads_closed setting start now es lane error c r = record { told = told_closed start.left start.stop c r.told; rest = rest_closed start.left c r.rest }
   where
     told_closed : (left : Option (List ℕ)) (stop : Option Bool) → events.closing (trail setting es).events ≡ Some error
         → IfSome left (λ bytes. ReadsTold setting stop bytes es)
@@ -137,14 +132,10 @@ reads_closed setting start now es lane error c r = record {
     told_closed (Some bytes) stop e t = (rw e tt, t)
 
     rest_closed : (left : Option (List ℕ)) → events.closing (trail setting es).events ≡ Some error
-        → IfSome left (λ bytes. IsRest (events.closing (trail setting es).events) (left_after bytes (trail setting es).events) start.stop now.left now.stop)
-        → IfSome left (λ bytes. IsRest (events.closing (trail setting (entry lane words.Read (answers.Closed error) ∷ es)).events) (left_after bytes (trail setting (entry lane words.Read (answers.Closed error) ∷ es)).events) start.stop now.left now.stop)
+        → IfSome left (λ bytes. IsLeft bytes start.stop (trail setting es).events now.left now.stop)
+        → IfSome left (λ bytes. IsLeft bytes start.stop (trail setting (entry lane words.Read (answers.Closed error) ∷ es)).events now.left now.stop)
     rest_closed None e t = tt
-    rest_closed (Some bytes) e t = rw (at_closed setting es lane (answers.Closed error) error e, e) tt
-
-    earlier_fault : events.closing (trail setting es).events ≡ Some error → HasReadFault (entry lane words.Read (answers.Closed error) ∷ es) → HasReadFault es
-    earlier_fault e (inl f) = fault_was_read setting es (e ∙ cc)
-    earlier_fault e (inr f) = f
+    rest_closed (Some bytes) e t = rw (at_closed setting es lane (answers.Closed error) error e) t
 
 -- what was received is the outcome of the bytes that were left
 got_outcome : (stop : Option Bool) (count : ℕ) (bytes : List ℕ) (m : Seen) → receive.Receives stop count bytes (Ok m) → IsOutcome stop count bytes (answers.Got m)
@@ -166,7 +157,7 @@ consumed_left rest (Some ys) taken c = (ys, refl, c)
 got_told : (setting : Setting) (start_left : Option (List ℕ)) (start_stop : Option Bool) (now : Inlet) (count : ℕ) (es : List Entry) (lane : ℕ) (m : Seen)
     → events.closing (trail setting es).events ≡ None → busy (trail setting es).events ≡ false → length (events.read (trail setting es).events) ≡ count
     → IfSome now.left (λ bytes. receive.Receives now.stop count bytes (Ok m))
-    → IfSome start_left (λ bytes. IsRest (events.closing (trail setting es).events) (left_after bytes (trail setting es).events) start_stop now.left now.stop)
+    → IfSome start_left (λ bytes. IsLeft bytes start_stop (trail setting es).events now.left now.stop)
     → IfSome start_left (λ bytes. ReadsTold setting start_stop bytes es)
     → IfSome start_left (λ bytes. ReadsTold setting start_stop bytes (entry lane words.Read (answers.Got m) ∷ es))
 got_told setting None start_stop now count es lane m c free n received rest told = tt
@@ -177,9 +168,8 @@ got_told setting (Some bytes) start_stop now count es lane m c free n received r
 
 got_rest : (setting : Setting) (start_left : Option (List ℕ)) (start_stop : Option Bool) (now after : Inlet) (es : List Entry) (lane : ℕ) (m : Seen)
     → events.closing (trail setting es).events ≡ None → Consumes now.left after.left m.bytes → after.stop ≡ now.stop
-    → IfSome start_left (λ bytes. IsRest (events.closing (trail setting es).events) (left_after bytes (trail setting es).events) start_stop now.left now.stop)
-    → IfSome start_left (λ bytes. IsRest (events.closing (trail setting (entry lane words.Read (answers.Got m) ∷ es)).events)
-    (left_after bytes (trail setting (entry lane words.Read (answers.Got m) ∷ es)).events) start_stop after.left after.stop)
+    → IfSome start_left (λ bytes. IsLeft bytes start_stop (trail setting es).events now.left now.stop)
+    → IfSome start_left (λ bytes. IsLeft bytes start_stop (trail setting (entry lane words.Read (answers.Got m) ∷ es)).events after.left after.stop)
 got_rest setting None start_stop now after es lane m c consumed stops rest = tt
 got_rest setting (Some bytes) start_stop now after es lane m c consumed stops rest =
     let open_rest : (now.left ≡ Some (left_after bytes (trail setting es).events)) × (now.stop ≡ start_stop) = rw c at rest in
@@ -191,25 +181,19 @@ got_rest setting (Some bytes) start_stop now after es lane m c consumed stops re
 -- what a message leaves of the source's bytes
 pub reads_got : (setting : Setting) (start now after : Inlet) (p : PeerView) (es : List Entry) (lane : ℕ) (m : Seen) → Follows setting p es → p.core.calls.closing ≡ None → busy (trail setting es).events ≡ false
     → IfSome now.left (λ bytes. receive.Receives now.stop p.core.read bytes (Ok m))
-    → Consumes now.left after.left m.bytes → after.stop ≡ now.stop → now.faults ≤ after.faults
+    → Consumes now.left after.left m.bytes → after.stop ≡ now.stop
     → Reads setting start now es → Reads setting start after (entry lane words.Read (answers.Got m) ∷ es)
-reads_got setting start now after p es lane m f e free received consumed stops grows r =
+reads_got setting start now after p es lane m f e free received consumed stops r =
     let c : events.closing (trail setting es).events ≡ None = closing_of setting p es None f e in
     record {
       told = got_told setting start.left start.stop now p.core.read es lane m c free (sym f.left.read) received r.rest r.told;
       rest = got_rest setting start.left start.stop now after es lane m c consumed stops r.rest;
-      cause = λ has. rise_before start.faults now.faults after.faults (r.cause (not_got has)) grows;
-      kept = omega (arith, r.kept, grows);
     }
-  where
-    not_got : HasReadFault (entry lane words.Read (answers.Got m) ∷ es) → HasReadFault es
-    not_got (inl h) = cc
-    not_got (inr h) = h
 
 shut_told : (setting : Setting) (start_left : Option (List ℕ)) (start_stop : Option Bool) (now : Inlet) (count : ℕ) (es : List Entry) (lane : ℕ) (error : Error)
     → events.closing (trail setting es).events ≡ None → busy (trail setting es).events ≡ false → length (events.read (trail setting es).events) ≡ count → error ≢ errors.Memory
     → IfSome now.left (λ bytes. receive.Receives now.stop count bytes (Err error))
-    → IfSome start_left (λ bytes. IsRest (events.closing (trail setting es).events) (left_after bytes (trail setting es).events) start_stop now.left now.stop)
+    → IfSome start_left (λ bytes. IsLeft bytes start_stop (trail setting es).events now.left now.stop)
     → IfSome start_left (λ bytes. ReadsTold setting start_stop bytes es)
     → IfSome start_left (λ bytes. ReadsTold setting start_stop bytes (entry lane words.Read (answers.Closed error) ∷ es))
 shut_told setting None start_stop now count es lane error c free n not received rest told = tt
@@ -218,32 +202,28 @@ shut_told setting (Some bytes) start_stop now count es lane error c free n not r
     let here : receive.Receives start_stop count (left_after bytes (trail setting es).events) (Err error) = rw (open_rest.0, open_rest.1) at received in
     (rw (c, free, n) (shut_outcome start_stop count (left_after bytes (trail setting es).events) error not here), told)
 
-shut_rest : (setting : Setting) (start_left : Option (List ℕ)) (start_stop : Option Bool) (after : Inlet) (es : List Entry) (lane : ℕ) (error : Error)
-    → events.closing (trail setting es).events ≡ None
-    → IfSome start_left (λ bytes. IsRest (events.closing (trail setting (entry lane words.Read (answers.Closed error) ∷ es)).events)
-    (left_after bytes (trail setting (entry lane words.Read (answers.Closed error) ∷ es)).events) start_stop after.left after.stop)
-shut_rest setting None start_stop after es lane error c = tt
-shut_rest setting (Some bytes) start_stop after es lane error c = rw (at_shut setting es lane error c, c) tt
+shut_rest : (setting : Setting) (start_left : Option (List ℕ)) (start_stop : Option Bool) (now after : Inlet) (count : ℕ) (es : List Entry) (lane : ℕ) (error : Error)
+    → events.closing (trail setting es).events ≡ None → length (events.read (trail setting es).events) ≡ count
+    → IfSome now.left (λ bytes. IsRest (Some error) count bytes now.stop after.left after.stop)
+    → IfSome start_left (λ bytes. IsLeft bytes start_stop (trail setting es).events now.left now.stop)
+    → IfSome start_left (λ bytes. IsLeft bytes start_stop (trail setting (entry lane words.Read (answers.Closed error) ∷ es)).events after.left after.stop)
+shut_rest setting None start_stop now after count es lane error c n behind rest = tt
+shut_rest setting (Some bytes) start_stop now after count es lane error c n behind rest =
+    let open_rest : (now.left ≡ Some (left_after bytes (trail setting es).events)) × (now.stop ≡ start_stop) = rw c at rest in
+    let here : IsRest (Some error) count (left_after bytes (trail setting es).events) start_stop after.left after.stop = rw (open_rest.0, open_rest.1) at behind in
+    rw (at_shut setting es lane error c, c, n) here
 
 -- what an error leaves of the source
 pub reads_shut : (setting : Setting) (start now after : Inlet) (p : PeerView) (es : List Entry) (lane : ℕ) (error : Error) → Follows setting p es → p.core.calls.closing ≡ None → busy (trail setting es).events ≡ false
     → error ≢ errors.Memory → IfSome now.left (λ bytes. receive.Receives now.stop p.core.read bytes (Err error))
-    → receive.HasCause error now.faults after.faults → now.faults ≤ after.faults
+    → IfSome now.left (λ bytes. IsRest (Some error) p.core.read bytes now.stop after.left after.stop)
     → Reads setting start now es → Reads setting start after (entry lane words.Read (answers.Closed error) ∷ es)
-reads_shut setting start now after p es lane error f e free not received cause grows r =
+reads_shut setting start now after p es lane error f e free not received behind r =
     let c : events.closing (trail setting es).events ≡ None = closing_of setting p es None f e in
     record {
       told = shut_told setting start.left start.stop now p.core.read es lane error c free (sym f.left.read) not received r.rest r.told;
-      rest = shut_rest setting start.left start.stop after es lane error c;
-      cause = shut_cause;
-      kept = omega (arith, r.kept, grows);
+      rest = shut_rest setting start.left start.stop now after p.core.read es lane error c (sym f.left.read) behind r.rest;
     }
-  where
-    shut_cause : HasReadFault (entry lane words.Read (answers.Closed error) ∷ es) → MayRise start.faults after.faults
-    shut_cause (inl h) =
-        let is_fault : error ≡ errors.InputOutput kinds.Fault = cc in
-        rise_after start.faults now.faults after.faults r.kept (rw is_fault at cause)
-    shut_cause (inr h) = rise_before start.faults now.faults after.faults (r.cause h) grows
 
 -- a count of faults never falls
 pub cause_rises : (faults faults' : ℕ) → MayRise faults faults' → faults ≤ faults'
@@ -253,3 +233,14 @@ cause_rises faults faults' (inr h) = omega (arith, h.0, h.1)
 pub faults_rise : (error : Error) (faults faults' : ℕ) → receive.HasCause error faults faults' → faults ≤ faults'
 faults_rise (errors.InputOutput kinds.Fault) faults faults' h = cause_rises faults faults' h
 faults_rise other faults faults' h = h
+
+-- a read's error moves the count
+pub error_moves : (error : Error) (faults faults' : ℕ) → receive.HasCause error faults faults' → ReadMoves (answers.Closed error) faults faults'
+error_moves (errors.InputOutput kinds.Fault) faults faults' h = h
+error_moves other faults faults' h = h
+
+-- what a read did to it, by what the peer keeps
+pub moves_by : (p q : PeerView) (closed : Option Error) (a : Answer) (faults faults' : ℕ) → p ≡ q → p.core.calls.closing ≡ closed → SourceMoves words.Read closed a faults faults'
+    → SourceMoves words.Read q.core.calls.closing a faults faults'
+moves_by p q closed a faults faults' same e x =
+    subst (λ (v : PeerView). SourceMoves words.Read v.core.calls.closing a faults faults') same (subst (λ o. SourceMoves words.Read o a faults faults') (sym e) x)

@@ -31,7 +31,7 @@ use Rattle.wire_framing.specs.Send.{Part}
 use Rattle.wire_framing.specs.Writing.{is_unsupported, Sends}
 use Rattle.wire_framing.specs.declared.write_half.Writing.{Writing}
 use Rattle.wire_framing.specs.declared.write_half.Writing.TheVariants.{Fine}
-use Rattle.peer_run.specs.Stands.{PeerView, Outlet, Follows, Writes, Written, DidWrite, DidFail, Sent, Sending, WentOut, WriteFailed, named, unsent_answer, NotIssued, IsRefusal, IsReadFault, IsFine, entry}
+use Rattle.peer_run.specs.Stands.{PeerView, Outlet, Follows, Writes, Written, DidWrite, DidFail, Sent, Sending, WentOut, WriteFailed, named, unsent_answer, NotIssued, IsRefusal, IsFine, entry}
 use Rattle.wire_message.specs.Draft.{built}
 use Rattle.wire_message.specs.Signed.{counted, fds_field}
 use Rattle.peer_route.proofs.Asked.{AreWritable, CanGo, are_refused, asked_goes}
@@ -40,7 +40,6 @@ use Rattle.peer_run.specs.OneLetter.{IssuesOne}
 use Rattle.peer_run.specs.CallWords.{MakesAsked}
 use Rattle.peer_run.proofs.HalfStep.{fine_before}
 use Rattle.peer_run.proofs.SendStep.{IsSending, sending_is, asks_kept, entry_events, fault_events, follows_refused, follows_unsent, follows_sent, follows_failed, reads_send, writes_refused, writes_unsent, writes_sent, writes_failed}
-use Rattle.peer_run.proofs.Faults.{fault_was_written}
 
 -- ---- nothing was issued
 
@@ -94,7 +93,7 @@ unissued setting p q es lane w parcel (errors.InputOutput kinds.WriteFault) a k 
   i.4,
   as_answer write_fault a (Unissued setting p es lane w) e (record {
     follows = follows_unsent setting p es lane w (Ok parcel) _ k f (not_refused (trail setting es).events (Ok parcel) parcel i.0 refl i.1 i.2.1) (failed_ne _ i.3) (λ success. rw (i.3) refl);
-    writes = λ start now x. writes_unsent setting start now es lane w (Ok parcel) _ k (failed_ne _ i.3) (λ g. fault_was_written setting es f.legal (failed_so (trail setting es).events i.3)) x;
+    writes = λ start now x. writes_unsent setting start now es lane w (Ok parcel) _ k (failed_ne _ i.3) (λ g. failed_so (trail setting es).events i.3) x;
   }),
 )
 unissued setting p q es lane w parcel (errors.InputOutput kinds.Closed) a k fit f i e = (
@@ -114,11 +113,6 @@ same_peer p q c n s g =
     ∙ ap (λ ns. record { core = q.core; names = ns; streams = p.streams; given = p.given }) (sym n)
     ∙ ap (λ ns. record { core = q.core; names = q.names; streams = ns; given = p.given }) (sym s)
     ∙ ap (λ gs. record { core = q.core; names = q.names; streams = q.streams; given = gs }) (sym g)
-
-never_read : (error : Error) (a : Answer) → unsent_answer error ≡ Some a → IsReadFault a → ⊥
-never_read (errors.InputOutput kind) a e f = cc
-never_read errors.Memory a e f = cc
-never_read other a e f = cc
 
 -- ---- a message was issued
 
@@ -170,10 +164,6 @@ not_out old mid new lane issued m now after writing error (DidFail failed left n
     (ap (λ (v : PeerView). v.streams) made ∙ ap (λ (v : PeerView). v.streams) rest) (ap (λ (v : PeerView). v.given) made ∙ ap (λ (v : PeerView). v.given) rest)
     (λ h l. subst (λ (v : PeerView). Left v.core (events.Fault ∷ h)) (sym made) (left h l)) n part breaks rises over
 
-never_sent : (expects_one : Bool) (number serial : ℕ) (a : Answer) → a ≡ sent_answer expects_one number serial → IsReadFault a → ⊥
-never_sent true number serial a e f = cc
-never_sent false number serial a e f = cc
-
 -- after a failed write the writer has failed
 failed_then : (setting : Setting) (es : List Entry) (lane : ℕ) (w : Words) (parcel : Parcel) (serial : ℕ) (a : Answer) → IsSending (trail setting es) lane w (Ok parcel) → a ≡ write_fault → events.writer (trail setting es).events ≡ writers.Fine
     → next_serial (trail setting es).events ≡ Some serial → events.writer (trail setting (entry lane w a ∷ es)).events ≡ writers.Fine → ⊥
@@ -200,7 +190,7 @@ sending_by setting p q r es lane w parcel issued now after writing a m k f i n t
       writes = λ start x. subst (λ y. Writes setting start after (entry lane w y ∷ es)) to
           (writes_sent setting start now after es lane (count lane p.names) issued.serial w parcel k (fine_unfailed h i.2) (subst (λ j. Appends now.held after.held j.bytes) is appends)
           (subst (λ (j : Seen). RoomFalls now.room after.room (length j.bytes)) is falls) faults x);
-      reads = λ start now_in x. reads_send setting start now_in es lane w (Ok parcel) a k (never_sent (is_some issued.call) (count lane q.names) issued.serial a answer) x;
+      reads = λ start now_in x. reads_send setting start now_in es lane w (Ok parcel) a k x;
       fine = λ e. still;
     }
 sending_by setting p q r es lane w parcel issued now after writing a m k f i n t g is made (WriteFailed answer names streams given left j part breaks rises over) =
@@ -214,7 +204,7 @@ sending_by setting p q r es lane w parcel issued now after writing a m k f i n t
           (names ∙ ap (λ x. named x None q.names) made ∙ ap (named b None) n) (streams ∙ t) (given ∙ g) (left _ i.5));
       writes = λ start x. subst (λ y. Writes setting start after (entry lane w y ∷ es)) (sym answer)
           (writes_failed setting start now after es lane issued.serial w parcel j k i.2 next (subst (λ (s : Seen). Part s.bytes now.held after.held j) is part) breaks rises x);
-      reads = λ start now_in x. reads_send setting start now_in es lane w (Ok parcel) a k (λ e. cc) x;
+      reads = λ start now_in x. reads_send setting start now_in es lane w (Ok parcel) a k x;
       fine = λ e. absurd (failed_then setting es lane w parcel issued.serial a k answer i.2 next e);
     }
 
@@ -236,12 +226,12 @@ sending setting p q r es lane w parcel issued now after takes before writing a w
 -- ---- nothing was sent
 
 nothing_sent : (setting : Setting) (p q : PeerView) (es : List Entry) (lane : ℕ) (w : Words) (asked : Asked) (now : Outlet) (writing : Writing) (a : Answer) → IsSending (trail setting es) lane w asked
-    → p ≡ q → Unissued setting p es lane w a → (IsReadFault a → ⊥) → IsFine (trail setting (entry lane w a ∷ es)).events writing
+    → p ≡ q → Unissued setting p es lane w a → IsFine (trail setting (entry lane w a ∷ es)).events writing
     → Sending setting q es lane w now now writing a
-nothing_sent setting p q es lane w asked now writing a k same u never fine = record {
+nothing_sent setting p q es lane w asked now writing a k same u fine = record {
   follows = subst (λ v. Follows setting v (entry lane w a ∷ es)) same u.follows;
   writes = λ start x. u.writes start now x;
-  reads = λ start now_in x. reads_send setting start now_in es lane w asked a k never x;
+  reads = λ start now_in x. reads_send setting start now_in es lane w asked a k x;
   fine = fine;
 }
 
@@ -253,7 +243,7 @@ pub not_sending : (setting : Setting) (p q : PeerView) (es : List Entry) (lane :
 not_sending setting p q es lane w parcel error a now writing wants fit f i e n t g fine =
     let k = sending_is (trail setting es) lane w (Ok parcel) wants in
     let u = unissued setting p q es lane w parcel error a k fit f i e in
-    nothing_sent setting p q es lane w (Ok parcel) now writing a k (same_peer p q u.0 n t g) u.1 (never_read error a e) (λ x. fine (fine_before setting es lane w a x))
+    nothing_sent setting p q es lane w (Ok parcel) now writing a k (same_peer p q u.0 n t g) u.1 (λ x. fine (fine_before setting es lane w a x))
 
 -- the words were refused
 pub not_asked : (setting : Setting) (p : PeerView) (es : List Entry) (lane : ℕ) (w : Words) (error : Error) (a : Answer) (now : Outlet) (writing : Writing)
@@ -262,7 +252,7 @@ pub not_asked : (setting : Setting) (p : PeerView) (es : List Entry) (lane : ℕ
 not_asked setting p es lane w error a now writing wants f e fine =
     let k = sending_is (trail setting es) lane w (Err error) wants in
     subst (λ x. Sending setting p es lane w now now writing x) (sym e)
-    (nothing_sent setting p p es lane w (Err error) now writing (answers.Refused error) k refl (refused_words setting p es lane w error wants f) (λ x. cc)
+    (nothing_sent setting p p es lane w (Err error) now writing (answers.Refused error) k refl (refused_words setting p es lane w error wants f)
     (λ x. fine (fine_before setting es lane w (answers.Refused error) x)))
 
 -- what was answered where nothing was issued
@@ -278,18 +268,18 @@ no_letter (Some asked) errors.Memory n m = absurd (n refl)
 no_letter (Some asked) other n m = ap Some m
 
 -- what is asked for by what the peer keeps
-abbrev kept_asks : Setting → PeerView → ℕ → Words → Option Asked
-kept_asks setting p lane w = asks_with setting (λ n. kept_at p.given (place 0 lane n p.streams)) w
+abbrev kept_asks : Bool → PeerView → ℕ → Words → Option Asked
+kept_asks takes p lane w = asks_with p.core.name takes (λ n. kept_at p.given (place 0 lane n p.streams)) w
 
 can_take : (fds : List ℕ) (takes : Bool) → are_refused fds takes ≡ false → is_unsupported (fds_field fds) takes ≡ false
 can_take [] takes e = refl
 can_take (fd ∷ fds) takes e = let z : (length (fd ∷ fds) == 0) ≡ false = grind (arith, nat_tests) in rw z e
 
 -- what is asked for can be written, and the sink takes it
-goes_by : (setting : Setting) (es : List Entry) (lane : ℕ) (w : Words) (parcel : Parcel) → asks (trail setting es) lane w ≡ Some (Ok parcel) → CanGo setting parcel
+goes_by : (setting : Setting) (es : List Entry) (lane : ℕ) (w : Words) (parcel : Parcel) → asks (trail setting es) lane w ≡ Some (Ok parcel) → CanGo setting.takes_fds parcel
 goes_by setting es lane w parcel wants =
     let t = trail setting es in
-    subst (λ s. CanGo s parcel) (trail_setting setting es) (asked_goes t.setting (λ n. given t lane n) w parcel wants)
+    subst (λ s. CanGo s.takes_fds parcel) (trail_setting setting es) (asked_goes (events.unique_name t.events) t.setting.takes_fds (λ n. given t lane n) w parcel wants)
 
 -- the letter was issued, and sent or not
 pub letter_sent : (setting : Setting) (p q r : PeerView) (es : List Entry) (lane : ℕ) (w : Words) (parcel : Parcel) (issued : Issued) (now after : Outlet) (before writing : Writing) (a : Answer)
@@ -320,17 +310,18 @@ refusal_is E other a n is = is
 
 -- no letter was made
 pub letter_refused : (E : Type 0) (setting : Setting) (p : PeerView) (es : List Entry) (lane : ℕ) (w : Words) (error : Error) (r : Result Answer E) (now : Outlet) (writing : Writing)
-    → MakesAsked (Err error) (kept_asks setting p lane w) → IsRefusal error r → Follows setting p es → IsFine (trail setting es).events writing
+    → MakesAsked (Err error) (kept_asks setting.takes_fds p lane w) → IsRefusal error r → Follows setting p es → IsFine (trail setting es).events writing
     → IfOk r (λ a. Sending setting p es lane w now now writing a)
 letter_refused E setting p es lane w error (Ok a) now writing made is f fine =
     let never = not_memory E error a is in
-    not_asked setting p es lane w error a now writing (sym (asks_kept setting p es lane w f) ∙ no_letter (kept_asks setting p lane w) error never made) f (refusal_is E error a never is) fine
+    not_asked setting p es lane w error a now writing (sym (asks_kept setting p es lane w f) ∙ no_letter (kept_asks setting.takes_fds p lane w) error never made) f (refusal_is E error a never is) fine
 letter_refused E setting p es lane w error (Err e) now writing made is f fine = tt
 
 -- the same for each setting and each history that the peer follows, by what it has inside
 pub letter_refused_of : (E : Type 0) (takes : Bool) (p v : PeerView) (lane : ℕ) (w : Words) (error : Error) (r : Result Answer E) (now : Outlet) (writing : Writing)
-    → p ≡ v → ((setting : Setting) → setting.takes_fds ≡ takes → MakesAsked (Err error) (kept_asks setting p lane w)) → IsRefusal error r
+    → p ≡ v → MakesAsked (Err error) (kept_asks takes p lane w) → IsRefusal error r
     → IfOk r (λ a. (setting : Setting) (es : List Entry) → setting.takes_fds ≡ takes → Follows setting v es → IsFine (trail setting es).events writing → Sending setting v es lane w now now writing a)
 letter_refused_of E takes p v lane w error (Ok a) now writing same made is = λ setting es can f fine.
-    letter_refused E setting v es lane w error (Ok a) now writing (subst (λ u. MakesAsked (Err error) (kept_asks setting u lane w)) same (made setting can)) is f fine
+    letter_refused E setting v es lane w error (Ok a) now writing
+    (subst (λ (b : Bool). MakesAsked (Err error) (kept_asks b v lane w)) (sym can) (subst (λ u. MakesAsked (Err error) (kept_asks takes u lane w)) same made)) is f fine
 letter_refused_of E takes p v lane w error (Err e) now writing same made is = tt

@@ -26,10 +26,10 @@ use Rattle.peer_route.specs.Left.{Left}
 use Rattle.peer_route.proofs.Refused.{send_refused}
 use Rattle.peer_route.proofs.Sent.{trail_setting}
 use Rattle.peer_route.proofs.Given.{given_same, given_fault, kept_given}
-use Rattle.peer_run.specs.Stands.{PeerView, Inlet, Outlet, Follows, Reads, Writes, IsReadFault, HasWriteFault, IsWriteFault, named, entry}
+use Rattle.peer_run.specs.Stands.{PeerView, Inlet, Outlet, Follows, Reads, Writes, SourceMoves, named, sends, is_close, entry}
 use Rattle.peer_run.proofs.Quiet.{follows_more}
 use Rattle.peer_run.proofs.Outlets.{encoded_one, writes_all, writes_broke}
-use Rattle.peer_run.proofs.Kept.{reads_kept, writes_kept, is_close, close_told}
+use Rattle.peer_run.proofs.Kept.{reads_kept, writes_kept, IsWriteFault}
 use Rattle.peer_route.proofs.Writers.{fine_unfailed}
 
 -- ---- a command that sends
@@ -62,16 +62,16 @@ error_told h stream text body stop bytes (Some error) a = tt
 
 pub sending_is : (t : Trail) (lane : ℕ) (w : Words) (asked : Asked) → asks t lane w ≡ Some asked → IsSending t lane w asked
 sending_is t lane (words.Call out) asked e =
-    let same : call_asked t.setting out ≡ asked = cc in
+    let same : call_asked (events.unique_name t.events) t.setting.takes_fds out ≡ asked = cc in
     subst (IsSending t lane (words.Call out)) same (record { wants = refl; events = λ a. refl; names = λ a. refl; streams = λ a. refl; answer = λ a x. x; told = call_told t.events out; other = refl })
 sending_is t lane (words.Signal out) asked e =
-    let same : signal_asked t.setting out ≡ asked = cc in
+    let same : signal_asked (events.unique_name t.events) t.setting.takes_fds out ≡ asked = cc in
     subst (IsSending t lane (words.Signal out)) same (record { wants = refl; events = λ a. refl; names = λ a. refl; streams = λ a. refl; answer = λ a x. x; told = signal_told t.events out; other = refl })
 sending_is t lane (words.Reply stream body) asked e =
-    let same : reply_asked t.setting (given t lane stream) body ≡ asked = cc in
+    let same : reply_asked (events.unique_name t.events) (given t lane stream) body ≡ asked = cc in
     subst (IsSending t lane (words.Reply stream body)) same (record { wants = refl; events = λ a. refl; names = λ a. refl; streams = λ a. refl; answer = λ a x. x; told = reply_told t.events stream body; other = refl })
 sending_is t lane (words.Error stream text body) asked e =
-    let same : error_asked t.setting (given t lane stream) text body ≡ asked = cc in
+    let same : error_asked (events.unique_name t.events) (given t lane stream) text body ≡ asked = cc in
     subst (IsSending t lane (words.Error stream text body)) same (record { wants = refl; events = λ a. refl; names = λ a. refl; streams = λ a. refl; answer = λ a x. x; told = error_told t.events stream text body; other = refl })
 sending_is t lane words.Read asked e = cc
 sending_is t lane (words.Poll number) asked e = cc
@@ -88,36 +88,47 @@ sending_is t lane (words.Open max_queued rule) asked e = cc
 sending_is t lane (words.Opened number) asked e = cc
 sending_is t lane words.Close asked e = cc
 
+-- it doesn't close the peer
+pub sends_other : (w : Words) → sends w ≡ true → is_close w ≡ false
+sends_other words.Close e = absurd (cc)
+sends_other w e = refl
+
+-- and reads nothing
+pub sends_nothing : (w : Words) (closed : Option Error) (a : Answer) (n : ℕ) → sends w ≡ true → SourceMoves w closed a n n
+sends_nothing words.Read closed a n e = absurd (cc)
+sends_nothing w closed a n e = refl
+
 -- ---- what the peer keeps
 
-asks_along : (setting : Setting) (f g : ℕ → Option Seen) (w : Words) → ((n : ℕ) → f n ≡ g n) → asks_with setting f w ≡ asks_with setting g w
-asks_along setting f g (words.Call out) e = refl
-asks_along setting f g (words.Signal out) e = refl
-asks_along setting f g (words.Reply stream body) e = ap (λ m. Some (reply_asked setting m body)) (e stream)
-asks_along setting f g (words.Error stream text body) e = ap (λ m. Some (error_asked setting m text body)) (e stream)
-asks_along setting f g words.Read e = refl
-asks_along setting f g (words.Poll number) e = refl
-asks_along setting f g (words.Before number before) e = refl
-asks_along setting f g (words.Drop number) e = refl
-asks_along setting f g words.Stream e = refl
-asks_along setting f g (words.Take number) e = refl
-asks_along setting f g (words.TakeBefore number before) e = refl
-asks_along setting f g (words.Clone number) e = refl
-asks_along setting f g (words.Unstream number second) e = refl
-asks_along setting f g (words.Queue number limit) e = refl
-asks_along setting f g (words.MainQueue limit) e = refl
-asks_along setting f g (words.Open max_queued rule) e = refl
-asks_along setting f g (words.Opened number) e = refl
-asks_along setting f g words.Close e = refl
+asks_along : (name : Option (List ℕ)) (takes_fds : Bool) (f g : ℕ → Option Seen) (w : Words) → ((n : ℕ) → f n ≡ g n) → asks_with name takes_fds f w ≡ asks_with name takes_fds g w
+asks_along name takes_fds f g (words.Call out) e = refl
+asks_along name takes_fds f g (words.Signal out) e = refl
+asks_along name takes_fds f g (words.Reply stream body) e = ap (λ m. Some (reply_asked name m body)) (e stream)
+asks_along name takes_fds f g (words.Error stream text body) e = ap (λ m. Some (error_asked name m text body)) (e stream)
+asks_along name takes_fds f g words.Read e = refl
+asks_along name takes_fds f g (words.Poll number) e = refl
+asks_along name takes_fds f g (words.Before number before) e = refl
+asks_along name takes_fds f g (words.Drop number) e = refl
+asks_along name takes_fds f g words.Stream e = refl
+asks_along name takes_fds f g (words.Take number) e = refl
+asks_along name takes_fds f g (words.TakeBefore number before) e = refl
+asks_along name takes_fds f g (words.Clone number) e = refl
+asks_along name takes_fds f g (words.Unstream number second) e = refl
+asks_along name takes_fds f g (words.Queue number limit) e = refl
+asks_along name takes_fds f g (words.MainQueue limit) e = refl
+asks_along name takes_fds f g (words.Open max_queued rule) e = refl
+asks_along name takes_fds f g (words.Opened number) e = refl
+asks_along name takes_fds f g words.Close e = refl
 
 -- what a command asks of what the peer keeps, it asks of the history
 pub asks_kept : (setting : Setting) (p : PeerView) (es : List Entry) (lane : ℕ) (w : Words) → Follows setting p es
-    → asks_with setting (λ n. kept_at p.given (place 0 lane n p.streams)) w ≡ asks (trail setting es) lane w
+    → asks_with p.core.name setting.takes_fds (λ n. kept_at p.given (place 0 lane n p.streams)) w ≡ asks (trail setting es) lane w
 asks_kept setting p es lane w f =
     let t = trail setting es in
-    asks_along setting (λ n. kept_at p.given (place 0 lane n p.streams)) (λ n. given t lane n) w
+    asks_along p.core.name setting.takes_fds (λ n. kept_at p.given (place 0 lane n p.streams)) (λ n. given t lane n) w
     (λ n. ap (λ gs. kept_at gs (place 0 lane n p.streams)) f.given ∙ ap (λ ns. kept_at (all_given t.events) (place 0 lane n ns)) f.streams ∙ kept_given t.events (place 0 lane n t.streams))
-    ∙ ap (λ s. asks_with s (λ n. given t lane n) w) (sym (trail_setting setting es))
+    ∙ ap (λ name. asks_with name setting.takes_fds (λ n. given t lane n) w) f.left.name
+    ∙ ap (λ s. asks_with (events.unique_name t.events) s.takes_fds (λ n. given t lane n) w) (sym (trail_setting setting es))
 
 -- the events of such an entry, in front of those before it
 pub entry_events : (setting : Setting) (es : List Entry) (lane : ℕ) (w : Words) (asked : Asked) (a : Answer) → IsSending (trail setting es) lane w asked
@@ -251,13 +262,13 @@ send_reads h (Ok parcel) a = (refl, refl)
 send_reads h (Err error) a = (refl, refl)
 
 -- a command that sends reads nothing
-pub reads_send : (setting : Setting) (start now : Inlet) (es : List Entry) (lane : ℕ) (w : Words) (asked : Asked) (a : Answer) → IsSending (trail setting es) lane w asked → (IsReadFault a → ⊥)
+pub reads_send : (setting : Setting) (start now : Inlet) (es : List Entry) (lane : ℕ) (w : Words) (asked : Asked) (a : Answer) → IsSending (trail setting es) lane w asked
     → Reads setting start now es → Reads setting start now (entry lane w a ∷ es)
-reads_send setting start now es lane w asked a k never r =
+reads_send setting start now es lane w asked a k r =
     let q = send_reads (trail setting es).events asked a in
     let same = entry_events setting es lane w asked a k in
     reads_kept setting start now es lane w a (ap events.read same ∙ q.0) (ap events.closing same ∙ q.1)
-    (λ stop bytes. k.told stop bytes (events.closing (trail setting es).events) a) (λ f. absurd (never f)) r
+    (λ stop bytes. k.told stop bytes (events.closing (trail setting es).events) a) r
 
 -- ---- the sink
 
@@ -267,17 +278,17 @@ writes_refused setting start now es lane w asked error k r =
     let h = (trail setting es).events in
     let same : (trail setting (entry lane w (answers.Refused error) ∷ es)).events ≡ h =
     entry_events setting es lane w asked (answers.Refused error) k ∙ ap (λ xs. xs ++ h) (send_refused h asked error) in
-    writes_kept setting start now es lane w (answers.Refused error) (ap events.is_failed same) (ap events.put same) (close_told start.room w (answers.Refused error) k.other) (λ f. cc) r
+    writes_kept setting start now es lane w (answers.Refused error) (ap events.is_failed same) (ap events.put same) (ap events.written same) k.other (λ f. cc) r
 
 pub writes_unsent : (setting : Setting) (start now : Outlet) (es : List Entry) (lane : ℕ) (w : Words) (asked : Asked) (error : Error) → IsSending (trail setting es) lane w asked
-    → events.writer (trail setting es).events ≢ writers.Fine → (IsWriteFault (answers.SendFailed error) → HasWriteFault es)
+    → events.writer (trail setting es).events ≢ writers.Fine → (IsWriteFault (answers.SendFailed error) → events.is_failed (trail setting es).events ≡ true)
     → Writes setting start now es → Writes setting start now (entry lane w (answers.SendFailed error) ∷ es)
 writes_unsent setting start now es lane w asked error k ne fault r =
     let h = (trail setting es).events in
     let a = answers.SendFailed error in
     let same : (trail setting (entry lane w a ∷ es)).events ≡ h =
     entry_events setting es lane w asked a k ∙ ap (λ xs. xs ++ h) (unsent_events h asked error ne) in
-    writes_kept setting start now es lane w a (ap events.is_failed same) (ap events.put same) (close_told start.room w a k.other) fault r
+    writes_kept setting start now es lane w a (ap events.is_failed same) (ap events.put same) (ap events.written same) k.other fault r
 
 -- ---- a message goes out
 
@@ -298,7 +309,7 @@ writes_sent setting start now after es lane number serial w parcel k fine append
     let b = expects (Ok parcel) in
     let same : (trail setting (entry lane w (sent_answer b number serial) ∷ es)).events ≡ events.Wrote ∷ events.Put m b ∷ h =
     entry_events setting es lane w (Ok parcel) (sent_answer b number serial) k ∙ ap (λ xs. xs ++ h) (sent_events h parcel b number serial) in
-    writes_all setting start now after es lane w (sent_answer b number serial) (m ∷ []) (ap events.put same) (ap events.is_failed same ∙ fine) fine
+    writes_all setting start now after es lane w (sent_answer b number serial) (m ∷ []) (ap events.put same) (ap events.written same) (ap events.is_failed same ∙ fine) fine
     (subst (λ bytes. Appends now.held after.held bytes) (sym (encoded_one m)) appends)
     (subst (λ (bytes : List ℕ). RoomFalls now.room after.room (length bytes)) (sym (encoded_one m)) falls) faults
     (λ f. absurd (not_fault b number serial f)) k.other r
@@ -315,4 +326,4 @@ writes_failed setting start now after es lane serial w parcel n k writes_still n
     let m = message_of parcel serial in
     let same : (trail setting (entry lane w write_fault ∷ es)).events ≡ events.Fault ∷ events.Put m (expects (Ok parcel)) ∷ h =
     entry_events setting es lane w (Ok parcel) write_fault k ∙ fault_events h parcel serial writes_still next in
-    writes_broke setting start now after es lane w write_fault m [] n (ap events.put same) (ap events.is_failed same) (fine_unfailed h writes_still) part breaks rises k.other r
+    writes_broke setting start now after es lane w write_fault m [] n (ap events.put same) (ap events.written same) (ap events.is_failed same) (fine_unfailed h writes_still) part breaks rises refl k.other r

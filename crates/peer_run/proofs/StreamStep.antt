@@ -15,9 +15,10 @@ use Rattle.peer_route.specs.Answers.{shown_drop, drop_of}
 use Rattle.peer_route.specs.Told.{ReadTold}
 use Rattle.peer_route.specs.Left.{Left}
 use Rattle.peer_route.proofs.Given.{given_same, given_made}
-use Rattle.peer_run.specs.Stands.{PeerView, Inlet, Outlet, Follows, Reads, Writes, IsReadFault, IsWriteFault, entry}
+use Rattle.peer_run.specs.Stands.{PeerView, Inlet, Outlet, Follows, Reads, Writes, entry}
 use Rattle.peer_run.proofs.Quiet.{drop_quiet, stream_quiet}
 use Rattle.peer_run.proofs.QuietStep.{follows_quiet, reads_quiet, writes_quiet}
+use Rattle.peer_run.proofs.Kept.{IsWriteFault}
 
 -- ---- a drop
 
@@ -62,10 +63,6 @@ told_drop : (setting : Setting) (es : List Entry) (number : ℕ) (a : Answer) (s
 told_drop setting es number a stop bytes None = tt
 told_drop setting es number a stop bytes (Some error) = tt
 
-drop_no_fault : (r : Result (Unit {0}) Error) → IsReadFault (shown_drop r) → ⊥
-drop_no_fault (Ok done) e = cc
-drop_no_fault (Err error) e = cc
-
 drop_no_write : (r : Result (Unit {0}) Error) → IsWriteFault (shown_drop r) → ⊥
 drop_no_write (Ok done) e = cc
 drop_no_write (Err error) e = cc
@@ -74,7 +71,7 @@ pub reads_drop : (setting : Setting) (start now : Inlet) (es : List Entry) (lane
     → Reads setting start now (entry lane (words.Drop number) (shown_drop r) ∷ es)
 reads_drop setting start now es lane number r x =
     reads_quiet setting start now es lane (words.Drop number) (shown_drop r) (drop_quiet (place 0 lane number (trail setting es).names) (shown_drop r))
-    (told_drop setting es number (shown_drop r)) (λ e. absurd (drop_no_fault r e)) x
+    (told_drop setting es number (shown_drop r)) x
 
 pub writes_drop : (setting : Setting) (start now : Outlet) (es : List Entry) (lane number : ℕ) (r : Result (Unit {0}) Error) → Writes setting start now es
     → Writes setting start now (entry lane (words.Drop number) (shown_drop r) ∷ es)
@@ -97,7 +94,7 @@ told_stream setting es a stop bytes (Some error) = tt
 
 pub reads_stream : (setting : Setting) (start now : Inlet) (es : List Entry) (lane number : ℕ) → Reads setting start now es → Reads setting start now (entry lane words.Stream (answers.Streaming number) ∷ es)
 reads_stream setting start now es lane number x =
-    reads_quiet setting start now es lane words.Stream (answers.Streaming number) (stream_quiet (answers.Streaming number)) (told_stream setting es (answers.Streaming number)) (λ e. cc) x
+    reads_quiet setting start now es lane words.Stream (answers.Streaming number) (stream_quiet (answers.Streaming number)) (told_stream setting es (answers.Streaming number)) x
 
 pub writes_stream : (setting : Setting) (start now : Outlet) (es : List Entry) (lane number : ℕ) → Writes setting start now es → Writes setting start now (entry lane words.Stream (answers.Streaming number) ∷ es)
 writes_stream setting start now es lane number x =

@@ -1,11 +1,9 @@
 -- A take is one entry more, by position too.
-use Rattle.std.proofs.Common.{◌≡◌, ℕ, refl, sym, ◌∙◌, ap, subst, Bool, true, false, if◌then◌else◌, List, [], ◌∷◌, ◌++◌, Option, Some, None, Result, Ok, Err}
-use Rattle.std.specs.List.{slice_get}
+use Rattle.std.proofs.Common.{◌≡◌, ℕ, refl, sym, ◌∙◌, ap, subst, Bool, false, List, [], ◌∷◌, ◌++◌, Option, Some, None, Result, Ok, Err}
 use Rattle.std.proofs.lemmas.List.{append-nil}
 use Rattle.wire_message.specs.Front.{Seen}
 use Rattle.wire_message.specs.declared.error.Error.{Error}
 use Rattle.wire_message.specs.declared.error.Error.TheVariants as errors
-use Rattle.wire_message.specs.declared.error.IoKind.TheVariants as kinds
 use Rattle.peer_route.specs.Parcel.{Setting, Asked}
 use Rattle.peer_route.specs.declared.polled.Polled.{Polled}
 use Rattle.peer_route.specs.declared.polled.Polled.TheVariants as polled
@@ -22,11 +20,11 @@ use Rattle.peer_route.specs.Told.{ReadTold}
 use Rattle.peer_route.specs.Left.{Left}
 use Rattle.peer_route.proofs.Given.{given_taken}
 use Rattle.peer_route.proofs.Given as given
-use Rattle.peer_route.proofs.ByPosition.{takes_so, closed_so}
-use Rattle.peer_run.specs.Stands.{PeerView, Inlet, Outlet, Follows, Reads, Writes, HasReadFault, IsReadFault, IsWriteFault, given_after, entry}
-use Rattle.peer_run.proofs.Quiet.{AreQuiet, take_quiet, fault_was_read}
-use Rattle.peer_run.proofs.Kept.{is_close}
+use Rattle.peer_route.proofs.ByPosition.{takes_so}
+use Rattle.peer_run.specs.Stands.{PeerView, Inlet, Outlet, Follows, Reads, Writes, given_after, is_close, entry}
+use Rattle.peer_run.proofs.Quiet.{AreQuiet, take_quiet}
 use Rattle.peer_run.proofs.QuietStep.{follows_quiet, reads_quiet, writes_quiet}
+use Rattle.peer_run.proofs.Kept.{IsWriteFault}
 
 take_shown_does : (k : ℕ) (r : Result (Polled Seen) Error) → take_does (Some k) (shown_take r) ≡ streams.take_events k r
 take_shown_does k (Ok (polled.Now m)) = refl
@@ -164,34 +162,6 @@ follows_take_unknown_before setting p es lane number before f none =
     let at = named_stream setting p es lane number None f none in
     unknown_by setting p es lane number (words.TakeBefore number before) (taking_before (trail setting es) lane number before) f at (sym (ap (take_before_of (trail setting es).events) at))
 
--- a take's closing error is the peer's
-closed_by : (items : List Seen) (closing : Option Error) (told : Bool) (error : Error) → streams.take_by items closing told ≡ polled.Closed error → closing ≡ Some error
-closed_by (m ∷ ms) closing told error e = cc
-closed_by [] None told error e = cc
-closed_by [] (Some other) false error e = cc
-closed_by [] (Some other) true error e = cc
-
-closed_if : (runs : Bool) (given : Polled Seen) (error : Error) → (if runs then Ok given else Err errors.UnknownHandle) ≡ Ok (polled.Closed error) → given ≡ polled.Closed error
-closed_if true given error e = cc
-closed_if false given error e = cc
-
-closed_at : (h : List events.Event) (s : Option streams.Stream) (error : Error) → streams.take_at h s ≡ Ok (polled.Closed error) → events.closing h ≡ Some error
-closed_at h None error e = cc
-closed_at h (Some s) error e =
-    closed_by (streams.held h s) (events.closing h) s.told error (closed_if (streams.runs h s) (streams.take_by (streams.held h s) (events.closing h) s.told) error e)
-
-take_closed : (h : List events.Event) (k : ℕ) (error : Error) → streams.take_answer h k ≡ Ok (polled.Closed error) → events.closing h ≡ Some error
-unfolding streams.take_answer
-take_closed h k error e = closed_at h (slice_get (streams.streams h) k) error e
-
-take_fault : (r : Result (Polled Seen) Error) → IsReadFault (shown_take r) → r ≡ Ok (polled.Closed (errors.InputOutput kinds.Fault))
-take_fault (Ok (polled.Now m)) e = cc
-take_fault (Ok polled.NotYet) e = cc
-take_fault (Ok polled.NoneBefore) e = cc
-take_fault (Ok (polled.Closed error)) e = cc
-take_fault (Ok polled.Ended) e = cc
-take_fault (Err error) e = cc
-
 take_no_write : (r : Result (Polled Seen) Error) → IsWriteFault (shown_take r) → ⊥
 take_no_write (Ok (polled.Now m)) e = cc
 take_no_write (Ok polled.NotYet) e = cc
@@ -200,34 +170,30 @@ take_no_write (Ok (polled.Closed error)) e = cc
 take_no_write (Ok polled.Ended) e = cc
 take_no_write (Err error) e = cc
 
-reads_by : (setting : Setting) (start now : Inlet) (es : List Entry) (lane number : ℕ) (w : Words) (a : Answer) → IsTaking (trail setting es) lane number w → (IsReadFault a → HasReadFault es)
+reads_by : (setting : Setting) (start now : Inlet) (es : List Entry) (lane number : ℕ) (w : Words) (a : Answer) → IsTaking (trail setting es) lane number w
     → Reads setting start now es → Reads setting start now (entry lane w a ∷ es)
-reads_by setting start now es lane number w a takes fault x =
+reads_by setting start now es lane number w a takes x =
     reads_quiet setting start now es lane w a (subst AreQuiet (sym (takes.does a)) (take_quiet (place 0 lane number (trail setting es).streams) a))
-    (λ stop bytes closing. takes.quiet stop bytes closing a) fault x
+    (λ stop bytes closing. takes.quiet stop bytes closing a) x
 
-pub reads_take : (setting : Setting) (start now : Inlet) (es : List Entry) (lane number k : ℕ) (r : Result (Polled Seen) Error) → r ≡ streams.take_answer (trail setting es).events k
+pub reads_take : (setting : Setting) (start now : Inlet) (es : List Entry) (lane number : ℕ) (r : Result (Polled Seen) Error)
     → Reads setting start now es → Reads setting start now (entry lane (words.Take number) (shown_take r) ∷ es)
-reads_take setting start now es lane number k r answer x =
-    reads_by setting start now es lane number (words.Take number) (shown_take r) (taking (trail setting es) lane number)
-    (λ f. fault_was_read setting es (take_closed (trail setting es).events k (errors.InputOutput kinds.Fault) (sym answer ∙ take_fault r f))) x
+reads_take setting start now es lane number r x = reads_by setting start now es lane number (words.Take number) (shown_take r) (taking (trail setting es) lane number) x
 
-pub reads_take_before : (setting : Setting) (start now : Inlet) (es : List Entry) (lane number before k : ℕ) (r : Result (Polled Seen) Error) → r ≡ events.by_position (streams.take_answer (trail setting es).events k)
+pub reads_take_before : (setting : Setting) (start now : Inlet) (es : List Entry) (lane number before : ℕ) (r : Result (Polled Seen) Error)
     → Reads setting start now es → Reads setting start now (entry lane (words.TakeBefore number before) (shown_take r) ∷ es)
-reads_take_before setting start now es lane number before k r answer x =
-    reads_by setting start now es lane number (words.TakeBefore number before) (shown_take r) (taking_before (trail setting es) lane number before)
-    (λ f. fault_was_read setting es (take_closed (trail setting es).events k (errors.InputOutput kinds.Fault)
-    (closed_so (streams.take_answer (trail setting es).events k) (errors.InputOutput kinds.Fault) (sym answer ∙ take_fault r f)))) x
+reads_take_before setting start now es lane number before r x =
+    reads_by setting start now es lane number (words.TakeBefore number before) (shown_take r) (taking_before (trail setting es) lane number before) x
 
 pub reads_take_unknown : (setting : Setting) (start now : Inlet) (es : List Entry) (lane number : ℕ) → Reads setting start now es
     → Reads setting start now (entry lane (words.Take number) (answers.Refused errors.UnknownHandle) ∷ es)
 reads_take_unknown setting start now es lane number x =
-    reads_by setting start now es lane number (words.Take number) (answers.Refused errors.UnknownHandle) (taking (trail setting es) lane number) (λ f. cc) x
+    reads_by setting start now es lane number (words.Take number) (answers.Refused errors.UnknownHandle) (taking (trail setting es) lane number) x
 
 pub reads_take_unknown_before : (setting : Setting) (start now : Inlet) (es : List Entry) (lane number before : ℕ) → Reads setting start now es
     → Reads setting start now (entry lane (words.TakeBefore number before) (answers.Refused errors.UnknownHandle) ∷ es)
 reads_take_unknown_before setting start now es lane number before x =
-    reads_by setting start now es lane number (words.TakeBefore number before) (answers.Refused errors.UnknownHandle) (taking_before (trail setting es) lane number before) (λ f. cc) x
+    reads_by setting start now es lane number (words.TakeBefore number before) (answers.Refused errors.UnknownHandle) (taking_before (trail setting es) lane number before) x
 
 writes_by : (setting : Setting) (start now : Outlet) (es : List Entry) (lane number : ℕ) (w : Words) (r : Result (Polled Seen) Error) → IsTaking (trail setting es) lane number w
     → Writes setting start now es → Writes setting start now (entry lane w (shown_take r) ∷ es)

@@ -2,7 +2,6 @@
 use Rattle.std.proofs.Common.{◌≡◌, ℕ, ◌+◌, ◌||◌, inl, inr, refl, sym, ◌∙◌, ap, subst, arith, Bool, true, false, nat_lt, if◌then◌else◌, List, [], ◌∷◌, ◌++◌, length, map, Option, Some, None, Ok, Err, append_assoc}
 use Rattle.std.specs.List.{AllByRecursion}
 use borrow.Author.Tests.{lt-ltb, le-ltb}
-use Rattle.wire_signature.specs.declared.error.VariantError.TheVariants as faults
 use Rattle.wire_message.specs.Front.{Seen}
 use Rattle.wire_message.specs.declared.error.Error.{Error}
 use Rattle.wire_message.specs.declared.error.Error.TheVariants as errors
@@ -10,10 +9,10 @@ use Rattle.wire_message.specs.declared.error.IoKind.TheVariants as kinds
 use Rattle.rule_match.specs.Rule.{Rule}
 use Rattle.peer_route.specs.declared.writer.Writer.TheVariants as writers
 use Rattle.peer_route.specs.declared.answer.Answer.TheVariants as answers
-use Rattle.peer_route.specs.History.{Event, Wrote, Fault, Removed, Did, Gone, put, done, is_failed, writer, last_serial, pending}
+use Rattle.peer_route.specs.History.{Event, Wrote, Fault, Removed, Gone, put, done, is_failed, writer}
 use Rattle.peer_route.specs.History as events
 use Rattle.peer_route.specs.Streams.{all_given}
-use Rattle.peer_route.specs.BusCall.{remove_message, last_of, some_rules, AreTexts}
+use Rattle.peer_route.specs.BusCall.{remove_message, last_of, some_rules}
 use Rattle.peer_route.specs.Parcel.{message_of}
 use Rattle.wire_message.specs.Draft.{built}
 use Rattle.peer_route.specs.Trail.{next_serial, or_zero, removal, removals, removal_serials, wrote_each, fault_each}
@@ -82,7 +81,6 @@ refusal_by have_ long h rules e f = rw (e, f) refl
 
 -- it may be told, and was, as far as the core goes
 pub record IsPut (new : View) (g : List Event) (rules : List Rule) (last : Option ℕ) : Type 0 where
-  pub texts : AreTexts rules
   pub refusal : tell_refusal g rules ≡ None
   pub fine : some_rules rules ≡ true → writer g ≡ writers.Fine
   pub serial : last ≡ last_of (removal_serials g rules)
@@ -90,58 +88,53 @@ pub record IsPut (new : View) (g : List Event) (rules : List Rule) (last : Optio
 
 pub told_ok : (new : View) (g : List Event) (rules : List Rule) (last : Option ℕ) → TellsBus new g rules (Ok last) → IsPut new g rules last
 told_ok new g rules last x = record {
-  texts = x.0;
-  refusal = refusal_by true false g rules (have_told g rules x.1 x.2) (none_long g rules x.1 x.2 x.3);
-  fine = x.4;
-  serial = x.5 ∙ ap last_of (told_serials g rules x.1 x.2);
-  left = subst (Left new) (told_events g rules x.1 x.2) x.6;
+  refusal = refusal_by true false g rules (have_told g rules x.0 x.1) (none_long g rules x.0 x.1 x.2);
+  fine = x.3;
+  serial = x.4 ∙ ap last_of (told_serials g rules x.0 x.1);
+  left = subst (Left new) (told_events g rules x.0 x.1) x.5;
 }
 
 may_tell : (g : List Event) (rules : List Rule) → MayTell g rules → tell_refusal g rules ≡ None
 may_tell g rules x = refusal_by true false g rules (have_told g rules x.1.0 x.1.1) (none_long g rules x.1.0 x.1.1 x.1.2)
 
 -- where there are rules, and they can't be told of
-by_refusal : (g : List Event) (rule : Rule) (rules : List Rule) (error : Error) → AreTexts (rule ∷ rules) → tell_refusal g (rule ∷ rules) ≡ Some error → IsTold g (rule ∷ rules) (answers.Untold error)
-by_refusal g rule rules error texts e = inr (texts, rw e refl)
+by_refusal : (g : List Event) (rule : Rule) (rules : List Rule) (error : Error) → tell_refusal g (rule ∷ rules) ≡ Some error → IsTold g (rule ∷ rules) (answers.Untold error)
+by_refusal g rule rules error e = rw e refl
 
 -- it isn't told, for this reason
 pub untold : (new : View) (g : List Event) (rules : List Rule) (error : Error) → TellsBus new g rules (Err error) → IsTold g rules (answers.Untold error) × Left new g
-untold new g [] errors.SerialsSpent x = absurd x.1
-untold new g [] errors.ExcessData x = absurd x.1.2
-untold new g [] (errors.InputOutput kinds.WriteFault) x = let e : false ≡ true = x.1.0 in absurd (cc)
-untold new g [] (errors.InputOutput kinds.Closed) x = let e : false ≡ true = x.1.0 in absurd (cc)
-untold new g [] (errors.Variant faults.Malformed) x = absurd x.0
+untold new g [] errors.SerialsSpent x = absurd x.0
+untold new g [] errors.ExcessData x = absurd x.0.2
+untold new g [] (errors.InputOutput kinds.WriteFault) x = let e : false ≡ true = x.0.0 in absurd (cc)
+untold new g [] (errors.InputOutput kinds.Closed) x = let e : false ≡ true = x.0.0 in absurd (cc)
 untold new g [] error x = absurd x
 untold new g (rule ∷ rules) errors.SerialsSpent x =
-    (by_refusal g rule rules errors.SerialsSpent x.0 (ap (λ b. if b then (if some_long g (rule ∷ rules) then Some errors.ExcessData else None) else Some errors.SerialsSpent) (have_none g (rule ∷ rules) x.1)), x.2)
+    (by_refusal g rule rules errors.SerialsSpent (ap (λ b. if b then (if some_long g (rule ∷ rules) then Some errors.ExcessData else None) else Some errors.SerialsSpent) (have_none g (rule ∷ rules) x.0)), x.1)
 untold new g (rule ∷ rules) errors.ExcessData x =
-    (by_refusal g rule rules errors.ExcessData x.0 (refusal_by true true g (rule ∷ rules) (have_told g (rule ∷ rules) x.1.0 x.1.1) (one_long g (rule ∷ rules) x.1.0 x.1.1 x.1.2)), x.2)
-untold new g (rule ∷ rules) (errors.InputOutput kinds.WriteFault) x =
-    (inr (x.0, rw (may_tell g (rule ∷ rules) x.1, x.2) refl), x.3)
-untold new g (rule ∷ rules) (errors.InputOutput kinds.Closed) x =
-    (inr (x.0, rw (may_tell g (rule ∷ rules) x.1, x.2) refl), x.3)
-untold new g (rule ∷ rules) (errors.Variant faults.Malformed) x = (inl (x.0, refl), x.1)
+    (by_refusal g rule rules errors.ExcessData (refusal_by true true g (rule ∷ rules) (have_told g (rule ∷ rules) x.0.0 x.0.1) (one_long g (rule ∷ rules) x.0.0 x.0.1 x.0.2)), x.1)
+untold new g (rule ∷ rules) (errors.InputOutput kinds.WriteFault) x = (rw (may_tell g (rule ∷ rules) x.0, x.1) refl, x.2)
+untold new g (rule ∷ rules) (errors.InputOutput kinds.Closed) x = (rw (may_tell g (rule ∷ rules) x.0, x.1) refl, x.2)
 untold new g (rule ∷ rules) error x = absurd x
 
 -- after a failed write it isn't told for that one
 pub untold_failed : (new : View) (g : List Event) (rules : List Rule) → TellsBus new g rules (Err (errors.InputOutput kinds.WriteFault)) → writer g ≡ writers.Failed
-untold_failed new g rules x = x.2
+untold_failed new g rules x = x.1
 
 -- ---- what is answered where it was told
 
 -- all went out
 pub told_all : (new : View) (g : List Event) (rules : List Rule) (last : Option ℕ) → IsPut new g rules last → IsTold g rules (answers.Gone last)
 told_all new g [] last x = ap answers.Gone x.serial
-told_all new g (rule ∷ rules) last x = inr (x.texts, rw (x.refusal, x.fine refl) (inl (ap answers.Gone x.serial)))
+told_all new g (rule ∷ rules) last x = rw (x.refusal, x.fine refl) (inl (ap answers.Gone x.serial))
 
 -- the first didn't
 pub told_none : (new : View) (g : List Event) (rules : List Rule) (last : Option ℕ) → IsPut new g rules last → some_rules rules ≡ true → IsTold g rules write_fault
 told_none new g [] last x some = absurd (cc)
-told_none new g (rule ∷ rules) last x some = inr (x.texts, rw (x.refusal, x.fine refl) (inr (inl refl)))
+told_none new g (rule ∷ rules) last x some = rw (x.refusal, x.fine refl) (inr (inl refl))
 
 -- the second didn't
 pub told_first : (new : View) (g : List Event) (rule other : Rule) (rules : List Rule) (last : Option ℕ) → IsPut new g (rule ∷ other ∷ rules) last → IsTold g (rule ∷ other ∷ rules) first_fault
-told_first new g rule other rules last x = inr (x.texts, rw (x.refusal, x.fine refl) (inr (inr (refl, refl))))
+told_first new g rule other rules last x = rw (x.refusal, x.fine refl) (inr (inr (refl, refl)))
 
 -- by the last serial there are rules to tell of, or none
 pub some_told : (g : List Event) (rules : List Rule) (serial : ℕ) → last_of (removal_serials g rules) ≡ Some serial → some_rules rules ≡ true

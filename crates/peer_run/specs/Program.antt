@@ -1,5 +1,5 @@
 -- What the program prints, and with which status it ends.
-use Rattle.std.specs.Prelude.{ℕ, ◌≡◌, ◌<◌, ◌⊎◌, ◌&&◌, nat_le, Bool, true, false, List, [], ◌∷◌, ◌++◌, length, map, reverse, codes, decimal, Option, Some, None, Result, Ok, Err, IfSome, IsTrue}
+use Rattle.std.specs.Prelude.{ℕ, ◌≡◌, ◌≢◌, ◌<◌, ◌⊎◌, ◌&&◌, nat_le, Bool, true, false, List, [], ◌∷◌, ◌++◌, length, map, take, reverse, codes, decimal, Option, Some, None, Result, Ok, Err, IfSome, IsTrue}
 use Rattle.std.specs.List.{AllByRecursion}
 use Rattle.std.specs.Io.KnownBytes.{Appends}
 use Rattle.wire_message.specs.declared.error.Error.{Error}
@@ -8,18 +8,19 @@ use Rattle.rule_match.specs.Bytes.{rule_in_bytes}
 use Rattle.peer_route.specs.declared.words.Words.TheVariants as words
 use Rattle.peer_route.specs.declared.answer.Answer.TheVariants as answers
 use Rattle.peer_route.specs.declared.answer.Entry.{Entry}
-use Rattle.peer_route.specs.History.{put, is_failed}
+use Rattle.peer_route.specs.History.{put, written, is_failed}
 use Rattle.peer_route.specs.Parcel.{Setting}
 use Rattle.peer_route.specs.Trail.{trail}
 use Rattle.peer_route.specs.Answers.{Legal}
-use Rattle.peer_route.specs.Told.{ReadsTold, ClosesTold, IsSentOf, WritesTold}
+use Rattle.peer_route.specs.Told.{ReadsTold, ClosesTold, IsSentOf, WritesTold, IsCutAt}
 use Rattle.peer_route.specs.Laws.{IsPoll, IsFinal, IsReplyAt, IsFirstReply, IsCutOff, IsUnknown}
 use Rattle.peer_route.specs.StreamLaws.{Yields, YieldsAsked, holds, rule_at, closes_stream, says_closed, says_denied, IsNoStream, IsTake, IsEnded, IsLast, HoldsTooMany, IsPutOf, all_sent}
 use Rattle.peer_script.specs.Word.{same}
-use Rattle.peer_script.specs.Script.{Given, Gave, Broke, Script, is_bus, name_of, line_count}
+use Rattle.peer_script.specs.Script.{Given, Gave, Broke, Script, ScriptText, is_bus, name_of, line_count}
 use Rattle.peer_script.specs.Reading.{IsWithin, script_of}
 use Rattle.peer_script.specs.Transcript.{transcript_text}
 use Rattle.wire_framing.specs.Source.{MayRise}
+use Rattle.wire_framing.specs.Send.{Part}
 use Rattle.peer_run.specs.Runs.{command_of}
 
 -- the words of the program's table that are built: none, or `run`
@@ -39,6 +40,9 @@ input_fault = codes "input fault" ++ 10 ∷ []
 
 abbrev pub limit_text : List ℕ
 limit_text = codes "script: limit" ++ 10 ∷ []
+
+abbrev pub memory_text : List ℕ
+memory_text = codes "memory" ++ 10 ∷ []
 
 abbrev pub line_text : ℕ → List ℕ
 line_text n = codes "script: line " ++ decimal n ++ 10 ∷ []
@@ -128,36 +132,47 @@ pub record StreamsAre (s : Script) (h : List Entry) (sent : List ℕ) : Type 0 w
   pub denied : StreamsDenied h
   pub waits : FullStreamsWait (setting_of s) h
 
--- The bytes sent are the encodings of the messages that were put, in order, up to the sink's fault, perhaps with a proper
--- prefix of one more; where the sink has room for so many bytes, exactly the first message that ends past them fails; no
--- closing of the peer fails; and what was put is what the answers say was sent.
+-- What was sent. Where no write failed, all that was put was written, and the bytes sent are its encodings, in order. Where one
+-- failed, it is that of the first message that wasn't written: the bytes sent are the encodings of those before it, and of it a proper
+-- prefix. Where the sink has room for so many bytes, at each entry just those messages were written that end within them, and after a
+-- failed write the bytes sent are just so many; no closing of the peer fails; and what the answers say was sent is what was written.
 pub record SentIs (s : Script) (h : List Entry) (sent : List ℕ) : Type 0 where
   pub bytes : IsSentOf (trail (setting_of s) h).events sent
-  pub room : WritesTold (Some s.outfault) (is_failed (trail (setting_of s) h).events) (put (trail (setting_of s) h).events) sent
+  pub room : WritesTold (setting_of s) (Some s.outfault) h
+  pub cut : IsCutAt (Some s.outfault) (is_failed (trail (setting_of s) h).events) sent
   pub closes : ClosesTold (Some s.outfault) h
-  pub put_is : IsPutOf (is_failed (trail (setting_of s) h).events) (put (trail (setting_of s) h).events) (all_sent (setting_of s) h)
+  pub put_is : IsPutOf (is_failed (trail (setting_of s) h).events) (written (trail (setting_of s) h).events) (put (trail (setting_of s) h).events) (all_sent (setting_of s) h)
 
 -- ---- what is printed
 
--- The input is a script text within the limits, and what the output gained is the transcript of a history of it: the
--- answers are those of the entries before them, the commands are the script's, each once and in order; and of the history,
--- newest first, and the bytes sent this holds.
-pub record Prints (Such : Script → List Entry → List ℕ → Type 0) (input : List ℕ) (before after : Option (List ℕ)) : Type 0 where
+-- The text is the transcript of a history of the input, which is a script text within the limits: the answers are those of
+-- the entries before them, the commands are the script's, each once and in order; and of the history, newest first, and the
+-- bytes sent this holds.
+pub record IsTranscript (Such : Script → List Entry → List ℕ → Type 0) (input text : List ℕ) : Type 0 where
   pub script : Script
   pub within : IsWithin input
-  pub read : script_of input ≡ Ok script
+  pub read : ScriptText input script
   pub entries : List Entry
   pub sent : List ℕ
   pub legal : Legal (setting_of script) (reverse entries)
   pub each : map command_of entries ≡ script.commands
   pub such : Such script (reverse entries) sent
-  pub gained : Appends before after (transcript_text script.kind script.queue script.fds script.outfault script.given entries sent)
+  pub is : text ≡ transcript_text script.kind script.queue script.fds script.outfault script.given entries sent
 
--- The input passes a limit, or is no script text; what the output gained says so, with the first line outside.
-abbrev pub Refuses : List ℕ → Option (List ℕ) → Option (List ℕ) → Type 0
-Refuses input before after =
-    (((1073741824 < length input) ⊎ (1000000 < line_count input)) × Appends before after limit_text)
-    ⊎ (IsWithin input × (n : ℕ) × (script_of input ≡ Err n) × Appends before after (line_text n))
+-- the output gained such a text, and nothing else
+abbrev pub Prints : (Script → List Entry → List ℕ → Type 0) → List ℕ → Option (List ℕ) → Option (List ℕ) → Type 0
+Prints Such input before after = (text : List ℕ) × IsTranscript Such input text × Appends before after text
+
+-- The text says that the input passes a limit; or that it is no script text, with the first line outside, and then the input
+-- isn't told to fail behind its bytes.
+abbrev pub IsRefusal : Option Bool → List ℕ → List ℕ → Type 0
+IsRefusal stop input text =
+    (((1073741824 < length input) ⊎ (1000000 < line_count input)) × (text ≡ limit_text))
+    ⊎ ((stop ≢ Some true) × IsWithin input × (n : ℕ) × (script_of input ≡ Err n) × (text ≡ line_text n))
+
+-- the output gained such a text, and nothing else
+abbrev pub Refuses : Option Bool → List ℕ → Option (List ℕ) → Option (List ℕ) → Type 0
+Refuses stop input before after = (text : List ℕ) × IsRefusal stop input text × Appends before after text
 
 abbrev pub within : List ℕ → Bool
 within bytes = nat_le (length bytes) 1073741824 && nat_le (line_count bytes) 1000000
@@ -172,28 +187,6 @@ status_of false read = 3
 abbrev pub IsDecided : List ℕ → ℕ → Type 0
 IsDecided bytes status = (status ≡ status_of (within bytes) (script_of bytes)) ⊎ (status ≡ 1)
 
--- A text was printed under a status; or the output failed, or there was no memory, and the count of faults says which.
-pub data Says (status : ℕ) (text : List ℕ) (before after : Option (List ℕ)) (faults faults' : ℕ) (result : ℕ) : Type 0 where
-  Said : result ≡ status → Appends before after text → faults' ≡ faults → Says status text before after faults faults' result
-  SaidPart : result ≡ 5 → MayRise faults faults' → Says status text before after faults faults' result
-  SaidNot : result ≡ 1 → faults' ≡ faults → Says status text before after faults faults' result
-
--- the entries, oldest first, are a run of the script whose sink holds these bytes
-pub record IsRunOf (s : Script) (entries : List Entry) (sent : List ℕ) : Type 0 where
-  pub legal : Legal (setting_of s) (reverse entries)
-  pub each : map command_of entries ≡ s.commands
-  pub reads : ReadsAre s (reverse entries) sent
-  pub bytes : IsSentOf (trail (setting_of s) (reverse entries)).events sent
-  pub room : WritesTold (Some s.outfault) (is_failed (trail (setting_of s) (reverse entries)).events) (put (trail (setting_of s) (reverse entries)).events) sent
-  pub closes : ClosesTold (Some s.outfault) (reverse entries)
-
--- A script's commands were run, and its transcript was printed; or not, as above.
-pub data Shows (s : Script) (before after : Option (List ℕ)) (faults faults' : ℕ) (result : ℕ) : Type 0 where
-  Shown : (entries : List Entry) (sent : List ℕ) → IsRunOf s entries sent → result ≡ 0
-      → Appends before after (transcript_text s.kind s.queue s.fds s.outfault s.given entries sent) → faults' ≡ faults → Shows s before after faults faults' result
-  ShownPart : result ≡ 5 → MayRise faults faults' → Shows s before after faults faults' result
-  ShownNot : result ≡ 1 → faults' ≡ faults → Shows s before after faults faults' result
-
 -- all that is said of a run's history
 pub record IsWhole (s : Script) (h : List Entry) (sent : List ℕ) : Type 0 where
   pub reads : ReadsAre s h sent
@@ -201,13 +194,76 @@ pub record IsWhole (s : Script) (h : List Entry) (sent : List ℕ) : Type 0 wher
   pub streams : StreamsAre s h sent
   pub sends : SentIs s h sent
 
+-- What `run` prints of an input that tells this, memory and the output's faults aside: the transcript, or why there is none.
+pub data OfInput (input : Option (List ℕ)) (stop : Option Bool) (faults faults' : ℕ) (text : List ℕ) : Type 0 where
+  Transcript : stop ≢ Some true → IfSome input (λ bytes. IsTranscript IsWhole bytes text) → OfInput input stop faults faults' text
+  Refusal : IfSome input (λ bytes. IsRefusal stop bytes text) → OfInput input stop faults faults' text
+  InputFault : MayRise faults faults' → text ≡ input_fault → OfInput input stop faults faults' text
+
+-- What the program prints, memory and the output's faults aside: that, or the usage where the words are none of its own.
+abbrev pub Printed : List (List ℕ) → Option (List ℕ) → Option Bool → ℕ → ℕ → List ℕ → Type 0
+Printed words input stop faults faults' text = (IsRun words × OfInput input stop faults faults' text) ⊎ ((¬ IsRun words) × (text ≡ usage))
+
+-- ---- where there is no memory, or the output fails
+
+-- a front of such a text, perhaps nothing of it
+abbrev pub IsFront : (List ℕ → Type 0) → List ℕ → Type 0
+IsFront Is front = (front ≡ []) ⊎ ((text : List ℕ) × Is text × (n : ℕ) × (front ≡ take n text))
+
+-- There was no memory: the output gained a front of what would have been printed, and behind it a front of the line that says so.
+abbrev pub RunsOut : (List ℕ → Type 0) → Option (List ℕ) → Option (List ℕ) → Type 0
+RunsOut Is before after = (front : List ℕ) × IsFront Is front × (n : ℕ) × Appends before after (front ++ take n memory_text)
+
+-- The output failed: it gained a proper part of what would have been printed; or, where there was no memory for the whole, a front of
+-- it and behind that a proper part of the line that says so.
+abbrev pub IsCutShort : (List ℕ → Type 0) → Option (List ℕ) → Option (List ℕ) → Type 0
+IsCutShort Is before after =
+    ((text : List ℕ) × Is text × (n : ℕ) × Part text before after n)
+    ⊎ ((front : List ℕ) × IsFront Is front × (n : ℕ) × (n < length memory_text) × Appends before after (front ++ take n memory_text))
+
+-- One of the two, and the status and the count of faults say which.
+abbrev pub Stops : (List ℕ → Type 0) → Option (List ℕ) → Option (List ℕ) → ℕ → ℕ → ℕ → Type 0
+Stops Is before after faults faults' result =
+    ((result ≡ 5) × MayRise faults faults' × IsCutShort Is before after) ⊎ ((result ≡ 1) × (faults' ≡ faults) × RunsOut Is before after)
+
+-- ---- on the way
+
+-- A text was printed under a status; or a proper part of it, where the output failed or there was no memory, and the count of faults
+-- says which.
+pub data Says (status : ℕ) (text : List ℕ) (before after : Option (List ℕ)) (faults faults' : ℕ) (result : ℕ) : Type 0 where
+  Said : result ≡ status → Appends before after text → faults' ≡ faults → Says status text before after faults faults' result
+  SaidPart : result ≡ 5 → MayRise faults faults' → (n : ℕ) → Part text before after n → Says status text before after faults faults' result
+  SaidNot : result ≡ 1 → faults' ≡ faults → (n : ℕ) → Part text before after n → Says status text before after faults faults' result
+
+-- the entries, oldest first, are a run of the script whose sink holds these bytes
+pub record IsRunOf (s : Script) (entries : List Entry) (sent : List ℕ) : Type 0 where
+  pub legal : Legal (setting_of s) (reverse entries)
+  pub each : map command_of entries ≡ s.commands
+  pub reads : ReadsAre s (reverse entries) sent
+  pub bytes : IsSentOf (trail (setting_of s) (reverse entries)).events sent
+  pub room : WritesTold (setting_of s) (Some s.outfault) (reverse entries)
+  pub cut : IsCutAt (Some s.outfault) (is_failed (trail (setting_of s) (reverse entries)).events) sent
+  pub closes : ClosesTold (Some s.outfault) (reverse entries)
+
+-- the transcript of such a run
+pub record IsRunText (s : Script) (text : List ℕ) : Type 0 where
+  pub entries : List Entry
+  pub sent : List ℕ
+  pub run : IsRunOf s entries sent
+  pub is : text ≡ transcript_text s.kind s.queue s.fds s.outfault s.given entries sent
+
+-- A text of these was printed, under status 0; or that stopped.
+pub data Shows (Is : List ℕ → Type 0) (before after : Option (List ℕ)) (faults faults' : ℕ) (result : ℕ) : Type 0 where
+  Shown : result ≡ 0 → (text : List ℕ) → Is text → Appends before after text → faults' ≡ faults → Shows Is before after faults faults' result
+  ShownPart : Stops Is before after faults faults' result → Shows Is before after faults faults' result
+
 -- How a run of the program ends, by what the input told and the output gained.
-pub data Ends (input : Option (List ℕ)) (before after : Option (List ℕ)) (in_faults in_faults' faults faults' : ℕ) (result : ℕ) : Type 0 where
-  Done : result ≡ 0 → IfSome input (λ bytes. Prints IsWhole bytes before after) → faults' ≡ faults
-      → Ends input before after in_faults in_faults' faults faults' result
-  NoScript : result ≡ 3 → IfSome input (λ bytes. Refuses bytes before after) → faults' ≡ faults
-      → Ends input before after in_faults in_faults' faults faults' result
+pub data Ends (input : Option (List ℕ)) (stop : Option Bool) (before after : Option (List ℕ)) (in_faults in_faults' faults faults' : ℕ) (result : ℕ) : Type 0 where
+  Done : result ≡ 0 → stop ≢ Some true → IfSome input (λ bytes. Prints IsWhole bytes before after) → faults' ≡ faults
+      → Ends input stop before after in_faults in_faults' faults faults' result
+  NoScript : result ≡ 3 → IfSome input (λ bytes. Refuses stop bytes before after) → faults' ≡ faults
+      → Ends input stop before after in_faults in_faults' faults faults' result
   InputFailed : result ≡ 4 → MayRise in_faults in_faults' → Appends before after input_fault → faults' ≡ faults
-      → Ends input before after in_faults in_faults' faults faults' result
-  OutputFailed : result ≡ 5 → MayRise faults faults' → Ends input before after in_faults in_faults' faults faults' result
-  NoMemory : result ≡ 1 → faults' ≡ faults → Ends input before after in_faults in_faults' faults faults' result
+      → Ends input stop before after in_faults in_faults' faults faults' result
+  Stopped : Stops (OfInput input stop in_faults in_faults') before after faults faults' result
+      → Ends input stop before after in_faults in_faults' faults faults' result

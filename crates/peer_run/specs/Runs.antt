@@ -1,14 +1,13 @@
 -- What a run gives: a legal history of its commands, whose reads and writes are what the outside told.
 use Rattle.std.specs.Prelude.{◌≡◌, List, map, reverse, IfSome}
-use Rattle.wire_framing.specs.Source.{MayRise}
 use Rattle.wire_framing.specs.declared.write_half.Writing.{Writing}
 use Rattle.peer_route.specs.declared.words.Command.{Command}
 use Rattle.peer_route.specs.declared.answer.Entry.{Entry}
 use Rattle.peer_route.specs.Parcel.{Setting}
 use Rattle.peer_route.specs.Trail.{trail}
 use Rattle.peer_route.specs.Answers.{Legal}
-use Rattle.peer_route.specs.Told.{ReadsTold, ClosesTold}
-use Rattle.peer_run.specs.Stands.{Inlet, Outlet, PeerView, Follows, Reads, Writes, HasReadFault, HasWriteFault, HoldsThen, IsFine}
+use Rattle.peer_route.specs.Told.{ReadsTold, ClosesTold, WritesTold}
+use Rattle.peer_run.specs.Stands.{Inlet, Outlet, PeerView, Follows, Reads, Writes, IsLeft, SourceFaults, SinkFaults, HoldsThen, IsFine, asked_by}
 
 -- the command of an entry
 abbrev pub command_of : Entry → Command
@@ -19,6 +18,8 @@ pub record Stands (setting : Setting) (start_in : Inlet) (start_out : Outlet) (p
   pub follows : Follows setting p es
   pub reads : Reads setting start_in now_in es
   pub writes : Writes setting start_out now_out es
+  pub source : SourceFaults setting start_in.faults es now_in.faults
+  pub asked : now_out.closes ≡ asked_by start_out.closes es
   pub fine : IsFine (trail setting es).events writing
 
 -- The entries, oldest first, are a run of these commands by a peer of this setting over a source and a sink that told this before it and after it.
@@ -29,10 +30,16 @@ pub record Runs (setting : Setting) (start_in : Inlet) (start_out : Outlet) (end
   pub each : map command_of entries ≡ commands
   -- the reads are what stands in the source's bytes
   pub reads : IfSome start_in.left (λ bytes. ReadsTold setting start_in.stop bytes (reverse entries))
+  -- what is left in the source is what they didn't take
+  pub rest : IfSome start_in.left (λ bytes. IsLeft bytes start_in.stop (trail setting (reverse entries)).events end_in.left end_in.stop)
   -- the sink holds the encodings of what was put, up to its first fault
   pub writes : IfSome start_out.held (λ before. HoldsThen start_out.room before end_out.held (trail setting (reverse entries)).events)
-  -- where the sink tells its room, no closing fails
+  -- where the sink tells its room, at each entry just those messages were written that end within it, and the next one's write failed
+  pub room : WritesTold setting start_out.room (reverse entries)
+  -- where it does, no closing fails
   pub closes : ClosesTold start_out.room (reverse entries)
-  -- a fault is answered only where its count rose
-  pub read_fault : HasReadFault (reverse entries) → MayRise start_in.faults end_in.faults
-  pub write_fault : HasWriteFault (reverse entries) → MayRise start_out.faults end_out.faults
+  -- the sink was asked to close once for each `close`, whatever its answer
+  pub asked : end_out.closes ≡ asked_by start_out.closes (reverse entries)
+  -- a fault is answered only where its count rose: in that read; in that send, or an earlier one; in that closing
+  pub source : SourceFaults setting start_in.faults (reverse entries) end_in.faults
+  pub sink : SinkFaults start_out.faults (reverse entries) end_out.faults

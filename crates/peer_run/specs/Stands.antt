@@ -1,13 +1,14 @@
 -- How a peer, a source and a sink stand to a history, newest first: what a run keeps from command to command.
-use Rattle.std.specs.Prelude.{ℕ, ⊤, ◌≡◌, ◌-◌, ◌^◌, ◌≤◌, ◌⊎◌, Bool, true, false, List, [], ◌∷◌, ◌++◌, length, slice_set, Option, Some, None, is_some, IsSome, IfSome, Result, Ok, Err}
+use Rattle.std.specs.Prelude.{ℕ, ⊤, ◌≡◌, ◌-◌, ◌^◌, ◌≤◌, ◌&&◌, ◌||◌, not, nat_le, if◌then◌else◌, Bool, true, false, List, [], ◌∷◌, ◌++◌, length, drop, slice_set, Option, Some, None, is_some, IsSome, IfSome, Result, Ok, Err}
 use Rattle.wire_message.specs.Front.{Seen}
 use Rattle.wire_message.specs.declared.error.Error.{Error}
 use Rattle.wire_message.specs.declared.error.Error.TheVariants as errors
 use Rattle.wire_message.specs.declared.error.IoKind.TheVariants as kinds
 use Rattle.wire_framing.specs.Source.{MayRise}
 use Rattle.std.specs.Io.KnownBytes.{Appends}
-use Rattle.wire_framing.specs.Sink.{RoomFalls, RoomBreaks}
+use Rattle.wire_framing.specs.Sink.{RoomFalls, RoomBreaks, asked_again}
 use Rattle.wire_framing.specs.Send.{Part}
+use Rattle.wire_framing.specs.Receive.{spent}
 use Rattle.wire_framing.specs.declared.write_half.Writing.{Writing}
 use Rattle.wire_framing.specs.declared.write_half.Writing.TheVariants.{Fine, Failed}
 use Rattle.peer_route.specs.declared.polled.Polled.{Polled}
@@ -26,7 +27,7 @@ use Rattle.peer_route.specs.Trail.{Names, trail, count}
 use Rattle.peer_route.specs.declared.route.Issued.{Issued}
 use Rattle.peer_route.specs.Answers.{Legal, sent_answer, write_fault}
 use Rattle.peer_route.specs.Left.{View, Left}
-use Rattle.peer_route.specs.Told.{ReadsTold, ClosesTold, IsSentOf, WritesTold, encodings, left_after}
+use Rattle.peer_route.specs.Told.{ReadsTold, ClosesTold, IsSentOf, WritesTold, IsCutAt, encodings, left_after}
 
 -- what a source tells of itself
 pub record Inlet : Type 0 where
@@ -39,6 +40,7 @@ pub record Outlet : Type 0 where
   pub held : Option (List ℕ)
   pub room : Option (Option ℕ)
   pub faults : ℕ
+  pub closes : Option ℕ
 
 -- an entry as a record
 abbrev pub entry : ℕ → Words → Answer → Entry
@@ -63,28 +65,56 @@ pub record Follows (setting : Setting) (p : PeerView) (es : List Entry) : Type 0
 
 -- ---- the source
 
--- a read that the source's failing call ended
-abbrev pub IsReadFault : Answer → Type 0
-IsReadFault answer = answer ≡ answers.Closed (errors.InputOutput kinds.Fault)
+-- how many of the bytes that are left a read takes that finds no message in them: none, where no position is left for one
+abbrev pub lost : ℕ → List ℕ → ℕ
+lost count bytes = if nat_le (2 ^ 64 - 2) count then 0 else spent bytes
 
--- some entry is such a read, or gives its error again
-abbrev pub HasReadFault : List Entry → Type 0
-HasReadFault [] = ⊥
-HasReadFault (e ∷ es) = IsReadFault e.answer ⊎ HasReadFault es
+-- What is left in the source, by what closed the peer; `rest` are the bytes that the messages left which were read, `count` of them. It
+-- is these where nothing closed the peer, or a command did; where a read found no message, those behind the bytes that it took. After a
+-- fault nothing is told.
+abbrev pub IsRest : Option Error → ℕ → List ℕ → Option Bool → Option (List ℕ) → Option Bool → Type 0
+IsRest None count rest before left stop = (left ≡ Some rest) × (stop ≡ before)
+IsRest (Some (errors.InputOutput kinds.Closed)) count rest before left stop = (left ≡ Some rest) × (stop ≡ before)
+IsRest (Some (errors.InputOutput kinds.Fault)) count rest before left stop = ⊤
+IsRest (Some error) count rest before left stop = (left ≡ Some (drop (lost count rest) rest)) × (stop ≡ before)
 
--- an open peer's source has the bytes that the reads left
-abbrev pub IsRest : Option Error → List ℕ → Option Bool → Option (List ℕ) → Option Bool → Type 0
-IsRest (Some error) rest before left stop = ⊤
-IsRest None rest before left stop = (left ≡ Some rest) × (stop ≡ before)
+-- what the history leaves in a source that had these bytes
+abbrev pub IsLeft : List ℕ → Option Bool → List Event → Option (List ℕ) → Option Bool → Type 0
+IsLeft bytes before h left stop = IsRest (events.closing h) (length (events.read h)) (left_after bytes h) before left stop
 
 -- What the source told at the start, and tells now, is what the history's reads say.
 pub record Reads (setting : Setting) (start now : Inlet) (es : List Entry) : Type 0 where
   pub told : IfSome start.left (λ bytes. ReadsTold setting start.stop bytes es)
-  pub rest : IfSome start.left (λ bytes. IsRest (events.closing (trail setting es).events) (left_after bytes (trail setting es).events) start.stop now.left now.stop)
-  pub cause : HasReadFault es → MayRise start.faults now.faults
-  pub kept : start.faults ≤ now.faults
+  pub rest : IfSome start.left (λ bytes. IsLeft bytes start.stop (trail setting es).events now.left now.stop)
+
+-- what a read of an open peer did to the source's count of faults, by its answer: it rose where that is a fault; a busy peer leaves it
+abbrev pub ReadMoves : Answer → ℕ → ℕ → Type 0
+ReadMoves (answers.Closed (errors.InputOutput kinds.Fault)) before now = MayRise before now
+ReadMoves answers.Busy before now = now ≡ before
+ReadMoves answer before now = before ≤ now
+
+-- what an entry did to it, by what had closed the peer: nothing, but where it is a read of an open one
+abbrev pub SourceMoves : Words → Option Error → Answer → ℕ → ℕ → Type 0
+SourceMoves words.Read None answer before now = ReadMoves answer before now
+SourceMoves w closed answer before now = now ≡ before
+
+-- The source's count of faults, entry by entry, newest first.
+abbrev pub SourceFaults : Setting → ℕ → List Entry → ℕ → Type 0
+SourceFaults setting start [] now = now ≡ start
+SourceFaults setting start (e ∷ es) now =
+    (before : ℕ) × SourceFaults setting start es before × SourceMoves e.words (events.closing (trail setting es).events) e.answer before now
 
 -- ---- the sink
+
+-- the command closes the peer
+abbrev pub is_close : Words → Bool
+is_close words.Close = true
+is_close w = false
+
+-- how often a sink was asked to close, where it tells that, after these entries, newest first: each `close` asks it once more
+abbrev pub asked_by : Option ℕ → List Entry → Option ℕ
+asked_by asked [] = asked
+asked_by asked (e ∷ es) = if is_close e.words then asked_again (asked_by asked es) else asked_by asked es
 
 -- why something wasn't sent
 abbrev pub send_error : Answer → Option Error
@@ -93,20 +123,41 @@ send_error (answers.SentFirst error) = Some error
 send_error (answers.Untold error) = Some error
 send_error answer = None
 
--- a send, or a closing, that the sink's failing call ended, or an earlier one
-abbrev pub IsWriteFault : Answer → Type 0
-IsWriteFault answer = send_error answer ≡ Some (errors.InputOutput kinds.WriteFault)
+-- a write failed, or an earlier one had
+abbrev pub is_broken : Option Error → Bool
+is_broken (Some (errors.InputOutput kinds.WriteFault)) = true
+is_broken error = false
 
-abbrev pub HasWriteFault : List Entry → Type 0
-HasWriteFault [] = ⊥
-HasWriteFault (e ∷ es) = IsWriteFault e.answer ⊎ HasWriteFault es
+-- a failed write was answered: of a send, or of a closing
+abbrev pub is_write_fault : Answer → Bool
+is_write_fault answer = is_broken (send_error answer)
+
+-- some entry other than a `close` was answered so
+abbrev pub has_broken : List Entry → Bool
+has_broken [] = false
+has_broken (e ∷ es) = (is_write_fault e.answer && not (is_close e.words)) || has_broken es
+
+-- The entry is the first other than a `close` that was answered so, or it is a `close` that was.
+abbrev pub breaks : List Entry → Entry → Bool
+breaks es e = is_write_fault e.answer && (is_close e.words || not (has_broken es))
+
+-- a count rose, or stayed
+abbrev pub Moves : Bool → ℕ → ℕ → Type 0
+Moves true before now = MayRise before now
+Moves false before now = now ≡ before
+
+-- The sink's count of faults, entry by entry, newest first: it rose in the first send that was answered by a failed write, and in each
+-- `close` that was; in every other entry it stayed.
+abbrev pub SinkFaults : ℕ → List Entry → ℕ → Type 0
+SinkFaults start [] now = now ≡ start
+SinkFaults start (e ∷ es) now = (before : ℕ) × SinkFaults start es before × Moves (breaks es e) before now
 
 -- what the sink holds behind what it held at the start
 pub record Holds (room : Option (Option ℕ)) (before after : List ℕ) (h : List Event) : Type 0 where
   pub sent : List ℕ
   pub appended : after ≡ before ++ sent
   pub bytes : IsSentOf h sent
-  pub told : WritesTold room (is_failed h) (put h) sent
+  pub cut : IsCutAt room (is_failed h) sent
 
 abbrev pub HoldsThen : Option (Option ℕ) → List ℕ → Option (List ℕ) → List Event → Type 0
 HoldsThen room before None h = ⊥
@@ -120,10 +171,11 @@ RoomFor false room now ms = RoomFalls room now (length (encodings ms))
 pub record Writes (setting : Setting) (start now : Outlet) (es : List Entry) : Type 0 where
   pub holds : IfSome start.held (λ before. HoldsThen start.room before now.held (trail setting es).events)
   pub room : RoomFor (is_failed (trail setting es).events) start.room now.room (put (trail setting es).events)
+  pub told : WritesTold setting start.room es
   pub closes : ClosesTold start.room es
   pub tells : IsSome start.room → IsSome now.room
-  pub cause : HasWriteFault es → MayRise start.faults now.faults
-  pub kept : start.faults ≤ now.faults
+  pub broken : has_broken es ≡ is_failed (trail setting es).events
+  pub faults : SinkFaults start.faults es now.faults
 
 -- the half that writes met nothing, where no write of the history failed and the peer wasn't closed
 abbrev pub IsFine : List Event → Writing → Type 0

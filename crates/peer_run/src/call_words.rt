@@ -5,10 +5,8 @@ ghost use Rattle.wire_names.specs.BusName.{text_of};
 ghost use Rattle.wire_names.specs.declared.error.NamesError.TheVariants as names;
 ghost use Rattle.wire_message.specs.declared.error.Error.TheVariants as errors;
 ghost use Rattle.wire_message.specs.declared.kind.MessageType.TheVariants as types;
-ghost use Rattle.peer_route.specs.Parcel.{Setting};
 ghost use Rattle.peer_route.specs.BodyWord.{ReadsBody};
 ghost use Rattle.peer_route.specs.CallMessage.{flags_number, order_of, fds_of, is_outside, name_refusal, values_in, call_draft, call_asked, signal_draft, signal_asked, reply_asked, error_asked};
-ghost use Rattle.peer_run.specs.Stands.{setting_by};
 ghost use Rattle.peer_run.specs.CallWords.{MakesDraft, MakesParcel, lettered, letters_asked};
 
 use bitflags::Flags as _;
@@ -208,8 +206,8 @@ fn with_body<'a>(
 
 /// The header of a call, before its letters are looked at. Refused exactly where a word is outside its grammar, for the
 /// first such word.
-fn call_builder<'a>(words: &'a Outgoing, takes_fds: bool) -> Result<Builder<'a>>
-    ensures { MakesDraft result (call_draft (setting_by false None None takes_fds) words.now) }
+fn call_builder<'a>(words: &'a Outgoing) -> Result<Builder<'a>>
+    ensures { MakesDraft result (call_draft None words.now) }
 {
     let destination = bus_name(&words.destination)?;
     let path = object_path(&words.path)?;
@@ -221,8 +219,8 @@ fn call_builder<'a>(words: &'a Outgoing, takes_fds: bool) -> Result<Builder<'a>>
 
 /// The header of a signal, before its letters are looked at. Refused exactly where a word is outside its grammar, for the
 /// first such word.
-fn signal_builder<'a>(words: &'a Outgoing, takes_fds: bool) -> Result<Builder<'a>>
-    ensures { MakesDraft result (signal_draft (setting_by false None None takes_fds) words.now) }
+fn signal_builder<'a>(words: &'a Outgoing) -> Result<Builder<'a>>
+    ensures { MakesDraft result (signal_draft None words.now) }
 {
     let destination = bus_name(&words.destination)?;
     let path = object_path(&words.path)?;
@@ -237,9 +235,9 @@ pub(crate) fn call_letter<'a>(
     words: &'a Outgoing,
     takes_fds: bool,
 ) -> Result<Letter<'a>>
-    ensures { MakesParcel result (call_asked (setting_by false None None takes_fds) words.now) }
+    ensures { MakesParcel result (call_asked None takes_fds words.now) }
 {
-    let builder = call_builder(words, takes_fds)?;
+    let builder = call_builder(words)?;
     let body = body_in(alloc, &words.body)?;
     with_body(alloc, builder, body, words.flags, takes_fds)
 }
@@ -250,9 +248,9 @@ pub(crate) fn signal_letter<'a>(
     words: &'a Outgoing,
     takes_fds: bool,
 ) -> Result<Letter<'a>>
-    ensures { MakesParcel result (signal_asked (setting_by false None None takes_fds) words.now) }
+    ensures { MakesParcel result (signal_asked None takes_fds words.now) }
 {
-    let builder = signal_builder(words, takes_fds)?;
+    let builder = signal_builder(words)?;
     let body = body_in(alloc, &words.body)?;
     with_body(alloc, builder, body, words.flags, takes_fds)
 }
@@ -263,7 +261,7 @@ pub(crate) fn reply_letter<'a>(
     message: &'a Message,
     body: &Option<Bytes>,
 ) -> Result<Letter<'a>>
-    ensures { MakesParcel result (reply_asked (setting_by false None None false) (Some message.now) body.now) }
+    ensures { MakesParcel result (reply_asked None (Some message.now) body.now) }
 {
     let body = body_in(alloc, body)?;
     let builder = Message::method_return(&message.header());
@@ -281,7 +279,7 @@ pub(crate) fn error_letter<'a>(
     error: &'a Bytes,
     body: &Option<Bytes>,
 ) -> Result<Letter<'a>>
-    ensures { MakesParcel result (error_asked (setting_by false None None false) (Some message.now) error.now body.now) }
+    ensures { MakesParcel result (error_asked None (Some message.now) error.now body.now) }
 {
     let error = error_name(error)?;
     let body = body_in(alloc, body)?;

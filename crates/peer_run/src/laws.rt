@@ -1,16 +1,22 @@
-ghost use Rattle.std.specs.Prelude.{◌≡◌, ℕ, Bool, false, List, Option, map, Some};
+ghost use Rattle.std.specs.Prelude.{◌≡◌, ℕ, Bool, List, Option, map, Some};
 ghost use Rattle.peer_route.specs.declared.answer.Entry.{Entry};
 ghost use Rattle.peer_route.specs.Parcel.{Setting};
 ghost use Rattle.peer_route.specs.Answers.{Legal};
-ghost use Rattle.peer_route.specs.Told.{ReadsTold};
-ghost use Rattle.peer_run.specs.Stands.{HasWriteFault};
+ghost use Rattle.peer_route.specs.Told.{ReadsTold, WritesTold, ClosesTold};
 ghost use Rattle.peer_run.specs.Runs.{command_of};
+ghost use Rattle.peer_run.specs.Program.{IsTranscript, IsWhole};
 
-/// However a source's bytes are cut, the answers are the same: two legal histories of the same commands, whose reads are
-/// told by the same bytes and the same ending and none of whose writes or closings failed, are one history.
-#[tactic(auto, using(crate::proofs::Cut::same_history))]
-pub fn cut_anyhow()
-    ensures { (setting : Setting) (es fs : List Entry) (stop : Bool) (bytes : List ℕ) → map command_of es ≡ map command_of fs → Legal setting es → Legal setting fs
+/// Where the source's bytes and ending and the sink's room are told, the answers of two legal histories of the same commands are the
+/// same, however the bytes are cut: the outside decides each answer, that of a failed write too.
+#[tactic(auto, using(crate::proofs::Transcripts::same_history))]
+pub fn one_history()
+    ensures { (setting : Setting) (es fs : List Entry) (stop : Bool) (bytes : List ℕ) (room : Option ℕ) → map command_of es ≡ map command_of fs → Legal setting es → Legal setting fs
         → ReadsTold setting (Some stop) bytes es → ReadsTold setting (Some stop) bytes fs
-        → (HasWriteFault es → ⊥) → (HasWriteFault fs → ⊥) → es ≡ fs }
+        → WritesTold setting (Some room) es → WritesTold setting (Some room) fs → ClosesTold (Some room) es → ClosesTold (Some room) fs → es ≡ fs }
+{}
+
+/// Two transcripts of one input are the same: what the program prints of a script is decided by the script.
+#[tactic(auto, using(crate::proofs::OneText::one_text))]
+pub fn one_transcript()
+    ensures { (input text other : List ℕ) → IsTranscript IsWhole input text → IsTranscript IsWhole input other → text ≡ other }
 {}

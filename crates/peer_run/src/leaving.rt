@@ -44,11 +44,12 @@ impl Peer {
         requires there { length self.old.core.outbox ≡ self.old.core.done + 1 }
         requires fine { self.old.core.writer ≡ writers.Fine }
         ensures told { IfOk result (λ answer. AreBare (waiting self.old.core) → half.old.writing ≡ Fine
-            → Tells self.old.core self.new.core (Some serial) (waiting self.old.core) (record { held = W.held half.old.sink; room = W.room half.old.sink; faults = W.faults half.old.sink })
-            (record { held = W.held half.new.sink; room = W.room half.new.sink; faults = W.faults half.new.sink }) half.old.writing half.new.writing answer) }
+            → Tells self.old.core self.new.core (Some serial) (waiting self.old.core) (record { held = W.held half.old.sink; room = W.room half.old.sink; faults = W.faults half.old.sink; closes = W.closes half.old.sink })
+            (record { held = W.held half.new.sink; room = W.room half.new.sink; faults = W.faults half.new.sink; closes = W.closes half.new.sink }) half.old.writing half.new.writing answer) }
         ensures rest { OnOk result (self.new ≡ record self.old { core = self.new.core; names = self.old.names ++ map (λ m. None) (waiting self.old.core) }) }
         ensures grows { W.faults half.old.sink ≤ W.faults half.new.sink }
         ensures takes { W.takes half.new.sink ≡ W.takes half.old.sink }
+        ensures uncounted { W.closes half.new.sink ≡ W.closes half.old.sink }
         ensures same { W.lent half.new.sink ≡ W.lent half.old.sink }
     {
         self.names.push(None)?;
@@ -71,11 +72,12 @@ impl Peer {
         requires there { length self.old.core.outbox ≡ self.old.core.done + 2 }
         requires fine { self.old.core.writer ≡ writers.Fine }
         ensures told { IfOk result (λ answer. AreBare (waiting self.old.core) → half.old.writing ≡ Fine
-            → Tells self.old.core self.new.core (Some serial) (waiting self.old.core) (record { held = W.held half.old.sink; room = W.room half.old.sink; faults = W.faults half.old.sink })
-            (record { held = W.held half.new.sink; room = W.room half.new.sink; faults = W.faults half.new.sink }) half.old.writing half.new.writing answer) }
+            → Tells self.old.core self.new.core (Some serial) (waiting self.old.core) (record { held = W.held half.old.sink; room = W.room half.old.sink; faults = W.faults half.old.sink; closes = W.closes half.old.sink })
+            (record { held = W.held half.new.sink; room = W.room half.new.sink; faults = W.faults half.new.sink; closes = W.closes half.new.sink }) half.old.writing half.new.writing answer) }
         ensures rest { OnOk result (self.new ≡ record self.old { core = self.new.core; names = self.old.names ++ map (λ m. None) (waiting self.old.core) }) }
         ensures grows { W.faults half.old.sink ≤ W.faults half.new.sink }
         ensures takes { W.takes half.new.sink ≡ W.takes half.old.sink }
+        ensures uncounted { W.closes half.new.sink ≡ W.closes half.old.sink }
         ensures same { W.lent half.new.sink ≡ W.lent half.old.sink }
     {
         self.names.push(None)?;
@@ -98,11 +100,12 @@ impl Peer {
     ) -> Result<Answer, RunError>
         requires due { AreDue self.old.core last }
         ensures told { IfOk result (λ answer. AreBare (waiting self.old.core) → (IsSome last → half.old.writing ≡ Fine)
-            → Tells self.old.core self.new.core last (waiting self.old.core) (record { held = W.held half.old.sink; room = W.room half.old.sink; faults = W.faults half.old.sink })
-            (record { held = W.held half.new.sink; room = W.room half.new.sink; faults = W.faults half.new.sink }) half.old.writing half.new.writing answer) }
+            → Tells self.old.core self.new.core last (waiting self.old.core) (record { held = W.held half.old.sink; room = W.room half.old.sink; faults = W.faults half.old.sink; closes = W.closes half.old.sink })
+            (record { held = W.held half.new.sink; room = W.room half.new.sink; faults = W.faults half.new.sink; closes = W.closes half.new.sink }) half.old.writing half.new.writing answer) }
         ensures rest { OnOk result (self.new ≡ record self.old { core = self.new.core; names = told_names self.old.core last self.old.names }) }
         ensures grows { W.faults half.old.sink ≤ W.faults half.new.sink }
         ensures takes { W.takes half.new.sink ≡ W.takes half.old.sink }
+        ensures uncounted { W.closes half.new.sink ≡ W.closes half.old.sink }
         ensures same { W.lent half.new.sink ≡ W.lent half.old.sink }
     {
         let Some(serial) = last else {
@@ -127,10 +130,11 @@ impl Peer {
     ) -> Result<Answer, RunError>
         requires written { self.old.core.done ≡ length self.old.core.outbox }
         ensures sent { IfOk result (λ answer. (setting : Setting) (es : List Entry) → Follows setting self.old es → IsFine (trail setting es).events half.old.writing
-            → Sending setting self.new es lane (words.Unstream number second) (record { held = W.held half.old.sink; room = W.room half.old.sink; faults = W.faults half.old.sink })
-            (record { held = W.held half.new.sink; room = W.room half.new.sink; faults = W.faults half.new.sink }) half.new.writing answer) }
+            → Sending setting self.new es lane (words.Unstream number second) (record { held = W.held half.old.sink; room = W.room half.old.sink; faults = W.faults half.old.sink; closes = W.closes half.old.sink })
+            (record { held = W.held half.new.sink; room = W.room half.new.sink; faults = W.faults half.new.sink; closes = W.closes half.new.sink }) half.new.writing answer) }
         ensures grows { W.faults half.old.sink ≤ W.faults half.new.sink }
         ensures takes { W.takes half.new.sink ≡ W.takes half.old.sink }
+        ensures uncounted { W.closes half.new.sink ≡ W.closes half.old.sink }
         ensures same { W.lent half.new.sink ≡ W.lent half.old.sink }
     {
         match second {
@@ -148,10 +152,11 @@ impl Peer {
     ) -> Result<Answer, RunError>
         requires written { self.old.core.done ≡ length self.old.core.outbox }
         ensures sent { IfOk result (λ answer. (setting : Setting) (es : List Entry) → Follows setting self.old es → IsFine (trail setting es).events half.old.writing
-            → Sending setting self.new es lane (words.Unstream number None) (record { held = W.held half.old.sink; room = W.room half.old.sink; faults = W.faults half.old.sink })
-            (record { held = W.held half.new.sink; room = W.room half.new.sink; faults = W.faults half.new.sink }) half.new.writing answer) }
+            → Sending setting self.new es lane (words.Unstream number None) (record { held = W.held half.old.sink; room = W.room half.old.sink; faults = W.faults half.old.sink; closes = W.closes half.old.sink })
+            (record { held = W.held half.new.sink; room = W.room half.new.sink; faults = W.faults half.new.sink; closes = W.closes half.new.sink }) half.new.writing answer) }
         ensures grows { W.faults half.old.sink ≤ W.faults half.new.sink }
         ensures takes { W.takes half.new.sink ≡ W.takes half.old.sink }
+        ensures uncounted { W.closes half.new.sink ≡ W.closes half.old.sink }
         ensures same { W.lent half.new.sink ≡ W.lent half.old.sink }
     {
         let Some(stream) = self.streams.place(lane, number) else {
@@ -180,10 +185,11 @@ impl Peer {
     ) -> Result<Answer, RunError>
         requires written { self.old.core.done ≡ length self.old.core.outbox }
         ensures sent { IfOk result (λ answer. (setting : Setting) (es : List Entry) → Follows setting self.old es → IsFine (trail setting es).events half.old.writing
-            → Sending setting self.new es lane (words.Unstream number (Some second)) (record { held = W.held half.old.sink; room = W.room half.old.sink; faults = W.faults half.old.sink })
-            (record { held = W.held half.new.sink; room = W.room half.new.sink; faults = W.faults half.new.sink }) half.new.writing answer) }
+            → Sending setting self.new es lane (words.Unstream number (Some second)) (record { held = W.held half.old.sink; room = W.room half.old.sink; faults = W.faults half.old.sink; closes = W.closes half.old.sink })
+            (record { held = W.held half.new.sink; room = W.room half.new.sink; faults = W.faults half.new.sink; closes = W.closes half.new.sink }) half.new.writing answer) }
         ensures grows { W.faults half.old.sink ≤ W.faults half.new.sink }
         ensures takes { W.takes half.new.sink ≡ W.takes half.old.sink }
+        ensures uncounted { W.closes half.new.sink ≡ W.closes half.old.sink }
         ensures same { W.lent half.new.sink ≡ W.lent half.old.sink }
     {
         let Some(stream) = self.streams.place(lane, number) else {

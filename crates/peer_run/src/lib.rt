@@ -13,7 +13,7 @@ mod showing;
 mod streaming;
 mod writing;
 
-pub use laws::cut_anyhow;
+pub use laws::{one_history, one_transcript};
 pub use main_call::peer_main;
 pub use peer::RunError;
 pub use peer_route::{Answer, CallFlags, Command, Entry, Outgoing, Words};

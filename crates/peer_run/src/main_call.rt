@@ -1,8 +1,8 @@
-ghost use Rattle.std.specs.Prelude.{ℕ, ◌≡◌, ◌≤◌, ◌<◌, ◌⊎◌, List, [], map, string_bytes, IfSome, is_some};
+ghost use Rattle.std.specs.Prelude.{ℕ, ◌≡◌, ◌≢◌, ◌≤◌, ◌<◌, ◌⊎◌, true, List, [], map, string_bytes, Some, IfSome, is_some};
 ghost use Rattle.std.specs.Io.KnownBytes.{Appends};
 ghost use Rattle.wire_framing.specs.Source.{MayRise};
 ghost use Rattle.peer_script.specs.Reading.{script_from};
-ghost use Rattle.peer_run.specs.Program.{IsRun, is_run, IsWhole, usage, input_fault, limit_text, line_text, Prints, ReadsAre, PollsAre, StreamsAre, SentIs, Refuses, IsDecided, Says, Shows, Ends};
+ghost use Rattle.peer_run.specs.Program.{IsRun, is_run, IsWhole, usage, input_fault, memory_text, line_text, Prints, Printed, ReadsAre, PollsAre, StreamsAre, SentIs, Refuses, RunsOut, IsCutShort, IsDecided, Says, IsRunText, Shows, Ends};
 
 use crate::peer::RunError;
 use crate::run::run_peer;
@@ -35,6 +35,13 @@ fn say<O: Sink>(output: &mut O, text: &[u8], status: u8) -> u8
     }
 }
 
+/// Says that there is no memory.
+fn say_memory<O: Sink>(output: &mut O) -> u8
+    ensures { Says 1 memory_text (O.held output.old) (O.held output.new) (O.faults output.old) (O.faults output.new) result }
+{
+    say(output, b"memory\n", MEMORY)
+}
+
 /// The word that the program's words name.
 fn word_of(words: &[String]) -> Option<Word>
     ensures { is_some result ≡ is_run (map (λ word. string_bytes word) words.now) }
@@ -60,7 +67,7 @@ fn sink_of(alloc: Global, outfault: Option<u64>, takes_fds: bool) -> MemorySink
 
 /// Runs the commands over the setup's pieces and its sink, and prints the transcript.
 fn run_commands<O: Sink>(alloc: Global, setup: &Setup, commands: &[Command], output: &mut O) -> u8
-    ensures { Shows (script_from setup.now.kind setup.now.queue setup.now.fds setup.now.outfault setup.now.pieces.items commands.now) (O.held output.old) (O.held output.new) (O.faults output.old) (O.faults output.new) result }
+    ensures { Shows (IsRunText (script_from setup.now.kind setup.now.queue setup.now.fds setup.now.outfault setup.now.pieces.items commands.now)) (O.held output.old) (O.held output.new) (O.faults output.old) (O.faults output.new) result }
 {
     let mut source = MemorySource::new(&setup.pieces);
     let mut sink = sink_of(alloc, setup.outfault, setup.fds);
@@ -68,29 +75,30 @@ fn run_commands<O: Sink>(alloc: Global, setup: &Setup, commands: &[Command], out
         Ok(transcript) => match write_transcript(alloc, setup, &transcript, sink.bytes(), output) {
             Ok(()) => DONE,
             Err(Refusal::Failed) => OUTPUT,
-            Err(Refusal::Memory) => say(output, b"memory\n", MEMORY),
+            Err(Refusal::Memory) => say_memory(output),
         },
-        Err(RunError::Memory) => say(output, b"memory\n", MEMORY),
+        Err(RunError::Memory) => say_memory(output),
     }
 }
 
 /// Says which line is the first outside.
 fn say_line<O: Sink>(alloc: Global, output: &mut O, line: u64) -> u8
-    ensures { Says 3 (line_text line) (O.held output.old) (O.held output.new) (O.faults output.old) (O.faults output.new) result }
+    ensures { Says 3 (line_text line) (O.held output.old) (O.held output.new) (O.faults output.old) (O.faults output.new) result
+        ⊎ Says 1 memory_text (O.held output.old) (O.held output.new) (O.faults output.old) (O.faults output.new) result }
 {
     match format!(in alloc; "script: line {line}\n") {
         Ok(text) => say(output, text.as_bytes(), SCRIPT),
-        Err(_) => say(output, b"memory\n", MEMORY),
+        Err(_) => say_memory(output),
     }
 }
 
 /// Reads a script to its end and runs it.
 fn run_script<I: Source, O: Sink>(alloc: Global, input: &mut I, output: &mut O) -> u8
-    ensures { Ends (I.left input.old) (O.held output.old) (O.held output.new) (I.faults input.old) (I.faults input.new) (O.faults output.old) (O.faults output.new) result }
+    ensures { Ends (I.left input.old) (I.stop input.old) (O.held output.old) (O.held output.new) (I.faults input.old) (I.faults input.new) (O.faults output.old) (O.faults output.new) result }
 {
     match read_script(alloc, Word::Run, input) {
         Ok((setup, commands)) => run_commands(alloc, &setup, commands.as_slice(), output),
-        Err(ScriptError::Memory) => say(output, b"memory\n", MEMORY),
+        Err(ScriptError::Memory) => say_memory(output),
         Err(ScriptError::InputFault) => say(output, b"input fault\n", INPUT),
         Err(ScriptError::Limit) => say(output, b"script: limit\n", SCRIPT),
         Err(ScriptError::Line(line)) => say_line(alloc, output, line),
@@ -108,7 +116,9 @@ pub fn peer_main<R, I: Source, O: Sink>(
     input: &mut I,
     output: &mut O,
 ) -> u8
-    // 0: the transcript of a legal history of the script, and nothing else, was printed, and of that history hold:
+    // 0: the input isn't told to fail behind its bytes; the transcript of a legal history of the script, and nothing else, was printed;
+    // and of that history hold:
+    ensures told { result ≡ 0 → I.stop input.old ≢ Some true }
     // reads take the messages that stand in the source's bytes, in order, however these are cut
     ensures reads { result ≡ 0 → IsRun (map (λ word. string_bytes word) words.now)
         × IfSome (I.left input.old) (λ bytes. Prints ReadsAre bytes (O.held output.old) (O.held output.new)) }
@@ -125,13 +135,18 @@ pub fn peer_main<R, I: Source, O: Sink>(
     // 2: exactly where the words are no row of the program's table, memory and the output's faults aside
     ensures usage { result ≡ 2 → (¬ IsRun (map (λ word. string_bytes word) words.now)) × Appends (O.held output.old) (O.held output.new) usage }
     ensures no_row { ¬ IsRun (map (λ word. string_bytes word) words.now) → (result ≡ 2) ⊎ (result ≡ 1) ⊎ (result ≡ 5) }
-    // 3: exactly where the input passes a limit or is no script text, and the printed line says where
+    // 3: exactly where the input passes a limit or is no script text, and the printed line says where; with a line only where the input
+    // isn't told to fail behind its bytes
     ensures refused { result ≡ 3 → IsRun (map (λ word. string_bytes word) words.now)
-        × IfSome (I.left input.old) (λ bytes. Refuses bytes (O.held output.old) (O.held output.new)) }
+        × IfSome (I.left input.old) (λ bytes. Refuses (I.stop input.old) bytes (O.held output.old) (O.held output.new)) }
     // 4, 5: only where the count of the input's, the output's faults rose; 5 exactly there, in place of any other
     ensures input_fault { result ≡ 4 → IsRun (map (λ word. string_bytes word) words.now)
         × MayRise (I.faults input.old) (I.faults input.new) × Appends (O.held output.old) (O.held output.new) input_fault }
     ensures output_fault { result ≡ 5 → MayRise (O.faults output.old) (O.faults output.new) }
+    // and then a proper part was printed of what would have been, and nothing else
+    ensures cut_short { result ≡ 5 → IsCutShort (Printed (map (λ word. string_bytes word) words.now) (I.left input.old) (I.stop input.old) (I.faults input.old) (I.faults input.new)) (O.held output.old) (O.held output.new) }
+    // 1: a front of what would have been printed, and behind it a front of the line that says so, and nothing else
+    ensures memory { result ≡ 1 → RunsOut (Printed (map (λ word. string_bytes word) words.now) (I.left input.old) (I.stop input.old) (I.faults input.old) (I.faults input.new)) (O.held output.old) (O.held output.new) }
     ensures output_first { O.faults output.old < O.faults output.new → result ≡ 5 }
     ensures statuses { result ≤ 5 }
     // a script text gives 0, another input 3, where no count rose and there is memory

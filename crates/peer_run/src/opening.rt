@@ -45,10 +45,11 @@ impl Peer {
         requires due { opening.index ≡ self.old.core.done }
         requires fine { self.old.core.writer ≡ writers.Fine }
         ensures asks { IfOk result (λ answer. (m : Seen) → slice_get self.old.core.outbox opening.index ≡ Some m → is_unsupported m.unix_fds (W.takes half.old.sink) ≡ false → half.old.writing ≡ Fine
-            → Asks self.old self.new lane opening.serial m (record { held = W.held half.old.sink; room = W.room half.old.sink; faults = W.faults half.old.sink })
-            (record { held = W.held half.new.sink; room = W.room half.new.sink; faults = W.faults half.new.sink }) half.new.writing answer) }
+            → Asks self.old self.new lane opening.serial m (record { held = W.held half.old.sink; room = W.room half.old.sink; faults = W.faults half.old.sink; closes = W.closes half.old.sink })
+            (record { held = W.held half.new.sink; room = W.room half.new.sink; faults = W.faults half.new.sink; closes = W.closes half.new.sink }) half.new.writing answer) }
         ensures grows { W.faults half.old.sink ≤ W.faults half.new.sink }
         ensures takes { W.takes half.new.sink ≡ W.takes half.old.sink }
+        ensures uncounted { W.closes half.new.sink ≡ W.closes half.old.sink }
         ensures same { W.lent half.new.sink ≡ W.lent half.old.sink }
     {
         self.names.push(None)?;
@@ -73,10 +74,11 @@ impl Peer {
     ) -> Result<Answer, RunError>
         requires written { self.old.core.done ≡ length self.old.core.outbox }
         ensures sent { IfOk result (λ answer. (setting : Setting) (es : List Entry) → Follows setting self.old es → IsFine (trail setting es).events half.old.writing
-            → Sending setting self.new es lane (words.Open max_queued text.now) (record { held = W.held half.old.sink; room = W.room half.old.sink; faults = W.faults half.old.sink })
-            (record { held = W.held half.new.sink; room = W.room half.new.sink; faults = W.faults half.new.sink }) half.new.writing answer) }
+            → Sending setting self.new es lane (words.Open max_queued text.now) (record { held = W.held half.old.sink; room = W.room half.old.sink; faults = W.faults half.old.sink; closes = W.closes half.old.sink })
+            (record { held = W.held half.new.sink; room = W.room half.new.sink; faults = W.faults half.new.sink; closes = W.closes half.new.sink }) half.new.writing answer) }
         ensures grows { W.faults half.old.sink ≤ W.faults half.new.sink }
         ensures takes { W.takes half.new.sink ≡ W.takes half.old.sink }
+        ensures uncounted { W.closes half.new.sink ≡ W.closes half.old.sink }
         ensures same { W.lent half.new.sink ≡ W.lent half.old.sink }
     {
         let rule = match OwnedMatchRule::try_from_bytes(alloc, text.as_slice()) {

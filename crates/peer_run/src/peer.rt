@@ -11,8 +11,9 @@ ghost use Rattle.peer_route.specs.History.{Event};
 ghost use Rattle.peer_route.specs.Left.{Left};
 ghost use Rattle.peer_run.specs.CallWords.{MakesAsked};
 ghost use Rattle.peer_run.specs.OneLetter.{IssuesOne, WaitsOne};
-ghost use Rattle.peer_run.specs.Stands.{PeerView, Inlet, Outlet, Follows, Reads, Writes, Sent, Sending, IsFine, setting_by, sends, given_after, named, entry};
+ghost use Rattle.peer_run.specs.Stands.{PeerView, Inlet, Outlet, Follows, Reads, Writes, Sent, Sending, SourceMoves, IsFine, IsRest, sends, given_after, named, entry};
 ghost use Rattle.wire_framing.specs.Receive.{Receives, Takes};
+ghost use Rattle.wire_framing.specs.Sink.{asked_again};
 ghost use Rattle.wire_framing.specs.Writing.{is_unsupported};
 ghost use Rattle.wire_framing.specs.declared.write_half.Writing.TheVariants.{Fine};
 ghost use Rattle.wire_message.specs.Front.{Seen};
@@ -103,7 +104,7 @@ fn letter_of<'a>(
     words: &'a Words,
 ) -> wire_message::Result<Letter<'a>>
     requires { sends words.now ≡ true }
-    ensures { MakesAsked result (asks_with (setting_by false None None takes_fds) (λ number. kept_at given.now (trails.place 0 lane number streams.now)) words.now) }
+    ensures { MakesAsked result (asks_with None takes_fds (λ number. kept_at given.now (trails.place 0 lane number streams.now)) words.now) }
 {
     match words {
         Words::Call(words) => call_letter(alloc, words, takes_fds),
@@ -165,6 +166,7 @@ fn receive<S: Source>(
     ensures told { IfSome (S.left half.old.source) (λ bytes. Receives (S.stop half.old.source) (seq - 1) bytes result) }
     ensures takes { Takes seq result (S.left half.old.source) (S.left half.new.source) (S.stop half.old.source) (S.stop half.new.source) (S.faults half.old.source) (S.faults half.new.source) }
     ensures last { seq ≡ 2 ^ 64 - 1 → result ≡ Err (Error.InputOutput Ended) }
+    ensures rest { IfErr result (λ e. e ≢ Error.Memory → IfSome (S.left half.old.source) (λ bytes. IsRest (Some e) (seq - 1) bytes (S.stop half.old.source) (S.left half.new.source) (S.stop half.new.source))) }
     ensures took { IfOk result (λ m. kept.new.items ≡ []) }
     ensures ended { IfErr result (λ e. e ≢ Error.Memory → kept.new.items ≡ []) }
     ensures same { S.lent half.new.source ≡ S.lent half.old.source }
@@ -218,6 +220,7 @@ impl Peer {
             → Reads setting start (record { left = S.left half.new.source; stop = S.stop half.new.source; faults = S.faults half.new.source }) (entry lane words.Read answer ∷ es)) }
         ensures writes { IfOk result (λ answer. (setting : Setting) (start now : Outlet) (es : List Entry) (lane : ℕ) → Follows setting self.old es
             → Writes setting start now es → Writes setting start now (entry lane words.Read answer ∷ es)) }
+        ensures moves { IfOk result (λ answer. SourceMoves words.Read self.old.core.calls.closing answer (S.faults half.old.source) (S.faults half.new.source)) }
         ensures grows { S.faults half.old.source ≤ S.faults half.new.source }
         ensures empty { IfOk result (λ answer. kept.new.items ≡ []) }
         ensures same { S.lent half.new.source ≡ S.lent half.old.source }
@@ -321,10 +324,11 @@ impl Peer {
         requires due { issued.index ≡ self.old.core.done }
         requires fine { self.old.core.writer ≡ writers.Fine }
         ensures sent { IfOk result (λ answer. (m : Seen) → slice_get self.old.core.outbox issued.index ≡ Some m → is_unsupported m.unix_fds (W.takes half.old.sink) ≡ false → half.old.writing ≡ Fine
-            → Sent self.old self.new lane issued m (record { held = W.held half.old.sink; room = W.room half.old.sink; faults = W.faults half.old.sink })
-            (record { held = W.held half.new.sink; room = W.room half.new.sink; faults = W.faults half.new.sink }) half.new.writing answer) }
+            → Sent self.old self.new lane issued m (record { held = W.held half.old.sink; room = W.room half.old.sink; faults = W.faults half.old.sink; closes = W.closes half.old.sink })
+            (record { held = W.held half.new.sink; room = W.room half.new.sink; faults = W.faults half.new.sink; closes = W.closes half.new.sink }) half.new.writing answer) }
         ensures grows { W.faults half.old.sink ≤ W.faults half.new.sink }
         ensures takes { W.takes half.new.sink ≡ W.takes half.old.sink }
+        ensures uncounted { W.closes half.new.sink ≡ W.closes half.old.sink }
         ensures same { W.lent half.new.sink ≡ W.lent half.old.sink }
     {
         match self.write(half, issued.index)? {
@@ -347,10 +351,12 @@ impl Peer {
         requires sends { sends words.now ≡ true }
         requires written { self.old.core.done ≡ length self.old.core.outbox }
         ensures sent { IfOk result (λ answer. (setting : Setting) (es : List Entry) → setting.takes_fds ≡ W.takes half.old.sink → Follows setting self.old es → IsFine (trail setting es).events half.old.writing
-            → Sending setting self.new es lane words.now (record { held = W.held half.old.sink; room = W.room half.old.sink; faults = W.faults half.old.sink })
-            (record { held = W.held half.new.sink; room = W.room half.new.sink; faults = W.faults half.new.sink }) half.new.writing answer) }
+            → Sending setting self.new es lane words.now (record { held = W.held half.old.sink; room = W.room half.old.sink; faults = W.faults half.old.sink; closes = W.closes half.old.sink })
+            (record { held = W.held half.new.sink; room = W.room half.new.sink; faults = W.faults half.new.sink; closes = W.closes half.new.sink }) half.new.writing answer) }
         ensures grows { W.faults half.old.sink ≤ W.faults half.new.sink }
         ensures takes { W.takes half.new.sink ≡ W.takes half.old.sink }
+        ensures uncounted { W.closes half.new.sink ≡ W.closes half.old.sink }
+        ensures sends { sends words.now ≡ true }
         ensures same { W.lent half.new.sink ≡ W.lent half.old.sink }
     {
         let takes_fds = half.can_pass_unix_fd();
@@ -374,10 +380,11 @@ impl Peer {
     /// Closes the peer; it is closed also where the sink's `close` fails.
     pub(crate) fn close<W: Sink>(&mut self, half: &mut WriteHalf<W>, lane: u32) -> Answer
         ensures closed { (setting : Setting) (es : List Entry) → Follows setting self.old es
-            → Sending setting self.new es lane words.Close (record { held = W.held half.old.sink; room = W.room half.old.sink; faults = W.faults half.old.sink })
-            (record { held = W.held half.new.sink; room = W.room half.new.sink; faults = W.faults half.new.sink }) half.new.writing result }
+            → Sending setting self.new es lane words.Close (record { held = W.held half.old.sink; room = W.room half.old.sink; faults = W.faults half.old.sink; closes = W.closes half.old.sink })
+            (record { held = W.held half.new.sink; room = W.room half.new.sink; faults = W.faults half.new.sink; closes = W.closes half.new.sink }) half.new.writing result }
         ensures grows { W.faults half.old.sink ≤ W.faults half.new.sink }
         ensures takes { W.takes half.new.sink ≡ W.takes half.old.sink }
+        ensures counted { W.closes half.new.sink ≡ asked_again (W.closes half.old.sink) }
         ensures same { W.lent half.new.sink ≡ W.lent half.old.sink }
     {
         self.route.close(&Error::InputOutput(IoKind::Closed));

@@ -26,8 +26,8 @@ fn answer_to<S: Source, W: Sink>(
     requires written { peer.old.core.done ≡ length peer.old.core.outbox }
     ensures stands { IfOk result (λ answer. (setting : Setting) (start_in : Inlet) (start_out : Outlet) (es : List Entry)
         → setting.takes_fds ≡ W.takes writer.old.sink
-        → Stands setting start_in start_out peer.old (record { left = S.left reader.old.source; stop = S.stop reader.old.source; faults = S.faults reader.old.source }) (record { held = W.held writer.old.sink; room = W.room writer.old.sink; faults = W.faults writer.old.sink }) writer.old.writing es
-        → Stands setting start_in start_out peer.new (record { left = S.left reader.new.source; stop = S.stop reader.new.source; faults = S.faults reader.new.source }) (record { held = W.held writer.new.sink; room = W.room writer.new.sink; faults = W.faults writer.new.sink }) writer.new.writing (entry command.now.lane command.now.words answer ∷ es)) }
+        → Stands setting start_in start_out peer.old (record { left = S.left reader.old.source; stop = S.stop reader.old.source; faults = S.faults reader.old.source }) (record { held = W.held writer.old.sink; room = W.room writer.old.sink; faults = W.faults writer.old.sink; closes = W.closes writer.old.sink }) writer.old.writing es
+        → Stands setting start_in start_out peer.new (record { left = S.left reader.new.source; stop = S.stop reader.new.source; faults = S.faults reader.new.source }) (record { held = W.held writer.new.sink; room = W.room writer.new.sink; faults = W.faults writer.new.sink; closes = W.closes writer.new.sink }) writer.new.writing (entry command.now.lane command.now.words answer ∷ es)) }
     ensures empty { IfOk result (λ x. kept.new.items ≡ []) }
     ensures same_source { S.lent reader.new.source ≡ S.lent reader.old.source }
     ensures same_sink { W.lent writer.new.sink ≡ W.lent writer.old.sink }
@@ -72,8 +72,8 @@ fn step<S: Source, W: Sink>(
     ensures command { IfOk result (λ e. command_of e ≡ command.now) }
     ensures stands { IfOk result (λ e. (setting : Setting) (start_in : Inlet) (start_out : Outlet) (es : List Entry)
         → setting.takes_fds ≡ W.takes writer.old.sink
-        → Stands setting start_in start_out peer.old (record { left = S.left reader.old.source; stop = S.stop reader.old.source; faults = S.faults reader.old.source }) (record { held = W.held writer.old.sink; room = W.room writer.old.sink; faults = W.faults writer.old.sink }) writer.old.writing es
-        → Stands setting start_in start_out peer.new (record { left = S.left reader.new.source; stop = S.stop reader.new.source; faults = S.faults reader.new.source }) (record { held = W.held writer.new.sink; room = W.room writer.new.sink; faults = W.faults writer.new.sink }) writer.new.writing (e ∷ es)) }
+        → Stands setting start_in start_out peer.old (record { left = S.left reader.old.source; stop = S.stop reader.old.source; faults = S.faults reader.old.source }) (record { held = W.held writer.old.sink; room = W.room writer.old.sink; faults = W.faults writer.old.sink; closes = W.closes writer.old.sink }) writer.old.writing es
+        → Stands setting start_in start_out peer.new (record { left = S.left reader.new.source; stop = S.stop reader.new.source; faults = S.faults reader.new.source }) (record { held = W.held writer.new.sink; room = W.room writer.new.sink; faults = W.faults writer.new.sink; closes = W.closes writer.new.sink }) writer.new.writing (e ∷ es)) }
     ensures empty { IfOk result (λ x. kept.new.items ≡ []) }
     ensures same_source { S.lent reader.new.source ≡ S.lent reader.old.source }
     ensures same_sink { W.lent writer.new.sink ≡ W.lent writer.old.sink }
@@ -117,9 +117,9 @@ pub fn run_peer<S: Source, W: Sink>(
 ) -> Result<Transcript, RunError>
     ensures run { IfOk result (λ t. Runs (setting_by (is_bus setup.now.kind) (name_of setup.now.kind) setup.now.queue (W.takes sink.old))
         (record { left = S.left source.old; stop = S.stop source.old; faults = S.faults source.old })
-        (record { held = W.held sink.old; room = W.room sink.old; faults = W.faults sink.old })
+        (record { held = W.held sink.old; room = W.room sink.old; faults = W.faults sink.old; closes = W.closes sink.old })
         (record { left = S.left source.new; stop = S.stop source.new; faults = S.faults source.new })
-        (record { held = W.held sink.new; room = W.room sink.new; faults = W.faults sink.new })
+        (record { held = W.held sink.new; room = W.room sink.new; faults = W.faults sink.new; closes = W.closes sink.new })
         commands.now t.entries.items) }
     ensures source_grows { S.faults source.old ≤ S.faults source.new }
     ensures sink_grows { W.faults sink.old ≤ W.faults sink.new }

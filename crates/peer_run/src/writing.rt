@@ -21,13 +21,14 @@ impl Peer {
         requires due { index ≡ self.old.core.done }
         requires fine { self.old.core.writer ≡ writers.Fine }
         ensures written { IfOk result (λ failed. (m : Seen) → slice_get self.old.core.outbox index ≡ Some m → is_unsupported m.unix_fds (W.takes half.old.sink) ≡ false → half.old.writing ≡ Fine
-            → Written self.old.core self.new.core m (record { held = W.held half.old.sink; room = W.room half.old.sink; faults = W.faults half.old.sink })
-            (record { held = W.held half.new.sink; room = W.room half.new.sink; faults = W.faults half.new.sink }) half.new.writing failed) }
+            → Written self.old.core self.new.core m (record { held = W.held half.old.sink; room = W.room half.old.sink; faults = W.faults half.old.sink; closes = W.closes half.old.sink })
+            (record { held = W.held half.new.sink; room = W.room half.new.sink; faults = W.faults half.new.sink; closes = W.closes half.new.sink }) half.new.writing failed) }
         ensures moves { IfOk result (λ failed. (self.new.core.outbox ≡ self.old.core.outbox) × (self.new.core.done ≡ self.old.core.done + 1)) }
         ensures writer { IfOk result (λ failed. failed ≡ None → self.new.core.writer ≡ self.old.core.writer) }
         ensures rest { OnOk result (self.new ≡ record self.old { core = self.new.core }) }
         ensures grows { W.faults half.old.sink ≤ W.faults half.new.sink }
         ensures takes { W.takes half.new.sink ≡ W.takes half.old.sink }
+        ensures uncounted { W.closes half.new.sink ≡ W.closes half.old.sink }
         ensures same { W.lent half.new.sink ≡ W.lent half.old.sink }
     {
         let Some(message) = self.route.outbox(index) else {

@@ -7,6 +7,7 @@ pub mod Utf8
 pub mod Clear
 pub mod Reread
 pub mod Same
+pub mod NoZero
 pub mod Again
 pub mod Own
 pub mod BodyArguments

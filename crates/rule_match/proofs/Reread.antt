@@ -75,11 +75,11 @@ arg_test i = no_equals (arg_key i) && (has_no_comma (arg_key i) && is_arg i (key
 abbrev arg_path_test : ℕ → Bool
 arg_path_test i = no_equals (arg_path_key i) && (has_no_comma (arg_path_key i) && is_arg_path i (key_of (arg_path_key i)))
 
-all_below : (ℕ → Bool) → ℕ → Bool
+unfoldable pub all_below : (ℕ → Bool) → ℕ → Bool
 all_below test zero = true
 all_below test (suc n) = test n && all_below test n
 
-below_all : (test : ℕ → Bool) (n i : ℕ) → all_below test n ≡ true → i < n → test i ≡ true
+pub below_all : (test : ℕ → Bool) (n i : ℕ) → all_below test n ≡ true → i < n → test i ≡ true
 unfolding all_below
 below_all test zero i h less = absurd (omega arith)
 below_all test (suc n) i h less =

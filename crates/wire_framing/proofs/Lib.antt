@@ -4,3 +4,4 @@ pub mod Fronts
 pub mod Whole
 pub mod Asked
 pub mod Kept
+pub mod Spends

@@ -51,7 +51,7 @@ spent_right xs h p = cond_false _ _ _ (less_false _ _ h) ∙ ap (λ o. if is_som
 behind_first : (n : ℕ) (first xs ys : List ℕ) → n ≡ length first → xs ≡ first ++ ys → drop n xs ≡ ys
 behind_first n first xs ys h e = ap (λ k. drop k xs) h ∙ ap (drop (length first)) e ∙ drop-append_seam first ys
 
-refused_behind : (first : List ℕ) (e : Error) (left left' : Option (List ℕ)) → length first ≡ 16 → head_fault first ≡ Some e → Consumes left left' first → Behind left left'
+pub refused_behind : (first : List ℕ) (e : Error) (left left' : Option (List ℕ)) → length first ≡ 16 → head_fault first ≡ Some e → Consumes left left' first → Behind left left'
 refused_behind first e None left' l p q = tt
 refused_behind first e (Some xs) None l p q = absurd q
 refused_behind first e (Some xs) (Some ys) l p q =

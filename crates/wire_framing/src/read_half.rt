@@ -1,7 +1,7 @@
-ghost use Rattle.std.specs.Prelude.{ℕ, ◌≡◌, ◌≤◌, ◌<◌, ◌-◌, ◌^◌, length, take, drop, false, IfSome, IfOk, IfErr, Ok, Err};
+ghost use Rattle.std.specs.Prelude.{ℕ, ◌≡◌, ◌≤◌, ◌<◌, ◌-◌, ◌^◌, length, take, drop, [], false, IfSome, IfOk, IfErr, Ok, Err};
 ghost use Rattle.std.specs.Io.KnownBytes.{prepend_known};
 ghost use Rattle.wire_framing.specs.Source.{Widens};
-ghost use Rattle.wire_framing.specs.Receive.{Receives, HasCause, spent};
+ghost use Rattle.wire_framing.specs.Receive.{Receives, HasCause, Spends, spent};
 ghost use Rattle.wire_framing.specs.Kept.{TakesKept, Gathers, rest_of};
 ghost use Rattle.wire_message.specs.Front.{Seen, Front};
 ghost use Rattle.wire_message.specs.Outcome.{front_outcome, Tells, IsReadRefusal};
@@ -23,7 +23,9 @@ fn shift(bytes: &mut Vec<u8>, count: usize)
     requires { count ≤ length bytes.old.items }
     ensures { bytes.new.items ≡ drop count bytes.old.items }
 {
-    bytes.drain(..count);
+    let left = bytes.len() - count;
+    bytes.copy_within(count.., 0);
+    bytes.truncate(left);
 }
 
 /// Takes away what a read that answers this error costs.
@@ -87,7 +89,8 @@ impl<S: Source> ReadHalf<S> {
     /// does; Variant, where a header field is outside its grammar (D-Bus Specification, "Message Format").
     ///
     /// A fault is answered only where the source's count of faults rose. At want of memory `kept` holds all that was there
-    /// and all that came, so that a later call reads on. The source is asked at most as often as it gives bytes, plus once,
+    /// and all that came, so that a later call reads on. Where nothing was kept, what is left is what stands behind the bytes that
+    /// the message takes, or its refusal; a fault tells nothing of it. The source is asked at most as often as it gives bytes, plus once,
     /// and never for more than 65,536 bytes at once.
     pub fn receive_message(
         &mut self,
@@ -98,6 +101,7 @@ impl<S: Source> ReadHalf<S> {
         requires { 0 < seq }
         ensures told { IfSome (prepend_known kept.old.items (S.left self.old.source)) (λ bytes. Receives (S.stop self.old.source) (seq - 1) bytes result) }
         ensures takes { seq < 2 ^ 64 - 1 → TakesKept result kept.old.items kept.new.items (S.left self.old.source) (S.left self.new.source) (S.stop self.old.source) (S.stop self.new.source) (S.faults self.old.source) (S.faults self.new.source) (S.asked self.old.source) (S.asked self.new.source) }
+        ensures spends { kept.old.items ≡ [] → seq < 2 ^ 64 - 1 → Spends result (S.left self.old.source) (S.left self.new.source) }
         ensures message { IfOk result (λ m. Front m.bytes m (length m.bytes) × (m.position ≡ seq)) }
         ensures error { IfErr result (λ e. IsReadRefusal e × HasCause e (S.faults self.old.source) (S.faults self.new.source)) }
         ensures width { Widens (S.widest self.old.source) (S.widest self.new.source) 65536 }

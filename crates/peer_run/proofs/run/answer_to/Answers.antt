@@ -1,18 +1,24 @@
+use Rattle.std.proofs.Common.{◌∙◌, ap, subst, refl}
 use Rattle.std.proofs.lemmas.Result.{IfOk-weaker}
+use Rattle.wire_framing.specs.Sink.{asked_again}
 use Rattle.peer_route.specs.declared.words.Words.TheVariants as words
-use Rattle.peer_run.proofs.Ends.{if_ok3}
+use Rattle.peer_run.specs.Stands.{SourceMoves}
+use Rattle.peer_run.proofs.Ends.{if_ok3, if_ok4}
+use Rattle.peer_run.proofs.SendStep.{sends_other, sends_nothing}
 use Rattle.peer_run.proofs.HalfStep.{fine_before}
 use Rattle.peer_run.proofs.run.answer_to.Goals as goal
 
 pub returns-in-Read-clause-stands : goal.returns-in-Read-clause-stands
 returns-in-Read-clause-stands g c =
-    rw (c.in-Read.is) (if_ok3 c.read.result _ _ _ _
-    (λ answer f r w setting start_in start_out es takes s. record {
+    rw (c.in-Read.is) (if_ok4 c.read.result _ _ _ _ _
+    (λ answer f r w m setting start_in start_out es takes s. record {
       follows = f setting es c.args.command.now.lane s.follows;
       reads = r setting start_in es c.args.command.now.lane s.follows s.reads;
       writes = w setting start_out _ es c.args.command.now.lane s.follows s.writes;
+      source = (_, s.source, subst (λ o. SourceMoves words.Read o answer (g.S.Source.faults c.args.reader.now.source) (g.S.Source.faults c.read.new.half.source)) s.follows.left.calls.closing m);
+      asked = s.asked;
       fine = λ e. s.fine (fine_before setting es c.args.command.now.lane words.Read answer e);
-    }) c.read.ensures.follows c.read.ensures.reads c.read.ensures.writes)
+    }) c.read.ensures.follows c.read.ensures.reads c.read.ensures.writes c.read.ensures.moves)
 
 pub returns-in-Poll-clause-stands : goal.returns-in-Poll-clause-stands
 returns-in-Poll-clause-stands g c setting start_in start_out es takes s =
@@ -22,6 +28,8 @@ returns-in-Poll-clause-stands g c setting start_in start_out es takes s =
       follows = c.poll.ensures.follows setting es s.follows;
       reads = c.poll.ensures.reads setting start_in _ es s.follows s.reads;
       writes = c.poll.ensures.writes setting start_out _ es s.follows s.writes;
+      source = (_, s.source, refl);
+      asked = s.asked;
       fine = λ e. s.fine (step e);
     })
 
@@ -33,6 +41,8 @@ returns-in-Drop-clause-stands g c setting start_in start_out es takes s =
       follows = c.drop_call.ensures.follows setting es s.follows;
       reads = c.drop_call.ensures.reads setting start_in _ es s.follows s.reads;
       writes = c.drop_call.ensures.writes setting start_out _ es s.follows s.writes;
+      source = (_, s.source, refl);
+      asked = s.asked;
       fine = λ e. s.fine (step e);
     })
 
@@ -44,6 +54,8 @@ returns-in-Take-clause-stands g c setting start_in start_out es takes s =
       follows = c.take.ensures.follows setting es s.follows;
       reads = c.take.ensures.reads setting start_in _ es s.follows s.reads;
       writes = c.take.ensures.writes setting start_out _ es s.follows s.writes;
+      source = (_, s.source, refl);
+      asked = s.asked;
       fine = λ e. s.fine (step e);
     })
 
@@ -55,6 +67,8 @@ returns-in-Before-clause-stands g c setting start_in start_out es takes s =
       follows = c.before-in-Before.ensures.follows setting es s.follows;
       reads = c.before-in-Before.ensures.reads setting start_in _ es s.follows s.reads;
       writes = c.before-in-Before.ensures.writes setting start_out _ es s.follows s.writes;
+      source = (_, s.source, refl);
+      asked = s.asked;
       fine = λ e. s.fine (step e);
     })
 
@@ -66,6 +80,8 @@ returns-in-TakeBefore-clause-stands g c setting start_in start_out es takes s =
       follows = c.take_before.ensures.follows setting es s.follows;
       reads = c.take_before.ensures.reads setting start_in _ es s.follows s.reads;
       writes = c.take_before.ensures.writes setting start_out _ es s.follows s.writes;
+      source = (_, s.source, refl);
+      asked = s.asked;
       fine = λ e. s.fine (step e);
     })
 
@@ -78,6 +94,8 @@ returns-in-Unstream-clause-stands g c =
       follows = done.follows;
       reads = done.reads start_in _ s.reads;
       writes = done.writes start_out s.writes;
+      source = (_, s.source, refl);
+      asked = c.unstream.ensures.uncounted ∙ s.asked;
       fine = done.fine;
     }) c.unstream.ensures.sent)
 
@@ -89,6 +107,8 @@ returns-in-Queue-clause-stands g c setting start_in start_out es takes s =
       follows = c.queue.ensures.follows setting es s.follows;
       reads = c.queue.ensures.reads setting start_in _ es s.follows s.reads;
       writes = c.queue.ensures.writes setting start_out _ es s.follows s.writes;
+      source = (_, s.source, refl);
+      asked = s.asked;
       fine = λ e. s.fine (step e);
     })
 
@@ -100,6 +120,8 @@ returns-in-MainQueue-clause-stands g c setting start_in start_out es takes s =
       follows = c.main_queue.ensures.follows setting es s.follows;
       reads = c.main_queue.ensures.reads setting start_in _ es s.follows s.reads;
       writes = c.main_queue.ensures.writes setting start_out _ es s.follows s.writes;
+      source = (_, s.source, refl);
+      asked = s.asked;
       fine = λ e. s.fine (step e);
     })
 
@@ -110,6 +132,8 @@ returns-in-Clone-clause-stands g c =
       follows = f setting es s.follows;
       reads = r setting start_in _ es s.follows s.reads;
       writes = w setting start_out _ es s.follows s.writes;
+      source = (_, s.source, refl);
+      asked = s.asked;
       fine = λ e. s.fine (fine_before setting es c.args.command.now.lane (words.Clone c.in-Clone.number) answer e);
     }) c.clone_stream.ensures.follows c.clone_stream.ensures.reads c.clone_stream.ensures.writes)
 
@@ -122,6 +146,8 @@ returns-in-Open-clause-stands g c =
       follows = done.follows;
       reads = done.reads start_in _ s.reads;
       writes = done.writes start_out s.writes;
+      source = (_, s.source, refl);
+      asked = c.open.ensures.uncounted ∙ s.asked;
       fine = done.fine;
     }) c.open.ensures.sent)
 
@@ -133,6 +159,8 @@ returns-in-Opened-clause-stands g c setting start_in start_out es takes s =
       follows = c.opened.ensures.follows setting es s.follows;
       reads = c.opened.ensures.reads setting start_in _ es s.follows s.reads;
       writes = c.opened.ensures.writes setting start_out _ es s.follows s.writes;
+      source = (_, s.source, refl);
+      asked = s.asked;
       fine = λ e. s.fine (step e);
     })
 
@@ -143,6 +171,8 @@ returns-in-Close-clause-stands g c setting start_in start_out es takes s =
       follows = done.follows;
       reads = done.reads start_in _ s.reads;
       writes = done.writes start_out s.writes;
+      source = (_, s.source, refl);
+      asked = c.close.ensures.counted ∙ ap asked_again s.asked;
       fine = done.fine;
     })
 
@@ -153,6 +183,8 @@ returns-in-Stream-clause-stands g c =
       follows = f setting es s.follows;
       reads = r setting start_in _ es s.follows s.reads;
       writes = w setting start_out _ es s.follows s.writes;
+      source = (_, s.source, refl);
+      asked = s.asked;
       fine = λ e. s.fine (fine_before setting es c.args.command.now.lane words.Stream answer e);
     }) c.stream.ensures.follows c.stream.ensures.reads c.stream.ensures.writes)
 
@@ -165,5 +197,7 @@ returns-in-Call-clause-stands g c =
       follows = done.follows;
       reads = done.reads start_in _ s.reads;
       writes = done.writes start_out s.writes;
+      source = (_, s.source, sends_nothing _ _ _ _ c.send_words.ensures.sends);
+      asked = rw (sends_other _ c.send_words.ensures.sends) (c.send_words.ensures.uncounted ∙ s.asked);
       fine = done.fine;
     }) c.send_words.ensures.sent

@@ -11,7 +11,7 @@ loop-command-init g c =
     let setting = setting_by (is_bus c.args.setup.now.kind) (name_of c.args.setup.now.kind) c.args.setup.now.queue (g.W.Sink.takes c.args.sink.now) in
     rw (c.new-entries.ensures.items) (record {
       stands = rw (c.new-reader.ensures, c.new-writer.ensures.sink)
-          (record { follows = c.new-peer.ensures setting (sym c.is_bus.ensures) (sym (c.in_ok-name.ensures ∙ c.name.ensures)) refl; reads = start_reads setting _; writes = start_writes setting _; fine = λ e. c.new-writer.ensures.fine });
+          (record { follows = c.new-peer.ensures setting (sym c.is_bus.ensures) (sym (c.in_ok-name.ensures ∙ c.name.ensures)) refl; reads = start_reads setting _; writes = start_writes setting _; source = refl; asked = refl; fine = λ e. c.new-writer.ensures.fine });
       commands = refl;
       takes = rw (c.new-writer.ensures.sink) refl;
       empty = c.new-kept.ensures.items;

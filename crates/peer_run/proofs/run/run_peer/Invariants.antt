@@ -8,10 +8,10 @@ abbrev pub invariant-loop-command : goal.invariant-loop-command
 invariant-loop-command g l = record {
   stands : Stands (setting_by (is_bus l.fn.setup.kind) (name_of l.fn.setup.kind) l.fn.setup.queue (g.W.Sink.takes l.fn.sink))
       (record { left = g.S.Source.left l.fn.source; stop = g.S.Source.stop l.fn.source; faults = g.S.Source.faults l.fn.source })
-      (record { held = g.W.Sink.held l.fn.sink; room = g.W.Sink.room l.fn.sink; faults = g.W.Sink.faults l.fn.sink })
+      (record { held = g.W.Sink.held l.fn.sink; room = g.W.Sink.room l.fn.sink; faults = g.W.Sink.faults l.fn.sink; closes = g.W.Sink.closes l.fn.sink })
       l.peer
       (record { left = g.S.Source.left l.reader.source.now; stop = g.S.Source.stop l.reader.source.now; faults = g.S.Source.faults l.reader.source.now })
-      (record { held = g.W.Sink.held l.writer.sink.now; room = g.W.Sink.room l.writer.sink.now; faults = g.W.Sink.faults l.writer.sink.now })
+      (record { held = g.W.Sink.held l.writer.sink.now; room = g.W.Sink.room l.writer.sink.now; faults = g.W.Sink.faults l.writer.sink.now; closes = g.W.Sink.closes l.writer.sink.now })
       l.writer.writing
       (reverse l.entries.items);
   commands : map command_of l.entries.items ≡ take l.command-index l.commands;

@@ -1,8 +1,8 @@
 use Rattle.std.proofs.Common.{◌≡◌, refl, sym, ◌∙◌, ap, arith, None, Some, ◌≢◌, ◌+◌, ◌-◌, ◌^◌}
 use Rattle.peer_route.specs.Trail.{trail}
 use Rattle.peer_run.specs.Stands.{Follows}
-use Rattle.peer_run.proofs.Kept.{writes_closed}
-use Rattle.peer_run.proofs.ReadStep.{closing_of, follows_got, follows_shut, reads_closed, reads_got, reads_shut, faults_rise}
+use Rattle.peer_run.proofs.Kept.{writes_closed, writes_busy, writes_got}
+use Rattle.peer_run.proofs.ReadStep.{closing_of, follows_got, follows_shut, reads_closed, reads_got, reads_shut, faults_rise, error_moves, moves_by}
 use Rattle.peer_run.proofs.peer.Peer.read.Goals as goal
 
 pub returns-in-Some-clause-reads : goal.returns-in-Some-clause-reads
@@ -28,7 +28,7 @@ returns-in_ok-arrive-in-Ok-clause-reads g c setting start es lane f r =
     let takes = c.in-Ok.ensures.takes in
     let seq : c.received.result + 1 - 1 ≡ c.self.inside.route.read = omega (arith, c.received.ensures) in
     rw (c.in_ok-copy-in-Ok.ensures)
-    (reads_got setting start _ _ _ es lane c.in-Ok.message k none (sym (c.busy.ensures.busy (trail setting es).events k.left) ∙ c.if-busy.false) (rw seq at c.in-Ok.ensures.told) takes.2 takes.3 takes.4 r)
+    (reads_got setting start _ _ _ es lane c.in-Ok.message k none (sym (c.busy.ensures.busy (trail setting es).events k.left) ∙ c.if-busy.false) (rw seq at c.in-Ok.ensures.told) takes.2 takes.3 r)
 
 pub returns-in_default-error : goal.returns-in_default-error
 returns-in_default-error g c =
@@ -44,9 +44,28 @@ returns-in_default-error g c =
       reads = λ setting start es lane f r.
           let k : Follows setting _ es = rw (← c.self.view_is) at f in
           reads_shut setting start _ _ _ es lane c.in-Err.error k none (sym (c.busy.ensures.busy (trail setting es).events k.left) ∙ c.if-busy.false) c.in_default-error.not-Memory
-          (rw seq at c.in-Err.ensures.told) takes.1 grown r;
+          (rw seq at c.in-Err.ensures.told) (rw seq at (c.in-Err.ensures.rest c.in_default-error.not-Memory)) r;
       writes = λ setting start now es lane f w. writes_closed setting start now es lane c.in-Err.error w;
+      moves = moves_by _ _ None _ _ _ c.self.view_is none (error_moves c.in-Err.error _ _ takes.1);
       grows = grown;
       empty = c.in-Err.ensures.ended c.in_default-error.not-Memory;
       same = c.in-Err.ensures.same;
     }
+
+pub returns-in-Some-clause-writes : goal.returns-in-Some-clause-writes
+returns-in-Some-clause-writes g c setting start now es lane f w = writes_closed setting start now es lane c.in-Some.error w
+
+pub returns-then-busy-clause-writes : goal.returns-then-busy-clause-writes
+returns-then-busy-clause-writes g c setting start now es lane f w = writes_busy setting start now es lane w
+
+pub returns-in_ok-arrive-in-Ok-clause-writes : goal.returns-in_ok-arrive-in-Ok-clause-writes
+returns-in_ok-arrive-in-Ok-clause-writes g c setting start now es lane f w = rw (c.in_ok-copy-in-Ok.ensures) (writes_got setting start now es lane c.in-Ok.message w)
+
+pub returns-in-Some-clause-moves : goal.returns-in-Some-clause-moves
+returns-in-Some-clause-moves g c = moves_by _ _ (Some c.in-Some.error) _ _ _ c.self.view_is (sym c.closing.ensures ∙ c.in-Some.is) refl
+
+pub returns-then-busy-clause-moves : goal.returns-then-busy-clause-moves
+returns-then-busy-clause-moves g c = moves_by _ _ None _ _ _ c.self.view_is (sym c.closing.ensures ∙ c.in_default.is) refl
+
+pub returns-in_ok-arrive-in-Ok-clause-moves : goal.returns-in_ok-arrive-in-Ok-clause-moves
+returns-in_ok-arrive-in-Ok-clause-moves g c = moves_by _ _ None _ _ _ c.self.view_is (sym c.closing.ensures ∙ c.in_default.is) c.in-Ok.ensures.takes.4

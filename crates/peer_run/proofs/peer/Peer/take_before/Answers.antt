@@ -1,7 +1,9 @@
-use Rattle.std.proofs.Common.{refl, sym, ◌∙◌}
+use Rattle.std.proofs.Common.{refl, sym, ◌∙◌, Err}
 use Rattle.peer_route.specs.Trail.{trail}
 use Rattle.peer_run.specs.Stands.{PeerView, Follows}
 use Rattle.peer_run.proofs.TakeStep.{follows_take_before, reads_take_before}
+use Rattle.wire_message.specs.declared.error.Error.TheVariants as errors
+use Rattle.peer_run.proofs.TakeStep.{writes_take_before}
 use Rattle.peer_run.proofs.peer.Peer.take_before.Goals as goal
 
 pub returns-in-Some-clause-follows : goal.returns-in-Some-clause-follows
@@ -17,4 +19,11 @@ returns-in-Some-clause-follows c setting es f =
 pub returns-in-Some-clause-reads : goal.returns-in-Some-clause-reads
 returns-in-Some-clause-reads c setting start now es f r =
     let g : Follows setting _ es = rw (← c.self.view_is) at f in
-    rw (c.show_take.ensures.answer) (reads_take_before setting start now es c.args.lane c.args.number c.args.position c.in-Some.number c.take_before-polled.result (c.take_before-polled.ensures.answer (trail setting es).events g.left) r)
+    rw (c.show_take.ensures.answer) (reads_take_before setting start now es c.args.lane c.args.number c.args.position c.take_before-polled.result r)
+
+pub returns-in-Some-clause-writes : goal.returns-in-Some-clause-writes
+returns-in-Some-clause-writes c setting start now es f w =
+    rw (c.show_take.ensures.answer) (writes_take_before setting start now es c.args.lane c.args.number c.args.position c.take_before-polled.result w)
+
+pub returns-in-None-clause-writes : goal.returns-in-None-clause-writes
+returns-in-None-clause-writes c setting start now es f w = writes_take_before setting start now es c.args.lane c.args.number c.args.position (Err errors.UnknownHandle) w

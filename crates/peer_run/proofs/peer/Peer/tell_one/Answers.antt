@@ -9,8 +9,8 @@ use Rattle.peer_run.proofs.peer.Peer.tell_one.Goals as goal
 
 pub returns-in-None-clause-told : goal.returns-in-None-clause-told
 returns-in-None-clause-told g c bare fine =
-    let now_out : Outlet = record { held = g.W.Sink.held c.args.half.now.sink; room = g.W.Sink.room c.args.half.now.sink; faults = g.W.Sink.faults c.args.half.now.sink } in
-    let after_out : Outlet = record { held = g.W.Sink.held c.write.new.half.sink; room = g.W.Sink.room c.write.new.half.sink; faults = g.W.Sink.faults c.write.new.half.sink } in
+    let now_out : Outlet = record { held = g.W.Sink.held c.args.half.now.sink; room = g.W.Sink.room c.args.half.now.sink; faults = g.W.Sink.faults c.args.half.now.sink; closes = g.W.Sink.closes c.args.half.now.sink } in
+    let after_out : Outlet = record { held = g.W.Sink.held c.write.new.half.sink; room = g.W.Sink.room c.write.new.half.sink; faults = g.W.Sink.faults c.write.new.half.sink; closes = g.W.Sink.closes c.write.new.half.sink } in
     let old = c.args.self.now.core in
     let core_is : c.self.inside.route ≡ old = ap (λ (v : PeerView). v.core) c.self.view_is in
     let last = last_there old.done old.outbox c.requires.there in
@@ -31,8 +31,8 @@ returns-in-None-clause-rest g c =
 
 pub returns-in-Some-clause-told : goal.returns-in-Some-clause-told
 returns-in-Some-clause-told g c bare fine =
-    let now_out : Outlet = record { held = g.W.Sink.held c.args.half.now.sink; room = g.W.Sink.room c.args.half.now.sink; faults = g.W.Sink.faults c.args.half.now.sink } in
-    let after_out : Outlet = record { held = g.W.Sink.held c.write.new.half.sink; room = g.W.Sink.room c.write.new.half.sink; faults = g.W.Sink.faults c.write.new.half.sink } in
+    let now_out : Outlet = record { held = g.W.Sink.held c.args.half.now.sink; room = g.W.Sink.room c.args.half.now.sink; faults = g.W.Sink.faults c.args.half.now.sink; closes = g.W.Sink.closes c.args.half.now.sink } in
+    let after_out : Outlet = record { held = g.W.Sink.held c.write.new.half.sink; room = g.W.Sink.room c.write.new.half.sink; faults = g.W.Sink.faults c.write.new.half.sink; closes = g.W.Sink.closes c.write.new.half.sink } in
     let old = c.args.self.now.core in
     let core_is : c.self.inside.route ≡ old = ap (λ (v : PeerView). v.core) c.self.view_is in
     let last = last_there old.done old.outbox c.requires.there in

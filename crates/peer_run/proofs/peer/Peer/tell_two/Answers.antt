@@ -10,8 +10,8 @@ use Rattle.peer_run.proofs.peer.Peer.tell_two.Goals as goal
 
 pub returns-in-Some-clause-told : goal.returns-in-Some-clause-told
 returns-in-Some-clause-told g c bare fine =
-    let now_out : Outlet = record { held = g.W.Sink.held c.args.half.now.sink; room = g.W.Sink.room c.args.half.now.sink; faults = g.W.Sink.faults c.args.half.now.sink } in
-    let after_out : Outlet = record { held = g.W.Sink.held c.write.new.half.sink; room = g.W.Sink.room c.write.new.half.sink; faults = g.W.Sink.faults c.write.new.half.sink } in
+    let now_out : Outlet = record { held = g.W.Sink.held c.args.half.now.sink; room = g.W.Sink.room c.args.half.now.sink; faults = g.W.Sink.faults c.args.half.now.sink; closes = g.W.Sink.closes c.args.half.now.sink } in
+    let after_out : Outlet = record { held = g.W.Sink.held c.write.new.half.sink; room = g.W.Sink.room c.write.new.half.sink; faults = g.W.Sink.faults c.write.new.half.sink; closes = g.W.Sink.closes c.write.new.half.sink } in
     let old = c.args.self.now.core in
     let mid = c.write.new.self.core in
     let core_is : c.self.inside.route ≡ old = ap (λ (v : PeerView). v.core) c.self.view_is in
@@ -38,9 +38,9 @@ returns-in-Some-clause-rest g c =
 
 pub returns-in-None-clause-told : goal.returns-in-None-clause-told
 returns-in-None-clause-told g c bare fine =
-    let now_out : Outlet = record { held = g.W.Sink.held c.args.half.now.sink; room = g.W.Sink.room c.args.half.now.sink; faults = g.W.Sink.faults c.args.half.now.sink } in
-    let mid_out : Outlet = record { held = g.W.Sink.held c.write.new.half.sink; room = g.W.Sink.room c.write.new.half.sink; faults = g.W.Sink.faults c.write.new.half.sink } in
-    let after_out : Outlet = record { held = g.W.Sink.held c.write-2.new.half.sink; room = g.W.Sink.room c.write-2.new.half.sink; faults = g.W.Sink.faults c.write-2.new.half.sink } in
+    let now_out : Outlet = record { held = g.W.Sink.held c.args.half.now.sink; room = g.W.Sink.room c.args.half.now.sink; faults = g.W.Sink.faults c.args.half.now.sink; closes = g.W.Sink.closes c.args.half.now.sink } in
+    let mid_out : Outlet = record { held = g.W.Sink.held c.write.new.half.sink; room = g.W.Sink.room c.write.new.half.sink; faults = g.W.Sink.faults c.write.new.half.sink; closes = g.W.Sink.closes c.write.new.half.sink } in
+    let after_out : Outlet = record { held = g.W.Sink.held c.write-2.new.half.sink; room = g.W.Sink.room c.write-2.new.half.sink; faults = g.W.Sink.faults c.write-2.new.half.sink; closes = g.W.Sink.closes c.write-2.new.half.sink } in
     let old = c.args.self.now.core in
     let mid = c.write.new.self.core in
     let core_is : c.self.inside.route ≡ old = ap (λ (v : PeerView). v.core) c.self.view_is in
@@ -68,9 +68,9 @@ returns-in-None-clause-rest g c =
 
 pub returns-in-Some-2-clause-told : goal.returns-in-Some-2-clause-told
 returns-in-Some-2-clause-told g c bare fine =
-    let now_out : Outlet = record { held = g.W.Sink.held c.args.half.now.sink; room = g.W.Sink.room c.args.half.now.sink; faults = g.W.Sink.faults c.args.half.now.sink } in
-    let mid_out : Outlet = record { held = g.W.Sink.held c.write.new.half.sink; room = g.W.Sink.room c.write.new.half.sink; faults = g.W.Sink.faults c.write.new.half.sink } in
-    let after_out : Outlet = record { held = g.W.Sink.held c.write-2.new.half.sink; room = g.W.Sink.room c.write-2.new.half.sink; faults = g.W.Sink.faults c.write-2.new.half.sink } in
+    let now_out : Outlet = record { held = g.W.Sink.held c.args.half.now.sink; room = g.W.Sink.room c.args.half.now.sink; faults = g.W.Sink.faults c.args.half.now.sink; closes = g.W.Sink.closes c.args.half.now.sink } in
+    let mid_out : Outlet = record { held = g.W.Sink.held c.write.new.half.sink; room = g.W.Sink.room c.write.new.half.sink; faults = g.W.Sink.faults c.write.new.half.sink; closes = g.W.Sink.closes c.write.new.half.sink } in
+    let after_out : Outlet = record { held = g.W.Sink.held c.write-2.new.half.sink; room = g.W.Sink.room c.write-2.new.half.sink; faults = g.W.Sink.faults c.write-2.new.half.sink; closes = g.W.Sink.closes c.write-2.new.half.sink } in
     let old = c.args.self.now.core in
     let mid = c.write.new.self.core in
     let core_is : c.self.inside.route ≡ old = ap (λ (v : PeerView). v.core) c.self.view_is in

@@ -4,7 +4,7 @@ use Rattle.std.proofs.lemmas.Result.{IfOk-weaker}
 use Rattle.peer_run.specs.Stands.{PeerView, Outlet, Follows}
 use Rattle.peer_run.proofs.LeaveStep.{Leave, two_named}
 use Rattle.peer_run.proofs.LeaveWrites.{if_ok2}
-use Rattle.peer_run.proofs.LeaveEnds.{due_after, gone_ends, back_ends, over_ends}
+use Rattle.peer_run.proofs.LeaveEnds.{due_after, gone_ends, back_ends, over_ends, first_unknown, second_unknown}
 use Rattle.peer_run.proofs.peer.Peer.unstream_two.Goals as goal
 
 pub tell-requires : goal.tell-requires
@@ -15,8 +15,8 @@ tell-requires g c =
 pub returns-in-Gone-clause-sent : goal.returns-in-Gone-clause-sent
 returns-in-Gone-clause-sent g c =
     let p : PeerView = record { core = c.self.inside.route; names = c.self.inside.names; streams = c.self.inside.streams; given = c.self.inside.given.items } in
-    let now_out : Outlet = record { held = g.W.Sink.held c.args.half.now.sink; room = g.W.Sink.room c.args.half.now.sink; faults = g.W.Sink.faults c.args.half.now.sink } in
-    let after_out : Outlet = record { held = g.W.Sink.held c.tell.new.half.sink; room = g.W.Sink.room c.tell.new.half.sink; faults = g.W.Sink.faults c.tell.new.half.sink } in
+    let now_out : Outlet = record { held = g.W.Sink.held c.args.half.now.sink; room = g.W.Sink.room c.args.half.now.sink; faults = g.W.Sink.faults c.args.half.now.sink; closes = g.W.Sink.closes c.args.half.now.sink } in
+    let after_out : Outlet = record { held = g.W.Sink.held c.tell.new.half.sink; room = g.W.Sink.room c.tell.new.half.sink; faults = g.W.Sink.faults c.tell.new.half.sink; closes = g.W.Sink.closes c.tell.new.half.sink } in
     let leave : Leave = record { lane = c.args.lane; number = c.args.number; second = Some c.args.second; k = c.in-Some.stream; j = Some c.in-Some-place.other } in
     let gone = c.forget-in-Gone.ensures in
     let gone₂ = c.forget.ensures in
@@ -33,7 +33,7 @@ pub returns-in-Back-clause-sent : goal.returns-in-Back-clause-sent
 returns-in-Back-clause-sent g c =
     let p : PeerView = record { core = c.self.inside.route; names = c.self.inside.names; streams = c.self.inside.streams; given = c.self.inside.given.items } in
     let q : PeerView = record p { core = c.close_stream-closed.new.self } in
-    let now_out : Outlet = record { held = g.W.Sink.held c.args.half.now.sink; room = g.W.Sink.room c.args.half.now.sink; faults = g.W.Sink.faults c.args.half.now.sink } in
+    let now_out : Outlet = record { held = g.W.Sink.held c.args.half.now.sink; room = g.W.Sink.room c.args.half.now.sink; faults = g.W.Sink.faults c.args.half.now.sink; closes = g.W.Sink.closes c.args.half.now.sink } in
     let leave : Leave = record { lane = c.args.lane; number = c.args.number; second = Some c.args.second; k = c.in-Some.stream; j = Some c.in-Some-place.other } in
     IfOk-weaker c.kept_open.result _ _ (λ answer ends setting es f fine.
     let k : Follows setting p es = rw (← c.self.view_is) at f in
@@ -43,7 +43,7 @@ returns-in-Back-clause-sent g c =
 pub returns-in-Over-clause-sent : goal.returns-in-Over-clause-sent
 returns-in-Over-clause-sent g c setting es f fine =
     let p : PeerView = record { core = c.self.inside.route; names = c.self.inside.names; streams = c.self.inside.streams; given = c.self.inside.given.items } in
-    let now_out : Outlet = record { held = g.W.Sink.held c.args.half.now.sink; room = g.W.Sink.room c.args.half.now.sink; faults = g.W.Sink.faults c.args.half.now.sink } in
+    let now_out : Outlet = record { held = g.W.Sink.held c.args.half.now.sink; room = g.W.Sink.room c.args.half.now.sink; faults = g.W.Sink.faults c.args.half.now.sink; closes = g.W.Sink.closes c.args.half.now.sink } in
     let leave : Leave = record { lane = c.args.lane; number = c.args.number; second = Some c.args.second; k = c.in-Some.stream; j = Some c.in-Some-place.other } in
     let k : Follows setting p es = rw (← c.self.view_is) at f in
     let kept = c.over.ensures.kept in
@@ -51,3 +51,17 @@ returns-in-Over-clause-sent g c setting es f fine =
     (over_ends setting p c.over.new.self c.close_stream-closed.new.self es leave c.in-Over.error now_out c.args.half.now.writing
     (two_named setting p es c.args.lane c.args.number c.args.second c.in-Some.stream c.in-Some-place.other k (sym c.place.ensures ∙ c.in-Some.is) (sym c.place-2.ensures ∙ c.in-Some-place.is)) k fine c.in-Over.ensures.closes
     (ap (λ (v : PeerView). v.core) kept) (ap (λ (v : PeerView). v.names) kept) (ap (λ (v : PeerView). v.streams) kept) (ap (λ (v : PeerView). v.given) kept))
+
+pub returns-in_default-clause-sent : goal.returns-in_default-clause-sent
+returns-in_default-clause-sent g c setting es f fine =
+    let p : PeerView = record { core = c.self.inside.route; names = c.self.inside.names; streams = c.self.inside.streams; given = c.self.inside.given.items } in
+    let k : Follows setting p es = rw (← c.self.view_is) at f in
+    let now_out : Outlet = record { held = g.W.Sink.held c.args.half.now.sink; room = g.W.Sink.room c.args.half.now.sink; faults = g.W.Sink.faults c.args.half.now.sink; closes = g.W.Sink.closes c.args.half.now.sink } in
+    rw (← c.self.view_is) (first_unknown setting p es c.args.lane c.args.number c.args.second now_out c.args.half.now.writing k fine (sym c.place.ensures ∙ c.in_default.is))
+
+pub returns-in_default-place-clause-sent : goal.returns-in_default-place-clause-sent
+returns-in_default-place-clause-sent g c setting es f fine =
+    let p : PeerView = record { core = c.self.inside.route; names = c.self.inside.names; streams = c.self.inside.streams; given = c.self.inside.given.items } in
+    let k : Follows setting p es = rw (← c.self.view_is) at f in
+    let now_out : Outlet = record { held = g.W.Sink.held c.args.half.now.sink; room = g.W.Sink.room c.args.half.now.sink; faults = g.W.Sink.faults c.args.half.now.sink; closes = g.W.Sink.closes c.args.half.now.sink } in
+    rw (← c.self.view_is) (second_unknown setting p es c.args.lane c.args.number c.args.second now_out c.args.half.now.writing k fine (sym c.place-2.ensures ∙ c.in_default-place.is))

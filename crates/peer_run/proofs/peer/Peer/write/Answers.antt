@@ -9,8 +9,8 @@ use Rattle.peer_run.proofs.peer.Peer.write.Goals as goal
 
 pub returns-in_default-error-clause-written : goal.returns-in_default-error-clause-written
 returns-in_default-error-clause-written g c m at plain fine =
-    let now_out : Outlet = record { held = g.W.Sink.held c.args.half.now.sink; room = g.W.Sink.room c.args.half.now.sink; faults = g.W.Sink.faults c.args.half.now.sink } in
-    let after_out : Outlet = record { held = g.W.Sink.held c.send_message.new.self.sink; room = g.W.Sink.room c.send_message.new.self.sink; faults = g.W.Sink.faults c.send_message.new.self.sink } in
+    let now_out : Outlet = record { held = g.W.Sink.held c.args.half.now.sink; room = g.W.Sink.room c.args.half.now.sink; faults = g.W.Sink.faults c.args.half.now.sink; closes = g.W.Sink.closes c.args.half.now.sink } in
+    let after_out : Outlet = record { held = g.W.Sink.held c.send_message.new.self.sink; room = g.W.Sink.room c.send_message.new.self.sink; faults = g.W.Sink.faults c.send_message.new.self.sink; closes = g.W.Sink.closes c.send_message.new.self.sink } in
     let here = c.in-Some.message.now in
     let there : Some here ≡ Some m = ap option_copied (sym c.in-Some.is) ∙ c.outbox.ensures ∙ ap (λ (v : PeerView). slice_get v.core.outbox c.args.index) c.self.view_is ∙ at in
     let same : here ≡ m = cc in

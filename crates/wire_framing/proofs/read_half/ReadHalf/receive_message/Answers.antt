@@ -1,8 +1,9 @@
-use Rattle.std.proofs.Common.{◌-◌, ◌^◌, ◌<◌, ap, arith, refl}
+use Rattle.std.proofs.Common.{◌-◌, ◌^◌, ◌<◌, ap, arith, refl, Ok, Err}
 use Rattle.std.proofs.lemmas.Result.{err_from_is_err_and}
 use Rattle.wire_message.specs.Front.{Seen}
 use Rattle.wire_framing.proofs.Whole.{nothing_received}
 use Rattle.wire_framing.proofs.Kept.{failed_told, failed_cause, unmade_told, unmade_cause, unmade_takes, front_own, front_placed, made_told, made_takes}
+use Rattle.wire_framing.proofs.Spends.{failed_spends, whole_spends}
 use Rattle.wire_framing.proofs.read_half.ReadHalf.receive_message.Goals as goal
 
 pub returns-then-seq-eq18446744073709551615-clause-told : goal.returns-then-seq-eq18446744073709551615-clause-told
@@ -55,3 +56,19 @@ returns-in-Err-clause-told g c =
 
 pub returns-in-Err-clause-error : goal.returns-in-Err-clause-error
 returns-in-Err-clause-error g c = failed_cause c.in-Err.error _ _ _ _ _ _ _ _ c.in-Err.ensures.found c.in-Err.ensures.came
+
+pub returns-in_err-message-in-Ok-clause-spends : goal.returns-in_err-message-in-Ok-clause-spends
+returns-in_err-message-in-Ok-clause-spends g c none below =
+    let p = err_from_is_err_and c.from_residual.result c.from_residual.ensures.1 in
+    let whole = c.in-Ok.ensures in
+    rw (p.1, p.2) (whole_spends (Err c.in_err-message-in-Ok.field-0.0) c.in-Ok.total _ _ _ _ _ _ _ _ none whole.grown whole.found whole.own whole.came)
+
+pub returns-in_ok-message-in-Ok-clause-spends : goal.returns-in_ok-message-in-Ok-clause-spends
+returns-in_ok-message-in-Ok-clause-spends g c none below =
+    let whole = c.in-Ok.ensures in
+    whole_spends (Ok c.at.result) c.in-Ok.total _ _ _ _ _ _ _ _ none whole.grown whole.found whole.own whole.came
+
+pub returns-in-Err-clause-spends : goal.returns-in-Err-clause-spends
+returns-in-Err-clause-spends g c none below =
+    let whole = c.in-Err.ensures in
+    failed_spends c.in-Err.error _ _ _ _ _ _ _ _ none whole.grown whole.found whole.own whole.came

@@ -1,0 +1,5 @@
+use Rattle.peer_run.proofs.OneText.{one_text}
+use Rattle.peer_run.proofs.laws.one_transcript.Goals as goal
+
+pub returns : goal.returns
+returns c = one_text
