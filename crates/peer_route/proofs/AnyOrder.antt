@@ -1,13 +1,13 @@
 -- The byte order changes no length: what is spelled in one order has its arrays within their limits in the other too.
 use Rattle.std.proofs.Common.{◌≡◌, ℕ, ◌+◌, ◌≤◌, max, List, [], ◌∷◌, ◌++◌, length, refl, sym, ◌∙◌, ap, subst, arith, length-append}
-use Rattle.std.specs.Int.{w32}
+use Rattle.std.specs.Int.{w32, w8}
 use Rattle.wire_number.specs.declared.endian.Endian.{Endian}
-use Rattle.wire_number.specs.Number.{number_text, padding}
+use Rattle.wire_number.specs.Number.{number_text, padding, counted_text}
 use Rattle.wire_signature.specs.Shape.{Shape, alignment, basic_alignment, type_text}
 use Rattle.wire_tree.specs.Datum.{Txt, signature, Datum, num, text, array, dict, struct, variant, Data, no_data, items, Entries, no_entries, entry, data_of, num_type, text_type, type_of}
-use Rattle.wire_spelling.specs.Spelling.{width_of, length_width, text_form, aligned, first_place, array_form, spelling, spellings, entry_spellings, depth, depths, ArraysFit, AllFit, EntriesFit}
+use Rattle.wire_spelling.specs.Spelling.{width_of, length_width, aligned, first_place, array_form, spelling, spellings, entry_spellings, depth, depths, ArraysFit, AllFit, EntriesFit}
 use Rattle.wire_spelling.specs.Each.{SpellEach}
-use Rattle.wire_spelling.proofs.Steps.{length-number_text}
+use Rattle.wire_number.proofs.Steps.{length-number_text}
 
 -- ---- lengths
 
@@ -18,7 +18,7 @@ both_long us vs xs ys e f = length-append us xs ∙ ap (λ n. n + length xs) e �
 number_long : (o q : Endian) (n : ℕ) → length (number_text w32 o n) ≡ length (number_text w32 q n)
 number_long o q n = length-number_text w32 o n ∙ sym (length-number_text w32 q n)
 
-text_long : (o q : Endian) (t : Txt) (bs : List ℕ) → length (text_form o t bs) ≡ length (text_form q t bs)
+text_long : (o q : Endian) (t : Txt) (bs : List ℕ) → length (counted_text (length_width t) o bs) ≡ length (counted_text (length_width t) q bs)
 text_long o q t bs =
     both_long (number_text (length_width t) o (length bs)) (number_text (length_width t) q (length bs)) (bs ++ 0 ∷ []) (bs ++ 0 ∷ [])
     (length-number_text (length_width t) o (length bs) ∙ sym (length-number_text (length_width t) q (length bs))) refl
@@ -42,9 +42,9 @@ mutual
   spelling_long o q p (dict k v es) = array_long o q p 8 _ _ (entries_long o q (first_place p 8) es)
   spelling_long o q p (struct ds) = both_long (padding p 8) (padding p 8) _ _ refl (spellings_long o q (aligned p 8) ds)
   spelling_long o q p (variant d) =
-      let sign : length (text_form o signature (type_text (type_of d))) ≡ length (text_form q signature (type_text (type_of d))) = text_long o q signature (type_text (type_of d)) in
-      both_long (text_form o signature (type_text (type_of d))) (text_form q signature (type_text (type_of d))) _ _ sign
-      (spelling_long o q (p + length (text_form o signature (type_text (type_of d)))) d
+      let sign : length (counted_text w8 o (type_text (type_of d))) ≡ length (counted_text w8 q (type_text (type_of d))) = text_long o q signature (type_text (type_of d)) in
+      both_long (counted_text w8 o (type_text (type_of d))) (counted_text w8 q (type_text (type_of d))) _ _ sign
+      (spelling_long o q (p + length (counted_text w8 o (type_text (type_of d)))) d
       ∙ ap (λ n. length (spelling q (p + n) d)) sign)
 
   spellings_long : (o q : Endian) (p : ℕ) (ds : Data) → length (spellings o p ds) ≡ length (spellings q p ds)
@@ -82,7 +82,7 @@ mutual
   one_fits o q p (struct ds) f = all_fit o q (aligned p 8) ds f
   one_fits o q p (variant d) f =
       subst (λ n. ArraysFit q (p + n) d) (text_long o q signature (type_text (type_of d)))
-      (one_fits o q (p + length (text_form o signature (type_text (type_of d)))) d f)
+      (one_fits o q (p + length (counted_text w8 o (type_text (type_of d)))) d f)
 
   all_fit : (o q : Endian) (p : ℕ) (ds : Data) → AllFit o p ds → AllFit q p ds
   all_fit o q p no_data f = tt

@@ -5,10 +5,10 @@ use Rattle.std.proofs.lemmas.Bool.Decides.{nat_tests}
 use Rattle.std.proofs.lemmas.List.{length-append}
 use Rattle.wire_number.specs.declared.endian.Endian.TheVariants.{Little}
 use Rattle.std.specs.Int.{w32}
-use Rattle.wire_number.specs.Number.{number_text, padding}
+use Rattle.wire_number.specs.Number.{number_text, padding, counted_text}
 use Rattle.wire_signature.specs.Shape.{basic_alignment}
 use Rattle.wire_tree.specs.Datum.{string, text_type, data_of, IsTextOf}
-use Rattle.wire_spelling.specs.Spelling.{AllFit, text_form, spelling, spellings}
+use Rattle.wire_spelling.specs.Spelling.{AllFit, spelling, spellings}
 use Rattle.wire_message.specs.Draft.{header_text, message_text, built}
 use Rattle.wire_message.specs.Bodies.{body_text}
 use Rattle.wire_message.specs.declared.error.Error.{Error}
@@ -39,14 +39,14 @@ short_text rule t = let short = t.2 in grind (arith, nat_tests)
 
 -- ---- its message
 
-long_body : (text : List ℕ) → 4294967295 < length text → 4294967295 < length ((padding 0 (basic_alignment (text_type string)) ++ text_form Little string text) ++ [])
+long_body : (text : List ℕ) → 4294967295 < length text → 4294967295 < length ((padding 0 (basic_alignment (text_type string)) ++ counted_text w32 Little text) ++ [])
 long_body text long =
     let digits = number_text w32 Little (length text) in
     omega (
       arith,
       long,
-      length-append (padding 0 (basic_alignment (text_type string)) ++ text_form Little string text) [],
-      length-append (padding 0 (basic_alignment (text_type string))) (text_form Little string text),
+      length-append (padding 0 (basic_alignment (text_type string)) ++ counted_text w32 Little text) [],
+      length-append (padding 0 (basic_alignment (text_type string))) (counted_text w32 Little text),
       length-append digits (text ++ 0 ∷ []),
       length-append text (0 ∷ []),
     )

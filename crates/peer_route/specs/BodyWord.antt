@@ -7,7 +7,8 @@ use Rattle.wire_signature.specs.Parsing.{types_in}
 use Rattle.wire_signature.specs.declared.error.VariantError.TheVariants as faults
 use Rattle.wire_tree.specs.Datum.{Datum}
 use Rattle.wire_spelling.specs.Each.{SpellEach}
-use Rattle.wire_spelling.specs.Reading.{Cursor, value_at, fields_at}
+use Rattle.wire_number.specs.Reading.{Cursor}
+use Rattle.wire_spelling.specs.Reading.{value_at, fields_at}
 use Rattle.wire_message.specs.declared.error.Error.{Error}
 use Rattle.wire_message.specs.declared.error.Error.TheVariants as errors
 use Rattle.peer_route.specs.Hex.{hex_word, bytes_of}

@@ -84,6 +84,8 @@ MakesBody (Ok None) rule = fits_string rule ≡ false
 MakesBody (Err errors.Memory) rule = ⊤
 MakesBody (Err error) rule = ⊥
 
+-- The arguments of a call about a rule: the rule's text where it fits a string, else none (D-Bus Specification, "Message Bus
+-- Messages", `org.freedesktop.DBus.AddMatch`).
 abbrev pub body_if : Bool → Rule → List Datum
 body_if true rule = text string (rule_text rule) ∷ []
 body_if false rule = []
@@ -92,6 +94,8 @@ body_if false rule = []
 abbrev pub letter_about : List ℕ → Rule → Parcel
 letter_about member rule = record { draft = bus_draft None member; values = body_if (fits_string rule) rule; fds = [] }
 
+-- The call of that member about a rule, AddMatch or RemoveMatch, and whether the rule's text fits it (D-Bus Specification, "Message
+-- Bus Messages").
 abbrev pub rule_call : List ℕ → Rule → RuleCall
 rule_call member rule = record { letter = letter_about member rule; fits = fits_string rule }
 

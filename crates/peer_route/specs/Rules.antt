@@ -17,14 +17,19 @@ use Rattle.rule_match.specs.Rule.{Rule}
 
 -- ---- when two rules are one
 
+-- the same message type, told by its byte (D-Bus Specification, "Message Format")
 abbrev pub same_kind : MessageType → MessageType → Bool
 same_kind kind other = kind_code kind == kind_code other
 
+-- The same bus name: both unique or both well-known, with one text (D-Bus Specification, "Valid Names", "Bus names"). The bus's
+-- own name as a unique name isn't it as a well-known one.
 abbrev pub same_name : OwnedBusName → OwnedBusName → Bool
 same_name (Unique name) (Unique other) = same name other
 same_name (WellKnown name) (WellKnown other) = same name other
 same_name name other = false
 
+-- the same path, wanted alone by both or with all below it by both (D-Bus Specification, "Match Rules", `path` and
+-- `path_namespace`)
 abbrev pub same_place : PathSpec → PathSpec → Bool
 same_place (Path path) (Path other) = same path other
 same_place (PathNamespace path) (PathNamespace other) = same path other

@@ -8,7 +8,7 @@ ghost use Rattle.peer_route.specs.BodyWord.{IsBodyWord, ReadsBody, at_colon, spe
 
 use crate::hex::read_hex;
 use std::alloc::{AllocError, Global};
-use wire_body::Body;
+use wire_body::BodyValues;
 use wire_message::{Error, Result};
 use wire_names::Bytes;
 use wire_number::Endian;
@@ -49,11 +49,11 @@ fn signature_of(alloc: Global, text: &[u8]) -> std::result::Result<Option<Signat
 }
 
 /// The body with these values, whose types together are a signature.
-fn whole_body(alloc: Global, values: Vec<Value>) -> std::result::Result<Body, AllocError>
+fn whole_body(alloc: Global, values: Vec<Value>) -> std::result::Result<BodyValues, AllocError>
     requires { IsSignature (map type_of values.items) }
     ensures { IfOk result (λ body. body ≡ values.items) }
 {
-    match Body::from_values(alloc, values) {
+    match BodyValues::from_values(alloc, values) {
         Ok(body) => Ok(body),
         Err(error) => {
             // The types are known to be a signature, so that nothing but memory was wanting.
@@ -68,7 +68,7 @@ fn body_of(
     alloc: Global,
     signature: &Signature,
     bytes: &[u8],
-) -> std::result::Result<Option<Body>, AllocError>
+) -> std::result::Result<Option<BodyValues>, AllocError>
     ensures { IfOk result (λ body. body ≡ spelled_values signature.now bytes.now) }
 {
     // Asking for the types tells the proof that they are within the limits.
@@ -92,7 +92,7 @@ fn body_of(
 
 /// The body of a word, if it is one of a body.
 #[tactic(auto, unfolding(crate::specs::BodyWord::body_values))]
-fn body_of_word(alloc: Global, word: &[u8]) -> std::result::Result<Option<Body>, AllocError>
+fn body_of_word(alloc: Global, word: &[u8]) -> std::result::Result<Option<BodyValues>, AllocError>
     ensures { IfOk result (λ body. body ≡ body_values word.now) }
 {
     let Some((text, digits)) = split_colon(word) else {
@@ -114,7 +114,7 @@ fn body_of_word(alloc: Global, word: &[u8]) -> std::result::Result<Option<Body>,
 /// # Errors
 ///
 /// [`Error::Variant`] of `Malformed` exactly where the word is none of a body. [`Error::Memory`] for want of memory.
-pub fn read_body(alloc: Global, word: &Bytes) -> Result<Body>
+pub fn read_body(alloc: Global, word: &Bytes) -> Result<BodyValues>
     ensures { ReadsBody result (body_values word.now) }
 {
     match body_of_word(alloc, word.as_slice())? {

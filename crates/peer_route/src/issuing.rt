@@ -22,7 +22,8 @@ use wire_signature::VariantError;
 #[derive(Clone, Copy)]
 pub(crate) struct Mark {
     calls: usize,
-    serials: Serials,
+    // the last that was drawn
+    serials: u32,
     outbox: usize,
     places: usize,
 }
@@ -181,7 +182,7 @@ impl Route {
     {
         Mark {
             calls: self.calls.len(),
-            serials: self.serials,
+            serials: self.serials.last(),
             outbox: self.outbox.len(),
             places: self.places.len(),
         }
@@ -228,7 +229,7 @@ impl Route {
         ensures { self.new ≡ back_to self.old mark.calls mark.serials mark.outbox mark.places }
     {
         self.calls.take_back(mark.calls);
-        self.serials = mark.serials;
+        self.serials = Serials::after(mark.serials);
         self.outbox.truncate(mark.outbox);
         self.places.truncate(mark.places);
     }

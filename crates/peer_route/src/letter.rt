@@ -9,7 +9,7 @@ use crate::calls::PendingMethodCalls;
 use bitflags::Flags as _;
 use std::alloc::Global;
 use std::marker::Model;
-use wire_body::Body;
+use wire_body::BodyValues;
 use wire_message::{Builder, Flags, Message, MessageType, Result, Serials};
 use wire_names::OwnedUniqueName;
 use wire_value::is_shallow;
@@ -18,7 +18,7 @@ use wire_value::is_shallow;
 /// that go with it.
 pub struct Letter<'a> {
     pub builder: Builder<'a>,
-    pub body: Body,
+    pub body: BodyValues,
     pub fds: Vec<u32>,
 }
 

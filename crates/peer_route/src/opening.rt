@@ -16,7 +16,7 @@ use crate::route::{Issued, Route};
 use crate::streams::MessageStream;
 use rule_match::{MatchRule, OwnedMatchRule, rules_hold_their_grammar};
 use std::alloc::Global;
-use wire_body::{Body, to};
+use wire_body::{BodyValues, to};
 use wire_message::{Builder, Error, IoKind, Message, MessageType, Result};
 use wire_names::{BusName, InterfaceName, MemberName, ObjectPath, Text};
 use wire_signature::VariantError;
@@ -109,7 +109,7 @@ pub(crate) struct RuleCalls {
 }
 
 /// The body with a rule's text; None exactly where no string may be as long, which is above 4,294,967,295 bytes.
-fn rule_body(alloc: Global, rule: &MatchRule) -> Result<Option<Body>>
+fn rule_body(alloc: Global, rule: &MatchRule) -> Result<Option<BodyValues>>
     ensures { MakesBody result rule.now }
 {
     rules_hold_their_grammar(rule);
@@ -126,11 +126,11 @@ fn rule_body(alloc: Global, rule: &MatchRule) -> Result<Option<Body>>
 }
 
 /// The body without values.
-fn no_body(alloc: Global) -> Result<Body>
+fn no_body(alloc: Global) -> Result<BodyValues>
     ensures value { IfOk result (λ body. body ≡ []) }
     ensures error { IfErr result (λ e. e ≡ Error.Memory) }
 {
-    match Body::from_values(alloc, Vec::new(alloc)) {
+    match BodyValues::from_values(alloc, Vec::new(alloc)) {
         Ok(body) => Ok(body),
         Err(error) => {
             // No types are a signature, so that nothing but memory was wanting.

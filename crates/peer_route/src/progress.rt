@@ -33,7 +33,7 @@ impl Progress {
                 serial: *serial,
                 index: *index,
             },
-            Progress::Denied(message) => Progress::Denied(message.try_clone()?),
+            Progress::Denied(message) => Progress::Denied(message.clone()?),
             Progress::Runs => Progress::Runs,
         })
     }

@@ -183,7 +183,7 @@ impl Queue {
         ensures ok { OnOk result (self.new ≡ pushed message.now self.old) }
     {
         if self.runs() && self.wants(message) {
-            let copy = message.try_clone()?;
+            let copy = message.clone()?;
             self.items.push_back(copy)?;
         }
         Ok(())
@@ -258,7 +258,7 @@ impl Queue {
     {
         let mut items = VecDeque::new(alloc);
         for message in &self.items {
-            items.push_back(message.try_clone()?)?;
+            items.push_back(message.clone()?)?;
         }
         let wants = clone_subscription(&self.wants, alloc)?;
         let progress = self.progress.try_clone()?;

@@ -71,7 +71,7 @@ fn copies_of(alloc: Global, message: &Message, count: usize) -> Result<Vec<Messa
     let mut copies = Vec::new(alloc);
     let mut made = 0;
     while made < count {
-        copies.push(message.try_clone()?)?;
+        copies.push(message.clone()?)?;
         made += 1;
     }
     Ok(copies)

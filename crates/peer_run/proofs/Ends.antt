@@ -9,7 +9,8 @@ use Rattle.peer_route.specs.Told.{IsSentOf, IsCutAt, ReadsTold}
 use Rattle.wire_framing.specs.declared.write_half.Writing.{Writing}
 use Rattle.peer_script.specs.Script.{Script, is_bus, name_of}
 use Rattle.peer_run.specs.Stands.{Inlet, Outlet, PeerView, Reads, Writes, Holds, HoldsThen, RoomFor, IsLeft, setting_by}
-use Rattle.peer_run.specs.Runs.{Stands, Runs, command_of}
+use Rattle.peer_script.specs.Again.{command_of}
+use Rattle.peer_run.specs.Runs.{Stands, Runs}
 use Rattle.peer_run.proofs.Quiet.{first_same}
 use Rattle.peer_run.proofs.Outlets.{falls_none}
 use Rattle.peer_run.specs.Program.{setting_of, source_bytes, source_breaks, IsRunOf}

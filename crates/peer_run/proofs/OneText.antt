@@ -11,7 +11,7 @@ use Rattle.peer_script.specs.Script.{Script}
 use Rattle.peer_script.specs.Reading.{script_of}
 use Rattle.peer_script.specs.Transcript.{transcript_text}
 use Rattle.peer_script.proofs.Readings.{reading_of_text}
-use Rattle.peer_run.specs.Runs.{command_of}
+use Rattle.peer_script.specs.Again.{command_of}
 use Rattle.peer_run.specs.Program.{setting_of, source_bytes, source_breaks, IsTranscript, IsWhole}
 use Rattle.peer_run.proofs.Kept.{told_now}
 use Rattle.peer_run.proofs.Transcripts.{same_history}

@@ -67,7 +67,7 @@ whole_of s entries sent r = record {
 
 map_front : (A B : List ℕ → Type 0) (front : List ℕ) → ((text : List ℕ) → A text → B text) → IsFront A front → IsFront B front
 map_front A B front f (inl none) = inl none
-map_front A B front f (inr (text, is, n, taken)) = inr (text, f text is, n, taken)
+map_front A B front f (inr (text, is, n, less, taken)) = inr (text, f text is, n, less, taken)
 
 pub map_out : (A B : List ℕ → Type 0) (before after : Option (List ℕ)) → ((text : List ℕ) → A text → B text) → RunsOut A before after → RunsOut B before after
 map_out A B before after f (front, is, n, gained) = (front, map_front A B front f is, n, gained)
@@ -90,7 +90,7 @@ part_cut Is text before after faults faults' result n is five rose part = inl (f
 pub part_out : (Is : List ℕ → Type 0) (text : List ℕ) (before after : Option (List ℕ)) (faults faults' result n : ℕ) → Is text → result ≡ 1 → faults' ≡ faults
     → Part text before after n → Stops Is before after faults faults' result
 part_out Is text before after faults faults' result n is one same part =
-    inr (one, same, (take n text, inr (text, is, n, refl), 0, subst (Appends before after) (sym (append-nil (take n text))) part.gone))
+    inr (one, same, (take n text, inr (text, is, n, part.proper, refl), 0, subst (Appends before after) (sym (append-nil (take n text))) part.gone))
 
 -- a front stands there, and then it is said that there is no memory
 front_memory : (Is : List ℕ → Type 0) (front : List ℕ) (before mid after : Option (List ℕ)) (faults faults' result : ℕ) → IsFront Is front → Appends before mid front
@@ -106,7 +106,7 @@ front_memory Is front before mid after faults faults' result is first (SaidNot o
 pub part_memory : (Is : List ℕ → Type 0) (text : List ℕ) (before mid after : Option (List ℕ)) (n faults faults' result : ℕ) → Is text → Part text before mid n
     → Says 1 memory_text mid after faults faults' result → Stops Is before after faults faults' result
 part_memory Is text before mid after n faults faults' result is part says =
-    front_memory Is (take n text) before mid after faults faults' result (inr (text, is, n, refl)) part.gone says
+    front_memory Is (take n text) before mid after faults faults' result (inr (text, is, n, part.proper, refl)) part.gone says
 
 -- nothing but that is said
 pub only_memory : (Is : List ℕ → Type 0) (before after : Option (List ℕ)) (faults faults' result : ℕ) → Says 1 memory_text before after faults faults' result

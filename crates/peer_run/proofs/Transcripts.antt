@@ -23,7 +23,7 @@ use Rattle.peer_route.specs.Told.{ReadsTold, ReadTold, ReadOpenTold, CloseTold, 
 use Rattle.peer_route.proofs.Writers.{fine_unfailed}
 use Rattle.peer_route.proofs.Tellings.{wrote_all_put, fault_all_put, first_all_put, wrote_all_failed, fault_all_failed, first_all_failed}
 use Rattle.peer_route.proofs.Written.{fault_all_written, first_all_written}
-use Rattle.peer_run.specs.Runs.{command_of}
+use Rattle.peer_script.specs.Again.{command_of}
 
 -- ---- what the sink's room decides
 

@@ -21,7 +21,7 @@ use Rattle.peer_script.specs.Reading.{IsWithin, script_of}
 use Rattle.peer_script.specs.Transcript.{transcript_text}
 use Rattle.wire_framing.specs.Source.{MayRise}
 use Rattle.wire_framing.specs.Send.{Part}
-use Rattle.peer_run.specs.Runs.{command_of}
+use Rattle.peer_script.specs.Again.{command_of}
 
 -- the words of the program's table that are built: none, or `run`
 abbrev pub is_run : List (List ℕ) → Bool
@@ -206,16 +206,16 @@ Printed words input stop faults faults' text = (IsRun words × OfInput input sto
 
 -- ---- where there is no memory, or the output fails
 
--- a front of such a text, perhaps nothing of it
+-- nothing, or a proper front of such a text
 abbrev pub IsFront : (List ℕ → Type 0) → List ℕ → Type 0
-IsFront Is front = (front ≡ []) ⊎ ((text : List ℕ) × Is text × (n : ℕ) × (front ≡ take n text))
+IsFront Is front = (front ≡ []) ⊎ ((text : List ℕ) × Is text × (n : ℕ) × (n < length text) × (front ≡ take n text))
 
--- There was no memory: the output gained a front of what would have been printed, and behind it a front of the line that says so.
+-- There was no memory: the output gained a proper front of what would have been printed, and behind it a front of the line that says so.
 abbrev pub RunsOut : (List ℕ → Type 0) → Option (List ℕ) → Option (List ℕ) → Type 0
 RunsOut Is before after = (front : List ℕ) × IsFront Is front × (n : ℕ) × Appends before after (front ++ take n memory_text)
 
--- The output failed: it gained a proper part of what would have been printed; or, where there was no memory for the whole, a front of
--- it and behind that a proper part of the line that says so.
+-- The output failed: it gained a proper part of what would have been printed; or, where there was no memory for the whole, a proper
+-- front of it, perhaps nothing, and behind that a proper part of the line that says so.
 abbrev pub IsCutShort : (List ℕ → Type 0) → Option (List ℕ) → Option (List ℕ) → Type 0
 IsCutShort Is before after =
     ((text : List ℕ) × Is text × (n : ℕ) × Part text before after n)

@@ -7,11 +7,8 @@ use Rattle.peer_route.specs.Parcel.{Setting}
 use Rattle.peer_route.specs.Trail.{trail}
 use Rattle.peer_route.specs.Answers.{Legal}
 use Rattle.peer_route.specs.Told.{ReadsTold, ClosesTold, WritesTold}
+use Rattle.peer_script.specs.Again.{command_of}
 use Rattle.peer_run.specs.Stands.{Inlet, Outlet, PeerView, Follows, Reads, Writes, IsLeft, SourceFaults, SinkFaults, HoldsThen, IsFine, asked_by}
-
--- the command of an entry
-abbrev pub command_of : Entry → Command
-command_of e = record { lane = e.lane; words = e.words }
 
 -- a peer of this setting, a source, a sink and the half that writes to it stand to a history, newest first
 pub record Stands (setting : Setting) (start_in : Inlet) (start_out : Outlet) (p : PeerView) (now_in : Inlet) (now_out : Outlet) (writing : Writing) (es : List Entry) : Type 0 where

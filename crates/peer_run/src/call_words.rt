@@ -1,20 +1,22 @@
 //! The messages that the words of commands ask for.
 ghost use Rattle.std.specs.Prelude.{◌≡◌, IfOk, IfErr, true, false, Some, None, Ok, Err, option_map, unwrap_or, if◌then◌else◌, []};
-ghost use Rattle.wire_names.specs.Names.{is_bus_name, is_error_name, is_interface_name, is_member_name, is_object_path};
+ghost use Rattle.wire_names.specs.Names.{is_bus_name, is_interface_name};
 ghost use Rattle.wire_names.specs.BusName.{text_of};
 ghost use Rattle.wire_names.specs.declared.error.NamesError.TheVariants as names;
 ghost use Rattle.wire_message.specs.declared.error.Error.TheVariants as errors;
 ghost use Rattle.wire_message.specs.declared.kind.MessageType.TheVariants as types;
 ghost use Rattle.peer_route.specs.BodyWord.{ReadsBody};
-ghost use Rattle.peer_route.specs.CallMessage.{flags_number, order_of, fds_of, is_outside, name_refusal, values_in, call_draft, call_asked, signal_draft, signal_asked, reply_asked, error_asked};
+ghost use Rattle.peer_route.specs.CallMessage.{flags_number, order_of, fds_of, is_outside, values_in, call_draft, call_asked, signal_draft, signal_asked, reply_asked, error_asked};
 ghost use Rattle.peer_run.specs.CallWords.{MakesDraft, MakesParcel, lettered, letters_asked};
 
 use bitflags::Flags as _;
 use peer_route::{CallFlags, Letter, Outgoing, read_body};
 use std::alloc::{AllocError, Global};
-use wire_body::Body;
+use wire_body::BodyValues;
 use wire_message::{Builder, Error, Flags, Message, Result};
-use wire_names::{BusName, Bytes, ErrorName, InterfaceName, MemberName, NamesError, ObjectPath};
+use wire_names::{
+    BusName, Bytes, ErrorName, InterfaceName, MemberName, Name, NameKind, NamesError, ObjectPath,
+};
 use wire_number::Endian;
 use wire_signature::VariantError;
 
@@ -32,16 +34,27 @@ fn bus_name(text: &Option<Bytes>) -> Result<Option<BusName<'_>>>
     }
 }
 
-/// The interface name of a text, if there is a text.
-fn interface_name(text: &Option<Bytes>) -> Result<Option<InterfaceName<'_>>>
-    ensures ok { IfOk result (λ name. (name ≡ text.now) × (is_outside is_interface_name text.now ≡ false)) }
-    ensures err { IfErr result (λ e. (e ≡ errors.Names names.Interface) × (is_outside is_interface_name text.now ≡ true)) }
+/// The name of a text.
+fn name<'a, K: NameKind>(text: &'a Bytes) -> Result<Name<'a, K>>
+    ensures ok { IfOk result (λ name. (name ≡ text.now) × (K.is_name text.now ≡ true)) }
+    ensures err { IfErr result (λ e. (e ≡ errors.Names K.refusal) × (K.is_name text.now ≡ false)) }
+{
+    match Name::try_from_bytes(text.as_slice()) {
+        Ok(name) => Ok(name),
+        Err(error) => Err(Error::Names(error)),
+    }
+}
+
+/// The name of a text, if there is a text.
+fn name_if<'a, K: NameKind>(text: &'a Option<Bytes>) -> Result<Option<Name<'a, K>>>
+    ensures ok { IfOk result (λ name. (name ≡ text.now) × (is_outside K.is_name text.now ≡ false)) }
+    ensures err { IfErr result (λ e. (e ≡ errors.Names K.refusal) × (is_outside K.is_name text.now ≡ true)) }
 {
     match text {
         None => Ok(None),
-        Some(text) => match InterfaceName::try_from_bytes(text.as_slice()) {
+        Some(text) => match name(text) {
             Ok(name) => Ok(Some(name)),
-            Err(error) => Err(Error::Names(error)),
+            Err(error) => Err(error),
         },
     }
 }
@@ -53,49 +66,12 @@ fn needed_interface(text: &Option<Bytes>) -> Result<InterfaceName<'_>>
 {
     match text {
         None => Err(Error::Names(NamesError::Interface)),
-        Some(text) => match InterfaceName::try_from_bytes(text.as_slice()) {
-            Ok(name) => Ok(name),
-            Err(error) => Err(Error::Names(error)),
-        },
-    }
-}
-
-/// The object path of a text.
-fn object_path(text: &Bytes) -> Result<ObjectPath<'_>>
-    ensures ok { IfOk result (λ path. (path ≡ text.now) × (is_object_path text.now ≡ true)) }
-    ensures err { IfErr result (λ e. (e ≡ errors.Names names.Path) × (is_object_path text.now ≡ false)) }
-{
-    match ObjectPath::try_from_bytes(text.as_slice()) {
-        Ok(path) => Ok(path),
-        Err(error) => Err(Error::Names(error)),
-    }
-}
-
-/// The member name of a text.
-fn member_name(text: &Bytes) -> Result<MemberName<'_>>
-    ensures ok { IfOk result (λ name. (name ≡ text.now) × (is_member_name text.now ≡ true)) }
-    ensures err { IfErr result (λ e. (e ≡ errors.Names names.Member) × (is_member_name text.now ≡ false)) }
-{
-    match MemberName::try_from_bytes(text.as_slice()) {
-        Ok(name) => Ok(name),
-        Err(error) => Err(Error::Names(error)),
-    }
-}
-
-/// The error name of a text.
-#[tactic(auto, unfolding(peer_route::specs::CallMessage::name_refusal))]
-fn error_name(text: &Bytes) -> Result<ErrorName<'_>>
-    ensures ok { IfOk result (λ name. (name ≡ text.now) × (name_refusal text.now ≡ None)) }
-    ensures err { IfErr result (λ e. name_refusal text.now ≡ Some e) }
-{
-    match ErrorName::try_from_bytes(text.as_slice()) {
-        Ok(name) => Ok(name),
-        Err(error) => Err(Error::Names(error)),
+        Some(text) => name(text),
     }
 }
 
 /// The body of a word; without a word it is empty.
-fn body_in(alloc: Global, word: &Option<Bytes>) -> Result<Body>
+fn body_in(alloc: Global, word: &Option<Bytes>) -> Result<BodyValues>
     ensures { ReadsBody result (values_in word.now) }
 {
     match word {
@@ -105,10 +81,10 @@ fn body_in(alloc: Global, word: &Option<Bytes>) -> Result<Body>
 }
 
 /// The body without values.
-fn empty_body(alloc: Global) -> Result<Body>
+fn empty_body(alloc: Global) -> Result<BodyValues>
     ensures { ReadsBody result (Some []) }
 {
-    match Body::from_values(alloc, Vec::new(alloc)) {
+    match BodyValues::from_values(alloc, Vec::new(alloc)) {
         Ok(body) => Ok(body),
         Err(error) => {
             // No types are a signature, so that nothing but memory was wanting.
@@ -189,7 +165,7 @@ fn fds_of(alloc: Global, descriptor: bool) -> std::result::Result<Vec<u32>, Allo
 fn with_body<'a>(
     alloc: Global,
     builder: Builder<'a>,
-    body: Body,
+    body: BodyValues,
     flags: CallFlags,
     takes_fds: bool,
 ) -> Result<Letter<'a>>
@@ -210,9 +186,9 @@ fn call_builder<'a>(words: &'a Outgoing) -> Result<Builder<'a>>
     ensures { MakesDraft result (call_draft None words.now) }
 {
     let destination = bus_name(&words.destination)?;
-    let path = object_path(&words.path)?;
-    let interface = interface_name(&words.interface)?;
-    let member = member_name(&words.member)?;
+    let path: ObjectPath<'_> = name(&words.path)?;
+    let interface: Option<InterfaceName<'_>> = name_if(&words.interface)?;
+    let member: MemberName<'_> = name(&words.member)?;
     let builder = with_destination(Message::method_call(&path, &member), &destination);
     Ok(with_interface(builder, &interface))
 }
@@ -223,9 +199,9 @@ fn signal_builder<'a>(words: &'a Outgoing) -> Result<Builder<'a>>
     ensures { MakesDraft result (signal_draft None words.now) }
 {
     let destination = bus_name(&words.destination)?;
-    let path = object_path(&words.path)?;
+    let path: ObjectPath<'_> = name(&words.path)?;
     let interface = needed_interface(&words.interface)?;
-    let member = member_name(&words.member)?;
+    let member: MemberName<'_> = name(&words.member)?;
     Ok(with_destination(Message::signal(&path, &interface, &member), &destination))
 }
 
@@ -273,6 +249,7 @@ pub(crate) fn reply_letter<'a>(
 }
 
 /// The error of that name to a message, with the body of that word; its sender isn't set yet.
+#[tactic(auto, unfolding(peer_route::specs::CallMessage::name_refusal))]
 pub(crate) fn error_letter<'a>(
     alloc: Global,
     message: &'a Message,
@@ -281,7 +258,7 @@ pub(crate) fn error_letter<'a>(
 ) -> Result<Letter<'a>>
     ensures { MakesParcel result (error_asked None (Some message.now) error.now body.now) }
 {
-    let error = error_name(error)?;
+    let error: ErrorName<'_> = name(error)?;
     let body = body_in(alloc, body)?;
     let builder = Message::error(&message.header(), &error);
     Ok(Letter {

@@ -3,7 +3,7 @@ ghost use Rattle.peer_route.specs.declared.answer.Entry.{Entry};
 ghost use Rattle.peer_route.specs.Parcel.{Setting};
 ghost use Rattle.peer_route.specs.Answers.{Legal};
 ghost use Rattle.peer_route.specs.Told.{ReadsTold, WritesTold, ClosesTold};
-ghost use Rattle.peer_run.specs.Runs.{command_of};
+ghost use Rattle.peer_script.specs.Again.{command_of};
 ghost use Rattle.peer_run.specs.Program.{IsTranscript, IsWhole};
 
 /// Where the source's bytes and ending and the sink's room are told, the answers of two legal histories of the same commands are the

@@ -145,7 +145,7 @@ pub fn peer_main<R, I: Source, O: Sink>(
     ensures output_fault { result ≡ 5 → MayRise (O.faults output.old) (O.faults output.new) }
     // and then a proper part was printed of what would have been, and nothing else
     ensures cut_short { result ≡ 5 → IsCutShort (Printed (map (λ word. string_bytes word) words.now) (I.left input.old) (I.stop input.old) (I.faults input.old) (I.faults input.new)) (O.held output.old) (O.held output.new) }
-    // 1: a front of what would have been printed, and behind it a front of the line that says so, and nothing else
+    // 1: a proper front of what would have been printed, and behind it a front of the line that says so, and nothing else
     ensures memory { result ≡ 1 → RunsOut (Printed (map (λ word. string_bytes word) words.now) (I.left input.old) (I.stop input.old) (I.faults input.old) (I.faults input.new)) (O.held output.old) (O.held output.new) }
     ensures output_first { O.faults output.old < O.faults output.new → result ≡ 5 }
     ensures statuses { result ≤ 5 }

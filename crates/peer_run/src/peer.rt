@@ -233,7 +233,7 @@ impl Peer {
         }
         match receive(alloc, half, kept, self.route.received() + 1) {
             Ok(message) => {
-                let copy = message.try_clone()?;
+                let copy = message.clone()?;
                 self.route.arrive(message)?;
                 Ok(Answer::Got(copy))
             }

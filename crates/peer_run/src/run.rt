@@ -3,7 +3,8 @@ ghost use Rattle.peer_route.specs.declared.answer.Entry.{Entry};
 ghost use Rattle.peer_route.specs.Parcel.{Setting};
 ghost use Rattle.peer_script.specs.Script.{is_bus, name_of};
 ghost use Rattle.peer_run.specs.Stands.{Inlet, Outlet, setting_by, entry};
-ghost use Rattle.peer_run.specs.Runs.{Stands, Runs, command_of};
+ghost use Rattle.peer_run.specs.Runs.{Stands, Runs};
+ghost use Rattle.peer_script.specs.Again.{command_of};
 
 use crate::peer::{Peer, RunError};
 use peer_route::{Answer, Command, Entry, Words};

@@ -7,7 +7,7 @@ use Rattle.wire_names.specs.Names.{IsBusName}
 use Rattle.wire_signature.specs.Shape.{Shape, shapes_of, types_text, array_depths, struct_depths, AllHaveFields, IsType, SignatureText}
 use Rattle.wire_signature.proofs.Exact.{SignatureText-one}
 use Rattle.wire_tree.specs.Datum.{Datum, string, object_path, signature, num, text, array, dict, struct, variant}
-use Rattle.wire_spelling.proofs.Steps.{at, some_is}
+use Rattle.wire_number.proofs.Steps.{at, some_is}
 use Rattle.wire_spelling.proofs.Exact.{spells_type, same_front}
 use Rattle.rule_arguments.specs.declared.arguments.Argument.{Argument}
 use Rattle.rule_arguments.specs.Below.{IsAtOrBelow}

@@ -8,8 +8,8 @@ use Rattle.wire_signature.proofs.Takes.{Takes}
 use Rattle.wire_signature.proofs.Exact.{first_again}
 use Rattle.wire_tree.specs.Datum.{Datum}
 use Rattle.wire_spelling.specs.Spelling.{Spells}
-use Rattle.wire_spelling.specs.Reading.{Cursor}
-use Rattle.wire_spelling.proofs.Steps.{some_is}
+use Rattle.wire_number.specs.Reading.{Cursor}
+use Rattle.wire_number.proofs.Steps.{some_is}
 use Rattle.wire_spelling.proofs.Exact.{spells_type, same_front}
 use Rattle.wire_spelling.specs.Each.{SpellEach}
 use Rattle.rule_arguments.specs.Wanted.{Wanted}

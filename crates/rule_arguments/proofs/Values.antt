@@ -8,9 +8,10 @@ use Rattle.wire_signature.specs.Shape.{Shape, basic, type_text, IsType, BeginsWi
 use Rattle.wire_signature.proofs.Exact.{begins_again}
 use Rattle.wire_tree.specs.Datum.{Datum, Txt, string, object_path, signature, num, text, array, dict, struct, variant, text_type, type_of}
 use Rattle.wire_spelling.specs.Spelling.{Spells, spelling}
-use Rattle.wire_spelling.specs.Reading.{Cursor, made, text_at, text_value_at, basic_at, value_at}
+use Rattle.wire_number.specs.Reading.{Cursor, made}
+use Rattle.wire_spelling.specs.Reading.{text_at, text_value_at, basic_at, value_at}
 use Rattle.wire_spelling.specs.Promises.{StandsFirst, SpellNothing}
-use Rattle.wire_spelling.proofs.Steps.{at, AreBytes, some_is}
+use Rattle.wire_number.proofs.Steps.{at, AreBytes, some_is}
 use Rattle.wire_spelling.proofs.FoundValues.{IsValue, value_takes}
 use Rattle.wire_spelling.proofs.Exact.{value_only, spells_type, stands_begins}
 use Rattle.rule_arguments.specs.Wanted.{Wanted}

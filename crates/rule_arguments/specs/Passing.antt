@@ -7,7 +7,7 @@ use Rattle.wire_names.specs.Names.{is_bus_name}
 use Rattle.wire_signature.specs.Shape.{Shape, shapes_of, type_text, types_text}
 use Rattle.wire_tree.specs.Datum.{string, object_path, signature, Datum, num, text, array, dict, struct, variant}
 use Rattle.wire_spelling.specs.Spelling.{Spells}
-use Rattle.wire_spelling.specs.Reading.{Cursor}
+use Rattle.wire_number.specs.Reading.{Cursor}
 use Rattle.rule_arguments.specs.declared.arguments.Argument.{Argument}
 use Rattle.wire_spelling.specs.Each.{SpellEach}
 use Rattle.rule_arguments.specs.Wanted.{Wanted}

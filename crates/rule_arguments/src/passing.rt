@@ -2,14 +2,14 @@
 ghost use Rattle.std.specs.Prelude.{◌≡◌, ◌≢◌, ◌↔◌, ℕ, ◌<◌, [], ◌∷◌, IfNone, IfSome, IsTrue, MatchOption, slice_index};
 ghost use Rattle.wire_signature.specs.Shape.{basic};
 ghost use Rattle.wire_signature.specs.declared.basic.BasicType.TheVariants as basics;
-ghost use Rattle.wire_spelling.specs.ReaderView.{cursor_of};
+ghost use Rattle.wire_number.specs.ReaderView.{cursor_of};
 ghost use Rattle.rule_arguments.specs.Passing.{Left, NonePasses, NoValuePasses, Passed, PassedValue};
 ghost use Rattle.rule_arguments.specs.Wanted.{ArgumentsMatch};
 
 use crate::wanted::WantedArguments;
-use wire_number::Endian;
+use wire_number::{Endian, Reader};
 use wire_signature::{first_type, is_signature};
-use wire_spelling::{Reader, skip_by_text};
+use wire_spelling::{path, skip_by_text, string};
 
 /// The first byte, and the text behind it.
 fn split(text: &[u8]) -> Option<(u8, &[u8])>
@@ -33,7 +33,7 @@ impl<'w> WantedArguments<'w> {
         ensures none { IfNone result (NoValuePasses order (basic basics.String) (cursor_of reader.entry) index self.now) }
     {
         tell_bytes(reader.rest);
-        let (text, after) = reader.string(order)?;
+        let (text, after) = string(order, reader)?;
         if self.string_passes(index, text) {
             Some(after)
         } else {
@@ -47,7 +47,7 @@ impl<'w> WantedArguments<'w> {
         ensures none { IfNone result (NoValuePasses order (basic basics.ObjectPath) (cursor_of reader.entry) index self.now) }
     {
         tell_bytes(reader.rest);
-        let (path, after) = reader.path(order)?;
+        let (path, after) = path(order, reader)?;
         if self.path_passes(index, path) {
             Some(after)
         } else {

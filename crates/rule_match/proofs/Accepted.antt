@@ -8,7 +8,7 @@ use Rattle.wire_names.specs.Names.{is_unique_name}
 use Rattle.wire_names.specs.declared.bus.OwnedBusName.{OwnedBusName}
 use Rattle.wire_names.specs.declared.bus.OwnedBusName.TheVariants.{Unique, WellKnown}
 use Rattle.wire_tree.specs.Datum.{Datum, string, object_path, text}
-use Rattle.wire_spelling.proofs.Steps.{AreBytes}
+use Rattle.wire_number.proofs.Steps.{AreBytes}
 use Rattle.wire_message.specs.Front.{Seen, body_bytes, body_len, header_len, kind_code}
 use Rattle.wire_message.specs.declared.kind.MessageType.{MessageType}
 use Rattle.wire_message.specs.declared.kind.MessageType.TheVariants as types

@@ -7,8 +7,9 @@ use Rattle.wire_signature.proofs.Exact.{types_in-takes, types_in-again}
 use Rattle.wire_tree.specs.Datum.{Datum}
 use Rattle.wire_spelling.specs.Spelling.{spelling, Spells}
 use Rattle.wire_spelling.specs.Each.{SpellEach}
-use Rattle.wire_spelling.specs.Reading.{Cursor, made, ◌>>=◌, value_at, fields_at}
-use Rattle.wire_spelling.proofs.Steps.{at, AreBytes, bind_some, map_some, some_is}
+use Rattle.wire_number.specs.Reading.{Cursor, made, ◌>>=◌}
+use Rattle.wire_spelling.specs.Reading.{value_at, fields_at}
+use Rattle.wire_number.proofs.Steps.{at, AreBytes, bind_some, map_some, some_is}
 use Rattle.wire_spelling.proofs.FoundValues.{IsValue, value_takes}
 use Rattle.wire_spelling.proofs.Exact.{value_only}
 use Rattle.rule_arguments.specs.Body.{AreArguments, HasArgument}

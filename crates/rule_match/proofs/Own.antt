@@ -1,5 +1,5 @@
 -- A message matches the rule of its own header.
-use Rattle.std.proofs.Common.{◌≡◌, refl, ℕ, Bool, true, false, if◌then◌else◌, List, Option, Some, None, option_map, IfSome}
+use Rattle.std.proofs.Common.{◌≡◌, refl, ℕ, true, false, if◌then◌else◌, List, Option, Some, None, option_map, IfSome}
 use Rattle.wire_names.specs.Names.{is_unique_name, IsUniqueName}
 use Rattle.wire_names.specs.declared.bus.OwnedBusName.TheVariants.{Unique}
 use Rattle.wire_message.specs.Front.{Seen}

@@ -1,5 +1,5 @@
 -- Components printed one behind the other are the text of the rule.
-use Rattle.std.proofs.Common.{◌≡◌, refl, sym, ap, ◌∙◌, ℕ, zero, suc, ◌+◌, ◌<◌, ◌≤◌, List, [], ◌∷◌, ◌++◌, append_assoc, append-nil, Bool, true, false, ◌&&◌, map, length, take, get_or, codes, Option, Some, None, Result, Ok, arith}
+use Rattle.std.proofs.Common.{◌≡◌, refl, sym, ap, ◌∙◌, ℕ, zero, suc, ◌+◌, ◌<◌, ◌≤◌, List, [], ◌∷◌, ◌++◌, append_assoc, append-nil, Bool, true, false, ◌&&◌, map, length, take, get_or, codes, Option, Some, None, option_map, Result, Ok, arith}
 use Rattle.std.specs.Prelude.{is_none, is_some, not, ◌==◌}
 use Rattle.std.specs.List.{join_with_byte}
 use Rattle.std.specs.Fmt.{WritesOnOk, HasWritten}
@@ -11,8 +11,10 @@ use Rattle.std.proofs.Output.{has_written_append, has_written_of_eq}
 use Rattle.rule_match.specs.declared.part.Part.{Part}
 use Rattle.rule_match.specs.declared.part.Part.TheVariants as parts
 use Rattle.rule_match.specs.Rule.{Rule}
-use Rattle.rule_match.specs.Text.{one, argument_text, part_text, parts_of, rule_text, place_part}
-use Rattle.rule_match.specs.Printing.{separator, joined, still_first}
+use Rattle.wire_names.specs.BusName.{text_of_owned}
+use Rattle.rule_match.specs.Part.{kind_word}
+use Rattle.rule_match.specs.Text.{one, argument_text, component_text, part_text, parts_of, rule_text, place_part}
+use Rattle.rule_match.specs.Printing.{separator, joined, named, still_first}
 
 later : (xs : List (List ℕ)) → still_first false xs ≡ false
 later [] = refl
@@ -74,6 +76,27 @@ module _ {W : Type 0} (took : W → List ℕ → W → Type 0) where
 
 -- ---- the whole
 
+still_named : (key : List ℕ) (first : Bool) (o : Option (List ℕ)) → still_first first (named key o) ≡ (first && is_none o)
+still_named key true None = refl
+still_named key false None = refl
+still_named key true (Some x) = refl
+still_named key false (Some x) = refl
+
+pub next_named : (key : List ℕ) (first next none : Bool) (o : Option (List ℕ)) → next ≡ (first && none) → none ≡ is_none o → next ≡ still_first first (named key o)
+next_named key first next none o e k = e ∙ ap (λ b. first && b) k ∙ sym (still_named key first o)
+
+pub none_mapped : {A B : Type 0} (f : A → B) (o : Option A) → is_none o ≡ is_none (option_map f o)
+none_mapped f None = refl
+none_mapped f (Some x) = refl
+
+one_mapped : {A : Type 0} (part : A → Part) (key : List ℕ) (f : A → List ℕ) → ((x : A) → part_text (part x) ≡ component_text key (f x)) → (o : Option A) → named key (option_map f o) ≡ map part_text (one part o)
+one_mapped part key f h None = refl
+one_mapped part key f h (Some x) = ap (λ t. t ∷ []) (sym (h x))
+
+one_named : (part : List ℕ → Part) (key : List ℕ) → ((x : List ℕ) → part_text (part x) ≡ component_text key x) → (o : Option (List ℕ)) → named key o ≡ map part_text (one part o)
+one_named part key h None = refl
+one_named part key h (Some x) = ap (λ t. t ∷ []) (sym (h x))
+
 still_one : {A : Type 0} (part : A → Part) (first : Bool) (o : Option A) → still_first first (map part_text (one part o)) ≡ (first && is_none o)
 still_one part true None = refl
 still_one part false None = refl
@@ -104,13 +127,21 @@ map_twice f g (x ∷ xs) = ap (λ ys. f (g x) ∷ ys) (map_twice f g xs)
 
 abbrev pub texts_of : Rule → List (List ℕ)
 texts_of r =
-    map part_text (one parts.Kind r.kind) ++ (map part_text (one parts.Sender r.sender) ++ (map part_text (one parts.Interface r.interface)
-    ++ (map part_text (one parts.Member r.member) ++ (map part_text (one parts.Destination r.destination) ++ (map part_text (one place_part r.path)
-    ++ (map (argument_text []) r.args ++ (map (argument_text (codes "path")) r.arg_paths ++ map part_text (one parts.Arg0Namespace r.arg0ns))))))))
+    named (codes "type") (option_map kind_word r.kind) ++ (named (codes "sender") (option_map text_of_owned r.sender) ++ (named (codes "interface") r.interface
+    ++ (named (codes "member") r.member ++ (named (codes "destination") r.destination ++ (map part_text (one place_part r.path)
+    ++ (map (argument_text []) r.args ++ (map (argument_text (codes "path")) r.arg_paths ++ named (codes "arg0namespace") r.arg0ns)))))))
 
 pub texts_are : (r : Rule) → map part_text (parts_of r) ≡ texts_of r
 unfolding parts_of
-texts_are r = simp (map_joined, map_twice)
+texts_are r =
+    rw (
+      one_mapped parts.Kind (codes "type") kind_word (λ x. refl) r.kind,
+      one_mapped parts.Sender (codes "sender") text_of_owned (λ x. refl) r.sender,
+      one_named parts.Interface (codes "interface") (λ x. refl) r.interface,
+      one_named parts.Member (codes "member") (λ x. refl) r.member,
+      one_named parts.Destination (codes "destination") (λ x. refl) r.destination,
+      one_named parts.Arg0Namespace (codes "arg0namespace") (λ x. refl) r.arg0ns,
+    ) (simp (map_joined, map_twice))
 
 pub text_is : (r : Rule) → joined true (texts_of r) ≡ rule_text r
 unfolding rule_text

@@ -1,5 +1,6 @@
 pub mod Rule
 pub mod RuleView
+pub mod Sender
 pub mod Building
 pub mod Namespace
 pub mod Key

@@ -6,8 +6,6 @@ use Rattle.wire_names.specs.declared.bus.OwnedBusName.{OwnedBusName}
 use Rattle.wire_names.specs.declared.bus.OwnedBusName.TheVariants.{Unique, WellKnown}
 use Rattle.wire_message.specs.Front.{Seen, body_bytes}
 use Rattle.wire_message.specs.Primary.{Head}
-use Rattle.wire_message.specs.declared.kind.MessageType.{MessageType}
-use Rattle.rule_arguments.specs.declared.arguments.Argument.{Argument}
 use Rattle.rule_arguments.specs.Below.{IsAtOrBelow}
 use Rattle.rule_arguments.specs.Wanted.{Wanted, HasString, HasPath, HasNameIn}
 use Rattle.rule_match.specs.declared.place.PathSpec.{PathSpec}

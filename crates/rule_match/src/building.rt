@@ -3,6 +3,7 @@ use crate::component::{is_namespace, is_plain};
 use crate::part::Part;
 use crate::place::PathSpec;
 use crate::rule::MatchRule;
+use crate::sender::Sender;
 use rule_arguments::{Argument, Arguments};
 use std::alloc::{AllocError, Global};
 use std::marker::Model;
@@ -89,7 +90,7 @@ impl Builder {
         ensures { result ≡ record self { sender = Some name } }
     {
         let Builder { mut rule } = self;
-        rule.sender = Some(name);
+        rule.sender = Some(Sender::new(name));
         Builder { rule }
     }
 

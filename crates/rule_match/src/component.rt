@@ -1,5 +1,5 @@
 //! Reading a rule's text, component by component.
-ghost use Rattle.std.specs.Prelude.{◌≡◌, ◌<◌, ◌==◌, length, map, true, IfOk, option_map};
+ghost use Rattle.std.specs.Prelude.{◌≡◌, ◌⊎◌, ◌<◌, ◌==◌, length, map, true, IfOk, IfErr, IsTrue, option_map};
 ghost use Rattle.std.specs.List.{list_all, position_or_len, before_first, after_first};
 ghost use Rattle.std.specs.Option.{MatchOption};
 ghost use Rattle.wire_names.specs.Names.{elements, is_element, is_element_byte, begins_with_digit};
@@ -17,7 +17,7 @@ use crate::rule::MatchRule;
 use rule_arguments::Argument;
 use std::alloc::{AllocError, Global};
 use wire_message::{Error, MessageType};
-use wire_names::{BusName, InterfaceName, MemberName, ObjectPath, Text, UniqueName};
+use wire_names::{BusName, Name, NameKind, OwnedName, OwnedObjectPath, Text};
 
 /// The most bytes of a namespace.
 const LONGEST_NAMESPACE: usize = 255;
@@ -120,57 +120,13 @@ fn sender_part(alloc: Global, value: &[u8]) -> Result<Part, Error>
     }
 }
 
-#[tactic(auto, unfolding(crate::specs::Part::part_of))]
-fn interface_part(alloc: Global, value: &[u8]) -> Result<Part, Error>
-    ensures part { Gives result (utf8_wanted (part_of Key.Interface value.now)) }
-    ensures valid { IfOk result IsPart }
+/// The name that a value is to be.
+fn name_in<K: NameKind>(alloc: Global, value: &[u8]) -> Result<OwnedName<K>, Error>
+    ensures name { IfOk result (λ name. (name ≡ value.now) × IsTrue (K.is_name value.now)) }
+    ensures fault { IfErr result (λ e. (e ≡ Error.Memory) ⊎ ((e ≡ Error.Names K.refusal) × ¬ IsTrue (K.is_name value.now))) }
 {
-    match InterfaceName::try_from_bytes(value) {
-        Ok(name) => Ok(Part::Interface(name.to_owned(alloc)?)),
-        Err(e) => Err(Error::Names(e)),
-    }
-}
-
-#[tactic(auto, unfolding(crate::specs::Part::part_of))]
-fn member_part(alloc: Global, value: &[u8]) -> Result<Part, Error>
-    ensures part { Gives result (utf8_wanted (part_of Key.Member value.now)) }
-    ensures valid { IfOk result IsPart }
-{
-    match MemberName::try_from_bytes(value) {
-        Ok(name) => Ok(Part::Member(name.to_owned(alloc)?)),
-        Err(e) => Err(Error::Names(e)),
-    }
-}
-
-#[tactic(auto, unfolding(crate::specs::Part::part_of))]
-fn path_part(alloc: Global, value: &[u8]) -> Result<Part, Error>
-    ensures part { Gives result (utf8_wanted (part_of Key.Path value.now)) }
-    ensures valid { IfOk result IsPart }
-{
-    match ObjectPath::try_from_bytes(value) {
-        Ok(path) => Ok(Part::Path(path.to_owned(alloc)?)),
-        Err(e) => Err(Error::Names(e)),
-    }
-}
-
-#[tactic(auto, unfolding(crate::specs::Part::part_of))]
-fn path_namespace_part(alloc: Global, value: &[u8]) -> Result<Part, Error>
-    ensures part { Gives result (utf8_wanted (part_of Key.PathNamespace value.now)) }
-    ensures valid { IfOk result IsPart }
-{
-    match ObjectPath::try_from_bytes(value) {
-        Ok(path) => Ok(Part::PathNamespace(path.to_owned(alloc)?)),
-        Err(e) => Err(Error::Names(e)),
-    }
-}
-
-#[tactic(auto, unfolding(crate::specs::Part::part_of))]
-fn destination_part(alloc: Global, value: &[u8]) -> Result<Part, Error>
-    ensures part { Gives result (utf8_wanted (part_of Key.Destination value.now)) }
-    ensures valid { IfOk result IsPart }
-{
-    match UniqueName::try_from_bytes(value) {
-        Ok(name) => Ok(Part::Destination(name.to_owned(alloc)?)),
+    match Name::try_from_bytes(value) {
+        Ok(name) => Ok(name.to_owned(alloc)?),
         Err(e) => Err(Error::Names(e)),
     }
 }
@@ -217,22 +173,8 @@ fn arg_part(alloc: Global, index: u8, value: &[u8]) -> Result<Part, Error>
     }
 }
 
-#[tactic(auto, unfolding(crate::specs::Part::part_of))]
-fn arg_path_part(alloc: Global, index: u8, value: &[u8]) -> Result<Part, Error>
-    requires { index < 64 }
-    ensures part { Gives result (utf8_wanted (part_of (Key.ArgumentPath index) value.now)) }
-    ensures valid { IfOk result IsPart }
-{
-    match ObjectPath::try_from_bytes(value) {
-        Ok(path) => {
-            let text = Text::from_str(alloc, path.as_str())?;
-            Ok(Part::ArgPath(Argument { index, text }))
-        }
-        Err(e) => Err(Error::Names(e)),
-    }
-}
-
 /// What a value is under its key.
+#[tactic(auto, unfolding(crate::specs::Part::part_of))]
 fn part_of(alloc: Global, key: Key, value: &[u8]) -> Result<Part, Error>
     requires { IsKey key }
     ensures part { Gives result (utf8_wanted (part_of key value.now)) }
@@ -241,14 +183,18 @@ fn part_of(alloc: Global, key: Key, value: &[u8]) -> Result<Part, Error>
     match key {
         Key::Type => kind_part(value),
         Key::Sender => sender_part(alloc, value),
-        Key::Interface => interface_part(alloc, value),
-        Key::Member => member_part(alloc, value),
-        Key::Path => path_part(alloc, value),
-        Key::PathNamespace => path_namespace_part(alloc, value),
-        Key::Destination => destination_part(alloc, value),
+        Key::Interface => Ok(Part::Interface(name_in(alloc, value)?)),
+        Key::Member => Ok(Part::Member(name_in(alloc, value)?)),
+        Key::Path => Ok(Part::Path(name_in(alloc, value)?)),
+        Key::PathNamespace => Ok(Part::PathNamespace(name_in(alloc, value)?)),
+        Key::Destination => Ok(Part::Destination(name_in(alloc, value)?)),
         Key::Arg0Namespace => namespace_part(alloc, value),
         Key::Argument(index) => arg_part(alloc, index, value),
-        Key::ArgumentPath(index) => arg_path_part(alloc, index, value),
+        Key::ArgumentPath(index) => {
+            let path: OwnedObjectPath = name_in(alloc, value)?;
+            let text = path.into_text();
+            Ok(Part::ArgPath(Argument { index, text }))
+        }
     }
 }
 

@@ -1,17 +1,18 @@
 //! The text of a rule.
-ghost use Rattle.std.specs.Prelude.{◌≡◌, ◌&&◌, ◌++◌, Some, map};
+ghost use Rattle.std.specs.Prelude.{◌≡◌, ◌&&◌, ◌++◌, Some, map, option_map};
 ghost use Rattle.std.specs.Fmt.{WritesOnOk};
 ghost use Rattle.rule_match.specs.Part.{kind_word};
+ghost use Rattle.wire_names.specs.BusName.{text_of_owned};
 ghost use Rattle.rule_match.specs.Text.{component_text, argument_text, part_text, one, place_part, rule_text};
-ghost use Rattle.rule_match.specs.Printing.{separator, joined};
-ghost use Rattle.rule_match.specs.declared.part.Part.TheVariants as parts;
+ghost use Rattle.rule_match.specs.Printing.{separator, joined, named};
 
+use crate::names::{namespace_of, text_of};
 use crate::place::PathSpec;
 use crate::rule::MatchRule;
+use crate::sender::Sender;
 use rule_arguments::Argument;
 use std::fmt;
 use wire_message::MessageType;
-use wire_names::{OwnedBusName, OwnedInterfaceName, OwnedMemberName, OwnedUniqueName, Text};
 
 fn kind_word(kind: MessageType) -> &'static str
     ensures { result.now ≡ kind_word kind }
@@ -21,6 +22,26 @@ fn kind_word(kind: MessageType) -> &'static str
         MessageType::MethodReturn => "method_return",
         MessageType::Error => "error",
         MessageType::Signal => "signal",
+    }
+}
+
+/// The word of a type that is there.
+fn kind_text(kind: Option<MessageType>) -> Option<&'static str>
+    ensures { option_map (λ text. text.now) result ≡ option_map kind_word kind }
+{
+    match kind {
+        Some(kind) => Some(kind_word(kind)),
+        None => None,
+    }
+}
+
+/// The text of a sender that is there.
+fn sender_text(sender: &Option<Sender>) -> Option<&str>
+    ensures { option_map (λ text. text.now) result ≡ option_map text_of_owned sender.now }
+{
+    match sender {
+        Some(sender) => Some(sender.name().as_str()),
+        None => None,
     }
 }
 
@@ -48,80 +69,16 @@ fn write_component<W: fmt::Write>(
     write!(f, "{comma}{key}='{value}'")
 }
 
-fn write_kind<W: fmt::Write>(
+fn write_text<W: fmt::Write>(
     f: &mut fmt::Formatter<W>,
     first: bool,
-    kind: Option<MessageType>,
+    key: &str,
+    value: Option<&str>,
 ) -> fmt::Result
-    ensures { WritesOnOk W.write_str_gives f.old result (joined first (map part_text (one parts.Kind kind))) f.new }
+    ensures { WritesOnOk W.write_str_gives f.old result (joined first (named key.now (option_map (λ text. text.now) value.entry))) f.new }
 {
-    match kind {
-        Some(kind) => write_component(f, first, "type", kind_word(kind)),
-        None => Ok(()),
-    }
-}
-
-fn write_sender<W: fmt::Write>(
-    f: &mut fmt::Formatter<W>,
-    first: bool,
-    name: &Option<OwnedBusName>,
-) -> fmt::Result
-    ensures { WritesOnOk W.write_str_gives f.old result (joined first (map part_text (one parts.Sender name.now))) f.new }
-{
-    match name {
-        Some(name) => write_component(f, first, "sender", name.as_str()),
-        None => Ok(()),
-    }
-}
-
-fn write_interface<W: fmt::Write>(
-    f: &mut fmt::Formatter<W>,
-    first: bool,
-    name: &Option<OwnedInterfaceName>,
-) -> fmt::Result
-    ensures { WritesOnOk W.write_str_gives f.old result (joined first (map part_text (one parts.Interface name.now))) f.new }
-{
-    match name {
-        Some(name) => write_component(f, first, "interface", name.as_str()),
-        None => Ok(()),
-    }
-}
-
-fn write_member<W: fmt::Write>(
-    f: &mut fmt::Formatter<W>,
-    first: bool,
-    name: &Option<OwnedMemberName>,
-) -> fmt::Result
-    ensures { WritesOnOk W.write_str_gives f.old result (joined first (map part_text (one parts.Member name.now))) f.new }
-{
-    match name {
-        Some(name) => write_component(f, first, "member", name.as_str()),
-        None => Ok(()),
-    }
-}
-
-fn write_destination<W: fmt::Write>(
-    f: &mut fmt::Formatter<W>,
-    first: bool,
-    name: &Option<OwnedUniqueName>,
-) -> fmt::Result
-    ensures { WritesOnOk W.write_str_gives f.old result (joined first (map part_text (one parts.Destination name.now))) f.new }
-{
-    match name {
-        Some(name) => write_component(f, first, "destination", name.as_str()),
-        None => Ok(()),
-    }
-}
-
-fn write_namespace<W: fmt::Write>(
-    f: &mut fmt::Formatter<W>,
-    first: bool,
-    name: &Option<Text>,
-) -> fmt::Result
-    ensures { WritesOnOk W.write_str_gives f.old result (joined first (map part_text (one parts.Arg0Namespace name.now))) f.new }
-{
-    match name {
-        Some(name) => write_component(f, first, "arg0namespace", name.as_str()),
+    match value {
+        Some(value) => write_component(f, first, key, value),
         None => Ok(()),
     }
 }
@@ -175,15 +132,15 @@ impl fmt::Display for MatchRule {
     ghost output = { λ r. Some (rule_text r) };
 
     fn fmt<W: fmt::Write>(&self, f: &mut fmt::Formatter<W>) -> fmt::Result {
-        write_kind(f, true, self.kind)?;
+        write_text(f, true, "type", kind_text(self.kind))?;
         let first = self.kind.is_none();
-        write_sender(f, first, &self.sender)?;
+        write_text(f, first, "sender", sender_text(&self.sender))?;
         let first = both(first, self.sender.is_none());
-        write_interface(f, first, &self.interface)?;
+        write_text(f, first, "interface", text_of(&self.interface))?;
         let first = both(first, self.interface.is_none());
-        write_member(f, first, &self.member)?;
+        write_text(f, first, "member", text_of(&self.member))?;
         let first = both(first, self.member.is_none());
-        write_destination(f, first, &self.destination)?;
+        write_text(f, first, "destination", text_of(&self.destination))?;
         let first = both(first, self.destination.is_none());
         write_place(f, first, &self.path)?;
         let first = both(first, self.path.is_none());
@@ -191,6 +148,6 @@ impl fmt::Display for MatchRule {
         let first = both(first, self.args.as_slice().is_empty());
         write_arguments(f, first, self.arg_paths.as_slice(), "path")?;
         let first = both(first, self.arg_paths.as_slice().is_empty());
-        write_namespace(f, first, &self.arg0ns)
+        write_text(f, first, "arg0namespace", namespace_of(&self.arg0ns))
     }
 }

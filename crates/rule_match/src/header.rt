@@ -5,39 +5,23 @@ ghost use Rattle.rule_match.specs.declared.place.PathSpec.TheVariants as places;
 ghost use Rattle.rule_match.specs.Matching.{header_rule, unique_only};
 
 use crate::building::Builder;
+use crate::names::owned_of;
 use crate::place::PathSpec;
 use crate::rule::MatchRule;
+use crate::sender::Sender;
 use rule_arguments::Arguments;
 use std::alloc::{AllocError, Global};
 use wire_message::Header;
-use wire_names::{BusName, OwnedBusName, OwnedInterfaceName, OwnedMemberName, OwnedUniqueName};
+use wire_names::{BusName, OwnedBusName, OwnedUniqueName};
 
-fn sender_of(alloc: Global, header: &Header<'_>) -> Result<Option<OwnedBusName>, AllocError>
+fn sender_of(alloc: Global, header: &Header<'_>) -> Result<Option<Sender>, AllocError>
     ensures { IfOk result (λ name. name ≡ option_map Unique header.now.fields.sender) }
 {
     match header.sender() {
-        Some(name) => Ok(Some(OwnedBusName::Unique(name.to_owned(alloc)?))),
-        None => Ok(None),
-    }
-}
-
-fn interface_of(
-    alloc: Global,
-    header: &Header<'_>,
-) -> Result<Option<OwnedInterfaceName>, AllocError>
-    ensures { IfOk result (λ name. name ≡ header.now.fields.interface) }
-{
-    match header.interface() {
-        Some(name) => Ok(Some(name.to_owned(alloc)?)),
-        None => Ok(None),
-    }
-}
-
-fn member_of(alloc: Global, header: &Header<'_>) -> Result<Option<OwnedMemberName>, AllocError>
-    ensures { IfOk result (λ name. name ≡ header.now.fields.member) }
-{
-    match header.member() {
-        Some(name) => Ok(Some(name.to_owned(alloc)?)),
+        Some(name) => {
+            let name = OwnedBusName::Unique(name.to_owned(alloc)?);
+            Ok(Some(Sender::new(name)))
+        }
         None => Ok(None),
     }
 }
@@ -70,8 +54,8 @@ impl Builder {
         let rule = MatchRule {
             kind: Some(header.message_type()),
             sender: sender_of(alloc, header)?,
-            interface: interface_of(alloc, header)?,
-            member: member_of(alloc, header)?,
+            interface: owned_of(alloc, header.interface())?,
+            member: owned_of(alloc, header.member())?,
             path: place_of(alloc, header)?,
             destination: destination_of(alloc, header)?,
             args: Arguments::new(alloc),

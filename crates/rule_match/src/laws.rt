@@ -11,11 +11,11 @@ ghost use Rattle.rule_match.specs.Rule.{Rule, IsRule, HasNames, IsSender, place_
 ghost use Rattle.rule_match.specs.Text.{rule_in, rule_text};
 ghost use Rattle.rule_match.specs.Bytes.{rule_in_bytes};
 
+use crate::names::holds;
 use crate::place::PathSpec;
 use crate::rule::MatchRule;
-use wire_names::{
-    OwnedBusName, OwnedInterfaceName, OwnedMemberName, OwnedUniqueName, only_the_bus_is_both,
-};
+use crate::sender::Sender;
+use wire_names::{OwnedBusName, only_the_bus_is_both};
 
 /// A rule's text is read as that rule again, where the rule has a part, no text of its string arguments holds a comma, and
 /// its sender isn't the bus's own name as a well-known one.
@@ -30,33 +30,19 @@ pub fn bytes_and_texts_agree()
     ensures { (text : List ℕ) → IsUtf8 text → rule_in_bytes text ≡ rule_in text }
 {}
 
-fn sender_holds(name: &Option<OwnedBusName>)
-    ensures { IfSome name.now IsSender }
+fn sender_holds(sender: &Option<Sender>)
+    ensures { IfSome sender.now IsSender }
 {
-    match name {
-        Some(OwnedBusName::Unique(name)) => {
+    let Some(sender) = sender else {
+        return;
+    };
+    match sender.name() {
+        OwnedBusName::Unique(name) => {
             let _ = name.as_str();
         }
-        Some(OwnedBusName::WellKnown(name)) => {
+        OwnedBusName::WellKnown(name) => {
             let _ = name.as_str();
         }
-        None => {}
-    }
-}
-
-fn interface_holds(name: &Option<OwnedInterfaceName>)
-    ensures { IfSome name.now IsInterfaceName }
-{
-    if let Some(name) = name {
-        let _ = name.as_str();
-    }
-}
-
-fn member_holds(name: &Option<OwnedMemberName>)
-    ensures { IfSome name.now IsMemberName }
-{
-    if let Some(name) = name {
-        let _ = name.as_str();
     }
 }
 
@@ -74,14 +60,6 @@ fn place_holds(place: &Option<PathSpec>)
     }
 }
 
-fn destination_holds(name: &Option<OwnedUniqueName>)
-    ensures { IfSome name.now IsUniqueName }
-{
-    if let Some(name) = name {
-        let _ = name.as_str();
-    }
-}
-
 /// Every rule is in its grammar: its arguments have ascending indices below 64 and no 0 byte, its namespace is one, and its
 /// names and its path are in theirs.
 pub fn rules_hold_their_grammar(rule: &MatchRule)
@@ -89,10 +67,10 @@ pub fn rules_hold_their_grammar(rule: &MatchRule)
     ensures names { HasNames rule.now }
 {
     sender_holds(&rule.sender);
-    interface_holds(&rule.interface);
-    member_holds(&rule.member);
+    holds(&rule.interface);
+    holds(&rule.member);
     place_holds(&rule.path);
-    destination_holds(&rule.destination);
+    holds(&rule.destination);
 }
 
 /// A message matches the rule of its own header.

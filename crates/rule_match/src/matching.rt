@@ -7,23 +7,17 @@ ghost use Rattle.rule_arguments.specs.Wanted.{ArgumentsMatch};
 ghost use Rattle.rule_match.specs.Accepting.{accepts};
 ghost use Rattle.rule_match.specs.Matching.{HeaderMatches, IsDestination, IsPlace, IsSender, Matches, signature_text, wanted_of};
 
+use crate::names::{is_wanted, namespace_of, same_text};
 use crate::place::PathSpec;
 use crate::rule::MatchRule;
+use crate::sender::Sender;
 use rule_arguments::{WantedArguments, is_at_or_below};
 use wire_message::{Header, Message, MessageType};
-use wire_names::{
-    BusName, OwnedBusName, OwnedInterfaceName, OwnedMemberName, OwnedUniqueName, Text,
-};
+use wire_names::{BusName, OwnedBusName, OwnedInterfaceName, OwnedMemberName, OwnedUniqueName};
 use wire_number::{Endian, padding_for_8_bytes, read_u32};
 
 /// The bytes before the header fields.
 const HEAD: usize = 16;
-
-fn same_text(text: &str, other: &str) -> bool
-    ensures { IsTrue result ↔ (text.now ≡ other.now) }
-{
-    text == other
-}
 
 fn is_kind(wanted: Option<MessageType>, header: &Header<'_>) -> bool
     ensures { IsTrue result ↔ IfSome wanted (λ kind. header.now.primary.msg_type ≡ kind) }
@@ -34,10 +28,13 @@ fn is_kind(wanted: Option<MessageType>, header: &Header<'_>) -> bool
     }
 }
 
-fn is_sender(wanted: &Option<OwnedBusName>, header: &Header<'_>) -> bool
+fn is_sender(wanted: &Option<Sender>, header: &Header<'_>) -> bool
     ensures { IsTrue result ↔ IfSome wanted.now (IsSender header.now.fields.sender) }
 {
-    let Some(OwnedBusName::Unique(wanted)) = wanted else {
+    let Some(wanted) = wanted else {
+        return true;
+    };
+    let OwnedBusName::Unique(wanted) = wanted.name() else {
         return true;
     };
     match header.sender() {
@@ -49,25 +46,13 @@ fn is_sender(wanted: &Option<OwnedBusName>, header: &Header<'_>) -> bool
 fn is_interface(wanted: &Option<OwnedInterfaceName>, header: &Header<'_>) -> bool
     ensures { IsTrue result ↔ IfSome wanted.now (λ name. header.now.fields.interface ≡ Some name) }
 {
-    let Some(wanted) = wanted else {
-        return true;
-    };
-    match header.interface() {
-        Some(name) => same_text(name.as_str(), wanted.as_str()),
-        None => false,
-    }
+    wanted.is_none() || is_wanted(wanted, header.interface())
 }
 
 fn is_member(wanted: &Option<OwnedMemberName>, header: &Header<'_>) -> bool
     ensures { IsTrue result ↔ IfSome wanted.now (λ name. header.now.fields.member ≡ Some name) }
 {
-    let Some(wanted) = wanted else {
-        return true;
-    };
-    match header.member() {
-        Some(name) => same_text(name.as_str(), wanted.as_str()),
-        None => false,
-    }
+    wanted.is_none() || is_wanted(wanted, header.member())
 }
 
 /// Whether a path is the namespace's or below it.
@@ -140,15 +125,6 @@ fn signature_of<'a>(header: &Header<'a>) -> &'a [u8]
     match header.signature() {
         Some(text) => text,
         None => b"",
-    }
-}
-
-fn namespace_of(name: &Option<Text>) -> Option<&str>
-    ensures { option_map (λ name. name.now) result ≡ name.now }
-{
-    match name {
-        Some(name) => Some(name.as_str()),
-        None => None,
     }
 }
 

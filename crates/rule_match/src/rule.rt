@@ -3,7 +3,9 @@ ghost use Rattle.std.specs.Prelude.{◌≡◌, IfOk, codes};
 
 use crate::building::Builder;
 use crate::component::{rule_in, rule_in_bytes};
+use crate::names::copy_of;
 use crate::place::PathSpec;
+use crate::sender::Sender;
 use rule_arguments::{Argument, Arguments};
 use std::alloc::{AllocError, Global};
 use std::marker::Model;
@@ -18,7 +20,7 @@ use wire_names::{
 #[derive(Debug, PartialEq, Eq, Hash)]
 pub struct MatchRule {
     pub(crate) kind: Option<MessageType>,
-    pub(crate) sender: Option<OwnedBusName>,
+    pub(crate) sender: Option<Sender>,
     pub(crate) interface: Option<OwnedInterfaceName>,
     pub(crate) member: Option<OwnedMemberName>,
     pub(crate) path: Option<PathSpec>,
@@ -58,38 +60,11 @@ impl Model for MatchRule {
     ghost inverse = { rule_fields };
 }
 
-fn sender_copy(
-    alloc: Global,
-    name: &Option<OwnedBusName>,
-) -> Result<Option<OwnedBusName>, AllocError>
-    ensures { IfOk result (λ copy. copy ≡ name.now) }
+fn sender_copy(alloc: Global, sender: &Option<Sender>) -> Result<Option<Sender>, AllocError>
+    ensures { IfOk result (λ copy. copy ≡ sender.now) }
 {
-    match name {
-        Some(name) => Ok(Some(name.try_clone(alloc)?)),
-        None => Ok(None),
-    }
-}
-
-fn interface_copy(
-    alloc: Global,
-    name: &Option<OwnedInterfaceName>,
-) -> Result<Option<OwnedInterfaceName>, AllocError>
-    ensures { IfOk result (λ copy. copy ≡ name.now) }
-{
-    match name {
-        Some(name) => Ok(Some(name.try_clone(alloc)?)),
-        None => Ok(None),
-    }
-}
-
-fn member_copy(
-    alloc: Global,
-    name: &Option<OwnedMemberName>,
-) -> Result<Option<OwnedMemberName>, AllocError>
-    ensures { IfOk result (λ copy. copy ≡ name.now) }
-{
-    match name {
-        Some(name) => Ok(Some(name.try_clone(alloc)?)),
+    match sender {
+        Some(sender) => Ok(Some(sender.try_clone(alloc)?)),
         None => Ok(None),
     }
 }
@@ -99,18 +74,6 @@ fn place_copy(alloc: Global, place: &Option<PathSpec>) -> Result<Option<PathSpec
 {
     match place {
         Some(place) => Ok(Some(place.try_clone(alloc)?)),
-        None => Ok(None),
-    }
-}
-
-fn destination_copy(
-    alloc: Global,
-    name: &Option<OwnedUniqueName>,
-) -> Result<Option<OwnedUniqueName>, AllocError>
-    ensures { IfOk result (λ copy. copy ≡ name.now) }
-{
-    match name {
-        Some(name) => Ok(Some(name.try_clone(alloc)?)),
         None => Ok(None),
     }
 }
@@ -148,7 +111,7 @@ fn bus_interface() -> InterfaceName<'static>
 }
 
 impl MatchRule {
-    ghost use Rattle.std.specs.Prelude.{◌≡◌, IfOk, option_map};
+    ghost use Rattle.std.specs.Prelude.{◌≡◌, [], None, IfOk, option_map};
     ghost use Rattle.rule_match.specs.Rule.{no_parts, bus_signal};
     ghost use Rattle.rule_match.specs.Text.{rule_in};
     ghost use Rattle.rule_match.specs.Bytes.{rule_in_bytes};
@@ -213,7 +176,10 @@ impl MatchRule {
     pub fn sender(&self) -> Option<&OwnedBusName>
         ensures { option_map (λ name. name.now) result ≡ self.now.sender }
     {
-        self.sender.as_ref()
+        match &self.sender {
+            Some(sender) => Some(sender.name()),
+            None => None,
+        }
     }
 
     /// The interface that is wanted.
@@ -265,21 +231,35 @@ impl MatchRule {
         self.arg0ns.as_ref()
     }
 
-    /// A copy, for want of memory an error.
-    pub fn to_owned(&self, alloc: Global) -> Result<MatchRule, AllocError>
-        ensures { IfOk result (λ copy. copy ≡ self.now) }
+    /// A copy of what is wanted of a header.
+    fn header_copy(&self, alloc: Global) -> Result<MatchRule, AllocError>
+        ensures { IfOk result (λ copy. copy ≡ record self.now { args = []; arg_paths = []; arg0ns = None }) }
     {
         Ok(MatchRule {
             kind: self.kind,
             sender: sender_copy(alloc, &self.sender)?,
-            interface: interface_copy(alloc, &self.interface)?,
-            member: member_copy(alloc, &self.member)?,
+            interface: copy_of(alloc, &self.interface)?,
+            member: copy_of(alloc, &self.member)?,
             path: place_copy(alloc, &self.path)?,
-            destination: destination_copy(alloc, &self.destination)?,
-            args: self.args.try_clone(alloc)?,
-            arg_paths: self.arg_paths.try_clone(alloc)?,
-            arg0ns: namespace_copy(alloc, &self.arg0ns)?,
+            destination: copy_of(alloc, &self.destination)?,
+            args: Arguments::new(alloc),
+            arg_paths: Arguments::new(alloc),
+            arg0ns: None,
         })
+    }
+
+    /// A copy, for want of memory an error.
+    pub fn to_owned(&self, alloc: Global) -> Result<MatchRule, AllocError>
+        ensures { IfOk result (λ copy. copy ≡ self.now) }
+    {
+        let args = self.args.try_clone(alloc)?;
+        let arg_paths = self.arg_paths.try_clone(alloc)?;
+        let arg0ns = namespace_copy(alloc, &self.arg0ns)?;
+        let mut copy = self.header_copy(alloc)?;
+        copy.args = args;
+        copy.arg_paths = arg_paths;
+        copy.arg0ns = arg0ns;
+        Ok(copy)
     }
 
     /// The same rule: it owns its texts.

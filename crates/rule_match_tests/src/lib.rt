@@ -1,4 +1,4 @@
-//! Tests of `rule_match`, beside the rows of `traffic_tests`: what is read of texts, printed, and matched stands there.
+//! Tests of `rule_match`, beside the rows of `row_tests`: what is read of texts, printed, and matched stands there.
 #![tactic(auto)]
 
 #[cfg(test)]

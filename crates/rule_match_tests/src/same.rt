@@ -4,6 +4,7 @@ use std::alloc::Global;
 use std::hash::{DefaultHasher, Hash, Hasher};
 use std::test::Fail;
 use wire_message::Result;
+use wire_names::{OwnedBusName, OwnedUniqueName, OwnedWellKnownName};
 
 const RULE: &str = "type='error',sender=':1.2',path='/a',arg5='x',arg0namespace='org'";
 
@@ -36,6 +37,31 @@ fn another_part_makes_another_rule(rt: HostRuntime) -> std::result::Result<(), F
     let rule = MatchRule::try_from(rt.alloc(), RULE)?;
     let other = MatchRule::try_from(rt.alloc(), "type='error'")?;
     assert!(rt; rule != other && !rule_match::is_one_rule(&rule, &other));
+    Ok(())
+}
+
+const BUS: &str = "org.freedesktop.DBus";
+
+/// The rule of what the sender sends.
+fn of_sender(alloc: Global, name: OwnedBusName) -> MatchRule {
+    MatchRule::builder(alloc).sender(name).build()
+}
+
+/// The rules of the bus by its unique name, and by its well-known one of the same text.
+fn of_the_bus(alloc: Global) -> Result<(MatchRule, MatchRule)> {
+    let unique = OwnedUniqueName::try_from(alloc, BUS)?;
+    let well_known = OwnedWellKnownName::try_from(alloc, BUS)?;
+    Ok((
+        of_sender(alloc, OwnedBusName::Unique(unique)),
+        of_sender(alloc, OwnedBusName::WellKnown(well_known)),
+    ))
+}
+
+#[test]
+fn another_kind_of_sender_makes_another_rule(rt: HostRuntime) -> std::result::Result<(), Fail> {
+    let (unique, well_known) = of_the_bus(rt.alloc())?;
+    assert!(rt; unique != well_known && !rule_match::is_one_rule(&unique, &well_known));
+    assert!(rt; are_one(&unique, &unique) && are_one(&well_known, &well_known));
     Ok(())
 }
 

@@ -2,7 +2,7 @@
 ghost use Rattle.wire_body.specs.Arguments.{TellsEnd, TellsSound, TellsTake};
 
 use crate::argument::Argument;
-use crate::body::Body;
+use crate::body::BodyValues;
 use std::alloc::Global;
 use std::marker::Model;
 use std::vec::IntoIter;
@@ -39,7 +39,7 @@ impl Arguments {
     ghost use Rattle.wire_body.specs.Arguments.{NextIs, TellsEnd};
 
     /// All the values of a body.
-    pub fn new(body: Body) -> Arguments
+    pub fn new(body: BodyValues) -> Arguments
         ensures { result ≡ body }
     {
         Arguments {

@@ -10,12 +10,12 @@ use wire_signature::{Signature, VariantError};
 use wire_tree::Value;
 
 /// The values of a message's body, and its signature: their types (D-Bus Specification, "Message Format").
-pub struct Body {
+pub struct BodyValues {
     values: Vec<Value>,
     signature: Signature,
 }
 
-impl Model for Body {
+impl Model for BodyValues {
     ghost use Rattle.std.specs.Prelude.{◌≡◌, List, map};
     ghost use Rattle.std.specs.Coded.{coded_list};
     ghost use Rattle.wire_tree.specs.Datum.{Datum, type_of};
@@ -30,16 +30,16 @@ impl Model for Body {
     ghost invariant = { λ b. b.signature ≡ map type_of b.values.items };
 }
 
-impl Drop for Body {
+impl Drop for BodyValues {
     fn drop(self) {
-        let Body {
+        let BodyValues {
             values: _,
             signature: _,
         } = self;
     }
 }
 
-impl Body {
+impl BodyValues {
     ghost use Rattle.std.specs.Prelude.{◌≡◌, map};
     ghost use Rattle.wire_signature.specs.Shape.{IsSignature};
     ghost use Rattle.wire_tree.specs.Datum.{type_of};
@@ -51,21 +51,21 @@ impl Body {
     ///
     /// [`VariantError::Signature`] exactly where the types together are no signature (D-Bus Specification, "Valid
     /// Signatures"), [`VariantError::Memory`] for want of memory. The values are given up.
-    pub fn from_values(alloc: Global, values: Vec<Value>) -> Result<Body, VariantError>
+    pub fn from_values(alloc: Global, values: Vec<Value>) -> Result<BodyValues, VariantError>
         ensures { TellsBody result values.items }
     {
         let mut text = String::new(alloc);
         write_types(&mut text, alloc, values.as_slice())?;
         let signature = Signature::try_from(alloc, text.as_str())?;
-        Ok(Body { values, signature })
+        Ok(BodyValues { values, signature })
     }
 
     /// The body with these values, of which this is known to be the signature.
-    pub(crate) fn from_parts(values: Vec<Value>, signature: Signature) -> Body
+    pub(crate) fn from_parts(values: Vec<Value>, signature: Signature) -> BodyValues
         requires { signature ≡ map type_of values.items }
         ensures { result ≡ values.items }
     {
-        Body { values, signature }
+        BodyValues { values, signature }
     }
 
     pub fn values(&self) -> &[Value]
@@ -88,7 +88,7 @@ impl Body {
     pub fn into_values(self) -> Vec<Value>
         ensures { result.items ≡ self }
     {
-        let Body {
+        let BodyValues {
             values,
             signature: _,
         } = self;

@@ -4,7 +4,7 @@
 pub use crate::argument::Argument;
 pub use crate::arguments::Arguments;
 pub use crate::array::Array;
-pub use crate::body::Body;
+pub use crate::body::BodyValues;
 pub use crate::dict::Dict;
 pub use crate::key::Key;
 pub use crate::message::{FromBody, ToBody, from, there_and_back, to};

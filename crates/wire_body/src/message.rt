@@ -5,7 +5,7 @@ ghost use Rattle.wire_tree.specs.Datum.{Datum, type_of};
 ghost use Rattle.wire_body.specs.Arguments.{AllAreTypes, TellsFrom, TellsKinds, TellsSound, TellsTo};
 
 use crate::arguments::Arguments;
-use crate::body::Body;
+use crate::body::BodyValues;
 use std::alloc::{AllocError, Global};
 use wire_signature::{Signature, VariantError};
 use wire_tree::Value;
@@ -63,13 +63,13 @@ fn signature_of<T: ToBody>(alloc: Global) -> Result<Signature, VariantError>
 /// - [`VariantError::Malformed`] exactly where they are one and a text holds a 0 byte, or a text or path is longer than
 ///   4,294,967,295 bytes.
 /// - [`VariantError::Memory`] for want of memory.
-pub fn to<T: ToBody>(alloc: Global, arguments: T) -> Result<Body, VariantError>
+pub fn to<T: ToBody>(alloc: Global, arguments: T) -> Result<BodyValues, VariantError>
     ensures told { TellsTo result T.kinds (T.datums arguments) }
     ensures round { IfOk result (λ body. T.read body ≡ arguments) }
 {
     let signature = signature_of::<T>(alloc)?;
     let values = arguments.into_values(alloc)?;
-    Ok(Body::from_parts(values, signature))
+    Ok(BodyValues::from_parts(values, signature))
 }
 
 /// The arguments of a body, which is given up.
@@ -78,7 +78,7 @@ pub fn to<T: ToBody>(alloc: Global, arguments: T) -> Result<Body, VariantError>
 ///
 /// [`VariantError::SignatureMismatch`] exactly where the types of the body's values are not those of the arguments,
 /// [`VariantError::Memory`] for want of memory.
-pub fn from<T: FromBody>(alloc: Global, body: Body) -> Result<T, VariantError>
+pub fn from<T: FromBody>(alloc: Global, body: BodyValues) -> Result<T, VariantError>
     ensures { TellsFrom result (T.read body) (map type_of body) T.kinds }
 {
     T::from_arguments(alloc, Arguments::new(body))

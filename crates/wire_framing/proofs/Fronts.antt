@@ -84,8 +84,7 @@ fields_found-append xs ys h le =
     let size : fields_len zs ≡ fields_len xs = word-same n 12 zs xs (same xs ys) (omega arith) in
     let inside : 16 + fields_len zs ≤ n = omega (arith, size) in
     let bytes = fields-same n zs xs (same xs ys) inside in
-    ap (λ (o : Endian). fields_in o (16 + fields_len zs) (field_bytes zs)) order ∙ ap (λ (k : ℕ). fields_in (order_at xs) (16 + k) (field_bytes zs)) size
-    ∙ ap (λ (l : List ℕ). fields_in (order_at xs) (16 + fields_len xs) l) bytes
+    ap (λ (o : Endian). fields_in o (field_bytes zs)) order ∙ ap (fields_in (order_at xs)) bytes
 
 message_by-append : (xs ys : List ℕ) (kind : Option MessageType) (fields : Option Fields) → 16 ≤ length xs → length xs ≡ total xs
     → message_by (xs ++ ys) kind fields ≡ message_by xs kind fields

@@ -1,14 +1,17 @@
 -- Fields that are added one behind the other.
-use Rattle.std.proofs.Common.{◌≡◌, ℕ, ◌+◌, List, [], ◌∷◌, ◌++◌, length, Some, Result, Ok, Err, sym, ap, ◌∙◌, append_assoc, arith, length-append}
+use Rattle.std.proofs.Common.{◌≡◌, ℕ, ◌+◌, List, [], ◌∷◌, ◌++◌, length, replicate, Some, Result, Ok, Err, sym, ap, ◌∙◌, append_assoc, arith, length-append}
 use Rattle.std.specs.Prelude.{OnOk}
 use Rattle.std.specs.Int.{w32}
 use Rattle.std.proofs.lemmas.List.{append-nil}
 use Rattle.wire_number.specs.declared.endian.Endian.{Endian}
-use Rattle.wire_number.specs.Number.{padding, number_text}
+use Rattle.wire_number.specs.Number.{padding, number_text, pad}
 use Rattle.wire_signature.specs.declared.basic.BasicType.{BasicType}
 use Rattle.wire_message.specs.declared.field.FieldCode.{FieldCode}
 use Rattle.wire_message.specs.declared.field.FieldCode.TheVariants as codes
 use Rattle.wire_message.specs.Field.{Fields, Value, Text, Number, Field, code_bytes, field_type, text_bytes, value_bytes, field_text, fields_text, text_field, number_field, field_list}
+use Rattle.wire_number.specs.Appending.{Appended}
+use Rattle.wire_number.proofs.Steps.{length-padded}
+use Rattle.wire_message.proofs.FieldLaws.{placed}
 
 on-ok : {A E P Q : Type 0} (r : Result A E) → OnOk r P → (P → Q) → OnOk r Q
 on-ok (Ok x) p f = f p
@@ -37,6 +40,18 @@ text-added order place code type text bytes old mid new r t b m h =
 pub number-added : {A E : Type 0} (order : Endian) (place : ℕ) (code : FieldCode) (number : ℕ) (old mid new : List ℕ) (r : Result A E) → mid ≡ old ++ (padding place 8 ++ code_bytes code)
     → OnOk r (new ≡ mid ++ number_text w32 order number) → OnOk r (new ≡ old ++ fields_text order place (number_field code (Some number)))
 number-added order place code number old mid new r m h = on-ok r h (λ e. value-added order place code (Number number) old mid new m e)
+
+-- behind a field's first four bytes no value needs padding
+pub code-placed : (code : FieldCode) (old new : List ℕ) → new ≡ old ++ (padding (16 + length old) 8 ++ code_bytes code) → pad (16 + length new) 4 ≡ 0
+code-placed code old new e =
+    let p : ℕ = 16 + length old in
+    let here : 16 + length new ≡ p + pad p 8 + 4 = omega (arith, ap length e, length-append old (padding p 8 ++ code_bytes code), length-padded p 8 (code_bytes code)) in
+    ap (λ (q : ℕ). pad q 4) here ∙ placed p
+
+-- what needs no padding is appended alone
+pub alone : {A E : Type 0} (r : Result A E) (p n : ℕ) (text old new : List ℕ) → pad p n ≡ 0 → Appended r (padding p n ++ text) old new → OnOk r (new ≡ old ++ text)
+alone (Ok x) p n text old new e h = h ∙ ap (λ (k : ℕ). old ++ (replicate k 0 ++ text)) e
+alone (Err error) p n text old new e h = tt
 
 pub nothing-added : (order : Endian) (place : ℕ) (old : List ℕ) → old ≡ old ++ fields_text order place []
 unfolding fields_text

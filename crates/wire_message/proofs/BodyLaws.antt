@@ -1,24 +1,24 @@
 -- Building with a body: what each step refuses, building does.
-use Rattle.std.proofs.Common.{◌≡◌, ℕ, ◌<◌, ◌≤◌, ◌⊎◌, Bool, List, length, map, Option, Result, Ok, Err, refl, sym, ap, subst, ◌∙◌, inl, inr}
+use Rattle.std.proofs.Common.{◌≡◌, [], ℕ, ◌<◌, ◌≤◌, ◌⊎◌, Bool, List, length, map, Option, Result, Ok, Err, refl, sym, ap, subst, ◌∙◌, inl, inr}
 use Rattle.wire_number.specs.declared.endian.Endian.{Endian}
 use Rattle.wire_signature.specs.Shape.{Shape, IsSignature}
 use Rattle.wire_signature.specs.declared.error.VariantError.TheVariants as faults
 use Rattle.wire_tree.specs.Datum.{Datum, data_of, type_of}
 use Rattle.wire_spelling.specs.Spelling.{AllFit, depths}
 use Rattle.wire_body.specs.Arguments.{AreAllSound}
-use Rattle.wire_message.specs.Bodies.{body_text, TakesArguments, HasNoBytes, IsTooLong, BuildsBody, BuildsValues, MakesValues}
+use Rattle.wire_message.specs.Bodies.{body_text, TakesArguments, HasNoBytes, IsTooLong, BuildsBody, BuildsValues, MakesValues, MakesValuesWith}
 use Rattle.wire_message.specs.Circle.{IsSerial, last_after, Numbers}
-use Rattle.wire_message.specs.Draft.{Draft, message_text, built, Makes}
-use Rattle.wire_message.specs.Front.{Seen}
+use Rattle.wire_message.specs.Draft.{Draft, message_text, built, Makes, MakesWith}
+use Rattle.wire_message.specs.Front.{Seen, bare}
 use Rattle.wire_message.specs.Signed.{signed, signature_field}
 use Rattle.wire_message.specs.declared.error.Error.{Error}
 use Rattle.wire_message.specs.declared.error.Error.TheVariants as errors
-use Rattle.wire_message.proofs.Law.{builds-ok, builds-with}
+use Rattle.wire_message.proofs.Law.{builds-ok, bare-is}
 
-pub no-serial : (taken : ℕ → Bool) (draft : Draft) (kinds : List Shape) (values : List Datum) (old drawn : ℕ) (e : Error) → Numbers taken draft.serial old drawn (Err e)
+pub no-serial : (taken : ℕ → Bool) (draft : Draft) (kinds : List Shape) (values : List Datum) (old first drawn : ℕ) (e : Error) → Numbers taken draft.serial first drawn (Err e)
     → BuildsBody taken draft kinds values old old (Err e)
-no-serial taken draft kinds values old drawn errors.SerialsSpent n = (n.0, refl)
-no-serial taken draft kinds values old drawn other n = absurd n
+no-serial taken draft kinds values old first drawn errors.SerialsSpent n = (n.0, refl)
+no-serial taken draft kinds values old first drawn other n = absurd n
 
 pub bad-arguments : (taken : ℕ → Bool) (draft : Draft) (kinds : List Shape) (values : List Datum) (old serial : ℕ) (e : Error) → IsSerial taken draft.serial old serial
     → TakesArguments (Err e) kinds values → BuildsBody taken draft kinds values old old (Err e)
@@ -65,10 +65,14 @@ values-made draft d serial values text m same one w made =
     made.0 ∙ ap (λ (x : Draft). built x serial text) same ∙ ap (λ (b : List ℕ). built (signed draft (map type_of values)) serial b) one in
     (w.0, w.1, own, made.1)
 
-pub values-told : (draft d : Draft) (serial : ℕ) (values : List Datum) (text : List ℕ) (r : Result Seen Error) → d ≡ signed draft (map type_of values) → text ≡ body_text draft.order values
-    → (depths (data_of values) ≤ 64) × AllFit draft.order 0 (data_of values) → Makes d serial text r → MakesValues draft serial values r
-values-told draft d serial values text (Ok m) same one w t = values-made draft d serial values text m same one w t
-values-told draft d serial values text (Err e) same one w t = too-long draft d serial values text e same one w t
+pub values-told : (draft d : Draft) (serial : ℕ) (values : List Datum) (text fds : List ℕ) (r : Result Seen Error) → d ≡ signed draft (map type_of values) → text ≡ body_text draft.order values
+    → (depths (data_of values) ≤ 64) × AllFit draft.order 0 (data_of values) → MakesWith d serial text fds r → MakesValuesWith draft serial values fds r
+values-told draft d serial values text fds (Ok m) same one w t = (values-made draft d serial values text (bare m) same one w t.0, t.1)
+values-told draft d serial values text fds (Err e) same one w t = too-long draft d serial values text e same one w t
+
+-- without descriptors
+pub made-alone : (draft : Draft) (serial : ℕ) (values : List Datum) (m : Seen) → MakesValuesWith draft serial values [] (Ok m) → MakesValues draft serial values (Ok m)
+made-alone draft serial values m made = subst (λ (x : Seen). MakesValues draft serial values (Ok x)) (bare-is m made.1) made.0
 
 -- ---- arguments
 
@@ -111,10 +115,10 @@ body-built taken draft kinds values given old new serial m same are s l g made =
 
 -- ---- values with descriptors
 
-pub no-serial-values : (taken : ℕ → Bool) (draft : Draft) (values : List Datum) (fds : List ℕ) (old drawn : ℕ) (e : Error) → Numbers taken draft.serial old drawn (Err e)
+pub no-serial-values : (taken : ℕ → Bool) (draft : Draft) (values : List Datum) (fds : List ℕ) (old first drawn : ℕ) (e : Error) → Numbers taken draft.serial first drawn (Err e)
     → BuildsValues taken draft values fds old old (Err e)
-no-serial-values taken draft values fds old drawn errors.SerialsSpent n = (n.0, refl)
-no-serial-values taken draft values fds old drawn other n = absurd n
+no-serial-values taken draft values fds old first drawn errors.SerialsSpent n = (n.0, refl)
+no-serial-values taken draft values fds old first drawn other n = absurd n
 
 unmade-values : (taken : ℕ → Bool) (draft : Draft) (values : List Datum) (fds : List ℕ) (old serial : ℕ) (e : Error) → IsSerial taken draft.serial old serial
     → MakesValues draft serial values (Err e) → BuildsValues taken draft values fds old old (Err e)
@@ -129,12 +133,15 @@ pub no-values : (taken : ℕ → Bool) (draft d : Draft) (values : List Datum) (
 no-values taken draft d values fds old serial e same s t =
     unmade-values taken draft values fds old serial e s (subst (λ (x : Draft). MakesValues x serial values (Err e)) same t)
 
-values-of : (taken : ℕ → Bool) (draft : Draft) (values : List Datum) (fds : List ℕ) (old new serial : ℕ) (m r : Seen) → IsSerial taken draft.serial old serial
-    → new ≡ last_after draft.serial old serial → MakesValues draft serial values (Ok m) → r ≡ record m { fds = fds } → BuildsValues taken draft values fds old new (Ok r)
-values-of taken draft values fds old new serial m r s l made e =
-    (made.0, made.1, builds-with taken (signed draft (map type_of values)) (body_text draft.order values) fds old new serial m r s l (made.2, made.3) e)
+values-of : (taken : ℕ → Bool) (draft : Draft) (values : List Datum) (fds : List ℕ) (old new serial : ℕ) (m : Seen) → IsSerial taken draft.serial old serial
+    → new ≡ last_after draft.serial old serial → MakesValuesWith draft serial values fds (Ok m) → BuildsValues taken draft values fds old new (Ok m)
+values-of taken draft values fds old new serial m s l made = (
+  made.0.0,
+  made.0.1,
+  (builds-ok taken (signed draft (map type_of values)) (body_text draft.order values) old new serial (bare m) s l (made.0.2, made.0.3), made.1),
+)
 
-pub values-built : (taken : ℕ → Bool) (draft d : Draft) (values : List Datum) (fds : List ℕ) (old new serial : ℕ) (m r : Seen) → d ≡ draft → IsSerial taken draft.serial old serial
-    → new ≡ last_after draft.serial old serial → MakesValues d serial values (Ok m) → r ≡ record m { fds = fds } → BuildsValues taken draft values fds old new (Ok r)
-values-built taken draft d values fds old new serial m r same s l made e =
-    values-of taken draft values fds old new serial m r s l (subst (λ (x : Draft). MakesValues x serial values (Ok m)) same made) e
+pub values-built : (taken : ℕ → Bool) (draft d : Draft) (values : List Datum) (fds : List ℕ) (old new serial : ℕ) (m : Seen) → d ≡ draft → IsSerial taken draft.serial old serial
+    → new ≡ last_after draft.serial old serial → MakesValuesWith d serial values fds (Ok m) → BuildsValues taken draft values fds old new (Ok m)
+values-built taken draft d values fds old new serial m same s l made =
+    values-of taken draft values fds old new serial m s l (subst (λ (x : Draft). MakesValuesWith x serial values fds (Ok m)) same made)

@@ -1,21 +1,20 @@
 -- What is written of a draft is a message, and reads as the draft.
-use Rattle.std.proofs.Common.{◌≡◌, ℕ, ◌+◌, ◌<◌, ◌≤◌, ◌^◌, Bool, true, false, cond, ◌&&◌, ◌||◌, nat_le, List, [], ◌∷◌, ◌++◌, length, drop, Option, Some, None, refl, sym, ap, ◌∙◌, append_assoc, arith, length-append, inl, inr, ◌⊎◌}
-use Rattle.std.specs.Prelude.{IfSome, IsTrue, is_some}
-use Rattle.std.specs.Int.{w32}
+use Rattle.std.proofs.Common.{◌≡◌, ℕ, ◌+◌, ◌<◌, ◌≤◌, ◌^◌, Bool, true, false, ◌&&◌, ◌||◌, List, [], ◌∷◌, ◌++◌, length, Option, Some, None, refl, ap, ◌∙◌, append_assoc, arith, length-append, inl, inr, ◌⊎◌}
+use Rattle.std.specs.Prelude.{IfSome, IsTrue}
+use Rattle.std.specs.Int.{Width, w8, w32}
 use Rattle.std.specs.List.{AllByRecursion}
 use Rattle.std.proofs.lemmas.Bool.{leb-true, ltb-true, ltb-false, lt-ltb}
-use Rattle.std.proofs.lemmas.List.{drop_at, drop-drop}
 use Rattle.wire_number.specs.declared.endian.Endian.{Endian}
-use Rattle.wire_number.specs.Number.{number, number_text, padding}
-use Rattle.wire_number.specs.Text.{long_text}
-use Rattle.wire_number.proofs.Texts.{both_true}
+use Rattle.wire_number.specs.Number.{number, number_text, counted_text, padding}
+use Rattle.wire_number.proofs.Steps.{both_true}
 use Rattle.wire_names.specs.Names.{is_interface_name, is_member_name, is_error_name, is_bus_name, is_unique_name, is_well_known_name, is_short, is_dotted, is_interface_element, is_well_known_element, is_the_bus, is_connection}
-use Rattle.wire_signature.specs.Parsing.{types_in}
 use Rattle.wire_message.specs.declared.field.FieldCode.{FieldCode}
 use Rattle.wire_message.specs.declared.field.FieldCode.TheVariants as codes
 use Rattle.wire_message.specs.Field.{Fields, no_fields, Value, Text, Number, Field, IsField, IsShort, is_value, is_text, is_number, field_type, text_bytes, value_bytes, field_text, fields_text, with_field, with_text, with_number, gathered, text_field, number_field, field_list}
 use Rattle.wire_message.specs.Front.{kind_code, order_code}
-use Rattle.wire_message.specs.Draft.{Draft, draft_fields, header_text, message_text, AreFields, AreShort, has_long_text}
+use Rattle.wire_message.specs.Draft.{Draft, draft_fields, header_text, message_text, AreShort, has_long_text}
+use Rattle.wire_message.specs.Valid.{AreFields}
+use Rattle.wire_message.proofs.FieldLaws.{signature-below}
 
 -- ---- texts in their grammars are short
 
@@ -62,14 +61,6 @@ destination-short text h =
       | inr b ↦ well_known-is-short text b
     ]
 
-some-where : {A : Type 0} (t : Bool) (o : Option A) → is_some (cond t o None) ≡ true → t ≡ true
-some-where true o h = refl
-some-where false o h = absurd cc
-
-signature-short : (text : List ℕ) → IsTrue (is_text codes.Signature text) → length text ≤ 255
-unfolding is_text types_in
-signature-short text h = leb-true (length text) 255 (some-where (nat_le (length text) 255) _ (is-true _ h))
-
 short-if : (limit : ℕ) (P : List ℕ → Type 0) (o : Option (List ℕ)) → 255 < limit → ((text : List ℕ) → P text → length text ≤ 255) → IfSome o P → IfSome o (λ text. length text < limit)
 short-if limit P None h f p = tt
 short-if limit P (Some text) h f p = let le = f text p in omega arith
@@ -86,23 +77,21 @@ fields-short fields f h = record {
   error_name = short-if (2 ^ 32) _ fields.error_name (omega arith) error-short f.error_name;
   destination = short-if (2 ^ 32) _ fields.destination (omega arith) destination-short f.destination;
   sender = short-if (2 ^ 32) _ fields.sender (omega arith) sender-short f.sender;
-  signature = short-if 256 _ fields.signature (omega arith) signature-short f.signature;
+  signature = short-if 256 _ fields.signature (omega arith) (λ text h. omega (arith, signature-below text h)) f.signature;
 }
 
 -- ---- how long a message is
 
-long-text-length : (order : Endian) (text : List ℕ) → length text ≤ length (long_text order text)
-long-text-length order text =
-    let word = number_text w32 order (length text) in
-    omega (arith, length-append (word ++ text) (0 ∷ []), length-append word text)
+text-length : (w : Width) (order : Endian) (text : List ℕ) → length text ≤ length (counted_text w order text)
+text-length w order text = omega (arith, length-append (number_text w order (length text)) (text ++ 0 ∷ []), length-append text (0 ∷ []))
 
 path-field : (order : Endian) (place : ℕ) (text : List ℕ) (fs : List Field) → length text ≤ length (fields_text order place (record { code = codes.Path; value = Text text } ∷ fs))
 unfolding fields_text field_text
 path-field order place text fs =
     let field : Field = record { code = codes.Path; value = Text text } in
     let front = padding place 8 ++ field_text order field in
-    let value = long_text order text in
-    omega (arith, length-append front (fields_text order (place + length front) fs), length-append (padding place 8) (field_text order field), long-text-length order text)
+    let value = counted_text w32 order text in
+    omega (arith, length-append front (fields_text order (place + length front) fs), length-append (padding place 8) (field_text order field), text-length w32 order text)
 
 path-any : (order : Endian) (place : ℕ) (path : Option (List ℕ)) (rest : List Field) → has_long_text path ≡ true → 134217728 < length (fields_text order place (text_field codes.Path path ++ rest))
 path-any order place None rest h = absurd cc
@@ -173,15 +162,15 @@ list-valid fields f =
     (fds-valid fields.unix_fds f.unix_fds))))))))
 
 text-bytes-length : (order : Endian) (code : FieldCode) (text : List ℕ) → length text ≤ length (text_bytes order (field_type code) text)
-text-bytes-length order codes.Path text = long-text-length order text
-text-bytes-length order codes.Interface text = long-text-length order text
-text-bytes-length order codes.Member text = long-text-length order text
-text-bytes-length order codes.ErrorName text = long-text-length order text
-text-bytes-length order codes.ReplySerial text = long-text-length order text
-text-bytes-length order codes.Destination text = long-text-length order text
-text-bytes-length order codes.Sender text = long-text-length order text
-text-bytes-length order codes.Signature text = omega (arith, length-append text (0 ∷ []))
-text-bytes-length order codes.UnixFds text = long-text-length order text
+text-bytes-length order codes.Path text = text-length w32 order text
+text-bytes-length order codes.Interface text = text-length w32 order text
+text-bytes-length order codes.Member text = text-length w32 order text
+text-bytes-length order codes.ErrorName text = text-length w32 order text
+text-bytes-length order codes.ReplySerial text = text-length w32 order text
+text-bytes-length order codes.Destination text = text-length w32 order text
+text-bytes-length order codes.Sender text = text-length w32 order text
+text-bytes-length order codes.Signature text = text-length w8 order text
+text-bytes-length order codes.UnixFds text = text-length w32 order text
 
 value-short : (order : Endian) (code : FieldCode) (value : Value) (n : ℕ) → IsNumber value → length (value_bytes order (field_type code) value) ≤ n → n < 2 ^ 32 → IsShort value
 value-short order code (Text text) n h k l = let le = text-bytes-length order code text in omega arith
@@ -292,16 +281,3 @@ list-says d =
 
 pub regroup : (a b c d e f g : List ℕ) → (((((a ++ b) ++ c) ++ d) ++ e) ++ f) ++ g ≡ a ++ (b ++ (c ++ (d ++ (e ++ (f ++ g)))))
 regroup a b c d e f g = simp append_assoc
-
--- the bytes of a message by its parts
-abbrev pub laid : ℕ → ℕ → ℕ → List ℕ → List ℕ → List ℕ → List ℕ → List ℕ
-laid order kind flags size serial fields rest = order ∷ kind ∷ flags ∷ 1 ∷ (size ++ (serial ++ (fields ++ rest)))
-
-pub eighth : (size serial fields rest : List ℕ) → length size ≡ 4 → drop 4 (size ++ (serial ++ (fields ++ rest))) ≡ serial ++ (fields ++ rest)
-eighth size serial fields rest l = drop_at size (serial ++ (fields ++ rest)) 4 l
-
-pub twelfth : (size serial fields rest : List ℕ) → length size ≡ 4 → length serial ≡ 4 → drop 8 (size ++ (serial ++ (fields ++ rest))) ≡ fields ++ rest
-twelfth size serial fields rest l k = sym (drop-drop 4 4 (size ++ (serial ++ (fields ++ rest)))) ∙ ap (drop 4) (eighth size serial fields rest l) ∙ drop_at serial (fields ++ rest) 4 k
-
-pub sixteenth : (size serial fields rest : List ℕ) → length size ≡ 4 → length serial ≡ 4 → length fields ≡ 4 → drop 12 (size ++ (serial ++ (fields ++ rest))) ≡ rest
-sixteenth size serial fields rest l k j = sym (drop-drop 4 8 (size ++ (serial ++ (fields ++ rest)))) ∙ ap (drop 4) (twelfth size serial fields rest l k) ∙ drop_at fields rest 4 j

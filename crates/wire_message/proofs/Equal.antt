@@ -1,5 +1,5 @@
 -- Two errors are equal exactly where they are the same.
-use Rattle.std.proofs.Common.{◌≡◌, refl, sym, ◌∙◌, ap, ℕ, Bool, true, false, ◌&&◌, nat_eq, List, Option, Bor}
+use Rattle.std.proofs.Common.{◌≡◌, refl, ℕ, Bool, true, false, ◌&&◌, nat_eq, List, Option, Bor}
 use Rattle.std.specs.Cmp.Lexicographic.{pointwise}
 use Rattle.std.proofs.lemmas.Slice.Eq.{bytes_eq-Decides}
 use denote.Enum.Bare.{same_true, true_same}
@@ -16,7 +16,6 @@ use Rattle.wire_message.specs.declared.error.IoKind.{IoKind}
 use Rattle.wire_message.specs.contracts.error.IoKind.{the_type as io_kind}
 use Rattle.wire_message.specs.contracts.error.IoKindPartialEq.TheImpl.{ghosts as of_io}
 use Rattle.wire_message.specs.declared.fdo.StandardError.{StandardError}
-use Rattle.wire_message.specs.contracts.fdo.StandardErrorPartialEq.TheImpl.{ghosts as of_standard}
 use Rattle.wire_message.specs.declared.error.Error.{Error}
 use Rattle.wire_message.specs.declared.error.Error.TheVariants as errors
 use Rattle.wire_message.specs.contracts.error.ErrorPartialEq.TheImpl.{ghosts as of_errors}
@@ -120,11 +119,14 @@ tells-MissingParameter x (errors.MissingParameter y) e = is_same x.now y.now e
 tells-MissingParameter x b e = absurd e
 
 told-InterfaceExists : (n d : List ℕ) (b : Error) → of_errors.eq (errors.InterfaceExists n d) b ≡ true → Same (errors.InterfaceExists n d) b
-told-InterfaceExists n d (errors.InterfaceExists p q) e = (same_is n p (first_true (pointwise nat_eq n p) _ e), same_is d q (second_true (pointwise nat_eq n p) _ e))
+told-InterfaceExists n d (errors.InterfaceExists p q) e = (
+  same_is n p (first_true (pointwise nat_eq n p) _ (first_true (pointwise nat_eq n p && true) _ e)),
+  same_is d q (first_true (pointwise nat_eq d q) _ (second_true (pointwise nat_eq n p && true) _ e)),
+)
 told-InterfaceExists n d b e = no e
 
 tells-InterfaceExists : (n d : List ℕ) (b : Error) → Same (errors.InterfaceExists n d) b → of_errors.eq (errors.InterfaceExists n d) b ≡ true
-tells-InterfaceExists n d (errors.InterfaceExists p q) e = both_true _ _ (is_same n p e.0) (is_same d q e.1)
+tells-InterfaceExists n d (errors.InterfaceExists p q) e = both_true _ _ (both_true _ _ (is_same n p e.0) refl) (both_true _ _ (is_same d q e.1) refl)
 tells-InterfaceExists n d b e = absurd e
 
 told-MethodError : (n : List ℕ) (d : Option (List ℕ)) (m : Seen) (b : Error) → of_errors.eq (errors.MethodError n d m) b ≡ true → Same (errors.MethodError n d m) b

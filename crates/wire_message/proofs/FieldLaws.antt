@@ -1,22 +1,23 @@
--- What is read as header fields is spelled so, and what is spelled so is read.
-use Rattle.std.proofs.Common.{◌≡◌, ℕ, ◌<◌, Bool, false, cond, ◌&&◌, ◌==◌, List, [], ◌∷◌, ◌++◌, length, drop, Option, Some, None, refl, sym, ap, subst, ◌∙◌, append_assoc, arith, inl, inr, length-append}
-use Rattle.std.specs.Prelude.{option_and_then, option_map, IsTrue}
-use Rattle.std.proofs.Math.Seq.{drop-append_seam}
+-- What is read as a header field is spelled so, and what is spelled so is read.
+use Rattle.std.proofs.Common.{◌≡◌, ℕ, ◌+◌, ◌-◌, ◌<◌, ◌≤◌, ◌%◌, false, cond, ◌&&◌, ◌==◌, List, [], ◌∷◌, ◌++◌, length, replicate, Option, Some, is_some, refl, sym, ap, subst, ◌∙◌, append_assoc, arith, inl, inr}
+use Rattle.std.specs.Prelude.{IsTrue}
+use Rattle.std.specs.Int.{Width, w8, w32, byte_len}
 use Rattle.std.proofs.lemmas.Bool.{eqb-true}
 use Rattle.wire_number.specs.declared.endian.Endian.{Endian}
-use Rattle.wire_number.specs.Number.{padding}
-use Rattle.wire_number.specs.Text.{long_text, long_text_at, short_text_at, u32_at, past_padding}
-use Rattle.wire_number.proofs.Numbers.{IsBytes, IsBytes-drop}
-use Rattle.wire_number.proofs.Texts.{both_true, chosen_some, long-takes, long-again, short-takes, short-again, u32-takes, u32-again}
-use Rattle.wire_number.proofs.Zeros.{padding-takes, padding-again}
+use Rattle.wire_number.specs.Number.{counted_text, number_text, pad, padding}
+use Rattle.wire_number.specs.Reading.{Cursor, ◌>>=◌, made, bytes_at, align_at, number_at, counted_at}
+use Rattle.wire_number.proofs.Multiples.{padded-is-multiple}
+use Rattle.wire_number.proofs.Steps.{at, AreBytes, Reads, reads_then, Takes, IsNumber, IsShort as IsShortWidth, limit, bind_some, map_some, some_is, guard_some, guarded, bound_some, both_true, bytes_take, bytes_again, align_takes, align_again, number_takes, number_again, length-number_text, length_padding, length-padded, IsCounted, counted_takes, counted_again}
 use Rattle.wire_signature.specs.declared.basic.BasicType.{BasicType}
 use Rattle.wire_signature.specs.declared.basic.BasicType.TheVariants as basics
 use Rattle.wire_signature.specs.Shape.{letter}
-use Rattle.wire_signature.proofs.Takes.{bind_some, some_is, if_ways}
+use Rattle.wire_signature.specs.Parsing.{types_in}
+use Rattle.wire_signature.proofs.Exact.{is_some-types_in}
+use Rattle.wire_signature.proofs.Takes.{if_ways}
 use Rattle.wire_message.specs.declared.field.FieldCode.{FieldCode}
 use Rattle.wire_message.specs.declared.field.FieldCode.TheVariants as codes
-use Rattle.wire_message.specs.Field.{Value, Text, Number, Field, IsField, IsShort, is_value, is_text, is_number, code_byte, field_type, text_bytes, value_bytes, field_text}
-use Rattle.wire_message.specs.Reading.{code_of, typed_code, code_at, as_text, as_number, value_at, checked, field_at, padded_field_at}
+use Rattle.wire_message.specs.Field.{Value, Text, Number, Field, IsField, IsShort, is_value, is_text, is_number, code_byte, code_bytes, field_type, text_bytes, value_bytes, field_text}
+use Rattle.wire_message.specs.Reading.{code_of, typed_code, code_at, value_at, field_at}
 
 -- ---- the code
 
@@ -46,186 +47,167 @@ code_of-again codes.Sender = refl
 code_of-again codes.Signature = refl
 code_of-again codes.UnixFds = refl
 
--- the first four bytes of a field
-abbrev head_of : FieldCode → List ℕ → List ℕ
-head_of code rest = code_byte code ∷ 1 ∷ letter (field_type code) ∷ 0 ∷ rest
-
-head-same : (a b c d : ℕ) (rest : List ℕ) (code : FieldCode) → a ≡ code_byte code → b ≡ 1 → c ≡ letter (field_type code) → d ≡ 0 → a ∷ b ∷ c ∷ d ∷ rest ≡ head_of code rest
-head-same a b c d rest code p q r s =
-    ap (λ (x : ℕ). x ∷ b ∷ c ∷ d ∷ rest) p ∙ ap (λ (x : ℕ). code_byte code ∷ x ∷ c ∷ d ∷ rest) q
-    ∙ ap (λ (x : ℕ). code_byte code ∷ 1 ∷ x ∷ d ∷ rest) r ∙ ap (λ (x : ℕ). code_byte code ∷ 1 ∷ letter (field_type code) ∷ x ∷ rest) s
-
-code_at-takes : (bytes : List ℕ) (code : FieldCode) → code_at bytes ≡ Some code → bytes ≡ head_of code (drop 4 bytes)
+code_at-takes : (bytes : List ℕ) (code : FieldCode) → length bytes ≡ 4 → code_at bytes ≡ Some code → bytes ≡ code_bytes code
 unfolding code_at
-code_at-takes [] code e = absurd cc
-code_at-takes (a ∷ []) code e = absurd cc
-code_at-takes (a ∷ b ∷ []) code e = absurd cc
-code_at-takes (a ∷ b ∷ c ∷ []) code e = absurd cc
-code_at-takes (a ∷ b ∷ c ∷ d ∷ rest) code e =
+code_at-takes [] code l e = absurd cc
+code_at-takes (a ∷ []) code l e = absurd cc
+code_at-takes (a ∷ b ∷ []) code l e = absurd cc
+code_at-takes (a ∷ b ∷ c ∷ []) code l e = absurd cc
+code_at-takes (a ∷ b ∷ c ∷ d ∷ x ∷ rest) code l e = absurd (omega arith)
+code_at-takes (a ∷ b ∷ c ∷ d ∷ []) code l e =
     let s = bind_some (code_of a) (λ x. typed_code x b c d) code e in
-    let t = chosen_some ((b == 1) && (c == letter (field_type s.0)) && (d == 0)) s.0 code s.2 in
+    let t = guard_some ((b == 1) && (c == letter (field_type s.0)) && (d == 0)) (Some s.0) code s.2 in
     let two = both_true ((b == 1) && (c == letter (field_type s.0))) (d == 0) t.0 in
     let one = both_true (b == 1) (c == letter (field_type s.0)) two.0 in
-    head-same a b c d rest code (code_of-takes a s.0 s.1 ∙ ap code_byte t.1) (eqb-true b 1 one.0)
-    (eqb-true c (letter (field_type s.0)) one.1 ∙ ap (λ (x : FieldCode). letter (field_type x)) t.1) (eqb-true d 0 two.1)
+    ap (λ (x : ℕ). x ∷ b ∷ c ∷ d ∷ []) (code_of-takes a s.0 s.1) ∙ ap (λ (x : ℕ). code_byte s.0 ∷ x ∷ c ∷ d ∷ []) (eqb-true b 1 one.0)
+    ∙ ap (λ (x : ℕ). code_byte s.0 ∷ 1 ∷ x ∷ d ∷ []) (eqb-true c (letter (field_type s.0)) one.1)
+    ∙ ap (λ (x : ℕ). code_byte s.0 ∷ 1 ∷ letter (field_type s.0) ∷ x ∷ []) (eqb-true d 0 two.1) ∙ ap code_bytes (some_is s.0 code t.1)
 
-code_at-again : (code : FieldCode) (rest : List ℕ) → code_at (head_of code rest) ≡ Some code
+code_at-again : (code : FieldCode) → code_at (code_bytes code) ≡ Some code
 unfolding code_at
-code_at-again codes.Path rest = refl
-code_at-again codes.Interface rest = refl
-code_at-again codes.Member rest = refl
-code_at-again codes.ErrorName rest = refl
-code_at-again codes.ReplySerial rest = refl
-code_at-again codes.Destination rest = refl
-code_at-again codes.Sender rest = refl
-code_at-again codes.Signature rest = refl
-code_at-again codes.UnixFds rest = refl
+code_at-again codes.Path = refl
+code_at-again codes.Interface = refl
+code_at-again codes.Member = refl
+code_at-again codes.ErrorName = refl
+code_at-again codes.ReplySerial = refl
+code_at-again codes.Destination = refl
+code_at-again codes.Sender = refl
+code_at-again codes.Signature = refl
+code_at-again codes.UnixFds = refl
 
 -- ---- the value
 
-map_some : {A B : Type 0} (o : Option A) (f : A → B) (y : B) → option_map f o ≡ Some y → (x : A) × (o ≡ Some x) × (f x ≡ y)
-map_some None f y e = absurd cc
-map_some (Some x) f y e = (x, refl, cc)
+-- behind the padding of a struct and four bytes no value of a field needs padding
+pub placed : (p : ℕ) → pad (p + pad p 8 + 4) 4 ≡ 0
+placed p = of (p + pad p 8) (padded-is-multiple p 8 (omega arith)) where
+  of : (q : ℕ) → q % 8 ≡ 0 → pad (q + 4) 4 ≡ 0
+  of q h = let f : (q + 4) % 4 ≡ 0 = omega (arith, h) in ap (λ r. (4 - r) % 4) f
+
+pub no_pad : (p : ℕ) → pad p 1 ≡ 0
+no_pad p = omega arith
+
+unpadded : (c after : Cursor) (n : ℕ) (text : List ℕ) → pad c.place n ≡ 0 → Reads c (padding c.place n ++ text) after → Reads c text after
+unpadded c after n text e r = subst (λ (k : ℕ). Reads c (replicate k 0 ++ text) after) e r
 
 -- what was taken as a value
-abbrev Valued : Endian → BasicType → List ℕ → Value × List ℕ → Type 0
-Valued order type bytes x = (bytes ≡ value_bytes order type x.0 ++ x.1) × IsShort x.0
+abbrev Valued : Endian → BasicType → Cursor → Value × Cursor → Type 0
+Valued order type c x = Reads c (value_bytes order type x.0) x.1 × IsShort x.0
 
-long-value : (order : Endian) (type : BasicType) (bytes : List ℕ) (x : Value × List ℕ) → IsBytes bytes → ((t : List ℕ) → text_bytes order type t ≡ long_text order t)
-    → as_text (long_text_at order bytes) ≡ Some x → Valued order type bytes x
-long-value order type bytes x fits same e =
-    let s = map_some (long_text_at order bytes) (λ p. (Text p.0, p.1)) x e in
-    let t = long-takes order bytes s.0.0 s.0.1 fits s.1 in
-    subst (λ (p : Value × List ℕ). Valued order type bytes p) s.2 (t.parts ∙ ap (λ (l : List ℕ). l ++ s.0.1) (sym (same s.0.0)), t.short)
+text-value : (w : Width) (order : Endian) (type : BasicType) (c : Cursor) (x : Value × Cursor) → IsShortWidth w → limit w ≤ 4294967296 → pad c.place (byte_len w) ≡ 0 → AreBytes c.rest
+    → ((t : List ℕ) → text_bytes order type t ≡ counted_text w order t) → made Text (counted_at w order c) ≡ Some x → Valued order type c x
+text-value w order type c x s h e low same f =
+    let y = map_some (λ (y : List ℕ × Cursor). (Text y.0, y.1)) (counted_at w order c) x f in
+    let k : IsCounted w order c y.0 = counted_takes w order c y.0 s y.1 low in
+    let r : Reads c (counted_text w order y.0.0) y.0.1 = unpadded c y.0.1 (byte_len w) (counted_text w order y.0.0) e k.reads in
+    subst (λ (p : Value × Cursor). Valued order type c p) y.2 (subst (λ (l : List ℕ). Reads c l y.0.1) (sym (same y.0.0)) r, omega (arith, k.below, h))
 
-short-value : (order : Endian) (bytes : List ℕ) (x : Value × List ℕ) → IsBytes bytes → as_text (short_text_at bytes) ≡ Some x → Valued order basics.Signature bytes x
-short-value order bytes x fits e =
-    let s = map_some (short_text_at bytes) (λ p. (Text p.0, p.1)) x e in
-    let t = short-takes bytes s.0.0 s.0.1 fits s.1 in
-    subst (λ (p : Value × List ℕ). Valued order basics.Signature bytes p) s.2 (t.parts, omega (arith, t.short))
+number-value : (order : Endian) (c : Cursor) (x : Value × Cursor) → pad c.place 4 ≡ 0 → AreBytes c.rest → made Number (align_at 4 c >>= number_at w32 order) ≡ Some x
+    → Valued order basics.Uint32 c x
+number-value order c x e low f =
+    let y = map_some (λ (y : ℕ × Cursor). (Number y.0, y.1)) (align_at 4 c >>= number_at w32 order) x f in
+    let p = bind_some (align_at 4 c) (number_at w32 order) y.0 y.1 in
+    let front : Reads c (padding c.place 4) p.0 = align_takes 4 c p.0 p.1 low in
+    let k : IsNumber w32 order p.0 y.0 = number_takes w32 order p.0 y.0 tt p.2 front.bytes in
+    let r : Reads c (number_text w32 order y.0.0) y.0.1 = unpadded c y.0.1 4 (number_text w32 order y.0.0) e (reads_then c p.0 y.0.1 _ _ front k.reads) in
+    subst (λ (p : Value × Cursor). Valued order basics.Uint32 c p) y.2 (r, omega (arith, k.below))
 
-number-value : (order : Endian) (bytes : List ℕ) (x : Value × List ℕ) → IsBytes bytes → as_number (u32_at order bytes) ≡ Some x → Valued order basics.Uint32 bytes x
-number-value order bytes x fits e =
-    let s = map_some (u32_at order bytes) (λ p. (Number p.0, p.1)) x e in
-    let t = u32-takes order bytes s.0.0 s.0.1 fits s.1 in
-    subst (λ (p : Value × List ℕ). Valued order basics.Uint32 bytes p) s.2 (t.1, t.0)
-
-value_at-takes : (order : Endian) (code : FieldCode) (bytes : List ℕ) (x : Value × List ℕ) → IsBytes bytes → value_at order (field_type code) bytes ≡ Some x → Valued order (field_type code) bytes x
+value_at-takes : (order : Endian) (code : FieldCode) (c : Cursor) (x : Value × Cursor) → pad c.place 4 ≡ 0 → AreBytes c.rest → value_at order (field_type code) c ≡ Some x
+    → Valued order (field_type code) c x
 unfolding value_at
-value_at-takes order codes.Path bytes x fits e = long-value order basics.ObjectPath bytes x fits (λ t. refl) e
-value_at-takes order codes.Interface bytes x fits e = long-value order basics.String bytes x fits (λ t. refl) e
-value_at-takes order codes.Member bytes x fits e = long-value order basics.String bytes x fits (λ t. refl) e
-value_at-takes order codes.ErrorName bytes x fits e = long-value order basics.String bytes x fits (λ t. refl) e
-value_at-takes order codes.ReplySerial bytes x fits e = number-value order bytes x fits e
-value_at-takes order codes.Destination bytes x fits e = long-value order basics.String bytes x fits (λ t. refl) e
-value_at-takes order codes.Sender bytes x fits e = long-value order basics.String bytes x fits (λ t. refl) e
-value_at-takes order codes.Signature bytes x fits e = short-value order bytes x fits e
-value_at-takes order codes.UnixFds bytes x fits e = number-value order bytes x fits e
+value_at-takes order codes.Path c x p low e = text-value w32 order basics.ObjectPath c x tt (omega arith) p low (λ t. refl) e
+value_at-takes order codes.Interface c x p low e = text-value w32 order basics.String c x tt (omega arith) p low (λ t. refl) e
+value_at-takes order codes.Member c x p low e = text-value w32 order basics.String c x tt (omega arith) p low (λ t. refl) e
+value_at-takes order codes.ErrorName c x p low e = text-value w32 order basics.String c x tt (omega arith) p low (λ t. refl) e
+value_at-takes order codes.ReplySerial c x p low e = number-value order c x p low e
+value_at-takes order codes.Destination c x p low e = text-value w32 order basics.String c x tt (omega arith) p low (λ t. refl) e
+value_at-takes order codes.Sender c x p low e = text-value w32 order basics.String c x tt (omega arith) p low (λ t. refl) e
+value_at-takes order codes.Signature c x p low e = text-value w8 order basics.Signature c x tt (omega arith) (no_pad c.place) low (λ t. refl) e
+value_at-takes order codes.UnixFds c x p low e = number-value order c x p low e
 
-as-text : (o : Option (List ℕ × List ℕ)) (text rest : List ℕ) → o ≡ Some (text, rest) → as_text o ≡ Some (Text text, rest)
-as-text o text rest e = ap as_text e
+text-again : (w : Width) (order : Endian) (t : List ℕ) (p : ℕ) (rest : List ℕ) → length t < limit w → pad p (byte_len w) ≡ 0
+    → made Text (counted_at w order (at p (counted_text w order t ++ rest))) ≡ Some (Text t, at (p + length (counted_text w order t)) rest)
+text-again w order t p rest h e =
+    subst (λ (k : ℕ). made Text (counted_at w order (at p ((replicate k 0 ++ counted_text w order t) ++ rest))) ≡ Some (Text t, at (p + length (replicate k 0 ++ counted_text w order t)) rest)) e
+    (ap (made Text) (counted_again w order t p rest h))
 
-as-number : (o : Option (ℕ × List ℕ)) (number : ℕ) (rest : List ℕ) → o ≡ Some (number, rest) → as_number o ≡ Some (Number number, rest)
-as-number o number rest e = ap as_number e
+number-read : (order : Endian) (n p : ℕ) (rest : List ℕ) → n < 4294967296 → pad p 4 ≡ 0
+    → made Number (align_at 4 (at p (number_text w32 order n ++ rest)) >>= number_at w32 order) ≡ Some (Number n, at (p + length (number_text w32 order n)) rest)
+number-read order n p rest h e =
+    let text : List ℕ = number_text w32 order n in
+    let long : p + 0 + byte_len w32 ≡ p + length text = omega (arith, length-number_text w32 order n) in
+    let aligned : align_at 4 (at p (text ++ rest)) ≡ Some (at (p + 0) (text ++ rest)) =
+    subst (λ (k : ℕ). align_at 4 (at p (replicate k 0 ++ (text ++ rest))) ≡ Some (at (p + k) (text ++ rest))) e (align_again 4 p (text ++ rest)) in
+    ap (made Number) (bound_some _ (number_at w32 order) _ aligned ∙ number_again w32 order n (p + 0) rest h) ∙ ap (λ (k : ℕ). Some (Number n, at k rest)) long
+
+-- a signature is short
+pub signature-below : (text : List ℕ) → IsTrue (is_text codes.Signature text) → length text < 256
+unfolding is_text
+signature-below text h =
+    let k = (is_some-types_in (is_some (types_in text)) text refl).0 h in
+    omega (arith, ap length k.1.text, k.1.valid.within)
 
 not-so : {A : Type 0} → IsTrue false → A
 not-so h = absurd cc
 
-value_at-again : (order : Endian) (code : FieldCode) (value : Value) (rest : List ℕ) → IsTrue (is_value code value) → IsShort value
-    → value_at order (field_type code) (value_bytes order (field_type code) value ++ rest) ≡ Some (value, rest)
+value_at-again : (order : Endian) (code : FieldCode) (value : Value) (p : ℕ) (rest : List ℕ) → pad p 4 ≡ 0 → IsTrue (is_value code value) → IsShort value
+    → value_at order (field_type code) (at p (value_bytes order (field_type code) value ++ rest)) ≡ Some (value, at (p + length (value_bytes order (field_type code) value)) rest)
 unfolding value_at is_text is_number
-value_at-again order codes.Path (Text t) rest h k = as-text _ t rest (long-again order t rest k)
-value_at-again order codes.Interface (Text t) rest h k = as-text _ t rest (long-again order t rest k)
-value_at-again order codes.Member (Text t) rest h k = as-text _ t rest (long-again order t rest k)
-value_at-again order codes.ErrorName (Text t) rest h k = as-text _ t rest (long-again order t rest k)
-value_at-again order codes.ReplySerial (Text t) rest h k = not-so h
-value_at-again order codes.Destination (Text t) rest h k = as-text _ t rest (long-again order t rest k)
-value_at-again order codes.Sender (Text t) rest h k = as-text _ t rest (long-again order t rest k)
-value_at-again order codes.Signature (Text t) rest h k = as-text _ t rest (short-again t rest)
-value_at-again order codes.UnixFds (Text t) rest h k = not-so h
-value_at-again order codes.Path (Number n) rest h k = not-so h
-value_at-again order codes.Interface (Number n) rest h k = not-so h
-value_at-again order codes.Member (Number n) rest h k = not-so h
-value_at-again order codes.ErrorName (Number n) rest h k = not-so h
-value_at-again order codes.ReplySerial (Number n) rest h k = as-number _ n rest (u32-again order n rest k)
-value_at-again order codes.Destination (Number n) rest h k = not-so h
-value_at-again order codes.Sender (Number n) rest h k = not-so h
-value_at-again order codes.Signature (Number n) rest h k = not-so h
-value_at-again order codes.UnixFds (Number n) rest h k = as-number _ n rest (u32-again order n rest k)
+value_at-again order codes.Path (Text t) p rest e h k = text-again w32 order t p rest k e
+value_at-again order codes.Interface (Text t) p rest e h k = text-again w32 order t p rest k e
+value_at-again order codes.Member (Text t) p rest e h k = text-again w32 order t p rest k e
+value_at-again order codes.ErrorName (Text t) p rest e h k = text-again w32 order t p rest k e
+value_at-again order codes.ReplySerial (Text t) p rest e h k = not-so h
+value_at-again order codes.Destination (Text t) p rest e h k = text-again w32 order t p rest k e
+value_at-again order codes.Sender (Text t) p rest e h k = text-again w32 order t p rest k e
+value_at-again order codes.Signature (Text t) p rest e h k = text-again w8 order t p rest (signature-below t h) (no_pad p)
+value_at-again order codes.UnixFds (Text t) p rest e h k = not-so h
+value_at-again order codes.Path (Number n) p rest e h k = not-so h
+value_at-again order codes.Interface (Number n) p rest e h k = not-so h
+value_at-again order codes.Member (Number n) p rest e h k = not-so h
+value_at-again order codes.ErrorName (Number n) p rest e h k = not-so h
+value_at-again order codes.ReplySerial (Number n) p rest e h k = number-read order n p rest k e
+value_at-again order codes.Destination (Number n) p rest e h k = not-so h
+value_at-again order codes.Sender (Number n) p rest e h k = not-so h
+value_at-again order codes.Signature (Number n) p rest e h k = not-so h
+value_at-again order codes.UnixFds (Number n) p rest e h k = number-read order n p rest k e
 
 -- ---- one field
 
 -- what was taken as a field
-pub record Taken (order : Endian) (bytes : List ℕ) (field : Field) (rest : List ℕ) : Type 0 where
-  pub text : bytes ≡ field_text order field ++ rest
-  pub valid : IsField field
-  pub fits : IsBytes rest
+pub record Taken (order : Endian) (c : Cursor) (x : Field × Cursor) : Type 0 where
+  pub reads : Reads c (padding c.place 8 ++ field_text order x.0) x.1
+  pub valid : IsField x.0
 
-abbrev TakenAs : Endian → List ℕ → Field × List ℕ → Type 0
-TakenAs order bytes x = Taken order bytes x.0 x.1
-
-rest-fits : (order : Endian) (bytes front rest : List ℕ) → IsBytes bytes → bytes ≡ front ++ rest → IsBytes rest
-rest-fits order bytes front rest fits e =
-    let same : drop (length front) bytes ≡ rest = ap (drop (length front)) e ∙ drop-append_seam front rest in
-    subst IsBytes same (IsBytes-drop (length front) bytes fits)
-
-field_at-takes : (order : Endian) (bytes : List ℕ) (x : Field × List ℕ) → IsBytes bytes → field_at order bytes ≡ Some x → TakenAs order bytes x
+pub field_at-takes : (order : Endian) (c : Cursor) (x : Field × Cursor) → AreBytes c.rest → field_at order c ≡ Some x → Taken order c x
 unfolding field_at field_text
-field_at-takes order bytes x fits e =
-    let s = bind_some (code_at bytes) (λ code. checked code (value_at order (field_type code) (drop 4 bytes))) x e in
-    let code = s.0 in
-    let t = bind_some (value_at order (field_type code) (drop 4 bytes)) (λ y. cond (is_value code y.0) (Some (record { code = code; value = y.0 }, y.1)) None) x s.2 in
-    let v = t.0 in
-    let c = chosen_some (is_value code v.0) (record { code = code; value = v.0 }, v.1) x t.2 in
-    let head = code_at-takes bytes code s.1 in
-    let valued = value_at-takes order code (drop 4 bytes) v (IsBytes-drop 4 bytes fits) t.1 in
-    let text : bytes ≡ head_of code (value_bytes order (field_type code) v.0 ++ v.1) = head ∙ ap (head_of code) valued.0 in
-    let field : Field = record { code = code; value = v.0 } in
-    let taken : Taken order bytes field v.1 = record {
-      text = text;
-      valid = (c.0, valued.1);
-      fits = rest-fits order bytes (field_text order field) v.1 fits text;
-    } in
-    subst (λ (p : Field × List ℕ). TakenAs order bytes p) c.1 taken
+field_at-takes order c x low e =
+    let p = bind_some (align_at 8 c) _ x e in
+    let h = bind_some (bytes_at 4 p.0) _ x p.2 in
+    let k = bind_some (code_at h.0.0) _ x h.2 in
+    let v = bind_some (value_at order (field_type k.0) h.0.1) _ x k.2 in
+    let g = guard_some (is_value k.0 v.0.0) (Some (record { code = k.0; value = v.0.0 }, v.0.1)) x v.2 in
+    let front : Reads c (padding c.place 8) p.0 = align_takes 8 c p.0 p.1 low in
+    let four : Takes 4 p.0 h.0.0 h.0.1 = bytes_take 4 p.0 h.0 h.1 front.bytes in
+    let head : Reads p.0 (code_bytes k.0) h.0.1 = subst (λ (l : List ℕ). Reads p.0 l h.0.1) (code_at-takes h.0.0 k.0 four.long k.1) four.reads in
+    let here : h.0.1.place ≡ c.place + pad c.place 8 + 4 = omega (arith, four.reads.place_is, four.long, front.place_is, length_padding c.place 8) in
+    let valued : Valued order (field_type k.0) h.0.1 v.0 = value_at-takes order k.0 h.0.1 v.0 (ap (λ (q : ℕ). pad q 4) here ∙ placed c.place) head.bytes v.1 in
+    let found : Field × Cursor = (record { code = k.0; value = v.0.0 }, v.0.1) in
+    subst (λ (y : Field × Cursor). Taken order c y) {x = found} (some_is found x g.1)
+    (record { reads = reads_then c p.0 v.0.1 (padding c.place 8) (field_text order found.0) front (reads_then p.0 h.0.1 v.0.1 (code_bytes k.0) (value_bytes order (field_type k.0) v.0.0) head valued.0); valid = (g.0, valued.1) })
 
-field_at-again : (order : Endian) (field : Field) (rest : List ℕ) → IsField field → field_at order (field_text order field ++ rest) ≡ Some (field, rest)
+pub field_at-again : (order : Endian) (field : Field) (p : ℕ) (rest : List ℕ) → IsField field
+    → field_at order (at p ((padding p 8 ++ field_text order field) ++ rest)) ≡ Some (field, at (p + length (padding p 8 ++ field_text order field)) rest)
 unfolding field_at field_text
-field_at-again order field rest h =
-    let value = value_bytes order (field_type field.code) field.value in
-    ap (λ (o : Option FieldCode). option_and_then (λ code. checked code (value_at order (field_type code) (value ++ rest))) o) (code_at-again field.code (value ++ rest))
-    ∙ ap (checked field.code) (value_at-again order field.code field.value rest h.0 h.1)
-    ∙ ap (λ (t : Bool). cond t (Some (field, rest)) None) h.0
-
--- ---- behind the padding
-
-pub record Padded (order : Endian) (place : ℕ) (bytes : List ℕ) (field : Field) (rest : List ℕ) : Type 0 where
-  pub text : bytes ≡ (padding place 8 ++ field_text order field) ++ rest
-  pub valid : IsField field
-  pub fits : IsBytes rest
-
-pub padded-takes : (order : Endian) (place : ℕ) (bytes : List ℕ) (x : Field × List ℕ) → IsBytes bytes → padded_field_at order place bytes ≡ Some x → Padded order place bytes x.0 x.1
-unfolding padded_field_at
-padded-takes order place bytes x fits e =
-    let s = bind_some (past_padding place 8 bytes) (λ rest. field_at order rest) x e in
-    let p = padding-takes place 8 bytes s.0 s.1 in
-    let t = field_at-takes order s.0 x (rest-fits order bytes (padding place 8) s.0 fits p.0) s.2 in
-    record {
-      text = p.0 ∙ ap (λ (l : List ℕ). padding place 8 ++ l) t.text ∙ sym (append_assoc (padding place 8) (field_text order x.0) x.1);
-      valid = t.valid;
-      fits = t.fits;
-    }
-
-pub padded-again : (order : Endian) (place : ℕ) (field : Field) (rest : List ℕ) → IsField field → padded_field_at order place ((padding place 8 ++ field_text order field) ++ rest) ≡ Some (field, rest)
-unfolding padded_field_at
-padded-again order place field rest h =
-    ap (λ (l : List ℕ). option_and_then (λ r. field_at order r) (past_padding place 8 l)) (append_assoc (padding place 8) (field_text order field) rest)
-    ∙ ap (λ (o : Option (List ℕ)). option_and_then (λ r. field_at order r) o) (padding-again place 8 (field_text order field ++ rest))
-    ∙ field_at-again order field rest h
-
-field-some : (order : Endian) (field : Field) → 0 < length (field_text order field)
-unfolding field_text
-field-some order field = omega arith
-
-pub padded-shorter : (order : Endian) (place : ℕ) (bytes : List ℕ) (field : Field) (rest : List ℕ) → Padded order place bytes field rest → length rest < length bytes
-padded-shorter order place bytes field rest p =
-    omega (arith, ap length p.text, length-append (padding place 8 ++ field_text order field) rest, length-append (padding place 8) (field_text order field), field-some order field)
+field_at-again order field p rest h =
+    let code : List ℕ = code_bytes field.code in
+    let value : List ℕ = value_bytes order (field_type field.code) field.value in
+    let regrouped : (padding p 8 ++ (code ++ value)) ++ rest ≡ padding p 8 ++ (code ++ (value ++ rest)) =
+    append_assoc (padding p 8) (code ++ value) rest ∙ ap (λ r. padding p 8 ++ r) (append_assoc code value rest) in
+    let long : p + pad p 8 + 4 + length value ≡ p + length (padding p 8 ++ (code ++ value)) = omega (arith, length-padded p 8 (code ++ value)) in
+    ap (field_at order) (ap (at p) regrouped)
+    ∙ bound_some _ _ _ (align_again 8 p (code ++ (value ++ rest)))
+    ∙ bound_some _ _ _ (bytes_again 4 (p + pad p 8) code (value ++ rest) refl)
+    ∙ bound_some _ _ _ (code_at-again field.code)
+    ∙ bound_some _ _ _ (value_at-again order field.code field.value (p + pad p 8 + 4) rest (placed p) h.0 h.1)
+    ∙ guarded (is_value field.code field.value) _ h.0
+    ∙ ap (λ (k : ℕ). Some (field, at k rest)) long

@@ -1,12 +1,12 @@
 -- What is read from the front of some bytes is in the header grammar, and what is in it is read.
-use Rattle.std.proofs.Common.{◌≡◌, ℕ, zero, suc, ◌+◌, ◌≤◌, ◌<◌, List, length, take, drop, slice_index, Option, Some, None, Result, Ok, Err, refl, sym, ◌∙◌, ap, subst, arith, Bool, true, false, cond, not, ◌||◌, ◌==◌, nat_lt, is_none, ◌⊎◌, inl, inr, length-drop}
+use Rattle.std.proofs.Common.{◌≡◌, ℕ, zero, suc, ◌≤◌, ◌<◌, List, length, take, drop, slice_index, Option, Some, None, Result, Ok, Err, refl, sym, ◌∙◌, ap, subst, arith, Bool, true, false, cond, not, ◌||◌, ◌==◌, nat_lt, is_none, ◌⊎◌, inl, inr}
 use Rattle.std.specs.Prelude.{IfOk}
 use Rattle.std.proofs.lemmas.Bool.{ltb-false, le-ltb, eqb-true, ne_eqb, not-false}
 use Rattle.std.proofs.lemmas.List.{length-take}
 use Rattle.wire_number.specs.declared.endian.Endian.{Endian}
 use Rattle.wire_number.specs.declared.endian.Endian.TheVariants.{Little, Big}
 use Rattle.wire_number.proofs.Numbers.{IsBytes, IsBytes-drop, IsBytes-take}
-use Rattle.wire_message.specs.Field.{Fields, fields_text}
+use Rattle.wire_message.specs.Field.{Fields}
 use Rattle.wire_message.specs.Front.{Seen, seen, fields_of, kind_code, order_code, order_at, word_at, fields_len, total, field_bytes, Front}
 use Rattle.wire_message.specs.Reading.{fields_in}
 use Rattle.wire_message.specs.Outcome.{kind_of, is_order, is_refused, head_fault, fields_found, message_by, then_message, front_outcome, Tells}
@@ -16,6 +16,7 @@ use Rattle.wire_message.specs.declared.error.Error.{Error}
 use Rattle.wire_message.specs.declared.error.Error.TheVariants as errors
 use Rattle.wire_message.specs.declared.error.IoKind.{IoKind}
 use Rattle.wire_message.proofs.Lists.{fields_in-takes, fields_in-again}
+use Rattle.wire_number.proofs.Steps.{bytes_from}
 
 -- ---- tests
 
@@ -141,18 +142,13 @@ message_by-made bytes None r m e = absurd cc
 message_by-made bytes (Some k) None m e = absurd cc
 message_by-made bytes (Some k) (Some r) m e = record { kind_made = k; fields_made = r; kind = refl; fields = refl; same = ok_is _ m e }
 
-fields-there : (bytes : List ℕ) → 16 + fields_len bytes ≤ length bytes → 16 + length (field_bytes bytes) ≡ 16 + fields_len bytes
-fields-there bytes h = omega (arith, length-take (fields_len bytes) (drop 16 bytes), length-drop 16 bytes)
-
 -- a message that is read stands on the front of the bytes
 pub front-found : (bytes : List ℕ) (m : Seen) → IsBytes bytes → 16 ≤ length bytes → total bytes ≤ length bytes → head_fault bytes ≡ None
     → message_by bytes (kind_of (slice_index bytes 1)) (fields_found bytes) ≡ Ok m → Front bytes m (total bytes)
 front-found bytes m fits long there no_faults e =
     let h = head_fault-takes bytes no_faults in
     let made = message_by-made bytes (kind_of (slice_index bytes 1)) (fields_found bytes) m e in
-    let inside : 16 + fields_len bytes ≤ length bytes = omega arith in
-    let s = fields_in-takes (order_at bytes) (16 + fields_len bytes) (field_bytes bytes) made.fields_made (IsBytes-take (fields_len bytes) (drop 16 bytes) (IsBytes-drop 16 bytes fits))
-    (fields-there bytes inside) made.fields in
+    let s = fields_in-takes (order_at bytes) (field_bytes bytes) made.fields_made (bytes_from (field_bytes bytes) (IsBytes-take (fields_len bytes) (drop 16 bytes) (IsBytes-drop 16 bytes fits))) made.fields in
     subst (λ (x : Seen). Front bytes x (total bytes)) made.same (record {
       own = refl;
       there = there;
@@ -191,10 +187,8 @@ pub front-fields : (bytes : List ℕ) (m : Seen) (n : ℕ) → Front bytes m n �
 front-fields bytes m n f =
     let order : order_at bytes ≡ m.order = order-again bytes m.order f.order in
     let fs = f.fields.0 in
-    let inside : 16 + fields_len bytes ≤ length bytes = omega (arith, f.there, f.whole) in
-    let len : 16 + fields_len bytes ≡ 16 + length (fields_text m.order 16 fs) = sym (fields-there bytes inside) ∙ ap (λ (l : List ℕ). 16 + length l) f.fields.2 in
-    ap (λ (o : Endian). fields_in o (16 + fields_len bytes) (field_bytes bytes)) order ∙ ap (λ (l : List ℕ). fields_in m.order (16 + fields_len bytes) l) f.fields.2
-    ∙ fields_in-again m.order (16 + fields_len bytes) fs f.fields.1 len ∙ ap (λ (r : Fields). Some r) (sym f.fields.3)
+    ap (λ (o : Endian). fields_in o (field_bytes bytes)) order ∙ ap (fields_in m.order) f.fields.2
+    ∙ fields_in-again m.order fs f.fields.1 ∙ ap (λ (r : Fields). Some r) (sym f.fields.3)
 
 -- the bytes alone say which message stands on their front, but for its position
 front-made : (bytes : List ℕ) (m : Seen) (n : ℕ) → Front bytes m n

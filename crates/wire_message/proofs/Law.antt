@@ -1,146 +1,119 @@
 -- What is written of a draft reads again as the draft, whatever follows it.
 use Rattle.std.proofs.Common.{◌≡◌, ℕ, Bool, Ok, ◌+◌, ◌<◌, ◌≤◌, ◌^◌, List, [], ◌∷◌, ◌++◌, length, take, drop, Option, Some, None, refl, sym, ap, subst, ◌∙◌, arith, length-append}
 use Rattle.std.specs.Int.{w32}
-use Rattle.std.proofs.lemmas.List.{take_at, append-nil, length-replicate}
+use Rattle.std.proofs.lemmas.List.{take_at, append-nil}
 use Rattle.wire_number.specs.declared.endian.Endian.{Endian}
-use Rattle.wire_number.specs.Number.{number, number_text, number_at, pad, padding}
-use Rattle.wire_number.proofs.Numbers.{number_text-length, number-again}
+use Rattle.wire_number.specs.declared.endian.Endian.TheVariants.{Little, Big}
+use Rattle.wire_number.specs.Number.{number_text, number_at, pad, padding}
+use Rattle.wire_number.proofs.Steps.{length-number_text, length_padding, number_of_text}
 use Rattle.wire_message.specs.declared.places.Places.{Places}
 use Rattle.wire_message.specs.Field.{Fields, field_list}
 use Rattle.wire_message.specs.Front.{Seen, seen, bare, fields_of, Front, kind_code, order_code, order_at, word_at, fields_len, total, field_bytes}
 use Rattle.wire_message.specs.Outcome.{fields_found}
 use Rattle.wire_message.specs.Places.{found_fields, AreSpans, Stands}
-use Rattle.wire_message.specs.Draft.{Draft, draft_fields, header_text, message_text, built, IsDraft, Builds, BuildsWith, ReadsAgain}
+use Rattle.wire_message.specs.Draft.{Draft, draft_fields, header_text, message_text, built, IsDraft, MakesWith, Builds, BuildsWith, ReadsAgain}
 use Rattle.wire_message.specs.Circle.{IsSerial, last_after}
-use Rattle.wire_message.proofs.Building.{list-valid, list-short, list-says, regroup, laid, front_of, eighth, twelfth, sixteenth}
+use Rattle.wire_message.specs.Valid.{AreFields}
+use Rattle.wire_message.proofs.Building.{list-valid, list-short, list-says, regroup, front_of}
 use Rattle.wire_message.proofs.Grammar.{order-again, front-fields}
 use Rattle.wire_message.proofs.Moved.{spans-more}
 
+-- the bytes of a message by its words
+abbrev laid : Endian → ℕ → ℕ → ℕ → ℕ → ℕ → ℕ → List ℕ → List ℕ
+laid order o k f body serial size rest = o ∷ k ∷ f ∷ 1 ∷ (number_text w32 order body ++ (number_text w32 order serial ++ (number_text w32 order size ++ rest)))
+
+record HasWords (order : Endian) (body serial size : ℕ) (rest all : List ℕ) : Type 0 where
+  body_is : body < 2 ^ 32 → number_at w32 order 4 all ≡ body
+  serial_is : serial < 2 ^ 32 → number_at w32 order 8 all ≡ serial
+  size_is : size < 2 ^ 32 → number_at w32 order 12 all ≡ size
+  rest_is : drop 16 all ≡ rest
+  long : length all ≡ 16 + length rest
+
+words : (order : Endian) (o k f body serial size : ℕ) (rest : List ℕ) → HasWords order body serial size rest (laid order o k f body serial size rest)
+words Little o k f body serial size rest =
+    record { body_is = number_of_text w32 Little body; serial_is = number_of_text w32 Little serial; size_is = number_of_text w32 Little size; rest_is = refl; long = omega arith }
+words Big o k f body serial size rest =
+    record { body_is = number_of_text w32 Big body; serial_is = number_of_text w32 Big serial; size_is = number_of_text w32 Big size; rest_is = refl; long = omega arith }
+
 module _ (draft : Draft) (serial : ℕ) (body : List ℕ) where
-  size_text : List ℕ
-  size_text = number_text w32 draft.order (length body)
-
-  serial_text : List ℕ
-  serial_text = number_text w32 draft.order serial
-
-  fields_size_text : List ℕ
-  fields_size_text = number_text w32 draft.order (length (draft_fields draft))
-
-  pads : List ℕ
+  -- what stands between the fields and the body
+  abbrev pads : List ℕ
   pads = padding (length (front_of draft serial (length body) ++ draft_fields draft)) 8
 
-  shape : (more : List ℕ) → message_text draft serial body ++ more
-      ≡ laid (order_code draft.order) (kind_code draft.kind) draft.flags size_text serial_text fields_size_text (draft_fields draft ++ (pads ++ (body ++ more)))
-  unfolding message_text header_text size_text serial_text fields_size_text pads
+  abbrev behind : List ℕ → List ℕ
+  behind more = draft_fields draft ++ (pads ++ (body ++ more))
+
+  abbrev whole_text : List ℕ → List ℕ
+  whole_text more = laid draft.order (order_code draft.order) (kind_code draft.kind) draft.flags (length body) serial (length (draft_fields draft)) (behind more)
+
+  shape : (more : List ℕ) → message_text draft serial body ++ more ≡ whole_text more
+  unfolding message_text header_text
   shape more = ap (λ (l : List ℕ). order_code draft.order ∷ kind_code draft.kind ∷ draft.flags ∷ 1 ∷ l)
-      (regroup (number_text w32 draft.order (length body)) (number_text w32 draft.order serial) (number_text w32 draft.order (length (draft_fields draft))) (draft_fields draft)
-      (padding (length (front_of draft serial (length body) ++ draft_fields draft)) 8) body more)
+      (regroup (number_text w32 draft.order (length body)) (number_text w32 draft.order serial) (number_text w32 draft.order (length (draft_fields draft))) (draft_fields draft) pads body more)
 
-  size-length : length size_text ≡ 4
-  unfolding size_text
-  size-length = number_text-length draft.order (length body)
-
-  serial-length : length serial_text ≡ 4
-  unfolding serial_text
-  serial-length = number_text-length draft.order serial
-
-  fields_size-length : length fields_size_text ≡ 4
-  unfolding fields_size_text
-  fields_size-length = number_text-length draft.order (length (draft_fields draft))
-
-  size-again : length body < 2 ^ 32 → number w32 draft.order size_text ≡ length body
-  unfolding size_text
-  size-again h = number-again draft.order (length body) h
-
-  serial-again : serial < 2 ^ 32 → number w32 draft.order serial_text ≡ serial
-  unfolding serial_text
-  serial-again h = number-again draft.order serial h
-
-  fields_size-again : length (draft_fields draft) < 2 ^ 32 → number w32 draft.order fields_size_text ≡ length (draft_fields draft)
-  unfolding fields_size_text
-  fields_size-again h = number-again draft.order (length (draft_fields draft)) h
-
-  pads-length : length pads ≡ pad (16 + length (draft_fields draft)) 8
-  unfolding pads
-  pads-length =
-      let nb = number_text w32 draft.order (length body) in
-      let ns = number_text w32 draft.order serial in
-      let nf = number_text w32 draft.order (length (draft_fields draft)) in
-      let whole : length (front_of draft serial (length body) ++ draft_fields draft) ≡ 16 + length (draft_fields draft) =
-      omega (
-        arith,
-        length-append (nb ++ ns ++ nf) (draft_fields draft),
-        length-append (nb ++ ns) nf,
-        length-append nb ns,
-        number_text-length draft.order (length body),
-        number_text-length draft.order serial,
-        number_text-length draft.order (length (draft_fields draft)),
-      ) in
-      length-replicate (pad (length (front_of draft serial (length body) ++ draft_fields draft)) 8) 0 ∙ ap (λ (n : ℕ). pad n 8) whole
+  words_of : (more : List ℕ) → HasWords draft.order (length body) serial (length (draft_fields draft)) (behind more) (whole_text more)
+  words_of more = words draft.order (order_code draft.order) (kind_code draft.kind) draft.flags (length body) serial (length (draft_fields draft)) (behind more)
 
   text-length : length (message_text draft serial body) ≡ 16 + length (draft_fields draft) + pad (16 + length (draft_fields draft)) 8 + length body
   text-length =
-      let rest = draft_fields draft ++ (pads ++ (body ++ [])) in
+      let front = front_of draft serial (length body) in
+      let fields = draft_fields draft in
+      let nb = number_text w32 draft.order (length body) in
+      let ns = number_text w32 draft.order serial in
+      let nf = number_text w32 draft.order (length fields) in
+      let head : length (front ++ fields) ≡ 16 + length fields =
+      omega (
+        arith,
+        length-append (nb ++ ns ++ nf) fields,
+        length-append (nb ++ ns) nf,
+        length-append nb ns,
+        length-number_text w32 draft.order (length body),
+        length-number_text w32 draft.order serial,
+        length-number_text w32 draft.order (length fields),
+      ) in
       ap length (sym (append-nil (message_text draft serial body)) ∙ shape [])
       ∙ omega (
         arith,
-        length-append size_text (serial_text ++ (fields_size_text ++ rest)),
-        length-append serial_text (fields_size_text ++ rest),
-        length-append fields_size_text rest,
-        length-append (draft_fields draft) (pads ++ (body ++ [])),
+        (words_of []).long,
+        length-append fields (pads ++ (body ++ [])),
         length-append pads (body ++ []),
         length-append body [],
-        size-length,
-        serial-length,
-        fields_size-length,
-        pads-length,
+        length_padding (length (front ++ fields)) 8,
+        ap (λ (n : ℕ). pad n 8) head,
       )
 
   -- the length of the body, as the header says it
   pub size-read : length body < 2 ^ 32 → word_at 4 (message_text draft serial body) ≡ length body
   size-read h =
-      let rest = draft_fields draft ++ (pads ++ (body ++ [])) in
-      let all = laid (order_code draft.order) (kind_code draft.kind) draft.flags size_text serial_text fields_size_text rest in
-      let e : message_text draft serial body ≡ all = sym (append-nil (message_text draft serial body)) ∙ shape [] in
-      let order : order_at all ≡ draft.order = order-again all draft.order refl in
-      ap (word_at 4) e ∙ ap (λ (o : Endian). number_at w32 o 4 all) order
-      ∙ ap (number w32 draft.order) (take_at size_text (serial_text ++ (fields_size_text ++ rest)) 4 size-length) ∙ size-again h
+      let all = whole_text [] in
+      ap (word_at 4) (sym (append-nil (message_text draft serial body)) ∙ shape []) ∙ ap (λ (o : Endian). number_at w32 o 4 all) (order-again all draft.order refl)
+      ∙ (words_of []).body_is h
 
   read-again : (more : List ℕ) → IsDraft draft → 0 < serial → serial < 2 ^ 32 → length (message_text draft serial body) ≤ 134217728
       → Front (message_text draft serial body ++ more) (built draft serial body) (length (message_text draft serial body))
   unfolding built
   read-again more valid some below limit =
       let text = message_text draft serial body in
-      let long = text-length in
-      let rest = draft_fields draft ++ (pads ++ (body ++ more)) in
-      let all = laid (order_code draft.order) (kind_code draft.kind) draft.flags size_text serial_text fields_size_text rest in
+      let fields = draft_fields draft in
+      let all = whole_text more in
+      let w = words_of more in
       let order : order_at all ≡ draft.order = order-again all draft.order refl in
-      let word4 : word_at 4 all ≡ length body =
-      ap (λ (o : Endian). number_at w32 o 4 all) order ∙ ap (number w32 draft.order) (take_at size_text (serial_text ++ (fields_size_text ++ rest)) 4 size-length) ∙ size-again (omega arith) in
-      let word8 : word_at 8 all ≡ serial =
-      ap (λ (o : Endian). number_at w32 o 8 all) order ∙ ap (λ (l : List ℕ). number w32 draft.order (take 4 l)) (eighth size_text serial_text fields_size_text rest size-length)
-      ∙ ap (number w32 draft.order) (take_at serial_text (fields_size_text ++ rest) 4 serial-length) ∙ serial-again below in
-      let word12 : word_at 12 all ≡ length (draft_fields draft) =
-      ap (λ (o : Endian). number_at w32 o 12 all) order ∙ ap (λ (l : List ℕ). number w32 draft.order (take 4 l)) (twelfth size_text serial_text fields_size_text rest size-length serial-length)
-      ∙ ap (number w32 draft.order) (take_at fields_size_text rest 4 fields_size-length) ∙ fields_size-again (omega arith) in
+      let word4 : word_at 4 all ≡ length body = ap (λ (o : Endian). number_at w32 o 4 all) order ∙ w.body_is (omega (arith, text-length)) in
+      let word8 : word_at 8 all ≡ serial = ap (λ (o : Endian). number_at w32 o 8 all) order ∙ w.serial_is below in
+      let word12 : word_at 12 all ≡ length fields = ap (λ (o : Endian). number_at w32 o 12 all) order ∙ w.size_is (omega (arith, text-length)) in
       let whole : length text ≡ total all =
-      long ∙ ap (λ (n : ℕ). 16 + length (draft_fields draft) + pad (16 + length (draft_fields draft)) 8 + n) (sym word4)
-      ∙ ap (λ (n : ℕ). 16 + n + pad (16 + n) 8 + word_at 4 all) (sym word12) in
-      let fields : field_bytes all ≡ draft_fields draft =
-      ap (λ (n : ℕ). take n (drop 16 all)) word12
-      ∙ ap (λ (l : List ℕ). take (length (draft_fields draft)) l) (sixteenth size_text serial_text fields_size_text rest size-length serial-length fields_size-length)
-      ∙ take_at (draft_fields draft) (pads ++ (body ++ more)) (length (draft_fields draft)) refl in
+      text-length ∙ ap (λ (n : ℕ). 16 + length fields + pad (16 + length fields) 8 + n) (sym word4) ∙ ap (λ (n : ℕ). 16 + n + pad (16 + n) 8 + word_at 4 all) (sym word12) in
+      let found : field_bytes all ≡ fields =
+      ap (λ (n : ℕ). take n (drop 16 all)) word12 ∙ ap (take (length fields)) w.rest_is ∙ take_at fields (pads ++ (body ++ more)) (length fields) refl in
       let e = shape more in
-      let reach : length (text ++ more) ≡ length all = ap length e in
-      let own : text ≡ take (length text) all = sym (take_at text more (length text) refl) ∙ ap (λ (l : List ℕ). take (length text) l) e in
+      let own : text ≡ take (length text) all = sym (take_at text more (length text) refl) ∙ ap (take (length text)) e in
+      let there : length text ≤ length all = omega (arith, length-append text more, ap length e) in
       let fs = field_list draft.fields in
-      let each = list-short draft.order 16 fs (list-valid draft.fields valid.fields) (omega arith) in
-      let there : length text ≤ length all = omega (arith, length-append text more, reach) in
       let m = seen text 0 draft.kind draft.order draft.flags serial draft.fields in
       let front : Front all m (length text) = record {
         own = own;
         there = there;
-        head = omega (arith, long, there);
+        head = omega (arith, text-length, there);
         whole = whole;
         limit = limit;
         order = refl;
@@ -150,7 +123,7 @@ module _ (draft : Draft) (serial : ℕ) (body : List ℕ) where
         serial = sym word8;
         not_zero = some;
         fds = refl;
-        fields = (fs, each, fields, sym (list-says draft.fields));
+        fields = (fs, list-short draft.order 16 fs (list-valid draft.fields valid.fields) (omega (arith, text-length)), found, sym (list-says draft.fields));
       } in
       subst (λ (l : List ℕ). Front l m (length text)) (sym e) front
 
@@ -207,6 +180,7 @@ written-stands draft serial body text own places valid some below e limit f span
     let stands : Stands text draft.kind draft.order draft.flags serial places = record {
       front = subst (λ (x : Fields). Front text (seen text 0 draft.kind draft.order draft.flags serial x) (length text)) (sym says) front;
       spans = spans-more (16 + fields_len text) (length text) places (written-long draft serial body text valid some below e limit).1 spans;
+      valid = subst (λ (x : Fields). AreFields x) (sym says) valid.fields;
     } in
     subst (λ (l : List ℕ). Stands l draft.kind draft.order draft.flags serial places) (sym o) stands
 
@@ -244,16 +218,18 @@ unfolding built
 bare-built draft serial body m e = ap (λ (x : Seen). bare x) e
 
 -- the same with descriptors
-pub builds-with : (taken : ℕ → Bool) (draft : Draft) (body fds : List ℕ) (old new serial : ℕ) (m r : Seen) → IsSerial taken draft.serial old serial → new ≡ last_after draft.serial old serial
-    → (m ≡ built draft serial body) × (length m.bytes ≤ 134217728) → r ≡ record m { fds = fds } → BuildsWith taken draft body fds old new (Ok r)
-builds-with taken draft body fds old new serial m r given last made e = (
-  builds-ok taken draft body old new serial (bare r) given last
-      (ap (λ (x : Seen). bare x) e ∙ bare-built draft serial body m made.0, subst (λ (x : Seen). length x.bytes ≤ 134217728) (sym e) made.1),
-  ap (λ (x : Seen). x.fds) e,
-)
+pub builds-with : (taken : ℕ → Bool) (draft : Draft) (body fds : List ℕ) (old new serial : ℕ) (m : Seen) → IsSerial taken draft.serial old serial → new ≡ last_after draft.serial old serial
+    → MakesWith draft serial body fds (Ok m) → BuildsWith taken draft body fds old new (Ok m)
+builds-with taken draft body fds old new serial m given last made = (builds-ok taken draft body old new serial (bare m) given last made.0, made.1)
 
-pub again-with : (fds : List ℕ) (m r : Seen) → r ≡ record m { fds = fds } → ReadsAgain m → ReadsAgain r
-again-with fds m r e h = subst (λ (x : Seen). ReadsAgain x) (sym e) h
+-- without them
+pub bare-is : (m : Seen) → m.fds ≡ [] → bare m ≡ m
+bare-is m e = ap (λ (ds : List ℕ). record m { fds = ds }) (sym e)
+
+pub builds-alone : (taken : ℕ → Bool) (draft : Draft) (body : List ℕ) (old new serial : ℕ) (m : Seen) → IsSerial taken draft.serial old serial → new ≡ last_after draft.serial old serial
+    → MakesWith draft serial body [] (Ok m) → Builds taken draft body old new (Ok m)
+builds-alone taken draft body old new serial m given last made =
+    subst (λ (x : Seen). Builds taken draft body old new (Ok x)) (bare-is m made.1) (builds-ok taken draft body old new serial (bare m) given last made.0)
 
 -- a body that alone passes the limit of a message
 pub body-long : (draft : Draft) (serial : ℕ) (body : List ℕ) → 134217728 < length body → 134217728 < length (message_text draft serial body)

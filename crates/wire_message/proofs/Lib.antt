@@ -1,4 +1,3 @@
-pub mod Areas
 pub mod Stepping
 pub mod FieldLaws
 pub mod Lists
@@ -10,11 +9,12 @@ pub mod Building
 pub mod Law
 pub mod Setting
 pub mod Valid
-pub mod Strings
 pub mod Alone
+pub mod Faults
 pub mod Heads
 pub mod BodyLaws
 pub mod BodyFound
 pub mod BodyAgain
 pub mod KindNames
 pub mod Equal
+pub mod HeaderValue

@@ -15,6 +15,7 @@ use Rattle.wire_message.specs.declared.kind.MessageType.{MessageType}
 use Rattle.wire_message.specs.declared.places.Span.{Span}
 use Rattle.wire_message.specs.declared.places.Places.{Places}
 use Rattle.wire_message.proofs.Grammar.{front-found}
+use Rattle.wire_message.proofs.Valid.{front-valid}
 
 -- ---- bytes with the same front
 
@@ -138,4 +139,5 @@ message-stands bytes own n kind places order flags serial fits long right there 
     record {
       front = rw len moved;
       spans = spans-more (16 + fields_len bytes) (length own) places (omega arith) spans;
+      valid = front-valid own m n moved;
     }

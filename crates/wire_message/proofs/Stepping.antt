@@ -1,138 +1,186 @@
 -- Reading a field array field by field.
-use Rattle.std.proofs.Common.{◌≡◌, ℕ, zero, suc, ◌+◌, ◌-◌, ◌<◌, ◌≤◌, true, false, List, [], ◌∷◌, length, take, drop, Option, Some, None, refl, sym, ap, ◌∙◌, arith, length-drop}
-use Rattle.std.specs.Prelude.{option_and_then, IfSome}
+use Rattle.std.proofs.Common.{◌≡◌, ℕ, suc, ◌+◌, ◌-◌, ◌<◌, ◌≤◌, List, [], ◌∷◌, ◌++◌, length, take, drop, Option, Some, None, refl, sym, ap, subst, ◌∙◌, arith, append_assoc, length-append, option_map}
+use Rattle.std.specs.Int.{w8, w32}
+use Rattle.std.proofs.lemmas.List.{take-append-drop, take_at, drop_at, drop-take, length-take-le}
 use Rattle.wire_number.specs.declared.endian.Endian.{Endian}
-use Rattle.wire_number.specs.Number.{pad}
-use Rattle.wire_number.specs.Text.{past_padding}
-use Rattle.wire_number.proofs.Zeros.{padding-takes}
-use Rattle.wire_signature.specs.declared.basic.BasicType.{BasicType}
-use Rattle.wire_message.specs.declared.field.FieldCode.{FieldCode}
-use Rattle.wire_message.specs.Field.{Fields, Value, Field, field_type, is_value, with_field, no_fields}
-use Rattle.wire_message.specs.Reading.{checked, value_at, code_at, field_at, padded_field_at, more_in, fields_in}
-use Rattle.wire_message.specs.Places.{area, IsFound, AreSpans, found_fields}
-use Rattle.wire_message.specs.declared.places.Places.{Places}
-use Rattle.wire_message.specs.declared.reading.FoundField.{FoundField}
+use Rattle.wire_number.specs.Number.{number_text, padding}
+use Rattle.wire_number.specs.Reading.{Cursor, ◌>>=◌}
+use Rattle.wire_number.proofs.Steps.{at, AreBytes, bytes_from, bytes-append}
 use Rattle.wire_number.proofs.Numbers.{IsBytes}
-use Rattle.wire_message.proofs.Areas.{area-drop, area-length, area-bytes}
-use Rattle.wire_message.proofs.FieldLaws.{padded-takes, padded-shorter}
+use Rattle.wire_spelling.specs.Reading.{many_at}
+use Rattle.wire_spelling.proofs.Loops.{many_done, many_left, many_next, many_none}
+use Rattle.wire_message.specs.declared.field.FieldCode.{FieldCode}
+use Rattle.wire_message.specs.declared.field.FieldCode.TheVariants as codes
+use Rattle.wire_message.specs.Field.{Fields, Text, Field, code_bytes, field_type, text_bytes, field_text, with_field, gathered, no_fields}
+use Rattle.wire_message.specs.Reading.{field_at, fields_in}
+use Rattle.wire_message.specs.Places.{area, AreSpans, found_fields}
+use Rattle.wire_message.specs.Held.{HasRoom, StandsAt, value_of}
+use Rattle.wire_message.specs.declared.places.Places.{Places}
+use Rattle.wire_message.specs.declared.reading.Held.{Held}
+use Rattle.wire_message.specs.declared.reading.Held.TheVariants as helds
+use Rattle.wire_message.proofs.FieldLaws.{Taken, field_at-takes}
 
--- the value of a field whose code was found
-pub field-behind : (order : Endian) (bytes : List ℕ) (place end : ℕ) (code : FieldCode) (type : BasicType) → place ≤ end → end ≤ length bytes → 4 ≤ length (area bytes place end)
-    → Some code ≡ code_at (area bytes place end) → type ≡ field_type code → field_at order (area bytes place end) ≡ checked code (value_at order type (area bytes (place + 4) end))
-unfolding field_at
-field-behind order bytes place end code type h k long e t =
-    let all = area-length bytes place end h k in
-    let behind : drop 4 (area bytes place end) ≡ area bytes (place + 4) end = area-drop bytes place end 4 (place + 4) refl (omega arith) in
-    ap (λ (o : Option FieldCode). option_and_then (λ c. checked c (value_at order (field_type c) (drop 4 (area bytes place end)))) o) (sym e)
-    ∙ ap (λ (l : List ℕ). checked code (value_at order (field_type code) l)) behind
-    ∙ ap (λ (y : BasicType). checked code (value_at order y (area bytes (place + 4) end))) (sym t)
-
-pub checked-none : (code : FieldCode) (o : Option (Value × List ℕ)) → None ≡ o → None ≡ checked code o
-checked-none code o e = ap (checked code) e
-
-pub checked-true : (code : FieldCode) (value : Value) (rest : List ℕ) (o : Option (Value × List ℕ)) → Some (value, rest) ≡ o → is_value code value ≡ true
-    → Some (record { code = code; value = value }, rest) ≡ checked code o
-checked-true code value rest o e t = sym (ap (checked code) (sym e) ∙ rw t refl)
-
-pub checked-false : (code : FieldCode) (value : Value) (rest : List ℕ) (o : Option (Value × List ℕ)) → Some (value, rest) ≡ o → is_value code value ≡ false → None ≡ checked code o
-checked-false code value rest o e t = sym (ap (checked code) (sym e) ∙ rw t refl)
-
--- the field behind the padding
-pub padded-behind : (order : Endian) (bytes : List ℕ) (place end : ℕ) (rest : List ℕ) → place ≤ end → end ≤ length bytes → Some rest ≡ past_padding place 8 (area bytes place end)
-    → (length rest ≤ end) × (place ≤ end - length rest) × (field_at order (area bytes (end - length rest) end) ≡ padded_field_at order place (area bytes place end))
-unfolding padded_field_at
-padded-behind order bytes place end rest h k e =
-    let t = padding-takes place 8 (area bytes place end) rest (sym e) in
-    let all = area-length bytes place end h k in
-    let long : length rest ≡ end - place - pad place 8 = ap length t.1 ∙ length-drop (pad place 8) (area bytes place end) ∙ ap (λ (n : ℕ). n - pad place 8) all in
-    let at : end - length rest ≡ place + pad place 8 = omega (arith, t.2) in
-    let rest-is : rest ≡ area bytes (end - length rest) end = t.1 ∙ area-drop bytes place end (pad place 8) (end - length rest) at (omega arith) in
-    (omega arith, omega arith, ap (field_at order) (sym rest-is) ∙ ap (λ (o : Option (List ℕ)). option_and_then (λ r. field_at order r) o) e)
-
-pub within-later : (place start end : ℕ) (o : Option FoundField) → place ≤ start → IfSome o (λ x. (start < x.next) × (x.next ≤ end) × IsFound end x.value) → IfSome o (λ x. (place < x.next) × (x.next ≤ end) × IsFound end x.value)
-within-later place start end None h p = tt
-within-later place start end (Some x) h p = (omega (arith, p.0), p.1, p.2)
-
--- ---- the loop
-
--- what is still to be read completes what was read
-pub record Reads (order : Endian) (bytes : List ℕ) (place end : ℕ) (places : Places) : Type 0 where
-  pub within : place ≤ end
+-- What is still to be read completes what was read. The cursor stands in the first `end` bytes.
+pub record Going (order : Endian) (bytes : List ℕ) (end count : ℕ) (places : Places) (c : Cursor) : Type 0 where
+  pub front : List ℕ
+  pub whole : take end bytes ≡ front ++ c.rest
+  pub here : length front ≡ c.place
+  pub low : AreBytes c.rest
   pub spans : AreSpans end places
-  pub rest : more_in (length (area bytes place end)) order end (found_fields bytes places) (area bytes place end) ≡ fields_in order end (area bytes 16 end)
+  pub rest : option_map (gathered (found_fields bytes places)) (many_at count (field_at order) c) ≡ fields_in order (area bytes 16 end)
 
-more-nothing : (count : ℕ) (order : Endian) (end : ℕ) (fields : Fields) → more_in count order end fields [] ≡ Some fields
-unfolding more_in
-more-nothing zero order end fields = refl
-more-nothing (suc count) order end fields = refl
-
--- where there are more steps than bytes, their count says nothing
-more-counts : (n m : ℕ) (order : Endian) (end : ℕ) (fields : Fields) (bytes : List ℕ) → IsBytes bytes → length bytes ≤ n → length bytes ≤ m
-    → more_in n order end fields bytes ≡ more_in m order end fields bytes
-unfolding more_in
-more-counts n m order end fields [] fits h k = more-nothing n order end fields ∙ sym (more-nothing m order end fields)
-more-counts zero m order end fields (b ∷ bytes) fits h k = absurd (omega arith)
-more-counts (suc n) zero order end fields (b ∷ bytes) fits h k = absurd (omega arith)
-more-counts (suc n) (suc m) order end fields (b ∷ bytes) fits h k =
-    elim (padded_field_at order (end - length (b ∷ bytes)) (b ∷ bytes))
-    as (λ o. padded_field_at order (end - length (b ∷ bytes)) (b ∷ bytes) ≡ o
-    → option_and_then (λ x. more_in n order end (with_field x.0 fields) x.1) o ≡ option_and_then (λ x. more_in m order end (with_field x.0 fields) x.1) o) [
-      | None ↦ λ e. refl
-      | Some x ↦ λ e.
-          let p = padded-takes order (end - length (b ∷ bytes)) (b ∷ bytes) x fits e in
-          let less : length x.1 < suc (length bytes) = padded-shorter order (end - length (b ∷ bytes)) (b ∷ bytes) x.0 x.1 p in
-          more-counts n m order end (with_field x.0 fields) x.1 p.fits (omega arith) (omega arith)
-    ] refl
-
-more-step : (order : Endian) (place end : ℕ) (fields : Fields) (bytes : List ℕ) (x : Field × List ℕ) → IsBytes bytes → 0 < length bytes → place ≡ end - length bytes
-    → padded_field_at order place bytes ≡ Some x → more_in (length bytes) order end fields bytes ≡ more_in (length x.1) order end (with_field x.0 fields) x.1
-unfolding more_in
-more-step order place end fields [] x fits some at e = absurd (omega arith)
-more-step order place end fields (b ∷ bytes) x fits some at e =
-    let there : padded_field_at order (end - length (b ∷ bytes)) (b ∷ bytes) ≡ Some x = rw (← at) e in
-    let p = padded-takes order place (b ∷ bytes) x fits e in
-    let less : length x.1 < suc (length bytes) = padded-shorter order place (b ∷ bytes) x.0 x.1 p in
-    ap (λ (o : Option (Field × List ℕ)). option_and_then (λ y. more_in (length bytes) order end (with_field y.0 fields) y.1) o) there
-    ∙ more-counts (length bytes) (length x.1) order end (with_field x.0 fields) x.1 p.fits (omega arith) (omega arith)
-
-more-none : (order : Endian) (place end : ℕ) (fields : Fields) (bytes : List ℕ) → 0 < length bytes → place ≡ end - length bytes
-    → padded_field_at order place bytes ≡ None → more_in (length bytes) order end fields bytes ≡ None
-unfolding more_in
-more-none order place end fields [] some at e = absurd (omega arith)
-more-none order place end fields (b ∷ bytes) some at e =
-    let there : padded_field_at order (end - length (b ∷ bytes)) (b ∷ bytes) ≡ None = rw (← at) e in
-    ap (λ (o : Option (Field × List ℕ)). option_and_then (λ y. more_in (length bytes) order end (with_field y.0 fields) y.1) o) there
-
-pub reads-first : (order : Endian) (bytes : List ℕ) (end : ℕ) (places : Places) → 16 ≤ end → AreSpans end places → found_fields bytes places ≡ no_fields → Reads order bytes 16 end places
+pub going-first : (order : Endian) (bytes : List ℕ) (end count : ℕ) (places : Places) (c : Cursor) → IsBytes bytes → 16 ≤ end → end ≤ length bytes → count ≡ end - 16
+    → c ≡ at 16 (area bytes 16 end) → AreSpans end places → found_fields bytes places ≡ no_fields → Going order bytes end count places c
 unfolding fields_in
-reads-first order bytes end places h spans e = record {
-  within = h;
-  spans = spans;
-  rest = ap (λ (f : Fields). more_in (length (area bytes 16 end)) order end f (area bytes 16 end)) e;
-}
-
-pub reads-more : (order : Endian) (bytes : List ℕ) (place end next : ℕ) (places more : Places) (field : Field) → IsBytes bytes → end ≤ length bytes → place < end
-    → Reads order bytes place end places → Some (field, area bytes next end) ≡ padded_field_at order place (area bytes place end) → next ≤ end
-    → found_fields bytes more ≡ with_field field (found_fields bytes places) → AreSpans end more → Reads order bytes next end more
-reads-more order bytes place end next places more field fits there less r e within put spans =
-    let long = area-length bytes place end r.within there in
-    let step = more-step order place end (found_fields bytes places) (area bytes place end) (field, area bytes next end) (area-bytes bytes place end fits) (omega arith) (omega arith) (sym e) in
-    record {
-      within = within;
+going-first order bytes end count places c fits h k counted same spans none =
+    let all : List ℕ = take end bytes in
+    let n : end ≡ 16 + (end - 16) = omega arith in
+    let part : drop 16 all ≡ area bytes 16 end = ap (λ (m : ℕ). drop 16 (take m bytes)) n ∙ drop-take 16 (end - 16) bytes in
+    let long : length all ≡ end = length-take-le end bytes k in
+    let low : AreBytes (all ++ drop end bytes) = subst AreBytes (sym (take-append-drop end bytes)) (bytes_from bytes fits) in
+    let inner : AreBytes (take 16 all ++ drop 16 all) = subst AreBytes (sym (take-append-drop 16 all)) (bytes-append all (drop end bytes) low).0 in
+    let size : count ≡ length (area bytes 16 end) =
+    omega (arith, counted, long, length-take-le 16 all (omega (arith, long)), ap length (take-append-drop 16 all), length-append (take 16 all) (drop 16 all), ap length part) in
+    let from : Going order bytes end count places (at 16 (area bytes 16 end)) = record {
+      front = take 16 all;
+      whole = sym (take-append-drop 16 all) ∙ ap (λ (l : List ℕ). take 16 all ++ l) part;
+      here = length-take-le 16 all (omega (arith, long));
+      low = subst AreBytes part (bytes-append (take 16 all) (drop 16 all) inner).1;
       spans = spans;
-      rest = ap (λ (f : Fields). more_in (length (area bytes next end)) order end f (area bytes next end)) put ∙ sym step ∙ r.rest;
+      rest = ap (λ (f : Fields). option_map (gathered f) (many_at count (field_at order) (at 16 (area bytes 16 end)))) none
+          ∙ ap (λ (m : ℕ). option_map (gathered no_fields) (many_at m (field_at order) (at 16 (area bytes 16 end)))) size;
+    } in
+    subst (λ (d : Cursor). Going order bytes end count places d) (sym same) from
+
+one-more : (fields : Fields) (field : Field) (o : Option (List Field)) → option_map (gathered fields) (o >>= λ fs. Some (field ∷ fs)) ≡ option_map (gathered (with_field field fields)) o
+unfolding gathered
+one-more fields field None = refl
+one-more fields field (Some fs) = refl
+
+pub going-more : (order : Endian) (bytes : List ℕ) (end n count : ℕ) (places more : Places) (c : Cursor) (x : Field × Cursor) → Going order bytes end count places c
+    → count ≡ suc n → 0 < length c.rest → field_at order c ≡ Some x → found_fields bytes more ≡ with_field x.0 (found_fields bytes places) → AreSpans end more
+    → Going order bytes end n more x.1
+going-more order bytes end n count places more c x g e some found put spans =
+    let t : Taken order c x = field_at-takes order c x g.low found in
+    let text : List ℕ = padding c.place 8 ++ field_text order x.0 in
+    record {
+      front = g.front ++ text;
+      whole = g.whole ∙ ap (λ (l : List ℕ). g.front ++ l) t.reads.text_is ∙ sym (append_assoc g.front text x.1.rest);
+      here = omega (arith, length-append g.front text, g.here, t.reads.place_is);
+      low = t.reads.bytes;
+      spans = spans;
+      rest = ap (λ (f : Fields). option_map (gathered f) (many_at n (field_at order) x.1)) put
+          ∙ sym (one-more (found_fields bytes places) x.0 (many_at n (field_at order) x.1))
+          ∙ ap (option_map (gathered (found_fields bytes places))) (sym (many_next n count (field_at order) c x e some found)) ∙ g.rest;
     }
 
-pub reads-failed : (order : Endian) (bytes : List ℕ) (place end : ℕ) (places : Places) → end ≤ length bytes → place < end
-    → Reads order bytes place end places → None ≡ padded_field_at order place (area bytes place end) → None ≡ fields_in order end (area bytes 16 end)
-reads-failed order bytes place end places there less r e =
-    let long = area-length bytes place end r.within there in
-    sym (more-none order place end (found_fields bytes places) (area bytes place end) (omega arith) (omega arith) (sym e)) ∙ r.rest
+pub going-failed : (order : Endian) (bytes : List ℕ) (end n count : ℕ) (places : Places) (c : Cursor) → Going order bytes end count places c → count ≡ suc n → 0 < length c.rest
+    → field_at order c ≡ None → None ≡ fields_in order (area bytes 16 end)
+going-failed order bytes end n count places c g e some found =
+    ap (option_map (gathered (found_fields bytes places))) (sym (many_none n count (field_at order) c e some found)) ∙ g.rest
 
-pub reads-all : (order : Endian) (bytes : List ℕ) (place end : ℕ) (places : Places) → end ≤ place → Reads order bytes place end places
-    → Some (found_fields bytes places) ≡ fields_in order end (area bytes 16 end)
-reads-all order bytes place end places h r =
-    let none : end - place ≡ 0 = omega arith in
-    let empty : area bytes place end ≡ [] = ap (λ (n : ℕ). take n (drop place bytes)) none in
-    sym (more-nothing (length (area bytes place end)) order end (found_fields bytes places))
-    ∙ ap (λ (l : List ℕ). more_in (length (area bytes place end)) order end (found_fields bytes places) l) (sym empty) ∙ r.rest
+pub going-left : (order : Endian) (bytes : List ℕ) (end count : ℕ) (places : Places) (c : Cursor) → Going order bytes end count places c → count ≡ 0 → 0 < length c.rest
+    → None ≡ fields_in order (area bytes 16 end)
+going-left order bytes end count places c g e some =
+    ap (option_map (gathered (found_fields bytes places))) (sym (many_left count (field_at order) c e some)) ∙ g.rest
+
+pub going-all : (order : Endian) (bytes : List ℕ) (end count : ℕ) (places : Places) (c : Cursor) → Going order bytes end count places c → length c.rest ≡ 0
+    → Some (found_fields bytes places) ≡ fields_in order (area bytes 16 end)
+unfolding gathered
+going-all order bytes end count places c g e =
+    ap (option_map (gathered (found_fields bytes places))) (sym (many_done count (field_at order) c e)) ∙ g.rest
+
+-- ---- where a text stands
+
+text-ends : (order : Endian) (code : FieldCode) (text : List ℕ) → (digits : List ℕ) × (text_bytes order (field_type code) text ≡ digits ++ (text ++ 0 ∷ []))
+text-ends order codes.Path text = (number_text w32 order (length text), refl)
+text-ends order codes.Interface text = (number_text w32 order (length text), refl)
+text-ends order codes.Member text = (number_text w32 order (length text), refl)
+text-ends order codes.ErrorName text = (number_text w32 order (length text), refl)
+text-ends order codes.ReplySerial text = (number_text w32 order (length text), refl)
+text-ends order codes.Destination text = (number_text w32 order (length text), refl)
+text-ends order codes.Sender text = (number_text w32 order (length text), refl)
+text-ends order codes.Signature text = (number_text w8 order (length text), refl)
+text-ends order codes.UnixFds text = (number_text w32 order (length text), refl)
+
+area-there : (bytes a text b : List ℕ) (end : ℕ) → take end bytes ≡ a ++ (text ++ b) → area bytes (length a) (length a + length text) ≡ text
+area-there bytes a text b end e =
+    let all : bytes ≡ a ++ (text ++ (b ++ drop end bytes)) =
+    sym (take-append-drop end bytes) ∙ ap (λ (l : List ℕ). l ++ drop end bytes) e ∙ append_assoc a (text ++ b) (drop end bytes)
+    ∙ ap (λ (l : List ℕ). a ++ l) (append_assoc text b (drop end bytes)) in
+    ap (λ (l : List ℕ). take (length a + length text - length a) (drop (length a) l)) all
+    ∙ ap (λ (l : List ℕ). take (length a + length text - length a) l) (drop_at a (text ++ (b ++ drop end bytes)) (length a) refl)
+    ∙ take_at text (b ++ drop end bytes) (length a + length text - length a) (omega arith)
+
+-- a text that was read stands before the zero byte at the end of its field
+record StandsBefore (bytes text : List ℕ) (next : ℕ) : Type 0 where
+  pub room : length text + 1 ≤ next
+  pub there : area bytes (next - 1 - length text) (next - 1) ≡ text
+
+text-there : (order : Endian) (bytes : List ℕ) (end count : ℕ) (places : Places) (c after : Cursor) (code : FieldCode) (text : List ℕ)
+    → Going order bytes end count places c → field_at order c ≡ Some (record { code = code; value = Text text }, after) → StandsBefore bytes text after.place
+unfolding field_text
+text-there order bytes end count places c after code text g found =
+    let t : Taken order c (record { code = code; value = Text text }, after) = field_at-takes order c _ g.low found in
+    let d = text-ends order code text in
+    let pads : List ℕ = padding c.place 8 in
+    let head : List ℕ = code_bytes code in
+    let front : List ℕ = g.front ++ (pads ++ (head ++ d.0)) in
+    let field : (pads ++ (head ++ (d.0 ++ (text ++ 0 ∷ [])))) ++ after.rest ≡ (pads ++ (head ++ d.0)) ++ (text ++ (0 ∷ after.rest)) =
+    append_assoc pads (head ++ (d.0 ++ (text ++ 0 ∷ []))) after.rest
+    ∙ ap (λ (l : List ℕ). pads ++ l) (append_assoc head (d.0 ++ (text ++ 0 ∷ [])) after.rest
+    ∙ ap (λ (l : List ℕ). head ++ l) (append_assoc d.0 (text ++ 0 ∷ []) after.rest ∙ ap (λ (l : List ℕ). d.0 ++ l) (append_assoc text (0 ∷ []) after.rest))
+    ∙ sym (append_assoc head d.0 (text ++ (0 ∷ after.rest))))
+    ∙ sym (append_assoc pads (head ++ d.0) (text ++ (0 ∷ after.rest))) in
+    let whole : take end bytes ≡ front ++ (text ++ (0 ∷ after.rest)) =
+    g.whole
+    ∙ ap (λ (l : List ℕ). g.front ++ l) (t.reads.text_is ∙ ap (λ (l : List ℕ). (pads ++ (head ++ l)) ++ after.rest) d.1 ∙ field)
+    ∙ sym (append_assoc g.front (pads ++ (head ++ d.0)) (text ++ (0 ∷ after.rest))) in
+    let next : after.place ≡ length front + length text + 1 =
+    omega (
+      arith,
+      t.reads.place_is,
+      g.here,
+      ap length d.1,
+      length-append g.front (pads ++ (head ++ d.0)),
+      length-append pads (head ++ d.0),
+      length-append pads (head ++ text_bytes order (field_type code) text),
+      length-append d.0 (text ++ 0 ∷ []),
+      length-append text (0 ∷ []),
+    ) in
+    let start : after.place - 1 - length text ≡ length front = omega (arith, next) in
+    let stop : after.place - 1 ≡ length front + length text = omega (arith, next) in
+    record {
+      room = omega (arith, next);
+      there = ap (λ (i : ℕ). area bytes i (after.place - 1)) start ∙ ap (λ (j : ℕ). area bytes (length front) j) stop ∙ area-there bytes front text (0 ∷ after.rest) end whole;
+    }
+
+-- what was read of a field stands where its cursor ends, in the first `end` bytes
+pub held-there : (order : Endian) (bytes : List ℕ) (end count : ℕ) (places : Places) (c after : Cursor) (code : FieldCode) (held : Held) → end ≤ length bytes
+    → Going order bytes end count places c → field_at order c ≡ Some (record { code = code; value = value_of held }, after)
+    → HasRoom after.place held × StandsAt bytes after.place held × (after.place ≤ end)
+held-there order bytes end count places c after code held k g found = (room held found, there held found, inside) where
+  t : Taken order c (record { code = code; value = value_of held }, after)
+  t = field_at-takes order c _ g.low found
+
+  inside : after.place ≤ end
+  inside =
+      let text : List ℕ = padding c.place 8 ++ field_text order (record { code = code; value = value_of held }) in
+      omega (
+        arith,
+        length-take-le end bytes k,
+        ap length g.whole,
+        length-append g.front c.rest,
+        g.here,
+        ap length t.reads.text_is,
+        length-append text after.rest,
+        t.reads.place_is,
+      )
+
+  room : (h : Held) → field_at order c ≡ Some (record { code = code; value = value_of h }, after) → HasRoom after.place h
+  room (helds.Text text) e = (text-there order bytes end count places c after code text.now g e).room
+  room (helds.Number number) e = tt
+
+  there : (h : Held) → field_at order c ≡ Some (record { code = code; value = value_of h }, after) → StandsAt bytes after.place h
+  there (helds.Text text) e = (text-there order bytes end count places c after code text.now g e).there
+  there (helds.Number number) e = tt

@@ -5,16 +5,13 @@ use Rattle.std.specs.List.{AllByRecursion}
 use Rattle.std.proofs.lemmas.Bool.{ltb-true}
 use Rattle.wire_signature.specs.Parsing.{types_in}
 use Rattle.wire_signature.proofs.Exact.{types_in-again}
-use Rattle.wire_number.specs.declared.endian.Endian.{Endian}
-use Rattle.wire_names.specs.Names.{IsObjectPath, IsInterfaceName, IsMemberName, IsErrorName, IsBusName, IsUniqueName}
 use Rattle.wire_message.specs.declared.field.FieldCode.{FieldCode}
 use Rattle.wire_message.specs.declared.field.FieldCode.TheVariants as codes
-use Rattle.wire_message.specs.declared.kind.MessageType.{MessageType}
 use Rattle.wire_message.specs.declared.places.Span.{Span}
-use Rattle.wire_message.specs.declared.places.Places.{Places}
 use Rattle.wire_message.specs.Field.{Fields, no_fields, Value, Text, Number, Field, IsField, is_text, is_number, with_field, with_text, with_number, gathered}
-use Rattle.wire_message.specs.Places.{found_fields, span_text, Stands}
-use Rattle.wire_message.specs.Draft.{AreFields}
+use Rattle.wire_message.specs.Front.{Seen, Front, fields_of}
+use Rattle.wire_message.specs.Places.{span_text}
+use Rattle.wire_message.specs.Valid.{AreFields}
 
 not-so : {A : Type 0} → IsTrue false → A
 not-so h = absurd cc
@@ -60,9 +57,9 @@ gathered-valid fields (field ∷ fs) h f = gathered-valid (with_field field fiel
 none-valid : AreFields no_fields
 none-valid = record { path = tt; interface = tt; member = tt; error_name = tt; reply_serial = tt; destination = tt; sender = tt; signature = tt; unix_fds = tt }
 
-pub stands-valid : (bytes : List ℕ) (kind : MessageType) (order : Endian) (flags serial : ℕ) (places : Places) → Stands bytes kind order flags serial places → AreFields (found_fields bytes places)
-stands-valid bytes kind order flags serial places s =
-    let fs = s.front.fields in
+pub front-valid : (bytes : List ℕ) (m : Seen) (n : ℕ) → Front bytes m n → AreFields (fields_of m)
+front-valid bytes m n front =
+    let fs = front.fields in
     subst AreFields (sym fs.3) (gathered-valid no_fields fs.0 fs.1 none-valid)
 
 -- ---- a text that was lent
@@ -70,30 +67,6 @@ stands-valid bytes kind order flags serial places s =
 pub at-some : (bytes : List ℕ) (span : Option Span) (text : List ℕ) (P : List ℕ → Type 0) → Some text ≡ option_map (span_text bytes) span → IfSome (option_map (span_text bytes) span) P → P text
 at-some bytes None text P e h = absurd cc
 at-some bytes (Some span) text P e h = let same : span_text bytes span ≡ text = cc in subst P same h
-
-pub path-text : (text : List ℕ) → IsTrue (is_text codes.Path text) → IsObjectPath text
-unfolding is_text
-path-text text h = h
-
-pub interface-text : (text : List ℕ) → IsTrue (is_text codes.Interface text) → IsInterfaceName text
-unfolding is_text
-interface-text text h = h
-
-pub member-text : (text : List ℕ) → IsTrue (is_text codes.Member text) → IsMemberName text
-unfolding is_text
-member-text text h = h
-
-pub error-text : (text : List ℕ) → IsTrue (is_text codes.ErrorName text) → IsErrorName text
-unfolding is_text
-error-text text h = h
-
-pub bus-text : (text : List ℕ) → IsTrue (is_text codes.Destination text) → IsBusName text
-unfolding is_text
-bus-text text h = h
-
-pub unique-text : (text : List ℕ) → IsTrue (is_text codes.Sender text) → IsUniqueName text
-unfolding is_text
-unique-text text h = h
 
 pub signature-text : (text : List ℕ) → IsTrue (is_text codes.Signature text) → IsTrue (is_some (types_in text))
 unfolding is_text

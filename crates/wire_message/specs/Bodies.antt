@@ -8,7 +8,7 @@ use Rattle.wire_spelling.specs.Spelling.{AllFit, depths, spellings}
 use Rattle.wire_body.specs.Arguments.{AreAllSound}
 use Rattle.wire_message.specs.Circle.{IsSerial, NoSerial}
 use Rattle.wire_message.specs.Draft.{Draft, message_text, built, Builds, BuildsWith}
-use Rattle.wire_message.specs.Front.{Seen}
+use Rattle.wire_message.specs.Front.{Seen, bare}
 use Rattle.wire_message.specs.Signed.{signed}
 use Rattle.wire_message.specs.declared.error.Error.{Error}
 use Rattle.wire_message.specs.declared.error.Error.TheVariants as errors
@@ -97,6 +97,11 @@ MakesValues draft serial values (Err errors.ExcessData) =
     × (134217728 < length (message_text (signed draft (map type_of values)) serial (body_text draft.order values)))))
 MakesValues draft serial values (Err errors.Memory) = Unit {0}
 MakesValues draft serial values (Err error) = ⊥
+
+-- The same of a message that descriptors go with.
+abbrev pub MakesValuesWith : Draft → ℕ → List Datum → List ℕ → Result Seen Error → Type 0
+MakesValuesWith draft serial values fds (Ok m) = MakesValues draft serial values (Ok (bare m)) × (m.fds ≡ fds)
+MakesValuesWith draft serial values fds (Err error) = MakesValues draft serial values (Err error)
 
 -- What building with these values as the body gives: the message of the draft with their signature, their bytes and these
 -- descriptors. Refused, in this order: SerialsSpent where no serial was set and each is taken, Depth where a value opens too many

@@ -5,13 +5,13 @@ use Rattle.std.specs.Int.RustNames.{bit_and, bit_or}
 use Rattle.wire_number.specs.declared.endian.Endian.{Endian}
 use Rattle.wire_number.specs.declared.endian.Endian.TheVariants.{Little}
 use Rattle.wire_number.specs.Number.{number_text, padded}
-use Rattle.wire_message.specs.Field.{Fields, no_fields, is_text, fields_text, field_list}
+use Rattle.wire_message.specs.Field.{Fields, no_fields, fields_text, field_list}
 use Rattle.wire_message.specs.Front.{Seen, seen, bare, Front, kind_code, order_code}
 use Rattle.wire_signature.specs.declared.basic.BasicType.{BasicType}
 use Rattle.wire_signature.specs.declared.basic.BasicType.TheVariants as basics
 use Rattle.wire_message.specs.declared.writing.HeaderFields.{HeaderFields}
+use Rattle.wire_message.specs.Valid.{AreFields}
 use Rattle.wire_message.specs.Circle.{IsSerial, NoSerial, last_after}
-use Rattle.wire_message.specs.declared.field.FieldCode.TheVariants as codes
 use Rattle.wire_message.specs.declared.kind.MessageType.{MessageType}
 use Rattle.wire_message.specs.declared.kind.MessageType.TheVariants as types
 use Rattle.wire_message.specs.declared.error.Error.{Error}
@@ -43,18 +43,6 @@ message_text draft serial body = header_text draft (length body) serial ++ body
 -- the message that stands on it
 unfoldable pub built : Draft → ℕ → List ℕ → Seen
 built draft serial body = seen (message_text draft serial body) 0 draft.kind draft.order draft.flags serial draft.fields
-
--- each field that is there is in its grammar
-pub record AreFields (fields : Fields) : Type 0 where
-  pub path : IfSome fields.path (λ text. IsTrue (is_text codes.Path text))
-  pub interface : IfSome fields.interface (λ text. IsTrue (is_text codes.Interface text))
-  pub member : IfSome fields.member (λ text. IsTrue (is_text codes.Member text))
-  pub error_name : IfSome fields.error_name (λ text. IsTrue (is_text codes.ErrorName text))
-  pub reply_serial : IfSome fields.reply_serial (λ number. (0 < number) × (number < 2 ^ 32))
-  pub destination : IfSome fields.destination (λ text. IsTrue (is_text codes.Destination text))
-  pub sender : IfSome fields.sender (λ text. IsTrue (is_text codes.Sender text))
-  pub signature : IfSome fields.signature (λ text. IsTrue (is_text codes.Signature text))
-  pub unix_fds : IfSome fields.unix_fds (λ number. number < 2 ^ 32)
 
 -- A message of this type can't have these flags: NoReplyExpected, which is 0x1, says that a method call wants no reply.
 abbrev pub are_misplaced : MessageType → ℕ → Bool
@@ -119,6 +107,11 @@ Makes draft serial body (Ok m) = (m ≡ built draft serial body) × (length m.by
 Makes draft serial body (Err errors.ExcessData) = 134217728 < length (message_text draft serial body)
 Makes draft serial body (Err errors.Memory) = Unit {0}
 Makes draft serial body (Err error) = ⊥
+
+-- The same of a message that descriptors go with.
+abbrev pub MakesWith : Draft → ℕ → List ℕ → List ℕ → Result Seen Error → Type 0
+MakesWith draft serial body fds (Ok m) = Makes draft serial body (Ok (bare m)) × (m.fds ≡ fds)
+MakesWith draft serial body fds (Err error) = Makes draft serial body (Err error)
 
 -- What building gives: the message with the serial that was set, else with the next, which is drawn then alone; SerialsSpent
 -- where none was set and each is taken; else ExcessData where the message would pass 134,217,728 bytes.

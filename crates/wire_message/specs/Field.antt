@@ -1,9 +1,8 @@
 -- Header fields (D-Bus Specification, "Message Format", "Header Fields").
 use Rattle.std.specs.Prelude.{ℕ, ◌+◌, ◌<◌, ◌^◌, nat_lt, Bool, true, false, List, [], ◌∷◌, ◌++◌, length, Option, Some, None, IsTrue, is_some}
-use Rattle.std.specs.Int.{w32}
+use Rattle.std.specs.Int.{w8, w32}
 use Rattle.wire_number.specs.declared.endian.Endian.{Endian}
-use Rattle.wire_number.specs.Number.{number_text, padding}
-use Rattle.wire_number.specs.Text.{long_text, short_text}
+use Rattle.wire_number.specs.Number.{number_text, counted_text, padding}
 use Rattle.wire_names.specs.Names.{is_object_path, is_interface_name, is_member_name, is_error_name, is_bus_name, is_unique_name}
 use Rattle.wire_signature.specs.declared.basic.BasicType.{BasicType}
 use Rattle.wire_signature.specs.declared.basic.BasicType.TheVariants as basics
@@ -104,8 +103,8 @@ IsField field = IsTrue (is_value field.code field.value) × IsShort field.value
 
 -- a value's bytes, by its type
 abbrev pub text_bytes : Endian → BasicType → List ℕ → List ℕ
-text_bytes order basics.Signature text = short_text text
-text_bytes order type text = long_text order text
+text_bytes order basics.Signature text = counted_text w8 order text
+text_bytes order type text = counted_text w32 order text
 
 abbrev pub value_bytes : Endian → BasicType → Value → List ℕ
 value_bytes order type (Text text) = text_bytes order type text

@@ -1,10 +1,13 @@
 pub mod Field
 pub mod Front
+pub mod Valid
 pub mod Reading
 pub mod Places
+pub mod Held
 pub mod Circle
 pub mod Draft
 pub mod Outcome
+pub mod Fault
 pub mod Texts
 pub mod ErrorTexts
 pub mod ErrorKinds
@@ -13,10 +16,10 @@ pub mod Closing
 pub mod Primary
 pub mod Whole
 pub mod Signed
-pub mod Descriptors
 pub mod Drafts
 pub mod Lending
 pub mod Bodies
 pub mod Read
 pub mod MethodError
 pub mod FdoErrors
+pub mod Header

@@ -1,7 +1,7 @@
 -- What a read takes from the bytes that are left (D-Bus Specification, "Message Protocol").
 use Rattle.std.specs.Prelude.{ℕ, ◌≡◌, ◌+◌, ◌^◌, ◌-◌, Bool, true, false, not, ◌||◌, ◌==◌, nat_lt, nat_le, is_none, if◌then◌else◌, List, length, take, slice_index, Option, Some, None, Result, Ok, Err}
 use Rattle.wire_message.specs.Field.{Fields}
-use Rattle.wire_message.specs.Front.{Seen, seen, order_at, word_at, fields_len, total, field_bytes}
+use Rattle.wire_message.specs.Front.{Seen, seen, order_at, word_at, total, field_bytes}
 use Rattle.wire_message.specs.Reading.{fields_in}
 use Rattle.wire_message.specs.declared.kind.MessageType.{MessageType}
 use Rattle.wire_message.specs.declared.kind.MessageType.TheVariants as types
@@ -38,7 +38,7 @@ head_fault bytes =
 
 -- what the bytes say of the header fields, if they are a field array
 abbrev pub fields_found : List ℕ → Option Fields
-fields_found bytes = fields_in (order_at bytes) (16 + fields_len bytes) (field_bytes bytes)
+fields_found bytes = fields_in (order_at bytes) (field_bytes bytes)
 
 abbrev pub message_by : List ℕ → Option MessageType → Option Fields → Result Seen Error
 message_by bytes (Some kind) (Some fields) =

@@ -1,13 +1,12 @@
 -- Where a message's texts stand in its bytes.
 use Rattle.std.specs.Prelude.{ℕ, ◌-◌, ◌≤◌, List, length, take, drop, option_map, IfSome}
 use Rattle.wire_number.specs.declared.endian.Endian.{Endian}
-use Rattle.wire_message.specs.Field.{Fields, Value, Text, Number}
+use Rattle.wire_message.specs.Field.{Fields}
 use Rattle.wire_message.specs.Front.{seen, Front}
+use Rattle.wire_message.specs.Valid.{AreFields}
 use Rattle.wire_message.specs.declared.kind.MessageType.{MessageType}
 use Rattle.wire_message.specs.declared.places.Span.{Span}
 use Rattle.wire_message.specs.declared.places.Places.{Places}
-use Rattle.wire_message.specs.declared.places.Found.{Found}
-use Rattle.wire_message.specs.declared.places.Found.TheVariants as found
 
 -- the bytes from a place to another
 abbrev pub area : List ℕ → ℕ → ℕ → List ℕ
@@ -15,11 +14,6 @@ area bytes start end = take (end - start) (drop start bytes)
 
 abbrev pub span_text : List ℕ → Span → List ℕ
 span_text bytes span = area bytes span.start span.end
-
--- the value that was found
-abbrev pub found_value : List ℕ → Found → Value
-found_value bytes (found.Text span) = Text (span_text bytes span)
-found_value bytes (found.Number number) = Number number
 
 -- the header fields that were found
 abbrev pub found_fields : List ℕ → Places → Fields
@@ -39,10 +33,6 @@ found_fields bytes places = record {
 abbrev pub IsSpan : ℕ → Span → Type 0
 IsSpan n span = (span.start ≤ span.end) × (span.end ≤ n)
 
-abbrev pub IsFound : ℕ → Found → Type 0
-IsFound n (found.Text span) = IsSpan n span
-IsFound n (found.Number number) = Unit {0}
-
 -- each of them stands among the first `n` bytes
 pub record AreSpans (n : ℕ) (places : Places) : Type 0 where
   pub path : IfSome places.path (IsSpan n)
@@ -53,7 +43,8 @@ pub record AreSpans (n : ℕ) (places : Places) : Type 0 where
   pub sender : IfSome places.sender (IsSpan n)
   pub signature : IfSome places.signature (IsSpan n)
 
--- A message stands on its own bytes, and its texts stand in them.
+-- A message stands on its own bytes, and its texts stand in them, each in its grammar.
 pub record Stands (bytes : List ℕ) (kind : MessageType) (order : Endian) (flags serial : ℕ) (places : Places) : Type 0 where
   pub front : Front bytes (seen bytes 0 kind order flags serial (found_fields bytes places)) (length bytes)
   pub spans : AreSpans (length bytes) places
+  pub valid : AreFields (found_fields bytes places)

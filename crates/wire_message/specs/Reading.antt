@@ -1,11 +1,13 @@
 -- Reading the field array from left to right. The laws in proofs/ tie it to the texts of fields.
-use Rattle.std.specs.Prelude.{ℕ, zero, suc, ◌-◌, ◌==◌, ◌&&◌, if◌then◌else◌, List, [], ◌∷◌, length, drop, Option, Some, None, option_and_then, option_map}
+use Rattle.std.specs.Prelude.{ℕ, ◌==◌, ◌&&◌, if◌then◌else◌, List, ◌∷◌, length, Option, Some, None, option_and_then, option_map}
+use Rattle.std.specs.Int.{Width, w8, w32}
 use Rattle.wire_number.specs.declared.endian.Endian.{Endian}
-use Rattle.wire_number.specs.Text.{long_text_at, short_text_at, u32_at, past_padding}
+use Rattle.wire_number.specs.Reading.{Cursor, Parse, ◌>>=◌, made, bytes_at, align_at, number_at, counted_at}
 use Rattle.wire_signature.specs.declared.basic.BasicType.{BasicType}
 use Rattle.wire_signature.specs.declared.basic.BasicType.TheVariants as basics
 use Rattle.wire_signature.specs.Shape.{letter}
-use Rattle.wire_message.specs.Field.{Fields, no_fields, Value, Text, Number, Field, field_type, is_value, with_field}
+use Rattle.wire_spelling.specs.Reading.{many_at}
+use Rattle.wire_message.specs.Field.{Fields, no_fields, Value, Text, Number, Field, field_type, is_value, gathered}
 use Rattle.wire_message.specs.declared.field.FieldCode.{FieldCode}
 use Rattle.wire_message.specs.declared.field.FieldCode.TheVariants as codes
 
@@ -23,21 +25,17 @@ code_of byte =
     else if byte == 9 then Some codes.UnixFds
     else None
 
-abbrev pub as_text : Option (List ℕ × List ℕ) → Option (Value × List ℕ)
-as_text found = option_map (λ x. (Text x.0, x.1)) found
+-- a value by its type
+abbrev pub text_value : Width → Endian → Cursor → Parse Value
+text_value w order c = made Text (counted_at w order c)
 
-abbrev pub as_number : Option (ℕ × List ℕ) → Option (Value × List ℕ)
-as_number found = option_map (λ x. (Number x.0, x.1)) found
+abbrev pub number_value : Endian → Cursor → Parse Value
+number_value order c = made Number (align_at 4 c >>= number_at w32 order)
 
--- a value by its type, and the bytes behind it
-unfoldable pub value_at : Endian → BasicType → List ℕ → Option (Value × List ℕ)
-value_at order basics.Signature bytes = as_text (short_text_at bytes)
-value_at order basics.Uint32 bytes = as_number (u32_at order bytes)
-value_at order type bytes = as_text (long_text_at order bytes)
-
--- the value of a field with this code, if the field may have it
-abbrev pub checked : FieldCode → Option (Value × List ℕ) → Option (Field × List ℕ)
-checked code found = option_and_then (λ x. if is_value code x.0 then Some (record { code = code; value = x.0 }, x.1) else None) found
+unfoldable pub value_at : Endian → BasicType → Cursor → Parse Value
+value_at order basics.Signature c = text_value w8 order c
+value_at order basics.Uint32 c = number_value order c
+value_at order type c = text_value w32 order c
 
 -- The code of a field whose value has its type, from its first four bytes: the code, the signature of one type.
 abbrev pub typed_code : FieldCode → ℕ → ℕ → ℕ → Option FieldCode
@@ -47,21 +45,15 @@ unfoldable pub code_at : List ℕ → Option FieldCode
 code_at (byte ∷ one ∷ type_letter ∷ nul ∷ rest) = option_and_then (λ code. typed_code code one type_letter nul) (code_of byte)
 code_at bytes = None
 
--- one field, and the bytes behind it
-unfoldable pub field_at : Endian → List ℕ → Option (Field × List ℕ)
-field_at order bytes = option_and_then (λ code. checked code (value_at order (field_type code) (drop 4 bytes))) (code_at bytes)
+-- One field: zeros up to a multiple of 8, its code, the signature of its value, and a value that it may have.
+unfoldable pub field_at : Endian → Cursor → Parse Field
+field_at order c = do
+  p ← align_at 8 c
+  head ← bytes_at 4 p
+  code ← code_at head.0
+  x ← value_at order (field_type code) head.1
+  if is_value code x.0 then Some (record { code = code; value = x.0 }, x.1) else None
 
--- the same behind the zeros up to a multiple of 8
-unfoldable pub padded_field_at : Endian → ℕ → List ℕ → Option (Field × List ℕ)
-padded_field_at order place bytes = option_and_then (λ rest. field_at order rest) (past_padding place 8 bytes)
-
--- The fields that the bytes are, beside those given; at most so many. The bytes end at the place `end`.
-unfoldable pub more_in : ℕ → Endian → ℕ → Fields → List ℕ → Option Fields
-more_in count order end fields [] = Some fields
-more_in zero order end fields (b ∷ bytes) = None
-more_in (suc count) order end fields (b ∷ bytes) =
-    option_and_then (λ x. more_in count order end (with_field x.0 fields) x.1) (padded_field_at order (end - length (b ∷ bytes)) (b ∷ bytes))
-
--- What the bytes of a field array say, which begins at 16.
-unfoldable pub fields_in : Endian → ℕ → List ℕ → Option Fields
-fields_in order end bytes = more_in (length bytes) order end no_fields bytes
+-- What the bytes of a field array say, which begins at 16: fields up to their end.
+unfoldable pub fields_in : Endian → List ℕ → Option Fields
+fields_in order bytes = option_map (gathered no_fields) (many_at (length bytes) (field_at order) (record { place = 16; rest = bytes }))

@@ -1,9 +1,8 @@
 -- What is printed of a message.
-use Rattle.std.specs.Prelude.{ℕ, Bool, false, not, ◌&&◌, ◌==◌, if◌then◌else◌, List, [], ◌∷◌, ◌++◌, codes, Option, Some, None, option_and_then}
-use Rattle.std.specs.List.{list_any}
-use Rattle.std.specs.Str.{is_utf8}
+use Rattle.std.specs.Prelude.{ℕ, Bool, false, ◌==◌, if◌then◌else◌, List, [], ◌∷◌, ◌++◌, codes, Option, Some, None, option_map}
 use Rattle.wire_number.specs.declared.endian.Endian.{Endian}
-use Rattle.wire_number.specs.Text.{long_text_at}
+use Rattle.wire_tree.specs.Datum.{string}
+use Rattle.wire_spelling.specs.Reading.{text_at}
 use Rattle.wire_message.specs.Front.{Seen, body_bytes}
 use Rattle.wire_message.specs.declared.kind.MessageType.{MessageType}
 use Rattle.wire_message.specs.declared.kind.MessageType.TheVariants as types
@@ -26,13 +25,9 @@ name_by types.MethodReturn m = None
 name_by types.Error m = m.error_name
 name_by types.Signal m = m.member
 
--- UTF-8 without a zero byte (D-Bus Specification, "String-like types")
-abbrev pub is_string : List ℕ → Bool
-is_string text = not (list_any (λ b. b == 0) text) && is_utf8 text
-
 -- the string at the front of some bytes
 unfoldable pub first_string : Endian → List ℕ → Option (List ℕ)
-first_string order bytes = option_and_then (λ x. if is_string x.0 then Some x.0 else None) (long_text_at order bytes)
+first_string order bytes = option_map (λ x. x.0) (text_at string order (record { place = 0; rest = bytes }))
 
 -- the first type is `s`
 abbrev pub begins_with_string : Option (List ℕ) → Bool

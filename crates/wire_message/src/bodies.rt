@@ -1,6 +1,6 @@
 //! Messages whose bodies are arguments, or values.
 ghost use Rattle.std.specs.Prelude.{◌≡◌, ◌+◌, ◌<◌, ◌≤◌, ◌^◌, IfOk, length};
-ghost use Rattle.wire_message.specs.Bodies.{BuildsBody, BuildsValues, MakesValues, TakesArguments, TakesBytes};
+ghost use Rattle.wire_message.specs.Bodies.{BuildsBody, BuildsValues, MakesValuesWith, TakesArguments, TakesBytes};
 ghost use Rattle.wire_message.specs.Circle.{taken_among};
 ghost use Rattle.wire_message.specs.Draft.{ReadsAgain};
 ghost use Rattle.wire_message.specs.Signed.{counted};
@@ -8,31 +8,33 @@ ghost use Rattle.wire_message.specs.Signed.{counted};
 use crate::builder::Builder;
 use crate::error::{Error, Result};
 use crate::message::Message;
-use crate::raw_body::{field_of, shared_fds};
+use crate::raw_body::field_of;
 use crate::serials::{Serials, Taken};
 use crate::steps::Steps;
 use std::alloc::Global;
 use std::marker::Brand;
 use std::sync::ledger::{Blank, Ledger};
-use wire_body::{Body, ToBody, to};
+use wire_body::{BodyValues, ToBody, to};
 use wire_number::Endian;
 use wire_signature::VariantError;
 use wire_value::{EncodeError, encode_body};
 
 /// The body of these arguments.
-fn body_of<B: ToBody>(alloc: Global, arguments: B) -> Result<Body>
+fn body_of<B: ToBody>(alloc: Global, arguments: B) -> Result<BodyValues>
     ensures told { TakesArguments result B.kinds (B.datums arguments) }
     ensures round { IfOk result (λ body. B.read body ≡ arguments) }
 {
     match to(alloc, arguments) {
         Ok(body) => Ok(body),
-        Err(VariantError::Memory) => Err(Error::Memory),
-        Err(error) => Err(Error::Variant(error)),
+        Err(VariantError::Signature) => Err(Error::Variant(VariantError::Signature)),
+        Err(VariantError::Malformed) => Err(Error::Variant(VariantError::Malformed)),
+        // Of arguments nothing else comes.
+        Err(_) => Err(Error::Memory),
     }
 }
 
 /// The bytes of a body.
-fn bytes_of(alloc: Global, order: Endian, body: &Body) -> Result<Vec<u8>>
+fn bytes_of(alloc: Global, order: Endian, body: &BodyValues) -> Result<Vec<u8>>
     ensures { TakesBytes (λ v. v.items) result order body.now }
 {
     match encode_body(alloc, order, body) {
@@ -44,10 +46,16 @@ fn bytes_of(alloc: Global, order: Endian, body: &Body) -> Result<Vec<u8>>
 }
 
 impl<'a> Builder<'a> {
-    /// The message with that serial and these values as its body, and with their signature.
-    fn with_values(self, alloc: Global, serial: u32, body: &Body) -> Result<Message>
+    /// The message with that serial and these values as its body, with their signature, and with these descriptors.
+    fn with_values(
+        self,
+        alloc: Global,
+        serial: u32,
+        body: &BodyValues,
+        fds: &[u32],
+    ) -> Result<Message>
         requires { 0 < serial }
-        ensures made { MakesValues self.entry serial body.now result }
+        ensures made { MakesValuesWith self.entry serial body.now fds.now result }
         ensures again { IfOk result ReadsAgain }
     {
         let bytes = bytes_of(alloc, self.order, body)?;
@@ -55,7 +63,7 @@ impl<'a> Builder<'a> {
         let text = signature.to_text(alloc)?;
         let field = field_of(signature, text.as_str());
         let builder = self.with_signature(field);
-        builder.with_serial(alloc, serial, bytes.as_slice())
+        builder.with_serial(alloc, serial, bytes.as_slice(), fds)
     }
 
     /// The message with these arguments as its body, which are given up, and with the serial that was set, else with the next
@@ -84,10 +92,10 @@ impl<'a> Builder<'a> {
         ensures again { IfOk result ReadsAgain }
         ensures cost { steps.new ≤ steps.old + taken_among (T.is_taken taken.now) 4294967295 + 2 }
     {
-        let mut drawn = *serials;
+        let mut drawn = Serials::after(serials.last());
         let serial = self.own_or_next(&mut drawn, taken, steps)?;
         let body = body_of(alloc, body)?;
-        let message = self.with_values(alloc, serial, &body)?;
+        let message = self.with_values(alloc, serial, &body, &[])?;
         *serials = drawn;
         Ok(message)
     }
@@ -139,7 +147,7 @@ impl<'a> Builder<'a> {
         alloc: Global,
         serials: &mut Serials,
         taken: &T,
-        body: &Body,
+        body: &BodyValues,
         fds: &[u32],
         steps: &mut Steps<L>,
     ) -> Result<Message>
@@ -148,12 +156,11 @@ impl<'a> Builder<'a> {
         ensures again { IfOk result ReadsAgain }
         ensures cost { steps.new ≤ steps.old + taken_among (T.is_taken taken.now) 4294967295 + 2 }
     {
-        let mut drawn = *serials;
+        let mut drawn = Serials::after(serials.last());
         let serial = self.own_or_next(&mut drawn, taken, steps)?;
-        let shared = shared_fds(alloc, fds)?;
-        let message = self.with_count(fds).with_values(alloc, serial, body)?;
+        let message = self.with_count(fds).with_values(alloc, serial, body, fds)?;
         *serials = drawn;
-        Ok(message.with_fds(shared))
+        Ok(message)
     }
 
     fn body_from<T: Taken, L: Ledger>(
@@ -161,7 +168,7 @@ impl<'a> Builder<'a> {
         alloc: Global,
         serials: &mut Serials,
         taken: &T,
-        body: &Body,
+        body: &BodyValues,
         fds: &[u32],
         blank: Blank,
     ) -> Result<Message>
@@ -182,7 +189,7 @@ impl<'a> Builder<'a> {
         alloc: Global,
         serials: &mut Serials,
         taken: &T,
-        body: &Body,
+        body: &BodyValues,
         fds: &[u32],
     ) -> Result<Message>
         requires { length fds.now < 2 ^ 32 }

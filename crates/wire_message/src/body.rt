@@ -56,7 +56,7 @@ fn begun<T: FromBody>(
 {
     let types = types_of::<T>(alloc)?;
     let (values, _count) = decode_body(alloc, order, &types, bytes)?;
-    let body = wire_body::Body::from_values(alloc, values)?;
+    let body = wire_body::BodyValues::from_values(alloc, values)?;
     from(alloc, body)
 }
 
@@ -126,7 +126,7 @@ impl<'a> Body<'a> {
         ensures { ReadsAs result T.read T.kinds self.now }
     {
         let message = self.message;
-        match begun(alloc, message.parts.order, message.body_bytes()) {
+        match begun(alloc, message.order(), message.body_bytes()) {
             Ok(arguments) => Ok(arguments),
             Err(VariantError::Malformed) => Err(Error::Variant(VariantError::Malformed)),
             Err(_) => Err(Error::Memory),

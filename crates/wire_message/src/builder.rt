@@ -3,23 +3,23 @@ ghost use Rattle.wire_number.specs.declared.endian.Endian.TheVariants.{Little};
 ghost use Rattle.wire_names.specs.BusName.{text_of};
 ghost use Rattle.wire_message.specs.Front.{order_code};
 ghost use Rattle.wire_message.specs.Circle.{Numbers, taken_among};
-ghost use Rattle.wire_message.specs.Draft.{Draft, AreFields, IsDraft, AreShort, header_fields, header_text, message_text, call_draft, flagged, has_long_text, Writes, Makes, Builds, ReadsAgain};
+ghost use Rattle.wire_message.specs.Draft.{Draft, IsDraft, AreShort, header_fields, header_text, message_text, call_draft, flagged, has_long_text, Writes, MakesWith, Builds, ReadsAgain};
 ghost use Rattle.wire_message.specs.declared.kind.MessageType.TheVariants as types;
 
 use crate::error::{Error, Result};
 use crate::flags::Flags;
 use crate::front::{MESSAGE_LIMIT, places_of};
 use crate::kind::{MessageType, type_code};
-use crate::message::{Message, Parts};
+use crate::message::Message;
 use crate::serials::{Serials, Taken};
+use crate::shared::Parts;
 use crate::steps::Steps;
 use crate::writing::{HeaderFields, NO_FIELDS, field_array};
 use std::alloc::Global;
 use std::marker::{Brand, Model};
-use std::sync::ArcSlice;
 use std::sync::ledger::{Blank, Ledger};
 use wire_names::{BusName, InterfaceName, MemberName, ObjectPath, UniqueName};
-use wire_number::{Endian, put_padding, put_word};
+use wire_number::{Endian, pad_to, write_u32};
 use wire_signature::VariantError;
 
 /// A message that isn't built yet.
@@ -244,20 +244,25 @@ impl<'a> Builder<'a> {
         }
         let mut text = Vec::new(alloc);
         text.extend_from_slice(&[order_byte(self.order), type_code(self.kind), self.flags, 1])?;
-        put_word(&mut text, self.order, body.len() as u32)?;
-        put_word(&mut text, self.order, serial)?;
-        put_word(&mut text, self.order, fields.len() as u32)?;
+        text.extend_from_slice(&write_u32(self.order, body.len() as u32))?;
+        text.extend_from_slice(&write_u32(self.order, serial))?;
+        text.extend_from_slice(&write_u32(self.order, fields.len() as u32))?;
         text.extend_from_slice(fields.as_slice())?;
-        let place = text.len();
-        put_padding(&mut text, place, 8)?;
+        pad_to(&mut text, 0, 8)?;
         text.extend_from_slice(body)?;
         Ok(text)
     }
 
-    /// The message with that serial and body, if it doesn't pass its limit.
-    pub(crate) fn with_serial(&self, alloc: Global, serial: u32, body: &[u8]) -> Result<Message>
+    /// The message with that serial, body and descriptors, if it doesn't pass its limit.
+    pub(crate) fn with_serial(
+        &self,
+        alloc: Global,
+        serial: u32,
+        body: &[u8],
+        fds: &[u32],
+    ) -> Result<Message>
         requires { 0 < serial }
-        ensures made { Makes self.now serial body.now result }
+        ensures made { MakesWith self.now serial body.now fds.now result }
         ensures again { IfOk result ReadsAgain }
     {
         if body.len() > MESSAGE_LIMIT {
@@ -278,8 +283,8 @@ impl<'a> Builder<'a> {
             serial,
             places,
         };
-        let bytes = ArcSlice::from_vec(text)?;
-        Ok(Message::from_parts(bytes, parts))
+        let message = Message::from_parts(alloc, text, parts, fds)?;
+        Ok(message)
     }
 
     /// The serial that was set, else the next, which is drawn.
@@ -314,9 +319,9 @@ impl<'a> Builder<'a> {
         ensures again { IfOk result ReadsAgain }
         ensures cost { steps.new ≤ steps.old + taken_among (T.is_taken taken.now) 4294967295 + 2 }
     {
-        let mut drawn = *serials;
+        let mut drawn = Serials::after(serials.last());
         let serial = self.own_or_next(&mut drawn, taken, steps)?;
-        let message = self.with_serial(alloc, serial, &[])?;
+        let message = self.with_serial(alloc, serial, &[], &[])?;
         *serials = drawn;
         Ok(message)
     }

@@ -1,14 +1,15 @@
 //! What is printed of a message.
-ghost use Rattle.std.specs.Prelude.{◌≡◌, ◌==◌, ◌≤◌, Some, None, if◌then◌else◌, length, option_map};
-ghost use Rattle.std.specs.List.{list_any};
+ghost use Rattle.std.specs.Prelude.{◌≡◌, ◌≤◌, Some, length, option_map};
 ghost use Rattle.wire_message.specs.Front.{body_bytes, total as total_len};
-ghost use Rattle.wire_message.specs.Texts.{kind_text, part_text, name_by, is_string, first_string as string_found, begins_with_string, first_argument as argument_found, detail_by, message_line};
+ghost use Rattle.wire_message.specs.Texts.{kind_text, part_text, name_by, first_string as string_found, begins_with_string, first_argument as argument_found, detail_by, message_line};
 
 use crate::front::header_len;
 use crate::kind::MessageType;
 use crate::message::Message;
+use crate::shared::Shared;
 use std::fmt;
-use wire_number::{Endian, read_text};
+use wire_number::{Endian, Reader};
+use wire_spelling::string;
 
 /// A part of a message's line, left out where it is absent.
 #[derive(Clone, Copy)]
@@ -40,32 +41,13 @@ fn kind_name(kind: MessageType) -> &'static str
     }
 }
 
-fn has_zero(bytes: &[u8]) -> bool
-    ensures { result ≡ list_any (λ b. b == 0) bytes.now }
-{
-    bytes.iter().any(|byte| *byte == 0)
-}
-
-/// The bytes as a string, if they are one.
-fn string_of(bytes: &[u8]) -> Option<&str>
-    ensures { option_map (λ t. t.now) result ≡ (if is_string bytes.now then Some bytes.now else None) }
-{
-    if has_zero(bytes) {
-        return None;
-    }
-    match str::from_utf8(bytes) {
-        Ok(text) => Some(text),
-        Err(_) => None,
-    }
-}
-
 /// The string at the front of some bytes.
 #[tactic(auto, unfolding(crate::specs::Texts::first_string))]
 fn first_string(order: Endian, bytes: &[u8]) -> Option<&str>
     ensures { option_map (λ t. t.now) result ≡ string_found order bytes.now }
 {
-    let (text, _) = read_text(order, bytes)?;
-    string_of(text)
+    let (text, _) = string(order, Reader::new(0, bytes))?;
+    Some(text)
 }
 
 /// The bytes behind the header of a whole message.
@@ -75,6 +57,16 @@ fn body_of(bytes: &[u8]) -> &[u8]
     ensures { result.now ≡ body_bytes bytes.now }
 {
     &bytes[header_len(bytes)..]
+}
+
+impl Shared {
+    /// The body's bytes.
+    fn body_bytes(&self) -> &[u8]
+        ensures { result.now ≡ body_bytes self.now.bytes }
+    {
+        let _parts = &self.parts;
+        body_of(self.bytes.as_slice())
+    }
 }
 
 impl Message {
@@ -94,8 +86,7 @@ impl Message {
     pub(crate) fn body_bytes(&self) -> &[u8]
         ensures { result.now ≡ body_bytes self.now.bytes }
     {
-        let _parts = &self.parts;
-        body_of(self.bytes.as_slice())
+        self.shared.body_bytes()
     }
 
     /// Whether the signature's first type is a string.
@@ -114,7 +105,7 @@ impl Message {
         ensures { option_map (λ t. t.now) result ≡ argument_found self.now }
     {
         if self.begins_with_string() {
-            first_string(self.parts.order, self.body_bytes())
+            first_string(self.order(), self.body_bytes())
         } else {
             None
         }

@@ -191,7 +191,7 @@ impl Error {
             Error::MethodError(name, detail, message) => Error::MethodError(
                 name.try_clone(alloc)?,
                 copy_of(alloc, detail)?,
-                message.try_clone()?,
+                message.clone()?,
             ),
             Error::MissingField => Error::MissingField,
             Error::InvalidGUID => Error::InvalidGUID,

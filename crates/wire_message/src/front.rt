@@ -2,19 +2,20 @@ ghost use Rattle.std.specs.Prelude.{ℕ, ◌≡◌, ◌+◌, ◌<◌, ◌≤◌,
 ghost use Rattle.wire_number.specs.Number.{pad};
 ghost use Rattle.wire_message.specs.Field.{Fields};
 ghost use Rattle.wire_message.specs.Front.{Seen, Front, order_at, word_at, fields_len, header_len as header_length, total as total_len, field_bytes};
+ghost use Rattle.wire_message.specs.Fault.{Finds, FindsTotal};
 ghost use Rattle.wire_message.specs.Outcome.{kind_of, fields_found, head_fault, front_outcome, message_by, Tells, TellsTotal};
 ghost use Rattle.wire_message.specs.Places.{found_fields, AreSpans};
 ghost use Rattle.wire_message.specs.declared.error.IoKind.TheVariants.{Ended};
 
-use crate::error::{Error, IoKind, Result};
+use crate::error::Result;
+use crate::fault::Fault;
 use crate::kind::message_type;
-use crate::message::{Message, Parts};
+use crate::message::Message;
 use crate::places::Places;
 use crate::reading::places_in;
+use crate::shared::Parts;
 use std::alloc::Global;
-use std::sync::ArcSlice;
 use wire_number::{Endian, padding_for_8_bytes, read_u32};
-use wire_signature::VariantError;
 
 /// The greatest length of a message in bytes (D-Bus Specification, "Message Format").
 pub(crate) const MESSAGE_LIMIT: usize = 134_217_728;
@@ -43,20 +44,20 @@ pub(crate) fn header_len(bytes: &[u8]) -> usize
 }
 
 /// As `total_of`, of bytes that are at least 16.
-fn head_of(bytes: &[u8]) -> Result<u32>
+fn head_of(bytes: &[u8]) -> std::result::Result<u32, Fault>
     requires { 16 ≤ length bytes.now }
-    ensures { TellsTotal result bytes.now }
+    ensures { FindsTotal result bytes.now }
 {
     if bytes[0] != b'l' && bytes[0] != b'B' {
-        return Err(Error::IncorrectEndian);
+        return Err(Fault::IncorrectEndian);
     }
     let order = byte_order(bytes);
     if message_type(bytes[1]).is_none() || bytes[2] > 7 || read_u32(order, bytes, 8) == 0 {
-        return Err(Error::Variant(VariantError::Malformed));
+        return Err(Fault::Malformed);
     }
     let total = header_len(bytes) + read_u32(order, bytes, 4) as usize;
     if total > MESSAGE_LIMIT {
-        return Err(Error::ExcessData);
+        return Err(Fault::ExcessData);
     }
     Ok(total as u32)
 }
@@ -67,7 +68,10 @@ fn head_of(bytes: &[u8]) -> Result<u32>
 pub fn total_of(first: &[u8; 16]) -> Result<u32>
     ensures { TellsTotal result first.now }
 {
-    head_of(first)
+    match head_of(first) {
+        Ok(total) => Ok(total),
+        Err(fault) => Err(fault.error()),
+    }
 }
 
 /// Where the header fields stand; None where the bytes of the fields are no field array.
@@ -83,18 +87,18 @@ pub(crate) fn places_of(bytes: &[u8]) -> Option<Places>
 }
 
 /// The message on the first bytes, whose head is right and whose total is there.
-fn message_on(alloc: Global, bytes: &[u8], total: usize) -> Result<Message>
+fn message_on(alloc: Global, bytes: &[u8], total: usize) -> std::result::Result<Message, Fault>
     requires length { 16 ≤ length bytes.now }
     requires right { head_fault bytes.now ≡ None }
     requires there { total ≤ length bytes.now }
     requires whole { total ≡ total_len bytes.now }
-    ensures { Tells (λ m. m) result (message_by bytes.now (kind_of (slice_index bytes.now 1)) (fields_found bytes.now)) }
+    ensures { Finds (λ m. m) result (message_by bytes.now (kind_of (slice_index bytes.now 1)) (fields_found bytes.now)) }
 {
     let Some(kind) = message_type(bytes[1]) else {
-        return Err(Error::Variant(VariantError::Malformed));
+        return Err(Fault::Malformed);
     };
     let Some(places) = places_of(bytes) else {
-        return Err(Error::Variant(VariantError::Malformed));
+        return Err(Fault::Malformed);
     };
     let order = byte_order(bytes);
     let parts = Parts {
@@ -104,25 +108,36 @@ fn message_on(alloc: Global, bytes: &[u8], total: usize) -> Result<Message>
         serial: read_u32(order, bytes, 8),
         places,
     };
-    let own = ArcSlice::from_slice(alloc, &bytes[..total])?;
-    Ok(Message::from_parts(own, parts))
+    let own = Vec::from_slice(alloc, &bytes[..total])?;
+    Ok(Message::from_parts(alloc, own, parts, &[])?)
 }
 
 /// The message that stands on the front of the bytes, and its length.
-fn front_of(alloc: Global, bytes: &[u8]) -> Result<(Message, u32)>
-    ensures exact { Tells (λ x. x.0) result (front_outcome bytes.now Ended) }
+pub(crate) fn found_at(alloc: Global, bytes: &[u8]) -> std::result::Result<(Message, u32), Fault>
+    ensures exact { Finds (λ x. x.0) result (front_outcome bytes.now Ended) }
     ensures length { IfOk result (λ x. x.1 ≡ total_len bytes.now) }
 {
     if bytes.len() < 16 {
-        return Err(Error::InputOutput(IoKind::Ended));
+        return Err(Fault::Ended);
     }
     let total = head_of(bytes)?;
     let len = total as usize;
     if bytes.len() < len {
-        return Err(Error::InputOutput(IoKind::Ended));
+        return Err(Fault::Ended);
     }
     let message = message_on(alloc, bytes, len)?;
     Ok((message, total))
+}
+
+/// The same with this crate's error.
+fn front_of(alloc: Global, bytes: &[u8]) -> Result<(Message, u32)>
+    ensures exact { Tells (λ x. x.0) result (front_outcome bytes.now Ended) }
+    ensures length { IfOk result (λ x. x.1 ≡ total_len bytes.now) }
+{
+    match found_at(alloc, bytes) {
+        Ok(front) => Ok(front),
+        Err(fault) => Err(fault.error()),
+    }
 }
 
 /// The message that stands on the front of the bytes, not read yet, and its length (D-Bus Specification, "Message

@@ -1,7 +1,8 @@
 ghost use Rattle.std.specs.Borrow.{sem};
-ghost use Rattle.std.specs.Prelude.{◌≡◌, ◌<◌, ◌^◌, IfSome, IsTrue, Option, Some, None, is_some, option_map, length, List, ℕ};
+ghost use Rattle.std.specs.Prelude.{◌≡◌, ◌<◌, ◌^◌, IfSome, IsTrue, is_some, option_map, length};
 ghost use Rattle.wire_signature.specs.Parsing.{types_in};
 ghost use Rattle.wire_names.specs.BusName.{bus_name_of};
+ghost use Rattle.wire_names.specs.Names.{IsBusName};
 ghost use Rattle.wire_message.specs.Lending.{LendsPrimary};
 ghost use Rattle.wire_message.specs.Primary.{head_of, order_of};
 ghost use Rattle.wire_message.specs.Places.{IsSpan, span_text};
@@ -12,15 +13,18 @@ use crate::kind::MessageType;
 use crate::message::Message;
 use crate::places::Span;
 use crate::primary::PrimaryHeader;
+use crate::shared::Shared;
 use std::marker::Model;
-use wire_names::{BusName, ErrorName, InterfaceName, MemberName, ObjectPath, UniqueName};
+use wire_names::{
+    BusName, ErrorName, InterfaceName, MemberName, Name, NameKind, ObjectPath, UniqueName,
+};
 use wire_number::Endian;
 
 /// The header of a message (D-Bus Specification, "Message Format", "Header Fields"): the part that each message has, as a copy
 /// that can be changed, and the header fields, whose texts are the message's own bytes.
 pub struct Header<'a> {
     primary: PrimaryHeader,
-    message: &'a Message,
+    shared: &'a Shared,
 }
 
 impl<'a> Model for Header<'a> {
@@ -29,14 +33,14 @@ impl<'a> Model for Header<'a> {
 
     ghost Value = { Head };
 
-    ghost view = { λ h. record { primary = h.primary; fields = fields_of h.message.now } };
+    ghost view = { λ h. record { primary = h.primary; fields = fields_of h.shared.now } };
 }
 
 impl<'a> Drop for Header<'a> {
     fn drop(self) {
         let Header {
             primary: _,
-            message: _,
+            shared: _,
         } = self;
     }
 }
@@ -52,6 +56,32 @@ fn part(bytes: &[u8], span: Option<Span>) -> Option<&[u8]>
     }
 }
 
+/// The name that a span's bytes are.
+fn name_at<'a, K: NameKind>(bytes: &'a [u8], span: Option<Span>) -> Option<Name<'a, K>>
+    requires there { IfSome span (IsSpan (length bytes.now)) }
+    requires valid { IfSome (option_map (span_text bytes.now) span) (λ text. IsTrue (K.is_name text)) }
+    ensures { result ≡ option_map (span_text bytes.now) span }
+{
+    let span = span?;
+    match Name::try_from_bytes(&bytes[span.start..span.end]) {
+        Ok(name) => Some(name),
+        Err(_) => None,
+    }
+}
+
+/// The same of a bus name.
+fn bus_name_at(bytes: &[u8], span: Option<Span>) -> Option<BusName<'_>>
+    requires there { IfSome span (IsSpan (length bytes.now)) }
+    requires valid { IfSome (option_map (span_text bytes.now) span) (λ text. IsBusName text) }
+    ensures { result ≡ option_map bus_name_of (option_map (span_text bytes.now) span) }
+{
+    let span = span?;
+    match BusName::try_from_bytes(&bytes[span.start..span.end]) {
+        Ok(name) => Some(name),
+        Err(_) => None,
+    }
+}
+
 impl Message {
     /// The message's header.
     pub fn header(&self) -> Header<'_>
@@ -59,10 +89,20 @@ impl Message {
     {
         Header {
             primary: self.primary_header(),
-            message: self,
+            shared: &self.shared,
         }
     }
 
+    /// The text of the body's signature; the empty one where the header has none.
+    pub(crate) fn signature_text(&self) -> &[u8]
+        ensures text { result.now ≡ body_signature self.now }
+        ensures valid { IsTrue (is_some (types_in result.now)) }
+    {
+        self.shared.signature_text()
+    }
+}
+
+impl Shared {
     /// The text of the body's signature; the empty one where the header has none.
     pub(crate) fn signature_text(&self) -> &[u8]
         ensures text { result.now ≡ body_signature self.now }
@@ -95,10 +135,7 @@ impl<'a> Header<'a> {
     pub fn into_primary(self) -> PrimaryHeader
         ensures { result ≡ self.entry.primary }
     {
-        let Header {
-            primary,
-            message: _,
-        } = self;
+        let Header { primary, shared: _ } = self;
         primary
     }
 
@@ -124,51 +161,39 @@ impl<'a> Header<'a> {
     }
 
     /// The object that the message is sent to, or a signal from.
+    #[tactic(auto, unfolding(crate::specs::Field::is_text))]
     pub fn path(&self) -> Option<ObjectPath<'a>>
         ensures { result ≡ self.now.fields.path }
     {
-        let message = self.message;
-        let text = part(message.bytes.as_slice(), message.parts.places.path)?;
-        match ObjectPath::try_from_bytes(text) {
-            Ok(path) => Some(path),
-            Err(_) => None,
-        }
+        let shared = self.shared;
+        name_at(shared.bytes.as_slice(), shared.parts.places.path)
     }
 
     /// The interface that the member belongs to.
+    #[tactic(auto, unfolding(crate::specs::Field::is_text))]
     pub fn interface(&self) -> Option<InterfaceName<'a>>
         ensures { result ≡ self.now.fields.interface }
     {
-        let message = self.message;
-        let text = part(message.bytes.as_slice(), message.parts.places.interface)?;
-        match InterfaceName::try_from_bytes(text) {
-            Ok(name) => Some(name),
-            Err(_) => None,
-        }
+        let shared = self.shared;
+        name_at(shared.bytes.as_slice(), shared.parts.places.interface)
     }
 
     /// The method or signal.
+    #[tactic(auto, unfolding(crate::specs::Field::is_text))]
     pub fn member(&self) -> Option<MemberName<'a>>
         ensures { result ≡ self.now.fields.member }
     {
-        let message = self.message;
-        let text = part(message.bytes.as_slice(), message.parts.places.member)?;
-        match MemberName::try_from_bytes(text) {
-            Ok(name) => Some(name),
-            Err(_) => None,
-        }
+        let shared = self.shared;
+        name_at(shared.bytes.as_slice(), shared.parts.places.member)
     }
 
     /// The error, of an error reply.
+    #[tactic(auto, unfolding(crate::specs::Field::is_text))]
     pub fn error_name(&self) -> Option<ErrorName<'a>>
         ensures { result ≡ self.now.fields.error_name }
     {
-        let message = self.message;
-        let text = part(message.bytes.as_slice(), message.parts.places.error_name)?;
-        match ErrorName::try_from_bytes(text) {
-            Ok(name) => Some(name),
-            Err(_) => None,
-        }
+        let shared = self.shared;
+        name_at(shared.bytes.as_slice(), shared.parts.places.error_name)
     }
 
     /// The serial of the call that the message answers; it isn't 0.
@@ -176,47 +201,41 @@ impl<'a> Header<'a> {
         ensures value { result ≡ self.now.fields.reply_serial }
         ensures some { IfSome result (λ serial. (0 < serial) × (serial < 2 ^ 32)) }
     {
-        let message = self.message;
-        message.parts.places.reply_serial
+        let shared = self.shared;
+        shared.parts.places.reply_serial
     }
 
     /// The connection that the message is for.
+    #[tactic(auto, unfolding(crate::specs::Field::is_text))]
     pub fn destination(&self) -> Option<BusName<'a>>
         ensures { result ≡ option_map bus_name_of self.now.fields.destination }
     {
-        let message = self.message;
-        let text = part(message.bytes.as_slice(), message.parts.places.destination)?;
-        match BusName::try_from_bytes(text) {
-            Ok(name) => Some(name),
-            Err(_) => None,
-        }
+        let shared = self.shared;
+        bus_name_at(shared.bytes.as_slice(), shared.parts.places.destination)
     }
 
     /// The connection that sent the message.
+    #[tactic(auto, unfolding(crate::specs::Field::is_text))]
     pub fn sender(&self) -> Option<UniqueName<'a>>
         ensures { result ≡ self.now.fields.sender }
     {
-        let message = self.message;
-        let text = part(message.bytes.as_slice(), message.parts.places.sender)?;
-        match UniqueName::try_from_bytes(text) {
-            Ok(name) => Some(name),
-            Err(_) => None,
-        }
+        let shared = self.shared;
+        name_at(shared.bytes.as_slice(), shared.parts.places.sender)
     }
 
     /// The text of the body's signature.
     pub fn signature(&self) -> Option<&'a [u8]>
         ensures { option_map (λ text. text.now) result ≡ self.now.fields.signature }
     {
-        let message = self.message;
-        part(message.bytes.as_slice(), message.parts.places.signature)
+        let shared = self.shared;
+        part(shared.bytes.as_slice(), shared.parts.places.signature)
     }
 
     /// How many file descriptors go with the message.
     pub fn unix_fds(&self) -> Option<u32>
         ensures { result ≡ self.now.fields.unix_fds }
     {
-        let message = self.message;
-        message.parts.places.unix_fds
+        let shared = self.shared;
+        shared.parts.places.unix_fds
     }
 }

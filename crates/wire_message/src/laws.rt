@@ -1,10 +1,16 @@
 //! Laws of the header grammar, of bodies and of errors.
-ghost use Rattle.std.specs.Prelude.{◌≡◌, ◌<◌, ◌≤◌, ◌^◌, ℕ, Bool, List, Ok, Result, length, ◌↔◌, IsTrue};
+ghost use Rattle.std.specs.Prelude.{◌≡◌, ◌<◌, ◌≤◌, ◌^◌, ◌++◌, ℕ, Bool, List, Ok, Result, length, slice_index, ◌↔◌, IsTrue};
+ghost use Rattle.std.specs.List.{AllByRecursion};
+ghost use Rattle.wire_number.specs.declared.endian.Endian.{Endian};
+ghost use Rattle.wire_number.specs.Number.{padding};
 ghost use Rattle.wire_signature.specs.Shape.{IsSignature};
+ghost use Rattle.wire_spelling.specs.Spelling.{spelling, spellings};
 ghost use Rattle.wire_body.specs.Arguments.{AreAllSound};
 ghost use Rattle.wire_message.specs.Bodies.{BuildsBody, BuildsValues};
 ghost use Rattle.wire_message.specs.Draft.{Draft, IsDraft, ReadsAgain, built, message_text};
+ghost use Rattle.wire_message.specs.Field.{Field, IsField, field_text, fields_text};
 ghost use Rattle.wire_message.specs.Front.{Seen, Front, fields_of};
+ghost use Rattle.wire_message.specs.Header.{IsHeader, field_data, field_datum};
 ghost use Rattle.wire_message.specs.Outcome.{Tells};
 ghost use Rattle.wire_message.specs.Read.{ReadsBody};
 ghost use Rattle.wire_message.specs.SameError.{Same};
@@ -19,6 +25,19 @@ pub fn built_messages_are_read_again()
     ensures again { (draft : Draft) (serial : ℕ) (body : List ℕ) → IsDraft draft → 0 < serial → serial < 2 ^ 32 → length (message_text draft serial body) ≤ 134217728 → ReadsAgain (built draft serial body) }
     ensures fields { (draft : Draft) (serial : ℕ) (body : List ℕ) → fields_of (built draft serial body) ≡ draft.fields }
     ensures bytes { (draft : Draft) (serial : ℕ) (body : List ℕ) → (built draft serial body).bytes ≡ message_text draft serial body }
+{}
+
+/// A header's field is a value of type `(yv)`, and fields are such values one behind the other (D-Bus Specification, "Message
+/// Format", "Marshaling (Wire Format)").
+pub fn fields_are_values()
+    ensures one { (order : Endian) (place : ℕ) (field : Field) → IsField field → padding place 8 ++ field_text order field ≡ spelling order place (field_datum field) }
+    ensures all { (order : Endian) (place : ℕ) (fields : List Field) → AllByRecursion IsField fields → fields_text order place fields ≡ spellings order place (field_data fields) }
+{}
+
+/// The first 16 bytes of a message and the fields behind them are the spelling of a value of types `yyyyuua(yv)` (D-Bus
+/// Specification, "Message Format").
+pub fn headers_are_values()
+    ensures { (bytes : List ℕ) (m : Seen) (n : ℕ) → ((i : ℕ) → slice_index bytes i < 256) → Front bytes m n → IsHeader bytes m }
 {}
 
 /// At most one message and one length stand on the front of given bytes, but for the message's position (D-Bus

@@ -11,6 +11,7 @@ mod display;
 mod endian_sig;
 mod error;
 mod error_texts;
+mod fault;
 pub mod fdo;
 mod field;
 mod flags;
@@ -27,6 +28,7 @@ mod reading;
 mod replies;
 mod sequence;
 mod serials;
+mod shared;
 mod steps;
 mod whole;
 mod writing;
@@ -43,10 +45,10 @@ pub use header::Header;
 pub use kind::MessageType;
 pub use laws::{
     built_bodies_are_read_again, built_messages_are_read_again, each_error_is_itself,
-    equal_errors_are_the_same, one_message,
+    equal_errors_are_the_same, fields_are_values, headers_are_values, one_message,
 };
 pub use message::Message;
 pub use primary::PrimaryHeader;
-pub use sequence::Sequence;
-pub use serials::{Serials, Taken};
+pub use sequence::{Sequence, none_is_behind_the_last};
+pub use serials::{NonePending, Serials, Taken};
 pub use steps::Steps;

@@ -1,90 +1,62 @@
-ghost use Rattle.std.specs.Prelude.{ℕ, ◌≡◌, ◌≤◌, IfOk, List, length, Some, option_map, IfSome, is_none};
-ghost use Rattle.std.specs.Arc.{arc_slice_items};
-ghost use Rattle.wire_message.specs.Front.{Seen, seen, Front, body_bytes};
-ghost use Rattle.wire_message.specs.Places.{found_fields, span_text, IsSpan, Stands};
-ghost use Rattle.wire_message.specs.Descriptors.{numbers_in};
+ghost use Rattle.std.specs.Prelude.{◌≡◌, IfOk};
+ghost use Rattle.wire_message.specs.Front.{Seen, seen};
+ghost use Rattle.wire_message.specs.Places.{found_fields, Stands};
 
-use crate::front::header_len;
 use crate::kind::MessageType;
-use crate::places::{Places, Span};
-use std::alloc::AllocError;
+use crate::shared::{Parts, Shared};
+use std::alloc::{AllocError, Global};
 use std::marker::Model;
-use std::sync::ArcSlice;
+use std::sync::Arc;
 use wire_number::Endian;
 
-/// What a message's header says.
-#[derive(Clone, Copy)]
-pub(crate) struct Parts {
-    pub(crate) kind: MessageType,
-    pub(crate) order: Endian,
-    pub(crate) flags: u8,
-    pub(crate) serial: u32,
-    pub(crate) places: Places,
-}
-
 /// A message on its own bytes, with its position among the messages that a peer read, from 1 on (0 where it wasn't
-/// read). A clone shares the bytes.
+/// read). A clone shares the bytes, and all else but the position.
 pub struct Message {
-    pub(crate) bytes: ArcSlice<u8>,
+    pub(crate) shared: Arc<Shared>,
     position: u64,
-    pub(crate) parts: Parts,
-    fds: Option<ArcSlice<u32>>,
 }
 
 impl Model for Message {
-    ghost use Rattle.std.specs.Arc.{arc_slice_items};
-    ghost use Rattle.wire_message.specs.Front.{Seen, seen};
-    ghost use Rattle.wire_message.specs.Places.{found_fields, Stands};
-    ghost use Rattle.wire_message.specs.Descriptors.{numbers_in};
+    ghost use Rattle.std.specs.Arc.{arc_value};
+    ghost use Rattle.wire_message.specs.Front.{Seen};
 
     ghost Value = { Seen };
 
-    ghost view = { λ m. record (seen (arc_slice_items m.bytes) m.position m.parts.kind m.parts.order m.parts.flags m.parts.serial (found_fields (arc_slice_items m.bytes) m.parts.places)) { fds = numbers_in m.fds } };
-
-    ghost invariant = { λ m. Stands (arc_slice_items m.bytes) m.parts.kind m.parts.order m.parts.flags m.parts.serial m.parts.places };
+    ghost view = { λ m. record (arc_value m.shared) { position = m.position } };
 }
 
 impl Drop for Message {
     fn drop(self) {
         let Message {
-            bytes: _,
+            shared: _,
             position: _,
-            parts: _,
-            fds: _,
         } = self;
     }
 }
 
-impl Message {
-    /// The parts of a message as one.
-    pub(crate) fn from_parts(bytes: ArcSlice<u8>, parts: Parts) -> Message
-        requires { Stands (arc_slice_items bytes) parts.kind parts.order parts.flags parts.serial parts.places }
-        ensures { result ≡ seen (arc_slice_items bytes) 0 parts.kind parts.order parts.flags parts.serial (found_fields (arc_slice_items bytes) parts.places) }
-    {
-        Message {
-            bytes,
-            position: 0,
-            parts,
-            fds: None,
-        }
-    }
+// Queues hold many: what a message has is shared, but for its position.
+const _: () = prove!(size_of::<Message>() <= 24);
 
-    /// The same message, with those descriptors in place of its own.
-    pub(crate) fn with_fds(self, fds: Option<ArcSlice<u32>>) -> Message
-        ensures { result ≡ record self { fds = numbers_in fds } }
+impl Message {
+    /// The message of these bytes, which wasn't read, with these descriptors.
+    pub(crate) fn from_parts(
+        alloc: Global,
+        bytes: Vec<u8>,
+        parts: Parts,
+        fds: &[u32],
+    ) -> Result<Message, AllocError>
+        requires { Stands bytes.items parts.kind parts.order parts.flags parts.serial parts.places }
+        ensures { IfOk result (λ m. m ≡ record (seen bytes.items 0 parts.kind parts.order parts.flags parts.serial (found_fields bytes.items parts.places)) { fds = fds.now }) }
     {
-        let Message {
+        let shared = Shared {
             bytes,
-            position,
             parts,
-            fds: _,
-        } = self;
-        Message {
-            bytes,
-            position,
-            parts,
-            fds,
-        }
+            fds: Vec::from_slice(alloc, fds)?,
+        };
+        Ok(Message {
+            shared: Arc::new(alloc, shared)?,
+            position: 0,
+        })
     }
 
     /// The numbers of the file descriptors that go with the message, as they were handed in when it was built; none of a
@@ -92,38 +64,42 @@ impl Message {
     pub fn fds(&self) -> &[u32]
         ensures { result.now ≡ self.now.fds }
     {
-        match &self.fds {
-            Some(fds) => fds.as_slice(),
-            None => &[],
-        }
+        self.shared.fds()
     }
 
     /// The message's bytes, header and body.
     pub fn data(&self) -> &[u8]
         ensures { result.now ≡ self.now.bytes }
     {
-        self.bytes.as_slice()
+        self.shared.data()
     }
 
     /// What the message is.
     pub fn message_type(&self) -> MessageType
         ensures { result ≡ self.now.kind }
     {
-        self.parts.kind
+        self.shared.kind()
+    }
+
+    /// The byte order of the message's numbers.
+    pub(crate) fn order(&self) -> Endian
+        ensures { result ≡ self.now.order }
+    {
+        self.shared.order()
     }
 
     /// The message's serial.
     pub fn serial_num(&self) -> u32
         ensures { result ≡ self.now.serial }
     {
-        self.parts.serial
+        self.shared.serial()
     }
 
     /// The serial of the call that the message answers.
     pub fn reply_serial(&self) -> Option<u32>
         ensures { result ≡ self.now.reply_serial }
     {
-        self.parts.places.reply_serial
+        self.shared.reply_serial()
     }
 
     /// The position among the messages that the peer read, from 1 on; 0 where the message wasn't read.
@@ -138,32 +114,19 @@ impl Message {
         ensures { result ≡ record self { position = position } }
     {
         let Message {
-            bytes,
+            shared,
             position: _,
-            parts,
-            fds,
         } = self;
-        Message {
-            bytes,
-            position,
-            parts,
-            fds,
-        }
+        Message { shared, position }
     }
 
-    /// The same message; the bytes are shared.
-    pub fn try_clone(&self) -> std::result::Result<Message, AllocError>
+    /// The same message; the bytes are shared. It takes no memory, and fails only where 2^63 - 1 messages share them.
+    pub fn clone(&self) -> Result<Message, AllocError>
         ensures { IfOk result (λ copy. copy ≡ self.now) }
     {
-        let fds = match &self.fds {
-            Some(fds) => Some(fds.clone()?),
-            None => None,
-        };
         Ok(Message {
-            bytes: self.bytes.clone()?,
+            shared: Arc::try_clone(&self.shared)?,
             position: self.position,
-            parts: self.parts,
-            fds,
         })
     }
 }

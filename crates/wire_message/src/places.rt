@@ -12,13 +12,6 @@ pub(crate) struct Span {
     pub(crate) end: usize,
 }
 
-/// A field's value, as it was found.
-#[derive(Clone, Copy)]
-pub(crate) enum Found {
-    Text(Span),
-    Number(u32),
-}
-
 /// The header fields: texts by their places, and numbers.
 #[derive(Clone, Copy)]
 pub(crate) struct Places {

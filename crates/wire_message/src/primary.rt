@@ -5,6 +5,7 @@ use crate::endian_sig::{EndianSig, NATIVE_ENDIAN_SIG};
 use crate::flags::Flags;
 use crate::kind::MessageType;
 use crate::message::Message;
+use crate::shared::Shared;
 use std::marker::Model;
 use wire_number::read_u32;
 
@@ -139,6 +140,14 @@ impl PrimaryHeader {
 impl Message {
     /// The part of the header that each message has.
     pub fn primary_header(&self) -> PrimaryHeader
+        ensures { result ≡ primary_of self.now }
+    {
+        self.shared.primary_header()
+    }
+}
+
+impl Shared {
+    fn primary_header(&self) -> PrimaryHeader
         ensures { result ≡ primary_of self.now }
     {
         let bytes = self.data();

@@ -2,9 +2,8 @@
 ghost use Rattle.std.specs.Prelude.{◌≡◌, ◌+◌, ◌<◌, ◌≤◌, ◌^◌, IfOk, IfSome, IsTrue, length, option_map};
 ghost use Rattle.wire_signature.specs.Shape.{SignatureText};
 ghost use Rattle.wire_message.specs.Circle.{taken_among};
-ghost use Rattle.wire_message.specs.Draft.{BuildsWith, ReadsAgain};
+ghost use Rattle.wire_message.specs.Draft.{BuildsWith, MakesWith, ReadsAgain};
 ghost use Rattle.wire_message.specs.Field.{is_text};
-ghost use Rattle.wire_message.specs.Descriptors.{numbers_in};
 ghost use Rattle.wire_message.specs.Signed.{counted, signature_field, signed};
 ghost use Rattle.wire_message.specs.declared.field.FieldCode.TheVariants as codes;
 
@@ -14,9 +13,8 @@ use crate::message::Message;
 use crate::serials::{Serials, Taken};
 use crate::steps::Steps;
 use crate::writing::HeaderFields;
-use std::alloc::{AllocError, Global};
+use std::alloc::Global;
 use std::marker::Brand;
-use std::sync::ArcSlice;
 use std::sync::ledger::{Blank, Ledger};
 use wire_signature::Signature;
 
@@ -31,19 +29,6 @@ pub(crate) fn field_of<'a>(signature: &Signature, text: &'a str) -> Option<&'a s
     } else {
         Some(text)
     }
-}
-
-/// The descriptors, shared by the message and its clones; None where there are none.
-pub(crate) fn shared_fds(
-    alloc: Global,
-    fds: &[u32],
-) -> std::result::Result<Option<ArcSlice<u32>>, AllocError>
-    ensures { IfOk result (λ shared. numbers_in shared ≡ fds.now) }
-{
-    if fds.is_empty() {
-        return Ok(None);
-    }
-    Ok(Some(ArcSlice::from_slice(alloc, fds)?))
 }
 
 impl<'a> Builder<'a> {
@@ -76,6 +61,26 @@ impl<'a> Builder<'a> {
         Builder { fields, ..self }
     }
 
+    /// The message with that serial and these bytes as its body, with that signature and these descriptors.
+    fn with_bytes(
+        self,
+        alloc: Global,
+        serial: u32,
+        body: &[u8],
+        signature: &Signature,
+        fds: &[u32],
+    ) -> Result<Message>
+        requires some { 0 < serial }
+        requires few { length fds.now < 2 ^ 32 }
+        ensures made { MakesWith (counted (signed self.entry signature.now) fds.now) serial body.now fds.now result }
+        ensures again { IfOk result ReadsAgain }
+    {
+        let text = signature.to_text(alloc)?;
+        let field = field_of(signature, text.as_str());
+        let builder = self.with_signature(field).with_count(fds);
+        builder.with_serial(alloc, serial, body, fds)
+    }
+
     /// As `build_empty`, with these bytes as the body, that signature, and these descriptors. The bytes are put as they are, and not
     /// compared with the signature: what they spell is for the caller to know. An empty signature is left out. The
     /// descriptors go with the message; their count is written as its `UNIX_FDS` exactly where there are some.
@@ -94,15 +99,11 @@ impl<'a> Builder<'a> {
         ensures again { IfOk result ReadsAgain }
         ensures cost { steps.new ≤ steps.old + taken_among (T.is_taken taken.now) 4294967295 + 2 }
     {
-        let mut drawn = *serials;
+        let mut drawn = Serials::after(serials.last());
         let serial = self.own_or_next(&mut drawn, taken, steps)?;
-        let text = signature.to_text(alloc)?;
-        let field = field_of(signature, text.as_str());
-        let shared = shared_fds(alloc, fds)?;
-        let builder = self.with_signature(field).with_count(fds);
-        let message = builder.with_serial(alloc, serial, body)?;
+        let message = self.with_bytes(alloc, serial, body, signature, fds)?;
         *serials = drawn;
-        Ok(message.with_fds(shared))
+        Ok(message)
     }
 
     fn raw_from<T: Taken, L: Ledger>(

@@ -1,156 +1,111 @@
 //! Reading a field array, from left to right (D-Bus Specification, "Header Fields").
-ghost use Rattle.std.specs.Prelude.{◌≡◌, ◌<◌, ◌≤◌, ◌-◌, ◌==◌, ℕ, List, length, option_map, IfSome};
-ghost use Rattle.wire_message.specs.Field.{field_type, is_value as has_value, with_field, Field};
-ghost use Rattle.wire_message.specs.Places.{area, span_text, found_value, found_fields, IsSpan, IsFound, AreSpans};
-ghost use Rattle.wire_message.specs.Reading.{as_text, as_number, value_at as value_found, field_at as field_found, padded_field_at, fields_in};
-ghost use Rattle.wire_number.specs.Text.{long_text_at, short_text_at, u32_at};
+ghost use Rattle.std.specs.Prelude.{◌≡◌, ◌≤◌, ◌-◌, ℕ, List, length, option_map, IfSome};
+ghost use Rattle.std.specs.Int.{w8, w32};
+ghost use Rattle.wire_number.specs.ReaderView.{Finds, cursor_of};
+ghost use Rattle.wire_message.specs.Field.{is_value as has_value, with_field};
+ghost use Rattle.wire_message.specs.Held.{HasRoom, StandsAt, value_of};
+ghost use Rattle.wire_message.specs.Places.{area, found_fields, AreSpans};
+ghost use Rattle.wire_message.specs.Reading.{field_at as field_found, fields_in, number_value, text_value, value_at as value_found};
 
 use crate::field::{FieldCode, code_at, is_number, is_text};
-use crate::places::{Found, Places, Span};
-use wire_number::{Endian, past_padding, read_signature_text, read_text, read_word};
+use crate::places::{Places, Span};
+use wire_number::{Endian, Reader};
 use wire_signature::BasicType;
 
-/// A header field, as it was found, and the place behind it.
+/// A field's value, as it was read.
 #[derive(Clone, Copy)]
-struct FoundField {
-    code: FieldCode,
-    value: Found,
-    next: usize,
+enum Held<'a> {
+    Text(&'a [u8]),
+    Number(u32),
 }
 
-/// A value, and the place behind it.
-#[derive(Clone, Copy)]
-struct FoundValue {
-    value: Found,
-    next: usize,
-}
-
-/// The text from a place on, where the fields end at `end`.
-fn text_at(order: Endian, bytes: &[u8], place: usize, end: usize) -> Option<FoundValue>
-    requires inside { place ≤ end }
-    requires there { end ≤ length bytes.now }
-    ensures found { option_map (λ x. (found_value bytes.now x.value, area bytes.now x.next end)) result ≡ as_text (long_text_at order (area bytes.now place end)) }
-    ensures within { IfSome result (λ x. (place < x.next) × (x.next ≤ end) × IsFound end x.value) }
+/// A signature.
+fn signature<'a>(order: Endian, reader: Reader<'a>) -> Option<(Held<'a>, Reader<'a>)>
+    ensures { Finds (λ x. (value_of x.0, cursor_of x.1)) result (text_value w8 order (cursor_of reader.entry)) }
 {
-    let (text, _) = read_text(order, &bytes[place..end])?;
-    let start = place + 4;
-    let span = Span {
-        start,
-        end: start + text.len(),
-    };
-    Some(FoundValue {
-        value: Found::Text(span),
-        next: start + text.len() + 1,
-    })
+    let (text, after) = reader.short_text(order)?;
+    Some((Held::Text(text), after))
 }
 
-/// The signature's text from a place on, where the fields end at `end`.
-fn signature_at(bytes: &[u8], place: usize, end: usize) -> Option<FoundValue>
-    requires inside { place ≤ end }
-    requires there { end ≤ length bytes.now }
-    ensures found { option_map (λ x. (found_value bytes.now x.value, area bytes.now x.next end)) result ≡ as_text (short_text_at (area bytes.now place end)) }
-    ensures within { IfSome result (λ x. (place < x.next) × (x.next ≤ end) × IsFound end x.value) }
+/// Another text.
+fn text<'a>(order: Endian, reader: Reader<'a>) -> Option<(Held<'a>, Reader<'a>)>
+    ensures { Finds (λ x. (value_of x.0, cursor_of x.1)) result (text_value w32 order (cursor_of reader.entry)) }
 {
-    let (text, _) = read_signature_text(&bytes[place..end])?;
-    let start = place + 1;
-    let span = Span {
-        start,
-        end: start + text.len(),
-    };
-    Some(FoundValue {
-        value: Found::Text(span),
-        next: start + text.len() + 1,
-    })
+    let (text, after) = reader.long_text(order)?;
+    Some((Held::Text(text), after))
 }
 
-/// The number from a place on, where the fields end at `end`.
-fn number_at(order: Endian, bytes: &[u8], place: usize, end: usize) -> Option<FoundValue>
-    requires inside { place ≤ end }
-    requires there { end ≤ length bytes.now }
-    ensures found { option_map (λ x. (found_value bytes.now x.value, area bytes.now x.next end)) result ≡ as_number (u32_at order (area bytes.now place end)) }
-    ensures within { IfSome result (λ x. (place < x.next) × (x.next ≤ end) × IsFound end x.value) }
+/// A number of four bytes.
+fn number<'a>(order: Endian, reader: Reader<'a>) -> Option<(Held<'a>, Reader<'a>)>
+    ensures { Finds (λ x. (value_of x.0, cursor_of x.1)) result (number_value order (cursor_of reader.entry)) }
 {
-    let (number, _) = read_word(order, &bytes[place..end])?;
-    Some(FoundValue {
-        value: Found::Number(number),
-        next: place + 4,
-    })
+    let (number, after) = reader.align(4)?.u32(order)?;
+    Some((Held::Number(number), after))
 }
 
-/// The value of a type from a place on, where the fields end at `end`.
+/// A value of the type.
 #[tactic(auto, unfolding(crate::specs::Reading::value_at))]
-fn value_at(
-    order: Endian,
-    kind: BasicType,
-    bytes: &[u8],
-    place: usize,
-    end: usize,
-) -> Option<FoundValue>
-    requires inside { place ≤ end }
-    requires there { end ≤ length bytes.now }
-    ensures found { option_map (λ x. (found_value bytes.now x.value, area bytes.now x.next end)) result ≡ value_found order kind (area bytes.now place end) }
-    ensures within { IfSome result (λ x. (place < x.next) × (x.next ≤ end) × IsFound end x.value) }
+fn value<'a>(order: Endian, kind: BasicType, reader: Reader<'a>) -> Option<(Held<'a>, Reader<'a>)>
+    ensures { Finds (λ x. (value_of x.0, cursor_of x.1)) result (value_found order kind (cursor_of reader.entry)) }
 {
     match kind {
-        BasicType::Signature => signature_at(bytes, place, end),
-        BasicType::Uint32 => number_at(order, bytes, place, end),
-        _ => text_at(order, bytes, place, end),
+        BasicType::Signature => signature(order, reader),
+        BasicType::Uint32 => number(order, reader),
+        _ => text(order, reader),
     }
 }
 
 /// Whether the field may have the value.
-fn is_value(code: FieldCode, value: Found, bytes: &[u8]) -> bool
-    requires { IsFound (length bytes.now) value }
-    ensures { result ≡ has_value code (found_value bytes.now value) }
+fn is_value(code: FieldCode, held: Held<'_>) -> bool
+    ensures { result ≡ has_value code (value_of held.entry) }
 {
-    match value {
-        Found::Text(span) => is_text(code, &bytes[span.start..span.end]),
-        Found::Number(number) => is_number(code, number),
+    match held {
+        Held::Text(text) => is_text(code, text),
+        Held::Number(number) => is_number(code, number),
     }
 }
 
-/// The field from a place on, where the fields end at `end`.
+/// The next field: its code and its value.
 #[tactic(auto, unfolding(crate::specs::Reading::field_at))]
-fn field_at(order: Endian, bytes: &[u8], place: usize, end: usize) -> Option<FoundField>
-    requires inside { place ≤ end }
-    requires there { end ≤ length bytes.now }
-    ensures found { option_map (λ x. (record { code = x.code; value = found_value bytes.now x.value }, area bytes.now x.next end)) result ≡ field_found order (area bytes.now place end) }
-    ensures within { IfSome result (λ x. (place < x.next) × (x.next ≤ end) × IsFound end x.value) }
+fn next_field<'a>(order: Endian, reader: Reader<'a>) -> Option<((FieldCode, Held<'a>), Reader<'a>)>
+    ensures { Finds (λ x. (record { code = x.0.0; value = value_of x.0.1 }, cursor_of x.1)) result (field_found order (cursor_of reader.entry)) }
 {
-    let code = code_at(&bytes[place..end])?;
-    let found = value_at(order, code.value_type(), bytes, place + 4, end)?;
-    if is_value(code, found.value, bytes) {
-        Some(FoundField {
-            code,
-            value: found.value,
-            next: found.next,
-        })
+    let (head, inner) = reader.align(8)?.bytes(4)?;
+    let code = code_at(head)?;
+    let (held, after) = value(order, code.value_type(), inner)?;
+    if is_value(code, held) {
+        Some(((code, held), after))
     } else {
         None
     }
 }
 
-/// The field behind the padding of a place, where the fields end at `end`.
-#[tactic(auto, unfolding(crate::specs::Reading::padded_field_at))]
-fn next_field(order: Endian, bytes: &[u8], place: usize, end: usize) -> Option<FoundField>
-    requires inside { place ≤ end }
-    requires there { end ≤ length bytes.now }
-    ensures found { option_map (λ x. (record { code = x.code; value = found_value bytes.now x.value }, area bytes.now x.next end)) result ≡ padded_field_at order place (area bytes.now place end) }
-    ensures within { IfSome result (λ x. (place < x.next) × (x.next ≤ end) × IsFound end x.value) }
+/// The fields, one more among them, whose last byte stands before the place `next`.
+#[tactic(auto, unfolding(crate::specs::Field::with_field))]
+fn with_found(places: Places, code: FieldCode, held: Held<'_>, next: usize) -> Places
+    requires { HasRoom next held }
+    ensures field { (bytes : List ℕ) → StandsAt bytes next held.entry → found_fields bytes result ≡ with_field (record { code = code; value = value_of held.entry }) (found_fields bytes places) }
+    ensures spans { (n : ℕ) → AreSpans n places → next ≤ n → AreSpans n result }
 {
-    let rest = past_padding(place, 8, &bytes[place..end])?;
-    field_at(order, bytes, end - rest.len(), end)
+    match held {
+        Held::Text(text) => {
+            let end = next - 1;
+            let start = end - text.len();
+            places.with_text(code, Span { start, end })
+        }
+        Held::Number(number) => places.with_number(code, number),
+    }
 }
 
-/// The fields, one more among them.
-#[tactic(auto, unfolding(crate::specs::Field::with_field))]
-fn with_found(places: Places, code: FieldCode, value: Found) -> Places
-    ensures field { (bytes : List ℕ) → found_fields bytes result ≡ with_field (record { code = code; value = found_value bytes value }) (found_fields bytes places) }
-    ensures spans { (n : ℕ) → AreSpans n places → IsFound n value → AreSpans n result }
+/// Stands at the front of the field array, which ends at `end`.
+fn reader_of(bytes: &[u8], end: usize) -> Reader<'_>
+    requires from { 16 ≤ end }
+    requires there { end ≤ length bytes.now }
+    ensures { cursor_of result ≡ record { place = 16; rest = area bytes.now 16 end } }
 {
-    match value {
-        Found::Text(span) => places.with_text(code, span),
-        Found::Number(number) => places.with_number(code, number),
+    Reader {
+        place: 16,
+        rest: &bytes[16..end],
     }
 }
 
@@ -158,15 +113,22 @@ fn with_found(places: Places, code: FieldCode, value: Found) -> Places
 pub(crate) fn places_in(order: Endian, bytes: &[u8], end: usize) -> Option<Places>
     requires from { 16 ≤ end }
     requires there { end ≤ length bytes.now }
-    ensures found { option_map (found_fields bytes.now) result ≡ fields_in order end (area bytes.now 16 end) }
+    ensures found { option_map (found_fields bytes.now) result ≡ fields_in order (area bytes.now 16 end) }
     ensures spans { IfSome result (AreSpans end) }
 {
     let mut places = Places::new();
-    let mut place = 16;
-    while place < end {
-        let field = next_field(order, bytes, place, end)?;
-        places = with_found(places, field.code, field.value);
-        place = field.next;
+    let mut left = reader_of(bytes, end);
+    for _ in 0..end - 16 {
+        if left.rest.is_empty() {
+            return Some(places);
+        }
+        let ((code, held), after) = next_field(order, left)?;
+        places = with_found(places, code, held, after.place);
+        left = after;
     }
-    Some(places)
+    if left.rest.is_empty() {
+        Some(places)
+    } else {
+        None
+    }
 }

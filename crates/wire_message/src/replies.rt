@@ -1,9 +1,8 @@
 //! What builders begin with, but for method calls.
 ghost use Rattle.std.specs.Prelude.{◌≡◌, IfSome, IsTrue, option_map};
 ghost use Rattle.wire_names.specs.BusName.{text_of};
-ghost use Rattle.wire_message.specs.Field.{is_text};
+ghost use Rattle.wire_names.specs.Names.{IsBusName};
 ghost use Rattle.wire_message.specs.Drafts.{signal_draft, reply_draft, error_draft, draft_from};
-ghost use Rattle.wire_message.specs.declared.field.FieldCode.TheVariants as codes;
 ghost use Rattle.wire_message.specs.declared.kind.MessageType.TheVariants as types;
 
 use crate::builder::Builder;
@@ -11,24 +10,13 @@ use crate::header::Header;
 use crate::kind::MessageType;
 use crate::message::Message;
 use crate::writing::{HeaderFields, NO_FIELDS};
-use wire_names::{BusName, ErrorName, InterfaceName, MemberName, ObjectPath, UniqueName};
+use wire_names::{BusName, ErrorName, InterfaceName, MemberName, Name, NameKind, ObjectPath};
 use wire_number::Endian;
 
-#[tactic(auto, unfolding(crate::specs::Field::is_text))]
-fn path_text<'a>(path: &Option<ObjectPath<'a>>) -> Option<&'a str>
-    ensures text { option_map (λ t. t.now) result ≡ path.now }
-    ensures valid { IfSome result (λ t. IsTrue (is_text codes.Path t.now)) }
-{
-    match path {
-        Some(path) => Some(path.as_str()),
-        None => None,
-    }
-}
-
-#[tactic(auto, unfolding(crate::specs::Field::is_text))]
-fn interface_text<'a>(name: &Option<InterfaceName<'a>>) -> Option<&'a str>
+/// A name's text.
+fn name_text<'a, K: NameKind>(name: &Option<Name<'a, K>>) -> Option<&'a str>
     ensures text { option_map (λ t. t.now) result ≡ name.now }
-    ensures valid { IfSome result (λ t. IsTrue (is_text codes.Interface t.now)) }
+    ensures valid { IfSome result (λ t. IsTrue (K.is_name t.now)) }
 {
     match name {
         Some(name) => Some(name.as_str()),
@@ -36,43 +24,10 @@ fn interface_text<'a>(name: &Option<InterfaceName<'a>>) -> Option<&'a str>
     }
 }
 
-#[tactic(auto, unfolding(crate::specs::Field::is_text))]
-fn member_text<'a>(name: &Option<MemberName<'a>>) -> Option<&'a str>
-    ensures text { option_map (λ t. t.now) result ≡ name.now }
-    ensures valid { IfSome result (λ t. IsTrue (is_text codes.Member t.now)) }
-{
-    match name {
-        Some(name) => Some(name.as_str()),
-        None => None,
-    }
-}
-
-#[tactic(auto, unfolding(crate::specs::Field::is_text))]
-fn error_text<'a>(name: &Option<ErrorName<'a>>) -> Option<&'a str>
-    ensures text { option_map (λ t. t.now) result ≡ name.now }
-    ensures valid { IfSome result (λ t. IsTrue (is_text codes.ErrorName t.now)) }
-{
-    match name {
-        Some(name) => Some(name.as_str()),
-        None => None,
-    }
-}
-
-#[tactic(auto, unfolding(crate::specs::Field::is_text))]
-fn destination_text<'a>(name: &Option<BusName<'a>>) -> Option<&'a str>
+/// The same of a bus name.
+fn bus_name_text<'a>(name: &Option<BusName<'a>>) -> Option<&'a str>
     ensures text { option_map (λ t. t.now) result ≡ option_map text_of name.now }
-    ensures valid { IfSome result (λ t. IsTrue (is_text codes.Destination t.now)) }
-{
-    match name {
-        Some(name) => Some(name.as_str()),
-        None => None,
-    }
-}
-
-#[tactic(auto, unfolding(crate::specs::Field::is_text))]
-fn sender_text<'a>(name: &Option<UniqueName<'a>>) -> Option<&'a str>
-    ensures text { option_map (λ t. t.now) result ≡ name.now }
-    ensures valid { IfSome result (λ t. IsTrue (is_text codes.Sender t.now)) }
+    ensures valid { IfSome result (λ t. IsBusName t.now) }
 {
     match name {
         Some(name) => Some(name.as_str()),
@@ -91,7 +46,7 @@ fn reply<'a>(kind: MessageType, reply_to: &Header<'a>) -> Builder<'a>
         serial: None,
         fields: HeaderFields {
             reply_serial: Some(reply_to.primary().serial_num()),
-            destination: sender_text(&reply_to.sender()),
+            destination: name_text(&reply_to.sender()),
             ..NO_FIELDS
         },
     }
@@ -154,13 +109,13 @@ impl<'a> From<Header<'a>> for Builder<'a> {
             flags: header.flags().0 & 7,
             serial: Some(header.primary().serial_num()),
             fields: HeaderFields {
-                path: path_text(&header.path()),
-                interface: interface_text(&header.interface()),
-                member: member_text(&header.member()),
-                error_name: error_text(&header.error_name()),
+                path: name_text(&header.path()),
+                interface: name_text(&header.interface()),
+                member: name_text(&header.member()),
+                error_name: name_text(&header.error_name()),
                 reply_serial: header.reply_serial(),
-                destination: destination_text(&header.destination()),
-                sender: sender_text(&header.sender()),
+                destination: bus_name_text(&header.destination()),
+                sender: name_text(&header.sender()),
                 signature: None,
                 unix_fds: None,
             },

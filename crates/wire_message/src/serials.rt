@@ -1,4 +1,4 @@
-ghost use Rattle.std.specs.Prelude.{ℕ, ◌≡◌, ◌+◌, ◌<◌, ◌≤◌, ◌%◌, Bool, IfSome, IfNone};
+ghost use Rattle.std.specs.Prelude.{ℕ, ◌≡◌, ◌+◌, ◌<◌, ◌≤◌, ◌%◌, Bool, IfSome, IfNone, false};
 ghost use Rattle.wire_message.specs.Circle.{Draws, IsNext, AllTaken, taken_among};
 
 use crate::error::{Error, Result};
@@ -19,11 +19,27 @@ pub trait Taken {
         ensures { result ≡ taken_among (is_taken self.now) 4294967295 };
 }
 
+/// No serial is pending.
+#[derive(Clone, Copy, Debug)]
+pub struct NonePending;
+
+impl Taken for NonePending {
+    ghost is_taken = { λ _ _. false };
+
+    fn taken(&self, _serial: u32) -> bool {
+        false
+    }
+
+    fn count(&self) -> u64 {
+        0
+    }
+}
+
 /// Draws serials: each is the first after the last one drawn, round the circle from 1 to 4,294,967,295, that isn't
 /// pending (D-Bus Specification, "Message Format").
-#[derive(Clone, Copy, Debug)]
+#[derive(Debug)]
 pub struct Serials {
-    pub(crate) last: u32,
+    last: u32,
 }
 
 impl Model for Serials {
@@ -34,12 +50,32 @@ impl Model for Serials {
     ghost inverse = { λ n. record { last = n } };
 }
 
+impl Drop for Serials {
+    fn drop(self) {
+        let Serials { last: _ } = self;
+    }
+}
+
 impl Serials {
     /// No serial was drawn: the first is 1.
     pub fn new() -> Serials
         ensures { result ≡ 0 }
     {
         Serials { last: 0 }
+    }
+
+    /// That serial was the last that was drawn; 0 where none was. Serials that were drawn after it are drawn again.
+    pub fn after(last: u32) -> Serials
+        ensures { result ≡ last }
+    {
+        Serials { last }
+    }
+
+    /// The last serial that was drawn; 0 where none was.
+    pub fn last(&self) -> u32
+        ensures { result ≡ self.now }
+    {
+        self.last
     }
 
     /// Draws the next serial. SerialsSpent exactly where each of the 4,294,967,295 is pending; then nothing was drawn. A step

@@ -1,13 +1,13 @@
 //! Writing a header (D-Bus Specification, "Message Format", "Header Fields").
 ghost use Rattle.std.specs.Prelude.{ℕ, ◌≡◌, ◌+◌, ◌<◌, ◌≤◌, ◌^◌, ◌++◌, ◌∷◌, [], List, length, option_map, IfSome, OnOk, IfOk};
 ghost use Rattle.std.specs.Int.{w32};
-ghost use Rattle.wire_number.specs.Number.{padding};
+ghost use Rattle.wire_number.specs.Number.{pad, padding};
 ghost use Rattle.wire_message.specs.Field.{Fields, code_bytes, field_type, text_bytes, field_text, fields_text, text_field, number_field, field_list};
 ghost use Rattle.wire_message.specs.Draft.{header_fields, AreShort, IsShortText};
 
 use crate::field::FieldCode;
 use std::alloc::{AllocError, Global};
-use wire_number::{Endian, put_padding, put_signature_text, put_text, put_word};
+use wire_number::{Endian, append, append_signature, append_text, write_u32};
 use wire_signature::BasicType;
 
 /// The nine header fields, each there or not.
@@ -37,19 +37,20 @@ pub(crate) const NO_FIELDS: HeaderFields<'static> = HeaderFields {
     unix_fds: None,
 };
 
-/// Adds a text as a value of the type.
+/// Adds a text as a value of the type, on the boundary of its length.
 fn put_value(
     out: &mut Vec<u8>,
     order: Endian,
     kind: BasicType,
     text: &[u8],
 ) -> Result<(), AllocError>
-    requires { IsShortText kind text.now }
+    requires short { IsShortText kind text.now }
+    requires placed { pad (16 + length out.old.items) 4 ≡ 0 }
     ensures { OnOk result (out.new.items ≡ out.old.items ++ text_bytes order kind text.now) }
 {
     match kind {
-        BasicType::Signature => put_signature_text(out, text),
-        _ => put_text(out, order, text),
+        BasicType::Signature => append_signature(order, out, text),
+        _ => append_text(order, out, 16, text),
     }
 }
 
@@ -57,9 +58,7 @@ fn put_value(
 fn put_code(out: &mut Vec<u8>, code: FieldCode) -> Result<(), AllocError>
     ensures { OnOk result (out.new.items ≡ out.old.items ++ (padding (16 + length out.old.items) 8 ++ code_bytes code)) }
 {
-    let place = 16 + out.len();
-    put_padding(out, place, 8)?;
-    out.extend_from_slice(&[code.byte(), 1, code.value_type().letter(), 0])?;
+    append(out, 16, 8, &[code.byte(), 1, code.value_type().letter(), 0])?;
     Ok(())
 }
 
@@ -93,7 +92,7 @@ fn put_number_field(
         return Ok(());
     };
     put_code(out, code)?;
-    put_word(out, order, number)
+    append(out, 16, 4, &write_u32(order, number))
 }
 
 /// The field array of these fields, which begins at 16.

@@ -1,20 +1,28 @@
-ghost use Rattle.std.specs.Prelude.{◌≡◌, ◌↔◌, ◌⊎◌, IfOk, IfErr, Some, Err};
+ghost use Rattle.std.specs.Prelude.{◌≡◌, ◌↔◌, ◌⊎◌, IfOk, IfErr, Some, Err, nat_eq, refl};
+ghost use Rattle.std.specs.Cmp;
+ghost use Rattle.std.specs.Cmp.{on_equiv, on_total, on_per, on_po, partial_equiv_from_equiv};
+ghost use Rattle.std.specs.Cmp.Lexicographic.{pointwise, slice_cmp, nat_list_eq_equiv, nat_list_cmp_total, texts_ties, texts_po};
+ghost use Rattle.std.specs.Cmp.Rules.{hashing};
+ghost use Rattle.std.specs.Hash as fed;
+ghost use Rattle.std.specs.Ordering.{nat_cmp};
 ghost use Rattle.std.specs.Result.{OkIff};
+ghost use Rattle.std.proofs.Common.{rules};
 ghost use Rattle.wire_names.specs.Names.{IsBusName};
 ghost use Rattle.wire_names.specs.BusName.{bus_name_of, text_of, owned_of, text_of_owned};
 ghost use Rattle.wire_names.specs.declared.error.NamesError.TheVariants.{Bus};
 
 use crate::error::NamesError;
-use crate::unique::{OwnedUniqueName, UniqueName};
-use crate::well_known::{OwnedWellKnownName, WellKnownName};
+use crate::kinds::{OwnedUniqueName, OwnedWellKnownName, UniqueName, WellKnownName};
 use std::alloc::{AllocError, Global};
+use std::cmp::Ordering;
 use std::fmt;
+use std::hash::{Hash, Hasher};
 
 /// A unique or a well-known bus name (D-Bus Specification, "Valid Names", "Bus names").
 ///
 /// `try_from` of a `&str` takes no memory. It reads a unique name where the text is one, so
-/// `org.freedesktop.DBus` is unique, and answers [`NamesError::Bus`] exactly where the text is neither.
-#[derive(Debug, Drop, PartialEq, Eq, PartialOrd, Ord, Hash)]
+/// `org.freedesktop.DBus` is unique, and answers [`NamesError::Bus`] exactly where the text is neither. Bus names are compared, ordered and hashed by their texts.
+#[derive(Debug, Drop)]
 pub enum BusName<'a> {
     Unique(UniqueName<'a>),
     WellKnown(WellKnownName<'a>),
@@ -93,8 +101,56 @@ impl<'a> fmt::Display for BusName<'a> {
     }
 }
 
+impl<'a> PartialEq for BusName<'a> {
+    ghost eq = { λ x y. pointwise nat_eq (text_of x) (text_of y) };
+
+    ghost laws = { on_per text_of (partial_equiv_from_equiv nat_list_eq_equiv) };
+
+    fn eq(&self, other: &BusName<'a>) -> bool {
+        self.as_str() == other.as_str()
+    }
+}
+
+impl<'a> Eq for BusName<'a> {
+    ghost laws = { on_equiv text_of nat_list_eq_equiv };
+}
+
+impl<'a> PartialOrd for BusName<'a> {
+    ghost partial_cmp = { λ x y. Some (slice_cmp nat_cmp (text_of x) (text_of y)) };
+
+    ghost laws = { on_po text_of texts_po };
+
+    fn partial_cmp(&self, other: &BusName<'a>) -> Option<Ordering> {
+        Some(self.cmp(other))
+    }
+}
+
+impl<'a> Ord for BusName<'a> {
+    ghost cmp = { λ x y. slice_cmp nat_cmp (text_of x) (text_of y) };
+
+    ghost total = { on_total text_of nat_list_cmp_total };
+
+    ghost matches_partial_cmp = { λ x y. refl };
+
+    ghost matches_eq = { λ x y. texts_ties (text_of x) (text_of y) };
+
+    fn cmp(&self, other: &BusName<'a>) -> Ordering {
+        self.as_str().cmp(other.as_str())
+    }
+}
+
+impl<'a> Hash for BusName<'a> {
+    ghost hash_input = { λ x. fed.str (text_of x) };
+
+    ghost respects_eq = { Prim.search (hashing, rules) };
+
+    fn hash<H: Hasher>(&self, state: &mut H) {
+        self.as_str().hash(state);
+    }
+}
+
 /// A [`BusName`] that owns its text.
-#[derive(Debug, Drop, PartialEq, Eq, PartialOrd, Ord, Hash)]
+#[derive(Debug, Drop)]
 pub enum OwnedBusName {
     Unique(OwnedUniqueName),
     WellKnown(OwnedWellKnownName),
@@ -150,5 +206,53 @@ impl fmt::Display for OwnedBusName {
 
     fn fmt<W: fmt::Write>(&self, f: &mut fmt::Formatter<W>) -> fmt::Result {
         fmt::Display::fmt(self.as_str(), f)
+    }
+}
+
+impl PartialEq for OwnedBusName {
+    ghost eq = { λ x y. pointwise nat_eq (text_of_owned x) (text_of_owned y) };
+
+    ghost laws = { on_per text_of_owned (partial_equiv_from_equiv nat_list_eq_equiv) };
+
+    fn eq(&self, other: &OwnedBusName) -> bool {
+        self.as_str() == other.as_str()
+    }
+}
+
+impl Eq for OwnedBusName {
+    ghost laws = { on_equiv text_of_owned nat_list_eq_equiv };
+}
+
+impl PartialOrd for OwnedBusName {
+    ghost partial_cmp = { λ x y. Some (slice_cmp nat_cmp (text_of_owned x) (text_of_owned y)) };
+
+    ghost laws = { on_po text_of_owned texts_po };
+
+    fn partial_cmp(&self, other: &OwnedBusName) -> Option<Ordering> {
+        Some(self.cmp(other))
+    }
+}
+
+impl Ord for OwnedBusName {
+    ghost cmp = { λ x y. slice_cmp nat_cmp (text_of_owned x) (text_of_owned y) };
+
+    ghost total = { on_total text_of_owned nat_list_cmp_total };
+
+    ghost matches_partial_cmp = { λ x y. refl };
+
+    ghost matches_eq = { λ x y. texts_ties (text_of_owned x) (text_of_owned y) };
+
+    fn cmp(&self, other: &OwnedBusName) -> Ordering {
+        self.as_str().cmp(other.as_str())
+    }
+}
+
+impl Hash for OwnedBusName {
+    ghost hash_input = { λ x. fed.str (text_of_owned x) };
+
+    ghost respects_eq = { Prim.search (hashing, rules) };
+
+    fn hash<H: Hasher>(&self, state: &mut H) {
+        self.as_str().hash(state);
     }
 }

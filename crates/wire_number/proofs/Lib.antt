@@ -1,4 +1,4 @@
 pub mod Multiples
 pub mod Numbers
-pub mod Texts
-pub mod Zeros
+pub mod Steps
+pub mod Appends

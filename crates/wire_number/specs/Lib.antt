@@ -1,2 +1,4 @@
 pub mod Number
-pub mod Text
+pub mod Reading
+pub mod ReaderView
+pub mod Appending

@@ -1,5 +1,5 @@
 -- Numbers and padding (D-Bus Specification, "Marshaling").
-use Rattle.std.specs.Prelude.{ℕ, ◌-◌, ◌%◌, List, ◌++◌, length, take, drop, replicate}
+use Rattle.std.specs.Prelude.{ℕ, ◌-◌, ◌%◌, List, [], ◌∷◌, ◌++◌, length, take, drop, replicate}
 use Rattle.std.specs.Int.{Width, from_le_bytes, from_be_bytes, to_le_bytes, to_be_bytes, byte_len}
 use Rattle.wire_number.specs.declared.endian.Endian.{Endian}
 use Rattle.wire_number.specs.declared.endian.Endian.TheVariants.{Little, Big}
@@ -29,3 +29,8 @@ padding n align = replicate (pad n align) 0
 -- the bytes, and then zeros up to a multiple of the alignment
 abbrev pub padded : ℕ → List ℕ → List ℕ
 padded align bytes = bytes ++ padding (length bytes) align
+
+-- A text: its length, a number of the width, its bytes, and a 0 byte that the length leaves out (D-Bus Specification,
+-- "Marshaling", `STRING`, `OBJECT_PATH`, `SIGNATURE`).
+abbrev pub counted_text : Width → Endian → List ℕ → List ℕ
+counted_text w order bytes = number_text w order (length bytes) ++ (bytes ++ 0 ∷ [])

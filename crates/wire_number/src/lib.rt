@@ -1,15 +1,16 @@
-//! Byte orders, numbers in them, and padding (D-Bus Specification, "Marshaling").
+//! Byte orders, and numbers in them, padding and texts: how they stand in bytes, read and written (D-Bus Specification,
+//! "Marshaling").
 #![tactic(auto)]
 
+pub use crate::appending::{append, append_signature, append_text, pad_to, put_u32};
 pub use crate::endian::Endian;
-pub use crate::number::{read_u32, write_u32};
+pub use crate::number::{read_u32, write_u16, write_u32, write_u64};
 pub use crate::padding::{padding_for_8_bytes, padding_for_n_bytes};
-pub use crate::text::{
-    past_padding, put_padding, put_signature_text, put_text, put_word, read_signature_text,
-    read_text, read_word,
-};
+pub use crate::reader::Reader;
 
+mod appending;
 mod endian;
 mod number;
 mod padding;
-mod text;
+mod reader;
+mod taking;

@@ -1,9 +1,21 @@
-//! Numbers of four bytes.
+//! Numbers of two, four and eight bytes.
 ghost use Rattle.std.specs.Prelude.{◌≡◌, ◌≤◌, ◌+◌, length};
-ghost use Rattle.std.specs.Int.{w32};
+ghost use Rattle.std.specs.Int.{w16, w32, w64};
 ghost use Rattle.wire_number.specs.Number.{number, number_text, number_at};
 
 use crate::endian::Endian;
+
+/// The number that two bytes are (D-Bus Specification, "Marshaling", `UINT16`).
+pub(crate) fn read_u16(order: Endian, bytes: &[u8]) -> u16
+    requires { length bytes.now ≡ 2 }
+    ensures { result ≡ number w16 order bytes.now }
+{
+    let two = [bytes[0], bytes[1]];
+    match order {
+        Endian::Little => u16::from_le_bytes(two),
+        Endian::Big => u16::from_be_bytes(two),
+    }
+}
 
 /// The number in the four bytes from a place on (D-Bus Specification, "Marshaling", `UINT32`).
 pub fn read_u32(order: Endian, bytes: &[u8], place: usize) -> u32
@@ -22,9 +34,43 @@ pub fn read_u32(order: Endian, bytes: &[u8], place: usize) -> u32
     }
 }
 
+/// The number that eight bytes are (D-Bus Specification, "Marshaling", `UINT64`).
+pub(crate) fn read_u64(order: Endian, bytes: &[u8]) -> u64
+    requires { length bytes.now ≡ 8 }
+    ensures { result ≡ number w64 order bytes.now }
+{
+    let eight = [
+        bytes[0], bytes[1], bytes[2], bytes[3], bytes[4], bytes[5], bytes[6], bytes[7],
+    ];
+    match order {
+        Endian::Little => u64::from_le_bytes(eight),
+        Endian::Big => u64::from_be_bytes(eight),
+    }
+}
+
+/// The two bytes of a number (D-Bus Specification, "Marshaling", `UINT16`).
+pub fn write_u16(order: Endian, value: u16) -> [u8; 2]
+    ensures { result ≡ number_text w16 order value }
+{
+    match order {
+        Endian::Little => value.to_le_bytes(),
+        Endian::Big => value.to_be_bytes(),
+    }
+}
+
 /// The four bytes of a number (D-Bus Specification, "Marshaling", `UINT32`).
 pub fn write_u32(order: Endian, value: u32) -> [u8; 4]
     ensures { result ≡ number_text w32 order value }
+{
+    match order {
+        Endian::Little => value.to_le_bytes(),
+        Endian::Big => value.to_be_bytes(),
+    }
+}
+
+/// The eight bytes of a number (D-Bus Specification, "Marshaling", `UINT64`).
+pub fn write_u64(order: Endian, value: u64) -> [u8; 8]
+    ensures { result ≡ number_text w64 order value }
 {
     match order {
         Endian::Little => value.to_le_bytes(),

@@ -9,13 +9,13 @@ use Rattle.wire_signature.specs.Shape.{Shape, IsType, type_text, BeginsWithType}
 use Rattle.wire_signature.proofs.Exact.{begins_again}
 use Rattle.wire_tree.specs.Datum.{Datum}
 use Rattle.wire_spelling.specs.Spelling.{spelling, Spells}
-use Rattle.wire_spelling.specs.Reading.{Cursor, Parse, behind, value_at}
-use Rattle.wire_spelling.proofs.Loops.{behind_some}
+use Rattle.wire_number.specs.Reading.{Cursor, Parse}
+use Rattle.wire_spelling.specs.Reading.{value_at}
 use Rattle.wire_spelling.specs.Walking.{walk_at}
 use Rattle.wire_spelling.specs.Promises.{SpellNothing, SpellOnlyThe, StandsFirst, Explains}
 use Rattle.wire_spelling.specs.ReaderView.{Refuses}
 use Rattle.wire_spelling.proofs.WalkSame.{IsShallow, leaving, walk_same}
-use Rattle.wire_spelling.proofs.Steps.{at, AreBytes, some_is}
+use Rattle.wire_number.proofs.Steps.{at, AreBytes, some_is}
 use Rattle.wire_spelling.proofs.FoundValues.{IsValue, value_takes}
 use Rattle.wire_spelling.proofs.ReadAgain.{value_again}
 use Rattle.wire_spelling.proofs.Shift.{Alike, spelling_alike, fits_alike}
@@ -171,11 +171,6 @@ decoded_from order place t bytes c x same valid low e =
     (decoded_start order place t bytes x valid low (sym (ap (value_at 64 order t) same) ∙ e))
 
 -- a value that was passed over
-pub passed_from : (order : Endian) (place : ℕ) (t : Shape) (bytes : List ℕ) (c after : Cursor) → c ≡ start place bytes → IsType t → AreBytes bytes
-    → behind (value_at 64 order t c) ≡ Some after → (d : Datum) × Decoded order place t bytes c (d, after)
-passed_from order place t bytes c after same valid low e =
-    let x = behind_some (value_at 64 order t c) after e in (x.0, decoded_from order place t bytes c (x.0, after) same valid low x.1)
-
 pub nothing_from : (order : Endian) (place : ℕ) (t : Shape) (bytes : List ℕ) (c : Cursor) → c ≡ start place bytes
     → value_at 64 order t c ≡ None → SpellNothing order place t bytes
 nothing_from order place t bytes c same e = decoded_none order place t bytes (sym (ap (value_at 64 order t) same) ∙ e)

@@ -1,20 +1,21 @@
 -- A value that is read stands there: the bytes that were read are its spelling, and it is within the limits.
 use Rattle.std.proofs.Common.{◌≡◌, ℕ, zero, suc, ◌+◌, ◌≤◌, nat_le, if◌then◌else◌, List, [], ◌∷◌, ◌++◌, length, replicate, Option, Some, None, refl, sym, ◌∙◌, ap, subst, arith}
-use Rattle.std.specs.Int.{w32}
+use Rattle.std.specs.Int.{w32, w8}
 use Rattle.std.proofs.lemmas.Bool.{leb-true}
 use Rattle.std.proofs.lemmas.List.{length-replicate}
 use Rattle.wire_number.specs.declared.endian.Endian.{Endian}
-use Rattle.wire_number.specs.Number.{number_text, pad, padding}
+use Rattle.wire_number.specs.Number.{number_text, pad, padding, counted_text}
 use Rattle.wire_signature.specs.declared.basic.BasicType.{BasicType}
 use Rattle.wire_signature.specs.declared.basic.BasicType.TheVariants as basics
 use Rattle.wire_signature.specs.Shape.{Shape, basic, variant as any, array as array_of, dict as dict_of, struct as struct_of, Shapes, no_shapes, shapes, alignment, IsType, TypeText, type_text}
 use Rattle.wire_signature.specs.Parsing.{type_in}
 use Rattle.wire_signature.proofs.Exact.{type_in-takes}
 use Rattle.wire_tree.specs.Datum.{Num, byte, boolean, int16, uint16, int32, uint32, int64, uint64, double, unix_fd, Txt, string, object_path, signature, Datum, num, text, array, dict, struct, variant, data_of, entries_of, num_type, text_type, type_of, types_of, IsSound, AreSound, AreElements, AreEntries}
-use Rattle.wire_spelling.specs.Spelling.{text_form, aligned, first_place, array_form, spelling, spellings, entry_spellings, depth, depths, entry_depths, ArraysFit, AllFit, EntriesFit}
-use Rattle.wire_spelling.specs.Reading.{Cursor, Parse, made, bytes_at, align_at, number_at, num_at, raw_at, text_at, num_value_at, text_value_at, basic_at, none_at, more_at, many_at, elements_at, array_at, variant_at, fields_at, struct_at, pair_at, leaf_at, value_step, value_at, entry_at}
-use Rattle.wire_spelling.proofs.Steps.{at, AreBytes, Reads, reads_then, Takes, IsNumber, bind_some, map_some, guard_some, some_is, bytes_take, align_takes, number_takes, length-number_text}
-use Rattle.wire_spelling.proofs.LeafLaws.{IsNum, num_takes, IsRaw, raw_takes, IsText, text_takes}
+use Rattle.wire_spelling.specs.Spelling.{aligned, first_place, array_form, spelling, spellings, entry_spellings, depth, depths, entry_depths, ArraysFit, AllFit, EntriesFit}
+use Rattle.wire_number.specs.Reading.{Cursor, Parse, made, bytes_at, align_at, number_at, counted_at}
+use Rattle.wire_spelling.specs.Reading.{num_at, text_at, num_value_at, text_value_at, basic_at, none_at, more_at, many_at, elements_at, array_at, variant_at, fields_at, struct_at, pair_at, leaf_at, value_step, value_at, entry_at}
+use Rattle.wire_number.proofs.Steps.{at, AreBytes, Reads, reads_then, Takes, IsNumber, bind_some, map_some, guard_some, some_is, bytes_take, align_takes, number_takes, length-number_text, IsCounted, counted_takes}
+use Rattle.wire_spelling.proofs.LeafLaws.{IsNum, num_takes, IsText, text_takes}
 
 -- a value of a type, with at most so many containers open at once, that stands there
 pub record IsValue (room : ℕ) (order : Endian) (t : Shape) (c : Cursor) (y : Datum × Cursor) : Type 0 where
@@ -352,17 +353,17 @@ variant_value : (room : ℕ) (order : Endian) (read : Shape → Cursor → Parse
     → (c : Cursor) (y : Datum × Cursor) → variant_at read order c ≡ Some y → AreBytes c.rest → IsValue (suc room) order any c y
 unfolding variant_at spelling ArraysFit
 variant_value room order read reads c y e low =
-    let s = bind_some (raw_at signature order c) _ y e in
+    let s = bind_some (counted_at w8 order c) _ y e in
     let t = bind_some (type_in s.0.0) (λ t. made variant (read t s.0.1)) y s.2 in
     let x = map_some (λ x. (variant x.0, x.1)) (read t.0 s.0.1) y t.2 in
-    let k : IsRaw signature order c s.0 = raw_takes signature order c s.0 s.1 low in
+    let k : IsCounted w8 order c s.0 = counted_takes w8 order c s.0 tt s.1 low in
     let spelled : TypeText t.0 s.0.0 = type_in-takes s.0.0 t.0 t.1 in
     let v : IsValue room order t.0 s.0.1 x.0 = reads t.0 s.0.1 x.0 x.1 k.reads.bytes in
     let d : Datum = x.0.0 in
     let type_is : s.0.0 ≡ type_text (type_of d) = spelled.text ∙ ap type_text (sym v.kind) in
-    let unpadded : Reads c (text_form order signature s.0.0) s.0.1 =
-    subst (λ (n : ℕ). Reads c (replicate n 0 ++ text_form order signature s.0.0) s.0.1) (pad_one c.place) k.reads in
-    let sign : Reads c (text_form order signature (type_text (type_of d))) s.0.1 = subst (λ (r : List ℕ). Reads c (text_form order signature r) s.0.1) type_is unpadded in
+    let unpadded : Reads c (counted_text w8 order s.0.0) s.0.1 =
+    subst (λ (n : ℕ). Reads c (replicate n 0 ++ counted_text w8 order s.0.0) s.0.1) (pad_one c.place) k.reads in
+    let sign : Reads c (counted_text w8 order (type_text (type_of d))) s.0.1 = subst (λ (r : List ℕ). Reads c (counted_text w8 order r) s.0.1) type_is unpadded in
     value_as (suc room) order any c (variant d, x.0.1) y x.2
     (record {
       reads = reads_then c s.0.1 x.0.1 _ _ sign (subst (λ (q : ℕ). Reads s.0.1 (spelling order q d) x.0.1) sign.place_is v.reads);

@@ -1,21 +1,21 @@
 -- Numbers and texts: what is read is spelled so, and what is spelled is read.
-use Rattle.std.proofs.Common.{◌≡◌, ℕ, ◌+◌, ◌<◌, Bool, true, ◌&&◌, nat_lt, if◌then◌else◌, List, [], ◌∷◌, ◌++◌, length, Some, None, is_some, refl, sym, ◌∙◌, ap, subst, arith, append_assoc, length-append}
+use Rattle.std.proofs.Common.{◌≡◌, ℕ, ◌+◌, ◌<◌, Bool, true, ◌&&◌, nat_lt, if◌then◌else◌, List, ◌++◌, length, Some, None, is_some, refl, ◌∙◌, ap, subst, arith, append_assoc}
 use Rattle.std.specs.List.{list_all}
 use Rattle.std.specs.Int.{Width, byte_len}
 use Rattle.std.specs.Str.{is_utf8}
 use Rattle.std.proofs.lemmas.Str.{IsUtf8-from_is_utf8, is_utf8-from_IsUtf8}
 use Rattle.std.proofs.lemmas.Bool.{ltb-true, lt-ltb}
-use Rattle.std.proofs.lemmas.List.{length-replicate}
 use Rattle.std.proofs.lemmas.List.Sums.{AllPass-from_list_all, list_all-from_AllPass}
 use Rattle.wire_number.specs.declared.endian.Endian.{Endian}
-use Rattle.wire_number.specs.Number.{number_text, pad, padding}
+use Rattle.wire_number.specs.Number.{number_text, pad, padding, counted_text}
 use Rattle.wire_signature.specs.Shape.{basic_alignment}
 use Rattle.wire_signature.specs.Parsing.{types_in}
 use Rattle.wire_signature.proofs.Exact.{is_some-types_in}
 use Rattle.wire_tree.specs.Datum.{Num, byte, boolean, int16, uint16, int32, uint32, int64, uint64, double, unix_fd, Txt, string, object_path, signature, num, text, bound, num_type, text_type, IsTextOf}
-use Rattle.wire_spelling.specs.Spelling.{width_of, length_width, text_form, spelling}
-use Rattle.wire_spelling.specs.Reading.{Cursor, ◌>>=◌, bytes_at, zeros, align_at, number_at, num_at, raw_at, is_text_of, text_at}
-use Rattle.wire_spelling.proofs.Steps.{at, AreBytes, Reads, reads_then, Takes, IsNumber, IsShort, limit, bind_some, both_true, guard_some, guarded, bound_some, some_is, bytes_take, bytes_again, zeros_take, zeros_again, align_takes, align_again, number_takes, number_again, length-number_text}
+use Rattle.wire_spelling.specs.Spelling.{width_of, length_width, spelling}
+use Rattle.wire_number.specs.Reading.{Cursor, align_at, number_at, counted_at}
+use Rattle.wire_spelling.specs.Reading.{num_at, is_text_of, text_at}
+use Rattle.wire_number.proofs.Steps.{at, AreBytes, Reads, reads_then, IsNumber, IsShort, limit, bind_some, both_true, guard_some, guarded, bound_some, some_is, align_takes, align_again, number_takes, number_again, length-number_text, length-padded, IsCounted, counted_takes, counted_again}
 
 short_num : (n : Num) → IsShort (width_of n)
 short_num byte = tt
@@ -62,10 +62,6 @@ num_takes n order c y e low =
     subst (λ (y : ℕ × Cursor). IsNum n order c y) (some_is x.0 y g.1)
     (record { reads = reads_then c p.0 x.0.1 _ _ front k.reads; sound = ltb-true x.0.0 (bound n) g.0 })
 
--- padding and what stands behind it
-pub length-padded : (p boundary : ℕ) (body : List ℕ) → length (padding p boundary ++ body) ≡ pad p boundary + length body
-length-padded p boundary body = length-append (padding p boundary) body ∙ ap (λ k. k + length body) (length-replicate (pad p boundary) 0)
-
 pub num_again : (n : Num) (order : Endian) (v p : ℕ) (rest : List ℕ) → v < bound n
     → num_at n order (at p (spelling order p (num n v) ++ rest)) ≡ Some (v, at (p + length (spelling order p (num n v))) rest)
 unfolding num_at spelling
@@ -81,47 +77,11 @@ num_again n order v p rest h =
 
 -- ---- texts
 
--- bytes with their length and the 0 byte behind them
-pub record IsRaw (t : Txt) (order : Endian) (c : Cursor) (y : List ℕ × Cursor) : Type 0 where
-  pub reads : Reads c (padding c.place (basic_alignment (text_type t)) ++ text_form order t y.0) y.1
-  pub below : length y.0 < limit (length_width t)
-
-pub raw_takes : (t : Txt) (order : Endian) (c : Cursor) (y : List ℕ × Cursor) → raw_at t order c ≡ Some y → AreBytes c.rest → IsRaw t order c y
-unfolding raw_at
-raw_takes t order c y e low =
-    let p = bind_some (align_at (basic_alignment (text_type t)) c) _ y e in
-    let n = bind_some (number_at (length_width t) order p.0) _ y p.2 in
-    let x = bind_some (bytes_at n.0.0 n.0.1) _ y n.2 in
-    let z = bind_some (bytes_at 1 x.0.1 >>= zeros) (λ end. Some (x.0.0, end)) y x.2 in
-    let front : Reads c (padding c.place (basic_alignment (text_type t))) p.0 = align_takes (basic_alignment (text_type t)) c p.0 p.1 low in
-    let k : IsNumber (length_width t) order p.0 n.0 = number_takes (length_width t) order p.0 n.0 (short_text t) n.1 front.bytes in
-    let b : Takes n.0.0 n.0.1 x.0.0 x.0.1 = bytes_take n.0.0 n.0.1 x.0 x.1 k.reads.bytes in
-    let end : Reads x.0.1 (0 ∷ []) z.0 = zeros_take 1 x.0.1 z.0 z.1 b.reads.bytes in
-    let digits : Reads p.0 (number_text (length_width t) order (length x.0.0)) n.0.1 =
-    subst (λ (m : ℕ). Reads p.0 (number_text (length_width t) order m) n.0.1) (sym b.long) k.reads in
-    let body : Reads p.0 (text_form order t x.0.0) z.0 = reads_then p.0 n.0.1 z.0 _ _ digits (reads_then n.0.1 x.0.1 z.0 _ _ b.reads end) in
-    subst (λ (y : List ℕ × Cursor). IsRaw t order c y) (some_is (x.0.0, z.0) y z.2)
-    (record { reads = reads_then c p.0 z.0 _ _ front body; below = omega (arith, k.below, b.long) })
-
-pub raw_again : (t : Txt) (order : Endian) (bs : List ℕ) (p : ℕ) (rest : List ℕ) → length bs < limit (length_width t)
-    → raw_at t order (at p ((padding p (basic_alignment (text_type t)) ++ text_form order t bs) ++ rest))
-    ≡ Some (bs, at (p + length (padding p (basic_alignment (text_type t)) ++ text_form order t bs)) rest)
-unfolding raw_at
-raw_again t order bs p rest h =
-    let a : ℕ = basic_alignment (text_type t) in
-    let w : Width = length_width t in
-    let digits : List ℕ = number_text w order (length bs) in
-    let long : p + pad p a + byte_len w + length bs + 1 ≡ p + length (padding p a ++ text_form order t bs) =
-    omega (arith, length-padded p a (text_form order t bs), length-append digits (bs ++ 0 ∷ []), length-append bs (0 ∷ []), length-number_text w order (length bs)) in
-    let regrouped : (padding p a ++ text_form order t bs) ++ rest ≡ padding p a ++ (digits ++ (bs ++ (0 ∷ rest))) =
-    append_assoc (padding p a) (text_form order t bs) rest
-    ∙ ap (λ r. padding p a ++ r) (append_assoc digits (bs ++ 0 ∷ []) rest ∙ ap (λ r. digits ++ r) (append_assoc bs (0 ∷ []) rest)) in
-    ap (raw_at t order) (ap (at p) regrouped)
-    ∙ bound_some _ _ _ (align_again a p (digits ++ (bs ++ (0 ∷ rest))))
-    ∙ bound_some _ _ _ (number_again w order (length bs) (p + pad p a) (bs ++ (0 ∷ rest)) h)
-    ∙ bound_some _ _ _ (bytes_again (length bs) (p + pad p a + byte_len w) bs (0 ∷ rest) refl)
-    ∙ bound_some _ _ _ (zeros_again 1 (p + pad p a + byte_len w + length bs) rest)
-    ∙ ap (λ k. Some (bs, at k rest)) long
+-- a text begins on the boundary of its length
+pub text_boundary : (t : Txt) → byte_len (length_width t) ≡ basic_alignment (text_type t)
+text_boundary string = refl
+text_boundary object_path = refl
+text_boundary signature = refl
 
 -- a text as the test has it
 text_is : (t : Txt) (bs : List ℕ) → is_text_of t bs ≡ true → length bs < limit (length_width t) → IsTextOf t bs
@@ -152,14 +112,22 @@ pub record IsText (t : Txt) (order : Endian) (c : Cursor) (y : List ℕ × Curso
 pub text_takes : (t : Txt) (order : Endian) (c : Cursor) (y : List ℕ × Cursor) → text_at t order c ≡ Some y → AreBytes c.rest → IsText t order c y
 unfolding text_at spelling
 text_takes t order c y e low =
-    let x = bind_some (raw_at t order c) _ y e in
+    let x = bind_some (counted_at (length_width t) order c) _ y e in
     let g = guard_some (is_text_of t x.0.0) (Some x.0) y x.2 in
-    let k : IsRaw t order c x.0 = raw_takes t order c x.0 x.1 low in
+    let k : IsCounted (length_width t) order c x.0 = counted_takes (length_width t) order c x.0 (short_text t) x.1 low in
     subst (λ (y : List ℕ × Cursor). IsText t order c y) (some_is x.0 y g.1)
-    (record { reads = k.reads; sound = text_is t x.0.0 g.0 k.below })
+    (record {
+      reads = subst (λ (n : ℕ). Reads c (padding c.place n ++ counted_text (length_width t) order x.0.0) x.0.1) (text_boundary t) k.reads;
+      sound = text_is t x.0.0 g.0 k.below;
+    })
 
 pub text_again : (t : Txt) (order : Endian) (bs : List ℕ) (p : ℕ) (rest : List ℕ) → IsTextOf t bs
     → text_at t order (at p (spelling order p (text t bs) ++ rest)) ≡ Some (bs, at (p + length (spelling order p (text t bs))) rest)
 unfolding text_at spelling
 text_again t order bs p rest h =
-    bound_some _ _ _ (raw_again t order bs p rest (text_below t bs h)) ∙ guarded (is_text_of t bs) _ (is_text t bs h)
+    let w : Width = length_width t in
+    let found : counted_at w order (at p ((padding p (basic_alignment (text_type t)) ++ counted_text w order bs) ++ rest))
+    ≡ Some (bs, at (p + length (padding p (basic_alignment (text_type t)) ++ counted_text w order bs)) rest) =
+    subst (λ (n : ℕ). counted_at w order (at p ((padding p n ++ counted_text w order bs) ++ rest)) ≡ Some (bs, at (p + length (padding p n ++ counted_text w order bs)) rest))
+    (text_boundary t) (counted_again w order bs p rest (text_below t bs h)) in
+    bound_some _ _ _ found ∙ guarded (is_text_of t bs) _ (is_text t bs h)

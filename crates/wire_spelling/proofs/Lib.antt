@@ -1,4 +1,3 @@
-pub mod Steps
 pub mod LeafLaws
 pub mod FoundValues
 pub mod ReadAgain
@@ -9,3 +8,4 @@ pub mod Ascii
 pub mod WalkSame
 pub mod Exact
 pub mod Boundaries
+pub mod TypeTexts

@@ -1,5 +1,5 @@
 -- Steps of the loops over elements and fields.
-use Rattle.std.proofs.Common.{◌≡◌, ℕ, zero, suc, ◌+◌, ◌-◌, ◌<◌, ◌≤◌, false, List, [], ◌∷◌, ◌++◌, length, get_or, drop, drop-cons, add-one, Option, Some, None, is_some, refl, sym, ◌∙◌, ap, arith, option_map, append_assoc, append-nil}
+use Rattle.std.proofs.Common.{◌≡◌, ℕ, zero, suc, ◌+◌, ◌-◌, ◌<◌, ◌≤◌, List, [], ◌∷◌, ◌++◌, length, get_or, drop, drop-cons, add-one, Option, Some, None, is_some, refl, sym, ◌∙◌, ap, arith, option_map, append_assoc, append-nil}
 use Rattle.wire_signature.specs.Shape.{Shape, shapes_of}
 use Rattle.wire_signature.specs.Parsing.{past}
 use Rattle.wire_signature.specs.declared.error.VariantError.{VariantError}
@@ -7,7 +7,8 @@ use Rattle.wire_signature.specs.declared.error.VariantError.TheVariants as error
 use Rattle.wire_tree.specs.Datum.{Datum}
 use Rattle.wire_spelling.specs.ReaderView.{Refuses}
 use Rattle.wire_number.specs.declared.endian.Endian.{Endian}
-use Rattle.wire_spelling.specs.Reading.{Cursor, Parse, made, behind, ◌>>=◌, many_at, more_at, none_at, fields_at, value_step, value_at, entry_at}
+use Rattle.wire_number.specs.Reading.{Cursor, Parse, made, ◌>>=◌}
+use Rattle.wire_spelling.specs.Reading.{many_at, more_at, none_at, fields_at, value_step, value_at, entry_at}
 use Rattle.wire_spelling.specs.Walking.{Walk, walk_fields, walk_more}
 
 done_by : {A : Type 0} (n : ℕ) (read : Cursor → Parse A) (c : Cursor) (bs : List ℕ) → c.rest ≡ bs → length bs ≡ 0 → many_at n read c ≡ Some []
@@ -82,39 +83,7 @@ pub fields_out : (m : ℕ) (walk : Walk) (text : List ℕ) (c : Cursor) → m �
 unfolding walk_fields
 fields_out m walk text c k = ap (λ m. walk_fields m walk text c) k
 
--- ---- where only the end is looked at
-
-pub behind_some : {A : Type 0} (found : Parse A) (e : Cursor) → behind found ≡ Some e → (x : A) × (found ≡ Some (x, e))
-behind_some None e h = absurd (cc)
-behind_some (Some x) e h = let same : x.1 ≡ e = cc in (x.0, ap (λ k. Some (x.0, k)) same)
-
-pub behind_none : {A : Type 0} (found : Parse A) → behind found ≡ None → found ≡ None
-behind_none None h = refl
-behind_none (Some x) h = absurd (cc)
-
-pub end_next : {A : Type 0} (n m : ℕ) (read : Cursor → Parse A) (c e : Cursor) → m ≡ suc n → 0 < length c.rest → behind (read c) ≡ Some e
-    → is_some (many_at m read c) ≡ is_some (many_at n read e)
-end_next n m read c e k h f = let x = behind_some (read c) e f in some_next n m read c (x.0, e) k h x.1
-
-pub end_none : {A : Type 0} (n m : ℕ) (read : Cursor → Parse A) (c : Cursor) → m ≡ suc n → 0 < length c.rest → behind (read c) ≡ None
-    → is_some (many_at m read c) ≡ false
-end_none n m read c k h f = ap is_some (many_none n m read c k h (behind_none (read c) f))
-
 -- ---- the types of a struct's fields
-
-behind-first : (d : Datum) (found : Parse (List Datum)) → behind (made (λ ds. d ∷ ds) found) ≡ behind found
-behind-first d None = refl
-behind-first d (Some x) = refl
-
-pub types_next : (read : Shape → Cursor → Parse Datum) (ts : List Shape) (i : ℕ) (t : Shape) (c e : Cursor) → i < length ts → t ≡ get_or ts i t → behind (read t c) ≡ Some e
-    → behind (fields_at read (shapes_of (drop i ts)) c) ≡ behind (fields_at read (shapes_of (drop (i + 1) ts)) e)
-unfolding fields_at
-types_next read ts i t c e h k f =
-    let x = behind_some (read t c) e f in
-    let first : drop i ts ≡ t ∷ drop (i + 1) ts = rw add-one (drop-cons ts i t h ∙ ap (λ u. u ∷ drop (suc i) ts) (sym k)) in
-    ap (λ us. behind (fields_at read (shapes_of us) c)) first
-    ∙ ap (λ found. behind (found >>= λ x. made (λ ds. x.0 ∷ ds) (fields_at read (shapes_of (drop (i + 1) ts)) x.1))) x.1
-    ∙ behind-first x.0 (fields_at read (shapes_of (drop (i + 1) ts)) e)
 
 pub types_none : (read : Shape → Cursor → Parse Datum) (ts : List Shape) (i : ℕ) (t : Shape) (c : Cursor) → i < length ts → t ≡ get_or ts i t → read t c ≡ None
     → fields_at read (shapes_of (drop i ts)) c ≡ None

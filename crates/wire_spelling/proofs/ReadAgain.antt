@@ -1,17 +1,18 @@
 -- A value within the limits is read where its spelling stands, whatever stands behind it.
 use Rattle.std.proofs.Common.{◌≡◌, ℕ, zero, suc, ◌+◌, ◌<◌, ◌≤◌, nat_le, List, [], ◌∷◌, ◌++◌, length, replicate, Some, refl, sym, ◌∙◌, ap, subst, arith, append_assoc, length-append}
-use Rattle.std.specs.Int.{w32}
+use Rattle.std.specs.Int.{w32, w8}
 use Rattle.std.proofs.lemmas.Bool.{le-leb}
 use Rattle.wire_number.specs.declared.endian.Endian.{Endian}
-use Rattle.wire_number.specs.Number.{number_text, padding}
+use Rattle.wire_number.specs.Number.{number_text, padding, counted_text}
 use Rattle.wire_signature.specs.declared.basic.BasicType.{BasicType}
 use Rattle.wire_signature.specs.Shape.{Shape, basic, alignment, basic_alignment, IsType, TypeText, type_text, HasFields, AllHaveFields, AreFields}
 use Rattle.wire_signature.proofs.Exact.{type_in-again}
 use Rattle.wire_tree.specs.Datum.{Num, byte, boolean, int16, uint16, int32, uint32, int64, uint64, double, unix_fd, Txt, string, object_path, signature, Datum, num, text, array, dict, struct, variant, Data, no_data, items, Entries, no_entries, entry, data_of, list_of, entries_of, pairs_of, num_type, text_type, type_of, types_of, IsSound, AreSound, AreElements, AreEntries}
-use Rattle.wire_spelling.specs.Spelling.{width_of, length_width, chain, text_form, aligned, first_place, array_form, spelling, spellings, entry_spellings, depth, depths, entry_depths, ArraysFit, AllFit, EntriesFit}
-use Rattle.wire_spelling.specs.Reading.{Cursor, Parse, made, ◌>>=◌, raw_at, num_value_at, text_value_at, basic_at, many_at, elements_at, array_at, variant_at, fields_at, struct_at, pair_at, value_at, entry_at}
-use Rattle.wire_spelling.proofs.Steps.{at, guarded, bound_some, bytes_again, align_again, number_again, length-number_text}
-use Rattle.wire_spelling.proofs.LeafLaws.{num_again, text_again, raw_again, length-padded}
+use Rattle.wire_spelling.specs.Spelling.{width_of, length_width, chain, aligned, first_place, array_form, spelling, spellings, entry_spellings, depth, depths, entry_depths, ArraysFit, AllFit, EntriesFit}
+use Rattle.wire_number.specs.Reading.{Cursor, Parse, made, ◌>>=◌, counted_at}
+use Rattle.wire_spelling.specs.Reading.{num_value_at, text_value_at, basic_at, many_at, elements_at, array_at, variant_at, fields_at, struct_at, pair_at, value_at, entry_at}
+use Rattle.wire_number.proofs.Steps.{at, guarded, bound_some, bytes_again, align_again, number_again, length-number_text, length-padded, counted_again}
+use Rattle.wire_spelling.proofs.LeafLaws.{num_again, text_again}
 use Rattle.wire_spelling.proofs.FoundValues.{pad_one}
 
 data_of-list_of : (ds : Data) → data_of (list_of ds) ≡ ds
@@ -60,7 +61,7 @@ some_number uint64 order v = omega (arith, length-number_text (width_of uint64) 
 some_number double order v = omega (arith, length-number_text (width_of double) order v)
 some_number unix_fd order v = omega (arith, length-number_text (width_of unix_fd) order v)
 
-some_text : (t : Txt) (order : Endian) (bs : List ℕ) → 0 < length (text_form order t bs)
+some_text : (t : Txt) (order : Endian) (bs : List ℕ) → 0 < length (counted_text (length_width t) order bs)
 some_text t order bs =
     omega (arith, length-append (number_text (length_width t) order (length bs)) (bs ++ 0 ∷ []), length-append bs (0 ∷ []))
 
@@ -78,14 +79,14 @@ mutual
 
   pub some_spelling : (order : Endian) (p : ℕ) (d : Datum) → HasFields (type_of d) → 0 < length (spelling order p d)
   some_spelling order p (num n v) h = omega (arith, length-padded p (basic_alignment (num_type n)) (number_text (width_of n) order v), some_number n order v)
-  some_spelling order p (text t bs) h = omega (arith, length-padded p (basic_alignment (text_type t)) (text_form order t bs), some_text t order bs)
+  some_spelling order p (text t bs) h = omega (arith, length-padded p (basic_alignment (text_type t)) (counted_text (length_width t) order bs), some_text t order bs)
   some_spelling order p (array t ds) h = some_array order p (alignment t) (spellings order (first_place p (alignment t)) ds)
   some_spelling order p (dict k v es) h = some_array order p 8 (entry_spellings order (first_place p 8) es)
   some_spelling order p (struct ds) h = omega (arith, length-padded p 8 (spellings order (aligned p 8) ds), some_spellings order (aligned p 8) ds h.0 h.1)
   some_spelling order p (variant d) h =
       omega (
         arith,
-        length-append (text_form order signature (type_text (type_of d))) (spelling order (p + length (text_form order signature (type_text (type_of d)))) d),
+        length-append (counted_text w8 order (type_text (type_of d))) (spelling order (p + length (counted_text w8 order (type_text (type_of d)))) d),
         some_text signature order (type_text (type_of d)),
       )
 
@@ -166,19 +167,19 @@ pair_with read order k v p a b key value rest e f =
     bound_some _ _ _ (align_again 8 p (key ++ (value ++ rest))) ∙ bound_some _ _ _ e ∙ bound_some _ _ _ f
 
 variant_with : (read : Shape → Cursor → Parse Datum) (order : Endian) (p : ℕ) (d : Datum) (body rest : List ℕ) → IsType (type_of d)
-    → read (type_of d) (at (p + length (text_form order signature (type_text (type_of d)))) (body ++ rest))
-    ≡ Some (d, at (p + length (text_form order signature (type_text (type_of d))) + length body) rest)
-    → variant_at read order (at p ((text_form order signature (type_text (type_of d)) ++ body) ++ rest))
-    ≡ Some (variant d, at (p + length (text_form order signature (type_text (type_of d)) ++ body)) rest)
+    → read (type_of d) (at (p + length (counted_text w8 order (type_text (type_of d)))) (body ++ rest))
+    ≡ Some (d, at (p + length (counted_text w8 order (type_text (type_of d))) + length body) rest)
+    → variant_at read order (at p ((counted_text w8 order (type_text (type_of d)) ++ body) ++ rest))
+    ≡ Some (variant d, at (p + length (counted_text w8 order (type_text (type_of d)) ++ body)) rest)
 unfolding variant_at
 variant_with read order p d body rest h e =
     let t : List ℕ = type_text (type_of d) in
-    let sign : List ℕ = text_form order signature t in
+    let sign : List ℕ = counted_text w8 order t in
     let none : sign ≡ padding p 1 ++ sign = ap (λ n. replicate n 0 ++ sign) (sym (pad_one p)) in
     let spelled : TypeText (type_of d) t = record { valid = h; text = refl } in
-    let found : raw_at signature order (at p (sign ++ (body ++ rest))) ≡ Some (t, at (p + length sign) (body ++ rest)) =
-    ap (λ r. raw_at signature order (at p (r ++ (body ++ rest)))) none
-    ∙ raw_again signature order t p (body ++ rest) (omega (arith, h.within))
+    let found : counted_at w8 order (at p (sign ++ (body ++ rest))) ≡ Some (t, at (p + length sign) (body ++ rest)) =
+    ap (λ r. counted_at w8 order (at p (r ++ (body ++ rest)))) none
+    ∙ counted_again w8 order t p (body ++ rest) (omega (arith, h.within))
     ∙ ap (λ r. Some (t, at (p + length r) (body ++ rest))) (sym none) in
     ap (variant_at read order) (ap (at p) (append_assoc sign body rest))
     ∙ bound_some _ _ _ found
@@ -228,7 +229,7 @@ mutual
       ∙ ap (λ q. Some (struct ds, at q rest)) (omega (arith, length-padded p 8 body))
   value_again zero order t (variant d) p rest k s h w f = absurd (omega arith)
   value_again (suc room) order t (variant d) p rest k s h w f =
-      let q : ℕ = p + length (text_form order signature (type_text (type_of d))) in
+      let q : ℕ = p + length (counted_text w8 order (type_text (type_of d))) in
       ap (λ t. value_at (suc room) order t (at p (spelling order p (variant d) ++ rest))) (sym k)
       ∙ variant_with (value_at room order) order p d (spelling order q d) rest s.1
       (value_again room order (type_of d) d q rest refl s.0 s.1.fields (omega arith) f)

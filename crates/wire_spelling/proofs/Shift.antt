@@ -1,13 +1,13 @@
 -- A spelling depends on its place by its rest modulo 8 alone.
 use Rattle.std.proofs.Common.{◌≡◌, ℕ, ◌+◌, ◌-◌, ◌%◌, ◌≤◌, List, ◌++◌, length, replicate, refl, ◌∙◌, ap, subst, arith}
-use Rattle.std.specs.Int.{w32}
+use Rattle.std.specs.Int.{w32, w8}
 use Rattle.wire_number.specs.declared.endian.Endian.{Endian}
-use Rattle.wire_number.specs.Number.{number_text, pad, padding}
+use Rattle.wire_number.specs.Number.{number_text, pad, padding, counted_text}
 use Rattle.wire_signature.specs.declared.basic.BasicType.{BasicType}
 use Rattle.wire_signature.specs.declared.basic.BasicType.TheVariants as basics
 use Rattle.wire_signature.specs.Shape.{Shape, basic, variant as any, array as array_of, dict as dict_of, struct as struct_of, alignment, basic_alignment, type_text}
-use Rattle.wire_tree.specs.Datum.{signature, Datum, num, text, array, dict, struct, variant, Data, no_data, items, Entries, no_entries, entry, num_type, text_type, type_of}
-use Rattle.wire_spelling.specs.Spelling.{width_of, text_form, aligned, first_place, array_form, spelling, spellings, entry_spellings, ArraysFit, AllFit, EntriesFit}
+use Rattle.wire_tree.specs.Datum.{Datum, num, text, array, dict, struct, variant, Data, no_data, items, Entries, no_entries, entry, num_type, text_type, type_of}
+use Rattle.wire_spelling.specs.Spelling.{width_of, aligned, first_place, array_form, spelling, spellings, entry_spellings, ArraysFit, AllFit, EntriesFit, length_width}
 
 -- places with the same rest modulo 8
 pub record Alike (p q : ℕ) : Type 0 where
@@ -84,7 +84,7 @@ mutual
 
   pub spelling_alike : (order : Endian) (p q : ℕ) (d : Datum) → Alike p q → spelling order p d ≡ spelling order q d
   spelling_alike order p q (num n v) h = ap (λ k. replicate k 0 ++ number_text (width_of n) order v) (basic_pad (num_type n) p q h)
-  spelling_alike order p q (text t bs) h = ap (λ k. replicate k 0 ++ text_form order t bs) (basic_pad (text_type t) p q h)
+  spelling_alike order p q (text t bs) h = ap (λ k. replicate k 0 ++ counted_text (length_width t) order bs) (basic_pad (text_type t) p q h)
   spelling_alike order p q (array t ds) h =
       array_alike order p q (alignment t) _ _ h (shape_pad t _ _ (after_length p q h))
       (spellings_alike order (first_place p (alignment t)) (first_place q (alignment t)) ds (first_alike p q t h))
@@ -94,7 +94,7 @@ mutual
       ap (λ k. replicate k 0 ++ spellings order (aligned p 8) ds) (pad_8 p q h)
       ∙ ap (λ r. padding q 8 ++ r) (spellings_alike order (aligned p 8) (aligned q 8) ds (on p q 8 h (pad_8 p q h)))
   spelling_alike order p q (variant d) h =
-      let sign : List ℕ = text_form order signature (type_text (type_of d)) in
+      let sign : List ℕ = counted_text w8 order (type_text (type_of d)) in
       ap (λ r. sign ++ r) (spelling_alike order (p + length sign) (q + length sign) d (plus p q (length sign) h))
 
   pub spellings_alike : (order : Endian) (p q : ℕ) (ds : Data) → Alike p q → spellings order p ds ≡ spellings order q ds
@@ -134,7 +134,7 @@ mutual
       (subst (λ (r : List ℕ). length r ≤ 67108864) (entries_alike order _ _ es k) f.0, entries_fit_alike order _ _ es k f.1)
   fits_alike order p q (struct ds) h f = all_alike order (aligned p 8) (aligned q 8) ds (on p q 8 h (pad_8 p q h)) f
   fits_alike order p q (variant d) h f =
-      let n : ℕ = length (text_form order signature (type_text (type_of d))) in fits_alike order (p + n) (q + n) d (plus p q n h) f
+      let n : ℕ = length (counted_text w8 order (type_text (type_of d))) in fits_alike order (p + n) (q + n) d (plus p q n h) f
 
   pub all_alike : (order : Endian) (p q : ℕ) (ds : Data) → Alike p q → AllFit order p ds → AllFit order q ds
   all_alike order p q no_data h f = tt

@@ -8,9 +8,11 @@ use Rattle.wire_signature.specs.Shape.{Shape, basic, variant as any, array as ar
 use Rattle.wire_signature.specs.ShapeCode.{basic_of-letter}
 use Rattle.wire_signature.specs.Parsing.{past, type_in}
 use Rattle.wire_signature.proofs.Exact.{begins_again, type_in-takes}
-use Rattle.wire_tree.specs.Datum.{signature, Datum, array, dict, struct, variant, data_of, entries_of}
-use Rattle.wire_spelling.specs.Reading.{Cursor, Parse, made, behind, ◌>>=◌, align_at, raw_at, basic_at, more_at, none_at, many_at, elements_at, array_at, variant_at, fields_at, struct_at, pair_at, leaf_at, value_step, value_at, entry_at}
+use Rattle.wire_tree.specs.Datum.{Datum, array, dict, struct, variant, data_of, entries_of}
+use Rattle.wire_number.specs.Reading.{Cursor, Parse, made, behind, ◌>>=◌, align_at, counted_at}
+use Rattle.wire_spelling.specs.Reading.{basic_at, more_at, none_at, many_at, elements_at, array_at, variant_at, fields_at, struct_at, pair_at, leaf_at, value_step, value_at, entry_at}
 use Rattle.wire_spelling.specs.Walking.{Walk, text_boundary, walk_basic, walk_variant, walk_item, text_behind, walk_array, walk_more, walk_fields, walk_struct, walk_key, walk_pair, walk_step, walk_leaf, walk_at, entry_walk}
+use Rattle.std.specs.Int.{w8}
 
 -- a type within the limits on nesting
 pub record IsShallow (t : Shape) : Type 0 where
@@ -266,10 +268,10 @@ struct_same read walk walks ts rest c h =
 
 -- ---- variants
 
-pub variant_same : (read : Shape → Cursor → Parse Datum) (walk : Walk) (order : Endian) → IsWalk read walk
+variant_same : (read : Shape → Cursor → Parse Datum) (walk : Walk) (order : Endian) → IsWalk read walk
     → (rest : List ℕ) (c : Cursor) → walk_variant walk order rest c ≡ leaving rest (variant_at read order c)
 unfolding walk_variant variant_at
-variant_same read walk order walks rest c = by (raw_at signature order c) where
+variant_same read walk order walks rest c = by (counted_at w8 order c) where
   after_value : (found : Parse Datum) → (leaving [] found >>= λ x. Some (rest, x.1)) ≡ leaving rest (made variant found)
   after_value None = refl
   after_value (Some x) = refl
@@ -317,11 +319,3 @@ mutual
   entry_same : (room : ℕ) (order : Endian) → IsEntryWalk (entry_at room order) (entry_walk room order)
   entry_same zero order k v rest c h = refl
   entry_same (suc room) order k v rest c h = pair_same (value_at room order) (walk_at room order) order (walk_same room order) k v rest c h
-
--- a walk over a variant ends where reading it does
-pub variant_behind : (room : ℕ) (order : Endian) (rest : List ℕ) (c : Cursor) → behind (walk_variant (walk_at room order) order rest c) ≡ behind (variant_at (value_at room order) order c)
-variant_behind room order rest c =
-    ap behind (variant_same (value_at room order) (walk_at room order) order (walk_same room order) rest c)
-    ∙ behind-leaving rest (variant_at (value_at room order) order c)
-
-pub ruleset variants = variant_behind

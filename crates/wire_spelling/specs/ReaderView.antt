@@ -1,17 +1,7 @@
--- What contracts see of a reader, and of what it finds.
+-- What contracts see of a call that takes memory.
 use Rattle.std.specs.Prelude.{◌≡◌, Option, Some, None, Result, Ok, Err}
 use Rattle.wire_signature.specs.declared.error.VariantError.{VariantError}
 use Rattle.wire_signature.specs.declared.error.VariantError.TheVariants as errors
-use Rattle.wire_spelling.specs.declared.reader.Reader.{Reader}
-use Rattle.wire_spelling.specs.Reading.{Cursor}
-
-abbrev pub cursor_of : Reader → Cursor
-cursor_of r = record { place = r.place; rest = r.rest.now }
-
--- Seen by `view`, a call found what reading finds.
-abbrev pub Finds : {X Y : Type 0} → (X → Y) → Option X → Option Y → Type 0
-Finds view None found = found ≡ None
-Finds view (Some x) found = found ≡ Some (view x)
 
 -- A refusal says that nothing was found. Want of memory tells nothing.
 abbrev pub Refuses : {Y : Type 0} → VariantError → Option Y → Type 0

@@ -1,60 +1,18 @@
 -- Reading bytes from left to right: the value that stands at the front, and what stands behind it. The laws in
 -- proofs/Exact.antt tie it to the spellings of values.
-use Rattle.std.specs.Prelude.{ℕ, zero, suc, ◌+◌, ◌==◌, ◌&&◌, nat_le, nat_lt, if◌then◌else◌, Bool, List, [], ◌∷◌, length, take, drop, Option, Some, None, is_some, option_and_then, option_map}
+use Rattle.std.specs.Prelude.{ℕ, zero, suc, ◌&&◌, nat_le, nat_lt, if◌then◌else◌, Bool, List, [], ◌∷◌, length, Option, Some, None, is_some}
 use Rattle.std.specs.List.{list_all}
-use Rattle.std.specs.Int.{Width, w32, byte_len}
+use Rattle.std.specs.Int.{w8, w32}
 use Rattle.std.specs.Str.{is_utf8}
 use Rattle.wire_number.specs.declared.endian.Endian.{Endian}
-use Rattle.wire_number.specs.Number.{number, pad}
 use Rattle.wire_names.specs.Names.{is_object_path}
 use Rattle.wire_signature.specs.declared.basic.BasicType.{BasicType}
 use Rattle.wire_signature.specs.declared.basic.BasicType.TheVariants as basics
 use Rattle.wire_signature.specs.Shape.{Shape, basic, variant as any, array as array_of, dict as dict_of, struct as struct_of, Shapes, no_shapes, shapes, alignment, basic_alignment}
 use Rattle.wire_signature.specs.Parsing.{type_in, types_in}
-use Rattle.wire_tree.specs.Datum.{Num, byte, boolean, int16, uint16, int32, uint32, int64, uint64, double, unix_fd, Txt, string, object_path, signature, Datum, num, text, array, dict, struct, variant, data_of, entries_of, bound, num_type, text_type}
+use Rattle.wire_tree.specs.Datum.{Num, byte, boolean, int16, uint16, int32, uint32, int64, uint64, double, unix_fd, Txt, string, object_path, signature, Datum, num, text, array, dict, struct, variant, data_of, entries_of, bound, num_type}
 use Rattle.wire_spelling.specs.Spelling.{width_of, length_width}
-
--- a place, and the bytes from there on
-pub record Cursor : Type 0 where
-  pub place : ℕ
-  pub rest : List ℕ
-
--- what was read, and the cursor behind it
-abbrev pub Parse : Type 0 → Type 0
-Parse A = Option (A × Cursor)
-
-infixl 10 ◌>>=◌
-abbrev pub ◌>>=◌ : {A B : Type 0} → Option A → (A → Option B) → Option B
-found >>= f = option_and_then f found
-
--- what was read is made into something else
-abbrev pub made : {A B : Type 0} → (A → B) → Parse A → Parse B
-made f found = option_map (λ x. (f x.0, x.1)) found
-
--- the cursor behind what was read
-abbrev pub behind : {A : Type 0} → Parse A → Option Cursor
-behind found = option_map (λ x. x.1) found
-
--- the next so many bytes
-abbrev pub bytes_at : ℕ → Cursor → Parse (List ℕ)
-bytes_at n c =
-    if nat_le n (length c.rest) then Some (take n c.rest, record { place = c.place + n; rest = drop n c.rest }) else None
-
--- behind bytes that are all 0
-abbrev pub zeros : List ℕ × Cursor → Option Cursor
-zeros x = if list_all (λ b. b == 0) x.0 then Some x.1 else None
-
--- behind so many bytes, which are all 0
-abbrev pub zeros_at : ℕ → Cursor → Option Cursor
-zeros_at n c = bytes_at n c >>= zeros
-
--- behind the padding up to a boundary
-unfoldable pub align_at : ℕ → Cursor → Option Cursor
-align_at boundary c = zeros_at (pad c.place boundary) c
-
--- a number that begins here
-unfoldable pub number_at : Width → Endian → Cursor → Parse ℕ
-number_at w order c = made (number w order) (bytes_at (byte_len w) c)
+use Rattle.wire_number.specs.Reading.{Cursor, Parse, ◌>>=◌, made, bytes_at, align_at, number_at, counted_at}
 
 -- a number of the type, behind its padding
 unfoldable pub num_at : Num → Endian → Cursor → Parse ℕ
@@ -62,15 +20,6 @@ num_at n order c = do
   p ← align_at (basic_alignment (num_type n)) c
   x ← number_at (width_of n) order p
   if nat_lt x.0 (bound n) then Some x else None
-
--- a length and so many bytes, behind their padding, with a 0 byte at their end
-unfoldable pub raw_at : Txt → Endian → Cursor → Parse (List ℕ)
-raw_at t order c = do
-  p ← align_at (basic_alignment (text_type t)) c
-  n ← number_at (length_width t) order p
-  x ← bytes_at n.0 n.1
-  end ← zeros_at 1 x.1
-  Some (x.0, end)
 
 -- whether bytes are a text of the type
 abbrev pub is_text_of : Txt → List ℕ → Bool
@@ -81,7 +30,7 @@ is_text_of signature bytes = is_some (types_in bytes)
 -- a text of the type
 unfoldable pub text_at : Txt → Endian → Cursor → Parse (List ℕ)
 text_at t order c = do
-  x ← raw_at t order c
+  x ← counted_at (length_width t) order c
   if is_text_of t x.0 then Some x else None
 
 abbrev pub num_value_at : Num → Endian → Cursor → Parse Datum
@@ -143,7 +92,7 @@ array_at boundary read order c = do
 -- a variant: the signature of one type, and a value of it
 unfoldable pub variant_at : (Shape → Cursor → Parse Datum) → Endian → Cursor → Parse Datum
 variant_at read order c = do
-  s ← raw_at signature order c
+  s ← counted_at w8 order c
   t ← type_in s.0
   made variant (read t s.1)
 

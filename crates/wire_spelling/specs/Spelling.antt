@@ -1,8 +1,8 @@
 -- The bytes of a value (D-Bus Specification, "Marshaling (Wire Format)"). Places are counted from the message's first byte.
-use Rattle.std.specs.Prelude.{◌≡◌, ℕ, ◌+◌, ◌≤◌, max, List, [], ◌∷◌, ◌++◌, length}
+use Rattle.std.specs.Prelude.{◌≡◌, ℕ, ◌+◌, ◌≤◌, max, List, [], ◌++◌, length}
 use Rattle.std.specs.Int.{Width, w8, w16, w32, w64}
 use Rattle.wire_number.specs.declared.endian.Endian.{Endian}
-use Rattle.wire_number.specs.Number.{number_text, pad, padding}
+use Rattle.wire_number.specs.Number.{number_text, pad, padding, counted_text}
 use Rattle.wire_signature.specs.Shape.{Shape, alignment, basic_alignment, type_text}
 use Rattle.wire_tree.specs.Datum.{Num, byte, boolean, int16, uint16, int32, uint32, int64, uint64, double, unix_fd, Txt, string, object_path, signature, Datum, num, text, array, dict, struct, variant, Data, no_data, items, Entries, no_entries, entry, type_of, num_type, text_type, IsFormed}
 
@@ -33,11 +33,6 @@ length_width string = w32
 length_width object_path = w32
 length_width signature = w8
 
--- A text: its length, its bytes, and a 0 byte that the length leaves out (D-Bus Specification, "Marshaling", `STRING`,
--- `OBJECT_PATH`, `SIGNATURE`).
-abbrev pub text_form : Endian → Txt → List ℕ → List ℕ
-text_form order t bytes = number_text (length_width t) order (length bytes) ++ (bytes ++ 0 ∷ [])
-
 -- where an array's first element would begin, padding included
 abbrev pub first_place : ℕ → ℕ → ℕ
 first_place place boundary = aligned (aligned place 4 + 4) boundary
@@ -54,11 +49,11 @@ array_form order place boundary elements =
 unfoldable mutual
   pub spelling : Endian → ℕ → Datum → List ℕ
   spelling order place (num n v) = padding place (basic_alignment (num_type n)) ++ number_text (width_of n) order v
-  spelling order place (text t bytes) = padding place (basic_alignment (text_type t)) ++ text_form order t bytes
+  spelling order place (text t bytes) = padding place (basic_alignment (text_type t)) ++ counted_text (length_width t) order bytes
   spelling order place (array t ds) = array_form order place (alignment t) (spellings order (first_place place (alignment t)) ds)
   spelling order place (dict k v es) = array_form order place 8 (entry_spellings order (first_place place 8) es)
   spelling order place (struct ds) = padding place 8 ++ spellings order (aligned place 8) ds
-  spelling order place (variant d) = chain place (text_form order signature (type_text (type_of d))) (λ behind. spelling order behind d)
+  spelling order place (variant d) = chain place (counted_text w8 order (type_text (type_of d))) (λ behind. spelling order behind d)
 
   -- of values that stand one behind the other
   pub spellings : Endian → ℕ → Data → List ℕ
@@ -101,7 +96,7 @@ unfoldable mutual
   ArraysFit order place (dict k v es) =
       (length (entry_spellings order (first_place place 8) es) ≤ 67108864) × EntriesFit order (first_place place 8) es
   ArraysFit order place (struct ds) = AllFit order (aligned place 8) ds
-  ArraysFit order place (variant d) = ArraysFit order (place + length (text_form order signature (type_text (type_of d)))) d
+  ArraysFit order place (variant d) = ArraysFit order (place + length (counted_text w8 order (type_text (type_of d)))) d
 
   pub AllFit : Endian → ℕ → Data → Type 0
   AllFit order place no_data = Unit {0}

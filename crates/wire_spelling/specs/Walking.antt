@@ -5,8 +5,9 @@ use Rattle.wire_number.specs.declared.endian.Endian.{Endian}
 use Rattle.wire_signature.specs.declared.basic.BasicType.{BasicType}
 use Rattle.wire_signature.specs.Shape.{basic_alignment, basic_of}
 use Rattle.wire_signature.specs.Parsing.{past, first_length, type_in}
-use Rattle.wire_tree.specs.Datum.{signature}
-use Rattle.wire_spelling.specs.Reading.{Cursor, Parse, ◌>>=◌, made, align_at, raw_at, basic_at, array_at}
+use Rattle.wire_number.specs.Reading.{Cursor, Parse, ◌>>=◌, made, align_at, counted_at}
+use Rattle.wire_spelling.specs.Reading.{basic_at, array_at}
+use Rattle.std.specs.Int.{w8}
 
 -- The text behind a type, and the cursor behind its value: what a walk over one value leaves.
 abbrev pub Walk : Type 0
@@ -30,7 +31,7 @@ walk_basic order rest c (Some b) = made (λ _. rest) (basic_at b order c)
 -- over a variant; its own signature says what it holds
 unfoldable pub walk_variant : Walk → Endian → List ℕ → Cursor → Parse (List ℕ)
 walk_variant walk order rest c = do
-  s ← raw_at signature order c
+  s ← counted_at w8 order c
   t ← type_in s.0
   x ← walk s.0 s.1
   Some (rest, x.1)

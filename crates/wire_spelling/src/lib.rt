@@ -3,21 +3,19 @@
 #![tactic(auto)]
 
 pub use crate::laws::{no_spelling_begins_another, one_spelling, one_value};
-pub use crate::passing::boundary;
+pub use crate::nums::{boolean, byte, uint16, uint32, uint64};
 pub use crate::plain::utf8;
-pub use crate::reader::Reader;
 pub use crate::skipping::{skip, skip_by_text};
-pub use crate::taking::MAX_ARRAY_LENGTH;
+pub use crate::taking::{MAX_ARRAY_LENGTH, boundary, elements};
 pub use crate::walk::MAX_DEPTH;
+pub use crate::words::{path, signature, string};
 
 mod laws;
-mod number;
 mod nums;
-mod passing;
 mod plain;
-mod reader;
 mod single;
 mod skipping;
 mod taking;
+mod texting;
 mod walk;
 mod words;

@@ -2,13 +2,16 @@
 ghost use Rattle.std.specs.Prelude.{◌≡◌, [], ◌∷◌, ◌≤◌, is_some, length, MatchOption};
 ghost use Rattle.wire_signature.specs.Shape.{basic_of};
 ghost use Rattle.wire_signature.specs.Parsing.{past};
-ghost use Rattle.wire_spelling.specs.Reading.{basic_at, behind, many_at};
+ghost use Rattle.wire_number.specs.Reading.{behind};
+ghost use Rattle.wire_spelling.specs.Reading.{basic_at, many_at};
 ghost use Rattle.wire_spelling.specs.Walking.{entry_walk, text_behind, text_boundary, walk_array, walk_at, walk_basic, walk_fields, walk_item, walk_leaf, walk_step, walk_struct, walk_variant};
-ghost use Rattle.wire_spelling.specs.ReaderView.{Finds, cursor_of};
+ghost use Rattle.wire_number.specs.ReaderView.{Finds, cursor_of};
 
-use crate::reader::Reader;
+use crate::nums::{boolean, byte, uint16, uint32, uint64};
 use crate::single::is_type;
-use wire_number::Endian;
+use crate::taking::elements;
+use crate::words::{path, signature, string};
+use wire_number::{Endian, Reader};
 use wire_signature::{BasicType, first_type};
 
 /// The most containers that are open at once (D-Bus Specification, "Message Protocol").
@@ -50,22 +53,18 @@ fn split(text: &[u8]) -> Option<(u8, &[u8])>
 
 /// Past a value of a basic type.
 #[tactic(auto, unfolding(crate::specs::Reading::num_at))]
-pub(crate) fn past_basic<'a>(
-    order: Endian,
-    basic: BasicType,
-    reader: Reader<'a>,
-) -> Option<Reader<'a>>
+fn past_basic<'a>(order: Endian, basic: BasicType, reader: Reader<'a>) -> Option<Reader<'a>>
     ensures { Finds cursor_of result (behind (basic_at basic order (cursor_of reader.entry))) }
 {
     let after = match basic {
-        BasicType::Byte => reader.byte(order)?.1,
-        BasicType::Boolean => reader.boolean(order)?.1,
-        BasicType::Int16 | BasicType::Uint16 => reader.uint16(order)?.1,
-        BasicType::Int32 | BasicType::Uint32 | BasicType::UnixFd => reader.uint32(order)?.1,
-        BasicType::Int64 | BasicType::Uint64 | BasicType::Double => reader.uint64(order)?.1,
-        BasicType::String => reader.string(order)?.1,
-        BasicType::ObjectPath => reader.path(order)?.1,
-        BasicType::Signature => reader.signature(order)?.1,
+        BasicType::Byte => byte(order, reader)?.1,
+        BasicType::Boolean => boolean(order, reader)?.1,
+        BasicType::Int16 | BasicType::Uint16 => uint16(order, reader)?.1,
+        BasicType::Int32 | BasicType::Uint32 | BasicType::UnixFd => uint32(order, reader)?.1,
+        BasicType::Int64 | BasicType::Uint64 | BasicType::Double => uint64(order, reader)?.1,
+        BasicType::String => string(order, reader)?.1,
+        BasicType::ObjectPath => path(order, reader)?.1,
+        BasicType::Signature => signature(order, reader)?.1,
     };
     Some(after)
 }
@@ -155,7 +154,7 @@ fn walk_array<'t, 'a>(
 {
     let (_, element) = split(text)?;
     let rest = text_behind(text)?;
-    let (elements, after) = reader.elements(order, boundary_of(element))?;
+    let (elements, after) = elements(order, boundary_of(element), reader)?;
     walk_items(order, room, element, elements)?;
     Some((rest, after))
 }
@@ -258,7 +257,7 @@ fn walk_fields<'t, 'a>(
 /// Over a variant. Its own signature says what it holds.
 #[cycle(walk)]
 #[tactic(auto, unfolding(crate::specs::Walking::walk_variant))]
-pub(crate) fn walk_variant<'t, 'a>(
+fn walk_variant<'t, 'a>(
     order: Endian,
     room: usize,
     rest: &'t [u8],

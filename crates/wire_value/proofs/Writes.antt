@@ -1,19 +1,19 @@
 -- Steps of writing.
 use Rattle.std.proofs.Common.{◌≡◌, ℕ, zero, suc, ◌+◌, ◌-◌, ◌<◌, ◌≤◌, List, [], ◌∷◌, ◌++◌, length, get_or, map, take, drop, drop-cons, add-one, Result, Ok, Err, refl, sym, ◌∙◌, ap, subst, arith, append_assoc, append-nil, length-append}
-use Rattle.std.specs.Int.{w32}
+use Rattle.std.specs.Int.{w32, w8}
 use Rattle.std.proofs.lemmas.List.{take_at, drop_at}
 use Rattle.wire_number.specs.declared.endian.Endian.{Endian}
-use Rattle.wire_number.specs.Number.{number_text, pad, padding}
+use Rattle.wire_number.specs.Number.{number_text, pad, padding, counted_text}
 use Rattle.wire_signature.specs.Shape.{Shape, alignment, type_text}
 use Rattle.wire_signature.specs.declared.basic.BasicType.{BasicType}
 use Rattle.wire_tree.specs.Datum.{Datum, signature, array, struct, variant, Data, no_data, items, Entries, no_entries, entry, data_of, entries_of, type_of, IsSound, AreSound, AreElements, AreEntries}
 use Rattle.wire_tree.specs.DatumView.{datum_of, pair_of}
 use Rattle.wire_tree.specs.declared.tree.Tree.{Tree}
-use Rattle.wire_spelling.specs.Spelling.{text_form, aligned, first_place, array_form, spelling, spellings, entry_spellings, ArraysFit, AllFit, EntriesFit}
+use Rattle.wire_spelling.specs.Spelling.{aligned, first_place, array_form, spelling, spellings, entry_spellings, ArraysFit, AllFit, EntriesFit}
 use Rattle.wire_value.specs.Writing.{Refused, Wrote, Closed, ArePairsSound}
 use Rattle.wire_value.specs.declared.error.EncodeError.{EncodeError}
 use Rattle.wire_value.specs.declared.error.EncodeError.TheVariants.{Variant, ExcessData, Memory}
-use Rattle.wire_value.proofs.Appends.{length_padding}
+use Rattle.wire_number.proofs.Steps.{length_padding}
 
 -- ---- soundness of parts
 
@@ -340,13 +340,13 @@ struct_written r order shift ds old mid new e h =
     (λ k. subst (λ (n : ℕ). AllFit order n ds) start k) (λ k. subst (λ (n : ℕ). AllFit order n ds) (sym start) k) h
 
 pub variant_written : {A : Type 0} (r : Result A EncodeError) (order : Endian) (shift : ℕ) (d : Datum) (old mid new kind : List ℕ)
-    → kind ≡ type_text (type_of d) → mid ≡ old ++ text_form order signature kind
+    → kind ≡ type_text (type_of d) → mid ≡ old ++ counted_text w8 order kind
     → Wrote r (spelling order (shift + length mid) d) (ArraysFit order (shift + length mid) d) mid new
     → Wrote r (spelling order (shift + length old) (variant d)) (ArraysFit order (shift + length old) (variant d)) old new
 unfolding spelling ArraysFit
 variant_written r order shift d old mid new kind k e h =
-    let sign : List ℕ = text_form order signature (type_text (type_of d)) in
-    let f : mid ≡ old ++ sign = e ∙ ap (λ t. old ++ text_form order signature t) k in
+    let sign : List ℕ = counted_text w8 order (type_text (type_of d)) in
+    let f : mid ≡ old ++ sign = e ∙ ap (λ t. old ++ counted_text w8 order t) k in
     let start : shift + length old + length sign ≡ shift + length mid = there shift old mid sign f in
     as_whole r (spelling order (shift + length mid) d) _ (ArraysFit order (shift + length mid) d) _ old mid new
     (ap (λ r. r ++ spelling order (shift + length mid) d) f ∙ append_assoc old sign (spelling order (shift + length mid) d)

@@ -3,26 +3,27 @@ ghost use Rattle.std.specs.Prelude.{◌≡◌};
 ghost use Rattle.wire_tree.specs.Datum.{byte, boolean, int16, uint16, int32, uint32, int64, uint64, double, unix_fd, string, object_path, signature};
 ghost use Rattle.wire_tree.specs.DatumView.{datum_of};
 ghost use Rattle.wire_spelling.specs.Reading.{basic_at, num_value_at, text_value_at};
-ghost use Rattle.wire_spelling.specs.ReaderView.{Finds, Gives, cursor_of};
+ghost use Rattle.wire_number.specs.ReaderView.{Finds, cursor_of};
+ghost use Rattle.wire_spelling.specs.ReaderView.{Gives};
 
 use std::alloc::Global;
 use wire_names::Text;
-use wire_number::Endian;
+use wire_number::{Endian, Reader};
 use wire_signature::{BasicType, VariantError};
-use wire_spelling::Reader;
+use wire_spelling::{boolean, byte, path, signature, string, uint16, uint32, uint64};
 use wire_tree::Tree;
 
 fn read_byte<'a>(order: Endian, reader: Reader<'a>) -> Option<(Tree, Reader<'a>)>
     ensures { Finds (λ x. (datum_of x.0, cursor_of x.1)) result (num_value_at byte order (cursor_of reader.entry)) }
 {
-    let (number, after) = reader.byte(order)?;
+    let (number, after) = byte(order, reader)?;
     Some((Tree::U8(number), after))
 }
 
 fn read_boolean<'a>(order: Endian, reader: Reader<'a>) -> Option<(Tree, Reader<'a>)>
     ensures { Finds (λ x. (datum_of x.0, cursor_of x.1)) result (num_value_at boolean order (cursor_of reader.entry)) }
 {
-    let (flag, after) = reader.boolean(order)?;
+    let (flag, after) = boolean(order, reader)?;
     Some((Tree::Bool(flag), after))
 }
 
@@ -30,14 +31,14 @@ fn read_boolean<'a>(order: Endian, reader: Reader<'a>) -> Option<(Tree, Reader<'
 fn read_int16<'a>(order: Endian, reader: Reader<'a>) -> Option<(Tree, Reader<'a>)>
     ensures { Finds (λ x. (datum_of x.0, cursor_of x.1)) result (num_value_at int16 order (cursor_of reader.entry)) }
 {
-    let (bits, after) = reader.uint16(order)?;
+    let (bits, after) = uint16(order, reader)?;
     Some((Tree::I16(bits.cast_signed()), after))
 }
 
 fn read_uint16<'a>(order: Endian, reader: Reader<'a>) -> Option<(Tree, Reader<'a>)>
     ensures { Finds (λ x. (datum_of x.0, cursor_of x.1)) result (num_value_at uint16 order (cursor_of reader.entry)) }
 {
-    let (number, after) = reader.uint16(order)?;
+    let (number, after) = uint16(order, reader)?;
     Some((Tree::U16(number), after))
 }
 
@@ -45,14 +46,14 @@ fn read_uint16<'a>(order: Endian, reader: Reader<'a>) -> Option<(Tree, Reader<'a
 fn read_int32<'a>(order: Endian, reader: Reader<'a>) -> Option<(Tree, Reader<'a>)>
     ensures { Finds (λ x. (datum_of x.0, cursor_of x.1)) result (num_value_at int32 order (cursor_of reader.entry)) }
 {
-    let (bits, after) = reader.uint32(order)?;
+    let (bits, after) = uint32(order, reader)?;
     Some((Tree::I32(bits.cast_signed()), after))
 }
 
 fn read_uint32<'a>(order: Endian, reader: Reader<'a>) -> Option<(Tree, Reader<'a>)>
     ensures { Finds (λ x. (datum_of x.0, cursor_of x.1)) result (num_value_at uint32 order (cursor_of reader.entry)) }
 {
-    let (number, after) = reader.uint32(order)?;
+    let (number, after) = uint32(order, reader)?;
     Some((Tree::U32(number), after))
 }
 
@@ -60,14 +61,14 @@ fn read_uint32<'a>(order: Endian, reader: Reader<'a>) -> Option<(Tree, Reader<'a
 fn read_int64<'a>(order: Endian, reader: Reader<'a>) -> Option<(Tree, Reader<'a>)>
     ensures { Finds (λ x. (datum_of x.0, cursor_of x.1)) result (num_value_at int64 order (cursor_of reader.entry)) }
 {
-    let (bits, after) = reader.uint64(order)?;
+    let (bits, after) = uint64(order, reader)?;
     Some((Tree::I64(bits.cast_signed()), after))
 }
 
 fn read_uint64<'a>(order: Endian, reader: Reader<'a>) -> Option<(Tree, Reader<'a>)>
     ensures { Finds (λ x. (datum_of x.0, cursor_of x.1)) result (num_value_at uint64 order (cursor_of reader.entry)) }
 {
-    let (number, after) = reader.uint64(order)?;
+    let (number, after) = uint64(order, reader)?;
     Some((Tree::U64(number), after))
 }
 
@@ -75,7 +76,7 @@ fn read_uint64<'a>(order: Endian, reader: Reader<'a>) -> Option<(Tree, Reader<'a
 fn read_double<'a>(order: Endian, reader: Reader<'a>) -> Option<(Tree, Reader<'a>)>
     ensures { Finds (λ x. (datum_of x.0, cursor_of x.1)) result (num_value_at double order (cursor_of reader.entry)) }
 {
-    let (bits, after) = reader.uint64(order)?;
+    let (bits, after) = uint64(order, reader)?;
     Some((Tree::F64(bits), after))
 }
 
@@ -83,7 +84,7 @@ fn read_double<'a>(order: Endian, reader: Reader<'a>) -> Option<(Tree, Reader<'a
 fn read_unix_fd<'a>(order: Endian, reader: Reader<'a>) -> Option<(Tree, Reader<'a>)>
     ensures { Finds (λ x. (datum_of x.0, cursor_of x.1)) result (num_value_at unix_fd order (cursor_of reader.entry)) }
 {
-    let (index, after) = reader.uint32(order)?;
+    let (index, after) = uint32(order, reader)?;
     Some((Tree::Fd(index), after))
 }
 
@@ -94,7 +95,7 @@ fn read_string<'a>(
 ) -> Result<(Tree, Reader<'a>), VariantError>
     ensures { Gives (λ x. (datum_of x.0, cursor_of x.1)) result (text_value_at string order (cursor_of reader.entry)) }
 {
-    let (text, after) = reader.string(order).ok_or(VariantError::Malformed)?;
+    let (text, after) = string(order, reader).ok_or(VariantError::Malformed)?;
     let text = Text::from_str(alloc, text)?;
     Ok((Tree::Str(text), after))
 }
@@ -106,7 +107,7 @@ fn read_path<'a>(
 ) -> Result<(Tree, Reader<'a>), VariantError>
     ensures { Gives (λ x. (datum_of x.0, cursor_of x.1)) result (text_value_at object_path order (cursor_of reader.entry)) }
 {
-    let (text, after) = reader.path(order).ok_or(VariantError::Malformed)?;
+    let (text, after) = path(order, reader).ok_or(VariantError::Malformed)?;
     let text = Text::from_str(alloc, text)?;
     Ok((Tree::Path(text), after))
 }
@@ -118,7 +119,7 @@ fn read_signature<'a>(
 ) -> Result<(Tree, Reader<'a>), VariantError>
     ensures { Gives (λ x. (datum_of x.0, cursor_of x.1)) result (text_value_at signature order (cursor_of reader.entry)) }
 {
-    let (text, after) = reader.signature(order).ok_or(VariantError::Malformed)?;
+    let (text, after) = signature(order, reader).ok_or(VariantError::Malformed)?;
     let text = Text::from_str(alloc, text)?;
     Ok((Tree::Sig(text), after))
 }

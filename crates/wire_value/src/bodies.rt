@@ -11,7 +11,7 @@ use crate::depth::is_within;
 use crate::error::EncodeError;
 use crate::write::write_value;
 use std::alloc::Global;
-use wire_body::Body;
+use wire_body::BodyValues;
 use wire_number::Endian;
 use wire_signature::{Signature, VariantError};
 use wire_spelling::MAX_DEPTH;
@@ -31,7 +31,7 @@ fn are_shallow(values: &[Value]) -> bool
 
 /// Whether no more than 64 containers are open at once in each value of a body, so that its bytes are a body's (D-Bus
 /// Specification, "Message Format", "Marshaling (Wire Format)"). Takes no memory.
-pub fn is_shallow(body: &Body) -> bool
+pub fn is_shallow(body: &BodyValues) -> bool
     ensures { IsTrue result ↔ (depths (data_of body.now) ≤ 64) }
 {
     are_shallow(body.values())
@@ -62,7 +62,7 @@ fn write_each(
 /// [`EncodeError::Variant`] of `Depth` exactly where more than 64 containers are open at once in a value.
 /// [`EncodeError::ExcessData`] exactly where no such depth is there and the elements of an array take more than
 /// 67,108,864 bytes. [`EncodeError::Memory`] for want of memory.
-pub fn encode_body(alloc: Global, order: Endian, body: &Body) -> Result<Vec<u8>, EncodeError>
+pub fn encode_body(alloc: Global, order: Endian, body: &BodyValues) -> Result<Vec<u8>, EncodeError>
     ensures { EncodedAll (λ v. v.items) result order body.now }
 {
     let values = body.values();

@@ -5,9 +5,9 @@ ghost use Rattle.wire_spelling.specs.Spelling.{Spells};
 
 use crate::read::read_value;
 use std::alloc::Global;
-use wire_number::Endian;
+use wire_number::{Endian, Reader};
 use wire_signature::{ValueType, VariantError};
-use wire_spelling::{MAX_DEPTH, Reader};
+use wire_spelling::MAX_DEPTH;
 use wire_tree::Value;
 
 /// The value of the type that stands at the front of bytes, and how many bytes it takes (D-Bus Specification,

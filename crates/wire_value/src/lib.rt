@@ -7,7 +7,7 @@ pub use crate::decoding::decode;
 pub use crate::encoding::encode;
 pub use crate::error::EncodeError;
 pub use wire_body::{
-    Argument, Arguments, Array, Body, Dict, Double, Fd, FromBody, Key, ToBody, from,
+    Argument, Arguments, Array, BodyValues, Dict, Double, Fd, FromBody, Key, ToBody, from,
     there_and_back, to,
 };
 pub use wire_names::{
@@ -15,28 +15,29 @@ pub use wire_names::{
     OwnedErrorName, OwnedInterfaceName, OwnedMemberName, OwnedObjectPath, OwnedUniqueName,
     OwnedWellKnownName, Text, UniqueName, WellKnownName, only_the_bus_is_both,
 };
-pub use wire_number::{Endian, padding_for_8_bytes, padding_for_n_bytes, read_u32, write_u32};
+pub use wire_number::{
+    Endian, Reader, padding_for_8_bytes, padding_for_n_bytes, read_u32, write_u32,
+};
 pub use wire_signature::{
     BasicType, MAX_ARRAYS, MAX_LENGTH, MAX_STRUCTS, Signature, TypeNode, ValueType, VariantError,
     first_type, is_signature, one_list_of_types, one_signature_text, one_type, one_type_text,
     reading_a_signature, reading_a_type,
 };
 pub use wire_spelling::{
-    MAX_ARRAY_LENGTH, MAX_DEPTH, Reader, boundary, no_spelling_begins_another, one_spelling,
-    one_value, skip, skip_by_text, utf8,
+    MAX_ARRAY_LENGTH, MAX_DEPTH, boundary, no_spelling_begins_another, one_spelling, one_value,
+    skip, skip_by_text, utf8,
 };
 pub use wire_tree::{
     Entries, Inner, Tree, Trees, Value, equal_is_one, variants_hold_values, write_type,
 };
 
-mod append;
 mod basics;
 mod bodies;
 mod decoding;
 mod depth;
 mod encoding;
 mod error;
-mod number;
+mod opening;
 mod read;
 mod write;
 mod write_leaf;

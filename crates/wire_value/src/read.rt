@@ -4,14 +4,16 @@ ghost use Rattle.wire_signature.specs.Parsing.{type_in};
 ghost use Rattle.wire_signature.specs.Shape.{alignment, shapes_of};
 ghost use Rattle.wire_tree.specs.Datum.{array as array_datum, data_of, dict as dict_datum, entries_of, struct as struct_datum};
 ghost use Rattle.wire_tree.specs.DatumView.{datum_of, pair_of};
-ghost use Rattle.wire_spelling.specs.Reading.{array_at, entry_at, fields_at, leaf_at, made, many_at, struct_at, value_at, value_step, variant_at};
-ghost use Rattle.wire_spelling.specs.ReaderView.{Gives, cursor_of};
+ghost use Rattle.wire_number.specs.Reading.{made};
+ghost use Rattle.wire_spelling.specs.Reading.{array_at, entry_at, fields_at, leaf_at, many_at, struct_at, value_at, value_step, variant_at};
+ghost use Rattle.wire_number.specs.ReaderView.{cursor_of};
+ghost use Rattle.wire_spelling.specs.ReaderView.{Gives};
 
 use crate::basics::read_basic;
 use std::alloc::Global;
-use wire_number::Endian;
+use wire_number::{Endian, Reader};
 use wire_signature::{BasicType, TypeNode, ValueType, VariantError};
-use wire_spelling::{Reader, boundary, utf8};
+use wire_spelling::{boundary, elements, utf8};
 use wire_tree::{Entries, Inner, Tree, Trees};
 
 /// The single complete type that bytes are the text of.
@@ -110,9 +112,9 @@ fn read_array<'a>(
 ) -> Result<(Tree, Reader<'a>), VariantError>
     ensures { Gives (λ x. (datum_of x.0, cursor_of x.1)) result (made (λ ds. array_datum element.now (data_of ds)) (array_at (alignment element.now) (value_at room order element.now) order (cursor_of reader.entry))) }
 {
-    let (elements, after) = reader
-        .elements(order, boundary(element))
-        .ok_or(VariantError::Malformed)?;
+    let (elements, after) = elements(order, boundary(element), reader).ok_or(
+        VariantError::Malformed,
+    )?;
     let items = read_items(alloc, order, room, element, elements)?;
     let element = element.try_clone(alloc)?;
     Ok((Tree::Array(element, Trees::from_vec(items)), after))
@@ -159,7 +161,7 @@ fn read_dict<'a>(
 ) -> Result<(Tree, Reader<'a>), VariantError>
     ensures { Gives (λ x. (datum_of x.0, cursor_of x.1)) result (made (λ es. dict_datum key value.now (entries_of es)) (array_at 8 (entry_at room order key value.now) order (cursor_of reader.entry))) }
 {
-    let (entries, after) = reader.elements(order, 8).ok_or(VariantError::Malformed)?;
+    let (entries, after) = elements(order, 8, reader).ok_or(VariantError::Malformed)?;
     let pairs = read_entries(alloc, order, room, key, value, entries)?;
     let value = value.try_clone(alloc)?;
     Ok((Tree::Dict(key, value, Entries::from_vec(pairs)), after))

@@ -9,14 +9,14 @@ ghost use Rattle.wire_tree.specs.DatumView.{datum_of, pair_of};
 ghost use Rattle.wire_spelling.specs.Spelling.{AllFit, ArraysFit, EntriesFit, array_form, entry_spellings, first_place, spelling, spellings};
 ghost use Rattle.wire_value.specs.Writing.{ArePairsSound, Closed, Wrote};
 
-use crate::append::{append_signature, open_array, pad_to, put_u32};
 use crate::error::EncodeError;
+use crate::opening::open_array;
 use crate::write_leaf::{
     write_boolean, write_byte, write_double, write_int16, write_int32, write_int64, write_path,
     write_signature, write_string, write_uint16, write_uint32, write_uint64, write_unix_fd,
 };
 use std::alloc::Global;
-use wire_number::{Endian, padding_for_n_bytes};
+use wire_number::{Endian, append_signature, pad_to, padding_for_n_bytes, put_u32};
 use wire_signature::ValueType;
 use wire_spelling::{MAX_ARRAY_LENGTH, boundary};
 use wire_tree::{Tree, write_type};

@@ -6,11 +6,9 @@ ghost use Rattle.wire_tree.specs.Datum.{IsTextOf, boolean, byte, double, int16, 
 ghost use Rattle.wire_spelling.specs.Spelling.{ArraysFit, spelling};
 ghost use Rattle.wire_value.specs.Writing.{Wrote};
 
-use crate::append::{append, append_signature, append_text};
 use crate::error::EncodeError;
-use crate::number::{write_u16, write_u64};
 use wire_names::Text;
-use wire_number::{Endian, write_u32};
+use wire_number::{Endian, append, append_signature, append_text, write_u16, write_u32, write_u64};
 
 #[tactic(auto, using(crate::proofs::Appends::bytes_alone), unfolding(wire_spelling::specs::Spelling::spelling, wire_spelling::specs::Spelling::ArraysFit))]
 pub(crate) fn write_byte(

@@ -1,5 +1,5 @@
 use Rattle.std.proofs.Common.{arith}
-use Rattle.wire_spelling.proofs.Steps.{bytes_from}
+use Rattle.wire_number.proofs.Steps.{bytes_from}
 use Rattle.peer_route.proofs.BodyWords.{is_signature, all_read, some_left, none_read}
 use Rattle.peer_route.proofs.body_word.body_of.Goals as goal
 

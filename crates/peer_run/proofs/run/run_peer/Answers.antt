@@ -1,7 +1,7 @@
 use Rattle.std.proofs.Common.{[], ◌∷◌, ◌++◌, map, take, sym, ◌∙◌, ap, arith, refl}
 use Rattle.std.proofs.lemmas.List.{take_more, reverse-append, map_push}
 use Rattle.peer_script.specs.Script.{is_bus, name_of}
-use Rattle.peer_run.specs.Runs.{command_of}
+use Rattle.peer_script.specs.Again.{command_of}
 use Rattle.peer_run.specs.Stands.{setting_by}
 use Rattle.peer_run.proofs.Ends.{start_reads, start_writes}
 use Rattle.peer_run.proofs.run.run_peer.Goals as goal

@@ -1,7 +1,8 @@
 use Rattle.std.proofs.Common.{◌≡◌, ◌≤◌, [], map, reverse, take}
 use Rattle.peer_script.specs.Script.{is_bus, name_of}
 use Rattle.peer_run.specs.Stands.{setting_by}
-use Rattle.peer_run.specs.Runs.{Stands, command_of}
+use Rattle.peer_script.specs.Again.{command_of}
+use Rattle.peer_run.specs.Runs.{Stands}
 use Rattle.peer_run.proofs.run.run_peer.Given as goal
 
 abbrev pub invariant-loop-command : goal.invariant-loop-command

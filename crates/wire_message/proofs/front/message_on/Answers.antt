@@ -11,7 +11,7 @@ from_parts-requires c =
     let bytes = c.args.bytes.now in
     message-stands bytes _ c.args.total c.in-Some.kind c.in-Some-places_of.places c.byte_order-order.result (slice_index bytes 2) c.read_u32.result
     (λ i. omega (arith, c.type_inv.bytes i)) c.requires.length c.requires.right c.requires.there c.requires.whole
-    c.in-Some.ensures c.in-Some-places_of.ensures.found c.in-Some-places_of.ensures.spans c.in_ok-own.ensures.ok c.byte_order-order.ensures refl
+    c.in-Some.ensures c.in-Some-places_of.ensures.found c.in-Some-places_of.ensures.spans c.in_ok-own.ensures.items c.byte_order-order.ensures refl
     (c.read_u32.ensures ∙ ap (λ (o : Endian). number_at w32 o 8 bytes) c.byte_order-order.ensures)
 
 pub returns : goal.returns
@@ -19,5 +19,5 @@ returns c =
     let bytes = c.args.bytes.now in
     let inside : 16 + fields_len bytes ≤ c.args.total = omega (arith, c.requires.whole) in
     message-made bytes _ c.args.total c.in-Some.kind c.in-Some-places_of.places c.byte_order-order.result (slice_index bytes 2) c.read_u32.result
-    inside c.requires.whole c.in-Some.ensures c.in-Some-places_of.ensures.found c.in-Some-places_of.ensures.spans c.in_ok-own.ensures.ok c.byte_order-order.ensures refl
-    (c.read_u32.ensures ∙ ap (λ (o : Endian). number_at w32 o 8 bytes) c.byte_order-order.ensures) ∙ ap Ok (sym c.from_parts.ensures)
+    inside c.requires.whole c.in-Some.ensures c.in-Some-places_of.ensures.found c.in-Some-places_of.ensures.spans c.in_ok-own.ensures.items c.byte_order-order.ensures refl
+    (c.read_u32.ensures ∙ ap (λ (o : Endian). number_at w32 o 8 bytes) c.byte_order-order.ensures) ∙ ap Ok (sym c.in_ok-from_parts.ensures)

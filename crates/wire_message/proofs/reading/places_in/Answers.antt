@@ -1,22 +1,42 @@
-use Rattle.std.proofs.Common.{arith}
-use Rattle.wire_message.specs.Places.{found_value}
-use Rattle.wire_message.proofs.Stepping.{reads-first, reads-more, reads-failed, reads-all}
+use Rattle.std.proofs.Common.{◌≡◌, ◌<◌, ◌-◌, ◌+◌, length, arith}
+use Rattle.std.proofs.lemmas.Bool.Decides.{nat_tests}
+use Rattle.wire_number.specs.ReaderView.{cursor_of}
+use Rattle.wire_message.proofs.Stepping.{going-first, going-more, going-failed, going-left, going-all, held-there}
 use Rattle.wire_message.proofs.reading.places_in.Goals as goal
 
-pub loop-place-init : goal.loop-place-init
-loop-place-init c = reads-first c.args.order c.args.bytes.now c.args.end c.new-places.result c.requires.from (c.new-places.ensures.spans c.args.end) (c.new-places.ensures.none c.args.bytes.now)
+pub loop-init : goal.loop-init
+loop-init c =
+    going-first c.args.order c.args.bytes.now c.args.end _ c.new-places.result (cursor_of c.reader_of-left.result) (λ i. omega (arith, c.type_inv.bytes i)) c.requires.from c.requires.there
+    (omega arith) c.reader_of-left.ensures (c.new-places.ensures.spans c.args.end) (c.new-places.ensures.none c.args.bytes.now)
 
-pub returns-in_err-field-clause-found : goal.returns-in_err-field-clause-found
-returns-in_err-field-clause-found c =
+pub returns-then-is_empty-clause-found : goal.returns-then-is_empty-clause-found
+returns-then-is_empty-clause-found c =
+    let none : length c.loop.left.rest.now ≡ 0 = grind (arith, nat_tests) in
+    going-all _ _ _ _ _ (cursor_of c.loop.left) c.loop.invariant none
+
+pub returns-in_err-code-clause-found : goal.returns-in_err-code-clause-found
+returns-in_err-code-clause-found c =
+    let some : 0 < length c.loop.left.rest.now = grind (arith, nat_tests) in
     rw c.from_residual.ensures
-    (reads-failed c.args.order c.args.bytes.now c.loop-place.place c.args.end c.loop-place.places c.requires.there c.loop-place-test.true c.loop-place.invariant c.in_err-field.ensures.found)
+    (going-failed _ _ _ (c.args.end - 16 - (c.loop.counter + 1)) _ _ (cursor_of c.loop.left) c.loop.invariant (omega arith) some c.in_err-code.ensures)
 
-pub loop-place-preserved : goal.loop-place-preserved
-loop-place-preserved c =
-    reads-more c.args.order c.args.bytes.now c.loop-place.place c.args.end c.in_ok-field.field.next c.loop-place.places c.with_found-places.result
-    (record { code = c.in_ok-field.field.code; value = found_value c.args.bytes.now c.in_ok-field.field.value }) (λ i. omega (arith, c.type_inv.bytes i))
-    c.requires.there c.loop-place-test.true c.loop-place.invariant c.in_ok-field.ensures.found c.in_ok-field.ensures.within.1
-    (c.with_found-places.ensures.field c.args.bytes.now) (c.with_found-places.ensures.spans c.args.end c.loop-place.invariant.spans c.in_ok-field.ensures.within.2)
+pub with_found-places-requires : goal.with_found-places-requires
+with_found-places-requires c =
+    (held-there _ _ _ _ _ (cursor_of c.loop.left) (cursor_of c.in_ok-code.after) c.in_ok-code.code c.in_ok-code.held c.requires.there c.loop.invariant c.in_ok-code.ensures).0
 
-pub returns-clause-found : goal.returns-clause-found
-returns-clause-found c = reads-all c.args.order c.args.bytes.now c.loop-place.place c.args.end c.loop-place.places c.loop-place-test.false c.loop-place.invariant
+pub loop-preserved : goal.loop-preserved
+loop-preserved c =
+    let some : 0 < length c.loop.left.rest.now = grind (arith, nat_tests) in
+    let held = held-there _ _ _ _ _ (cursor_of c.loop.left) (cursor_of c.in_ok-code.after) c.in_ok-code.code c.in_ok-code.held c.requires.there c.loop.invariant c.in_ok-code.ensures in
+    going-more _ _ _ (c.args.end - 16 - (c.loop.counter + 1)) _ _ _ (cursor_of c.loop.left) _ c.loop.invariant (omega arith) some c.in_ok-code.ensures
+    (c.with_found-places.ensures.field c.args.bytes.now held.1) (c.with_found-places.ensures.spans c.args.end c.loop.invariant.spans held.2)
+
+pub returns-then-is_empty-2-clause-found : goal.returns-then-is_empty-2-clause-found
+returns-then-is_empty-2-clause-found c =
+    let none : length c.loop.left.rest.now ≡ 0 = grind (arith, nat_tests) in
+    going-all _ _ _ _ _ (cursor_of c.loop.left) c.loop.invariant none
+
+pub returns-else-is_empty-2-clause-found : goal.returns-else-is_empty-2-clause-found
+returns-else-is_empty-2-clause-found c =
+    let some : 0 < length c.loop.left.rest.now = grind (arith, nat_tests) in
+    going-left _ _ _ _ _ (cursor_of c.loop.left) c.loop.invariant (omega arith) some

@@ -1,9 +1,7 @@
 use Rattle.std.proofs.Common.{◌-◌}
-use Rattle.wire_message.proofs.Stepping.{Reads}
+use Rattle.wire_number.specs.ReaderView.{cursor_of}
+use Rattle.wire_message.proofs.Stepping.{Going}
 use Rattle.wire_message.proofs.reading.places_in.Given as goal
 
-abbrev pub invariant-loop-place : goal.invariant-loop-place
-invariant-loop-place l = Reads l.order l.bytes l.place l.end l.places
-
-abbrev pub decreases-loop-place : goal.decreases-loop-place
-decreases-loop-place l = l.end - l.place
+abbrev pub invariant-loop : goal.invariant-loop
+invariant-loop l = Going l.order l.bytes l.fn.end (l.fn.end - 16 - l.counter) l.places (cursor_of l.left)

@@ -1,6 +1,6 @@
 use Rattle.std.proofs.Common.{arith}
-use Rattle.wire_spelling.specs.ReaderView.{cursor_of}
-use Rattle.wire_spelling.proofs.Steps.{bytes_from}
+use Rattle.wire_number.specs.ReaderView.{cursor_of}
+use Rattle.wire_number.proofs.Steps.{bytes_from}
 use Rattle.wire_spelling.proofs.Exact.{first_is_type, long_first, no_first, spells_type, walked_from, walked_nothing}
 use Rattle.wire_spelling.proofs.skipping.skip_by_text.Goals as goal
 

@@ -1,6 +1,6 @@
 use Rattle.std.proofs.Common.{◌≡◌, ◌<◌, ◌+◌, ◌-◌, length, is_some, arith, sym, ◌∙◌, ap}
 use Rattle.std.proofs.lemmas.Bool.Decides.{nat_tests}
-use Rattle.wire_spelling.specs.ReaderView.{cursor_of}
+use Rattle.wire_number.specs.ReaderView.{cursor_of}
 use Rattle.wire_spelling.proofs.Loops.{many_done, many_left, many_none, some_next, fields_end, fields_next, fields_none, fields_out}
 use Rattle.wire_spelling.proofs.walk.+walk.Goals as goal
 

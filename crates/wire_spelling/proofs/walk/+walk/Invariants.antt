@@ -2,7 +2,7 @@ use Rattle.std.proofs.Common.{◌≡◌, ◌+◌, length, ◌-◌, ◌*◌, is_s
 use Rattle.wire_signature.specs.Parsing.{past}
 use Rattle.wire_spelling.specs.Reading.{many_at}
 use Rattle.wire_spelling.specs.Walking.{entry_walk, walk_at, walk_fields, walk_item}
-use Rattle.wire_spelling.specs.ReaderView.{cursor_of}
+use Rattle.wire_number.specs.ReaderView.{cursor_of}
 use Rattle.wire_spelling.proofs.walk.+walk.Given as goal
 
 abbrev pub decreases-walk_value : goal.decreases-walk_value

@@ -1,8 +1,8 @@
 use Rattle.std.proofs.Common.{arith}
 use Rattle.std.proofs.lemmas.Result.{err_from_is_err_and}
 use Rattle.wire_tree.specs.DatumView.{datum_of}
-use Rattle.wire_spelling.specs.ReaderView.{cursor_of}
-use Rattle.wire_spelling.proofs.Steps.{bytes_from}
+use Rattle.wire_number.specs.ReaderView.{cursor_of}
+use Rattle.wire_number.proofs.Steps.{bytes_from}
 use Rattle.wire_spelling.proofs.Exact.{decoded_from, explained_from}
 use Rattle.wire_value.proofs.decoding.decode.Goals as goal
 

@@ -3,7 +3,7 @@ use Rattle.std.proofs.lemmas.Bool.Decides.{nat_tests}
 use Rattle.std.proofs.lemmas.List.{map-append}
 use Rattle.std.proofs.lemmas.Result.{err_from_is_err_and}
 use Rattle.wire_spelling.specs.Reading.{value_at, entry_at}
-use Rattle.wire_spelling.specs.ReaderView.{cursor_of}
+use Rattle.wire_number.specs.ReaderView.{cursor_of}
 use Rattle.wire_spelling.proofs.Loops.{joined_end, joined_more, joined_none, joined_left, joined_field, joined_done, joined_fields, types_none, refuses_as, value_in_room}
 use Rattle.wire_value.proofs.read.+read.Goals as goal
 

@@ -2,7 +2,7 @@ use Rattle.std.proofs.Common.{◌≡◌, ◌+◌, length, drop, map, ◌-◌, �
 use Rattle.wire_signature.specs.Shape.{shapes_of}
 use Rattle.wire_tree.specs.DatumView.{datum_of, pair_of}
 use Rattle.wire_spelling.specs.Reading.{entry_at, fields_at, many_at, value_at}
-use Rattle.wire_spelling.specs.ReaderView.{cursor_of}
+use Rattle.wire_number.specs.ReaderView.{cursor_of}
 use Rattle.wire_spelling.proofs.Loops.{joined, joined_fields}
 use Rattle.wire_value.proofs.read.+read.Given as goal
 

@@ -1,7 +1,7 @@
 use Rattle.std.proofs.Common.{◌≡◌, ◌∙◌, sym, ap, length, ◌<◌, arith}
 use Rattle.std.proofs.lemmas.Bool.Decides.{nat_tests}
 use Rattle.std.proofs.lemmas.Bool.{false≢true}
-use Rattle.wire_spelling.specs.ReaderView.{cursor_of}
+use Rattle.wire_number.specs.ReaderView.{cursor_of}
 use Rattle.rule_arguments.proofs.Steps.{shorter, before_next, behind_next, none_left, left_end, end_left, nothing_long}
 use Rattle.rule_arguments.proofs.wanted.WantedArguments.pass_all.Goals as goal
 

@@ -1,6 +1,6 @@
 use Rattle.std.proofs.Common.{◌+◌, ◌≤◌, length}
-use Rattle.wire_spelling.specs.ReaderView.{cursor_of}
-use Rattle.wire_spelling.proofs.Steps.{at}
+use Rattle.wire_number.specs.ReaderView.{cursor_of}
+use Rattle.wire_number.proofs.Steps.{at}
 use Rattle.rule_arguments.specs.Passing.{Left}
 use Rattle.rule_arguments.proofs.wanted.WantedArguments.pass_all.Given as goal
 

@@ -1,7 +1,7 @@
 use Rattle.std.proofs.Common.{◌≡◌, ◌∙◌, ◌∷◌, ap}
 use Rattle.wire_signature.specs.Shape.{basic}
 use Rattle.wire_signature.specs.declared.basic.BasicType.TheVariants as basics
-use Rattle.wire_spelling.specs.ReaderView.{cursor_of}
+use Rattle.wire_number.specs.ReaderView.{cursor_of}
 use Rattle.rule_arguments.proofs.Values.{basic_type}
 use Rattle.rule_arguments.proofs.Steps.{none_as, none_without}
 use Rattle.rule_arguments.proofs.wanted.WantedArguments.past_next.Goals as goal

@@ -1,5 +1,5 @@
 use Rattle.std.proofs.Common.{◌≡◌, ◌∙◌, sym, true, false, rules}
-use Rattle.wire_spelling.specs.ReaderView.{cursor_of}
+use Rattle.wire_number.specs.ReaderView.{cursor_of}
 use Rattle.rule_arguments.proofs.Values.{no_type, other_passes, other_fails}
 use Rattle.rule_arguments.proofs.wanted.WantedArguments.past_other.Goals as goal
 

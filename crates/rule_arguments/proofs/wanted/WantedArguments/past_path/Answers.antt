@@ -1,7 +1,7 @@
 use Rattle.std.proofs.Common.{◌∙◌, sym}
 use Rattle.wire_tree.specs.Datum.{object_path}
-use Rattle.wire_spelling.specs.ReaderView.{cursor_of}
-use Rattle.wire_spelling.proofs.Steps.{bytes_from}
+use Rattle.wire_number.specs.ReaderView.{cursor_of}
+use Rattle.wire_number.proofs.Steps.{bytes_from}
 use Rattle.rule_arguments.proofs.Values.{text_passes, text_fails, no_text}
 use Rattle.rule_arguments.proofs.wanted.WantedArguments.past_path.Goals as goal
 

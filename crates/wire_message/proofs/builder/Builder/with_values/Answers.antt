@@ -16,5 +16,5 @@ pub returns-clause-made : goal.returns-clause-made
 returns-clause-made c =
     let bytes = moved (AreBytes c.in_ok-bytes.bytes.items) _ c.args.self.order _ c.args.body.now (ap (λ (d : Draft). d.order) c.self.view_is) refl c.in_ok-bytes.ensures in
     let same = signed-is c.args.self c.with_signature-builder.result _ _ _ _ c.with_signature-builder.ensures c.field_of-field.ensures.text c.signature-signature.ensures.types refl in
-    values-told c.args.self c.with_signature-builder.result c.args.serial c.args.body.now c.as_slice.result.now c.with_serial.result same (c.as_slice.ensures.value ∙ bytes.0)
+    values-told c.args.self c.with_signature-builder.result c.args.serial c.args.body.now c.as_slice.result.now c.args.fds.now c.with_serial.result same (c.as_slice.ensures.value ∙ bytes.0)
     (bytes.1, bytes.2) c.with_serial.ensures.made

@@ -1,4 +1,4 @@
-use Rattle.wire_names.proofs.Ascii.{bus_is_utf8}
+use Rattle.wire_names.specs.Ascii.{bus_is_utf8}
 use Rattle.wire_names.proofs.bus.BusName.try_from_bytes.Goals as goal
 
 pub returns-in-Err-clause-value : goal.returns-in-Err-clause-value

@@ -1,0 +1,51 @@
+use std::alloc::Global;
+use wire_body::{BodyValues, to};
+use wire_names::Text;
+use wire_number::Endian;
+use wire_signature::VariantError;
+use wire_value::{decode_body, encode_body, is_shallow};
+
+/// Worked by hand from the D-Bus Specification, "Marshaling (Wire Format)": a string of seven bytes, then a number on the next
+/// multiple of 4; in little order, then in big order.
+const LITTLE: &[u8] = b"\x07\0\0\0kaboom!\0\x20\0\0\0";
+
+const BIG: &[u8] = b"\0\0\0\x07kaboom!\0\0\0\0\x20";
+
+fn sample(alloc: Global) -> Result<BodyValues, VariantError> {
+    to(alloc, (Text::from_str(alloc, "kaboom!")?, 32i32))
+}
+
+/// Whether the body is written as these bytes.
+fn is_written(alloc: Global, order: Endian, body: &BodyValues, bytes: &[u8]) -> bool {
+    match encode_body(alloc, order, body) {
+        Ok(written) => written.as_slice() == bytes,
+        Err(_) => false,
+    }
+}
+
+/// Whether the bytes, all of them, are read as the body's values.
+fn is_read(alloc: Global, order: Endian, body: &BodyValues, bytes: &[u8]) -> bool {
+    match decode_body(alloc, order, body.signature(), bytes) {
+        Ok((values, count)) => values.as_slice() == body.values() && count == bytes.len(),
+        Err(_) => false,
+    }
+}
+
+fn holds(alloc: Global, order: Endian, body: &BodyValues, bytes: &[u8]) -> bool {
+    is_written(alloc, order, body, bytes) && is_read(alloc, order, body, bytes)
+}
+
+fn holds_in_both_orders(alloc: Global, body: &BodyValues) -> bool {
+    is_shallow(body)
+        && holds(alloc, Endian::Little, body, LITTLE)
+        && holds(alloc, Endian::Big, body, BIG)
+}
+
+fn sample_holds(alloc: Global) -> Result<bool, VariantError> {
+    Ok(holds_in_both_orders(alloc, &sample(alloc)?))
+}
+
+#[test]
+fn arguments_as_bytes(rt: HostRuntime) {
+    assert!(rt; sample_holds(rt.alloc()) == Ok(true));
+}

@@ -1,0 +1,36 @@
+//! Errors that are copied.
+use crate::support::holds;
+use std::alloc::Global;
+use wire_message::fdo::{self, Kind, StandardError};
+use wire_message::{ClosingError, Error, Result, each_error_is_itself, equal_errors_are_the_same};
+use wire_value::Text;
+
+fn failed(alloc: Global) -> Result<fdo::Error> {
+    let text = Text::from_str(alloc, "x")?;
+    let kind = Kind::Failed;
+    Ok(fdo::Error::Std(StandardError { kind, text }))
+}
+
+/// A copy of the error, given by a method, is equal to it.
+fn copy_is_equal(alloc: Global, error: &fdo::Error) -> Result<bool> {
+    let copy = error.try_clone(alloc)?;
+    Ok(copy == *error)
+}
+
+fn copies_are_equal(alloc: Global) -> Result<bool> {
+    copy_is_equal(alloc, &failed(alloc)?)
+}
+
+/// Whether an error that closes a peer is given again.
+fn closes_as(error: &Error) -> bool {
+    match ClosingError::of(error) {
+        Some(closing) => equal_errors_are_the_same(&Error::from(closing), error),
+        None => false,
+    }
+}
+
+#[test]
+fn errors_are_copied(rt: HostRuntime) {
+    each_error_is_itself();
+    assert!(rt; holds(copies_are_equal(rt.alloc())) && closes_as(&Error::ExcessData));
+}

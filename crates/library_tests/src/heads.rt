@@ -1,0 +1,24 @@
+//! Heads of messages. The bytes are worked by hand from the D-Bus Specification, "Message Format".
+use wire_message::{one_message, total_of};
+
+/// Heads with a body of 3 bytes and a byte of fields, in either order, and one of a message of the greatest length.
+const HEADS: [([u8; 16], u32); 3] = [
+    ([b'l', 2, 0, 1, 3, 0, 0, 0, 1, 0, 0, 0, 1, 0, 0, 0], 27),
+    ([b'B', 2, 0, 1, 0, 0, 0, 3, 0, 0, 0, 1, 0, 0, 0, 1], 27),
+    (
+        [b'l', 1, 0, 1, 240, 255, 255, 7, 1, 0, 0, 0, 0, 0, 0, 0],
+        134_217_728,
+    ),
+];
+
+fn has_total(head: &[u8; 16], total: u32) -> bool {
+    matches!(&total_of(head), Ok(found) if *found == total)
+}
+
+#[test]
+fn totals_are_told(rt: HostRuntime) {
+    one_message();
+    for (head, total) in &HEADS {
+        assert!(rt; has_total(head, *total), "{head:?}");
+    }
+}

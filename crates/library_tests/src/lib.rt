@@ -1,0 +1,48 @@
+//! Tests of the library's crates, from names to the peer's core: each call that takes memory or may be refused once, against bytes
+//! worked by hand. Beside them stand the rows of `row_tests`: what is read of texts and bytes, refused, printed and built anew.
+#![tactic(auto)]
+
+#[cfg(test)]
+mod answers;
+#[cfg(test)]
+mod arguments;
+#[cfg(test)]
+mod bodies;
+#[cfg(test)]
+mod building;
+#[cfg(test)]
+mod channels;
+#[cfg(test)]
+mod errors;
+#[cfg(test)]
+mod heads;
+#[cfg(test)]
+mod memory;
+#[cfg(test)]
+mod message_bodies;
+#[cfg(test)]
+mod names;
+#[cfg(test)]
+mod peer;
+#[cfg(test)]
+mod peer_bus;
+#[cfg(test)]
+mod peer_calls;
+#[cfg(test)]
+mod peer_laws;
+#[cfg(test)]
+mod peer_streams;
+#[cfg(test)]
+mod peer_words;
+#[cfg(test)]
+mod replies;
+#[cfg(test)]
+mod signatures;
+#[cfg(test)]
+mod streams;
+#[cfg(test)]
+mod support;
+#[cfg(test)]
+mod texts;
+#[cfg(test)]
+mod trees;

@@ -1,0 +1,241 @@
+//! What the tests ask, each in a function of its own: what a function lets go has to be proved let go in each place where it ends.
+ghost use Rattle.std.specs.Prelude.{ℕ, ◌<◌, ◌^◌, length, IfOk};
+ghost use Rattle.std.specs.List.{AllByRecursion};
+
+use peer_route::{Issued, Letter, MessageStream, Opens, PendingMethodCalls, Polled, Route, Spent};
+use rule_match::OwnedMatchRule;
+use std::alloc::Global;
+use wire_body::BodyValues;
+use wire_message::{Builder, Error, IoKind, Message, Result, Taken, header_front};
+use wire_names::{InterfaceName, MemberName, ObjectPath, OwnedUniqueName};
+
+/// A method return with serial 1 that answers serial 1 (D-Bus Specification, "Message Format").
+const RETURN: [u8; 24] = [
+    108, 2, 0, 1, 0, 0, 0, 0, 1, 0, 0, 0, 8, 0, 0, 0, 5, 1, 117, 0, 1, 0, 0, 0,
+];
+
+/// The return, at this position.
+fn reply(alloc: Global, position: u64) -> Result<Message> {
+    let (message, _) = header_front(alloc, &RETURN)?;
+    Ok(message.at(position))
+}
+
+/// The message arrives, where the peer takes one and its position comes next; else it doesn't.
+fn comes(route: &mut Route, message: Message) -> bool {
+    if route.closing().is_some() || route.busy() {
+        return false;
+    }
+    let received = route.received();
+    if received > 1000 || message.recv_position() != received + 1 {
+        return false;
+    }
+    route.arrive(message).is_ok()
+}
+
+/// The return arrives at this position.
+pub(crate) fn arrives(route: &mut Route, alloc: Global, position: u64) -> bool {
+    match reply(alloc, position) {
+        Ok(message) => comes(route, message),
+        Err(_) => false,
+    }
+}
+
+/// Whether the return, at position 1, goes to a call.
+pub(crate) fn goes_to_a_call(calls: &mut PendingMethodCalls, alloc: Global) -> bool {
+    match reply(alloc, 1) {
+        Ok(message) => calls.complete_call(message).is_none(),
+        Err(_) => false,
+    }
+}
+
+/// Makes the call whose message has this serial, where the serial is free: whether it has this number.
+pub(crate) fn registers(calls: &mut PendingMethodCalls, serial: u32, number: u64) -> bool {
+    if serial == 0 || calls.taken(serial) {
+        return false;
+    }
+    calls.register_call(serial).ok() == Some(number)
+}
+
+/// The letter of a message without values.
+fn letter<'a>(alloc: Global, builder: Builder<'a>) -> Result<Letter<'a>>
+    ensures few { IfOk result (λ letter. length letter.fds < 2 ^ 32) }
+{
+    Ok(Letter {
+        builder,
+        body: BodyValues::from_values(alloc, Vec::new(alloc))?,
+        fds: Vec::new(alloc),
+    })
+}
+
+/// The method call of `do` at `/`.
+fn call(alloc: Global) -> Result<Letter<'static>>
+    ensures few { IfOk result (λ letter. length letter.fds < 2 ^ 32) }
+{
+    let path = ObjectPath::try_from("/")?;
+    let member = MemberName::try_from("do")?;
+    letter(alloc, Message::method_call(&path, &member))
+}
+
+/// The signal `do` of `a.b` from `/`.
+fn signal(alloc: Global) -> Result<Letter<'static>>
+    ensures few { IfOk result (λ letter. length letter.fds < 2 ^ 32) }
+{
+    let path = ObjectPath::try_from("/")?;
+    let interface = InterfaceName::try_from("a.b")?;
+    let member = MemberName::try_from("do")?;
+    letter(alloc, Message::signal(&path, &interface, &member))
+}
+
+/// The list of one letter.
+fn list_of(alloc: Global, letter: Letter<'static>) -> Result<Vec<Letter<'static>>>
+    requires { length letter.fds < 2 ^ 32 }
+    ensures few { IfOk result (λ list. AllByRecursion (λ p. length p.fds < 2 ^ 32) list.items) }
+{
+    let mut list = Vec::new(alloc);
+    list.push(letter)?;
+    Ok(list)
+}
+
+/// The call, and a signal behind it.
+fn call_and_signal(alloc: Global) -> Result<Vec<Letter<'static>>>
+    ensures few { IfOk result (λ list. AllByRecursion (λ p. length p.fds < 2 ^ 32) list.items) }
+{
+    let mut list = list_of(alloc, call(alloc)?)?;
+    list.push(signal(alloc)?)?;
+    Ok(list)
+}
+
+/// Issues the method call: whether it is put so.
+pub(crate) fn calls_as(route: &mut Route, alloc: Global, wanted: Issued) -> Result<bool> {
+    let issued = route.issue(list_of(alloc, call(alloc)?)?, false)?;
+    Ok(issued.as_slice() == [wanted].as_slice())
+}
+
+/// Issues the call and the signal: whether they are put so.
+pub(crate) fn calls_and_signals(
+    route: &mut Route,
+    alloc: Global,
+    wanted: &[Issued],
+) -> Result<bool> {
+    let issued = route.issue(call_and_signal(alloc)?, false)?;
+    Ok(issued.as_slice() == wanted)
+}
+
+/// Whether the message at this place in the outbox has these bytes.
+pub(crate) fn holds(route: &Route, index: u64, bytes: &[u8]) -> bool {
+    match route.outbox(index) {
+        Some(message) => message.data() == bytes,
+        None => false,
+    }
+}
+
+/// Writes the first message, which isn't written yet.
+pub(crate) fn writes(route: &mut Route) -> bool {
+    if route.outbox_done() != 0 || route.outbox_len() == 0 || route.is_failed() {
+        return false;
+    }
+    route.wrote(0);
+    route.outbox_done() == 1 && !route.is_failed()
+}
+
+/// The write of the first message, which isn't written yet, fails.
+pub(crate) fn fails(route: &mut Route) -> bool {
+    if route.outbox_done() != 0 || route.outbox_len() == 0 {
+        return false;
+    }
+    route.write_fault(0);
+    route.outbox_done() == 1 && route.is_failed()
+}
+
+/// Whether the answer is the message with this position.
+pub(crate) fn gives(answer: Result<Polled<Message>>, position: u64) -> bool {
+    match &answer {
+        Ok(Polled::Now(message)) => message.recv_position() == position,
+        _ => false,
+    }
+}
+
+/// Whether there is nothing yet.
+pub(crate) fn gives_nothing(answer: Result<Polled<Message>>) -> bool {
+    matches!(&answer, Ok(Polled::NotYet))
+}
+
+/// Whether there is nothing yet, by position.
+pub(crate) fn gives_none_before(answer: Result<Polled<Message>>) -> bool {
+    matches!(&answer, Ok(Polled::NoneBefore))
+}
+
+/// Whether it is the error of a peer that was closed.
+pub(crate) fn gives_closing(answer: Result<Polled<Message>>) -> bool {
+    match &answer {
+        Ok(Polled::Closed(error)) => is_closed(error),
+        _ => false,
+    }
+}
+
+/// Whether there is no more.
+pub(crate) fn gives_the_end(answer: Result<Polled<Message>>) -> bool {
+    matches!(&answer, Ok(Polled::Ended))
+}
+
+fn is_closed(error: &Error) -> bool {
+    matches!(error, Error::InputOutput(IoKind::Closed))
+}
+
+/// Whether a peer was closed by `close`.
+pub(crate) fn is_shut(closing: Option<Error>) -> bool {
+    match &closing {
+        Some(error) => is_closed(error),
+        None => false,
+    }
+}
+
+/// Opens a stream of all messages.
+pub(crate) fn open(route: &mut Route) -> Option<MessageStream> {
+    route.open().ok()
+}
+
+/// Opens a stream of the rule that a text is, with a capacity that is asked for, or none.
+pub(crate) fn open_rule(
+    route: &mut Route,
+    alloc: Global,
+    text: &str,
+    asked: Option<u64>,
+) -> Result<Opens> {
+    let rule = OwnedMatchRule::try_from(alloc, text)?;
+    route.open_rule(rule, asked)
+}
+
+/// The same where it is open at once.
+pub(crate) fn open_at_once(
+    route: &mut Route,
+    alloc: Global,
+    text: &str,
+    asked: Option<u64>,
+) -> Option<MessageStream> {
+    match open_rule(route, alloc, text, asked) {
+        Ok(Opens::Open(stream)) => Some(stream),
+        _ => None,
+    }
+}
+
+/// Closes a stream, or two in one step: whether the last RemoveMatch has this serial, or none is put.
+pub(crate) fn closes(
+    route: &mut Route,
+    stream: MessageStream,
+    second: Option<MessageStream>,
+    serial: Option<u32>,
+) -> bool {
+    match route.close_stream(stream, second) {
+        Spent::Gone(last) => last == serial,
+        Spent::Back(_, _, _) | Spent::Over(_) => false,
+    }
+}
+
+/// Gives the peer that name; whether it had none.
+pub(crate) fn named(route: &mut Route, alloc: Global, name: &str) -> bool {
+    match OwnedUniqueName::try_from(alloc, name) {
+        Ok(name) => route.set_unique_name(name),
+        Err(_) => false,
+    }
+}

@@ -1,0 +1,57 @@
+//! Signatures and types: their calls, and texts of great length.
+use std::alloc::{AllocError, Global};
+use wire_signature::{
+    Signature, TypeNode, ValueType, VariantError, first_type, is_signature, one_list_of_types,
+    one_signature_text, one_type, one_type_text, reading_a_signature, reading_a_type,
+};
+
+/// A million times the same, and `y`.
+fn million(alloc: Global, open: u8) -> Result<String, AllocError> {
+    let mut text = String::new(alloc);
+    for _ in 0..1_000_000 {
+        text.push(char::from(open))?;
+    }
+    text.push('y')?;
+    Ok(text)
+}
+
+/// Whether as many arrays or structs in one another are refused: the calls go no deeper than the limits, however long the
+/// text is.
+fn are_refused(alloc: Global, open: u8) -> Result<bool, AllocError> {
+    let text = million(alloc, open)?;
+    Ok(
+        !is_signature(text.as_bytes())
+            && first_type(text.as_bytes()).is_none()
+            && Signature::try_from(alloc, text.as_str()).is_err(),
+    )
+}
+
+#[test]
+fn a_megabyte_passes_the_limits(rt: HostRuntime) {
+    for open in [b'a', b'('] {
+        assert!(rt; are_refused(rt.alloc(), open) == Ok(true));
+    }
+}
+
+fn signature(alloc: Global) -> Result<bool, VariantError> {
+    let signature = Signature::try_from(alloc, "sv")?.try_clone(alloc)?;
+    Ok(signature.types().len() == 2 && signature.to_text(alloc)?.as_str() == "sv")
+}
+
+fn array(alloc: Global) -> Result<bool, VariantError> {
+    let array = ValueType::try_from(alloc, "a(ys)")?.try_clone(alloc)?;
+    Ok(matches!(array.node(), TypeNode::Array(_)) && array.to_text(alloc)?.as_str() == "a(ys)")
+}
+
+#[test]
+fn calls_of_signatures_and_types(rt: HostRuntime) {
+    one_list_of_types();
+    one_signature_text();
+    one_type();
+    one_type_text();
+    reading_a_signature();
+    reading_a_type();
+    for answer in [signature(rt.alloc()), array(rt.alloc())] {
+        assert!(rt; answer == Ok(true));
+    }
+}

@@ -1,0 +1,163 @@
+//! Values as trees (D-Bus Specification, "Type System").
+use std::alloc::{AllocError, Global};
+use std::hash::{DefaultHasher, Hash, Hasher};
+use wire_names::Text;
+use wire_number::Endian;
+use wire_signature::{BasicType, ValueType, VariantError};
+use wire_spelling::{no_spelling_begins_another, one_spelling, one_value, skip, skip_by_text};
+use wire_tree::{
+    Entries, Inner, Tree, Trees, Value, equal_is_one, variants_hold_values, write_type,
+};
+use wire_value::decode;
+
+/// An array of one element.
+fn array(alloc: Global, element: &str, tree: Tree) -> Result<Tree, VariantError> {
+    let elements = Trees::from_vec(vec![in alloc; tree]?);
+    Ok(Tree::Array(ValueType::try_from(alloc, element)?, elements))
+}
+
+/// A dict of numbers to bytes, with one entry.
+fn dict(alloc: Global, key: Tree, value: Tree) -> Result<Tree, VariantError> {
+    let entries = Entries::from_vec(vec![in alloc; (key, value)]?);
+    Ok(Tree::Dict(BasicType::Int32, ValueType::try_from(alloc, "y")?, entries))
+}
+
+fn variant(alloc: Global, tree: Tree) -> Result<Tree, AllocError> {
+    Ok(Tree::Variant(Inner::new(alloc, tree)?))
+}
+
+/// A container that no bytes spell ("Container types").
+fn unsound(alloc: Global, case: &str) -> Result<Tree, VariantError> {
+    match case {
+        "an element of another type" => array(alloc, "n", Tree::U16(3)),
+        "a key of another type" => dict(alloc, Tree::U8(1), Tree::U8(1)),
+        "a value of another type" => dict(alloc, Tree::I32(1), Tree::U16(1)),
+        _ => Ok(Tree::Struct(Trees::from_vec(Vec::new(alloc)))),
+    }
+}
+
+const UNSOUND: &[&str] = &[
+    "an element of another type",
+    "a key of another type",
+    "a value of another type",
+    "an empty struct",
+];
+
+fn is_refused(alloc: Global, case: &str) -> Result<bool, VariantError> {
+    let tree = unsound(alloc, case)?;
+    Ok(matches!(&Value::from_tree(alloc, tree), Err(VariantError::Malformed)))
+}
+
+#[test]
+fn what_no_message_holds(rt: HostRuntime) {
+    for case in UNSOUND {
+        assert!(rt; is_refused(rt.alloc(), case) == Ok(true), "{case}");
+    }
+}
+
+fn hash_of(value: &Value) -> u64 {
+    let mut state = DefaultHasher::new();
+    value.hash(&mut state);
+    state.finish()
+}
+
+fn are_one(value: &Value, copy: &Value) -> bool {
+    value == copy && hash_of(value) == hash_of(copy)
+}
+
+/// Whether a value in a variant is its copy.
+fn is_copied(alloc: Global) -> Result<bool, VariantError> {
+    let tree = variant(alloc, dict(alloc, Tree::I32(1), Tree::U8(1))?)?;
+    let value = Value::from_tree(alloc, tree)?;
+    Ok(are_one(&value, &value.try_clone(alloc)?))
+}
+
+/// Whether the dict has one entry.
+fn has_entry(tree: Tree) -> bool {
+    match &tree.into_dict() {
+        Some((_, _, entries)) => entries.as_slice().len() == 1,
+        None => false,
+    }
+}
+
+fn has_element(tree: Tree) -> bool {
+    match &tree.into_array() {
+        Some((_, elements)) => elements.as_slice().len() == 1,
+        None => false,
+    }
+}
+
+fn has_text(tree: Tree) -> bool {
+    match &tree.into_str() {
+        Some(text) => text.as_str() == "ab",
+        None => false,
+    }
+}
+
+fn has_inner(tree: Tree) -> bool {
+    match tree.into_variant() {
+        Some(inner) => matches!(&inner.into_tree(), Tree::U8(1)),
+        None => false,
+    }
+}
+
+fn are_taken(alloc: Global) -> Result<bool, VariantError> {
+    Ok(
+        has_entry(dict(alloc, Tree::I32(1), Tree::U8(2))?)
+            && has_element(array(alloc, "y", Tree::U8(1))?)
+            && has_text(Tree::Str(Text::from_str(alloc, "ab")?))
+            && has_inner(variant(alloc, Tree::U8(1))?),
+    )
+}
+
+fn type_is_written(alloc: Global) -> Result<bool, VariantError> {
+    let mut out = String::new(alloc);
+    write_type(&mut out, alloc, &dict(alloc, Tree::I32(1), Tree::U8(1))?)?;
+    Ok(out.as_str() == "a{iy}")
+}
+
+#[test]
+fn calls_of_values_and_trees(rt: HostRuntime) {
+    let alloc = rt.alloc();
+    equal_is_one();
+    variants_hold_values();
+    one_spelling();
+    one_value();
+    no_spelling_begins_another();
+    for answer in [is_copied(alloc), are_taken(alloc), type_is_written(alloc)] {
+        assert!(rt; answer == Ok(true));
+    }
+}
+
+/// The signatures of so many variants in one another.
+fn variants(alloc: Global) -> Result<Vec<u8>, AllocError> {
+    let mut bytes = Vec::new(alloc);
+    for _ in 0..350_000 {
+        bytes.extend_from_slice(b"\x01v\0")?;
+    }
+    Ok(bytes)
+}
+
+/// Whether nothing is read of the bytes as a variant, and nothing is passed.
+fn spell_nothing(alloc: Global, bytes: &[u8]) -> Result<bool, VariantError> {
+    let order = Endian::Little;
+    let any = ValueType::try_from(alloc, "v")?;
+    Ok(
+        skip(order, 0, &any, bytes).is_none()
+            && skip_by_text(order, 0, b"v", bytes).is_none()
+            && matches!(
+                &decode(alloc, order, 0, &any, bytes),
+                Err(VariantError::Malformed)
+            ),
+    )
+}
+
+fn are_no_value(alloc: Global) -> Result<bool, VariantError> {
+    spell_nothing(alloc, &variants(alloc)?)
+}
+
+/// A megabyte of variants in variants exhausts no stack.
+#[test]
+fn a_megabyte_of_variants(rt: HostRuntime) {
+    assert!(rt; are_no_value(rt.alloc()) == Ok(true));
+}

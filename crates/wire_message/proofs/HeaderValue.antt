@@ -1,0 +1,233 @@
+-- A header's fields are spelled as values of `(yv)`, and a header as one of `yyyyuua(yv)`.
+use Rattle.std.proofs.Common.{◌≡◌, ℕ, ◌+◌, ◌<◌, ◌≤◌, ◌%◌, false, List, [], ◌∷◌, ◌++◌, length, take, drop, slice_index, replicate, refl, sym, ap, subst, ◌∙◌, arith, length-drop}
+use Rattle.std.specs.Prelude.{IsTrue}
+use Rattle.std.specs.List.{AllByRecursion}
+use Rattle.std.specs.Int.{w8, w32}
+use Rattle.std.proofs.lemmas.List.{append-nil, length-take-le, drop-drop}
+use Rattle.std.proofs.Math.Nat.{mod-eq_of_lt}
+use Rattle.std.proofs.Math.Seq.{take-add}
+use Rattle.wire_number.specs.declared.endian.Endian.{Endian}
+use Rattle.wire_number.specs.declared.endian.Endian.TheVariants.{Little, Big}
+use Rattle.wire_number.specs.Number.{number_text, number_at, counted_text, pad, padding}
+use Rattle.wire_number.proofs.Numbers.{IsBytes, IsBytes-drop, IsBytes-take}
+use Rattle.wire_number.proofs.Steps.{bytes_from, text_of_number}
+use Rattle.wire_signature.specs.Shape.{letter, type_text}
+use Rattle.wire_tree.specs.Datum.{Datum, type_of}
+use Rattle.wire_spelling.specs.Spelling.{aligned, spelling, spellings, depth, depths, ArraysFit, AllFit}
+use Rattle.wire_value.proofs.Appends.{byte_text}
+use Rattle.wire_message.specs.declared.field.FieldCode.{FieldCode}
+use Rattle.wire_message.specs.declared.field.FieldCode.TheVariants as codes
+use Rattle.wire_message.specs.declared.kind.MessageType.{MessageType}
+use Rattle.wire_message.specs.declared.kind.MessageType.TheVariants as types
+use Rattle.wire_message.specs.Field.{Value, Text, Number, Field, IsField, is_value, is_text, is_number, code_byte, field_type, value_bytes, field_text, fields_text}
+use Rattle.wire_message.specs.Front.{Seen, Front, order_at, order_code, kind_code, fields_len, body_len, field_bytes, word_at}
+use Rattle.wire_message.specs.Header.{held_datum, field_datum, field_data, header_datum, IsHeader}
+use Rattle.wire_message.proofs.FieldLaws.{placed, no_pad}
+use Rattle.wire_message.proofs.Grammar.{order-again}
+
+-- ---- one field
+
+-- what a field holds, where it needs no padding
+abbrev pub HeldSpelled : Endian → FieldCode → Value → ℕ → Type 0
+HeldSpelled order code value q =
+    (type_text (type_of (held_datum code value)) ≡ letter (field_type code) ∷ []) × (spelling order q (held_datum code value) ≡ value_bytes order (field_type code) value)
+
+no_front : (q n : ℕ) (text : List ℕ) → pad q n ≡ 0 → padding q n ++ text ≡ text
+no_front q n text e = ap (λ (k : ℕ). replicate k 0 ++ text) e
+
+not-so : {A : Type 0} → IsTrue false → A
+not-so h = absurd cc
+
+held_spelled : (order : Endian) (code : FieldCode) (value : Value) (q : ℕ) → pad q 4 ≡ 0 → IsTrue (is_value code value) → HeldSpelled order code value q
+unfolding spelling is_text is_number
+held_spelled order codes.Path (Text t) q e h = (refl, no_front q 4 _ e)
+held_spelled order codes.Interface (Text t) q e h = (refl, no_front q 4 _ e)
+held_spelled order codes.Member (Text t) q e h = (refl, no_front q 4 _ e)
+held_spelled order codes.ErrorName (Text t) q e h = (refl, no_front q 4 _ e)
+held_spelled order codes.ReplySerial (Text t) q e h = not-so h
+held_spelled order codes.Destination (Text t) q e h = (refl, no_front q 4 _ e)
+held_spelled order codes.Sender (Text t) q e h = (refl, no_front q 4 _ e)
+held_spelled order codes.Signature (Text t) q e h = (refl, no_front q 1 _ (no_pad q))
+held_spelled order codes.UnixFds (Text t) q e h = not-so h
+held_spelled order codes.Path (Number n) q e h = not-so h
+held_spelled order codes.Interface (Number n) q e h = not-so h
+held_spelled order codes.Member (Number n) q e h = not-so h
+held_spelled order codes.ErrorName (Number n) q e h = not-so h
+held_spelled order codes.ReplySerial (Number n) q e h = (refl, no_front q 4 _ e)
+held_spelled order codes.Destination (Number n) q e h = not-so h
+held_spelled order codes.Sender (Number n) q e h = not-so h
+held_spelled order codes.Signature (Number n) q e h = not-so h
+held_spelled order codes.UnixFds (Number n) q e h = (refl, no_front q 4 _ e)
+
+code-low : (code : FieldCode) → code_byte code < 256
+code-low codes.Path = omega arith
+code-low codes.Interface = omega arith
+code-low codes.Member = omega arith
+code-low codes.ErrorName = omega arith
+code-low codes.ReplySerial = omega arith
+code-low codes.Destination = omega arith
+code-low codes.Sender = omega arith
+code-low codes.Signature = omega arith
+code-low codes.UnixFds = omega arith
+
+pub field_spelled : (order : Endian) (p : ℕ) (field : Field) → IsField field → padding p 8 ++ field_text order field ≡ spelling order p (field_datum field)
+unfolding spelling spellings field_text
+field_spelled order p field h =
+    let d : Datum = held_datum field.code field.value in
+    let q : ℕ = aligned p 8 in
+    let held : HeldSpelled order field.code field.value (q + 4) = held_spelled order field.code field.value (q + 4) (placed p) h.0 in
+    let whole : List ℕ → List ℕ → List ℕ = λ code sign. padding p 8 ++ (code ++ ((sign ++ spelling order (q + length code + length sign) d) ++ [])) in
+    let code : padding q 1 ++ number_text w8 order (code_byte field.code) ≡ code_byte field.code ∷ [] =
+    no_front q 1 _ (no_pad q) ∙ byte_text order (code_byte field.code) (code-low field.code) in
+    let sign : counted_text w8 order (type_text (type_of d)) ≡ 1 ∷ letter (field_type field.code) ∷ 0 ∷ [] =
+    ap (counted_text w8 order) held.0 ∙ ap (λ (r : List ℕ). r ++ (letter (field_type field.code) ∷ 0 ∷ [])) (byte_text order 1 (omega arith)) in
+    let here : q + 1 + 3 ≡ q + 4 = omega arith in
+    let spelled : spelling order p (field_datum field) ≡ padding p 8 ++ field_text order field =
+    ap (λ (c : List ℕ). whole c (counted_text w8 order (type_text (type_of d)))) code
+    ∙ ap (whole (code_byte field.code ∷ [])) sign
+    ∙ ap (λ (k : ℕ). padding p 8 ++ (code_byte field.code ∷ 1 ∷ letter (field_type field.code) ∷ 0 ∷ (spelling order k d ++ []))) here
+    ∙ ap (λ (r : List ℕ). padding p 8 ++ (code_byte field.code ∷ 1 ∷ letter (field_type field.code) ∷ 0 ∷ r)) (append-nil (spelling order (q + 4) d) ∙ held.1) in
+    sym spelled
+
+pub fields_spelled : (order : Endian) (p : ℕ) (fields : List Field) → AllByRecursion IsField fields → fields_text order p fields ≡ spellings order p (field_data fields)
+unfolding spellings fields_text
+fields_spelled order p [] h = refl
+fields_spelled order p (field ∷ fields) h =
+    let front : List ℕ = spelling order p (field_datum field) in
+    ap (λ (r : List ℕ). r ++ fields_text order (p + length r) fields) (field_spelled order p field h.0)
+    ∙ ap (λ (r : List ℕ). front ++ r) (fields_spelled order (p + length front) fields h.1)
+
+-- ---- the header
+
+-- its bytes
+abbrev pub header_bytes : Endian → ℕ → ℕ → ℕ → ℕ → ℕ → ℕ → List ℕ → List ℕ
+header_bytes order o k f v body serial fields =
+    o ∷ k ∷ f ∷ v ∷ (number_text w32 order body ++ (number_text w32 order serial ++ (number_text w32 order (length fields) ++ fields)))
+
+four_bytes : (o k f v : ℕ) (rest : List ℕ) → o < 256 → k < 256 → f < 256 → v < 256 → (o % 256) ∷ (k % 256) ∷ (f % 256) ∷ (v % 256) ∷ rest ≡ o ∷ k ∷ f ∷ v ∷ rest
+four_bytes o k f v rest a b c d =
+    ap (λ (x : ℕ). x ∷ (k % 256) ∷ (f % 256) ∷ (v % 256) ∷ rest) (mod-eq_of_lt a) ∙ ap (λ (x : ℕ). o ∷ x ∷ (f % 256) ∷ (v % 256) ∷ rest) (mod-eq_of_lt b)
+    ∙ ap (λ (x : ℕ). o ∷ k ∷ x ∷ (v % 256) ∷ rest) (mod-eq_of_lt c) ∙ ap (λ (x : ℕ). o ∷ k ∷ f ∷ x ∷ rest) (mod-eq_of_lt d)
+
+pub header_spelled : (order : Endian) (o k f v body serial : ℕ) (fields : List Field) → o < 256 → k < 256 → f < 256 → v < 256 → AllByRecursion IsField fields
+    → header_bytes order o k f v body serial (fields_text order 16 fields) ≡ spelling order 0 (header_datum o k f v body serial fields)
+unfolding spelling spellings
+header_spelled Little o k f v body serial fields a b c d h =
+    let text : List ℕ = spellings Little 16 (field_data fields) in
+    let front : List ℕ → List ℕ = λ (r : List ℕ). (o % 256) ∷ (k % 256) ∷ (f % 256) ∷ (v % 256) ∷ (number_text w32 Little body ++ (number_text w32 Little serial ++ r)) in
+    ap (header_bytes Little o k f v body serial) (fields_spelled Little 16 fields h)
+    ∙ sym (four_bytes o k f v (number_text w32 Little body ++ (number_text w32 Little serial ++ (number_text w32 Little (length text) ++ text))) a b c d)
+    ∙ ap front (sym (append-nil (number_text w32 Little (length text) ++ text)))
+header_spelled Big o k f v body serial fields a b c d h =
+    let text : List ℕ = spellings Big 16 (field_data fields) in
+    let front : List ℕ → List ℕ = λ (r : List ℕ). (o % 256) ∷ (k % 256) ∷ (f % 256) ∷ (v % 256) ∷ (number_text w32 Big body ++ (number_text w32 Big serial ++ r)) in
+    ap (header_bytes Big o k f v body serial) (fields_spelled Big 16 fields h)
+    ∙ sym (four_bytes o k f v (number_text w32 Big body ++ (number_text w32 Big serial ++ (number_text w32 Big (length text) ++ text))) a b c d)
+    ∙ ap front (sym (append-nil (number_text w32 Big (length text) ++ text)))
+
+-- ---- its limits
+
+held-flat : (code : FieldCode) (value : Value) → depth (held_datum code value) ≡ 0
+held-flat code (Text t) = refl
+held-flat code (Number n) = refl
+
+fields-flat : (fields : List Field) → depths (field_data fields) ≤ 2
+fields-flat [] = omega arith
+fields-flat (field ∷ fields) = omega (arith, held-flat field.code field.value, fields-flat fields)
+
+held-fits : (order : Endian) (p : ℕ) (code : FieldCode) (value : Value) → ArraysFit order p (held_datum code value)
+unfolding ArraysFit
+held-fits order p code (Text t) = tt
+held-fits order p code (Number n) = tt
+
+fields-fit : (order : Endian) (fields : List Field) (p : ℕ) → AllFit order p (field_data fields)
+unfolding ArraysFit AllFit
+fields-fit order [] p = tt
+fields-fit order (field ∷ fields) p = ((tt, (held-fits order _ field.code field.value, tt)), fields-fit order fields _)
+
+header-fits : (order : Endian) (o k f v body serial : ℕ) (fields : List Field) → length (spellings order 16 (field_data fields)) ≤ 67108864 → ArraysFit order 0 (header_datum o k f v body serial fields)
+unfolding spelling ArraysFit AllFit
+header-fits Little o k f v body serial fields h = (tt, (tt, (tt, (tt, (tt, (tt, ((h, fields-fit Little fields 16), tt)))))))
+header-fits Big o k f v body serial fields h = (tt, (tt, (tt, (tt, (tt, (tt, ((h, fields-fit Big fields 16), tt)))))))
+
+-- ---- of a message
+
+first_four : (bytes : List ℕ) → 4 ≤ length bytes → take 4 bytes ≡ slice_index bytes 0 ∷ slice_index bytes 1 ∷ slice_index bytes 2 ∷ slice_index bytes 3 ∷ []
+first_four [] h = absurd (omega arith)
+first_four (a ∷ []) h = absurd (omega arith)
+first_four (a ∷ b ∷ []) h = absurd (omega arith)
+first_four (a ∷ b ∷ c ∷ []) h = absurd (omega arith)
+first_four (a ∷ b ∷ c ∷ d ∷ rest) h = refl
+
+word-back : (bytes : List ℕ) (order : Endian) (place : ℕ) → IsBytes bytes → place + 4 ≤ length bytes → number_text w32 order (number_at w32 order place bytes) ≡ take 4 (drop place bytes)
+word-back bytes order place fits h =
+    text_of_number w32 order (take 4 (drop place bytes)) tt (length-take-le 4 (drop place bytes) (omega (arith, length-drop place bytes)))
+    (bytes_from (take 4 (drop place bytes)) (IsBytes-take 4 (drop place bytes) (IsBytes-drop place bytes fits)))
+
+-- four bytes, and those behind them
+four-more : (k n place : ℕ) (bytes : List ℕ) → k ≡ 4 + n → take k (drop place bytes) ≡ take 4 (drop place bytes) ++ take n (drop (place + 4) bytes)
+four-more k n place bytes e =
+    ap (λ (j : ℕ). take j (drop place bytes)) e ∙ take-add 4 n (drop place bytes)
+    ∙ ap (λ (r : List ℕ). take 4 (drop place bytes) ++ take n r) (drop-drop 4 place bytes)
+
+-- the bytes of a header by its words
+laid-out : (bytes : List ℕ) (n : ℕ) → 16 ≤ length bytes
+    → take (16 + n) bytes
+    ≡ slice_index bytes 0 ∷ slice_index bytes 1 ∷ slice_index bytes 2 ∷ slice_index bytes 3
+    ∷ (take 4 (drop 4 bytes) ++ (take 4 (drop 8 bytes) ++ (take 4 (drop 12 bytes) ++ take n (drop 16 bytes))))
+laid-out bytes n h =
+    let third : take (4 + n) (drop 12 bytes) ≡ take 4 (drop 12 bytes) ++ take n (drop 16 bytes) = four-more (4 + n) n 12 bytes refl in
+    let second : take (8 + n) (drop 8 bytes) ≡ take 4 (drop 8 bytes) ++ (take 4 (drop 12 bytes) ++ take n (drop 16 bytes)) =
+    four-more (8 + n) (4 + n) 8 bytes (omega arith) ∙ ap (λ (r : List ℕ). take 4 (drop 8 bytes) ++ r) third in
+    let first : take (12 + n) (drop 4 bytes) ≡ take 4 (drop 4 bytes) ++ (take 4 (drop 8 bytes) ++ (take 4 (drop 12 bytes) ++ take n (drop 16 bytes))) =
+    four-more (12 + n) (8 + n) 4 bytes (omega arith) ∙ ap (λ (r : List ℕ). take 4 (drop 4 bytes) ++ r) second in
+    four-more (16 + n) (12 + n) 0 bytes (omega arith) ∙ ap (λ (r : List ℕ). r ++ take (12 + n) (drop 4 bytes)) (first_four bytes (omega arith))
+    ∙ ap (λ (r : List ℕ). slice_index bytes 0 ∷ slice_index bytes 1 ∷ slice_index bytes 2 ∷ slice_index bytes 3 ∷ r) first
+
+order-low : (order : Endian) → order_code order < 256
+order-low Little = omega arith
+order-low Big = omega arith
+
+kind-low : (kind : MessageType) → kind_code kind < 256
+kind-low types.MethodCall = omega arith
+kind-low types.MethodReturn = omega arith
+kind-low types.Error = omega arith
+kind-low types.Signal = omega arith
+
+pub header-is : (bytes : List ℕ) (m : Seen) (n : ℕ) → IsBytes bytes → Front bytes m n → IsHeader bytes m
+header-is bytes m n fits f =
+    let order : order_at bytes ≡ m.order = order-again bytes m.order f.order in
+    let fs = f.fields.0 in
+    let long : 16 + fields_len bytes ≤ length bytes = omega (arith, f.there, f.whole) in
+    let word : (place : ℕ) → place + 4 ≤ length bytes → number_text w32 m.order (word_at place bytes) ≡ take 4 (drop place bytes) =
+    λ place h. ap (λ (o : Endian). number_text w32 o (word_at place bytes)) (sym order) ∙ word-back bytes (order_at bytes) place fits h in
+    let size : length (fields_text m.order 16 fs) ≡ fields_len bytes =
+    ap length (sym f.fields.2) ∙ length-take-le (fields_len bytes) (drop 16 bytes) (omega (arith, length-drop 16 bytes)) in
+    let fields : List ℕ = fields_text m.order 16 fs in
+    let third : take 4 (drop 12 bytes) ≡ number_text w32 m.order (length fields) = sym (word 12 (omega (arith, f.head))) ∙ ap (number_text w32 m.order) (sym size) in
+    let second : take 4 (drop 8 bytes) ≡ number_text w32 m.order m.serial = sym (word 8 (omega (arith, f.head))) ∙ ap (number_text w32 m.order) (sym f.serial) in
+    let front : List ℕ → List ℕ = λ (r : List ℕ). order_code m.order ∷ kind_code m.kind ∷ m.flags ∷ slice_index bytes 3 ∷ r in
+    let words : List ℕ → List ℕ → List ℕ → List ℕ → List ℕ = λ (a b c r : List ℕ). front (a ++ (b ++ (c ++ r))) in
+    let body : List ℕ = number_text w32 m.order (body_len bytes) in
+    let serial : List ℕ = number_text w32 m.order m.serial in
+    let size_text : List ℕ = number_text w32 m.order (length fields) in
+    let rest : List ℕ = take 4 (drop 4 bytes) ++ (take 4 (drop 8 bytes) ++ (take 4 (drop 12 bytes) ++ field_bytes bytes)) in
+    let text : take (16 + fields_len bytes) bytes ≡ words body serial size_text fields =
+    laid-out bytes (fields_len bytes) f.head
+    ∙ ap (λ (x : ℕ). x ∷ slice_index bytes 1 ∷ slice_index bytes 2 ∷ slice_index bytes 3 ∷ rest) f.order
+    ∙ ap (λ (x : ℕ). order_code m.order ∷ x ∷ slice_index bytes 2 ∷ slice_index bytes 3 ∷ rest) f.type
+    ∙ ap (λ (x : ℕ). order_code m.order ∷ kind_code m.kind ∷ x ∷ slice_index bytes 3 ∷ rest) f.flags
+    ∙ ap (λ (a : List ℕ). words a (take 4 (drop 8 bytes)) (take 4 (drop 12 bytes)) (field_bytes bytes)) (sym (word 4 (omega (arith, f.head))))
+    ∙ ap (λ (b : List ℕ). words body b (take 4 (drop 12 bytes)) (field_bytes bytes)) second
+    ∙ ap (λ (c : List ℕ). words body serial c (field_bytes bytes)) third
+    ∙ ap (words body serial size_text) f.fields.2 in
+    record {
+      list = fs;
+      each = f.fields.1;
+      says = f.fields.3;
+      kind = refl;
+      within = omega (arith, fields-flat fs);
+      fit = λ h. header-fits m.order _ _ _ _ _ _ fs (subst (λ (k : ℕ). k ≤ 67108864) (sym (ap length (sym (fields_spelled m.order 16 fs f.fields.1)) ∙ size)) h);
+      text = text ∙ header_spelled m.order (order_code m.order) (kind_code m.kind) m.flags (slice_index bytes 3) (body_len bytes) m.serial fs
+          (order-low m.order) (kind-low m.kind) (omega (arith, f.known)) (fits 3) f.fields.1;
+    }

@@ -1,0 +1,83 @@
+//! What a message and its clones share.
+ghost use Rattle.std.specs.Prelude.{◌≡◌};
+
+use crate::kind::MessageType;
+use crate::places::Places;
+use std::marker::Model;
+use wire_number::Endian;
+
+/// What a message's header says.
+#[derive(Clone, Copy)]
+pub(crate) struct Parts {
+    pub(crate) kind: MessageType,
+    pub(crate) order: Endian,
+    pub(crate) flags: u8,
+    pub(crate) serial: u32,
+    pub(crate) places: Places,
+}
+
+/// The bytes of a message, what their header says, and the descriptors that go with it.
+pub(crate) struct Shared {
+    pub(crate) bytes: Vec<u8>,
+    pub(crate) parts: Parts,
+    pub(crate) fds: Vec<u32>,
+}
+
+impl Model for Shared {
+    ghost use Rattle.wire_message.specs.Front.{Seen, seen};
+    ghost use Rattle.wire_message.specs.Places.{found_fields, Stands};
+
+    ghost Value = { Seen };
+
+    ghost view = { λ s. record (seen s.bytes.items 0 s.parts.kind s.parts.order s.parts.flags s.parts.serial (found_fields s.bytes.items s.parts.places)) { fds = s.fds.items } };
+
+    ghost invariant = { λ s. Stands s.bytes.items s.parts.kind s.parts.order s.parts.flags s.parts.serial s.parts.places };
+}
+
+impl Drop for Shared {
+    fn drop(self) {
+        let Shared {
+            bytes: _,
+            parts: _,
+            fds: _,
+        } = self;
+    }
+}
+
+impl Shared {
+    pub(crate) fn data(&self) -> &[u8]
+        ensures { result.now ≡ self.now.bytes }
+    {
+        self.bytes.as_slice()
+    }
+
+    pub(crate) fn fds(&self) -> &[u32]
+        ensures { result.now ≡ self.now.fds }
+    {
+        self.fds.as_slice()
+    }
+
+    pub(crate) fn kind(&self) -> MessageType
+        ensures { result ≡ self.now.kind }
+    {
+        self.parts.kind
+    }
+
+    pub(crate) fn order(&self) -> Endian
+        ensures { result ≡ self.now.order }
+    {
+        self.parts.order
+    }
+
+    pub(crate) fn serial(&self) -> u32
+        ensures { result ≡ self.now.serial }
+    {
+        self.parts.serial
+    }
+
+    pub(crate) fn reply_serial(&self) -> Option<u32>
+        ensures { result ≡ self.now.reply_serial }
+    {
+        self.parts.places.reply_serial
+    }
+}

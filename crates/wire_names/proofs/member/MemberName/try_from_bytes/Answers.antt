@@ -1,5 +1,0 @@
-use Rattle.wire_names.proofs.Ascii.{member_is_utf8}
-use Rattle.wire_names.proofs.member.MemberName.try_from_bytes.Goals as goal
-
-pub returns-in-Err-clause-value : goal.returns-in-Err-clause-value
-returns-in-Err-clause-value c = λ h. c.in-Err.ensures.cases.0 (member_is_utf8 c.args.bytes.now h)

@@ -1,0 +1,86 @@
+//! Bytes at the end of an output. `shift` is the place of the output's first byte. Only for want of memory a call fails, and
+//! then it may have appended a front of its bytes.
+ghost use Rattle.std.specs.Prelude.{◌≡◌, ◌+◌, ◌≤◌, ◌++◌, drop, length, take};
+ghost use Rattle.std.specs.Int.{w8, w32};
+ghost use Rattle.wire_number.specs.Number.{counted_text, number_text, padding};
+ghost use Rattle.wire_number.specs.Appending.{Appended};
+
+use crate::endian::Endian;
+use crate::number::write_u32;
+use crate::padding::padding_for_n_bytes;
+use std::alloc::AllocError;
+
+const ZEROS: [u8; 8] = [0; 8];
+
+/// Appends the padding up to a boundary.
+#[tactic(auto, using(crate::proofs::Appends::zero_fronts))]
+pub fn pad_to(out: &mut Vec<u8>, shift: usize, boundary: usize) -> Result<(), AllocError>
+    requires shift { shift ≤ 16 }
+    requires some { 1 ≤ boundary }
+    requires small { boundary ≤ 8 }
+    ensures { Appended result (padding (shift + length out.old.items) boundary) out.old.items out.new.items }
+{
+    let count = padding_for_n_bytes(shift + out.len(), boundary);
+    out.extend_from_slice(&ZEROS[..count])?;
+    Ok(())
+}
+
+/// Appends bytes behind the padding up to a boundary.
+#[tactic(auto, using(crate::proofs::Appends::appends))]
+pub fn append(
+    out: &mut Vec<u8>,
+    shift: usize,
+    boundary: usize,
+    bytes: &[u8],
+) -> Result<(), AllocError>
+    requires shift { shift ≤ 16 }
+    requires some { 1 ≤ boundary }
+    requires small { boundary ≤ 8 }
+    ensures { Appended result (padding (shift + length out.old.items) boundary ++ bytes.now) out.old.items out.new.items }
+{
+    pad_to(out, shift, boundary)?;
+    out.extend_from_slice(bytes)?;
+    Ok(())
+}
+
+/// Appends a text whose length is a `UINT32`, behind its padding.
+#[tactic(auto, using(crate::proofs::Appends::appends))]
+pub fn append_text(
+    order: Endian,
+    out: &mut Vec<u8>,
+    shift: usize,
+    bytes: &[u8],
+) -> Result<(), AllocError>
+    requires shift { shift ≤ 16 }
+    requires short { length bytes.now ≤ 4294967295 }
+    ensures { Appended result (padding (shift + length out.old.items) 4 ++ counted_text w32 order bytes.now) out.old.items out.new.items }
+{
+    append(out, shift, 4, &write_u32(order, bytes.len() as u32))?;
+    out.extend_from_slice(bytes)?;
+    out.push(0)?;
+    Ok(())
+}
+
+/// Appends a text whose length is one byte.
+#[tactic(auto, using(crate::proofs::Appends::appends))]
+pub fn append_signature(order: Endian, out: &mut Vec<u8>, bytes: &[u8]) -> Result<(), AllocError>
+    requires short { length bytes.now ≤ 255 }
+    ensures { Appended result (counted_text w8 order bytes.now) out.old.items out.new.items }
+{
+    out.push(bytes.len() as u8)?;
+    out.extend_from_slice(bytes)?;
+    out.push(0)?;
+    Ok(())
+}
+
+/// Puts a number of four bytes in place of those that stand at a place.
+pub fn put_u32(order: Endian, out: &mut Vec<u8>, place: usize, number: u32)
+    requires { place + 4 ≤ length out.old.items }
+    ensures { out.new.items ≡ take place out.old.items ++ (number_text w32 order number ++ drop (place + 4) out.old.items) }
+{
+    let four = write_u32(order, number);
+    out[place] = four[0];
+    out[place + 1] = four[1];
+    out[place + 2] = four[2];
+    out[place + 3] = four[3];
+}
