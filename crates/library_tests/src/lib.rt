@@ -23,6 +23,8 @@ mod message_bodies;
 #[cfg(test)]
 mod names;
 #[cfg(test)]
+mod own_error;
+#[cfg(test)]
 mod peer;
 #[cfg(test)]
 mod peer_bus;
@@ -36,6 +38,12 @@ mod peer_streams;
 mod peer_words;
 #[cfg(test)]
 mod replies;
+#[cfg(test)]
+mod rule_building;
+#[cfg(test)]
+mod rule_parts;
+#[cfg(test)]
+mod rule_same;
 #[cfg(test)]
 mod signatures;
 #[cfg(test)]

@@ -1,8 +1,9 @@
 //! Signatures and types: their calls, and texts of great length.
 use std::alloc::{AllocError, Global};
 use wire_signature::{
-    Signature, TypeNode, ValueType, VariantError, first_type, is_signature, one_list_of_types,
-    one_signature_text, one_type, one_type_text, reading_a_signature, reading_a_type,
+    Signature, TypeNode, ValueType, VariantError, equal_types_are_one, first_type, is_signature,
+    one_list_of_types, one_signature_text, one_type, one_type_text, reading_a_signature,
+    reading_a_type,
 };
 
 /// A million times the same, and `y`.
@@ -38,6 +39,14 @@ fn signature(alloc: Global) -> Result<bool, VariantError> {
     Ok(signature.types().len() == 2 && signature.to_text(alloc)?.as_str() == "sv")
 }
 
+fn are_equal(alloc: Global) -> Result<bool, VariantError> {
+    let signature = Signature::try_from(alloc, "sv")?;
+    Ok(
+        signature == Signature::try_from(alloc, "sv")?
+            && signature != Signature::try_from(alloc, "(sv)")?,
+    )
+}
+
 fn array(alloc: Global) -> Result<bool, VariantError> {
     let array = ValueType::try_from(alloc, "a(ys)")?.try_clone(alloc)?;
     Ok(matches!(array.node(), TypeNode::Array(_)) && array.to_text(alloc)?.as_str() == "a(ys)")
@@ -45,13 +54,18 @@ fn array(alloc: Global) -> Result<bool, VariantError> {
 
 #[test]
 fn calls_of_signatures_and_types(rt: HostRuntime) {
+    equal_types_are_one();
     one_list_of_types();
     one_signature_text();
     one_type();
     one_type_text();
     reading_a_signature();
     reading_a_type();
-    for answer in [signature(rt.alloc()), array(rt.alloc())] {
+    for answer in [
+        signature(rt.alloc()),
+        are_equal(rt.alloc()),
+        array(rt.alloc()),
+    ] {
         assert!(rt; answer == Ok(true));
     }
 }

@@ -2,11 +2,11 @@
 use std::alloc::{AllocError, Global};
 use std::hash::{DefaultHasher, Hash, Hasher};
 use wire_names::Text;
-use wire_number::Endian;
+use wire_number::{Endian, reading_a_number, reading_a_text, reading_padding};
 use wire_signature::{BasicType, ValueType, VariantError};
 use wire_spelling::{no_spelling_begins_another, one_spelling, one_value, skip, skip_by_text};
 use wire_tree::{
-    Entries, Inner, Tree, Trees, Value, equal_is_one, variants_hold_values, write_type,
+    Entries, Inner, Tree, Trees, Value, equal_is_one, type_text, variants_hold_values,
 };
 use wire_value::decode;
 
@@ -110,10 +110,9 @@ fn are_taken(alloc: Global) -> Result<bool, VariantError> {
     )
 }
 
-fn type_is_written(alloc: Global) -> Result<bool, VariantError> {
-    let mut out = String::new(alloc);
-    write_type(&mut out, alloc, &dict(alloc, Tree::I32(1), Tree::U8(1))?)?;
-    Ok(out.as_str() == "a{iy}")
+fn type_has_its_text(alloc: Global) -> Result<bool, VariantError> {
+    let text = type_text(alloc, &dict(alloc, Tree::I32(1), Tree::U8(1))?)?;
+    Ok(text.as_str() == "a{iy}")
 }
 
 #[test]
@@ -121,10 +120,13 @@ fn calls_of_values_and_trees(rt: HostRuntime) {
     let alloc = rt.alloc();
     equal_is_one();
     variants_hold_values();
+    reading_padding();
+    reading_a_number();
+    reading_a_text();
     one_spelling();
     one_value();
     no_spelling_begins_another();
-    for answer in [is_copied(alloc), are_taken(alloc), type_is_written(alloc)] {
+    for answer in [is_copied(alloc), are_taken(alloc), type_has_its_text(alloc)] {
         assert!(rt; answer == Ok(true));
     }
 }

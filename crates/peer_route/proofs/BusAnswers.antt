@@ -7,7 +7,8 @@ use Rattle.peer_route.specs.declared.writer.Writer.TheVariants as writers
 use Rattle.peer_route.specs.declared.writer.Writer.{Writer}
 use Rattle.peer_route.specs.declared.answer.Answer.{Answer}
 use Rattle.peer_route.specs.declared.answer.Answer.TheVariants as answers
-use Rattle.peer_route.specs.History.{Event, Did, Gone, closing, writer, in_flight}
+use Rattle.peer_route.specs.History.{Event, Did, Gone, closing, writer}
+use Rattle.peer_route.specs.Calls.{in_flight}
 use Rattle.peer_route.specs.Streams.{asks_bus, leaving, close_waits, gone_then}
 use Rattle.peer_route.specs.Trail.{Trail, count, next_serial, or_zero}
 use Rattle.peer_route.specs.Answers.{IsCalled, IsAskOf, IsNewOf, IsRuleOf, IsOpenOf, WentOut, IsToldBy, IsTold, IsLeaveBy, IsLeaveAt, IsLeaveOf, tell_refusal}

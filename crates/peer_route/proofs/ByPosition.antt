@@ -6,7 +6,8 @@ use Rattle.peer_route.specs.declared.polled.Polled.{Polled}
 use Rattle.peer_route.specs.declared.polled.Polled.TheVariants as polled
 use Rattle.peer_route.specs.declared.answer.Answer.{Answer}
 use Rattle.peer_route.specs.declared.answer.Answer.TheVariants as answers
-use Rattle.peer_route.specs.History.{Event, by_position, poll_answer, poll_events}
+use Rattle.peer_route.specs.History.{Event}
+use Rattle.peer_route.specs.Calls.{by_position, poll_answer, poll_events}
 use Rattle.peer_route.specs.Streams.{take_answer, take_events}
 use Rattle.peer_route.specs.Answers.{shown, poll_of, before_of, shown_take, take_of, take_before_of}
 

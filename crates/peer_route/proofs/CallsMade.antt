@@ -3,7 +3,7 @@
 use Rattle.std.proofs.Common.{◌≡◌, ℕ, ◌<◌, ◌≤◌, zero, suc, refl, ap, arith, true, false, List, [], ◌∷◌, ◌++◌, length, map, length-append}
 use Rattle.std.proofs.lemmas.List.{map-append}
 use Rattle.wire_message.specs.Front.{Seen}
-use Rattle.peer_route.specs.History.{Event, Took, Shut, Put, Wrote, Fault, Spent, Made, Did, Main, OnBus, Added, Removed, Named, Call, read, put, done, calls, new_call, inner_call, edit, spend, fail_at}
+use Rattle.peer_route.specs.History.{Event, Took, Put, Fault, Spent, Added, Removed, Call, read, put, done, calls, new_call, inner_call, edit, spend, fail_at, past}
 use Rattle.peer_route.proofs.Plain.{Below, Rising, Below-more, Below-push, Rising-push}
 
 abbrev pub places : List Call → List ℕ
@@ -45,19 +45,12 @@ Early-fail n i (c ∷ cs) e = (e.0, Early-fail n i cs e.1)
 pub calls_early : (h : List Event) → Early (length (read h)) (calls h)
 calls_early [] = tt
 calls_early (Took m ∷ h) = Early-more (length (read h)) (length (read h ++ m ∷ [])) (calls h) (omega (arith, length-append (read h) (m ∷ []))) (calls_early h)
-calls_early (Shut error ∷ h) = calls_early h
-calls_early (Put m true ∷ h) = Early-push (length (read h)) (calls h) (new_call h m) (omega arith) (calls_early h)
-calls_early (Put m false ∷ h) = calls_early h
-calls_early (Wrote ∷ h) = calls_early h
+calls_early (Put m true ∷ h) = Early-push (length (read h)) (calls h) (new_call (past h) m) (omega arith) (calls_early h)
 calls_early (Fault ∷ h) = Early-fail (length (read h)) (done h) (calls h) (calls_early h)
 calls_early (Spent k ∷ h) = Early-edit (length (read h)) k (calls h) (calls_early h)
-calls_early (Made making ∷ h) = calls_early h
-calls_early (Did stream deed ∷ h) = calls_early h
-calls_early (Main limit ∷ h) = calls_early h
-calls_early (OnBus ∷ h) = calls_early h
-calls_early (Added m rule asked ∷ h) = Early-push (length (read h)) (calls h) (inner_call h m) (omega arith) (calls_early h)
-calls_early (Removed m ∷ h) = Early-push (length (read h)) (calls h) (inner_call h m) (omega arith) (calls_early h)
-calls_early (Named name ∷ h) = calls_early h
+calls_early (Added m rule asked ∷ h) = Early-push (length (read h)) (calls h) (inner_call (past h) m) (omega arith) (calls_early h)
+calls_early (Removed m ∷ h) = Early-push (length (read h)) (calls h) (inner_call (past h) m) (omega arith) (calls_early h)
+calls_early (e ∷ h) = calls_early h
 
 -- ---- places
 
@@ -67,48 +60,33 @@ below_next h m = omega (arith, length-append (put h) (m ∷ []))
 -- each call's message stands in the outbox
 pub places_below : (h : List Event) → Below (length (put h)) (places (calls h))
 places_below [] = tt
-places_below (Took m ∷ h) = places_below h
-places_below (Shut error ∷ h) = places_below h
 places_below (Put m true ∷ h) =
-    rw (map-append (λ (c : Call). c.index) (calls h) (new_call h m ∷ []))
+    rw (map-append (λ (c : Call). c.index) (calls h) (new_call (past h) m ∷ []))
     (Below-push (length (put h)) (length (put h ++ m ∷ [])) (places (calls h)) (below_next h m) (places_below h))
 places_below (Put m false ∷ h) =
     let lt = below_next h m in Below-more (length (put h)) (length (put h ++ m ∷ [])) (places (calls h)) (omega arith) (places_below h)
-places_below (Wrote ∷ h) = places_below h
 places_below (Fault ∷ h) = rw (places-fail (done h) (calls h)) (places_below h)
 places_below (Spent k ∷ h) = rw (places-edit k (calls h)) (places_below h)
-places_below (Made making ∷ h) = places_below h
-places_below (Did stream deed ∷ h) = places_below h
-places_below (Main limit ∷ h) = places_below h
-places_below (OnBus ∷ h) = places_below h
 places_below (Added m rule asked ∷ h) =
-    rw (map-append (λ (c : Call). c.index) (calls h) (inner_call h m ∷ []))
+    rw (map-append (λ (c : Call). c.index) (calls h) (inner_call (past h) m ∷ []))
     (Below-push (length (put h)) (length (put h ++ m ∷ [])) (places (calls h)) (below_next h m) (places_below h))
 places_below (Removed m ∷ h) =
-    rw (map-append (λ (c : Call). c.index) (calls h) (inner_call h m ∷ []))
+    rw (map-append (λ (c : Call). c.index) (calls h) (inner_call (past h) m ∷ []))
     (Below-push (length (put h)) (length (put h ++ m ∷ [])) (places (calls h)) (below_next h m) (places_below h))
-places_below (Named name ∷ h) = places_below h
+places_below (e ∷ h) = places_below h
 
 -- their places rise
 pub places_rise : (h : List Event) → Rising (places (calls h))
 places_rise [] = tt
-places_rise (Took m ∷ h) = places_rise h
-places_rise (Shut error ∷ h) = places_rise h
 places_rise (Put m true ∷ h) =
-    rw (map-append (λ (c : Call). c.index) (calls h) (new_call h m ∷ []))
+    rw (map-append (λ (c : Call). c.index) (calls h) (new_call (past h) m ∷ []))
     (Rising-push (length (put h)) (places (calls h)) (places_below h) (places_rise h))
-places_rise (Put m false ∷ h) = places_rise h
-places_rise (Wrote ∷ h) = places_rise h
 places_rise (Fault ∷ h) = rw (places-fail (done h) (calls h)) (places_rise h)
 places_rise (Spent k ∷ h) = rw (places-edit k (calls h)) (places_rise h)
-places_rise (Made making ∷ h) = places_rise h
-places_rise (Did stream deed ∷ h) = places_rise h
-places_rise (Main limit ∷ h) = places_rise h
-places_rise (OnBus ∷ h) = places_rise h
 places_rise (Added m rule asked ∷ h) =
-    rw (map-append (λ (c : Call). c.index) (calls h) (inner_call h m ∷ []))
+    rw (map-append (λ (c : Call). c.index) (calls h) (inner_call (past h) m ∷ []))
     (Rising-push (length (put h)) (places (calls h)) (places_below h) (places_rise h))
 places_rise (Removed m ∷ h) =
-    rw (map-append (λ (c : Call). c.index) (calls h) (inner_call h m ∷ []))
+    rw (map-append (λ (c : Call). c.index) (calls h) (inner_call (past h) m ∷ []))
     (Rising-push (length (put h)) (places (calls h)) (places_below h) (places_rise h))
-places_rise (Named name ∷ h) = places_rise h
+places_rise (e ∷ h) = places_rise h

@@ -9,8 +9,9 @@ use Rattle.peer_route.specs.declared.words.Words.TheVariants as words
 use Rattle.peer_route.specs.declared.answer.Answer.{Answer}
 use Rattle.peer_route.specs.declared.answer.Answer.TheVariants as answers
 use Rattle.peer_route.specs.declared.answer.Entry.{Entry}
-use Rattle.peer_route.specs.History.{Event, Took, Shut, Put, Wrote, Fault, Spent, Made, Did, Main, OnBus, Added, Removed, Named, Deed, Gave, Told, Gone, Asked, Opened, done, closing, unique_name, by_position, edit}
-use Rattle.peer_route.specs.Streams.{Stream, streams, is_since, phase, asks_by, new_stream, asking_stream, done_by, fail_stream, runs, runs_at, is_open, gave_last, held, take_by, take_at, take_answer, leaving, gone_then, opening_at, opening_answer}
+use Rattle.peer_route.specs.History.{Event, Fault, Made, Did, Added, Deed, Gave, Told, Gone, Asked, Opened, done, closing, unique_name, edit, Stream, streams, phase, asks_by, new_stream, asking_stream, done_by, fail_stream, past, read}
+use Rattle.peer_route.specs.Calls.{by_position}
+use Rattle.peer_route.specs.Streams.{is_since, runs, runs_at, is_open, gave_last, held, take_by, take_at, take_answer, leaving, gone_then, opening_at, opening_answer}
 use Rattle.peer_route.specs.declared.progress.OpenState.TheVariants as states
 use Rattle.peer_route.specs.Parcel.{Setting}
 use Rattle.peer_route.specs.CallMessage.{reply_asked, error_asked}
@@ -48,25 +49,17 @@ closed_edit deed zero (suc k) (s ∷ ss) g = g
 closed_edit deed (suc j) zero (s ∷ ss) g = g
 closed_edit deed (suc j) (suc k) (s ∷ ss) g = closed_edit deed j k ss g
 
-closed_fail : (h : List Event) (n k : ℕ) (ss : List Stream) → closed_at ss k ≡ true → closed_at (map (fail_stream h n) ss) k ≡ true
+closed_fail : (h : List Event) (n k : ℕ) (ss : List Stream) → closed_at ss k ≡ true → closed_at (map (fail_stream (read h) n) ss) k ≡ true
 closed_fail h n k [] g = cc
-closed_fail h n zero (s ∷ ss) g = ap (λ b. b || asks_by n (phase h s)) g
+closed_fail h n zero (s ∷ ss) g = ap (λ b. b || asks_by n (phase (read h) s)) g
 closed_fail h n (suc k) (s ∷ ss) g = closed_fail h n k ss g
 
 closed_event : (e : Event) (h : List Event) (k : ℕ) → closed_at (streams h) k ≡ true → closed_at (streams (e ∷ h)) k ≡ true
-closed_event (Took m) h k g = g
-closed_event (Shut error) h k g = g
-closed_event (Put m expects) h k g = g
-closed_event Wrote h k g = g
 closed_event Fault h k g = closed_fail h (done h) k (streams h) g
-closed_event (Spent call) h k g = g
-closed_event (Made making) h k g = closed_append (streams h) (new_stream h (streams h) making ∷ []) k g
+closed_event (Made making) h k g = closed_append (streams h) (new_stream (past h) (streams h) making ∷ []) k g
 closed_event (Did j deed) h k g = closed_edit deed j k (streams h) g
-closed_event (Main limit) h k g = g
-closed_event OnBus h k g = g
-closed_event (Added m rule asked) h k g = closed_append (streams h) (asking_stream h m rule ∷ []) k g
-closed_event (Removed m) h k g = g
-closed_event (Named name) h k g = g
+closed_event (Added m rule asked) h k g = closed_append (streams h) (asking_stream (past h) m rule ∷ []) k g
+closed_event e h k g = g
 
 closed_events : (es h : List Event) (k : ℕ) → closed_at (streams h) k ≡ true → closed_at (streams (es ++ h)) k ≡ true
 closed_events [] h k g = g
@@ -79,7 +72,7 @@ closed_here k [] e = cc
 closed_here zero (s ∷ ss) e = refl
 closed_here (suc k) (s ∷ ss) e = closed_here k ss e
 
-there_made : (h : List Event) (o : Option Stream) → runs_at h o ≡ true → is_some o ≡ true
+there_made : (h : List Event) (o : Option Stream) → runs_at (read h) o ≡ true → is_some o ≡ true
 there_made h None e = cc
 there_made h (Some s) e = refl
 
@@ -178,7 +171,7 @@ denied_does k (answers.InvalidReply position) e = refl
 denied_does k (answers.Closed error) e = refl
 denied_does k a e = cc
 
-denied_made : (h : List Event) (o : Option Stream) → says_denied (shown_opening (opening_at h o)) ≡ true → is_some o ≡ true
+denied_made : (h : List Event) (o : Option Stream) → says_denied (shown_opening (opening_at (read h) (closing h) o)) ≡ true → is_some o ≡ true
 denied_made h None e = cc
 denied_made h (Some s) e = refl
 
@@ -200,18 +193,18 @@ not_running true false since e = cc
 not_running false gone since e = refl
 
 -- a stream that was closed doesn't run
-gone_runs : (h : List Event) (s : Stream) → s.gone ≡ true → runs h s ≡ false
+gone_runs : (h : List Event) (s : Stream) → s.gone ≡ true → runs (read h) s ≡ false
 unfolding runs
-gone_runs h s g = not_running s.opened s.gone (is_since (phase h s)) g
+gone_runs h s g = not_running s.opened s.gone (is_since (phase (read h) s)) g
 
-closed_there : (h : List Event) (ss : List Stream) (k : ℕ) → closed_at ss k ≡ true → runs_at h (slice_get ss k) ≡ false
+closed_there : (h : List Event) (ss : List Stream) (k : ℕ) → closed_at ss k ≡ true → runs_at (read h) (slice_get ss k) ≡ false
 closed_there h [] k g = cc
 closed_there h (s ∷ ss) zero g = gone_runs h s g
 closed_there h (s ∷ ss) (suc k) g = closed_there h ss k g
 
-closed_take_at : (h : List Event) (ss : List Stream) (k : ℕ) → closed_at ss k ≡ true → take_at h (slice_get ss k) ≡ Err errors.UnknownHandle
+closed_take_at : (h : List Event) (ss : List Stream) (k : ℕ) → closed_at ss k ≡ true → take_at (read h) (closing h) (slice_get ss k) ≡ Err errors.UnknownHandle
 closed_take_at h [] k g = cc
-closed_take_at h (s ∷ ss) zero g = ap (λ b. if b then Ok (take_by (held h s) (closing h) s.told) else Err errors.UnknownHandle) (gone_runs h s g)
+closed_take_at h (s ∷ ss) zero g = ap (λ b. if b then Ok (take_by (held (read h) s) (closing h) s.told) else Err errors.UnknownHandle) (gone_runs h s g)
 closed_take_at h (s ∷ ss) (suc k) g = closed_take_at h ss k g
 
 closed_given : (h : List Event) (ss : List Stream) (k : ℕ) → closed_at ss k ≡ true → given_by h (slice_get ss k) ≡ None
@@ -239,7 +232,7 @@ not_open : (t : Trail) (lane number : ℕ) → IsClosed t lane number → is_ope
 unfolding is_open
 not_open t lane number c = ap (is_open_at t.events) c.named ∙ closed_there t.events (streams t.events) c.k c.closed
 
-closed_opening : (h : List Event) (ss : List Stream) (k : ℕ) → closed_at ss k ≡ true → opening_at h (slice_get ss k) ≡ states.Unknown
+closed_opening : (h : List Event) (ss : List Stream) (k : ℕ) → closed_at ss k ≡ true → opening_at (read h) (closing h) (slice_get ss k) ≡ states.Unknown
 closed_opening h [] k g = cc
 closed_opening h (s ∷ ss) zero g = rw g refl
 closed_opening h (s ∷ ss) (suc k) g = closed_opening h ss k g

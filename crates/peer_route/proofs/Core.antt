@@ -15,19 +15,20 @@ use Rattle.peer_route.specs.declared.polled.Polled.{Polled}
 use Rattle.peer_route.specs.declared.polled.Polled.TheVariants as polled
 use Rattle.peer_route.specs.declared.calls.Slot.{Slot}
 use Rattle.peer_route.specs.declared.calls.Slot.TheVariants as slots
-use Rattle.peer_route.specs.History.{Event, Took, Shut, Wrote, Fault, Spent, Made, Making, Plain, Ruled, Cloned, Did, Main, Deed, Gave, Told, Gone, Asked, Call, edit, read, closing, worse, shuts, done, is_reply, is_serial, calls, found, bears, is_gone, first_of, pending, in_flight, is_awaited, waits_with, poll_answer, poll_events, polled_at, polled_by, Named, first_name}
-use Rattle.peer_route.specs.Streams.{busy, main, is_open, is_over as nothing_comes, take_answer, take_events}
+use Rattle.peer_route.specs.History.{Event, Took, Shut, Wrote, Fault, Spent, Made, Making, Plain, Ruled, Cloned, Did, Main, Deed, Gave, Told, Gone, Asked, Call, edit, read, closing, worse, shuts, done, is_reply, is_serial, calls, bears, first_of, main}
+use Rattle.peer_route.specs.Calls.{found, is_gone, pending, in_flight, is_awaited, waits_with, poll_answer, poll_events, polled_at, polled_by}
+use Rattle.peer_route.specs.Streams.{busy, is_open, is_over as nothing_comes, take_answer, take_events}
 use Rattle.peer_route.specs.Left.{Held, empty_held, lost_at, with_stream, wants_of, asked_for, main_asked, is_over, after_take, kept_at, held_gives, ended_by, LeftStreams, is_busy, is_empty_slot, is_inner_slot, reply_kept, slot_of, slot_by, is_flying, is_waiting, AreDistinct, CallsView, waiting_serial, is_number, LeftCalls, View, Left}
 use Rattle.peer_route.proofs.Plain.{list_any-map, list_any-along, position-None}
 use Rattle.peer_route.proofs.CallsMade.{calls_early, places, places_rise, places-edit, places-fail}
-use Rattle.peer_route.proofs.StreamsMade.{streams_shut, streams_wrote, streams_fault, streams_spent, streams_main, streams_made, streams_cloned, streams_ended, streams_named, taken_gives, ended_left, open_left, over_any}
+use Rattle.peer_route.proofs.StreamsMade.{streams_fault, streams_made, streams_cloned, streams_ended, taken_gives, ended_left, open_left, over_any}
 use Rattle.peer_route.proofs.StreamsTaken.{streams_taken}
 use Rattle.peer_route.proofs.RuledStreams.{streams_ruled, streams_asked, main_left}
 use Rattle.peer_route.proofs.Slots.{arrived, slots_took, arrived_nowhere, arrived_past, arrived_first, arrived_distinct, gone_distinct, slots_spent, slots_kept, slots_lost, waits-slot, own-slot}
 
 -- ---- a message comes
 
-taken_slots : (m : Seen) (v : CallsView) (h : List Event) → LeftCalls v h → map (arrived m) v.slots ≡ map (slot_of (Took m ∷ h)) (calls h)
+taken_slots : (m : Seen) (v : CallsView) (h : List Event) → LeftCalls v h → map (arrived m) v.slots ≡ map (slot_of (read (Took m ∷ h))) (calls h)
 taken_slots m v h left = ap (map (arrived m)) left.slots ∙ sym (slots_took m h (calls h) (calls_early h))
 
 pub took : (m : Seen) (v new : CallsView) (h : List Event) → LeftCalls v h → new.closing ≡ v.closing → new.slots ≡ map (arrived m) v.slots → LeftCalls new (Took m ∷ h)
@@ -82,15 +83,15 @@ slot_gives_by false true n None error = refl
 slot_gives_by false false n (Some m) error = refl
 slot_gives_by false false n None error = refl
 
-gives_at : (h : List Event) (o : Option Call) → slot_gives (option_map (slot_of h) o) (closing h) ≡ polled_at h o
+gives_at : (h : List Event) (o : Option Call) → slot_gives (option_map (slot_of (read h)) o) (closing h) ≡ polled_at (read h) (closing h) o
 unfolding slot_of
 gives_at h None = refl
-gives_at h (Some c) = slot_gives_by (is_gone c) c.inner c.serial (found h c) (closing h)
+gives_at h (Some c) = slot_gives_by (is_gone c) c.inner c.serial (found (read h) c) (closing h)
 
 pub gives : (v : CallsView) (h : List Event) (k : ℕ) → LeftCalls v h → slot_gives (slice_get v.slots k) v.closing ≡ poll_answer h k
 unfolding poll_answer
 gives v h k left =
-    rw left.slots (rw left.closing (rw (slice_get-map (slot_of h) (calls h) k) (gives_at h (slice_get (calls h) k))))
+    rw left.slots (rw left.closing (rw (slice_get-map (slot_of (read h)) (calls h) k) (gives_at h (slice_get (calls h) k))))
 
 -- a call's answer was given
 pub spent : (k : ℕ) (v new : CallsView) (h : List Event) → new.slots ≡ set v.slots k slots.Gone → new.closing ≡ v.closing → LeftCalls v h → LeftCalls new (Spent k ∷ h)
@@ -108,8 +109,8 @@ unfolding pending waiting_serial
 pending-left v h left serial =
     rw left.slots (rw left.closing
     (ap (λ b. is_none (closing h) && b)
-    (list_any-along (waits_with h serial) (λ c. is_waiting serial (slot_of h c)) (waits-slot h serial) (calls h)
-    ∙ sym (list_any-map (is_waiting serial) (slot_of h) (calls h)))))
+    (list_any-along (waits_with (read h) serial) (λ c. is_waiting serial (slot_of (read h) c)) (waits-slot h serial) (calls h)
+    ∙ sym (list_any-map (is_waiting serial) (slot_of (read h)) (calls h)))))
 
 -- one of the peer's own waits
 pub flying-left : (v : CallsView) (h : List Event) → LeftCalls v h → is_flying v ≡ in_flight h
@@ -117,8 +118,8 @@ unfolding is_flying in_flight
 flying-left v h left =
     rw left.slots (rw left.closing
     (ap (λ b. is_none (closing h) && b)
-    (list_any-map is_inner_slot (slot_of h) (calls h)
-    ∙ sym (list_any-along (is_awaited h) (λ c. is_inner_slot (slot_of h c)) (own-slot h) (calls h)))))
+    (list_any-map is_inner_slot (slot_of (read h)) (calls h)
+    ∙ sym (list_any-along (is_awaited (read h)) (λ c. is_inner_slot (slot_of (read h) c)) (own-slot h) (calls h)))))
 
 pub is_none_not : {A : Type 0} (o : Option A) (b : Bool) → is_some o ≡ not b → is_none o ≡ b
 is_none_not None true e = refl
@@ -186,10 +187,10 @@ bears_none serial m e = ap (λ b. b && is_serial m.reply_serial serial) e
 pub left_wrote : (v : View) (h : List Event) → Left v h → Left (record v { done = v.done + 1 }) (Wrote ∷ h)
 unfolding slot_of found
 left_wrote v h left = record {
-  calls = record { slots = left.calls.slots; closing = left.calls.closing; distinct = left.calls.distinct };
+  calls = left.calls;
   bus = left.bus;
   name = left.name;
-  streams = streams_wrote v.streams h left.streams;
+  streams = left.streams;
   main = left.main;
   read = left.read;
   last = left.last;
@@ -244,7 +245,7 @@ left_spent v cv k h left after = record {
   calls = after;
   bus = left.bus;
   name = left.name;
-  streams = streams_spent k v.streams h left.streams;
+  streams = left.streams;
   main = left.main;
   read = left.read;
   last = left.last;
@@ -301,7 +302,7 @@ left_shut v cv error h left after = record {
   calls = after;
   bus = left.bus;
   name = left.name;
-  streams = streams_shut error v.streams h left.streams;
+  streams = left.streams;
   main = left.main;
   read = left.read;
   last = left.last;
@@ -311,21 +312,9 @@ left_shut v cv error h left after = record {
   writer = ap (λ w. worse w (shuts error)) left.writer;
 }
 
-calls_made : (making : Making) (v : CallsView) (h : List Event) → LeftCalls v h → LeftCalls v (Made making ∷ h)
-unfolding slot_of found
-calls_made making v h left = record { slots = left.slots; closing = left.closing; distinct = left.distinct }
-
-calls_did : (k : ℕ) (deed : Deed) (v : CallsView) (h : List Event) → LeftCalls v h → LeftCalls v (Did k deed ∷ h)
-unfolding slot_of found
-calls_did k deed v h left = record { slots = left.slots; closing = left.closing; distinct = left.distinct }
-
-calls_main : (limit : ℕ) (v : CallsView) (h : List Event) → LeftCalls v h → LeftCalls v (Main limit ∷ h)
-unfolding slot_of found
-calls_main limit v h left = record { slots = left.slots; closing = left.closing; distinct = left.distinct }
-
 left_made_so : (v : View) (sv : List (Option Held)) (making : Making) (h : List Event) → Left v h → LeftStreams sv (Made making ∷ h) → Left (record v { streams = sv }) (Made making ∷ h)
 left_made_so v sv making h left after = record {
-  calls = calls_made making v.calls h left.calls;
+  calls = left.calls;
   bus = left.bus;
   name = left.name;
   streams = after;
@@ -355,10 +344,10 @@ left_cloned v k h there left = left_made_so v (v.streams ++ kept_at v.streams k 
 -- the main capacity is set
 pub left_main : (v : View) (limit : ℕ) (h : List Event) → Left v h → Left (record v { main = limit }) (Main limit ∷ h)
 left_main v limit h left = record {
-  calls = calls_main limit v.calls h left.calls;
+  calls = left.calls;
   bus = left.bus;
   name = left.name;
-  streams = streams_main limit v.streams h left.streams;
+  streams = left.streams;
   main = refl;
   read = left.read;
   last = left.last;
@@ -368,31 +357,11 @@ left_main v limit h left = record {
   writer = left.writer;
 }
 
--- the peer gets its name
-calls_named : (name : List ℕ) (v : CallsView) (h : List Event) → LeftCalls v h → LeftCalls v (Named name ∷ h)
-unfolding slot_of found
-calls_named name v h left = record { slots = left.slots; closing = left.closing; distinct = left.distinct }
-
-pub left_named : (v : View) (name : List ℕ) (h : List Event) → v.name ≡ None → Left v h → Left (record v { name = Some name }) (Named name ∷ h)
-left_named v name h none left = record {
-  calls = calls_named name v.calls h left.calls;
-  bus = left.bus;
-  streams = streams_named name v.streams h left.streams;
-  main = left.main;
-  read = left.read;
-  last = left.last;
-  outbox = left.outbox;
-  places = left.places;
-  done = left.done;
-  writer = left.writer;
-  name = ap (λ o. first_name o name) (sym none ∙ left.name);
-}
-
 -- a stream did something
 pub left_did : (v : View) (sv : List (Option Held)) (limit k : ℕ) (deed : Deed) (h : List Event) → Left v h → LeftStreams sv (Did k deed ∷ h) → limit ≡ main (Did k deed ∷ h)
     → Left (record v { streams = sv; main = limit }) (Did k deed ∷ h)
 left_did v sv limit k deed h left after capacity = record {
-  calls = calls_did k deed v.calls h left.calls;
+  calls = left.calls;
   bus = left.bus;
   name = left.name;
   streams = after;

@@ -13,8 +13,8 @@ use Rattle.peer_route.specs.declared.words.Words.{Words}
 use Rattle.peer_route.specs.declared.words.Words.TheVariants as words
 use Rattle.peer_route.specs.declared.answer.Answer.{Answer}
 use Rattle.peer_route.specs.declared.answer.Answer.TheVariants as answers
-use Rattle.peer_route.specs.History.{Event, Took, Shut, Put, Wrote, Fault, Spent, Made, Did, Main, OnBus, Added, Removed, Named, Deed, Gave, Told, Gone, Asked, Opened, done, edit, closing, writer}
-use Rattle.peer_route.specs.Streams.{Stream, streams, phase, asks_by, new_stream, asking_stream, done_by, fail_stream, leaving, gone_then}
+use Rattle.peer_route.specs.History.{Event, Wrote, Fault, Made, Did, Added, Deed, Gave, Told, Gone, Asked, Opened, done, edit, closing, writer, Stream, streams, phase, asks_by, new_stream, asking_stream, done_by, fail_stream, past, read}
+use Rattle.peer_route.specs.Streams.{leaving, gone_then}
 use Rattle.peer_route.specs.Parcel as parcels
 use Rattle.peer_route.specs.Trail.{Trail, place, failed_put, send_events, read_events, poll_spends, drop_spends, stream_makes, opened_does, take_does, clone_makes, removal, removals, wrote_each, fault_each, wrote_first, leave_with, unstream_does, queue_does, main_sets, second_place, events_of, open_makes, close_does}
 use Rattle.peer_route.specs.StreamLaws.{is_take}
@@ -26,18 +26,7 @@ use Rattle.peer_route.proofs.Edits.{edit_other, edit_here, get_append}
 abbrev pub Only : (ℕ → Deed → Type 0) → List Event → Type 0
 Only p [] = Unit {0}
 Only p (Did j deed ∷ xs) = p j deed × Only p xs
-Only p (Took m ∷ xs) = Only p xs
-Only p (Shut error ∷ xs) = Only p xs
-Only p (Put m expects ∷ xs) = Only p xs
-Only p (Wrote ∷ xs) = Only p xs
-Only p (Fault ∷ xs) = Only p xs
-Only p (Spent call ∷ xs) = Only p xs
-Only p (Made making ∷ xs) = Only p xs
-Only p (Main limit ∷ xs) = Only p xs
-Only p (OnBus ∷ xs) = Only p xs
-Only p (Added m rule asked ∷ xs) = Only p xs
-Only p (Removed m ∷ xs) = Only p xs
-Only p (Named name ∷ xs) = Only p xs
+Only p (e ∷ xs) = Only p xs
 
 only_failed : (p : ℕ → Deed → Type 0) (w : Writer) (e : Event) → Only p (e ∷ []) → Only p (failed_put w e)
 only_failed p writers.Fine e one = one
@@ -102,18 +91,7 @@ only_clone p (Some j) a = tt
 only_more : (p : ℕ → Deed → Type 0) (xs ys : List Event) → Only p xs → Only p ys → Only p (xs ++ ys)
 only_more p [] ys first rest = rest
 only_more p (Did j deed ∷ xs) ys first rest = (first.0, only_more p xs ys first.1 rest)
-only_more p (Took m ∷ xs) ys first rest = only_more p xs ys first rest
-only_more p (Shut error ∷ xs) ys first rest = only_more p xs ys first rest
-only_more p (Put m expects ∷ xs) ys first rest = only_more p xs ys first rest
-only_more p (Wrote ∷ xs) ys first rest = only_more p xs ys first rest
-only_more p (Fault ∷ xs) ys first rest = only_more p xs ys first rest
-only_more p (Spent call ∷ xs) ys first rest = only_more p xs ys first rest
-only_more p (Made making ∷ xs) ys first rest = only_more p xs ys first rest
-only_more p (Main limit ∷ xs) ys first rest = only_more p xs ys first rest
-only_more p (OnBus ∷ xs) ys first rest = only_more p xs ys first rest
-only_more p (Added m rule asked ∷ xs) ys first rest = only_more p xs ys first rest
-only_more p (Removed m ∷ xs) ys first rest = only_more p xs ys first rest
-only_more p (Named name ∷ xs) ys first rest = only_more p xs ys first rest
+only_more p (e ∷ xs) ys first rest = only_more p xs ys first rest
 
 only_wrote : (p : ℕ → Deed → Type 0) (rules : List Rule) → Only p (wrote_each rules)
 only_wrote p [] = tt
@@ -223,27 +201,19 @@ stays_append : (ss : List Stream) (x : Stream) (k : ℕ) (s : Stream) → Stays 
 stays_append ss x k s r = record { now_told = r.now_told; now_gone = r.now_gone; now_opened = r.now_opened; made = get_append k ss (x ∷ []) _ r.made; told_on = r.told_on }
 
 -- a failed write may end a stream that waits
-stays_failed : (h : List Event) (n : ℕ) (ss : List Stream) (k : ℕ) (s : Stream) → Stays ss k s → Stays (map (fail_stream h n) ss) k s
+stays_failed : (h : List Event) (n : ℕ) (ss : List Stream) (k : ℕ) (s : Stream) → Stays ss k s → Stays (map (fail_stream (read h) n) ss) k s
 stays_failed h n ss k s r = record {
   now_told = r.now_told;
-  now_gone = r.now_gone || asks_by n (phase h (record s { told = r.now_told; gone = r.now_gone; opened = r.now_opened }));
+  now_gone = r.now_gone || asks_by n (phase (read h) (record s { told = r.now_told; gone = r.now_gone; opened = r.now_opened }));
   now_opened = r.now_opened;
-  made = slice_get-map (fail_stream h n) ss k ∙ ap (option_map (fail_stream h n)) r.made;
+  made = slice_get-map (fail_stream (read h) n) ss k ∙ ap (option_map (fail_stream (read h) n)) r.made;
   told_on = r.told_on;
 }
 
 pub stays : (xs h : List Event) (k : ℕ) (s : Stream) → Only (Spares k) xs → slice_get (streams h) k ≡ Some s → Stays (streams (xs ++ h)) k s
 stays [] h k s only at = record { now_told = s.told; now_gone = s.gone; now_opened = s.opened; made = at; told_on = λ e. e }
 stays (Did j deed ∷ xs) h k s only at = stays_deed deed (streams (xs ++ h)) j k s only.0 (stays xs h k s only.1 at)
-stays (Made making ∷ xs) h k s only at = stays_append (streams (xs ++ h)) (new_stream (xs ++ h) (streams (xs ++ h)) making) k s (stays xs h k s only at)
-stays (Added m rule asked ∷ xs) h k s only at = stays_append (streams (xs ++ h)) (asking_stream (xs ++ h) m rule) k s (stays xs h k s only at)
+stays (Made making ∷ xs) h k s only at = stays_append (streams (xs ++ h)) (new_stream (past (xs ++ h)) (streams (xs ++ h)) making) k s (stays xs h k s only at)
+stays (Added m rule asked ∷ xs) h k s only at = stays_append (streams (xs ++ h)) (asking_stream (past (xs ++ h)) m rule) k s (stays xs h k s only at)
 stays (Fault ∷ xs) h k s only at = stays_failed (xs ++ h) (done (xs ++ h)) (streams (xs ++ h)) k s (stays xs h k s only at)
-stays (Took m ∷ xs) h k s only at = stays xs h k s only at
-stays (Shut error ∷ xs) h k s only at = stays xs h k s only at
-stays (Put m expects ∷ xs) h k s only at = stays xs h k s only at
-stays (Wrote ∷ xs) h k s only at = stays xs h k s only at
-stays (Spent call ∷ xs) h k s only at = stays xs h k s only at
-stays (Main limit ∷ xs) h k s only at = stays xs h k s only at
-stays (OnBus ∷ xs) h k s only at = stays xs h k s only at
-stays (Removed m ∷ xs) h k s only at = stays xs h k s only at
-stays (Named name ∷ xs) h k s only at = stays xs h k s only at
+stays (e ∷ xs) h k s only at = stays xs h k s only at

@@ -15,8 +15,9 @@ use Rattle.peer_route.specs.declared.words.Words.TheVariants as words
 use Rattle.peer_route.specs.declared.answer.Answer.{Answer}
 use Rattle.peer_route.specs.declared.answer.Answer.TheVariants as answers
 use Rattle.peer_route.specs.declared.answer.Entry.{Entry}
-use Rattle.peer_route.specs.History.{Event, Took, Shut, Put, Wrote, Fault, Spent, Made, Did, Main, OnBus, Added, Removed, Named, Told, read, closing, first_of, by_position}
-use Rattle.peer_route.specs.Streams.{Stream, phase, streams, plain_stream, tell, matched, offered, held, runs, limit_of, busy, is_full, take_by, take_at, take_answer}
+use Rattle.peer_route.specs.History.{Event, Shut, Did, Told, read, closing, first_of, Stream, phase, streams, plain_stream, tell, capacities, past}
+use Rattle.peer_route.specs.Calls.{by_position}
+use Rattle.peer_route.specs.Streams.{matched, offered, held, runs, limit_of, busy, is_full, take_by, take_at, take_answer}
 use Rattle.peer_route.specs.Parcel.{Setting}
 use Rattle.peer_route.specs.Trail.{Trail, place, count, trail, more, read_events, take_does, second_place, events_of, new_streams}
 use Rattle.peer_route.specs.Answers.{IsAnswer, IsReadOf, Legal, shown_take, take_of, take_before_of}
@@ -39,25 +40,14 @@ record Over (t : Trail) (lane number : ℕ) : Type 0 where
   error : Error
   named : place 0 lane number t.streams ≡ Some k
   made : slice_get (streams t.events) k ≡ Some stream
-  nothing : held t.events stream ≡ []
+  nothing : held (read t.events) stream ≡ []
   told : stream.told ≡ true
   shut : closing t.events ≡ Some error
 
 pub closing_stays : (xs h : List Event) (error : Error) → closing h ≡ Some error → closing (xs ++ h) ≡ Some error
 closing_stays [] h error e = e
 closing_stays (Shut other ∷ xs) h error e = ap (λ o. first_of o other) (closing_stays xs h error e)
-closing_stays (Took m ∷ xs) h error e = closing_stays xs h error e
-closing_stays (Put m expects ∷ xs) h error e = closing_stays xs h error e
-closing_stays (Wrote ∷ xs) h error e = closing_stays xs h error e
-closing_stays (Fault ∷ xs) h error e = closing_stays xs h error e
-closing_stays (Spent call ∷ xs) h error e = closing_stays xs h error e
-closing_stays (Made making ∷ xs) h error e = closing_stays xs h error e
-closing_stays (Did j deed ∷ xs) h error e = closing_stays xs h error e
-closing_stays (Main limit ∷ xs) h error e = closing_stays xs h error e
-closing_stays (OnBus ∷ xs) h error e = closing_stays xs h error e
-closing_stays (Added m rule asked ∷ xs) h error e = closing_stays xs h error e
-closing_stays (Removed m ∷ xs) h error e = closing_stays xs h error e
-closing_stays (Named name ∷ xs) h error e = closing_stays xs h error e
+closing_stays (event ∷ xs) h error e = closing_stays xs h error e
 
 -- a closed peer reads nothing more
 reads_none : (t : Trail) (lane : ℕ) (w : Words) (a : Answer) (error : Error) → closing t.events ≡ Some error
@@ -93,21 +83,21 @@ ended_if : (open_ : Bool) (r : Result (Polled Seen) Error) → r ≡ (if open_ t
 ended_if true r e = inl e
 ended_if false r e = inr e
 
-over_gives : (h : List Event) (k : ℕ) (s : Stream) (error : Error) → slice_get (streams h) k ≡ Some s → held h s ≡ [] → s.told ≡ true → closing h ≡ Some error
+over_gives : (h : List Event) (k : ℕ) (s : Stream) (error : Error) → slice_get (streams h) k ≡ Some s → held (read h) s ≡ [] → s.told ≡ true → closing h ≡ Some error
     → (take_answer h k ≡ Ok polled.Ended) ⊎ (take_answer h k ≡ Err errors.UnknownHandle)
 unfolding take_answer
 over_gives h k s error made nothing told shut =
-    ended_if (runs h s) (take_answer h k) (ap (take_at h) made ∙ over_by (runs h s) (held h s) (closing h) s.told error nothing shut told)
+    ended_if (runs (read h) s) (take_answer h k) (ap (take_at (read h) (closing h)) made ∙ over_by (runs (read h) s) (held (read h) s) (closing h) s.told error nothing shut told)
 
 -- a stream that gives an item is another one
-holds_other : (h : List Event) (j k : ℕ) (s s₂ : Stream) (m : Seen) (ms : List Seen) → slice_get (streams h) j ≡ Some s → held h s ≡ m ∷ ms
-    → slice_get (streams h) k ≡ Some s₂ → held h s₂ ≡ [] → j ≢ k
+holds_other : (h : List Event) (j k : ℕ) (s s₂ : Stream) (m : Seen) (ms : List Seen) → slice_get (streams h) j ≡ Some s → held (read h) s ≡ m ∷ ms
+    → slice_get (streams h) k ≡ Some s₂ → held (read h) s₂ ≡ [] → j ≢ k
 holds_other h j k s s₂ m ms at items made nothing same =
     let one : s ≡ s₂ = (let q : Some s ≡ Some s₂ = sym at ∙ ap (slice_get (streams h)) same ∙ made in cc) in
-    let e : m ∷ ms ≡ [] = sym items ∙ ap (held h) one ∙ nothing in
+    let e : m ∷ ms ≡ [] = sym items ∙ ap (held (read h)) one ∙ nothing in
     cc
 
-over_spares : (t : Trail) (lane₂ : ℕ) (w : Words) (a : Answer) (k : ℕ) (s : Stream) → IsAnswer t lane₂ w a → slice_get (streams t.events) k ≡ Some s → held t.events s ≡ []
+over_spares : (t : Trail) (lane₂ : ℕ) (w : Words) (a : Answer) (k : ℕ) (s : Stream) → IsAnswer t lane₂ w a → slice_get (streams t.events) k ≡ Some s → held (read t.events) s ≡ []
     → Only (Spares k) (events_of t lane₂ w a)
 over_spares t lane₂ w a k s is made nothing =
     only_entry (Spares k) t lane₂ w a (λ j. tt) (λ j. tt) (λ j n. tt)
@@ -181,7 +171,7 @@ takes_do t lane number w a (inr is) = ap (λ x. events_of t lane x a) is.1
 
 -- after the last answer the stream is over
 over_told : (t : Trail) (e : Entry) (number k : ℕ) (s : Stream) (error : Error) → IsTake number e.words → place 0 e.lane number t.streams ≡ Some k
-    → slice_get (streams t.events) k ≡ Some s → held t.events s ≡ [] → closing t.events ≡ Some error → e.answer ≡ answers.Closed error → Over (more t e) e.lane number
+    → slice_get (streams t.events) k ≡ Some s → held (read t.events) s ≡ [] → closing t.events ≡ Some error → e.answer ≡ answers.Closed error → Over (more t e) e.lane number
 unfolding held offered matched phase
 over_told t e number k s error w named made nothing shut is =
     let xs : events_of t e.lane e.words e.answer ≡ Did k Told ∷ [] = takes_do t e.lane number e.words e.answer w ∙ told_does (place 0 e.lane number t.streams) e.answer k error named is in
@@ -191,13 +181,13 @@ over_told t e number k s error w named made nothing shut is =
       error = error;
       named = place_append 0 e.lane number t.streams (new_streams t e.lane e.words e.answer) k named;
       made = ap (λ ys. slice_get (streams (ys ++ t.events)) k) xs ∙ edit_here tell k (streams t.events) s made;
-      nothing = ap (λ ys. held (ys ++ t.events) (tell s)) xs ∙ nothing;
+      nothing = ap (λ ys. held (read (ys ++ t.events)) (tell s)) xs ∙ nothing;
       told = refl;
       shut = closing_stays (events_of t e.lane e.words e.answer) t.events error shut;
     }
 
 over_ended : (t : Trail) (e : Entry) (number k : ℕ) (s : Stream) (error : Error) → IsTake number e.words → place 0 e.lane number t.streams ≡ Some k
-    → slice_get (streams t.events) k ≡ Some s → held t.events s ≡ [] → closing t.events ≡ Some error → s.told ≡ true → e.answer ≡ answers.Ended → Over (more t e) e.lane number
+    → slice_get (streams t.events) k ≡ Some s → held (read t.events) s ≡ [] → closing t.events ≡ Some error → s.told ≡ true → e.answer ≡ answers.Ended → Over (more t e) e.lane number
 over_ended t e number k s error w named made nothing shut told is =
     let xs : events_of t e.lane e.words e.answer ≡ [] = takes_do t e.lane number e.words e.answer w ∙ ended_does (place 0 e.lane number t.streams) e.answer k named is in
     record {
@@ -206,7 +196,7 @@ over_ended t e number k s error w named made nothing shut told is =
       error = error;
       named = place_append 0 e.lane number t.streams (new_streams t e.lane e.words e.answer) k named;
       made = ap (λ ys. slice_get (streams (ys ++ t.events)) k) xs ∙ made;
-      nothing = ap (λ ys. held (ys ++ t.events) s) xs ∙ nothing;
+      nothing = ap (λ ys. held (read (ys ++ t.events)) s) xs ∙ nothing;
       told = told;
       shut = closing_stays (events_of t e.lane e.words e.answer) t.events error shut;
     }
@@ -242,7 +232,7 @@ drained setting older e number error legal w a = drained_by (trail setting older
 
 -- ---- a stream that is made after the peer was closed
 
-held_nothing : (h : List Event) → held h (plain_stream h) ≡ []
+held_nothing : (h : List Event) → held (read h) (plain_stream (past h)) ≡ []
 unfolding held offered matched phase
 held_nothing h = drop-length (read h)
 
@@ -251,10 +241,10 @@ over_made : (t : Trail) (lane : ℕ) (error : Error) → length t.streams ≡ le
 unfolding held offered matched phase
 over_made t lane error e shut = record {
   k = length t.streams;
-  stream = plain_stream t.events;
+  stream = plain_stream (past t.events);
   error = error;
   named = place_new 0 lane t.streams ∙ ap Some (omega arith);
-  made = ap (slice_get (streams t.events ++ plain_stream t.events ∷ [])) e ∙ get_new (streams t.events) (plain_stream t.events);
+  made = ap (slice_get (streams t.events ++ plain_stream (past t.events) ∷ [])) e ∙ get_new (streams t.events) (plain_stream (past t.events));
   nothing = held_nothing t.events;
   told = ap is_some shut;
   shut = shut;
@@ -303,20 +293,20 @@ open_full : (o : Option Error) (b : Bool) → o ≡ None → (is_none o && b) �
 open_full None b e f = f
 open_full (Some error) b e f = cc
 
-full_over : (h : List Event) (s : Stream) → is_full h s ≡ true → (s.gone ≡ false) × (limit_of h s.rule < length (held h s))
+full_over : (h : List Event) (s : Stream) → is_full (capacities h) (read h) s ≡ true → (s.gone ≡ false) × (limit_of (capacities h) s.rule < length (held (read h) s))
 unfolding is_full
 full_over h s e =
-    let parts = and_parts (not s.gone) (nat_lt (limit_of h s.rule) (length (held h s))) e in
-    (not-true s.gone parts.0, ltb-true (limit_of h s.rule) (length (held h s)) parts.1)
+    let parts = and_parts (not s.gone) (nat_lt (limit_of (capacities h) s.rule) (length (held (read h) s))) e in
+    (not-true s.gone parts.0, ltb-true (limit_of (capacities h) s.rule) (length (held (read h) s)) parts.1)
 
-over_full : (h : List Event) (s : Stream) → s.gone ≡ false → limit_of h s.rule < length (held h s) → is_full h s ≡ true
+over_full : (h : List Event) (s : Stream) → s.gone ≡ false → limit_of (capacities h) s.rule < length (held (read h) s) → is_full (capacities h) (read h) s ≡ true
 unfolding is_full
-over_full h s still e = ap (λ b. not b && nat_lt (limit_of h s.rule) (length (held h s))) still ∙ lt-ltb (limit_of h s.rule) (length (held h s)) e
+over_full h s still e = ap (λ b. not b && nat_lt (limit_of (capacities h) s.rule) (length (held (read h) s))) still ∙ lt-ltb (limit_of (capacities h) s.rule) (length (held (read h) s)) e
 
 too_many : (h : List Event) → closing h ≡ None → busy h ≡ true → HoldsTooMany h
 unfolding busy
 too_many h open_ e =
-    let at = any_at (is_full h) (streams h) (open_full (closing h) (list_any (is_full h) (streams h)) open_ e) in
+    let at = any_at (is_full (capacities h) (read h)) (streams h) (open_full (closing h) (list_any (is_full (capacities h) (read h)) (streams h)) open_ e) in
     let full = full_over h at.1 at.3 in
     record { is_open = open_; k = at.0; stream = at.1; made = at.2; still = full.0; over = full.1 }
 
@@ -327,7 +317,7 @@ busy_only setting older e legal w a =
 
 busy_of : (h : List Event) → HoldsTooMany h → busy h ≡ true
 unfolding busy
-busy_of h many = rw many.is_open (any_from (is_full h) (streams h) many.k many.stream many.made (over_full h many.stream many.still many.over))
+busy_of h many = rw many.is_open (any_from (is_full (capacities h) (read h)) (streams h) many.k many.stream many.made (over_full h many.stream many.still many.over))
 
 busy_answer : (o : Option Error) (full : Bool) (n : ℕ) (a : Answer) → o ≡ None → full ≡ true → IsReadOf o full n a → a ≡ answers.Busy
 busy_answer (Some error) full n a e f is = cc

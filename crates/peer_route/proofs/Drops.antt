@@ -8,7 +8,8 @@ use Rattle.wire_message.specs.declared.error.Error.{Error}
 use Rattle.wire_message.specs.declared.error.Error.TheVariants as errors
 use Rattle.peer_route.specs.declared.calls.Slot.{Slot}
 use Rattle.peer_route.specs.declared.calls.Slot.TheVariants as slots
-use Rattle.peer_route.specs.History.{Event, Call, calls, found, is_gone, drop_answer, drop_events, dropped_at}
+use Rattle.peer_route.specs.History.{Event, Call, calls, read}
+use Rattle.peer_route.specs.Calls.{found, is_gone, drop_answer, drop_events, dropped_at}
 use Rattle.peer_route.specs.Left.{is_over, is_busy, is_empty_slot, slot_of, slot_by, CallsView, LeftCalls, View, Left}
 use Rattle.peer_route.proofs.Core.{calls_of, left_spent, left_same}
 
@@ -26,14 +27,14 @@ slot_drops_by false true n None = refl
 slot_drops_by false false n (Some m) = refl
 slot_drops_by false false n None = refl
 
-drops_at : (h : List Event) (o : Option Call) → slot_drops (option_map (slot_of h) o) ≡ dropped_at o
+drops_at : (h : List Event) (o : Option Call) → slot_drops (option_map (slot_of (read h)) o) ≡ dropped_at o
 unfolding slot_of
 drops_at h None = refl
-drops_at h (Some c) = slot_drops_by (is_gone c) c.inner c.serial (found h c)
+drops_at h (Some c) = slot_drops_by (is_gone c) c.inner c.serial (found (read h) c)
 
 pub drops : (v : CallsView) (h : List Event) (k : ℕ) → LeftCalls v h → slot_drops (slice_get v.slots k) ≡ drop_answer h k
 unfolding drop_answer
-drops v h k left = rw left.slots (rw (slice_get-map (slot_of h) (calls h) k) (drops_at h (slice_get (calls h) k)))
+drops v h k left = rw left.slots (rw (slice_get-map (slot_of (read h)) (calls h) k) (drops_at h (slice_get (calls h) k)))
 
 pub drops_slot : (ss : List Slot) (error : Option Error) (v : CallsView) (h : List Event) (k : ℕ) (o : Option Slot)
     → calls_of ss error ≡ v → slice_get ss k ≡ o → LeftCalls v h → slot_drops o ≡ drop_answer h k

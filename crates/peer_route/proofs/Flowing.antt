@@ -8,8 +8,8 @@ use Rattle.peer_route.specs.declared.words.Words.TheVariants as words
 use Rattle.peer_route.specs.declared.answer.Answer.{Answer}
 use Rattle.peer_route.specs.declared.answer.Answer.TheVariants as answers
 use Rattle.peer_route.specs.declared.answer.Entry.{Entry}
-use Rattle.peer_route.specs.History.{Event, Did, Gave}
-use Rattle.peer_route.specs.Streams.{Stream, streams, give, held}
+use Rattle.peer_route.specs.History.{Event, Did, Gave, Stream, streams, give, read}
+use Rattle.peer_route.specs.Streams.{held}
 use Rattle.peer_route.specs.Parcel.{Setting}
 use Rattle.peer_route.specs.Trail.{Trail, Names, place, trail, take_does, events_of, new_streams}
 use Rattle.peer_route.specs.Answers.{IsAnswer, Legal}
@@ -25,7 +25,7 @@ use Rattle.peer_route.proofs.Takes.{TakeOf, Quiet, Item, Tells, Ends, take_entry
 pub record Flowing (goes : List Event → Stream → List ℕ → Type 0) : Type 0 where
   pub along : (xs h : List Event) (s : Stream) (given : List ℕ) → goes h s given → goes (xs ++ h) s given
   pub same : (h : List Event) (s : Stream) (given : List ℕ) (a b c : Bool) → goes h s given → goes h (record s { told = a; gone = b; opened = c }) given
-  pub item : (h : List Event) (k : ℕ) (s : Stream) (given : List ℕ) (m : Seen) (ms : List Seen) → held h s ≡ m ∷ ms → goes h s given
+  pub item : (h : List Event) (k : ℕ) (s : Stream) (given : List ℕ) (m : Seen) (ms : List Seen) → held (read h) s ≡ m ∷ ms → goes h s given
       → goes (Did k Gave ∷ h) (give s) (given ++ m.position ∷ [])
 
 -- Behind these events the lane's number names a stream, and these are the positions of what it gave.
@@ -58,7 +58,7 @@ module _ (goes : List Event → Stream → List ℕ → Type 0) (steps : Flowing
       }
 
   gave : (names later : Names) (h : List Event) (lane number : ℕ) (given : List ℕ) (f : Flow goes names h lane number given)
-      (m : Seen) (ms : List Seen) → held h f.stream ≡ m ∷ ms → Flow goes (names ++ later) (Did f.k Gave ∷ h) lane number (given ++ m.position ∷ [])
+      (m : Seen) (ms : List Seen) → held (read h) f.stream ≡ m ∷ ms → Flow goes (names ++ later) (Did f.k Gave ∷ h) lane number (given ++ m.position ∷ [])
   gave names later h lane number given f m ms e = record {
     k = f.k;
     stream = give f.stream;
@@ -79,13 +79,13 @@ module _ (goes : List Event → Stream → List ℕ → Type 0) (steps : Flowing
       (kept names later xs h lane number given f only)
 
   own_item : (names later : Names) (h : List Event) (a : Answer) (lane number : ℕ) (given : List ℕ) (f : Flow goes names h lane number given)
-      (k : ℕ) (s : Stream) (m : Seen) (ms : List Seen) → k ≡ f.k → slice_get (streams h) k ≡ Some s → held h s ≡ m ∷ ms → a ≡ answers.Item m.position
+      (k : ℕ) (s : Stream) (m : Seen) (ms : List Seen) → k ≡ f.k → slice_get (streams h) k ≡ Some s → held (read h) s ≡ m ∷ ms → a ≡ answers.Item m.position
       → Flow goes (names ++ later) (Did k Gave ∷ h) lane number (given ++ item_by true a)
   own_item names later h a lane number given f k s m ms same at e is =
       let one : f.stream ≡ s = (let q : Some f.stream ≡ Some s = sym f.made ∙ ap (slice_get (streams h)) (sym same) ∙ at in cc) in
       subst (λ j. Flow goes (names ++ later) (Did j Gave ∷ h) lane number (given ++ item_by true a)) (sym same)
       (flow_along (names ++ later) (Did f.k Gave ∷ h) lane number (given ++ m.position ∷ []) (given ++ item_by true a) (ap (λ x. given ++ item_by true x) (sym is))
-      (gave names later h lane number given f m ms (ap (held h) one ∙ e)))
+      (gave names later h lane number given f m ms (ap (held (read h)) one ∙ e)))
 
   -- a take of the stream
   flow_own : (names later : Names) (h : List Event) (a : Answer) (lane number : ℕ) (given : List ℕ) → TakeOf h (place 0 lane number names) a

@@ -10,8 +10,8 @@ use Rattle.wire_message.specs.declared.error.Error.TheVariants as errors
 use Rattle.rule_match.specs.Rule.{Rule}
 use Rattle.peer_route.specs.declared.polled.Polled.{Polled}
 use Rattle.peer_route.specs.declared.polled.Polled.TheVariants as polled
-use Rattle.peer_route.specs.History.{Event, Took, Fault, Made, Did, Main, Added, Making, Plain, Ruled, Cloned, Gone, Asked, Opened, done, read, closing, edit}
-use Rattle.peer_route.specs.Streams.{Stream, Phase, Asking, Denied, Since, since_in, asks_by, phase, streams, clone_of, new_stream, asking_stream, fail_stream, give, tell, end_one, open_one, accepted, matched, offered, held, item_at, gave_last, all_given, runs, take_by, take_at, take_answer, take_events}
+use Rattle.peer_route.specs.History.{Event, Took, Fault, Made, Did, Main, Added, Making, Plain, Ruled, Cloned, Gone, Asked, Opened, done, read, closing, edit, Stream, Phase, Asking, Denied, Since, asks_by, phase, streams, clone_of, new_stream, asking_stream, fail_stream, give, tell, end_one, open_one, past}
+use Rattle.peer_route.specs.Streams.{since_in, accepted, matched, offered, held, item_at, gave_last, all_given, runs, take_by, take_at, take_answer, take_events}
 use Rattle.peer_route.specs.Left.{IsWithin, View, Left}
 use Rattle.peer_route.specs.Trail.{given_by, given_at, kept_by, kept_at}
 use Rattle.peer_route.proofs.Edits.{edit_nothing, map_edit, map_edit_all, set_edit, get_before, get_first}
@@ -19,21 +19,21 @@ use Rattle.peer_route.proofs.Matched.{arriving, matched_took, matched_same}
 use Rattle.peer_route.proofs.StreamsMade.{runs_so}
 
 -- what was given, by what the stream offers
-gave_by : (h : List Event) (s : Stream) (ms : List Seen) → offered h s ≡ ms → gave_last h s ≡ (if s.gone then None else item_at ms s.taken)
+gave_by : (h : List Event) (s : Stream) (ms : List Seen) → offered (read h) s ≡ ms → gave_last (read h) s ≡ (if s.gone then None else item_at ms s.taken)
 unfolding gave_last
 gave_by h s ms e = ap (λ xs. if s.gone then None else item_at xs s.taken) e
 
-gave_same : (g h : List Event) (s : Stream) → read g ≡ read h → gave_last g s ≡ gave_last h s
+gave_same : (g h : List Event) (s : Stream) → read g ≡ read h → gave_last (read g) s ≡ gave_last (read h) s
 unfolding gave_last offered
-gave_same g h s e = gave_by g s (offered h s) (ap (drop s.skip) (matched_same g h s e))
+gave_same g h s e = gave_by g s (offered (read h) s) (ap (drop s.skip) (matched_same g h s e))
 
-each_same : (g h : List Event) (ss : List Stream) → read g ≡ read h → map (gave_last g) ss ≡ map (gave_last h) ss
+each_same : (g h : List Event) (ss : List Stream) → read g ≡ read h → map (gave_last (read g)) ss ≡ map (gave_last (read h)) ss
 each_same g h [] e = refl
 each_same g h (s ∷ ss) e = let a = gave_same g h s e in let b = each_same g h ss e in cc
 
 -- what is asked of a history that read the same messages and has the same streams is the same
 pub given_same : (g h : List Event) → read g ≡ read h → streams g ≡ streams h → all_given g ≡ all_given h
-given_same g h r s = each_same g h (streams g) r ∙ ap (map (gave_last h)) s
+given_same g h r s = each_same g h (streams g) r ∙ ap (map (gave_last (read h))) s
 
 -- ---- a message comes
 
@@ -41,17 +41,17 @@ item_push : (taken : ℕ) (ms xs : List Seen) → taken ≤ length ms → item_a
 item_push zero ms xs le = refl
 item_push (suc n) ms xs le = get_before n ms xs (omega arith)
 
-gave_took : (m : Seen) (h : List Event) (s : Stream) → IsWithin h s → gave_last (Took m ∷ h) s ≡ gave_last h s
+gave_took : (m : Seen) (h : List Event) (s : Stream) → IsWithin (read h) s → gave_last (read (Took m ∷ h)) s ≡ gave_last (read h) s
 unfolding gave_last offered
 gave_took m h s w =
     let passed = w.passed in
-    let some = arriving (phase h s) s.rule m in
-    let more : offered (Took m ∷ h) s ≡ offered h s ++ some =
-    ap (drop s.skip) (matched_took m h s w.start) ∙ drop-append-le s.skip (matched h s) some (omega arith) in
-    gave_by (Took m ∷ h) s (offered h s ++ some) more
-    ∙ ap (λ o. if s.gone then None else o) (item_push s.taken (offered h s) some (omega (arith, length-drop s.skip (matched h s))))
+    let some = arriving (phase (read h) s) s.rule m in
+    let more : offered (read (Took m ∷ h)) s ≡ offered (read h) s ++ some =
+    ap (drop s.skip) (matched_took m h s w.start) ∙ drop-append-le s.skip (matched (read h) s) some (omega arith) in
+    gave_by (Took m ∷ h) s (offered (read h) s ++ some) more
+    ∙ ap (λ o. if s.gone then None else o) (item_push s.taken (offered (read h) s) some (omega (arith, length-drop s.skip (matched (read h) s))))
 
-each_took : (m : Seen) (h : List Event) (ss : List Stream) → AllByRecursion (IsWithin h) ss → map (gave_last (Took m ∷ h)) ss ≡ map (gave_last h) ss
+each_took : (m : Seen) (h : List Event) (ss : List Stream) → AllByRecursion (IsWithin (read h)) ss → map (gave_last (read (Took m ∷ h))) ss ≡ map (gave_last (read h)) ss
 each_took m h [] w = refl
 each_took m h (s ∷ ss) w = let a = gave_took m h s w.0 in let b = each_took m h ss w.1 in cc
 
@@ -87,11 +87,11 @@ failed_by n skip taken rule false (Asking add) =
     either true o e = sym e
     either false o e = refl
 
-gave_failed : (h : List Event) (n : ℕ) (s : Stream) → gave_last (Fault ∷ h) (fail_stream h n s) ≡ gave_last h s
+gave_failed : (h : List Event) (n : ℕ) (s : Stream) → gave_last (read (Fault ∷ h)) (fail_stream (read h) n s) ≡ gave_last (read h) s
 unfolding gave_last offered matched phase
-gave_failed h n s = failed_by n s.skip s.taken s.rule s.gone (phase h s)
+gave_failed h n s = failed_by n s.skip s.taken s.rule s.gone (phase (read h) s)
 
-each_failed : (h : List Event) (n : ℕ) (ss : List Stream) → map (gave_last (Fault ∷ h)) (map (fail_stream h n) ss) ≡ map (gave_last h) ss
+each_failed : (h : List Event) (n : ℕ) (ss : List Stream) → map (gave_last (read (Fault ∷ h))) (map (fail_stream (read h) n) ss) ≡ map (gave_last (read h)) ss
 each_failed h n [] = refl
 each_failed h n (s ∷ ss) = let a = gave_failed h n s in let b = each_failed h n ss in cc
 
@@ -101,12 +101,12 @@ given_fault h = each_failed h (done h) (streams h)
 
 -- ---- a stream is made, closed, or asks for a capacity
 
-clone_gave : (g h : List Event) (o : Option Stream) → gave_last g (clone_of h o) ≡ None
+clone_gave : (g h : List Event) (o : Option Stream) → gave_last (read g) (clone_of (past h) o) ≡ None
 unfolding gave_last
 clone_gave g h None = refl
 clone_gave g h (Some s) = refl
 
-new_gave : (g h : List Event) (making : Making) → gave_last g (new_stream h (streams h) making) ≡ None
+new_gave : (g h : List Event) (making : Making) → gave_last (read g) (new_stream (past h) (streams h) making) ≡ None
 unfolding gave_last
 new_gave g h Plain = clone_gave g h None
 new_gave g h (Ruled rule asked) = refl
@@ -115,22 +115,22 @@ new_gave g h (Cloned t) = clone_gave g h (slice_get (streams h) t)
 -- a stream that was made, a clone too, gave nothing yet
 pub given_made : (making : Making) (h : List Event) → all_given (Made making ∷ h) ≡ all_given h ++ None ∷ []
 given_made making h =
-    map-append (gave_last (Made making ∷ h)) (streams h) (new_stream h (streams h) making ∷ [])
-    ∙ ap (λ os. os ++ gave_last (Made making ∷ h) (new_stream h (streams h) making) ∷ []) (each_same (Made making ∷ h) h (streams h) refl)
+    map-append (gave_last (read (Made making ∷ h))) (streams h) (new_stream (past h) (streams h) making ∷ [])
+    ∙ ap (λ os. os ++ gave_last (read (Made making ∷ h)) (new_stream (past h) (streams h) making) ∷ []) (each_same (Made making ∷ h) h (streams h) refl)
     ∙ ap (λ o. all_given h ++ o ∷ []) (new_gave (Made making ∷ h) h making)
 
-asking_gave : (g h : List Event) (m : Seen) (rule : Rule) → gave_last g (asking_stream h m rule) ≡ None
+asking_gave : (g h : List Event) (m : Seen) (rule : Rule) → gave_last (read g) (asking_stream (past h) m rule) ≡ None
 unfolding gave_last
 asking_gave g h m rule = refl
 
 -- nor did one that waits for the return to its AddMatch
 pub given_added : (m : Seen) (rule : Rule) (asked : Option ℕ) (h : List Event) → all_given (Added m rule asked ∷ h) ≡ all_given h ++ None ∷ []
 given_added m rule asked h =
-    map-append (gave_last (Added m rule asked ∷ h)) (streams h) (asking_stream h m rule ∷ [])
-    ∙ ap (λ os. os ++ gave_last (Added m rule asked ∷ h) (asking_stream h m rule) ∷ []) (each_same (Added m rule asked ∷ h) h (streams h) refl)
+    map-append (gave_last (read (Added m rule asked ∷ h))) (streams h) (asking_stream (past h) m rule ∷ [])
+    ∙ ap (λ os. os ++ gave_last (read (Added m rule asked ∷ h)) (asking_stream (past h) m rule) ∷ []) (each_same (Added m rule asked ∷ h) h (streams h) refl)
     ∙ ap (λ o. all_given h ++ o ∷ []) (asking_gave (Added m rule asked ∷ h) h m rule)
 
-opened_gave : (h : List Event) (s : Stream) → gave_last h (open_one s) ≡ gave_last h s
+opened_gave : (h : List Event) (s : Stream) → gave_last (read h) (open_one s) ≡ gave_last (read h) s
 unfolding gave_last offered matched phase
 opened_gave h s = refl
 
@@ -138,10 +138,10 @@ opened_gave h s = refl
 pub given_opened : (h : List Event) (k : ℕ) → all_given (Did k Opened ∷ h) ≡ all_given h
 given_opened h k =
     each_same (Did k Opened ∷ h) h (edit k open_one (streams h)) refl
-    ∙ map_edit_all (gave_last h) open_one (λ o. o) (streams h) k (opened_gave h)
+    ∙ map_edit_all (gave_last (read h)) open_one (λ o. o) (streams h) k (opened_gave h)
     ∙ edit_nothing k (all_given h)
 
-closed_gave : (h : List Event) (s : Stream) → gave_last h (end_one s) ≡ None
+closed_gave : (h : List Event) (s : Stream) → gave_last (read h) (end_one s) ≡ None
 unfolding gave_last
 closed_gave h s = refl
 
@@ -149,7 +149,7 @@ closed_gave h s = refl
 pub given_gone : (h : List Event) (k : ℕ) → all_given (Did k Gone ∷ h) ≡ slice_set (all_given h) k None
 given_gone h k =
     each_same (Did k Gone ∷ h) h (edit k end_one (streams h)) refl
-    ∙ map_edit_all (gave_last h) end_one (λ o. None) (streams h) k (closed_gave h)
+    ∙ map_edit_all (gave_last (read h)) end_one (λ o. None) (streams h) k (closed_gave h)
     ∙ sym (set_edit (all_given h) k None)
 
 pub given_gone_both : (h : List Event) (k j : ℕ) → all_given (Did j Gone ∷ Did k Gone ∷ h) ≡ slice_set (slice_set (all_given h) k None) j None
@@ -172,32 +172,32 @@ given_after k (Ok (polled.Closed error)) gs = gs
 given_after k (Ok polled.Ended) gs = gs
 given_after k (Err error) gs = gs
 
-gave_now : (h : List Event) (s : Stream) (m : Seen) (ms : List Seen) → s.gone ≡ false → held h s ≡ m ∷ ms → gave_last h (give s) ≡ Some m
+gave_now : (h : List Event) (s : Stream) (m : Seen) (ms : List Seen) → s.gone ≡ false → held (read h) s ≡ m ∷ ms → gave_last (read h) (give s) ≡ Some m
 unfolding gave_last held offered matched phase
 gave_now h s m ms still e =
-    ap (λ b. if b then None else item_at (offered h s) (s.taken + 1)) still
-    ∙ ap (item_at (offered h s)) (let n : s.taken + 1 ≡ suc s.taken = omega arith in n) ∙ get_first s.taken (offered h s) m ms e
+    ap (λ b. if b then None else item_at (offered (read h) s) (s.taken + 1)) still
+    ∙ ap (item_at (offered (read h) s)) (let n : s.taken + 1 ≡ suc s.taken = omega arith in n) ∙ get_first s.taken (offered (read h) s) m ms e
 
-given_by_take : (h : List Event) (k : ℕ) (s : Stream) (items : List Seen) (error : Option Error) (told : Bool) → slice_get (streams h) k ≡ Some s → s.gone ≡ false → held h s ≡ items
+given_by_take : (h : List Event) (k : ℕ) (s : Stream) (items : List Seen) (error : Option Error) (told : Bool) → slice_get (streams h) k ≡ Some s → s.gone ≡ false → held (read h) s ≡ items
     → all_given (take_events k (Ok (take_by items error told)) ++ h) ≡ given_after k (Ok (take_by items error told)) (all_given h)
 unfolding gave_last offered matched phase
 given_by_take h k s (m ∷ ms) error told at still e =
-    map_edit (gave_last h) give (λ _. Some m) (streams h) k s at (gave_now h s m ms still e) ∙ sym (set_edit (all_given h) k (Some m))
+    map_edit (gave_last (read h)) give (λ _. Some m) (streams h) k s at (gave_now h s m ms still e) ∙ sym (set_edit (all_given h) k (Some m))
 given_by_take h k s [] None told at still e = refl
 given_by_take h k s [] (Some error) false at still e =
-    map_edit_all (gave_last h) tell (λ o. o) (streams h) k (λ x. refl) ∙ edit_nothing k (all_given h)
+    map_edit_all (gave_last (read h)) tell (λ o. o) (streams h) k (λ x. refl) ∙ edit_nothing k (all_given h)
 given_by_take h k s [] (Some error) true at still e = refl
 
-given_if : (h : List Event) (k : ℕ) (s : Stream) (open_ : Bool) → slice_get (streams h) k ≡ Some s → runs h s ≡ open_
-    → all_given (take_events k (if open_ then Ok (take_by (held h s) (closing h) s.told) else Err errors.UnknownHandle) ++ h)
-    ≡ given_after k (if open_ then Ok (take_by (held h s) (closing h) s.told) else Err errors.UnknownHandle) (all_given h)
+given_if : (h : List Event) (k : ℕ) (s : Stream) (open_ : Bool) → slice_get (streams h) k ≡ Some s → runs (read h) s ≡ open_
+    → all_given (take_events k (if open_ then Ok (take_by (held (read h) s) (closing h) s.told) else Err errors.UnknownHandle) ++ h)
+    ≡ given_after k (if open_ then Ok (take_by (held (read h) s) (closing h) s.told) else Err errors.UnknownHandle) (all_given h)
 given_if h k s false at e = refl
-given_if h k s true at e = let is = runs_so h s e in given_by_take h k s (held h s) (closing h) s.told at is.still refl
+given_if h k s true at e = let is = runs_so h s e in given_by_take h k s (held (read h) s) (closing h) s.told at is.still refl
 
 given_take_at : (h : List Event) (k : ℕ) (o : Option Stream) → slice_get (streams h) k ≡ o
-    → all_given (take_events k (take_at h o) ++ h) ≡ given_after k (take_at h o) (all_given h)
+    → all_given (take_events k (take_at (read h) (closing h) o) ++ h) ≡ given_after k (take_at (read h) (closing h) o) (all_given h)
 given_take_at h k None at = refl
-given_take_at h k (Some s) at = given_if h k s (runs h s) at refl
+given_take_at h k (Some s) at = given_if h k s (runs (read h) s) at refl
 
 pub given_taken : (h : List Event) (k : ℕ) → all_given (take_events k (take_answer h k) ++ h) ≡ given_after k (take_answer h k) (all_given h)
 unfolding take_answer
@@ -205,10 +205,10 @@ given_taken h k = given_take_at h k (slice_get (streams h) k) refl
 
 -- ---- what a number names
 
-by_stream : (h : List Event) (o : Option Stream) → kept_by (option_map (gave_last h) o) ≡ given_by h o
+by_stream : (h : List Event) (o : Option Stream) → kept_by (option_map (gave_last (read h)) o) ≡ given_by h o
 by_stream h None = refl
 by_stream h (Some s) = refl
 
 pub kept_given : (h : List Event) (p : Option ℕ) → kept_at (all_given h) p ≡ given_at h p
 kept_given h None = refl
-kept_given h (Some k) = ap kept_by (slice_get-map (gave_last h) (streams h) k) ∙ by_stream h (slice_get (streams h) k)
+kept_given h (Some k) = ap kept_by (slice_get-map (gave_last (read h)) (streams h) k) ∙ by_stream h (slice_get (streams h) k)

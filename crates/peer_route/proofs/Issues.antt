@@ -1,5 +1,5 @@
 -- Messages are issued: what the core is then, and why they may be refused.
-use Rattle.std.proofs.Common.{◌≡◌, ℕ, ◌+◌, refl, sym, ◌∙◌, ap, subst, arith, inl, inr, Bool, true, false, if◌then◌else◌, List, [], ◌∷◌, ◌++◌, length, map, find, drop, None, Ok, Err, append_assoc}
+use Rattle.std.proofs.Common.{◌≡◌, ℕ, ◌+◌, refl, sym, ◌∙◌, ap, subst, arith, inl, inr, Bool, true, false, List, [], ◌∷◌, ◌++◌, length, map, find, None, Ok, Err, append_assoc}
 use Rattle.std.specs.List.{list_any}
 use Rattle.std.proofs.Math.Seq.{drop-length}
 use Rattle.std.proofs.lemmas.List.{append-nil, map-append, length-map, length_push}
@@ -11,7 +11,8 @@ use Rattle.wire_message.specs.declared.error.Error.TheVariants as errors
 use Rattle.wire_message.specs.declared.error.IoKind.TheVariants as kinds
 use Rattle.peer_route.specs.declared.route.Issued.{Issued}
 use Rattle.peer_route.specs.declared.calls.Slot.TheVariants as slots
-use Rattle.peer_route.specs.History.{Event, Put, Call, read, closing, put, last_serial, calls, found, bears, is_gone, call_by, new_call, pending}
+use Rattle.peer_route.specs.History.{Event, Put, Call, read, closing, put, last_serial, calls, bears, call_by, new_call, past}
+use Rattle.peer_route.specs.Calls.{found, pending}
 use Rattle.peer_route.specs.Left.{slot_of, slot_by, is_waiting, AreDistinct, CallsView, with_call, waiting_serial, LeftCalls, View, Left}
 use Rattle.peer_route.specs.Issuing.{is_deep, put_of, call_number, issued_of, AreDrawn, RunsOut, put_each, issued_each, IssuesAll}
 use Rattle.peer_route.specs.Placing.{made_call, Draws, Spends, place_of, places_of, issued_at, issued_from, messages_of, with_messages, PutsAll}
@@ -19,7 +20,6 @@ use Rattle.peer_route.specs.Parcel.{Parcel, message_of}
 use Rattle.peer_route.specs.CallMessage.{expects_reply, expects}
 use Rattle.peer_route.proofs.Core.{pending-left}
 use Rattle.peer_route.proofs.CallsMade.{places}
-use Rattle.peer_route.proofs.StreamsMade.{streams_put}
 use Rattle.peer_route.proofs.Slots.{distinct_push}
 
 pub IsNext-along : (f g : ℕ → Bool) (last serial : ℕ) → ((n : ℕ) → f n ≡ g n) → IsNext f last serial → IsNext g last serial
@@ -34,26 +34,18 @@ IsNext-along f g last serial e x = record {
 
 -- ---- a call is issued
 
-slot_same : (g h : List Event) (c : Call) → read g ≡ read h → slot_of h c ≡ slot_of g c
-unfolding slot_of found
-slot_same g h c e = ap (λ ms. if is_gone c then slots.Gone else slot_by c.inner c.serial (find (bears c.serial) (drop c.from ms))) (sym e)
-
-pub slots_same : (g h : List Event) → read g ≡ read h → (cs : List Call) → map (slot_of h) cs ≡ map (slot_of g) cs
-slots_same g h e [] = refl
-slots_same g h e (c ∷ cs) = let a = slot_same g h c e in let b = slots_same g h e cs in cc
-
-slot_new : (h : List Event) (m : Seen) (inner : Bool) → slot_of h (call_by h m inner) ≡ slots.Waiting m.serial inner
+slot_new : (h : List Event) (m : Seen) (inner : Bool) → slot_of (read h) (call_by (past h) m inner) ≡ slots.Waiting m.serial inner
 unfolding slot_of found
 slot_new h m inner = ap (λ ms. slot_by inner m.serial (find (bears m.serial) ms)) (drop-length (read h))
 
 -- a call more, after an event that reads nothing, closes nothing, and makes one call
-pub called : (m : Seen) (inner : Bool) (v new : CallsView) (g h : List Event) → new ≡ with_call inner m.serial v → read g ≡ read h → closing g ≡ closing h → calls g ≡ calls h ++ call_by h m inner ∷ []
+pub called : (m : Seen) (inner : Bool) (v new : CallsView) (g h : List Event) → new ≡ with_call inner m.serial v → read g ≡ read h → closing g ≡ closing h → calls g ≡ calls h ++ call_by (past h) m inner ∷ []
     → waiting_serial v m.serial ≡ false → LeftCalls v h → LeftCalls new g
 unfolding waiting_serial
 called m inner v new g h e reads shut_ made free left = record {
   slots = ap (λ (w : CallsView). w.slots) e ∙ ap (λ ss. ss ++ slots.Waiting m.serial inner ∷ []) left.slots
-      ∙ sym (map-append (slot_of h) (calls h) (call_by h m inner ∷ []) ∙ ap (λ s. map (slot_of h) (calls h) ++ s ∷ []) (slot_new h m inner))
-      ∙ ap (map (slot_of h)) (sym made) ∙ slots_same g h reads (calls g);
+      ∙ sym (map-append (slot_of (read h)) (calls h) (call_by (past h) m inner ∷ []) ∙ ap (λ s. map (slot_of (read h)) (calls h) ++ s ∷ []) (slot_new h m inner))
+      ∙ ap (map (slot_of (read h))) (sym made) ∙ ap (λ (ms : List Seen). map (slot_of ms) (calls g)) (sym reads);
   closing = ap (λ (w : CallsView). w.closing) e ∙ left.closing ∙ sym shut_;
   distinct = λ open_.
       let was : v.closing ≡ None = sym (ap (λ (w : CallsView). w.closing) e) ∙ open_ in
@@ -126,7 +118,7 @@ placed b v m serial = record v {
 places_put : (b : Bool) (v : View) (m : Seen) (h : List Event) → Left v h → v.places ++ place_of (length v.outbox) b ≡ places (calls (Put m b ∷ h))
 places_put true v m h left =
     ap (λ ns. ns ++ length v.outbox ∷ []) left.places ∙ ap (λ ms. places (calls h) ++ length ms ∷ []) left.outbox
-    ∙ sym (map-append (λ (c : Call). c.index) (calls h) (new_call h m ∷ []))
+    ∙ sym (map-append (λ (c : Call). c.index) (calls h) (new_call (past h) m ∷ []))
 places_put false v m h left = append-nil v.places ∙ left.places
 
 left_put : (b : Bool) (v : View) (m : Seen) (serial : ℕ) (h : List Event) → m.serial ≡ serial → Left v h → waiting_serial v.calls serial ≡ false
@@ -134,7 +126,7 @@ left_put : (b : Bool) (v : View) (m : Seen) (serial : ℕ) (h : List Event) → 
 left_put b v m serial h e left free = record {
   calls = call_left b m serial v.calls h e free left.calls;
   bus = left.bus;
-  streams = streams_put m b v.streams h left.streams;
+  streams = left.streams;
   main = left.main;
   read = left.read;
   last = sym e;
@@ -192,7 +184,7 @@ put_left (p ∷ ps) [] v w end h left d = absurd d
 -- ---- what is answered of them
 
 calls_more : (b : Bool) (m : Seen) (h : List Event) (n k : ℕ) → k ≡ length (calls h) → k + length (place_of n b) ≡ length (calls (Put m b ∷ h))
-calls_more true m h n k e = omega (arith, e, length_push (calls h) (new_call h m))
+calls_more true m h n k e = omega (arith, e, length_push (calls h) (new_call (past h) m))
 calls_more false m h n k e = omega (arith, e)
 
 issued_one : (p : Parcel) (serial : ℕ) (h : List Event) (n k : ℕ) → n ≡ length (put h) → k ≡ length (calls h) → issued_at n k (message_of p serial) ≡ issued_of h p serial

@@ -13,7 +13,8 @@ use Rattle.peer_route.specs.declared.words.Words.TheVariants as words
 use Rattle.peer_route.specs.declared.answer.Answer.{Answer}
 use Rattle.peer_route.specs.declared.answer.Answer.TheVariants as answers
 use Rattle.peer_route.specs.declared.answer.Entry.{Entry}
-use Rattle.peer_route.specs.History.{Event, poll_answer, by_position, drop_answer}
+use Rattle.peer_route.specs.History.{Event}
+use Rattle.peer_route.specs.Calls.{poll_answer, by_position, drop_answer}
 use Rattle.peer_route.specs.Parcel.{Setting, Asked}
 use Rattle.peer_route.specs.Trail.{Trail, Names, place, count, trail, poll_spends, drop_spends, events_of, sent_names, new_names}
 use Rattle.peer_route.specs.Answers.{IsAnswer, Legal, error_answer, reply_by, shown, poll_of, before_of, shown_drop, drop_of}

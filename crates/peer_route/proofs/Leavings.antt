@@ -13,8 +13,9 @@ use Rattle.rule_match.specs.Rule.{Rule}
 use Rattle.peer_route.specs.declared.route.Issued.{Issued}
 use Rattle.peer_route.specs.Parcel.{message_of}
 use Rattle.peer_route.specs.CallMessage.{expects, expects_reply}
-use Rattle.peer_route.specs.History.{Event, in_flight, Did, Gone, Removed, Call, inner_call, edit, closing, calls, on_bus, unique_name}
-use Rattle.peer_route.specs.Streams.{Stream, streams, end_one, rule_of, is_open, are_open, has_rule, has_rule_at, close_waits, may_be_signal, leaves, leaves_by, leaving, rule_answer}
+use Rattle.peer_route.specs.History.{Event, Did, Gone, Removed, Call, inner_call, edit, closing, calls, on_bus, unique_name, Stream, streams, end_one, rule_of, past}
+use Rattle.peer_route.specs.Calls.{in_flight}
+use Rattle.peer_route.specs.Streams.{is_open, are_open, has_rule, has_rule_at, close_waits, may_be_signal, leaves, leaves_by, leaving, rule_answer}
 use Rattle.peer_route.specs.Left.{Held, CallsView, View, Left, kept_at, shared, waiting_serial, is_flying, with_call}
 use Rattle.peer_route.specs.Issuing.{AreShort, SomeLong}
 use Rattle.peer_route.specs.Placing.{IsMore, made_call, Draws, Spends, messages_of, with_messages, issued_from, place_of}
@@ -27,7 +28,6 @@ use Rattle.peer_route.specs.declared.streams.MessageStream.{MessageStream}
 use Rattle.peer_route.specs.declared.leaving.Spent.TheVariants as spent
 use Rattle.peer_route.proofs.Core.{left_ended, flying-left}
 use Rattle.peer_route.proofs.CallsMade.{places}
-use Rattle.peer_route.proofs.StreamsMade.{streams_removed}
 use Rattle.peer_route.proofs.RuledStreams.{subscribed_left, rule_left}
 use Rattle.peer_route.proofs.Issues.{called, message_serial, same_expects, next_left, spent_left, placed_more, with_none}
 use Rattle.peer_route.proofs.BusMessages.{match_expects, refused_any}
@@ -50,13 +50,13 @@ left_removed v m serial h e left free = record {
   calls = called m true v.calls (with_call true serial v.calls) (Removed m ∷ h) h (ap (λ n. with_call true n v.calls) (sym e)) refl refl refl (ap (waiting_serial v.calls) e ∙ free) left.calls;
   bus = left.bus;
   name = left.name;
-  streams = streams_removed m v.streams h left.streams;
+  streams = left.streams;
   main = left.main;
   read = left.read;
   last = sym e;
   outbox = ap (λ ms. ms ++ m ∷ []) left.outbox;
   places = ap (λ ns. ns ++ length v.outbox ∷ []) left.places ∙ ap (λ ms. places (calls h) ++ length ms ∷ []) left.outbox
-      ∙ sym (map-append (λ (c : Call). c.index) (calls h) (inner_call h m ∷ []));
+      ∙ sym (map-append (λ (c : Call). c.index) (calls h) (inner_call (past h) m ∷ []));
   done = left.done;
   writer = left.writer;
 }

@@ -5,17 +5,17 @@ use Rattle.std.specs.List.{slice_get, AllByRecursion}
 use Rattle.std.proofs.lemmas.List.Elements.{filter-append}
 use Rattle.std.proofs.lemmas.List.{drop-drop, append-nil}
 use Rattle.wire_message.specs.Front.{Seen}
-use Rattle.peer_route.specs.History.{Event, Took, Call, bears, read}
+use Rattle.peer_route.specs.History.{Event, Took, Call, bears, read, Stream, Phase, Asking, Denied, Since, is_return, phase, fresh, asking_stream, past}
+use Rattle.peer_route.specs.Streams.{since_in, accepted, matched, offered, held}
 use Rattle.rule_match.specs.Rule.{Rule}
 use Rattle.rule_match.specs.Accepting.{accepts}
-use Rattle.peer_route.specs.Streams.{Stream, Phase, Asking, Denied, Since, is_return, since_in, phase, fresh, asking_stream, accepted, matched, offered, held}
 use Rattle.peer_route.specs.Left.{start_count, IsWithin}
-use Rattle.peer_route.proofs.Phases.{stepped, phase_took, phase_same}
+use Rattle.peer_route.proofs.Phases.{stepped, phase_took}
 
 -- What stands to a stream, by its count.
-pub held_matched : (h : List Event) (s : Stream) → held h s ≡ drop (s.skip + s.taken) (matched h s)
+pub held_matched : (h : List Event) (s : Stream) → held (read h) s ≡ drop (s.skip + s.taken) (matched (read h) s)
 unfolding held offered
-held_matched h s = drop-drop s.taken s.skip (matched h s)
+held_matched h s = drop-drop s.taken s.skip (matched (read h) s)
 
 pub accepted-append : (rule : Option Rule) (xs ys : List Seen) → accepted rule (xs ++ ys) ≡ accepted rule xs ++ accepted rule ys
 accepted-append None xs ys = refl
@@ -42,54 +42,43 @@ stepped_accepts (Denied r) rule m = sym (append-nil (accepted rule []))
 stepped_accepts (Asking add) rule m = ap (accepted rule) (answered_nothing (bears add.serial m) (is_return m.kind) add m) ∙ sym (append-nil (accepted rule []))
 
 -- a message that comes is one more, if the stream runs and its rule accepts it
-pub matched_took : (m : Seen) (h : List Event) (s : Stream) → start_count s.start ≤ length (read h) → matched (Took m ∷ h) s ≡ matched h s ++ arriving (phase h s) s.rule m
+pub matched_took : (m : Seen) (h : List Event) (s : Stream) → start_count s.start ≤ length (read h) → matched (read (Took m ∷ h)) s ≡ matched (read h) s ++ arriving (phase (read h) s) s.rule m
 unfolding matched
-matched_took m h s le = ap (λ p. accepted s.rule (since_in p)) (phase_took m h s le) ∙ stepped_accepts (phase h s) s.rule m
+matched_took m h s le = ap (λ p. accepted s.rule (since_in p)) (phase_took m h s le) ∙ stepped_accepts (phase (read h) s) s.rule m
 
 -- what was read says what is a stream's
-pub matched_same : (g h : List Event) (s : Stream) → read g ≡ read h → matched g s ≡ matched h s
-unfolding matched
-matched_same g h s e = ap (λ p. accepted s.rule (since_in p)) (phase_same g h s e)
+pub matched_same : (g h : List Event) (s : Stream) → read g ≡ read h → matched (read g) s ≡ matched (read h) s
+matched_same g h s e = ap (λ (ms : List Seen). matched ms s) e
 
-pub held_same : (g h : List Event) (s : Stream) → read g ≡ read h → held g s ≡ held h s
-held_same g h s e = held_matched g s ∙ ap (drop (s.skip + s.taken)) (matched_same g h s e) ∙ sym (held_matched h s)
+pub held_same : (g h : List Event) (s : Stream) → read g ≡ read h → held (read g) s ≡ held (read h) s
+held_same g h s e = ap (λ (ms : List Seen). held ms s) e
 
 -- ---- none starts above what was read, or passed more than was its own
 
-pub within_same : (g h : List Event) (s : Stream) → read g ≡ read h → IsWithin h s → IsWithin g s
-within_same g h s e w = record {
-  start = subst (λ (ms : List Seen). start_count s.start ≤ length ms) (sym e) w.start;
-  passed = subst (λ (ms : List Seen). s.skip + s.taken ≤ length ms) (sym (matched_same g h s e)) w.passed;
-}
-
-pub all_within_same : (g h : List Event) (ss : List Stream) → read g ≡ read h → AllByRecursion (IsWithin h) ss → AllByRecursion (IsWithin g) ss
-all_within_same g h [] e w = tt
-all_within_same g h (s ∷ ss) e w = (within_same g h s e w.0, all_within_same g h ss e w.1)
-
-pub within_took : (m : Seen) (h : List Event) (s : Stream) → IsWithin h s → IsWithin (Took m ∷ h) s
+pub within_took : (m : Seen) (h : List Event) (s : Stream) → IsWithin (read h) s → IsWithin (read (Took m ∷ h)) s
 within_took m h s w =
     let start = w.start in
     let passed = w.passed in
     record {
       start = omega (arith, length-append (read h) (m ∷ []));
-      passed = subst (λ (ms : List Seen). s.skip + s.taken ≤ length ms) (sym (matched_took m h s start)) (omega (arith, length-append (matched h s) (arriving (phase h s) s.rule m)));
+      passed = subst (λ (ms : List Seen). s.skip + s.taken ≤ length ms) (sym (matched_took m h s start)) (omega (arith, length-append (matched (read h) s) (arriving (phase (read h) s) s.rule m)));
     }
 
-pub all_within_took : (m : Seen) (h : List Event) (ss : List Stream) → AllByRecursion (IsWithin h) ss → AllByRecursion (IsWithin (Took m ∷ h)) ss
+pub all_within_took : (m : Seen) (h : List Event) (ss : List Stream) → AllByRecursion (IsWithin (read h)) ss → AllByRecursion (IsWithin (read (Took m ∷ h))) ss
 all_within_took m h [] w = tt
 all_within_took m h (s ∷ ss) w = (within_took m h s w.0, all_within_took m h ss w.1)
 
-pub within_at : (h : List Event) (ss : List Stream) (k : ℕ) (s : Stream) → slice_get ss k ≡ Some s → AllByRecursion (IsWithin h) ss → IsWithin h s
+pub within_at : (h : List Event) (ss : List Stream) (k : ℕ) (s : Stream) → slice_get ss k ≡ Some s → AllByRecursion (IsWithin (read h)) ss → IsWithin (read h) s
 within_at h [] k s at w = cc
-within_at h (x ∷ ss) zero s at w = let same : x ≡ s = cc in subst (IsWithin h) same w.0
+within_at h (x ∷ ss) zero s at w = let same : x ≡ s = cc in subst (IsWithin (read h)) same w.0
 within_at h (x ∷ ss) (suc k) s at w = within_at h ss k s at w.1
 
-pub within_fresh : (h : List Event) (rule : Option Rule) (told : Bool) → IsWithin h (fresh h rule told)
+pub within_fresh : (h : List Event) (rule : Option Rule) (told : Bool) → IsWithin (read h) (fresh (past h) rule told)
 within_fresh h rule told = record { start = omega arith; passed = omega arith }
 
-pub within_asking : (h : List Event) (m : Seen) (rule : Rule) → IsWithin h (asking_stream h m rule)
+pub within_asking : (h : List Event) (m : Seen) (rule : Rule) → IsWithin (read h) (asking_stream (past h) m rule)
 within_asking h m rule = record { start = omega arith; passed = omega arith }
 
-pub within_push : (h : List Event) (ss : List Stream) (s : Stream) → AllByRecursion (IsWithin h) ss → IsWithin h s → AllByRecursion (IsWithin h) (ss ++ s ∷ [])
+pub within_push : (h : List Event) (ss : List Stream) (s : Stream) → AllByRecursion (IsWithin (read h)) ss → IsWithin (read h) s → AllByRecursion (IsWithin (read h)) (ss ++ s ∷ [])
 within_push h [] s w one = (one, tt)
 within_push h (x ∷ ss) s w one = (w.0, within_push h ss s w.1 one)

@@ -2,7 +2,8 @@
 use Rattle.std.proofs.Common.{◌≡◌, ℕ, zero, suc, ◌+◌, ◌-◌, ◌≤◌, ◌<◌, refl, sym, ◌∙◌, ap, arith, Bool, true, false, List, Some, None, inl, inr, lit<}
 use Rattle.std.proofs.Math.Nat.{eq-or-lt_of_le, mod-lt}
 use Rattle.wire_message.specs.Circle.{serial_after, IsNext, AllTaken}
-use Rattle.peer_route.specs.History.{Event, pending, last_serial}
+use Rattle.peer_route.specs.History.{Event, last_serial}
+use Rattle.peer_route.specs.Calls.{pending}
 use Rattle.peer_route.specs.Trail.{first_free, next_serial}
 
 -- the first place from k on that is free is found

@@ -16,8 +16,9 @@ use Rattle.peer_route.specs.declared.words.Words.TheVariants as words
 use Rattle.peer_route.specs.declared.answer.Answer.{Answer}
 use Rattle.peer_route.specs.declared.answer.Answer.TheVariants as answers
 use Rattle.peer_route.specs.declared.answer.Entry.{Entry}
-use Rattle.peer_route.specs.History.{Event, Call, closing, writer, calls, found, is_nobodys, polled_by, polled_at, poll_answer, by_position, drop_answer}
-use Rattle.peer_route.specs.Streams.{Stream, streams, held, runs, busy, take_by, take_at, take_answer, opening_answer}
+use Rattle.peer_route.specs.History.{Event, Call, closing, writer, calls, Stream, streams, read}
+use Rattle.peer_route.specs.Calls.{found, is_nobodys, polled_by, polled_at, poll_answer, by_position, drop_answer}
+use Rattle.peer_route.specs.Streams.{held, runs, busy, take_by, take_at, take_answer, opening_answer}
 use Rattle.peer_route.specs.declared.progress.OpenState.{OpenState}
 use Rattle.peer_route.specs.declared.progress.OpenState.TheVariants as states
 use Rattle.peer_route.specs.Parcel.{Setting, Asked}
@@ -57,9 +58,9 @@ polled_other false (Some m) o e = cc
 polled_other false None (Some error) e = cc
 polled_other false None None e = cc
 
-polled_at_other : (h : List Event) (o : Option Call) → polled_at h o ≡ Ok polled.NoneBefore → ⊥
+polled_at_other : (h : List Event) (o : Option Call) → polled_at (read h) (closing h) o ≡ Ok polled.NoneBefore → ⊥
 polled_at_other h None e = cc
-polled_at_other h (Some c) e = polled_other (is_nobodys c) (found h c) (closing h) e
+polled_at_other h (Some c) e = polled_other (is_nobodys c) (found (read h) c) (closing h) e
 
 answer_other : (h : List Event) (k : ℕ) → poll_answer h k ≡ Ok polled.NoneBefore → ⊥
 unfolding poll_answer
@@ -108,9 +109,9 @@ take_if_other : (open_ : Bool) (items : List Seen) (o : Option Error) (told : Bo
 take_if_other true items o told e = take_by_other items o told e
 take_if_other false items o told e = cc
 
-take_at_other : (h : List Event) (o : Option Stream) → shown_take (take_at h o) ≡ answers.NoneBefore → ⊥
+take_at_other : (h : List Event) (o : Option Stream) → shown_take (take_at (read h) (closing h) o) ≡ answers.NoneBefore → ⊥
 take_at_other h None e = cc
-take_at_other h (Some s) e = take_if_other (runs h s) (held h s) (closing h) s.told e
+take_at_other h (Some s) e = take_if_other (runs (read h) s) (held (read h) s) (closing h) s.told e
 
 take_other : (h : List Event) (p : Option ℕ) → take_of h p ≡ answers.NoneBefore → ⊥
 unfolding take_answer

@@ -6,7 +6,8 @@ use Rattle.peer_route.specs.declared.words.Words.TheVariants as words
 use Rattle.peer_route.specs.declared.answer.Answer.{Answer}
 use Rattle.peer_route.specs.declared.answer.Answer.TheVariants as answers
 use Rattle.peer_route.specs.declared.answer.Entry.{Entry}
-use Rattle.peer_route.specs.History.{Event, Took, Shut, Put, Wrote, Fault, Spent, Made, Did, Main, OnBus, Added, Removed, Named, Call, calls, new_call, inner_call, edit, spend, fail_at, done, is_gone, polled_at, poll_answer, by_position, dropped_at, drop_answer}
+use Rattle.peer_route.specs.History.{Event, Put, Fault, Spent, Added, Removed, Call, calls, new_call, inner_call, edit, spend, fail_at, done, closing, past, read}
+use Rattle.peer_route.specs.Calls.{is_gone, polled_at, poll_answer, by_position, dropped_at, drop_answer}
 use Rattle.peer_route.specs.Parcel.{Setting}
 use Rattle.peer_route.specs.Trail.{Trail, Names, place, trail, poll_spends, drop_spends, events_of, new_names}
 use Rattle.peer_route.specs.Answers.{IsAnswer, Legal, shown, poll_of, before_of, shown_drop, drop_of}
@@ -44,20 +45,12 @@ gone_fail i zero (c ∷ cs) g = gone_by c.spent c.failed (c.index == i) g
 gone_fail i (suc k) (c ∷ cs) g = gone_fail i k cs g
 
 gone_event : (e : Event) (h : List Event) (k : ℕ) → gone_at (calls h) k ≡ true → gone_at (calls (e ∷ h)) k ≡ true
-gone_event (Took m) h k g = g
-gone_event (Shut error) h k g = g
-gone_event (Put m true) h k g = gone_append (calls h) (new_call h m ∷ []) k g
-gone_event (Put m false) h k g = g
-gone_event Wrote h k g = g
+gone_event (Put m true) h k g = gone_append (calls h) (new_call (past h) m ∷ []) k g
 gone_event Fault h k g = gone_fail (done h) k (calls h) g
 gone_event (Spent j) h k g = gone_edit j k (calls h) g
-gone_event (Made making) h k g = g
-gone_event (Did stream deed) h k g = g
-gone_event (Main limit) h k g = g
-gone_event OnBus h k g = g
-gone_event (Added m rule asked) h k g = gone_append (calls h) (inner_call h m ∷ []) k g
-gone_event (Removed m) h k g = gone_append (calls h) (inner_call h m ∷ []) k g
-gone_event (Named name) h k g = g
+gone_event (Added m rule asked) h k g = gone_append (calls h) (inner_call (past h) m ∷ []) k g
+gone_event (Removed m) h k g = gone_append (calls h) (inner_call (past h) m ∷ []) k g
+gone_event e h k g = g
 
 gone_events : (es h : List Event) (k : ℕ) → gone_at (calls h) k ≡ true → gone_at (calls (es ++ h)) k ≡ true
 gone_events [] h k g = g
@@ -68,7 +61,7 @@ gone_spent [] k c at = cc
 gone_spent (d ∷ cs) zero c at = refl
 gone_spent (d ∷ cs) (suc k) c at = gone_spent cs k c at
 
-gone_polled : (h : List Event) (cs : List Call) (k : ℕ) → gone_at cs k ≡ true → polled_at h (slice_get cs k) ≡ Err errors.UnknownHandle
+gone_polled : (h : List Event) (cs : List Call) (k : ℕ) → gone_at cs k ≡ true → polled_at (read h) (closing h) (slice_get cs k) ≡ Err errors.UnknownHandle
 gone_polled h [] k g = cc
 gone_polled h (c ∷ cs) zero g = rw g refl
 gone_polled h (c ∷ cs) (suc k) g = gone_polled h cs k g
@@ -131,7 +124,7 @@ final_spends k (answers.MethodError m) f = refl
 final_spends k (answers.Closed error) f = refl
 final_spends k a f = absurd f
 
-final_made : (h : List Event) (cs : List Call) (k : ℕ) (o : Option Call) → slice_get cs k ≡ o → IsFinal (shown (polled_at h o)) → gone_at (edit k spend cs) k ≡ true
+final_made : (h : List Event) (cs : List Call) (k : ℕ) (o : Option Call) → slice_get cs k ≡ o → IsFinal (shown (polled_at (read h) (closing h) o)) → gone_at (edit k spend cs) k ≡ true
 final_made h cs k None at f = absurd f
 final_made h cs k (Some c) at f = gone_spent cs k c at
 

@@ -5,8 +5,8 @@ use Rattle.std.specs.Option.{option_map}
 use Rattle.std.proofs.lemmas.List.{length-map}
 use Rattle.wire_message.specs.declared.error.Error.{Error}
 use Rattle.wire_message.specs.declared.error.Error.TheVariants as errors
-use Rattle.peer_route.specs.History.{Event, Made, Did, Cloned, Gone, Asked, edit}
-use Rattle.peer_route.specs.Streams.{streams, limit_of, rule_of, is_open, known, are_open, close_answer, ask_answer, limit_answer}
+use Rattle.peer_route.specs.History.{Event, Made, Did, Cloned, Gone, Asked, edit, streams, rule_of, capacities, read}
+use Rattle.peer_route.specs.Streams.{limit_of, is_open, known, are_open, close_answer, ask_answer, limit_answer}
 use Rattle.peer_route.specs.declared.queue.Subscription.{Subscription}
 use Rattle.peer_route.specs.Left.{Held, held_of, kept_at, limit_or, wants_of, asked_for, main_asked, ClonesHeld, View, Left, Clones}
 use Rattle.peer_route.proofs.RuledStreams.{limit_left}
@@ -15,7 +15,7 @@ use Rattle.peer_route.proofs.Core.{open_so, left_cloned, left_ended, left_asked}
 -- ---- clones
 
 streams_len : (v : View) (h : List Event) → Left v h → length v.streams ≡ length (streams h)
-streams_len v h left = ap length left.streams.queues ∙ length-map (streams h) (held_of h)
+streams_len v h left = ap length left.streams.queues ∙ length-map (streams h) (held_of (capacities h).rules (read h))
 
 pub clones : (v : View) (sv : List (Option Held)) (k number : ℕ) (h : List Event) → Left v h → ClonesHeld v.streams sv k (Ok number)
     → Clones v (record v { streams = sv }) k h (Ok (record { number = number }))
@@ -64,7 +64,7 @@ pub limit_so : (v : View) (h : List Event) (k : ℕ) (o : Option ℕ) → o ≡ 
     → limit_shown o ≡ limit_answer h k
 unfolding limit_answer
 limit_so v h k o e left =
-    limit_by (is_open h k) (limit_of h (rule_of (slice_get (streams h) k))) o
+    limit_by (is_open h k) (limit_of (capacities h) (rule_of (slice_get (streams h) k))) o
     (e ∙ ap (λ n. option_map (λ (q : Held). limit_or n q.wants) (kept_at v.streams k)) left.main ∙ limit_left v.streams h k left.streams)
 
 main_kept : (w : Option Subscription) (limit n : ℕ) → is_some w ≡ true → main_asked w limit n ≡ n

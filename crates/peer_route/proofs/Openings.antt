@@ -1,5 +1,5 @@
 -- A stream for which the bus is asked: what the core is then, and once it is asked whether it is open.
-use Rattle.std.proofs.Common.{◌≡◌, ℕ, ◌<◌, ◌≤◌, inl, inr, codes, refl, sym, ◌∙◌, ap, subst, Bool, true, false, not, ◌&&◌, ◌||◌, if◌then◌else◌, is_some, List, [], ◌∷◌, ◌++◌, length, map, Option, Some, None, Ok, Err}
+use Rattle.std.proofs.Common.{◌≡◌, ℕ, ◌<◌, ◌≤◌, inl, inr, codes, refl, sym, ◌∙◌, ap, subst, Bool, true, false, not, ◌&&◌, ◌||◌, if◌then◌else◌, is_some, List, [], ◌∷◌, ◌++◌, length, Option, Some, None, Ok, Err}
 use Rattle.std.specs.List.{slice_get}
 use Rattle.std.specs.Option.{option_map}
 use Rattle.std.proofs.lemmas.List.{map-append, length-map, length-append}
@@ -15,9 +15,10 @@ use Rattle.peer_route.specs.declared.opening.Opens.TheVariants as opens
 use Rattle.peer_route.specs.declared.opening.Opening.{Opening}
 use Rattle.peer_route.specs.declared.progress.OpenState.{OpenState}
 use Rattle.peer_route.specs.declared.progress.OpenState.TheVariants as states
-use Rattle.peer_route.specs.History.{Event, Made, Ruled, Did, Gone, Opened, OnBus, Added, Named, Call, inner_call, edit, closing, calls, in_flight, on_bus, first_name, unique_name}
-use Rattle.peer_route.specs.Streams.{Stream, Phase, Asking, Denied, Since, phase, streams, asks_bus, may_be_signal, open_one, matched, offered, held, opening_by, opening_at, opening_answer, opening_events}
-use Rattle.peer_route.specs.Left.{Held, held_by, held_of, progress_by, kept_by, any_at, shared, asked_by, held_opening, opened_held, is_flying, with_stream, with_asking, with_call, slot_of, CallsView, waiting_serial, LeftCalls, LeftStreams, IsWithin, View, Left}
+use Rattle.peer_route.specs.History.{Event, Made, Ruled, Gone, Opened, OnBus, Added, Named, Call, inner_call, edit, closing, calls, on_bus, first_name, unique_name, Stream, Phase, Asking, Denied, Since, phase, streams, open_one, capacities, past, read}
+use Rattle.peer_route.specs.Calls.{in_flight}
+use Rattle.peer_route.specs.Streams.{asks_bus, may_be_signal, matched, offered, held, opening_by, opening_at, opening_answer, opening_events}
+use Rattle.peer_route.specs.Left.{Held, held_by, held_of, progress_by, kept_by, any_at, shared, asked_by, held_opening, opened_held, is_flying, with_stream, with_asking, with_call, CallsView, waiting_serial, LeftStreams, IsWithin, View, Left}
 use Rattle.peer_route.specs.BusCall.{add_parcel, add_message}
 use Rattle.peer_route.specs.Bus.{OpensRule, AsksNow, Asks, AsksFor}
 use Rattle.peer_route.specs.Parcel.{Parcel, message_of}
@@ -31,27 +32,19 @@ use Rattle.peer_route.proofs.Core.{flying-left, left_ruled, left_idle, left_did}
 use Rattle.peer_route.proofs.CallsMade.{places}
 use Rattle.peer_route.proofs.Writers.{closed_shut}
 use Rattle.peer_route.proofs.Edits.{map_edit_all, edit-none}
-use Rattle.peer_route.proofs.Matched.{all_within_same}
-use Rattle.peer_route.proofs.StreamsMade.{any_of, any_left, streams_bus, streams_named, streams_ended, within_each}
+use Rattle.peer_route.proofs.StreamsMade.{any_of, any_left, streams_ended, within_each}
 use Rattle.peer_route.proofs.RuledStreams.{streams_asking, subscribed_left}
-use Rattle.peer_route.proofs.Issues.{called, next_left, spent_left, slots_same, message_serial, same_expects}
+use Rattle.peer_route.proofs.Issues.{called, next_left, spent_left, message_serial, same_expects}
 use Rattle.peer_route.proofs.BusMessages.{match_expects}
 
--- ---- events that make no call
-
-calls_as : (v : CallsView) (g h : List Event) → calls g ≡ calls h → closing g ≡ closing h → ((cs : List Call) → map (slot_of h) cs ≡ map (slot_of g) cs) → LeftCalls v h → LeftCalls v g
-calls_as v g h e shut_ same left = record {
-  slots = left.slots ∙ ap (map (slot_of h)) (sym e) ∙ same (calls g);
-  closing = left.closing ∙ sym shut_;
-  distinct = left.distinct;
-}
+-- ---- the bus, and the name
 
 pub left_bus : (v : View) (h : List Event) → Left v h → Left (record v { bus = true }) (OnBus ∷ h)
 left_bus v h left = record {
-  calls = calls_as v.calls (OnBus ∷ h) h refl refl (slots_same (OnBus ∷ h) h refl) left.calls;
+  calls = left.calls;
   bus = refl;
   name = left.name;
-  streams = streams_bus v.streams h left.streams;
+  streams = left.streams;
   main = left.main;
   read = left.read;
   last = left.last;
@@ -67,10 +60,10 @@ named_now (Some earlier) name e = cc
 
 pub left_named : (v : View) (name : List ℕ) (h : List Event) → v.name ≡ None → Left v h → Left (record v { name = Some name }) (Named name ∷ h)
 left_named v name h none left = record {
-  calls = calls_as v.calls (Named name ∷ h) h refl refl (slots_same (Named name ∷ h) h refl) left.calls;
+  calls = left.calls;
   bus = left.bus;
   name = named_now (unique_name h) name (sym left.name ∙ none);
-  streams = streams_named name v.streams h left.streams;
+  streams = left.streams;
   main = left.main;
   read = left.read;
   last = left.last;
@@ -104,7 +97,7 @@ left_added v m rule asked h left free = record {
   last = refl;
   outbox = ap (λ ms. ms ++ m ∷ []) left.outbox;
   places = ap (λ ns. ns ++ length v.outbox ∷ []) left.places ∙ ap (λ ms. places (calls h) ++ length ms ∷ []) left.outbox
-      ∙ sym (map-append (λ (c : Call). c.index) (calls h) (inner_call h m ∷ []));
+      ∙ sym (map-append (λ (c : Call). c.index) (calls h) (inner_call (past h) m ∷ []));
   done = left.done;
   writer = left.writer;
 }
@@ -175,25 +168,25 @@ opening_kept false opened q p o e r =
     ap (λ b. if b then states.Unknown else asked_by q.progress o) e
     ∙ ap (λ x. if opened then states.Unknown else x) (ap (λ x. asked_by x o) r ∙ asked_phase p o)
 
-opening_one : (h : List Event) (o : Option Stream) → held_opening (any_of h o) (closing h) ≡ opening_at h o
+opening_one : (h : List Event) (o : Option Stream) → held_opening (any_of h o) (closing h) ≡ opening_at (read h) (closing h) o
 unfolding held_of
 opening_one h None = refl
-opening_one h (Some s) = opening_kept s.gone s.opened (held_by h s) (phase h s) (closing h) refl refl
+opening_one h (Some s) = opening_kept s.gone s.opened (held_by (capacities h).rules (read h) s) (phase (read h) s) (closing h) refl refl
 
 pub opening_left : (v : List (Option Held)) (h : List Event) (k : ℕ) → LeftStreams v h → held_opening (any_at v k) (closing h) ≡ opening_answer h k
 unfolding opening_answer
 opening_left v h k left = ap (λ q. held_opening q (closing h)) (any_left v h k left) ∙ opening_one h (slice_get (streams h) k)
 
 -- what is kept of a stream that is told to be open
-open_held : (h : List Event) (s : Stream) → held_of h (open_one s) ≡ option_map (λ (q : Held). record q { opened = true }) (held_of h s)
+open_held : (h : List Event) (s : Stream) → held_of (capacities h).rules (read h) (open_one s) ≡ option_map (λ (q : Held). record q { opened = true }) (held_of (capacities h).rules (read h) s)
 unfolding held_of phase matched offered held
-open_held h s = by s.gone (held_by h s)
+open_held h s = by s.gone (held_by (capacities h).rules (read h) s)
   where
     by : (gone : Bool) (q : Held) → kept_by gone (record q { opened = true }) ≡ option_map (λ (x : Held). record x { opened = true }) (kept_by gone q)
     by true q = refl
     by false q = refl
 
-open_within : (h : List Event) (s : Stream) → IsWithin h s → IsWithin h (open_one s)
+open_within : (h : List Event) (s : Stream) → IsWithin (read h) s → IsWithin (read h) (open_one s)
 unfolding phase matched
 open_within h s w = record { start = w.start; passed = w.passed }
 
@@ -202,8 +195,8 @@ unfolding held_of held offered matched phase
 opening_streams k v h states.Unknown left = subst (λ qs. LeftStreams qs h) (sym (edit-none (opened_held states.Unknown) (λ q. refl) v k)) left
 opening_streams k v h states.NotYet left = subst (λ qs. LeftStreams qs h) (sym (edit-none (opened_held states.NotYet) (λ q. refl) v k)) left
 opening_streams k v h states.Open left = record {
-  queues = ap (edit k (opened_held states.Open)) left.queues ∙ sym (map_edit_all (held_of h) open_one (opened_held states.Open) (streams h) k (open_held h));
-  within = all_within_same (Did k Opened ∷ h) h (edit k open_one (streams h)) refl (within_each h open_one (open_within h) (streams h) k left.within);
+  queues = ap (edit k (opened_held states.Open)) left.queues ∙ sym (map_edit_all (held_of (capacities h).rules (read h)) open_one (opened_held states.Open) (streams h) k (open_held h));
+  within = (within_each h open_one (open_within h) (streams h) k left.within);
 }
 opening_streams k v h (states.Refused m) left = streams_ended k v h left
 opening_streams k v h (states.Over error) left = streams_ended k v h left
@@ -228,7 +221,7 @@ none_by None none = refl
 none_by (Some error) none = cc
 
 streams_len : (v : View) (h : List Event) → Left v h → length v.streams ≡ length (streams h)
-streams_len v h left = ap length left.streams.queues ∙ length-map (streams h) (held_of h)
+streams_len v h left = ap length left.streams.queues ∙ length-map (streams h) (held_of (capacities h).rules (read h))
 
 -- nothing closed the peer, and nothing of its own is on its way
 abbrev pub IsIdle : List Event → Type 0

@@ -17,7 +17,8 @@ use Rattle.peer_route.specs.declared.words.Words.TheVariants as words
 use Rattle.peer_route.specs.declared.answer.Answer.{Answer}
 use Rattle.peer_route.specs.declared.answer.Answer.TheVariants as answers
 use Rattle.peer_route.specs.declared.answer.Entry.{Entry}
-use Rattle.peer_route.specs.History.{Event, Put, Wrote, Fault, Added, Removed, Did, Gone, Call, read, closing, calls, found, bears, is_nobodys, polled_by, polled_at, poll_answer, writer}
+use Rattle.peer_route.specs.History.{Event, Put, Wrote, Fault, Added, Removed, Did, Gone, Call, read, closing, calls, bears, writer}
+use Rattle.peer_route.specs.Calls.{found, is_nobodys, polled_by, polled_at, poll_answer}
 use Rattle.peer_route.specs.Streams.{busy}
 use Rattle.peer_route.specs.Parcel.{Setting, Asked}
 use Rattle.peer_route.specs.Trail.{Trail, place, trail, failed_put, send_events, read_events, poll_spends, drop_spends, stream_makes, take_does, clone_makes, unstream_does, queue_does, main_sets, second_place, events_of, queue_set, bus_set, first_events, open_makes, opened_does, close_does}
@@ -254,13 +255,13 @@ closed_by false (Some x) o error e = cc
 closed_by false None (Some other) error e = (refl, cc)
 closed_by false None None error e = cc
 
-now_call : (h : List Event) (o : Option Call) (m : Seen) → polled_at h o ≡ Ok (polled.Now m) → (c : Call) × (o ≡ Some c) × (found h c ≡ Some m)
+now_call : (h : List Event) (o : Option Call) (m : Seen) → polled_at (read h) (closing h) o ≡ Ok (polled.Now m) → (c : Call) × (o ≡ Some c) × (found (read h) c ≡ Some m)
 now_call h None m e = cc
-now_call h (Some c) m e = (c, refl, now_by (is_nobodys c) (found h c) (closing h) m e)
+now_call h (Some c) m e = (c, refl, now_by (is_nobodys c) (found (read h) c) (closing h) m e)
 
-closed_call : (h : List Event) (o : Option Call) (error : Error) → polled_at h o ≡ Ok (polled.Closed error) → (c : Call) × (o ≡ Some c) × (found h c ≡ None) × (closing h ≡ Some error)
+closed_call : (h : List Event) (o : Option Call) (error : Error) → polled_at (read h) (closing h) o ≡ Ok (polled.Closed error) → (c : Call) × (o ≡ Some c) × (found (read h) c ≡ None) × (closing h ≡ Some error)
 closed_call h None error e = cc
-closed_call h (Some c) error e = let parts = closed_by (is_nobodys c) (found h c) (closing h) error e in (c, refl, parts.0, parts.1)
+closed_call h (Some c) error e = let parts = closed_by (is_nobodys c) (found (read h) c) (closing h) error e in (c, refl, parts.0, parts.1)
 
 -- ---- the first reply
 

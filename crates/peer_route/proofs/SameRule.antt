@@ -1,5 +1,5 @@
 -- Rules that are one, and a stream that asks for more, set aside while the other streams of its rule are raised.
-use Rattle.std.proofs.Common.{◌≡◌, ◌↔◌, ℕ, refl, sym, ◌∙◌, ap, max, Bool, true, false, ◌&&◌, if◌then◌else◌, List, set, get_or, Option, Some, None, is_some}
+use Rattle.std.proofs.Common.{◌≡◌, ◌↔◌, ℕ, refl, sym, ◌∙◌, ap, max, Bool, true, false, if◌then◌else◌, List, set, get_or, Option, Some, None, is_some}
 use Rattle.std.specs.List.{slice_get}
 use Rattle.std.specs.Option.{option_eq, option_map, option_flatten, option_and_then}
 use Rattle.wire_names.specs.declared.bus.OwnedBusName.{OwnedBusName}
@@ -7,14 +7,13 @@ use Rattle.wire_names.specs.declared.bus.OwnedBusName.TheVariants.{Unique, WellK
 use Rattle.wire_message.specs.declared.kind.MessageType.{MessageType}
 use Rattle.wire_message.specs.declared.kind.MessageType.TheVariants as types
 use Rattle.wire_message.specs.contracts.kind.MessageTypePartialEq.TheImpl.{ghosts as of_kinds}
-use Rattle.rule_arguments.specs.Passing.{same}
 use Rattle.rule_match.specs.declared.place.PathSpec.{PathSpec}
 use Rattle.rule_match.specs.declared.place.PathSpec.TheVariants.{Path, PathNamespace}
 use Rattle.rule_match.specs.contracts.place.PathSpecPartialEq.TheImpl.{ghosts as of_places}
 use Rattle.rule_match.specs.Rule.{Rule}
 use Rattle.rule_match.specs.Sender.{same_sender}
 use Rattle.rule_match.specs.contracts.rule.MatchRulePartialEq.TheImpl.{ghosts as of_rules}
-use Rattle.rule_match.proofs.Equal.{name_test, equal_is_one, one_is_equal}
+use Rattle.rule_match.proofs.Equal.{equal_is_one, one_is_equal}
 use Rattle.peer_route.specs.declared.queue.Subscription.{Subscription}
 use Rattle.peer_route.specs.Rules.{same_kind, same_name, same_place, is_same}
 use Rattle.peer_route.specs.Left.{Held, is_usable, if_usable, kept_at, raise, raise_held, raise_own, raise_all, wants_of, asked_for}
@@ -38,18 +37,11 @@ sender_same (Unique x) (WellKnown y) = refl
 sender_same (WellKnown x) (Unique y) = refl
 sender_same (WellKnown x) (WellKnown y) = refl
 
-and_true : (b : Bool) → (b && true) ≡ b
-and_true true = refl
-and_true false = refl
-
-name_same : (x y : List ℕ) → name_test x y ≡ same x y
-name_same x y = and_true (same x y)
-
 place_same : (a b : PathSpec) → of_places.eq a b ≡ same_place a b
-place_same (Path x) (Path y) = name_same x y
+place_same (Path x) (Path y) = refl
 place_same (Path x) (PathNamespace y) = refl
 place_same (PathNamespace x) (Path y) = refl
-place_same (PathNamespace x) (PathNamespace y) = name_same x y
+place_same (PathNamespace x) (PathNamespace y) = refl
 
 option_along : {A : Type 0} (f g : A → A → Bool) → ((x y : A) → f x y ≡ g x y) → (o p : Option A) → option_eq f o p ≡ option_eq g o p
 option_along f g e None None = refl
@@ -63,10 +55,7 @@ code_same r s =
     rw (
       option_along of_kinds.eq same_kind kind_same r.kind s.kind,
       option_along same_sender same_name sender_same r.sender s.sender,
-      option_along name_test same name_same r.interface s.interface,
-      option_along name_test same name_same r.member s.member,
       option_along of_places.eq same_place place_same r.path s.path,
-      option_along name_test same name_same r.destination s.destination,
     ) refl
 
 pub same_self : (r : Rule) → is_same r r ≡ true

@@ -10,7 +10,8 @@ use Rattle.peer_route.specs.declared.answer.Answer.TheVariants as answers
 use Rattle.peer_route.specs.declared.answer.Entry.{Entry}
 use Rattle.peer_route.specs.declared.writer.Writer.{Writer}
 use Rattle.peer_route.specs.declared.writer.Writer.TheVariants as writers
-use Rattle.peer_route.specs.History.{Event, Did, Gone, closing, put, written, is_failed, in_flight, writer}
+use Rattle.peer_route.specs.History.{Event, Did, Gone, closing, put, written, is_failed, writer}
+use Rattle.peer_route.specs.Calls.{in_flight}
 use Rattle.peer_route.specs.Streams.{asks_bus, leaving, close_waits, gone_then}
 use Rattle.peer_route.specs.BusCall.{add_message, remove_message, some_rules}
 use Rattle.peer_route.proofs.Writers.{fine_unfailed, writer_stays, shut_writer}

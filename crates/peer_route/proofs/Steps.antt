@@ -8,7 +8,8 @@ use Rattle.wire_message.specs.Circle.{IsNext, AllTaken}
 use Rattle.wire_message.specs.declared.error.Error.{Error}
 use Rattle.wire_message.specs.declared.error.Error.TheVariants as errors
 use Rattle.peer_route.specs.Parcel.{Parcel, Asked, message_of}
-use Rattle.peer_route.specs.History.{Event, Took, read, pending, last_serial}
+use Rattle.peer_route.specs.History.{Event, Took, read, last_serial}
+use Rattle.peer_route.specs.Calls.{pending}
 use Rattle.peer_route.specs.Answers.{send_refusal}
 use Rattle.peer_route.specs.Told.{encodings, left_after}
 use Rattle.peer_route.proofs.NextSerial.{next_serial-next, next_serial-none}

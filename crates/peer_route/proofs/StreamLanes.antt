@@ -16,8 +16,9 @@ use Rattle.peer_route.specs.declared.words.Words.TheVariants as words
 use Rattle.peer_route.specs.declared.answer.Answer.{Answer}
 use Rattle.peer_route.specs.declared.answer.Answer.TheVariants as answers
 use Rattle.peer_route.specs.declared.answer.Entry.{Entry}
-use Rattle.peer_route.specs.History.{Event, Put, Wrote, Did, Added, Cloned, Gone, Asked, Opened, done, read, closing, writer, poll_answer, by_position, drop_answer}
-use Rattle.peer_route.specs.Streams.{streams, plain_stream, new_stream, asking_stream, give, tell, done_by, fail_stream, busy, take_answer, rule_stream, leaving, gone_then, opening_answer}
+use Rattle.peer_route.specs.History.{Event, Put, Wrote, Did, Added, Cloned, Gone, Asked, Opened, done, read, closing, writer, streams, plain_stream, new_stream, asking_stream, give, tell, done_by, fail_stream, rule_stream, past}
+use Rattle.peer_route.specs.Calls.{poll_answer, by_position, drop_answer}
+use Rattle.peer_route.specs.Streams.{busy, take_answer, leaving, gone_then, opening_answer}
 use Rattle.peer_route.specs.declared.progress.OpenState.{OpenState}
 use Rattle.peer_route.specs.declared.progress.OpenState.TheVariants as states
 use Rattle.peer_route.specs.Parcel.{Setting}
@@ -130,7 +131,7 @@ abbrev MakesNone : List Event → Type 0
 MakesNone xs = (h : List Event) → length (streams (xs ++ h)) ≡ length (streams h)
 
 failed_makes : (w : Writer) (m : Seen) (expects : Bool) → MakesNone (failed_put w (Put m expects))
-failed_makes writers.Fine m expects h = length-map (streams h) (fail_stream (Put m expects ∷ h) (done h))
+failed_makes writers.Fine m expects h = length-map (streams h) (fail_stream (read (Put m expects ∷ h)) (done h))
 failed_makes writers.Failed m expects h = refl
 failed_makes writers.Closed m expects h = refl
 
@@ -172,7 +173,7 @@ makes_more xs ys first rest h = ap (λ (zs : List Event). length (streams zs)) (
 
 fault_makes : (rules : List Rule) → MakesNone (fault_each rules)
 fault_makes [] h = refl
-fault_makes (rule ∷ rules) h = length-map (streams (fault_each rules ++ h)) (fail_stream (fault_each rules ++ h) (done (fault_each rules ++ h))) ∙ fault_makes rules h
+fault_makes (rule ∷ rules) h = length-map (streams (fault_each rules ++ h)) (fail_stream (read (fault_each rules ++ h)) (done (fault_each rules ++ h))) ∙ fault_makes rules h
 
 wrote_makes : (rules : List Rule) → MakesNone (wrote_each rules)
 wrote_makes [] h = refl
@@ -241,15 +242,15 @@ lane_clone : (t : Trail) (lane n : ℕ) (p : Option ℕ) (b : Bool) (a : Answer)
 lane_clone t lane n None true a named opened is e = cc
 lane_clone t lane n None false a named opened is e = rw is (ap length (append-nil t.streams) ∙ e)
 lane_clone t lane n (Some k) true a named opened is e =
-    rw is (length-append t.streams (Some lane ∷ []) ∙ ap (λ n. n + 1) e ∙ sym (length-append (streams t.events) (new_stream t.events (streams t.events) (Cloned k) ∷ [])))
+    rw is (length-append t.streams (Some lane ∷ []) ∙ ap (λ n. n + 1) e ∙ sym (length-append (streams t.events) (new_stream (past t.events) (streams t.events) (Cloned k) ∷ [])))
 lane_clone t lane n (Some k) false a named opened is e = rw is (ap length (append-nil t.streams) ∙ e)
 
 -- an AddMatch whose own write failed has a stream, which is nobody's
 lane_failed : (t : Trail) (w : Writer) (m : Seen) (rule : Rule) (asked : Option ℕ) → length t.streams ≡ length (streams t.events)
     → length (t.streams ++ failed_name w true) ≡ length (streams (failed_put w (Added m rule asked) ++ t.events))
 lane_failed t writers.Fine m rule asked e =
-    length-append t.streams (None ∷ []) ∙ ap (λ n. n + 1) e ∙ sym (length-append (streams t.events) (asking_stream t.events m rule ∷ []))
-    ∙ sym (length-map (streams (Added m rule asked ∷ t.events)) (fail_stream (Added m rule asked ∷ t.events) (done t.events)))
+    length-append t.streams (None ∷ []) ∙ ap (λ n. n + 1) e ∙ sym (length-append (streams t.events) (asking_stream (past t.events) m rule ∷ []))
+    ∙ sym (length-map (streams (Added m rule asked ∷ t.events)) (fail_stream (read (Added m rule asked ∷ t.events)) (done t.events)))
 lane_failed t writers.Failed m rule asked e = ap length (append-nil t.streams) ∙ e
 lane_failed t writers.Closed m rule asked e = ap length (append-nil t.streams) ∙ e
 
@@ -258,9 +259,9 @@ lane_rule : (t : Trail) (lane : ℕ) (asked : Option ℕ) (rule : Rule) (a : Ans
 lane_rule t lane asked rule a (Refused error is) e = rw is (ap length (append-nil t.streams) ∙ e)
 lane_rule t lane asked rule a (Waits is) e = rw is (ap length (append-nil t.streams) ∙ e)
 lane_rule t lane asked rule a (AtOnce is) e =
-    rw is (length-append t.streams (Some lane ∷ []) ∙ ap (λ n. n + 1) e ∙ sym (length-append (streams t.events) (rule_stream t.events rule ∷ [])))
+    rw is (length-append t.streams (Some lane ∷ []) ∙ ap (λ n. n + 1) e ∙ sym (length-append (streams t.events) (rule_stream (past t.events) rule ∷ [])))
 lane_rule t lane asked rule a (Asks is) e =
-    rw is (length-append t.streams (Some lane ∷ []) ∙ ap (λ n. n + 1) e ∙ sym (length-append (streams t.events) (asking_stream t.events (add_message t.events rule (or_zero (next_serial t.events))) rule ∷ [])))
+    rw is (length-append t.streams (Some lane ∷ []) ∙ ap (λ n. n + 1) e ∙ sym (length-append (streams t.events) (asking_stream (past t.events) (add_message t.events rule (or_zero (next_serial t.events))) rule ∷ [])))
 lane_rule t lane asked rule a (Fails error is) e = rw is (lane_failed t (writer t.events) (add_message t.events rule (or_zero (next_serial t.events))) rule asked e)
 
 lane_open : (t : Trail) (lane : ℕ) (asked : Option ℕ) (found : Result Rule Error) (a : Answer) → IsOpenOf t lane found a → length t.streams ≡ length (streams t.events)
@@ -290,7 +291,7 @@ lanes_step t lane (words.Take n) a is e =
 lanes_step t lane (words.TakeBefore n before) a is e =
     lane_none t lane (words.TakeBefore n before) a (take_makes (place 0 lane n t.streams) a) (ap (made_streams lane) is ∙ take_before_streams lane t.events (place 0 lane n t.streams)) e
 lanes_step t lane words.Stream a is e =
-    rw is (length-append t.streams (Some lane ∷ []) ∙ ap (λ n. n + 1) e ∙ sym (length-append (streams t.events) (plain_stream t.events ∷ [])))
+    rw is (length-append t.streams (Some lane ∷ []) ∙ ap (λ n. n + 1) e ∙ sym (length-append (streams t.events) (plain_stream (past t.events) ∷ [])))
 lanes_step t lane (words.Open max_queued rule) a is e = lane_open t lane max_queued (rule_in_bytes rule) a is e
 lanes_step t lane (words.Opened n) a is e =
     lane_none t lane (words.Opened n) a (opened_makes (place 0 lane n t.streams) a) (ap (made_streams lane) is ∙ opened_streams lane t.events (place 0 lane n t.streams)) e

@@ -9,8 +9,8 @@ use Rattle.peer_route.specs.declared.words.Words.{Words}
 use Rattle.peer_route.specs.declared.words.Words.TheVariants as words
 use Rattle.peer_route.specs.declared.answer.Answer.{Answer}
 use Rattle.peer_route.specs.declared.answer.Answer.TheVariants as answers
-use Rattle.peer_route.specs.History.{Event, Did, Gave, Told, closing}
-use Rattle.peer_route.specs.Streams.{Stream, streams, held, runs, take_by, take_at, take_answer}
+use Rattle.peer_route.specs.History.{Event, Did, Gave, Told, closing, Stream, streams, read}
+use Rattle.peer_route.specs.Streams.{held, runs, take_by, take_at, take_answer}
 use Rattle.peer_route.specs.Trail.{Trail, place, take_does}
 use Rattle.peer_route.specs.Answers.{IsAnswer, shown_take, take_of}
 use Rattle.peer_route.specs.StreamLaws.{is_take, item_by, IsLast}
@@ -20,28 +20,28 @@ use Rattle.peer_route.proofs.Deeds.{Only, Spares}
 -- a take of the stream that is named, by its answer
 pub data TakeOf (h : List Event) (p : Option ℕ) (a : Answer) : Type 0 where
   Quiet : take_does p a ≡ [] → item_by true a ≡ [] → (IsLast a → ⊥) → TakeOf h p a
-  Item : (k : ℕ) (s : Stream) (m : Seen) (ms : List Seen) → p ≡ Some k → slice_get (streams h) k ≡ Some s → held h s ≡ m ∷ ms
+  Item : (k : ℕ) (s : Stream) (m : Seen) (ms : List Seen) → p ≡ Some k → slice_get (streams h) k ≡ Some s → held (read h) s ≡ m ∷ ms
       → a ≡ answers.Item m.position → TakeOf h p a
-  Tells : (k : ℕ) (s : Stream) (error : Error) → p ≡ Some k → slice_get (streams h) k ≡ Some s → runs h s ≡ true → held h s ≡ [] → closing h ≡ Some error
+  Tells : (k : ℕ) (s : Stream) (error : Error) → p ≡ Some k → slice_get (streams h) k ≡ Some s → runs (read h) s ≡ true → held (read h) s ≡ [] → closing h ≡ Some error
       → a ≡ answers.Closed error → TakeOf h p a
-  Ends : (k : ℕ) (s : Stream) (error : Error) → p ≡ Some k → slice_get (streams h) k ≡ Some s → held h s ≡ [] → closing h ≡ Some error → s.told ≡ true
+  Ends : (k : ℕ) (s : Stream) (error : Error) → p ≡ Some k → slice_get (streams h) k ≡ Some s → held (read h) s ≡ [] → closing h ≡ Some error → s.told ≡ true
       → a ≡ answers.Ended → TakeOf h p a
 
-kind_by : (h : List Event) (k : ℕ) (s : Stream) (items : List Seen) (o : Option Error) (told : Bool) → slice_get (streams h) k ≡ Some s → runs h s ≡ true
-    → held h s ≡ items → closing h ≡ o → s.told ≡ told → TakeOf h (Some k) (shown_take (Ok (take_by items o told)))
+kind_by : (h : List Event) (k : ℕ) (s : Stream) (items : List Seen) (o : Option Error) (told : Bool) → slice_get (streams h) k ≡ Some s → runs (read h) s ≡ true
+    → held (read h) s ≡ items → closing h ≡ o → s.told ≡ told → TakeOf h (Some k) (shown_take (Ok (take_by items o told)))
 kind_by h k s (m ∷ ms) o told at still e c t = Item k s m ms refl at e refl
 kind_by h k s [] None told at still e c t = Quiet refl refl (λ l. l)
 kind_by h k s [] (Some error) false at still e c t = Tells k s error refl at still e c refl
 kind_by h k s [] (Some error) true at still e c t = Ends k s error refl at e c t refl
 
-kind_open : (h : List Event) (k : ℕ) (s : Stream) (open_ : Bool) → slice_get (streams h) k ≡ Some s → runs h s ≡ open_
-    → TakeOf h (Some k) (shown_take (if open_ then Ok (take_by (held h s) (closing h) s.told) else Err errors.UnknownHandle))
-kind_open h k s true at e = kind_by h k s (held h s) (closing h) s.told at e refl refl refl
+kind_open : (h : List Event) (k : ℕ) (s : Stream) (open_ : Bool) → slice_get (streams h) k ≡ Some s → runs (read h) s ≡ open_
+    → TakeOf h (Some k) (shown_take (if open_ then Ok (take_by (held (read h) s) (closing h) s.told) else Err errors.UnknownHandle))
+kind_open h k s true at e = kind_by h k s (held (read h) s) (closing h) s.told at e refl refl refl
 kind_open h k s false at e = Quiet refl refl (λ l. l)
 
-kind_at : (h : List Event) (k : ℕ) (o : Option Stream) → slice_get (streams h) k ≡ o → TakeOf h (Some k) (shown_take (take_at h o))
+kind_at : (h : List Event) (k : ℕ) (o : Option Stream) → slice_get (streams h) k ≡ o → TakeOf h (Some k) (shown_take (take_at (read h) (closing h) o))
 kind_at h k None at = Quiet refl refl (λ l. l)
-kind_at h k (Some s) at = kind_open h k s (runs h s) at refl
+kind_at h k (Some s) at = kind_open h k s (runs (read h) s) at refl
 
 kind_of : (h : List Event) (p : Option ℕ) → TakeOf h p (take_of h p)
 unfolding take_answer
@@ -79,7 +79,7 @@ ended_does p a k named is = ap (λ o. take_does o a) named ∙ ap (take_does (So
 
 -- where the stream that gives an item is another one
 pub take_spares : (h : List Event) (p : Option ℕ) (a : Answer) (k : ℕ) → TakeOf h p a
-    → ((j : ℕ) (s : Stream) (m : Seen) (ms : List Seen) → p ≡ Some j → slice_get (streams h) j ≡ Some s → held h s ≡ m ∷ ms → j ≢ k) → Only (Spares k) (take_does p a)
+    → ((j : ℕ) (s : Stream) (m : Seen) (ms : List Seen) → p ≡ Some j → slice_get (streams h) j ≡ Some s → held (read h) s ≡ m ∷ ms → j ≢ k) → Only (Spares k) (take_does p a)
 take_spares h p a k (Quiet none item last) other = subst (Only (Spares k)) (sym none) tt
 take_spares h p a k (Item j s m ms named at e is) other =
     subst (Only (Spares k)) (sym (item_does p a j m.position named is)) (other j s m ms named at e, tt)

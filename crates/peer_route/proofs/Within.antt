@@ -7,29 +7,29 @@ use Rattle.peer_route.specs.declared.words.Words.{Words}
 use Rattle.peer_route.specs.declared.words.Words.TheVariants as words
 use Rattle.peer_route.specs.declared.answer.Answer.{Answer}
 use Rattle.peer_route.specs.declared.answer.Entry.{Entry}
-use Rattle.peer_route.specs.History.{Event, Took, Shut, Put, Wrote, Fault, Spent, Made, Did, Main, OnBus, Added, Removed, Named, Making, Plain, Ruled, Cloned, Deed, Gave, Told, Gone, Asked, Opened, done, edit, closing}
-use Rattle.peer_route.specs.Streams.{Stream, streams, phase, clone_of, new_stream, asking_stream, fail_stream, give, done_by, matched, held}
+use Rattle.peer_route.specs.History.{Event, Took, Fault, Made, Did, Added, Making, Plain, Ruled, Cloned, Deed, Gave, Told, Gone, Asked, Opened, done, edit, closing, Stream, streams, phase, clone_of, new_stream, asking_stream, fail_stream, give, done_by, past, read}
+use Rattle.peer_route.specs.Streams.{matched, held}
 use Rattle.peer_route.specs.Left.{IsWithin}
 use Rattle.peer_route.specs.Parcel.{Setting}
 use Rattle.peer_route.specs.Trail.{Trail, place, trail, take_does, events_of, first_events}
 use Rattle.peer_route.specs.Answers.{IsAnswer, Legal}
 use Rattle.peer_route.proofs.Edits.{drop_next}
-use Rattle.peer_route.proofs.Matched.{held_matched, all_within_same, all_within_took, within_at, within_fresh, within_asking, within_push}
+use Rattle.peer_route.proofs.Matched.{held_matched, all_within_took, within_at, within_fresh, within_asking, within_push}
 use Rattle.peer_route.proofs.Deeds.{Only, only_entry}
 use Rattle.peer_route.proofs.StreamLanes.{first_streams}
 use Rattle.peer_route.proofs.Takes.{TakeOf, Quiet, Item, Tells, Ends, take_entry, item_does, told_does, ended_does}
 
 abbrev pub AllWithin : List Event → Type 0
-AllWithin h = AllByRecursion (IsWithin h) (streams h)
+AllWithin h = AllByRecursion (IsWithin (read h)) (streams h)
 
 -- ---- events
 
-within_clone : (h : List Event) (k : ℕ) (o : Option Stream) → slice_get (streams h) k ≡ o → AllWithin h → IsWithin h (clone_of h o)
+within_clone : (h : List Event) (k : ℕ) (o : Option Stream) → slice_get (streams h) k ≡ o → AllWithin h → IsWithin (read h) (clone_of (past h) o)
 unfolding matched phase
 within_clone h k None at w = within_fresh h None (is_some (closing h))
 within_clone h k (Some s) at w = let one = within_at h (streams h) k s at w in let passed = one.passed in record { start = one.start; passed = omega arith }
 
-within_new : (h : List Event) (making : Making) → AllWithin h → IsWithin h (new_stream h (streams h) making)
+within_new : (h : List Event) (making : Making) → AllWithin h → IsWithin (read h) (new_stream (past h) (streams h) making)
 within_new h Plain w = within_fresh h None (is_some (closing h))
 within_new h (Ruled rule asked) w = within_fresh h (Some rule) false
 within_new h (Cloned t) w = within_clone h t (slice_get (streams h) t) refl w
@@ -42,7 +42,7 @@ GivesNone j Gone = Unit {0}
 GivesNone j (Asked limit) = Unit {0}
 GivesNone j Opened = Unit {0}
 
-within_deed : (h : List Event) (j : ℕ) (deed : Deed) (s : Stream) → GivesNone j deed → IsWithin h s → IsWithin h (done_by deed s)
+within_deed : (h : List Event) (j : ℕ) (deed : Deed) (s : Stream) → GivesNone j deed → IsWithin (read h) s → IsWithin (read h) (done_by deed s)
 unfolding matched phase
 within_deed h j Gave s n w = absurd n
 within_deed h j Told s n w = record { start = w.start; passed = w.passed }
@@ -50,18 +50,18 @@ within_deed h j Gone s n w = record { start = w.start; passed = w.passed }
 within_deed h j (Asked limit) s n w = w
 within_deed h j Opened s n w = record { start = w.start; passed = w.passed }
 
-within_edit : (h : List Event) (j i : ℕ) (deed : Deed) (ss : List Stream) → GivesNone i deed → AllByRecursion (IsWithin h) ss
-    → AllByRecursion (IsWithin h) (edit j (done_by deed) ss)
+within_edit : (h : List Event) (j i : ℕ) (deed : Deed) (ss : List Stream) → GivesNone i deed → AllByRecursion (IsWithin (read h)) ss
+    → AllByRecursion (IsWithin (read h)) (edit j (done_by deed) ss)
 within_edit h j i deed [] n w = w
 within_edit h zero i deed (s ∷ ss) n w = (within_deed h i deed s n w.0, w.1)
 within_edit h (suc j) i deed (s ∷ ss) n w = (w.0, within_edit h j i deed ss n w.1)
 
 -- a failed write ends streams that wait, and moves none
-fail_within : (h : List Event) (n : ℕ) (s : Stream) → IsWithin h s → IsWithin (Fault ∷ h) (fail_stream h n s)
+fail_within : (h : List Event) (n : ℕ) (s : Stream) → IsWithin (read h) s → IsWithin (read (Fault ∷ h)) (fail_stream (read h) n s)
 unfolding matched phase
 fail_within h n s w = record { start = w.start; passed = w.passed }
 
-within_failed : (h : List Event) (n : ℕ) (ss : List Stream) → AllByRecursion (IsWithin h) ss → AllByRecursion (IsWithin (Fault ∷ h)) (map (fail_stream h n) ss)
+within_failed : (h : List Event) (n : ℕ) (ss : List Stream) → AllByRecursion (IsWithin (read h)) ss → AllByRecursion (IsWithin (read (Fault ∷ h))) (map (fail_stream (read h) n) ss)
 within_failed h n [] w = tt
 within_failed h n (s ∷ ss) w = (fail_within h n s w.0, within_failed h n ss w.1)
 
@@ -71,40 +71,31 @@ within_events (Took m ∷ xs) h only w = all_within_took m (xs ++ h) (streams (x
 within_events (Made making ∷ xs) h only w =
     let g = xs ++ h in
     let rest = within_events xs h only w in
-    all_within_same (Made making ∷ g) g (streams g ++ new_stream g (streams g) making ∷ []) refl
-    (within_push g (streams g) (new_stream g (streams g) making) rest (within_new g making rest))
+    (within_push g (streams g) (new_stream (past g) (streams g) making) rest (within_new g making rest))
 within_events (Did j deed ∷ xs) h only w =
     let g = xs ++ h in
-    all_within_same (Did j deed ∷ g) g (edit j (done_by deed) (streams g)) refl (within_edit g j j deed (streams g) only.0 (within_events xs h only.1 w))
-within_events (Shut error ∷ xs) h only w = all_within_same (Shut error ∷ xs ++ h) (xs ++ h) (streams (xs ++ h)) refl (within_events xs h only w)
-within_events (Put m expects ∷ xs) h only w = all_within_same (Put m expects ∷ xs ++ h) (xs ++ h) (streams (xs ++ h)) refl (within_events xs h only w)
-within_events (Wrote ∷ xs) h only w = all_within_same (Wrote ∷ xs ++ h) (xs ++ h) (streams (xs ++ h)) refl (within_events xs h only w)
+    (within_edit g j j deed (streams g) only.0 (within_events xs h only.1 w))
 within_events (Fault ∷ xs) h only w = within_failed (xs ++ h) (done (xs ++ h)) (streams (xs ++ h)) (within_events xs h only w)
-within_events (Spent call ∷ xs) h only w = all_within_same (Spent call ∷ xs ++ h) (xs ++ h) (streams (xs ++ h)) refl (within_events xs h only w)
-within_events (Main limit ∷ xs) h only w = all_within_same (Main limit ∷ xs ++ h) (xs ++ h) (streams (xs ++ h)) refl (within_events xs h only w)
-within_events (OnBus ∷ xs) h only w = all_within_same (OnBus ∷ xs ++ h) (xs ++ h) (streams (xs ++ h)) refl (within_events xs h only w)
-within_events (Removed m ∷ xs) h only w = all_within_same (Removed m ∷ xs ++ h) (xs ++ h) (streams (xs ++ h)) refl (within_events xs h only w)
-within_events (Named name ∷ xs) h only w = all_within_same (Named name ∷ xs ++ h) (xs ++ h) (streams (xs ++ h)) refl (within_events xs h only w)
 within_events (Added m rule asked ∷ xs) h only w =
     let g = xs ++ h in
     let rest = within_events xs h only w in
-    all_within_same (Added m rule asked ∷ g) g (streams g ++ asking_stream g m rule ∷ []) refl (within_push g (streams g) (asking_stream g m rule) rest (within_asking g m rule))
+    (within_push g (streams g) (asking_stream (past g) m rule) rest (within_asking g m rule))
+within_events (e ∷ xs) h only w = (within_events xs h only w)
 
 -- ---- an item
 
-within_gave : (h : List Event) (k : ℕ) (ss : List Stream) (s : Stream) → slice_get ss k ≡ Some s → IsWithin h (give s) → AllByRecursion (IsWithin h) ss
-    → AllByRecursion (IsWithin h) (edit k (done_by Gave) ss)
+within_gave : (h : List Event) (k : ℕ) (ss : List Stream) (s : Stream) → slice_get ss k ≡ Some s → IsWithin (read h) (give s) → AllByRecursion (IsWithin (read h)) ss
+    → AllByRecursion (IsWithin (read h)) (edit k (done_by Gave) ss)
 within_gave h k [] s at one w = w
-within_gave h zero (x ∷ ss) s at one w = let same : x ≡ s = cc in (subst (λ y. IsWithin h (give y)) (sym same) one, w.1)
+within_gave h zero (x ∷ ss) s at one w = let same : x ≡ s = cc in (subst (λ y. IsWithin (read h) (give y)) (sym same) one, w.1)
 within_gave h (suc k) (x ∷ ss) s at one w = (w.0, within_gave h k ss s at one w.1)
 
-within_item : (h : List Event) (k : ℕ) (s : Stream) (m : Seen) (ms : List Seen) → slice_get (streams h) k ≡ Some s → held h s ≡ m ∷ ms → AllWithin h
+within_item : (h : List Event) (k : ℕ) (s : Stream) (m : Seen) (ms : List Seen) → slice_get (streams h) k ≡ Some s → held (read h) s ≡ m ∷ ms → AllWithin h
     → AllWithin (Did k Gave ∷ h)
 unfolding matched phase
 within_item h k s m ms at e w =
     let one = within_at h (streams h) k s at w in
-    let le : s.skip + s.taken + 1 ≤ length (matched h s) = (drop_next (s.skip + s.taken) (matched h s) m ms (sym (held_matched h s) ∙ e)).1 in
-    all_within_same (Did k Gave ∷ h) h (edit k (done_by Gave) (streams h)) refl
+    let le : s.skip + s.taken + 1 ≤ length (matched (read h) s) = (drop_next (s.skip + s.taken) (matched (read h) s) m ms (sym (held_matched h s) ∙ e)).1 in
     (within_gave h k (streams h) s at (record { start = one.start; passed = omega arith }) w)
 
 -- ---- entries
@@ -126,5 +117,5 @@ within_entry t lane w a is all = within_events (events_of t lane w a) t.events (
 
 pub all_within : (setting : Setting) (es : List Entry) → Legal setting es → AllWithin (trail setting es).events
 all_within setting [] legal =
-    let h = first_events setting.bus setting.name setting.queue in subst (AllByRecursion (IsWithin h)) (sym (first_streams setting.bus setting.name setting.queue)) tt
+    let h = first_events setting.bus setting.name setting.queue in subst (AllByRecursion (IsWithin (read h))) (sym (first_streams setting.bus setting.name setting.queue)) tt
 all_within setting (e ∷ es) legal = within_entry (trail setting es) e.lane e.words e.answer legal.0 (all_within setting es legal.1)

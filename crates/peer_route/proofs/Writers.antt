@@ -6,7 +6,7 @@ use Rattle.wire_message.specs.declared.error.IoKind.{IoKind}
 use Rattle.wire_message.specs.declared.error.IoKind.TheVariants as kinds
 use Rattle.peer_route.specs.declared.writer.Writer.{Writer}
 use Rattle.peer_route.specs.declared.writer.Writer.TheVariants as writers
-use Rattle.peer_route.specs.History.{Event, Took, Shut, Put, Wrote, Fault, Spent, Made, Did, Main, OnBus, Added, Removed, Named, is_failed, first_of, closing, worse, shuts_by, shuts, writer}
+use Rattle.peer_route.specs.History.{Event, Shut, Fault, is_failed, first_of, closing, worse, shuts_by, shuts, writer}
 
 worse_fine : (w cause : Writer) → worse w cause ≡ writers.Fine → (w ≡ writers.Fine) × (cause ≡ writers.Fine)
 worse_fine writers.Fine cause e = (refl, e)
@@ -18,17 +18,7 @@ pub fine_unfailed : (h : List Event) → writer h ≡ writers.Fine → is_failed
 fine_unfailed [] e = refl
 fine_unfailed (Fault ∷ h) e = let p = (worse_fine (writer h) writers.Failed e).1 in absurd (cc)
 fine_unfailed (Shut error ∷ h) e = fine_unfailed h (worse_fine (writer h) (shuts error) e).0
-fine_unfailed (Wrote ∷ h) e = fine_unfailed h e
-fine_unfailed (Took m ∷ h) e = fine_unfailed h e
-fine_unfailed (Put m expects ∷ h) e = fine_unfailed h e
-fine_unfailed (Spent call ∷ h) e = fine_unfailed h e
-fine_unfailed (Made making ∷ h) e = fine_unfailed h e
-fine_unfailed (Did j deed ∷ h) e = fine_unfailed h e
-fine_unfailed (Main limit ∷ h) e = fine_unfailed h e
-fine_unfailed (OnBus ∷ h) e = fine_unfailed h e
-fine_unfailed (Added m rule asked ∷ h) e = fine_unfailed h e
-fine_unfailed (Removed m ∷ h) e = fine_unfailed h e
-fine_unfailed (Named name ∷ h) e = fine_unfailed h e
+fine_unfailed (event ∷ h) e = fine_unfailed h e
 
 pub worse_stays : (w cause : Writer) → w ≢ writers.Fine → worse w cause ≡ w
 worse_stays writers.Fine cause ne = absurd (ne refl)
@@ -40,17 +30,7 @@ pub writer_stays : (newer h : List Event) → writer h ≢ writers.Fine → writ
 writer_stays [] h ne = refl
 writer_stays (Fault ∷ xs) h ne = ap (λ w. worse w writers.Failed) (writer_stays xs h ne) ∙ worse_stays (writer h) writers.Failed ne
 writer_stays (Shut error ∷ xs) h ne = ap (λ w. worse w (shuts error)) (writer_stays xs h ne) ∙ worse_stays (writer h) (shuts error) ne
-writer_stays (Wrote ∷ xs) h ne = writer_stays xs h ne
-writer_stays (Took m ∷ xs) h ne = writer_stays xs h ne
-writer_stays (Put m expects ∷ xs) h ne = writer_stays xs h ne
-writer_stays (Spent call ∷ xs) h ne = writer_stays xs h ne
-writer_stays (Made making ∷ xs) h ne = writer_stays xs h ne
-writer_stays (Did j deed ∷ xs) h ne = writer_stays xs h ne
-writer_stays (Main limit ∷ xs) h ne = writer_stays xs h ne
-writer_stays (OnBus ∷ xs) h ne = writer_stays xs h ne
-writer_stays (Added m rule asked ∷ xs) h ne = writer_stays xs h ne
-writer_stays (Removed m ∷ xs) h ne = writer_stays xs h ne
-writer_stays (Named name ∷ xs) h ne = writer_stays xs h ne
+writer_stays (e ∷ xs) h ne = writer_stays xs h ne
 
 -- closing a peer closes its writer, or finds it over before
 pub shut_writer : (w : Writer) → worse w writers.Closed ≢ writers.Fine
@@ -93,17 +73,7 @@ pub failed_so : (h : List Event) → writer h ≡ writers.Failed → is_failed h
 failed_so [] e = absurd (cc)
 failed_so (Fault ∷ h) e = refl
 failed_so (Shut error ∷ h) e = failed_so h (worse_failed (writer h) (shuts error) (shuts_unfailed error) e)
-failed_so (Wrote ∷ h) e = failed_so h e
-failed_so (Took m ∷ h) e = failed_so h e
-failed_so (Put m expects ∷ h) e = failed_so h e
-failed_so (Spent call ∷ h) e = failed_so h e
-failed_so (Made making ∷ h) e = failed_so h e
-failed_so (Did j deed ∷ h) e = failed_so h e
-failed_so (Main limit ∷ h) e = failed_so h e
-failed_so (OnBus ∷ h) e = failed_so h e
-failed_so (Added m rule asked ∷ h) e = failed_so h e
-failed_so (Removed m ∷ h) e = failed_so h e
-failed_so (Named name ∷ h) e = failed_so h e
+failed_so (event ∷ h) e = failed_so h e
 
 -- a writer that was closed is a closed peer's
 first_there : (o : Option Error) (error : Error) → is_some (first_of o error) ≡ true
@@ -119,14 +89,4 @@ pub closed_shut : (h : List Event) → writer h ≡ writers.Closed → is_some (
 closed_shut [] e = absurd (cc)
 closed_shut (Shut error ∷ h) e = first_there (closing h) error
 closed_shut (Fault ∷ h) e = closed_shut h (worse_closed (writer h) e)
-closed_shut (Wrote ∷ h) e = closed_shut h e
-closed_shut (Took m ∷ h) e = closed_shut h e
-closed_shut (Put m expects ∷ h) e = closed_shut h e
-closed_shut (Spent call ∷ h) e = closed_shut h e
-closed_shut (Made making ∷ h) e = closed_shut h e
-closed_shut (Did j deed ∷ h) e = closed_shut h e
-closed_shut (Main limit ∷ h) e = closed_shut h e
-closed_shut (OnBus ∷ h) e = closed_shut h e
-closed_shut (Added m rule asked ∷ h) e = closed_shut h e
-closed_shut (Removed m ∷ h) e = closed_shut h e
-closed_shut (Named name ∷ h) e = closed_shut h e
+closed_shut (event ∷ h) e = closed_shut h e

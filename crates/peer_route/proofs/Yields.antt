@@ -14,8 +14,8 @@ use Rattle.peer_route.specs.declared.words.Words.TheVariants as words
 use Rattle.peer_route.specs.declared.answer.Answer.{Answer}
 use Rattle.peer_route.specs.declared.answer.Answer.TheVariants as answers
 use Rattle.peer_route.specs.declared.answer.Entry.{Entry}
-use Rattle.peer_route.specs.History.{Event, Took, Shut, Put, Wrote, Fault, Spent, Made, Did, Main, OnBus, Added, Removed, Named, Making, Plain, Ruled, Cloned, Gave, read, closing}
-use Rattle.peer_route.specs.Streams.{Stream, Phase, Asking, Denied, Since, is_since, phase, streams, fresh, plain_stream, rule_stream, clone_of, new_stream, give, runs_at, is_open, accepted, matched, offered, held, rule_of}
+use Rattle.peer_route.specs.History.{Event, Took, Made, Did, Making, Plain, Ruled, Cloned, Gave, read, closing, Stream, Phase, Asking, Denied, Since, phase, streams, fresh, plain_stream, rule_stream, clone_of, new_stream, give, rule_of, past}
+use Rattle.peer_route.specs.Streams.{is_since, runs_at, is_open, accepted, matched, offered, held}
 use Rattle.peer_route.specs.Left.{start_count, IsWithin}
 use Rattle.peer_route.specs.Parcel.{Setting}
 use Rattle.peer_route.specs.Trail.{Trail, Names, place, count, trail, more, next_serial, or_zero, open_makes, clone_makes}
@@ -62,7 +62,7 @@ flows_took all own from skip taken n rule begun given m f =
 
 -- The stream runs, and what was read flows to it.
 abbrev Goes : List Event → Stream → ℕ → List Seen → List ℕ → Type 0
-Goes h s n begun given = (is_since (phase h s) ≡ true) × Flows (read h) (matched h s) (start_count s.start) s.skip s.taken n s.rule begun given
+Goes h s n begun given = (is_since (phase (read h) s) ≡ true) × Flows (read h) (matched (read h) s) (start_count s.start) s.skip s.taken n s.rule begun given
 
 since_stepped : (m : Seen) (p : Phase) → is_since p ≡ true → is_since (stepped m p) ≡ true
 since_stepped m (Since ms) e = refl
@@ -79,28 +79,17 @@ goes_took : (m : Seen) (h : List Event) (s : Stream) (n : ℕ) (begun : List See
 goes_took m h s n begun given r =
     let flows = r.1 in
     let start = flows.start in (
-      ap is_since (phase_took m h s start) ∙ since_stepped m (phase h s) r.0,
+      ap is_since (phase_took m h s start) ∙ since_stepped m (phase (read h) s) r.0,
       subst (λ ms. Flows (read h ++ m ∷ []) ms (start_count s.start) s.skip s.taken n s.rule begun given)
-          (sym (matched_took m h s start ∙ ap (λ ms. matched h s ++ ms) (arriving_since (phase h s) s.rule m r.0)))
-          (flows_took (read h) (matched h s) (start_count s.start) s.skip s.taken n s.rule begun given m flows),
+          (sym (matched_took m h s start ∙ ap (λ ms. matched (read h) s ++ ms) (arriving_since (phase (read h) s) s.rule m r.0)))
+          (flows_took (read h) (matched (read h) s) (start_count s.start) s.skip s.taken n s.rule begun given m flows),
     )
 
 goes_events : (xs h : List Event) (s : Stream) (n : ℕ) (begun : List Seen) (given : List ℕ) → Goes h s n begun given → Goes (xs ++ h) s n begun given
 unfolding matched phase
 goes_events [] h s n begun given f = f
 goes_events (Took m ∷ xs) h s n begun given f = goes_took m (xs ++ h) s n begun given (goes_events xs h s n begun given f)
-goes_events (Shut error ∷ xs) h s n begun given f = goes_events xs h s n begun given f
-goes_events (Put m expects ∷ xs) h s n begun given f = goes_events xs h s n begun given f
-goes_events (Wrote ∷ xs) h s n begun given f = goes_events xs h s n begun given f
-goes_events (Fault ∷ xs) h s n begun given f = goes_events xs h s n begun given f
-goes_events (Spent call ∷ xs) h s n begun given f = goes_events xs h s n begun given f
-goes_events (Made making ∷ xs) h s n begun given f = goes_events xs h s n begun given f
-goes_events (Did j deed ∷ xs) h s n begun given f = goes_events xs h s n begun given f
-goes_events (Main limit ∷ xs) h s n begun given f = goes_events xs h s n begun given f
-goes_events (OnBus ∷ xs) h s n begun given f = goes_events xs h s n begun given f
-goes_events (Added m rule asked ∷ xs) h s n begun given f = goes_events xs h s n begun given f
-goes_events (Removed m ∷ xs) h s n begun given f = goes_events xs h s n begun given f
-goes_events (Named name ∷ xs) h s n begun given f = goes_events xs h s n begun given f
+goes_events (e ∷ xs) h s n begun given f = goes_events xs h s n begun given f
 
 -- an item
 flows_item : (all own : List Seen) (from skip taken n : ℕ) (rule : Option Rule) (begun : List Seen) (given : List ℕ) (m : Seen) (ms : List Seen) → drop taken (drop skip own) ≡ m ∷ ms
@@ -127,11 +116,11 @@ begun_same : (n : ℕ) (rule : Option Rule) (begun : List Seen) (h : List Event)
 unfolding matched phase
 begun_same n rule begun h s given a b c g = g
 
-begun_item : (n : ℕ) (rule : Option Rule) (begun : List Seen) (h : List Event) (k : ℕ) (s : Stream) (given : List ℕ) (m : Seen) (ms : List Seen) → held h s ≡ m ∷ ms → Begun n rule begun h s given
+begun_item : (n : ℕ) (rule : Option Rule) (begun : List Seen) (h : List Event) (k : ℕ) (s : Stream) (given : List ℕ) (m : Seen) (ms : List Seen) → held (read h) s ≡ m ∷ ms → Begun n rule begun h s given
     → Begun n rule begun (Did k Gave ∷ h) (give s) (given ++ m.position ∷ [])
 unfolding matched held offered phase
 begun_item n rule begun h k s given m ms e g =
-    (g.0, (g.1.0, flows_item (read h) (matched h s) (start_count s.start) s.skip s.taken n s.rule begun given m ms e g.1.1))
+    (g.0, (g.1.0, flows_item (read h) (matched (read h) s) (start_count s.start) s.skip s.taken n s.rule begun given m ms e g.1.1))
 
 begun_flowing : (n : ℕ) (rule : Option Rule) (begun : List Seen) → Flowing (Begun n rule begun)
 begun_flowing n rule begun = record {
@@ -155,9 +144,9 @@ yields_from setting newer e older number rule begun legal start =
       stream = s;
       named = f.named;
       made = f.made;
-      items = ap (λ ps. ps ++ positions (held h s)) flows.given_is
-          ∙ sym (map-append (λ (m : Seen). m.position) (take s.taken (drop s.skip (matched h s))) (held h s))
-          ∙ ap positions (take-append-drop s.taken (drop s.skip (matched h s)) ∙ flows.offers ∙ ap (λ r. begun ++ accepted r (drop n (read h))) f.flows.0);
+      items = ap (λ ps. ps ++ positions (held (read h) s)) flows.given_is
+          ∙ sym (map-append (λ (m : Seen). m.position) (take s.taken (drop s.skip (matched (read h) s))) (held (read h) s))
+          ∙ ap positions (take-append-drop s.taken (drop s.skip (matched (read h) s)) ∙ flows.offers ∙ ap (λ r. begun ++ accepted r (drop n (read h))) f.flows.0);
     }
 
 -- ---- a stream that was made
@@ -186,7 +175,7 @@ pub stream_is : (t : Trail) (e : Entry) → IsAnswer t e.lane e.words e.answer �
 stream_is t e a w = subst (λ x. IsAnswer t e.lane x e.answer) w a
 
 flow_new : (names : Names) (h : List Event) (lane n : ℕ) (begun : List Seen) (making : Making) → length names ≡ length (streams h)
-    → (s : Stream) → new_stream h (streams h) making ≡ s → Goes h s n begun []
+    → (s : Stream) → new_stream (past h) (streams h) making ≡ s → Goes h s n begun []
     → Flow (Begun n s.rule begun) (names ++ Some lane ∷ []) (Made making ∷ h) lane (count lane names) []
 unfolding matched phase
 flow_new names h lane n begun making e s is goes = record {
@@ -197,7 +186,7 @@ flow_new names h lane n begun making e s is goes = record {
   flows = (refl, goes);
 }
 
-goes_fresh : (h : List Event) (rule : Option Rule) (told : Bool) → Goes h (fresh h rule told) (length (read h)) [] []
+goes_fresh : (h : List Event) (rule : Option Rule) (told : Bool) → Goes h (fresh (past h) rule told) (length (read h)) [] []
 unfolding matched phase
 goes_fresh h rule told = (refl, record { start = omega arith; passed = omega arith; early = omega arith; offers = refl; given_is = refl })
 
@@ -216,7 +205,7 @@ flow_start setting e older number legal w a =
     let is = stream_is t e legal.0 w in
     subst (λ k. FlowOf (Begun n None []) (trail setting (e ∷ older)) e.lane k []) (number_is e.answer (count e.lane t.streams) number is a)
     (subst (λ y. FlowOf (Begun n None []) (more t y) e.lane (count e.lane t.streams) []) (entry_is e words.Stream (answers.Streaming (count e.lane t.streams)) w is)
-    (flow_new t.streams t.events e.lane n [] Plain (lanes setting older legal.1) (plain_stream t.events) refl (goes_fresh t.events None (is_some (closing t.events)))))
+    (flow_new t.streams t.events e.lane n [] Plain (lanes setting older legal.1) (plain_stream (past t.events)) refl (goes_fresh t.events None (is_some (closing t.events)))))
 
 -- what a stream gave, and what it holds
 pub yields : (setting : Setting) (newer : List Entry) (e : Entry) (older : List Entry) (number : ℕ) → Legal setting (newer ++ e ∷ older) → e.words ≡ words.Stream → e.answer ≡ answers.Streaming number
@@ -248,7 +237,7 @@ flow_opened setting e older number asked text rule legal w r a =
     subst (λ k. FlowOf (Begun n (Some rule) []) (trail setting (e ∷ older)) e.lane k []) (number_is e.answer (count e.lane t.streams) number is a)
     (subst (λ y. FlowOf (Begun n (Some rule) []) (more t y) e.lane (count e.lane t.streams) []) (entry_is e (words.Open asked text) new w is)
     (subst (λ xs. Flow (Begun n (Some rule) []) (t.streams ++ Some e.lane ∷ []) (xs ++ t.events) e.lane (count e.lane t.streams) []) (ap (λ x. open_makes t.events x asked new) (sym r))
-    (flow_new t.streams t.events e.lane n [] (Ruled rule asked) (lanes setting older legal.1) (rule_stream t.events rule) refl (goes_fresh t.events (Some rule) false))))
+    (flow_new t.streams t.events e.lane n [] (Ruled rule asked) (lanes setting older legal.1) (rule_stream (past t.events) rule) refl (goes_fresh t.events (Some rule) false))))
 
 -- what a stream of a rule gave, and what it holds
 pub opened_yields : (setting : Setting) (newer : List Entry) (e : Entry) (older : List Entry) (number : ℕ) (asked : Option ℕ) (text : List ℕ) (rule : Rule) → Legal setting (newer ++ e ∷ older)
@@ -265,9 +254,9 @@ record Original (h : List Event) (p : Option ℕ) : Type 0 where
   stream : Stream
   named : p ≡ Some k
   made : slice_get (streams h) k ≡ Some stream
-  since : is_since (phase h stream) ≡ true
+  since : is_since (phase (read h) stream) ≡ true
 
-original_at : (h : List Event) (k : ℕ) (o : Option Stream) → slice_get (streams h) k ≡ o → runs_at h o ≡ true → Original h (Some k)
+original_at : (h : List Event) (k : ℕ) (o : Option Stream) → slice_get (streams h) k ≡ o → runs_at (read h) o ≡ true → Original h (Some k)
 original_at h k None at e = cc
 original_at h k (Some s) at e = let is = runs_so h s e in record { k = k; stream = s; named = refl; made = at; since = is.since }
 
@@ -280,7 +269,7 @@ pub opened : (b : Bool) (there a : Answer) → a ≡ where_open b there → ((er
 opened true there a is not_refused = (refl, is)
 opened false there a is not_refused = absurd (not_refused errors.UnknownHandle is)
 
-goes_clone : (h : List Event) (s : Stream) → IsWithin h s → is_since (phase h s) ≡ true → Goes h (clone_of h (Some s)) (length (read h)) (held h s) []
+goes_clone : (h : List Event) (s : Stream) → IsWithin (read h) s → is_since (phase (read h) s) ≡ true → Goes h (clone_of (past h) (Some s)) (length (read h)) (held (read h) s) []
 unfolding matched phase
 goes_clone h s w since =
     let passed = w.passed in
@@ -290,7 +279,7 @@ goes_clone h s w since =
         start = w.start;
         passed = omega arith;
         early = omega arith;
-        offers = sym (held_matched h s) ∙ sym (append-nil (held h s)) ∙ ap (λ ms. held h s ++ ms) (sym nothing);
+        offers = sym (held_matched h s) ∙ sym (append-nil (held (read h) s)) ∙ ap (λ ms. held (read h) s ++ ms) (sym nothing);
         given_is = refl;
       },
     )
@@ -299,7 +288,7 @@ goes_clone h s w since =
     accepted_none None = refl
     accepted_none (Some rule) = refl
 
-held_there : (h : List Event) (p : Option ℕ) (o : Original h p) → held_in h p ≡ held h o.stream
+held_there : (h : List Event) (p : Option ℕ) (o : Original h p) → held_in h p ≡ held (read h) o.stream
 held_there h p o = ap (held_in h) o.named ∙ ap (held_by h) o.made
 
 rule_there : (h : List Event) (p : Option ℕ) (o : Original h p) → rule_in h p ≡ o.stream.rule
@@ -313,7 +302,7 @@ flow_clone names h lane p e w o =
     (sym (ap (λ q. clone_makes q (answers.Streaming (count lane names))) o.named))
     (subst (λ r. Flow (Begun n r (held_in h p)) (names ++ Some lane ∷ []) (Made (Cloned o.k) ∷ h) lane (count lane names) []) (sym (rule_there h p o))
     (subst (λ ms. Flow (Begun n o.stream.rule ms) (names ++ Some lane ∷ []) (Made (Cloned o.k) ∷ h) lane (count lane names) []) (sym (held_there h p o))
-    (flow_new names h lane n (held h o.stream) (Cloned o.k) e (clone_of h (Some o.stream)) (ap (clone_of h) o.made)
+    (flow_new names h lane n (held (read h) o.stream) (Cloned o.k) e (clone_of (past h) (Some o.stream)) (ap (clone_of (past h)) o.made)
     (goes_clone h o.stream (within_at h (streams h) o.k o.stream o.made w) o.since))))
 
 clone_is : (t : Trail) (e : Entry) (original : ℕ) → IsAnswer t e.lane e.words e.answer → e.words ≡ words.Clone original

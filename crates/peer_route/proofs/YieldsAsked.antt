@@ -9,8 +9,8 @@ use Rattle.peer_route.specs.declared.words.Words.TheVariants as words
 use Rattle.peer_route.specs.declared.answer.Answer.{Answer}
 use Rattle.peer_route.specs.declared.answer.Answer.TheVariants as answers
 use Rattle.peer_route.specs.declared.answer.Entry.{Entry}
-use Rattle.peer_route.specs.History.{Event, Took, Shut, Put, Wrote, Fault, Spent, Made, Did, Main, OnBus, Added, Removed, Named, Gave, Call, inner_call, bears, read, unique_name}
-use Rattle.peer_route.specs.Streams.{Stream, OnReturn, Denied, Since, is_return, since_reply, since_in, phase_by, phase, streams, asking_stream, give, accepted, matched, held}
+use Rattle.peer_route.specs.History.{Event, Took, Shut, Put, Wrote, Fault, Spent, Made, Did, Main, OnBus, Added, Removed, Named, Gave, Call, inner_call, bears, read, unique_name, Stream, OnReturn, Denied, Since, is_return, since_reply, phase_by, phase, streams, asking_stream, give, past}
+use Rattle.peer_route.specs.Streams.{since_in, accepted, matched, held}
 use Rattle.peer_route.specs.Left.{start_count}
 use Rattle.peer_route.specs.Parcel.{Setting}
 use Rattle.peer_route.specs.BusCall.{add_parcel, add_message}
@@ -48,28 +48,28 @@ pub record Asked (rule : Rule) (add : Call) (h : List Event) (s : Stream) (given
   begins : s.start ≡ OnReturn add
   skips : s.skip ≡ 0
   early : start_count s.start ≤ length (read h)
-  passed : s.taken ≤ length (matched h s)
-  given_is : given ≡ positions (take s.taken (matched h s))
+  passed : s.taken ≤ length (matched (read h) s)
+  given_is : given ≡ positions (take s.taken (matched (read h) s))
 
 asked_took : (rule : Rule) (add : Call) (m : Seen) (h : List Event) (s : Stream) (given : List ℕ) → Asked rule add h s given → Asked rule add (Took m ∷ h) s given
 asked_took rule add m h s given r =
     let early = r.early in
     let passed = r.passed in
-    let some = arriving (phase h s) s.rule m in
-    let grown : matched (Took m ∷ h) s ≡ matched h s ++ some = matched_took m h s early in
+    let some = arriving (phase (read h) s) s.rule m in
+    let grown : matched (read (Took m ∷ h)) s ≡ matched (read h) s ++ some = matched_took m h s early in
     record {
       of_rule = r.of_rule;
       begins = r.begins;
       skips = r.skips;
       early = omega (arith, length-append (read h) (m ∷ []));
-      passed = subst (λ (ms : List Seen). s.taken ≤ length ms) (sym grown) (omega (arith, length-append (matched h s) some));
-      given_is = r.given_is ∙ ap positions (sym (ap (take s.taken) grown ∙ take-append-le s.taken (matched h s) some passed));
+      passed = subst (λ (ms : List Seen). s.taken ≤ length ms) (sym grown) (omega (arith, length-append (matched (read h) s) some));
+      given_is = r.given_is ∙ ap positions (sym (ap (take s.taken) grown ∙ take-append-le s.taken (matched (read h) s) some passed));
     }
 
 -- events that read nothing
 asked_quiet : (rule : Rule) (add : Call) (g h : List Event) (s : Stream) (given : List ℕ) → read g ≡ read h → Asked rule add h s given → Asked rule add g s given
 asked_quiet rule add g h s given e r =
-    let same : matched g s ≡ matched h s = matched_same g h s e in
+    let same : matched (read g) s ≡ matched (read h) s = matched_same g h s e in
     record {
       of_rule = r.of_rule;
       begins = r.begins;
@@ -102,22 +102,22 @@ asked_same rule add h s given a b c r =
     record { of_rule = r.of_rule; begins = r.begins; skips = r.skips; early = r.early; passed = r.passed; given_is = r.given_is }
 
 -- what it holds is all that is its own but what it took
-held_asked : (rule : Rule) (add : Call) (h : List Event) (s : Stream) (given : List ℕ) → Asked rule add h s given → held h s ≡ drop s.taken (matched h s)
-held_asked rule add h s given r = held_matched h s ∙ ap (λ n. drop (n + s.taken) (matched h s)) r.skips ∙ ap (λ n. drop n (matched h s)) (omega arith)
+held_asked : (rule : Rule) (add : Call) (h : List Event) (s : Stream) (given : List ℕ) → Asked rule add h s given → held (read h) s ≡ drop s.taken (matched (read h) s)
+held_asked rule add h s given r = held_matched h s ∙ ap (λ n. drop (n + s.taken) (matched (read h) s)) r.skips ∙ ap (λ n. drop n (matched (read h) s)) (omega arith)
 
-asked_item : (rule : Rule) (add : Call) (h : List Event) (k : ℕ) (s : Stream) (given : List ℕ) (m : Seen) (ms : List Seen) → held h s ≡ m ∷ ms → Asked rule add h s given
+asked_item : (rule : Rule) (add : Call) (h : List Event) (k : ℕ) (s : Stream) (given : List ℕ) (m : Seen) (ms : List Seen) → held (read h) s ≡ m ∷ ms → Asked rule add h s given
     → Asked rule add (Did k Gave ∷ h) (give s) (given ++ m.position ∷ [])
 unfolding matched phase
 asked_item rule add h k s given m ms e r =
-    let next : drop s.taken (matched h s) ≡ m ∷ ms = sym (held_asked rule add h s given r) ∙ e in
+    let next : drop s.taken (matched (read h) s) ≡ m ∷ ms = sym (held_asked rule add h s given r) ∙ e in
     record {
       of_rule = r.of_rule;
       begins = r.begins;
       skips = r.skips;
       early = r.early;
-      passed = (drop_next s.taken (matched h s) m ms next).1;
-      given_is = ap (λ ps. ps ++ m.position ∷ []) r.given_is ∙ sym (map-append (λ (x : Seen). x.position) (take s.taken (matched h s)) (m ∷ []))
-          ∙ ap positions (sym (take_one s.taken (matched h s) m ms next));
+      passed = (drop_next s.taken (matched (read h) s) m ms next).1;
+      given_is = ap (λ ps. ps ++ m.position ∷ []) r.given_is ∙ sym (map-append (λ (x : Seen). x.position) (take s.taken (matched (read h) s)) (m ∷ []))
+          ∙ ap positions (sym (take_one s.taken (matched (read h) s) m ms next));
     }
 
 asked_flowing : (rule : Rule) (add : Call) → Flowing (Asked rule add)
@@ -135,10 +135,10 @@ made_asking t lane a number serial (Asks is) e =
 made_asking t lane a number serial (Fails error is) e = let q : answers.SendFailed error ≡ answers.Opening number serial = sym is ∙ e in cc
 
 flow_asked : (t : Trail) (lane number : ℕ) (m : Seen) (rule : Rule) (asked : Option ℕ) → length t.streams ≡ length (streams t.events) → count lane t.streams ≡ number
-    → Flow (Asked rule (inner_call t.events m)) (t.streams ++ Some lane ∷ []) (Wrote ∷ Added m rule asked ∷ t.events) lane number []
+    → Flow (Asked rule (inner_call (past t.events) m)) (t.streams ++ Some lane ∷ []) (Wrote ∷ Added m rule asked ∷ t.events) lane number []
 flow_asked t lane number m rule asked e is =
     let h = t.events in
-    let s = asking_stream h m rule in
+    let s = asking_stream (past h) m rule in
     record {
       k = length t.streams;
       stream = s;
@@ -149,11 +149,11 @@ flow_asked t lane number m rule asked e is =
 
 flow_entry : (setting : Setting) (e : Entry) (older : List Entry) (number serial : ℕ) (asked : Option ℕ) (text : List ℕ) (rule : Rule) → Legal setting (e ∷ older) → e.words ≡ words.Open asked text
     → rule_in_bytes text ≡ Ok rule → e.answer ≡ answers.Opening number serial
-    → FlowOf (Asked rule (inner_call (trail setting older).events (add_message (trail setting older).events rule serial))) (trail setting (e ∷ older)) e.lane number []
+    → FlowOf (Asked rule (inner_call (past (trail setting older).events) (add_message (trail setting older).events rule serial))) (trail setting (e ∷ older)) e.lane number []
 flow_entry setting e older number serial asked text rule legal w r a =
     let t = trail setting older in
     let m = add_message t.events rule serial in
-    let goes = Asked rule (inner_call t.events m) in
+    let goes = Asked rule (inner_call (past t.events) m) in
     let new = answers.Opening number serial in
     let is = made_asking t e.lane e.answer number serial (open_is t e asked text legal.0 w) a in
     subst (λ y. FlowOf goes (more t y) e.lane number []) (entry_is e (words.Open asked text) new w a)
@@ -162,7 +162,7 @@ flow_entry setting e older number serial asked text rule legal w r a =
 
 -- all that is the stream's own is what its rule accepts behind the return
 matched_asked : (rule : Rule) (add : Call) (h : List Event) (s : Stream) → s.rule ≡ Some rule → s.start ≡ OnReturn add
-    → matched h s ≡ accepted (Some rule) (after_return add.serial (drop add.from (read h)))
+    → matched (read h) s ≡ accepted (Some rule) (after_return add.serial (drop add.from (read h)))
 unfolding matched phase
 matched_asked rule add h s r b =
     ap (λ o. accepted o (since_in (phase_by s.start (read h)))) r ∙ ap (λ x. accepted (Some rule) (since_in (phase_by x (read h)))) b
@@ -174,7 +174,7 @@ pub asked_yields : (setting : Setting) (newer : List Entry) (e : Entry) (older :
 asked_yields setting newer e older number serial asked text rule legal w r a =
     let g = (trail setting older).events in
     let h = (trail setting (newer ++ e ∷ older)).events in
-    let add = inner_call g (add_message g rule serial) in
+    let add = inner_call (past g) (add_message g rule serial) in
     let f = flow_all (Asked rule add) (asked_flowing rule add) setting newer e older number legal
     (flow_entry setting e older number serial asked text rule (legal_from setting newer (e ∷ older) legal) w r a) in
     let s = f.stream in
@@ -185,8 +185,8 @@ asked_yields setting newer e older number serial asked text rule legal w r a =
       named = f.named;
       made = f.made;
       items = ap (λ ms. given ++ positions ms) (held_asked rule add h s given f.flows)
-          ∙ ap (λ ps. ps ++ positions (drop s.taken (matched h s))) f.flows.given_is
-          ∙ sym (map-append (λ (m : Seen). m.position) (take s.taken (matched h s)) (drop s.taken (matched h s)))
-          ∙ ap positions (take-append-drop s.taken (matched h s) ∙ matched_asked rule add h s f.flows.of_rule f.flows.begins
+          ∙ ap (λ ps. ps ++ positions (drop s.taken (matched (read h) s))) f.flows.given_is
+          ∙ sym (map-append (λ (m : Seen). m.position) (take s.taken (matched (read h) s)) (drop s.taken (matched (read h) s)))
+          ∙ ap positions (take-append-drop s.taken (matched (read h) s) ∙ matched_asked rule add h s f.flows.of_rule f.flows.begins
           ∙ ap (λ n. accepted (Some rule) (after_return n (drop (length (read g)) (read h)))) (message_serial (add_parcel (unique_name g) rule) serial));
     }

@@ -22,7 +22,8 @@ use Rattle.peer_route.specs.Parcel.{Setting, Parcel, Asked, message_of}
 use Rattle.peer_route.specs.CallMessage.{expects, call_asked, signal_asked, reply_asked, error_asked}
 use Rattle.peer_route.specs.declared.progress.OpenState.{OpenState}
 use Rattle.peer_route.specs.declared.progress.OpenState.TheVariants as states
-use Rattle.peer_route.specs.History.{Event, Did, Gone, read, closing, writer, in_flight, unique_name, poll_answer, by_position, drop_answer}
+use Rattle.peer_route.specs.History.{Event, Did, Gone, read, closing, writer, unique_name}
+use Rattle.peer_route.specs.Calls.{in_flight, poll_answer, by_position, drop_answer}
 use Rattle.peer_route.specs.Streams.{busy, take_answer, is_open, asks_bus, leaving, close_waits, gone_then, opening_answer}
 use Rattle.peer_route.specs.BusCall.{add_parcel, remove_message, last_of, some_rules}
 use Rattle.peer_route.specs.Trail.{Trail, Names, trail, place, second_place, count, given, next_serial, or_zero, removal, removal_serials}
@@ -93,8 +94,7 @@ error_answer m None = answers.InvalidReply m.position
 abbrev pub reply_by : Seen → MessageType → Answer
 reply_by m types.MethodReturn = answers.Reply m.position
 reply_by m types.Error = error_answer m m.error_name
-reply_by m types.MethodCall = answers.InvalidReply m.position
-reply_by m types.Signal = answers.InvalidReply m.position
+reply_by m other = answers.InvalidReply m.position
 
 abbrev pub reply_answer : Seen → Answer
 reply_answer m = reply_by m m.kind

@@ -16,8 +16,9 @@ use Rattle.peer_route.specs.declared.opening.Opened.TheVariants as opened
 use Rattle.peer_route.specs.declared.progress.OpenState.{OpenState}
 use Rattle.peer_route.specs.declared.progress.OpenState.TheVariants as states
 use Rattle.peer_route.specs.Parcel.{Parcel, message_of, sent_by}
-use Rattle.peer_route.specs.History.{Event, Made, Ruled, Added, closing, pending, last_serial, writer, put, in_flight}
-use Rattle.peer_route.specs.Streams.{streams, asks_bus}
+use Rattle.peer_route.specs.History.{Event, Made, Ruled, Added, closing, last_serial, writer, put, streams}
+use Rattle.peer_route.specs.Calls.{pending, in_flight}
+use Rattle.peer_route.specs.Streams.{asks_bus}
 use Rattle.peer_route.specs.declared.opening.Opening.{Opening}
 use Rattle.peer_route.specs.declared.opening.RuleCall.{RuleCall}
 use Rattle.peer_route.specs.declared.route.Issued.{Issued}
@@ -59,8 +60,7 @@ abbrev pub AsksNow : View → View → Result Opens Error → Type 0
 AsksNow old new (Ok (opens.Opening o)) =
     (o.index ≡ length old.outbox) × (length new.outbox ≡ length old.outbox + 1) × (new.done ≡ old.done)
     × (old.writer ≡ writers.Fine) × (new.writer ≡ writers.Fine)
-AsksNow old new (Ok (opens.Open stream)) = Unit {0}
-AsksNow old new (Err error) = Unit {0}
+AsksNow old new other = Unit {0}
 
 -- what is shown of it: the stream, where it is open; the opening again; the error that denied it, or what closed the peer
 abbrev pub IsShownAs : Opening → OpenState → Opened → Type 0

@@ -1,6 +1,6 @@
--- A peer's history as a list of events, newest first, that never loses anything; and what is asked of it: filters and
--- first-such, never the machine's fields (D-Bus Specification, "Message Protocol", "Types of messages").
-use Rattle.std.specs.Prelude.{ℕ, ◌==◌, ◌+◌, Bool, true, false, ◌&&◌, ◌||◌, not, is_none, if◌then◌else◌, List, [], ◌∷◌, ◌++◌, length, map, drop, find, slice_get, Option, Some, None, Result, Ok, Err, zero, suc}
+-- A peer's history as a list of events, newest first, that never loses anything; and its past, one record whose parts are each a
+-- short function of the events (D-Bus Specification, "Message Protocol", "Types of messages").
+use Rattle.std.specs.Prelude.{ℕ, ◌==◌, ◌+◌, max, Bool, true, false, ◌&&◌, ◌||◌, not, is_none, is_some, if◌then◌else◌, List, [], ◌∷◌, ◌++◌, length, map, drop, slice_get, Option, Some, None, zero, suc}
 use Rattle.std.specs.List.{list_any}
 use Rattle.wire_message.specs.Front.{Seen}
 use Rattle.wire_message.specs.declared.kind.MessageType.{MessageType}
@@ -10,10 +10,9 @@ use Rattle.wire_message.specs.declared.error.Error.TheVariants as errors
 use Rattle.wire_message.specs.declared.error.IoKind.{IoKind}
 use Rattle.wire_message.specs.declared.error.IoKind.TheVariants as kinds
 use Rattle.rule_match.specs.Rule.{Rule}
+use Rattle.peer_route.specs.Rules.{is_same, usual}
 use Rattle.peer_route.specs.declared.writer.Writer.{Writer}
 use Rattle.peer_route.specs.declared.writer.Writer.TheVariants as writers
-use Rattle.peer_route.specs.declared.polled.Polled.{Polled}
-use Rattle.peer_route.specs.declared.polled.Polled.TheVariants as polled
 
 -- ---- events
 
@@ -46,207 +45,7 @@ pub data Event : Type 0 where
   Removed : (m : Seen) → Event  -- RemoveMatch was put
   Named : (name : List ℕ) → Event  -- the peer was given its unique name
 
--- ---- reads and closing
-
--- the messages that were read, oldest first
-abbrev pub read : List Event → List Seen
-read [] = []
-read (Took m ∷ h) = read h ++ m ∷ []
-read (Shut error ∷ h) = read h
-read (Put m expects ∷ h) = read h
-read (Wrote ∷ h) = read h
-read (Fault ∷ h) = read h
-read (Spent call ∷ h) = read h
-read (Made making ∷ h) = read h
-read (Did stream deed ∷ h) = read h
-read (Main limit ∷ h) = read h
-read (OnBus ∷ h) = read h
-read (Added m rule asked ∷ h) = read h
-read (Removed m ∷ h) = read h
-read (Named name ∷ h) = read h
-
-abbrev pub first_of : Option Error → Error → Option Error
-first_of None error = Some error
-first_of (Some earlier) error = Some earlier
-
--- the first closing error
-abbrev pub closing : List Event → Option Error
-closing [] = None
-closing (Shut error ∷ h) = first_of (closing h) error
-closing (Took m ∷ h) = closing h
-closing (Put m expects ∷ h) = closing h
-closing (Wrote ∷ h) = closing h
-closing (Fault ∷ h) = closing h
-closing (Spent call ∷ h) = closing h
-closing (Made making ∷ h) = closing h
-closing (Did stream deed ∷ h) = closing h
-closing (Main limit ∷ h) = closing h
-closing (OnBus ∷ h) = closing h
-closing (Added m rule asked ∷ h) = closing h
-closing (Removed m ∷ h) = closing h
-closing (Named name ∷ h) = closing h
-
--- ---- the outbox
-
--- the messages that were put, by their index
-abbrev pub put : List Event → List Seen
-put [] = []
-put (Put m expects ∷ h) = put h ++ m ∷ []
-put (Took m ∷ h) = put h
-put (Shut error ∷ h) = put h
-put (Wrote ∷ h) = put h
-put (Fault ∷ h) = put h
-put (Spent call ∷ h) = put h
-put (Made making ∷ h) = put h
-put (Did stream deed ∷ h) = put h
-put (Main limit ∷ h) = put h
-put (OnBus ∷ h) = put h
-put (Added m rule asked ∷ h) = put h ++ m ∷ []
-put (Removed m ∷ h) = put h ++ m ∷ []
-put (Named name ∷ h) = put h
-
--- how many of them were written or failed
-abbrev pub done : List Event → ℕ
-done [] = 0
-done (Wrote ∷ h) = done h + 1
-done (Fault ∷ h) = done h + 1
-done (Took m ∷ h) = done h
-done (Shut error ∷ h) = done h
-done (Put m expects ∷ h) = done h
-done (Spent call ∷ h) = done h
-done (Made making ∷ h) = done h
-done (Did stream deed ∷ h) = done h
-done (Main limit ∷ h) = done h
-done (OnBus ∷ h) = done h
-done (Added m rule asked ∷ h) = done h
-done (Removed m ∷ h) = done h
-done (Named name ∷ h) = done h
-
--- how many of them were written
-abbrev pub written : List Event → ℕ
-written [] = 0
-written (Wrote ∷ h) = written h + 1
-written (Fault ∷ h) = written h
-written (Took m ∷ h) = written h
-written (Shut error ∷ h) = written h
-written (Put m expects ∷ h) = written h
-written (Spent call ∷ h) = written h
-written (Made making ∷ h) = written h
-written (Did stream deed ∷ h) = written h
-written (Main limit ∷ h) = written h
-written (OnBus ∷ h) = written h
-written (Added m rule asked ∷ h) = written h
-written (Removed m ∷ h) = written h
-written (Named name ∷ h) = written h
-
--- a write failed
-abbrev pub is_failed : List Event → Bool
-is_failed [] = false
-is_failed (Fault ∷ h) = true
-is_failed (Wrote ∷ h) = is_failed h
-is_failed (Took m ∷ h) = is_failed h
-is_failed (Shut error ∷ h) = is_failed h
-is_failed (Put m expects ∷ h) = is_failed h
-is_failed (Spent call ∷ h) = is_failed h
-is_failed (Made making ∷ h) = is_failed h
-is_failed (Did stream deed ∷ h) = is_failed h
-is_failed (Main limit ∷ h) = is_failed h
-is_failed (OnBus ∷ h) = is_failed h
-is_failed (Added m rule asked ∷ h) = is_failed h
-is_failed (Removed m ∷ h) = is_failed h
-is_failed (Named name ∷ h) = is_failed h
-
--- the earlier cause stays
-abbrev pub worse : Writer → Writer → Writer
-worse writers.Fine cause = cause
-worse writers.Failed cause = writers.Failed
-worse writers.Closed cause = writers.Closed
-
-abbrev pub shuts_by : IoKind → Writer
-shuts_by kinds.Closed = writers.Closed
-shuts_by kinds.Ended = writers.Fine
-shuts_by kinds.Fault = writers.Fine
-shuts_by kinds.WriteFault = writers.Fine
-shuts_by kinds.TimedOut = writers.Fine
-
--- Closing a peer closes its writer; a read that ends its messages doesn't.
-abbrev pub shuts : Error → Writer
-shuts (errors.InputOutput kind) = shuts_by kind
-shuts error = writers.Fine
-
--- What became of the writer: after a failed write, or once the peer was closed, nothing is put any more. The earlier cause stays.
-abbrev pub writer : List Event → Writer
-writer [] = writers.Fine
-writer (Fault ∷ h) = worse (writer h) writers.Failed
-writer (Shut error ∷ h) = worse (writer h) (shuts error)
-writer (Wrote ∷ h) = writer h
-writer (Took m ∷ h) = writer h
-writer (Put m expects ∷ h) = writer h
-writer (Spent call ∷ h) = writer h
-writer (Made making ∷ h) = writer h
-writer (Did stream deed ∷ h) = writer h
-writer (Main limit ∷ h) = writer h
-writer (OnBus ∷ h) = writer h
-writer (Added m rule asked ∷ h) = writer h
-writer (Removed m ∷ h) = writer h
-writer (Named name ∷ h) = writer h
-
--- the last serial that was drawn, 0 before the first
-abbrev pub last_serial : List Event → ℕ
-last_serial [] = 0
-last_serial (Put m expects ∷ h) = m.serial
-last_serial (Took m ∷ h) = last_serial h
-last_serial (Shut error ∷ h) = last_serial h
-last_serial (Wrote ∷ h) = last_serial h
-last_serial (Fault ∷ h) = last_serial h
-last_serial (Spent call ∷ h) = last_serial h
-last_serial (Made making ∷ h) = last_serial h
-last_serial (Did stream deed ∷ h) = last_serial h
-last_serial (Main limit ∷ h) = last_serial h
-last_serial (OnBus ∷ h) = last_serial h
-last_serial (Added m rule asked ∷ h) = m.serial
-last_serial (Removed m ∷ h) = m.serial
-last_serial (Named name ∷ h) = last_serial h
-
--- the peer stands on a message bus, which sends it the signals that it asks for
-abbrev pub on_bus : List Event → Bool
-on_bus [] = false
-on_bus (OnBus ∷ h) = true
-on_bus (Took m ∷ h) = on_bus h
-on_bus (Shut error ∷ h) = on_bus h
-on_bus (Put m expects ∷ h) = on_bus h
-on_bus (Wrote ∷ h) = on_bus h
-on_bus (Fault ∷ h) = on_bus h
-on_bus (Spent call ∷ h) = on_bus h
-on_bus (Made making ∷ h) = on_bus h
-on_bus (Did stream deed ∷ h) = on_bus h
-on_bus (Main limit ∷ h) = on_bus h
-on_bus (Added m rule asked ∷ h) = on_bus h
-on_bus (Removed m ∷ h) = on_bus h
-on_bus (Named name ∷ h) = on_bus h
-
-abbrev pub first_name : Option (List ℕ) → List ℕ → Option (List ℕ)
-first_name None name = Some name
-first_name (Some earlier) name = Some earlier
-
--- the peer's unique name: the first that it was given
-abbrev pub unique_name : List Event → Option (List ℕ)
-unique_name [] = None
-unique_name (Named name ∷ h) = first_name (unique_name h) name
-unique_name (Took m ∷ h) = unique_name h
-unique_name (Shut error ∷ h) = unique_name h
-unique_name (Put m expects ∷ h) = unique_name h
-unique_name (Wrote ∷ h) = unique_name h
-unique_name (Fault ∷ h) = unique_name h
-unique_name (Spent call ∷ h) = unique_name h
-unique_name (Made making ∷ h) = unique_name h
-unique_name (Did stream deed ∷ h) = unique_name h
-unique_name (Main limit ∷ h) = unique_name h
-unique_name (OnBus ∷ h) = unique_name h
-unique_name (Added m rule asked ∷ h) = unique_name h
-unique_name (Removed m ∷ h) = unique_name h
-
--- ---- calls
+-- ---- a call, a stream, the outbox
 
 -- A call that was issued: the place of its message in the outbox, its serial, how many messages were read before it was
 -- put, whether its answer was given or it was dropped, whether its write failed, and whether it is the peer's own: an AddMatch
@@ -259,14 +58,151 @@ pub record Call : Type 0 where
   pub failed : Bool
   pub inner : Bool
 
-abbrev pub call_by : List Event → Seen → Bool → Call
-call_by h m inner = record { index = length (put h); serial = m.serial; from = length (read h); spent = false; failed = false; inner = inner }
+-- a method return or an error
+abbrev pub is_reply : MessageType → Bool
+is_reply types.MethodReturn = true
+is_reply types.Error = true
+is_reply other = false
 
-abbrev pub new_call : List Event → Seen → Call
-new_call h m = call_by h m false
+abbrev pub is_serial : Option ℕ → ℕ → Bool
+is_serial None serial = false
+is_serial (Some n) serial = n == serial
 
-abbrev pub inner_call : List Event → Seen → Call
-inner_call h m = call_by h m true
+-- the message is a return or an error with this reply serial
+unfoldable pub bears : ℕ → Seen → Bool
+bears serial m = is_reply m.kind && is_serial m.reply_serial serial
+
+-- where a stream begins: behind so many messages; or behind the return to its AddMatch
+pub data Start : Type 0 where
+  Behind : (count : ℕ) → Start
+  OnReturn : (add : Call) → Start
+
+-- A stream that was made: its rule, where it has one; where it begins; how many of those messages that are its own it passes
+-- over, how many items it gave, whether it gave the closing error, whether it was closed, and whether who asked for it was told
+-- that it is open.
+pub record Stream : Type 0 where
+  pub rule : Option Rule
+  pub start : Start
+  pub skip : ℕ
+  pub taken : ℕ
+  pub told : Bool
+  pub gone : Bool
+  pub opened : Bool
+
+-- how far a stream is opened: it waits for the return to its AddMatch; it was denied by an error to it; or these messages were
+-- read since it began
+pub data Phase : Type 0 where
+  Asking : (add : Call) → Phase
+  Denied : (m : Seen) → Phase
+  Since : (ms : List Seen) → Phase
+
+abbrev pub is_return : MessageType → Bool
+is_return types.MethodReturn = true
+is_return other = false
+
+-- by the messages that were read since the AddMatch was put: its reply is the first of them that bears its serial
+abbrev pub since_reply : Call → List Seen → Phase
+since_reply add [] = Asking add
+since_reply add (m ∷ ms) = if bears add.serial m then (if is_return m.kind then Since ms else Denied m) else since_reply add ms
+
+abbrev pub phase_by : Start → List Seen → Phase
+phase_by (Behind count) ms = Since (drop count ms)
+phase_by (OnReturn add) ms = since_reply add (drop add.from ms)
+
+-- What was put: the messages, by their index; how many of them were written, and how many were written or failed; whether a write
+-- failed; what became of the writer; and the last serial that was drawn, 0 before the first.
+pub record Outbox : Type 0 where
+  pub put : List Seen
+  pub written : ℕ
+  pub done : ℕ
+  pub failed : Bool
+  pub writer : Writer
+  pub last : ℕ
+
+-- How many messages a stream may hold before reads wait; none is ever dropped: one without a rule, and each open one of a rule.
+pub record Capacities : Type 0 where
+  pub main : ℕ
+  pub rules : Rule → ℕ
+
+-- The past: whether the peer stands on a message bus, which sends it the signals that it asks for; its unique name, the first that it
+-- was given; the messages that were read, oldest first; the first closing error; what was put; the calls that were issued and
+-- the streams that were made, oldest first; and their capacities.
+pub record Past : Type 0 where
+  pub bus : Bool
+  pub name : Option (List ℕ)
+  pub read : List Seen
+  pub closing : Option Error
+  pub outbox : Outbox
+  pub calls : List Call
+  pub streams : List Stream
+  pub capacities : Capacities
+
+-- ---- what was read, and what closed the peer
+
+abbrev pub read_after : Event → List Seen → List Seen
+read_after (Took m) ms = ms ++ m ∷ []
+read_after e ms = ms
+
+abbrev pub first_of : Option Error → Error → Option Error
+first_of None error = Some error
+first_of (Some earlier) error = Some earlier
+
+abbrev pub closing_after : Event → Option Error → Option Error
+closing_after (Shut error) closing = first_of closing error
+closing_after e closing = closing
+
+abbrev pub bus_after : Event → Bool → Bool
+bus_after OnBus bus = true
+bus_after e bus = bus
+
+abbrev pub first_name : Option (List ℕ) → List ℕ → Option (List ℕ)
+first_name None name = Some name
+first_name (Some earlier) name = Some earlier
+
+abbrev pub name_after : Event → Option (List ℕ) → Option (List ℕ)
+name_after (Named name) given = first_name given name
+name_after e given = given
+
+-- ---- the outbox
+
+-- the earlier cause stays
+abbrev pub worse : Writer → Writer → Writer
+worse writers.Fine cause = cause
+worse writers.Failed cause = writers.Failed
+worse writers.Closed cause = writers.Closed
+
+abbrev pub shuts_by : IoKind → Writer
+shuts_by kinds.Closed = writers.Closed
+shuts_by other = writers.Fine
+
+-- Closing a peer closes its writer; a read that ends its messages doesn't.
+abbrev pub shuts : Error → Writer
+shuts (errors.InputOutput kind) = shuts_by kind
+shuts error = writers.Fine
+
+abbrev pub put_in : Seen → Outbox → Outbox
+put_in m o = record o { put = o.put ++ m ∷ []; last = m.serial }
+
+-- After a failed write, or once the peer was closed, nothing is put any more.
+abbrev pub outbox_after : Event → Outbox → Outbox
+outbox_after (Put m expects) o = put_in m o
+outbox_after (Added m rule asked) o = put_in m o
+outbox_after (Removed m) o = put_in m o
+outbox_after Wrote o = record o { written = o.written + 1; done = o.done + 1 }
+outbox_after Fault o = record o { done = o.done + 1; failed = true; writer = worse o.writer writers.Failed }
+outbox_after (Shut error) o = record o { writer = worse o.writer (shuts error) }
+outbox_after e o = o
+
+-- ---- calls
+
+abbrev pub call_by : Past → Seen → Bool → Call
+call_by p m inner = record { index = length p.outbox.put; serial = m.serial; from = length p.read; spent = false; failed = false; inner = inner }
+
+abbrev pub new_call : Past → Seen → Call
+new_call p m = call_by p m false
+
+abbrev pub inner_call : Past → Seen → Call
+inner_call p m = call_by p m true
 
 -- the element at a place is changed
 abbrev pub edit : {A : Type 0} → ℕ → (A → A) → List A → List A
@@ -280,110 +216,219 @@ spend c = record c { spent = true }
 abbrev pub fail_at : ℕ → Call → Call
 fail_at index c = record c { failed = c.failed || (c.index == index) }
 
--- the calls that were issued, oldest first
+abbrev pub calls_after : Past → Event → List Call → List Call
+calls_after p (Put m expects) cs = if expects then cs ++ new_call p m ∷ [] else cs
+calls_after p (Added m rule asked) cs = cs ++ inner_call p m ∷ []
+calls_after p (Removed m) cs = cs ++ inner_call p m ∷ []
+calls_after p (Spent k) cs = edit k spend cs
+calls_after p Fault cs = map (fail_at p.outbox.done) cs
+calls_after p e cs = cs
+
+-- ---- streams
+
+-- how far the stream is opened, by the messages that were read
+unfoldable pub phase : List Seen → Stream → Phase
+phase ms s = phase_by s.start ms
+
+abbrev pub is_denied : Phase → Bool
+is_denied (Denied m) = true
+is_denied other = false
+
+-- it waits for the return to the AddMatch that has this place in the outbox
+abbrev pub asks_by : ℕ → Phase → Bool
+asks_by index (Asking add) = add.index == index
+asks_by index other = false
+
+-- a stream that begins now
+abbrev pub fresh : Past → Option Rule → Bool → Stream
+fresh p rule told = record { rule = rule; start = Behind (length p.read); skip = 0; taken = 0; told = told; gone = false; opened = true }
+
+-- a stream that waits for the return to this AddMatch
+abbrev pub asking_stream : Past → Seen → Rule → Stream
+asking_stream p m rule = record { rule = Some rule; start = OnReturn (inner_call p m); skip = 0; taken = 0; told = false; gone = false; opened = false }
+
+-- A stream without a rule that is made after the peer was closed has nothing to tell any more.
+abbrev pub plain_stream : Past → Stream
+plain_stream p = fresh p None (is_some p.closing)
+
+abbrev pub rule_stream : Past → Rule → Stream
+rule_stream p rule = fresh p (Some rule) false
+
+-- A clone begins where its original is: it has its rule, passes over what that gave, and has given nothing itself.
+abbrev pub clone_of : Past → Option Stream → Stream
+clone_of p None = plain_stream p
+clone_of p (Some s) = record s { skip = s.skip + s.taken; taken = 0; gone = false }
+
+-- a new stream, by those that were made before it
+abbrev pub new_stream : Past → List Stream → Making → Stream
+new_stream p ss Plain = plain_stream p
+new_stream p ss (Ruled rule asked) = rule_stream p rule
+new_stream p ss (Cloned t) = clone_of p (slice_get ss t)
+
+abbrev pub give : Stream → Stream
+give s = record s { taken = s.taken + 1 }
+
+abbrev pub tell : Stream → Stream
+tell s = record s { told = true }
+
+abbrev pub end_one : Stream → Stream
+end_one s = record s { gone = true }
+
+abbrev pub open_one : Stream → Stream
+open_one s = record s { opened = true }
+
+abbrev pub done_by : Deed → Stream → Stream
+done_by Gave s = give s
+done_by Told s = tell s
+done_by Gone s = end_one s
+done_by (Asked limit) s = s
+done_by Opened s = open_one s
+
+-- a stream that waits for the return to its AddMatch is gone where that one's write fails
+abbrev pub fail_stream : List Seen → ℕ → Stream → Stream
+fail_stream ms index s = record s { gone = s.gone || asks_by index (phase ms s) }
+
+abbrev pub streams_after : Past → Event → List Stream → List Stream
+streams_after p (Made making) ss = ss ++ new_stream p ss making ∷ []
+streams_after p (Added m rule asked) ss = ss ++ asking_stream p m rule ∷ []
+streams_after p (Did t deed) ss = edit t (done_by deed) ss
+streams_after p Fault ss = map (fail_stream p.read p.outbox.done) ss
+streams_after p e ss = ss
+
+-- ---- capacities
+
+abbrev pub rule_of : Option Stream → Option Rule
+rule_of None = None
+rule_of (Some s) = s.rule
+
+-- a stream asks for more
+abbrev pub plain_asks : Option Stream → ℕ → ℕ → ℕ
+plain_asks None limit n = limit
+plain_asks (Some s) limit n = if is_none s.rule then max limit n else limit
+
+abbrev pub is_of : Rule → Option Rule → Bool
+is_of rule None = false
+is_of rule (Some r) = is_same rule r
+
+-- the stream wasn't closed, nor was its AddMatch denied
+abbrev pub lives : List Seen → Stream → Bool
+lives ms s = not s.gone && not (is_denied (phase ms s))
+
+-- the stream is open, or is being opened, and has this rule
+abbrev pub subscribes : List Seen → Rule → Stream → Bool
+subscribes ms rule s = lives ms s && is_of rule s.rule
+
+-- Some stream that is open, or is being opened, has this rule.
+unfoldable pub is_subscribed : List Seen → List Stream → Rule → Bool
+is_subscribed ms ss rule = list_any (subscribes ms rule) ss
+
+abbrev pub asked_or : Option ℕ → ℕ → ℕ
+asked_or None n = n
+asked_or (Some m) n = m
+
+abbrev pub raised : Option ℕ → ℕ → ℕ
+raised None limit = limit
+raised (Some n) limit = max limit n
+
+-- the rule's first stream gives it the capacity that was asked for, or the usual one; a later one that asks for more raises it
+abbrev pub limit_then : Bool → Rule → Option ℕ → ℕ → ℕ
+limit_then false rule asked limit = asked_or asked (usual rule)
+limit_then true rule asked limit = raised asked limit
+
+-- a stream of the rule `r` is made, and asks for a capacity or for none
+abbrev pub asked_limit : Past → Rule → Rule → Option ℕ → ℕ → ℕ
+asked_limit p rule r asked limit = if is_same rule r then limit_then (is_subscribed p.read p.streams rule) rule asked limit else limit
+
+abbrev pub made_limit : Past → Rule → Making → ℕ → ℕ
+made_limit p rule (Ruled r asked) limit = asked_limit p rule r asked limit
+made_limit p rule other limit = limit
+
+abbrev pub rule_asks : Rule → Option Rule → ℕ → ℕ → ℕ
+rule_asks rule of limit n = if is_of rule of then max limit n else limit
+
+-- A rule's capacity is forgotten with its last stream.
+abbrev pub capacities_after : Past → Event → Capacities → Capacities
+capacities_after p (Main limit) c = record c { main = limit }
+capacities_after p (Made making) c = record c { rules = λ rule. made_limit p rule making (c.rules rule) }
+capacities_after p (Added m r asked) c = record c { rules = λ rule. asked_limit p rule r asked (c.rules rule) }
+capacities_after p (Did t (Asked n)) c = record { main = plain_asks (slice_get p.streams t) c.main n; rules = λ rule. rule_asks rule (rule_of (slice_get p.streams t)) (c.rules rule) n }
+capacities_after p e c = c
+
+-- ---- the past
+
+-- of a peer that nothing happened to
+abbrev pub no_past : Past
+no_past = record {
+  bus = false;
+  name = None;
+  read = [];
+  closing = None;
+  outbox = record { put = []; written = 0; done = 0; failed = false; writer = writers.Fine; last = 0 };
+  calls = [];
+  streams = [];
+  capacities = record { main = 64; rules = usual };
+}
+
+abbrev pub after : Event → Past → Past
+after e p = record {
+  bus = bus_after e p.bus;
+  name = name_after e p.name;
+  read = read_after e p.read;
+  closing = closing_after e p.closing;
+  outbox = outbox_after e p.outbox;
+  calls = calls_after p e p.calls;
+  streams = streams_after p e p.streams;
+  capacities = capacities_after p e p.capacities;
+}
+
+-- what these events, newest first, leave
+abbrev pub past : List Event → Past
+past [] = no_past
+past (e ∷ h) = after e (past h)
+
+-- ---- the parts by name
+
+abbrev pub read : List Event → List Seen
+read h = (past h).read
+
+abbrev pub closing : List Event → Option Error
+closing h = (past h).closing
+
+abbrev pub on_bus : List Event → Bool
+on_bus h = (past h).bus
+
+abbrev pub unique_name : List Event → Option (List ℕ)
+unique_name h = (past h).name
+
+abbrev pub put : List Event → List Seen
+put h = (past h).outbox.put
+
+abbrev pub written : List Event → ℕ
+written h = (past h).outbox.written
+
+abbrev pub done : List Event → ℕ
+done h = (past h).outbox.done
+
+abbrev pub is_failed : List Event → Bool
+is_failed h = (past h).outbox.failed
+
+abbrev pub writer : List Event → Writer
+writer h = (past h).outbox.writer
+
+abbrev pub last_serial : List Event → ℕ
+last_serial h = (past h).outbox.last
+
 abbrev pub calls : List Event → List Call
-calls [] = []
-calls (Put m expects ∷ h) = if expects then calls h ++ new_call h m ∷ [] else calls h
-calls (Spent k ∷ h) = edit k spend (calls h)
-calls (Fault ∷ h) = map (fail_at (done h)) (calls h)
-calls (Took m ∷ h) = calls h
-calls (Shut error ∷ h) = calls h
-calls (Wrote ∷ h) = calls h
-calls (Made making ∷ h) = calls h
-calls (Did stream deed ∷ h) = calls h
-calls (Main limit ∷ h) = calls h
-calls (OnBus ∷ h) = calls h
-calls (Added m rule asked ∷ h) = calls h ++ inner_call h m ∷ []
-calls (Removed m ∷ h) = calls h ++ inner_call h m ∷ []
-calls (Named name ∷ h) = calls h
+calls h = (past h).calls
 
--- a method return or an error
-abbrev pub is_reply : MessageType → Bool
-is_reply types.MethodReturn = true
-is_reply types.Error = true
-is_reply types.MethodCall = false
-is_reply types.Signal = false
+abbrev pub streams : List Event → List Stream
+streams h = (past h).streams
 
-abbrev pub is_serial : Option ℕ → ℕ → Bool
-is_serial None serial = false
-is_serial (Some n) serial = n == serial
+abbrev pub capacities : List Event → Capacities
+capacities h = (past h).capacities
 
--- the message is a return or an error with this reply serial
-unfoldable pub bears : ℕ → Seen → Bool
-bears serial m = is_reply m.kind && is_serial m.reply_serial serial
+abbrev pub main : List Event → ℕ
+main h = (capacities h).main
 
--- the first message read after the call was put that bears its serial
-unfoldable pub found : List Event → Call → Option Seen
-found h c = find (bears c.serial) (drop c.from (read h))
-
--- its answer was given, or it was dropped, or its message failed
-abbrev pub is_gone : Call → Bool
-is_gone c = c.spent || c.failed
-
--- it is over, or the peer's own, so that a poll of it is refused
-abbrev pub is_nobodys : Call → Bool
-is_nobodys c = is_gone c || c.inner
-
-abbrev pub polled_by : Option Seen → Option Error → Result (Polled Seen) Error
-polled_by (Some m) error = Ok (polled.Now m)
-polled_by None (Some error) = Ok (polled.Closed error)
-polled_by None None = Ok polled.NotYet
-
-abbrev pub polled_at : List Event → Option Call → Result (Polled Seen) Error
-polled_at h None = Err errors.UnknownHandle
-polled_at h (Some c) = if is_nobodys c then Err errors.UnknownHandle else polled_by (found h c) (closing h)
-
--- What a poll of the call with this number gives: its reply, which is the first message read after it that bears its
--- serial; else the closing error; else nothing yet. A call that wasn't made, or whose answer was given, or that was dropped,
--- is unknown, and so is one of the peer's own.
-unfoldable pub poll_answer : List Event → ℕ → Result (Polled Seen) Error
-poll_answer h k = polled_at h (slice_get (calls h) k)
-
--- What a poll or a take gives where it names a position, which isn't looked at: that there is none before it, in place of
--- nothing yet; else the same.
-abbrev pub by_position : Result (Polled Seen) Error → Result (Polled Seen) Error
-by_position (Ok polled.NotYet) = Ok polled.NoneBefore
-by_position (Ok (polled.Now m)) = Ok (polled.Now m)
-by_position (Ok polled.NoneBefore) = Ok polled.NoneBefore
-by_position (Ok (polled.Closed error)) = Ok (polled.Closed error)
-by_position (Ok polled.Ended) = Ok polled.Ended
-by_position (Err error) = Err error
-
--- what a poll is, by its answer
-abbrev pub poll_events : ℕ → Result (Polled Seen) Error → List Event
-poll_events k (Ok (polled.Now m)) = Spent k ∷ []
-poll_events k (Ok (polled.Closed error)) = Spent k ∷ []
-poll_events k (Ok polled.NotYet) = []
-poll_events k (Ok polled.NoneBefore) = []
-poll_events k (Ok polled.Ended) = []
-poll_events k (Err error) = []
-
--- the call waits for a reply, and bears this serial
-abbrev pub waits_with : List Event → ℕ → Call → Bool
-waits_with h serial c = not (is_gone c) && is_none (found h c) && (c.serial == serial)
-
--- a call waits for a reply of this serial; after the closing error none waits
-unfoldable pub pending : List Event → ℕ → Bool
-pending h serial = is_none (closing h) && list_any (waits_with h serial) (calls h)
-
--- the call is an AddMatch or a RemoveMatch that waits for its reply
-abbrev pub is_awaited : List Event → Call → Bool
-is_awaited h c = c.inner && (not (is_gone c) && is_none (found h c))
-
--- An AddMatch or a RemoveMatch of the peer is on its way: its message was put, its write didn't fail, its reply wasn't read, and
--- the peer is open.
-unfoldable pub in_flight : List Event → Bool
-in_flight h = is_none (closing h) && list_any (is_awaited h) (calls h)
-
--- What dropping the call with this number gives: a call that still waits for its answer, or has one, is dropped. One that
--- wasn't made, or is over, is unknown.
-abbrev pub dropped_at : Option Call → Result (Unit {0}) Error
-dropped_at None = Err errors.UnknownHandle
-dropped_at (Some c) = if is_nobodys c then Err errors.UnknownHandle else Ok tt
-
-unfoldable pub drop_answer : List Event → ℕ → Result (Unit {0}) Error
-drop_answer h k = dropped_at (slice_get (calls h) k)
-
-abbrev pub drop_events : {A E : Type 0} → ℕ → Result A E → List Event
-drop_events k (Ok done) = Spent k ∷ []
-drop_events k (Err error) = []
+abbrev pub rule_limit : Rule → List Event → ℕ
+rule_limit rule h = (capacities h).rules rule

@@ -13,7 +13,8 @@ use Rattle.peer_route.specs.declared.route.Issued.{Issued}
 use Rattle.peer_route.specs.declared.writer.Writer.TheVariants as writers
 use Rattle.peer_route.specs.Parcel.{Parcel, message_of}
 use Rattle.peer_route.specs.CallMessage.{expects}
-use Rattle.peer_route.specs.History.{Event, Put, put, calls, pending, last_serial, writer}
+use Rattle.peer_route.specs.History.{Event, Put, put, calls, last_serial, writer}
+use Rattle.peer_route.specs.Calls.{pending}
 use Rattle.peer_route.specs.Left.{View, Left}
 
 -- ---- one message

@@ -9,7 +9,8 @@ use Rattle.peer_route.specs.declared.words.Words.TheVariants as words
 use Rattle.peer_route.specs.declared.answer.Answer.{Answer}
 use Rattle.peer_route.specs.declared.answer.Answer.TheVariants as answers
 use Rattle.peer_route.specs.declared.answer.Entry.{Entry}
-use Rattle.peer_route.specs.History.{Event, Call, read, closing, calls, bears, found, is_gone}
+use Rattle.peer_route.specs.History.{Event, Call, read, closing, calls, bears}
+use Rattle.peer_route.specs.Calls.{found, is_gone}
 use Rattle.peer_route.specs.Trail.{Trail, place}
 use Rattle.peer_route.specs.Answers.{reply_answer, poll_of, before_of}
 
@@ -63,7 +64,7 @@ pub record IsCutOff (t : Trail) (lane number : ℕ) (error : Error) : Type 0 whe
 
 -- a message that comes now says nothing to this call: it bears another serial, or the call has its reply or is over
 abbrev pub IsPast : List Event → Seen → Call → Type 0
-IsPast h m c = (bears c.serial m ≡ false) ⊎ ((is_gone c || is_some (found h c)) ≡ true)
+IsPast h m c = (bears c.serial m ≡ false) ⊎ ((is_gone c || is_some (found (read h) c)) ≡ true)
 
 -- What a poll of this number by this lane is answered is the same after these entries as after those, by position too.
 abbrev pub SamePoll : Trail → Trail → ℕ → ℕ → Type 0

@@ -14,7 +14,8 @@ use Rattle.peer_route.specs.declared.leaving.Spent.{Spent}
 use Rattle.peer_route.specs.declared.leaving.Spent.TheVariants as spent
 use Rattle.peer_route.specs.declared.route.Issued.{Issued}
 use Rattle.peer_route.specs.Parcel.{Parcel}
-use Rattle.peer_route.specs.History.{Event, Removed, Did, Gone, edit, pending, last_serial, writer}
+use Rattle.peer_route.specs.History.{Event, Removed, Did, Gone, edit, last_serial, writer}
+use Rattle.peer_route.specs.Calls.{pending}
 use Rattle.peer_route.specs.Streams.{are_open, close_waits, leaving, may_be_signal}
 use Rattle.peer_route.specs.Left.{Held, View, Left, kept_at, wants_of, shared}
 use Rattle.peer_route.specs.declared.opening.RuleCall.{RuleCall}
@@ -101,9 +102,7 @@ abbrev pub TellsNow : View → View → Spent → Type 0
 TellsNow old new (spent.Gone (Some serial)) =
     ((length new.outbox ≡ length old.outbox + 1) ⊎ (length new.outbox ≡ length old.outbox + 2)) × (new.done ≡ old.done)
     × (old.writer ≡ writers.Fine) × (new.writer ≡ writers.Fine)
-TellsNow old new (spent.Gone None) = Unit {0}
-TellsNow old new (spent.Back s t error) = Unit {0}
-TellsNow old new (spent.Over error) = Unit {0}
+TellsNow old new other = Unit {0}
 
 -- ---- on the way
 

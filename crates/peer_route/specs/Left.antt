@@ -17,11 +17,12 @@ use Rattle.peer_route.specs.declared.writer.Writer.{Writer}
 use Rattle.rule_match.specs.Rule.{Rule}
 use Rattle.rule_match.specs.Accepting.{accepts}
 use Rattle.peer_route.specs.Rules.{is_same, usual}
-use Rattle.peer_route.specs.Streams.{Stream, Start, Behind, OnReturn, Phase, Asking, Denied, Since, phase, is_return, streams, matched, held, main, rule_limit, asked_or, raised, is_open, take_by, first_position}
+use Rattle.peer_route.specs.History.{capacities, closing, calls, Stream, Start, Behind, OnReturn, Phase, Asking, Denied, Since, phase, is_return, streams, main, rule_limit, asked_or, raised, Event, Made, Ruled, Cloned, Call, put, edit, last_serial, writer, unique_name, bears, read}
+use Rattle.peer_route.specs.Calls.{found, is_gone}
+use Rattle.peer_route.specs.Streams.{matched, held, is_open, take_by, first_position}
 use Rattle.peer_route.specs.declared.progress.OpenState.{OpenState}
 use Rattle.peer_route.specs.declared.progress.OpenState.TheVariants as states
 use Rattle.peer_route.specs.declared.polled.Polled.{Polled}
-use Rattle.peer_route.specs.History.{Event, Made, Ruled, Cloned, Call, put, edit, last_serial, writer, unique_name, found, bears, is_gone}
 use Rattle.peer_route.specs.History as events
 
 -- what is kept of a reply: nothing where the call is one of the peer's own
@@ -34,14 +35,13 @@ abbrev pub slot_by : Bool → ℕ → Option Seen → Slot
 slot_by inner serial None = slots.Waiting serial inner
 slot_by inner serial (Some m) = reply_kept inner m
 
-unfoldable pub slot_of : List Event → Call → Slot
-slot_of h c = if is_gone c then slots.Gone else slot_by c.inner c.serial (found h c)
+unfoldable pub slot_of : List Seen → Call → Slot
+slot_of ms c = if is_gone c then slots.Gone else slot_by c.inner c.serial (found ms c)
 
 -- the slot waits for this serial
 abbrev pub is_waiting : ℕ → Slot → Bool
 is_waiting serial (slots.Waiting n inner) = n == serial
-is_waiting serial slots.Gone = false
-is_waiting serial (slots.Replied m) = false
+is_waiting serial other = false
 
 -- nothing is kept of the call that a poll could give
 abbrev pub is_empty_slot : Slot → Bool
@@ -52,14 +52,12 @@ is_empty_slot (slots.Replied m) = false
 -- one of the peer's own waits
 abbrev pub is_inner_slot : Slot → Bool
 is_inner_slot (slots.Waiting n inner) = inner
-is_inner_slot slots.Gone = false
-is_inner_slot (slots.Replied m) = false
+is_inner_slot other = false
 
 -- the slot waits for a serial that the message bears
 abbrev pub takes : Seen → Slot → Bool
 takes m (slots.Waiting n inner) = bears n m
-takes m slots.Gone = false
-takes m (slots.Replied r) = false
+takes m other = false
 
 -- no two slots wait for one serial
 abbrev pub AreDistinct : List Slot → Type 0
@@ -114,8 +112,7 @@ progress_by (Asking add) = steps.Waits add.serial add.index
 -- a stream that was denied has no rule any more
 abbrev pub wants_by : Phase → Option Subscription → Option Subscription
 wants_by (Denied m) wants = None
-wants_by (Asking add) wants = wants
-wants_by (Since ms) wants = wants
+wants_by other wants = wants
 
 -- nothing is kept of a stream that was closed
 abbrev pub kept_by : Bool → Held → Option Held
@@ -123,21 +120,21 @@ kept_by true q = None
 kept_by false q = Some q
 
 -- a rule, with how many messages each of its streams may hold
-abbrev pub subscription : List Event → Rule → Subscription
-subscription h rule = record { rule = rule; limit = rule_limit rule h }
+abbrev pub subscription : (Rule → ℕ) → Rule → Subscription
+subscription limits rule = record { rule = rule; limit = limits rule }
 
 -- what is kept of a stream that wasn't closed
-abbrev pub held_by : List Event → Stream → Held
-held_by h s = record {
-  wants = wants_by (phase h s) (option_map (subscription h) s.rule);
-  progress = progress_by (phase h s);
-  items = held h s;
+abbrev pub held_by : (Rule → ℕ) → List Seen → Stream → Held
+held_by limits ms s = record {
+  wants = wants_by (phase ms s) (option_map (subscription limits) s.rule);
+  progress = progress_by (phase ms s);
+  items = held ms s;
   told = s.told;
   opened = s.opened;
 }
 
-unfoldable pub held_of : List Event → Stream → Option Held
-held_of h s = kept_by s.gone (held_by h s)
+unfoldable pub held_of : (Rule → ℕ) → List Seen → Stream → Option Held
+held_of limits ms s = kept_by s.gone (held_by limits ms s)
 
 -- what a stream that is open at once is kept by at first
 abbrev pub empty_held : Option Subscription → Bool → Held
@@ -149,8 +146,7 @@ asking_held wants serial index = record { wants = Some wants; progress = steps.W
 
 abbrev pub is_running : Progress → Bool
 is_running steps.Runs = true
-is_running (steps.Waits serial index) = false
-is_running (steps.Denied m) = false
+is_running other = false
 
 -- the stream is open
 abbrev pub is_usable : Held → Bool
@@ -164,8 +160,7 @@ wants_it (Some s) m = accepts s.rule m
 -- a stream that runs with one message more, if it is one of its own
 abbrev pub pushed_by : Progress → Seen → Held → Held
 pushed_by steps.Runs m q = record q { items = if wants_it q.wants m then q.items ++ m ∷ [] else q.items }
-pushed_by (steps.Waits serial index) m q = q
-pushed_by (steps.Denied r) m q = q
+pushed_by other m q = q
 
 abbrev pub pushed : Seen → Held → Held
 pushed m q = pushed_by q.progress m q
@@ -177,9 +172,8 @@ answered_by false m q = record q { wants = None; progress = steps.Denied m }
 
 -- a stream that waits once the message came, which may be the reply to its AddMatch
 abbrev pub settled_by : Progress → Seen → Held → Held
-settled_by steps.Runs m q = q
 settled_by (steps.Waits serial index) m q = if bears serial m then answered_by (is_return m.kind) m q else q
-settled_by (steps.Denied r) m q = q
+settled_by other m q = q
 
 abbrev pub settled : Seen → Held → Held
 settled m q = settled_by q.progress m q
@@ -200,8 +194,7 @@ queued m q = option_map (pushed m) q
 -- the message denies a stream that waits
 abbrev pub denies_by : Seen → Progress → Bool
 denies_by m (steps.Waits serial index) = bears serial m && not (is_return m.kind)
-denies_by m steps.Runs = false
-denies_by m (steps.Denied r) = false
+denies_by m other = false
 
 abbrev pub denies : Seen → Option Held → Bool
 denies m None = false
@@ -219,8 +212,7 @@ repeated (suc n) m = repeated n m ++ m ∷ []
 -- the stream waits for the return to the AddMatch that has this place in the outbox
 abbrev pub waits_by : ℕ → Progress → Bool
 waits_by index (steps.Waits serial n) = n == index
-waits_by index steps.Runs = false
-waits_by index (steps.Denied r) = false
+waits_by index other = false
 
 -- it is gone once the write of that one failed
 abbrev pub lost_at : ℕ → Option Held → Option Held
@@ -336,19 +328,16 @@ held_opening (Some q) closing = if q.opened then states.Unknown else asked_by q.
 
 -- the stream will not be open
 abbrev pub is_end : OpenState → Bool
-is_end states.Unknown = false
-is_end states.NotYet = false
-is_end states.Open = false
 is_end (states.Refused m) = true
 is_end (states.Over error) = true
+is_end other = false
 
 -- and what it leaves
 abbrev pub opened_held : OpenState → Option Held → Option Held
-opened_held states.Unknown q = q
-opened_held states.NotYet q = q
 opened_held states.Open q = option_map (λ (k : Held). record k { opened = true }) q
 opened_held (states.Refused m) q = None
 opened_held (states.Over error) q = None
+opened_held other q = q
 
 abbrev pub held_gives : Option Held → Option Error → Result (Polled Seen) Error
 held_gives None closing = Err errors.UnknownHandle
@@ -387,11 +376,16 @@ pub record View : Type 0 where
   pub done : ℕ
   pub writer : Writer
 
--- The history leaves these calls: each with what was found for it, and the first closing error.
-pub record LeftCalls (v : CallsView) (h : List Event) : Type 0 where
-  pub slots : v.slots ≡ map (slot_of h) (events.calls h)
-  pub closing : v.closing ≡ events.closing h
+-- These calls are left of those that were issued, by the messages that were read and the first closing error: each with what was
+-- found for it.
+pub record AreCalls (v : CallsView) (ms : List Seen) (closed : Option Error) (cs : List Call) : Type 0 where
+  pub slots : v.slots ≡ map (slot_of ms) cs
+  pub closing : v.closing ≡ closed
   pub distinct : v.closing ≡ None → AreDistinct v.slots
+
+-- The history leaves these calls.
+abbrev pub LeftCalls : CallsView → List Event → Type 0
+LeftCalls v h = AreCalls v (read h) (closing h) (calls h)
 
 -- the number of messages behind which a stream begins, or its AddMatch was put
 abbrev pub start_count : Start → ℕ
@@ -399,14 +393,19 @@ start_count (Behind count) = count
 start_count (OnReturn add) = add.from
 
 -- no stream starts above what was read, or passed more than was its own
-pub record IsWithin (h : List Event) (s : Stream) : Type 0 where
-  pub start : start_count s.start ≤ length (events.read h)
-  pub passed : s.skip + s.taken ≤ length (matched h s)
+pub record IsWithin (ms : List Seen) (s : Stream) : Type 0 where
+  pub start : start_count s.start ≤ length ms
+  pub passed : s.skip + s.taken ≤ length (matched ms s)
 
--- The history leaves these streams: each with what it holds, or nothing where it was closed.
-pub record LeftStreams (v : List (Option Held)) (h : List Event) : Type 0 where
-  pub queues : v ≡ map (held_of h) (streams h)
-  pub within : AllByRecursion (IsWithin h) (streams h)
+-- These streams are left of those that were made, by the messages that were read and the capacities of rules: each with what it holds, or
+-- nothing where it was closed.
+pub record AreStreams (v : List (Option Held)) (limits : Rule → ℕ) (ms : List Seen) (ss : List Stream) : Type 0 where
+  pub queues : v ≡ map (held_of limits ms) ss
+  pub within : AllByRecursion (IsWithin ms) ss
+
+-- The history leaves these streams.
+abbrev pub LeftStreams : List (Option Held) → List Event → Type 0
+LeftStreams v h = AreStreams v (capacities h).rules (read h) (streams h)
 
 -- a read takes nothing now
 unfoldable pub is_busy : View → Bool

@@ -7,6 +7,7 @@ pub mod Parcel
 pub mod CallMessage
 pub mod Rules
 pub mod History
+pub mod Calls
 pub mod Streams
 pub mod Trail
 pub mod Answers

@@ -39,9 +39,7 @@ message_of parcel serial =
 -- a message of this type names no sender: an error that serves a call
 abbrev pub is_unsigned : Bool → MessageType → Bool
 is_unsigned served types.Error = served
-is_unsigned served types.MethodCall = false
-is_unsigned served types.MethodReturn = false
-is_unsigned served types.Signal = false
+is_unsigned served other = false
 
 -- Who sends a message: the peer of this name, if it has one; of an error that serves a call nobody is named (D-Bus Specification,
 -- "Header Fields", `SENDER`).

@@ -11,8 +11,8 @@ use Rattle.peer_route.specs.declared.answer.Answer.{Answer}
 use Rattle.peer_route.specs.declared.answer.Answer.TheVariants as answers
 use Rattle.peer_route.specs.declared.answer.Entry.{Entry}
 use Rattle.peer_route.specs.Parcel.{Setting, Asked, message_of}
-use Rattle.peer_route.specs.History.{Event, Did, Gone, read, closing, bears}
-use Rattle.peer_route.specs.Streams.{Stream, streams, accepted, held, runs, rule_of, limit_of, is_return, leaving, gone_then}
+use Rattle.peer_route.specs.History.{Event, Did, Gone, read, closing, bears, Stream, streams, rule_of, is_return, capacities}
+use Rattle.peer_route.specs.Streams.{accepted, held, runs, limit_of, leaving, gone_then}
 use Rattle.peer_route.specs.BusCall.{add_message, remove_message}
 use Rattle.peer_route.specs.Trail.{Trail, place, second_place, asks, trail, next_serial, or_zero, removal}
 
@@ -24,22 +24,7 @@ positions ms = map (λ m. m.position) ms
 abbrev pub is_take : ℕ → Words → Bool
 is_take number (words.Take n) = n == number
 is_take number (words.TakeBefore n before) = n == number
-is_take number (words.Call w) = false
-is_take number (words.Signal w) = false
-is_take number (words.Reply stream body) = false
-is_take number (words.Error stream name body) = false
-is_take number words.Read = false
-is_take number (words.Poll n) = false
-is_take number (words.Before n before) = false
-is_take number (words.Drop n) = false
-is_take number words.Stream = false
-is_take number (words.Open max_queued rule) = false
-is_take number (words.Opened n) = false
-is_take number (words.Clone n) = false
-is_take number (words.Unstream n second) = false
-is_take number (words.Queue n limit) = false
-is_take number (words.MainQueue limit) = false
-is_take number words.Close = false
+is_take number w = false
 
 abbrev pub item_by : Bool → Answer → List ℕ
 item_by true (answers.Item position) = position ∷ []
@@ -58,7 +43,7 @@ pub record Yields (setting : Setting) (newer : List Entry) (e : Entry) (older : 
   pub stream : Stream
   pub named : place 0 e.lane number (trail setting (newer ++ e ∷ older)).streams ≡ Some k
   pub made : slice_get (streams (trail setting (newer ++ e ∷ older)).events) k ≡ Some stream
-  pub items : items_given e.lane number newer ++ positions (held (trail setting (newer ++ e ∷ older)).events stream)
+  pub items : items_given e.lane number newer ++ positions (held (read (trail setting (newer ++ e ∷ older)).events) stream)
       ≡ positions (begun ++ accepted rule (drop (length (read (trail setting older).events)) (read (trail setting (newer ++ e ∷ older)).events)))
 
 -- The messages behind the return to this serial, which is the first of these that bears it; none where that is an error, or none
@@ -74,12 +59,12 @@ pub record YieldsAsked (setting : Setting) (newer : List Entry) (e : Entry) (old
   pub stream : Stream
   pub named : place 0 e.lane number (trail setting (newer ++ e ∷ older)).streams ≡ Some k
   pub made : slice_get (streams (trail setting (newer ++ e ∷ older)).events) k ≡ Some stream
-  pub items : items_given e.lane number newer ++ positions (held (trail setting (newer ++ e ∷ older)).events stream)
+  pub items : items_given e.lane number newer ++ positions (held (read (trail setting (newer ++ e ∷ older)).events) stream)
       ≡ positions (accepted (Some rule) (after_return serial (drop (length (read (trail setting older).events)) (read (trail setting (newer ++ e ∷ older)).events))))
 
 abbrev pub held_by : List Event → Option Stream → List Seen
 held_by h None = []
-held_by h (Some s) = held h s
+held_by h (Some s) = held (read h) s
 
 abbrev pub held_in : List Event → Option ℕ → List Seen
 held_in h None = []
@@ -117,16 +102,7 @@ names_stream number (words.Queue n limit) = n == number
 names_stream number (words.Opened n) = n == number
 names_stream number (words.Reply n body) = n == number
 names_stream number (words.Error n name body) = n == number
-names_stream number (words.Call w) = false
-names_stream number (words.Signal w) = false
-names_stream number words.Read = false
-names_stream number (words.Poll n) = false
-names_stream number (words.Before n before) = false
-names_stream number (words.Drop n) = false
-names_stream number words.Stream = false
-names_stream number (words.Open max_queued rule) = false
-names_stream number (words.MainQueue limit) = false
-names_stream number words.Close = false
+names_stream number w = false
 
 -- the command closes the lane's stream with this number
 abbrev pub closes_stream : ℕ → Words → Bool
@@ -165,8 +141,8 @@ pub record IsDrained (t : Trail) (lane number : ℕ) (error : Error) : Type 0 wh
   pub stream : Stream
   pub named : place 0 lane number t.streams ≡ Some k
   pub made : slice_get (streams t.events) k ≡ Some stream
-  pub still : runs t.events stream ≡ true
-  pub nothing : held t.events stream ≡ []
+  pub still : runs (read t.events) stream ≡ true
+  pub nothing : held (read t.events) stream ≡ []
   pub first : closing t.events ≡ Some error
 
 -- the peer is open, and an open stream holds more than it may
@@ -176,7 +152,7 @@ pub record HoldsTooMany (h : List Event) : Type 0 where
   pub stream : Stream
   pub made : slice_get (streams h) k ≡ Some stream
   pub still : stream.gone ≡ false
-  pub over : limit_of h stream.rule < length (held h stream)
+  pub over : limit_of (capacities h) stream.rule < length (held (read h) stream)
 
 -- ---- what was sent
 

@@ -45,24 +45,7 @@ ReadOpenTold false stop bytes h answer = IsOutcome stop (length (read h)) (left_
 
 abbrev pub ReadTold : Option Bool → List ℕ → List Event → Option Error → Words → Answer → Type 0
 ReadTold stop bytes h None words.Read answer = ReadOpenTold (busy h) stop bytes h answer
-ReadTold stop bytes h (Some error) words.Read answer = ⊤
-ReadTold stop bytes h closed (words.Call w) answer = ⊤
-ReadTold stop bytes h closed (words.Signal w) answer = ⊤
-ReadTold stop bytes h closed (words.Reply stream body) answer = ⊤
-ReadTold stop bytes h closed (words.Error stream name body) answer = ⊤
-ReadTold stop bytes h closed (words.Poll number) answer = ⊤
-ReadTold stop bytes h closed (words.Before number before) answer = ⊤
-ReadTold stop bytes h closed (words.Drop number) answer = ⊤
-ReadTold stop bytes h closed words.Stream answer = ⊤
-ReadTold stop bytes h closed (words.Open max_queued rule) answer = ⊤
-ReadTold stop bytes h closed (words.Opened number) answer = ⊤
-ReadTold stop bytes h closed (words.Take number) answer = ⊤
-ReadTold stop bytes h closed (words.TakeBefore number before) answer = ⊤
-ReadTold stop bytes h closed (words.Clone number) answer = ⊤
-ReadTold stop bytes h closed (words.Unstream number second) answer = ⊤
-ReadTold stop bytes h closed (words.Queue number limit) answer = ⊤
-ReadTold stop bytes h closed (words.MainQueue limit) answer = ⊤
-ReadTold stop bytes h closed words.Close answer = ⊤
+ReadTold stop bytes h closed w answer = ⊤
 
 -- Each read of an open peer that isn't busy is what stands at the front of the bytes that the reads before it left.
 abbrev pub ReadsTold : Setting → Option Bool → List ℕ → List Entry → Type 0
@@ -74,9 +57,8 @@ ReadsTold setting stop bytes (e ∷ es) =
 
 -- A sink that says where its room ends, or that no write fails, never fails to close.
 abbrev pub CloseTold : Option (Option ℕ) → Words → Answer → Type 0
-CloseTold None w answer = ⊤
 CloseTold (Some room) words.Close answer = answer ≡ answers.Shut
-CloseTold (Some room) w answer = ⊤
+CloseTold other w answer = ⊤
 
 abbrev pub ClosesTold : Option (Option ℕ) → List Entry → Type 0
 ClosesTold room [] = ⊤
@@ -114,5 +96,4 @@ WritesTold setting room (e ∷ es) = WriteTold room (trail setting (e ∷ es)).e
 abbrev pub IsCutAt : Option (Option ℕ) → Bool → List ℕ → Type 0
 IsCutAt (Some (Some room)) true sent = length sent ≡ room
 IsCutAt (Some (Some room)) false sent = ⊤
-IsCutAt (Some None) failed sent = ⊤
-IsCutAt None failed sent = ⊤
+IsCutAt other failed sent = ⊤

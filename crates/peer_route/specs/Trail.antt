@@ -1,5 +1,5 @@
 -- What entries are as events, and what a lane's numbers name.
-use Rattle.std.specs.Prelude.{ℕ, zero, suc, ◌+◌, ◌==◌, Bool, true, false, if◌then◌else◌, List, [], ◌∷◌, ◌++◌, map, slice_get, Option, Some, None, Result, Ok, Err}
+use Rattle.std.specs.Prelude.{ℕ, zero, suc, ◌+◌, ◌==◌, Bool, true, false, if◌then◌else◌, List, [], ◌∷◌, ◌++◌, map, slice_get, Option, Some, None, Result, Ok}
 use Rattle.wire_message.specs.Circle.{serial_after}
 use Rattle.wire_message.specs.Front.{Seen}
 use Rattle.wire_message.specs.declared.error.Error.{Error}
@@ -16,9 +16,10 @@ use Rattle.peer_route.specs.Parcel.{Setting, Asked, message_of}
 use Rattle.peer_route.specs.CallMessage.{expects, call_asked, signal_asked, reply_asked, error_asked}
 use Rattle.peer_route.specs.declared.writer.Writer.{Writer}
 use Rattle.peer_route.specs.declared.writer.Writer.TheVariants as writers
-use Rattle.peer_route.specs.History.{Event, Took, Shut, Put, Wrote, Fault, Spent, Made, Plain, Ruled, Cloned, Did, Gave, Told, Gone, Main, OnBus, Added, Removed, Named, closing, writer, last_serial, pending, unique_name}
+use Rattle.peer_route.specs.History.{Event, Took, Shut, Put, Wrote, Fault, Spent, Made, Plain, Ruled, Cloned, Did, Gave, Told, Gone, Main, OnBus, Added, Removed, Named, closing, writer, last_serial, unique_name, Stream, streams, read}
+use Rattle.peer_route.specs.Calls.{pending}
+use Rattle.peer_route.specs.Streams.{gave_last, leaving, gone_then}
 use Rattle.peer_route.specs.History as deeds
-use Rattle.peer_route.specs.Streams.{Stream, streams, gave_last, leaving, gone_then}
 use Rattle.peer_route.specs.BusCall.{add_message, remove_message}
 
 -- ---- serials
@@ -69,7 +70,7 @@ pub record Trail : Type 0 where
 
 abbrev pub given_by : List Event → Option Stream → Option Seen
 given_by h None = None
-given_by h (Some s) = gave_last h s
+given_by h (Some s) = gave_last (read h) s
 
 abbrev pub given_at : List Event → Option ℕ → Option Seen
 given_at h None = None
@@ -95,20 +96,7 @@ asks_with name takes_fds given (words.Call w) = Some (call_asked name takes_fds 
 asks_with name takes_fds given (words.Signal w) = Some (signal_asked name takes_fds w)
 asks_with name takes_fds given (words.Reply stream body) = Some (reply_asked name (given stream) body)
 asks_with name takes_fds given (words.Error stream text body) = Some (error_asked name (given stream) text body)
-asks_with name takes_fds given words.Read = None
-asks_with name takes_fds given (words.Poll number) = None
-asks_with name takes_fds given (words.Before number before) = None
-asks_with name takes_fds given (words.Drop number) = None
-asks_with name takes_fds given words.Stream = None
-asks_with name takes_fds given (words.Open max_queued rule) = None
-asks_with name takes_fds given (words.Opened number) = None
-asks_with name takes_fds given (words.Take number) = None
-asks_with name takes_fds given (words.TakeBefore number before) = None
-asks_with name takes_fds given (words.Clone number) = None
-asks_with name takes_fds given (words.Unstream number second) = None
-asks_with name takes_fds given (words.Queue number limit) = None
-asks_with name takes_fds given (words.MainQueue limit) = None
-asks_with name takes_fds given words.Close = None
+asks_with name takes_fds given w = None
 
 abbrev pub asks : Trail → ℕ → Words → Option Asked
 asks t lane w = asks_with (unique_name t.events) t.setting.takes_fds (λ number. given t lane number) w
@@ -118,8 +106,7 @@ asks t lane w = asks_with (unique_name t.events) t.setting.takes_fds (λ number.
 -- a message whose own write failed was put; one that came after a failed write, or after the peer was closed, was not
 abbrev pub failed_put : Writer → Event → List Event
 failed_put writers.Fine put = Fault ∷ put ∷ []
-failed_put writers.Failed put = []
-failed_put writers.Closed put = []
+failed_put other put = []
 
 -- a message that went out, with a call that waits for its reply or without one; or one that didn't
 abbrev pub send_events : List Event → Asked → Answer → List Event
@@ -127,8 +114,7 @@ send_events h (Ok parcel) (answers.Called call serial) = Wrote ∷ Put (message_
 send_events h (Ok parcel) (answers.Sent serial) = Wrote ∷ Put (message_of parcel serial) false ∷ []
 send_events h (Ok parcel) (answers.SendFailed error) =
     failed_put (writer h) (Put (message_of parcel (or_zero (next_serial h))) (expects (Ok parcel)))
-send_events h (Ok parcel) answer = []
-send_events h (Err error) answer = []
+send_events h other answer = []
 
 -- a read of an open peer takes a message or closes it
 abbrev pub read_events : Option Error → Answer → List Event
@@ -266,8 +252,7 @@ wants_reply (Some asked) = expects asked
 abbrev pub failed_name : Writer → Bool → Names
 failed_name writers.Fine true = None ∷ []
 failed_name writers.Fine false = []
-failed_name writers.Failed wants = []
-failed_name writers.Closed wants = []
+failed_name other wants = []
 
 -- the call that a command which sends made, and its lane
 abbrev pub sent_names : List Event → ℕ → Option Asked → Answer → Names

@@ -1,7 +1,8 @@
 ghost use Rattle.std.specs.Prelude.{Bool, ℕ, ◌≡◌, ◌+◌, ◌<◌, ◌++◌, ◌∷◌, [], List, length, IfSome, IfNone, OnOk, OnErr, IfOk, None, is_none, slice_set, take, true, false};
 ghost use Rattle.std.specs.List.{list_any};
-ghost use Rattle.peer_route.specs.History.{Event, Took, Shut, Put, Call, poll_answer, poll_events, drop_answer, drop_events, in_flight, bears, closing, calls};
-ghost use Rattle.peer_route.specs.History as history;
+ghost use Rattle.peer_route.specs.History.{Event, Took, Shut, Put, Call, bears, closing, calls};
+ghost use Rattle.peer_route.specs.Calls.{poll_answer, poll_events, drop_answer, drop_events, in_flight};
+ghost use Rattle.peer_route.specs.Calls as answers;
 ghost use Rattle.peer_route.specs.Left.{CallsView, LeftCalls, is_empty_slot, is_inner_slot, reply_kept, with_call, is_flying, is_number, answers_call, waiting_serial, IsIndex};
 ghost use Rattle.wire_message.specs.Front.{Seen};
 ghost use Rattle.wire_message.specs.Closing.{closes};
@@ -287,7 +288,7 @@ impl PendingMethodCalls {
     /// The answer of the call with this number as `poll` gives it, but NoneBefore in place of NotYet: what is there is the
     /// call's one answer, wherever it stands, so the position isn't looked at. Takes no memory.
     pub fn poll_before(&mut self, call: u64, _before: Sequence) -> Result<Polled<Message>, Error>
-        ensures answer { (h : List Event) → LeftCalls self.old h → result ≡ history.by_position (poll_answer h call) }
+        ensures answer { (h : List Event) → LeftCalls self.old h → result ≡ answers.by_position (poll_answer h call) }
         ensures left { (h : List Event) → LeftCalls self.old h → LeftCalls self.new (poll_events call result ++ h) }
     {
         by_position(self.poll(call))

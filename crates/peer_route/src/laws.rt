@@ -4,12 +4,13 @@ ghost use Rattle.std.specs.List.{AllByRecursion};
 ghost use Rattle.wire_message.specs.Front.{Seen};
 ghost use Rattle.wire_message.specs.declared.error.Error.{Error};
 ghost use Rattle.peer_route.specs.declared.answer.Entry.{Entry};
-ghost use Rattle.peer_route.specs.History.{Event, Took, Spent, Made, Making, Ruled, Did, Main, Deed, Asked, calls, closing, is_failed, writer, is_serial, pending, poll_answer, put, written, read, unique_name};
+ghost use Rattle.peer_route.specs.History.{Event, Took, Spent, Made, Making, Ruled, Did, Main, Deed, Asked, calls, closing, is_failed, writer, is_serial, put, written, read, unique_name, Stream, streams, main, rule_limit, is_subscribed, asked_or, raised};
+ghost use Rattle.peer_route.specs.Calls.{pending, poll_answer};
+ghost use Rattle.peer_route.specs.Streams.{runs, limit_answer, take_answer};
 ghost use Rattle.rule_match.specs.Rule.{Rule};
 ghost use Rattle.rule_match.specs.Bytes.{rule_in_bytes};
 ghost use Rattle.rule_match.specs.contracts.rule.MatchRulePartialEq.TheImpl.{ghosts as of_rules};
 ghost use Rattle.peer_route.specs.Rules.{is_same, usual};
-ghost use Rattle.peer_route.specs.Streams.{Stream, streams, main, rule_limit, is_subscribed, runs, asked_or, raised, limit_answer, take_answer};
 ghost use Rattle.peer_route.specs.Parcel.{Setting};
 ghost use Rattle.peer_route.specs.Trail.{trail};
 ghost use Rattle.peer_route.specs.Answers.{Legal};
@@ -138,9 +139,9 @@ pub fn rules_are_one_where_equal()
 /// rule of an owner's changes, else 64; a later one of the rule that asks for more raises it, and a smaller request is passed
 /// over. What is asked for by another rule's stream, or is set for streams without a rule, changes nothing of it.
 pub fn rule_capacity()
-    ensures one { (h : List Event) (j k : ℕ) (s t : Stream) → slice_get (streams h) j ≡ Some s → slice_get (streams h) k ≡ Some t → runs h s ≡ true → runs h t ≡ true → s.rule ≡ t.rule → limit_answer h j ≡ limit_answer h k }
-    ensures first { (h : List Event) (rule : Rule) (asked : Option ℕ) → is_subscribed h rule ≡ false → rule_limit rule (Made (Ruled rule asked) ∷ h) ≡ asked_or asked (usual rule) }
-    ensures later { (h : List Event) (rule : Rule) (asked : Option ℕ) → is_subscribed h rule ≡ true → rule_limit rule (Made (Ruled rule asked) ∷ h) ≡ raised asked (rule_limit rule h) }
+    ensures one { (h : List Event) (j k : ℕ) (s t : Stream) → slice_get (streams h) j ≡ Some s → slice_get (streams h) k ≡ Some t → runs (read h) s ≡ true → runs (read h) t ≡ true → s.rule ≡ t.rule → limit_answer h j ≡ limit_answer h k }
+    ensures first { (h : List Event) (rule : Rule) (asked : Option ℕ) → is_subscribed (read h) (streams h) rule ≡ false → rule_limit rule (Made (Ruled rule asked) ∷ h) ≡ asked_or asked (usual rule) }
+    ensures later { (h : List Event) (rule : Rule) (asked : Option ℕ) → is_subscribed (read h) (streams h) rule ≡ true → rule_limit rule (Made (Ruled rule asked) ∷ h) ≡ raised asked (rule_limit rule h) }
     ensures asked { (h : List Event) (limit j : ℕ) (s : Stream) (rule : Rule) → slice_get (streams h) j ≡ Some s → s.rule ≡ Some rule → rule_limit rule (Did j (Asked limit) ∷ h) ≡ max (rule_limit rule h) limit }
     ensures other { (h : List Event) (rule another : Rule) (asked : Option ℕ) → rule ≢ another → rule_limit rule (Made (Ruled another asked) ∷ h) ≡ rule_limit rule h }
     ensures asked_other { (h : List Event) (limit j : ℕ) (s : Stream) (rule : Rule) → slice_get (streams h) j ≡ Some s → s.rule ≢ Some rule → rule_limit rule (Did j (Asked limit) ∷ h) ≡ rule_limit rule h }

@@ -1,5 +1,5 @@
 ghost use Rattle.std.specs.Prelude.{◌≡◌};
-ghost use Rattle.peer_route.specs.History as history;
+ghost use Rattle.peer_route.specs.Calls as answers;
 
 use wire_message::{Error, Message, Result};
 
@@ -20,7 +20,7 @@ pub enum Polled<T> {
 
 /// What a poll that names a position gives: NoneBefore in place of NotYet.
 pub(crate) fn by_position(polled: Result<Polled<Message>>) -> Result<Polled<Message>>
-    ensures { result ≡ history.by_position polled }
+    ensures { result ≡ answers.by_position polled }
 {
     match polled? {
         Polled::NotYet => Ok(Polled::NoneBefore),

@@ -1,7 +1,6 @@
 //! How far streams are opened.
 ghost use Rattle.std.specs.Prelude.{◌≡◌, IfOk};
-ghost use Rattle.peer_route.specs.History.{bears};
-ghost use Rattle.peer_route.specs.Streams.{is_return};
+ghost use Rattle.peer_route.specs.History.{bears, is_return};
 ghost use Rattle.peer_route.specs.Left.{is_end};
 
 use std::alloc::AllocError;

@@ -1,6 +1,7 @@
 ghost use Rattle.std.specs.Prelude.{ℕ, ◌≡◌, ◌∷◌, ◌++◌, [], length, Option, Some, None, OnOk, OnErr, IfOk, option_map, option_and_then, nat_lt, true, false};
 ghost use Rattle.peer_route.specs.Rules.{is_same};
-ghost use Rattle.peer_route.specs.Streams.{take_by, first_position, raised};
+ghost use Rattle.peer_route.specs.History.{raised};
+ghost use Rattle.peer_route.specs.Streams.{take_by, first_position};
 ghost use Rattle.peer_route.specs.Left.{Held, empty_held, asking_held, is_running, is_usable, if_usable, ended_by, wants_it, pushed, queued, denies_by, denies, settled, settled_at, waits_by, lost_at, is_over, limit_or, limit_if, raise, raise_held, raise_own, after_by, after_take, held_gives, held_opening, opened_held, is_end, wants_of};
 ghost use Rattle.wire_message.specs.Front.{Seen};
 

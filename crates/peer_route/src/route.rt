@@ -1,9 +1,10 @@
 ghost use Rattle.std.specs.Prelude.{ℕ, ◌≡◌, ◌≢◌, ◌↔◌, IsTrue, ◌+◌, ◌<◌, ◌≤◌, ◌^◌, ◌-◌, ◌==◌, [], ◌∷◌, ◌++◌, List, length, position, slice_get, option_copied, option_map, is_none, Some, None, Ok, Err, true, false, IfOk, IfErr, OnOk, OnErr};
 ghost use Rattle.std.specs.Borrow.{sem};
 ghost use Rattle.peer_route.specs.Lending.{LendsCalls};
-ghost use Rattle.peer_route.specs.History.{Event, Took, Shut, Put, Wrote, Fault, Named, poll_answer, poll_events, drop_answer, drop_events};
-ghost use Rattle.peer_route.specs.History as history;
+ghost use Rattle.peer_route.specs.History.{Event, Took, Shut, Put, Wrote, Fault, Named};
+ghost use Rattle.peer_route.specs.Calls.{poll_answer, poll_events, drop_answer, drop_events};
 ghost use Rattle.peer_route.specs.Streams.{busy};
+ghost use Rattle.peer_route.specs.Calls as answers;
 ghost use Rattle.peer_route.specs.Left.{is_busy, View, Left};
 ghost use Rattle.wire_message.specs.Front.{Seen};
 ghost use Rattle.wire_message.specs.Closing.{closes};
@@ -173,7 +174,7 @@ impl Route {
 
     /// The same by position, as `PendingMethodCalls::poll_before`.
     pub fn poll_before(&mut self, call: u64, before: Sequence) -> Result<Polled<Message>>
-        ensures answer { (h : List Event) → Left self.old h → result ≡ history.by_position (poll_answer h call) }
+        ensures answer { (h : List Event) → Left self.old h → result ≡ answers.by_position (poll_answer h call) }
         ensures left { (h : List Event) → Left self.old h → Left self.new (poll_events call result ++ h) }
     {
         self.calls.poll_before(call, before)

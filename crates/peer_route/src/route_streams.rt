@@ -1,8 +1,8 @@
 //! A peer's streams.
 ghost use Rattle.std.specs.Prelude.{ℕ, ◌≡◌, ◌++◌, ◌∷◌, List, length, option_map, OnOk, OnErr, IfOk};
-ghost use Rattle.peer_route.specs.History.{Event, Made, Plain, Main};
-ghost use Rattle.peer_route.specs.History as history;
-ghost use Rattle.peer_route.specs.Streams.{main, take_answer, take_events, next_position, is_over, are_open, ask_answer, ask_events, limit_answer, rule_answer};
+ghost use Rattle.peer_route.specs.History.{Event, Made, Plain, Main, main};
+ghost use Rattle.peer_route.specs.Streams.{take_answer, take_events, next_position, is_over, are_open, ask_answer, ask_events, limit_answer, rule_answer};
+ghost use Rattle.peer_route.specs.Calls as answers;
 ghost use Rattle.peer_route.specs.Left.{Left, Clones};
 
 use crate::polled::{Polled, by_position};
@@ -126,7 +126,7 @@ impl Route {
         stream: &MessageStream,
         _before: Sequence,
     ) -> Result<Polled<Message>>
-        ensures answer { (h : List Event) → Left self.old h → result ≡ history.by_position (take_answer h stream.now.number) }
+        ensures answer { (h : List Event) → Left self.old h → result ≡ answers.by_position (take_answer h stream.now.number) }
         ensures left { (h : List Event) → Left self.old h → Left self.new (take_events stream.now.number result ++ h) }
     {
         by_position(self.take(stream))

@@ -22,8 +22,8 @@ use Rattle.peer_route.specs.declared.writer.Writer.TheVariants as writers
 use Rattle.peer_route.specs.declared.leaving.Spent.TheVariants as spent
 use Rattle.peer_route.specs.declared.streams.MessageStream.{MessageStream}
 use Rattle.peer_route.specs.History.{Event, Did, Gone, Fault, Wrote}
-use Rattle.peer_route.specs.History as events
 use Rattle.peer_route.specs.Streams.{all_given, are_open, close_waits, leaving, gone_then}
+use Rattle.peer_route.specs.History as events
 use Rattle.peer_route.specs.BusCall.{some_rules}
 use Rattle.peer_route.specs.Trail.{Trail, Names, trail, place, second_place, wrote_each, fault_each}
 use Rattle.peer_route.specs.Answers.{IsAnswer, IsLeaveOf, IsTold, is_open_at, are_open_at, write_fault, first_fault}

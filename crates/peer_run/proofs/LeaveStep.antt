@@ -11,8 +11,8 @@ use Rattle.peer_route.specs.declared.answer.Answer.{Answer}
 use Rattle.peer_route.specs.declared.answer.Answer.TheVariants as answers
 use Rattle.peer_route.specs.declared.answer.Entry.{Entry}
 use Rattle.peer_route.specs.History.{Event, Did, Gone, Wrote, Fault}
-use Rattle.peer_route.specs.History as events
 use Rattle.peer_route.specs.Streams.{all_given, are_open, leaving, gone_then}
+use Rattle.peer_route.specs.History as events
 use Rattle.peer_route.specs.BusCall.{some_rules}
 use Rattle.peer_route.specs.Trail.{Trail, trail, place, second_place, removals, wrote_each, fault_each, wrote_first, unstream_does, leave_names, made_streams}
 use Rattle.peer_route.specs.Answers.{IsAnswer, IsLeaveOf, IsTold, are_open_at, write_fault, first_fault}

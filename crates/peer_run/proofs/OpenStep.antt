@@ -23,9 +23,10 @@ use Rattle.peer_route.specs.declared.opening.Opening.{Opening}
 use Rattle.peer_route.specs.declared.opening.Opens.TheVariants as opens
 use Rattle.peer_route.specs.declared.writer.Writer.{Writer}
 use Rattle.peer_route.specs.declared.writer.Writer.TheVariants as writers
-use Rattle.peer_route.specs.History.{in_flight}
-use Rattle.peer_route.specs.History as events
+use Rattle.peer_route.specs.Calls.{in_flight}
 use Rattle.peer_route.specs.Streams.{asks_bus, all_given}
+use Rattle.peer_route.specs.History as events
+use Rattle.peer_route.specs.Calls.{pending}
 use Rattle.peer_route.specs.BusCall.{add_parcel, add_message}
 use Rattle.peer_route.specs.Trail.{Trail, trail, count, next_serial, or_zero, failed_put, failed_name, open_makes, open_names, asked_streams}
 use Rattle.peer_route.specs.Answers.{IsOpenOf, IsRuleOf, IsNewOf, IsAskOf, IsCalled, long_refusal, write_fault}
@@ -260,7 +261,7 @@ pub record IsAsking (setting : Setting) (p q : PeerView) (es : List Entry) (aske
   pub found : rule_in_bytes text ≡ Ok rule
   pub would : WouldAsk (trail setting es).events rule
   pub fine : events.writer (trail setting es).events ≡ writers.Fine
-  pub next : IsNext (events.pending (trail setting es).events) (events.last_serial (trail setting es).events) o.serial
+  pub next : IsNext (pending (trail setting es).events) (events.last_serial (trail setting es).events) o.serial
   pub short : length (add_message (trail setting es).events rule o.serial).bytes ≤ 134217728
   pub index : o.index ≡ length (events.put (trail setting es).events)
   pub left : Left q.core (events.Added (add_message (trail setting es).events rule o.serial) rule asked ∷ (trail setting es).events)

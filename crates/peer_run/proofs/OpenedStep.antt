@@ -18,7 +18,8 @@ use Rattle.peer_route.specs.declared.opening.Opened.TheVariants as opened
 use Rattle.peer_route.specs.declared.progress.OpenState.{OpenState}
 use Rattle.peer_route.specs.declared.progress.OpenState.TheVariants as states
 use Rattle.peer_route.specs.History as events
-use Rattle.peer_route.specs.Streams.{Stream, Phase, Asking, Denied, Since, phase, since_in, accepted, offered, matched, item_at, gave_last, streams, all_given, opening_by, opening_at, opening_answer, opening_events}
+use Rattle.peer_route.specs.History.{Stream, Phase, Asking, Denied, Since, phase, streams, closing, read}
+use Rattle.peer_route.specs.Streams.{since_in, accepted, offered, matched, item_at, gave_last, all_given, opening_by, opening_at, opening_answer, opening_events}
 use Rattle.peer_route.specs.Trail.{trail, place, sent_names, made_streams, opened_does}
 use Rattle.peer_route.specs.Answers.{error_answer, shown_opening, opened_of}
 use Rattle.peer_route.specs.Told.{ReadTold}
@@ -100,20 +101,20 @@ ended_none true o e = refl
 ended_none false o e = e
 
 -- a stream that didn't begin gave nothing
-gave_nothing : (h : List events.Event) (s : Stream) → since_in (phase h s) ≡ [] → gave_last h s ≡ None
+gave_nothing : (h : List events.Event) (s : Stream) → since_in (phase (read h) s) ≡ [] → gave_last (read h) s ≡ None
 unfolding gave_last offered matched
 gave_nothing h s none =
-    ended_none s.gone (item_at (drop s.skip (accepted s.rule (since_in (phase h s)))) s.taken)
+    ended_none s.gone (item_at (drop s.skip (accepted s.rule (since_in (phase (read h) s)))) s.taken)
     (ap (λ ms. item_at (drop s.skip (accepted s.rule ms)) s.taken) none ∙ ap (λ ms. item_at (drop s.skip ms) s.taken) (accepted_nothing s.rule)
     ∙ ap (λ ms. item_at ms s.taken) (drop_nothing s.skip) ∙ item_nothing s.taken)
 
 -- closing it changes nothing of that
-nothing_gone : (h : List events.Event) (k : ℕ) (s : Stream) → slice_get (streams h) k ≡ Some s → since_in (phase h s) ≡ [] → all_given (events.Did k events.Gone ∷ h) ≡ all_given h
+nothing_gone : (h : List events.Event) (k : ℕ) (s : Stream) → slice_get (streams h) k ≡ Some s → since_in (phase (read h) s) ≡ [] → all_given (events.Did k events.Gone ∷ h) ≡ all_given h
 nothing_gone h k s at none =
-    let there : slice_get (all_given h) k ≡ Some None = slice_get-map (gave_last h) (streams h) k ∙ ap (option_map (gave_last h)) at ∙ ap Some (gave_nothing h s none) in
+    let there : slice_get (all_given h) k ≡ Some None = slice_get-map (gave_last (read h)) (streams h) k ∙ ap (option_map (gave_last (read h))) at ∙ ap Some (gave_nothing h s none) in
     given_gone h k ∙ set_edit (all_given h) k None ∙ edit-same (λ _. None) (all_given h) k None there refl
 
-given_by_phase : (h : List events.Event) (k : ℕ) (s : Stream) (p : Phase) (shut : Option Error) → slice_get (streams h) k ≡ Some s → phase h s ≡ p
+given_by_phase : (h : List events.Event) (k : ℕ) (s : Stream) (p : Phase) (shut : Option Error) → slice_get (streams h) k ≡ Some s → phase (read h) s ≡ p
     → all_given (opening_events k (opening_by p shut) ++ h) ≡ all_given h
 given_by_phase h k s (Asking add) None at e = refl
 given_by_phase h k s (Asking add) (Some error) at e = nothing_gone h k s at (ap since_in e)
@@ -121,11 +122,11 @@ given_by_phase h k s (Denied m) shut at e = nothing_gone h k s at (ap since_in e
 given_by_phase h k s (Since ms) shut at e = given_opened h k
 
 given_if_known : (h : List events.Event) (k : ℕ) (s : Stream) (unknown : Bool) → slice_get (streams h) k ≡ Some s
-    → all_given (opening_events k (if unknown then states.Unknown else opening_by (phase h s) (events.closing h)) ++ h) ≡ all_given h
+    → all_given (opening_events k (if unknown then states.Unknown else opening_by (phase (read h) s) (events.closing h)) ++ h) ≡ all_given h
 given_if_known h k s true at = refl
-given_if_known h k s false at = given_by_phase h k s (phase h s) (events.closing h) at refl
+given_if_known h k s false at = given_by_phase h k s (phase (read h) s) (events.closing h) at refl
 
-given_at_stream : (h : List events.Event) (k : ℕ) (o : Option Stream) → slice_get (streams h) k ≡ o → all_given (opening_events k (opening_at h o) ++ h) ≡ all_given h
+given_at_stream : (h : List events.Event) (k : ℕ) (o : Option Stream) → slice_get (streams h) k ≡ o → all_given (opening_events k (opening_at (read h) (closing h) o) ++ h) ≡ all_given h
 given_at_stream h k None at = refl
 given_at_stream h k (Some s) at = given_if_known h k s (s.gone || s.opened) at
 
@@ -144,11 +145,11 @@ over_by_phase (Denied m) shut error e = absurd (cc)
 over_by_phase (Since ms) shut error e = absurd (cc)
 
 over_if_known : (h : List events.Event) (s : Stream) (unknown : Bool) (error : Error)
-    → (if unknown then states.Unknown else opening_by (phase h s) (events.closing h)) ≡ states.Over error → events.closing h ≡ Some error
+    → (if unknown then states.Unknown else opening_by (phase (read h) s) (events.closing h)) ≡ states.Over error → events.closing h ≡ Some error
 over_if_known h s true error e = absurd (cc)
-over_if_known h s false error e = over_by_phase (phase h s) (events.closing h) error e
+over_if_known h s false error e = over_by_phase (phase (read h) s) (events.closing h) error e
 
-over_at_stream : (h : List events.Event) (o : Option Stream) (error : Error) → opening_at h o ≡ states.Over error → events.closing h ≡ Some error
+over_at_stream : (h : List events.Event) (o : Option Stream) (error : Error) → opening_at (read h) (closing h) o ≡ states.Over error → events.closing h ≡ Some error
 over_at_stream h None error e = absurd (cc)
 over_at_stream h (Some s) error e = over_if_known h s (s.gone || s.opened) error e
 

@@ -1,4 +1,5 @@
 -- What messages that a command put leave of the sink: all were written, or one's write failed.
+use Rattle.peer_route.specs.History.{read}
 use Rattle.std.proofs.Common.{◌≡◌, ℕ, ◌+◌, ◌-◌, ◌≤◌, ◌<◌, IsSome, suc, refl, sym, ◌∙◌, ap, subst, arith, nat_le, nat_lt, if◌then◌else◌, ◌&&◌, ◌||◌, not, Bool, true, false, List, [], ◌∷◌, ◌++◌, length, take, slice_get, Option, Some, None, IfSome, length-append, append_assoc, zero-add, add-zero}
 use Rattle.std.proofs.lemmas.List.{append-nil, length-take-le}
 use Rattle.std.proofs.lemmas.Bool.Decides.{nat_tests}

@@ -15,6 +15,7 @@ use Rattle.peer_route.specs.declared.answer.Answer.{Answer}
 use Rattle.peer_route.specs.declared.answer.Answer.TheVariants as answers
 use Rattle.peer_route.specs.declared.answer.Entry.{Entry}
 use Rattle.peer_route.specs.History as events
+use Rattle.peer_route.specs.Calls.{poll_answer, by_position, poll_events}
 use Rattle.peer_route.specs.Trail.{Trail, trail, poll_spends, events_of, place, sent_names, made_streams, new_names, new_streams}
 use Rattle.peer_route.specs.Answers.{IsAnswer, shown, error_answer, reply_by, poll_of, before_of}
 use Rattle.peer_route.specs.Told.{ReadTold}
@@ -37,7 +38,7 @@ spends_now k m types.MethodCall = refl
 spends_now k m types.Error = error_spends k m m.error_name
 spends_now k m types.Signal = refl
 
-spends_shown : (k : ℕ) (r : Result (Polled Seen) Error) → poll_spends (Some k) (shown r) ≡ events.poll_events k r
+spends_shown : (k : ℕ) (r : Result (Polled Seen) Error) → poll_spends (Some k) (shown r) ≡ poll_events k r
 spends_shown k (Ok (polled.Now m)) = spends_now k m m.kind
 spends_shown k (Ok polled.NotYet) = refl
 spends_shown k (Ok polled.NoneBefore) = refl
@@ -119,7 +120,7 @@ polling_before t lane number before = record { spends = λ a. refl; calls = λ a
 -- a call was polled
 follows_by : (setting : Setting) (p q : PeerView) (es : List Entry) (lane number k : ℕ) (w : Words) (r : Result (Polled Seen) Error) → IsPolling (trail setting es) lane number w → Follows setting p es
     → place 0 lane number (trail setting es).names ≡ Some k → IsAnswer (trail setting es) lane w (shown r)
-    → q.names ≡ p.names → q.streams ≡ p.streams → q.given ≡ p.given → Left q.core (events.poll_events k r ++ (trail setting es).events)
+    → q.names ≡ p.names → q.streams ≡ p.streams → q.given ≡ p.given → Left q.core (poll_events k r ++ (trail setting es).events)
     → Follows setting q (entry lane w (shown r) ∷ es)
 follows_by setting p q es lane number k w r polls f at answer names streams given left =
     follows_quiet setting p q es lane w (shown r) (poll_spends (Some k) (shown r)) f (polls.spends (shown r) ∙ ap (λ o. poll_spends o (shown r)) at)
@@ -135,8 +136,8 @@ named_call : (setting : Setting) (p : PeerView) (es : List Entry) (lane number :
 named_call setting p es lane number o f here = ap (λ ns. place 0 lane number ns) (sym f.names) ∙ here
 
 pub follows_poll : (setting : Setting) (p q : PeerView) (es : List Entry) (lane number k : ℕ) (r : Result (Polled Seen) Error) → Follows setting p es
-    → place 0 lane number p.names ≡ Some k → r ≡ events.poll_answer (trail setting es).events k
-    → q.names ≡ p.names → q.streams ≡ p.streams → q.given ≡ p.given → Left q.core (events.poll_events k r ++ (trail setting es).events)
+    → place 0 lane number p.names ≡ Some k → r ≡ poll_answer (trail setting es).events k
+    → q.names ≡ p.names → q.streams ≡ p.streams → q.given ≡ p.given → Left q.core (poll_events k r ++ (trail setting es).events)
     → Follows setting q (entry lane (words.Poll number) (shown r) ∷ es)
 follows_poll setting p q es lane number k r f here answer names streams given left =
     let at = named_call setting p es lane number (Some k) f here in
@@ -144,8 +145,8 @@ follows_poll setting p q es lane number k r f here answer names streams given le
     (ap shown answer ∙ sym (ap (poll_of (trail setting es).events) at)) names streams given left
 
 pub follows_before : (setting : Setting) (p q : PeerView) (es : List Entry) (lane number before k : ℕ) (r : Result (Polled Seen) Error) → Follows setting p es
-    → place 0 lane number p.names ≡ Some k → r ≡ events.by_position (events.poll_answer (trail setting es).events k)
-    → q.names ≡ p.names → q.streams ≡ p.streams → q.given ≡ p.given → Left q.core (events.poll_events k r ++ (trail setting es).events)
+    → place 0 lane number p.names ≡ Some k → r ≡ by_position (poll_answer (trail setting es).events k)
+    → q.names ≡ p.names → q.streams ≡ p.streams → q.given ≡ p.given → Left q.core (poll_events k r ++ (trail setting es).events)
     → Follows setting q (entry lane (words.Before number before) (shown r) ∷ es)
 follows_before setting p q es lane number before k r f here answer names streams given left =
     let at = named_call setting p es lane number (Some k) f here in

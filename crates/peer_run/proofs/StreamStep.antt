@@ -9,6 +9,7 @@ use Rattle.peer_route.specs.declared.answer.Answer.{Answer}
 use Rattle.peer_route.specs.declared.answer.Answer.TheVariants as answers
 use Rattle.peer_route.specs.declared.answer.Entry.{Entry}
 use Rattle.peer_route.specs.History as events
+use Rattle.peer_route.specs.Calls.{drop_answer, drop_events}
 use Rattle.peer_route.specs.Streams as streams
 use Rattle.peer_route.specs.Trail.{trail, drop_spends, place, count, sent_names, made_streams}
 use Rattle.peer_route.specs.Answers.{shown_drop, drop_of}
@@ -22,7 +23,7 @@ use Rattle.peer_run.proofs.Kept.{IsWriteFault}
 
 -- ---- a drop
 
-drop_shown_spends : (k : ℕ) (r : Result (Unit {0}) Error) → drop_spends (Some k) (shown_drop r) ≡ events.drop_events k r
+drop_shown_spends : (k : ℕ) (r : Result (Unit {0}) Error) → drop_spends (Some k) (shown_drop r) ≡ drop_events k r
 drop_shown_spends k (Ok done) = refl
 drop_shown_spends k (Err error) = refl
 
@@ -41,8 +42,8 @@ given_dropped (Some k) answers.Dropped h = given_same (events.Spent k ∷ h) h r
 given_dropped (Some k) a h = refl
 
 pub follows_drop : (setting : Setting) (p q : PeerView) (es : List Entry) (lane number k : ℕ) (r : Result (Unit {0}) Error) → Follows setting p es
-    → place 0 lane number p.names ≡ Some k → r ≡ events.drop_answer (trail setting es).events k
-    → q.names ≡ p.names → q.streams ≡ p.streams → q.given ≡ p.given → Left q.core (events.drop_events k r ++ (trail setting es).events)
+    → place 0 lane number p.names ≡ Some k → r ≡ drop_answer (trail setting es).events k
+    → q.names ≡ p.names → q.streams ≡ p.streams → q.given ≡ p.given → Left q.core (drop_events k r ++ (trail setting es).events)
     → Follows setting q (entry lane (words.Drop number) (shown_drop r) ∷ es)
 follows_drop setting p q es lane number k r f here answer names streams_same given left =
     let at : place 0 lane number (trail setting es).names ≡ Some k = ap (λ ns. place 0 lane number ns) (sym f.names) ∙ here in

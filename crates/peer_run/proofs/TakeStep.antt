@@ -13,6 +13,7 @@ use Rattle.peer_route.specs.declared.answer.Answer.{Answer}
 use Rattle.peer_route.specs.declared.answer.Answer.TheVariants as answers
 use Rattle.peer_route.specs.declared.answer.Entry.{Entry}
 use Rattle.peer_route.specs.History as events
+use Rattle.peer_route.specs.Calls.{by_position}
 use Rattle.peer_route.specs.Streams as streams
 use Rattle.peer_route.specs.Trail.{Trail, trail, take_does, events_of, place, sent_names, made_streams, new_names, new_streams}
 use Rattle.peer_route.specs.Answers.{IsAnswer, shown_take, take_of, take_before_of}
@@ -65,7 +66,7 @@ given_now h k r answer =
     same_after k r (streams.all_given h) ∙ ap (λ (x : Result (Polled Seen) Error). given.given_after k x (streams.all_given h)) answer ∙ sym (given_taken h k)
     ∙ ap (λ (x : Result (Polled Seen) Error). streams.all_given (streams.take_events k x ++ h)) (sym answer)
 
-after_so : (k : ℕ) (r : Result (Polled Seen) Error) (gs : List (Option Seen)) → given_after k (events.by_position r) gs ≡ given_after k r gs
+after_so : (k : ℕ) (r : Result (Polled Seen) Error) (gs : List (Option Seen)) → given_after k (by_position r) gs ≡ given_after k r gs
 after_so k (Ok (polled.Now m)) gs = refl
 after_so k (Ok polled.NotYet) gs = refl
 after_so k (Ok polled.NoneBefore) gs = refl
@@ -73,7 +74,7 @@ after_so k (Ok (polled.Closed error)) gs = refl
 after_so k (Ok polled.Ended) gs = refl
 after_so k (Err error) gs = refl
 
-given_before : (h : List events.Event) (k : ℕ) (r : Result (Polled Seen) Error) → r ≡ events.by_position (streams.take_answer h k)
+given_before : (h : List events.Event) (k : ℕ) (r : Result (Polled Seen) Error) → r ≡ by_position (streams.take_answer h k)
     → given_after k r (streams.all_given h) ≡ streams.all_given (streams.take_events k r ++ h)
 given_before h k r answer =
     ap (λ (x : Result (Polled Seen) Error). given_after k x (streams.all_given h)) answer ∙ after_so k (streams.take_answer h k) (streams.all_given h)
@@ -133,7 +134,7 @@ follows_take setting p q es lane number k r f here answer names streams_same giv
     (ap shown_take answer ∙ sym (ap (take_of (trail setting es).events) at)) (given_now (trail setting es).events k r answer) names streams_same given left
 
 pub follows_take_before : (setting : Setting) (p q : PeerView) (es : List Entry) (lane number before k : ℕ) (r : Result (Polled Seen) Error) → Follows setting p es
-    → place 0 lane number p.streams ≡ Some k → r ≡ events.by_position (streams.take_answer (trail setting es).events k)
+    → place 0 lane number p.streams ≡ Some k → r ≡ by_position (streams.take_answer (trail setting es).events k)
     → q.names ≡ p.names → q.streams ≡ p.streams → q.given ≡ given_after k r p.given → Left q.core (streams.take_events k r ++ (trail setting es).events)
     → Follows setting q (entry lane (words.TakeBefore number before) (shown_take r) ∷ es)
 follows_take_before setting p q es lane number before k r f here answer names streams_same given left =

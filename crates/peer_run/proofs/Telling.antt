@@ -10,8 +10,8 @@ use Rattle.rule_match.specs.Rule.{Rule}
 use Rattle.peer_route.specs.declared.writer.Writer.TheVariants as writers
 use Rattle.peer_route.specs.declared.answer.Answer.TheVariants as answers
 use Rattle.peer_route.specs.History.{Event, Wrote, Fault, Removed, Gone, put, done, is_failed, writer}
-use Rattle.peer_route.specs.History as events
 use Rattle.peer_route.specs.Streams.{all_given}
+use Rattle.peer_route.specs.History as events
 use Rattle.peer_route.specs.BusCall.{remove_message, last_of, some_rules}
 use Rattle.peer_route.specs.Parcel.{message_of}
 use Rattle.wire_message.specs.Draft.{built}

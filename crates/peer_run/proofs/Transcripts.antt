@@ -13,6 +13,7 @@ use Rattle.peer_route.specs.declared.answer.Answer.{Answer}
 use Rattle.peer_route.specs.declared.answer.Answer.TheVariants as answers
 use Rattle.peer_route.specs.declared.answer.Entry.{Entry}
 use Rattle.peer_route.specs.History as events
+use Rattle.peer_route.specs.Calls.{in_flight}
 use Rattle.peer_route.specs.Trail.{Trail, trail, events_of, send_events, open_makes, unstream_does, next_serial, or_zero, count}
 use Rattle.peer_route.specs.declared.writer.Writer.{Writer}
 use Rattle.peer_route.specs.declared.writer.Writer.TheVariants as writers
@@ -147,7 +148,7 @@ same_rule room t lane rule asked None false a b x y p q = same_new room t lane r
 same_opening : (room : Option ℕ) (t : Trail) (lane : ℕ) (found : Result Rule Error) (asked : Option ℕ) (a b : Answer) → IsOpenOf t lane found a → IsOpenOf t lane found b
     → ToldIf room (λ a. open_makes t.events found asked a ++ t.events) a → ToldIf room (λ a. open_makes t.events found asked a ++ t.events) b → a ≡ b
 same_opening room t lane (Err error) asked a b x y p q = x ∙ sym y
-same_opening room t lane (Ok rule) asked a b x y p q = same_rule room t lane rule asked (events.closing t.events) (events.in_flight t.events) a b x y p q
+same_opening room t lane (Ok rule) asked a b x y p q = same_rule room t lane rule asked (events.closing t.events) (in_flight t.events) a b x y p q
 
 -- ---- streams that are closed
 

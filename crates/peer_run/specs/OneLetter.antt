@@ -9,7 +9,8 @@ use Rattle.peer_route.specs.declared.route.Issued.{Issued}
 use Rattle.peer_route.specs.declared.writer.Writer.TheVariants as writers
 use Rattle.peer_route.specs.Parcel.{Parcel}
 use Rattle.peer_route.specs.CallMessage.{expects}
-use Rattle.peer_route.specs.History.{Event, put, calls, pending, last_serial, writer}
+use Rattle.peer_route.specs.History.{Event, put, calls, last_serial, writer}
+use Rattle.peer_route.specs.Calls.{pending}
 use Rattle.peer_route.specs.Left.{View, Left}
 use Rattle.peer_route.specs.Issuing.{is_deep, IsShort, IsTooLong, put_of, call_number}
 

@@ -51,9 +51,8 @@ line_text n = codes "script: line " ++ decimal n ++ 10 ∷ []
 
 -- the bytes that a script's source gives before its first failing read, or before its end
 abbrev pub source_bytes : List Given → List ℕ
-source_bytes [] = []
 source_bytes (Gave piece ∷ given) = piece ++ source_bytes given
-source_bytes (Broke ∷ given) = []
+source_bytes other = []
 
 -- whether a read fails there
 abbrev pub source_breaks : List Given → Bool

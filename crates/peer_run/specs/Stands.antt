@@ -20,9 +20,9 @@ use Rattle.peer_route.specs.declared.answer.Answer.TheVariants as answers
 use Rattle.peer_route.specs.declared.answer.Entry.{Entry}
 use Rattle.peer_route.specs.declared.writer.Writer.TheVariants as writers
 use Rattle.peer_route.specs.History.{Event, Wrote, Fault, put, is_failed, writer}
+use Rattle.peer_route.specs.Streams.{all_given}
 use Rattle.peer_route.specs.History as events
 use Rattle.peer_route.specs.Parcel.{Setting}
-use Rattle.peer_route.specs.Streams.{all_given}
 use Rattle.peer_route.specs.Trail.{Names, trail, count}
 use Rattle.peer_route.specs.declared.route.Issued.{Issued}
 use Rattle.peer_route.specs.Answers.{Legal, sent_answer, write_fault}
@@ -221,11 +221,7 @@ NotIssued error (Err e) = unsent_answer error ≡ None
 -- for each stream the message that it gave last, after a take
 abbrev pub given_after : ℕ → Result (Polled Seen) Error → List (Option Seen) → List (Option Seen)
 given_after k (Ok (polled.Now m)) gs = slice_set gs k (Some m)
-given_after k (Ok polled.NotYet) gs = gs
-given_after k (Ok polled.NoneBefore) gs = gs
-given_after k (Ok (polled.Closed error)) gs = gs
-given_after k (Ok polled.Ended) gs = gs
-given_after k (Err error) gs = gs
+given_after k other gs = gs
 
 -- words that were refused; not want of memory
 abbrev pub IsRefusal : {E : Type 0} → Error → Result Answer E → Type 0
@@ -279,20 +275,7 @@ sends (words.Call w) = true
 sends (words.Signal w) = true
 sends (words.Reply stream body) = true
 sends (words.Error stream name body) = true
-sends words.Read = false
-sends (words.Poll number) = false
-sends (words.Before number before) = false
-sends (words.Drop number) = false
-sends words.Stream = false
-sends (words.Take number) = false
-sends (words.TakeBefore number before) = false
-sends (words.Clone number) = false
-sends (words.Unstream number second) = false
-sends (words.Queue number limit) = false
-sends (words.MainQueue limit) = false
-sends (words.Open max_queued rule) = false
-sends (words.Opened number) = false
-sends words.Close = false
+sends other = false
 
 -- a peer on a message bus or on none, of this name, whose streams may hold so many messages, and whose sink takes file descriptors
 -- or takes none

@@ -1,7 +1,7 @@
 //! Values as text: what stands in a container is followed by a blank.
 use crate::leaf::write_quoted;
 use std::alloc::{AllocError, Global};
-use wire_value::{Tree, write_type};
+use wire_value::{Tree, type_text};
 
 /// Writes the values, each with a blank behind it.
 #[cycle(show)]
@@ -58,7 +58,7 @@ pub(crate) fn show(alloc: Global, out: &mut String, tree: &Tree) -> Result<(), A
         }
         Tree::Variant(inner) => {
             out.push('<')?;
-            write_type(out, alloc, inner.as_tree())?;
+            out.push_str(type_text(alloc, inner.as_tree())?.as_str())?;
             out.push(' ')?;
             show(alloc, out, inner.as_tree())?;
             out.push('>')

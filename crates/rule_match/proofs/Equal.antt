@@ -1,5 +1,5 @@
 -- Rules are equal exactly where they are one.
-use Rattle.std.proofs.Common.{◌≡◌, refl, ◌∙◌, ap, ℕ, Bool, true, ◌&&◌, nat_eq, List, [], ◌∷◌, Some, None}
+use Rattle.std.proofs.Common.{◌≡◌, refl, ◌∙◌, ap, Bool, true, nat_eq, [], ◌∷◌, Some, None}
 use Rattle.std.specs.Cmp.Lexicographic.{pointwise}
 use Rattle.std.specs.Option.{option_eq}
 use Rattle.std.proofs.lemmas.Bool.Decides.{Decides-eqb}
@@ -39,13 +39,6 @@ list_exact eq h (x ∷ xs) (y ∷ ys) = (
 text_exact : IsExact (pointwise nat_eq)
 text_exact x y = (same_is x y, is_same x y)
 
--- a name's own test is of its text, and of its kind, which is always the same
-abbrev pub name_test : List ℕ → List ℕ → Bool
-name_test x y = pointwise nat_eq x y && true
-
-name_exact : IsExact name_test
-name_exact x y = (λ e. same_is x y (first_true _ _ e), λ e. both_true _ _ (is_same x y e) refl)
-
 argument_exact : IsExact same_argument
 argument_exact x y = (
   λ e.
@@ -81,27 +74,27 @@ sender_exact (WellKnown x) (Unique y) = (λ e. absurd (cc), λ e. absurd (cc))
 sender_exact (WellKnown x) (WellKnown y) = (λ e. ap WellKnown ((text_exact x y).0 e), λ e. (text_exact x y).1 (cc))
 
 place_exact : IsExact of_places.eq
-place_exact (Path x) (Path y) = (λ e. ap Path ((name_exact x y).0 e), λ e. (name_exact x y).1 (cc))
+place_exact (Path x) (Path y) = (λ e. ap Path ((text_exact x y).0 e), λ e. (text_exact x y).1 (cc))
 place_exact (Path x) (PathNamespace y) = (λ e. absurd (cc), λ e. absurd (cc))
 place_exact (PathNamespace x) (Path y) = (λ e. absurd (cc), λ e. absurd (cc))
-place_exact (PathNamespace x) (PathNamespace y) = (λ e. ap PathNamespace ((name_exact x y).0 e), λ e. (name_exact x y).1 (cc))
+place_exact (PathNamespace x) (PathNamespace y) = (λ e. ap PathNamespace ((text_exact x y).0 e), λ e. (text_exact x y).1 (cc))
 
 module _ (r s : Rule) where
   pub equal_is_one : of_rules.eq r s ≡ true → r ≡ s
   equal_is_one h =
       let h1 = second_true (option_eq of_kinds.eq r.kind s.kind) _ h in
       let h2 = second_true (option_eq same_sender r.sender s.sender) _ h1 in
-      let h3 = second_true (option_eq name_test r.interface s.interface) _ h2 in
-      let h4 = second_true (option_eq name_test r.member s.member) _ h3 in
+      let h3 = second_true (option_eq (pointwise nat_eq) r.interface s.interface) _ h2 in
+      let h4 = second_true (option_eq (pointwise nat_eq) r.member s.member) _ h3 in
       let h5 = second_true (option_eq of_places.eq r.path s.path) _ h4 in
-      let h6 = second_true (option_eq name_test r.destination s.destination) _ h5 in
+      let h6 = second_true (option_eq (pointwise nat_eq) r.destination s.destination) _ h5 in
       let h7 = second_true (pointwise same_argument r.args s.args) _ h6 in
       let kind = (option_exact of_kinds.eq kind_exact r.kind s.kind).0 (first_true _ _ h) in
       let sender = (option_exact same_sender sender_exact r.sender s.sender).0 (first_true _ _ h1) in
-      let interface = (option_exact name_test name_exact r.interface s.interface).0 (first_true _ _ h2) in
-      let member = (option_exact name_test name_exact r.member s.member).0 (first_true _ _ h3) in
+      let interface = (option_exact (pointwise nat_eq) text_exact r.interface s.interface).0 (first_true _ _ h2) in
+      let member = (option_exact (pointwise nat_eq) text_exact r.member s.member).0 (first_true _ _ h3) in
       let path = (option_exact of_places.eq place_exact r.path s.path).0 (first_true _ _ h4) in
-      let destination = (option_exact name_test name_exact r.destination s.destination).0 (first_true _ _ h5) in
+      let destination = (option_exact (pointwise nat_eq) text_exact r.destination s.destination).0 (first_true _ _ h5) in
       let args = (list_exact same_argument argument_exact r.args s.args).0 (first_true _ _ h6) in
       let arg_paths = (list_exact same_argument argument_exact r.arg_paths s.arg_paths).0 (first_true _ _ h7) in
       let arg0ns = (option_exact (pointwise nat_eq) text_exact r.arg0ns s.arg0ns).0 (second_true (pointwise same_argument r.arg_paths s.arg_paths) _ h7) in
@@ -122,10 +115,10 @@ module _ (r s : Rule) where
   one_is_equal e =
       both_true _ _ ((option_exact of_kinds.eq kind_exact r.kind s.kind).1 (ap (λ (x : Rule). x.kind) e))
       (both_true _ _ ((option_exact same_sender sender_exact r.sender s.sender).1 (ap (λ (x : Rule). x.sender) e))
-      (both_true _ _ ((option_exact name_test name_exact r.interface s.interface).1 (ap (λ (x : Rule). x.interface) e))
-      (both_true _ _ ((option_exact name_test name_exact r.member s.member).1 (ap (λ (x : Rule). x.member) e))
+      (both_true _ _ ((option_exact (pointwise nat_eq) text_exact r.interface s.interface).1 (ap (λ (x : Rule). x.interface) e))
+      (both_true _ _ ((option_exact (pointwise nat_eq) text_exact r.member s.member).1 (ap (λ (x : Rule). x.member) e))
       (both_true _ _ ((option_exact of_places.eq place_exact r.path s.path).1 (ap (λ (x : Rule). x.path) e))
-      (both_true _ _ ((option_exact name_test name_exact r.destination s.destination).1 (ap (λ (x : Rule). x.destination) e))
+      (both_true _ _ ((option_exact (pointwise nat_eq) text_exact r.destination s.destination).1 (ap (λ (x : Rule). x.destination) e))
       (both_true _ _ ((list_exact same_argument argument_exact r.args s.args).1 (ap (λ (x : Rule). x.args) e))
       (both_true _ _ ((list_exact same_argument argument_exact r.arg_paths s.arg_paths).1 (ap (λ (x : Rule). x.arg_paths) e))
       ((option_exact (pointwise nat_eq) text_exact r.arg0ns s.arg0ns).1 (ap (λ (x : Rule). x.arg0ns) e)))))))))

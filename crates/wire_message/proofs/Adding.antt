@@ -1,66 +1,110 @@
--- Fields that are added one behind the other.
-use Rattle.std.proofs.Common.{◌≡◌, ℕ, ◌+◌, List, [], ◌∷◌, ◌++◌, length, replicate, Some, Result, Ok, Err, sym, ap, ◌∙◌, append_assoc, arith, length-append}
-use Rattle.std.specs.Prelude.{OnOk}
-use Rattle.std.specs.Int.{w32}
-use Rattle.std.proofs.lemmas.List.{append-nil}
+-- Fields that are added one behind the other, and where their texts stand.
+use Rattle.std.proofs.Common.{◌≡◌, ℕ, ◌+◌, ◌-◌, ◌≤◌, List, [], ◌∷◌, ◌++◌, length, take, drop, replicate, Result, Ok, Err, refl, sym, ap, ◌∙◌, append_assoc, arith, length-append}
+use Rattle.std.specs.Prelude.{IfOk}
+use Rattle.std.specs.Int.{w8, w32}
+use Rattle.std.proofs.lemmas.List.{append-nil, take_at, drop_at}
 use Rattle.wire_number.specs.declared.endian.Endian.{Endian}
 use Rattle.wire_number.specs.Number.{padding, number_text, pad}
-use Rattle.wire_signature.specs.declared.basic.BasicType.{BasicType}
+use Rattle.wire_number.proofs.Steps.{length-padded}
 use Rattle.wire_message.specs.declared.field.FieldCode.{FieldCode}
 use Rattle.wire_message.specs.declared.field.FieldCode.TheVariants as codes
-use Rattle.wire_message.specs.Field.{Fields, Value, Text, Number, Field, code_bytes, field_type, text_bytes, value_bytes, field_text, fields_text, text_field, number_field, field_list}
-use Rattle.wire_number.specs.Appending.{Appended}
-use Rattle.wire_number.proofs.Steps.{length-padded}
+use Rattle.wire_message.specs.declared.places.Held.{Held}
+use Rattle.wire_message.specs.declared.places.Held.TheVariants as helds
+use Rattle.wire_message.specs.declared.places.Places.{Places}
+use Rattle.wire_message.specs.Field.{Fields, Field, code_bytes, field_type, text_bytes, value_bytes, field_text, fields_text, with_field, gathered}
+use Rattle.wire_message.specs.Held.{HasRoom, StandsAt, value_of}
+use Rattle.wire_message.specs.Places.{area, found_fields, no_places, AreSpans, AppendsFields}
 use Rattle.wire_message.proofs.FieldLaws.{placed}
 
-on-ok : {A E P Q : Type 0} (r : Result A E) → OnOk r P → (P → Q) → OnOk r Q
-on-ok (Ok x) p f = f p
-on-ok (Err e) p f = tt
+-- ---- where a text stands
 
-one-field : (order : Endian) (place : ℕ) (code : FieldCode) (value : Value)
-    → fields_text order place (record { code = code; value = value } ∷ []) ≡ padding place 8 ++ (code_bytes code ++ value_bytes order (field_type code) value)
-unfolding fields_text field_text
-one-field order place code value = append-nil (padding place 8 ++ (code_bytes code ++ value_bytes order (field_type code) value))
+text-ends : (order : Endian) (code : FieldCode) (text : List ℕ) → (digits : List ℕ) × (text_bytes order (field_type code) text ≡ digits ++ (text ++ 0 ∷ []))
+text-ends order codes.Signature text = (number_text w8 order (length text), refl)
+text-ends order code text = (number_text w32 order (length text), refl)
 
-regrouped : (old pad code value : List ℕ) → (old ++ (pad ++ code)) ++ value ≡ old ++ (pad ++ (code ++ value))
-regrouped old pad code value = append_assoc old (pad ++ code) value ∙ ap (λ (l : List ℕ). old ++ l) (append_assoc pad code value)
+area-there : (bytes a text b : List ℕ) (start end : ℕ) → bytes ≡ a ++ (text ++ b) → start ≡ length a → end ≡ length a + length text → area bytes start end ≡ text
+area-there bytes a text b start end e s t =
+    ap (λ (l : List ℕ). take (end - start) (drop start l)) e ∙ ap (take (end - start)) (drop_at a (text ++ b) start (sym s)) ∙ take_at text b (end - start) (omega (arith, s, t))
 
-value-added : (order : Endian) (place : ℕ) (code : FieldCode) (value : Value) (old mid new : List ℕ) → mid ≡ old ++ (padding place 8 ++ code_bytes code)
-    → new ≡ mid ++ value_bytes order (field_type code) value → new ≡ old ++ fields_text order place (record { code = code; value = value } ∷ [])
-value-added order place code value old mid new m e =
-    e ∙ ap (λ (l : List ℕ). l ++ value_bytes order (field_type code) value) m ∙ regrouped old (padding place 8) (code_bytes code) (value_bytes order (field_type code) value)
-    ∙ ap (λ (l : List ℕ). old ++ l) (sym (one-field order place code value))
+-- the text of a field that stands behind a front, and ends at `next`
+pub held-stands : (order : Endian) (code : FieldCode) (held : Held) (bytes front more : List ℕ) (place next : ℕ)
+    → bytes ≡ front ++ ((padding place 8 ++ field_text order (record { code = code; value = value_of held })) ++ more)
+    → next ≡ length front + length (padding place 8 ++ field_text order (record { code = code; value = value_of held })) → HasRoom next held × StandsAt bytes next held
+unfolding field_text
+held-stands order code (helds.Number number) bytes front more place next e n = (tt, tt)
+held-stands order code (helds.Text lent) bytes front more place next e n =
+    let text : List ℕ = lent.now in
+    let d = text-ends order code text in
+    let pads : List ℕ = padding place 8 in
+    let head : List ℕ = code_bytes code in
+    let before : List ℕ = front ++ (pads ++ (head ++ d.0)) in
+    let regrouped : front ++ ((pads ++ (head ++ (d.0 ++ (text ++ 0 ∷ [])))) ++ more) ≡ before ++ (text ++ ((0 ∷ []) ++ more)) = simp append_assoc in
+    let whole : bytes ≡ before ++ (text ++ ((0 ∷ []) ++ more)) = e ∙ ap (λ (l : List ℕ). front ++ ((pads ++ (head ++ l)) ++ more)) d.1 ∙ regrouped in
+    let stop : next ≡ length before + length text + 1 =
+    omega (
+      arith,
+      n,
+      ap length d.1,
+      length-append front (pads ++ (head ++ d.0)),
+      length-append pads (head ++ d.0),
+      length-append pads (head ++ text_bytes order (field_type code) text),
+      length-append d.0 (text ++ 0 ∷ []),
+      length-append text (0 ∷ []),
+    ) in
+    (omega (arith, stop), area-there bytes before text ((0 ∷ []) ++ more) (next - 1 - length text) (next - 1) whole (omega (arith, stop)) (omega (arith, stop)))
 
-pub text-added : {A E : Type 0} (order : Endian) (place : ℕ) (code : FieldCode) (type : BasicType) (text bytes old mid new : List ℕ) (r : Result A E) → type ≡ field_type code → bytes ≡ text
-    → mid ≡ old ++ (padding place 8 ++ code_bytes code) → OnOk r (new ≡ mid ++ text_bytes order type bytes) → OnOk r (new ≡ old ++ fields_text order place (text_field code (Some text)))
-text-added order place code type text bytes old mid new r t b m h =
-    on-ok r h (λ e. value-added order place code (Text text) old mid new m
-    (e ∙ ap (λ (y : BasicType). mid ++ text_bytes order y bytes) t ∙ ap (λ (l : List ℕ). mid ++ text_bytes order (field_type code) l) b))
-
-pub number-added : {A E : Type 0} (order : Endian) (place : ℕ) (code : FieldCode) (number : ℕ) (old mid new : List ℕ) (r : Result A E) → mid ≡ old ++ (padding place 8 ++ code_bytes code)
-    → OnOk r (new ≡ mid ++ number_text w32 order number) → OnOk r (new ≡ old ++ fields_text order place (number_field code (Some number)))
-number-added order place code number old mid new r m h = on-ok r h (λ e. value-added order place code (Number number) old mid new m e)
-
--- behind a field's first four bytes no value needs padding
-pub code-placed : (code : FieldCode) (old new : List ℕ) → new ≡ old ++ (padding (16 + length old) 8 ++ code_bytes code) → pad (16 + length new) 4 ≡ 0
-code-placed code old new e =
-    let p : ℕ = 16 + length old in
-    let here : 16 + length new ≡ p + pad p 8 + 4 = omega (arith, ap length e, length-append old (padding p 8 ++ code_bytes code), length-padded p 8 (code_bytes code)) in
-    ap (λ (q : ℕ). pad q 4) here ∙ placed p
+-- ---- one field
 
 -- what needs no padding is appended alone
-pub alone : {A E : Type 0} (r : Result A E) (p n : ℕ) (text old new : List ℕ) → pad p n ≡ 0 → Appended r (padding p n ++ text) old new → OnOk r (new ≡ old ++ text)
-alone (Ok x) p n text old new e h = h ∙ ap (λ (k : ℕ). old ++ (replicate k 0 ++ text)) e
-alone (Err error) p n text old new e h = tt
+pub alone : (p n : ℕ) (text old new : List ℕ) → pad p n ≡ 0 → new ≡ old ++ (padding p n ++ text) → new ≡ old ++ text
+alone p n text old new e h = h ∙ ap (λ (k : ℕ). old ++ (replicate k 0 ++ text)) e
 
-pub nothing-added : (order : Endian) (place : ℕ) (old : List ℕ) → old ≡ old ++ fields_text order place []
-unfolding fields_text
-nothing-added order place old = sym (append-nil old)
+-- behind a field's first four bytes no value needs padding
+pub code-placed : (code : FieldCode) (old new : List ℕ) → new ≡ old ++ (padding (length old) 8 ++ code_bytes code) → pad (length new) 4 ≡ 0
+code-placed code old new e =
+    let p : ℕ = length old in
+    let here : length new ≡ p + pad p 8 + 4 = omega (arith, ap length e, length-append old (padding p 8 ++ code_bytes code), length-padded p 8 (code_bytes code)) in
+    ap (λ (q : ℕ). pad q 4) here ∙ placed p
+
+-- the bytes of a field that was added
+pub field-bytes : (order : Endian) (code : FieldCode) (held : Held) (old mid new : List ℕ) → mid ≡ old ++ (padding (length old) 8 ++ code_bytes code)
+    → new ≡ mid ++ value_bytes order (field_type code) (value_of held) → new ≡ old ++ (padding (length old) 8 ++ field_text order (record { code = code; value = value_of held }))
+unfolding field_text
+field-bytes order code held old mid new m e =
+    let value = value_bytes order (field_type code) (value_of held) in
+    e ∙ ap (λ (l : List ℕ). l ++ value) m ∙ append_assoc old (padding (length old) 8 ++ code_bytes code) value
+    ∙ ap (λ (l : List ℕ). old ++ l) (append_assoc (padding (length old) 8) (code_bytes code) value)
+
+-- there is room for its text
+pub field-room : (order : Endian) (code : FieldCode) (held : Held) (old new : List ℕ)
+    → new ≡ old ++ (padding (length old) 8 ++ field_text order (record { code = code; value = value_of held })) → HasRoom (length new) held
+field-room order code held old new e =
+    let text = padding (length old) 8 ++ field_text order (record { code = code; value = value_of held }) in
+    (held-stands order code held new old [] (length old) (length new) (e ∙ ap (λ (l : List ℕ). old ++ l) (sym (append-nil text))) (ap length e ∙ length-append old text)).0
+
+pub field-added : (order : Endian) (code : FieldCode) (held : Held) (old new : List ℕ) (places after : Places)
+    → new ≡ old ++ (padding (length old) 8 ++ field_text order (record { code = code; value = value_of held }))
+    → ((bytes : List ℕ) → StandsAt bytes (length new) held → found_fields bytes after ≡ with_field (record { code = code; value = value_of held }) (found_fields bytes places))
+    → ((n : ℕ) → AreSpans n places → length new ≤ n → AreSpans n after) → AppendsFields order (record { code = code; value = value_of held } ∷ []) old places new after
+unfolding fields_text gathered
+field-added order code held old new places after e field spans =
+    let text = padding (length old) 8 ++ field_text order (record { code = code; value = value_of held }) in
+    record {
+      text = e ∙ ap (λ (l : List ℕ). old ++ l) (sym (append-nil text));
+      found = λ bytes front more l same. field bytes
+          (held-stands order code held bytes front more (length old) (length new) (same ∙ ap (λ (r : List ℕ). front ++ (r ++ more)) (append-nil text)) (omega (arith, ap length e, length-append old text, l))).1;
+      spans = λ n h s. spans n s h;
+    }
 
 -- ---- one field behind the other
 
-abbrev pub Adds : Endian → List ℕ → List ℕ → List Field → Type 0
-Adds order old new fs = new ≡ old ++ fields_text order (16 + length old) fs
+pub if-ok : {A E : Type 0} {P Q : A → Type 0} (r : Result A E) → ((x : A) → P x → Q x) → IfOk r P → IfOk r Q
+if-ok (Ok x) f p = f x p
+if-ok (Err e) f p = p
+
+pub none-added : (order : Endian) (old : List ℕ) (places : Places) → AppendsFields order [] old places old places
+unfolding fields_text gathered
+none-added order old places = record { text = sym (append-nil old); found = λ bytes front more l same. refl; spans = λ n h s. s }
 
 pub fields-append : (order : Endian) (place : ℕ) (xs ys : List Field) → fields_text order place (xs ++ ys) ≡ fields_text order place xs ++ fields_text order (place + length (fields_text order place xs)) ys
 unfolding fields_text
@@ -73,27 +117,26 @@ fields-append order place (x ∷ xs) ys =
     ∙ sym (append_assoc front rest (fields_text order (place + length front + length rest) ys))
     ∙ ap (λ (p : ℕ). (front ++ rest) ++ fields_text order p ys) at
 
-adds-then : (order : Endian) (a b c : List ℕ) (xs ys : List Field) → Adds order a b xs → Adds order b c ys → Adds order a c (xs ++ ys)
-adds-then order a b c xs ys p q =
-    let text = fields_text order (16 + length a) xs in
-    let at : 16 + length b ≡ 16 + length a + length text = omega (arith, ap length p, length-append a text) in
-    q ∙ ap (λ (l : List ℕ). l ++ fields_text order (16 + length b) ys) p ∙ append_assoc a text (fields_text order (16 + length b) ys)
-    ∙ ap (λ (k : ℕ). a ++ (text ++ fields_text order k ys)) at ∙ ap (λ (l : List ℕ). a ++ l) (sym (fields-append order (16 + length a) xs ys))
+gathered-append : (fields : Fields) (xs ys : List Field) → gathered fields (xs ++ ys) ≡ gathered (gathered fields xs) ys
+unfolding gathered
+gathered-append fields [] ys = refl
+gathered-append fields (x ∷ xs) ys = gathered-append (with_field x fields) xs ys
 
--- all nine
-pub all-added : (order : Endian) (fields : Fields) (a0 a1 a2 a3 a4 a5 a6 a7 a8 a9 : List ℕ) → a0 ≡ []
-    → Adds order a0 a1 (text_field codes.Path fields.path) → Adds order a1 a2 (text_field codes.Interface fields.interface)
-    → Adds order a2 a3 (text_field codes.Member fields.member) → Adds order a3 a4 (text_field codes.ErrorName fields.error_name)
-    → Adds order a4 a5 (number_field codes.ReplySerial fields.reply_serial) → Adds order a5 a6 (text_field codes.Destination fields.destination)
-    → Adds order a6 a7 (text_field codes.Sender fields.sender) → Adds order a7 a8 (text_field codes.Signature fields.signature)
-    → Adds order a8 a9 (number_field codes.UnixFds fields.unix_fds) → a9 ≡ fields_text order 16 (field_list fields)
-unfolding field_list
-all-added order fields a0 a1 a2 a3 a4 a5 a6 a7 a8 a9 e h1 h2 h3 h4 h5 h6 h7 h8 h9 =
-    let k8 = adds-then order a7 a8 a9 _ _ h8 h9 in
-    let k7 = adds-then order a6 a7 a9 _ _ h7 k8 in
-    let k6 = adds-then order a5 a6 a9 _ _ h6 k7 in
-    let k5 = adds-then order a4 a5 a9 _ _ h5 k6 in
-    let k4 = adds-then order a3 a4 a9 _ _ h4 k5 in
-    let k3 = adds-then order a2 a3 a9 _ _ h3 k4 in
-    let k2 = adds-then order a1 a2 a9 _ _ h2 k3 in
-    adds-then order a0 a1 a9 _ _ h1 k2 ∙ ap (λ (l : List ℕ). l ++ fields_text order (16 + length l) (field_list fields)) e
+pub added-then : (order : Endian) (a b c : List ℕ) (p q r : Places) (xs ys : List Field) → AppendsFields order xs a p b q → AppendsFields order ys b q c r
+    → AppendsFields order (xs ++ ys) a p c r
+added-then order a b c p q r xs ys f g =
+    let x = fields_text order (length a) xs in
+    let y = fields_text order (length b) ys in
+    let at : length b ≡ length a + length x = omega (arith, ap length f.text, length-append a x) in
+    let both : fields_text order (length a) (xs ++ ys) ≡ x ++ y = fields-append order (length a) xs ys ∙ ap (λ (k : ℕ). x ++ fields_text order k ys) (sym at) in
+    record {
+      text = g.text ∙ ap (λ (l : List ℕ). l ++ y) f.text ∙ append_assoc a x y ∙ ap (λ (l : List ℕ). a ++ l) (sym both);
+      found = λ bytes front more l same.
+          let here : bytes ≡ front ++ (x ++ (y ++ more)) = same ∙ ap (λ (t : List ℕ). front ++ (t ++ more)) both ∙ ap (λ (t : List ℕ). front ++ t) (append_assoc x y more) in
+          g.found bytes (front ++ x) more (omega (arith, length-append front x, l, at)) (here ∙ sym (append_assoc front x (y ++ more)))
+          ∙ ap (λ (t : Fields). gathered t ys) (f.found bytes front (y ++ more) l here) ∙ sym (gathered-append (found_fields bytes p) xs ys);
+      spans = λ n h s. g.spans n h (f.spans n (omega (arith, h, ap length g.text, length-append b y)) s);
+    }
+
+pub no-spans : (n : ℕ) → AreSpans n no_places
+no-spans n = record { path = tt; interface = tt; member = tt; error_name = tt; destination = tt; sender = tt; signature = tt }

@@ -1,8 +1,9 @@
 -- Bytes that are one message.
-use Rattle.std.proofs.Common.{◌≡◌, ◌≤◌, ℕ, List, length, take, slice_index, Result, Ok, Err, refl, sym, ◌∙◌, ap, subst, arith, Bool, true, false, cond, ◌==◌, nat_lt, ◌⊎◌, inl, inr}
+use Rattle.std.proofs.Common.{◌≡◌, ℕ, List, length, slice_index, Result, Ok, Err, refl, sym, ◌∙◌, ap, subst, arith, true, cond, ◌==◌, nat_lt, inl, inr}
 use Rattle.std.specs.Prelude.{IfOk}
-use Rattle.std.proofs.lemmas.Bool.{eqb-true, le-ltb}
-use Rattle.std.proofs.lemmas.List.{length-take}
+use Rattle.std.proofs.lemmas.Bool.{cond-false, cond-true, eqb-true, le-ltb}
+use Rattle.std.proofs.lemmas.List.{length-take-le}
+use Rattle.wire_signature.proofs.Takes.{if_ways}
 use Rattle.wire_number.specs.declared.endian.Endian.{Endian}
 use Rattle.wire_number.specs.declared.endian.Endian.TheVariants.{Little, Big}
 use Rattle.wire_number.proofs.Numbers.{IsBytes}
@@ -14,13 +15,6 @@ use Rattle.wire_message.specs.declared.error.Error.TheVariants as errors
 use Rattle.wire_message.specs.declared.error.IoKind.TheVariants as kinds
 use Rattle.wire_message.proofs.Grammar.{front_outcome-found, front_outcome-again}
 
-chosen : {A : Type 0} (t : Bool) (x y z : A) → cond t x y ≡ z → ((t ≡ true) × (x ≡ z)) ⊎ ((t ≡ false) × (y ≡ z))
-chosen true x y z e = inl (refl, e)
-chosen false x y z e = inr (refl, e)
-
-length-take-there : (n : ℕ) (bytes : List ℕ) → n ≤ length bytes → length (take n bytes) ≡ n
-length-take-there n bytes h = omega (arith, length-take n bytes)
-
 codes-differ : (a b : Endian) (n : ℕ) → n ≡ order_code a → n ≡ order_code b → a ≡ b
 codes-differ Little Little n e f = refl
 codes-differ Big Big n e f = refl
@@ -30,7 +24,7 @@ codes-differ Big Little n e f = absurd (omega (arith, e, f))
 alone-ok : (bytes : List ℕ) (r : Result Seen Error) (m : Seen) → alone bytes r ≡ Ok m → (r ≡ Ok m) × (length m.bytes ≡ length bytes)
 alone-ok bytes (Err error) m e = absurd cc
 alone-ok bytes (Ok x) m e =
-    elim (chosen (length x.bytes == length bytes) (Ok x) (Err errors.ExcessData) (Ok m) e) [
+    elim (if_ways (length x.bytes == length bytes) (Ok x) (Err errors.ExcessData) (Ok m) e) [
       | inl a ↦ (let same : x ≡ m = (let s = a.1 in cc) in (a.1, subst (λ (y : Seen). length y.bytes ≡ length bytes) same (eqb-true (length x.bytes) (length bytes) a.0)))
       | inr a ↦ absurd (let s = a.1 in cc)
     ]
@@ -39,24 +33,18 @@ alone-ok bytes (Ok x) m e =
 fills : (order : Endian) (bytes : List ℕ) (m : Seen) → slice_index bytes 0 ≡ order_code order → length m.bytes ≡ length bytes → Front bytes m (total bytes)
     → Front bytes m (length bytes) × (m.order ≡ order)
 fills order bytes m o l f =
-    let n : total bytes ≡ length bytes = sym (length-take-there (total bytes) bytes f.there) ∙ sym (ap length f.own) ∙ l in
+    let n : total bytes ≡ length bytes = sym (length-take-le (total bytes) bytes f.there) ∙ sym (ap length f.own) ∙ l in
     (subst (λ (k : ℕ). Front bytes m k) n f, codes-differ m.order order (slice_index bytes 0) f.order o)
 
 pub whole-found : (order : Endian) (bytes : List ℕ) (m : Seen) → IsBytes bytes → whole_outcome order bytes ≡ Ok m → Front bytes m (length bytes) × (m.order ≡ order)
 whole-found order bytes m fits e =
-    elim (chosen (nat_lt (length bytes) 16) (Err (errors.InputOutput kinds.Ended)) (cond (slice_index bytes 0 == order_code order) (alone bytes (front_outcome bytes kinds.Ended)) (Err errors.IncorrectEndian)) (Ok m) e) [
+    elim (if_ways (nat_lt (length bytes) 16) (Err (errors.InputOutput kinds.Ended)) (cond (slice_index bytes 0 == order_code order) (alone bytes (front_outcome bytes kinds.Ended)) (Err errors.IncorrectEndian)) (Ok m) e) [
       | inl a ↦ absurd (let x = a.1 in cc)
-      | inr a ↦ (elim (chosen (slice_index bytes 0 == order_code order) (alone bytes (front_outcome bytes kinds.Ended)) (Err errors.IncorrectEndian) (Ok m) a.1) [
+      | inr a ↦ (elim (if_ways (slice_index bytes 0 == order_code order) (alone bytes (front_outcome bytes kinds.Ended)) (Err errors.IncorrectEndian) (Ok m) a.1) [
         | inl b ↦ (let w = alone-ok bytes (front_outcome bytes kinds.Ended) m b.1 in fills order bytes m (eqb-true _ _ b.0) w.1 (front_outcome-found bytes kinds.Ended m fits w.0))
         | inr b ↦ absurd (let x = b.1 in cc)
       ])
     ]
-
-if_so : {A : Type 0} (t : Bool) (x y : A) → t ≡ true → cond t x y ≡ x
-if_so t x y e = rw e refl
-
-if_not : {A : Type 0} (t : Bool) (x y : A) → t ≡ false → cond t x y ≡ y
-if_not t x y e = rw e refl
 
 same_eqb : (a b : ℕ) → a ≡ b → (a == b) ≡ true
 same_eqb a b e = grind (arith, e)
@@ -64,11 +52,11 @@ same_eqb a b e = grind (arith, e)
 pub whole-again : (order : Endian) (bytes : List ℕ) (m : Seen) → m.position ≡ 0 → m.order ≡ order → Front bytes m (length bytes) → whole_outcome order bytes ≡ Ok m
 whole-again order bytes m p o f =
     let found : front_outcome bytes kinds.Ended ≡ Ok m = front_outcome-again bytes kinds.Ended m (length bytes) f ∙ ap (λ (q : ℕ). Ok (record m { position = q })) (sym p) in
-    let long : length m.bytes ≡ length bytes = ap length f.own ∙ length-take-there (length bytes) bytes f.there in
-    if_not (nat_lt (length bytes) 16) (Err (errors.InputOutput kinds.Ended)) (cond (slice_index bytes 0 == order_code order) (alone bytes (front_outcome bytes kinds.Ended)) (Err errors.IncorrectEndian)) (le-ltb _ _ f.head)
-    ∙ if_so (slice_index bytes 0 == order_code order) (alone bytes (front_outcome bytes kinds.Ended)) (Err errors.IncorrectEndian) (same_eqb _ _ (f.order ∙ ap order_code o))
+    let long : length m.bytes ≡ length bytes = ap length f.own ∙ length-take-le (length bytes) bytes f.there in
+    cond-false (nat_lt (length bytes) 16) (Err (errors.InputOutput kinds.Ended)) (cond (slice_index bytes 0 == order_code order) (alone bytes (front_outcome bytes kinds.Ended)) (Err errors.IncorrectEndian)) (le-ltb _ _ f.head)
+    ∙ cond-true (slice_index bytes 0 == order_code order) (alone bytes (front_outcome bytes kinds.Ended)) (Err errors.IncorrectEndian) (same_eqb _ _ (f.order ∙ ap order_code o))
     ∙ ap (alone bytes) found
-    ∙ if_so (length m.bytes == length bytes) (Ok m) (Err errors.ExcessData) (same_eqb _ _ long)
+    ∙ cond-true (length m.bytes == length bytes) (Ok m) (Err errors.ExcessData) (same_eqb _ _ long)
 
 -- what the calls say of their results
 pub found-whole : (order : Endian) (bytes : List ℕ) (r : Result Seen Error) → IsBytes bytes → Tells (λ (x : Seen). x) r (whole_outcome order bytes)

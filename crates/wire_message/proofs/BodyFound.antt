@@ -3,7 +3,7 @@ use Rattle.std.proofs.Common.{◌≡◌, ℕ, ◌+◌, Bool, true, false, IsTrue
 use Rattle.std.proofs.lemmas.List.{take-append-drop}
 use Rattle.wire_number.specs.declared.endian.Endian.{Endian}
 use Rattle.wire_signature.specs.Shape.{Shape, shapes_of, types_text, AllHaveFields, IsSignature, SignatureText}
-use Rattle.std.specs.Cmp.Lexicographic.{pointwise, same_text, other_text}
+use Rattle.std.specs.Cmp.Lexicographic.{pointwise, same_text}
 use Rattle.wire_signature.specs.Parsing.{types_in}
 use Rattle.wire_signature.proofs.Exact.{is_some-types_in}
 use Rattle.wire_body.proofs.Spelled.{types_text-one}
@@ -30,24 +30,18 @@ module _ {A : Type 0} (read : List Datum → A) (order : Endian) (kinds : List S
   pub no-types : (e : VariantError) → TellsTypes (Err e) kinds → TellsBegun (Err e) read order kinds bytes
   no-types faults.Malformed t = λ values b. t b.signature
   no-types faults.Memory t = tt
-  no-types faults.Signature t = absurd t
-  no-types faults.Depth t = absurd t
-  no-types faults.SignatureMismatch t = absurd t
+  no-types other t = absurd t
 
   pub no-values : (types : List Shape) (e : VariantError) → types ≡ kinds → Explains e order types bytes → TellsBegun (Err e) read order kinds bytes
   no-values types faults.Malformed same t = λ values b. t values b.front b.rest (subst (λ (ts : List Shape). SpellEach order 0 ts values b.front) (sym same) b.spelled) b.text
   no-values types faults.Memory same t = tt
-  no-values types faults.Signature same t = absurd t
-  no-values types faults.Depth same t = absurd t
-  no-values types faults.SignatureMismatch same t = absurd t
+  no-values types other same t = absurd t
 
   pub no-body : (types : List Shape) (values : List Datum) (n : ℕ) (e : VariantError) → types ≡ kinds → IsSignature kinds → SpellEach order 0 types values (take n bytes)
       → TellsBody (Err e) values → TellsBegun (Err e) read order kinds bytes
   no-body types values n faults.Signature same valid s t = absurd (t (subst IsSignature (sym (types-spelled order 0 types values (take n bytes) s ∙ same)) valid))
   no-body types values n faults.Memory same valid s t = tt
-  no-body types values n faults.Malformed same valid s t = absurd t
-  no-body types values n faults.Depth same valid s t = absurd t
-  no-body types values n faults.SignatureMismatch same valid s t = absurd t
+  no-body types values n other same valid s t = absurd t
 
   begins : (values : List Datum) (n : ℕ) (x : A) → IsSignature kinds → SpellEach order 0 kinds values (take n bytes) → HasOnlyBody order kinds bytes values n → x ≡ read values
       → Begins read order kinds bytes x
@@ -63,9 +57,7 @@ module _ {A : Type 0} (read : List Datum → A) (order : Endian) (kinds : List S
   told-of values n (Ok x) valid s only t = begins values n x valid s only t.0
   told-of values n (Err faults.SignatureMismatch) valid s only t = absurd (t (types-spelled order 0 kinds values (take n bytes) s))
   told-of values n (Err faults.Memory) valid s only t = tt
-  told-of values n (Err faults.Signature) valid s only t = absurd t
-  told-of values n (Err faults.Malformed) valid s only t = absurd t
-  told-of values n (Err faults.Depth) valid s only t = absurd t
+  told-of values n (Err other) valid s only t = absurd t
 
   pub told : (types : List Shape) (values body : List Datum) (n : ℕ) (r : Result A VariantError) → types ≡ kinds → body ≡ values → IsSignature kinds
       → SpellEach order 0 types values (take n bytes) → HasOnlyBody order types bytes values n → TellsFrom r (read body) (map type_of body) kinds
@@ -85,11 +77,6 @@ own-types true kinds own text fields e valid same t =
     let k = (is_some-types_in (is_some (types_in text)) text refl).0 valid in
     let kinds-are : k.0 ≡ kinds = types_text-one k.0 kinds k.1.valid.fields fields (sym k.1.text ∙ sym one ∙ e) in
     subst (λ (ts : List Shape). SignatureText ts text) kinds-are k.1
-
-pub other-types : (b : Bool) (kinds : List Shape) (own text : List ℕ) → own ≡ types_text (shapes_of kinds) → b ≡ pointwise nat_eq own text → b ≡ false
-    → SignatureText kinds text → ⊥
-other-types true kinds own text e same t h = absurd (cc)
-other-types false kinds own text e same t h = absurd (other_text own text same (e ∙ sym h.text))
 
 pub typed : {A : Type 0} (r : Result A Error) (read : List Datum → A) (kinds : List Shape) (m : Seen) → HasTypes m kinds → ReadsAs r read kinds m → ReadsBody r read kinds m
 typed (Ok x) read kinds m h t = (h, t)

@@ -1,5 +1,5 @@
 -- What is read as a header field is spelled so, and what is spelled so is read.
-use Rattle.std.proofs.Common.{◌≡◌, ℕ, ◌+◌, ◌-◌, ◌<◌, ◌≤◌, ◌%◌, false, cond, ◌&&◌, ◌==◌, List, [], ◌∷◌, ◌++◌, length, replicate, Option, Some, is_some, refl, sym, ap, subst, ◌∙◌, append_assoc, arith, inl, inr}
+use Rattle.std.proofs.Common.{◌≡◌, ℕ, ◌+◌, ◌-◌, ◌<◌, ◌≤◌, ◌%◌, Bool, true, false, cond, ◌&&◌, ◌==◌, List, [], ◌∷◌, ◌++◌, length, replicate, Option, Some, is_some, refl, sym, ap, subst, ◌∙◌, append_assoc, arith, inl, inr}
 use Rattle.std.specs.Prelude.{IsTrue}
 use Rattle.std.specs.Int.{Width, w8, w32, byte_len}
 use Rattle.std.proofs.lemmas.Bool.{eqb-true}
@@ -38,14 +38,7 @@ code_of-takes byte code e =
 
 code_of-again : (code : FieldCode) → code_of (code_byte code) ≡ Some code
 code_of-again codes.Path = refl
-code_of-again codes.Interface = refl
-code_of-again codes.Member = refl
-code_of-again codes.ErrorName = refl
-code_of-again codes.ReplySerial = refl
-code_of-again codes.Destination = refl
-code_of-again codes.Sender = refl
-code_of-again codes.Signature = refl
-code_of-again codes.UnixFds = refl
+code_of-again code = refl
 
 code_at-takes : (bytes : List ℕ) (code : FieldCode) → length bytes ≡ 4 → code_at bytes ≡ Some code → bytes ≡ code_bytes code
 unfolding code_at
@@ -66,14 +59,7 @@ code_at-takes (a ∷ b ∷ c ∷ d ∷ []) code l e =
 code_at-again : (code : FieldCode) → code_at (code_bytes code) ≡ Some code
 unfolding code_at
 code_at-again codes.Path = refl
-code_at-again codes.Interface = refl
-code_at-again codes.Member = refl
-code_at-again codes.ErrorName = refl
-code_at-again codes.ReplySerial = refl
-code_at-again codes.Destination = refl
-code_at-again codes.Sender = refl
-code_at-again codes.Signature = refl
-code_at-again codes.UnixFds = refl
+code_at-again code = refl
 
 -- ---- the value
 
@@ -114,15 +100,10 @@ number-value order c x e low f =
 value_at-takes : (order : Endian) (code : FieldCode) (c : Cursor) (x : Value × Cursor) → pad c.place 4 ≡ 0 → AreBytes c.rest → value_at order (field_type code) c ≡ Some x
     → Valued order (field_type code) c x
 unfolding value_at
-value_at-takes order codes.Path c x p low e = text-value w32 order basics.ObjectPath c x tt (omega arith) p low (λ t. refl) e
-value_at-takes order codes.Interface c x p low e = text-value w32 order basics.String c x tt (omega arith) p low (λ t. refl) e
-value_at-takes order codes.Member c x p low e = text-value w32 order basics.String c x tt (omega arith) p low (λ t. refl) e
-value_at-takes order codes.ErrorName c x p low e = text-value w32 order basics.String c x tt (omega arith) p low (λ t. refl) e
 value_at-takes order codes.ReplySerial c x p low e = number-value order c x p low e
-value_at-takes order codes.Destination c x p low e = text-value w32 order basics.String c x tt (omega arith) p low (λ t. refl) e
-value_at-takes order codes.Sender c x p low e = text-value w32 order basics.String c x tt (omega arith) p low (λ t. refl) e
-value_at-takes order codes.Signature c x p low e = text-value w8 order basics.Signature c x tt (omega arith) (no_pad c.place) low (λ t. refl) e
 value_at-takes order codes.UnixFds c x p low e = number-value order c x p low e
+value_at-takes order codes.Signature c x p low e = text-value w8 order basics.Signature c x tt (omega arith) (no_pad c.place) low (λ t. refl) e
+value_at-takes order code c x p low e = text-value w32 order (field_type code) c x tt (omega arith) p low (λ t. refl) e
 
 text-again : (w : Width) (order : Endian) (t : List ℕ) (p : ℕ) (rest : List ℕ) → length t < limit w → pad p (byte_len w) ≡ 0
     → made Text (counted_at w order (at p (counted_text w order t ++ rest))) ≡ Some (Text t, at (p + length (counted_text w order t)) rest)
@@ -146,30 +127,23 @@ signature-below text h =
     let k = (is_some-types_in (is_some (types_in text)) text refl).0 h in
     omega (arith, ap length k.1.text, k.1.valid.within)
 
-not-so : {A : Type 0} → IsTrue false → A
+pub not-so : {A : Type 0} → IsTrue false → A
 not-so h = absurd cc
+
+pub is-true : (b : Bool) → IsTrue b → b ≡ true
+is-true true h = refl
+is-true false h = not-so h
 
 value_at-again : (order : Endian) (code : FieldCode) (value : Value) (p : ℕ) (rest : List ℕ) → pad p 4 ≡ 0 → IsTrue (is_value code value) → IsShort value
     → value_at order (field_type code) (at p (value_bytes order (field_type code) value ++ rest)) ≡ Some (value, at (p + length (value_bytes order (field_type code) value)) rest)
 unfolding value_at is_text is_number
-value_at-again order codes.Path (Text t) p rest e h k = text-again w32 order t p rest k e
-value_at-again order codes.Interface (Text t) p rest e h k = text-again w32 order t p rest k e
-value_at-again order codes.Member (Text t) p rest e h k = text-again w32 order t p rest k e
-value_at-again order codes.ErrorName (Text t) p rest e h k = text-again w32 order t p rest k e
-value_at-again order codes.ReplySerial (Text t) p rest e h k = not-so h
-value_at-again order codes.Destination (Text t) p rest e h k = text-again w32 order t p rest k e
-value_at-again order codes.Sender (Text t) p rest e h k = text-again w32 order t p rest k e
-value_at-again order codes.Signature (Text t) p rest e h k = text-again w8 order t p rest (signature-below t h) (no_pad p)
-value_at-again order codes.UnixFds (Text t) p rest e h k = not-so h
-value_at-again order codes.Path (Number n) p rest e h k = not-so h
-value_at-again order codes.Interface (Number n) p rest e h k = not-so h
-value_at-again order codes.Member (Number n) p rest e h k = not-so h
-value_at-again order codes.ErrorName (Number n) p rest e h k = not-so h
 value_at-again order codes.ReplySerial (Number n) p rest e h k = number-read order n p rest k e
-value_at-again order codes.Destination (Number n) p rest e h k = not-so h
-value_at-again order codes.Sender (Number n) p rest e h k = not-so h
-value_at-again order codes.Signature (Number n) p rest e h k = not-so h
 value_at-again order codes.UnixFds (Number n) p rest e h k = number-read order n p rest k e
+value_at-again order codes.ReplySerial (Text t) p rest e h k = not-so h
+value_at-again order codes.UnixFds (Text t) p rest e h k = not-so h
+value_at-again order codes.Signature (Text t) p rest e h k = text-again w8 order t p rest (signature-below t h) (no_pad p)
+value_at-again order code (Text t) p rest e h k = text-again w32 order t p rest k e
+value_at-again order code (Number n) p rest e h k = not-so h
 
 -- ---- one field
 

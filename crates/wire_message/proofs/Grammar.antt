@@ -1,8 +1,10 @@
 -- What is read from the front of some bytes is in the header grammar, and what is in it is read.
-use Rattle.std.proofs.Common.{◌≡◌, ℕ, zero, suc, ◌≤◌, ◌<◌, List, length, take, drop, slice_index, Option, Some, None, Result, Ok, Err, refl, sym, ◌∙◌, ap, subst, arith, Bool, true, false, cond, not, ◌||◌, ◌==◌, nat_lt, is_none, ◌⊎◌, inl, inr}
+use Rattle.std.proofs.Common.{◌≡◌, ℕ, zero, suc, ◌≤◌, ◌<◌, List, length, take, drop, slice_index, Option, Some, None, Result, Ok, Err, refl, sym, ◌∙◌, ap, subst, arith, Bool, true, false, cond, not, ◌||◌, ◌==◌, nat_lt, is_none, inl, inr}
 use Rattle.std.specs.Prelude.{IfOk}
-use Rattle.std.proofs.lemmas.Bool.{ltb-false, le-ltb, eqb-true, ne_eqb, not-false}
-use Rattle.std.proofs.lemmas.List.{length-take}
+use Rattle.std.proofs.lemmas.Bool.{cond-false, ltb-false, le-ltb, eqb-true, ne_eqb, not-false}
+use Rattle.std.proofs.lemmas.List.{length-take-le}
+use Rattle.std.proofs.lemmas.Option.{cond_some}
+use Rattle.wire_signature.proofs.Takes.{if_ways}
 use Rattle.wire_number.specs.declared.endian.Endian.{Endian}
 use Rattle.wire_number.specs.declared.endian.Endian.TheVariants.{Little, Big}
 use Rattle.wire_number.proofs.Numbers.{IsBytes, IsBytes-drop, IsBytes-take}
@@ -16,7 +18,7 @@ use Rattle.wire_message.specs.declared.error.Error.{Error}
 use Rattle.wire_message.specs.declared.error.Error.TheVariants as errors
 use Rattle.wire_message.specs.declared.error.IoKind.{IoKind}
 use Rattle.wire_message.proofs.Lists.{fields_in-takes, fields_in-again}
-use Rattle.wire_number.proofs.Steps.{bytes_from}
+use Rattle.wire_number.proofs.Steps.{bytes_from, some_is}
 
 -- ---- tests
 
@@ -31,17 +33,6 @@ positive (suc n) e = omega arith
 not_zero : (n : ℕ) → 0 < n → (n == 0) ≡ false
 not_zero n h = ne_eqb n 0 (λ e. omega arith)
 
-some_is : {A : Type 0} (x y : A) → ◌≡◌ {A = Option A} (Some x) (Some y) → x ≡ y
-some_is x y e = cc
-
-chosen_some : {A : Type 0} (t : Bool) (x y : A) → cond t (Some x) None ≡ Some y → (t ≡ true) × (x ≡ y)
-chosen_some true x y e = (refl, cc)
-chosen_some false x y e = absurd cc
-
-chosen : {A : Type 0} (t : Bool) (x y z : A) → cond t x y ≡ z → ((t ≡ true) × (x ≡ z)) ⊎ ((t ≡ false) × (y ≡ z))
-chosen true x y z e = inl (refl, e)
-chosen false x y z e = inr (refl, e)
-
 first-true : (x y : Bool) → (x || y) ≡ true → y ≡ false → x ≡ true
 first-true true y e h = refl
 first-true false y e h = absurd cc
@@ -50,22 +41,20 @@ first-true false y e h = absurd cc
 
 kind_of-code : (k : MessageType) → kind_of (kind_code k) ≡ Some k
 kind_of-code types.MethodCall = refl
-kind_of-code types.MethodReturn = refl
-kind_of-code types.Error = refl
-kind_of-code types.Signal = refl
+kind_of-code kind = refl
 
 is_code : (code n : ℕ) (k kind : MessageType) → n ≡ kind_code k → code ≡ n → ◌≡◌ {A = Option MessageType} (Some k) (Some kind) → code ≡ kind_code kind
 is_code code n k kind e q s = q ∙ e ∙ ap kind_code (some_is k kind s)
 
 kind_of-takes : (code : ℕ) (kind : MessageType) → kind_of code ≡ Some kind → code ≡ kind_code kind
 kind_of-takes code kind e =
-    elim (chosen (code == 1) (Some types.MethodCall) (cond (code == 2) (Some types.MethodReturn) (cond (code == 3) (Some types.Error) (cond (code == 4) (Some types.Signal) None))) (Some kind) e) [
+    elim (if_ways (code == 1) (Some types.MethodCall) (cond (code == 2) (Some types.MethodReturn) (cond (code == 3) (Some types.Error) (cond (code == 4) (Some types.Signal) None))) (Some kind) e) [
       | inl a ↦ is_code code 1 types.MethodCall kind refl (eqb-true code 1 a.0) a.1
-      | inr a ↦ elim (chosen (code == 2) (Some types.MethodReturn) (cond (code == 3) (Some types.Error) (cond (code == 4) (Some types.Signal) None)) (Some kind) a.1) [
+      | inr a ↦ elim (if_ways (code == 2) (Some types.MethodReturn) (cond (code == 3) (Some types.Error) (cond (code == 4) (Some types.Signal) None)) (Some kind) a.1) [
         | inl b ↦ is_code code 2 types.MethodReturn kind refl (eqb-true code 2 b.0) b.1
-        | inr b ↦ elim (chosen (code == 3) (Some types.Error) (cond (code == 4) (Some types.Signal) None) (Some kind) b.1) [
+        | inr b ↦ elim (if_ways (code == 3) (Some types.Error) (cond (code == 4) (Some types.Signal) None) (Some kind) b.1) [
           | inl c ↦ is_code code 3 types.Error kind refl (eqb-true code 3 c.0) c.1
-          | inr c ↦ (let d = chosen_some (code == 4) types.Signal kind c.1 in eqb-true code 4 d.0 ∙ ap kind_code d.1)
+          | inr c ↦ (let d = cond_some (code == 4) types.Signal kind c.1 in eqb-true code 4 d.0 ∙ ap kind_code d.1)
         ]
       ]
     ]
@@ -169,7 +158,7 @@ then_message-ok : (bytes : List ℕ) (ending : IoKind) (fault : Option Error) (m
     → (fault ≡ None) × (total bytes ≤ length bytes) × (message_by bytes (kind_of (slice_index bytes 1)) (fields_found bytes) ≡ Ok m)
 then_message-ok bytes ending (Some error) m e = absurd cc
 then_message-ok bytes ending None m e =
-    elim (chosen (nat_lt (length bytes) (total bytes)) (Err (errors.InputOutput ending)) (message_by bytes (kind_of (slice_index bytes 1)) (fields_found bytes)) (Ok m) e) [
+    elim (if_ways (nat_lt (length bytes) (total bytes)) (Err (errors.InputOutput ending)) (message_by bytes (kind_of (slice_index bytes 1)) (fields_found bytes)) (Ok m) e) [
       | inl a ↦ absurd (let x = a.1 in cc)
       | inr a ↦ (refl, ltb-false _ _ a.0, a.1)
     ]
@@ -177,7 +166,7 @@ then_message-ok bytes ending None m e =
 -- what a reader finds stands on the front of the bytes
 pub front_outcome-found : (bytes : List ℕ) (ending : IoKind) (m : Seen) → IsBytes bytes → front_outcome bytes ending ≡ Ok m → Front bytes m (total bytes)
 front_outcome-found bytes ending m fits e =
-    elim (chosen (nat_lt (length bytes) 16) (Err (errors.InputOutput ending)) (then_message bytes ending (head_fault bytes)) (Ok m) e) [
+    elim (if_ways (nat_lt (length bytes) 16) (Err (errors.InputOutput ending)) (then_message bytes ending (head_fault bytes)) (Ok m) e) [
       | inl a ↦ absurd (let x = a.1 in cc)
       | inr a ↦ (let t = then_message-ok bytes ending (head_fault bytes) m a.1 in front-found bytes m fits (ltb-false _ _ a.0) t.1 t.0 t.2)
     ]
@@ -208,18 +197,15 @@ front-made bytes m n f =
 front-head : (bytes : List ℕ) (m : Seen) (n : ℕ) → Front bytes m n → IsHead bytes
 front-head bytes m n f = record { order = order-right bytes m.order f.order; flags = rw f.flags f.known; not_zero = rw (← f.serial) f.not_zero; limit = rw (← f.whole) f.limit }
 
-if_not : {A : Type 0} (t : Bool) (x y : A) → t ≡ false → cond t x y ≡ y
-if_not t x y e = rw e refl
-
 -- what stands on the front of the bytes is what a reader finds
 pub front_outcome-again : (bytes : List ℕ) (ending : IoKind) (m : Seen) (n : ℕ) → Front bytes m n → front_outcome bytes ending ≡ Ok (record m { position = 0 })
 front_outcome-again bytes ending m n f =
     let kind : kind_of (slice_index bytes 1) ≡ Some m.kind = ap kind_of f.type ∙ kind_of-code m.kind in
     let none : head_fault bytes ≡ None = head_fault-again bytes m.kind (front-head bytes m n f) kind in
     let there : total bytes ≤ length bytes = rw (← f.whole) f.there in
-    if_not (nat_lt (length bytes) 16) (Err (errors.InputOutput ending)) (then_message bytes ending (head_fault bytes)) (le-ltb _ _ f.head)
+    cond-false (nat_lt (length bytes) 16) (Err (errors.InputOutput ending)) (then_message bytes ending (head_fault bytes)) (le-ltb _ _ f.head)
     ∙ ap (λ (q : Option Error). then_message bytes ending q) none
-    ∙ if_not (nat_lt (length bytes) (total bytes)) (Err (errors.InputOutput ending)) (message_by bytes (kind_of (slice_index bytes 1)) (fields_found bytes)) (le-ltb _ _ there)
+    ∙ cond-false (nat_lt (length bytes) (total bytes)) (Err (errors.InputOutput ending)) (message_by bytes (kind_of (slice_index bytes 1)) (fields_found bytes)) (le-ltb _ _ there)
     ∙ front-made bytes m n f
 
 -- two messages with the same parts are one
@@ -236,11 +222,8 @@ pub found-of : (bytes : List ℕ) (ending : IoKind) (r : Result (Seen × ℕ) Er
 found-of bytes ending (Ok x) fits t e = rw e (front_outcome-found bytes ending x.0 fits t)
 found-of bytes ending (Err error) fits t e = tt
 
-length-take-there : (n : ℕ) (bytes : List ℕ) → n ≤ length bytes → length (take n bytes) ≡ n
-length-take-there n bytes h = omega (arith, length-take n bytes)
-
 pub length-of : (bytes : List ℕ) (r : Result (Seen × ℕ) Error) → IfOk r (λ x. Front bytes x.0 x.1) → IfOk r (λ x. x.1 ≡ length x.0.bytes)
-length-of bytes (Ok x) f = sym (ap length f.own ∙ length-take-there x.1 bytes f.there)
+length-of bytes (Ok x) f = sym (ap length f.own ∙ length-take-le x.1 bytes f.there)
 length-of bytes (Err error) f = tt
 
 pub only-of : (bytes : List ℕ) (ending : IoKind) (r : Result (Seen × ℕ) Error) (m : Seen) (n : ℕ) → Tells (λ (x : Seen × ℕ). x.0) r (front_outcome bytes ending)

@@ -1,5 +1,5 @@
 -- A header's fields are spelled as values of `(yv)`, and a header as one of `yyyyuua(yv)`.
-use Rattle.std.proofs.Common.{◌≡◌, ℕ, ◌+◌, ◌<◌, ◌≤◌, ◌%◌, false, List, [], ◌∷◌, ◌++◌, length, take, drop, slice_index, replicate, refl, sym, ap, subst, ◌∙◌, arith, length-drop}
+use Rattle.std.proofs.Common.{◌≡◌, ℕ, ◌+◌, ◌<◌, ◌≤◌, ◌%◌, List, [], ◌∷◌, ◌++◌, length, take, drop, slice_index, replicate, refl, sym, ap, subst, ◌∙◌, arith, length-drop}
 use Rattle.std.specs.Prelude.{IsTrue}
 use Rattle.std.specs.List.{AllByRecursion}
 use Rattle.std.specs.Int.{w8, w32}
@@ -22,7 +22,7 @@ use Rattle.wire_message.specs.declared.kind.MessageType.TheVariants as types
 use Rattle.wire_message.specs.Field.{Value, Text, Number, Field, IsField, is_value, is_text, is_number, code_byte, field_type, value_bytes, field_text, fields_text}
 use Rattle.wire_message.specs.Front.{Seen, Front, order_at, order_code, kind_code, fields_len, body_len, field_bytes, word_at}
 use Rattle.wire_message.specs.Header.{held_datum, field_datum, field_data, header_datum, IsHeader}
-use Rattle.wire_message.proofs.FieldLaws.{placed, no_pad}
+use Rattle.wire_message.proofs.FieldLaws.{placed, no_pad, not-so}
 use Rattle.wire_message.proofs.Grammar.{order-again}
 
 -- ---- one field
@@ -35,40 +35,19 @@ HeldSpelled order code value q =
 no_front : (q n : ℕ) (text : List ℕ) → pad q n ≡ 0 → padding q n ++ text ≡ text
 no_front q n text e = ap (λ (k : ℕ). replicate k 0 ++ text) e
 
-not-so : {A : Type 0} → IsTrue false → A
-not-so h = absurd cc
-
 held_spelled : (order : Endian) (code : FieldCode) (value : Value) (q : ℕ) → pad q 4 ≡ 0 → IsTrue (is_value code value) → HeldSpelled order code value q
 unfolding spelling is_text is_number
-held_spelled order codes.Path (Text t) q e h = (refl, no_front q 4 _ e)
-held_spelled order codes.Interface (Text t) q e h = (refl, no_front q 4 _ e)
-held_spelled order codes.Member (Text t) q e h = (refl, no_front q 4 _ e)
-held_spelled order codes.ErrorName (Text t) q e h = (refl, no_front q 4 _ e)
-held_spelled order codes.ReplySerial (Text t) q e h = not-so h
-held_spelled order codes.Destination (Text t) q e h = (refl, no_front q 4 _ e)
-held_spelled order codes.Sender (Text t) q e h = (refl, no_front q 4 _ e)
-held_spelled order codes.Signature (Text t) q e h = (refl, no_front q 1 _ (no_pad q))
-held_spelled order codes.UnixFds (Text t) q e h = not-so h
-held_spelled order codes.Path (Number n) q e h = not-so h
-held_spelled order codes.Interface (Number n) q e h = not-so h
-held_spelled order codes.Member (Number n) q e h = not-so h
-held_spelled order codes.ErrorName (Number n) q e h = not-so h
 held_spelled order codes.ReplySerial (Number n) q e h = (refl, no_front q 4 _ e)
-held_spelled order codes.Destination (Number n) q e h = not-so h
-held_spelled order codes.Sender (Number n) q e h = not-so h
-held_spelled order codes.Signature (Number n) q e h = not-so h
 held_spelled order codes.UnixFds (Number n) q e h = (refl, no_front q 4 _ e)
+held_spelled order codes.ReplySerial (Text t) q e h = not-so h
+held_spelled order codes.UnixFds (Text t) q e h = not-so h
+held_spelled order codes.Signature (Text t) q e h = (refl, no_front q 1 _ (no_pad q))
+held_spelled order code (Text t) q e h = (refl, no_front q 4 _ e)
+held_spelled order code (Number n) q e h = not-so h
 
 code-low : (code : FieldCode) → code_byte code < 256
 code-low codes.Path = omega arith
-code-low codes.Interface = omega arith
-code-low codes.Member = omega arith
-code-low codes.ErrorName = omega arith
-code-low codes.ReplySerial = omega arith
-code-low codes.Destination = omega arith
-code-low codes.Sender = omega arith
-code-low codes.Signature = omega arith
-code-low codes.UnixFds = omega arith
+code-low code = omega arith
 
 pub field_spelled : (order : Endian) (p : ℕ) (field : Field) → IsField field → padding p 8 ++ field_text order field ≡ spelling order p (field_datum field)
 unfolding spelling spellings field_text
@@ -190,9 +169,7 @@ order-low Big = omega arith
 
 kind-low : (kind : MessageType) → kind_code kind < 256
 kind-low types.MethodCall = omega arith
-kind-low types.MethodReturn = omega arith
-kind-low types.Error = omega arith
-kind-low types.Signal = omega arith
+kind-low kind = omega arith
 
 pub header-is : (bytes : List ℕ) (m : Seen) (n : ℕ) → IsBytes bytes → Front bytes m n → IsHeader bytes m
 header-is bytes m n fits f =

@@ -1,5 +1,5 @@
 -- What is written of a draft reads again as the draft, whatever follows it.
-use Rattle.std.proofs.Common.{◌≡◌, ℕ, Bool, Ok, ◌+◌, ◌<◌, ◌≤◌, ◌^◌, List, [], ◌∷◌, ◌++◌, length, take, drop, Option, Some, None, refl, sym, ap, subst, ◌∙◌, arith, length-append}
+use Rattle.std.proofs.Common.{◌≡◌, ℕ, Bool, Ok, Err, ◌+◌, ◌<◌, ◌≤◌, ◌^◌, List, [], ◌∷◌, ◌++◌, length, take, drop, refl, sym, ap, subst, ◌∙◌, arith, length-append}
 use Rattle.std.specs.Int.{w32}
 use Rattle.std.proofs.lemmas.List.{take_at, append-nil}
 use Rattle.wire_number.specs.declared.endian.Endian.{Endian}
@@ -8,14 +8,15 @@ use Rattle.wire_number.specs.Number.{number_text, number_at, pad, padding}
 use Rattle.wire_number.proofs.Steps.{length-number_text, length_padding, number_of_text}
 use Rattle.wire_message.specs.declared.places.Places.{Places}
 use Rattle.wire_message.specs.Field.{Fields, field_list}
-use Rattle.wire_message.specs.Front.{Seen, seen, bare, fields_of, Front, kind_code, order_code, order_at, word_at, fields_len, total, field_bytes}
-use Rattle.wire_message.specs.Outcome.{fields_found}
+use Rattle.wire_message.specs.Front.{Seen, seen, bare, fields_of, Front, kind_code, order_code, order_at, word_at, total, field_bytes}
 use Rattle.wire_message.specs.Places.{found_fields, AreSpans, Stands}
-use Rattle.wire_message.specs.Draft.{Draft, draft_fields, header_text, message_text, built, IsDraft, MakesWith, Builds, BuildsWith, ReadsAgain}
+use Rattle.wire_message.specs.Draft.{Draft, draft_fields, header_text, message_text, built, IsDraft, Writes, Makes, MakesWith, Builds, BuildsWith, ReadsAgain}
 use Rattle.wire_message.specs.Circle.{IsSerial, last_after}
 use Rattle.wire_message.specs.Valid.{AreFields}
+use Rattle.wire_message.specs.declared.error.Error.{Error}
+use Rattle.wire_message.specs.declared.error.Error.TheVariants as errors
 use Rattle.wire_message.proofs.Building.{list-valid, list-short, list-says, regroup, front_of}
-use Rattle.wire_message.proofs.Grammar.{order-again, front-fields}
+use Rattle.wire_message.proofs.Grammar.{order-again}
 use Rattle.wire_message.proofs.Moved.{spans-more}
 
 -- the bytes of a message by its words
@@ -156,50 +157,39 @@ own-front draft serial body text valid some below e limit =
     let bare = rw (append-nil (message_text draft serial body)) at front in
     subst (λ (l : List ℕ). Front l (seen l 0 draft.kind draft.order draft.flags serial draft.fields) (length l)) (sym e) bare
 
--- what is asked of the bytes before their fields are looked for
-pub written-long : (draft : Draft) (serial : ℕ) (body text : List ℕ) → IsDraft draft → 0 < serial → serial < 2 ^ 32 → text ≡ message_text draft serial body → length text ≤ 134217728
-    → (16 ≤ length text) × (16 + fields_len text ≤ length text)
-written-long draft serial body text valid some below e limit =
-    let f = own-front draft serial body text valid some below e limit in
-    (f.head, omega (arith, f.whole))
+-- bytes that were written of a draft, and the places of its fields in them
+pub record Written (draft : Draft) (serial : ℕ) (body text : List ℕ) (places : Places) : Type 0 where
+  pub text_is : text ≡ message_text draft serial body
+  pub says : found_fields text places ≡ draft.fields
+  pub spans : AreSpans (length text) places
 
-pub written-fields : (draft : Draft) (serial : ℕ) (body text : List ℕ) → IsDraft draft → 0 < serial → serial < 2 ^ 32 → text ≡ message_text draft serial body → length text ≤ 134217728
-    → fields_found text ≡ Some draft.fields
-written-fields draft serial body text valid some below e limit =
-    front-fields text _ (length text) (own-front draft serial body text valid some below e limit)
+pub written : (draft : Draft) (serial : ℕ) (head body text : List ℕ) (places : Places) → head ≡ header_text draft (length body) serial
+    → ((more : List ℕ) → found_fields (header_text draft (length body) serial ++ more) places ≡ draft.fields) → AreSpans (length head) places → text ≡ head ++ body → Written draft serial body text places
+unfolding message_text
+written draft serial head body text places e f spans t =
+    let whole : text ≡ header_text draft (length body) serial ++ body = t ∙ ap (λ (l : List ℕ). l ++ body) e in
+    record {
+      text_is = whole;
+      says = ap (λ (l : List ℕ). found_fields l places) whole ∙ f body;
+      spans = spans-more (length head) (length text) places (omega (arith, ap length t, length-append head body)) spans;
+    }
 
-same-some : (a b : Fields) → Some a ≡ Some b → a ≡ b
-same-some a b e = cc
+pub written-stands : (draft : Draft) (serial : ℕ) (body text : List ℕ) (places : Places) → IsDraft draft → 0 < serial → serial < 2 ^ 32 → length text ≤ 134217728
+    → Written draft serial body text places → Stands text draft.kind draft.order draft.flags serial places
+written-stands draft serial body text places valid some below limit w = record {
+  front = subst (λ (x : Fields). Front text (seen text 0 draft.kind draft.order draft.flags serial x) (length text)) (sym w.says)
+      (own-front draft serial body text valid some below w.text_is limit);
+  spans = w.spans;
+  valid = subst (λ (x : Fields). AreFields x) (sym w.says) valid.fields;
+}
 
-pub written-stands : (draft : Draft) (serial : ℕ) (body text own : List ℕ) (places : Places) → IsDraft draft → 0 < serial → serial < 2 ^ 32 → text ≡ message_text draft serial body
-    → length text ≤ 134217728 → Some (found_fields text places) ≡ fields_found text → AreSpans (16 + fields_len text) places → own ≡ text
-    → Stands own draft.kind draft.order draft.flags serial places
-written-stands draft serial body text own places valid some below e limit f spans o =
-    let front = own-front draft serial body text valid some below e limit in
-    let says : found_fields text places ≡ draft.fields = same-some _ _ (f ∙ written-fields draft serial body text valid some below e limit) in
-    let stands : Stands text draft.kind draft.order draft.flags serial places = record {
-      front = subst (λ (x : Fields). Front text (seen text 0 draft.kind draft.order draft.flags serial x) (length text)) (sym says) front;
-      spans = spans-more (16 + fields_len text) (length text) places (written-long draft serial body text valid some below e limit).1 spans;
-      valid = subst (λ (x : Fields). AreFields x) (sym says) valid.fields;
-    } in
-    subst (λ (l : List ℕ). Stands l draft.kind draft.order draft.flags serial places) (sym o) stands
-
-pub written-built : (draft : Draft) (serial : ℕ) (body text own : List ℕ) (places : Places) (m : Seen) → IsDraft draft → 0 < serial → serial < 2 ^ 32 → text ≡ message_text draft serial body
-    → length text ≤ 134217728 → Some (found_fields text places) ≡ fields_found text → own ≡ text
-    → m ≡ seen own 0 draft.kind draft.order draft.flags serial (found_fields own places) → (m ≡ built draft serial body) × (length m.bytes ≤ 134217728)
+pub written-built : (draft : Draft) (serial : ℕ) (body text : List ℕ) (places : Places) (m : Seen) → length text ≤ 134217728
+    → m ≡ seen text 0 draft.kind draft.order draft.flags serial (found_fields text places) → Written draft serial body text places → (m ≡ built draft serial body) × (length m.bytes ≤ 134217728)
 unfolding built
-written-built draft serial body text own places m valid some below e limit f o q =
-    let says : found_fields text places ≡ draft.fields = same-some _ _ (f ∙ written-fields draft serial body text valid some below e limit) in
-    let long : length own ≤ 134217728 = rw o limit in (
-      q ∙ ap (λ (l : List ℕ). seen l 0 draft.kind draft.order draft.flags serial (found_fields l places)) o
-          ∙ ap (λ (x : Fields). seen text 0 draft.kind draft.order draft.flags serial x) says
-          ∙ ap (λ (l : List ℕ). seen l 0 draft.kind draft.order draft.flags serial draft.fields) e,
-      rw q long,
-    )
-
--- what is found isn't nothing
-pub not-found : (o : Option Fields) (fields : Fields) → None ≡ o → o ≡ Some fields → ⊥
-not-found o fields e f = cc
+written-built draft serial body text places m limit q w = (
+  q ∙ ap (λ (x : Fields). seen text 0 draft.kind draft.order draft.flags serial x) w.says ∙ ap (λ (l : List ℕ). seen l 0 draft.kind draft.order draft.flags serial draft.fields) w.text_is,
+  rw q limit,
+)
 
 -- the message with the serial that it was given
 pub builds-ok : (taken : ℕ → Bool) (draft : Draft) (body : List ℕ) (old new serial : ℕ) (m : Seen) → IsSerial taken draft.serial old serial → new ≡ last_after draft.serial old serial
@@ -231,7 +221,13 @@ pub builds-alone : (taken : ℕ → Bool) (draft : Draft) (body : List ℕ) (old
 builds-alone taken draft body old new serial m given last made =
     subst (λ (x : Seen). Builds taken draft body old new (Ok x)) (bare-is m made.1) (builds-ok taken draft body old new serial (bare m) given last made.0)
 
--- a body that alone passes the limit of a message
+-- what alone passes the limit of a message
+pub header-refused : (draft : Draft) (serial : ℕ) (body : List ℕ) (e : Error) → Writes (λ (x : List ℕ). x) (Err e) (header_text draft (length body) serial) → Makes draft serial body (Err e)
+unfolding message_text
+header-refused draft serial body errors.ExcessData h = omega (arith, h, length-append (header_text draft (length body) serial) body)
+header-refused draft serial body errors.Memory h = tt
+header-refused draft serial body other h = absurd h
+
 pub body-long : (draft : Draft) (serial : ℕ) (body : List ℕ) → 134217728 < length body → 134217728 < length (message_text draft serial body)
 unfolding message_text
 body-long draft serial body h = omega (arith, length-append (header_text draft (length body) serial) body)

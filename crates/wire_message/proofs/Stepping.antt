@@ -1,23 +1,21 @@
 -- Reading a field array field by field.
-use Rattle.std.proofs.Common.{◌≡◌, ℕ, suc, ◌+◌, ◌-◌, ◌<◌, ◌≤◌, List, [], ◌∷◌, ◌++◌, length, take, drop, Option, Some, None, refl, sym, ap, subst, ◌∙◌, arith, append_assoc, length-append, option_map}
-use Rattle.std.specs.Int.{w8, w32}
-use Rattle.std.proofs.lemmas.List.{take-append-drop, take_at, drop_at, drop-take, length-take-le}
+use Rattle.std.proofs.Common.{◌≡◌, ℕ, suc, ◌+◌, ◌-◌, ◌<◌, ◌≤◌, List, ◌∷◌, ◌++◌, length, take, drop, Option, Some, None, refl, sym, ap, subst, ◌∙◌, arith, append_assoc, length-append, option_map}
+use Rattle.std.proofs.lemmas.List.{take-append-drop, drop-take, length-take-le}
 use Rattle.wire_number.specs.declared.endian.Endian.{Endian}
-use Rattle.wire_number.specs.Number.{number_text, padding}
+use Rattle.wire_number.specs.Number.{padding}
 use Rattle.wire_number.specs.Reading.{Cursor, ◌>>=◌}
 use Rattle.wire_number.proofs.Steps.{at, AreBytes, bytes_from, bytes-append}
 use Rattle.wire_number.proofs.Numbers.{IsBytes}
 use Rattle.wire_spelling.specs.Reading.{many_at}
 use Rattle.wire_spelling.proofs.Loops.{many_done, many_left, many_next, many_none}
 use Rattle.wire_message.specs.declared.field.FieldCode.{FieldCode}
-use Rattle.wire_message.specs.declared.field.FieldCode.TheVariants as codes
-use Rattle.wire_message.specs.Field.{Fields, Text, Field, code_bytes, field_type, text_bytes, field_text, with_field, gathered, no_fields}
+use Rattle.wire_message.specs.Field.{Fields, Field, field_text, with_field, gathered, no_fields}
 use Rattle.wire_message.specs.Reading.{field_at, fields_in}
-use Rattle.wire_message.specs.Places.{area, AreSpans, found_fields}
+use Rattle.wire_message.specs.Places.{area, AreSpans, found_fields, no_places}
 use Rattle.wire_message.specs.Held.{HasRoom, StandsAt, value_of}
 use Rattle.wire_message.specs.declared.places.Places.{Places}
-use Rattle.wire_message.specs.declared.reading.Held.{Held}
-use Rattle.wire_message.specs.declared.reading.Held.TheVariants as helds
+use Rattle.wire_message.specs.declared.places.Held.{Held}
+use Rattle.wire_message.proofs.Adding.{held-stands, no-spans}
 use Rattle.wire_message.proofs.FieldLaws.{Taken, field_at-takes}
 
 -- What is still to be read completes what was read. The cursor stands in the first `end` bytes.
@@ -30,9 +28,9 @@ pub record Going (order : Endian) (bytes : List ℕ) (end count : ℕ) (places :
   pub rest : option_map (gathered (found_fields bytes places)) (many_at count (field_at order) c) ≡ fields_in order (area bytes 16 end)
 
 pub going-first : (order : Endian) (bytes : List ℕ) (end count : ℕ) (places : Places) (c : Cursor) → IsBytes bytes → 16 ≤ end → end ≤ length bytes → count ≡ end - 16
-    → c ≡ at 16 (area bytes 16 end) → AreSpans end places → found_fields bytes places ≡ no_fields → Going order bytes end count places c
+    → c ≡ at 16 (area bytes 16 end) → places ≡ no_places → Going order bytes end count places c
 unfolding fields_in
-going-first order bytes end count places c fits h k counted same spans none =
+going-first order bytes end count places c fits h k counted same none =
     let all : List ℕ = take end bytes in
     let n : end ≡ 16 + (end - 16) = omega arith in
     let part : drop 16 all ≡ area bytes 16 end = ap (λ (m : ℕ). drop 16 (take m bytes)) n ∙ drop-take 16 (end - 16) bytes in
@@ -41,16 +39,15 @@ going-first order bytes end count places c fits h k counted same spans none =
     let inner : AreBytes (take 16 all ++ drop 16 all) = subst AreBytes (sym (take-append-drop 16 all)) (bytes-append all (drop end bytes) low).0 in
     let size : count ≡ length (area bytes 16 end) =
     omega (arith, counted, long, length-take-le 16 all (omega (arith, long)), ap length (take-append-drop 16 all), length-append (take 16 all) (drop 16 all), ap length part) in
-    let from : Going order bytes end count places (at 16 (area bytes 16 end)) = record {
+    let from : Going order bytes end count no_places (at 16 (area bytes 16 end)) = record {
       front = take 16 all;
       whole = sym (take-append-drop 16 all) ∙ ap (λ (l : List ℕ). take 16 all ++ l) part;
       here = length-take-le 16 all (omega (arith, long));
       low = subst AreBytes part (bytes-append (take 16 all) (drop 16 all) inner).1;
-      spans = spans;
-      rest = ap (λ (f : Fields). option_map (gathered f) (many_at count (field_at order) (at 16 (area bytes 16 end)))) none
-          ∙ ap (λ (m : ℕ). option_map (gathered no_fields) (many_at m (field_at order) (at 16 (area bytes 16 end)))) size;
+      spans = no-spans end;
+      rest = ap (λ (m : ℕ). option_map (gathered no_fields) (many_at m (field_at order) (at 16 (area bytes 16 end)))) size;
     } in
-    subst (λ (d : Cursor). Going order bytes end count places d) (sym same) from
+    subst (λ (p : Places). Going order bytes end count p c) (sym none) (subst (λ (d : Cursor). Going order bytes end count no_places d) (sym same) from)
 
 one-more : (fields : Fields) (field : Field) (o : Option (List Field)) → option_map (gathered fields) (o >>= λ fs. Some (field ∷ fs)) ≡ option_map (gathered (with_field field fields)) o
 unfolding gathered
@@ -90,97 +87,18 @@ unfolding gathered
 going-all order bytes end count places c g e =
     ap (option_map (gathered (found_fields bytes places))) (sym (many_done count (field_at order) c e)) ∙ g.rest
 
--- ---- where a text stands
-
-text-ends : (order : Endian) (code : FieldCode) (text : List ℕ) → (digits : List ℕ) × (text_bytes order (field_type code) text ≡ digits ++ (text ++ 0 ∷ []))
-text-ends order codes.Path text = (number_text w32 order (length text), refl)
-text-ends order codes.Interface text = (number_text w32 order (length text), refl)
-text-ends order codes.Member text = (number_text w32 order (length text), refl)
-text-ends order codes.ErrorName text = (number_text w32 order (length text), refl)
-text-ends order codes.ReplySerial text = (number_text w32 order (length text), refl)
-text-ends order codes.Destination text = (number_text w32 order (length text), refl)
-text-ends order codes.Sender text = (number_text w32 order (length text), refl)
-text-ends order codes.Signature text = (number_text w8 order (length text), refl)
-text-ends order codes.UnixFds text = (number_text w32 order (length text), refl)
-
-area-there : (bytes a text b : List ℕ) (end : ℕ) → take end bytes ≡ a ++ (text ++ b) → area bytes (length a) (length a + length text) ≡ text
-area-there bytes a text b end e =
-    let all : bytes ≡ a ++ (text ++ (b ++ drop end bytes)) =
-    sym (take-append-drop end bytes) ∙ ap (λ (l : List ℕ). l ++ drop end bytes) e ∙ append_assoc a (text ++ b) (drop end bytes)
-    ∙ ap (λ (l : List ℕ). a ++ l) (append_assoc text b (drop end bytes)) in
-    ap (λ (l : List ℕ). take (length a + length text - length a) (drop (length a) l)) all
-    ∙ ap (λ (l : List ℕ). take (length a + length text - length a) l) (drop_at a (text ++ (b ++ drop end bytes)) (length a) refl)
-    ∙ take_at text (b ++ drop end bytes) (length a + length text - length a) (omega arith)
-
--- a text that was read stands before the zero byte at the end of its field
-record StandsBefore (bytes text : List ℕ) (next : ℕ) : Type 0 where
-  pub room : length text + 1 ≤ next
-  pub there : area bytes (next - 1 - length text) (next - 1) ≡ text
-
-text-there : (order : Endian) (bytes : List ℕ) (end count : ℕ) (places : Places) (c after : Cursor) (code : FieldCode) (text : List ℕ)
-    → Going order bytes end count places c → field_at order c ≡ Some (record { code = code; value = Text text }, after) → StandsBefore bytes text after.place
-unfolding field_text
-text-there order bytes end count places c after code text g found =
-    let t : Taken order c (record { code = code; value = Text text }, after) = field_at-takes order c _ g.low found in
-    let d = text-ends order code text in
-    let pads : List ℕ = padding c.place 8 in
-    let head : List ℕ = code_bytes code in
-    let front : List ℕ = g.front ++ (pads ++ (head ++ d.0)) in
-    let field : (pads ++ (head ++ (d.0 ++ (text ++ 0 ∷ [])))) ++ after.rest ≡ (pads ++ (head ++ d.0)) ++ (text ++ (0 ∷ after.rest)) =
-    append_assoc pads (head ++ (d.0 ++ (text ++ 0 ∷ []))) after.rest
-    ∙ ap (λ (l : List ℕ). pads ++ l) (append_assoc head (d.0 ++ (text ++ 0 ∷ [])) after.rest
-    ∙ ap (λ (l : List ℕ). head ++ l) (append_assoc d.0 (text ++ 0 ∷ []) after.rest ∙ ap (λ (l : List ℕ). d.0 ++ l) (append_assoc text (0 ∷ []) after.rest))
-    ∙ sym (append_assoc head d.0 (text ++ (0 ∷ after.rest))))
-    ∙ sym (append_assoc pads (head ++ d.0) (text ++ (0 ∷ after.rest))) in
-    let whole : take end bytes ≡ front ++ (text ++ (0 ∷ after.rest)) =
-    g.whole
-    ∙ ap (λ (l : List ℕ). g.front ++ l) (t.reads.text_is ∙ ap (λ (l : List ℕ). (pads ++ (head ++ l)) ++ after.rest) d.1 ∙ field)
-    ∙ sym (append_assoc g.front (pads ++ (head ++ d.0)) (text ++ (0 ∷ after.rest))) in
-    let next : after.place ≡ length front + length text + 1 =
-    omega (
-      arith,
-      t.reads.place_is,
-      g.here,
-      ap length d.1,
-      length-append g.front (pads ++ (head ++ d.0)),
-      length-append pads (head ++ d.0),
-      length-append pads (head ++ text_bytes order (field_type code) text),
-      length-append d.0 (text ++ 0 ∷ []),
-      length-append text (0 ∷ []),
-    ) in
-    let start : after.place - 1 - length text ≡ length front = omega (arith, next) in
-    let stop : after.place - 1 ≡ length front + length text = omega (arith, next) in
-    record {
-      room = omega (arith, next);
-      there = ap (λ (i : ℕ). area bytes i (after.place - 1)) start ∙ ap (λ (j : ℕ). area bytes (length front) j) stop ∙ area-there bytes front text (0 ∷ after.rest) end whole;
-    }
-
 -- what was read of a field stands where its cursor ends, in the first `end` bytes
 pub held-there : (order : Endian) (bytes : List ℕ) (end count : ℕ) (places : Places) (c after : Cursor) (code : FieldCode) (held : Held) → end ≤ length bytes
     → Going order bytes end count places c → field_at order c ≡ Some (record { code = code; value = value_of held }, after)
     → HasRoom after.place held × StandsAt bytes after.place held × (after.place ≤ end)
-held-there order bytes end count places c after code held k g found = (room held found, there held found, inside) where
-  t : Taken order c (record { code = code; value = value_of held }, after)
-  t = field_at-takes order c _ g.low found
-
-  inside : after.place ≤ end
-  inside =
-      let text : List ℕ = padding c.place 8 ++ field_text order (record { code = code; value = value_of held }) in
-      omega (
-        arith,
-        length-take-le end bytes k,
-        ap length g.whole,
-        length-append g.front c.rest,
-        g.here,
-        ap length t.reads.text_is,
-        length-append text after.rest,
-        t.reads.place_is,
-      )
-
-  room : (h : Held) → field_at order c ≡ Some (record { code = code; value = value_of h }, after) → HasRoom after.place h
-  room (helds.Text text) e = (text-there order bytes end count places c after code text.now g e).room
-  room (helds.Number number) e = tt
-
-  there : (h : Held) → field_at order c ≡ Some (record { code = code; value = value_of h }, after) → StandsAt bytes after.place h
-  there (helds.Text text) e = (text-there order bytes end count places c after code text.now g e).there
-  there (helds.Number number) e = tt
+held-there order bytes end count places c after code held k g found =
+    let t : Taken order c (record { code = code; value = value_of held }, after) = field_at-takes order c _ g.low found in
+    let text : List ℕ = padding c.place 8 ++ field_text order (record { code = code; value = value_of held }) in
+    let next : after.place ≡ length g.front + length text = omega (arith, g.here, t.reads.place_is) in
+    let whole : bytes ≡ g.front ++ (text ++ (after.rest ++ drop end bytes)) =
+    sym (take-append-drop end bytes) ∙ ap (λ (l : List ℕ). l ++ drop end bytes) (g.whole ∙ ap (λ (l : List ℕ). g.front ++ l) t.reads.text_is)
+    ∙ append_assoc g.front (text ++ after.rest) (drop end bytes) ∙ ap (λ (l : List ℕ). g.front ++ l) (append_assoc text after.rest (drop end bytes)) in
+    let stands = held-stands order code held bytes g.front (after.rest ++ drop end bytes) c.place after.place whole next in
+    let inside : after.place ≤ end =
+    omega (arith, length-take-le end bytes k, ap length g.whole, length-append g.front c.rest, ap length t.reads.text_is, length-append text after.rest, next) in
+    (stands.0, stands.1, inside)

@@ -1,5 +1,5 @@
 -- The header fields of a message that stands on its bytes are each in its grammar.
-use Rattle.std.proofs.Common.{◌≡◌, ℕ, ◌<◌, List, [], ◌∷◌, Option, Some, None, refl, sym, ap, arith, subst, Bool, true, false, ◌^◌}
+use Rattle.std.proofs.Common.{◌≡◌, ℕ, ◌<◌, List, [], ◌∷◌, Option, Some, None, refl, sym, ap, arith, subst, ◌^◌}
 use Rattle.std.specs.Prelude.{IfSome, IsTrue, is_some, option_map}
 use Rattle.std.specs.List.{AllByRecursion}
 use Rattle.std.proofs.lemmas.Bool.{ltb-true}
@@ -12,15 +12,9 @@ use Rattle.wire_message.specs.Field.{Fields, no_fields, Value, Text, Number, Fie
 use Rattle.wire_message.specs.Front.{Seen, Front, fields_of}
 use Rattle.wire_message.specs.Places.{span_text}
 use Rattle.wire_message.specs.Valid.{AreFields}
+use Rattle.wire_message.proofs.FieldLaws.{is-true, not-so}
 
-not-so : {A : Type 0} → IsTrue false → A
-not-so h = absurd cc
-
-is-true : (b : Bool) → IsTrue b → b ≡ true
-is-true true h = refl
-is-true false h = not-so h
-
-with_text-valid : (code : FieldCode) (text : List ℕ) (fields : Fields) → IsTrue (is_text code text) → AreFields fields → AreFields (with_text code text fields)
+pub with_text-valid : (code : FieldCode) (text : List ℕ) (fields : Fields) → IsTrue (is_text code text) → AreFields fields → AreFields (with_text code text fields)
 unfolding is_text
 with_text-valid codes.Path text fields h f = record { path = h; interface = f.interface; member = f.member; error_name = f.error_name; reply_serial = f.reply_serial; destination = f.destination; sender = f.sender; signature = f.signature; unix_fds = f.unix_fds }
 with_text-valid codes.Interface text fields h f = record { path = f.path; interface = h; member = f.member; error_name = f.error_name; reply_serial = f.reply_serial; destination = f.destination; sender = f.sender; signature = f.signature; unix_fds = f.unix_fds }
@@ -29,20 +23,13 @@ with_text-valid codes.ErrorName text fields h f = record { path = f.path; interf
 with_text-valid codes.Destination text fields h f = record { path = f.path; interface = f.interface; member = f.member; error_name = f.error_name; reply_serial = f.reply_serial; destination = h; sender = f.sender; signature = f.signature; unix_fds = f.unix_fds }
 with_text-valid codes.Sender text fields h f = record { path = f.path; interface = f.interface; member = f.member; error_name = f.error_name; reply_serial = f.reply_serial; destination = f.destination; sender = h; signature = f.signature; unix_fds = f.unix_fds }
 with_text-valid codes.Signature text fields h f = record { path = f.path; interface = f.interface; member = f.member; error_name = f.error_name; reply_serial = f.reply_serial; destination = f.destination; sender = f.sender; signature = h; unix_fds = f.unix_fds }
-with_text-valid codes.ReplySerial text fields h f = not-so h
-with_text-valid codes.UnixFds text fields h f = not-so h
+with_text-valid code text fields h f = not-so h
 
 with_number-valid : (code : FieldCode) (number : ℕ) (fields : Fields) → IsTrue (is_number code number) → number < 2 ^ 32 → AreFields fields → AreFields (with_number code number fields)
 unfolding is_number
 with_number-valid codes.ReplySerial number fields h k f = record { path = f.path; interface = f.interface; member = f.member; error_name = f.error_name; reply_serial = (ltb-true 0 number (is-true _ h), k); destination = f.destination; sender = f.sender; signature = f.signature; unix_fds = f.unix_fds }
 with_number-valid codes.UnixFds number fields h k f = record { path = f.path; interface = f.interface; member = f.member; error_name = f.error_name; reply_serial = f.reply_serial; destination = f.destination; sender = f.sender; signature = f.signature; unix_fds = k }
-with_number-valid codes.Path number fields h k f = not-so h
-with_number-valid codes.Interface number fields h k f = not-so h
-with_number-valid codes.Member number fields h k f = not-so h
-with_number-valid codes.ErrorName number fields h k f = not-so h
-with_number-valid codes.Destination number fields h k f = not-so h
-with_number-valid codes.Sender number fields h k f = not-so h
-with_number-valid codes.Signature number fields h k f = not-so h
+with_number-valid code number fields h k f = not-so h
 
 with_value-valid : (code : FieldCode) (value : Value) (fields : Fields) → IsField (record { code = code; value = value }) → AreFields fields → AreFields (with_field (record { code = code; value = value }) fields)
 unfolding with_field

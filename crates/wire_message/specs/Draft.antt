@@ -1,11 +1,11 @@
 -- A message as bytes, from what a builder holds (D-Bus Specification, "Message Format").
-use Rattle.std.specs.Prelude.{ℕ, ◌≡◌, ◌<◌, ◌≤◌, ◌==◌, if◌then◌else◌, Bool, false, nat_lt, List, [], ◌∷◌, ◌++◌, length, Option, Some, None, option_map, IfSome, IsTrue, ◌^◌, Result, Ok, Err}
+use Rattle.std.specs.Prelude.{ℕ, ◌≡◌, ◌<◌, ◌≤◌, ◌==◌, if◌then◌else◌, Bool, false, nat_lt, List, ◌∷◌, ◌++◌, length, Option, Some, None, option_map, IfSome, ◌^◌, Result, Ok, Err}
 use Rattle.std.specs.Int.{w32}
 use Rattle.std.specs.Int.RustNames.{bit_and, bit_or}
 use Rattle.wire_number.specs.declared.endian.Endian.{Endian}
 use Rattle.wire_number.specs.declared.endian.Endian.TheVariants.{Little}
 use Rattle.wire_number.specs.Number.{number_text, padded}
-use Rattle.wire_message.specs.Field.{Fields, no_fields, fields_text, field_list}
+use Rattle.wire_message.specs.Field.{Fields, no_fields, Value, Text, Number, fields_text, field_list}
 use Rattle.wire_message.specs.Front.{Seen, seen, bare, Front, kind_code, order_code}
 use Rattle.wire_signature.specs.declared.basic.BasicType.{BasicType}
 use Rattle.wire_signature.specs.declared.basic.BasicType.TheVariants as basics
@@ -65,6 +65,10 @@ pub record IsDraft (draft : Draft) : Type 0 where
 abbrev pub IsShortText : BasicType → List ℕ → Type 0
 IsShortText basics.Signature text = length text < 256
 IsShortText type text = length text < 2 ^ 32
+
+abbrev pub IsShortValue : BasicType → Value → Type 0
+IsShortValue type (Text text) = IsShortText type text
+IsShortValue type (Number number) = Unit {0}
 
 pub record AreShort (fields : Fields) : Type 0 where
   pub path : IfSome fields.path (λ text. length text < 2 ^ 32)
@@ -134,13 +138,11 @@ BuildsWith taken draft body fds old new (Err error) = Builds taken draft body ol
 abbrev pub ReadsAgain : Seen → Type 0
 ReadsAgain m = (more : List ℕ) → Front (m.bytes ++ more) (bare m) (length m.bytes)
 
--- ---- a method call of little order, without flags and body
+-- ---- what builders begin with
 
+abbrev pub new_draft : MessageType → Endian → Draft
+new_draft kind order = record { kind = kind; order = order; flags = 0; serial = None; fields = no_fields }
+
+-- a method call of little order, without flags and body
 abbrev pub call_draft : List ℕ → List ℕ → Draft
 call_draft path member = record { kind = types.MethodCall; order = Little; flags = 0; serial = None; fields = record no_fields { path = Some path; member = Some member } }
-
-unfoldable pub call_text : ℕ → List ℕ → List ℕ → List ℕ
-call_text serial path member = message_text (call_draft path member) serial []
-
-unfoldable pub call_message : ℕ → List ℕ → List ℕ → Seen
-call_message serial path member = built (call_draft path member) serial []

@@ -42,6 +42,6 @@ abbrev pub reply_text : FdoError → List ℕ
 reply_text (fdo.ZBus error) = error_text error
 reply_text (fdo.Std error) = error.text
 
--- the body of a reply: one string
-abbrev pub reply_values : FdoError → List Datum
-reply_values error = text string (reply_text error) ∷ []
+-- the body of the reply to a call that failed: one string
+abbrev pub one_string : List ℕ → List Datum
+one_string bytes = text string bytes ∷ []

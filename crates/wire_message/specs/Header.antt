@@ -25,6 +25,7 @@ held_datum code (Number number) = num uint32 number
 abbrev pub field_datum : Field → Datum
 field_datum field = struct (items (num byte (code_byte field.code)) (items (variant (held_datum field.code field.value)) no_data))
 
+-- fields, one behind the other
 abbrev pub field_data : List Field → Data
 field_data [] = no_data
 field_data (field ∷ fields) = items (field_datum field) (field_data fields)

@@ -7,7 +7,7 @@ pub mod Held
 pub mod Circle
 pub mod Draft
 pub mod Outcome
-pub mod Fault
+pub mod Refusal
 pub mod Texts
 pub mod ErrorTexts
 pub mod ErrorKinds

@@ -1,7 +1,7 @@
 -- Where a message's texts stand in its bytes.
-use Rattle.std.specs.Prelude.{ℕ, ◌-◌, ◌≤◌, List, length, take, drop, option_map, IfSome}
+use Rattle.std.specs.Prelude.{ℕ, ◌≡◌, ◌-◌, ◌≤◌, List, ◌++◌, length, take, drop, None, option_map, IfSome}
 use Rattle.wire_number.specs.declared.endian.Endian.{Endian}
-use Rattle.wire_message.specs.Field.{Fields}
+use Rattle.wire_message.specs.Field.{Fields, Field, fields_text, gathered}
 use Rattle.wire_message.specs.Front.{seen, Front}
 use Rattle.wire_message.specs.Valid.{AreFields}
 use Rattle.wire_message.specs.declared.kind.MessageType.{MessageType}
@@ -29,6 +29,20 @@ found_fields bytes places = record {
   unix_fds = places.unix_fds;
 }
 
+-- the places of a header without fields
+abbrev pub no_places : Places
+no_places = record {
+  path = None;
+  interface = None;
+  member = None;
+  error_name = None;
+  reply_serial = None;
+  destination = None;
+  sender = None;
+  signature = None;
+  unix_fds = None;
+}
+
 -- a span among the first `n` bytes
 abbrev pub IsSpan : ℕ → Span → Type 0
 IsSpan n span = (span.start ≤ span.end) × (span.end ≤ n)
@@ -42,6 +56,14 @@ pub record AreSpans (n : ℕ) (places : Places) : Type 0 where
   pub destination : IfSome places.destination (IsSpan n)
   pub sender : IfSome places.sender (IsSpan n)
   pub signature : IfSome places.signature (IsSpan n)
+
+-- The fields were appended to `old`, and their places to `before`: in all bytes that have them there, what `after` finds is what
+-- they say beside what `before` finds.
+pub record AppendsFields (order : Endian) (fields : List Field) (old : List ℕ) (before : Places) (new : List ℕ) (after : Places) : Type 0 where
+  pub text : new ≡ old ++ fields_text order (length old) fields
+  pub found : (bytes front more : List ℕ) → length front ≡ length old → bytes ≡ front ++ (fields_text order (length old) fields ++ more)
+      → found_fields bytes after ≡ gathered (found_fields bytes before) fields
+  pub spans : (n : ℕ) → length new ≤ n → AreSpans n before → AreSpans n after
 
 -- A message stands on its own bytes, and its texts stand in them, each in its grammar.
 pub record Stands (bytes : List ℕ) (kind : MessageType) (order : Endian) (flags serial : ℕ) (places : Places) : Type 0 where

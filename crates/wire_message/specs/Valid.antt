@@ -1,5 +1,5 @@
 -- Header fields that are each in their grammar (D-Bus Specification, "Header Fields").
-use Rattle.std.specs.Prelude.{ℕ, ◌<◌, ◌^◌, IfSome, IsTrue}
+use Rattle.std.specs.Prelude.{◌<◌, ◌^◌, IfSome, IsTrue}
 use Rattle.wire_message.specs.Field.{Fields, is_text}
 use Rattle.wire_message.specs.declared.field.FieldCode.TheVariants as codes
 

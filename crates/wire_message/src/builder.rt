@@ -3,24 +3,27 @@ ghost use Rattle.wire_number.specs.declared.endian.Endian.TheVariants.{Little};
 ghost use Rattle.wire_names.specs.BusName.{text_of};
 ghost use Rattle.wire_message.specs.Front.{order_code};
 ghost use Rattle.wire_message.specs.Circle.{Numbers, taken_among};
-ghost use Rattle.wire_message.specs.Draft.{Draft, IsDraft, AreShort, header_fields, header_text, message_text, call_draft, flagged, has_long_text, Writes, MakesWith, Builds, ReadsAgain};
+ghost use Rattle.wire_message.specs.Field.{is_text, with_text};
+ghost use Rattle.wire_message.specs.Draft.{Draft, IsDraft, AreShort, new_draft, header_fields, header_text, message_text, call_draft, flagged, has_long_text, Writes, MakesWith, Builds, ReadsAgain};
+ghost use Rattle.wire_message.specs.Places.{found_fields, AreSpans};
 ghost use Rattle.wire_message.specs.declared.kind.MessageType.TheVariants as types;
 
 use crate::error::{Error, Result};
+use crate::field::FieldCode;
 use crate::flags::Flags;
-use crate::front::{MESSAGE_LIMIT, places_of};
+use crate::front::MESSAGE_LIMIT;
 use crate::kind::{MessageType, type_code};
 use crate::message::Message;
+use crate::places::Places;
 use crate::serials::{Serials, Taken};
 use crate::shared::Parts;
 use crate::steps::Steps;
-use crate::writing::{HeaderFields, NO_FIELDS, field_array};
+use crate::writing::{HeaderFields, NO_FIELDS, put_fields};
 use std::alloc::Global;
 use std::marker::{Brand, Model};
 use std::sync::ledger::{Blank, Ledger};
 use wire_names::{BusName, InterfaceName, MemberName, ObjectPath, UniqueName};
-use wire_number::{Endian, pad_to, write_u32};
-use wire_signature::VariantError;
+use wire_number::{Endian, pad_to, put_u32, write_u32};
 
 /// A message that isn't built yet.
 pub struct Builder<'a> {
@@ -68,17 +71,8 @@ impl Message {
     pub fn method_call<'a>(path: &ObjectPath<'a>, member: &MemberName<'a>) -> Builder<'a>
         ensures { result ≡ call_draft path.now member.now }
     {
-        Builder {
-            kind: MessageType::MethodCall,
-            order: Endian::Little,
-            flags: 0,
-            serial: None,
-            fields: HeaderFields {
-                path: Some(path.as_str()),
-                member: Some(member.as_str()),
-                ..NO_FIELDS
-            },
-        }
+        let builder = Builder::new(MessageType::MethodCall, Endian::Little);
+        builder.path(path).member(member)
     }
 }
 
@@ -93,6 +87,29 @@ fn has_long_path(fields: &HeaderFields<'_>) -> bool
 }
 
 impl<'a> Builder<'a> {
+    /// Without flags, serial and fields.
+    pub(crate) fn new(kind: MessageType, order: Endian) -> Builder<'a>
+        ensures { result ≡ new_draft kind order }
+    {
+        Builder {
+            kind,
+            order,
+            flags: 0,
+            serial: None,
+            fields: NO_FIELDS,
+        }
+    }
+
+    /// With that text as the field of that code.
+    pub(crate) fn with_text(self, code: FieldCode, text: &'a str) -> Builder<'a>
+        requires { IsTrue (is_text code text.now) }
+        ensures { result ≡ record self.entry { fields = with_text code text.now self.entry.fields } }
+    {
+        let mut fields = self.fields;
+        fields.set_text(code, text);
+        Builder { fields, ..self }
+    }
+
     /// In that byte order.
     pub fn endian(self, order: Endian) -> Builder<'a>
         ensures { result ≡ record self.entry { order = order } }
@@ -116,25 +133,19 @@ impl<'a> Builder<'a> {
     }
 
     /// With that path (D-Bus Specification, "Header Fields", `PATH`).
+    #[tactic(auto, unfolding(crate::specs::Field::is_text))]
     pub fn path(self, path: &ObjectPath<'a>) -> Builder<'a>
         ensures { result ≡ record self.entry { fields = record self.entry.fields { path = Some path.now } } }
     {
-        let fields = HeaderFields {
-            path: Some(path.as_str()),
-            ..self.fields
-        };
-        Builder { fields, ..self }
+        self.with_text(FieldCode::Path, path.as_str())
     }
 
     /// With that member (D-Bus Specification, "Header Fields", `MEMBER`).
+    #[tactic(auto, unfolding(crate::specs::Field::is_text))]
     pub fn member(self, member: &MemberName<'a>) -> Builder<'a>
         ensures { result ≡ record self.entry { fields = record self.entry.fields { member = Some member.now } } }
     {
-        let fields = HeaderFields {
-            member: Some(member.as_str()),
-            ..self.fields
-        };
-        Builder { fields, ..self }
+        self.with_text(FieldCode::Member, member.as_str())
     }
 
     /// With that serial; none is drawn for the message (D-Bus Specification, "Message Format").
@@ -171,36 +182,27 @@ impl<'a> Builder<'a> {
     }
 
     /// With that interface (D-Bus Specification, "Header Fields", `INTERFACE`).
+    #[tactic(auto, unfolding(crate::specs::Field::is_text))]
     pub fn interface(self, interface: &InterfaceName<'a>) -> Builder<'a>
         ensures { result ≡ record self.entry { fields = record self.entry.fields { interface = Some interface.now } } }
     {
-        let fields = HeaderFields {
-            interface: Some(interface.as_str()),
-            ..self.fields
-        };
-        Builder { fields, ..self }
+        self.with_text(FieldCode::Interface, interface.as_str())
     }
 
     /// With that destination (D-Bus Specification, "Header Fields", `DESTINATION`).
+    #[tactic(auto, unfolding(crate::specs::Field::is_text))]
     pub fn destination(self, destination: &BusName<'a>) -> Builder<'a>
         ensures { result ≡ record self.entry { fields = record self.entry.fields { destination = Some (text_of destination.now) } } }
     {
-        let fields = HeaderFields {
-            destination: Some(destination.as_str()),
-            ..self.fields
-        };
-        Builder { fields, ..self }
+        self.with_text(FieldCode::Destination, destination.as_str())
     }
 
     /// With that sender (D-Bus Specification, "Header Fields", `SENDER`).
+    #[tactic(auto, unfolding(crate::specs::Field::is_text))]
     pub fn sender(self, sender: &UniqueName<'a>) -> Builder<'a>
         ensures { result ≡ record self.entry { fields = record self.entry.fields { sender = Some sender.now } } }
     {
-        let fields = HeaderFields {
-            sender: Some(sender.as_str()),
-            ..self.fields
-        };
-        Builder { fields, ..self }
+        self.with_text(FieldCode::Sender, sender.as_str())
     }
 
     /// Without a sender.
@@ -228,29 +230,32 @@ impl<'a> Builder<'a> {
         Flags(self.flags)
     }
 
-    /// The bytes of the message with that serial and body, if it doesn't pass its limit.
-    #[tactic(auto, unfolding(crate::specs::Draft::message_text, crate::specs::Draft::header_text))]
-    fn text(&self, alloc: Global, serial: u32, body: &[u8]) -> Result<Vec<u8>>
-        requires { length body.now < 2 ^ 32 }
-        ensures written { Writes (λ v. v.items) result (message_text self.now serial body.now) }
+    /// The bytes of the header with that serial, for a body of that length, and where its texts stand, if it doesn't pass the
+    /// limit of a message.
+    #[tactic(auto, unfolding(crate::specs::Draft::header_text))]
+    fn header_bytes(&self, alloc: Global, serial: u32, size: u32) -> Result<(Vec<u8>, Places)>
+        ensures written { Writes (λ x. x.0.items) result (header_text self.now size serial) }
+        ensures found { IfOk result (λ x. (more : List ℕ) → found_fields (header_text self.now size serial ++ more) x.1 ≡ self.now.fields) }
+        ensures spans { IfOk result (λ x. AreSpans (length x.0.items) x.1) }
         ensures valid { IsDraft self.now }
     {
         if has_long_path(&self.fields) {
             return Err(Error::ExcessData);
         }
-        let fields = field_array(alloc, self.order, &self.fields)?;
-        if fields.len() > MESSAGE_LIMIT {
-            return Err(Error::ExcessData);
-        }
         let mut text = Vec::new(alloc);
         text.extend_from_slice(&[order_byte(self.order), type_code(self.kind), self.flags, 1])?;
-        text.extend_from_slice(&write_u32(self.order, body.len() as u32))?;
+        text.extend_from_slice(&write_u32(self.order, size))?;
         text.extend_from_slice(&write_u32(self.order, serial))?;
-        text.extend_from_slice(&write_u32(self.order, fields.len() as u32))?;
-        text.extend_from_slice(fields.as_slice())?;
+        // The length of the fields, which is known when they are written.
+        text.extend_from_slice(&[0; 4])?;
+        let places = put_fields(&mut text, self.order, &self.fields)?;
+        let fields_len = text.len() - 16;
+        if fields_len > MESSAGE_LIMIT {
+            return Err(Error::ExcessData);
+        }
+        put_u32(self.order, &mut text, 12, fields_len as u32);
         pad_to(&mut text, 0, 8)?;
-        text.extend_from_slice(body)?;
-        Ok(text)
+        Ok((text, places))
     }
 
     /// The message with that serial, body and descriptors, if it doesn't pass its limit.
@@ -268,14 +273,11 @@ impl<'a> Builder<'a> {
         if body.len() > MESSAGE_LIMIT {
             return Err(Error::ExcessData);
         }
-        let text = self.text(alloc, serial, body)?;
+        let (mut text, places) = self.header_bytes(alloc, serial, body.len() as u32)?;
+        text.extend_from_slice(body)?;
         if text.len() > MESSAGE_LIMIT {
             return Err(Error::ExcessData);
         }
-        // What was written is a field array, so its places are found.
-        let Some(places) = places_of(text.as_slice()) else {
-            return Err(Error::Variant(VariantError::Malformed));
-        };
         let parts = Parts {
             kind: self.kind,
             order: self.order,

@@ -1,11 +1,11 @@
 //! Errors as answers to calls (D-Bus Specification, "Types of messages", "Errors").
 ghost use Rattle.std.specs.Prelude.{◌≡◌, ◌+◌, ◌≤◌, IfOk, List, ℕ, Option, map, option_map};
-ghost use Rattle.wire_tree.specs.Datum.{Datum, type_of};
+ghost use Rattle.wire_tree.specs.Datum.{type_of};
 ghost use Rattle.wire_message.specs.Bodies.{BuildsBody};
 ghost use Rattle.wire_message.specs.Circle.{taken_among};
 ghost use Rattle.wire_message.specs.Draft.{ReadsAgain};
 ghost use Rattle.wire_message.specs.Drafts.{error_draft};
-ghost use Rattle.wire_message.specs.FdoErrors.{fdo_name, fdo_description, reply_text as text_in_reply, reply_values};
+ghost use Rattle.wire_message.specs.FdoErrors.{fdo_name, fdo_description, reply_text as text_in_reply, one_string};
 
 use crate::error::Result;
 use crate::fdo;
@@ -25,8 +25,8 @@ pub trait DBusError {
     /// what it says
     ghost described: { Self → Option (List ℕ) };
 
-    /// the values of the reply's body
-    ghost replied: { Self → List Datum };
+    /// the text that the reply's body is
+    ghost replied: { Self → List ℕ };
 
     /// The name of the error in a reply's header (D-Bus Specification, "Valid Names", "Error names").
     fn name(&self) -> ErrorName<'_>
@@ -36,13 +36,17 @@ pub trait DBusError {
     fn description(&self) -> Option<&str>
         ensures { option_map (λ t. t.now) result ≡ described self.now };
 
-    /// The reply to a call of this header that is this error: as [`Message::error`] begins it and `build` gives it its body. A
-    /// step is a serial that is looked at.
+    /// The text that the body of its reply is, one string.
+    fn reply_text(&self, alloc: Global) -> std::result::Result<Text, AllocError>
+        ensures { IfOk result (λ text. text ≡ replied self.now) };
+
+    /// The reply to a call of this header that is this error: as [`Message::error`] begins it and `build` gives it its body, one
+    /// string. A step is a serial that is looked at.
     ///
     /// # Errors
     ///
-    /// Those of `build`, exactly where they come there: SerialsSpent where each serial is pending; Variant where the values are
-    /// no body, as where a text holds a 0 byte; ExcessData where the message would pass 134,217,728 bytes. Memory for want of
+    /// Those of `build`, exactly where they come there: SerialsSpent where each serial is pending; Variant where the text is
+    /// no body, as where it holds a 0 byte; ExcessData where the message would pass 134,217,728 bytes. Memory for want of
     /// memory. A refusal draws no serial.
     fn create_reply<T: Taken, L: Ledger>(
         &self,
@@ -52,9 +56,14 @@ pub trait DBusError {
         taken: &T,
         steps: &mut Steps<L>,
     ) -> Result<Message>
-        ensures built { BuildsBody (T.is_taken taken.now) (error_draft call.now (named self.now)) (map type_of (replied self.now)) (replied self.now) serials.old serials.new result }
+        ensures built { BuildsBody (T.is_taken taken.now) (error_draft call.now (named self.now)) (map type_of (one_string (replied self.now))) (one_string (replied self.now)) serials.old serials.new result }
         ensures again { IfOk result ReadsAgain }
-        ensures cost { steps.new ≤ steps.old + taken_among (T.is_taken taken.now) 4294967295 + 2 };
+        ensures cost { steps.new ≤ steps.old + taken_among (T.is_taken taken.now) 4294967295 + 2 }
+    {
+        let text = self.reply_text(alloc)?;
+        let name = self.name();
+        Message::error(call, &name).build(alloc, serials, taken, (text,), steps)
+    }
 
     /// As `create_reply`, for a caller that counts no steps.
     fn create_reply_uncounted<T: Taken>(
@@ -64,8 +73,13 @@ pub trait DBusError {
         serials: &mut Serials,
         taken: &T,
     ) -> Result<Message>
-        ensures built { BuildsBody (T.is_taken taken.now) (error_draft call.now (named self.now)) (map type_of (replied self.now)) (replied self.now) serials.old serials.new result }
-        ensures again { IfOk result ReadsAgain };
+        ensures built { BuildsBody (T.is_taken taken.now) (error_draft call.now (named self.now)) (map type_of (one_string (replied self.now))) (one_string (replied self.now)) serials.old serials.new result }
+        ensures again { IfOk result ReadsAgain }
+    {
+        let text = self.reply_text(alloc)?;
+        let name = self.name();
+        Message::error(call, &name).build_uncounted(alloc, serials, taken, (text,))
+    }
 }
 
 /// The text of an error's name.
@@ -78,16 +92,6 @@ fn name_text(error: &fdo::Error) -> &'static str
     }
 }
 
-/// What the body of the reply says.
-fn reply_text(alloc: Global, error: &fdo::Error) -> std::result::Result<Text, AllocError>
-    ensures { IfOk result (λ text. text ≡ text_in_reply error.now) }
-{
-    match error {
-        fdo::Error::ZBus(error) => Ok(Text::from_string(format!(in alloc; "{error}")?)),
-        fdo::Error::Std(error) => error.text.try_clone(alloc),
-    }
-}
-
 /// A standard error has its kind's name and says its text; another has the name `org.freedesktop.zbus.Error`, and is described as
 /// it is by itself. The body of a reply is one string: the text of a standard error, of another what is printed of it.
 impl DBusError for fdo::Error {
@@ -95,7 +99,7 @@ impl DBusError for fdo::Error {
 
     ghost described = { fdo_description };
 
-    ghost replied = { reply_values };
+    ghost replied = { text_in_reply };
 
     fn name(&self) -> ErrorName<'_> {
         ErrorName::try_from(name_text(self)).unwrap()
@@ -108,28 +112,10 @@ impl DBusError for fdo::Error {
         }
     }
 
-    fn create_reply<T: Taken, L: Ledger>(
-        &self,
-        alloc: Global,
-        call: &Header<'_>,
-        serials: &mut Serials,
-        taken: &T,
-        steps: &mut Steps<L>,
-    ) -> Result<Message> {
-        let text = reply_text(alloc, self)?;
-        let name = self.name();
-        Message::error(call, &name).build(alloc, serials, taken, (text,), steps)
-    }
-
-    fn create_reply_uncounted<T: Taken>(
-        &self,
-        alloc: Global,
-        call: &Header<'_>,
-        serials: &mut Serials,
-        taken: &T,
-    ) -> Result<Message> {
-        let text = reply_text(alloc, self)?;
-        let name = self.name();
-        Message::error(call, &name).build_uncounted(alloc, serials, taken, (text,))
+    fn reply_text(&self, alloc: Global) -> std::result::Result<Text, AllocError> {
+        match self {
+            fdo::Error::ZBus(error) => Ok(Text::from_string(format!(in alloc; "{error}")?)),
+            fdo::Error::Std(error) => error.text.try_clone(alloc),
+        }
     }
 }

@@ -2,17 +2,17 @@ ghost use Rattle.std.specs.Prelude.{ℕ, ◌≡◌, ◌+◌, ◌<◌, ◌≤◌,
 ghost use Rattle.wire_number.specs.Number.{pad};
 ghost use Rattle.wire_message.specs.Field.{Fields};
 ghost use Rattle.wire_message.specs.Front.{Seen, Front, order_at, word_at, fields_len, header_len as header_length, total as total_len, field_bytes};
-ghost use Rattle.wire_message.specs.Fault.{Finds, FindsTotal};
+ghost use Rattle.wire_message.specs.Refusal.{Finds, FindsTotal};
 ghost use Rattle.wire_message.specs.Outcome.{kind_of, fields_found, head_fault, front_outcome, message_by, Tells, TellsTotal};
 ghost use Rattle.wire_message.specs.Places.{found_fields, AreSpans};
 ghost use Rattle.wire_message.specs.declared.error.IoKind.TheVariants.{Ended};
 
 use crate::error::Result;
-use crate::fault::Fault;
 use crate::kind::message_type;
 use crate::message::Message;
 use crate::places::Places;
 use crate::reading::places_in;
+use crate::refusal::Refusal;
 use crate::shared::Parts;
 use std::alloc::Global;
 use wire_number::{Endian, padding_for_8_bytes, read_u32};
@@ -44,20 +44,20 @@ pub(crate) fn header_len(bytes: &[u8]) -> usize
 }
 
 /// As `total_of`, of bytes that are at least 16.
-fn head_of(bytes: &[u8]) -> std::result::Result<u32, Fault>
+fn head_of(bytes: &[u8]) -> std::result::Result<u32, Refusal>
     requires { 16 ≤ length bytes.now }
     ensures { FindsTotal result bytes.now }
 {
     if bytes[0] != b'l' && bytes[0] != b'B' {
-        return Err(Fault::IncorrectEndian);
+        return Err(Refusal::IncorrectEndian);
     }
     let order = byte_order(bytes);
     if message_type(bytes[1]).is_none() || bytes[2] > 7 || read_u32(order, bytes, 8) == 0 {
-        return Err(Fault::Malformed);
+        return Err(Refusal::Malformed);
     }
     let total = header_len(bytes) + read_u32(order, bytes, 4) as usize;
     if total > MESSAGE_LIMIT {
-        return Err(Fault::ExcessData);
+        return Err(Refusal::ExcessData);
     }
     Ok(total as u32)
 }
@@ -70,12 +70,12 @@ pub fn total_of(first: &[u8; 16]) -> Result<u32>
 {
     match head_of(first) {
         Ok(total) => Ok(total),
-        Err(fault) => Err(fault.error()),
+        Err(refusal) => Err(refusal.error()),
     }
 }
 
 /// Where the header fields stand; None where the bytes of the fields are no field array.
-pub(crate) fn places_of(bytes: &[u8]) -> Option<Places>
+fn places_of(bytes: &[u8]) -> Option<Places>
     requires head { 16 ≤ length bytes.now }
     requires there { 16 + fields_len bytes.now ≤ length bytes.now }
     ensures found { option_map (found_fields bytes.now) result ≡ fields_found bytes.now }
@@ -87,7 +87,7 @@ pub(crate) fn places_of(bytes: &[u8]) -> Option<Places>
 }
 
 /// The message on the first bytes, whose head is right and whose total is there.
-fn message_on(alloc: Global, bytes: &[u8], total: usize) -> std::result::Result<Message, Fault>
+fn message_on(alloc: Global, bytes: &[u8], total: usize) -> std::result::Result<Message, Refusal>
     requires length { 16 ≤ length bytes.now }
     requires right { head_fault bytes.now ≡ None }
     requires there { total ≤ length bytes.now }
@@ -95,10 +95,10 @@ fn message_on(alloc: Global, bytes: &[u8], total: usize) -> std::result::Result<
     ensures { Finds (λ m. m) result (message_by bytes.now (kind_of (slice_index bytes.now 1)) (fields_found bytes.now)) }
 {
     let Some(kind) = message_type(bytes[1]) else {
-        return Err(Fault::Malformed);
+        return Err(Refusal::Malformed);
     };
     let Some(places) = places_of(bytes) else {
-        return Err(Fault::Malformed);
+        return Err(Refusal::Malformed);
     };
     let order = byte_order(bytes);
     let parts = Parts {
@@ -113,17 +113,17 @@ fn message_on(alloc: Global, bytes: &[u8], total: usize) -> std::result::Result<
 }
 
 /// The message that stands on the front of the bytes, and its length.
-pub(crate) fn found_at(alloc: Global, bytes: &[u8]) -> std::result::Result<(Message, u32), Fault>
+pub(crate) fn found_at(alloc: Global, bytes: &[u8]) -> std::result::Result<(Message, u32), Refusal>
     ensures exact { Finds (λ x. x.0) result (front_outcome bytes.now Ended) }
     ensures length { IfOk result (λ x. x.1 ≡ total_len bytes.now) }
 {
     if bytes.len() < 16 {
-        return Err(Fault::Ended);
+        return Err(Refusal::Ended);
     }
     let total = head_of(bytes)?;
     let len = total as usize;
     if bytes.len() < len {
-        return Err(Fault::Ended);
+        return Err(Refusal::Ended);
     }
     let message = message_on(alloc, bytes, len)?;
     Ok((message, total))
@@ -136,7 +136,7 @@ fn front_of(alloc: Global, bytes: &[u8]) -> Result<(Message, u32)>
 {
     match found_at(alloc, bytes) {
         Ok(front) => Ok(front),
-        Err(fault) => Err(fault.error()),
+        Err(refusal) => Err(refusal.error()),
     }
 }
 

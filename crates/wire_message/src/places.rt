@@ -1,9 +1,17 @@
 //! Where the texts of a message's header stand in its bytes.
-ghost use Rattle.std.specs.Prelude.{◌≡◌, ℕ, List, None};
-ghost use Rattle.wire_message.specs.Field.{no_fields, with_text as with_text_of, with_number as with_number_of};
-ghost use Rattle.wire_message.specs.Places.{span_text, found_fields, AreSpans, IsSpan};
+ghost use Rattle.std.specs.Prelude.{◌≡◌, ◌≤◌, ℕ, List, None};
+ghost use Rattle.wire_message.specs.Field.{with_field, with_text, with_number as with_number_of};
+ghost use Rattle.wire_message.specs.Held.{HasRoom, StandsAt, value_of};
+ghost use Rattle.wire_message.specs.Places.{span_text, found_fields, no_places, AreSpans, IsSpan};
 
 use crate::field::FieldCode;
+
+/// A field's value.
+#[derive(Clone, Copy)]
+pub(crate) enum Held<'a> {
+    Text(&'a [u8]),
+    Number(u32),
+}
 
 /// From the place of the first byte to the place behind the last.
 #[derive(Clone, Copy)]
@@ -29,8 +37,7 @@ pub(crate) struct Places {
 impl Places {
     /// No field.
     pub(crate) fn new() -> Places
-        ensures none { (bytes : List ℕ) → found_fields bytes result ≡ no_fields }
-        ensures spans { (n : ℕ) → AreSpans n result }
+        ensures { result ≡ no_places }
     {
         Places {
             path: None,
@@ -45,44 +52,44 @@ impl Places {
         }
     }
 
-    /// With the text in place of an earlier one of the field.
-    pub(crate) fn with_text(self, code: FieldCode, span: Span) -> Places
-        ensures text { (bytes : List ℕ) → found_fields bytes result ≡ with_text_of code (span_text bytes span) (found_fields bytes self) }
-        ensures spans { (n : ℕ) → AreSpans n self → IsSpan n span → AreSpans n result }
+    /// With the value of a field whose last byte stands before the place `next`, in place of an earlier one.
+    #[tactic(auto, unfolding(crate::specs::Field::with_field))]
+    pub(crate) fn with_value(self, code: FieldCode, held: Held<'_>, next: usize) -> Places
+        requires { HasRoom next held }
+        ensures field { (bytes : List ℕ) → StandsAt bytes next held.entry → found_fields bytes result ≡ with_field (record { code = code; value = value_of held.entry }) (found_fields bytes self) }
+        ensures spans { (n : ℕ) → AreSpans n self → next ≤ n → AreSpans n result }
     {
-        let text = Some(span);
+        match held {
+            Held::Text(text) => {
+                let end = next - 1;
+                let start = end - text.len();
+                let mut places = self;
+                places.set_text(code, Span { start, end });
+                places
+            }
+            Held::Number(number) => self.with_number(code, number),
+        }
+    }
+
+    /// Sets the text in place of an earlier one of the field.
+    fn set_text(&mut self, code: FieldCode, span: Span)
+        ensures text { (bytes : List ℕ) → found_fields bytes self.new ≡ with_text code (span_text bytes span) (found_fields bytes self.old) }
+        ensures spans { (n : ℕ) → AreSpans n self.old → IsSpan n span → AreSpans n self.new }
+    {
         match code {
-            FieldCode::Path => Places { path: text, ..self },
-            FieldCode::Interface => Places {
-                interface: text,
-                ..self
-            },
-            FieldCode::Member => Places {
-                member: text,
-                ..self
-            },
-            FieldCode::ErrorName => Places {
-                error_name: text,
-                ..self
-            },
-            FieldCode::Destination => Places {
-                destination: text,
-                ..self
-            },
-            FieldCode::Sender => Places {
-                sender: text,
-                ..self
-            },
-            FieldCode::Signature => Places {
-                signature: text,
-                ..self
-            },
-            FieldCode::ReplySerial | FieldCode::UnixFds => self,
+            FieldCode::Path => self.path = Some(span),
+            FieldCode::Interface => self.interface = Some(span),
+            FieldCode::Member => self.member = Some(span),
+            FieldCode::ErrorName => self.error_name = Some(span),
+            FieldCode::Destination => self.destination = Some(span),
+            FieldCode::Sender => self.sender = Some(span),
+            FieldCode::Signature => self.signature = Some(span),
+            FieldCode::ReplySerial | FieldCode::UnixFds => {}
         }
     }
 
     /// With the number in place of an earlier one of the field.
-    pub(crate) fn with_number(self, code: FieldCode, number: u32) -> Places
+    fn with_number(self, code: FieldCode, number: u32) -> Places
         ensures number { (bytes : List ℕ) → found_fields bytes result ≡ with_number_of code number (found_fields bytes self) }
         ensures spans { (n : ℕ) → AreSpans n self → AreSpans n result }
     {

@@ -1,23 +1,16 @@
 //! Reading a field array, from left to right (D-Bus Specification, "Header Fields").
-ghost use Rattle.std.specs.Prelude.{◌≡◌, ◌≤◌, ◌-◌, ℕ, List, length, option_map, IfSome};
+ghost use Rattle.std.specs.Prelude.{◌≡◌, ◌≤◌, ◌-◌, length, option_map, IfSome};
 ghost use Rattle.std.specs.Int.{w8, w32};
 ghost use Rattle.wire_number.specs.ReaderView.{Finds, cursor_of};
-ghost use Rattle.wire_message.specs.Field.{is_value as has_value, with_field};
-ghost use Rattle.wire_message.specs.Held.{HasRoom, StandsAt, value_of};
+ghost use Rattle.wire_message.specs.Field.{is_value as has_value};
+ghost use Rattle.wire_message.specs.Held.{value_of};
 ghost use Rattle.wire_message.specs.Places.{area, found_fields, AreSpans};
 ghost use Rattle.wire_message.specs.Reading.{field_at as field_found, fields_in, number_value, text_value, value_at as value_found};
 
 use crate::field::{FieldCode, code_at, is_number, is_text};
-use crate::places::{Places, Span};
+use crate::places::{Held, Places};
 use wire_number::{Endian, Reader};
 use wire_signature::BasicType;
-
-/// A field's value, as it was read.
-#[derive(Clone, Copy)]
-enum Held<'a> {
-    Text(&'a [u8]),
-    Number(u32),
-}
 
 /// A signature.
 fn signature<'a>(order: Endian, reader: Reader<'a>) -> Option<(Held<'a>, Reader<'a>)>
@@ -80,23 +73,6 @@ fn next_field<'a>(order: Endian, reader: Reader<'a>) -> Option<((FieldCode, Held
     }
 }
 
-/// The fields, one more among them, whose last byte stands before the place `next`.
-#[tactic(auto, unfolding(crate::specs::Field::with_field))]
-fn with_found(places: Places, code: FieldCode, held: Held<'_>, next: usize) -> Places
-    requires { HasRoom next held }
-    ensures field { (bytes : List ℕ) → StandsAt bytes next held.entry → found_fields bytes result ≡ with_field (record { code = code; value = value_of held.entry }) (found_fields bytes places) }
-    ensures spans { (n : ℕ) → AreSpans n places → next ≤ n → AreSpans n result }
-{
-    match held {
-        Held::Text(text) => {
-            let end = next - 1;
-            let start = end - text.len();
-            places.with_text(code, Span { start, end })
-        }
-        Held::Number(number) => places.with_number(code, number),
-    }
-}
-
 /// Stands at the front of the field array, which ends at `end`.
 fn reader_of(bytes: &[u8], end: usize) -> Reader<'_>
     requires from { 16 ≤ end }
@@ -123,7 +99,7 @@ pub(crate) fn places_in(order: Endian, bytes: &[u8], end: usize) -> Option<Place
             return Some(places);
         }
         let ((code, held), after) = next_field(order, left)?;
-        places = with_found(places, code, held, after.place);
+        places = places.with_value(code, held, after.place);
         left = after;
     }
     if left.rest.is_empty() {

@@ -6,10 +6,11 @@ ghost use Rattle.wire_message.specs.Drafts.{signal_draft, reply_draft, error_dra
 ghost use Rattle.wire_message.specs.declared.kind.MessageType.TheVariants as types;
 
 use crate::builder::Builder;
+use crate::field::FieldCode;
 use crate::header::Header;
 use crate::kind::MessageType;
 use crate::message::Message;
-use crate::writing::{HeaderFields, NO_FIELDS};
+use crate::writing::HeaderFields;
 use wire_names::{BusName, ErrorName, InterfaceName, MemberName, Name, NameKind, ObjectPath};
 use wire_number::Endian;
 
@@ -39,16 +40,11 @@ fn bus_name_text<'a>(name: &Option<BusName<'a>>) -> Option<&'a str>
 fn reply<'a>(kind: MessageType, reply_to: &Header<'a>) -> Builder<'a>
     ensures { result ≡ reply_draft kind reply_to.now }
 {
-    Builder {
-        kind,
-        order: reply_to.endian(),
-        flags: 0,
-        serial: None,
-        fields: HeaderFields {
-            reply_serial: Some(reply_to.primary().serial_num()),
-            destination: name_text(&reply_to.sender()),
-            ..NO_FIELDS
-        },
+    let serial = reply_to.primary().serial_num();
+    let builder = Builder::new(kind, reply_to.endian()).reply_serial(serial);
+    match reply_to.sender() {
+        Some(sender) => builder.with_text(FieldCode::Destination, sender.as_str()),
+        None => builder,
     }
 }
 
@@ -61,18 +57,8 @@ impl Message {
     ) -> Builder<'a>
         ensures { result ≡ signal_draft path.now interface.now member.now }
     {
-        Builder {
-            kind: MessageType::Signal,
-            order: Endian::Little,
-            flags: 0,
-            serial: None,
-            fields: HeaderFields {
-                path: Some(path.as_str()),
-                interface: Some(interface.as_str()),
-                member: Some(member.as_str()),
-                ..NO_FIELDS
-            },
-        }
+        let builder = Builder::new(MessageType::Signal, Endian::Little);
+        builder.path(path).interface(interface).member(member)
     }
 
     /// The return of a method call (D-Bus Specification, "Types of messages"): in the call's byte order, without flags; the
@@ -84,15 +70,12 @@ impl Message {
     }
 
     /// The answer to a method call by an error of that name, else as `method_return`.
+    #[tactic(auto, unfolding(crate::specs::Field::is_text))]
     pub fn error<'a>(reply_to: &Header<'a>, name: &ErrorName<'a>) -> Builder<'a>
         ensures { result ≡ error_draft reply_to.now name.now }
     {
         let builder = reply(MessageType::Error, reply_to);
-        let fields = HeaderFields {
-            error_name: Some(name.as_str()),
-            ..builder.fields
-        };
-        Builder { fields, ..builder }
+        builder.with_text(FieldCode::ErrorName, name.as_str())
     }
 }
 

@@ -1,32 +1,32 @@
 ghost use Rattle.std.specs.Prelude.{◌≡◌, ℕ, IfOk, Ok, length};
 ghost use Rattle.wire_message.specs.Front.{Front, Seen, order_code};
-ghost use Rattle.wire_message.specs.Fault.{Finds};
+ghost use Rattle.wire_message.specs.Refusal.{Finds};
 ghost use Rattle.wire_message.specs.Outcome.{Tells};
 ghost use Rattle.wire_message.specs.Whole.{whole_outcome};
 
 use crate::builder::order_byte;
 use crate::error::Result;
-use crate::fault::Fault;
 use crate::front::found_at;
 use crate::message::Message;
+use crate::refusal::Refusal;
 use std::alloc::Global;
 use wire_number::Endian;
 
 /// The message that the bytes are.
-fn found_in(alloc: Global, bytes: &[u8], order: Endian) -> std::result::Result<Message, Fault>
+fn found_in(alloc: Global, bytes: &[u8], order: Endian) -> std::result::Result<Message, Refusal>
     ensures { Finds (λ m. m) result (whole_outcome order bytes.now) }
 {
     if bytes.len() < 16 {
-        return Err(Fault::Ended);
+        return Err(Refusal::Ended);
     }
     if bytes[0] != order_byte(order) {
-        return Err(Fault::IncorrectEndian);
+        return Err(Refusal::IncorrectEndian);
     }
     let (message, _) = found_at(alloc, bytes)?;
     if message.data().len() == bytes.len() {
         Ok(message)
     } else {
-        Err(Fault::ExcessData)
+        Err(Refusal::ExcessData)
     }
 }
 
@@ -36,7 +36,7 @@ fn whole_of(alloc: Global, bytes: &[u8], order: Endian) -> Result<Message>
 {
     match found_in(alloc, bytes, order) {
         Ok(message) => Ok(message),
-        Err(fault) => Err(fault.error()),
+        Err(refusal) => Err(refusal.error()),
     }
 }
 

@@ -1,12 +1,14 @@
 //! Writing a header (D-Bus Specification, "Message Format", "Header Fields").
-ghost use Rattle.std.specs.Prelude.{ℕ, ◌≡◌, ◌+◌, ◌<◌, ◌≤◌, ◌^◌, ◌++◌, ◌∷◌, [], List, length, option_map, IfSome, OnOk, IfOk};
-ghost use Rattle.std.specs.Int.{w32};
-ghost use Rattle.wire_number.specs.Number.{pad, padding};
-ghost use Rattle.wire_message.specs.Field.{Fields, code_bytes, field_type, text_bytes, field_text, fields_text, text_field, number_field, field_list};
-ghost use Rattle.wire_message.specs.Draft.{header_fields, AreShort, IsShortText};
+ghost use Rattle.std.specs.Prelude.{◌≡◌, ◌++◌, ◌∷◌, [], length, option_map, IfSome, OnOk, IfOk};
+ghost use Rattle.wire_number.specs.Number.{pad};
+ghost use Rattle.wire_message.specs.Field.{field_type, value_bytes, with_text, text_field, number_field, field_list};
+ghost use Rattle.wire_message.specs.Draft.{header_fields, AreShort, IsShortText, IsShortValue};
+ghost use Rattle.wire_message.specs.Held.{value_of};
+ghost use Rattle.wire_message.specs.Places.{no_places, AppendsFields};
 
 use crate::field::FieldCode;
-use std::alloc::{AllocError, Global};
+use crate::places::{Held, Places};
+use std::alloc::AllocError;
 use wire_number::{Endian, append, append_signature, append_text, write_u32};
 use wire_signature::BasicType;
 
@@ -37,82 +39,122 @@ pub(crate) const NO_FIELDS: HeaderFields<'static> = HeaderFields {
     unix_fds: None,
 };
 
-/// Adds a text as a value of the type, on the boundary of its length.
+impl<'a> HeaderFields<'a> {
+    /// Sets a field that is a text.
+    pub(crate) fn set_text(&mut self, code: FieldCode, text: &'a str)
+        ensures { header_fields self.new ≡ with_text code text.now (header_fields self.old) }
+    {
+        match code {
+            FieldCode::Path => self.path = Some(text),
+            FieldCode::Interface => self.interface = Some(text),
+            FieldCode::Member => self.member = Some(text),
+            FieldCode::ErrorName => self.error_name = Some(text),
+            FieldCode::Destination => self.destination = Some(text),
+            FieldCode::Sender => self.sender = Some(text),
+            FieldCode::Signature => self.signature = Some(text),
+            FieldCode::ReplySerial | FieldCode::UnixFds => {}
+        }
+    }
+}
+
+/// Adds a value of the type, on the boundary of its length.
 fn put_value(
     out: &mut Vec<u8>,
     order: Endian,
     kind: BasicType,
-    text: &[u8],
+    held: Held<'_>,
 ) -> Result<(), AllocError>
-    requires short { IsShortText kind text.now }
-    requires placed { pad (16 + length out.old.items) 4 ≡ 0 }
-    ensures { OnOk result (out.new.items ≡ out.old.items ++ text_bytes order kind text.now) }
+    requires short { IsShortValue kind (value_of held) }
+    requires placed { pad (length out.old.items) 4 ≡ 0 }
+    ensures { OnOk result (out.new.items ≡ out.old.items ++ value_bytes order kind (value_of held.entry)) }
 {
-    match kind {
-        BasicType::Signature => append_signature(order, out, text),
-        _ => append_text(order, out, 16, text),
+    match held {
+        Held::Text(text) => match kind {
+            BasicType::Signature => append_signature(order, out, text),
+            _ => append_text(order, out, 0, text),
+        },
+        Held::Number(number) => append(out, 0, 4, &write_u32(order, number)),
     }
 }
 
-/// Adds the padding of a field and its first four bytes: its code, the signature of its value.
-fn put_code(out: &mut Vec<u8>, code: FieldCode) -> Result<(), AllocError>
-    ensures { OnOk result (out.new.items ≡ out.old.items ++ (padding (16 + length out.old.items) 8 ++ code_bytes code)) }
+/// Adds a field: its padding, its code, the signature of its value, its value. The answer has its place beside the others.
+fn put_field(
+    out: &mut Vec<u8>,
+    order: Endian,
+    code: FieldCode,
+    held: Held<'_>,
+    places: Places,
+) -> Result<Places, AllocError>
+    requires { IsShortValue (field_type code) (value_of held) }
+    ensures { IfOk result (AppendsFields order (record { code = code; value = value_of held.entry } ∷ []) out.old.items places out.new.items) }
 {
-    append(out, 16, 8, &[code.byte(), 1, code.value_type().letter(), 0])?;
-    Ok(())
+    let kind = code.value_type();
+    append(out, 0, 8, &[code.byte(), 1, kind.letter(), 0])?;
+    put_value(out, order, kind, held)?;
+    Ok(places.with_value(code, held, out.len()))
 }
 
-/// Adds a field with a text, if it is there, to a field array that begins at 16.
-fn put_text_field(
+/// Adds a field with a text, if it is there.
+fn put_text(
     out: &mut Vec<u8>,
     order: Endian,
     code: FieldCode,
     text: Option<&str>,
-) -> Result<(), AllocError>
+    places: Places,
+) -> Result<Places, AllocError>
     requires { IfSome text (λ t. IsShortText (field_type code) t.now) }
-    ensures { OnOk result (out.new.items ≡ out.old.items ++ fields_text order (16 + length out.old.items) (text_field code (option_map (λ t. t.now) text.entry))) }
+    ensures { IfOk result (AppendsFields order (text_field code (option_map (λ t. t.now) text.entry)) out.old.items places out.new.items) }
 {
-    let Some(text) = text else {
-        return Ok(());
-    };
-    put_code(out, code)?;
-    put_value(out, order, code.value_type(), text.as_bytes())
+    match text {
+        Some(text) => put_field(out, order, code, Held::Text(text.as_bytes()), places),
+        None => Ok(places),
+    }
 }
 
-/// Adds a field with a number, if it is there, to a field array that begins at 16.
-fn put_number_field(
+/// Adds a field with a number, if it is there.
+fn put_number(
     out: &mut Vec<u8>,
     order: Endian,
     code: FieldCode,
     number: Option<u32>,
-) -> Result<(), AllocError>
-    ensures { OnOk result (out.new.items ≡ out.old.items ++ fields_text order (16 + length out.old.items) (number_field code number)) }
+    places: Places,
+) -> Result<Places, AllocError>
+    ensures { IfOk result (AppendsFields order (number_field code number) out.old.items places out.new.items) }
 {
-    let Some(number) = number else {
-        return Ok(());
-    };
-    put_code(out, code)?;
-    append(out, 16, 4, &write_u32(order, number))
+    match number {
+        Some(number) => put_field(out, order, code, Held::Number(number), places),
+        None => Ok(places),
+    }
 }
 
-/// The field array of these fields, which begins at 16.
-pub(crate) fn field_array(
-    alloc: Global,
+/// Adds these fields. The answer is where they stand.
+pub(crate) fn put_fields(
+    out: &mut Vec<u8>,
     order: Endian,
     fields: &HeaderFields<'_>,
-) -> Result<Vec<u8>, AllocError>
+) -> Result<Places, AllocError>
     requires { AreShort (header_fields fields.now) }
-    ensures { IfOk result (λ v. v.items ≡ fields_text order 16 (field_list (header_fields fields.now))) }
+    ensures { IfOk result (AppendsFields order (field_list (header_fields fields.now)) out.old.items no_places out.new.items) }
 {
-    let mut out = Vec::new(alloc);
-    put_text_field(&mut out, order, FieldCode::Path, fields.path)?;
-    put_text_field(&mut out, order, FieldCode::Interface, fields.interface)?;
-    put_text_field(&mut out, order, FieldCode::Member, fields.member)?;
-    put_text_field(&mut out, order, FieldCode::ErrorName, fields.error_name)?;
-    put_number_field(&mut out, order, FieldCode::ReplySerial, fields.reply_serial)?;
-    put_text_field(&mut out, order, FieldCode::Destination, fields.destination)?;
-    put_text_field(&mut out, order, FieldCode::Sender, fields.sender)?;
-    put_text_field(&mut out, order, FieldCode::Signature, fields.signature)?;
-    put_number_field(&mut out, order, FieldCode::UnixFds, fields.unix_fds)?;
-    Ok(out)
+    let found = put_text(out, order, FieldCode::Path, fields.path, Places::new())?;
+    let found = put_text(out, order, FieldCode::Interface, fields.interface, found)?;
+    let found = put_text(out, order, FieldCode::Member, fields.member, found)?;
+    let found = put_text(out, order, FieldCode::ErrorName, fields.error_name, found)?;
+    let found = put_number(
+        out,
+        order,
+        FieldCode::ReplySerial,
+        fields.reply_serial,
+        found,
+    )?;
+    let found = put_text(
+        out,
+        order,
+        FieldCode::Destination,
+        fields.destination,
+        found,
+    )?;
+    let found = put_text(out, order, FieldCode::Sender, fields.sender, found)?;
+    let found = put_text(out, order, FieldCode::Signature, fields.signature, found)?;
+    put_number(out, order, FieldCode::UnixFds, fields.unix_fds, found)
 }

@@ -10,6 +10,7 @@ use Rattle.wire_names.specs.declared.bus.OwnedBusName.TheVariants.{Unique as own
 abbrev pub bus_name_of : List ℕ → BusName
 bus_name_of text = if is_unique_name text then Unique text else WellKnown text
 
+-- the text of a bus name, whichever of the two it is
 abbrev pub text_of : BusName → List ℕ
 text_of (Unique text) = text
 text_of (WellKnown text) = text
@@ -19,6 +20,7 @@ abbrev pub owned_of : BusName → OwnedBusName
 owned_of (Unique text) = owned_unique text
 owned_of (WellKnown text) = owned_well_known text
 
+-- the text of one that owns it
 abbrev pub text_of_owned : OwnedBusName → List ℕ
 text_of_owned (owned_unique text) = text
 text_of_owned (owned_well_known text) = text

@@ -13,6 +13,7 @@ elements separator text = slice_split (λ b. b == separator) text
 abbrev pub is_element_byte : Bool → ℕ → Bool
 is_element_byte hyphen b = is_ascii_alphanumeric b || b == 95 || hyphen && b == 45
 
+-- the first byte is a digit
 abbrev pub begins_with_digit : List ℕ → Bool
 begins_with_digit [] = false
 begins_with_digit (b ∷ _) = is_ascii_digit b
@@ -55,21 +56,27 @@ unfoldable pub is_connection : List ℕ → Bool
 is_connection [] = false
 is_connection (b ∷ rest) = b == 58 && is_dotted is_unique_element rest
 
+-- the unique name of a connection, or that of the bus ("Bus names")
 unfoldable pub is_unique_name : List ℕ → Bool
 is_unique_name text = is_short text && (is_the_bus text || is_connection text)
 
+-- a bus name that a connection asks for ("Bus names")
 unfoldable pub is_well_known_name : List ℕ → Bool
 is_well_known_name text = is_short text && is_dotted is_well_known_element text
 
+-- either of them
 unfoldable pub is_bus_name : List ℕ → Bool
 is_bus_name text = is_unique_name text || is_well_known_name text
 
+-- two or more elements joined by `.` ("Interface names")
 unfoldable pub is_interface_name : List ℕ → Bool
 is_interface_name text = is_short text && is_dotted is_interface_element text
 
+-- error names have the grammar of interface names ("Error names")
 unfoldable pub is_error_name : List ℕ → Bool
 is_error_name text = is_interface_name text
 
+-- one element ("Member names")
 unfoldable pub is_member_name : List ℕ → Bool
 is_member_name text = is_short text && is_interface_element text
 
@@ -78,6 +85,7 @@ unfoldable pub is_object_path : List ℕ → Bool
 is_object_path [] = false
 is_object_path (b ∷ rest) = b == 47 && (nat_le (length rest) 0 || list_all is_path_element (elements 47 rest))
 
+-- the same tests as facts
 abbrev pub IsUniqueName : List ℕ → Type 0
 IsUniqueName text = IsTrue (is_unique_name text)
 

@@ -38,6 +38,7 @@ pub trait NameKind: Drop {
 #[derive_where(Debug, PartialEq, Eq, PartialOrd, Ord, Hash)]
 pub struct Name<'a, K: NameKind> {
     text: TextRef<'a>,
+    #[derive_where(skip(EqHashOrd))]
     kind: PhantomData<K>,
 }
 
@@ -130,6 +131,7 @@ impl<'a, K: NameKind> fmt::Display for Name<'a, K> {
 #[derive_where(Debug, PartialEq, Eq, PartialOrd, Ord, Hash)]
 pub struct OwnedName<K: NameKind> {
     text: Text,
+    #[derive_where(skip(EqHashOrd))]
     kind: PhantomData<K>,
 }
 

@@ -2,3 +2,4 @@ pub mod Multiples
 pub mod Numbers
 pub mod Steps
 pub mod Appends
+pub mod Standing

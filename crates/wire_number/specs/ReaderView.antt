@@ -3,6 +3,7 @@ use Rattle.std.specs.Prelude.{◌≡◌, Option, Some, None}
 use Rattle.wire_number.specs.declared.reader.Reader.{Reader}
 use Rattle.wire_number.specs.Reading.{Cursor}
 
+-- the place of a reader, and the bytes from there on
 abbrev pub cursor_of : Reader → Cursor
 cursor_of r = record { place = r.place; rest = r.rest.now }
 

@@ -1,8 +1,8 @@
--- Reading bytes from left to right: what stands at the front, and what stands behind it. The laws in proofs/Steps.antt tie it
--- to the bytes of numbers and texts.
-use Rattle.std.specs.Prelude.{ℕ, ◌+◌, ◌==◌, nat_le, if◌then◌else◌, List, length, take, drop, Option, Some, None, option_and_then, option_map}
+-- Reading bytes from left to right: what stands at the front, and what stands behind it. The laws in src/laws.rt tie it
+-- to the bytes of numbers, padding and texts.
+use Rattle.std.specs.Prelude.{◌≡◌, ℕ, ◌+◌, ◌==◌, nat_le, nat_lt, if◌then◌else◌, List, ◌++◌, length, take, drop, Option, Some, None, option_and_then, option_map}
 use Rattle.std.specs.List.{list_all}
-use Rattle.std.specs.Int.{Width, byte_len}
+use Rattle.std.specs.Int.{Width, w32, byte_len}
 use Rattle.wire_number.specs.declared.endian.Endian.{Endian}
 use Rattle.wire_number.specs.Number.{number, pad}
 
@@ -10,6 +10,10 @@ use Rattle.wire_number.specs.Number.{number, pad}
 pub record Cursor : Type 0 where
   pub place : ℕ
   pub rest : List ℕ
+
+-- A text stands at a cursor, and this is the cursor behind it.
+abbrev pub Stands : List ℕ → Cursor → Cursor → Type 0
+Stands text c after = (c.rest ≡ text ++ after.rest) × (after.place ≡ c.place + length text)
 
 -- what was read, and the cursor behind it
 abbrev pub Parse : Type 0 → Type 0
@@ -56,3 +60,11 @@ counted_at w order c = do
   x ← bytes_at n.0 n.1
   end ← zeros_at 1 x.1
   Some (x.0, end)
+
+-- a boolean behind its padding, as the number that it is: 1 is true, 0 is false, and no other number is one (D-Bus
+-- Specification, "Marshaling", `BOOLEAN`)
+unfoldable pub boolean_at : Endian → Cursor → Parse ℕ
+boolean_at order c = do
+  p ← align_at 4 c
+  x ← number_at w32 order p
+  if nat_lt x.0 2 then Some x else None

@@ -78,9 +78,5 @@ pub fn put_u32(order: Endian, out: &mut Vec<u8>, place: usize, number: u32)
     requires { place + 4 ≤ length out.old.items }
     ensures { out.new.items ≡ take place out.old.items ++ (number_text w32 order number ++ drop (place + 4) out.old.items) }
 {
-    let four = write_u32(order, number);
-    out[place] = four[0];
-    out[place + 1] = four[1];
-    out[place + 2] = four[2];
-    out[place + 3] = four[3];
+    out.as_mut_slice()[place..place + 4].copy_from_slice(&write_u32(order, number));
 }

@@ -1,8 +1,8 @@
 //! Taking bytes, padding, numbers and texts from a reader.
-ghost use Rattle.std.specs.Prelude.{◌≡◌, ◌%◌, ◌≤◌, ◌==◌};
+ghost use Rattle.std.specs.Prelude.{◌≡◌, ◌%◌, ◌≤◌, ◌==◌, cond};
 ghost use Rattle.std.specs.Int.{w8, w16, w32, w64};
 ghost use Rattle.std.specs.List.{list_all};
-ghost use Rattle.wire_number.specs.Reading.{align_at, bytes_at, counted_at, number_at, zeros_at};
+ghost use Rattle.wire_number.specs.Reading.{align_at, boolean_at, bytes_at, counted_at, number_at, zeros_at};
 ghost use Rattle.wire_number.specs.ReaderView.{Finds, cursor_of};
 
 use crate::endian::Endian;
@@ -90,6 +90,19 @@ impl<'a> Reader<'a> {
     {
         let (bytes, after) = self.bytes(8)?;
         Some((read_u64(order, bytes), after))
+    }
+
+    /// The boolean behind its padding. No number but 0 and 1 is one.
+    #[tactic(auto, unfolding(crate::specs::Reading::boolean_at))]
+    pub fn boolean(self, order: Endian) -> Option<(bool, Reader<'a>)>
+        ensures { Finds (λ x. (cond x.0 1 0, cursor_of x.1)) result (boolean_at order (cursor_of self.entry)) }
+    {
+        let (number, after) = self.align(4)?.u32(order)?;
+        match number {
+            0 => Some((false, after)),
+            1 => Some((true, after)),
+            _ => None,
+        }
     }
 
     /// The bytes of a text whose length is a `UINT32`, behind its padding. Nothing is asked of the text itself.

@@ -1,28 +1,36 @@
--- Types are equal exactly where their texts are.
-use Rattle.std.proofs.Common.{◌≡◌, ℕ, Bool, true, false, IsTrue, ◌↔◌, ◌&&◌, nat_eq, List, [], ◌∷◌, refl, sym, ◌∙◌, ap}
+-- Types and signatures are equal exactly where their texts are.
+use Rattle.std.proofs.Common.{◌≡◌, ℕ, Bool, true, false, IsTrue, ◌↔◌, nat_eq, List, refl, sym, ap}
 use Rattle.std.specs.Cmp.Lexicographic.{pointwise}
-use Rattle.std.proofs.lemmas.Bool.{eqb-true, eq-eqb}
-use Rattle.wire_signature.specs.Shape.{Shape, IsType, type_text}
-use Rattle.wire_signature.proofs.Takes.{both_true}
-use Rattle.wire_signature.proofs.Exact.{TypeText-one}
+use Rattle.std.proofs.lemmas.Slice.Eq.{bytes_eq-Decides}
+use Rattle.wire_signature.specs.Shape.{Shape, IsSignature, IsType, signature_text, type_text}
+use Rattle.wire_signature.proofs.Exact.{SignatureText-one, TypeText-one}
 
-pointwise-true : (xs ys : List ℕ) → pointwise nat_eq xs ys ≡ true → xs ≡ ys
-pointwise-true [] [] e = refl
-pointwise-true [] (y ∷ ys) e = absurd (cc)
-pointwise-true (x ∷ xs) [] e = absurd (cc)
-pointwise-true (x ∷ xs) (y ∷ ys) e =
-    let b = both_true (nat_eq x y) (pointwise nat_eq xs ys) e in
-    let heads : x ≡ y = eqb-true x y b.0 in let tails : xs ≡ ys = pointwise-true xs ys b.1 in cc
+module _ {A : Type 0} (text : A → List ℕ) (t u : A) (one : text t ≡ text u → t ≡ u) where
+  pub texts_decide : IsTrue (pointwise nat_eq (text t) (text u)) ↔ (t ≡ u)
+  texts_decide = (λ e. one ((bytes_eq-Decides (text t) (text u)).0 e), λ e. (bytes_eq-Decides (text t) (text u)).1 (ap text e))
 
-pointwise-same : (xs : List ℕ) → pointwise nat_eq xs xs ≡ true
-pointwise-same [] = refl
-pointwise-same (x ∷ xs) = ap (λ b. b && pointwise nat_eq xs xs) (eq-eqb x x refl) ∙ pointwise-same xs
+  differs : (p : Bool) → (IsTrue p → IsTrue false) → false ≡ p
+  differs false f = refl
+  differs true f = f refl
 
-differs : (p : Bool) (t u : Shape) → IsType t → IsType u → pointwise nat_eq (type_text t) (type_text u) ≡ p → (t ≡ u → IsTrue false) → false ≡ p
-differs false t u h k e f = refl
-differs true t u h k e f =
-    f (TypeText-one t u (type_text t) (record { valid = h; text = refl }) (record { valid = k; text = pointwise-true (type_text t) (type_text u) e }))
+  test_is : (b : Bool) → IsTrue b ↔ (t ≡ u) → b ≡ pointwise nat_eq (text t) (text u)
+  test_is true f = sym (texts_decide.1 (f.0 refl))
+  test_is false f = differs (pointwise nat_eq (text t) (text u)) (λ e. f.1 (texts_decide.0 e))
 
-pub texts-same : (b : Bool) (t u : Shape) → IsType t → IsType u → IsTrue b ↔ (t ≡ u) → b ≡ pointwise nat_eq (type_text t) (type_text u)
-texts-same true t u h k f = sym (ap (λ v. pointwise nat_eq (type_text t) (type_text v)) (sym (f.0 refl)) ∙ pointwise-same (type_text t))
-texts-same false t u h k f = differs (pointwise nat_eq (type_text t) (type_text u)) t u h k refl f.1
+type_one : (t u : Shape) → IsType t → IsType u → type_text t ≡ type_text u → t ≡ u
+type_one t u h k e = TypeText-one t u (type_text t) (record { valid = h; text = refl }) (record { valid = k; text = e })
+
+signature_one : (ts us : List Shape) → IsSignature ts → IsSignature us → signature_text ts ≡ signature_text us → ts ≡ us
+signature_one ts us h k e = SignatureText-one ts us (signature_text ts) (record { valid = h; text = refl }) (record { valid = k; text = e })
+
+pub types_test : (b : Bool) (t u : Shape) → IsType t → IsType u → IsTrue b ↔ (t ≡ u) → b ≡ pointwise nat_eq (type_text t) (type_text u)
+types_test b t u h k f = test_is type_text t u (type_one t u h k) b f
+
+pub signatures_test : (b : Bool) (ts us : List Shape) → IsSignature ts → IsSignature us → IsTrue b ↔ (ts ≡ us) → b ≡ pointwise nat_eq (signature_text ts) (signature_text us)
+signatures_test b ts us h k f = test_is signature_text ts us (signature_one ts us h k) b f
+
+pub types_decide : (t u : Shape) → IsType t → IsType u → IsTrue (pointwise nat_eq (type_text t) (type_text u)) ↔ (t ≡ u)
+types_decide t u h k = texts_decide type_text t u (type_one t u h k)
+
+pub signatures_decide : (ts us : List Shape) → IsSignature ts → IsSignature us → IsTrue (pointwise nat_eq (signature_text ts) (signature_text us)) ↔ (ts ≡ us)
+signatures_decide ts us h k = texts_decide signature_text ts us (signature_one ts us h k)

@@ -5,3 +5,5 @@ pub mod Rows
 pub mod Exact
 pub mod Fields
 pub mod Equal
+pub mod Ascii
+pub mod Puts

@@ -3,3 +3,4 @@ pub mod ShapeCode
 pub mod TypeView
 pub mod TypeFalls
 pub mod Parsing
+pub mod Texting

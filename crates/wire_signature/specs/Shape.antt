@@ -86,6 +86,10 @@ abbrev mutual
   types_text no_shapes = []
   types_text (shapes t ts) = type_text t ++ types_text ts
 
+-- the text of a signature: those of its types, one behind the other
+abbrev pub signature_text : List Shape → List ℕ
+signature_text ts = types_text (shapes_of ts)
+
 -- how many arrays stand in one another, along the deepest way; a dict counts as the array that it is
 abbrev mutual
   pub array_depth : Shape → ℕ

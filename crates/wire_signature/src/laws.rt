@@ -1,6 +1,7 @@
 //! What types and their texts owe one another.
-ghost use Rattle.std.specs.Prelude.{◌≡◌, List, ℕ, Some};
-ghost use Rattle.wire_signature.specs.Shape.{Shape, SignatureText, TypeText};
+ghost use Rattle.std.specs.Prelude.{◌≡◌, ◌↔◌, IsTrue, List, ℕ, Some, nat_eq};
+ghost use Rattle.std.specs.Cmp.Lexicographic.{pointwise};
+ghost use Rattle.wire_signature.specs.Shape.{IsSignature, IsType, Shape, SignatureText, TypeText, signature_text, type_text};
 ghost use Rattle.wire_signature.specs.Parsing.{type_in, types_in};
 
 /// A text is the signature of at most one list of types.
@@ -35,4 +36,11 @@ pub fn reading_a_signature()
 pub fn reading_a_type()
     ensures found { (shape : Shape) (bytes : List ℕ) → type_in bytes ≡ Some shape → TypeText shape bytes }
     ensures all { (shape : Shape) (bytes : List ℕ) → TypeText shape bytes → type_in bytes ≡ Some shape }
+{}
+
+/// Types and signatures are equal, as `==` decides, exactly where they are one.
+pub fn equal_types_are_one()
+    ensures types { (t u : Shape) → IsType t → IsType u → IsTrue (pointwise nat_eq (type_text t) (type_text u)) ↔ (t ≡ u) }
+    ensures signatures { (ts us : List Shape) → IsSignature ts → IsSignature us
+        → IsTrue (pointwise nat_eq (signature_text ts) (signature_text us)) ↔ (ts ≡ us) }
 {}

@@ -4,8 +4,8 @@
 pub use crate::basic::BasicType;
 pub use crate::error::VariantError;
 pub use crate::laws::{
-    one_list_of_types, one_signature_text, one_type, one_type_text, reading_a_signature,
-    reading_a_type,
+    equal_types_are_one, one_list_of_types, one_signature_text, one_type, one_type_text,
+    reading_a_signature, reading_a_type,
 };
 pub use crate::signature::Signature;
 pub use crate::text::{MAX_ARRAYS, MAX_LENGTH, MAX_STRUCTS, first_type, is_signature};
@@ -17,5 +17,6 @@ mod laws;
 mod read;
 mod signature;
 mod text;
+mod texting;
 mod value_type;
 mod walk;

@@ -2,7 +2,8 @@
 use crate::error::VariantError;
 use crate::read::read_types;
 use crate::text::{MAX_ARRAYS, MAX_LENGTH, MAX_STRUCTS, ROOM};
-use crate::value_type::{ValueType, copies_of, write_types};
+use crate::texting::{put_types, string_of};
+use crate::value_type::{ValueType, are_same, copies_of};
 use crate::walk::End;
 use std::alloc::{AllocError, Global};
 use std::marker::Model;
@@ -88,13 +89,14 @@ impl Signature {
     {
         self.types.is_empty()
     }
+
     /// The one text of the signature (D-Bus Specification, "Valid Signatures").
     pub fn to_text(&self, alloc: Global) -> Result<String, AllocError>
         ensures { IfOk result (λ text. SignatureText self.now (string_bytes text)) }
     {
-        let mut text = String::new(alloc);
-        write_types(&mut text, self.types())?;
-        Ok(text)
+        let mut text = [0; MAX_LENGTH];
+        let end = put_types(self.types(), &mut text, 0);
+        string_of(alloc, &text[..end])
     }
 
     /// A copy. It fails only for want of memory.
@@ -103,4 +105,28 @@ impl Signature {
     {
         Ok(Signature::from_types(copies_of(alloc, self.types())?))
     }
+}
+
+/// Signatures are equal where they are of the same types, so where their texts are one.
+impl PartialEq for Signature {
+    ghost use Rattle.std.specs.Prelude.{nat_eq};
+    ghost use Rattle.std.specs.Cmp.{on_per, partial_equiv_from_equiv};
+    ghost use Rattle.std.specs.Cmp.Lexicographic.{pointwise, nat_list_eq_equiv};
+    ghost use Rattle.wire_signature.specs.Shape.{signature_text};
+
+    ghost eq = { λ s t. pointwise nat_eq (signature_text s) (signature_text t) };
+
+    ghost laws = { on_per signature_text (partial_equiv_from_equiv nat_list_eq_equiv) };
+
+    fn eq(&self, other: &Signature) -> bool {
+        are_same(self.types(), other.types())
+    }
+}
+
+impl Eq for Signature {
+    ghost use Rattle.std.specs.Cmp.{on_equiv};
+    ghost use Rattle.std.specs.Cmp.Lexicographic.{nat_list_eq_equiv};
+    ghost use Rattle.wire_signature.specs.Shape.{signature_text};
+
+    ghost laws = { on_equiv signature_text nat_list_eq_equiv };
 }

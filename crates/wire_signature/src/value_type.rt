@@ -1,11 +1,11 @@
 //! Single complete types.
-ghost use Rattle.std.specs.Prelude.{◌≡◌, ◌↔◌, ◌++◌, IfOk, IsTrue, OnOk, string_bytes};
-ghost use Rattle.wire_signature.specs.Shape.{shapes_of, type_text, types_text};
+ghost use Rattle.std.specs.Prelude.{◌≡◌, ◌↔◌, IfOk, IsTrue};
 
 use crate::basic::BasicType;
 use crate::error::VariantError;
 use crate::read::read_type;
 use crate::text::{MAX_ARRAYS, MAX_LENGTH, MAX_STRUCTS, ROOM};
+use crate::texting::{put_type, string_of};
 use std::alloc::{AllocError, Global};
 use std::marker::Model;
 
@@ -52,7 +52,7 @@ impl Model for ValueType {
 }
 
 impl ValueType {
-    ghost use Rattle.std.specs.Prelude.{◌≡◌, IfOk, string_bytes};
+    ghost use Rattle.std.specs.Prelude.{◌≡◌, ◌≤◌, IfOk, string_bytes, take};
     ghost use Rattle.wire_signature.specs.TypeView.{shape_of};
     ghost use Rattle.wire_signature.specs.Shape.{IsType, TypeText, alignment};
     ghost use Rattle.wire_signature.specs.Parsing.{GivesType, TellsType, type_in};
@@ -108,11 +108,19 @@ impl ValueType {
     pub fn to_text(&self, alloc: Global) -> Result<String, AllocError>
         ensures { IfOk result (λ text. TypeText self.now (string_bytes text)) }
     {
-        let mut text = String::new(alloc);
-        write_type(&mut text, self)?;
+        let mut text = [0; MAX_LENGTH];
+        let end = self.put_text(&mut text);
+        string_of(alloc, &text[..end])
+    }
+
+    /// Puts the one text of the type at the front of bytes, without memory, and gives its length.
+    pub fn put_text(&self, out: &mut [u8; 255]) -> usize
+        ensures text { TypeText self.now (take result out.new) }
+        ensures within { result ≤ 255 }
+    {
         // Reading the field tells the proof that the type is within the limits.
         let _ = &self.node;
-        Ok(text)
+        put_type(self, out, 0)
     }
 
     /// The boundary on which a value of the type begins, in bytes (D-Bus Specification, "Marshaling").
@@ -183,44 +191,9 @@ fn copy_of(alloc: Global, value_type: &ValueType) -> Result<ValueType, AllocErro
     Ok(ValueType::from_node(node))
 }
 
-/// Writes the texts of types, one after another, at the end of `out`.
-#[cycle(texts)]
-pub(crate) fn write_types(out: &mut String, types: &[ValueType]) -> Result<(), AllocError>
-    ensures { OnOk result (string_bytes out.new ≡ string_bytes out.old ++ types_text (shapes_of types.now)) }
-{
-    for each in types {
-        write_type(out, each)?;
-    }
-    Ok(())
-}
-
-#[cycle(texts)]
-fn write_type(out: &mut String, value_type: &ValueType) -> Result<(), AllocError>
-    ensures { OnOk result (string_bytes out.new ≡ string_bytes out.old ++ type_text value_type.now) }
-{
-    match value_type.node() {
-        TypeNode::Basic(basic) => out.push(char::from(basic.letter())),
-        TypeNode::Variant => out.push('v'),
-        TypeNode::Array(element) => {
-            out.push('a')?;
-            write_type(out, element)
-        }
-        TypeNode::Dict(key, value) => {
-            out.push_str("a{")?;
-            out.push(char::from(key.letter()))?;
-            write_type(out, value)?;
-            out.push('}')
-        }
-        TypeNode::Struct(fields) => {
-            out.push('(')?;
-            write_types(out, fields)?;
-            out.push(')')
-        }
-    }
-}
-
+/// Whether the types are the same, in the same order.
 #[cycle(same)]
-fn are_same(types: &[ValueType], others: &[ValueType]) -> bool
+pub(crate) fn are_same(types: &[ValueType], others: &[ValueType]) -> bool
     ensures { IsTrue result ↔ (types.now ≡ others.now) }
 {
     if types.len() != others.len() {

@@ -5,16 +5,16 @@ use Rattle.std.proofs.Math.Nat.{mod-mod}
 use Rattle.wire_number.specs.declared.endian.Endian.{Endian}
 use Rattle.wire_signature.specs.declared.error.VariantError.{VariantError}
 use Rattle.wire_signature.specs.declared.error.VariantError.TheVariants as errors
-use Rattle.wire_signature.specs.Shape.{Shape, IsType, type_text, BeginsWithType}
+use Rattle.wire_signature.specs.Shape.{Shape, no_shapes, shapes, array_depth, struct_depth, IsType, type_text, BeginsWithType}
 use Rattle.wire_signature.proofs.Exact.{begins_again}
 use Rattle.wire_tree.specs.Datum.{Datum}
 use Rattle.wire_spelling.specs.Spelling.{spelling, Spells}
-use Rattle.wire_number.specs.Reading.{Cursor, Parse}
+use Rattle.wire_number.specs.Reading.{Cursor}
 use Rattle.wire_spelling.specs.Reading.{value_at}
-use Rattle.wire_spelling.specs.Walking.{walk_at}
+use Rattle.wire_spelling.specs.Walking.{value, AreShallow, Walks}
 use Rattle.wire_spelling.specs.Promises.{SpellNothing, SpellOnlyThe, StandsFirst, Explains}
 use Rattle.wire_spelling.specs.ReaderView.{Refuses}
-use Rattle.wire_spelling.proofs.WalkSame.{IsShallow, leaving, walk_same}
+use Rattle.wire_spelling.proofs.Walks.{left_none, left_some}
 use Rattle.wire_number.proofs.Steps.{at, AreBytes, some_is}
 use Rattle.wire_spelling.proofs.FoundValues.{IsValue, value_takes}
 use Rattle.wire_spelling.proofs.ReadAgain.{value_again}
@@ -35,19 +35,6 @@ rest_alike p = record { rest = mod-mod p 8 }
 
 pub alike_rest : (p : ℕ) → Alike p (p % 8)
 alike_rest p = record { rest = sym (mod-mod p 8) }
-
-pub value_found : (order : Endian) (p : ℕ) (t : Shape) (bytes : List ℕ) (d : Datum) (c : Cursor) → IsType t → AreBytes bytes
-    → value_at 64 order t (at p bytes) ≡ Some (d, c) → Spells order p t d (take (c.place - p) bytes)
-value_found order p t bytes d c valid low e =
-    let k : IsValue 64 order t (at p bytes) (d, c) = value_takes 64 order t (at p bytes) (d, c) e low in
-    let long : length (spelling order p d) ≡ c.place - p = omega (arith, k.reads.place_is) in
-    record {
-      kind = k.kind;
-      formed = record { type = subst IsType (sym k.kind) valid; sound = k.sound };
-      within = k.within;
-      fit = k.fit;
-      text = ap (take (c.place - p)) k.reads.text_is ∙ take_at (spelling order p d) c.rest (c.place - p) long;
-    }
 
 pub value_only : (order : Endian) (p : ℕ) (t : Shape) (d : Datum) (body rest : List ℕ) → Spells order p t d body
     → value_at 64 order t (at p (body ++ rest)) ≡ Some (d, at (p + length body) rest)
@@ -76,69 +63,21 @@ same_front order p t d e a b x y s k same =
 abbrev pub start : ℕ → List ℕ → Cursor
 start place bytes = at (place % 8) bytes
 
-pub decoded : (order : Endian) (place : ℕ) (t : Shape) (bytes : List ℕ) (x : Datum × Cursor) → IsType t → AreBytes bytes
-    → value_at 64 order t (start place bytes) ≡ Some x → Spells order place t x.0 (take (x.1.place - place % 8) bytes)
-decoded order place t bytes x valid low e =
-    spells_alike order (place % 8) place t x.0 _ (rest_alike place) (value_found order (place % 8) t bytes x.0 x.1 valid low e)
-
-pub decoded_within : (order : Endian) (place : ℕ) (t : Shape) (bytes : List ℕ) (x : Datum × Cursor) → AreBytes bytes
-    → value_at 64 order t (start place bytes) ≡ Some x → (place % 8 ≤ x.1.place) × (x.1.place - place % 8 ≤ length bytes)
-decoded_within order place t bytes x low e =
-    let k : IsValue 64 order t (start place bytes) x = value_takes 64 order t (start place bytes) x e low in
-    (omega (arith, k.reads.place_is), omega (arith, k.reads.place_is, ap length k.reads.text_is, length-append (spelling order (place % 8) x.0) x.1.rest))
-
 spelled_read : (order : Endian) (place : ℕ) (t : Shape) (bytes : List ℕ) (d : Datum) (front rest : List ℕ) → Spells order place t d front → bytes ≡ front ++ rest
     → value_at 64 order t (start place bytes) ≡ Some (d, at (place % 8 + length front) rest)
 spelled_read order place t bytes d front rest s e =
     ap (λ r. value_at 64 order t (start place r)) e
     ∙ value_only order (place % 8) t d front rest (spells_alike order place (place % 8) t d front (alike_rest place) s)
 
-pub decoded_only : (order : Endian) (place : ℕ) (t : Shape) (bytes : List ℕ) (x : Datum × Cursor) → value_at 64 order t (start place bytes) ≡ Some x
-    → SpellOnlyThe order place t bytes (x.0, x.1.place - place % 8)
-decoded_only order place t bytes x e d front rest s same =
-    let one : x ≡ (d, at (place % 8 + length front) rest) = some_is _ _ (sym e ∙ spelled_read order place t bytes d front rest s same) in
-    let there : x.1.place ≡ place % 8 + length front = ap (λ y. y.1.place) one in
-    (ap (λ y. y.0) one, omega arith)
-
-pub decoded_none : (order : Endian) (place : ℕ) (t : Shape) (bytes : List ℕ) → value_at 64 order t (start place bytes) ≡ None → SpellNothing order place t bytes
-decoded_none order place t bytes e d front rest s same =
-    let found : value_at 64 order t (start place bytes) ≡ Some (d, at (place % 8 + length front) rest) = spelled_read order place t bytes d front rest s same in absurd (cc)
-
-pub explained : (e : VariantError) (order : Endian) (place : ℕ) (t : Shape) (bytes : List ℕ) → Refuses e (value_at 64 order t (start place bytes)) → Explains e order place t bytes
-explained errors.Signature order place t bytes h = h
-explained errors.Depth order place t bytes h = h
-explained errors.Malformed order place t bytes h = decoded_none order place t bytes h
-explained errors.SignatureMismatch order place t bytes h = h
-explained errors.Memory order place t bytes h = tt
-
 -- ---- by the text of a type
-
-pub first_shallow : (t : Shape) → IsType t → IsShallow t
-first_shallow t h = record { arrays = h.arrays; structs = h.structs; fields = h.fields }
 
 pub stands_begins : (t : Shape) (types : List ℕ) → IsType t → StandsFirst t types → BeginsWithType types (length (type_text t))
 stands_begins t types h k = record { first = t; rest = k.0; text = k.1; long = refl; arrays = h.arrays; structs = h.structs; fields = h.fields }
 
-pub walked : (order : Endian) (t : Shape) (types : List ℕ) (c : Cursor) → IsType t → (k : StandsFirst t types)
-    → walk_at 64 order types c ≡ leaving k.0 (value_at 64 order t c)
-walked order t types c h k = ap (λ r. walk_at 64 order r c) k.1 ∙ walk_same 64 order t k.0 c (first_shallow t h)
-
-left_some : {A : Type 0} (rest : List ℕ) (found : Parse A) (y : List ℕ × Cursor) → leaving rest found ≡ Some y → (a : A) × (found ≡ Some (a, y.1))
-left_some rest None y e = absurd (cc)
-left_some rest (Some x) y e = let same : x.1 ≡ y.1 = cc in (x.0, ap (λ c. Some (x.0, c)) same)
-
-left_none : {A : Type 0} (rest : List ℕ) (found : Parse A) → leaving rest found ≡ None → found ≡ None
-left_none rest None e = refl
-left_none rest (Some x) e = absurd (cc)
-
--- a value that a walk passed
-pub walked_some : (order : Endian) (t : Shape) (types : List ℕ) (c : Cursor) (y : List ℕ × Cursor) → IsType t → StandsFirst t types → walk_at 64 order types c ≡ Some y
-    → (d : Datum) × (value_at 64 order t c ≡ Some (d, y.1))
-walked_some order t types c y h k e = left_some k.0 (value_at 64 order t c) y (sym (walked order t types c h k) ∙ e)
-
-pub walked_none : (order : Endian) (t : Shape) (types : List ℕ) (c : Cursor) → IsType t → StandsFirst t types → walk_at 64 order types c ≡ None
-    → value_at 64 order t c ≡ None
-walked_none order t types c h k e = left_none k.0 (value_at 64 order t c) (sym (walked order t types c h k) ∙ e)
+type_shallow : (t : Shape) → IsType t → AreShallow (shapes t no_shapes)
+type_shallow t h =
+    let a : array_depth t ≤ 32 = h.arrays in
+    let s : struct_depth t ≤ 32 = h.structs in record { arrays = omega arith; structs = omega arith; fields = (h.fields, tt) }
 
 -- the first type of a text, if it is no longer than a signature may be
 pub first_is_type : (types : List ℕ) (n : ℕ) (b : BeginsWithType types n) → n ≤ 255 → IsType b.first
@@ -158,40 +97,60 @@ pub record Decoded (order : Endian) (place : ℕ) (t : Shape) (bytes : List ℕ)
   pub within : x.1.place - c.place ≤ length bytes
   pub only : SpellOnlyThe order place t bytes (x.0, x.1.place - c.place)
 
-decoded_start : (order : Endian) (place : ℕ) (t : Shape) (bytes : List ℕ) (x : Datum × Cursor) → IsType t → AreBytes bytes
-    → value_at 64 order t (start place bytes) ≡ Some x → Decoded order place t bytes (start place bytes) x
-decoded_start order place t bytes x valid low e =
-    let k = decoded_within order place t bytes x low e in
-    record { found = decoded order place t bytes x valid low e; before = k.0; within = k.1; only = decoded_only order place t bytes x e }
-
 pub decoded_from : (order : Endian) (place : ℕ) (t : Shape) (bytes : List ℕ) (c : Cursor) (x : Datum × Cursor) → c ≡ start place bytes → IsType t → AreBytes bytes
     → value_at 64 order t c ≡ Some x → Decoded order place t bytes c x
 decoded_from order place t bytes c x same valid low e =
-    subst (λ (k : Cursor). Decoded order place t bytes k x) (sym same)
-    (decoded_start order place t bytes x valid low (sym (ap (value_at 64 order t) same) ∙ e))
+    let p : ℕ = place % 8 in
+    let f : value_at 64 order t (start place bytes) ≡ Some x = sym (ap (value_at 64 order t) same) ∙ e in
+    let k : IsValue 64 order t (start place bytes) x = value_takes 64 order t (start place bytes) x f low in
+    let long : length (spelling order p x.0) ≡ x.1.place - p = omega (arith, k.reads.place_is) in
+    let found : Spells order p t x.0 (take (x.1.place - p) bytes) = record {
+      kind = k.kind;
+      formed = record { type = subst IsType (sym k.kind) valid; sound = k.sound };
+      within = k.within;
+      fit = k.fit;
+      text = ap (take (x.1.place - p)) k.reads.text_is ∙ take_at (spelling order p x.0) x.1.rest (x.1.place - p) long;
+    } in
+    subst (λ (c : Cursor). Decoded order place t bytes c x) (sym same)
+    (record {
+      found = spells_alike order p place t x.0 _ (rest_alike place) found;
+      before = omega (arith, k.reads.place_is);
+      within = omega (arith, k.reads.place_is, ap length k.reads.text_is, length-append (spelling order p x.0) x.1.rest);
+      only = λ d front rest s same.
+          let one : x ≡ (d, at (p + length front) rest) = some_is _ _ (sym f ∙ spelled_read order place t bytes d front rest s same) in
+          let there : x.1.place ≡ p + length front = ap (λ y. y.1.place) one in
+          (ap (λ y. y.0) one, omega arith);
+    })
 
--- a value that was passed over
+-- a value that was not found
 pub nothing_from : (order : Endian) (place : ℕ) (t : Shape) (bytes : List ℕ) (c : Cursor) → c ≡ start place bytes
     → value_at 64 order t c ≡ None → SpellNothing order place t bytes
-nothing_from order place t bytes c same e = decoded_none order place t bytes (sym (ap (value_at 64 order t) same) ∙ e)
+nothing_from order place t bytes c same e d front rest s f =
+    let none : value_at 64 order t (start place bytes) ≡ None = sym (ap (value_at 64 order t) same) ∙ e in
+    let found : value_at 64 order t (start place bytes) ≡ Some (d, at (place % 8 + length front) rest) = spelled_read order place t bytes d front rest s f in absurd (cc)
 
 pub explained_from : (e : VariantError) (order : Endian) (place : ℕ) (t : Shape) (bytes : List ℕ) (c : Cursor) → c ≡ start place bytes
     → Refuses e (value_at 64 order t c) → Explains e order place t bytes
-explained_from e order place t bytes c same h = explained e order place t bytes (subst (λ (k : Cursor). Refuses e (value_at 64 order t k)) same h)
+explained_from errors.Signature order place t bytes c same h = h
+explained_from errors.Depth order place t bytes c same h = h
+explained_from errors.Malformed order place t bytes c same h = nothing_from order place t bytes c same h
+explained_from errors.SignatureMismatch order place t bytes c same h = h
+explained_from errors.Memory order place t bytes c same h = tt
 
 pub spells_type : (order : Endian) (place : ℕ) (t : Shape) (d : Datum) (front : List ℕ) → Spells order place t d front → IsType t
 spells_type order place t d front s = subst IsType s.kind s.formed.type
 
--- a value that was walked over
+-- what a walk found, and that it found nothing
 pub walked_from : (order : Endian) (place : ℕ) (t : Shape) (types bytes : List ℕ) (c : Cursor) (y : List ℕ × Cursor) → c ≡ start place bytes → IsType t → StandsFirst t types
-    → AreBytes bytes → walk_at 64 order types c ≡ Some y → (d : Datum) × Decoded order place t bytes c (d, y.1)
-walked_from order place t types bytes c y same valid k low e =
-    let x = walked_some order t types c y valid k e in (x.0, decoded_from order place t bytes c (x.0, y.1) same valid low x.1)
+    → AreBytes bytes → Walks 64 order types c (λ found. found ≡ Some y) → (d : Datum) × Decoded order place t bytes c (d, y.1)
+walked_from order place t types bytes c y same valid k low w =
+    let x = (left_some k.0 (value_at 64 order t c) y (w (value t) k.0 (type_shallow t valid) k.1)).1 in (x.0, decoded_from order place t bytes c (x.0, y.1) same valid low x.1)
 
-pub walked_nothing : (order : Endian) (place : ℕ) (types bytes : List ℕ) (c : Cursor) → c ≡ start place bytes → walk_at 64 order types c ≡ None
+pub walked_nothing : (order : Endian) (place : ℕ) (types bytes : List ℕ) (c : Cursor) → c ≡ start place bytes → Walks 64 order types c (λ found. found ≡ None)
     → (t : Shape) → StandsFirst t types → SpellNothing order place t bytes
-walked_nothing order place types bytes c same e t k d front rest s f =
-    nothing_from order place t bytes c same (walked_none order t types c (spells_type order place t d front s) k e) d front rest s f
+walked_nothing order place types bytes c same w t k d front rest s f =
+    nothing_from order place t bytes c same
+    (left_none k.0 (value_at 64 order t c) (w (value t) k.0 (type_shallow t (spells_type order place t d front s)) k.1)) d front rest s f
 
 pub no_first : (order : Endian) (place : ℕ) (types bytes : List ℕ) → ((n : ℕ) → BeginsWithType types n → ⊥)
     → (t : Shape) → StandsFirst t types → SpellNothing order place t bytes

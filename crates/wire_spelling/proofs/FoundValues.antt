@@ -29,8 +29,10 @@ pub record IsValue (room : ℕ) (order : Endian) (t : Shape) (c : Cursor) (y : D
 abbrev pub IsReader : ℕ → Endian → (Shape → Cursor → Parse Datum) → Type 0
 IsReader room order read = (t : Shape) (c : Cursor) (y : Datum × Cursor) → read t c ≡ Some y → AreBytes c.rest → IsValue room order t c y
 
-value_as : (room : ℕ) (order : Endian) (t : Shape) (c : Cursor) (x y : Datum × Cursor) → x ≡ y → IsValue room order t c x → IsValue room order t c y
-value_as room order t c x y e h = subst (λ (y : Datum × Cursor). IsValue room order t c y) e h
+-- what was read and was made into a value
+made_as : {A : Type 0} (f : A → Datum) (found : Parse A) (y : Datum × Cursor) (P : Datum × Cursor → Type 0) → made f found ≡ Some y
+    → ((x : A × Cursor) → found ≡ Some x → P (f x.0, x.1)) → P y
+made_as f found y P e g = let x = map_some (λ x. (f x.0, x.1)) found y e in subst P x.2 (g x.0 x.1)
 
 -- ---- basic types
 
@@ -38,19 +40,15 @@ num_value : (room : ℕ) (n : Num) (order : Endian) (c : Cursor) (y : Datum × C
     → IsValue room order (basic (num_type n)) c y
 unfolding ArraysFit
 num_value room n order c y e low =
-    let x = map_some (λ x. (num n x.0, x.1)) (num_at n order c) y e in
-    let k : IsNum n order c x.0 = num_takes n order c x.0 x.1 low in
-    value_as room order (basic (num_type n)) c (num n x.0.0, x.0.1) y x.2
-    (record { reads = k.reads; kind = refl; sound = k.sound; within = omega arith; fit = tt })
+    made_as (num n) (num_at n order c) y (IsValue room order (basic (num_type n)) c) e
+    (λ x f. let k : IsNum n order c x = num_takes n order c x f low in record { reads = k.reads; kind = refl; sound = k.sound; within = omega arith; fit = tt })
 
 text_value : (room : ℕ) (t : Txt) (order : Endian) (c : Cursor) (y : Datum × Cursor) → text_value_at t order c ≡ Some y → AreBytes c.rest
     → IsValue room order (basic (text_type t)) c y
 unfolding ArraysFit
 text_value room t order c y e low =
-    let x = map_some (λ x. (text t x.0, x.1)) (text_at t order c) y e in
-    let k : IsText t order c x.0 = text_takes t order c x.0 x.1 low in
-    value_as room order (basic (text_type t)) c (text t x.0.0, x.0.1) y x.2
-    (record { reads = k.reads; kind = refl; sound = k.sound; within = omega arith; fit = tt })
+    made_as (text t) (text_at t order c) y (IsValue room order (basic (text_type t)) c) e
+    (λ x f. let k : IsText t order c x = text_takes t order c x f low in record { reads = k.reads; kind = refl; sound = k.sound; within = omega arith; fit = tt })
 
 pub basic_takes : (room : ℕ) (order : Endian) (b : BasicType) (c : Cursor) (y : Datum × Cursor) → basic_at b order c ≡ Some y → AreBytes c.rest
     → IsValue room order (basic b) c y
@@ -164,21 +162,21 @@ array_value : (room : ℕ) (order : Endian) (t : Shape) (read : Shape → Cursor
     → IsValue (suc room) order (array_of t) c y
 unfolding array_at spelling ArraysFit
 array_value room order t read reads c y e low =
-    let z = map_some (λ x. (array t (data_of x.0), x.1)) (array_at (alignment t) (read t) order c) y e in
-    let x = bind_some (elements_at order (alignment t) c) _ z.0 z.1 in
-    let xs = bind_some (many_at (length x.0.0.rest) (read t) x.0.0) (λ xs. Some (xs, x.0.1)) z.0 x.2 in
+    made_as (λ ds. array t (data_of ds)) (array_at (alignment t) (read t) order c) y (IsValue (suc room) order (array_of t) c) e
+    (λ z f.
+    let x = bind_some (elements_at order (alignment t) c) _ z f in
+    let xs = bind_some (many_at (length x.0.0.rest) (read t) x.0.0) (λ xs. Some (xs, x.0.1)) z x.2 in
     let k : AreTheElements order (alignment t) c x.0 = elements_take order (alignment t) c x.0 x.1 low in
     let i : AreItems room order t x.0.0 xs.0 = items_take room order t read reads (length x.0.0.rest) x.0.0 xs.0 xs.1 k.bytes in
     let body : x.0.0.rest ≡ spellings order (first_place c.place (alignment t)) (data_of xs.0) = i.text_is ∙ ap (λ p. spellings order p (data_of xs.0)) k.start in
-    let got : z.0 ≡ (xs.0, x.0.1) = sym (some_is (xs.0, x.0.1) z.0 xs.2) in
-    value_as (suc room) order (array_of t) c (array t (data_of xs.0), x.0.1) y (ap (λ (x : List Datum × Cursor). (array t (data_of x.0), x.1)) (sym got) ∙ z.2)
+    subst (λ (z : List Datum × Cursor). IsValue (suc room) order (array_of t) c (array t (data_of z.0), z.1)) (some_is (xs.0, x.0.1) z xs.2)
     (record {
       reads = subst (λ (r : List ℕ). Reads c (array_form order c.place (alignment t) r) x.0.1) body k.reads;
       kind = refl;
       sound = i.sound;
       within = (let j : depths (data_of xs.0) ≤ room = i.within in omega arith);
       fit = (subst (λ (r : List ℕ). length r ≤ 67108864) body k.short, subst (λ (p : ℕ). AllFit order p (data_of xs.0)) k.start i.fit);
-    })
+    }))
 
 -- ---- dict entries
 
@@ -270,21 +268,21 @@ dict_value : (room : ℕ) (order : Endian) (k : BasicType) (v : Shape) (read : B
     → IsValue (suc room) order (dict_of k v) c y
 unfolding array_at spelling ArraysFit
 dict_value room order k v read reads c y e low =
-    let z = map_some (λ x. (dict k v (entries_of x.0), x.1)) (array_at 8 (read k v) order c) y e in
-    let x = bind_some (elements_at order 8 c) _ z.0 z.1 in
-    let xs = bind_some (many_at (length x.0.0.rest) (read k v) x.0.0) (λ xs. Some (xs, x.0.1)) z.0 x.2 in
+    made_as (λ es. dict k v (entries_of es)) (array_at 8 (read k v) order c) y (IsValue (suc room) order (dict_of k v) c) e
+    (λ z f.
+    let x = bind_some (elements_at order 8 c) _ z f in
+    let xs = bind_some (many_at (length x.0.0.rest) (read k v) x.0.0) (λ xs. Some (xs, x.0.1)) z x.2 in
     let el : AreTheElements order 8 c x.0 = elements_take order 8 c x.0 x.1 low in
     let i : ArePairs room order k v x.0.0 xs.0 = pairs_take room order k v read reads (length x.0.0.rest) x.0.0 xs.0 xs.1 el.bytes in
     let body : x.0.0.rest ≡ entry_spellings order (first_place c.place 8) (entries_of xs.0) = i.text_is ∙ ap (λ p. entry_spellings order p (entries_of xs.0)) el.start in
-    let got : z.0 ≡ (xs.0, x.0.1) = sym (some_is (xs.0, x.0.1) z.0 xs.2) in
-    value_as (suc room) order (dict_of k v) c (dict k v (entries_of xs.0), x.0.1) y (ap (λ (x : List (Datum × Datum) × Cursor). (dict k v (entries_of x.0), x.1)) (sym got) ∙ z.2)
+    subst (λ (z : List (Datum × Datum) × Cursor). IsValue (suc room) order (dict_of k v) c (dict k v (entries_of z.0), z.1)) (some_is (xs.0, x.0.1) z xs.2)
     (record {
       reads = subst (λ (r : List ℕ). Reads c (array_form order c.place 8 r) x.0.1) body el.reads;
       kind = refl;
       sound = i.sound;
       within = (let j : entry_depths (entries_of xs.0) ≤ room = i.within in omega arith);
       fit = (subst (λ (r : List ℕ). length r ≤ 67108864) body el.short, subst (λ (p : ℕ). EntriesFit order p (entries_of xs.0)) el.start i.fit);
-    })
+    }))
 
 -- ---- structs
 
@@ -330,18 +328,18 @@ struct_value : (room : ℕ) (order : Endian) (read : Shape → Cursor → Parse 
     → IsValue (suc room) order (struct_of ts) c y
 unfolding struct_at spelling ArraysFit
 struct_value room order read reads ts c y e low =
-    let z = map_some (λ x. (struct (data_of x.0), x.1)) (struct_at read ts c) y e in
-    let p = bind_some (align_at 8 c) (fields_at read ts) z.0 z.1 in
+    made_as (λ ds. struct (data_of ds)) (struct_at read ts c) y (IsValue (suc room) order (struct_of ts) c) e
+    (λ z f.
+    let p = bind_some (align_at 8 c) (fields_at read ts) z f in
     let pads : Reads c (padding c.place 8) p.0 = align_takes 8 c p.0 p.1 low in
-    let k : AreFields room order ts p.0 z.0 = fields_take room order read reads ts p.0 z.0 p.2 pads.bytes in
+    let k : AreFields room order ts p.0 z = fields_take room order read reads ts p.0 z p.2 pads.bytes in
     let start : p.0.place ≡ aligned c.place 8 = front_place c p.0 pads in
-    value_as (suc room) order (struct_of ts) c (struct (data_of z.0.0), z.0.1) y z.2
-    (record {
-      reads = reads_then c p.0 z.0.1 _ _ pads (subst (λ (q : ℕ). Reads p.0 (spellings order q (data_of z.0.0)) z.0.1) start k.reads);
+    record {
+      reads = reads_then c p.0 z.1 _ _ pads (subst (λ (q : ℕ). Reads p.0 (spellings order q (data_of z.0)) z.1) start k.reads);
       kind = ap struct_of k.kinds;
       sound = k.sound;
-      within = (let j : depths (data_of z.0.0) ≤ room = k.within in omega arith);
-      fit = subst (λ (q : ℕ). AllFit order q (data_of z.0.0)) start k.fit;
+      within = (let j : depths (data_of z.0) ≤ room = k.within in omega arith);
+      fit = subst (λ (q : ℕ). AllFit order q (data_of z.0)) start k.fit;
     })
 
 -- ---- variants
@@ -355,18 +353,18 @@ unfolding variant_at spelling ArraysFit
 variant_value room order read reads c y e low =
     let s = bind_some (counted_at w8 order c) _ y e in
     let t = bind_some (type_in s.0.0) (λ t. made variant (read t s.0.1)) y s.2 in
-    let x = map_some (λ x. (variant x.0, x.1)) (read t.0 s.0.1) y t.2 in
     let k : IsCounted w8 order c s.0 = counted_takes w8 order c s.0 tt s.1 low in
     let spelled : TypeText t.0 s.0.0 = type_in-takes s.0.0 t.0 t.1 in
-    let v : IsValue room order t.0 s.0.1 x.0 = reads t.0 s.0.1 x.0 x.1 k.reads.bytes in
-    let d : Datum = x.0.0 in
+    made_as variant (read t.0 s.0.1) y (IsValue (suc room) order any c) t.2
+    (λ x f.
+    let v : IsValue room order t.0 s.0.1 x = reads t.0 s.0.1 x f k.reads.bytes in
+    let d : Datum = x.0 in
     let type_is : s.0.0 ≡ type_text (type_of d) = spelled.text ∙ ap type_text (sym v.kind) in
     let unpadded : Reads c (counted_text w8 order s.0.0) s.0.1 =
     subst (λ (n : ℕ). Reads c (replicate n 0 ++ counted_text w8 order s.0.0) s.0.1) (pad_one c.place) k.reads in
     let sign : Reads c (counted_text w8 order (type_text (type_of d))) s.0.1 = subst (λ (r : List ℕ). Reads c (counted_text w8 order r) s.0.1) type_is unpadded in
-    value_as (suc room) order any c (variant d, x.0.1) y x.2
-    (record {
-      reads = reads_then c s.0.1 x.0.1 _ _ sign (subst (λ (q : ℕ). Reads s.0.1 (spelling order q d) x.0.1) sign.place_is v.reads);
+    record {
+      reads = reads_then c s.0.1 x.1 _ _ sign (subst (λ (q : ℕ). Reads s.0.1 (spelling order q d) x.1) sign.place_is v.reads);
       kind = refl;
       sound = (v.sound, subst IsType (sym v.kind) spelled.valid);
       within = (let j : depth d ≤ room = v.within in omega arith);

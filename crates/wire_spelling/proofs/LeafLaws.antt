@@ -1,5 +1,5 @@
 -- Numbers and texts: what is read is spelled so, and what is spelled is read.
-use Rattle.std.proofs.Common.{◌≡◌, ℕ, ◌+◌, ◌<◌, Bool, true, ◌&&◌, nat_lt, if◌then◌else◌, List, ◌++◌, length, Some, None, is_some, refl, ◌∙◌, ap, subst, arith, append_assoc}
+use Rattle.std.proofs.Common.{◌≡◌, ℕ, ◌+◌, ◌<◌, ◌≤◌, Bool, true, ◌&&◌, nat_lt, if◌then◌else◌, List, ◌++◌, length, Some, None, is_some, refl, ◌∙◌, ap, subst, arith, append_assoc}
 use Rattle.std.specs.List.{list_all}
 use Rattle.std.specs.Int.{Width, byte_len}
 use Rattle.std.specs.Str.{is_utf8}
@@ -17,29 +17,18 @@ use Rattle.wire_number.specs.Reading.{Cursor, align_at, number_at, counted_at}
 use Rattle.wire_spelling.specs.Reading.{num_at, is_text_of, text_at}
 use Rattle.wire_number.proofs.Steps.{at, AreBytes, Reads, reads_then, IsNumber, IsShort, limit, bind_some, both_true, guard_some, guarded, bound_some, some_is, align_takes, align_again, number_takes, number_again, length-number_text, length-padded, IsCounted, counted_takes, counted_again}
 
-short_num : (n : Num) → IsShort (width_of n)
-short_num byte = tt
-short_num boolean = tt
-short_num int16 = tt
-short_num uint16 = tt
-short_num int32 = tt
-short_num uint32 = tt
-short_num int64 = tt
-short_num uint64 = tt
-short_num double = tt
-short_num unix_fd = tt
-
-within_width : (n : Num) (v : ℕ) → v < bound n → v < limit (width_of n)
-within_width byte v h = h
-within_width boolean v h = omega arith
-within_width int16 v h = h
-within_width uint16 v h = h
-within_width int32 v h = h
-within_width uint32 v h = h
-within_width int64 v h = h
-within_width uint64 v h = h
-within_width double v h = h
-within_width unix_fd v h = h
+-- a number of the type is one of its width
+num_width : (n : Num) → IsShort (width_of n) × (bound n ≤ limit (width_of n))
+num_width byte = (tt, omega arith)
+num_width boolean = (tt, omega arith)
+num_width int16 = (tt, omega arith)
+num_width uint16 = (tt, omega arith)
+num_width int32 = (tt, omega arith)
+num_width uint32 = (tt, omega arith)
+num_width int64 = (tt, omega arith)
+num_width uint64 = (tt, omega arith)
+num_width double = (tt, omega arith)
+num_width unix_fd = (tt, omega arith)
 
 short_text : (t : Txt) → IsShort (length_width t)
 short_text string = tt
@@ -58,7 +47,7 @@ num_takes n order c y e low =
     let x = bind_some (number_at (width_of n) order p.0) (λ x. if nat_lt x.0 (bound n) then Some x else None) y p.2 in
     let g = guard_some (nat_lt x.0.0 (bound n)) (Some x.0) y x.2 in
     let front : Reads c (padding c.place (basic_alignment (num_type n))) p.0 = align_takes (basic_alignment (num_type n)) c p.0 p.1 low in
-    let k : IsNumber (width_of n) order p.0 x.0 = number_takes (width_of n) order p.0 x.0 (short_num n) x.1 front.bytes in
+    let k : IsNumber (width_of n) order p.0 x.0 = number_takes (width_of n) order p.0 x.0 (num_width n).0 x.1 front.bytes in
     subst (λ (y : ℕ × Cursor). IsNum n order c y) (some_is x.0 y g.1)
     (record { reads = reads_then c p.0 x.0.1 _ _ front k.reads; sound = ltb-true x.0.0 (bound n) g.0 })
 
@@ -71,7 +60,7 @@ num_again n order v p rest h =
     let long : p + pad p a + byte_len (width_of n) ≡ p + length (padding p a ++ digits) = omega (arith, length-padded p a digits, length-number_text (width_of n) order v) in
     ap (num_at n order) (ap (at p) (append_assoc (padding p a) digits rest))
     ∙ bound_some _ _ _ (align_again a p (digits ++ rest))
-    ∙ bound_some _ _ _ (number_again (width_of n) order v (p + pad p a) rest (within_width n v h))
+    ∙ bound_some _ _ _ (number_again (width_of n) order v (p + pad p a) rest (omega (arith, (num_width n).1)))
     ∙ guarded (nat_lt v (bound n)) _ (lt-ltb v (bound n) h)
     ∙ ap (λ k. Some (v, at k rest)) long
 

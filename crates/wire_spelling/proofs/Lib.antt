@@ -5,7 +5,7 @@ pub mod Shift
 pub mod Loops
 pub mod OneType
 pub mod Ascii
-pub mod WalkSame
+pub mod Walks
 pub mod Exact
 pub mod Boundaries
 pub mod TypeTexts

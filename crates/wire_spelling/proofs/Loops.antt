@@ -1,7 +1,6 @@
 -- Steps of the loops over elements and fields.
 use Rattle.std.proofs.Common.{◌≡◌, ℕ, zero, suc, ◌+◌, ◌-◌, ◌<◌, ◌≤◌, List, [], ◌∷◌, ◌++◌, length, get_or, drop, drop-cons, add-one, Option, Some, None, is_some, refl, sym, ◌∙◌, ap, arith, option_map, append_assoc, append-nil}
 use Rattle.wire_signature.specs.Shape.{Shape, shapes_of}
-use Rattle.wire_signature.specs.Parsing.{past}
 use Rattle.wire_signature.specs.declared.error.VariantError.{VariantError}
 use Rattle.wire_signature.specs.declared.error.VariantError.TheVariants as errors
 use Rattle.wire_tree.specs.Datum.{Datum}
@@ -9,7 +8,6 @@ use Rattle.wire_spelling.specs.ReaderView.{Refuses}
 use Rattle.wire_number.specs.declared.endian.Endian.{Endian}
 use Rattle.wire_number.specs.Reading.{Cursor, Parse, made, ◌>>=◌}
 use Rattle.wire_spelling.specs.Reading.{many_at, more_at, none_at, fields_at, value_step, value_at, entry_at}
-use Rattle.wire_spelling.specs.Walking.{Walk, walk_fields, walk_more}
 
 done_by : {A : Type 0} (n : ℕ) (read : Cursor → Parse A) (c : Cursor) (bs : List ℕ) → c.rest ≡ bs → length bs ≡ 0 → many_at n read c ≡ Some []
 unfolding many_at
@@ -60,28 +58,6 @@ joined front found = option_map (λ xs. front ++ xs) found
 pub joined_next : {A : Type 0} (front : List A) (x : A) (found : Option (List A)) → joined front (found >>= λ xs. Some (x ∷ xs)) ≡ joined (front ++ x ∷ []) found
 joined_next front x None = refl
 joined_next front x (Some xs) = ap Some (sym (append_assoc front (x ∷ []) xs))
-
--- ---- fields
-
-pub fields_end : (n m : ℕ) (walk : Walk) (text end : List ℕ) (c : Cursor) → m ≡ suc n → past 41 text ≡ Some end → walk_fields m walk text c ≡ Some (end, c)
-unfolding walk_fields
-fields_end n m walk text end c k e = ap (λ m. walk_fields m walk text c) k ∙ ap (walk_more (walk_fields n walk) walk text c) e
-
-pub fields_next : (n m : ℕ) (walk : Walk) (text : List ℕ) (c : Cursor) (x : List ℕ × Cursor) → m ≡ suc n → past 41 text ≡ None → walk text c ≡ Some x
-    → walk_fields m walk text c ≡ walk_fields n walk x.0 x.1
-unfolding walk_fields
-fields_next n m walk text c x k e f =
-    ap (λ m. walk_fields m walk text c) k ∙ ap (walk_more (walk_fields n walk) walk text c) e ∙ ap (λ found. found >>= λ x. walk_fields n walk x.0 x.1) f
-
-pub fields_none : (n m : ℕ) (walk : Walk) (text : List ℕ) (c : Cursor) → m ≡ suc n → past 41 text ≡ None → walk text c ≡ None
-    → walk_fields m walk text c ≡ None
-unfolding walk_fields
-fields_none n m walk text c k e f =
-    ap (λ m. walk_fields m walk text c) k ∙ ap (walk_more (walk_fields n walk) walk text c) e ∙ ap (λ found. found >>= λ x. walk_fields n walk x.0 x.1) f
-
-pub fields_out : (m : ℕ) (walk : Walk) (text : List ℕ) (c : Cursor) → m ≡ 0 → walk_fields m walk text c ≡ None
-unfolding walk_fields
-fields_out m walk text c k = ap (λ m. walk_fields m walk text c) k
 
 -- ---- the types of a struct's fields
 

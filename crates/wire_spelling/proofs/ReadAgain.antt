@@ -1,6 +1,6 @@
 -- A value within the limits is read where its spelling stands, whatever stands behind it.
 use Rattle.std.proofs.Common.{◌≡◌, ℕ, zero, suc, ◌+◌, ◌<◌, ◌≤◌, nat_le, List, [], ◌∷◌, ◌++◌, length, replicate, Some, refl, sym, ◌∙◌, ap, subst, arith, append_assoc, length-append}
-use Rattle.std.specs.Int.{w32, w8}
+use Rattle.std.specs.Int.{Width, w8, w16, w32, w64, w128, byte_len}
 use Rattle.std.proofs.lemmas.Bool.{le-leb}
 use Rattle.wire_number.specs.declared.endian.Endian.{Endian}
 use Rattle.wire_number.specs.Number.{number_text, padding, counted_text}
@@ -25,7 +25,7 @@ entries_of-pairs_of (entry k v es) = ap (entry k v) (entries_of-pairs_of es)
 
 -- ---- basic types
 
-basic_room : (room : ℕ) (order : Endian) (b : BasicType) (c : Cursor) → value_at room order (basic b) c ≡ basic_at b order c
+pub basic_room : (room : ℕ) (order : Endian) (b : BasicType) (c : Cursor) → value_at room order (basic b) c ≡ basic_at b order c
 unfolding value_at
 basic_room zero order b c = refl
 basic_room (suc room) order b c = refl
@@ -49,17 +49,12 @@ text_basic signature order c = refl
 
 -- ---- no spelling is empty
 
-some_number : (n : Num) (order : Endian) (v : ℕ) → 0 < length (number_text (width_of n) order v)
-some_number byte order v = omega (arith, length-number_text (width_of byte) order v)
-some_number boolean order v = omega (arith, length-number_text (width_of boolean) order v)
-some_number int16 order v = omega (arith, length-number_text (width_of int16) order v)
-some_number uint16 order v = omega (arith, length-number_text (width_of uint16) order v)
-some_number int32 order v = omega (arith, length-number_text (width_of int32) order v)
-some_number uint32 order v = omega (arith, length-number_text (width_of uint32) order v)
-some_number int64 order v = omega (arith, length-number_text (width_of int64) order v)
-some_number uint64 order v = omega (arith, length-number_text (width_of uint64) order v)
-some_number double order v = omega (arith, length-number_text (width_of double) order v)
-some_number unix_fd order v = omega (arith, length-number_text (width_of unix_fd) order v)
+some_width : (w : Width) → 0 < byte_len w
+some_width w8 = omega arith
+some_width w16 = omega arith
+some_width w32 = omega arith
+some_width w64 = omega arith
+some_width w128 = omega arith
 
 some_text : (t : Txt) (order : Endian) (bs : List ℕ) → 0 < length (counted_text (length_width t) order bs)
 some_text t order bs =
@@ -78,7 +73,7 @@ mutual
   unfolding spelling spellings
 
   pub some_spelling : (order : Endian) (p : ℕ) (d : Datum) → HasFields (type_of d) → 0 < length (spelling order p d)
-  some_spelling order p (num n v) h = omega (arith, length-padded p (basic_alignment (num_type n)) (number_text (width_of n) order v), some_number n order v)
+  some_spelling order p (num n v) h = omega (arith, length-padded p (basic_alignment (num_type n)) (number_text (width_of n) order v), length-number_text (width_of n) order v, some_width (width_of n))
   some_spelling order p (text t bs) h = omega (arith, length-padded p (basic_alignment (text_type t)) (counted_text (length_width t) order bs), some_text t order bs)
   some_spelling order p (array t ds) h = some_array order p (alignment t) (spellings order (first_place p (alignment t)) ds)
   some_spelling order p (dict k v es) h = some_array order p 8 (entry_spellings order (first_place p 8) es)

@@ -1,7 +1,6 @@
 pub mod Spelling
 pub mod Reading
 pub mod Walking
-pub mod Texting
 pub mod ReaderView
 pub mod Promises
 pub mod Each

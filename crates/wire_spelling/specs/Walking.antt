@@ -1,98 +1,75 @@
--- Walking over bytes by the text of a type: the text behind the type at its front, and the cursor behind the value. The
--- law in proofs/Walk.antt ties it to reading by types.
-use Rattle.std.specs.Prelude.{ℕ, zero, suc, ◌==◌, if◌then◌else◌, List, [], ◌∷◌, length, drop, Option, Some, None, option_map}
+-- Walking over bytes by the text of their type (D-Bus Specification, "Marshaling (Wire Format)").
+use Rattle.std.specs.Prelude.{◌≡◌, ℕ, ◌≤◌, ◌==◌, ◌⊎◌, if◌then◌else◌, List, [], ◌∷◌, ◌++◌, Option, Some, None, option_map}
 use Rattle.wire_number.specs.declared.endian.Endian.{Endian}
+use Rattle.wire_number.specs.Reading.{Cursor, Parse, behind}
 use Rattle.wire_signature.specs.declared.basic.BasicType.{BasicType}
-use Rattle.wire_signature.specs.Shape.{basic_alignment, basic_of}
-use Rattle.wire_signature.specs.Parsing.{past, first_length, type_in}
-use Rattle.wire_number.specs.Reading.{Cursor, Parse, ◌>>=◌, made, align_at, counted_at}
-use Rattle.wire_spelling.specs.Reading.{basic_at, array_at}
-use Rattle.std.specs.Int.{w8}
+use Rattle.wire_signature.specs.Shape.{Shape, basic, array, dict, Shapes, no_shapes, shapes, letter, type_text, alignment, basic_alignment, basic_of, array_depths, struct_depths, AllHaveFields}
+use Rattle.wire_tree.specs.Datum.{Datum}
+use Rattle.wire_spelling.specs.Reading.{value_at, entry_at}
 
--- The text behind a type, and the cursor behind its value: what a walk over one value leaves.
-abbrev pub Walk : Type 0
-Walk = List ℕ → Cursor → Parse (List ℕ)
+-- What a walk leads over: a value, or an entry of a dict, which stands in an array alone (D-Bus Specification, "Container
+-- types").
+pub data Item : Type 0 where
+  value : Shape → Item
+  pair : BasicType → Shape → Item
 
--- the boundary of what a text begins with: a type, or the bracket of a dict entry
-abbrev pub letter_boundary : Option BasicType → ℕ
-letter_boundary None = 1
-letter_boundary (Some b) = basic_alignment b
+-- its text in a signature
+abbrev pub item_text : Item → List ℕ
+item_text (value t) = type_text t
+item_text (pair k v) = 123 ∷ letter k ∷ (type_text v ++ 125 ∷ [])
+
+-- the array that holds such items
+abbrev pub array_type : Item → Shape
+array_type (value t) = array t
+array_type (pair k v) = dict k v
+
+-- the types that stand in it
+abbrev pub item_types : Item → Shapes
+item_types (value t) = shapes t no_shapes
+item_types (pair k v) = shapes (basic k) (shapes v no_shapes)
+
+-- types within the limits on nesting (D-Bus Specification, "Valid Signatures")
+pub record AreShallow (ts : Shapes) : Type 0 where
+  pub arrays : array_depths ts ≤ 32
+  pub structs : struct_depths ts ≤ 32
+  pub fields : AllHaveFields ts
+
+-- the boundary on which an item begins
+abbrev pub item_boundary : Item → ℕ
+item_boundary (value t) = alignment t
+item_boundary (pair k v) = 8
+
+-- the same by the first byte of its text
+abbrev pub letter_boundary : ℕ → Option BasicType → ℕ
+letter_boundary c (Some b) = basic_alignment b
+letter_boundary c None = if c == 97 then 4 else if c == 118 then 1 else 8
 
 abbrev pub text_boundary : List ℕ → ℕ
 text_boundary [] = 1
-text_boundary (c ∷ rest) =
-    if c == 97 then 4 else if c == 40 then 8 else if c == 123 then 8 else letter_boundary (basic_of c)
+text_boundary (c ∷ rest) = letter_boundary c (basic_of c)
 
--- over a value of a basic type
-abbrev pub walk_basic : Endian → List ℕ → Cursor → Option BasicType → Parse (List ℕ)
-walk_basic order rest c None = None
-walk_basic order rest c (Some b) = made (λ _. rest) (basic_at b order c)
+-- the bracket that closes a struct or a dict entry, and the text behind it
+abbrev pub IsBracket : ℕ → Type 0
+IsBracket close = (close ≡ 41) ⊎ (close ≡ 125)
 
--- over a variant; its own signature says what it holds
-unfoldable pub walk_variant : Walk → Endian → List ℕ → Cursor → Parse (List ℕ)
-walk_variant walk order rest c = do
-  s ← counted_at w8 order c
-  t ← type_in s.0
-  x ← walk s.0 s.1
-  Some (rest, x.1)
+abbrev pub past_bracket : List ℕ → Option (List ℕ)
+past_bracket [] = None
+past_bracket (c ∷ rest) = if c == 41 then Some rest else if c == 125 then Some rest else None
 
--- over an element of an array: a value, or a dict entry
-abbrev pub walk_item : Walk → Walk → List ℕ → Option (List ℕ) → Cursor → Parse (List ℕ)
-walk_item walk entry rest None c = walk rest c
-walk_item walk entry rest (Some inner) c = entry inner c
+-- reading an item, where so many containers may still be opened
+abbrev pub ItemOf : Item → Type 0
+ItemOf (value t) = Datum
+ItemOf (pair k v) = Datum × Datum
 
--- the text behind the type at its front
-unfoldable pub text_behind : List ℕ → Option (List ℕ)
-text_behind text = option_map (λ n. drop n text) (first_length text)
+abbrev pub item_at : ℕ → Endian → (i : Item) → Cursor → Parse (ItemOf i)
+item_at room order (value t) c = value_at room order t c
+item_at room order (pair k v) c = entry_at room order k v c
 
--- over an array; its letter stands before the element
-unfoldable pub walk_array : Walk → Walk → Endian → List ℕ → Cursor → Parse (List ℕ)
-walk_array walk entry order [] c = None
-walk_array walk entry order (k ∷ element) c = do
-  rest ← text_behind (k ∷ element)
-  made (λ _. rest) (array_at (text_boundary element) (walk_item walk entry element (past 123 element)) order c)
+-- what a walk leaves: the text behind the item's, and the cursor behind the item, where it is there
+abbrev pub leaving : List ℕ → Option Cursor → Parse (List ℕ)
+leaving rest found = option_map (λ c. (rest, c)) found
 
--- over the fields of a struct up to its bracket, at most so many
-abbrev pub walk_more : Walk → Walk → List ℕ → Cursor → Option (List ℕ) → Parse (List ℕ)
-walk_more others walk rest c (Some end) = Some (end, c)
-walk_more others walk rest c None = walk rest c >>= λ x. others x.0 x.1
-
-unfoldable pub walk_fields : ℕ → Walk → List ℕ → Cursor → Parse (List ℕ)
-walk_fields zero walk rest c = None
-walk_fields (suc count) walk rest c = walk_more (walk_fields count walk) walk rest c (past 41 rest)
-
--- over a struct; `rest` is the text behind its bracket
-unfoldable pub walk_struct : Walk → List ℕ → Cursor → Parse (List ℕ)
-walk_struct walk rest c = align_at 8 c >>= walk_fields (length rest) walk rest
-
--- over a dict entry; `rest` is the text behind its bracket
-abbrev pub walk_key : Walk → List ℕ → Parse (List ℕ) → Parse (List ℕ)
-walk_key walk rest found = found >>= λ x. walk rest x.1
-
-unfoldable pub walk_pair : Walk → Endian → List ℕ → Cursor → Parse (List ℕ)
-walk_pair walk order [] c = None
-walk_pair walk order (k ∷ rest) c = align_at 8 c >>= λ p. walk_key walk rest (walk_basic order rest p (basic_of k))
-
--- over a value whose type begins with this letter
-abbrev pub walk_step : Walk → Walk → Endian → List ℕ → Cursor → Parse (List ℕ)
-walk_step walk entry order [] c = None
-walk_step walk entry order (k ∷ rest) c =
-    if k == 97 then walk_array walk entry order (k ∷ rest) c
-    else if k == 40 then walk_struct walk rest c
-    else if k == 118 then walk_variant walk order rest c
-    else walk_basic order rest c (basic_of k)
-
--- the same where no container may be opened any more
-abbrev pub walk_leaf : Endian → List ℕ → Cursor → Parse (List ℕ)
-walk_leaf order [] c = None
-walk_leaf order (k ∷ rest) c = walk_basic order rest c (basic_of k)
-
--- over the value of the type at the front of a text, where so many containers may still be opened
-unfoldable mutual
-  pub walk_at : ℕ → Endian → Walk
-  walk_at zero order text c = walk_leaf order text c
-  walk_at (suc room) order text c = walk_step (walk_at room order) (entry_walk room order) order text c
-
-  pub entry_walk : ℕ → Endian → Walk
-  entry_walk zero order text c = None
-  entry_walk (suc room) order text c = walk_pair (walk_at room order) order text c
+-- Whichever item within the limits stands at the front of a text, what was found is what a walk over that item leaves.
+abbrev pub Walks : ℕ → Endian → List ℕ → Cursor → (Parse (List ℕ) → Type 0) → Type 0
+Walks room order text c IsFound =
+    (i : Item) (rest : List ℕ) → AreShallow (item_types i) → text ≡ item_text i ++ rest → IsFound (leaving rest (behind (item_at room order i c)))

@@ -16,6 +16,5 @@ mod plain;
 mod single;
 mod skipping;
 mod taking;
-mod texting;
 mod walk;
 mod words;

@@ -13,16 +13,11 @@ pub fn byte<'a>(order: Endian, reader: Reader<'a>) -> Option<(u8, Reader<'a>)>
     reader.align(1)?.u8(order)
 }
 
-#[tactic(auto, unfolding(crate::specs::Reading::num_at))]
+#[tactic(auto, unfolding(crate::specs::Reading::num_at, wire_number::specs::Reading::boolean_at))]
 pub fn boolean<'a>(order: Endian, reader: Reader<'a>) -> Option<(bool, Reader<'a>)>
     ensures { Finds (λ x. (cond x.0 1 0, cursor_of x.1)) result (num_at boolean order (cursor_of reader.entry)) }
 {
-    let (number, after) = reader.align(4)?.u32(order)?;
-    match number {
-        0 => Some((false, after)),
-        1 => Some((true, after)),
-        _ => None,
-    }
+    reader.boolean(order)
 }
 
 #[tactic(auto, unfolding(crate::specs::Reading::num_at))]

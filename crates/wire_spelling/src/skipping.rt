@@ -5,7 +5,6 @@ ghost use Rattle.wire_tree.specs.Datum.{Datum};
 ghost use Rattle.wire_spelling.specs.Promises.{SpellNothing, SpellOnly, StandsFirst};
 ghost use Rattle.wire_spelling.specs.Spelling.{Spells};
 
-use crate::texting::put_type;
 use crate::walk::{MAX_DEPTH, walk_value};
 use wire_number::{Endian, Reader};
 use wire_signature::{MAX_LENGTH, ValueType, first_type};
@@ -18,10 +17,8 @@ pub fn skip(order: Endian, at: usize, value_type: &ValueType, bytes: &[u8]) -> O
     ensures only { IfSome result (SpellOnly order at value_type.now bytes.now) }
     ensures none { IfNone result (SpellNothing order at value_type.now bytes.now) }
 {
-    // Looking at the type tells the proof that it is within the limits.
-    let _ = value_type.node();
     let mut text = [0; MAX_LENGTH];
-    let end = put_type(value_type, &mut text, 0);
+    let end = value_type.put_text(&mut text);
     let reader = Reader::new(at, bytes);
     let (_, after) = walk_value(order, MAX_DEPTH, &text[..end], reader)?;
     Some(after.place - reader.place)

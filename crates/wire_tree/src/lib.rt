@@ -3,7 +3,7 @@
 
 pub use crate::laws::{equal_is_one, variants_hold_values};
 pub use crate::tree::{Entries, Inner, Tree, Trees};
-pub use crate::typed::write_type;
+pub use crate::typed::type_text;
 pub use crate::value::Value;
 
 mod copy;

@@ -20,8 +20,9 @@ fn write_types(out: &mut String, alloc: Global, trees: &[Tree]) -> Result<(), Al
     Ok(())
 }
 
+/// Writes the text of the tree's type at the end of `out`.
 #[cycle(texts)]
-pub fn write_type(out: &mut String, alloc: Global, tree: &Tree) -> Result<(), AllocError>
+fn write_type(out: &mut String, alloc: Global, tree: &Tree) -> Result<(), AllocError>
     ensures { OnOk result (string_bytes out.new ≡ string_bytes out.old ++ type_text (type_of (datum_of tree.now))) }
 {
     match tree {
@@ -57,6 +58,15 @@ pub fn write_type(out: &mut String, alloc: Global, tree: &Tree) -> Result<(), Al
         }
         Tree::Variant(_) => out.push('v'),
     }
+}
+
+/// The text of the tree's type, as `a{sv}` (D-Bus Specification, "Type System"). It fails only for want of memory.
+pub fn type_text(alloc: Global, tree: &Tree) -> Result<String, AllocError>
+    ensures { IfOk result (λ text. string_bytes text ≡ type_text (type_of (datum_of tree.now))) }
+{
+    let mut text = String::new(alloc);
+    write_type(&mut text, alloc, tree)?;
+    Ok(text)
 }
 
 /// Whether the trees are of the types, one of each.
@@ -158,8 +168,7 @@ fn if_own(tree: &Tree, value_type: ValueType) -> Option<ValueType>
 pub(crate) fn type_of(alloc: Global, tree: &Tree) -> Result<Option<ValueType>, AllocError>
     ensures { IfOk result (λ kind. TellsType kind (type_of (datum_of tree.now))) }
 {
-    let mut text = String::new(alloc);
-    write_type(&mut text, alloc, tree)?;
+    let text = type_text(alloc, tree)?;
     match ValueType::try_from(alloc, text.as_str()) {
         Ok(value_type) => Ok(if_own(tree, value_type)),
         Err(VariantError::Memory) => Err(AllocError),

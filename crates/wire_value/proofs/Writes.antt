@@ -6,7 +6,7 @@ use Rattle.wire_number.specs.declared.endian.Endian.{Endian}
 use Rattle.wire_number.specs.Number.{number_text, pad, padding, counted_text}
 use Rattle.wire_signature.specs.Shape.{Shape, alignment, type_text}
 use Rattle.wire_signature.specs.declared.basic.BasicType.{BasicType}
-use Rattle.wire_tree.specs.Datum.{Datum, signature, array, struct, variant, Data, no_data, items, Entries, no_entries, entry, data_of, entries_of, type_of, IsSound, AreSound, AreElements, AreEntries}
+use Rattle.wire_tree.specs.Datum.{Datum, array, struct, variant, Data, no_data, items, Entries, no_entries, entry, data_of, entries_of, type_of, IsSound, AreSound, AreElements, AreEntries}
 use Rattle.wire_tree.specs.DatumView.{datum_of, pair_of}
 use Rattle.wire_tree.specs.declared.tree.Tree.{Tree}
 use Rattle.wire_spelling.specs.Spelling.{aligned, first_place, array_form, spelling, spellings, entry_spellings, ArraysFit, AllFit, EntriesFit}
@@ -310,15 +310,6 @@ dict_written r order shift es old mid full new place e f g h =
     let start : shift + length mid ≡ p = array_place shift 8 old mid f in
     closed_form r order shift 8 old mid (entry_spellings order p es) full new place (EntriesFit order p es) e f
     (g.0 ∙ ap (λ n. mid ++ entry_spellings order n es) start) (subst (λ (n : ℕ). EntriesFit order n es) start g.1) h
-
-pub dict_refused : (order : Endian) (shift : ℕ) (es : Entries) (old mid : List ℕ) (e : EncodeError)
-    → mid ≡ old ++ (padding (shift + length old) 4 ++ (0 ∷ 0 ∷ 0 ∷ 0 ∷ padding (aligned (shift + length old) 4 + 4) 8))
-    → Refused e (EntriesFit order (shift + length mid) es)
-    → Refused e
-    ((length (entry_spellings order (first_place (shift + length old) 8) es) ≤ 67108864) × EntriesFit order (first_place (shift + length old) 8) es)
-dict_refused order shift es old mid e f h =
-    let start : shift + length mid ≡ first_place (shift + length old) 8 = array_place shift 8 old mid f in
-    refused e _ _ (λ k. subst (λ (n : ℕ). EntriesFit order n es) (sym start) k.1) h
 
 -- ---- structs, variants, dict entries
 

@@ -28,7 +28,7 @@ pub use wire_spelling::{
     skip, skip_by_text, utf8,
 };
 pub use wire_tree::{
-    Entries, Inner, Tree, Trees, Value, equal_is_one, variants_hold_values, write_type,
+    Entries, Inner, Tree, Trees, Value, equal_is_one, type_text, variants_hold_values,
 };
 
 mod basics;

@@ -19,7 +19,7 @@ use std::alloc::Global;
 use wire_number::{Endian, append_signature, pad_to, padding_for_n_bytes, put_u32};
 use wire_signature::ValueType;
 use wire_spelling::{MAX_ARRAY_LENGTH, boundary};
-use wire_tree::{Tree, write_type};
+use wire_tree::{Tree, type_text};
 
 /// Puts the length of the elements, which begin at `start`, at its place before them.
 fn close_array(
@@ -90,8 +90,7 @@ fn write_variant(
     requires kind { IsType (type_of (datum_of tree.now)) }
     ensures { Wrote result (spelling order (shift + length out.old.items) (variant (datum_of tree.now))) (ArraysFit order (shift + length out.old.items) (variant (datum_of tree.now))) out.old.items out.new.items }
 {
-    let mut text = String::new(alloc);
-    write_type(&mut text, alloc, tree)?;
+    let text = type_text(alloc, tree)?;
     append_signature(order, out, text.as_str().as_bytes())?;
     write_value(alloc, order, shift, out, tree)
 }

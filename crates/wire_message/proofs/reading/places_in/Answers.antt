@@ -7,7 +7,7 @@ use Rattle.wire_message.proofs.reading.places_in.Goals as goal
 pub loop-init : goal.loop-init
 loop-init c =
     going-first c.args.order c.args.bytes.now c.args.end _ c.new-places.result (cursor_of c.reader_of-left.result) (λ i. omega (arith, c.type_inv.bytes i)) c.requires.from c.requires.there
-    (omega arith) c.reader_of-left.ensures (c.new-places.ensures.spans c.args.end) (c.new-places.ensures.none c.args.bytes.now)
+    (omega arith) c.reader_of-left.ensures c.new-places.ensures
 
 pub returns-then-is_empty-clause-found : goal.returns-then-is_empty-clause-found
 returns-then-is_empty-clause-found c =
@@ -20,8 +20,8 @@ returns-in_err-code-clause-found c =
     rw c.from_residual.ensures
     (going-failed _ _ _ (c.args.end - 16 - (c.loop.counter + 1)) _ _ (cursor_of c.loop.left) c.loop.invariant (omega arith) some c.in_err-code.ensures)
 
-pub with_found-places-requires : goal.with_found-places-requires
-with_found-places-requires c =
+pub with_value-places-requires : goal.with_value-places-requires
+with_value-places-requires c =
     (held-there _ _ _ _ _ (cursor_of c.loop.left) (cursor_of c.in_ok-code.after) c.in_ok-code.code c.in_ok-code.held c.requires.there c.loop.invariant c.in_ok-code.ensures).0
 
 pub loop-preserved : goal.loop-preserved
@@ -29,7 +29,7 @@ loop-preserved c =
     let some : 0 < length c.loop.left.rest.now = grind (arith, nat_tests) in
     let held = held-there _ _ _ _ _ (cursor_of c.loop.left) (cursor_of c.in_ok-code.after) c.in_ok-code.code c.in_ok-code.held c.requires.there c.loop.invariant c.in_ok-code.ensures in
     going-more _ _ _ (c.args.end - 16 - (c.loop.counter + 1)) _ _ _ (cursor_of c.loop.left) _ c.loop.invariant (omega arith) some c.in_ok-code.ensures
-    (c.with_found-places.ensures.field c.args.bytes.now held.1) (c.with_found-places.ensures.spans c.args.end c.loop.invariant.spans held.2)
+    (c.with_value-places.ensures.field c.args.bytes.now held.1) (c.with_value-places.ensures.spans c.args.end c.loop.invariant.spans held.2)
 
 pub returns-then-is_empty-2-clause-found : goal.returns-then-is_empty-2-clause-found
 returns-then-is_empty-2-clause-found c =

@@ -1,5 +1,4 @@
-use Rattle.std.proofs.Common.{◌++◌, ◌∙◌, ap}
-use Rattle.wire_signature.specs.Shape.{type_text}
+use Rattle.std.proofs.Common.{◌∙◌}
 use Rattle.wire_tree.specs.Datum.{type_of}
 use Rattle.wire_tree.specs.DatumView.{datum_of}
 use Rattle.wire_tree.proofs.Types.{own_tells}
@@ -7,4 +6,4 @@ use Rattle.wire_tree.proofs.typed.type_of.Goals as goal
 
 pub returns-in-Ok : goal.returns-in-Ok
 returns-in-Ok c =
-    own_tells c.if_own.result (type_of (datum_of c.args.tree.now)) c.in-Ok.value_type c.as_str.result.now c.in-Ok.ensures.told (c.as_str.ensures.value ∙ c.in_ok-write_type.ensures ∙ ap (λ r. r ++ type_text (type_of (datum_of c.args.tree.now))) c.new-text.ensures.bytes) c.if_own.ensures.own
+    own_tells c.if_own.result (type_of (datum_of c.args.tree.now)) c.in-Ok.value_type c.as_str.result.now c.in-Ok.ensures.told (c.as_str.ensures.value ∙ c.in_ok-text.ensures) c.if_own.ensures.own

@@ -1,4 +1,4 @@
-use Rattle.std.proofs.Common.{◌≡◌, ◌++◌, length, arith, ◌∙◌, ap}
+use Rattle.std.proofs.Common.{◌≡◌, length, arith, ◌∙◌, ap}
 use Rattle.std.proofs.lemmas.Result.{err_from_is_err_and}
 use Rattle.wire_tree.specs.Datum.{data_of, entries_of, AreElements, AreEntries, type_of, size_of, sizes_of, sizes_in}
 use Rattle.wire_signature.specs.Shape.{type_text}
@@ -94,7 +94,7 @@ write_struct-returns t c = struct_written _ _ _ _ _ _ _ c.in_ok-pad_to.ensures c
 pub write_variant-returns : goal.write_variant-returns
 write_variant-returns t c =
     let spelled : c.as_bytes.result.now ≡ type_text (type_of (datum_of c.args.tree.now)) =
-    c.as_bytes.ensures.value ∙ c.as_str.ensures.value ∙ c.in_ok-write_type.ensures ∙ ap (λ r. r ++ type_text (type_of (datum_of c.args.tree.now))) c.new-text.ensures.bytes in
+    c.as_bytes.ensures.value ∙ c.as_str.ensures.value ∙ c.in_ok-text.ensures in
     variant_written _ _ _ _ _ _ _ c.as_bytes.result.now spelled c.in_ok-append_signature.ensures c.write_value.ensures
 
 pub write_entry-returns-in_err-write_value : goal.write_entry-returns-in_err-write_value

@@ -2,7 +2,7 @@
 use Rattle.std.proofs.Common.{◌≡◌, ℕ, ◌<◌, Bool, false, List, length, get_or, arith, refl, sym, ◌∙◌, ap, subst, Some, None, set}
 use Rattle.std.proofs.lemmas.List.{get_or_read_under}
 use Rattle.std.proofs.lemmas.Option.{slice_get_past}
-use Rattle.peer_route.specs.History.{polled_by}
+use Rattle.peer_route.specs.Calls.{polled_by}
 use Rattle.peer_route.specs.Left.{CallsView, LeftCalls, is_waiting, is_empty_slot}
 use Rattle.peer_route.specs.declared.calls.Slot.{Slot}
 use Rattle.peer_route.specs.declared.calls.Slot.TheVariants.{Gone, Waiting, Replied}

@@ -1,6 +1,6 @@
 -- A poll by position is the same event as one without.
 use Rattle.std.proofs.Common.{◌∙◌, ap, subst, sym, ◌++◌}
-use Rattle.peer_route.specs.History.{by_position, poll_events}
+use Rattle.peer_route.specs.Calls.{by_position, poll_events}
 use Rattle.peer_route.specs.Left.{LeftCalls}
 use Rattle.peer_route.proofs.ByPosition.{polls_so}
 use Rattle.peer_route.proofs.calls.PendingMethodCalls.poll_before.Goals as goal

@@ -1,5 +1,5 @@
 use Rattle.std.proofs.Common.{sym, subst, ◌++◌}
-use Rattle.peer_route.specs.History.{drop_events}
+use Rattle.peer_route.specs.Calls.{drop_events}
 use Rattle.peer_route.specs.Left.{View, Left, LeftCalls}
 use Rattle.peer_route.proofs.Drops.{left_dropped}
 use Rattle.peer_route.proofs.route.Route.drop_call.Goals as goal

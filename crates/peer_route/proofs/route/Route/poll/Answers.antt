@@ -1,5 +1,5 @@
 use Rattle.std.proofs.Common.{sym, subst, ◌++◌}
-use Rattle.peer_route.specs.History.{poll_events}
+use Rattle.peer_route.specs.Calls.{poll_events}
 use Rattle.peer_route.specs.Left.{View, Left, LeftCalls}
 use Rattle.peer_route.proofs.Core.{left_polled}
 use Rattle.peer_route.proofs.route.Route.poll.Goals as goal

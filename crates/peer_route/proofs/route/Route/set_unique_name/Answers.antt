@@ -3,7 +3,7 @@ use Rattle.std.proofs.Common.{◌≡◌, sym, ap, ◌∙◌, subst, refl, ◌∷
 use Rattle.std.proofs.lemmas.Bool.{true≢false}
 use Rattle.peer_route.specs.History.{Named}
 use Rattle.peer_route.specs.Left.{View, Left}
-use Rattle.peer_route.proofs.Core.{left_named}
+use Rattle.peer_route.proofs.Openings.{left_named}
 use Rattle.peer_route.proofs.route.Route.set_unique_name.Goals as goal
 
 none_there : {A : Type 0} (o : Option A) → is_some o ≡ false → o ≡ None

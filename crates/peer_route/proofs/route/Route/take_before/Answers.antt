@@ -1,6 +1,6 @@
 -- A take by position is the same event as one without.
 use Rattle.std.proofs.Common.{◌∙◌, ap, subst, sym, ◌++◌}
-use Rattle.peer_route.specs.History.{by_position}
+use Rattle.peer_route.specs.Calls.{by_position}
 use Rattle.peer_route.specs.Streams.{take_events}
 use Rattle.peer_route.specs.Left.{Left}
 use Rattle.peer_route.proofs.ByPosition.{takes_so}
