@@ -3,7 +3,7 @@ use wire_body::{BodyValues, to};
 use wire_names::Text;
 use wire_number::Endian;
 use wire_signature::VariantError;
-use wire_value::{decode_body, encode_body, is_shallow};
+use wire_value::{append_body, decode_body, encode_body, is_shallow};
 
 /// Worked by hand from the D-Bus Specification, "Marshaling (Wire Format)": a string of seven bytes, then a number on the next
 /// multiple of 4; in little order, then in big order.
@@ -23,6 +23,15 @@ fn is_written(alloc: Global, order: Endian, body: &BodyValues, bytes: &[u8]) -> 
     }
 }
 
+/// Whether the body is appended as these bytes.
+fn is_appended(alloc: Global, order: Endian, body: &BodyValues, bytes: &[u8]) -> bool {
+    if !is_shallow(body) {
+        return false;
+    }
+    let mut out = Vec::new(alloc);
+    append_body(order, body, &mut out).is_ok() && out.as_slice() == bytes
+}
+
 /// Whether the bytes, all of them, are read as the body's values.
 fn is_read(alloc: Global, order: Endian, body: &BodyValues, bytes: &[u8]) -> bool {
     match decode_body(alloc, order, body.signature(), bytes) {
@@ -32,13 +41,13 @@ fn is_read(alloc: Global, order: Endian, body: &BodyValues, bytes: &[u8]) -> boo
 }
 
 fn holds(alloc: Global, order: Endian, body: &BodyValues, bytes: &[u8]) -> bool {
-    is_written(alloc, order, body, bytes) && is_read(alloc, order, body, bytes)
+    is_written(alloc, order, body, bytes)
+        && is_appended(alloc, order, body, bytes)
+        && is_read(alloc, order, body, bytes)
 }
 
 fn holds_in_both_orders(alloc: Global, body: &BodyValues) -> bool {
-    is_shallow(body)
-        && holds(alloc, Endian::Little, body, LITTLE)
-        && holds(alloc, Endian::Big, body, BIG)
+    holds(alloc, Endian::Little, body, LITTLE) && holds(alloc, Endian::Big, body, BIG)
 }
 
 fn sample_holds(alloc: Global) -> Result<bool, VariantError> {

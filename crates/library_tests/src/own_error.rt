@@ -1,33 +1,45 @@
-//! An error of an interface's own: its name, and what it says, make the reply.
+//! An error of an interface's own: its name, and what it says, make the reply, whose arguments are its own.
 use crate::support::holds;
-use std::alloc::{AllocError, Global};
+use std::alloc::Global;
 use wire_message::{DBusError, Error, Message, NonePending, Result, Serials};
-use wire_value::{Endian, ErrorName, OwnedErrorName, Text};
+use wire_value::{BodyValues, Endian, ErrorName, OwnedErrorName, Text, VariantError, to};
 
 /// A call in little order, of serial 9.
 const CALL: &[u8] =
     b"l\x01\x00\x01\x00\x00\x00\x00\x09\x00\x00\x00\x1b\x00\x00\x00\x01\x01o\x00\x01\x00\x00\x00/\x00\x00\x00\x00\x00\x00\x00\x03\x01s\x00\x02\x00\x00\x00do\x00\x00\x00\x00\x00\x00";
 
-/// What an interface answers where a call fails.
+/// Worked by hand from the D-Bus Specification, "Message Format": an error in little order of serial 1, whose body has 20 bytes
+/// and whose fields 40: the name, the call's serial, the signature `su`. Then the body: a string, and a number on the next
+/// multiple of 4.
+const REPLY: &[u8] =
+    b"l\x03\0\x01\x14\0\0\0\x01\0\0\0\x28\0\0\0\x04\x01s\0\x0b\0\0\0a.Unplugged\0\0\0\0\0\x05\x01u\0\x09\0\0\0\x08\x01g\0\x02su\0\x09\0\0\0no device\0\0\0\x07\0\0\0";
+
+/// What an interface answers where a call fails: a text, and a number beside it.
 struct OwnError {
     name: OwnedErrorName,
     text: Text,
+    code: u32,
 }
 
 impl Drop for OwnError {
     fn drop(self) {
-        let OwnError { name: _, text: _ } = self;
+        let OwnError {
+            name: _,
+            text: _,
+            code: _,
+        } = self;
     }
 }
 
 impl DBusError for OwnError {
-    ghost use Rattle.std.specs.Prelude.{Some};
+    ghost use Rattle.std.specs.Prelude.{Some, ◌∷◌, []};
+    ghost use Rattle.wire_tree.specs.Datum.{num, string, text, uint32};
 
     ghost named = { λ error. error.name };
 
     ghost described = { λ error. Some error.text };
 
-    ghost replied = { λ error. error.text };
+    ghost replied = { λ error. text string error.text ∷ num uint32 error.code ∷ [] };
 
     fn name(&self) -> ErrorName<'_> {
         self.name.as_ref()
@@ -37,8 +49,8 @@ impl DBusError for OwnError {
         Some(self.text.as_str())
     }
 
-    fn reply_text(&self, alloc: Global) -> std::result::Result<Text, AllocError> {
-        self.text.try_clone(alloc)
+    fn reply(&self, alloc: Global) -> std::result::Result<BodyValues, VariantError> {
+        to(alloc, (self.text.try_clone(alloc)?, self.code))
     }
 }
 
@@ -46,7 +58,11 @@ impl DBusError for OwnError {
 fn unplugged(alloc: Global) -> Result<OwnError> {
     let name = OwnedErrorName::try_from(alloc, "a.Unplugged")?;
     let text = Text::from_str(alloc, "no device")?;
-    Ok(OwnError { name, text })
+    Ok(OwnError {
+        name,
+        text,
+        code: 7,
+    })
 }
 
 /// The reply to the call that tells the error.
@@ -62,7 +78,8 @@ fn is_told(alloc: Global, reply: Message) -> Result<bool> {
 }
 
 fn is_answered(alloc: Global) -> Result<bool> {
-    is_told(alloc, reply_of(alloc, &unplugged(alloc)?)?)
+    let reply = reply_of(alloc, &unplugged(alloc)?)?;
+    Ok(reply.data() == REPLY && is_told(alloc, reply)?)
 }
 
 #[test]

@@ -4,8 +4,8 @@ use Rattle.std.specs.Int.{w32, w8}
 use Rattle.wire_number.specs.declared.endian.Endian.{Endian}
 use Rattle.wire_number.specs.Number.{number_text, padding, counted_text}
 use Rattle.wire_signature.specs.Shape.{Shape, alignment, basic_alignment, type_text}
-use Rattle.wire_tree.specs.Datum.{Txt, signature, Datum, num, text, array, dict, struct, variant, Data, no_data, items, Entries, no_entries, entry, data_of, num_type, text_type, type_of}
-use Rattle.wire_spelling.specs.Spelling.{width_of, length_width, aligned, first_place, array_form, spelling, spellings, entry_spellings, depth, depths, ArraysFit, AllFit, EntriesFit}
+use Rattle.wire_tree.specs.Datum.{Txt, signature, Datum, num, text, array, dict, struct, variant, Data, no_data, items, data_of, num_type, text_type, type_of}
+use Rattle.wire_spelling.specs.Spelling.{width_of, length_width, aligned, first_place, array_form, spelling, spellings, depth, depths, ArraysFit, AllFit}
 use Rattle.wire_spelling.specs.Each.{SpellEach}
 use Rattle.wire_number.proofs.Steps.{length-number_text}
 
@@ -30,7 +30,7 @@ array_long o q p b xs ys e =
     (both_long (padding (aligned p 4 + 4) b) (padding (aligned p 4 + 4) b) xs ys refl e))
 
 mutual
-  unfolding spelling spellings entry_spellings
+  unfolding spelling spellings
 
   spelling_long : (o q : Endian) (p : ℕ) (d : Datum) → length (spelling o p d) ≡ length (spelling q p d)
   spelling_long o q p (num n v) =
@@ -39,7 +39,7 @@ mutual
   spelling_long o q p (text t bs) =
       both_long (padding p (basic_alignment (text_type t))) (padding p (basic_alignment (text_type t))) _ _ refl (text_long o q t bs)
   spelling_long o q p (array t ds) = array_long o q p (alignment t) _ _ (spellings_long o q (first_place p (alignment t)) ds)
-  spelling_long o q p (dict k v es) = array_long o q p 8 _ _ (entries_long o q (first_place p 8) es)
+  spelling_long o q p (dict k v ds) = array_long o q p 8 _ _ (spellings_long o q (first_place p 8) ds)
   spelling_long o q p (struct ds) = both_long (padding p 8) (padding p 8) _ _ refl (spellings_long o q (aligned p 8) ds)
   spelling_long o q p (variant d) =
       let sign : length (counted_text w8 o (type_text (type_of d))) ≡ length (counted_text w8 q (type_text (type_of d))) = text_long o q signature (type_text (type_of d)) in
@@ -54,31 +54,17 @@ mutual
       both_long (spelling o p d) (spelling q p d) _ _ one
       (spellings_long o q (p + length (spelling o p d)) ds ∙ ap (λ n. length (spellings q (p + n) ds)) one)
 
-  entries_long : (o q : Endian) (p : ℕ) (es : Entries) → length (entry_spellings o p es) ≡ length (entry_spellings q p es)
-  entries_long o q p no_entries = refl
-  entries_long o q p (entry a b es) =
-      let k : ℕ = aligned p 8 in
-      let key : length (spelling o k a) ≡ length (spelling q k a) = spelling_long o q k a in
-      let mo : ℕ = k + length (spelling o k a) in
-      let mq : ℕ = k + length (spelling q k a) in
-      let value : length (spelling o mo b) ≡ length (spelling q mq b) = spelling_long o q mo b ∙ ap (λ n. length (spelling q (k + n) b)) key in
-      let here : mo + length (spelling o mo b) ≡ mq + length (spelling q mq b) = ap (λ n. k + n + length (spelling o mo b)) key ∙ ap (λ n. mq + n) value in
-      both_long (padding p 8) (padding p 8) _ _ refl
-      (both_long (spelling o k a) (spelling q k a) _ _ key
-      (both_long (spelling o mo b) (spelling q mq b) _ _ value
-      (entries_long o q (mo + length (spelling o mo b)) es ∙ ap (λ n. length (entry_spellings q n es)) here)))
-
 -- ---- limits
 
 mutual
-  unfolding ArraysFit AllFit EntriesFit
+  unfolding ArraysFit AllFit
 
   one_fits : (o q : Endian) (p : ℕ) (d : Datum) → ArraysFit o p d → ArraysFit q p d
   one_fits o q p (num n v) f = tt
   one_fits o q p (text t bs) f = tt
   one_fits o q p (array t ds) f =
       (subst (λ n. n ≤ 67108864) (spellings_long o q (first_place p (alignment t)) ds) f.0, all_fit o q (first_place p (alignment t)) ds f.1)
-  one_fits o q p (dict k v es) f = (subst (λ n. n ≤ 67108864) (entries_long o q (first_place p 8) es) f.0, entries_fit o q (first_place p 8) es f.1)
+  one_fits o q p (dict k v ds) f = (subst (λ n. n ≤ 67108864) (spellings_long o q (first_place p 8) ds) f.0, all_fit o q (first_place p 8) ds f.1)
   one_fits o q p (struct ds) f = all_fit o q (aligned p 8) ds f
   one_fits o q p (variant d) f =
       subst (λ n. ArraysFit q (p + n) d) (text_long o q signature (type_text (type_of d)))
@@ -88,20 +74,6 @@ mutual
   all_fit o q p no_data f = tt
   all_fit o q p (items d ds) f =
       (one_fits o q p d f.0, subst (λ n. AllFit q (p + n) ds) (spelling_long o q p d) (all_fit o q (p + length (spelling o p d)) ds f.1))
-
-  entries_fit : (o q : Endian) (p : ℕ) (es : Entries) → EntriesFit o p es → EntriesFit q p es
-  entries_fit o q p no_entries f = tt
-  entries_fit o q p (entry a b es) f =
-      let k : ℕ = aligned p 8 in
-      let key : length (spelling o k a) ≡ length (spelling q k a) = spelling_long o q k a in
-      let mo : ℕ = k + length (spelling o k a) in
-      let mq : ℕ = k + length (spelling q k a) in
-      let value : length (spelling o mo b) ≡ length (spelling q mq b) = spelling_long o q mo b ∙ ap (λ n. length (spelling q (k + n) b)) key in
-      let here : mo + length (spelling o mo b) ≡ mq + length (spelling q mq b) = ap (λ n. k + n + length (spelling o mo b)) key ∙ ap (λ n. mq + n) value in (
-        one_fits o q k a f.0,
-        subst (λ n. ArraysFit q (k + n) b) key (one_fits o q mo b f.1),
-        subst (λ n. EntriesFit q n es) here (entries_fit o q (mo + length (spelling o mo b)) es f.2),
-      )
 
 -- ---- values that bytes spell
 

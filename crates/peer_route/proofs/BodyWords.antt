@@ -175,18 +175,7 @@ all_both xs ys e f = list_all-append no_colon xs ys ∙ rw (e, f) refl
 
 letter_no_colon : (b : BasicType) → no_colon (letter b) ≡ true
 letter_no_colon basics.Byte = refl
-letter_no_colon basics.Boolean = refl
-letter_no_colon basics.Int16 = refl
-letter_no_colon basics.Uint16 = refl
-letter_no_colon basics.Int32 = refl
-letter_no_colon basics.Uint32 = refl
-letter_no_colon basics.Int64 = refl
-letter_no_colon basics.Uint64 = refl
-letter_no_colon basics.Double = refl
-letter_no_colon basics.String = refl
-letter_no_colon basics.ObjectPath = refl
-letter_no_colon basics.Signature = refl
-letter_no_colon basics.UnixFd = refl
+letter_no_colon other = refl
 
 letter_alone : (b : BasicType) (rest : List ℕ) → list_all no_colon rest ≡ true → list_all no_colon (letter b ∷ rest) ≡ true
 letter_alone b rest e = rw (letter_no_colon b, e) refl

@@ -1,10 +1,15 @@
--- What every history says of its calls: none was put before more messages were read than there are, and their places in
--- the outbox rise.
-use Rattle.std.proofs.Common.{◌≡◌, ℕ, ◌<◌, ◌≤◌, zero, suc, refl, ap, arith, true, false, List, [], ◌∷◌, ◌++◌, length, map, length-append}
+-- What holds of each past: none of its calls was put before more messages were read than there are, their places in the outbox
+-- rise, and a writer that was closed is a closed peer's.
+use Rattle.std.proofs.Common.{◌≡◌, ℕ, ◌≤◌, zero, suc, refl, sym, ◌∙◌, ap, arith, subst, true, false, is_some, Option, Some, None, List, [], ◌∷◌, ◌++◌, length, map, length-append}
+use Rattle.std.specs.List.{AllByRecursion}
 use Rattle.std.proofs.lemmas.List.{map-append}
 use Rattle.wire_message.specs.Front.{Seen}
-use Rattle.peer_route.specs.History.{Event, Took, Put, Fault, Spent, Added, Removed, Call, read, put, done, calls, new_call, inner_call, edit, spend, fail_at, past}
-use Rattle.peer_route.proofs.Plain.{Below, Rising, Below-more, Below-push, Rising-push}
+use Rattle.wire_message.specs.declared.error.Error.{Error}
+use Rattle.peer_route.specs.declared.writer.Writer.{Writer}
+use Rattle.peer_route.specs.declared.writer.Writer.TheVariants as writers
+use Rattle.peer_route.specs.History.{Event, Shut, Put, Fault, Spent, Added, Removed, Call, new_call, inner_call, edit, spend, fail_at, first_of, worse, Past, after, no_past}
+use Rattle.peer_route.specs.Left.{Rising, IsSound}
+use Rattle.peer_route.proofs.Plain.{Below, Below-more, Below-push, Rising-push}
 
 abbrev pub places : List Call → List ℕ
 places cs = map (λ c. c.index) cs
@@ -21,72 +26,65 @@ places-fail n (c ∷ cs) = ap (λ ns. c.index ∷ ns) (places-fail n cs)
 -- ---- from
 
 abbrev pub Early : ℕ → List Call → Type 0
-Early n [] = Unit {0}
-Early n (c ∷ cs) = (c.from ≤ n) × Early n cs
+Early n cs = AllByRecursion (λ (c : Call). c.from ≤ n) cs
 
-Early-more : (n m : ℕ) (cs : List Call) → n ≤ m → Early n cs → Early m cs
+pub Early-more : (n m : ℕ) (cs : List Call) → n ≤ m → Early n cs → Early m cs
 Early-more n m [] le e = tt
 Early-more n m (c ∷ cs) le e = (let h : c.from ≤ n = e.0 in omega arith, Early-more n m cs le e.1)
 
-Early-push : (n : ℕ) (cs : List Call) (c : Call) → c.from ≤ n → Early n cs → Early n (cs ++ c ∷ [])
+pub Early-push : (n : ℕ) (cs : List Call) (c : Call) → c.from ≤ n → Early n cs → Early n (cs ++ c ∷ [])
 Early-push n [] c le e = (le, tt)
 Early-push n (d ∷ ds) c le e = (e.0, Early-push n ds c le e.1)
 
-Early-edit : (n k : ℕ) (cs : List Call) → Early n cs → Early n (edit k spend cs)
+pub Early-edit : (n k : ℕ) (cs : List Call) → Early n cs → Early n (edit k spend cs)
 Early-edit n k [] e = tt
 Early-edit n zero (c ∷ cs) e = e
 Early-edit n (suc k) (c ∷ cs) e = (e.0, Early-edit n k cs e.1)
 
-Early-fail : (n i : ℕ) (cs : List Call) → Early n cs → Early n (map (fail_at i) cs)
+pub Early-fail : (n i : ℕ) (cs : List Call) → Early n cs → Early n (map (fail_at i) cs)
 Early-fail n i [] e = tt
 Early-fail n i (c ∷ cs) e = (e.0, Early-fail n i cs e.1)
 
--- each call was put after no more messages than were read
-pub calls_early : (h : List Event) → Early (length (read h)) (calls h)
-calls_early [] = tt
-calls_early (Took m ∷ h) = Early-more (length (read h)) (length (read h ++ m ∷ [])) (calls h) (omega (arith, length-append (read h) (m ∷ []))) (calls_early h)
-calls_early (Put m true ∷ h) = Early-push (length (read h)) (calls h) (new_call (past h) m) (omega arith) (calls_early h)
-calls_early (Fault ∷ h) = Early-fail (length (read h)) (done h) (calls h) (calls_early h)
-calls_early (Spent k ∷ h) = Early-edit (length (read h)) k (calls h) (calls_early h)
-calls_early (Added m rule asked ∷ h) = Early-push (length (read h)) (calls h) (inner_call (past h) m) (omega arith) (calls_early h)
-calls_early (Removed m ∷ h) = Early-push (length (read h)) (calls h) (inner_call (past h) m) (omega arith) (calls_early h)
-calls_early (e ∷ h) = calls_early h
+-- ---- each event
 
--- ---- places
+-- one message more, with a call that has its place
+grown : (ms : List Seen) (m : Seen) (cs : List Call) (c : Call) → c.index ≡ length ms → Below (length ms) (places cs) → Rising (places cs)
+    → Below (length (ms ++ m ∷ [])) (places (cs ++ c ∷ [])) × Rising (places (cs ++ c ∷ []))
+grown ms m cs c at b r =
+    let P : List ℕ → Type 0 = λ ns. Below (length (ms ++ m ∷ [])) ns × Rising ns in
+    subst P (ap (λ n. places cs ++ n ∷ []) (sym at) ∙ sym (map-append (λ (d : Call). d.index) cs (c ∷ [])))
+    (Below-push (length ms) (length (ms ++ m ∷ [])) (places cs) (omega (arith, length-append ms (m ∷ []))) b, Rising-push (length ms) (places cs) b r)
 
-below_next : (h : List Event) (m : Seen) → length (put h) < length (put h ++ m ∷ [])
-below_next h m = omega (arith, length-append (put h) (m ∷ []))
+first_there : (o : Option Error) (error : Error) → is_some (first_of o error) ≡ true
+first_there None error = refl
+first_there (Some earlier) error = refl
 
--- each call's message stands in the outbox
-pub places_below : (h : List Event) → Below (length (put h)) (places (calls h))
-places_below [] = tt
-places_below (Put m true ∷ h) =
-    rw (map-append (λ (c : Call). c.index) (calls h) (new_call (past h) m ∷ []))
-    (Below-push (length (put h)) (length (put h ++ m ∷ [])) (places (calls h)) (below_next h m) (places_below h))
-places_below (Put m false ∷ h) =
-    let lt = below_next h m in Below-more (length (put h)) (length (put h ++ m ∷ [])) (places (calls h)) (omega arith) (places_below h)
-places_below (Fault ∷ h) = rw (places-fail (done h) (calls h)) (places_below h)
-places_below (Spent k ∷ h) = rw (places-edit k (calls h)) (places_below h)
-places_below (Added m rule asked ∷ h) =
-    rw (map-append (λ (c : Call). c.index) (calls h) (inner_call (past h) m ∷ []))
-    (Below-push (length (put h)) (length (put h ++ m ∷ [])) (places (calls h)) (below_next h m) (places_below h))
-places_below (Removed m ∷ h) =
-    rw (map-append (λ (c : Call). c.index) (calls h) (inner_call (past h) m ∷ []))
-    (Below-push (length (put h)) (length (put h ++ m ∷ [])) (places (calls h)) (below_next h m) (places_below h))
-places_below (e ∷ h) = places_below h
+worse_closed : (w : Writer) → worse w writers.Failed ≡ writers.Closed → w ≡ writers.Closed
+worse_closed writers.Fine e = absurd (cc)
+worse_closed writers.Failed e = absurd (cc)
+worse_closed writers.Closed e = refl
 
--- their places rise
-pub places_rise : (h : List Event) → Rising (places (calls h))
-places_rise [] = tt
-places_rise (Put m true ∷ h) =
-    rw (map-append (λ (c : Call). c.index) (calls h) (new_call (past h) m ∷ []))
-    (Rising-push (length (put h)) (places (calls h)) (places_below h) (places_rise h))
-places_rise (Fault ∷ h) = rw (places-fail (done h) (calls h)) (places_rise h)
-places_rise (Spent k ∷ h) = rw (places-edit k (calls h)) (places_rise h)
-places_rise (Added m rule asked ∷ h) =
-    rw (map-append (λ (c : Call). c.index) (calls h) (inner_call (past h) m ∷ []))
-    (Rising-push (length (put h)) (places (calls h)) (places_below h) (places_rise h))
-places_rise (Removed m ∷ h) =
-    rw (map-append (λ (c : Call). c.index) (calls h) (inner_call (past h) m ∷ []))
-    (Rising-push (length (put h)) (places (calls h)) (places_below h) (places_rise h))
-places_rise (e ∷ h) = places_rise h
+pub sound_first : IsSound no_past
+sound_first = record { below = tt; rise = tt; shut = λ e. absurd (cc) }
+
+pub sound_after : (e : Event) (h : Past) → IsSound h → IsSound (after e h)
+sound_after (Put m true) h s = let g = grown h.outbox.put m h.calls (new_call h m) refl s.below s.rise in record { below = g.0; rise = g.1; shut = s.shut }
+sound_after (Put m false) h s = record {
+  below = Below-more (length h.outbox.put) (length (h.outbox.put ++ m ∷ [])) (places h.calls) (omega (arith, length-append h.outbox.put (m ∷ []))) s.below;
+  rise = s.rise;
+  shut = s.shut;
+}
+sound_after (Added m rule asked) h s = let g = grown h.outbox.put m h.calls (inner_call h m) refl s.below s.rise in record { below = g.0; rise = g.1; shut = s.shut }
+sound_after (Removed m) h s = let g = grown h.outbox.put m h.calls (inner_call h m) refl s.below s.rise in record { below = g.0; rise = g.1; shut = s.shut }
+sound_after (Spent k) h s = record {
+  below = subst (Below (length h.outbox.put)) (sym (places-edit k h.calls)) s.below;
+  rise = subst Rising (sym (places-edit k h.calls)) s.rise;
+  shut = s.shut;
+}
+sound_after Fault h s = record {
+  below = subst (Below (length h.outbox.put)) (sym (places-fail h.outbox.done h.calls)) s.below;
+  rise = subst Rising (sym (places-fail h.outbox.done h.calls)) s.rise;
+  shut = λ e. s.shut (worse_closed h.outbox.writer e);
+}
+sound_after (Shut error) h s = record { below = s.below; rise = s.rise; shut = λ e. first_there h.closing error }
+sound_after e h s = record { below = s.below; rise = s.rise; shut = s.shut }

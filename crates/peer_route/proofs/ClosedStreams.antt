@@ -11,16 +11,21 @@ use Rattle.peer_route.specs.declared.answer.Answer.TheVariants as answers
 use Rattle.peer_route.specs.declared.answer.Entry.{Entry}
 use Rattle.peer_route.specs.History.{Event, Fault, Made, Did, Added, Deed, Gave, Told, Gone, Asked, Opened, done, closing, unique_name, edit, Stream, streams, phase, asks_by, new_stream, asking_stream, done_by, fail_stream, past, read}
 use Rattle.peer_route.specs.Calls.{by_position}
-use Rattle.peer_route.specs.Streams.{is_since, runs, runs_at, is_open, gave_last, held, take_by, take_at, take_answer, leaving, gone_then, opening_at, opening_answer}
+use Rattle.peer_route.specs.Streams.{is_since, runs, runs_at, is_open, gave_last, held, take_by, take_at, take_answer, leaving, gone_then, opening_at, opening_answer, opening_events}
 use Rattle.peer_route.specs.declared.progress.OpenState.TheVariants as states
 use Rattle.peer_route.specs.Parcel.{Setting}
 use Rattle.peer_route.specs.CallMessage.{reply_asked, error_asked}
-use Rattle.peer_route.specs.Trail.{Trail, place, given_by, given_at, given, trail, opened_does, removals, wrote_each, fault_each, wrote_first, leave_with, unstream_does, events_of, new_streams}
-use Rattle.peer_route.specs.Answers.{IsAnswer, IsSendOf, IsLeaveOf, Legal, shown_opening, opened_of, shown_take, take_of, take_before_of, where_open, is_open_at, are_open_at}
+use Rattle.peer_route.specs.Trail.{Trail, place, given_by, given_at, given}
+use Rattle.peer_route.specs.Answers.{IsAnswer, IsSendOf, Legal, IsMeant}
 use Rattle.peer_route.specs.StreamLaws.{names_stream, closes_stream, says_closed, says_denied, IsNoStream}
-use Rattle.peer_route.proofs.BusAnswers.{OfLeave, Leaves, Unknown, Delays, leave_answered}
+use Rattle.peer_route.proofs.BusAnswers.{OfLeave, Unknown, Delays, leave_answered, Ended}
 use Rattle.peer_route.proofs.Edits.{edit_there}
 use Rattle.peer_route.proofs.Once.{place_append, legal_from}
+use Rattle.peer_route.specs.Entries.{trail, removals, wrote_each, fault_each, wrote_first, leave_with, events_of, new_streams, does, leave_events, more, said}
+use Rattle.peer_route.specs.Plan.{opened_does, opened_of, take_of, take_before_of, where_open, is_open_at, are_open_at, Leaves, Plan, asks_more, clones, ends, plan}
+use Rattle.peer_route.specs.Shown.{shown_opening, shown_take}
+use Rattle.peer_route.proofs.Plans.{error_kept}
+use Rattle.peer_route.specs.declared.progress.OpenState.{OpenState}
 
 -- ---- a stream that is closed
 
@@ -77,10 +82,16 @@ there_made h None e = cc
 there_made h (Some s) e = refl
 
 -- an open stream was made
-open_made : (h : List Event) (p : Option ℕ) → is_open_at h p ≡ true → (k : ℕ) × (p ≡ Some k) × (is_some (slice_get (streams h) k) ≡ true)
+open_there : (h : List Event) (i : ℕ) → is_open (past h) i ≡ true → is_some (slice_get (streams h) i) ≡ true
 unfolding is_open
-open_made h None e = cc
-open_made h (Some k) e = (k, refl, there_made h (slice_get (streams h) k) e)
+open_there h i e = there_made h (slice_get (streams h) i) e
+
+named_there : (h : List Event) (p : Option ℕ) (i : ℕ) → p ≡ Some i → is_open_at h p ≡ true → is_some (slice_get (streams h) i) ≡ true
+named_there h p i named e = open_there h i (ap (is_open_at h) (sym named) ∙ e)
+
+open_named : (h : List Event) (p : Option ℕ) → is_open_at h p ≡ true → (k : ℕ) × (p ≡ Some k)
+open_named h None e = cc
+open_named h (Some k) e = (k, refl)
 
 two_open : (a b c : Bool) → (a && b && c) ≡ true → (a ≡ true) × (b ≡ true)
 two_open true true c e = (refl, refl)
@@ -88,8 +99,8 @@ two_open true false c e = cc
 two_open false b c e = cc
 
 -- The stream at this place is closed after these events.
-abbrev Closes : List Event → List Event → Option ℕ → Type 0
-Closes xs h p = (k : ℕ) × (p ≡ Some k) × (closed_at (streams (xs ++ h)) k ≡ true)
+abbrev IsEndedBy : List Event → List Event → Option ℕ → Type 0
+IsEndedBy xs h p = (k : ℕ) × (p ≡ Some k) × (closed_at (streams (xs ++ h)) k ≡ true)
 
 closes_front : (xs ys h : List Event) (k : ℕ) → closed_at (streams (ys ++ h)) k ≡ true → closed_at (streams ((xs ++ ys) ++ h)) k ≡ true
 closes_front xs ys h k g = subst (λ (zs : List Event). closed_at (streams zs) k ≡ true) (sym (append_assoc xs ys h)) (closed_events xs (ys ++ h) k g)
@@ -98,92 +109,83 @@ closes_front xs ys h k g = subst (λ (zs : List Event). closed_at (streams zs) k
 closes_leave : (writes : List Rule → List Event) (h : List Event) (i : ℕ) (j : Option ℕ) (k : ℕ) → closed_at (streams (gone_then j (Did i Gone ∷ []) ++ h)) k ≡ true
     → closed_at (streams (leave_with writes h i j ++ h)) k ≡ true
 closes_leave writes h i j k g =
-    closes_front (writes (leaving h i j) ++ removals (gone_then j (Did i Gone ∷ h)) (leaving h i j)) (gone_then j (Did i Gone ∷ [])) h k g
+    closes_front (writes (leaving (past h) i j) ++ removals (gone_then j (Did i Gone ∷ h)) (leaving (past h) i j)) (gone_then j (Did i Gone ∷ [])) h k g
 
 closes_said : (h : List Event) (i : ℕ) (j : Option ℕ) (a : Answer) (k : ℕ) → says_closed a ≡ true → closed_at (streams (gone_then j (Did i Gone ∷ []) ++ h)) k ≡ true
-    → closed_at (streams (unstream_does h (Some i) j a ++ h)) k ≡ true
+    → closed_at (streams (leave_events h i j a ++ h)) k ≡ true
 closes_said h i j (answers.Gone last) k e g = closes_leave wrote_each h i j k g
 closes_said h i j (answers.SendFailed error) k e g = closes_leave fault_each h i j k g
 closes_said h i j (answers.SentFirst error) k e g = closes_leave wrote_first h i j k g
 closes_said h i j (answers.Untold error) k e g = g
 closes_said h i j a k e g = cc
 
-closes_one : (h : List Event) (p : Option ℕ) (a : Answer) → says_closed a ≡ true → is_open_at h p ≡ true → Closes (unstream_does h p None a) h p
-closes_one h p a said e =
-    let m = open_made h p e in
-    (m.0, m.1, subst (λ o. closed_at (streams (unstream_does h o None a ++ h)) m.0 ≡ true) (sym m.1) (closes_said h m.0 None a m.0 said (closed_here m.0 (streams h) m.2)))
+ended_one : (h : List Event) (p : Option ℕ) (pl : Plan) (a : Answer) → OfLeave (is_open_at h p) p None pl a → says_closed a ≡ true → IsEndedBy (does h pl a) h p
+ended_one h p pl a (Ended i there named means said) e = (
+  i,
+  named,
+  subst (λ q. closed_at (streams (does h q a ++ h)) i ≡ true) (sym means) (closes_said h i None a i e (closed_here i (streams h) (named_there h p i named there))),
+)
+ended_one h p pl a (Unknown is) e = let q : false ≡ true = ap says_closed (sym is) ∙ e in cc
+ended_one h p pl a (Delays is) e = let q : false ≡ true = ap says_closed (sym is) ∙ e in cc
 
-closes_both : (h : List Event) (p q : Option ℕ) (a : Answer) → says_closed a ≡ true → is_open_at h p ≡ true → is_open_at h q ≡ true
-    → Closes (unstream_does h p q a) h p × Closes (unstream_does h p q a) h q
-closes_both h p q a said e f =
-    let m = open_made h p e in
-    let n = open_made h q f in
-    let first : closed_at (streams (Did m.0 Gone ∷ h)) m.0 ≡ true = closed_here m.0 (streams h) m.2 in
-    let there : is_some (slice_get (streams (Did m.0 Gone ∷ h)) n.0) ≡ true = edit_there (done_by Gone) m.0 n.0 (streams h) ∙ n.2 in
-    let does : unstream_does h p q a ≡ unstream_does h (Some m.0) (Some n.0) a =
-    ap (λ o. unstream_does h o q a) m.1 ∙ ap (λ o. unstream_does h (Some m.0) o a) n.1 in (
-      (
-        m.0,
-        m.1,
-        subst (λ xs. closed_at (streams (xs ++ h)) m.0 ≡ true) (sym does)
-            (closes_said h m.0 (Some n.0) a m.0 said (closed_edit Gone n.0 m.0 (streams (Did m.0 Gone ∷ h)) first)),
-      ),
-      (
-        n.0,
-        n.1,
-        subst (λ xs. closed_at (streams (xs ++ h)) n.0 ≡ true) (sym does)
-            (closes_said h m.0 (Some n.0) a n.0 said (closed_here n.0 (streams (Did m.0 Gone ∷ h)) there)),
-      ),
+ended_both : (h : List Event) (i j : ℕ) (a : Answer) → says_closed a ≡ true → is_some (slice_get (streams h) i) ≡ true → is_some (slice_get (streams h) j) ≡ true
+    → (closed_at (streams (leave_events h i (Some j) a ++ h)) i ≡ true) × (closed_at (streams (leave_events h i (Some j) a ++ h)) j ≡ true)
+ended_both h i j a e first second =
+    let one : closed_at (streams (Did i Gone ∷ h)) i ≡ true = closed_here i (streams h) first in
+    let there : is_some (slice_get (streams (Did i Gone ∷ h)) j) ≡ true = edit_there (done_by Gone) i j (streams h) ∙ second in
+    (closes_said h i (Some j) a i e (closed_edit Gone j i (streams (Did i Gone ∷ h)) one), closes_said h i (Some j) a j e (closed_here j (streams (Did i Gone ∷ h)) there))
+
+ended_two : (h : List Event) (p q : Option ℕ) (c : Bool) (pl : Plan) (a : Answer) → OfLeave (is_open_at h p && is_open_at h q && c) p q pl a → says_closed a ≡ true
+    → IsEndedBy (does h pl a) h p × IsEndedBy (does h pl a) h q
+ended_two h p q c pl a (Ended i there named means said) e =
+    let open_ = two_open (is_open_at h p) (is_open_at h q) c there in
+    let j = open_named h q open_.1 in
+    let both = ended_both h i j.0 a e (named_there h p i named open_.0) (named_there h q j.0 j.1 open_.1) in
+    let means_so : pl ≡ Leaves i (Some j.0) = means ∙ ap (Leaves i) j.1 in (
+      (i, named, subst (λ x. closed_at (streams (does h x a ++ h)) i ≡ true) (sym means_so) both.0),
+      (j.0, j.1, subst (λ x. closed_at (streams (does h x a ++ h)) j.0 ≡ true) (sym means_so) both.1),
     )
+ended_two h p q c pl a (Unknown is) e = let f : false ≡ true = ap says_closed (sym is) ∙ e in cc
+ended_two h p q c pl a (Delays is) e = let f : false ≡ true = ap says_closed (sym is) ∙ e in cc
 
-closes_at : (t : Trail) (lane n number : ℕ) (xs : List Event) → (n == number) ≡ true → Closes xs t.events (place 0 lane n t.streams) → Closes xs t.events (place 0 lane number t.streams)
-closes_at t lane n number xs e c = subst (λ i. Closes xs t.events (place 0 lane i t.streams)) (eqb-true n number e) c
-
--- streams that an entry closed were open
-said_open : (open_ : Bool) (a : Answer) → OfLeave open_ a → says_closed a ≡ true → open_ ≡ true
-said_open open_ a (Leaves there said) e = there
-said_open open_ a (Unknown is) e = let q : false ≡ true = ap says_closed (sym is) ∙ e in cc
-said_open open_ a (Delays is) e = let q : false ≡ true = ap says_closed (sym is) ∙ e in cc
+closes_at : (t : Trail) (lane n number : ℕ) (xs : List Event) → (n == number) ≡ true → IsEndedBy xs t.events (place 0 lane n t.streams) → IsEndedBy xs t.events (place 0 lane number t.streams)
+closes_at t lane n number xs e c = subst (λ i. IsEndedBy xs t.events (place 0 lane i t.streams)) (eqb-true n number e) c
 
 closes_by : (t : Trail) (lane : ℕ) (w : Words) (a : Answer) (number : ℕ) → IsAnswer t lane w a → closes_stream number w ≡ true → says_closed a ≡ true
-    → Closes (events_of t lane w a) t.events (place 0 lane number t.streams)
+    → IsEndedBy (events_of t lane w a) t.events (place 0 lane number t.streams)
 closes_by t lane (words.Unstream n None) a number is e said =
     let p = place 0 lane n t.streams in
-    closes_at t lane n number (unstream_does t.events p None a) e
-    (closes_one t.events p a said (said_open (is_open_at t.events p) a (leave_answered (is_open_at t.events p) t.events p None a is) said))
+    let w = words.Unstream n None in
+    closes_at t lane n number (events_of t lane w a) e (ended_one t.events p (plan t lane w) a (leave_answered t lane (is_open_at t.events p) p None a is) said)
 closes_by t lane (words.Unstream n (Some second)) a number is e said =
     let p = place 0 lane n t.streams in
     let q = place 0 lane second t.streams in
-    let there = are_open_at t.events lane t.streams n (Some second) in
-    let open_ = two_open (is_open_at t.events p) (is_open_at t.events q) (not (n == second)) (said_open there a (leave_answered there t.events p q a is) said) in
-    let both = closes_both t.events p q a said open_.0 open_.1 in
-    elim (or_cases (n == number) (second == number) e) as (λ _. Closes (unstream_does t.events p q a) t.events (place 0 lane number t.streams)) [
-      | inl one ↦ closes_at t lane n number (unstream_does t.events p q a) one both.0
-      | inr two ↦ closes_at t lane second number (unstream_does t.events p q a) two both.1
+    let w = words.Unstream n (Some second) in
+    let both = ended_two t.events p q (not (n == second)) (plan t lane w) a (leave_answered t lane (are_open_at t.events lane t.streams n (Some second)) p q a is) said in
+    elim (or_cases (n == number) (second == number) e) as (λ _. IsEndedBy (events_of t lane w a) t.events (place 0 lane number t.streams)) [
+      | inl one ↦ closes_at t lane n number (events_of t lane w a) one both.0
+      | inr two ↦ closes_at t lane second number (events_of t lane w a) two both.1
     ]
 closes_by t lane w a number is e said = cc
 
 -- ---- or is denied
 
-denied_does : (k : ℕ) (a : Answer) → says_denied a ≡ true → opened_does (Some k) a ≡ Did k Gone ∷ []
-denied_does k (answers.MethodError m) e = refl
-denied_does k (answers.InvalidReply position) e = refl
-denied_does k (answers.Closed error) e = refl
-denied_does k a e = cc
+denied_does : (k : ℕ) (state : OpenState) → says_denied (shown_opening state) ≡ true → said (shown_opening state) (opening_events k state) ≡ Did k Gone ∷ []
+denied_does k (states.Refused m) e = error_kept m m.error_name (Did k Gone ∷ [])
+denied_does k (states.Over error) e = refl
+denied_does k state e = cc
 
 denied_made : (h : List Event) (o : Option Stream) → says_denied (shown_opening (opening_at (read h) (closing h) o)) ≡ true → is_some o ≡ true
 denied_made h None e = cc
 denied_made h (Some s) e = refl
 
-closes_denied : (h : List Event) (p : Option ℕ) (a : Answer) → a ≡ opened_of h p → says_denied a ≡ true → Closes (opened_does p a) h p
+closes_denied : (h : List Event) (p : Option ℕ) (a : Answer) → a ≡ opened_of h p → says_denied a ≡ true → IsEndedBy (said a (opened_does h p)) h p
 unfolding opening_answer
 closes_denied h None a is e = let q : false ≡ true = ap says_denied (sym is) ∙ e in cc
-closes_denied h (Some k) a is e = (
-  k,
-  refl,
-  subst (λ xs. closed_at (streams (xs ++ h)) k ≡ true) (sym (denied_does k a e))
-      (closed_here k (streams h) (denied_made h (slice_get (streams h) k) (ap says_denied (sym is) ∙ e))),
-)
+closes_denied h (Some k) a is e =
+    let denied = ap says_denied (sym is) ∙ e in
+    let does_so : said a (opened_does h (Some k)) ≡ Did k Gone ∷ [] = ap (λ x. said x (opened_does h (Some k))) is ∙ denied_does k (opening_answer (past h) k) denied in
+    (k, refl, subst (λ xs. closed_at (streams (xs ++ h)) k ≡ true) (sym does_so) (closed_here k (streams h) (denied_made h (slice_get (streams h) k) denied)))
 
 -- ---- it is unknown
 
@@ -244,12 +246,23 @@ not_opened t lane number c = ap (opened_of t.events) c.named ∙ ap shown_openin
 none_given : (t : Trail) (lane number : ℕ) → IsClosed t lane number → given t lane number ≡ None
 none_given t lane number c = ap (given_at t.events) c.named ∙ closed_given t.events (streams t.events) c.k c.closed
 
-refused_where : (a there : Answer) (b : Bool) → a ≡ where_open b there → b ≡ false → a ≡ answers.Refused errors.UnknownHandle
-refused_where a there b is e = is ∙ ap (λ x. where_open x there) e
+refused_where : (t : Trail) (lane : ℕ) (b : Bool) (done : Plan) (a : Answer) → IsMeant t lane (where_open b done) a → b ≡ false → a ≡ answers.Refused errors.UnknownHandle
+refused_where t lane true done a is e = cc
+refused_where t lane false done a is e = is
 
-refused_leave : (open_ : Bool) (h : List Event) (p q : Option ℕ) (a : Answer) → IsLeaveOf open_ h p q a → open_ ≡ false → a ≡ answers.Refused errors.UnknownHandle
-refused_leave true h p q a is e = cc
-refused_leave false h p q a is e = is
+refused_clone : (t : Trail) (lane : ℕ) (p : Option ℕ) (a : Answer) → IsMeant t lane (clones lane t.streams t.events p) a → is_open_at t.events p ≡ false
+    → a ≡ answers.Refused errors.UnknownHandle
+refused_clone t lane None a is e = is
+refused_clone t lane (Some k) a is e = refused_where t lane (is_open (past t.events) k) _ a is e
+
+refused_more : (t : Trail) (lane limit : ℕ) (p : Option ℕ) (a : Answer) → IsMeant t lane (asks_more limit t.events p) a → is_open_at t.events p ≡ false
+    → a ≡ answers.Refused errors.UnknownHandle
+refused_more t lane limit None a is e = is
+refused_more t lane limit (Some k) a is e = refused_where t lane (is_open (past t.events) k) _ a is e
+
+refused_leave : (t : Trail) (lane : ℕ) (there : Bool) (p q : Option ℕ) (a : Answer) → IsMeant t lane (ends there t.events p q) a → there ≡ false → a ≡ answers.Refused errors.UnknownHandle
+refused_leave t lane true p q a is e = cc
+refused_leave t lane false p q a is e = is
 
 first_not : (a b c : Bool) → a ≡ false → (a && b && c) ≡ false
 first_not false b c e = refl
@@ -267,14 +280,14 @@ no_stream : (t : Trail) (lane : ℕ) (w : Words) (a : Answer) (number : ℕ) →
     → a ≡ answers.Refused errors.UnknownHandle
 no_stream t lane (words.Take n) a number is c e = is ∙ not_taken t lane n (named_at t lane n number e c)
 no_stream t lane (words.TakeBefore n before) a number is c e = is ∙ not_taken_before t lane n (named_at t lane n number e c)
-no_stream t lane (words.Clone n) a number is c e = refused_where a _ _ is (not_open t lane n (named_at t lane n number e c))
-no_stream t lane (words.Queue n limit) a number is c e = refused_where a _ _ is (not_open t lane n (named_at t lane n number e c))
+no_stream t lane (words.Clone n) a number is c e = refused_clone t lane (place 0 lane n t.streams) a is (not_open t lane n (named_at t lane n number e c))
+no_stream t lane (words.Queue n limit) a number is c e = refused_more t lane limit (place 0 lane n t.streams) a is (not_open t lane n (named_at t lane n number e c))
 no_stream t lane (words.Opened n) a number is c e = is ∙ not_opened t lane n (named_at t lane n number e c)
-no_stream t lane (words.Unstream n None) a number is c e = refused_leave _ _ _ _ a is (not_open t lane n (named_at t lane n number e c))
+no_stream t lane (words.Unstream n None) a number is c e = refused_leave t lane _ (place 0 lane n t.streams) None a is (not_open t lane n (named_at t lane n number e c))
 no_stream t lane (words.Unstream n (Some second)) a number is c e =
     let p = is_open_at t.events (place 0 lane n t.streams) in
     let q = is_open_at t.events (place 0 lane second t.streams) in
-    refused_leave (p && q && not (n == second)) _ _ _ a is (elim (or_cases (n == number) (second == number) e) as (λ _. (p && q && not (n == second)) ≡ false) [
+    refused_leave t lane (p && q && not (n == second)) (place 0 lane n t.streams) (place 0 lane second t.streams) a is (elim (or_cases (n == number) (second == number) e) as (λ _. (p && q && not (n == second)) ≡ false) [
       | inl one ↦ first_not p q (not (n == second)) (not_open t lane n (named_at t lane n number one c))
       | inr two ↦ second_not p q (not (n == second)) (not_open t lane second (named_at t lane second number two c))
     ])
@@ -293,7 +306,7 @@ closed_more setting e es lane number c = record {
   closed = closed_events (events_of (trail setting es) e.lane e.words e.answer) (trail setting es).events c.k c.closed;
 }
 
-closed_now : (setting : Setting) (e : Entry) (es : List Entry) (number : ℕ) → Closes (events_of (trail setting es) e.lane e.words e.answer) (trail setting es).events (place 0 e.lane number (trail setting es).streams)
+closed_now : (setting : Setting) (e : Entry) (es : List Entry) (number : ℕ) → IsEndedBy (events_of (trail setting es) e.lane e.words e.answer) (trail setting es).events (place 0 e.lane number (trail setting es).streams)
     → IsClosed (trail setting (e ∷ es)) e.lane number
 closed_now setting e es number c =
     record { k = c.0; named = place_append 0 e.lane number (trail setting es).streams (new_streams (trail setting es) e.lane e.words e.answer) c.0 c.1; closed = c.2 }
@@ -308,7 +321,7 @@ denied_after setting e es number legal w said =
     let t = trail setting es in
     let p = place 0 e.lane number t.streams in
     let is : e.answer ≡ opened_of t.events p = subst (λ x. IsAnswer t e.lane x e.answer) w legal.0 in
-    closed_now setting e es number (subst (λ x. Closes (events_of t e.lane x e.answer) t.events p) (sym w) (closes_denied t.events p e.answer is said))
+    closed_now setting e es number (subst (λ x. IsEndedBy (events_of t e.lane x e.answer) t.events p) (sym w) (closes_denied t.events p e.answer is said))
 
 unknown_entry : (t : Trail) (x : Entry) (lane number : ℕ) → IsAnswer t x.lane x.words x.answer → IsClosed t lane number → IsNoStream lane number x
 unknown_entry t x lane number is c same named = no_stream t x.lane x.words x.answer number is (subst (λ l. IsClosed t l number) (sym same) c) named

@@ -1,14 +1,11 @@
 -- Closing streams, as an entry says it and as the core does.
-use Rattle.std.proofs.Common.{◌≡◌, inl, inr, ℕ, ◌==◌, ◌&&◌, not, refl, sym, ◌∙◌, ap, Bool, true, false, List, Some, None, Result, Ok, Err}
+use Rattle.std.proofs.Common.{◌≡◌, inl, inr, ℕ, ◌==◌, ◌&&◌, not, refl, sym, ◌∙◌, ap, Bool, true, false, List, Some, None}
 use Rattle.std.proofs.lemmas.Bool.{cases_eq, eq-eqb, ne_eqb}
-use Rattle.wire_message.specs.declared.error.Error.{Error}
-use Rattle.peer_route.specs.declared.answer.Answer.{Answer}
-use Rattle.peer_route.specs.declared.answer.Answer.TheVariants as answers
-use Rattle.peer_route.specs.History.{Event}
-use Rattle.peer_route.specs.Streams.{is_open, known, are_open, ask_events}
-use Rattle.peer_route.specs.Trail.{Names, place, queue_does}
-use Rattle.peer_route.specs.Answers.{where_open, is_open_at, are_open_at}
+use Rattle.peer_route.specs.History.{Event, past}
+use Rattle.peer_route.specs.Streams.{is_open, are_open}
+use Rattle.peer_route.specs.Trail.{Names, place}
 use Rattle.peer_route.proofs.Lanes.{apart}
+use Rattle.peer_route.specs.Plan.{is_open_at, are_open_at}
 
 -- two numbers of a lane name one stream exactly where they are one
 pub one_place : (names : Names) (lane number second k j : ℕ) → place 0 lane number names ≡ Some k → place 0 lane second names ≡ Some j → (number == second) ≡ (k == j)
@@ -21,16 +18,16 @@ one_place names lane number second k j p q =
     ]
 
 -- one that is named
-pub one_open : (h : List Event) (lane : ℕ) (names : Names) (number k : ℕ) → place 0 lane number names ≡ Some k → are_open_at h lane names number None ≡ are_open h k None
+pub one_open : (h : List Event) (lane : ℕ) (names : Names) (number k : ℕ) → place 0 lane number names ≡ Some k → are_open_at h lane names number None ≡ are_open (past h) k None
 one_open h lane names number k p = ap (is_open_at h) p
 
 -- both that are named
 pub two_open : (h : List Event) (lane : ℕ) (names : Names) (number second k j : ℕ) → place 0 lane number names ≡ Some k → place 0 lane second names ≡ Some j
-    → are_open_at h lane names number (Some second) ≡ are_open h k (Some j)
+    → are_open_at h lane names number (Some second) ≡ are_open (past h) k (Some j)
 two_open h lane names number second k j p q =
     ap (λ o. is_open_at h o && is_open_at h (place 0 lane second names) && not (number == second)) p
-    ∙ ap (λ o. is_open h k && is_open_at h o && not (number == second)) q
-    ∙ ap (λ b. is_open h k && is_open h j && not b) (one_place names lane number second k j p q)
+    ∙ ap (λ o. is_open (past h) k && is_open_at h o && not (number == second)) q
+    ∙ ap (λ b. is_open (past h) k && is_open (past h) j && not b) (one_place names lane number second k j p q)
 
 and_none : (b c : Bool) → (b && false && c) ≡ false
 and_none true c = refl
@@ -43,19 +40,3 @@ first_unnamed h lane names number second p = ap (λ o. is_open_at h o && is_open
 pub second_unnamed : (h : List Event) (lane : ℕ) (names : Names) (number second : ℕ) → place 0 lane second names ≡ None → are_open_at h lane names number (Some second) ≡ false
 second_unnamed h lane names number second p =
     ap (λ o. is_open_at h (place 0 lane number names) && is_open_at h o && not (number == second)) p ∙ and_none (is_open_at h (place 0 lane number names)) (not (number == second))
-
--- ---- the entry
-
--- what is shown of what the core answers
-abbrev pub shown_by : Answer → Result (Unit {0}) Error → Answer
-shown_by a (Ok done) = a
-shown_by a (Err error) = answers.Refused error
-
-pub shown_known : (a : Answer) (b : Bool) → shown_by a (known b) ≡ where_open b a
-shown_known a true = refl
-shown_known a false = refl
-
--- the events are those of the core
-pub asks_so : (k limit : ℕ) (r : Result (Unit {0}) Error) → queue_does (Some k) limit (shown_by answers.Set r) ≡ ask_events k limit r
-asks_so k limit (Ok done) = refl
-asks_so k limit (Err error) = refl

@@ -1,5 +1,5 @@
 -- What the events of an entry do to streams, and what they leave of one.
-use Rattle.std.proofs.Common.{◌≡◌, ◌≢◌, inl, inr, ℕ, refl, sym, ◌∙◌, ap, subst, ◌||◌, Bool, true, List, [], ◌∷◌, ◌++◌, map, Option, Some, None, Ok, Err, Result}
+use Rattle.std.proofs.Common.{◌≡◌, ◌≢◌, inl, inr, ℕ, refl, sym, ◌∙◌, ap, subst, ◌||◌, Bool, true, List, [], ◌∷◌, ◌++◌, map, Option, Some, None, Ok, Err, Result, false}
 use Rattle.std.specs.List.{slice_get}
 use Rattle.std.specs.Option.{option_map}
 use Rattle.std.proofs.lemmas.Option.{slice_get-map}
@@ -7,18 +7,24 @@ use Rattle.std.proofs.lemmas.Bool.{cases_eq, eq-eqb}
 use Rattle.wire_message.specs.declared.error.Error.{Error}
 use Rattle.rule_match.specs.Rule.{Rule}
 use Rattle.rule_match.specs.Bytes.{rule_in_bytes}
-use Rattle.peer_route.specs.declared.writer.Writer.TheVariants as writers
-use Rattle.peer_route.specs.declared.writer.Writer.{Writer}
 use Rattle.peer_route.specs.declared.words.Words.{Words}
 use Rattle.peer_route.specs.declared.words.Words.TheVariants as words
 use Rattle.peer_route.specs.declared.answer.Answer.{Answer}
 use Rattle.peer_route.specs.declared.answer.Answer.TheVariants as answers
-use Rattle.peer_route.specs.History.{Event, Wrote, Fault, Made, Did, Added, Deed, Gave, Told, Gone, Asked, Opened, done, edit, closing, writer, Stream, streams, phase, asks_by, new_stream, asking_stream, done_by, fail_stream, past, read}
-use Rattle.peer_route.specs.Streams.{leaving, gone_then}
-use Rattle.peer_route.specs.Parcel as parcels
-use Rattle.peer_route.specs.Trail.{Trail, place, failed_put, send_events, read_events, poll_spends, drop_spends, stream_makes, opened_does, take_does, clone_makes, removal, removals, wrote_each, fault_each, wrote_first, leave_with, unstream_does, queue_does, main_sets, second_place, events_of, open_makes, close_does}
+use Rattle.peer_route.specs.History.{Event, Fault, Made, Did, Added, Deed, Gave, Told, Gone, Asked, Opened, done, edit, closing, Stream, streams, phase, asks_by, new_stream, asking_stream, done_by, fail_stream, past, read}
+use Rattle.peer_route.specs.Trail.{Trail, place, second_place, Names}
 use Rattle.peer_route.specs.StreamLaws.{is_take}
 use Rattle.peer_route.proofs.Edits.{edit_other, edit_here, get_append}
+use Rattle.peer_route.specs.Entries.{send_events, read_events, events_of, add_events, does, leave_events, said}
+use Rattle.peer_route.specs.Plan.{opened_does, take_does, Adds, Closes, Leaves, Plan, Reads, Says, Sends, are_open_at, asks_more, clones, drop_does, ends, ends_now, opens, opens_new, opens_rule, plan, poll_does, reads_by, where_open}
+use Rattle.peer_route.proofs.Plans.{ArePostings, add_postings, leave_postings, send_postings}
+use Rattle.peer_route.specs.Streams.{is_open, asks_bus, busy, close_waits, opening_answer, opening_events}
+use Rattle.peer_route.specs.Calls.{drop_answer, drop_events, in_flight, poll_answer, poll_events}
+use Rattle.peer_route.specs.declared.polled.Polled.{Polled}
+use Rattle.peer_route.specs.declared.progress.OpenState.{OpenState}
+use Rattle.wire_message.specs.Front.{Seen}
+use Rattle.peer_route.specs.declared.polled.Polled.TheVariants as polled
+use Rattle.peer_route.specs.declared.progress.OpenState.TheVariants as states
 
 -- ---- what an entry does
 
@@ -28,138 +34,121 @@ Only p [] = Unit {0}
 Only p (Did j deed ∷ xs) = p j deed × Only p xs
 Only p (e ∷ xs) = Only p xs
 
-only_failed : (p : ℕ → Deed → Type 0) (w : Writer) (e : Event) → Only p (e ∷ []) → Only p (failed_put w e)
-only_failed p writers.Fine e one = one
-only_failed p writers.Failed e one = tt
-only_failed p writers.Closed e one = tt
+only_said : (p : ℕ → Deed → Type 0) (a : Answer) (ds : List Event) → Only p ds → Only p (said a ds)
+only_said p (answers.Refused error) ds only = tt
+only_said p answers.Busy ds only = tt
+only_said p a ds only = only
 
-only_send : (p : ℕ → Deed → Type 0) (h : List Event) (asked : parcels.Asked) (a : Answer) → Only p (send_events h asked a)
-only_send p h (Ok parcel) (answers.Called call serial) = tt
-only_send p h (Ok parcel) (answers.Sent serial) = tt
-only_send p h (Ok parcel) (answers.SendFailed error) = only_failed p (writer h) _ tt
-only_send p h (Ok parcel) a = tt
-only_send p h (Err error) a = tt
+only_postings : (p : ℕ → Deed → Type 0) (es : List Event) → ArePostings true es → ((j : ℕ) → p j Gone) → Only p es
+only_postings p [] all gone = tt
+only_postings p (Did j Gone ∷ es) all gone = (gone j, only_postings p es all.1 gone)
+only_postings p (Did j deed ∷ es) all gone = absurd all.0
+only_postings p (e ∷ es) all gone = only_postings p es all.1 gone
 
-only_read : (p : ℕ → Deed → Type 0) (o : Option Error) (a : Answer) → Only p (read_events o a)
-only_read p (Some error) a = tt
-only_read p None (answers.Got m) = tt
-only_read p None (answers.Closed error) = tt
-only_read p None a = tt
+only_read : (p : ℕ → Deed → Type 0) (a : Answer) → Only p (read_events a)
+only_read p (answers.Got m) = tt
+only_read p (answers.Closed error) = tt
+only_read p a = tt
 
-only_poll : (p : ℕ → Deed → Type 0) (o : Option ℕ) (a : Answer) → Only p (poll_spends o a)
-only_poll p None a = tt
-only_poll p (Some j) (answers.Reply position) = tt
-only_poll p (Some j) (answers.InvalidReply position) = tt
-only_poll p (Some j) (answers.MethodError m) = tt
-only_poll p (Some j) (answers.Closed error) = tt
-only_poll p (Some j) a = tt
+-- what a command says of a stream
+abbrev SaysOnly : (ℕ → Deed → Type 0) → Plan → Type 0
+SaysOnly p (Says answer deeds) = Only p deeds
+SaysOnly p other = Unit {0}
 
-only_drop : (p : ℕ → Deed → Type 0) (o : Option ℕ) (a : Answer) → Only p (drop_spends o a)
-only_drop p None a = tt
-only_drop p (Some j) answers.Dropped = tt
-only_drop p (Some j) a = tt
+only_spent : (p : ℕ → Deed → Type 0) (k : ℕ) (r : Result (Polled Seen) Error) → Only p (poll_events k r)
+only_spent p k (Ok (polled.Now m)) = tt
+only_spent p k (Ok (polled.Closed error)) = tt
+only_spent p k r = tt
 
-only_stream : (p : ℕ → Deed → Type 0) (a : Answer) → Only p (stream_makes a)
-only_stream p (answers.Streaming number) = tt
-only_stream p a = tt
+only_poll : (p : ℕ → Deed → Type 0) (h : List Event) (o : Option ℕ) → Only p (poll_does h o)
+only_poll p h None = tt
+only_poll p h (Some k) = only_spent p k (poll_answer (past h) k)
 
-only_open : (p : ℕ → Deed → Type 0) (h : List Event) (found : Result Rule Error) (asked : Option ℕ) (a : Answer) → Only p (open_makes h found asked a)
-only_open p h (Ok rule) asked (answers.Streaming number) = tt
-only_open p h (Ok rule) asked (answers.Opening number serial) = tt
-only_open p h (Ok rule) asked (answers.SendFailed error) = only_failed p (writer h) _ tt
-only_open p h (Ok rule) asked a = tt
-only_open p h (Err error) asked a = tt
+only_dropped : (p : ℕ → Deed → Type 0) (k : ℕ) (r : Result (Unit {0}) Error) → Only p (drop_events k r)
+only_dropped p k (Ok done) = tt
+only_dropped p k (Err error) = tt
 
-only_opened : (p : ℕ → Deed → Type 0) (o : Option ℕ) (a : Answer) → ((j : ℕ) → p j Gone) → ((j : ℕ) → p j Opened) → Only p (opened_does o a)
-only_opened p None a gone opens = tt
-only_opened p (Some j) answers.Opened gone opens = (opens j, tt)
-only_opened p (Some j) (answers.MethodError m) gone opens = (gone j, tt)
-only_opened p (Some j) (answers.InvalidReply position) gone opens = (gone j, tt)
-only_opened p (Some j) (answers.Closed error) gone opens = (gone j, tt)
-only_opened p (Some j) a gone opens = tt
+only_drop : (p : ℕ → Deed → Type 0) (h : List Event) (o : Option ℕ) → Only p (drop_does h o)
+only_drop p h None = tt
+only_drop p h (Some k) = only_dropped p k (drop_answer (past h) k)
 
-only_close : (p : ℕ → Deed → Type 0) (a : Answer) → Only p (close_does a)
-only_close p answers.Shut = tt
-only_close p (answers.SendFailed error) = tt
-only_close p a = tt
+only_state : (p : ℕ → Deed → Type 0) (k : ℕ) (state : OpenState) → ((j : ℕ) → p j Gone) → ((j : ℕ) → p j Opened) → Only p (opening_events k state)
+only_state p k states.Open gone opens = (opens k, tt)
+only_state p k (states.Refused m) gone opens = (gone k, tt)
+only_state p k (states.Over error) gone opens = (gone k, tt)
+only_state p k state gone opens = tt
 
-only_clone : (p : ℕ → Deed → Type 0) (o : Option ℕ) (a : Answer) → Only p (clone_makes o a)
-only_clone p None a = tt
-only_clone p (Some j) (answers.Streaming number) = tt
-only_clone p (Some j) a = tt
+only_opened : (p : ℕ → Deed → Type 0) (h : List Event) (o : Option ℕ) → ((j : ℕ) → p j Gone) → ((j : ℕ) → p j Opened) → Only p (opened_does h o)
+only_opened p h None gone opens = tt
+only_opened p h (Some k) gone opens = only_state p k (opening_answer (past h) k) gone opens
 
-only_more : (p : ℕ → Deed → Type 0) (xs ys : List Event) → Only p xs → Only p ys → Only p (xs ++ ys)
-only_more p [] ys first rest = rest
-only_more p (Did j deed ∷ xs) ys first rest = (first.0, only_more p xs ys first.1 rest)
-only_more p (e ∷ xs) ys first rest = only_more p xs ys first rest
+only_open : (p : ℕ → Deed → Type 0) (b : Bool) (done : Plan) → SaysOnly p done → SaysOnly p (where_open b done)
+only_open p true done only = only
+only_open p false done only = tt
 
-only_wrote : (p : ℕ → Deed → Type 0) (rules : List Rule) → Only p (wrote_each rules)
-only_wrote p [] = tt
-only_wrote p (rule ∷ rules) = only_wrote p rules
+only_clone : (p : ℕ → Deed → Type 0) (lane : ℕ) (ss : Names) (h : List Event) (o : Option ℕ) → SaysOnly p (clones lane ss h o)
+only_clone p lane ss h None = tt
+only_clone p lane ss h (Some k) = only_open p (is_open (past h) k) _ tt
 
-only_fault : (p : ℕ → Deed → Type 0) (rules : List Rule) → Only p (fault_each rules)
-only_fault p [] = tt
-only_fault p (rule ∷ rules) = only_fault p rules
+only_more : (p : ℕ → Deed → Type 0) (limit : ℕ) (h : List Event) (o : Option ℕ) → ((j n : ℕ) → p j (Asked n)) → SaysOnly p (asks_more limit h o)
+only_more p limit h None asks = tt
+only_more p limit h (Some k) asks = only_open p (is_open (past h) k) _ (asks k limit, tt)
 
-only_first : (p : ℕ → Deed → Type 0) (rules : List Rule) → Only p (wrote_first rules)
-only_first p [] = tt
-only_first p (rule ∷ rules) = only_more p (fault_each rules) (Wrote ∷ []) (only_fault p rules) tt
+only_new : (p : ℕ → Deed → Type 0) (t : Trail) (lane : ℕ) (rule : Rule) (asked : Option ℕ) (b : Bool) → SaysOnly p (opens_new t lane rule asked b)
+only_new p t lane rule asked true = tt
+only_new p t lane rule asked false = tt
 
-only_removals : (p : ℕ → Deed → Type 0) (h : List Event) (rules : List Rule) → Only p (removals h rules)
-only_removals p h [] = tt
-only_removals p h (rule ∷ rules) = only_more p (removals (removal h rule ∷ h) rules) (removal h rule ∷ []) (only_removals p (removal h rule ∷ h) rules) tt
+only_rule : (p : ℕ → Deed → Type 0) (t : Trail) (lane : ℕ) (rule : Rule) (asked : Option ℕ) (shut : Option Error) (flies : Bool) → SaysOnly p (opens_rule t lane rule asked shut flies)
+only_rule p t lane rule asked (Some error) flies = tt
+only_rule p t lane rule asked None true = tt
+only_rule p t lane rule asked None false = only_new p t lane rule asked (asks_bus (past t.events) rule)
 
-only_gone : (p : ℕ → Deed → Type 0) (k : ℕ) (q : Option ℕ) → ((j : ℕ) → p j Gone) → Only p (gone_then q (Did k Gone ∷ []))
-only_gone p k None gone = (gone k, tt)
-only_gone p k (Some j) gone = (gone j, (gone k, tt))
+only_opens : (p : ℕ → Deed → Type 0) (t : Trail) (lane : ℕ) (found : Result Rule Error) (asked : Option ℕ) → SaysOnly p (opens t lane found asked)
+only_opens p t lane (Err error) asked = tt
+only_opens p t lane (Ok rule) asked = only_rule p t lane rule asked (closing t.events) (in_flight (past t.events))
 
--- streams are closed, and the bus is told, or not all of it goes out
-only_leave : (p : ℕ → Deed → Type 0) (writes : List Rule → List Event) (h : List Event) (k : ℕ) (q : Option ℕ) → ((j : ℕ) → p j Gone) → ((rules : List Rule) → Only p (writes rules))
-    → Only p (leave_with writes h k q)
-only_leave p writes h k q gone only =
-    let rules = leaving h k q in
-    let told = removals (gone_then q (Did k Gone ∷ h)) rules in
-    only_more p (writes rules ++ told) (gone_then q (Did k Gone ∷ []))
-    (only_more p (writes rules) told (only rules) (only_removals p (gone_then q (Did k Gone ∷ h)) rules)) (only_gone p k q gone)
+only_now : (p : ℕ → Deed → Type 0) (waits : Bool) (k : ℕ) (j : Option ℕ) → SaysOnly p (ends_now waits k j)
+only_now p true k j = tt
+only_now p false k j = tt
 
-only_unstream : (p : ℕ → Deed → Type 0) (h : List Event) (o q : Option ℕ) (a : Answer) → ((j : ℕ) → p j Gone) → Only p (unstream_does h o q a)
-only_unstream p h None q a gone = tt
-only_unstream p h (Some k) q (answers.Gone last) gone = only_leave p wrote_each h k q gone (only_wrote p)
-only_unstream p h (Some k) q (answers.SendFailed error) gone = only_leave p fault_each h k q gone (only_fault p)
-only_unstream p h (Some k) q (answers.SentFirst error) gone = only_leave p wrote_first h k q gone (only_first p)
-only_unstream p h (Some k) q (answers.Untold error) gone = only_gone p k q gone
-only_unstream p h (Some k) q a gone = tt
+only_ends : (p : ℕ → Deed → Type 0) (there : Bool) (h : List Event) (o j : Option ℕ) → SaysOnly p (ends there h o j)
+only_ends p true h (Some k) j = only_now p (close_waits (past h) k j) k j
+only_ends p true h None j = tt
+only_ends p false h o j = tt
 
-only_queue : (p : ℕ → Deed → Type 0) (o : Option ℕ) (limit : ℕ) (a : Answer) → ((j n : ℕ) → p j (Asked n)) → Only p (queue_does o limit a)
-only_queue p None limit a asks = tt
-only_queue p (Some j) limit answers.Set asks = (asks j limit, tt)
-only_queue p (Some j) limit a asks = tt
+only_reads : (p : ℕ → Deed → Type 0) (shut : Option Error) (full : Bool) → SaysOnly p (reads_by shut full)
+only_reads p (Some error) full = tt
+only_reads p None true = tt
+only_reads p None false = tt
 
-only_main : (p : ℕ → Deed → Type 0) (limit : ℕ) (a : Answer) → Only p (main_sets limit a)
-only_main p limit answers.Set = tt
-only_main p limit a = tt
+only_plan : (p : ℕ → Deed → Type 0) (t : Trail) (lane : ℕ) (w : Words) → ((j : ℕ) → p j Gone) → ((j : ℕ) → p j Opened) → ((j n : ℕ) → p j (Asked n))
+    → ((n : ℕ) → is_take n w ≡ true → Only p (take_does t.events (place 0 lane n t.streams))) → SaysOnly p (plan t lane w)
+only_plan p t lane words.Read gone opens asks takes = only_reads p (closing t.events) (busy (past t.events))
+only_plan p t lane (words.Poll n) gone opens asks takes = only_poll p t.events (place 0 lane n t.names)
+only_plan p t lane (words.Before n before) gone opens asks takes = only_poll p t.events (place 0 lane n t.names)
+only_plan p t lane (words.Drop n) gone opens asks takes = only_drop p t.events (place 0 lane n t.names)
+only_plan p t lane (words.Open max_queued rule) gone opens asks takes = only_opens p t lane (rule_in_bytes rule) max_queued
+only_plan p t lane (words.Opened n) gone opens asks takes = only_opened p t.events (place 0 lane n t.streams) gone opens
+only_plan p t lane (words.Take n) gone opens asks takes = takes n (eq-eqb n n refl)
+only_plan p t lane (words.TakeBefore n before) gone opens asks takes = takes n (eq-eqb n n refl)
+only_plan p t lane (words.Clone n) gone opens asks takes = only_clone p lane t.streams t.events (place 0 lane n t.streams)
+only_plan p t lane (words.Unstream n second) gone opens asks takes =
+    only_ends p (are_open_at t.events lane t.streams n second) t.events (place 0 lane n t.streams) (second_place lane second t.streams)
+only_plan p t lane (words.Queue n limit) gone opens asks takes = only_more p limit t.events (place 0 lane n t.streams) asks
+only_plan p t lane w gone opens asks takes = tt
+
+only_does : (p : ℕ → Deed → Type 0) (h : List Event) (pl : Plan) (a : Answer) → SaysOnly p pl → ((j : ℕ) → p j Gone) → Only p (does h pl a)
+only_does p h (Says answer deeds) a only gone = only_said p a deeds only
+only_does p h (Sends asked) a only gone = only_postings p (send_events h asked a) (send_postings true h asked a) gone
+only_does p h (Adds rule asked) a only gone = only_postings p (add_events h rule asked a) (add_postings h rule asked a) gone
+only_does p h (Leaves k j) a only gone = only_postings p (leave_events h k j a) (leave_postings true h k j a) gone
+only_does p h Reads a only gone = only_read p a
+only_does p h Closes a only gone = only_said p a _ tt
 
 -- An entry closes streams, or says that one is open, or asks for a capacity, or is a take.
 pub only_entry : (p : ℕ → Deed → Type 0) (t : Trail) (lane : ℕ) (w : Words) (a : Answer) → ((j : ℕ) → p j Gone) → ((j : ℕ) → p j Opened) → ((j n : ℕ) → p j (Asked n))
-    → ((n : ℕ) → is_take n w ≡ true → Only p (take_does (place 0 lane n t.streams) a)) → Only p (events_of t lane w a)
-only_entry p t lane (words.Call out) a gone opens asks takes = only_send p t.events _ a
-only_entry p t lane (words.Signal out) a gone opens asks takes = only_send p t.events _ a
-only_entry p t lane (words.Reply stream body) a gone opens asks takes = only_send p t.events _ a
-only_entry p t lane (words.Error stream name body) a gone opens asks takes = only_send p t.events _ a
-only_entry p t lane words.Read a gone opens asks takes = only_read p (closing t.events) a
-only_entry p t lane (words.Poll n) a gone opens asks takes = only_poll p (place 0 lane n t.names) a
-only_entry p t lane (words.Before n before) a gone opens asks takes = only_poll p (place 0 lane n t.names) a
-only_entry p t lane (words.Drop n) a gone opens asks takes = only_drop p (place 0 lane n t.names) a
-only_entry p t lane words.Stream a gone opens asks takes = only_stream p a
-only_entry p t lane (words.Open max_queued rule) a gone opens asks takes = only_open p t.events (rule_in_bytes rule) max_queued a
-only_entry p t lane (words.Opened n) a gone opens asks takes = only_opened p (place 0 lane n t.streams) a gone opens
-only_entry p t lane (words.Take n) a gone opens asks takes = takes n (eq-eqb n n refl)
-only_entry p t lane (words.TakeBefore n before) a gone opens asks takes = takes n (eq-eqb n n refl)
-only_entry p t lane (words.Clone n) a gone opens asks takes = only_clone p (place 0 lane n t.streams) a
-only_entry p t lane (words.Unstream n second) a gone opens asks takes = only_unstream p t.events (place 0 lane n t.streams) (second_place lane second t.streams) a gone
-only_entry p t lane (words.Queue n limit) a gone opens asks takes = only_queue p (place 0 lane n t.streams) limit a asks
-only_entry p t lane (words.MainQueue limit) a gone opens asks takes = only_main p limit a
-only_entry p t lane words.Close a gone opens asks takes = only_close p a
+    → ((n : ℕ) → is_take n w ≡ true → Only p (take_does t.events (place 0 lane n t.streams))) → Only p (events_of t lane w a)
+only_entry p t lane w a gone opens asks takes = only_does p t.events (plan t lane w) a (only_plan p t lane w gone opens asks takes) gone
 
 -- ---- a stream that gives nothing
 

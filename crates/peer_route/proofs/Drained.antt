@@ -7,7 +7,6 @@ use borrow.Author.Tests.{ltb-true}
 use Rattle.wire_message.specs.Front.{Seen}
 use Rattle.wire_message.specs.declared.error.Error.{Error}
 use Rattle.wire_message.specs.declared.error.Error.TheVariants as errors
-use Rattle.rule_match.specs.Bytes.{rule_in_bytes}
 use Rattle.peer_route.specs.declared.polled.Polled.{Polled}
 use Rattle.peer_route.specs.declared.polled.Polled.TheVariants as polled
 use Rattle.peer_route.specs.declared.words.Words.{Words}
@@ -19,17 +18,21 @@ use Rattle.peer_route.specs.History.{Event, Shut, Did, Told, read, closing, firs
 use Rattle.peer_route.specs.Calls.{by_position}
 use Rattle.peer_route.specs.Streams.{matched, offered, held, runs, limit_of, busy, is_full, take_by, take_at, take_answer}
 use Rattle.peer_route.specs.Parcel.{Setting}
-use Rattle.peer_route.specs.Trail.{Trail, place, count, trail, more, read_events, take_does, second_place, events_of, new_streams}
-use Rattle.peer_route.specs.Answers.{IsAnswer, IsReadOf, Legal, shown_take, take_of, take_before_of}
+use Rattle.peer_route.specs.Trail.{Trail, place, count}
+use Rattle.peer_route.specs.Answers.{IsAnswer, Legal, IsMeant}
 use Rattle.peer_route.specs.StreamLaws.{is_take, IsTake, IsEnded, IsLast, IsDrained, HoldsTooMany}
 use Rattle.peer_route.proofs.Once.{place_append, legal_from}
-use Rattle.peer_route.proofs.Read.{send_read, poll_read, drop_read, stream_read, take_read, clone_read, unstream_read, queue_read, main_read, open_read, opened_read, close_read}
+use Rattle.peer_route.proofs.Read.{close_read}
 use Rattle.peer_route.proofs.Edits.{edit_here, get_new}
 use Rattle.peer_route.proofs.Deeds.{Only, Spares, only_entry, stays}
-use Rattle.peer_route.proofs.Takes.{TakeOf, Quiet, Item, Tells, Ends, take_entry, told_does, ended_does, take_spares}
+use Rattle.peer_route.proofs.Takes.{TakeOf, Quiet, Item, Tells, Ends, take_entry, take_said, take_spares}
 use Rattle.peer_route.proofs.Matched.{held_same}
 use Rattle.peer_route.proofs.StreamLanes.{entry, lanes}
 use Rattle.peer_route.proofs.Yields.{stream_is, place_new}
+use Rattle.peer_route.specs.Entries.{trail, more, events_of, new_streams, does, said}
+use Rattle.peer_route.specs.Plan.{take_does, take_of, take_before_of, Reads, reads_by}
+use Rattle.peer_route.specs.Shown.{shown_take}
+use Rattle.peer_route.proofs.Plans.{adds_silent, by_plan, ends_silent, says_silent, sends_silent}
 
 -- ---- a stream that is over
 
@@ -52,24 +55,10 @@ closing_stays (event ∷ xs) h error e = closing_stays xs h error e
 -- a closed peer reads nothing more
 reads_none : (t : Trail) (lane : ℕ) (w : Words) (a : Answer) (error : Error) → closing t.events ≡ Some error
     → read (events_of t lane w a ++ t.events) ≡ read t.events
-reads_none t lane (words.Call out) a error e = send_read t.events _ a
-reads_none t lane (words.Signal out) a error e = send_read t.events _ a
-reads_none t lane (words.Reply stream body) a error e = send_read t.events _ a
-reads_none t lane (words.Error stream name body) a error e = send_read t.events _ a
-reads_none t lane words.Read a error e = ap (λ o. read (read_events o a ++ t.events)) e
-reads_none t lane (words.Poll n) a error e = poll_read t.events (place 0 lane n t.names) a
-reads_none t lane (words.Before n before) a error e = poll_read t.events (place 0 lane n t.names) a
-reads_none t lane (words.Drop n) a error e = drop_read t.events (place 0 lane n t.names) a
-reads_none t lane words.Stream a error e = stream_read t.events a
-reads_none t lane (words.Open max_queued rule) a error e = open_read t.events (rule_in_bytes rule) max_queued a
-reads_none t lane (words.Opened n) a error e = opened_read t.events (place 0 lane n t.streams) a
-reads_none t lane (words.Take n) a error e = take_read t.events (place 0 lane n t.streams) a
-reads_none t lane (words.TakeBefore n before) a error e = take_read t.events (place 0 lane n t.streams) a
-reads_none t lane (words.Clone n) a error e = clone_read t.events (place 0 lane n t.streams) a
-reads_none t lane (words.Unstream n second) a error e = unstream_read t.events (place 0 lane n t.streams) (second_place lane second t.streams) a
-reads_none t lane (words.Queue n limit) a error e = queue_read t.events (place 0 lane n t.streams) limit a
-reads_none t lane (words.MainQueue limit) a error e = main_read t.events limit a
-reads_none t lane words.Close a error e = close_read t.events a
+reads_none t lane w a error e =
+    let h = t.events in
+    by_plan (λ p. read (does h p a ++ h) ≡ read h) (λ answer deeds fair. (says_silent h a answer deeds fair).read_same) (λ asked. (sends_silent h asked a).read_same)
+    (λ rule asked. (adds_silent h rule asked a).read_same) (λ k j. (ends_silent h k j a).read_same) t lane w (λ open_. let q : Some error ≡ None = sym e ∙ open_ in cc) (λ is. close_read h a)
 
 -- a take says that the stream is over, or isn't open
 over_by : (open_ : Bool) (items : List Seen) (o : Option Error) (told : Bool) (error : Error) → items ≡ [] → o ≡ Some error → told ≡ true
@@ -84,10 +73,10 @@ ended_if true r e = inl e
 ended_if false r e = inr e
 
 over_gives : (h : List Event) (k : ℕ) (s : Stream) (error : Error) → slice_get (streams h) k ≡ Some s → held (read h) s ≡ [] → s.told ≡ true → closing h ≡ Some error
-    → (take_answer h k ≡ Ok polled.Ended) ⊎ (take_answer h k ≡ Err errors.UnknownHandle)
+    → (take_answer (past h) k ≡ Ok polled.Ended) ⊎ (take_answer (past h) k ≡ Err errors.UnknownHandle)
 unfolding take_answer
 over_gives h k s error made nothing told shut =
-    ended_if (runs (read h) s) (take_answer h k) (ap (take_at (read h) (closing h)) made ∙ over_by (runs (read h) s) (held (read h) s) (closing h) s.told error nothing shut told)
+    ended_if (runs (read h) s) (take_answer (past h) k) (ap (take_at (read h) (closing h)) made ∙ over_by (runs (read h) s) (held (read h) s) (closing h) s.told error nothing shut told)
 
 -- a stream that gives an item is another one
 holds_other : (h : List Event) (j k : ℕ) (s s₂ : Stream) (m : Seen) (ms : List Seen) → slice_get (streams h) j ≡ Some s → held (read h) s ≡ m ∷ ms
@@ -114,7 +103,7 @@ over_step t lane₂ w a lane number is o =
       error = o.error;
       named = place_append 0 lane number t.streams (new_streams t lane₂ w a) o.k o.named;
       made = r.made;
-      nothing = held_same (xs ++ t.events) t.events o.stream (reads_none t lane₂ w a o.error o.shut) ∙ o.nothing;
+      nothing = held_same (past (xs ++ t.events)) (past t.events) o.stream (reads_none t lane₂ w a o.error o.shut) ∙ o.nothing;
       told = r.told_on o.told;
       shut = closing_stays xs t.events o.error o.shut;
     }
@@ -142,13 +131,13 @@ ended_as a b e (inr x) = inr (e ∙ x)
 
 ended_entry : (t : Trail) (x : Entry) (lane number : ℕ) → IsAnswer t x.lane x.words x.answer → Over t lane number → IsEnded lane number x
 ended_entry t x lane number is o same (inl w) =
-    ended_as x.answer (shown_take (take_answer t.events o.k))
+    ended_as x.answer (shown_take (take_answer (past t.events) o.k))
     (take_is t x number is w ∙ ap (λ l. take_of t.events (place 0 l number t.streams)) same ∙ ap (take_of t.events) o.named)
-    (shown_ended (take_answer t.events o.k) (over_gives t.events o.k o.stream o.error o.made o.nothing o.told o.shut))
+    (shown_ended (take_answer (past t.events) o.k) (over_gives t.events o.k o.stream o.error o.made o.nothing o.told o.shut))
 ended_entry t x lane number is o same (inr w) =
-    ended_as x.answer (shown_take (by_position (take_answer t.events o.k)))
+    ended_as x.answer (shown_take (by_position (take_answer (past t.events) o.k)))
     (take_before_is t x number w.0 is w.1 ∙ ap (λ l. take_before_of t.events (place 0 l number t.streams)) same ∙ ap (take_before_of t.events) o.named)
-    (shown_ended_before (take_answer t.events o.k) (over_gives t.events o.k o.stream o.error o.made o.nothing o.told o.shut))
+    (shown_ended_before (take_answer (past t.events) o.k) (over_gives t.events o.k o.stream o.error o.made o.nothing o.told o.shut))
 
 over_later : (setting : Setting) (newer older : List Entry) (e : Entry) (lane number : ℕ) → Legal setting (newer ++ e ∷ older) → Over (trail setting (e ∷ older)) lane number
     → Over (trail setting (newer ++ e ∷ older)) lane number × AllByRecursion (IsEnded lane number) newer
@@ -165,47 +154,44 @@ is_take_of number w (inl is) = ap (is_take number) is ∙ eq-eqb number number r
 is_take_of number w (inr is) = ap (is_take number) is.1 ∙ eq-eqb number number refl
 
 -- a take by position leaves what a take leaves
-takes_do : (t : Trail) (lane number : ℕ) (w : Words) (a : Answer) → IsTake number w → events_of t lane w a ≡ take_does (place 0 lane number t.streams) a
+takes_do : (t : Trail) (lane number : ℕ) (w : Words) (a : Answer) → IsTake number w → events_of t lane w a ≡ said a (take_does t.events (place 0 lane number t.streams))
 takes_do t lane number w a (inl is) = ap (λ x. events_of t lane x a) is
 takes_do t lane number w a (inr is) = ap (λ x. events_of t lane x a) is.1
 
 -- after the last answer the stream is over
-over_told : (t : Trail) (e : Entry) (number k : ℕ) (s : Stream) (error : Error) → IsTake number e.words → place 0 e.lane number t.streams ≡ Some k
-    → slice_get (streams t.events) k ≡ Some s → held (read t.events) s ≡ [] → closing t.events ≡ Some error → e.answer ≡ answers.Closed error → Over (more t e) e.lane number
+over_told : (t : Trail) (e : Entry) (number k : ℕ) (s : Stream) (error : Error) → events_of t e.lane e.words e.answer ≡ Did k Told ∷ [] → place 0 e.lane number t.streams ≡ Some k
+    → slice_get (streams t.events) k ≡ Some s → held (read t.events) s ≡ [] → closing t.events ≡ Some error → Over (more t e) e.lane number
 unfolding held offered matched phase
-over_told t e number k s error w named made nothing shut is =
-    let xs : events_of t e.lane e.words e.answer ≡ Did k Told ∷ [] = takes_do t e.lane number e.words e.answer w ∙ told_does (place 0 e.lane number t.streams) e.answer k error named is in
-    record {
-      k = k;
-      stream = tell s;
-      error = error;
-      named = place_append 0 e.lane number t.streams (new_streams t e.lane e.words e.answer) k named;
-      made = ap (λ ys. slice_get (streams (ys ++ t.events)) k) xs ∙ edit_here tell k (streams t.events) s made;
-      nothing = ap (λ ys. held (read (ys ++ t.events)) (tell s)) xs ∙ nothing;
-      told = refl;
-      shut = closing_stays (events_of t e.lane e.words e.answer) t.events error shut;
-    }
+over_told t e number k s error xs named made nothing shut = record {
+  k = k;
+  stream = tell s;
+  error = error;
+  named = place_append 0 e.lane number t.streams (new_streams t e.lane e.words e.answer) k named;
+  made = ap (λ ys. slice_get (streams (ys ++ t.events)) k) xs ∙ edit_here tell k (streams t.events) s made;
+  nothing = ap (λ ys. held (read (ys ++ t.events)) (tell s)) xs ∙ nothing;
+  told = refl;
+  shut = closing_stays (events_of t e.lane e.words e.answer) t.events error shut;
+}
 
-over_ended : (t : Trail) (e : Entry) (number k : ℕ) (s : Stream) (error : Error) → IsTake number e.words → place 0 e.lane number t.streams ≡ Some k
-    → slice_get (streams t.events) k ≡ Some s → held (read t.events) s ≡ [] → closing t.events ≡ Some error → s.told ≡ true → e.answer ≡ answers.Ended → Over (more t e) e.lane number
-over_ended t e number k s error w named made nothing shut told is =
-    let xs : events_of t e.lane e.words e.answer ≡ [] = takes_do t e.lane number e.words e.answer w ∙ ended_does (place 0 e.lane number t.streams) e.answer k named is in
-    record {
-      k = k;
-      stream = s;
-      error = error;
-      named = place_append 0 e.lane number t.streams (new_streams t e.lane e.words e.answer) k named;
-      made = ap (λ ys. slice_get (streams (ys ++ t.events)) k) xs ∙ made;
-      nothing = ap (λ ys. held (read (ys ++ t.events)) s) xs ∙ nothing;
-      told = told;
-      shut = closing_stays (events_of t e.lane e.words e.answer) t.events error shut;
-    }
+over_ended : (t : Trail) (e : Entry) (number k : ℕ) (s : Stream) (error : Error) → events_of t e.lane e.words e.answer ≡ [] → place 0 e.lane number t.streams ≡ Some k
+    → slice_get (streams t.events) k ≡ Some s → held (read t.events) s ≡ [] → closing t.events ≡ Some error → s.told ≡ true → Over (more t e) e.lane number
+over_ended t e number k s error xs named made nothing shut told = record {
+  k = k;
+  stream = s;
+  error = error;
+  named = place_append 0 e.lane number t.streams (new_streams t e.lane e.words e.answer) k named;
+  made = ap (λ ys. slice_get (streams (ys ++ t.events)) k) xs ∙ made;
+  nothing = ap (λ ys. held (read (ys ++ t.events)) s) xs ∙ nothing;
+  told = told;
+  shut = closing_stays (events_of t e.lane e.words e.answer) t.events error shut;
+}
 
-over_last : (t : Trail) (e : Entry) (number : ℕ) → IsTake number e.words → TakeOf t.events (place 0 e.lane number t.streams) e.answer → IsLast e.answer → Over (more t e) e.lane number
-over_last t e number w (Quiet none item last) is_last = absurd (last is_last)
-over_last t e number w (Item k s m ms named at items is) is_last = absurd (subst IsLast is is_last)
-over_last t e number w (Tells k s error named at still nothing shut is) is_last = over_told t e number k s error w named at nothing shut is
-over_last t e number w (Ends k s error named at nothing shut told is) is_last = over_ended t e number k s error w named at nothing shut told is
+over_last : (t : Trail) (e : Entry) (number : ℕ) → events_of t e.lane e.words e.answer ≡ take_does t.events (place 0 e.lane number t.streams)
+    → TakeOf t.events (place 0 e.lane number t.streams) e.answer → IsLast e.answer → Over (more t e) e.lane number
+over_last t e number xs (Quiet none item last) is_last = absurd (last is_last)
+over_last t e number xs (Item k s m ms named at items does is) is_last = absurd (subst IsLast is is_last)
+over_last t e number xs (Tells k s error named at still nothing shut does is) is_last = over_told t e number k s error (xs ∙ does) named at nothing shut
+over_last t e number xs (Ends k s error named at nothing shut told does is) is_last = over_ended t e number k s error (xs ∙ does) named at nothing shut told
 
 -- what a take was, by its entry
 kind : (setting : Setting) (older : List Entry) (e : Entry) (number : ℕ) → Legal setting (e ∷ older) → IsTake number e.words
@@ -213,7 +199,10 @@ kind : (setting : Setting) (older : List Entry) (e : Entry) (number : ℕ) → L
 kind setting older e number legal w = take_entry (trail setting older) e.lane e.words e.answer number legal.0 (is_take_of number e.words w)
 
 over_after : (setting : Setting) (older : List Entry) (e : Entry) (number : ℕ) → Legal setting (e ∷ older) → IsTake number e.words → IsLast e.answer → Over (trail setting (e ∷ older)) e.lane number
-over_after setting older e number legal w last = over_last (trail setting older) e number w (kind setting older e number legal w) last
+over_after setting older e number legal w last =
+    let t = trail setting older in
+    let taken = kind setting older e number legal w in
+    over_last t e number (takes_do t e.lane number e.words e.answer w ∙ take_said t.events (place 0 e.lane number t.streams) e.answer taken) taken last
 
 pub ended : (setting : Setting) (newer older : List Entry) (e : Entry) (number : ℕ) → Legal setting (newer ++ e ∷ older) → IsTake number e.words → IsLast e.answer → AllByRecursion (IsEnded e.lane number) newer
 ended setting newer older e number legal w last =
@@ -221,11 +210,11 @@ ended setting newer older e number legal w last =
 
 drained_by : (t : Trail) (lane number : ℕ) (a : Answer) (error : Error) → TakeOf t.events (place 0 lane number t.streams) a → a ≡ answers.Closed error → IsDrained t lane number error
 drained_by t lane number a error (Quiet none item last) e = absurd (last (subst IsLast (sym e) tt))
-drained_by t lane number a error (Item k s m ms named at items is) e = let q : answers.Item m.position ≡ answers.Closed error = sym is ∙ e in cc
-drained_by t lane number a error (Tells k s other named at still nothing shut is) e =
+drained_by t lane number a error (Item k s m ms named at items does is) e = let q : answers.Item m.position ≡ answers.Closed error = sym is ∙ e in cc
+drained_by t lane number a error (Tells k s other named at still nothing shut does is) e =
     let same : other ≡ error = (let q : answers.Closed other ≡ answers.Closed error = sym is ∙ e in cc) in
     record { k = k; stream = s; named = named; made = at; still = still; nothing = nothing; first = shut ∙ ap (λ x. Some x) same }
-drained_by t lane number a error (Ends k s other named at nothing shut told is) e = let q : answers.Ended ≡ answers.Closed error = sym is ∙ e in cc
+drained_by t lane number a error (Ends k s other named at nothing shut told does is) e = let q : answers.Ended ≡ answers.Closed error = sym is ∙ e in cc
 
 pub drained : (setting : Setting) (older : List Entry) (e : Entry) (number : ℕ) (error : Error) → Legal setting (e ∷ older) → IsTake number e.words → e.answer ≡ answers.Closed error → IsDrained (trail setting older) e.lane number error
 drained setting older e number error legal w a = drained_by (trail setting older) e.lane number e.answer error (kind setting older e number legal w) a
@@ -259,7 +248,7 @@ over_from_start setting older e number error legal w a shut =
     let x : entry e.lane words.Stream (answers.Streaming (count e.lane t.streams)) ≡ e =
     ap (λ y. entry e.lane y (answers.Streaming (count e.lane t.streams))) (sym w) ∙ ap (entry e.lane e.words) (sym is) in
     subst (λ k. Over (trail setting (e ∷ older)) e.lane k) n
-    (subst (λ y. Over (more t y) e.lane (count e.lane t.streams)) x (over_made t e.lane error (lanes setting older legal.1) shut))
+    (subst (λ y. Over (more t y) e.lane (count e.lane t.streams)) x (over_made t e.lane error (lanes setting older) shut))
 
 pub ended_from_start : (setting : Setting) (newer older : List Entry) (e : Entry) (number : ℕ) (error : Error) → Legal setting (newer ++ e ∷ older) → e.words ≡ words.Stream → e.answer ≡ answers.Streaming number
     → closing (trail setting older).events ≡ Some error → AllByRecursion (IsEnded e.lane number) newer
@@ -268,13 +257,13 @@ ended_from_start setting newer older e number error legal w a shut =
 
 -- ---- a busy read
 
-read_is : (t : Trail) (e : Entry) → IsAnswer t e.lane e.words e.answer → e.words ≡ words.Read → IsReadOf (closing t.events) (busy t.events) (length (read t.events)) e.answer
+read_is : (t : Trail) (e : Entry) → IsAnswer t e.lane e.words e.answer → e.words ≡ words.Read → IsMeant t e.lane (reads_by (closing t.events) (busy (past t.events))) e.answer
 read_is t e a w = subst (λ x. IsAnswer t e.lane x e.answer) w a
 
-busy_by : (o : Option Error) (full : Bool) (n : ℕ) (a : Answer) → IsReadOf o full n a → a ≡ answers.Busy → (o ≡ None) × (full ≡ true)
-busy_by (Some error) full n a is e = let q : answers.Closed error ≡ answers.Busy = sym is ∙ e in cc
-busy_by None true n a is e = (refl, refl)
-busy_by None false n a is e = absurd (subst (λ x. IsReadOf None false n x) e is)
+busy_by : (t : Trail) (lane : ℕ) (o : Option Error) (full : Bool) (a : Answer) → IsMeant t lane (reads_by o full) a → a ≡ answers.Busy → (o ≡ None) × (full ≡ true)
+busy_by t lane (Some error) full a is e = let q : answers.Closed error ≡ answers.Busy = sym is ∙ e in cc
+busy_by t lane None true a is e = (refl, refl)
+busy_by t lane None false a is e = absurd (subst (λ x. IsMeant t lane Reads x) e is)
 
 any_at : {A : Type 0} (p : A → Bool) (xs : List A) → list_any p xs ≡ true → (k : ℕ) × (x : A) × (slice_get xs k ≡ Some x) × (p x ≡ true)
 any_at p [] e = cc
@@ -303,7 +292,7 @@ over_full : (h : List Event) (s : Stream) → s.gone ≡ false → limit_of (cap
 unfolding is_full
 over_full h s still e = ap (λ b. not b && nat_lt (limit_of (capacities h) s.rule) (length (held (read h) s))) still ∙ lt-ltb (limit_of (capacities h) s.rule) (length (held (read h) s)) e
 
-too_many : (h : List Event) → closing h ≡ None → busy h ≡ true → HoldsTooMany h
+too_many : (h : List Event) → closing h ≡ None → busy (past h) ≡ true → HoldsTooMany h
 unfolding busy
 too_many h open_ e =
     let at = any_at (is_full (capacities h) (read h)) (streams h) (open_full (closing h) (list_any (is_full (capacities h) (read h)) (streams h)) open_ e) in
@@ -312,30 +301,33 @@ too_many h open_ e =
 
 pub busy_only : (setting : Setting) (older : List Entry) (e : Entry) → Legal setting (e ∷ older) → e.words ≡ words.Read → e.answer ≡ answers.Busy → HoldsTooMany (trail setting older).events
 busy_only setting older e legal w a =
-    let b = busy_by (closing (trail setting older).events) (busy (trail setting older).events) (length (read (trail setting older).events)) e.answer (read_is (trail setting older) e legal.0 w) a in
-    too_many (trail setting older).events b.0 b.1
+    let t = trail setting older in
+    let b = busy_by t e.lane (closing t.events) (busy (past t.events)) e.answer (read_is t e legal.0 w) a in
+    too_many t.events b.0 b.1
 
-busy_of : (h : List Event) → HoldsTooMany h → busy h ≡ true
+busy_of : (h : List Event) → HoldsTooMany h → busy (past h) ≡ true
 unfolding busy
 busy_of h many = rw many.is_open (any_from (is_full (capacities h) (read h)) (streams h) many.k many.stream many.made (over_full h many.stream many.still many.over))
 
-busy_answer : (o : Option Error) (full : Bool) (n : ℕ) (a : Answer) → o ≡ None → full ≡ true → IsReadOf o full n a → a ≡ answers.Busy
-busy_answer (Some error) full n a e f is = cc
-busy_answer None true n a e f is = is
-busy_answer None false n a e f is = cc
+busy_answer : (t : Trail) (lane : ℕ) (o : Option Error) (full : Bool) (a : Answer) → o ≡ None → full ≡ true → IsMeant t lane (reads_by o full) a → a ≡ answers.Busy
+busy_answer t lane (Some error) full a e f is = cc
+busy_answer t lane None true a e f is = is
+busy_answer t lane None false a e f is = cc
 
 pub busy_there : (setting : Setting) (older : List Entry) (e : Entry) → Legal setting (e ∷ older) → e.words ≡ words.Read → HoldsTooMany (trail setting older).events → e.answer ≡ answers.Busy
 busy_there setting older e legal w many =
-    busy_answer (closing (trail setting older).events) (busy (trail setting older).events) (length (read (trail setting older).events)) e.answer many.is_open (busy_of (trail setting older).events many) (read_is (trail setting older) e legal.0 w)
+    let t = trail setting older in
+    busy_answer t e.lane (closing t.events) (busy (past t.events)) e.answer many.is_open (busy_of t.events many) (read_is t e legal.0 w)
 
-busy_events : (o : Option Error) → read_events o answers.Busy ≡ []
-busy_events None = refl
-busy_events (Some error) = refl
+busy_events : (h : List Event) (o : Option Error) (full : Bool) → does h (reads_by o full) answers.Busy ≡ []
+busy_events h (Some error) full = refl
+busy_events h None true = refl
+busy_events h None false = refl
 
 -- a busy read changes nothing
 pub busy_keeps : (setting : Setting) (older : List Entry) (e : Entry) → e.words ≡ words.Read → e.answer ≡ answers.Busy → (trail setting (e ∷ older)).events ≡ (trail setting older).events
 busy_keeps setting older e w a =
     let t = trail setting older in
     ap (λ x. events_of t e.lane x e.answer ++ t.events) w
-    ∙ ap (λ x. read_events (closing t.events) x ++ t.events) a
-    ∙ ap (λ xs. xs ++ t.events) (busy_events (closing t.events))
+    ∙ ap (λ x. does t.events (reads_by (closing t.events) (busy (past t.events))) x ++ t.events) a
+    ∙ ap (λ xs. xs ++ t.events) (busy_events t.events (closing t.events) (busy (past t.events)))

@@ -1,5 +1,5 @@
 -- What dropping a call gives and leaves, and whether the peer takes a message now.
-use Rattle.std.proofs.Common.{◌≡◌, ℕ, is_some, ◌&&◌, ◌||◌, is_none, if◌then◌else◌, refl, sym, ◌∙◌, ap, Bool, true, false, not, List, ◌++◌, Option, Some, None, Result, Ok, Err}
+use Rattle.std.proofs.Common.{◌≡◌, ℕ, is_some, ◌&&◌, ◌||◌, is_none, if◌then◌else◌, refl, sym, ◌∙◌, ap, Bool, true, false, not, List, Option, Some, None, Result, Ok, Err}
 use Rattle.std.specs.List.{list_any, slice_get}
 use Rattle.std.specs.Option.{option_map}
 use Rattle.std.proofs.lemmas.Option.{slice_get-map}
@@ -8,7 +8,7 @@ use Rattle.wire_message.specs.declared.error.Error.{Error}
 use Rattle.wire_message.specs.declared.error.Error.TheVariants as errors
 use Rattle.peer_route.specs.declared.calls.Slot.{Slot}
 use Rattle.peer_route.specs.declared.calls.Slot.TheVariants as slots
-use Rattle.peer_route.specs.History.{Event, Call, calls, read}
+use Rattle.peer_route.specs.History.{Call, Past, after, after_all}
 use Rattle.peer_route.specs.Calls.{found, is_gone, drop_answer, drop_events, dropped_at}
 use Rattle.peer_route.specs.Left.{is_over, is_busy, is_empty_slot, slot_of, slot_by, CallsView, LeftCalls, View, Left}
 use Rattle.peer_route.proofs.Core.{calls_of, left_spent, left_same}
@@ -27,21 +27,21 @@ slot_drops_by false true n None = refl
 slot_drops_by false false n (Some m) = refl
 slot_drops_by false false n None = refl
 
-drops_at : (h : List Event) (o : Option Call) → slot_drops (option_map (slot_of (read h)) o) ≡ dropped_at o
+drops_at : (h : Past) (o : Option Call) → slot_drops (option_map (slot_of h.read) o) ≡ dropped_at o
 unfolding slot_of
 drops_at h None = refl
-drops_at h (Some c) = slot_drops_by (is_gone c) c.inner c.serial (found (read h) c)
+drops_at h (Some c) = slot_drops_by (is_gone c) c.inner c.serial (found h.read c)
 
-pub drops : (v : CallsView) (h : List Event) (k : ℕ) → LeftCalls v h → slot_drops (slice_get v.slots k) ≡ drop_answer h k
+pub drops : (v : CallsView) (h : Past) (k : ℕ) → LeftCalls v h → slot_drops (slice_get v.slots k) ≡ drop_answer h k
 unfolding drop_answer
-drops v h k left = rw left.slots (rw (slice_get-map (slot_of (read h)) (calls h) k) (drops_at h (slice_get (calls h) k)))
+drops v h k left = rw left.slots (rw (slice_get-map (slot_of h.read) h.calls k) (drops_at h (slice_get h.calls k)))
 
-pub drops_slot : (ss : List Slot) (error : Option Error) (v : CallsView) (h : List Event) (k : ℕ) (o : Option Slot)
+pub drops_slot : (ss : List Slot) (error : Option Error) (v : CallsView) (h : Past) (k : ℕ) (o : Option Slot)
     → calls_of ss error ≡ v → slice_get ss k ≡ o → LeftCalls v h → slot_drops o ≡ drop_answer h k
 drops_slot ss error v h k o e at left = ap slot_drops (sym at) ∙ ap (λ (w : CallsView). slot_drops (slice_get w.slots k)) e ∙ drops v h k left
 
-pub left_dropped : (v : View) (cv : CallsView) (k : ℕ) (r : Result (Unit {0}) Error) (h : List Event) → Left v h
-    → LeftCalls cv (drop_events k r ++ h) → Left (record v { calls = cv }) (drop_events k r ++ h)
+pub left_dropped : (v : View) (cv : CallsView) (k : ℕ) (r : Result (Unit {0}) Error) (h : Past) → Left v h
+    → LeftCalls cv (after_all (drop_events k r) h) → Left (record v { calls = cv }) (after_all (drop_events k r) h)
 left_dropped v cv k (Ok done) h left after = left_spent v cv k h left after
 left_dropped v cv k (Err error) h left after = left_same v cv h left after
 

@@ -11,14 +11,16 @@ use Rattle.peer_route.specs.declared.answer.Entry.{Entry}
 use Rattle.peer_route.specs.History.{Event, Did, Gave, Stream, streams, give, read}
 use Rattle.peer_route.specs.Streams.{held}
 use Rattle.peer_route.specs.Parcel.{Setting}
-use Rattle.peer_route.specs.Trail.{Trail, Names, place, trail, take_does, events_of, new_streams}
+use Rattle.peer_route.specs.Trail.{Trail, Names, place, given}
 use Rattle.peer_route.specs.Answers.{IsAnswer, Legal}
 use Rattle.peer_route.specs.StreamLaws.{is_take, item_by, items_given}
 use Rattle.peer_route.proofs.Once.{place_append}
 use Rattle.peer_route.proofs.Lanes.{apart}
 use Rattle.peer_route.proofs.Edits.{edit_here}
 use Rattle.peer_route.proofs.Deeds.{Only, Spares, only_entry, stays}
-use Rattle.peer_route.proofs.Takes.{TakeOf, Quiet, Item, Tells, Ends, take_entry, item_does, told_does, ended_does, take_spares}
+use Rattle.peer_route.proofs.Takes.{TakeOf, Quiet, Item, Tells, Ends, take_entry, take_said, take_spares}
+use Rattle.peer_route.specs.Entries.{trail, events_of, new_streams, does, said}
+use Rattle.peer_route.specs.Plan.{take_does}
 
 -- What is said so of a stream, behind events, and of the positions of the items that it gave, is so behind further events that are
 -- no items of it, whatever it told, and whether it is gone or open now; and an item is one position more.
@@ -90,35 +92,35 @@ module _ (goes : List Event → Stream → List ℕ → Type 0) (steps : Flowing
   -- a take of the stream
   flow_own : (names later : Names) (h : List Event) (a : Answer) (lane number : ℕ) (given : List ℕ) → TakeOf h (place 0 lane number names) a
       → Flow goes names h lane number given
-      → Flow goes (names ++ later) (take_does (place 0 lane number names) a ++ h) lane number (given ++ item_by true a)
+      → Flow goes (names ++ later) (take_does h (place 0 lane number names) ++ h) lane number (given ++ item_by true a)
   flow_own names later h a lane number given (Quiet none item last) f =
-      own_quiet names later (take_does (place 0 lane number names) a) h a lane number given f item (subst (Only (Spares f.k)) (sym none) tt)
-  flow_own names later h a lane number given (Item k s m ms named at e is) f =
+      own_quiet names later (take_does h (place 0 lane number names)) h a lane number given f item (subst (Only (Spares f.k)) (sym none) tt)
+  flow_own names later h a lane number given (Item k s m ms named at e does is) f =
       let same : k ≡ f.k = (let q : Some k ≡ Some f.k = sym named ∙ f.named in cc) in
-      subst (λ xs. Flow goes (names ++ later) (xs ++ h) lane number (given ++ item_by true a)) (sym (item_does (place 0 lane number names) a k m.position named is))
+      subst (λ xs. Flow goes (names ++ later) (xs ++ h) lane number (given ++ item_by true a)) (sym does)
       (own_item names later h a lane number given f k s m ms same at e is)
-  flow_own names later h a lane number given (Tells k s error named at still e shut is) f =
-      own_quiet names later (take_does (place 0 lane number names) a) h a lane number given f (ap (item_by true) is)
-      (subst (Only (Spares f.k)) (sym (told_does (place 0 lane number names) a k error named is)) (tt, tt))
-  flow_own names later h a lane number given (Ends k s error named at e shut told is) f =
-      own_quiet names later (take_does (place 0 lane number names) a) h a lane number given f (ap (item_by true) is)
-      (subst (Only (Spares f.k)) (sym (ended_does (place 0 lane number names) a k named is)) tt)
+  flow_own names later h a lane number given (Tells k s error named at still e shut does is) f =
+      own_quiet names later (take_does h (place 0 lane number names)) h a lane number given f (ap (item_by true) is)
+      (subst (Only (Spares f.k)) (sym does) (tt, tt))
+  flow_own names later h a lane number given (Ends k s error named at e shut told does is) f =
+      own_quiet names later (take_does h (place 0 lane number names)) h a lane number given f (ap (item_by true) is)
+      (subst (Only (Spares f.k)) (sym does) tt)
 
   -- a take of another one
   flow_other : (names later : Names) (h : List Event) (a : Answer) (lane₂ i lane number : ℕ) (given : List ℕ) → TakeOf h (place 0 lane₂ i names) a
       → (lane ≡ lane₂ → number ≢ i) → Flow goes names h lane number given
-      → Flow goes (names ++ later) (take_does (place 0 lane₂ i names) a ++ h) lane number (given ++ [])
+      → Flow goes (names ++ later) (take_does h (place 0 lane₂ i names) ++ h) lane number (given ++ [])
   flow_other names later h a lane₂ i lane number given kind differ f =
-      flow_along (names ++ later) (take_does (place 0 lane₂ i names) a ++ h) lane number given (given ++ []) (sym (append-nil given))
-      (kept names later (take_does (place 0 lane₂ i names) a) h lane number given f
+      flow_along (names ++ later) (take_does h (place 0 lane₂ i names) ++ h) lane number given (given ++ []) (sym (append-nil given))
+      (kept names later (take_does h (place 0 lane₂ i names)) h lane number given f
       (take_spares h (place 0 lane₂ i names) a f.k kind (λ j s m ms named at e. apart names lane₂ i lane number j f.k named f.named differ)))
 
   flow_take : (names later : Names) (h : List Event) (a : Answer) (lane₂ i lane number : ℕ) (given : List ℕ) (b c : Bool) → (lane₂ == lane) ≡ b → (i == number) ≡ c
       → TakeOf h (place 0 lane₂ i names) a → Flow goes names h lane number given
-      → Flow goes (names ++ later) (take_does (place 0 lane₂ i names) a ++ h) lane number (given ++ item_by (b && c) a)
+      → Flow goes (names ++ later) (take_does h (place 0 lane₂ i names) ++ h) lane number (given ++ item_by (b && c) a)
   flow_take names later h a lane₂ i lane number given true true p q kind f =
       let one : place 0 lane₂ i names ≡ place 0 lane number names = ap (λ l. place 0 l i names) (eqb-true lane₂ lane p) ∙ ap (λ x. place 0 lane x names) (eqb-true i number q) in
-      subst (λ o. Flow goes (names ++ later) (take_does o a ++ h) lane number (given ++ item_by true a)) (sym one)
+      subst (λ o. Flow goes (names ++ later) (take_does h o ++ h) lane number (given ++ item_by true a)) (sym one)
       (flow_own names later h a lane number given (subst (λ o. TakeOf h o a) one kind) f)
   flow_take names later h a lane₂ i lane number given true false p q kind f =
       flow_other names later h a lane₂ i lane number given kind (λ l m. let e : (i == number) ≡ true = eq-eqb i number (sym m) in cc) f
@@ -136,15 +138,21 @@ module _ (goes : List Event → Stream → List ℕ → Type 0) (steps : Flowing
       (kept t.streams (new_streams t lane₂ w a) (events_of t lane₂ w a) t.events lane number given f
       (only_entry (Spares f.k) t lane₂ w a (λ j. tt) (λ j. tt) (λ j i. tt) (λ i e. let q = past i in cc)))
 
+  flow_taken : (t : Trail) (lane₂ i : ℕ) (later : Names) (a : Answer) (lane number : ℕ) (given : List ℕ) → TakeOf t.events (place 0 lane₂ i t.streams) a
+      → Flow goes t.streams t.events lane number given
+      → Flow goes (t.streams ++ later) (said a (take_does t.events (place 0 lane₂ i t.streams)) ++ t.events) lane number (given ++ item_by ((lane₂ == lane) && (i == number)) a)
+  flow_taken t lane₂ i later a lane number given kind f =
+      subst (λ xs. Flow goes (t.streams ++ later) (xs ++ t.events) lane number (given ++ item_by ((lane₂ == lane) && (i == number)) a))
+      (sym (take_said t.events (place 0 lane₂ i t.streams) a kind))
+      (flow_take t.streams later t.events a lane₂ i lane number given (lane₂ == lane) (i == number) refl refl kind f)
+
   flow_step : (t : Trail) (lane₂ : ℕ) (w : Words) (a : Answer) (lane number : ℕ) (given : List ℕ) → IsAnswer t lane₂ w a
       → Flow goes t.streams t.events lane number given
       → Flow goes (t.streams ++ new_streams t lane₂ w a) (events_of t lane₂ w a ++ t.events) lane number (given ++ item_by ((lane₂ == lane) && is_take number w) a)
   flow_step t lane₂ (words.Take i) a lane number given is f =
-      flow_take t.streams (new_streams t lane₂ (words.Take i) a) t.events a lane₂ i lane number given (lane₂ == lane) (i == number) refl refl
-      (take_entry t lane₂ (words.Take i) a i is (eq-eqb i i refl)) f
+      flow_taken t lane₂ i (new_streams t lane₂ (words.Take i) a) a lane number given (take_entry t lane₂ (words.Take i) a i is (eq-eqb i i refl)) f
   flow_step t lane₂ (words.TakeBefore i before) a lane number given is f =
-      flow_take t.streams (new_streams t lane₂ (words.TakeBefore i before) a) t.events a lane₂ i lane number given (lane₂ == lane) (i == number) refl refl
-      (take_entry t lane₂ (words.TakeBefore i before) a i is (eq-eqb i i refl)) f
+      flow_taken t lane₂ i (new_streams t lane₂ (words.TakeBefore i before) a) a lane number given (take_entry t lane₂ (words.TakeBefore i before) a i is (eq-eqb i i refl)) f
   flow_step t lane₂ w a lane number given is f = flow_past t lane₂ w a lane number given (λ i. refl) f
 
   -- from the entry that made the stream on

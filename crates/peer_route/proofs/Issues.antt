@@ -1,5 +1,5 @@
 -- Messages are issued: what the core is then, and why they may be refused.
-use Rattle.std.proofs.Common.{◌≡◌, ℕ, ◌+◌, refl, sym, ◌∙◌, ap, subst, arith, inl, inr, Bool, true, false, List, [], ◌∷◌, ◌++◌, length, map, find, None, Ok, Err, append_assoc}
+use Rattle.std.proofs.Common.{rules, ◌≡◌, ℕ, ◌+◌, refl, sym, ◌∙◌, ap, subst, arith, inl, inr, Bool, true, false, List, [], ◌∷◌, ◌++◌, length, map, find, None, Ok, Err, append_assoc}
 use Rattle.std.specs.List.{list_any}
 use Rattle.std.proofs.Math.Seq.{drop-length}
 use Rattle.std.proofs.lemmas.List.{append-nil, map-append, length-map, length_push}
@@ -11,7 +11,7 @@ use Rattle.wire_message.specs.declared.error.Error.TheVariants as errors
 use Rattle.wire_message.specs.declared.error.IoKind.TheVariants as kinds
 use Rattle.peer_route.specs.declared.route.Issued.{Issued}
 use Rattle.peer_route.specs.declared.calls.Slot.TheVariants as slots
-use Rattle.peer_route.specs.History.{Event, Put, Call, read, closing, put, last_serial, calls, bears, call_by, new_call, past}
+use Rattle.peer_route.specs.History.{Put, Call, bears, call_by, new_call, Past, after}
 use Rattle.peer_route.specs.Calls.{found, pending}
 use Rattle.peer_route.specs.Left.{slot_of, slot_by, is_waiting, AreDistinct, CallsView, with_call, waiting_serial, LeftCalls, View, Left}
 use Rattle.peer_route.specs.Issuing.{is_deep, put_of, call_number, issued_of, AreDrawn, RunsOut, put_each, issued_each, IssuesAll}
@@ -19,7 +19,7 @@ use Rattle.peer_route.specs.Placing.{made_call, Draws, Spends, place_of, places_
 use Rattle.peer_route.specs.Parcel.{Parcel, message_of}
 use Rattle.peer_route.specs.CallMessage.{expects_reply, expects}
 use Rattle.peer_route.proofs.Core.{pending-left}
-use Rattle.peer_route.proofs.CallsMade.{places}
+use Rattle.peer_route.proofs.CallsMade.{places, Early, Early-push, sound_after}
 use Rattle.peer_route.proofs.Slots.{distinct_push}
 
 pub IsNext-along : (f g : ℕ → Bool) (last serial : ℕ) → ((n : ℕ) → f n ≡ g n) → IsNext f last serial → IsNext g last serial
@@ -34,37 +34,35 @@ IsNext-along f g last serial e x = record {
 
 -- ---- a call is issued
 
-slot_new : (h : List Event) (m : Seen) (inner : Bool) → slot_of (read h) (call_by (past h) m inner) ≡ slots.Waiting m.serial inner
+slot_new : (h : Past) (m : Seen) (inner : Bool) → slot_of h.read (call_by h m inner) ≡ slots.Waiting m.serial inner
 unfolding slot_of found
-slot_new h m inner = ap (λ ms. slot_by inner m.serial (find (bears m.serial) ms)) (drop-length (read h))
+slot_new h m inner = ap (λ ms. slot_by inner m.serial (find (bears m.serial) ms)) (drop-length h.read)
 
 -- a call more, after an event that reads nothing, closes nothing, and makes one call
-pub called : (m : Seen) (inner : Bool) (v new : CallsView) (g h : List Event) → new ≡ with_call inner m.serial v → read g ≡ read h → closing g ≡ closing h → calls g ≡ calls h ++ call_by (past h) m inner ∷ []
+pub called : (m : Seen) (inner : Bool) (v new : CallsView) (g h : Past) → new ≡ with_call inner m.serial v → g.read ≡ h.read → g.closing ≡ h.closing → g.calls ≡ h.calls ++ call_by h m inner ∷ []
     → waiting_serial v m.serial ≡ false → LeftCalls v h → LeftCalls new g
 unfolding waiting_serial
 called m inner v new g h e reads shut_ made free left = record {
   slots = ap (λ (w : CallsView). w.slots) e ∙ ap (λ ss. ss ++ slots.Waiting m.serial inner ∷ []) left.slots
-      ∙ sym (map-append (slot_of (read h)) (calls h) (call_by (past h) m inner ∷ []) ∙ ap (λ s. map (slot_of (read h)) (calls h) ++ s ∷ []) (slot_new h m inner))
-      ∙ ap (map (slot_of (read h))) (sym made) ∙ ap (λ (ms : List Seen). map (slot_of ms) (calls g)) (sym reads);
+      ∙ sym (map-append (slot_of h.read) h.calls (call_by h m inner ∷ []) ∙ ap (λ s. map (slot_of h.read) h.calls ++ s ∷ []) (slot_new h m inner))
+      ∙ ap (map (slot_of h.read)) (sym made) ∙ ap (λ (ms : List Seen). map (slot_of ms) g.calls) (sym reads);
   closing = ap (λ (w : CallsView). w.closing) e ∙ left.closing ∙ sym shut_;
   distinct = λ open_.
       let was : v.closing ≡ None = sym (ap (λ (w : CallsView). w.closing) e) ∙ open_ in
       let none : list_any (is_waiting m.serial) v.slots ≡ false = (rw was at free) in
       subst AreDistinct (sym (ap (λ (w : CallsView). w.slots) e)) (distinct_push m.serial inner v.slots none (left.distinct was));
+  early =
+      let one : Early (length h.read) (h.calls ++ call_by h m inner ∷ []) = Early-push (length h.read) h.calls (call_by h m inner) (omega arith) left.early in
+      subst (λ (ms : List Seen). Early (length ms) g.calls) (sym reads) (subst (Early (length h.read)) (sym made) one);
 }
 
-pub issued_calls : (m : Seen) (v new : CallsView) (h : List Event) → new ≡ with_call false m.serial v → waiting_serial v m.serial ≡ false → LeftCalls v h → LeftCalls new (Put m true ∷ h)
-issued_calls m v new h e free left = called m false v new (Put m true ∷ h) h e refl refl refl free left
+pub issued_calls : (m : Seen) (v new : CallsView) (h : Past) → new ≡ with_call false m.serial v → waiting_serial v m.serial ≡ false → LeftCalls v h → LeftCalls new (after (Put m true) h)
+issued_calls m v new h e free left = called m false v new (after (Put m true) h) h e refl refl refl free left
 
--- a message that no call waits for leaves the calls as they were
-put_calls : (m : Seen) (v : CallsView) (h : List Event) → LeftCalls v h → LeftCalls v (Put m false ∷ h)
-unfolding slot_of found
-put_calls m v h left = record { slots = left.slots; closing = left.closing; distinct = left.distinct }
-
-call_left : (b : Bool) (m : Seen) (serial : ℕ) (v : CallsView) (h : List Event) → m.serial ≡ serial → waiting_serial v serial ≡ false
-    → LeftCalls v h → LeftCalls (made_call false b v serial) (Put m b ∷ h)
+call_left : (b : Bool) (m : Seen) (serial : ℕ) (v : CallsView) (h : Past) → m.serial ≡ serial → waiting_serial v serial ≡ false
+    → LeftCalls v h → LeftCalls (made_call false b v serial) (after (Put m b) h)
 call_left true m serial v h e free left = issued_calls m v (with_call false serial v) h (ap (λ n. with_call false n v) (sym e)) (ap (waiting_serial v) e ∙ free) left
-call_left false m serial v h e free left = put_calls m v h left
+call_left false m serial v h e free left = left
 
 -- ---- serials are drawn
 
@@ -72,35 +70,35 @@ pub message_serial : (parcel : Parcel) (serial : ℕ) → (message_of parcel ser
 unfolding message_of built
 message_serial parcel serial = refl
 
-pub next_left : (v : CallsView) (last serial : ℕ) (h : List Event) → LeftCalls v h → last ≡ last_serial h → IsNext (waiting_serial v) last serial → IsNext (pending h) (last_serial h) serial
+pub next_left : (v : CallsView) (last serial : ℕ) (h : Past) → LeftCalls v h → last ≡ h.outbox.last → IsNext (waiting_serial v) last serial → IsNext (pending h) h.outbox.last serial
 next_left v last serial h left e next =
     subst (λ n. IsNext (pending h) n serial) e
     (IsNext-along (waiting_serial v) (pending h) last serial (λ n. sym (pending-left v h left n)) next)
 
-pub spent_left : (v : CallsView) (h : List Event) → LeftCalls v h → AllTaken (waiting_serial v) → AllTaken (pending h)
+pub spent_left : (v : CallsView) (h : Past) → LeftCalls v h → AllTaken (waiting_serial v) → AllTaken (pending h)
 spent_left v h left all serial a b = pending-left v h left serial ∙ all serial a b
 
 -- The serials that were drawn by what is kept are those of the history.
-drawn_left : (ps : List Parcel) (serials : List ℕ) (v w : CallsView) (last end : ℕ) (h : List Event) → LeftCalls v h → last ≡ last_serial h
+drawn_left : (ps : List Parcel) (serials : List ℕ) (v w : CallsView) (last end : ℕ) (h : Past) → LeftCalls v h → last ≡ h.outbox.last
     → Draws false v last ps serials w end → AreDrawn h ps serials
 drawn_left [] [] v w last end h left e d = tt
 drawn_left (p ∷ ps) (serial ∷ serials) v w last end h left e d = (
   next_left v last serial h left e d.0,
-  drawn_left ps serials (made_call false (expects (Ok p)) v serial) w serial end (put_of p serial ∷ h)
+  drawn_left ps serials (made_call false (expects (Ok p)) v serial) w serial end (after (put_of p serial) h)
       (call_left (expects (Ok p)) (message_of p serial) serial v h (message_serial p serial) d.0.free left) (sym (message_serial p serial)) d.1,
 )
 drawn_left [] (serial ∷ serials) v w last end h left e d = absurd d
 drawn_left (p ∷ ps) [] v w last end h left e d = absurd d
 
 -- and where none is left by what is kept, none is by the history
-spends_left : (ps : List Parcel) (v : CallsView) (last : ℕ) (h : List Event) → LeftCalls v h → last ≡ last_serial h → Spends false v last ps → RunsOut h ps
+spends_left : (ps : List Parcel) (v : CallsView) (last : ℕ) (h : Past) → LeftCalls v h → last ≡ h.outbox.last → Spends false v last ps → RunsOut h ps
 spends_left [] v last h left e x = absurd x
 spends_left (p ∷ ps) v last h left e (inl all) = inl (spent_left v h left all)
 spends_left (p ∷ ps) v last h left e (inr x) =
     inr (
       x.0,
       next_left v last x.0 h left e x.1,
-      spends_left ps (made_call false (expects (Ok p)) v x.0) x.0 (put_of p x.0 ∷ h)
+      spends_left ps (made_call false (expects (Ok p)) v x.0) x.0 (after (put_of p x.0) h)
           (call_left (expects (Ok p)) (message_of p x.0) x.0 v h (message_serial p x.0) x.1.free left) (sym (message_serial p x.0)) x.2,
     )
 
@@ -115,27 +113,18 @@ placed b v m serial = record v {
   places = v.places ++ place_of (length v.outbox) b;
 }
 
-places_put : (b : Bool) (v : View) (m : Seen) (h : List Event) → Left v h → v.places ++ place_of (length v.outbox) b ≡ places (calls (Put m b ∷ h))
+places_put : (b : Bool) (v : View) (m : Seen) (h : Past) → Left v h → v.places ++ place_of (length v.outbox) b ≡ places (after (Put m b) h).calls
 places_put true v m h left =
-    ap (λ ns. ns ++ length v.outbox ∷ []) left.places ∙ ap (λ ms. places (calls h) ++ length ms ∷ []) left.outbox
-    ∙ sym (map-append (λ (c : Call). c.index) (calls h) (new_call (past h) m ∷ []))
+    ap (λ ns. ns ++ length v.outbox ∷ []) left.places ∙ ap (λ ms. places h.calls ++ length ms ∷ []) left.outbox
+    ∙ sym (map-append (λ (c : Call). c.index) h.calls (new_call h m ∷ []))
 places_put false v m h left = append-nil v.places ∙ left.places
 
-left_put : (b : Bool) (v : View) (m : Seen) (serial : ℕ) (h : List Event) → m.serial ≡ serial → Left v h → waiting_serial v.calls serial ≡ false
-    → Left (placed b v m serial) (Put m b ∷ h)
-left_put b v m serial h e left free = record {
-  calls = call_left b m serial v.calls h e free left.calls;
-  bus = left.bus;
-  streams = left.streams;
-  main = left.main;
-  read = left.read;
-  last = sym e;
-  outbox = ap (λ ms. ms ++ m ∷ []) left.outbox;
-  places = places_put b v m h left;
-  done = left.done;
-  writer = left.writer;
-  name = left.name;
-}
+left_put : (b : Bool) (v : View) (m : Seen) (serial : ℕ) (h : Past) → m.serial ≡ serial → Left v h → waiting_serial v.calls serial ≡ false
+    → Left (placed b v m serial) (after (Put m b) h)
+left_put b v m serial h e left free =
+    let made = call_left b m serial v.calls h e free left.calls in
+    let at = places_put b v m h left in
+    let sound = sound_after (Put m b) h left.sound in search rules
 
 message_kind : (parcel : Parcel) (serial : ℕ) → (message_of parcel serial).kind ≡ parcel.draft.kind
 unfolding message_of built
@@ -169,49 +158,49 @@ with_none v calls_then end e f =
     ∙ ap (λ ns. record v { places = ns }) (append-nil v.places)
 
 -- messages that were put leave the core with them
-put_left : (ps : List Parcel) (serials : List ℕ) (v : View) (w : CallsView) (end : ℕ) (h : List Event) → Left v h → Draws false v.calls v.last ps serials w end
+put_left : (ps : List Parcel) (serials : List ℕ) (v : View) (w : CallsView) (end : ℕ) (h : Past) → Left v h → Draws false v.calls v.last ps serials w end
     → Left (with_messages v (messages_of ps serials) w end) (put_each ps serials h)
 put_left [] [] v w end h left d = subst (λ u. Left u h) (sym (with_none v w end d.0 d.1)) left
 put_left (p ∷ ps) (serial ∷ serials) v w end h left d =
     let b = expects (Ok p) in
     let m = message_of p serial in
-    let one : Left (placed b v m serial) (put_of p serial ∷ h) = left_put b v m serial h (message_serial p serial) left d.0.free in
-    subst (λ u. Left u (put_each ps serials (put_of p serial ∷ h))) (placed_more v v b b m (messages_of ps serials) w serial end refl (same_expects p serial))
-    (put_left ps serials (placed b v m serial) w end (put_of p serial ∷ h) one d.1)
+    let one : Left (placed b v m serial) (after (put_of p serial) h) = left_put b v m serial h (message_serial p serial) left d.0.free in
+    subst (λ u. Left u (put_each ps serials (after (put_of p serial) h))) (placed_more v v b b m (messages_of ps serials) w serial end refl (same_expects p serial))
+    (put_left ps serials (placed b v m serial) w end (after (put_of p serial) h) one d.1)
 put_left [] (serial ∷ serials) v w end h left d = absurd d
 put_left (p ∷ ps) [] v w end h left d = absurd d
 
 -- ---- what is answered of them
 
-calls_more : (b : Bool) (m : Seen) (h : List Event) (n k : ℕ) → k ≡ length (calls h) → k + length (place_of n b) ≡ length (calls (Put m b ∷ h))
-calls_more true m h n k e = omega (arith, e, length_push (calls h) (new_call (past h) m))
+calls_more : (b : Bool) (m : Seen) (h : Past) (n k : ℕ) → k ≡ length h.calls → k + length (place_of n b) ≡ length (after (Put m b) h).calls
+calls_more true m h n k e = omega (arith, e, length_push h.calls (new_call h m))
 calls_more false m h n k e = omega (arith, e)
 
-issued_one : (p : Parcel) (serial : ℕ) (h : List Event) (n k : ℕ) → n ≡ length (put h) → k ≡ length (calls h) → issued_at n k (message_of p serial) ≡ issued_of h p serial
+issued_one : (p : Parcel) (serial : ℕ) (h : Past) (n k : ℕ) → n ≡ length h.outbox.put → k ≡ length h.calls → issued_at n k (message_of p serial) ≡ issued_of h p serial
 issued_one p serial h n k e f =
     let b = expects_reply (message_of p serial).kind (message_of p serial).flags in
     ap (λ i. record { index = i; serial = (message_of p serial).serial; call = call_number b k }) e
-    ∙ ap (λ x. record { index = length (put h); serial = x; call = call_number b k }) (message_serial p serial)
-    ∙ ap (λ c. record { index = length (put h); serial = serial; call = call_number c k }) (same_expects p serial)
-    ∙ ap (λ x. record { index = length (put h); serial = serial; call = call_number (expects (Ok p)) x }) f
+    ∙ ap (λ x. record { index = length h.outbox.put; serial = x; call = call_number b k }) (message_serial p serial)
+    ∙ ap (λ c. record { index = length h.outbox.put; serial = serial; call = call_number c k }) (same_expects p serial)
+    ∙ ap (λ x. record { index = length h.outbox.put; serial = serial; call = call_number (expects (Ok p)) x }) f
 
-issued_same : (ps : List Parcel) (serials : List ℕ) (h : List Event) (n k : ℕ) → n ≡ length (put h) → k ≡ length (calls h) → issued_from n k (messages_of ps serials) ≡ issued_each h ps serials
+issued_same : (ps : List Parcel) (serials : List ℕ) (h : Past) (n k : ℕ) → n ≡ length h.outbox.put → k ≡ length h.calls → issued_from n k (messages_of ps serials) ≡ issued_each h ps serials
 issued_same [] serials h n k e f = refl
 issued_same (p ∷ ps) [] h n k e f = refl
 issued_same (p ∷ ps) (serial ∷ serials) h n k e f =
     let m = message_of p serial in
     let b = expects_reply m.kind m.flags in
-    let more : k + length (place_of n b) ≡ length (calls (put_of p serial ∷ h)) =
+    let more : k + length (place_of n b) ≡ length (after (put_of p serial) h).calls =
     ap (λ c. k + length (place_of n c)) (same_expects p serial) ∙ calls_more (expects (Ok p)) m h n k f in
     ap (λ i. i ∷ issued_from (n + 1) (k + length (place_of n b)) (messages_of ps serials)) (issued_one p serial h n k e f)
-    ∙ ap (λ is. issued_of h p serial ∷ is) (issued_same ps serials (put_of p serial ∷ h) (n + 1) (k + length (place_of n b)) (omega (arith, e, length_push (put h) m)) more)
+    ∙ ap (λ is. issued_of h p serial ∷ is) (issued_same ps serials (after (put_of p serial) h) (n + 1) (k + length (place_of n b)) (omega (arith, e, length_push h.outbox.put m)) more)
 
 -- ---- a command's messages, whole
 
-count_left : (v : View) (h : List Event) → Left v h → length v.places ≡ length (calls h)
-count_left v h left = ap length left.places ∙ length-map (calls h) (λ (c : Call). c.index)
+count_left : (v : View) (h : Past) → Left v h → length v.places ≡ length h.calls
+count_left v h left = ap length left.places ∙ length-map h.calls (λ (c : Call). c.index)
 
-pub issued_all : {A : Type 0} (items : A → List Issued) (old new : View) (ps : List Parcel) (h : List Event) (issued : A) → list_any is_deep ps ≡ false → Left old h
+pub issued_all : {A : Type 0} (items : A → List Issued) (old new : View) (ps : List Parcel) (h : Past) (issued : A) → list_any is_deep ps ≡ false → Left old h
     → PutsAll false items old new ps (Ok issued) → IssuesAll items old new ps h (Ok issued)
 issued_all items old new ps h issued shallow left p = (
   shallow,
@@ -225,7 +214,7 @@ issued_all items old new ps h issued shallow left p = (
   sym left.writer ∙ p.3,
 )
 
-pub refused_all : {A : Type 0} (items : A → List Issued) (old mid new : View) (ps : List Parcel) (h : List Event) (error : Error) → list_any is_deep ps ≡ false → Left old h
+pub refused_all : {A : Type 0} (items : A → List Issued) (old mid new : View) (ps : List Parcel) (h : Past) (error : Error) → list_any is_deep ps ≡ false → Left old h
     → new ≡ old → PutsAll false items old mid ps (Err error) → IssuesAll items old new ps h (Err error)
 refused_all items old mid new ps h errors.SerialsSpent shallow left e p = (shallow, spends_left ps old.calls old.last h left.calls left.last p, e)
 refused_all items old mid new ps h errors.ExcessData shallow left e p =

@@ -4,23 +4,22 @@ use Rattle.std.specs.List.{slice_get}
 use Rattle.std.proofs.lemmas.Bool.{eqb-true}
 use Rattle.wire_message.specs.Front.{Seen}
 use Rattle.wire_message.specs.declared.error.Error.{Error}
-use Rattle.wire_message.specs.declared.kind.MessageType.{MessageType}
-use Rattle.wire_message.specs.declared.kind.MessageType.TheVariants as types
 use Rattle.peer_route.specs.declared.polled.Polled.{Polled}
 use Rattle.peer_route.specs.declared.polled.Polled.TheVariants as polled
-use Rattle.peer_route.specs.declared.words.Words.{Words}
 use Rattle.peer_route.specs.declared.words.Words.TheVariants as words
 use Rattle.peer_route.specs.declared.answer.Answer.{Answer}
 use Rattle.peer_route.specs.declared.answer.Answer.TheVariants as answers
 use Rattle.peer_route.specs.declared.answer.Entry.{Entry}
-use Rattle.peer_route.specs.History.{Event}
-use Rattle.peer_route.specs.Calls.{poll_answer, by_position, drop_answer}
-use Rattle.peer_route.specs.Parcel.{Setting, Asked}
-use Rattle.peer_route.specs.Trail.{Trail, Names, place, count, trail, poll_spends, drop_spends, events_of, sent_names, new_names}
-use Rattle.peer_route.specs.Answers.{IsAnswer, Legal, error_answer, reply_by, shown, poll_of, before_of, shown_drop, drop_of}
+use Rattle.peer_route.specs.History.{Event, past}
+use Rattle.peer_route.specs.Calls.{poll_answer, by_position, drop_answer, drop_events, poll_events}
+use Rattle.peer_route.specs.Parcel.{Setting}
+use Rattle.peer_route.specs.Trail.{Trail, Names, place, count}
+use Rattle.peer_route.specs.Answers.{Legal}
 use Rattle.peer_route.specs.Laws.{IsPoll, SamePoll}
-use Rattle.peer_route.proofs.Once.{poll_is, before_is, drop_is}
 use Rattle.peer_route.proofs.Others.{spent_other}
+use Rattle.peer_route.specs.Entries.{trail, events_of, new_names, said}
+use Rattle.peer_route.specs.Shown.{shown}
+use Rattle.peer_route.specs.Plan.{poll_of, before_of, drop_does, poll_does}
 
 -- ---- a number names one call
 
@@ -79,98 +78,51 @@ apart names lane number lane₂ number₂ j k p q differ same =
     let one = one_call names lane number lane₂ number₂ k (owned 0 lane number names k (p ∙ ap Some same)) (owned 0 lane₂ number₂ names k q) in
     differ (sym one.0) (sym one.1)
 
--- ---- a poll makes no call
-
-error_names : (h : List Event) (lane : ℕ) (w : Option Asked) (m : Seen) (name : Option (List ℕ)) → sent_names h lane w (error_answer m name) ≡ []
-error_names h lane w m (Some name) = refl
-error_names h lane w m None = refl
-
-reply_names : (h : List Event) (lane : ℕ) (w : Option Asked) (m : Seen) (kind : MessageType) → sent_names h lane w (reply_by m kind) ≡ []
-reply_names h lane w m types.MethodReturn = refl
-reply_names h lane w m types.MethodCall = refl
-reply_names h lane w m types.Error = error_names h lane w m m.error_name
-reply_names h lane w m types.Signal = refl
-
-shown_names : (h : List Event) (lane : ℕ) (w : Option Asked) (r : Result (Polled Seen) Error) → sent_names h lane w (shown r) ≡ []
-shown_names h lane w (Ok (polled.Now m)) = reply_names h lane w m m.kind
-shown_names h lane w (Ok polled.NotYet) = refl
-shown_names h lane w (Ok polled.NoneBefore) = refl
-shown_names h lane w (Ok (polled.Closed error)) = refl
-shown_names h lane w (Ok polled.Ended) = refl
-shown_names h lane w (Err error) = refl
-
-poll_names : (h : List Event) (lane : ℕ) (w : Option Asked) (p : Option ℕ) → sent_names h lane w (poll_of h p) ≡ []
-poll_names h lane w None = refl
-poll_names h lane w (Some k) = shown_names h lane w (poll_answer h k)
-
-before_names : (h : List Event) (lane : ℕ) (w : Option Asked) (p : Option ℕ) → sent_names h lane w (before_of h p) ≡ []
-before_names h lane w None = refl
-before_names h lane w (Some k) = shown_names h lane w (by_position (poll_answer h k))
-
-kept_by : (t : Trail) (e : Entry) (w : Words) (a : Answer) → e.words ≡ w → e.answer ≡ a → new_names t e.lane w a ≡ [] → t.names ++ new_names t e.lane e.words e.answer ≡ t.names
-kept_by t e w a does is none =
-    ap (λ x. t.names ++ new_names t e.lane x e.answer) does ∙ ap (λ x. t.names ++ new_names t e.lane w x) is ∙ ap (λ ns. t.names ++ ns) none ∙ append-nil t.names
-
-names_kept : (t : Trail) (e : Entry) (number : ℕ) → IsAnswer t e.lane e.words e.answer → IsPoll number e.words → t.names ++ new_names t e.lane e.words e.answer ≡ t.names
-names_kept t e number a (inl w) =
-    let p = place 0 e.lane number t.names in kept_by t e (words.Poll number) (poll_of t.events p) w (poll_is t e number a w) (poll_names t.events e.lane None p)
-names_kept t e number a (inr w) =
-    let p = place 0 e.lane number t.names in
-    kept_by t e (words.Before number w.0) (before_of t.events p) w.1 (before_is t e number w.0 a w.1) (before_names t.events e.lane None p)
-
-drop_shown_names : (h : List Event) (lane : ℕ) (w : Option Asked) (r : Result (Unit {0}) Error) → sent_names h lane w (shown_drop r) ≡ []
-drop_shown_names h lane w (Ok done) = refl
-drop_shown_names h lane w (Err error) = refl
-
-drop_names : (h : List Event) (lane : ℕ) (w : Option Asked) (p : Option ℕ) → sent_names h lane w (drop_of h p) ≡ []
-drop_names h lane w None = refl
-drop_names h lane w (Some k) = drop_shown_names h lane w (drop_answer h k)
-
-names_kept_drop : (t : Trail) (e : Entry) (number : ℕ) → IsAnswer t e.lane e.words e.answer → e.words ≡ words.Drop number → t.names ++ new_names t e.lane e.words e.answer ≡ t.names
-names_kept_drop t e number a w =
-    let p = place 0 e.lane number t.names in kept_by t e (words.Drop number) (drop_of t.events p) w (drop_is t e number a w) (drop_names t.events e.lane None p)
-
 -- ---- what a poll leaves
 
-spends_by : (h : List Event) (j k : ℕ) (a : Answer) → j ≢ k → poll_answer (poll_spends (Some j) a ++ h) k ≡ poll_answer h k
-spends_by h j k (answers.Reply position) ne = spent_other h j k ne
-spends_by h j k (answers.InvalidReply position) ne = spent_other h j k ne
-spends_by h j k (answers.MethodError m) ne = spent_other h j k ne
-spends_by h j k (answers.Closed error) ne = spent_other h j k ne
-spends_by h j k a ne = refl
+said_other : (h : List Event) (k : ℕ) (a : Answer) (ds : List Event) → poll_answer (past (ds ++ h)) k ≡ poll_answer (past h) k → poll_answer (past (said a ds ++ h)) k ≡ poll_answer (past h) k
+said_other h k (answers.Refused error) ds same = refl
+said_other h k answers.Busy ds same = refl
+said_other h k a ds same = same
 
-spends_other : (h : List Event) (p : Option ℕ) (k : ℕ) (a : Answer) → ((j : ℕ) → p ≡ Some j → j ≢ k) → poll_answer (poll_spends p a ++ h) k ≡ poll_answer h k
-spends_other h None k a ne = refl
-spends_other h (Some j) k a ne = spends_by h j k a (ne j refl)
+spends_by : (h : List Event) (j k : ℕ) (r : Result (Polled Seen) Error) → j ≢ k → poll_answer (past (poll_events j r ++ h)) k ≡ poll_answer (past h) k
+spends_by h j k (Ok (polled.Now m)) ne = spent_other (past h) j k ne
+spends_by h j k (Ok (polled.Closed error)) ne = spent_other (past h) j k ne
+spends_by h j k r ne = refl
 
-drops_by : (h : List Event) (j k : ℕ) (a : Answer) → j ≢ k → poll_answer (drop_spends (Some j) a ++ h) k ≡ poll_answer h k
-drops_by h j k answers.Dropped ne = spent_other h j k ne
-drops_by h j k a ne = refl
+spends_other : (h : List Event) (p : Option ℕ) (k : ℕ) (a : Answer) → ((j : ℕ) → p ≡ Some j → j ≢ k) → poll_answer (past (said a (poll_does h p) ++ h)) k ≡ poll_answer (past h) k
+spends_other h None k a ne = said_other h k a [] refl
+spends_other h (Some j) k a ne = said_other h k a (poll_events j (poll_answer (past h) j)) (spends_by h j k (poll_answer (past h) j) (ne j refl))
 
-drops_other : (h : List Event) (p : Option ℕ) (k : ℕ) (a : Answer) → ((j : ℕ) → p ≡ Some j → j ≢ k) → poll_answer (drop_spends p a ++ h) k ≡ poll_answer h k
-drops_other h None k a ne = refl
-drops_other h (Some j) k a ne = drops_by h j k a (ne j refl)
+drops_by : (h : List Event) (j k : ℕ) (r : Result (Unit {0}) Error) → j ≢ k → poll_answer (past (drop_events j r ++ h)) k ≡ poll_answer (past h) k
+drops_by h j k (Ok done) ne = spent_other (past h) j k ne
+drops_by h j k (Err error) ne = refl
+
+drops_other : (h : List Event) (p : Option ℕ) (k : ℕ) (a : Answer) → ((j : ℕ) → p ≡ Some j → j ≢ k) → poll_answer (past (said a (drop_does h p) ++ h)) k ≡ poll_answer (past h) k
+drops_other h None k a ne = said_other h k a [] refl
+drops_other h (Some j) k a ne = said_other h k a (drop_events j (drop_answer (past h) j)) (drops_by h j k (drop_answer (past h) j) (ne j refl))
 
 -- a poll or a drop of another number
 keeps : (t : Trail) (e : Entry) (number lane other k : ℕ) → IsPoll number e.words ⊎ (e.words ≡ words.Drop number) → (lane ≡ e.lane → other ≢ number)
-    → place 0 lane other t.names ≡ Some k → poll_answer (events_of t e.lane e.words e.answer ++ t.events) k ≡ poll_answer t.events k
+    → place 0 lane other t.names ≡ Some k → poll_answer (past (events_of t e.lane e.words e.answer ++ t.events)) k ≡ poll_answer (past t.events) k
 keeps t e number lane other k (inl (inl w)) differ q =
-    ap (λ x. poll_answer (events_of t e.lane x e.answer ++ t.events) k) w
+    ap (λ x. poll_answer (past (events_of t e.lane x e.answer ++ t.events)) k) w
     ∙ spends_other t.events (place 0 e.lane number t.names) k e.answer (λ j p. apart t.names e.lane number lane other j k p q differ)
 keeps t e number lane other k (inl (inr w)) differ q =
-    ap (λ x. poll_answer (events_of t e.lane x e.answer ++ t.events) k) w.1
+    ap (λ x. poll_answer (past (events_of t e.lane x e.answer ++ t.events)) k) w.1
     ∙ spends_other t.events (place 0 e.lane number t.names) k e.answer (λ j p. apart t.names e.lane number lane other j k p q differ)
 keeps t e number lane other k (inr w) differ q =
-    ap (λ x. poll_answer (events_of t e.lane x e.answer ++ t.events) k) w
+    ap (λ x. poll_answer (past (events_of t e.lane x e.answer ++ t.events)) k) w
     ∙ drops_other t.events (place 0 e.lane number t.names) k e.answer (λ j p. apart t.names e.lane number lane other j k p q differ)
 
-all_names_kept : (t : Trail) (e : Entry) (number : ℕ) → IsAnswer t e.lane e.words e.answer → IsPoll number e.words ⊎ (e.words ≡ words.Drop number)
-    → t.names ++ new_names t e.lane e.words e.answer ≡ t.names
-all_names_kept t e number a (inl w) = names_kept t e number a w
-all_names_kept t e number a (inr w) = names_kept_drop t e number a w
+-- and makes no call
+names_kept : (t : Trail) (e : Entry) (number : ℕ) → IsPoll number e.words ⊎ (e.words ≡ words.Drop number) → t.names ++ new_names t e.lane e.words e.answer ≡ t.names
+names_kept t e number (inl (inl w)) = ap (λ x. t.names ++ new_names t e.lane x e.answer) w ∙ append-nil t.names
+names_kept t e number (inl (inr w)) = ap (λ x. t.names ++ new_names t e.lane x e.answer) w.1 ∙ append-nil t.names
+names_kept t e number (inr w) = ap (λ x. t.names ++ new_names t e.lane x e.answer) w ∙ append-nil t.names
 
 -- where the call's answer is the same, a poll of it says the same, by position too
-same_poll : (g h : List Event) (p : Option ℕ) → ((k : ℕ) → p ≡ Some k → poll_answer g k ≡ poll_answer h k) → (poll_of g p ≡ poll_of h p) × (before_of g p ≡ before_of h p)
+same_poll : (g h : List Event) (p : Option ℕ) → ((k : ℕ) → p ≡ Some k → poll_answer (past g) k ≡ poll_answer (past h) k) → (poll_of g p ≡ poll_of h p) × (before_of g p ≡ before_of h p)
 same_poll g h None same = (refl, refl)
 same_poll g h (Some k) same = (ap shown (same k refl), ap (λ r. shown (by_position r)) (same k refl))
 
@@ -181,4 +133,4 @@ poll_other setting older e number lane other legal w differ =
     let g = events_of t e.lane e.words e.answer ++ t.events in
     let p = place 0 lane other t.names in
     subst (λ (ns : Names). (poll_of g (place 0 lane other ns) ≡ poll_of t.events p) × (before_of g (place 0 lane other ns) ≡ before_of t.events p))
-    (sym (all_names_kept t e number legal.0 w)) (same_poll g t.events p (λ k q. keeps t e number lane other k w differ q))
+    (sym (names_kept t e number w)) (same_poll g t.events p (λ k q. keeps t e number lane other k w differ q))

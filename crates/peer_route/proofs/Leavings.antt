@@ -1,5 +1,5 @@
 -- The bus is told which rules have no stream any more: by what is kept, and by the history.
-use Rattle.std.proofs.Common.{◌≡◌, ℕ, zero, suc, ◌+◌, ◌<◌, ◌≤◌, refl, sym, ◌∙◌, ap, subst, arith, inl, inr, codes, Bool, true, false, not, ◌&&◌, ◌||◌, ◌==◌, if◌then◌else◌, is_none, is_some, List, [], ◌∷◌, ◌++◌, length, map, Option, Some, None, Ok, Err, option_to_list}
+use Rattle.std.proofs.Common.{rules, ◌≡◌, ℕ, zero, suc, ◌+◌, ◌<◌, ◌≤◌, refl, sym, ◌∙◌, ap, subst, arith, inl, inr, codes, Bool, true, false, not, ◌&&◌, ◌||◌, ◌==◌, if◌then◌else◌, is_none, is_some, List, [], ◌∷◌, ◌++◌, length, map, Option, Some, None, Ok, Err, option_to_list}
 use Rattle.std.specs.List.{slice_get, list_all}
 use Rattle.std.proofs.lemmas.List.Folds.{list_all-map}
 use Rattle.std.proofs.lemmas.List.{append-nil, map-append, length-append}
@@ -13,7 +13,7 @@ use Rattle.rule_match.specs.Rule.{Rule}
 use Rattle.peer_route.specs.declared.route.Issued.{Issued}
 use Rattle.peer_route.specs.Parcel.{message_of}
 use Rattle.peer_route.specs.CallMessage.{expects, expects_reply}
-use Rattle.peer_route.specs.History.{Event, Did, Gone, Removed, Call, inner_call, edit, closing, calls, on_bus, unique_name, Stream, streams, end_one, rule_of, past}
+use Rattle.peer_route.specs.History.{Did, Gone, Removed, Call, inner_call, edit, calls, Stream, end_one, rule_of, Past, after}
 use Rattle.peer_route.specs.Calls.{in_flight}
 use Rattle.peer_route.specs.Streams.{is_open, are_open, has_rule, has_rule_at, close_waits, may_be_signal, leaves, leaves_by, leaving, rule_answer}
 use Rattle.peer_route.specs.Left.{Held, CallsView, View, Left, kept_at, shared, waiting_serial, is_flying, with_call}
@@ -27,7 +27,7 @@ use Rattle.peer_route.specs.Leaving.{AreTold, TellsNone, AreBrief, SomeNotBrief,
 use Rattle.peer_route.specs.declared.streams.MessageStream.{MessageStream}
 use Rattle.peer_route.specs.declared.leaving.Spent.TheVariants as spent
 use Rattle.peer_route.proofs.Core.{left_ended, flying-left}
-use Rattle.peer_route.proofs.CallsMade.{places}
+use Rattle.peer_route.proofs.CallsMade.{places, sound_after}
 use Rattle.peer_route.proofs.RuledStreams.{subscribed_left, rule_left}
 use Rattle.peer_route.proofs.Issues.{called, message_serial, same_expects, next_left, spent_left, placed_more, with_none}
 use Rattle.peer_route.proofs.BusMessages.{match_expects, refused_any}
@@ -45,28 +45,19 @@ placed_own v m serial = record v {
   places = v.places ++ length v.outbox ∷ [];
 }
 
-left_removed : (v : View) (m : Seen) (serial : ℕ) (h : List Event) → m.serial ≡ serial → Left v h → waiting_serial v.calls serial ≡ false → Left (placed_own v m serial) (Removed m ∷ h)
-left_removed v m serial h e left free = record {
-  calls = called m true v.calls (with_call true serial v.calls) (Removed m ∷ h) h (ap (λ n. with_call true n v.calls) (sym e)) refl refl refl (ap (waiting_serial v.calls) e ∙ free) left.calls;
-  bus = left.bus;
-  name = left.name;
-  streams = left.streams;
-  main = left.main;
-  read = left.read;
-  last = sym e;
-  outbox = ap (λ ms. ms ++ m ∷ []) left.outbox;
-  places = ap (λ ns. ns ++ length v.outbox ∷ []) left.places ∙ ap (λ ms. places (calls h) ++ length ms ∷ []) left.outbox
-      ∙ sym (map-append (λ (c : Call). c.index) (calls h) (inner_call (past h) m ∷ []));
-  done = left.done;
-  writer = left.writer;
-}
+left_removed : (v : View) (m : Seen) (serial : ℕ) (h : Past) → m.serial ≡ serial → Left v h → waiting_serial v.calls serial ≡ false → Left (placed_own v m serial) (after (Removed m) h)
+left_removed v m serial h e left free =
+    let made = called m true v.calls (with_call true serial v.calls) (after (Removed m) h) h (ap (λ n. with_call true n v.calls) (sym e)) refl refl refl (ap (waiting_serial v.calls) e ∙ free) left.calls in
+    let placed = ap (λ ns. ns ++ length v.outbox ∷ []) left.places ∙ ap (λ ms. places h.calls ++ length ms ∷ []) left.outbox
+    ∙ sym (map-append (λ (c : Call). c.index) h.calls (inner_call h m ∷ [])) in
+    let sound = sound_after (Removed m) h left.sound in search rules
 
 removal_expects : (name : Option (List ℕ)) (rule : Rule) → expects (Ok (remove_parcel name rule)) ≡ true
 removal_expects name rule = match_expects (codes "RemoveMatch") name rule
 
 -- ---- all of them
 
-told_left : (rules : List Rule) (serials : List ℕ) (v : View) (w : CallsView) (end : ℕ) (h : List Event) → Left v h → Draws true v.calls v.last (removals v.name rules) serials w end
+told_left : (rules : List Rule) (serials : List ℕ) (v : View) (w : CallsView) (end : ℕ) (h : Past) → Left v h → Draws true v.calls v.last (removals v.name rules) serials w end
     → Left (with_messages v (messages_of (removals v.name rules) serials) w end) (removed_each rules serials h)
 told_left [] [] v w end h left d = subst (λ u. Left u h) (sym (with_none v w end d.0 d.1)) left
 told_left (rule ∷ rules) (serial ∷ serials) v w end h left d =
@@ -74,49 +65,49 @@ told_left (rule ∷ rules) (serial ∷ serials) v w end h left d =
     let m = message_of p serial in
     let n = remove_message h rule serial in
     let same : m ≡ n = ap (λ name. message_of (remove_parcel name rule) serial) left.name in
-    let one : Left (placed_own v m serial) (Removed n ∷ h) =
-    subst (λ x. Left (placed_own v m serial) (Removed x ∷ h)) same (left_removed v m serial h (message_serial p serial) left d.0.free) in
+    let one : Left (placed_own v m serial) (after (Removed n) h) =
+    subst (λ x. Left (placed_own v m serial) (after (Removed x) h)) same (left_removed v m serial h (message_serial p serial) left d.0.free) in
     let more : Draws true (with_call true serial v.calls) serial (removals v.name rules) serials w end =
     subst (λ b. Draws true (made_call true b v.calls serial) serial (removals v.name rules) serials w end) (removal_expects v.name rule) d.1 in
-    subst (λ u. Left u (removed_each rules serials (Removed n ∷ h)))
+    subst (λ u. Left u (removed_each rules serials (after (Removed n) h)))
     (placed_more v v true true m (messages_of (removals v.name rules) serials) w serial end refl (same_expects p serial ∙ removal_expects v.name rule))
-    (told_left rules serials (placed_own v m serial) w end (Removed n ∷ h) one more)
+    (told_left rules serials (placed_own v m serial) w end (after (Removed n) h) one more)
 told_left [] (serial ∷ serials) v w end h left d = absurd d
 told_left (rule ∷ rules) [] v w end h left d = absurd d
 
-told_drawn : (rules : List Rule) (serials : List ℕ) (v : View) (w : CallsView) (end : ℕ) (h : List Event) → Left v h → Draws true v.calls v.last (removals v.name rules) serials w end → AreTold h rules serials
+told_drawn : (rules : List Rule) (serials : List ℕ) (v : View) (w : CallsView) (end : ℕ) (h : Past) → Left v h → Draws true v.calls v.last (removals v.name rules) serials w end → AreTold h rules serials
 told_drawn [] [] v w end h left d = tt
 told_drawn (rule ∷ rules) (serial ∷ serials) v w end h left d =
     let p = remove_parcel v.name rule in
     let m = message_of p serial in
     let n = remove_message h rule serial in
     let same : m ≡ n = ap (λ name. message_of (remove_parcel name rule) serial) left.name in
-    let one : Left (placed_own v m serial) (Removed n ∷ h) =
-    subst (λ x. Left (placed_own v m serial) (Removed x ∷ h)) same (left_removed v m serial h (message_serial p serial) left d.0.free) in
+    let one : Left (placed_own v m serial) (after (Removed n) h) =
+    subst (λ x. Left (placed_own v m serial) (after (Removed x) h)) same (left_removed v m serial h (message_serial p serial) left d.0.free) in
     let more : Draws true (with_call true serial v.calls) serial (removals v.name rules) serials w end =
     subst (λ b. Draws true (made_call true b v.calls serial) serial (removals v.name rules) serials w end) (removal_expects v.name rule) d.1 in
-    (next_left v.calls v.last serial h left.calls left.last d.0, told_drawn rules serials (placed_own v m serial) w end (Removed n ∷ h) one more)
+    (next_left v.calls v.last serial h left.calls left.last d.0, told_drawn rules serials (placed_own v m serial) w end (after (Removed n) h) one more)
 told_drawn [] (serial ∷ serials) v w end h left d = absurd d
 told_drawn (rule ∷ rules) [] v w end h left d = absurd d
 
-told_brief : (rules : List Rule) (serials : List ℕ) (name : Option (List ℕ)) (h : List Event) → name ≡ unique_name h → AreShort (removals name rules) serials → AreBrief h rules serials
+told_brief : (rules : List Rule) (serials : List ℕ) (name : Option (List ℕ)) (h : Past) → name ≡ h.name → AreShort (removals name rules) serials → AreBrief h rules serials
 told_brief [] serials name h e short = tt
 told_brief (rule ∷ rules) [] name h e short = tt
 told_brief (rule ∷ rules) (serial ∷ serials) name h e short =
-    (subst (λ o. length (message_of (remove_parcel o rule) serial).bytes ≤ 134217728) e short.0.1, told_brief rules serials name (Removed (remove_message h rule serial) ∷ h) e short.1)
+    (subst (λ o. length (message_of (remove_parcel o rule) serial).bytes ≤ 134217728) e short.0.1, told_brief rules serials name (after (Removed (remove_message h rule serial)) h) e short.1)
 
 fits : (name : Option (List ℕ)) (rule : Rule) → AllFit (remove_parcel name rule).draft.order 0 (data_of (remove_parcel name rule).values)
 unfolding AllFit
 fits name rule = (tt, tt)
 
-told_long : (rules : List Rule) (serials : List ℕ) (name : Option (List ℕ)) (h : List Event) → name ≡ unique_name h → SomeLong (removals name rules) serials → SomeNotBrief h rules serials
+told_long : (rules : List Rule) (serials : List ℕ) (name : Option (List ℕ)) (h : Past) → name ≡ h.name → SomeLong (removals name rules) serials → SomeNotBrief h rules serials
 told_long [] serials name h e long = absurd long
 told_long (rule ∷ rules) [] name h e long = absurd long
 told_long (rule ∷ rules) (serial ∷ serials) name h e (inl (inl unfit)) = absurd (unfit (fits name rule))
 told_long (rule ∷ rules) (serial ∷ serials) name h e (inl (inr x)) = inl (subst (λ o. 134217728 < length (message_of (remove_parcel o rule) serial).bytes) e x.1)
-told_long (rule ∷ rules) (serial ∷ serials) name h e (inr more) = inr (told_long rules serials name (Removed (remove_message h rule serial) ∷ h) e more)
+told_long (rule ∷ rules) (serial ∷ serials) name h e (inr more) = inr (told_long rules serials name (after (Removed (remove_message h rule serial)) h) e more)
 
-told_none : (rules : List Rule) (v : View) (h : List Event) → Left v h → Spends true v.calls v.last (removals v.name rules) → TellsNone h rules
+told_none : (rules : List Rule) (v : View) (h : Past) → Left v h → Spends true v.calls v.last (removals v.name rules) → TellsNone h rules
 told_none [] v h left x = absurd x
 told_none (rule ∷ rules) v h left (inl all) = inl (spent_left v.calls h left.calls all)
 told_none (rule ∷ rules) v h left (inr x) =
@@ -125,11 +116,11 @@ told_none (rule ∷ rules) v h left (inr x) =
     let m = message_of p serial in
     let n = remove_message h rule serial in
     let same : m ≡ n = ap (λ name. message_of (remove_parcel name rule) serial) left.name in
-    let one : Left (placed_own v m serial) (Removed n ∷ h) =
-    subst (λ y. Left (placed_own v m serial) (Removed y ∷ h)) same (left_removed v m serial h (message_serial p serial) left x.1.free) in
+    let one : Left (placed_own v m serial) (after (Removed n) h) =
+    subst (λ y. Left (placed_own v m serial) (after (Removed y) h)) same (left_removed v m serial h (message_serial p serial) left x.1.free) in
     let more : Spends true (with_call true serial v.calls) serial (removals v.name rules) =
     subst (λ b. Spends true (made_call true b v.calls serial) serial (removals v.name rules)) (removal_expects v.name rule) x.2 in
-    inr (serial, next_left v.calls v.last serial h left.calls left.last x.1, told_none rules (placed_own v m serial) (Removed n ∷ h) one more)
+    inr (serial, next_left v.calls v.last serial h left.calls left.last x.1, told_none rules (placed_own v m serial) (after (Removed n) h) one more)
 
 -- the serial of the last
 told_last : (rules : List Rule) (serials : List ℕ) (name : Option (List ℕ)) (v w : CallsView) (last end place count : ℕ) → Draws true v last (removals name rules) serials w end
@@ -150,7 +141,7 @@ told_last (rule ∷ r ∷ rules) (serial ∷ []) name v w last end place count d
 abbrev pub closed_view : View → List (Option Held) → View
 closed_view v qs = record v { streams = qs }
 
-pub tells_bus : (v mid : View) (qs : List (Option Held)) (rules : List Rule) (h : List Event) (last : Option ℕ) → Tells v mid rules (Ok last) → Left (closed_view v qs) h
+pub tells_bus : (v mid : View) (qs : List (Option Held)) (rules : List Rule) (h : Past) (last : Option ℕ) → Tells v mid rules (Ok last) → Left (closed_view v qs) h
     → TellsBus (closed_view mid qs) h rules (Ok last)
 tells_bus v mid qs [] h last t left = ([], tt, tt, (λ e. cc), t.0, subst (λ (u : View). Left (closed_view u qs) h) (sym t.1) left)
 tells_bus v mid qs (rule ∷ rules) h last t left =
@@ -166,7 +157,7 @@ tells_bus v mid qs (rule ∷ rules) h last t left =
           (told_left (rule ∷ rules) serials g mid.calls mid.last h left p.1),
     )
 
-pub tells_not : (v mid : View) (qs : List (Option Held)) (rules : List Rule) (h : List Event) (error : Error) → Tells v mid rules (Err error) → (error ≡ errors.Memory → ⊥) → Left (closed_view v qs) h
+pub tells_not : (v mid : View) (qs : List (Option Held)) (rules : List Rule) (h : Past) (error : Error) → Tells v mid rules (Err error) → (error ≡ errors.Memory → ⊥) → Left (closed_view v qs) h
     → TellsBus (closed_view v qs) h rules (Err error)
 tells_not v mid qs [] h error t some left = absurd t
 tells_not v mid qs (rule ∷ rules) h errors.SerialsSpent t some left = (told_none (rule ∷ rules) (closed_view v qs) h left t, left)
@@ -280,65 +271,65 @@ answered_open : (b : Bool) (o : Option Rule) → b ≡ true → (if b then o els
 answered_open true o e = refl
 answered_open false o e = cc
 
-rule_so : (v : View) (h : List Event) (k : ℕ) → Left v h → is_open h k ≡ true → rule_kept (kept_at v.streams k) ≡ rule_of (slice_get (streams h) k)
+rule_so : (v : View) (h : Past) (k : ℕ) → Left v h → is_open h k ≡ true → rule_kept (kept_at v.streams k) ≡ rule_of (slice_get h.streams k)
 unfolding rule_answer
-rule_so v h k left there = rule_left v.streams h k left.streams ∙ answered_open (is_open h k) (rule_of (slice_get (streams h) k)) there
+rule_so v h k left there = rule_left v.streams h k left.streams ∙ answered_open (is_open h k) (rule_of (slice_get h.streams k)) there
 
 -- by the core `w` that the history `g` leaves
-tell_so : (v w : View) (g : List Event) (o : Option Rule) → v.bus ≡ w.bus → v.calls.closing ≡ w.calls.closing → Left w g → left_by v w.streams o ≡ leaves_by g o
+tell_so : (v w : View) (g : Past) (o : Option Rule) → v.bus ≡ w.bus → v.calls.closing ≡ w.calls.closing → Left w g → left_by v w.streams o ≡ leaves_by g o
 tell_so v w g None b c left = refl
 tell_so v w g (Some rule) b c left =
     ap (λ x. if x && (is_none v.calls.closing && (may_be_signal rule.kind && not (is_some (shared rule w.streams)))) then rule ∷ [] else []) (b ∙ left.bus)
-    ∙ ap (λ x. if on_bus g && (is_none x && (may_be_signal rule.kind && not (is_some (shared rule w.streams)))) then rule ∷ [] else []) (c ∙ left.calls.closing)
-    ∙ ap (λ x. if on_bus g && (is_none (closing g) && (may_be_signal rule.kind && not x)) then rule ∷ [] else []) (subscribed_left w.streams g rule left.streams)
+    ∙ ap (λ x. if g.bus && (is_none x && (may_be_signal rule.kind && not (is_some (shared rule w.streams)))) then rule ∷ [] else []) (c ∙ left.calls.closing)
+    ∙ ap (λ x. if g.bus && (is_none g.closing && (may_be_signal rule.kind && not x)) then rule ∷ [] else []) (subscribed_left w.streams g rule left.streams)
 
 two_open : (a b c : Bool) → ((a && b) && c) ≡ true → (a ≡ true) × (b ≡ true)
 two_open true true c e = (refl, refl)
 two_open true false c e = cc
 two_open false b c e = cc
 
-pub leaving_so : (v : View) (h : List Event) (k : ℕ) (o : Option ℕ) → Left v h → are_open h k o ≡ true → left_rules v k o ≡ leaving h k o
+pub leaving_so : (v : View) (h : Past) (k : ℕ) (o : Option ℕ) → Left v h → are_open h k o ≡ true → left_rules v k o ≡ leaving h k o
 unfolding leaving
 leaving_so v h k None left there =
     let w = closed_view v (without k v.streams) in
     append-nil (left_by v (without k v.streams) (rule_kept (kept_at v.streams k)))
-    ∙ ap (left_by v (without k v.streams)) (rule_so v h k left there ∙ sym (rule_edit k k (streams h)))
-    ∙ tell_so v w (Did k Gone ∷ h) (rule_of (slice_get (streams (Did k Gone ∷ h)) k)) refl refl (left_ended v k h left)
+    ∙ ap (left_by v (without k v.streams)) (rule_so v h k left there ∙ sym (rule_edit k k h.streams))
+    ∙ tell_so v w (after (Did k Gone) h) (rule_of (slice_get (after (Did k Gone) h).streams k)) refl refl (left_ended v k h left)
 leaving_so v h k (Some j) left there =
     let w = closed_view v (without k v.streams) in
     let x = closed_view v (without j (without k v.streams)) in
     let first = left_ended v k h left in
-    let second = left_ended w j (Did k Gone ∷ h) first in
+    let second = left_ended w j (after (Did k Gone) h) first in
     let both = two_open (is_open h k) (is_open h j) (not (k == j)) there in
-    ap (λ o. left_by v (without k v.streams) o ++ left_by v (without j (without k v.streams)) (rule_kept (kept_at v.streams j))) (rule_so v h k left both.0 ∙ sym (rule_edit k k (streams h)))
-    ∙ ap (λ rs. rs ++ left_by v (without j (without k v.streams)) (rule_kept (kept_at v.streams j))) (tell_so v w (Did k Gone ∷ h) (rule_of (slice_get (streams (Did k Gone ∷ h)) k)) refl refl first)
-    ∙ ap (λ o. leaves (Did k Gone ∷ h) k ++ left_by v (without j (without k v.streams)) o) (rule_so v h j left both.1 ∙ sym (rule_edit k j (streams h)) ∙ sym (rule_edit j j (edit k end_one (streams h))))
-    ∙ ap (λ rs. leaves (Did k Gone ∷ h) k ++ rs) (tell_so v x (Did j Gone ∷ Did k Gone ∷ h) (rule_of (slice_get (streams (Did j Gone ∷ Did k Gone ∷ h)) j)) refl refl second)
+    ap (λ o. left_by v (without k v.streams) o ++ left_by v (without j (without k v.streams)) (rule_kept (kept_at v.streams j))) (rule_so v h k left both.0 ∙ sym (rule_edit k k h.streams))
+    ∙ ap (λ rs. rs ++ left_by v (without j (without k v.streams)) (rule_kept (kept_at v.streams j))) (tell_so v w (after (Did k Gone) h) (rule_of (slice_get (after (Did k Gone) h).streams k)) refl refl first)
+    ∙ ap (λ o. leaves (after (Did k Gone) h) k ++ left_by v (without j (without k v.streams)) o) (rule_so v h j left both.1 ∙ sym (rule_edit k j h.streams) ∙ sym (rule_edit j j (edit k end_one h.streams)))
+    ∙ ap (λ rs. leaves (after (Did k Gone) h) k ++ rs) (tell_so v x (after (Did j Gone) (after (Did k Gone) h)) (rule_of (slice_get ((after (Did j Gone) (after (Did k Gone) h)).streams) j)) refl refl second)
 
 -- ---- the streams are closed
 
-gone_left : (v : View) (h : List Event) (k : ℕ) (o : Option ℕ) → Left v h → Left (closed_view v (ended k o v.streams)) (gone_both k o h)
+gone_left : (v : View) (h : Past) (k : ℕ) (o : Option ℕ) → Left v h → Left (closed_view v (ended k o v.streams)) (gone_both k o h)
 gone_left v h k None left = left_ended v k h left
-gone_left v h k (Some j) left = left_ended (closed_view v (without k v.streams)) j (Did k Gone ∷ h) (left_ended v k h left)
+gone_left v h k (Some j) left = left_ended (closed_view v (without k v.streams)) j (after (Did k Gone) h) (left_ended v k h left)
 
-have_so : (v : View) (h : List Event) (k : ℕ) (o : Option ℕ) → Left v h → are_open h k o ≡ true → have_rules v k o ≡ (has_rule h k || has_rule_at h o)
+have_so : (v : View) (h : Past) (k : ℕ) (o : Option ℕ) → Left v h → are_open h k o ≡ true → have_rules v k o ≡ (has_rule h k || has_rule_at h o)
 have_so v h k None left there = ap (λ r. is_some r || false) (rule_so v h k left there)
 have_so v h k (Some j) left there =
     let both = two_open (is_open h k) (is_open h j) (not (k == j)) there in
     ap (λ r. is_some r || is_some (rule_kept (kept_at v.streams j))) (rule_so v h k left both.0) ∙ ap (λ r. has_rule h k || is_some r) (rule_so v h j left both.1)
 
-waits_so : (v : View) (h : List Event) (k : ℕ) (o : Option ℕ) → Left v h → are_open h k o ≡ true → (is_flying v.calls && have_rules v k o) ≡ close_waits h k o
+waits_so : (v : View) (h : Past) (k : ℕ) (o : Option ℕ) → Left v h → are_open h k o ≡ true → (is_flying v.calls && have_rules v k o) ≡ close_waits h k o
 unfolding close_waits
 waits_so v h k o left there = ap (λ b. b && have_rules v k o) (flying-left v.calls h left.calls) ∙ ap (λ b. in_flight h && b) (have_so v h k o left there)
 
-pub closes_unknown : (v : View) (h : List Event) (k : ℕ) (o : Option ℕ) → are_open h k o ≡ false → ClosesStreams v v k o h (spent.Over errors.UnknownHandle)
+pub closes_unknown : (v : View) (h : Past) (k : ℕ) (o : Option ℕ) → are_open h k o ≡ false → ClosesStreams v v k o h (spent.Over errors.UnknownHandle)
 closes_unknown v h k o e = (e, refl)
 
-pub closes_busy : (v : View) (h : List Event) (s : MessageStream) (t : Option MessageStream) → Left v h → are_open h s.number (number_of t) ≡ true
+pub closes_busy : (v : View) (h : Past) (s : MessageStream) (t : Option MessageStream) → Left v h → are_open h s.number (number_of t) ≡ true
     → (is_flying v.calls && have_rules v s.number (number_of t)) ≡ true → ClosesStreams v v s.number (number_of t) h (spent.Back s t errors.Busy)
 closes_busy v h s t left there busy = (there, sym (waits_so v h s.number (number_of t) left there) ∙ busy, refl, refl, refl)
 
-pub closes_gone : (v mid : View) (h : List Event) (k : ℕ) (o last : Option ℕ) → Left v h → are_open h k o ≡ true → (is_flying v.calls && have_rules v k o) ≡ false
+pub closes_gone : (v mid : View) (h : Past) (k : ℕ) (o last : Option ℕ) → Left v h → are_open h k o ≡ true → (is_flying v.calls && have_rules v k o) ≡ false
     → Tells v mid (left_rules v k o) (Ok last) → IsMore v mid → ClosesStreams v (closed_view mid (ended k o mid.streams)) k o h (spent.Gone last)
 closes_gone v mid h k o last left there idle t more =
     let kept : mid.streams ≡ v.streams = ap (λ (u : View). u.streams) more.same in (
@@ -348,14 +339,14 @@ closes_gone v mid h k o last left there idle t more =
           (tells_bus v mid (ended k o v.streams) (left_rules v k o) (gone_both k o h) last t (gone_left v h k o left))),
     )
 
-closes_by : (v mid new : View) (h : List Event) (k : ℕ) (o : Option ℕ) (rules : List Rule) (error : Error) → Tells v mid rules (Err error) → (error ≡ errors.Memory → ⊥) → MayClose h k o
+closes_by : (v mid new : View) (h : Past) (k : ℕ) (o : Option ℕ) (rules : List Rule) (error : Error) → Tells v mid rules (Err error) → (error ≡ errors.Memory → ⊥) → MayClose h k o
     → TellsBus new (gone_both k o h) (leaving h k o) (Err error) → ClosesStreams v new k o h (spent.Over error)
 closes_by v mid new h k o [] error t some may x = absurd t
 closes_by v mid new h k o (rule ∷ rules) errors.UnknownHandle t some may x = absurd t
 closes_by v mid new h k o rules errors.Memory t some may x = absurd (some refl)
 closes_by v mid new h k o rules other t some may x = (may, x)
 
-pub closes_over : (v mid : View) (h : List Event) (k : ℕ) (o : Option ℕ) (error : Error) → Left v h → are_open h k o ≡ true → (is_flying v.calls && have_rules v k o) ≡ false
+pub closes_over : (v mid : View) (h : Past) (k : ℕ) (o : Option ℕ) (error : Error) → Left v h → are_open h k o ≡ true → (is_flying v.calls && have_rules v k o) ≡ false
     → Tells v mid (left_rules v k o) (Err error) → (error ≡ errors.Memory → ⊥) → ClosesStreams v (closed_view v (ended k o v.streams)) k o h (spent.Over error)
 closes_over v mid h k o error left there idle t some =
     closes_by v mid (closed_view v (ended k o v.streams)) h k o (left_rules v k o) error t some (there, sym (waits_so v h k o left there) ∙ idle)
@@ -366,7 +357,7 @@ tells_some : (v mid : View) (rules : List Rule) (error : Error) → Tells v mid 
 tells_some v mid [] error t = absurd t
 tells_some v mid (rule ∷ rules) error t = refl
 
-pub closes_back : (v mid new : View) (h : List Event) (s : MessageStream) (t : Option MessageStream) (error : Error) → Left v h → are_open h s.number (number_of t) ≡ true
+pub closes_back : (v mid new : View) (h : Past) (s : MessageStream) (t : Option MessageStream) (error : Error) → Left v h → are_open h s.number (number_of t) ≡ true
     → (is_flying v.calls && have_rules v s.number (number_of t)) ≡ false → Tells v mid (left_rules v s.number (number_of t)) (Err error) → error ≡ errors.Memory → new ≡ v
     → ClosesStreams v new s.number (number_of t) h (spent.Back s t error)
 closes_back v mid new h s t error left there idle tells e same =

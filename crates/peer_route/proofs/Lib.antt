@@ -3,6 +3,7 @@ pub mod BodyWords
 pub mod Plain
 pub mod Queues
 pub mod CallsMade
+pub mod Pasts
 pub mod Slots
 pub mod Phases
 pub mod Matched
@@ -26,6 +27,7 @@ pub mod Issues
 pub mod Drawn
 pub mod Built
 pub mod Placed
+pub mod Plans
 pub mod Tellings
 pub mod Naming
 pub mod Steps

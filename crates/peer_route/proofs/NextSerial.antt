@@ -2,7 +2,7 @@
 use Rattle.std.proofs.Common.{◌≡◌, ℕ, zero, suc, ◌+◌, ◌-◌, ◌≤◌, ◌<◌, refl, sym, ◌∙◌, ap, arith, Bool, true, false, List, Some, None, inl, inr, lit<}
 use Rattle.std.proofs.Math.Nat.{eq-or-lt_of_le, mod-lt}
 use Rattle.wire_message.specs.Circle.{serial_after, IsNext, AllTaken}
-use Rattle.peer_route.specs.History.{Event, last_serial}
+use Rattle.peer_route.specs.History.{Event, last_serial, past}
 use Rattle.peer_route.specs.Calls.{pending}
 use Rattle.peer_route.specs.Trail.{first_free, next_serial}
 
@@ -34,10 +34,10 @@ serial_after-within last k = (omega arith, omega (arith, mod-lt (last + k - 1) {
 pub first_free-none : (taken : ℕ → Bool) (last : ℕ) → AllTaken taken → first_free taken last 1 4294967295 ≡ None
 first_free-none taken last all = none_from taken last 1 4294967295 (λ j a b. all (serial_after last j) (serial_after-within last j).0 (serial_after-within last j).1)
 
-pub next_serial-next : (h : List Event) (serial : ℕ) → IsNext (pending h) (last_serial h) serial → next_serial h ≡ Some serial
+pub next_serial-next : (h : List Event) (serial : ℕ) → IsNext (pending (past h)) (last_serial h) serial → next_serial h ≡ Some serial
 unfolding next_serial
-next_serial-next h serial next = first_free-next (pending h) (last_serial h) serial next
+next_serial-next h serial next = first_free-next (pending (past h)) (last_serial h) serial next
 
-pub next_serial-none : (h : List Event) → AllTaken (pending h) → next_serial h ≡ None
+pub next_serial-none : (h : List Event) → AllTaken (pending (past h)) → next_serial h ≡ None
 unfolding next_serial
-next_serial-none h all = first_free-none (pending h) (last_serial h) all
+next_serial-none h all = first_free-none (pending (past h)) (last_serial h) all

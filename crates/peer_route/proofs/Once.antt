@@ -1,5 +1,5 @@
 -- A call whose answer was given is over for good.
-use Rattle.std.proofs.Common.{inl, inr, sym, ◌≡◌, ◌⊎◌, ℕ, zero, suc, ◌+◌, ◌||◌, ◌==◌, if◌then◌else◌, refl, ◌∙◌, ap, subst, Bool, true, false, List, [], ◌∷◌, ◌++◌, map, Option, Some, None, Err}
+use Rattle.std.proofs.Common.{inl, inr, sym, ◌≡◌, ◌⊎◌, ℕ, zero, suc, ◌+◌, ◌||◌, ◌==◌, if◌then◌else◌, refl, ◌∙◌, ap, subst, Bool, true, false, List, [], ◌∷◌, ◌++◌, map, Option, Some, None, Err, Result, Ok}
 use Rattle.std.specs.List.{slice_get, AllByRecursion}
 use Rattle.wire_message.specs.declared.error.Error.TheVariants as errors
 use Rattle.peer_route.specs.declared.words.Words.TheVariants as words
@@ -7,12 +7,20 @@ use Rattle.peer_route.specs.declared.answer.Answer.{Answer}
 use Rattle.peer_route.specs.declared.answer.Answer.TheVariants as answers
 use Rattle.peer_route.specs.declared.answer.Entry.{Entry}
 use Rattle.peer_route.specs.History.{Event, Put, Fault, Spent, Added, Removed, Call, calls, new_call, inner_call, edit, spend, fail_at, done, closing, past, read}
-use Rattle.peer_route.specs.Calls.{is_gone, polled_at, poll_answer, by_position, dropped_at, drop_answer}
+use Rattle.peer_route.specs.Calls.{is_gone, polled_at, poll_answer, by_position, dropped_at, drop_answer, drop_events, poll_events}
 use Rattle.peer_route.specs.Parcel.{Setting}
-use Rattle.peer_route.specs.Trail.{Trail, Names, place, trail, poll_spends, drop_spends, events_of, new_names}
-use Rattle.peer_route.specs.Answers.{IsAnswer, Legal, shown, poll_of, before_of, shown_drop, drop_of}
+use Rattle.peer_route.specs.Trail.{Trail, Names, place}
+use Rattle.peer_route.specs.Answers.{IsAnswer, Legal}
 use Rattle.peer_route.specs.Laws.{IsPoll, IsFinal, IsUnknown}
 use Rattle.peer_route.proofs.ByPosition.{before_by}
+use Rattle.peer_route.specs.Entries.{trail, events_of, new_names, more, said}
+use Rattle.peer_route.specs.Shown.{shown, shown_drop}
+use Rattle.peer_route.specs.Plan.{poll_of, before_of, drop_of, drop_does, poll_does}
+use Rattle.peer_route.proofs.Plans.{reply_kept}
+use Rattle.peer_route.specs.declared.polled.Polled.{Polled}
+use Rattle.wire_message.specs.declared.error.Error.{Error}
+use Rattle.wire_message.specs.Front.{Seen}
+use Rattle.peer_route.specs.declared.polled.Polled.TheVariants as polled
 
 -- ---- a call that is over
 
@@ -71,11 +79,11 @@ gone_dropped [] k g = cc
 gone_dropped (c ∷ cs) zero g = rw g refl
 gone_dropped (c ∷ cs) (suc k) g = gone_dropped cs k g
 
-gone_drop_shown : (h : List Event) (k : ℕ) → gone_at (calls h) k ≡ true → shown_drop (drop_answer h k) ≡ answers.Refused errors.UnknownHandle
+gone_drop_shown : (h : List Event) (k : ℕ) → gone_at (calls h) k ≡ true → shown_drop (drop_answer (past h) k) ≡ answers.Refused errors.UnknownHandle
 unfolding drop_answer
 gone_drop_shown h k g = ap (λ r. shown_drop r) (gone_dropped (calls h) k g)
 
-gone_answer : (h : List Event) (k : ℕ) → gone_at (calls h) k ≡ true → poll_answer h k ≡ Err errors.UnknownHandle
+gone_answer : (h : List Event) (k : ℕ) → gone_at (calls h) k ≡ true → poll_answer (past h) k ≡ Err errors.UnknownHandle
 unfolding poll_answer
 gone_answer h k g = gone_polled h (calls h) k g
 
@@ -117,12 +125,10 @@ final_is t e number (inr none) f = absurd (subst IsFinal none f)
 pub drop_is : (t : Trail) (e : Entry) (number : ℕ) → IsAnswer t e.lane e.words e.answer → e.words ≡ words.Drop number → e.answer ≡ drop_of t.events (place 0 e.lane number t.names)
 drop_is t e number a w = subst (λ x. IsAnswer t e.lane x e.answer) w a
 
-final_spends : (k : ℕ) (a : Answer) → IsFinal a → poll_spends (Some k) a ≡ Spent k ∷ []
-final_spends k (answers.Reply position) f = refl
-final_spends k (answers.InvalidReply position) f = refl
-final_spends k (answers.MethodError m) f = refl
-final_spends k (answers.Closed error) f = refl
-final_spends k a f = absurd f
+final_spends : (k : ℕ) (r : Result (Polled Seen) Error) → IsFinal (shown r) → said (shown r) (poll_events k r) ≡ Spent k ∷ []
+final_spends k (Ok (polled.Now m)) f = reply_kept m m.kind (Spent k ∷ [])
+final_spends k (Ok (polled.Closed error)) f = refl
+final_spends k r f = absurd f
 
 final_made : (h : List Event) (cs : List Call) (k : ℕ) (o : Option Call) → slice_get cs k ≡ o → IsFinal (shown (polled_at (read h) (closing h) o)) → gone_at (edit k spend cs) k ≡ true
 final_made h cs k None at f = absurd f
@@ -132,12 +138,13 @@ final_made h cs k (Some c) at f = gone_spent cs k c at
 abbrev IsOver : Trail → ℕ → ℕ → Type 0
 IsOver t lane number = (k : ℕ) × (place 0 lane number t.names ≡ Some k) × (gone_at (calls t.events) k ≡ true)
 
-final_over : (h : List Event) (p : Option ℕ) (a : Answer) → a ≡ poll_of h p → IsFinal a → (k : ℕ) × (p ≡ Some k) × (gone_at (calls (poll_spends p a ++ h)) k ≡ true)
+final_over : (h : List Event) (p : Option ℕ) (a : Answer) → a ≡ poll_of h p → IsFinal a → (k : ℕ) × (p ≡ Some k) × (gone_at (calls (said a (poll_does h p) ++ h)) k ≡ true)
 unfolding poll_answer
 final_over h None a e f = absurd (subst IsFinal e f)
 final_over h (Some k) a e f =
     let over : gone_at (edit k spend (calls h)) k ≡ true = final_made h (calls h) k (slice_get (calls h) k) refl (subst IsFinal e f) in
-    (k, refl, rw (final_spends k a f) over)
+    let spends : said a (poll_does h (Some k)) ≡ Spent k ∷ [] = ap (λ x. said x (poll_does h (Some k))) e ∙ final_spends k (poll_answer (past h) k) (subst IsFinal e f) in
+    (k, refl, subst (λ xs. gone_at (calls (xs ++ h)) k ≡ true) (sym spends) over)
 
 -- the entry that gave the answer leaves the call over
 over_now : (t : Trail) (e : Entry) (number : ℕ) → IsAnswer t e.lane e.words e.answer → IsPoll number e.words → IsFinal e.answer
@@ -201,10 +208,15 @@ dropped_made : (cs : List Call) (k : ℕ) (o : Option Call) → slice_get cs k �
 dropped_made cs k None at f = cc
 dropped_made cs k (Some c) at f = gone_spent cs k c at
 
-dropped_over : (h : List Event) (p : Option ℕ) → drop_of h p ≡ answers.Dropped → (k : ℕ) × (p ≡ Some k) × (gone_at (calls (drop_spends p answers.Dropped ++ h)) k ≡ true)
+drop_spends : (k : ℕ) (r : Result (Unit {0}) Error) → shown_drop r ≡ answers.Dropped → drop_events k r ≡ Spent k ∷ []
+drop_spends k (Ok done) e = refl
+drop_spends k (Err error) e = cc
+
+dropped_over : (h : List Event) (p : Option ℕ) → drop_of h p ≡ answers.Dropped → (k : ℕ) × (p ≡ Some k) × (gone_at (calls (drop_does h p ++ h)) k ≡ true)
 unfolding drop_answer
 dropped_over h None e = cc
-dropped_over h (Some k) e = (k, refl, dropped_made (calls h) k (slice_get (calls h) k) refl e)
+dropped_over h (Some k) e =
+    (k, refl, subst (λ xs. gone_at (calls (xs ++ h)) k ≡ true) (sym (drop_spends k (drop_answer (past h) k) e)) (dropped_made (calls h) k (slice_get (calls h) k) refl e))
 
 dropped_now : (t : Trail) (e : Entry) (number : ℕ) → IsAnswer t e.lane e.words e.answer → e.words ≡ words.Drop number → e.answer ≡ answers.Dropped
     → (k : ℕ) × (place 0 e.lane number t.names ≡ Some k) × (gone_at (calls (events_of t e.lane e.words e.answer ++ t.events)) k ≡ true)

@@ -1,11 +1,11 @@
 -- Commands on a stream that is open, and what they are answered where it isn't.
-use Rattle.std.proofs.Common.{◌≡◌, ℕ, ◌==◌, refl, sym, ◌∙◌, ap, subst, max, Bool, true, false, not, if◌then◌else◌, ◌&&◌, is_some, List, ◌∷◌, length, Option, Some, None, Result, Ok, Err}
+use Rattle.std.proofs.Common.{◌≡◌, ℕ, ◌==◌, refl, sym, ◌∙◌, ap, subst, max, Bool, true, false, not, if◌then◌else◌, ◌&&◌, is_some, List, length, Option, Some, None, Result, Ok, Err}
 use Rattle.std.specs.List.{slice_get}
 use Rattle.std.specs.Option.{option_map}
 use Rattle.std.proofs.lemmas.List.{length-map}
 use Rattle.wire_message.specs.declared.error.Error.{Error}
 use Rattle.wire_message.specs.declared.error.Error.TheVariants as errors
-use Rattle.peer_route.specs.History.{Event, Made, Did, Cloned, Gone, Asked, edit, streams, rule_of, capacities, read}
+use Rattle.peer_route.specs.History.{Made, Did, Cloned, Gone, Asked, edit, rule_of, Past, after}
 use Rattle.peer_route.specs.Streams.{limit_of, is_open, known, are_open, close_answer, ask_answer, limit_answer}
 use Rattle.peer_route.specs.declared.queue.Subscription.{Subscription}
 use Rattle.peer_route.specs.Left.{Held, held_of, kept_at, limit_or, wants_of, asked_for, main_asked, ClonesHeld, View, Left, Clones}
@@ -14,17 +14,17 @@ use Rattle.peer_route.proofs.Core.{open_so, left_cloned, left_ended, left_asked}
 
 -- ---- clones
 
-streams_len : (v : View) (h : List Event) → Left v h → length v.streams ≡ length (streams h)
-streams_len v h left = ap length left.streams.queues ∙ length-map (streams h) (held_of (capacities h).rules (read h))
+pub streams_len : (v : View) (h : Past) → Left v h → length v.streams ≡ length h.streams
+streams_len v h left = ap length left.streams.queues ∙ length-map h.streams (held_of h.capacities.rules h.read)
 
-pub clones : (v : View) (sv : List (Option Held)) (k number : ℕ) (h : List Event) → Left v h → ClonesHeld v.streams sv k (Ok number)
+pub clones : (v : View) (sv : List (Option Held)) (k number : ℕ) (h : Past) → Left v h → ClonesHeld v.streams sv k (Ok number)
     → Clones v (record v { streams = sv }) k h (Ok (record { number = number }))
 clones v sv k number h left c =
     let there : is_open h k ≡ true = sym (open_so v k h left) ∙ c.0 in
-    let Q : List (Option Held) → Type 0 = λ qs. Left (record v { streams = qs }) (Made (Cloned k) ∷ h) in
+    let Q : List (Option Held) → Type 0 = λ qs. Left (record v { streams = qs }) (after (Made (Cloned k)) h) in
     (there, c.1 ∙ streams_len v h left, subst Q (sym c.2) (left_cloned v k h there left))
 
-pub clones_not : (v : View) (sv : List (Option Held)) (k : ℕ) (h : List Event) (error : Error) → Left v h → ClonesHeld v.streams sv k (Err error)
+pub clones_not : (v : View) (sv : List (Option Held)) (k : ℕ) (h : Past) (error : Error) → Left v h → ClonesHeld v.streams sv k (Err error)
     → Clones v (record v { streams = sv }) k h (Err error)
 clones_not v sv k h errors.UnknownHandle left c = (sym (open_so v k h left) ∙ ap is_some c.0, ap (λ qs. record v { streams = qs }) c.1)
 clones_not v sv k h errors.Memory left c = ap (λ qs. record v { streams = qs }) c
@@ -32,22 +32,22 @@ clones_not v sv k h other left c = absurd c
 
 -- ---- closing
 
-pub two_so : (v : View) (h : List Event) (k j : ℕ) → Left v h
+pub two_so : (v : View) (h : Past) (k j : ℕ) → Left v h
     → (is_some (kept_at v.streams k) && is_some (kept_at v.streams j) && not (k == j)) ≡ are_open h k (Some j)
 two_so v h k j left = rw (open_so v k h left, open_so v j h left) refl
 
-pub close_so : (h : List Event) (k : ℕ) (j : Option ℕ) (b : Bool) → b ≡ are_open h k j → close_answer h k j ≡ known b
+pub close_so : (h : Past) (k : ℕ) (j : Option ℕ) (b : Bool) → b ≡ are_open h k j → close_answer h k j ≡ known b
 unfolding close_answer
 close_so h k j b e = ap known (sym e)
 
 -- one is closed, and another
-pub ends_two : (v : View) (h : List Event) (k j : ℕ) → Left v h
-    → Left (record v { streams = edit j (λ q. None) (edit k (λ q. None) v.streams) }) (Did j Gone ∷ Did k Gone ∷ h)
-ends_two v h k j left = left_ended (record v { streams = edit k (λ q. None) v.streams }) j (Did k Gone ∷ h) (left_ended v k h left)
+pub ends_two : (v : View) (h : Past) (k j : ℕ) → Left v h
+    → Left (record v { streams = edit j (λ q. None) (edit k (λ q. None) v.streams) }) (after (Did j Gone) (after (Did k Gone) h))
+ends_two v h k j left = left_ended (record v { streams = edit k (λ q. None) v.streams }) j (after (Did k Gone) h) (left_ended v k h left)
 
 -- ---- capacities
 
-pub ask_so : (h : List Event) (k : ℕ) (b : Bool) → is_open h k ≡ b → ask_answer h k ≡ known b
+pub ask_so : (h : Past) (k : ℕ) (b : Bool) → is_open h k ≡ b → ask_answer h k ≡ known b
 unfolding ask_answer
 ask_so h k b e = ap known e
 
@@ -60,11 +60,11 @@ limit_by : (b : Bool) (n : ℕ) (o : Option ℕ) → o ≡ (if b then Some n els
 limit_by true n o e = ap limit_shown e
 limit_by false n o e = ap limit_shown e
 
-pub limit_so : (v : View) (h : List Event) (k : ℕ) (o : Option ℕ) → o ≡ option_map (λ (q : Held). limit_or v.main q.wants) (kept_at v.streams k) → Left v h
+pub limit_so : (v : View) (h : Past) (k : ℕ) (o : Option ℕ) → o ≡ option_map (λ (q : Held). limit_or v.main q.wants) (kept_at v.streams k) → Left v h
     → limit_shown o ≡ limit_answer h k
 unfolding limit_answer
 limit_so v h k o e left =
-    limit_by (is_open h k) (limit_of (capacities h) (rule_of (slice_get (streams h) k))) o
+    limit_by (is_open h k) (limit_of h.capacities (rule_of (slice_get h.streams k))) o
     (e ∙ ap (λ n. option_map (λ (q : Held). limit_or n q.wants) (kept_at v.streams k)) left.main ∙ limit_left v.streams h k left.streams)
 
 main_kept : (w : Option Subscription) (limit n : ℕ) → is_some w ≡ true → main_asked w limit n ≡ n
@@ -76,17 +76,17 @@ main_more None limit n e = refl
 main_more (Some s) limit n e = cc
 
 -- a stream without a rule asks for more
-pub asks_main : (v : View) (k limit : ℕ) (h : List Event) → is_open h k ≡ true → is_some (wants_of (kept_at v.streams k)) ≡ false → Left v h
-    → Left (record v { streams = asked_for (wants_of (kept_at v.streams k)) limit v.streams; main = max v.main limit }) (Did k (Asked limit) ∷ h)
+pub asks_main : (v : View) (k limit : ℕ) (h : Past) → is_open h k ≡ true → is_some (wants_of (kept_at v.streams k)) ≡ false → Left v h
+    → Left (record v { streams = asked_for (wants_of (kept_at v.streams k)) limit v.streams; main = max v.main limit }) (after (Did k (Asked limit)) h)
 asks_main v k limit h there none left =
     let w = wants_of (kept_at v.streams k) in
-    let Q : ℕ → Type 0 = λ n. Left (record v { streams = asked_for w limit v.streams; main = n }) (Did k (Asked limit) ∷ h) in
+    let Q : ℕ → Type 0 = λ n. Left (record v { streams = asked_for w limit v.streams; main = n }) (after (Did k (Asked limit)) h) in
     subst Q (main_more w limit v.main none) (left_asked v k limit h there left)
 
 -- a stream with one
-pub asks_rule : (v : View) (k limit : ℕ) (h : List Event) → is_open h k ≡ true → is_some (wants_of (kept_at v.streams k)) ≡ true → Left v h
-    → Left (record v { streams = asked_for (wants_of (kept_at v.streams k)) limit v.streams }) (Did k (Asked limit) ∷ h)
+pub asks_rule : (v : View) (k limit : ℕ) (h : Past) → is_open h k ≡ true → is_some (wants_of (kept_at v.streams k)) ≡ true → Left v h
+    → Left (record v { streams = asked_for (wants_of (kept_at v.streams k)) limit v.streams }) (after (Did k (Asked limit)) h)
 asks_rule v k limit h there some left =
     let w = wants_of (kept_at v.streams k) in
-    let Q : ℕ → Type 0 = λ n. Left (record v { streams = asked_for w limit v.streams; main = n }) (Did k (Asked limit) ∷ h) in
+    let Q : ℕ → Type 0 = λ n. Left (record v { streams = asked_for w limit v.streams; main = n }) (after (Did k (Asked limit)) h) in
     subst Q (main_kept w limit v.main some) (left_asked v k limit h there left)

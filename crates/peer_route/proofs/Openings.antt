@@ -1,8 +1,8 @@
 -- A stream for which the bus is asked: what the core is then, and once it is asked whether it is open.
-use Rattle.std.proofs.Common.{◌≡◌, ℕ, ◌<◌, ◌≤◌, inl, inr, codes, refl, sym, ◌∙◌, ap, subst, Bool, true, false, not, ◌&&◌, ◌||◌, if◌then◌else◌, is_some, List, [], ◌∷◌, ◌++◌, length, Option, Some, None, Ok, Err}
+use Rattle.std.proofs.Common.{rules, ◌≡◌, ℕ, ◌<◌, ◌≤◌, inl, inr, codes, refl, sym, ◌∙◌, ap, subst, Bool, true, false, not, ◌&&◌, ◌||◌, if◌then◌else◌, is_some, List, [], ◌∷◌, ◌++◌, length, Option, Some, None, Ok, Err}
 use Rattle.std.specs.List.{slice_get}
 use Rattle.std.specs.Option.{option_map}
-use Rattle.std.proofs.lemmas.List.{map-append, length-map, length-append}
+use Rattle.std.proofs.lemmas.List.{map-append, length-append}
 use Rattle.std.proofs.lemmas.Bool.{false≢true}
 use Rattle.wire_message.specs.Front.{Seen}
 use Rattle.wire_message.specs.Circle.{IsNext, AllTaken}
@@ -15,7 +15,7 @@ use Rattle.peer_route.specs.declared.opening.Opens.TheVariants as opens
 use Rattle.peer_route.specs.declared.opening.Opening.{Opening}
 use Rattle.peer_route.specs.declared.progress.OpenState.{OpenState}
 use Rattle.peer_route.specs.declared.progress.OpenState.TheVariants as states
-use Rattle.peer_route.specs.History.{Event, Made, Ruled, Gone, Opened, OnBus, Added, Named, Call, inner_call, edit, closing, calls, on_bus, first_name, unique_name, Stream, Phase, Asking, Denied, Since, phase, streams, open_one, capacities, past, read}
+use Rattle.peer_route.specs.History.{Made, Ruled, Gone, Opened, OnBus, Added, Named, Call, inner_call, edit, first_name, Stream, Phase, Asking, Denied, Since, phase, open_one, Past, after, after_all}
 use Rattle.peer_route.specs.Calls.{in_flight}
 use Rattle.peer_route.specs.Streams.{asks_bus, may_be_signal, matched, offered, held, opening_by, opening_at, opening_answer, opening_events}
 use Rattle.peer_route.specs.Left.{Held, held_by, held_of, progress_by, kept_by, any_at, shared, asked_by, held_opening, opened_held, is_flying, with_stream, with_asking, with_call, CallsView, waiting_serial, LeftStreams, IsWithin, View, Left}
@@ -29,49 +29,27 @@ use Rattle.peer_route.specs.Placing.{made_call, Draws, Spends, place_of, places_
 use Rattle.wire_tree.specs.Datum.{data_of}
 use Rattle.wire_spelling.specs.Spelling.{AllFit}
 use Rattle.peer_route.proofs.Core.{flying-left, left_ruled, left_idle, left_did}
-use Rattle.peer_route.proofs.CallsMade.{places}
-use Rattle.peer_route.proofs.Writers.{closed_shut}
+use Rattle.peer_route.proofs.CallsMade.{places, sound_after}
 use Rattle.peer_route.proofs.Edits.{map_edit_all, edit-none}
 use Rattle.peer_route.proofs.StreamsMade.{any_of, any_left, streams_ended, within_each}
 use Rattle.peer_route.proofs.RuledStreams.{streams_asking, subscribed_left}
 use Rattle.peer_route.proofs.Issues.{called, next_left, spent_left, message_serial, same_expects}
 use Rattle.peer_route.proofs.BusMessages.{match_expects}
+use Rattle.peer_route.proofs.Index.{open_none}
+use Rattle.peer_route.proofs.OpenStreams.{streams_len}
 
 -- ---- the bus, and the name
 
-pub left_bus : (v : View) (h : List Event) → Left v h → Left (record v { bus = true }) (OnBus ∷ h)
-left_bus v h left = record {
-  calls = left.calls;
-  bus = refl;
-  name = left.name;
-  streams = left.streams;
-  main = left.main;
-  read = left.read;
-  last = left.last;
-  outbox = left.outbox;
-  places = left.places;
-  done = left.done;
-  writer = left.writer;
-}
+pub left_bus : (v : View) (h : Past) → Left v h → Left (record v { bus = true }) (after OnBus h)
+left_bus v h left = search rules
 
 named_now : (o : Option (List ℕ)) (name : List ℕ) → o ≡ None → Some name ≡ first_name o name
 named_now None name e = refl
 named_now (Some earlier) name e = cc
 
-pub left_named : (v : View) (name : List ℕ) (h : List Event) → v.name ≡ None → Left v h → Left (record v { name = Some name }) (Named name ∷ h)
-left_named v name h none left = record {
-  calls = left.calls;
-  bus = left.bus;
-  name = named_now (unique_name h) name (sym left.name ∙ none);
-  streams = left.streams;
-  main = left.main;
-  read = left.read;
-  last = left.last;
-  outbox = left.outbox;
-  places = left.places;
-  done = left.done;
-  writer = left.writer;
-}
+pub left_named : (v : View) (name : List ℕ) (h : Past) → v.name ≡ None → Left v h → Left (record v { name = Some name }) (after (Named name) h)
+left_named v name h none left =
+    let named = named_now h.name name (sym left.name ∙ none) in search rules
 
 -- ---- an AddMatch is put
 
@@ -85,22 +63,14 @@ asked_view v m serial rule asked = record v {
   places = v.places ++ length v.outbox ∷ [];
 }
 
-left_added : (v : View) (m : Seen) (rule : Rule) (asked : Option ℕ) (h : List Event) → Left v h → waiting_serial v.calls m.serial ≡ false
-    → Left (asked_view v m m.serial rule asked) (Added m rule asked ∷ h)
-left_added v m rule asked h left free = record {
-  calls = called m true v.calls (with_call true m.serial v.calls) (Added m rule asked ∷ h) h refl refl refl refl free left.calls;
-  bus = left.bus;
-  name = left.name;
-  streams = subst (λ i. LeftStreams (with_asking rule asked m.serial i v.streams) (Added m rule asked ∷ h)) (sym (ap length left.outbox)) (streams_asking m rule asked v.streams h left.streams);
-  main = left.main;
-  read = left.read;
-  last = refl;
-  outbox = ap (λ ms. ms ++ m ∷ []) left.outbox;
-  places = ap (λ ns. ns ++ length v.outbox ∷ []) left.places ∙ ap (λ ms. places (calls h) ++ length ms ∷ []) left.outbox
-      ∙ sym (map-append (λ (c : Call). c.index) (calls h) (inner_call (past h) m ∷ []));
-  done = left.done;
-  writer = left.writer;
-}
+left_added : (v : View) (m : Seen) (rule : Rule) (asked : Option ℕ) (h : Past) → Left v h → waiting_serial v.calls m.serial ≡ false
+    → Left (asked_view v m m.serial rule asked) (after (Added m rule asked) h)
+left_added v m rule asked h left free =
+    let made = called m true v.calls (with_call true m.serial v.calls) (after (Added m rule asked) h) h refl refl refl refl free left.calls in
+    let kept = subst (λ i. LeftStreams (with_asking rule asked m.serial i v.streams) (after (Added m rule asked) h)) (sym (ap length left.outbox)) (streams_asking m rule asked v.streams h left.streams) in
+    let placed = ap (λ ns. ns ++ length v.outbox ∷ []) left.places ∙ ap (λ ms. places h.calls ++ length ms ∷ []) left.outbox
+    ∙ sym (map-append (λ (c : Call). c.index) h.calls (inner_call h m ∷ [])) in
+    let sound = sound_after (Added m rule asked) h left.sound in search rules
 
 -- the one message that was put, and the stream that waits for its return
 asks_by : (old mid : View) (rule : Rule) (asked : Option ℕ) (i : Issued) (number : ℕ) (serials : List ℕ)
@@ -147,11 +117,11 @@ asks_view old new rule asked o a =
 
 -- ---- whether the bus is asked
 
-pub asks_so : (v : View) (rule : Rule) (h : List Event) → Left v h → (v.bus && (may_be_signal rule.kind && not (is_some (shared rule v.streams)))) ≡ asks_bus h rule
+pub asks_so : (v : View) (rule : Rule) (h : Past) → Left v h → (v.bus && (may_be_signal rule.kind && not (is_some (shared rule v.streams)))) ≡ asks_bus h rule
 unfolding asks_bus
 asks_so v rule h left =
     ap (λ b. b && (may_be_signal rule.kind && not (is_some (shared rule v.streams)))) left.bus
-    ∙ ap (λ b. on_bus h && (may_be_signal rule.kind && not b)) (subscribed_left v.streams h rule left.streams)
+    ∙ ap (λ b. h.bus && (may_be_signal rule.kind && not b)) (subscribed_left v.streams h rule left.streams)
 
 -- ---- whether a stream is open
 
@@ -168,89 +138,82 @@ opening_kept false opened q p o e r =
     ap (λ b. if b then states.Unknown else asked_by q.progress o) e
     ∙ ap (λ x. if opened then states.Unknown else x) (ap (λ x. asked_by x o) r ∙ asked_phase p o)
 
-opening_one : (h : List Event) (o : Option Stream) → held_opening (any_of h o) (closing h) ≡ opening_at (read h) (closing h) o
+opening_one : (h : Past) (o : Option Stream) → held_opening (any_of h o) h.closing ≡ opening_at h.read h.closing o
 unfolding held_of
 opening_one h None = refl
-opening_one h (Some s) = opening_kept s.gone s.opened (held_by (capacities h).rules (read h) s) (phase (read h) s) (closing h) refl refl
+opening_one h (Some s) = opening_kept s.gone s.opened (held_by h.capacities.rules h.read s) (phase h.read s) h.closing refl refl
 
-pub opening_left : (v : List (Option Held)) (h : List Event) (k : ℕ) → LeftStreams v h → held_opening (any_at v k) (closing h) ≡ opening_answer h k
+pub opening_left : (v : List (Option Held)) (h : Past) (k : ℕ) → LeftStreams v h → held_opening (any_at v k) h.closing ≡ opening_answer h k
 unfolding opening_answer
-opening_left v h k left = ap (λ q. held_opening q (closing h)) (any_left v h k left) ∙ opening_one h (slice_get (streams h) k)
+opening_left v h k left = ap (λ q. held_opening q h.closing) (any_left v h k left) ∙ opening_one h (slice_get h.streams k)
 
 -- what is kept of a stream that is told to be open
-open_held : (h : List Event) (s : Stream) → held_of (capacities h).rules (read h) (open_one s) ≡ option_map (λ (q : Held). record q { opened = true }) (held_of (capacities h).rules (read h) s)
+open_held : (h : Past) (s : Stream) → held_of h.capacities.rules h.read (open_one s) ≡ option_map (λ (q : Held). record q { opened = true }) (held_of h.capacities.rules h.read s)
 unfolding held_of phase matched offered held
-open_held h s = by s.gone (held_by (capacities h).rules (read h) s)
+open_held h s = by s.gone (held_by h.capacities.rules h.read s)
   where
     by : (gone : Bool) (q : Held) → kept_by gone (record q { opened = true }) ≡ option_map (λ (x : Held). record x { opened = true }) (kept_by gone q)
     by true q = refl
     by false q = refl
 
-open_within : (h : List Event) (s : Stream) → IsWithin (read h) s → IsWithin (read h) (open_one s)
+open_within : (h : Past) (s : Stream) → IsWithin h.read s → IsWithin h.read (open_one s)
 unfolding phase matched
 open_within h s w = record { start = w.start; passed = w.passed }
 
-opening_streams : (k : ℕ) (v : List (Option Held)) (h : List Event) (a : OpenState) → LeftStreams v h → LeftStreams (edit k (opened_held a) v) (opening_events k a ++ h)
+opening_streams : (k : ℕ) (v : List (Option Held)) (h : Past) (a : OpenState) → LeftStreams v h → LeftStreams (edit k (opened_held a) v) (after_all (opening_events k a) h)
 unfolding held_of held offered matched phase
 opening_streams k v h states.Unknown left = subst (λ qs. LeftStreams qs h) (sym (edit-none (opened_held states.Unknown) (λ q. refl) v k)) left
 opening_streams k v h states.NotYet left = subst (λ qs. LeftStreams qs h) (sym (edit-none (opened_held states.NotYet) (λ q. refl) v k)) left
 opening_streams k v h states.Open left = record {
-  queues = ap (edit k (opened_held states.Open)) left.queues ∙ sym (map_edit_all (held_of (capacities h).rules (read h)) open_one (opened_held states.Open) (streams h) k (open_held h));
-  within = (within_each h open_one (open_within h) (streams h) k left.within);
+  queues = ap (edit k (opened_held states.Open)) left.queues ∙ sym (map_edit_all (held_of h.capacities.rules h.read) open_one (opened_held states.Open) h.streams k (open_held h));
+  within = (within_each h open_one (open_within h) h.streams k left.within);
 }
 opening_streams k v h (states.Refused m) left = streams_ended k v h left
 opening_streams k v h (states.Over error) left = streams_ended k v h left
 
-left_told : (v : View) (sv : List (Option Held)) (k : ℕ) (h : List Event) (a : OpenState) → Left v h → LeftStreams sv (opening_events k a ++ h) → Left (record v { streams = sv }) (opening_events k a ++ h)
+left_told : (v : View) (sv : List (Option Held)) (k : ℕ) (h : Past) (a : OpenState) → Left v h → LeftStreams sv (after_all (opening_events k a) h) → Left (record v { streams = sv }) (after_all (opening_events k a) h)
 left_told v sv k h states.Unknown left after = left_idle v sv h left after
 left_told v sv k h states.NotYet left after = left_idle v sv h left after
 left_told v sv k h states.Open left after = left_did v sv v.main k Opened h left after left.main
 left_told v sv k h (states.Refused m) left after = left_did v sv v.main k Gone h left after left.main
 left_told v sv k h (states.Over error) left after = left_did v sv v.main k Gone h left after left.main
 
-pub left_opened : (v : View) (k : ℕ) (h : List Event) (a : OpenState) → Left v h → Left (record v { streams = edit k (opened_held a) v.streams }) (opening_events k a ++ h)
+pub left_opened : (v : View) (k : ℕ) (h : Past) (a : OpenState) → Left v h → Left (record v { streams = edit k (opened_held a) v.streams }) (after_all (opening_events k a) h)
 left_opened v k h a left = left_told v (edit k (opened_held a) v.streams) k h a left (opening_streams k v.streams h a left.streams)
 
-pub opening_so : (v : View) (k : ℕ) (h : List Event) → Left v h → held_opening (any_at v.streams k) v.calls.closing ≡ opening_answer h k
+pub opening_so : (v : View) (k : ℕ) (h : Past) → Left v h → held_opening (any_at v.streams k) v.calls.closing ≡ opening_answer h k
 opening_so v k h left = ap (held_opening (any_at v.streams k)) left.calls.closing ∙ opening_left v.streams h k left.streams
 
 -- ---- what opening gives
 
-none_by : (o : Option Error) → is_some o ≡ false → o ≡ None
-none_by None none = refl
-none_by (Some error) none = cc
-
-streams_len : (v : View) (h : List Event) → Left v h → length v.streams ≡ length (streams h)
-streams_len v h left = ap length left.streams.queues ∙ length-map (streams h) (held_of (capacities h).rules (read h))
-
 -- nothing closed the peer, and nothing of its own is on its way
-abbrev pub IsIdle : List Event → Type 0
-IsIdle h = (closing h ≡ None) × (in_flight h ≡ false)
+abbrev pub IsIdle : Past → Type 0
+IsIdle h = (h.closing ≡ None) × (in_flight h ≡ false)
 
-pub idle_so : (v : View) (h : List Event) → is_some v.calls.closing ≡ false → is_flying v.calls ≡ false → Left v h → IsIdle h
-idle_so v h open_ idle left = (sym left.calls.closing ∙ none_by v.calls.closing open_, sym (flying-left v.calls h left.calls) ∙ idle)
+pub idle_so : (v : View) (h : Past) → is_some v.calls.closing ≡ false → is_flying v.calls ≡ false → Left v h → IsIdle h
+idle_so v h open_ idle left = (sym left.calls.closing ∙ open_none v.calls.closing open_, sym (flying-left v.calls h left.calls) ∙ idle)
 
-pub opens_once : (v : View) (rule : Rule) (asked : Option ℕ) (sv : List (Option Held)) (number : ℕ) (h : List Event) → IsIdle h → asks_bus h rule ≡ false
+pub opens_once : (v : View) (rule : Rule) (asked : Option ℕ) (sv : List (Option Held)) (number : ℕ) (h : Past) → IsIdle h → asks_bus h rule ≡ false
     → number ≡ length v.streams → sv ≡ with_stream rule asked v.streams → Left v h
     → OpensRule v (record v { streams = sv }) rule asked h (Ok (opens.Open (record { number = number })))
 opens_once v rule asked sv number h idle none e new left =
-    let Q : List (Option Held) → Type 0 = λ qs. Left (record v { streams = qs }) (Made (Ruled rule asked) ∷ h) in
+    let Q : List (Option Held) → Type 0 = λ qs. Left (record v { streams = qs }) (after (Made (Ruled rule asked)) h) in
     (idle.0, idle.1, (none, e ∙ streams_len v h left, subst Q (sym new) (left_ruled v rule asked h left)))
 
 -- the message is the one that the history says
-message_so : (v : View) (rule : Rule) (serial : ℕ) (h : List Event) → Left v h → message_of (add_parcel v.name rule) serial ≡ add_message h rule serial
+message_so : (v : View) (rule : Rule) (serial : ℕ) (h : Past) → Left v h → message_of (add_parcel v.name rule) serial ≡ add_message h rule serial
 message_so v rule serial h left = ap (λ name. message_of (add_parcel name rule) serial) left.name
 
-pub opens_asking : (old new : View) (rule : Rule) (asked : Option ℕ) (o : Opening) (h : List Event) → IsIdle h → asks_bus h rule ≡ true → Asks old new rule asked o → Left old h
+pub opens_asking : (old new : View) (rule : Rule) (asked : Option ℕ) (o : Opening) (h : Past) → IsIdle h → asks_bus h rule ≡ true → Asks old new rule asked o → Left old h
     → OpensRule old new rule asked h (Ok (opens.Opening o))
 opens_asking old new rule asked o h idle asks a left =
     let p = add_parcel old.name rule in
     let m = message_of p o.serial in
     let is : m.serial ≡ o.serial = message_serial p o.serial in
     let free : waiting_serial old.calls m.serial ≡ false = ap (waiting_serial old.calls) is ∙ a.drawn.0.free in
-    let now : Left (asked_view old m m.serial rule asked) (Added m rule asked ∷ h) = left_added old m rule asked h left free in
-    let after : Left new (Added m rule asked ∷ h) =
-    subst (λ v. Left v (Added m rule asked ∷ h)) (ap (λ n. asked_view old m n rule asked) is ∙ sym (asks_view old new rule asked o a)) now in (
+    let now : Left (asked_view old m m.serial rule asked) (after (Added m rule asked) h) = left_added old m rule asked h left free in
+    let asked_now : Left new (after (Added m rule asked) h) =
+    subst (λ v. Left v (after (Added m rule asked) h)) (ap (λ n. asked_view old m n rule asked) is ∙ sym (asks_view old new rule asked o a)) now in (
       idle.0,
       idle.1,
       (
@@ -260,7 +223,7 @@ opens_asking old new rule asked o h idle asks a left =
         subst (λ (n : Seen). length n.bytes ≤ 134217728) (message_so old rule o.serial h left) a.short.1,
         a.number ∙ streams_len old h left,
         a.index ∙ ap length left.outbox,
-        subst (λ n. Left new (Added n rule asked ∷ h)) (message_so old rule o.serial h left) after,
+        subst (λ n. Left new (after (Added n rule asked) h)) (message_so old rule o.serial h left) asked_now,
       ),
     )
 
@@ -283,7 +246,7 @@ short_one : (p : Parcel) (serials : List ℕ) (v w : CallsView) (last end : ℕ)
 short_one p [] v w last end d short = absurd d
 short_one p (serial ∷ more) v w last end d short = (serial, d.0, short.0.1)
 
-pub opens_not : (old mid new : View) (rule : Rule) (asked : Option ℕ) (error : Error) (h : List Event) → IsIdle h → asks_bus h rule ≡ true
+pub opens_not : (old mid new : View) (rule : Rule) (asked : Option ℕ) (error : Error) (h : Past) → IsIdle h → asks_bus h rule ≡ true
     → new ≡ old → AsksFor old mid rule asked (Err error) → Left old h → OpensRule old new rule asked h (Err error)
 unfolding AllFit
 opens_not old mid new rule asked errors.SerialsSpent h idle asks same a left =
@@ -295,7 +258,7 @@ opens_not old mid new rule asked (errors.InputOutput kinds.WriteFault) h idle as
     let x = short_one (add_parcel old.name rule) a.0 old.calls mid.calls old.last mid.last a.1 a.2 in
     ((idle.0, idle.1, asks), (x.0, next_left old.calls old.last x.0 h left.calls left.last x.1, subst (λ (n : Seen). length n.bytes ≤ 134217728) (message_so old rule x.0 h left) x.2), sym left.writer ∙ a.3, same)
 opens_not old mid new rule asked (errors.InputOutput kinds.Closed) h idle asks same a left =
-    let shut_ : is_some (closing h) ≡ true = closed_shut h (sym left.writer ∙ a.3) in
+    let shut_ : is_some h.closing ≡ true = left.sound.shut (sym left.writer ∙ a.3) in
     absurd (false≢true (sym (ap is_some idle.0) ∙ shut_))
 opens_not old mid new rule asked errors.Memory h idle asks same a left = same
 opens_not old mid new rule asked other h idle asks same a left = absurd a

@@ -5,7 +5,7 @@ use Rattle.std.proofs.lemmas.Bool.{cases_Bool, eqb-true, eq-eqb, or_parts}
 use Rattle.wire_message.specs.Front.{Seen}
 use Rattle.wire_message.specs.declared.error.Error.{Error}
 use Rattle.wire_message.specs.declared.error.Error.TheVariants as errors
-use Rattle.peer_route.specs.History.{Event, Took, Spent, Call, read, closing, calls, bears, is_reply, is_serial, edit, spend}
+use Rattle.peer_route.specs.History.{Took, Spent, Call, bears, is_reply, is_serial, edit, spend, Past, after, past}
 use Rattle.peer_route.specs.Calls.{found, is_gone, is_nobodys, polled_by, polled_at, poll_answer, waits_with, pending}
 use Rattle.peer_route.specs.Laws.{IsPast}
 
@@ -49,20 +49,20 @@ past_own true inner some e = refl
 past_own false true some e = refl
 past_own false false some e = e
 
-past_call : (h : List Event) (m : Seen) (c : Call) → IsPast h m c → polled_at (read (Took m ∷ h)) (closing (Took m ∷ h)) (Some c) ≡ polled_at (read h) (closing h) (Some c)
+past_call : (h : Past) (m : Seen) (c : Call) → IsPast h m c → polled_at (after (Took m) h).read (after (Took m) h).closing (Some c) ≡ polled_at h.read h.closing (Some c)
 unfolding found
 past_call h m c (inl other) =
-    ap (λ f. if is_nobodys c then Err errors.UnknownHandle else polled_by f (closing h)) (find_other (bears c.serial) c.from (read h) m other)
+    ap (λ f. if is_nobodys c then Err errors.UnknownHandle else polled_by f h.closing) (find_other (bears c.serial) c.from h.read m other)
 past_call h m c (inr over) =
-    past_by (is_nobodys c) (found (read h) c) (found (read (Took m ∷ h)) c) (closing h) (past_own (is_gone c) c.inner (is_some (found (read h) c)) over) (λ r e. find_first (bears c.serial) c.from (read h) m r e)
+    past_by (is_nobodys c) (found h.read c) (found (after (Took m) h).read c) h.closing (past_own (is_gone c) c.inner (is_some (found h.read c)) over) (λ r e. find_first (bears c.serial) c.from h.read m r e)
 
-past_at : (h : List Event) (m : Seen) (o : Option Call) → IfSome o (IsPast h m) → polled_at (read (Took m ∷ h)) (closing (Took m ∷ h)) o ≡ polled_at (read h) (closing h) o
+past_at : (h : Past) (m : Seen) (o : Option Call) → IfSome o (IsPast h m) → polled_at (after (Took m) h).read (after (Took m) h).closing o ≡ polled_at h.read h.closing o
 past_at h m None past = refl
 past_at h m (Some c) past = past_call h m c past
 
-pub took_other : (h : List Event) (m : Seen) (k : ℕ) → IfSome (slice_get (calls h) k) (IsPast h m) → poll_answer (Took m ∷ h) k ≡ poll_answer h k
+pub took_other : (h : Past) (m : Seen) (k : ℕ) → IfSome (slice_get h.calls k) (IsPast h m) → poll_answer (after (Took m) h) k ≡ poll_answer h k
 unfolding poll_answer
-took_other h m k past = past_at h m (slice_get (calls h) k) past
+took_other h m k past = past_at h m (slice_get h.calls k) past
 
 -- ---- a message that comes late
 
@@ -88,23 +88,23 @@ bears_serial : (serial : ℕ) (m : Seen) → bears serial m ≡ true → is_seri
 unfolding bears
 bears_serial serial m e = both (is_reply m.kind) (is_serial m.reply_serial serial) e
 
-late_call : (h : List Event) (m : Seen) (serial : ℕ) (c : Call) → is_serial m.reply_serial serial ≡ true → waits_with (read h) serial c ≡ false → IsPast h m c
+late_call : (h : Past) (m : Seen) (serial : ℕ) (c : Call) → is_serial m.reply_serial serial ≡ true → waits_with h.read serial c ≡ false → IsPast h m c
 late_call h m serial c is waits = elim (cases_Bool (bears c.serial m)) [
-  | inl bears_it ↦ inr (over_by (is_gone c) (found (read h) c) (c.serial == serial) (eq-eqb c.serial serial (serial_one m.reply_serial c.serial serial (bears_serial c.serial m bears_it) is)) waits)
+  | inl bears_it ↦ inr (over_by (is_gone c) (found h.read c) (c.serial == serial) (eq-eqb c.serial serial (serial_one m.reply_serial c.serial serial (bears_serial c.serial m bears_it) is)) waits)
   | inr other ↦ inl other
 ]
 
-late_at : (h : List Event) (m : Seen) (serial : ℕ) (o : Option Call) → is_serial m.reply_serial serial ≡ true → IfSome o (λ c. waits_with (read h) serial c ≡ false) → IfSome o (IsPast h m)
+late_at : (h : Past) (m : Seen) (serial : ℕ) (o : Option Call) → is_serial m.reply_serial serial ≡ true → IfSome o (λ c. waits_with h.read serial c ≡ false) → IfSome o (IsPast h m)
 late_at h m serial None is waits = tt
 late_at h m serial (Some c) is waits = late_call h m serial c is waits
 
-none_waits : (h : List Event) (serial : ℕ) → closing h ≡ None → pending h serial ≡ false → list_any (waits_with (read h) serial) (calls h) ≡ false
+none_waits : (h : Past) (serial : ℕ) → h.closing ≡ None → pending h serial ≡ false → list_any (waits_with h.read serial) h.calls ≡ false
 unfolding pending
 none_waits h serial open_ e = rw open_ at e
 
-pub took_late : (h : List Event) (m : Seen) (serial : ℕ) → closing h ≡ None → is_serial m.reply_serial serial ≡ true → pending h serial ≡ false → (k : ℕ) → poll_answer (Took m ∷ h) k ≡ poll_answer h k
+pub took_late : (h : Past) (m : Seen) (serial : ℕ) → h.closing ≡ None → is_serial m.reply_serial serial ≡ true → pending h serial ≡ false → (k : ℕ) → poll_answer (after (Took m) h) k ≡ poll_answer h k
 took_late h m serial open_ is e k =
-    took_other h m k (late_at h m serial (slice_get (calls h) k) is (fails_at (waits_with (read h) serial) (calls h) k (none_waits h serial open_ e)))
+    took_other h m k (late_at h m serial (slice_get h.calls k) is (fails_at (waits_with h.read serial) h.calls k (none_waits h serial open_ e)))
 
 -- ---- a poll
 
@@ -115,11 +115,11 @@ edit_other zero (suc k) (c ∷ cs) ne = refl
 edit_other (suc j) zero (c ∷ cs) ne = refl
 edit_other (suc j) (suc k) (c ∷ cs) ne = edit_other j k cs (λ q. ne (ap suc q))
 
-spent_at : (h : List Event) (j : ℕ) (o : Option Call) → polled_at (read (Spent j ∷ h)) (closing (Spent j ∷ h)) o ≡ polled_at (read h) (closing h) o
+spent_at : (h : Past) (j : ℕ) (o : Option Call) → polled_at (after (Spent j) h).read (after (Spent j) h).closing o ≡ polled_at h.read h.closing o
 unfolding found
 spent_at h j None = refl
 spent_at h j (Some c) = refl
 
-pub spent_other : (h : List Event) (j k : ℕ) → j ≢ k → poll_answer (Spent j ∷ h) k ≡ poll_answer h k
+pub spent_other : (h : Past) (j k : ℕ) → j ≢ k → poll_answer (after (Spent j) h) k ≡ poll_answer h k
 unfolding poll_answer
-spent_other h j k ne = ap (polled_at (read (Spent j ∷ h)) (closing (Spent j ∷ h))) (edit_other j k (calls h) ne) ∙ spent_at h j (slice_get (calls h) k)
+spent_other h j k ne = ap (polled_at (after (Spent j) h).read (after (Spent j) h).closing) (edit_other j k h.calls ne) ∙ spent_at h j (slice_get h.calls k)

@@ -2,7 +2,7 @@
 use Rattle.std.proofs.Common.{◌≡◌, ◌≤◌, refl, ◌∙◌, ap, Bool, true, false, if◌then◌else◌, List, [], ◌∷◌, ◌++◌, length, drop}
 use Rattle.std.proofs.lemmas.List.{drop-append-le}
 use Rattle.wire_message.specs.Front.{Seen}
-use Rattle.peer_route.specs.History.{Event, Took, Call, bears, read, Stream, Start, Behind, OnReturn, Phase, Asking, Denied, Since, is_return, since_reply, phase_by, phase}
+use Rattle.peer_route.specs.History.{Took, Call, bears, Stream, Start, Behind, OnReturn, Phase, Asking, Denied, Since, is_return, since_reply, phase_by, phase, Past, after}
 use Rattle.peer_route.specs.Left.{start_count}
 
 -- a phase once the message came
@@ -25,10 +25,10 @@ step_by : (start : Start) (ms : List Seen) (m : Seen) → start_count start ≤ 
 step_by (Behind count) ms m le = ap (λ xs. Since xs) (drop-append-le count ms (m ∷ []) le)
 step_by (OnReturn add) ms m le = ap (since_reply add) (drop-append-le add.from ms (m ∷ []) le) ∙ since_snoc add (drop add.from ms) m
 
-pub phase_took : (m : Seen) (h : List Event) (s : Stream) → start_count s.start ≤ length (read h) → phase (read (Took m ∷ h)) s ≡ stepped m (phase (read h) s)
+pub phase_took : (m : Seen) (h : Past) (s : Stream) → start_count s.start ≤ length h.read → phase (after (Took m) h).read s ≡ stepped m (phase h.read s)
 unfolding phase
-phase_took m h s le = step_by s.start (read h) m le
+phase_took m h s le = step_by s.start h.read m le
 
-pub phase_same : (g h : List Event) (s : Stream) → read g ≡ read h → phase (read g) s ≡ phase (read h) s
+pub phase_same : (g h : Past) (s : Stream) → g.read ≡ h.read → phase g.read s ≡ phase h.read s
 unfolding phase
 phase_same g h s e = ap (λ (ms : List Seen). phase ms s) e

@@ -1,10 +1,11 @@
 -- Plain facts about lists: the first place that passes a test, one element changed, numbers that rise.
 use Rattle.std.proofs.Common.{inl, inr, get_or, ◌≡◌, ℕ, ◌+◌, ◌<◌, ◌≤◌, zero, suc, refl, sym, ◌∙◌, ap, arith, Bool, true, false, not, ◌||◌, cond, ltb, is_some, List, [], ◌∷◌, ◌++◌, length, map, Some, None}
-use Rattle.std.specs.List.{list_any, position, position_or_len}
+use Rattle.std.specs.List.{list_any, position, position_or_len, AllByRecursion}
 use Rattle.std.specs.Iterator.{Yields}
 use Rattle.std.specs.Vec.Iter.{into_iter_items, into_iter_steps}
 use Rattle.std.specs.declared.vec.IntoIter.{IntoIter}
 use Rattle.std.proofs.lemmas.Bool.{cases_lt, lt-ltb, le-ltb}
+use Rattle.peer_route.specs.Left.{Rising}
 
 -- a test of the images is a test of the elements
 pub list_any-map : {X Y : Type 0} (p : Y → Bool) (f : X → Y) (xs : List X) → list_any p (map f xs) ≡ list_any (λ x. p (f x)) xs
@@ -44,16 +45,10 @@ position-None p xs e = sym (is_some-position p xs) ∙ ap is_some e
 -- ---- numbers that rise
 
 abbrev pub Below : ℕ → List ℕ → Type 0
-Below n [] = Unit {0}
-Below n (x ∷ xs) = (x < n) × Below n xs
+Below n xs = AllByRecursion (λ (x : ℕ). x < n) xs
 
 abbrev pub After : ℕ → List ℕ → Type 0
-After n [] = Unit {0}
-After n (x ∷ xs) = (n < x) × After n xs
-
-abbrev pub Rising : List ℕ → Type 0
-Rising [] = Unit {0}
-Rising (x ∷ xs) = After x xs × Rising xs
+After n xs = AllByRecursion (λ (x : ℕ). n < x) xs
 
 pub Below-more : (n m : ℕ) (xs : List ℕ) → n ≤ m → Below n xs → Below m xs
 Below-more n m [] le b = tt

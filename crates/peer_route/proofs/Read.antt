@@ -6,26 +6,22 @@ use Rattle.wire_message.specs.declared.kind.MessageType.{MessageType}
 use Rattle.wire_message.specs.declared.kind.MessageType.TheVariants as types
 use Rattle.wire_message.specs.declared.error.Error.{Error}
 use Rattle.wire_message.specs.declared.error.Error.TheVariants as errors
-use Rattle.rule_match.specs.Rule.{Rule}
-use Rattle.rule_match.specs.Bytes.{rule_in_bytes}
-use Rattle.peer_route.specs.declared.writer.Writer.TheVariants as writers
-use Rattle.peer_route.specs.declared.writer.Writer.{Writer}
 use Rattle.peer_route.specs.declared.polled.Polled.{Polled}
 use Rattle.peer_route.specs.declared.polled.Polled.TheVariants as polled
-use Rattle.peer_route.specs.declared.words.Words.{Words}
-use Rattle.peer_route.specs.declared.words.Words.TheVariants as words
 use Rattle.peer_route.specs.declared.answer.Answer.{Answer}
 use Rattle.peer_route.specs.declared.answer.Answer.TheVariants as answers
 use Rattle.peer_route.specs.declared.answer.Entry.{Entry}
-use Rattle.peer_route.specs.History.{Event, Put, Wrote, Fault, Added, Removed, Did, Gone, Call, read, closing, calls, bears, writer}
+use Rattle.peer_route.specs.History.{Event, Call, read, closing, calls, bears, past}
 use Rattle.peer_route.specs.Calls.{found, is_nobodys, polled_by, polled_at, poll_answer}
-use Rattle.peer_route.specs.Streams.{busy}
-use Rattle.peer_route.specs.Parcel.{Setting, Asked}
-use Rattle.peer_route.specs.Trail.{Trail, place, trail, failed_put, send_events, read_events, poll_spends, drop_spends, stream_makes, take_does, clone_makes, unstream_does, queue_does, main_sets, second_place, events_of, queue_set, bus_set, first_events, open_makes, opened_does, close_does}
-use Rattle.peer_route.specs.Answers.{IsAnswer, IsReadOf, Legal, error_answer, reply_by, shown, poll_of}
+use Rattle.peer_route.specs.Parcel.{Setting}
+use Rattle.peer_route.specs.Trail.{Trail, place}
+use Rattle.peer_route.specs.Answers.{Legal, IsMeant, IsRead}
 use Rattle.peer_route.specs.Laws.{IsPoll, IsReplyAt, IsFirstReply, IsCutOff}
 use Rattle.peer_route.proofs.Once.{polled_is}
-use Rattle.peer_route.proofs.Tellings.{IsTelling, tellings_same, unstream_tellings}
+use Rattle.peer_route.specs.Entries.{trail, read_events, queue_set, bus_set, first_events, does}
+use Rattle.peer_route.specs.Shown.{error_answer, reply_by, shown}
+use Rattle.peer_route.specs.Plan.{poll_of, Closes, Plan, Reads, plan}
+use Rattle.peer_route.proofs.Plans.{IsFair, plan_fair, plan_silent}
 
 -- ---- positions
 
@@ -43,117 +39,19 @@ ranked_at n [] i m r at = cc
 ranked_at n (x ∷ ms) zero m r at = let same : x ≡ m = cc in subst (λ (y : Seen). y.position ≡ n + 0 + 1) same (let p : x.position ≡ n + 1 = r.0 in omega arith)
 ranked_at n (x ∷ ms) (suc i) m r at = let rest = ranked_at (n + 1) ms i m r.1 at in omega arith
 
-ranked_read : (h : List Event) (o : Option Error) (full : Bool) (a : Answer) → IsReadOf o full (length (read h)) a → Ranked 0 (read h) → Ranked 0 (read (read_events o a ++ h))
-ranked_read h (Some error) full a is r = subst (λ (x : Answer). Ranked 0 (read (read_events (Some error) x ++ h))) (sym is) r
-ranked_read h None true a is r = subst (λ (x : Answer). Ranked 0 (read (read_events None x ++ h))) (sym is) r
-ranked_read h None false (answers.Got m) is r = ranked_push 0 (read h) m r (let p : m.position ≡ length (read h) + 1 = is.1 in omega arith)
-ranked_read h None false (answers.Closed error) is r = r
-ranked_read h None false a is r = absurd is
+ranked_read : (h : List Event) (a : Answer) → IsRead (length (read h)) a → Ranked 0 (read h) → Ranked 0 (read (read_events a ++ h))
+ranked_read h (answers.Got m) is r = ranked_push 0 (read h) m r (let p : m.position ≡ length (read h) + 1 = is.1 in omega arith)
+ranked_read h (answers.Closed error) is r = r
+ranked_read h a is r = absurd is
 
-failed_read : (w : Writer) (h : List Event) (m : Seen) (expects : Bool) → read (failed_put w (Put m expects) ++ h) ≡ read h
-failed_read writers.Fine h m expects = refl
-failed_read writers.Failed h m expects = refl
-failed_read writers.Closed h m expects = refl
-
-pub send_read : (h : List Event) (asked : Asked) (a : Answer) → read (send_events h asked a ++ h) ≡ read h
-send_read h (Ok parcel) (answers.Called call serial) = refl
-send_read h (Ok parcel) (answers.Sent serial) = refl
-send_read h (Ok parcel) (answers.SendFailed error) = failed_read (writer h) h _ _
-send_read h (Ok parcel) a = refl
-send_read h (Err error) a = refl
-
-pub poll_read : (h : List Event) (p : Option ℕ) (a : Answer) → read (poll_spends p a ++ h) ≡ read h
-poll_read h None a = refl
-poll_read h (Some k) (answers.Reply position) = refl
-poll_read h (Some k) (answers.InvalidReply position) = refl
-poll_read h (Some k) (answers.MethodError m) = refl
-poll_read h (Some k) (answers.Closed error) = refl
-poll_read h (Some k) a = refl
-
-pub drop_read : (h : List Event) (p : Option ℕ) (a : Answer) → read (drop_spends p a ++ h) ≡ read h
-drop_read h None a = refl
-drop_read h (Some k) answers.Dropped = refl
-drop_read h (Some k) a = refl
-
-pub stream_read : (h : List Event) (a : Answer) → read (stream_makes a ++ h) ≡ read h
-stream_read h (answers.Streaming number) = refl
-stream_read h a = refl
-
-asked_read : (w : Writer) (h : List Event) (m : Seen) (rule : Rule) (asked : Option ℕ) → read (failed_put w (Added m rule asked) ++ h) ≡ read h
-asked_read writers.Fine h m rule asked = refl
-asked_read writers.Failed h m rule asked = refl
-asked_read writers.Closed h m rule asked = refl
-
-pub open_read : (h : List Event) (found : Result Rule Error) (asked : Option ℕ) (a : Answer) → read (open_makes h found asked a ++ h) ≡ read h
-open_read h (Ok rule) asked (answers.Streaming number) = refl
-open_read h (Ok rule) asked (answers.Opening number serial) = refl
-open_read h (Ok rule) asked (answers.SendFailed error) = asked_read (writer h) h _ rule asked
-open_read h (Ok rule) asked a = refl
-open_read h (Err error) asked a = refl
-
-pub opened_read : (h : List Event) (p : Option ℕ) (a : Answer) → read (opened_does p a ++ h) ≡ read h
-opened_read h None a = refl
-opened_read h (Some k) answers.Opened = refl
-opened_read h (Some k) (answers.MethodError m) = refl
-opened_read h (Some k) (answers.InvalidReply position) = refl
-opened_read h (Some k) (answers.Closed error) = refl
-opened_read h (Some k) a = refl
-
-pub close_read : (h : List Event) (a : Answer) → read (close_does a ++ h) ≡ read h
-close_read h answers.Shut = refl
-close_read h (answers.SendFailed error) = refl
+pub close_read : (h : List Event) (a : Answer) → read (does h Closes a ++ h) ≡ read h
+close_read h (answers.Refused error) = refl
 close_read h a = refl
 
-pub take_read : (h : List Event) (p : Option ℕ) (a : Answer) → read (take_does p a ++ h) ≡ read h
-take_read h None a = refl
-take_read h (Some k) (answers.Item position) = refl
-take_read h (Some k) (answers.Closed error) = refl
-take_read h (Some k) a = refl
-
-pub clone_read : (h : List Event) (p : Option ℕ) (a : Answer) → read (clone_makes p a ++ h) ≡ read h
-clone_read h None a = refl
-clone_read h (Some k) (answers.Streaming number) = refl
-clone_read h (Some k) a = refl
-
-telling_read : (e : Event) (h : List Event) → IsTelling e → read (e ∷ h) ≡ read h
-telling_read (Did k Gone) h is = refl
-telling_read (Removed m) h is = refl
-telling_read Wrote h is = refl
-telling_read Fault h is = refl
-telling_read e h is = absurd is
-
-pub unstream_read : (h : List Event) (p q : Option ℕ) (a : Answer) → read (unstream_does h p q a ++ h) ≡ read h
-unstream_read h p q a = tellings_same read telling_read (unstream_does h p q a) h (unstream_tellings h p q a)
-
-pub queue_read : (h : List Event) (p : Option ℕ) (limit : ℕ) (a : Answer) → read (queue_does p limit a ++ h) ≡ read h
-queue_read h None limit a = refl
-queue_read h (Some k) limit answers.Set = refl
-queue_read h (Some k) limit a = refl
-
-pub main_read : (h : List Event) (limit : ℕ) (a : Answer) → read (main_sets limit a ++ h) ≡ read h
-main_read h limit answers.Set = refl
-main_read h limit a = refl
-
-ranked_entry : (t : Trail) (lane : ℕ) (w : Words) (a : Answer) → IsAnswer t lane w a → Ranked 0 (read t.events) → Ranked 0 (read (events_of t lane w a ++ t.events))
-ranked_entry t lane (words.Call out) a is r = subst (Ranked 0) (sym (send_read t.events _ a)) r
-ranked_entry t lane (words.Signal out) a is r = subst (Ranked 0) (sym (send_read t.events _ a)) r
-ranked_entry t lane (words.Reply stream body) a is r = subst (Ranked 0) (sym (send_read t.events _ a)) r
-ranked_entry t lane (words.Error stream name body) a is r = subst (Ranked 0) (sym (send_read t.events _ a)) r
-ranked_entry t lane words.Read a is r = ranked_read t.events (closing t.events) (busy t.events) a is r
-ranked_entry t lane (words.Poll number) a is r = subst (Ranked 0) (sym (poll_read t.events (place 0 lane number t.names) a)) r
-ranked_entry t lane (words.Before number before) a is r = subst (Ranked 0) (sym (poll_read t.events (place 0 lane number t.names) a)) r
-ranked_entry t lane (words.Drop number) a is r = subst (Ranked 0) (sym (drop_read t.events (place 0 lane number t.names) a)) r
-ranked_entry t lane words.Stream a is r = subst (Ranked 0) (sym (stream_read t.events a)) r
-ranked_entry t lane (words.Open max_queued rule) a is r = subst (Ranked 0) (sym (open_read t.events (rule_in_bytes rule) max_queued a)) r
-ranked_entry t lane (words.Opened number) a is r = subst (Ranked 0) (sym (opened_read t.events (place 0 lane number t.streams) a)) r
-ranked_entry t lane (words.Take number) a is r = subst (Ranked 0) (sym (take_read t.events (place 0 lane number t.streams) a)) r
-ranked_entry t lane (words.TakeBefore number before) a is r = subst (Ranked 0) (sym (take_read t.events (place 0 lane number t.streams) a)) r
-ranked_entry t lane (words.Clone number) a is r = subst (Ranked 0) (sym (clone_read t.events (place 0 lane number t.streams) a)) r
-ranked_entry t lane (words.Unstream number second) a is r =
-    subst (Ranked 0) (sym (unstream_read t.events (place 0 lane number t.streams) (second_place lane second t.streams) a)) r
-ranked_entry t lane (words.Queue number limit) a is r = subst (Ranked 0) (sym (queue_read t.events (place 0 lane number t.streams) limit a)) r
-ranked_entry t lane (words.MainQueue limit) a is r = subst (Ranked 0) (sym (main_read t.events limit a)) r
-ranked_entry t lane words.Close a is r = subst (Ranked 0) (sym (close_read t.events a)) r
+ranked_plan : (t : Trail) (lane : ℕ) (p : Plan) (a : Answer) → IsFair p → IsMeant t lane p a → Ranked 0 (read t.events) → Ranked 0 (read (does t.events p a ++ t.events))
+ranked_plan t lane Reads a fair is r = ranked_read t.events a is r
+ranked_plan t lane Closes a fair is r = subst (Ranked 0) (sym (close_read t.events a)) r
+ranked_plan t lane p a fair is r = subst (Ranked 0) (sym (plan_silent t.events p a fair refl).read_same) r
 
 queue_unread : (queue : Option ℕ) → Ranked 0 (read (queue_set queue))
 queue_unread None = tt
@@ -169,7 +67,9 @@ ranked_first bus (Some name) queue = bus_unread bus queue
 
 ranked : (setting : Setting) (es : List Entry) → Legal setting es → Ranked 0 (read (trail setting es).events)
 ranked setting [] legal = ranked_first setting.bus setting.name setting.queue
-ranked setting (e ∷ es) legal = ranked_entry (trail setting es) e.lane e.words e.answer legal.0 (ranked setting es legal.1)
+ranked setting (e ∷ es) legal =
+    let t = trail setting es in
+    ranked_plan t e.lane (plan t e.lane e.words) e.answer (plan_fair t e.lane e.words) legal.0 (ranked setting es legal.1)
 
 -- a message that was read has the position of its place
 pub at_place : (setting : Setting) (es : List Entry) (i : ℕ) (m : Seen) → Legal setting es → slice_get (read (trail setting es).events) i ≡ Some m → m.position ≡ i + 1
@@ -269,7 +169,7 @@ first_by : (t : Trail) (lane number q : ℕ) (a : Answer) (p : Option ℕ) → R
 unfolding poll_answer found
 first_by t lane number q a None r named e is = absurd (subst (IsReplyAt q) e is)
 first_by t lane number q a (Some k) r named e is =
-    let now = reply_shown (poll_answer t.events k) q (subst (IsReplyAt q) e is) in
+    let now = reply_shown (poll_answer (past t.events) k) q (subst (IsReplyAt q) e is) in
     let c = now_call t.events (slice_get (calls t.events) k) now.0 now.1 in
     let at = stands (bears c.0.serial) c.0.from (read t.events) now.0 c.2 in
     let rank : now.0.position ≡ 0 + at.0 + 1 = ranked_at 0 (read t.events) at.0 now.0 r at.1 in
@@ -303,7 +203,7 @@ cut_by : (t : Trail) (lane number : ℕ) (error : Error) (p : Option ℕ) → pl
 unfolding poll_answer found
 cut_by t lane number error None named e = cc
 cut_by t lane number error (Some k) named e =
-    let c = closed_call t.events (slice_get (calls t.events) k) error (closed_shown (poll_answer t.events k) error e) in
+    let c = closed_call t.events (slice_get (calls t.events) k) error (closed_shown (poll_answer (past t.events) k) error e) in
     record {
       k = k;
       call = c.0;

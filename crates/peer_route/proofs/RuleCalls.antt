@@ -24,6 +24,7 @@ use Rattle.peer_route.specs.Bus.{fits_string, body_if, letter_about, PutsOwn}
 use Rattle.peer_route.specs.Left.{CallsView, View}
 use Rattle.peer_route.specs.Issuing.{is_deep, SomeLong}
 use Rattle.peer_route.specs.Placing.{made_call, Draws, Spends, PutsAll, issued_at, issued_from, messages_of}
+use Rattle.peer_route.proofs.BusMessages.{match_expects}
 
 -- ---- a text that is too long
 
@@ -71,12 +72,8 @@ letter_expects : (member : List ℕ) (rule : Rule) → expects (Ok (letter_about
 unfolding expects_reply
 letter_expects member rule = refl
 
-parcel_expects : (member : List ℕ) (name : Option (List ℕ)) (rule : Rule) → expects (Ok (match_parcel member name rule)) ≡ true
-unfolding expects_reply
-parcel_expects member name rule = refl
-
 same_expected : (member : List ℕ) (name : Option (List ℕ)) (rule : Rule) → expects (Ok (letter_about member rule)) ≡ expects (Ok (match_parcel member name rule))
-same_expected member name rule = letter_expects member rule ∙ sym (parcel_expects member name rule)
+same_expected member name rule = letter_expects member rule ∙ sym (match_expects member name rule)
 
 draws_about : (member : List ℕ) (name : Option (List ℕ)) (rules : List Rule) (serials : List ℕ) (v w : CallsView) (last end : ℕ) → Draws true v last (map (letter_about member) rules) serials w end
     → Draws true v last (map (match_parcel member name) rules) serials w end

@@ -1,28 +1,28 @@
 -- What was put is what the answers say was sent.
-use Rattle.std.proofs.Common.{◌≡◌, ◌≢◌, Result, inl, inr, ℕ, ◌+◌, refl, sym, ◌∙◌, ap, arith, Bool, true, false, List, [], ◌∷◌, ◌++◌, length, take, Option, Some, None, Ok, Err, append_assoc, append-nil, subst, length-append}
+use Rattle.std.proofs.Common.{◌≡◌, ◌≢◌, inl, inr, ℕ, ◌+◌, refl, sym, ◌∙◌, ap, arith, Bool, true, false, List, [], ◌∷◌, ◌++◌, length, take, Option, Some, None, Ok, Err, append_assoc, append-nil, subst, length-append}
 use Rattle.std.proofs.Math.Seq.{take-append_seam}
 use Rattle.wire_message.specs.Front.{Seen}
 use Rattle.wire_message.specs.declared.error.Error.{Error}
-use Rattle.peer_route.specs.declared.words.Words.{Words}
 use Rattle.peer_route.specs.declared.words.Words.TheVariants as words
 use Rattle.peer_route.specs.declared.answer.Answer.{Answer}
 use Rattle.peer_route.specs.declared.answer.Answer.TheVariants as answers
 use Rattle.peer_route.specs.declared.answer.Entry.{Entry}
 use Rattle.peer_route.specs.declared.writer.Writer.{Writer}
 use Rattle.peer_route.specs.declared.writer.Writer.TheVariants as writers
-use Rattle.peer_route.specs.History.{Event, Did, Gone, closing, put, written, is_failed, writer}
-use Rattle.peer_route.specs.Calls.{in_flight}
-use Rattle.peer_route.specs.Streams.{asks_bus, leaving, close_waits, gone_then}
+use Rattle.peer_route.specs.History.{Event, Did, Gone, put, written, is_failed, writer, past}
+use Rattle.peer_route.specs.Streams.{leaving, gone_then}
 use Rattle.peer_route.specs.BusCall.{add_message, remove_message, some_rules}
 use Rattle.peer_route.proofs.Writers.{fine_unfailed, writer_stays, shut_writer}
 use Rattle.peer_route.specs.Parcel.{Setting, Parcel, Asked, message_of}
-use Rattle.peer_route.specs.Trail.{Trail, place, trail, send_events, read_events, poll_spends, drop_spends, stream_makes, open_makes, opened_does, take_does, clone_makes, removal, wrote_each, fault_each, wrote_first, leave_with, unstream_does, queue_does, main_sets, close_does, second_place, events_of, queue_set, bus_set, first_events, next_serial, or_zero}
+use Rattle.peer_route.specs.Trail.{Trail, next_serial, or_zero, count}
 use Rattle.rule_match.specs.Rule.{Rule}
-use Rattle.rule_match.specs.Bytes.{rule_in_bytes}
-use Rattle.peer_route.specs.Answers.{IsAnswer, IsClose, IsCalled, IsSendOf, IsNewOf, IsRuleOf, IsOpenOf, tell_refusal, WentOut, IsToldBy, IsTold, IsLeaveBy, IsLeaveAt, IsLeaveOf, are_open_at, Legal, sent_answer}
-use Rattle.peer_route.specs.StreamLaws.{sent_of, sent_by, asked_by, tellings, first_one, told_by, sent_in, all_sent, IsPutOf}
+use Rattle.peer_route.specs.Answers.{IsAnswer, IsClose, IsCalled, IsSendOf, tell_refusal, WentOut, IsToldBy, IsTold, Legal, sent_answer, IsAskOf, IsMeant}
+use Rattle.peer_route.specs.StreamLaws.{sent_of, asked_by, tellings, first_one, told_by, sent_in, all_sent, IsPutOf}
 use Rattle.peer_route.proofs.Written.{written_sent}
 use Rattle.peer_route.proofs.Tellings.{wrote_all_put, fault_all_put, first_all_put, wrote_all_failed, fault_all_failed, first_all_failed}
+use Rattle.peer_route.specs.Entries.{trail, send_events, read_events, removal, wrote_each, fault_each, wrote_first, leave_with, events_of, queue_set, bus_set, first_events, add_events, does, leave_events, more}
+use Rattle.peer_route.specs.Plan.{Adds, Closes, Leaves, Plan, Reads, Says, Sends, plan}
+use Rattle.peer_route.proofs.Plans.{IsFair, Unmoved, plan_fair, said_keeps}
 
 -- what was put, where its order alone is looked at: what was sent, and after a failed write a message behind it
 abbrev IsPutBy : Bool → List Seen → List Seen → Type 0
@@ -37,66 +37,22 @@ record SendsNone (g h : List Event) : Type 0 where
 none_sent : (g h : List Event) (sent : List Seen) → SendsNone g h → IsPutBy (is_failed h) (put h) sent → IsPutBy (is_failed g) (put g) (sent ++ [])
 none_sent g h sent n p = rw (n.failed_same, n.put_same, append-nil sent) p
 
-read_none : (o : Option Error) (a : Answer) (h : List Event) → SendsNone (read_events o a ++ h) h
-read_none (Some error) a h = record { put_same = refl; failed_same = refl }
-read_none None (answers.Got m) h = record { put_same = refl; failed_same = refl }
-read_none None (answers.Closed error) h = record { put_same = refl; failed_same = refl }
-read_none None a h = record { put_same = refl; failed_same = refl }
+unmoved_none : (g h : List Event) → Unmoved g h → SendsNone g h
+unmoved_none g h u = record { put_same = ap (λ o. o.put) u.outbox_same; failed_same = ap (λ o. o.failed) u.outbox_same }
 
-poll_none : (p : Option ℕ) (a : Answer) (h : List Event) → SendsNone (poll_spends p a ++ h) h
-poll_none None a h = record { put_same = refl; failed_same = refl }
-poll_none (Some j) (answers.Reply position) h = record { put_same = refl; failed_same = refl }
-poll_none (Some j) (answers.InvalidReply position) h = record { put_same = refl; failed_same = refl }
-poll_none (Some j) (answers.MethodError m) h = record { put_same = refl; failed_same = refl }
-poll_none (Some j) (answers.Closed error) h = record { put_same = refl; failed_same = refl }
-poll_none (Some j) a h = record { put_same = refl; failed_same = refl }
+read_none : (a : Answer) (h : List Event) → SendsNone (read_events a ++ h) h
+read_none (answers.Got m) h = record { put_same = refl; failed_same = refl }
+read_none (answers.Closed error) h = record { put_same = refl; failed_same = refl }
+read_none a h = record { put_same = refl; failed_same = refl }
 
-drop_none : (p : Option ℕ) (a : Answer) (h : List Event) → SendsNone (drop_spends p a ++ h) h
-drop_none None a h = record { put_same = refl; failed_same = refl }
-drop_none (Some j) answers.Dropped h = record { put_same = refl; failed_same = refl }
-drop_none (Some j) a h = record { put_same = refl; failed_same = refl }
-
-stream_none : (a : Answer) (h : List Event) → SendsNone (stream_makes a ++ h) h
-stream_none (answers.Streaming number) h = record { put_same = refl; failed_same = refl }
-stream_none a h = record { put_same = refl; failed_same = refl }
-
-opened_none : (p : Option ℕ) (a : Answer) (h : List Event) → SendsNone (opened_does p a ++ h) h
-opened_none None a h = record { put_same = refl; failed_same = refl }
-opened_none (Some j) answers.Opened h = record { put_same = refl; failed_same = refl }
-opened_none (Some j) (answers.MethodError m) h = record { put_same = refl; failed_same = refl }
-opened_none (Some j) (answers.InvalidReply position) h = record { put_same = refl; failed_same = refl }
-opened_none (Some j) (answers.Closed error) h = record { put_same = refl; failed_same = refl }
-opened_none (Some j) a h = record { put_same = refl; failed_same = refl }
-
-close_none : (a : Answer) (h : List Event) → SendsNone (close_does a ++ h) h
-close_none answers.Shut h = record { put_same = refl; failed_same = refl }
-close_none (answers.SendFailed error) h = record { put_same = refl; failed_same = refl }
+close_none : (a : Answer) (h : List Event) → SendsNone (does h Closes a ++ h) h
+close_none (answers.Refused error) h = record { put_same = refl; failed_same = refl }
 close_none a h = record { put_same = refl; failed_same = refl }
-
-take_none : (p : Option ℕ) (a : Answer) (h : List Event) → SendsNone (take_does p a ++ h) h
-take_none None a h = record { put_same = refl; failed_same = refl }
-take_none (Some j) (answers.Item position) h = record { put_same = refl; failed_same = refl }
-take_none (Some j) (answers.Closed error) h = record { put_same = refl; failed_same = refl }
-take_none (Some j) a h = record { put_same = refl; failed_same = refl }
-
-clone_none : (p : Option ℕ) (a : Answer) (h : List Event) → SendsNone (clone_makes p a ++ h) h
-clone_none None a h = record { put_same = refl; failed_same = refl }
-clone_none (Some j) (answers.Streaming number) h = record { put_same = refl; failed_same = refl }
-clone_none (Some j) a h = record { put_same = refl; failed_same = refl }
 
 -- streams that are closed alone
 gone_none : (k : ℕ) (j : Option ℕ) (h : List Event) → SendsNone (gone_then j (Did k Gone ∷ []) ++ h) h
 gone_none k None h = record { put_same = refl; failed_same = refl }
 gone_none k (Some j) h = record { put_same = refl; failed_same = refl }
-
-queue_none : (p : Option ℕ) (limit : ℕ) (a : Answer) (h : List Event) → SendsNone (queue_does p limit a ++ h) h
-queue_none None limit a h = record { put_same = refl; failed_same = refl }
-queue_none (Some j) limit answers.Set h = record { put_same = refl; failed_same = refl }
-queue_none (Some j) limit a h = record { put_same = refl; failed_same = refl }
-
-main_none : (limit : ℕ) (a : Answer) (h : List Event) → SendsNone (main_sets limit a ++ h) h
-main_none limit answers.Set h = record { put_same = refl; failed_same = refl }
-main_none limit a h = record { put_same = refl; failed_same = refl }
 
 -- a message that went out
 put_sent_now : (h : List Event) (parcel : Parcel) (expects : Bool) (call serial : ℕ) (sent : List Seen) → is_failed h ≡ false → put h ≡ sent
@@ -122,7 +78,7 @@ sent_parcel h parcel None writers.Fine expects call serial a sent f (inr is) p =
 
 -- and where there was none
 sent_asked : (t : Trail) (lane : ℕ) (asked : Asked) (a : Answer) (sent : List Seen) → IsSendOf t lane asked a → IsPutBy (is_failed t.events) (put t.events) sent
-    → IsPutBy (is_failed (send_events t.events asked a ++ t.events)) (put (send_events t.events asked a ++ t.events)) (sent ++ sent_by (Some asked) a)
+    → IsPutBy (is_failed (send_events t.events asked a ++ t.events)) (put (send_events t.events asked a ++ t.events)) (sent ++ sent_of asked a)
 sent_asked t lane (Ok parcel) a sent is p = sent_parcel t.events parcel _ (writer t.events) _ _ _ a sent refl is p
 sent_asked t lane (Err error) a sent is p = subst (λ ms. IsPutBy (is_failed t.events) (put t.events) ms) (sym (append-nil sent)) p
 
@@ -131,34 +87,18 @@ sent_asked t lane (Err error) a sent is p = subst (λ ms. IsPutBy (is_failed t.e
 -- an AddMatch that went out, failed or was refused
 asks_parcel : (h : List Event) (rule : Rule) (asked : Option ℕ) (r : Option Error) (w : Writer) (number serial : ℕ) (a : Answer) (sent : List Seen) → writer h ≡ w
     → IsCalled r w (answers.Opening number serial) a → IsPutBy (is_failed h) (put h) sent
-    → IsPutBy (is_failed (open_makes h (Ok rule) asked a ++ h)) (put (open_makes h (Ok rule) asked a ++ h)) (sent ++ asked_by h (Ok rule) a)
+    → IsPutBy (is_failed (add_events h rule asked a ++ h)) (put (add_events h rule asked a ++ h)) (sent ++ asked_by h rule a)
 asks_parcel h rule asked (Some error) w number serial a sent f is p = rw is (rw (append-nil sent) p)
 asks_parcel h rule asked None writers.Failed number serial a sent f is p = rw (is, f) (rw (append-nil sent) p)
 asks_parcel h rule asked None writers.Closed number serial a sent f is p = rw (is, f) (rw (append-nil sent) p)
 asks_parcel h rule asked None writers.Fine number serial a sent f (inl is) p =
     let unfailed = fine_unfailed h f in
     let same : put h ≡ sent = subst (λ b. IsPutBy b (put h) sent) unfailed p in
-    rw (is, unfailed) (ap (λ ms. ms ++ add_message h rule serial ∷ []) same)
+    rw (is, unfailed) (ap (λ ms. ms ++ add_message (past h) rule serial ∷ []) same)
 asks_parcel h rule asked None writers.Fine number serial a sent f (inr is) p =
-    let m = add_message h rule (or_zero (next_serial h)) in
+    let m = add_message (past h) rule (or_zero (next_serial h)) in
     let same : put h ≡ sent = subst (λ b. IsPutBy b (put h) sent) (fine_unfailed h f) p in
     rw (is, f) (m, [], ap (λ ms. ms ++ m ∷ []) (same ∙ sym (append-nil sent)))
-
-sent_new : (t : Trail) (lane : ℕ) (rule : Rule) (asked : Option ℕ) (asks : Bool) (a : Answer) (sent : List Seen) → IsNewOf t lane rule asks a → IsPutBy (is_failed t.events) (put t.events) sent
-    → IsPutBy (is_failed (open_makes t.events (Ok rule) asked a ++ t.events)) (put (open_makes t.events (Ok rule) asked a ++ t.events)) (sent ++ asked_by t.events (Ok rule) a)
-sent_new t lane rule asked true a sent is p = asks_parcel t.events rule asked _ (writer t.events) _ _ a sent refl is p
-sent_new t lane rule asked false a sent is p = rw is (rw (append-nil sent) p)
-
-sent_rule : (t : Trail) (lane : ℕ) (rule : Rule) (asked : Option ℕ) (o : Option Error) (flies : Bool) (a : Answer) (sent : List Seen) → IsRuleOf t lane rule o flies a → IsPutBy (is_failed t.events) (put t.events) sent
-    → IsPutBy (is_failed (open_makes t.events (Ok rule) asked a ++ t.events)) (put (open_makes t.events (Ok rule) asked a ++ t.events)) (sent ++ asked_by t.events (Ok rule) a)
-sent_rule t lane rule asked (Some error) flies a sent is p = rw is (rw (append-nil sent) p)
-sent_rule t lane rule asked None true a sent is p = rw is (rw (append-nil sent) p)
-sent_rule t lane rule asked None false a sent is p = sent_new t lane rule asked (asks_bus t.events rule) a sent is p
-
-sent_open : (t : Trail) (lane : ℕ) (found : Result Rule Error) (asked : Option ℕ) (a : Answer) (sent : List Seen) → IsOpenOf t lane found a → IsPutBy (is_failed t.events) (put t.events) sent
-    → IsPutBy (is_failed (open_makes t.events found asked a ++ t.events)) (put (open_makes t.events found asked a ++ t.events)) (sent ++ asked_by t.events found a)
-sent_open t lane (Ok rule) asked a sent is p = sent_rule t lane rule asked (closing t.events) (in_flight t.events) a sent is p
-sent_open t lane (Err error) asked a sent is p = rw (append-nil sent) p
 
 -- ---- streams that are closed
 
@@ -186,21 +126,21 @@ gone_writer k (Some j) h = refl
 -- what was put by the entry's answer
 abbrev LeavePuts : List Event → ℕ → Option ℕ → Answer → List Seen → Type 0
 LeavePuts h k j a sent =
-    IsPutBy (is_failed (unstream_does h (Some k) j a ++ h)) (put (unstream_does h (Some k) j a ++ h)) (sent ++ told_by h (Some k) j a)
+    IsPutBy (is_failed (leave_events h k j a ++ h)) (put (leave_events h k j a ++ h)) (sent ++ told_by h k j a)
 
 untold_put : (h : List Event) (k : ℕ) (j : Option ℕ) (error : Error) (a : Answer) (sent : List Seen) → a ≡ answers.Untold error → IsPutBy (is_failed h) (put h) sent → LeavePuts h k j a sent
 untold_put h k j error a sent is p = let n = gone_none k j h in subst (λ x. LeavePuts h k j x sent) (sym is) (none_sent _ h sent n p)
 
 -- where there are rules, and the peer writes
-out_put : (h : List Event) (k : ℕ) (j : Option ℕ) (rule : Rule) (more : List Rule) (a : Answer) (sent : List Seen) → leaving h k j ≡ rule ∷ more → writer h ≡ writers.Fine
+out_put : (h : List Event) (k : ℕ) (j : Option ℕ) (rule : Rule) (more : List Rule) (a : Answer) (sent : List Seen) → leaving (past h) k j ≡ rule ∷ more → writer h ≡ writers.Fine
     → WentOut (gone_then j (Did k Gone ∷ h)) (rule ∷ more) a → IsPutBy (is_failed h) (put h) sent → LeavePuts h k j a sent
 out_put h k j rule more a sent e fine (inl is) p =
     subst (λ x. LeavePuts h k j x sent) (sym is)
-    (put_more (is_failed h) (is_failed (leave_with wrote_each h k j ++ h)) (put h) (put (leave_with wrote_each h k j ++ h)) (tellings (gone_then j (Did k Gone ∷ h)) (leaving h k j)) sent
+    (put_more (is_failed h) (is_failed (leave_with wrote_each h k j ++ h)) (put h) (put (leave_with wrote_each h k j ++ h)) (tellings (gone_then j (Did k Gone ∷ h)) (leaving (past h) k j)) sent
     (wrote_all_failed h k j) (wrote_all_put h k j) (fine_unfailed h fine) p)
 out_put h k j rule more a sent e fine (inr (inl is)) p =
     let g = gone_then j (Did k Gone ∷ h) in
-    let m = remove_message g rule (or_zero (next_serial g)) in
+    let m = remove_message (past g) rule (or_zero (next_serial g)) in
     subst (λ x. LeavePuts h k j x sent) (sym is)
     (put_fault (is_failed h) (is_failed (leave_with fault_each h k j ++ h)) (put h) (put (leave_with fault_each h k j ++ h)) [] [] (tellings (removal g rule ∷ g) more) sent m
     (fault_all_failed h k j (ap some_rules e)) (fault_all_put h k j ∙ ap (λ rs. put h ++ tellings g rs) e) refl (fine_unfailed h fine) p)
@@ -208,73 +148,41 @@ out_put h k j rule [] a sent e fine (inr (inr is)) p = let some : false ≡ true
 out_put h k j rule (second ∷ more) a sent e fine (inr (inr is)) p =
     let g = gone_then j (Did k Gone ∷ h) in
     let f = removal g rule ∷ g in
-    let first = remove_message g rule (or_zero (next_serial g)) in
-    let m = remove_message f second (or_zero (next_serial f)) in
+    let first = remove_message (past g) rule (or_zero (next_serial g)) in
+    let m = remove_message (past f) second (or_zero (next_serial f)) in
     subst (λ x. LeavePuts h k j x sent) (sym is.1)
-    (put_fault (is_failed h) (is_failed (leave_with wrote_first h k j ++ h)) (put h) (put (leave_with wrote_first h k j ++ h)) (first_one (tellings g (leaving h k j))) (first ∷ [])
+    (put_fault (is_failed h) (is_failed (leave_with wrote_first h k j ++ h)) (put h) (put (leave_with wrote_first h k j ++ h)) (first_one (tellings g (leaving (past h) k j))) (first ∷ [])
     (tellings (removal f second ∷ f) more) sent m (first_all_failed h k j rule (second ∷ more) e refl)
     (first_all_put h k j ∙ ap (λ rs. put h ++ tellings g rs) e) (ap (λ rs. first_one (tellings g rs)) e) (fine_unfailed h fine) p)
 
-told_put_by : (h : List Event) (k : ℕ) (j : Option ℕ) (r : Option Error) (w : Writer) (rule : Rule) (more : List Rule) (a : Answer) (sent : List Seen) → leaving h k j ≡ rule ∷ more → writer h ≡ w
+told_put_by : (h : List Event) (k : ℕ) (j : Option ℕ) (r : Option Error) (w : Writer) (rule : Rule) (more : List Rule) (a : Answer) (sent : List Seen) → leaving (past h) k j ≡ rule ∷ more → writer h ≡ w
     → IsToldBy r w (gone_then j (Did k Gone ∷ h)) (rule ∷ more) a → IsPutBy (is_failed h) (put h) sent → LeavePuts h k j a sent
 told_put_by h k j (Some error) w rule more a sent e f is p = untold_put h k j error a sent is p
 told_put_by h k j None writers.Failed rule more a sent e f is p = untold_put h k j _ a sent is p
 told_put_by h k j None writers.Closed rule more a sent e f is p = untold_put h k j _ a sent is p
 told_put_by h k j None writers.Fine rule more a sent e f is p = out_put h k j rule more a sent e f is p
 
-told_put : (h : List Event) (k : ℕ) (j : Option ℕ) (rules : List Rule) (a : Answer) (sent : List Seen) → leaving h k j ≡ rules → IsTold (gone_then j (Did k Gone ∷ h)) rules a
+told_put : (h : List Event) (k : ℕ) (j : Option ℕ) (rules : List Rule) (a : Answer) (sent : List Seen) → leaving (past h) k j ≡ rules → IsTold (gone_then j (Did k Gone ∷ h)) rules a
     → IsPutBy (is_failed h) (put h) sent → LeavePuts h k j a sent
 told_put h k j [] a sent e is p =
     let g = gone_then j (Did k Gone ∷ h) in
     subst (λ x. LeavePuts h k j x sent) (sym is)
-    (put_none (is_failed h) (is_failed (leave_with wrote_each h k j ++ h)) (put h) (put (leave_with wrote_each h k j ++ h)) (tellings g (leaving h k j)) sent
+    (put_none (is_failed h) (is_failed (leave_with wrote_each h k j ++ h)) (put h) (put (leave_with wrote_each h k j ++ h)) (tellings g (leaving (past h) k j)) sent
     (wrote_all_failed h k j) (wrote_all_put h k j ∙ ap (λ rs. put h ++ tellings g rs) e ∙ append-nil (put h)) (ap (tellings g) e) p)
 told_put h k j (rule ∷ more) a sent e is p =
     let g = gone_then j (Did k Gone ∷ h) in
     told_put_by h k j (tell_refusal g (rule ∷ more)) (writer g) rule more a sent e (sym (gone_writer k j h)) is p
 
-sent_leave_by : (h : List Event) (k : ℕ) (j : Option ℕ) (waits : Bool) (a : Answer) (sent : List Seen) → IsLeaveBy waits h k j a → IsPutBy (is_failed h) (put h) sent → LeavePuts h k j a sent
-sent_leave_by h k j true a sent is p = subst (λ x. LeavePuts h k j x sent) (sym is) (rw (append-nil sent) p)
-sent_leave_by h k j false a sent is p = told_put h k j (leaving h k j) a sent refl is p
-
-sent_leave_at : (h : List Event) (o j : Option ℕ) (a : Answer) (sent : List Seen) → IsLeaveAt h o j a → IsPutBy (is_failed h) (put h) sent
-    → IsPutBy (is_failed (unstream_does h o j a ++ h)) (put (unstream_does h o j a ++ h)) (sent ++ told_by h o j a)
-sent_leave_at h None j a sent is p = rw (append-nil sent) p
-sent_leave_at h (Some k) j a sent is p = sent_leave_by h k j (close_waits h k j) a sent is p
-
-unknown_put : (h : List Event) (o j : Option ℕ) (error : Error) (sent : List Seen) → IsPutBy (is_failed h) (put h) sent
-    → IsPutBy (is_failed (unstream_does h o j (answers.Refused error) ++ h)) (put (unstream_does h o j (answers.Refused error) ++ h)) (sent ++ told_by h o j (answers.Refused error))
-unknown_put h None j error sent p = rw (append-nil sent) p
-unknown_put h (Some k) j error sent p = rw (append-nil sent) p
-
-sent_leave : (h : List Event) (there : Bool) (o j : Option ℕ) (a : Answer) (sent : List Seen) → IsLeaveOf there h o j a → IsPutBy (is_failed h) (put h) sent
-    → IsPutBy (is_failed (unstream_does h o j a ++ h)) (put (unstream_does h o j a ++ h)) (sent ++ told_by h o j a)
-sent_leave h true o j a sent is p = sent_leave_at h o j a sent is p
-sent_leave h false o j a sent is p = rw is (unknown_put h o j _ sent p)
-
 -- ---- every entry
 
-sent_step : (t : Trail) (lane : ℕ) (w : Words) (a : Answer) (sent : List Seen) → IsAnswer t lane w a → IsPutBy (is_failed t.events) (put t.events) sent
-    → IsPutBy (is_failed (events_of t lane w a ++ t.events)) (put (events_of t lane w a ++ t.events)) (sent ++ sent_in t lane w a)
-sent_step t lane (words.Call out) a sent is p = sent_asked t lane _ a sent is p
-sent_step t lane (words.Signal out) a sent is p = sent_asked t lane _ a sent is p
-sent_step t lane (words.Reply stream body) a sent is p = sent_asked t lane _ a sent is p
-sent_step t lane (words.Error stream name body) a sent is p = sent_asked t lane _ a sent is p
-sent_step t lane words.Read a sent is p = none_sent _ t.events sent (read_none (closing t.events) a t.events) p
-sent_step t lane (words.Poll n) a sent is p = none_sent _ t.events sent (poll_none (place 0 lane n t.names) a t.events) p
-sent_step t lane (words.Before n before) a sent is p = none_sent _ t.events sent (poll_none (place 0 lane n t.names) a t.events) p
-sent_step t lane (words.Drop n) a sent is p = none_sent _ t.events sent (drop_none (place 0 lane n t.names) a t.events) p
-sent_step t lane words.Stream a sent is p = none_sent _ t.events sent (stream_none a t.events) p
-sent_step t lane (words.Open max_queued rule) a sent is p = sent_open t lane (rule_in_bytes rule) max_queued a sent is p
-sent_step t lane (words.Opened n) a sent is p = none_sent _ t.events sent (opened_none (place 0 lane n t.streams) a t.events) p
-sent_step t lane (words.Take n) a sent is p = none_sent _ t.events sent (take_none (place 0 lane n t.streams) a t.events) p
-sent_step t lane (words.TakeBefore n before) a sent is p = none_sent _ t.events sent (take_none (place 0 lane n t.streams) a t.events) p
-sent_step t lane (words.Clone n) a sent is p = none_sent _ t.events sent (clone_none (place 0 lane n t.streams) a t.events) p
-sent_step t lane (words.Unstream n second) a sent is p =
-    sent_leave t.events (are_open_at t.events lane t.streams n second) (place 0 lane n t.streams) (second_place lane second t.streams) a sent is p
-sent_step t lane (words.Queue n limit) a sent is p = none_sent _ t.events sent (queue_none (place 0 lane n t.streams) limit a t.events) p
-sent_step t lane (words.MainQueue limit) a sent is p = none_sent _ t.events sent (main_none limit a t.events) p
-sent_step t lane words.Close a sent is p = none_sent _ t.events sent (close_none a t.events) p
+plan_sent : (t : Trail) (lane : ℕ) (p : Plan) (a : Answer) (sent : List Seen) → IsFair p → IsMeant t lane p a → IsPutBy (is_failed t.events) (put t.events) sent
+    → IsPutBy (is_failed (does t.events p a ++ t.events)) (put (does t.events p a ++ t.events)) (sent ++ sent_in t.events p a)
+plan_sent t lane (Says answer deeds) a sent fair is b = none_sent _ t.events sent (unmoved_none _ t.events (said_keeps a deeds t.events fair.only)) b
+plan_sent t lane (Sends asked) a sent fair is b = sent_asked t lane asked a sent is b
+plan_sent t lane (Adds rule asked) a sent fair is b = asks_parcel t.events rule asked _ (writer t.events) _ _ a sent refl is b
+plan_sent t lane (Leaves k j) a sent fair is b = told_put t.events k j (leaving (past t.events) k j) a sent refl is b
+plan_sent t lane Reads a sent fair is b = none_sent _ t.events sent (read_none a t.events) b
+plan_sent t lane Closes a sent fair is b = none_sent _ t.events sent (close_none a t.events) b
 
 -- entries keep what the peer was given at its start
 pub trail_setting : (setting : Setting) (es : List Entry) → (trail setting es).setting ≡ setting
@@ -295,7 +203,9 @@ sent_first bus (Some name) queue = sent_bus bus queue
 
 put_by : (setting : Setting) (es : List Entry) → Legal setting es → IsPutBy (is_failed (trail setting es).events) (put (trail setting es).events) (all_sent setting es)
 put_by setting [] legal = sent_first setting.bus setting.name setting.queue
-put_by setting (e ∷ es) legal = sent_step (trail setting es) e.lane e.words e.answer (all_sent setting es) legal.0 (put_by setting es legal.1)
+put_by setting (e ∷ es) legal =
+    let t = trail setting es in
+    plan_sent t e.lane (plan t e.lane e.words) e.answer (all_sent setting es) (plan_fair t e.lane e.words) legal.0 (put_by setting es legal.1)
 
 counted : (failed : Bool) (count : ℕ) (put sent : List Seen) → count ≡ length sent → IsPutBy failed put sent → IsPutOf failed count put sent
 counted false count put sent c p = (c ∙ ap length (sym p), sym p)
@@ -326,43 +236,31 @@ stuck_asked t lane (Err error) a ne is = record { put_same = refl; failed_same =
 
 -- no AddMatch is put
 stuck_add : (h : List Event) (rule : Rule) (asked : Option ℕ) (r : Option Error) (w : Writer) (number serial : ℕ) (a : Answer) → writer h ≡ w → w ≢ writers.Fine
-    → IsCalled r w (answers.Opening number serial) a → open_makes h (Ok rule) asked a ≡ []
+    → IsCalled r w (answers.Opening number serial) a → add_events h rule asked a ≡ []
 stuck_add h rule asked (Some error) w number serial a f ne is = rw is refl
 stuck_add h rule asked None writers.Fine number serial a f ne is = absurd (ne refl)
 stuck_add h rule asked None writers.Failed number serial a f ne is = rw (is, f) refl
 stuck_add h rule asked None writers.Closed number serial a f ne is = rw (is, f) refl
 
-stuck_new : (t : Trail) (lane : ℕ) (rule : Rule) (asked : Option ℕ) (asks : Bool) (a : Answer) → writer t.events ≢ writers.Fine → IsNewOf t lane rule asks a
-    → SendsNone (open_makes t.events (Ok rule) asked a ++ t.events) t.events
-stuck_new t lane rule asked true a ne is =
+stuck_asks : (t : Trail) (lane : ℕ) (rule : Rule) (asked : Option ℕ) (a : Answer) → writer t.events ≢ writers.Fine → IsAskOf t lane rule a
+    → SendsNone (add_events t.events rule asked a ++ t.events) t.events
+stuck_asks t lane rule asked a ne is =
     let none = stuck_add t.events rule asked _ (writer t.events) _ _ a refl ne is in
     record { put_same = ap (λ xs. put (xs ++ t.events)) none; failed_same = ap (λ xs. is_failed (xs ++ t.events)) none }
-stuck_new t lane rule asked false a ne is = rw is (record { put_same = refl; failed_same = refl })
-
-stuck_rule : (t : Trail) (lane : ℕ) (rule : Rule) (asked : Option ℕ) (o : Option Error) (flies : Bool) (a : Answer) → writer t.events ≢ writers.Fine → IsRuleOf t lane rule o flies a
-    → SendsNone (open_makes t.events (Ok rule) asked a ++ t.events) t.events
-stuck_rule t lane rule asked (Some error) flies a ne is = rw is (record { put_same = refl; failed_same = refl })
-stuck_rule t lane rule asked None true a ne is = rw is (record { put_same = refl; failed_same = refl })
-stuck_rule t lane rule asked None false a ne is = stuck_new t lane rule asked (asks_bus t.events rule) a ne is
-
-stuck_open : (t : Trail) (lane : ℕ) (found : Result Rule Error) (asked : Option ℕ) (a : Answer) → writer t.events ≢ writers.Fine → IsOpenOf t lane found a
-    → SendsNone (open_makes t.events found asked a ++ t.events) t.events
-stuck_open t lane (Ok rule) asked a ne is = stuck_rule t lane rule asked (closing t.events) (in_flight t.events) a ne is
-stuck_open t lane (Err error) asked a ne is = record { put_same = refl; failed_same = refl }
 
 -- and no RemoveMatch
-abbrev LeavesNone : List Event → Option ℕ → Option ℕ → Answer → Type 0
-LeavesNone h o j a = SendsNone (unstream_does h o j a ++ h) h
+abbrev LeavesNone : List Event → ℕ → Option ℕ → Answer → Type 0
+LeavesNone h k j a = SendsNone (leave_events h k j a ++ h) h
 
-stuck_told_by : (h : List Event) (k : ℕ) (j : Option ℕ) (r : Option Error) (w : Writer) (rules : List Rule) (a : Answer) → w ≢ writers.Fine → IsToldBy r w (gone_then j (Did k Gone ∷ h)) rules a → LeavesNone h (Some k) j a
-stuck_told_by h k j (Some error) w rules a ne is = subst (LeavesNone h (Some k) j) (sym is) (gone_none k j h)
-stuck_told_by h k j None writers.Failed rules a ne is = subst (LeavesNone h (Some k) j) (sym is) (gone_none k j h)
-stuck_told_by h k j None writers.Closed rules a ne is = subst (LeavesNone h (Some k) j) (sym is) (gone_none k j h)
+stuck_told_by : (h : List Event) (k : ℕ) (j : Option ℕ) (r : Option Error) (w : Writer) (rules : List Rule) (a : Answer) → w ≢ writers.Fine → IsToldBy r w (gone_then j (Did k Gone ∷ h)) rules a → LeavesNone h k j a
+stuck_told_by h k j (Some error) w rules a ne is = subst (LeavesNone h k j) (sym is) (gone_none k j h)
+stuck_told_by h k j None writers.Failed rules a ne is = subst (LeavesNone h k j) (sym is) (gone_none k j h)
+stuck_told_by h k j None writers.Closed rules a ne is = subst (LeavesNone h k j) (sym is) (gone_none k j h)
 stuck_told_by h k j None writers.Fine rules a ne is = absurd (ne refl)
 
-stuck_told : (h : List Event) (k : ℕ) (j : Option ℕ) (rules : List Rule) (a : Answer) → leaving h k j ≡ rules → writer h ≢ writers.Fine → IsTold (gone_then j (Did k Gone ∷ h)) rules a → LeavesNone h (Some k) j a
+stuck_told : (h : List Event) (k : ℕ) (j : Option ℕ) (rules : List Rule) (a : Answer) → leaving (past h) k j ≡ rules → writer h ≢ writers.Fine → IsTold (gone_then j (Did k Gone ∷ h)) rules a → LeavesNone h k j a
 stuck_told h k j [] a e ne is =
-    subst (LeavesNone h (Some k) j) (sym is) (record {
+    subst (LeavesNone h k j) (sym is) (record {
       put_same = wrote_all_put h k j ∙ ap (λ rs. put h ++ tellings (gone_then j (Did k Gone ∷ h)) rs) e ∙ append-nil (put h);
       failed_same = wrote_all_failed h k j;
     })
@@ -370,44 +268,15 @@ stuck_told h k j (rule ∷ more) a e ne is =
     let g = gone_then j (Did k Gone ∷ h) in
     stuck_told_by h k j (tell_refusal g (rule ∷ more)) (writer g) (rule ∷ more) a (λ q. ne (sym (gone_writer k j h) ∙ q)) is
 
-stuck_leave_by : (h : List Event) (k : ℕ) (j : Option ℕ) (waits : Bool) (a : Answer) → writer h ≢ writers.Fine → IsLeaveBy waits h k j a → LeavesNone h (Some k) j a
-stuck_leave_by h k j true a ne is = subst (LeavesNone h (Some k) j) (sym is) (record { put_same = refl; failed_same = refl })
-stuck_leave_by h k j false a ne is = stuck_told h k j (leaving h k j) a refl ne is
+stuck_plan : (t : Trail) (lane : ℕ) (p : Plan) (a : Answer) → writer t.events ≢ writers.Fine → IsFair p → IsMeant t lane p a → SendsNone (does t.events p a ++ t.events) t.events
+stuck_plan t lane (Says answer deeds) a ne fair is = unmoved_none _ t.events (said_keeps a deeds t.events fair.only)
+stuck_plan t lane (Sends asked) a ne fair is = stuck_asked t lane asked a ne is
+stuck_plan t lane (Adds rule asked) a ne fair is = stuck_asks t lane rule asked a ne is
+stuck_plan t lane (Leaves k j) a ne fair is = stuck_told t.events k j (leaving (past t.events) k j) a refl ne is
+stuck_plan t lane Reads a ne fair is = read_none a t.events
+stuck_plan t lane Closes a ne fair is = close_none a t.events
 
-unknown_none : (h : List Event) (o j : Option ℕ) (error : Error) → LeavesNone h o j (answers.Refused error)
-unknown_none h None j error = record { put_same = refl; failed_same = refl }
-unknown_none h (Some k) j error = record { put_same = refl; failed_same = refl }
-
-stuck_leave_at : (h : List Event) (o j : Option ℕ) (a : Answer) → writer h ≢ writers.Fine → IsLeaveAt h o j a → LeavesNone h o j a
-stuck_leave_at h None j a ne is = record { put_same = refl; failed_same = refl }
-stuck_leave_at h (Some k) j a ne is = stuck_leave_by h k j (close_waits h k j) a ne is
-
-stuck_leave : (h : List Event) (there : Bool) (o j : Option ℕ) (a : Answer) → writer h ≢ writers.Fine → IsLeaveOf there h o j a → LeavesNone h o j a
-stuck_leave h true o j a ne is = stuck_leave_at h o j a ne is
-stuck_leave h false o j a ne is = subst (LeavesNone h o j) (sym is) (unknown_none h o j _)
-
-stuck_step : (t : Trail) (lane : ℕ) (w : Words) (a : Answer) → writer t.events ≢ writers.Fine → IsAnswer t lane w a → SendsNone (events_of t lane w a ++ t.events) t.events
-stuck_step t lane (words.Call out) a ne is = stuck_asked t lane _ a ne is
-stuck_step t lane (words.Signal out) a ne is = stuck_asked t lane _ a ne is
-stuck_step t lane (words.Reply stream body) a ne is = stuck_asked t lane _ a ne is
-stuck_step t lane (words.Error stream name body) a ne is = stuck_asked t lane _ a ne is
-stuck_step t lane words.Read a ne is = read_none (closing t.events) a t.events
-stuck_step t lane (words.Poll n) a ne is = poll_none (place 0 lane n t.names) a t.events
-stuck_step t lane (words.Before n before) a ne is = poll_none (place 0 lane n t.names) a t.events
-stuck_step t lane (words.Drop n) a ne is = drop_none (place 0 lane n t.names) a t.events
-stuck_step t lane words.Stream a ne is = stream_none a t.events
-stuck_step t lane (words.Open max_queued rule) a ne is = stuck_open t lane (rule_in_bytes rule) max_queued a ne is
-stuck_step t lane (words.Opened n) a ne is = opened_none (place 0 lane n t.streams) a t.events
-stuck_step t lane (words.Take n) a ne is = take_none (place 0 lane n t.streams) a t.events
-stuck_step t lane (words.TakeBefore n before) a ne is = take_none (place 0 lane n t.streams) a t.events
-stuck_step t lane (words.Clone n) a ne is = clone_none (place 0 lane n t.streams) a t.events
-stuck_step t lane (words.Unstream n second) a ne is =
-    stuck_leave t.events (are_open_at t.events lane t.streams n second) (place 0 lane n t.streams) (second_place lane second t.streams) a ne is
-stuck_step t lane (words.Queue n limit) a ne is = queue_none (place 0 lane n t.streams) limit a t.events
-stuck_step t lane (words.MainQueue limit) a ne is = main_none limit a t.events
-stuck_step t lane words.Close a ne is = close_none a t.events
-
-shut_by : (h : List Event) (a : Answer) → IsClose a → writer (close_does a ++ h) ≢ writers.Fine
+shut_by : (h : List Event) (a : Answer) → IsClose a → writer (does h Closes a ++ h) ≢ writers.Fine
 shut_by h a (inl is) = rw is (shut_writer (writer h))
 shut_by h a (inr is) = rw is (shut_writer (writer h))
 
@@ -422,7 +291,7 @@ close_is t e is w = subst (λ x. IsAnswer t e.lane x e.answer) w is
 stuck : (setting : Setting) (newer : List Entry) (e : Entry) (older : List Entry) → Legal setting (newer ++ e ∷ older) → e.words ≡ words.Close → IsStuck setting older (newer ++ e ∷ older)
 stuck setting [] e older legal w =
     let t = trail setting older in
-    let same : events_of t e.lane e.words e.answer ≡ close_does e.answer = ap (λ x. events_of t e.lane x e.answer) w in
+    let same : events_of t e.lane e.words e.answer ≡ does t.events Closes e.answer = ap (λ x. events_of t e.lane x e.answer) w in
     let n = close_none e.answer t.events in record {
       over = subst (λ xs. writer (xs ++ t.events) ≢ writers.Fine) (sym same) (shut_by t.events e.answer (close_is t e legal.0 w));
       none = record { put_same = ap (λ xs. put (xs ++ t.events)) same ∙ n.put_same; failed_same = ap (λ xs. is_failed (xs ++ t.events)) same ∙ n.failed_same };
@@ -430,7 +299,7 @@ stuck setting [] e older legal w =
 stuck setting (x ∷ newer) e older legal w =
     let s = stuck setting newer e older legal.1 w in
     let t = trail setting (newer ++ e ∷ older) in
-    let n = stuck_step t x.lane x.words x.answer s.over legal.0 in record {
+    let n = stuck_plan t x.lane (plan t x.lane x.words) x.answer s.over (plan_fair t x.lane x.words) legal.0 in record {
       over = λ q. s.over (sym (writer_stays (events_of t x.lane x.words x.answer) t.events s.over) ∙ q);
       none = record { put_same = n.put_same ∙ s.none.put_same; failed_same = n.failed_same ∙ s.none.failed_same };
     }

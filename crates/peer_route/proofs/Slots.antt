@@ -8,10 +8,10 @@ use Rattle.std.proofs.lemmas.Bool.{cases_eq, or_parts, or_from, or_left, or_righ
 use Rattle.wire_message.specs.Front.{Seen}
 use Rattle.peer_route.specs.declared.calls.Slot.{Slot}
 use Rattle.peer_route.specs.declared.calls.Slot.TheVariants as slots
-use Rattle.peer_route.specs.History.{Event, Took, Call, read, bears, fail_at, edit, spend}
+use Rattle.peer_route.specs.History.{Took, Call, bears, fail_at, edit, spend, Past, after}
 use Rattle.peer_route.specs.Calls.{found, is_gone, waits_with, is_awaited}
-use Rattle.peer_route.specs.Left.{reply_kept, slot_of, slot_by, is_waiting, is_inner_slot, takes, AreDistinct}
-use Rattle.peer_route.proofs.Plain.{list_any-along, After, Rising, After-at}
+use Rattle.peer_route.specs.Left.{reply_kept, slot_of, slot_by, is_waiting, is_inner_slot, takes, AreDistinct, Rising}
+use Rattle.peer_route.proofs.Plain.{list_any-along, After, After-at}
 use Rattle.peer_route.proofs.CallsMade.{Early, places}
 
 -- ---- a message comes
@@ -37,20 +37,20 @@ slot_took_by true inner serial o m = refl
 slot_took_by false inner serial (Some r) m = reply_arrived inner r m
 slot_took_by false inner serial None m = slot_found (bears serial m) inner serial m
 
-found_took : (m : Seen) (h : List Event) (c : Call) → c.from ≤ length (read h)
-    → find (bears c.serial) (drop c.from (read h ++ m ∷ [])) ≡ option_or (find (bears c.serial) (drop c.from (read h))) (find (bears c.serial) (m ∷ []))
+found_took : (m : Seen) (h : Past) (c : Call) → c.from ≤ length h.read
+    → find (bears c.serial) (drop c.from (h.read ++ m ∷ [])) ≡ option_or (find (bears c.serial) (drop c.from h.read)) (find (bears c.serial) (m ∷ []))
 found_took m h c le =
-    ap (find (bears c.serial)) (drop-append-le c.from (read h) (m ∷ []) le)
-    ∙ find-append (bears c.serial) (drop c.from (read h)) (m ∷ [])
+    ap (find (bears c.serial)) (drop-append-le c.from h.read (m ∷ []) le)
+    ∙ find-append (bears c.serial) (drop c.from h.read) (m ∷ [])
 
-slot_took : (m : Seen) (h : List Event) (c : Call) → c.from ≤ length (read h) → slot_of (read (Took m ∷ h)) c ≡ arrived m (slot_of (read h) c)
+slot_took : (m : Seen) (h : Past) (c : Call) → c.from ≤ length h.read → slot_of (after (Took m) h).read c ≡ arrived m (slot_of h.read c)
 unfolding slot_of found
 slot_took m h c le =
     ap (λ o. if is_gone c then slots.Gone else slot_by c.inner c.serial o) (found_took m h c le)
-    ∙ slot_took_by (is_gone c) c.inner c.serial (find (bears c.serial) (drop c.from (read h))) m
+    ∙ slot_took_by (is_gone c) c.inner c.serial (find (bears c.serial) (drop c.from h.read)) m
 
 -- each slot takes the message that its call waits for
-pub slots_took : (m : Seen) (h : List Event) (cs : List Call) → Early (length (read h)) cs → map (slot_of (read (Took m ∷ h))) cs ≡ map (arrived m) (map (slot_of (read h)) cs)
+pub slots_took : (m : Seen) (h : Past) (cs : List Call) → Early (length h.read) cs → map (slot_of (after (Took m) h).read) cs ≡ map (arrived m) (map (slot_of h.read) cs)
 slots_took m h [] e = refl
 slots_took m h (c ∷ cs) e = let a = slot_took m h c e.0 in let b = slots_took m h cs e.1 in cc
 
@@ -172,11 +172,11 @@ gone_distinct (slots.Waiting n i ∷ ss) (suc k) d = (gone_waits n ss k d.0, gon
 gone_distinct (slots.Replied r ∷ ss) (suc k) d = gone_distinct ss k d
 
 -- a call whose answer was given
-pub slots_spent : (h : List Event) (cs : List Call) (k : ℕ) → map (slot_of (read h)) (edit k spend cs) ≡ set (map (slot_of (read h)) cs) k slots.Gone
+pub slots_spent : (h : Past) (cs : List Call) (k : ℕ) → map (slot_of h.read) (edit k spend cs) ≡ set (map (slot_of h.read) cs) k slots.Gone
 unfolding slot_of
 slots_spent h [] k = refl
 slots_spent h (c ∷ cs) zero = refl
-slots_spent h (c ∷ cs) (suc k) = ap (λ xs. slot_of (read h) c ∷ xs) (slots_spent h cs k)
+slots_spent h (c ∷ cs) (suc k) = ap (λ xs. slot_of h.read c ∷ xs) (slots_spent h cs k)
 
 lost_by : (spent failed : Bool) (x : Slot) → (if spent || (failed || true) then slots.Gone else x) ≡ slots.Gone
 lost_by true failed x = refl
@@ -188,20 +188,20 @@ kept_by true failed x = refl
 kept_by false true x = refl
 kept_by false false x = refl
 
-slot_lost : (h : List Event) (n : ℕ) (c : Call) → (c.index == n) ≡ true → slot_of (read h) (fail_at n c) ≡ slots.Gone
+slot_lost : (h : Past) (n : ℕ) (c : Call) → (c.index == n) ≡ true → slot_of h.read (fail_at n c) ≡ slots.Gone
 unfolding slot_of found
 slot_lost h n c e =
-    ap (λ b. if c.spent || (c.failed || b) then slots.Gone else slot_by c.inner c.serial (find (bears c.serial) (drop c.from (read h)))) e
-    ∙ lost_by c.spent c.failed (slot_by c.inner c.serial (find (bears c.serial) (drop c.from (read h))))
+    ap (λ b. if c.spent || (c.failed || b) then slots.Gone else slot_by c.inner c.serial (find (bears c.serial) (drop c.from h.read))) e
+    ∙ lost_by c.spent c.failed (slot_by c.inner c.serial (find (bears c.serial) (drop c.from h.read)))
 
-slot_kept : (h : List Event) (n : ℕ) (c : Call) → (c.index == n) ≡ false → slot_of (read h) (fail_at n c) ≡ slot_of (read h) c
+slot_kept : (h : Past) (n : ℕ) (c : Call) → (c.index == n) ≡ false → slot_of h.read (fail_at n c) ≡ slot_of h.read c
 unfolding slot_of found
 slot_kept h n c e =
-    ap (λ b. if c.spent || (c.failed || b) then slots.Gone else slot_by c.inner c.serial (find (bears c.serial) (drop c.from (read h)))) e
-    ∙ kept_by c.spent c.failed (slot_by c.inner c.serial (find (bears c.serial) (drop c.from (read h))))
+    ap (λ b. if c.spent || (c.failed || b) then slots.Gone else slot_by c.inner c.serial (find (bears c.serial) (drop c.from h.read))) e
+    ∙ kept_by c.spent c.failed (slot_by c.inner c.serial (find (bears c.serial) (drop c.from h.read)))
 
 -- no call's message stands at the place
-pub slots_kept : (h : List Event) (n : ℕ) (cs : List Call) → list_any (λ i. i == n) (places cs) ≡ false → map (slot_of (read h)) (map (fail_at n) cs) ≡ map (slot_of (read h)) cs
+pub slots_kept : (h : Past) (n : ℕ) (cs : List Call) → list_any (λ i. i == n) (places cs) ≡ false → map (slot_of h.read) (map (fail_at n) cs) ≡ map (slot_of h.read) cs
 slots_kept h n [] none = refl
 slots_kept h n (c ∷ cs) none =
     let parts = or_parts (c.index == n) (list_any (λ i. i == n) (places cs)) none in
@@ -213,8 +213,8 @@ past_none n (x ∷ xs) a =
     or_from (x == n) (list_any (λ i. i == n) xs) (ne_eqb x n (λ q. let h : n < x = a.0 in omega arith)) (past_none n xs a.1)
 
 -- the one call whose message stands at the place
-pub slots_lost : (h : List Event) (n : ℕ) (cs : List Call) (k : ℕ) → k < length (places cs) → (get_or (places cs) k 0 == n) ≡ true → Rising (places cs)
-    → map (slot_of (read h)) (map (fail_at n) cs) ≡ set (map (slot_of (read h)) cs) k slots.Gone
+pub slots_lost : (h : Past) (n : ℕ) (cs : List Call) (k : ℕ) → k < length (places cs) → (get_or (places cs) k 0 == n) ≡ true → Rising (places cs)
+    → map (slot_of h.read) (map (fail_at n) cs) ≡ set (map (slot_of h.read) cs) k slots.Gone
 slots_lost h n [] k lt at r = refl
 slots_lost h n (c ∷ cs) zero lt at r =
     let e : c.index ≡ n = eqb-true c.index n at in
@@ -253,9 +253,9 @@ waits_by false false inner (Some m) n serial = sym (reply_waits inner m serial)
 waits_by false false inner None n serial = refl
 
 -- a call waits with a serial exactly where its slot does
-pub waits-slot : (h : List Event) (serial : ℕ) (c : Call) → waits_with (read h) serial c ≡ is_waiting serial (slot_of (read h) c)
+pub waits-slot : (h : Past) (serial : ℕ) (c : Call) → waits_with h.read serial c ≡ is_waiting serial (slot_of h.read c)
 unfolding slot_of
-waits-slot h serial c = waits_by c.spent c.failed c.inner (found (read h) c) c.serial serial
+waits-slot h serial c = waits_by c.spent c.failed c.inner (found h.read c) c.serial serial
 
 reply_inner : (inner : Bool) (m : Seen) → is_inner_slot (reply_kept inner m) ≡ false
 reply_inner true m = refl
@@ -273,6 +273,6 @@ own_by false false true None n = refl
 own_by false false false None n = refl
 
 -- one of the peer's own waits exactly where its slot does
-pub own-slot : (h : List Event) (c : Call) → is_awaited (read h) c ≡ is_inner_slot (slot_of (read h) c)
+pub own-slot : (h : Past) (c : Call) → is_awaited h.read c ≡ is_inner_slot (slot_of h.read c)
 unfolding slot_of
-own-slot h c = own_by c.spent c.failed c.inner (found (read h) c) c.serial
+own-slot h c = own_by c.spent c.failed c.inner (found h.read c) c.serial

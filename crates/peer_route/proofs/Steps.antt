@@ -8,7 +8,7 @@ use Rattle.wire_message.specs.Circle.{IsNext, AllTaken}
 use Rattle.wire_message.specs.declared.error.Error.{Error}
 use Rattle.wire_message.specs.declared.error.Error.TheVariants as errors
 use Rattle.peer_route.specs.Parcel.{Parcel, Asked, message_of}
-use Rattle.peer_route.specs.History.{Event, Took, read, last_serial}
+use Rattle.peer_route.specs.History.{Event, Took, read, last_serial, past}
 use Rattle.peer_route.specs.Calls.{pending}
 use Rattle.peer_route.specs.Answers.{send_refusal}
 use Rattle.peer_route.specs.Told.{encodings, left_after}
@@ -19,15 +19,15 @@ use Rattle.peer_route.proofs.NextSerial.{next_serial-next, next_serial-none}
 pub refused-asked : (h : List Event) (asked : Asked) (error : Error) → asked ≡ Err error → send_refusal h asked ≡ Some error
 refused-asked h asked error w = ap (send_refusal h) w
 
-pub refused-spent : (h : List Event) (asked : Asked) (parcel : Parcel) → asked ≡ Ok parcel → AllTaken (pending h) → send_refusal h asked ≡ Some errors.SerialsSpent
+pub refused-spent : (h : List Event) (asked : Asked) (parcel : Parcel) → asked ≡ Ok parcel → AllTaken (pending (past h)) → send_refusal h asked ≡ Some errors.SerialsSpent
 refused-spent h asked parcel w all = rw (w, next_serial-none h all) refl
 
 pub refused-long : (h : List Event) (asked : Asked) (parcel : Parcel) (serial : ℕ) → asked ≡ Ok parcel
-    → IsNext (pending h) (last_serial h) serial → 134217728 < length (message_of parcel serial).bytes → send_refusal h asked ≡ Some errors.ExcessData
+    → IsNext (pending (past h)) (last_serial h) serial → 134217728 < length (message_of parcel serial).bytes → send_refusal h asked ≡ Some errors.ExcessData
 refused-long h asked parcel serial w next long = rw (w, next_serial-next h serial next, lt-ltb _ _ long) refl
 
 pub not_refused : (h : List Event) (asked : Asked) (parcel : Parcel) (serial : ℕ) → asked ≡ Ok parcel
-    → IsNext (pending h) (last_serial h) serial → length (message_of parcel serial).bytes ≤ 134217728 → send_refusal h asked ≡ None
+    → IsNext (pending (past h)) (last_serial h) serial → length (message_of parcel serial).bytes ≤ 134217728 → send_refusal h asked ≡ None
 not_refused h asked parcel serial w next short = rw (w, next_serial-next h serial next, le-ltb _ _ short) refl
 
 -- ---- bytes

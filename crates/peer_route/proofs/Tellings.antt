@@ -1,70 +1,11 @@
--- What closing streams leaves as it was, and the messages that it puts.
+-- The messages that closing streams puts.
 use Rattle.std.proofs.Common.{◌≡◌, ℕ, refl, sym, ◌∙◌, ap, true, List, [], ◌∷◌, ◌++◌, Option, Some, None, append_assoc, append-nil}
-use Rattle.std.specs.List.{AllByRecursion}
 use Rattle.rule_match.specs.Rule.{Rule}
-use Rattle.peer_route.specs.declared.answer.Answer.{Answer}
-use Rattle.peer_route.specs.declared.answer.Answer.TheVariants as answers
-use Rattle.peer_route.specs.History.{Event, Wrote, Fault, Removed, Did, Gone, put, is_failed}
+use Rattle.peer_route.specs.History.{Event, Wrote, Did, Gone, put, is_failed, past}
 use Rattle.peer_route.specs.Streams.{leaving, gone_then}
 use Rattle.peer_route.specs.BusCall.{some_rules}
-use Rattle.peer_route.specs.Trail.{removal, removals, wrote_each, fault_each, wrote_first, leave_with, unstream_does}
 use Rattle.peer_route.specs.StreamLaws.{tellings}
-
--- ---- what stays
-
--- a stream is closed, the bus is told of a rule, or that message is written or its write fails
-abbrev pub IsTelling : Event → Type 0
-IsTelling (Did k Gone) = Unit {0}
-IsTelling (Removed m) = Unit {0}
-IsTelling Wrote = Unit {0}
-IsTelling Fault = Unit {0}
-IsTelling e = ⊥
-
-abbrev pub AreTellings : List Event → Type 0
-AreTellings es = AllByRecursion IsTelling es
-
--- what each of these leaves as it was, all leave so
-pub tellings_same : {X : Type 0} (f : List Event → X) → ((e : Event) (h : List Event) → IsTelling e → f (e ∷ h) ≡ f h) → (es h : List Event) → AreTellings es → f (es ++ h) ≡ f h
-tellings_same f step [] h all = refl
-tellings_same f step (e ∷ es) h all = step e (es ++ h) all.0 ∙ tellings_same f step es h all.1
-
-tellings_both : (xs ys : List Event) → AreTellings xs → AreTellings ys → AreTellings (xs ++ ys)
-tellings_both [] ys a b = b
-tellings_both (x ∷ xs) ys a b = (a.0, tellings_both xs ys a.1 b)
-
-wrote_tellings : (rules : List Rule) → AreTellings (wrote_each rules)
-wrote_tellings [] = tt
-wrote_tellings (rule ∷ rules) = (tt, wrote_tellings rules)
-
-fault_tellings : (rules : List Rule) → AreTellings (fault_each rules)
-fault_tellings [] = tt
-fault_tellings (rule ∷ rules) = (tt, fault_tellings rules)
-
-first_tellings : (rules : List Rule) → AreTellings (wrote_first rules)
-first_tellings [] = tt
-first_tellings (rule ∷ rules) = tellings_both (fault_each rules) (Wrote ∷ []) (fault_tellings rules) (tt, tt)
-
-removed_tellings : (g : List Event) (rules : List Rule) → AreTellings (removals g rules)
-removed_tellings g [] = tt
-removed_tellings g (rule ∷ rules) = tellings_both (removals (removal g rule ∷ g) rules) (removal g rule ∷ []) (removed_tellings (removal g rule ∷ g) rules) (tt, tt)
-
-gone_tellings : (k : ℕ) (j : Option ℕ) → AreTellings (gone_then j (Did k Gone ∷ []))
-gone_tellings k None = (tt, tt)
-gone_tellings k (Some j) = (tt, (tt, tt))
-
-leave_tellings : (writes : List Rule → List Event) (h : List Event) (k : ℕ) (j : Option ℕ) → AreTellings (writes (leaving h k j)) → AreTellings (leave_with writes h k j)
-leave_tellings writes h k j all =
-    let told = removals (gone_then j (Did k Gone ∷ h)) (leaving h k j) in
-    tellings_both (writes (leaving h k j) ++ told) (gone_then j (Did k Gone ∷ []))
-    (tellings_both (writes (leaving h k j)) told all (removed_tellings (gone_then j (Did k Gone ∷ h)) (leaving h k j))) (gone_tellings k j)
-
-pub unstream_tellings : (h : List Event) (p q : Option ℕ) (a : Answer) → AreTellings (unstream_does h p q a)
-unstream_tellings h (Some k) q (answers.Gone last) = leave_tellings wrote_each h k q (wrote_tellings (leaving h k q))
-unstream_tellings h (Some k) q (answers.SendFailed error) = leave_tellings fault_each h k q (fault_tellings (leaving h k q))
-unstream_tellings h (Some k) q (answers.SentFirst error) = leave_tellings wrote_first h k q (first_tellings (leaving h k q))
-unstream_tellings h (Some k) q (answers.Untold error) = gone_tellings k q
-unstream_tellings h (Some k) q a = tt
-unstream_tellings h None q a = tt
+use Rattle.peer_route.specs.Entries.{removal, removals, wrote_each, fault_each, wrote_first, leave_with}
 
 -- ---- what is put
 
@@ -75,9 +16,9 @@ gone_before k (Some j) h = refl
 
 -- the writes stand before the messages, and these before the ends of the streams
 pub leave_parts : (writes : List Rule → List Event) (h : List Event) (k : ℕ) (j : Option ℕ)
-    → leave_with writes h k j ++ h ≡ writes (leaving h k j) ++ (removals (gone_then j (Did k Gone ∷ h)) (leaving h k j) ++ gone_then j (Did k Gone ∷ h))
+    → leave_with writes h k j ++ h ≡ writes (leaving (past h) k j) ++ (removals (gone_then j (Did k Gone ∷ h)) (leaving (past h) k j) ++ gone_then j (Did k Gone ∷ h))
 leave_parts writes h k j =
-    let rules = leaving h k j in
+    let rules = leaving (past h) k j in
     let told = removals (gone_then j (Did k Gone ∷ h)) rules in
     append_assoc (writes rules ++ told) (gone_then j (Did k Gone ∷ [])) h
     ∙ ap (λ es. writes rules ++ told ++ es) (gone_before k j h) ∙ append_assoc (writes rules) told (gone_then j (Did k Gone ∷ h))
@@ -128,35 +69,35 @@ first_failed : (rule : Rule) (rules : List Rule) (h : List Event) → some_rules
 first_failed rule rules h some = ap is_failed (append_assoc (fault_each rules) (Wrote ∷ []) h) ∙ fault_failed rules (Wrote ∷ h) some
 
 -- what closing streams and telling the bus puts, however the writes go
-left_put : (writes : List Rule → List Event) (h : List Event) (k : ℕ) (j : Option ℕ) → ((g : List Event) → put (writes (leaving h k j) ++ g) ≡ put g)
-    → put (leave_with writes h k j ++ h) ≡ put h ++ tellings (gone_then j (Did k Gone ∷ h)) (leaving h k j)
+left_put : (writes : List Rule → List Event) (h : List Event) (k : ℕ) (j : Option ℕ) → ((g : List Event) → put (writes (leaving (past h) k j) ++ g) ≡ put g)
+    → put (leave_with writes h k j ++ h) ≡ put h ++ tellings (gone_then j (Did k Gone ∷ h)) (leaving (past h) k j)
 left_put writes h k j same =
     let g = gone_then j (Did k Gone ∷ h) in
-    ap put (leave_parts writes h k j) ∙ same (removals g (leaving h k j) ++ g) ∙ removals_put g (leaving h k j)
-    ∙ ap (λ ms. ms ++ tellings g (leaving h k j)) (gone_put k j h)
+    ap put (leave_parts writes h k j) ∙ same (removals g (leaving (past h) k j) ++ g) ∙ removals_put g (leaving (past h) k j)
+    ∙ ap (λ ms. ms ++ tellings g (leaving (past h) k j)) (gone_put k j h)
 
-pub wrote_all_put : (h : List Event) (k : ℕ) (j : Option ℕ) → put (leave_with wrote_each h k j ++ h) ≡ put h ++ tellings (gone_then j (Did k Gone ∷ h)) (leaving h k j)
-wrote_all_put h k j = left_put wrote_each h k j (wrote_put (leaving h k j))
+pub wrote_all_put : (h : List Event) (k : ℕ) (j : Option ℕ) → put (leave_with wrote_each h k j ++ h) ≡ put h ++ tellings (gone_then j (Did k Gone ∷ h)) (leaving (past h) k j)
+wrote_all_put h k j = left_put wrote_each h k j (wrote_put (leaving (past h) k j))
 
-pub fault_all_put : (h : List Event) (k : ℕ) (j : Option ℕ) → put (leave_with fault_each h k j ++ h) ≡ put h ++ tellings (gone_then j (Did k Gone ∷ h)) (leaving h k j)
-fault_all_put h k j = left_put fault_each h k j (fault_put (leaving h k j))
+pub fault_all_put : (h : List Event) (k : ℕ) (j : Option ℕ) → put (leave_with fault_each h k j ++ h) ≡ put h ++ tellings (gone_then j (Did k Gone ∷ h)) (leaving (past h) k j)
+fault_all_put h k j = left_put fault_each h k j (fault_put (leaving (past h) k j))
 
-pub first_all_put : (h : List Event) (k : ℕ) (j : Option ℕ) → put (leave_with wrote_first h k j ++ h) ≡ put h ++ tellings (gone_then j (Did k Gone ∷ h)) (leaving h k j)
-first_all_put h k j = left_put wrote_first h k j (first_put (leaving h k j))
+pub first_all_put : (h : List Event) (k : ℕ) (j : Option ℕ) → put (leave_with wrote_first h k j ++ h) ≡ put h ++ tellings (gone_then j (Did k Gone ∷ h)) (leaving (past h) k j)
+first_all_put h k j = left_put wrote_first h k j (first_put (leaving (past h) k j))
 
 pub wrote_all_failed : (h : List Event) (k : ℕ) (j : Option ℕ) → is_failed (leave_with wrote_each h k j ++ h) ≡ is_failed h
 wrote_all_failed h k j =
     let g = gone_then j (Did k Gone ∷ h) in
-    ap is_failed (leave_parts wrote_each h k j) ∙ wrote_failed (leaving h k j) (removals g (leaving h k j) ++ g) ∙ removals_failed g (leaving h k j) ∙ gone_failed k j h
+    ap is_failed (leave_parts wrote_each h k j) ∙ wrote_failed (leaving (past h) k j) (removals g (leaving (past h) k j) ++ g) ∙ removals_failed g (leaving (past h) k j) ∙ gone_failed k j h
 
-pub fault_all_failed : (h : List Event) (k : ℕ) (j : Option ℕ) → some_rules (leaving h k j) ≡ true → is_failed (leave_with fault_each h k j ++ h) ≡ true
+pub fault_all_failed : (h : List Event) (k : ℕ) (j : Option ℕ) → some_rules (leaving (past h) k j) ≡ true → is_failed (leave_with fault_each h k j ++ h) ≡ true
 fault_all_failed h k j some =
     let g = gone_then j (Did k Gone ∷ h) in
-    ap is_failed (leave_parts fault_each h k j) ∙ fault_failed (leaving h k j) (removals g (leaving h k j) ++ g) some
+    ap is_failed (leave_parts fault_each h k j) ∙ fault_failed (leaving (past h) k j) (removals g (leaving (past h) k j) ++ g) some
 
-pub first_all_failed : (h : List Event) (k : ℕ) (j : Option ℕ) (rule : Rule) (rules : List Rule) → leaving h k j ≡ rule ∷ rules → some_rules rules ≡ true
+pub first_all_failed : (h : List Event) (k : ℕ) (j : Option ℕ) (rule : Rule) (rules : List Rule) → leaving (past h) k j ≡ rule ∷ rules → some_rules rules ≡ true
     → is_failed (leave_with wrote_first h k j ++ h) ≡ true
 first_all_failed h k j rule rules e some =
     let g = gone_then j (Did k Gone ∷ h) in
-    ap is_failed (leave_parts wrote_first h k j) ∙ ap (λ rs. is_failed (wrote_first rs ++ (removals g (leaving h k j) ++ g))) e
-    ∙ first_failed rule rules (removals g (leaving h k j) ++ g) some
+    ap is_failed (leave_parts wrote_first h k j) ∙ ap (λ rs. is_failed (wrote_first rs ++ (removals g (leaving (past h) k j) ++ g))) e
+    ∙ first_failed rule rules (removals g (leaving (past h) k j) ++ g) some

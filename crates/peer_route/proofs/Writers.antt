@@ -1,12 +1,12 @@
 -- What became of a peer's writer stays, and where nothing did, no write failed.
-use Rattle.std.proofs.Common.{◌≡◌, ◌≢◌, refl, sym, ◌∙◌, ap, true, false, is_some, Option, Some, None, List, [], ◌∷◌, ◌++◌}
+use Rattle.std.proofs.Common.{◌≡◌, ◌≢◌, refl, sym, ◌∙◌, ap, true, false, List, [], ◌∷◌, ◌++◌}
 use Rattle.wire_message.specs.declared.error.Error.{Error}
 use Rattle.wire_message.specs.declared.error.Error.TheVariants as errors
 use Rattle.wire_message.specs.declared.error.IoKind.{IoKind}
 use Rattle.wire_message.specs.declared.error.IoKind.TheVariants as kinds
 use Rattle.peer_route.specs.declared.writer.Writer.{Writer}
 use Rattle.peer_route.specs.declared.writer.Writer.TheVariants as writers
-use Rattle.peer_route.specs.History.{Event, Shut, Fault, is_failed, first_of, closing, worse, shuts_by, shuts, writer}
+use Rattle.peer_route.specs.History.{Event, Shut, Fault, is_failed, worse, shuts_by, shuts, writer}
 
 worse_fine : (w cause : Writer) → worse w cause ≡ writers.Fine → (w ≡ writers.Fine) × (cause ≡ writers.Fine)
 worse_fine writers.Fine cause e = (refl, e)
@@ -54,10 +54,7 @@ fine_before newer h e = fine_by newer h (writer h) refl e
 -- closing a peer isn't a failed write
 shuts_kind : (kind : IoKind) → shuts_by kind ≡ writers.Failed → ⊥
 shuts_kind kinds.Closed e = cc
-shuts_kind kinds.Ended e = cc
-shuts_kind kinds.Fault e = cc
-shuts_kind kinds.WriteFault e = cc
-shuts_kind kinds.TimedOut e = cc
+shuts_kind other e = cc
 
 shuts_unfailed : (error : Error) → shuts error ≡ writers.Failed → ⊥
 shuts_unfailed (errors.InputOutput kind) e = shuts_kind kind e
@@ -74,19 +71,3 @@ failed_so [] e = absurd (cc)
 failed_so (Fault ∷ h) e = refl
 failed_so (Shut error ∷ h) e = failed_so h (worse_failed (writer h) (shuts error) (shuts_unfailed error) e)
 failed_so (event ∷ h) e = failed_so h e
-
--- a writer that was closed is a closed peer's
-first_there : (o : Option Error) (error : Error) → is_some (first_of o error) ≡ true
-first_there None error = refl
-first_there (Some earlier) error = refl
-
-worse_closed : (w : Writer) → worse w writers.Failed ≡ writers.Closed → w ≡ writers.Closed
-worse_closed writers.Fine e = absurd (cc)
-worse_closed writers.Failed e = absurd (cc)
-worse_closed writers.Closed e = refl
-
-pub closed_shut : (h : List Event) → writer h ≡ writers.Closed → is_some (closing h) ≡ true
-closed_shut [] e = absurd (cc)
-closed_shut (Shut error ∷ h) e = first_there (closing h) error
-closed_shut (Fault ∷ h) e = closed_shut h (worse_closed (writer h) e)
-closed_shut (event ∷ h) e = closed_shut h e

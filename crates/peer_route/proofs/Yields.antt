@@ -5,7 +5,6 @@ use Rattle.std.proofs.Math.Seq.{drop-length}
 use Rattle.std.proofs.lemmas.Bool.{eq-eqb}
 use Rattle.std.proofs.lemmas.List.{map-append, take-append-drop, drop-append-le, take-append-le, length-drop, drop-drop}
 use Rattle.wire_message.specs.Front.{Seen}
-use Rattle.wire_message.specs.declared.error.Error.{Error}
 use Rattle.wire_message.specs.declared.error.Error.TheVariants as errors
 use Rattle.rule_match.specs.Rule.{Rule}
 use Rattle.rule_match.specs.Bytes.{rule_in_bytes}
@@ -18,8 +17,8 @@ use Rattle.peer_route.specs.History.{Event, Took, Made, Did, Making, Plain, Rule
 use Rattle.peer_route.specs.Streams.{is_since, runs_at, is_open, accepted, matched, offered, held}
 use Rattle.peer_route.specs.Left.{start_count, IsWithin}
 use Rattle.peer_route.specs.Parcel.{Setting}
-use Rattle.peer_route.specs.Trail.{Trail, Names, place, count, trail, more, next_serial, or_zero, open_makes, clone_makes}
-use Rattle.peer_route.specs.Answers.{IsAnswer, Legal, where_open, is_open_at}
+use Rattle.peer_route.specs.Trail.{Trail, Names, place, count, next_serial, or_zero, given}
+use Rattle.peer_route.specs.Answers.{IsAnswer, Legal, IsMeant}
 use Rattle.peer_route.specs.StreamLaws.{positions, Yields, held_by, held_in, holds, rule_in, rule_at}
 use Rattle.peer_route.proofs.Once.{legal_from}
 use Rattle.peer_route.proofs.Edits.{get_new, take_one, drop_next}
@@ -30,6 +29,8 @@ use Rattle.peer_route.proofs.Within.{AllWithin, all_within}
 use Rattle.peer_route.proofs.StreamLanes.{entry, lanes}
 use Rattle.peer_route.proofs.BusAnswers.{OfOpen, Refused, Waits, AtOnce, Asks, Fails, open_answered}
 use Rattle.peer_route.proofs.Flowing.{Flowing, Flow, FlowOf, flow_all}
+use Rattle.peer_route.specs.Entries.{trail, more, does, streams_by}
+use Rattle.peer_route.specs.Plan.{where_open, is_open_at, Plan, clones, makes, plan}
 
 -- ---- what a stream offers
 
@@ -79,9 +80,9 @@ goes_took : (m : Seen) (h : List Event) (s : Stream) (n : ℕ) (begun : List See
 goes_took m h s n begun given r =
     let flows = r.1 in
     let start = flows.start in (
-      ap is_since (phase_took m h s start) ∙ since_stepped m (phase (read h) s) r.0,
+      ap is_since (phase_took m (past h) s start) ∙ since_stepped m (phase (read h) s) r.0,
       subst (λ ms. Flows (read h ++ m ∷ []) ms (start_count s.start) s.skip s.taken n s.rule begun given)
-          (sym (matched_took m h s start ∙ ap (λ ms. matched (read h) s ++ ms) (arriving_since (phase (read h) s) s.rule m r.0)))
+          (sym (matched_took m (past h) s start ∙ ap (λ ms. matched (read h) s ++ ms) (arriving_since (phase (read h) s) s.rule m r.0)))
           (flows_took (read h) (matched (read h) s) (start_count s.start) s.skip s.taken n s.rule begun given m flows),
     )
 
@@ -197,15 +198,23 @@ entry_is e w a p q = ap (λ y. entry e.lane y a) (sym p) ∙ ap (entry e.lane e.
 number_is : (a : Answer) (n number : ℕ) → a ≡ answers.Streaming n → a ≡ answers.Streaming number → n ≡ number
 number_is a n number is e = let same : answers.Streaming n ≡ answers.Streaming number = sym is ∙ e in cc
 
+-- an entry that means this, and is answered so
+pub flow_meant : (goes : List Event → Stream → List ℕ → Type 0) (t : Trail) (e : Entry) (number : ℕ) (p : Plan) (a : Answer) → plan t e.lane e.words ≡ p → e.answer ≡ a
+    → Flow goes (t.streams ++ streams_by t.events e.lane p a) (does t.events p a ++ t.events) e.lane number [] → FlowOf goes (more t e) e.lane number []
+flow_meant goes t e number p a means is f =
+    subst (λ q. Flow goes (t.streams ++ streams_by t.events e.lane q e.answer) (does t.events q e.answer ++ t.events) e.lane number []) (sym means)
+    (subst (λ x. Flow goes (t.streams ++ streams_by t.events e.lane p x) (does t.events p x ++ t.events) e.lane number []) (sym is) f)
+
 flow_start : (setting : Setting) (e : Entry) (older : List Entry) (number : ℕ) → Legal setting (e ∷ older) → e.words ≡ words.Stream → e.answer ≡ answers.Streaming number
     → FlowOf (Begun (length (read (trail setting older).events)) None []) (trail setting (e ∷ older)) e.lane number []
 flow_start setting e older number legal w a =
     let t = trail setting older in
     let n = length (read t.events) in
+    let new = count e.lane t.streams in
     let is = stream_is t e legal.0 w in
-    subst (λ k. FlowOf (Begun n None []) (trail setting (e ∷ older)) e.lane k []) (number_is e.answer (count e.lane t.streams) number is a)
-    (subst (λ y. FlowOf (Begun n None []) (more t y) e.lane (count e.lane t.streams) []) (entry_is e words.Stream (answers.Streaming (count e.lane t.streams)) w is)
-    (flow_new t.streams t.events e.lane n [] Plain (lanes setting older legal.1) (plain_stream (past t.events)) refl (goes_fresh t.events None (is_some (closing t.events)))))
+    subst (λ k. FlowOf (Begun n None []) (trail setting (e ∷ older)) e.lane k []) (number_is e.answer new number is a)
+    (flow_meant (Begun n None []) t e new (makes e.lane t.streams Plain) (answers.Streaming new) (ap (plan t e.lane) w) is
+    (flow_new t.streams t.events e.lane n [] Plain (lanes setting older) (plain_stream (past t.events)) refl (goes_fresh t.events None (is_some (closing t.events)))))
 
 -- what a stream gave, and what it holds
 pub yields : (setting : Setting) (newer : List Entry) (e : Entry) (older : List Entry) (number : ℕ) → Legal setting (newer ++ e ∷ older) → e.words ≡ words.Stream → e.answer ≡ answers.Streaming number
@@ -216,15 +225,14 @@ yields setting newer e older number legal w a =
 -- ---- a stream of a rule
 
 -- what opened a stream at once made the lane's next one
-made_at_once : (t : Trail) (lane : ℕ) (a : Answer) (number : ℕ) → OfOpen t lane a → a ≡ answers.Streaming number → a ≡ answers.Streaming (count lane t.streams)
-made_at_once t lane a number (Refused error is) e = let q : answers.Refused error ≡ answers.Streaming number = sym is ∙ e in cc
-made_at_once t lane a number (Waits is) e = let q : answers.Busy ≡ answers.Streaming number = sym is ∙ e in cc
-made_at_once t lane a number (AtOnce is) e = is
-made_at_once t lane a number (Asks is) e = let q : answers.Opening (count lane t.streams) (or_zero (next_serial t.events)) ≡ answers.Streaming number = sym is ∙ e in cc
-made_at_once t lane a number (Fails error is) e = let q : answers.SendFailed error ≡ answers.Streaming number = sym is ∙ e in cc
-
-pub open_is : (t : Trail) (e : Entry) (asked : Option ℕ) (text : List ℕ) → IsAnswer t e.lane e.words e.answer → e.words ≡ words.Open asked text → OfOpen t e.lane e.answer
-open_is t e asked text a w = open_answered t e.lane (rule_in_bytes text) e.answer (subst (λ x. IsAnswer t e.lane x e.answer) w a)
+made_at_once : (t : Trail) (lane : ℕ) (rule : Rule) (asked : Option ℕ) (p : Plan) (a : Answer) (number : ℕ) → OfOpen t lane rule asked p a → a ≡ answers.Streaming number
+    → (p ≡ makes lane t.streams (Ruled rule asked)) × (a ≡ answers.Streaming (count lane t.streams))
+made_at_once t lane rule asked p a number (Refused error is) e = let q : answers.Refused error ≡ answers.Streaming number = sym is ∙ e in cc
+made_at_once t lane rule asked p a number (Waits is) e = let q : answers.Busy ≡ answers.Streaming number = sym is ∙ e in cc
+made_at_once t lane rule asked p a number (AtOnce means is) e = (means, is)
+made_at_once t lane rule asked p a number (Asks means is) e =
+    let q : answers.Opening (count lane t.streams) (or_zero (next_serial t.events)) ≡ answers.Streaming number = sym is ∙ e in cc
+made_at_once t lane rule asked p a number (Fails error is) e = let q : answers.SendFailed error ≡ answers.Streaming number = sym is ∙ e in cc
 
 flow_opened : (setting : Setting) (e : Entry) (older : List Entry) (number : ℕ) (asked : Option ℕ) (text : List ℕ) (rule : Rule) → Legal setting (e ∷ older) → e.words ≡ words.Open asked text
     → rule_in_bytes text ≡ Ok rule → e.answer ≡ answers.Streaming number
@@ -232,12 +240,11 @@ flow_opened : (setting : Setting) (e : Entry) (older : List Entry) (number : ℕ
 flow_opened setting e older number asked text rule legal w r a =
     let t = trail setting older in
     let n = length (read t.events) in
-    let new = answers.Streaming (count e.lane t.streams) in
-    let is = made_at_once t e.lane e.answer number (open_is t e asked text legal.0 w) a in
-    subst (λ k. FlowOf (Begun n (Some rule) []) (trail setting (e ∷ older)) e.lane k []) (number_is e.answer (count e.lane t.streams) number is a)
-    (subst (λ y. FlowOf (Begun n (Some rule) []) (more t y) e.lane (count e.lane t.streams) []) (entry_is e (words.Open asked text) new w is)
-    (subst (λ xs. Flow (Begun n (Some rule) []) (t.streams ++ Some e.lane ∷ []) (xs ++ t.events) e.lane (count e.lane t.streams) []) (ap (λ x. open_makes t.events x asked new) (sym r))
-    (flow_new t.streams t.events e.lane n [] (Ruled rule asked) (lanes setting older legal.1) (rule_stream (past t.events) rule) refl (goes_fresh t.events (Some rule) false))))
+    let new = count e.lane t.streams in
+    let is = made_at_once t e.lane rule asked (plan t e.lane e.words) e.answer number (open_answered t e.lane e.words asked text rule e.answer legal.0 w r) a in
+    subst (λ k. FlowOf (Begun n (Some rule) []) (trail setting (e ∷ older)) e.lane k []) (number_is e.answer new number is.1 a)
+    (flow_meant (Begun n (Some rule) []) t e new (makes e.lane t.streams (Ruled rule asked)) (answers.Streaming new) is.0 is.1
+    (flow_new t.streams t.events e.lane n [] (Ruled rule asked) (lanes setting older) (rule_stream (past t.events) rule) refl (goes_fresh t.events (Some rule) false)))
 
 -- what a stream of a rule gave, and what it holds
 pub opened_yields : (setting : Setting) (newer : List Entry) (e : Entry) (older : List Entry) (number : ℕ) (asked : Option ℕ) (text : List ℕ) (rule : Rule) → Legal setting (newer ++ e ∷ older)
@@ -258,16 +265,30 @@ record Original (h : List Event) (p : Option ℕ) : Type 0 where
 
 original_at : (h : List Event) (k : ℕ) (o : Option Stream) → slice_get (streams h) k ≡ o → runs_at (read h) o ≡ true → Original h (Some k)
 original_at h k None at e = cc
-original_at h k (Some s) at e = let is = runs_so h s e in record { k = k; stream = s; named = refl; made = at; since = is.since }
+original_at h k (Some s) at e = let is = runs_so (past h) s e in record { k = k; stream = s; named = refl; made = at; since = is.since }
 
 original : (h : List Event) (p : Option ℕ) → is_open_at h p ≡ true → Original h p
 unfolding is_open
 original h None e = cc
 original h (Some k) e = original_at h k (slice_get (streams h) k) refl e
 
-pub opened : (b : Bool) (there a : Answer) → a ≡ where_open b there → ((error : Error) → a ≡ answers.Refused error → ⊥) → (b ≡ true) × (a ≡ there)
-opened true there a is not_refused = (refl, is)
-opened false there a is not_refused = absurd (not_refused errors.UnknownHandle is)
+-- what a clone that was made is
+record CloneOf (t : Trail) (lane : ℕ) (p : Option ℕ) (a : Answer) : Type 0 where
+  k : ℕ
+  named : p ≡ Some k
+  opened : is_open (past t.events) k ≡ true
+  means : clones lane t.streams t.events p ≡ makes lane t.streams (Cloned k)
+  is : a ≡ answers.Streaming (count lane t.streams)
+
+clone_open : (t : Trail) (lane k : ℕ) (b : Bool) (a : Answer) (number : ℕ) → is_open (past t.events) k ≡ b → IsMeant t lane (where_open b (makes lane t.streams (Cloned k))) a
+    → a ≡ answers.Streaming number → CloneOf t lane (Some k) a
+clone_open t lane k true a number o is e =
+    record { k = k; named = refl; opened = o; means = ap (λ c. where_open c (makes lane t.streams (Cloned k))) o; is = is }
+clone_open t lane k false a number o is e = let q : answers.Refused errors.UnknownHandle ≡ answers.Streaming number = sym is ∙ e in cc
+
+clone_by : (t : Trail) (lane : ℕ) (p : Option ℕ) (a : Answer) (number : ℕ) → IsMeant t lane (clones lane t.streams t.events p) a → a ≡ answers.Streaming number → CloneOf t lane p a
+clone_by t lane None a number is e = let q : answers.Refused errors.UnknownHandle ≡ answers.Streaming number = sym is ∙ e in cc
+clone_by t lane (Some k) a number is e = clone_open t lane k (is_open (past t.events) k) a number refl is e
 
 goes_clone : (h : List Event) (s : Stream) → IsWithin (read h) s → is_since (phase (read h) s) ≡ true → Goes h (clone_of (past h) (Some s)) (length (read h)) (held (read h) s) []
 unfolding matched phase
@@ -279,7 +300,7 @@ goes_clone h s w since =
         start = w.start;
         passed = omega arith;
         early = omega arith;
-        offers = sym (held_matched h s) ∙ sym (append-nil (held (read h) s)) ∙ ap (λ ms. held (read h) s ++ ms) (sym nothing);
+        offers = sym (held_matched (past h) s) ∙ sym (append-nil (held (read h) s)) ∙ ap (λ ms. held (read h) s ++ ms) (sym nothing);
         given_is = refl;
       },
     )
@@ -294,20 +315,14 @@ held_there h p o = ap (held_in h) o.named ∙ ap (held_by h) o.made
 rule_there : (h : List Event) (p : Option ℕ) (o : Original h p) → rule_in h p ≡ o.stream.rule
 rule_there h p o = ap (rule_in h) o.named ∙ ap rule_of o.made
 
-flow_clone : (names : Names) (h : List Event) (lane : ℕ) (p : Option ℕ) → length names ≡ length (streams h) → AllWithin h → Original h p
-    → Flow (Begun (length (read h)) (rule_in h p) (held_in h p)) (names ++ Some lane ∷ []) (clone_makes p (answers.Streaming (count lane names)) ++ h) lane (count lane names) []
+flow_clone : (names : Names) (h : List Event) (lane : ℕ) (p : Option ℕ) → length names ≡ length (streams h) → AllWithin h → (o : Original h p)
+    → Flow (Begun (length (read h)) (rule_in h p) (held_in h p)) (names ++ Some lane ∷ []) (Made (Cloned o.k) ∷ h) lane (count lane names) []
 flow_clone names h lane p e w o =
     let n = length (read h) in
-    subst (λ xs. Flow (Begun n (rule_in h p) (held_in h p)) (names ++ Some lane ∷ []) (xs ++ h) lane (count lane names) [])
-    (sym (ap (λ q. clone_makes q (answers.Streaming (count lane names))) o.named))
-    (subst (λ r. Flow (Begun n r (held_in h p)) (names ++ Some lane ∷ []) (Made (Cloned o.k) ∷ h) lane (count lane names) []) (sym (rule_there h p o))
+    subst (λ r. Flow (Begun n r (held_in h p)) (names ++ Some lane ∷ []) (Made (Cloned o.k) ∷ h) lane (count lane names) []) (sym (rule_there h p o))
     (subst (λ ms. Flow (Begun n o.stream.rule ms) (names ++ Some lane ∷ []) (Made (Cloned o.k) ∷ h) lane (count lane names) []) (sym (held_there h p o))
     (flow_new names h lane n (held (read h) o.stream) (Cloned o.k) e (clone_of (past h) (Some o.stream)) (ap (clone_of (past h)) o.made)
-    (goes_clone h o.stream (within_at h (streams h) o.k o.stream o.made w) o.since))))
-
-clone_is : (t : Trail) (e : Entry) (original : ℕ) → IsAnswer t e.lane e.words e.answer → e.words ≡ words.Clone original
-    → e.answer ≡ where_open (is_open_at t.events (place 0 e.lane original t.streams)) (answers.Streaming (count e.lane t.streams))
-clone_is t e original a w = subst (λ x. IsAnswer t e.lane x e.answer) w a
+    (goes_clone h o.stream (within_at (past h) (streams h) o.k o.stream o.made w) o.since)))
 
 flow_cloned : (setting : Setting) (e : Entry) (older : List Entry) (number first : ℕ) → Legal setting (e ∷ older) → e.words ≡ words.Clone first → e.answer ≡ answers.Streaming number
     → FlowOf (Begun (length (read (trail setting older).events)) (rule_at (trail setting older) e.lane first) (holds (trail setting older) e.lane first)) (trail setting (e ∷ older)) e.lane number []
@@ -315,12 +330,16 @@ flow_cloned setting e older number first legal w a =
     let t = trail setting older in
     let n = length (read t.events) in
     let p = place 0 e.lane first t.streams in
-    let new = answers.Streaming (count e.lane t.streams) in
-    let o = opened (is_open_at t.events p) new e.answer (clone_is t e first legal.0 w)
-    (λ error r. let q : answers.Streaming number ≡ answers.Refused error = sym a ∙ r in cc) in
-    subst (λ k. FlowOf (Begun n (rule_in t.events p) (held_in t.events p)) (trail setting (e ∷ older)) e.lane k []) (number_is e.answer (count e.lane t.streams) number o.1 a)
-    (subst (λ y. FlowOf (Begun n (rule_in t.events p) (held_in t.events p)) (more t y) e.lane (count e.lane t.streams) []) (entry_is e (words.Clone first) new w o.1)
-    (flow_clone t.streams t.events e.lane p (lanes setting older legal.1) (all_within setting older legal.1) (original t.events p o.0)))
+    let new = count e.lane t.streams in
+    let means = ap (plan t e.lane) w in
+    let c = clone_by t e.lane p e.answer number (subst (λ q. IsMeant t e.lane q e.answer) means legal.0) a in
+    let o = original t.events p (ap (is_open_at t.events) c.named ∙ c.opened) in
+    let goes = Begun n (rule_in t.events p) (held_in t.events p) in
+    let one : o.k ≡ c.k = (let q : Some o.k ≡ Some c.k = sym o.named ∙ c.named in cc) in
+    subst (λ k. FlowOf goes (trail setting (e ∷ older)) e.lane k []) (number_is e.answer new number c.is a)
+    (flow_meant goes t e new (makes e.lane t.streams (Cloned c.k)) (answers.Streaming new) (means ∙ c.means) c.is
+    (subst (λ k. Flow goes (t.streams ++ Some e.lane ∷ []) (Made (Cloned k) ∷ t.events) e.lane new []) one
+    (flow_clone t.streams t.events e.lane p (lanes setting older) (all_within setting older legal.1) o)))
 
 -- what a clone gave, and what it holds
 pub clone_yields : (setting : Setting) (newer : List Entry) (e : Entry) (older : List Entry) (number first : ℕ) → Legal setting (newer ++ e ∷ older) → e.words ≡ words.Clone first

@@ -14,7 +14,7 @@ use Rattle.peer_route.specs.Streams.{since_in, accepted, matched, held}
 use Rattle.peer_route.specs.Left.{start_count}
 use Rattle.peer_route.specs.Parcel.{Setting}
 use Rattle.peer_route.specs.BusCall.{add_parcel, add_message}
-use Rattle.peer_route.specs.Trail.{Trail, place, count, trail, more, next_serial, or_zero, open_makes}
+use Rattle.peer_route.specs.Trail.{Trail, place, count, next_serial, or_zero, given}
 use Rattle.peer_route.specs.Answers.{Legal}
 use Rattle.peer_route.specs.StreamLaws.{positions, items_given, after_return, YieldsAsked}
 use Rattle.peer_route.proofs.Once.{legal_from}
@@ -22,9 +22,11 @@ use Rattle.peer_route.proofs.Edits.{get_new, take_one, drop_next}
 use Rattle.peer_route.proofs.Matched.{held_matched, arriving, matched_took, matched_same}
 use Rattle.peer_route.proofs.Issues.{message_serial}
 use Rattle.peer_route.proofs.StreamLanes.{lanes}
-use Rattle.peer_route.proofs.BusAnswers.{OfOpen, Refused, Waits, AtOnce, Asks, Fails}
+use Rattle.peer_route.proofs.BusAnswers.{OfOpen, Refused, Waits, AtOnce, Asks, Fails, open_answered}
 use Rattle.peer_route.proofs.Flowing.{Flowing, Flow, FlowOf, flow_all}
-use Rattle.peer_route.proofs.Yields.{place_new, open_is, entry_is}
+use Rattle.peer_route.proofs.Yields.{place_new, flow_meant}
+use Rattle.peer_route.specs.Entries.{trail}
+use Rattle.peer_route.specs.Plan.{Adds, Plan, plan}
 
 -- ---- what is behind the return
 
@@ -56,7 +58,7 @@ asked_took rule add m h s given r =
     let early = r.early in
     let passed = r.passed in
     let some = arriving (phase (read h) s) s.rule m in
-    let grown : matched (read (Took m ∷ h)) s ≡ matched (read h) s ++ some = matched_took m h s early in
+    let grown : matched (read (Took m ∷ h)) s ≡ matched (read h) s ++ some = matched_took m (past h) s early in
     record {
       of_rule = r.of_rule;
       begins = r.begins;
@@ -69,7 +71,7 @@ asked_took rule add m h s given r =
 -- events that read nothing
 asked_quiet : (rule : Rule) (add : Call) (g h : List Event) (s : Stream) (given : List ℕ) → read g ≡ read h → Asked rule add h s given → Asked rule add g s given
 asked_quiet rule add g h s given e r =
-    let same : matched (read g) s ≡ matched (read h) s = matched_same g h s e in
+    let same : matched (read g) s ≡ matched (read h) s = matched_same (past g) (past h) s e in
     record {
       of_rule = r.of_rule;
       begins = r.begins;
@@ -103,7 +105,7 @@ asked_same rule add h s given a b c r =
 
 -- what it holds is all that is its own but what it took
 held_asked : (rule : Rule) (add : Call) (h : List Event) (s : Stream) (given : List ℕ) → Asked rule add h s given → held (read h) s ≡ drop s.taken (matched (read h) s)
-held_asked rule add h s given r = held_matched h s ∙ ap (λ n. drop (n + s.taken) (matched (read h) s)) r.skips ∙ ap (λ n. drop n (matched (read h) s)) (omega arith)
+held_asked rule add h s given r = held_matched (past h) s ∙ ap (λ n. drop (n + s.taken) (matched (read h) s)) r.skips ∙ ap (λ n. drop n (matched (read h) s)) (omega arith)
 
 asked_item : (rule : Rule) (add : Call) (h : List Event) (k : ℕ) (s : Stream) (given : List ℕ) (m : Seen) (ms : List Seen) → held (read h) s ≡ m ∷ ms → Asked rule add h s given
     → Asked rule add (Did k Gave ∷ h) (give s) (given ++ m.position ∷ [])
@@ -126,13 +128,15 @@ asked_flowing rule add = record { along = asked_along rule add; same = asked_sam
 -- ---- its entry
 
 -- the bus was asked for the lane's next one
-made_asking : (t : Trail) (lane : ℕ) (a : Answer) (number serial : ℕ) → OfOpen t lane a → a ≡ answers.Opening number serial → count lane t.streams ≡ number
-made_asking t lane a number serial (Refused error is) e = let q : answers.Refused error ≡ answers.Opening number serial = sym is ∙ e in cc
-made_asking t lane a number serial (Waits is) e = let q : answers.Busy ≡ answers.Opening number serial = sym is ∙ e in cc
-made_asking t lane a number serial (AtOnce is) e = let q : answers.Streaming (count lane t.streams) ≡ answers.Opening number serial = sym is ∙ e in cc
-made_asking t lane a number serial (Asks is) e =
-    let q : answers.Opening (count lane t.streams) (or_zero (next_serial t.events)) ≡ answers.Opening number serial = sym is ∙ e in cc
-made_asking t lane a number serial (Fails error is) e = let q : answers.SendFailed error ≡ answers.Opening number serial = sym is ∙ e in cc
+made_asking : (t : Trail) (lane : ℕ) (rule : Rule) (asked : Option ℕ) (p : Plan) (a : Answer) (number serial : ℕ) → OfOpen t lane rule asked p a → a ≡ answers.Opening number serial
+    → (p ≡ Adds rule asked) × (count lane t.streams ≡ number)
+made_asking t lane rule asked p a number serial (Refused error is) e = let q : answers.Refused error ≡ answers.Opening number serial = sym is ∙ e in cc
+made_asking t lane rule asked p a number serial (Waits is) e = let q : answers.Busy ≡ answers.Opening number serial = sym is ∙ e in cc
+made_asking t lane rule asked p a number serial (AtOnce means is) e =
+    let q : answers.Streaming (count lane t.streams) ≡ answers.Opening number serial = sym is ∙ e in cc
+made_asking t lane rule asked p a number serial (Asks means is) e =
+    let q : answers.Opening (count lane t.streams) (or_zero (next_serial t.events)) ≡ answers.Opening number serial = sym is ∙ e in (means, cc)
+made_asking t lane rule asked p a number serial (Fails error is) e = let q : answers.SendFailed error ≡ answers.Opening number serial = sym is ∙ e in cc
 
 flow_asked : (t : Trail) (lane number : ℕ) (m : Seen) (rule : Rule) (asked : Option ℕ) → length t.streams ≡ length (streams t.events) → count lane t.streams ≡ number
     → Flow (Asked rule (inner_call (past t.events) m)) (t.streams ++ Some lane ∷ []) (Wrote ∷ Added m rule asked ∷ t.events) lane number []
@@ -149,16 +153,13 @@ flow_asked t lane number m rule asked e is =
 
 flow_entry : (setting : Setting) (e : Entry) (older : List Entry) (number serial : ℕ) (asked : Option ℕ) (text : List ℕ) (rule : Rule) → Legal setting (e ∷ older) → e.words ≡ words.Open asked text
     → rule_in_bytes text ≡ Ok rule → e.answer ≡ answers.Opening number serial
-    → FlowOf (Asked rule (inner_call (past (trail setting older).events) (add_message (trail setting older).events rule serial))) (trail setting (e ∷ older)) e.lane number []
+    → FlowOf (Asked rule (inner_call (past (trail setting older).events) (add_message (past (trail setting older).events) rule serial))) (trail setting (e ∷ older)) e.lane number []
 flow_entry setting e older number serial asked text rule legal w r a =
     let t = trail setting older in
-    let m = add_message t.events rule serial in
+    let m = add_message (past t.events) rule serial in
     let goes = Asked rule (inner_call (past t.events) m) in
-    let new = answers.Opening number serial in
-    let is = made_asking t e.lane e.answer number serial (open_is t e asked text legal.0 w) a in
-    subst (λ y. FlowOf goes (more t y) e.lane number []) (entry_is e (words.Open asked text) new w a)
-    (subst (λ xs. Flow goes (t.streams ++ Some e.lane ∷ []) (xs ++ t.events) e.lane number []) (ap (λ x. open_makes t.events x asked new) (sym r))
-    (flow_asked t e.lane number m rule asked (lanes setting older legal.1) is))
+    let is = made_asking t e.lane rule asked (plan t e.lane e.words) e.answer number serial (open_answered t e.lane e.words asked text rule e.answer legal.0 w r) a in
+    flow_meant goes t e number (Adds rule asked) (answers.Opening number serial) is.0 a (flow_asked t e.lane number m rule asked (lanes setting older) is.1)
 
 -- all that is the stream's own is what its rule accepts behind the return
 matched_asked : (rule : Rule) (add : Call) (h : List Event) (s : Stream) → s.rule ≡ Some rule → s.start ≡ OnReturn add
@@ -174,7 +175,7 @@ pub asked_yields : (setting : Setting) (newer : List Entry) (e : Entry) (older :
 asked_yields setting newer e older number serial asked text rule legal w r a =
     let g = (trail setting older).events in
     let h = (trail setting (newer ++ e ∷ older)).events in
-    let add = inner_call (past g) (add_message g rule serial) in
+    let add = inner_call (past g) (add_message (past g) rule serial) in
     let f = flow_all (Asked rule add) (asked_flowing rule add) setting newer e older number legal
     (flow_entry setting e older number serial asked text rule (legal_from setting newer (e ∷ older) legal) w r a) in
     let s = f.stream in

@@ -16,7 +16,7 @@ use Rattle.peer_route.specs.declared.opening.Opened.TheVariants as opened
 use Rattle.peer_route.specs.declared.progress.OpenState.{OpenState}
 use Rattle.peer_route.specs.declared.progress.OpenState.TheVariants as states
 use Rattle.peer_route.specs.Parcel.{Parcel, message_of, sent_by}
-use Rattle.peer_route.specs.History.{Event, Made, Ruled, Added, closing, last_serial, writer, put, streams}
+use Rattle.peer_route.specs.History.{Made, Ruled, Added, Past, after}
 use Rattle.peer_route.specs.Calls.{pending, in_flight}
 use Rattle.peer_route.specs.Streams.{asks_bus}
 use Rattle.peer_route.specs.declared.opening.Opening.{Opening}
@@ -28,30 +28,30 @@ use Rattle.peer_route.specs.Left.{View, with_asking, Left}
 use Rattle.peer_route.specs.Placing.{Draws, Spends, with_messages, PutsAll}
 
 -- The stream is open at once; or AddMatch was put, and it waits for the return.
-abbrev pub IsOpened : View → Rule → Option ℕ → List Event → Opens → Type 0
+abbrev pub IsOpened : View → Rule → Option ℕ → Past → Opens → Type 0
 IsOpened new rule asked h (opens.Open stream) =
-    (asks_bus h rule ≡ false) × (stream.number ≡ length (streams h)) × Left new (Made (Ruled rule asked) ∷ h)
+    (asks_bus h rule ≡ false) × (stream.number ≡ length h.streams) × Left new (after (Made (Ruled rule asked)) h)
 IsOpened new rule asked h (opens.Opening o) =
-    (asks_bus h rule ≡ true) × (writer h ≡ writers.Fine) × IsNext (pending h) (last_serial h) o.serial
+    (asks_bus h rule ≡ true) × (h.outbox.writer ≡ writers.Fine) × IsNext (pending h) h.outbox.last o.serial
     × (length (add_message h rule o.serial).bytes ≤ 134217728)
-    × (o.number ≡ length (streams h)) × (o.index ≡ length (put h)) × Left new (Added (add_message h rule o.serial) rule asked ∷ h)
+    × (o.number ≡ length h.streams) × (o.index ≡ length h.outbox.put) × Left new (after (Added (add_message h rule o.serial) rule asked) h)
 
 -- nothing was opened: the peer is open, nothing of its own is on its way, and the bus would have to be asked
-abbrev pub WouldAsk : List Event → Rule → Type 0
-WouldAsk h rule = (closing h ≡ None) × (in_flight h ≡ false) × (asks_bus h rule ≡ true)
+abbrev pub WouldAsk : Past → Rule → Type 0
+WouldAsk h rule = (h.closing ≡ None) × (in_flight h ≡ false) × (asks_bus h rule ≡ true)
 
 -- What opening a stream of this rule gives. An error changes nothing.
-abbrev pub OpensRule : View → View → Rule → Option ℕ → List Event → Result Opens Error → Type 0
-OpensRule old new rule asked h (Ok o) = (closing h ≡ None) × (in_flight h ≡ false) × IsOpened new rule asked h o
-OpensRule old new rule asked h (Err (errors.InputOutput kinds.Closed)) = IsSome (closing h) × (new ≡ old)
-OpensRule old new rule asked h (Err errors.Busy) = (closing h ≡ None) × (in_flight h ≡ true) × (new ≡ old)
+abbrev pub OpensRule : View → View → Rule → Option ℕ → Past → Result Opens Error → Type 0
+OpensRule old new rule asked h (Ok o) = (h.closing ≡ None) × (in_flight h ≡ false) × IsOpened new rule asked h o
+OpensRule old new rule asked h (Err (errors.InputOutput kinds.Closed)) = IsSome h.closing × (new ≡ old)
+OpensRule old new rule asked h (Err errors.Busy) = (h.closing ≡ None) × (in_flight h ≡ true) × (new ≡ old)
 OpensRule old new rule asked h (Err errors.SerialsSpent) = WouldAsk h rule × AllTaken (pending h) × (new ≡ old)
 OpensRule old new rule asked h (Err errors.ExcessData) =
-    WouldAsk h rule × ((serial : ℕ) × IsNext (pending h) (last_serial h) serial × (134217728 < length (add_message h rule serial).bytes)) × (new ≡ old)
+    WouldAsk h rule × ((serial : ℕ) × IsNext (pending h) h.outbox.last serial × (134217728 < length (add_message h rule serial).bytes)) × (new ≡ old)
 OpensRule old new rule asked h (Err (errors.InputOutput kinds.WriteFault)) =
     WouldAsk h rule
-    × ((serial : ℕ) × IsNext (pending h) (last_serial h) serial × (length (add_message h rule serial).bytes ≤ 134217728))
-    × (writer h ≡ writers.Failed) × (new ≡ old)
+    × ((serial : ℕ) × IsNext (pending h) h.outbox.last serial × (length (add_message h rule serial).bytes ≤ 134217728))
+    × (h.outbox.writer ≡ writers.Failed) × (new ≡ old)
 OpensRule old new rule asked h (Err errors.Memory) = new ≡ old
 OpensRule old new rule asked h (Err error) = ⊥
 

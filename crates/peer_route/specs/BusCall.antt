@@ -10,7 +10,7 @@ use Rattle.wire_message.specs.declared.kind.MessageType.TheVariants as types
 use Rattle.rule_match.specs.Rule.{Rule}
 use Rattle.rule_match.specs.Text.{rule_text}
 use Rattle.peer_route.specs.Parcel.{Parcel, message_of}
-use Rattle.peer_route.specs.History.{Event, unique_name}
+use Rattle.peer_route.specs.History.{Past}
 
 abbrev pub bus_name : List ℕ
 bus_name = codes "org.freedesktop.DBus"
@@ -40,16 +40,16 @@ abbrev pub add_parcel : Option (List ℕ) → Rule → Parcel
 add_parcel name rule = match_parcel (codes "AddMatch") name rule
 
 -- the message of it with this serial
-abbrev pub add_message : List Event → Rule → ℕ → Seen
-add_message h rule serial = message_of (add_parcel (unique_name h) rule) serial
+abbrev pub add_message : Past → Rule → ℕ → Seen
+add_message h rule serial = message_of (add_parcel h.name rule) serial
 
 -- The bus is told that what the rule accepts isn't wanted any more.
 abbrev pub remove_parcel : Option (List ℕ) → Rule → Parcel
 remove_parcel name rule = match_parcel (codes "RemoveMatch") name rule
 
 -- the message of it with this serial
-abbrev pub remove_message : List Event → Rule → ℕ → Seen
-remove_message h rule serial = message_of (remove_parcel (unique_name h) rule) serial
+abbrev pub remove_message : Past → Rule → ℕ → Seen
+remove_message h rule serial = message_of (remove_parcel h.name rule) serial
 
 -- ---- several rules
 

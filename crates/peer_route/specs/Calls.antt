@@ -1,4 +1,4 @@
--- What is asked of the calls of a history: their answers, which are first-such, and which of them wait.
+-- What is asked of the calls of a past: their answers, which are first-such, and which of them wait.
 use Rattle.std.specs.Prelude.{ℕ, ◌==◌, Bool, ◌&&◌, ◌||◌, not, is_none, if◌then◌else◌, List, [], ◌∷◌, drop, find, slice_get, Option, Some, None, Result, Ok, Err}
 use Rattle.std.specs.List.{list_any}
 use Rattle.wire_message.specs.Front.{Seen}
@@ -6,7 +6,7 @@ use Rattle.wire_message.specs.declared.error.Error.{Error}
 use Rattle.wire_message.specs.declared.error.Error.TheVariants as errors
 use Rattle.peer_route.specs.declared.polled.Polled.{Polled}
 use Rattle.peer_route.specs.declared.polled.Polled.TheVariants as polled
-use Rattle.peer_route.specs.History.{Event, Spent, Call, bears, read, closing, calls}
+use Rattle.peer_route.specs.History.{Event, Spent, Call, bears, Past}
 
 -- the first message read after the call was put that bears its serial
 unfoldable pub found : List Seen → Call → Option Seen
@@ -32,8 +32,8 @@ polled_at ms closed (Some c) = if is_nobodys c then Err errors.UnknownHandle els
 -- What a poll of the call with this number gives: its reply, which is the first message read after it that bears its
 -- serial; else the closing error; else nothing yet. A call that wasn't made, or whose answer was given, or that was dropped,
 -- is unknown, and so is one of the peer's own.
-unfoldable pub poll_answer : List Event → ℕ → Result (Polled Seen) Error
-poll_answer h k = polled_at (read h) (closing h) (slice_get (calls h) k)
+unfoldable pub poll_answer : Past → ℕ → Result (Polled Seen) Error
+poll_answer h k = polled_at h.read h.closing (slice_get h.calls k)
 
 -- What a poll or a take gives where it names a position, which isn't looked at: that there is none before it, in place of
 -- nothing yet; else the same.
@@ -56,8 +56,8 @@ abbrev pub waits_with : List Seen → ℕ → Call → Bool
 waits_with ms serial c = not (is_gone c) && is_none (found ms c) && (c.serial == serial)
 
 -- a call waits for a reply of this serial; after the closing error none waits
-unfoldable pub pending : List Event → ℕ → Bool
-pending h serial = is_none (closing h) && list_any (waits_with (read h) serial) (calls h)
+unfoldable pub pending : Past → ℕ → Bool
+pending h serial = is_none h.closing && list_any (waits_with h.read serial) h.calls
 
 -- the call is an AddMatch or a RemoveMatch that waits for its reply
 abbrev pub is_awaited : List Seen → Call → Bool
@@ -65,8 +65,8 @@ is_awaited ms c = c.inner && (not (is_gone c) && is_none (found ms c))
 
 -- An AddMatch or a RemoveMatch of the peer is on its way: its message was put, its write didn't fail, its reply wasn't read, and
 -- the peer is open.
-unfoldable pub in_flight : List Event → Bool
-in_flight h = is_none (closing h) && list_any (is_awaited (read h)) (calls h)
+unfoldable pub in_flight : Past → Bool
+in_flight h = is_none h.closing && list_any (is_awaited h.read) h.calls
 
 -- What dropping the call with this number gives: a call that still waits for its answer, or has one, is dropped. One that
 -- wasn't made, or is over, is unknown.
@@ -74,8 +74,8 @@ abbrev pub dropped_at : Option Call → Result (Unit {0}) Error
 dropped_at None = Err errors.UnknownHandle
 dropped_at (Some c) = if is_nobodys c then Err errors.UnknownHandle else Ok tt
 
-unfoldable pub drop_answer : List Event → ℕ → Result (Unit {0}) Error
-drop_answer h k = dropped_at (slice_get (calls h) k)
+unfoldable pub drop_answer : Past → ℕ → Result (Unit {0}) Error
+drop_answer h k = dropped_at (slice_get h.calls k)
 
 abbrev pub drop_events : {A E : Type 0} → ℕ → Result A E → List Event
 drop_events k (Ok done) = Spent k ∷ []

@@ -139,6 +139,7 @@ pub record Past : Type 0 where
 
 -- ---- what was read, and what closed the peer
 
+-- the messages that were read, with the one that a read took
 abbrev pub read_after : Event → List Seen → List Seen
 read_after (Took m) ms = ms ++ m ∷ []
 read_after e ms = ms
@@ -147,10 +148,12 @@ abbrev pub first_of : Option Error → Error → Option Error
 first_of None error = Some error
 first_of (Some earlier) error = Some earlier
 
+-- the first closing error, once the event happened: the first time that the peer is shut gives it
 abbrev pub closing_after : Event → Option Error → Option Error
 closing_after (Shut error) closing = first_of closing error
 closing_after e closing = closing
 
+-- whether the peer stands on a message bus: from the event that says so on
 abbrev pub bus_after : Event → Bool → Bool
 bus_after OnBus bus = true
 bus_after e bus = bus
@@ -159,6 +162,7 @@ abbrev pub first_name : Option (List ℕ) → List ℕ → Option (List ℕ)
 first_name None name = Some name
 first_name (Some earlier) name = Some earlier
 
+-- the peer's unique name: the first that it is given
 abbrev pub name_after : Event → Option (List ℕ) → Option (List ℕ)
 name_after (Named name) given = first_name given name
 name_after e given = given
@@ -183,7 +187,7 @@ shuts error = writers.Fine
 abbrev pub put_in : Seen → Outbox → Outbox
 put_in m o = record o { put = o.put ++ m ∷ []; last = m.serial }
 
--- After a failed write, or once the peer was closed, nothing is put any more.
+-- the outbox once the event happened: a message stands at its end, the first that wasn't done is written or fails, or the peer is shut
 abbrev pub outbox_after : Event → Outbox → Outbox
 outbox_after (Put m expects) o = put_in m o
 outbox_after (Added m rule asked) o = put_in m o
@@ -216,6 +220,7 @@ spend c = record c { spent = true }
 abbrev pub fail_at : ℕ → Call → Call
 fail_at index c = record c { failed = c.failed || (c.index == index) }
 
+-- the calls once the event happened: one more, one that is over, or those that failed with the message of a failed write
 abbrev pub calls_after : Past → Event → List Call → List Call
 calls_after p (Put m expects) cs = if expects then cs ++ new_call p m ∷ [] else cs
 calls_after p (Added m rule asked) cs = cs ++ inner_call p m ∷ []
@@ -288,6 +293,7 @@ done_by Opened s = open_one s
 abbrev pub fail_stream : List Seen → ℕ → Stream → Stream
 fail_stream ms index s = record s { gone = s.gone || asks_by index (phase ms s) }
 
+-- the streams once the event happened: one more, one that did something, or those that are gone with their AddMatch's failed write
 abbrev pub streams_after : Past → Event → List Stream → List Stream
 streams_after p (Made making) ss = ss ++ new_stream p ss making ∷ []
 streams_after p (Added m rule asked) ss = ss ++ asking_stream p m rule ∷ []
@@ -369,6 +375,7 @@ no_past = record {
   capacities = record { main = 64; rules = usual };
 }
 
+-- the past once the event happened: each part by itself
 abbrev pub after : Event → Past → Past
 after e p = record {
   bus = bus_after e p.bus;
@@ -381,54 +388,62 @@ after e p = record {
   capacities = capacities_after p e p.capacities;
 }
 
+-- the past once all these events, newest first, happened after it
+abbrev pub after_all : List Event → Past → Past
+after_all [] p = p
+after_all (e ∷ es) p = after e (after_all es p)
+
 -- what these events, newest first, leave
 abbrev pub past : List Event → Past
 past [] = no_past
 past (e ∷ h) = after e (past h)
 
--- ---- the parts by name
+-- ---- the parts, by the events
 
+-- the messages that were read, oldest first
 abbrev pub read : List Event → List Seen
 read h = (past h).read
 
+-- the first error that closed the peer
 abbrev pub closing : List Event → Option Error
 closing h = (past h).closing
 
-abbrev pub on_bus : List Event → Bool
-on_bus h = (past h).bus
-
+-- the peer's unique name
 abbrev pub unique_name : List Event → Option (List ℕ)
 unique_name h = (past h).name
 
+-- the messages that were put, oldest first
 abbrev pub put : List Event → List Seen
 put h = (past h).outbox.put
 
+-- how many of them were written
 abbrev pub written : List Event → ℕ
 written h = (past h).outbox.written
 
+-- how many were written or failed
 abbrev pub done : List Event → ℕ
 done h = (past h).outbox.done
 
+-- whether a write failed
 abbrev pub is_failed : List Event → Bool
 is_failed h = (past h).outbox.failed
 
+-- what became of the writer
 abbrev pub writer : List Event → Writer
 writer h = (past h).outbox.writer
 
+-- the last serial that was drawn; 0 before the first
 abbrev pub last_serial : List Event → ℕ
 last_serial h = (past h).outbox.last
 
+-- the calls that were issued, oldest first
 abbrev pub calls : List Event → List Call
 calls h = (past h).calls
 
+-- the streams that were made, oldest first
 abbrev pub streams : List Event → List Stream
 streams h = (past h).streams
 
+-- how many messages they may hold
 abbrev pub capacities : List Event → Capacities
 capacities h = (past h).capacities
-
-abbrev pub main : List Event → ℕ
-main h = (capacities h).main
-
-abbrev pub rule_limit : Rule → List Event → ℕ
-rule_limit rule h = (capacities h).rules rule

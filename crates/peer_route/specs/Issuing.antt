@@ -13,7 +13,7 @@ use Rattle.peer_route.specs.declared.route.Issued.{Issued}
 use Rattle.peer_route.specs.declared.writer.Writer.TheVariants as writers
 use Rattle.peer_route.specs.Parcel.{Parcel, message_of}
 use Rattle.peer_route.specs.CallMessage.{expects}
-use Rattle.peer_route.specs.History.{Event, Put, put, calls, last_serial, writer}
+use Rattle.peer_route.specs.History.{Event, Put, Past, after}
 use Rattle.peer_route.specs.Calls.{pending}
 use Rattle.peer_route.specs.Left.{View, Left}
 
@@ -43,35 +43,35 @@ call_number true number = Some number
 call_number false number = None
 
 -- what is answered of a message that is put: its place in the outbox, its serial, its call's number
-abbrev pub issued_of : List Event → Parcel → ℕ → Issued
-issued_of h parcel serial = record { index = length (put h); serial = serial; call = call_number (expects (Ok parcel)) (length (calls h)) }
+abbrev pub issued_of : Past → Parcel → ℕ → Issued
+issued_of h parcel serial = record { index = length h.outbox.put; serial = serial; call = call_number (expects (Ok parcel)) (length h.calls) }
 
 -- ---- the messages of a command
 
 -- The serials that messages draw, one after another: each is the next once those before it were put.
-abbrev pub AreDrawn : List Event → List Parcel → List ℕ → Type 0
+abbrev pub AreDrawn : Past → List Parcel → List ℕ → Type 0
 AreDrawn h [] [] = ⊤
-AreDrawn h (p ∷ ps) (serial ∷ serials) = IsNext (pending h) (last_serial h) serial × AreDrawn (put_of p serial ∷ h) ps serials
+AreDrawn h (p ∷ ps) (serial ∷ serials) = IsNext (pending h) h.outbox.last serial × AreDrawn (after (put_of p serial) h) ps serials
 AreDrawn h [] (serial ∷ serials) = ⊥
 AreDrawn h (p ∷ ps) [] = ⊥
 
 -- Some message finds no serial: each is pending once those before it were put.
-abbrev pub RunsOut : List Event → List Parcel → Type 0
+abbrev pub RunsOut : Past → List Parcel → Type 0
 RunsOut h [] = ⊥
 RunsOut h (p ∷ ps) =
-    AllTaken (pending h) ⊎ ((serial : ℕ) × IsNext (pending h) (last_serial h) serial × RunsOut (put_of p serial ∷ h) ps)
+    AllTaken (pending h) ⊎ ((serial : ℕ) × IsNext (pending h) h.outbox.last serial × RunsOut (after (put_of p serial) h) ps)
 
--- the history once they were put, in order
-abbrev pub put_each : List Parcel → List ℕ → List Event → List Event
+-- the past once they were put, in order
+abbrev pub put_each : List Parcel → List ℕ → Past → Past
 put_each [] serials h = h
 put_each (p ∷ ps) [] h = h
-put_each (p ∷ ps) (serial ∷ serials) h = put_each ps serials (put_of p serial ∷ h)
+put_each (p ∷ ps) (serial ∷ serials) h = put_each ps serials (after (put_of p serial) h)
 
 -- what is answered of each
-abbrev pub issued_each : List Event → List Parcel → List ℕ → List Issued
+abbrev pub issued_each : Past → List Parcel → List ℕ → List Issued
 issued_each h [] serials = []
 issued_each h (p ∷ ps) [] = []
-issued_each h (p ∷ ps) (serial ∷ serials) = issued_of h p serial ∷ issued_each (put_of p serial ∷ h) ps serials
+issued_each h (p ∷ ps) (serial ∷ serials) = issued_of h p serial ∷ issued_each (after (put_of p serial) h) ps serials
 
 -- each message is within its limits
 abbrev pub AreShort : List Parcel → List ℕ → Type 0
@@ -86,17 +86,17 @@ SomeLong (p ∷ ps) [] = ⊥
 SomeLong (p ∷ ps) (serial ∷ serials) = IsTooLong p serial ⊎ SomeLong ps serials
 
 -- There is a serial for each message, and each is within its limits.
-abbrev pub AreReady : List Event → List Parcel → Type 0
+abbrev pub AreReady : Past → List Parcel → Type 0
 AreReady h ps = (serials : List ℕ) × AreDrawn h ps serials × AreShort ps serials
 
--- What issuing the messages of a command gives, by the history before it: all are put, in order, or none, and then nothing
+-- What issuing the messages of a command gives, by the past before it: all are put, in order, or none, and then nothing
 -- changes. What refuses them is asked for all of them before the next is.
-abbrev pub IssuesAll : {A : Type 0} → (A → List Issued) → View → View → List Parcel → List Event → Result A Error → Type 0
+abbrev pub IssuesAll : {A : Type 0} → (A → List Issued) → View → View → List Parcel → Past → Result A Error → Type 0
 IssuesAll items old new ps h (Ok issued) =
     (list_any is_deep ps ≡ false)
     × ((serials : List ℕ) × AreDrawn h ps serials × AreShort ps serials
     × (items issued ≡ issued_each h ps serials) × Left new (put_each ps serials h))
-    × (writer h ≡ writers.Fine)
+    × (h.outbox.writer ≡ writers.Fine)
 -- a value of some message opens too many containers at once
 IssuesAll items old new ps h (Err (errors.Variant faults.Depth)) = (list_any is_deep ps ≡ true) × (new ≡ old)
 -- else, some message finds each serial pending
@@ -106,10 +106,10 @@ IssuesAll items old new ps h (Err errors.ExcessData) =
     (list_any is_deep ps ≡ false) × ((serials : List ℕ) × AreDrawn h ps serials × SomeLong ps serials) × (new ≡ old)
 -- else, an earlier write failed
 IssuesAll items old new ps h (Err (errors.InputOutput kinds.WriteFault)) =
-    (list_any is_deep ps ≡ false) × AreReady h ps × (writer h ≡ writers.Failed) × (new ≡ old)
+    (list_any is_deep ps ≡ false) × AreReady h ps × (h.outbox.writer ≡ writers.Failed) × (new ≡ old)
 -- else, the peer was closed before
 IssuesAll items old new ps h (Err (errors.InputOutput kinds.Closed)) =
-    (list_any is_deep ps ≡ false) × AreReady h ps × (writer h ≡ writers.Closed) × (new ≡ old)
+    (list_any is_deep ps ≡ false) × AreReady h ps × (h.outbox.writer ≡ writers.Closed) × (new ≡ old)
 IssuesAll items old new ps h (Err errors.Memory) = new ≡ old
 IssuesAll items old new ps h (Err error) = ⊥
 

@@ -1,5 +1,5 @@
 -- What the laws of histories say, in words of their own.
-use Rattle.std.specs.Prelude.{ℕ, ⊤, ◌≡◌, ◌+◌, ◌||◌, ◌⊎◌, true, false, is_some, List, drop, find, slice_get, Some}
+use Rattle.std.specs.Prelude.{ℕ, ⊤, ◌≡◌, ◌+◌, ◌||◌, ◌⊎◌, true, false, is_some, drop, find, slice_get, Some}
 use Rattle.std.specs.List.{AllByRecursion}
 use Rattle.wire_message.specs.Front.{Seen}
 use Rattle.wire_message.specs.declared.error.Error.{Error}
@@ -9,10 +9,11 @@ use Rattle.peer_route.specs.declared.words.Words.TheVariants as words
 use Rattle.peer_route.specs.declared.answer.Answer.{Answer}
 use Rattle.peer_route.specs.declared.answer.Answer.TheVariants as answers
 use Rattle.peer_route.specs.declared.answer.Entry.{Entry}
-use Rattle.peer_route.specs.History.{Event, Call, read, closing, calls, bears}
+use Rattle.peer_route.specs.History.{Call, read, closing, calls, bears, Past}
 use Rattle.peer_route.specs.Calls.{found, is_gone}
 use Rattle.peer_route.specs.Trail.{Trail, place}
-use Rattle.peer_route.specs.Answers.{reply_answer, poll_of, before_of}
+use Rattle.peer_route.specs.Shown.{reply_answer}
+use Rattle.peer_route.specs.Plan.{poll_of, before_of}
 
 -- the command asks for the answer of the lane's call with this number, by position or not
 abbrev pub IsPoll : ℕ → Words → Type 0
@@ -63,8 +64,8 @@ pub record IsCutOff (t : Trail) (lane number : ℕ) (error : Error) : Type 0 whe
   pub first : closing t.events ≡ Some error
 
 -- a message that comes now says nothing to this call: it bears another serial, or the call has its reply or is over
-abbrev pub IsPast : List Event → Seen → Call → Type 0
-IsPast h m c = (bears c.serial m ≡ false) ⊎ ((is_gone c || is_some (found (read h) c)) ≡ true)
+abbrev pub IsPast : Past → Seen → Call → Type 0
+IsPast h m c = (bears c.serial m ≡ false) ⊎ ((is_gone c || is_some (found h.read c)) ≡ true)
 
 -- What a poll of this number by this lane is answered is the same after these entries as after those, by position too.
 abbrev pub SamePoll : Trail → Trail → ℕ → ℕ → Type 0

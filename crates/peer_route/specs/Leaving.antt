@@ -14,7 +14,7 @@ use Rattle.peer_route.specs.declared.leaving.Spent.{Spent}
 use Rattle.peer_route.specs.declared.leaving.Spent.TheVariants as spent
 use Rattle.peer_route.specs.declared.route.Issued.{Issued}
 use Rattle.peer_route.specs.Parcel.{Parcel}
-use Rattle.peer_route.specs.History.{Event, Removed, Did, Gone, edit, last_serial, writer}
+use Rattle.peer_route.specs.History.{Removed, Did, Gone, edit, Past, after}
 use Rattle.peer_route.specs.Calls.{pending}
 use Rattle.peer_route.specs.Streams.{are_open, close_waits, leaving, may_be_signal}
 use Rattle.peer_route.specs.Left.{Held, View, Left, kept_at, wants_of, shared}
@@ -25,60 +25,60 @@ use Rattle.peer_route.specs.Bus.{fits_string, letter_about, rule_call}
 use Rattle.peer_route.specs.Placing.{PutsAll}
 
 -- The serials that the RemoveMatch of these rules draw, one after another.
-abbrev pub AreTold : List Event → List Rule → List ℕ → Type 0
+abbrev pub AreTold : Past → List Rule → List ℕ → Type 0
 AreTold h [] [] = ⊤
-AreTold h (rule ∷ rules) (serial ∷ serials) = IsNext (pending h) (last_serial h) serial × AreTold (Removed (remove_message h rule serial) ∷ h) rules serials
+AreTold h (rule ∷ rules) (serial ∷ serials) = IsNext (pending h) h.outbox.last serial × AreTold (after (Removed (remove_message h rule serial)) h) rules serials
 AreTold h [] (serial ∷ serials) = ⊥
 AreTold h (rule ∷ rules) [] = ⊥
 
 -- Some RemoveMatch finds no serial: each is pending once those before it were put.
-abbrev pub TellsNone : List Event → List Rule → Type 0
+abbrev pub TellsNone : Past → List Rule → Type 0
 TellsNone h [] = ⊥
 TellsNone h (rule ∷ rules) =
-    AllTaken (pending h) ⊎ ((serial : ℕ) × IsNext (pending h) (last_serial h) serial × TellsNone (Removed (remove_message h rule serial) ∷ h) rules)
+    AllTaken (pending h) ⊎ ((serial : ℕ) × IsNext (pending h) h.outbox.last serial × TellsNone (after (Removed (remove_message h rule serial)) h) rules)
 
 -- each passes no limit
-abbrev pub AreBrief : List Event → List Rule → List ℕ → Type 0
+abbrev pub AreBrief : Past → List Rule → List ℕ → Type 0
 AreBrief h [] serials = ⊤
 AreBrief h (rule ∷ rules) [] = ⊤
 AreBrief h (rule ∷ rules) (serial ∷ serials) =
-    (length (remove_message h rule serial).bytes ≤ 134217728) × AreBrief (Removed (remove_message h rule serial) ∷ h) rules serials
+    (length (remove_message h rule serial).bytes ≤ 134217728) × AreBrief (after (Removed (remove_message h rule serial)) h) rules serials
 
 -- some passes its limit
-abbrev pub SomeNotBrief : List Event → List Rule → List ℕ → Type 0
+abbrev pub SomeNotBrief : Past → List Rule → List ℕ → Type 0
 SomeNotBrief h [] serials = ⊥
 SomeNotBrief h (rule ∷ rules) [] = ⊥
 SomeNotBrief h (rule ∷ rules) (serial ∷ serials) =
-    (134217728 < length (remove_message h rule serial).bytes) ⊎ SomeNotBrief (Removed (remove_message h rule serial) ∷ h) rules serials
+    (134217728 < length (remove_message h rule serial).bytes) ⊎ SomeNotBrief (after (Removed (remove_message h rule serial)) h) rules serials
 
--- the history once they were put, in order
-abbrev pub removed_each : List Rule → List ℕ → List Event → List Event
+-- the past once they were put, in order
+abbrev pub removed_each : List Rule → List ℕ → Past → Past
 removed_each [] serials h = h
 removed_each (rule ∷ rules) [] h = h
-removed_each (rule ∷ rules) (serial ∷ serials) h = removed_each rules serials (Removed (remove_message h rule serial) ∷ h)
+removed_each (rule ∷ rules) (serial ∷ serials) h = removed_each rules serials (after (Removed (remove_message h rule serial)) h)
 
 -- There are rules to tell of, a serial for each RemoveMatch, and each passes no limit.
-abbrev pub MayTell : List Event → List Rule → Type 0
+abbrev pub MayTell : Past → List Rule → Type 0
 MayTell h rules = (some_rules rules ≡ true) × ((serials : List ℕ) × AreTold h rules serials × AreBrief h rules serials)
 
 -- What telling the bus gives, after the streams were closed: `h` has that already.
-abbrev pub TellsBus : View → List Event → List Rule → Result (Option ℕ) Error → Type 0
+abbrev pub TellsBus : View → Past → List Rule → Result (Option ℕ) Error → Type 0
 TellsBus new h rules (Ok last) =
-    (serials : List ℕ) × AreTold h rules serials × AreBrief h rules serials × (some_rules rules ≡ true → writer h ≡ writers.Fine)
+    (serials : List ℕ) × AreTold h rules serials × AreBrief h rules serials × (some_rules rules ≡ true → h.outbox.writer ≡ writers.Fine)
     × (last ≡ last_of serials) × Left new (removed_each rules serials h)
 TellsBus new h rules (Err errors.SerialsSpent) = TellsNone h rules × Left new h
 TellsBus new h rules (Err errors.ExcessData) = ((serials : List ℕ) × AreTold h rules serials × SomeNotBrief h rules serials) × Left new h
-TellsBus new h rules (Err (errors.InputOutput kinds.WriteFault)) = MayTell h rules × (writer h ≡ writers.Failed) × Left new h
-TellsBus new h rules (Err (errors.InputOutput kinds.Closed)) = MayTell h rules × (writer h ≡ writers.Closed) × Left new h
+TellsBus new h rules (Err (errors.InputOutput kinds.WriteFault)) = MayTell h rules × (h.outbox.writer ≡ writers.Failed) × Left new h
+TellsBus new h rules (Err (errors.InputOutput kinds.Closed)) = MayTell h rules × (h.outbox.writer ≡ writers.Closed) × Left new h
 TellsBus new h rules (Err error) = ⊥
 
--- the history once these streams were closed
-abbrev pub gone_both : ℕ → Option ℕ → List Event → List Event
-gone_both k None h = Did k Gone ∷ h
-gone_both k (Some j) h = Did j Gone ∷ Did k Gone ∷ h
+-- the past once these streams were closed
+abbrev pub gone_both : ℕ → Option ℕ → Past → Past
+gone_both k None h = after (Did k Gone) h
+gone_both k (Some j) h = after (Did j Gone) (after (Did k Gone) h)
 
 -- The streams may be closed now: they are open, are two, and need not wait.
-abbrev pub MayClose : List Event → ℕ → Option ℕ → Type 0
+abbrev pub MayClose : Past → ℕ → Option ℕ → Type 0
 MayClose h k j = (are_open h k j ≡ true) × (close_waits h k j ≡ false)
 
 abbrev pub number_of : Option MessageStream → Option ℕ
@@ -87,7 +87,7 @@ number_of (Some s) = Some s.number
 
 -- What closing the stream with this number gives, or of two in one step. Where they are closed the bus is told of each rule whose
 -- last streams they were; also where it can't be told they are closed.
-abbrev pub ClosesStreams : View → View → ℕ → Option ℕ → List Event → Spent → Type 0
+abbrev pub ClosesStreams : View → View → ℕ → Option ℕ → Past → Spent → Type 0
 ClosesStreams old new k j h (spent.Gone last) = MayClose h k j × TellsBus new (gone_both k j h) (leaving h k j) (Ok last)
 ClosesStreams old new k j h (spent.Back s t errors.Busy) = (are_open h k j ≡ true) × (close_waits h k j ≡ true) × (s.number ≡ k) × (number_of t ≡ j) × (new ≡ old)
 ClosesStreams old new k j h (spent.Back s t errors.Memory) =

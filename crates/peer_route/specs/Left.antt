@@ -1,5 +1,5 @@
--- What a history leaves of a peer: all that the answers to come depend on.
-use Rattle.std.specs.Prelude.{ℕ, zero, suc, ⊤, ◌≡◌, ◌+◌, ◌≤◌, nat_lt, max, Bool, true, false, not, ◌&&◌, ◌==◌, if◌then◌else◌, is_none, List, [], ◌∷◌, ◌++◌, length, map, get_or, slice_get, option_map, option_and_then, Option, Some, None, IsSome, Result, Ok, Err}
+-- What a past leaves of a peer: all that the answers to come depend on.
+use Rattle.std.specs.Prelude.{ℕ, zero, suc, ⊤, ◌≡◌, ◌+◌, ◌<◌, ◌≤◌, nat_lt, max, Bool, true, false, not, ◌&&◌, ◌==◌, if◌then◌else◌, is_none, is_some, List, [], ◌∷◌, ◌++◌, length, map, get_or, slice_get, option_map, option_and_then, Option, Some, None, IsSome, Result, Ok, Err}
 use Rattle.std.specs.List.{list_any, AllByRecursion}
 use Rattle.std.specs.Option.{option_flatten}
 use Rattle.std.specs.Ordering.{nat_cmp}
@@ -14,16 +14,16 @@ use Rattle.peer_route.specs.declared.queue.Subscription.{Subscription}
 use Rattle.peer_route.specs.declared.progress.Progress.{Progress}
 use Rattle.peer_route.specs.declared.progress.Progress.TheVariants as steps
 use Rattle.peer_route.specs.declared.writer.Writer.{Writer}
+use Rattle.peer_route.specs.declared.writer.Writer.TheVariants as writers
 use Rattle.rule_match.specs.Rule.{Rule}
 use Rattle.rule_match.specs.Accepting.{accepts}
 use Rattle.peer_route.specs.Rules.{is_same, usual}
-use Rattle.peer_route.specs.History.{capacities, closing, calls, Stream, Start, Behind, OnReturn, Phase, Asking, Denied, Since, phase, is_return, streams, main, rule_limit, asked_or, raised, Event, Made, Ruled, Cloned, Call, put, edit, last_serial, writer, unique_name, bears, read}
+use Rattle.peer_route.specs.History.{Call, bears, Stream, Start, Behind, OnReturn, Phase, Asking, Denied, Since, phase, is_return, asked_or, raised, Made, Cloned, Past, after}
 use Rattle.peer_route.specs.Calls.{found, is_gone}
 use Rattle.peer_route.specs.Streams.{matched, held, is_open, take_by, first_position}
 use Rattle.peer_route.specs.declared.progress.OpenState.{OpenState}
 use Rattle.peer_route.specs.declared.progress.OpenState.TheVariants as states
 use Rattle.peer_route.specs.declared.polled.Polled.{Polled}
-use Rattle.peer_route.specs.History as events
 
 -- what is kept of a reply: nothing where the call is one of the peer's own
 abbrev pub reply_kept : Bool → Seen → Slot
@@ -377,15 +377,16 @@ pub record View : Type 0 where
   pub writer : Writer
 
 -- These calls are left of those that were issued, by the messages that were read and the first closing error: each with what was
--- found for it.
+-- found for it. None was put behind more messages than were read.
 pub record AreCalls (v : CallsView) (ms : List Seen) (closed : Option Error) (cs : List Call) : Type 0 where
   pub slots : v.slots ≡ map (slot_of ms) cs
   pub closing : v.closing ≡ closed
   pub distinct : v.closing ≡ None → AreDistinct v.slots
+  pub early : AllByRecursion (λ c. c.from ≤ length ms) cs
 
--- The history leaves these calls.
-abbrev pub LeftCalls : CallsView → List Event → Type 0
-LeftCalls v h = AreCalls v (read h) (closing h) (calls h)
+-- The past leaves these calls.
+abbrev pub LeftCalls : CallsView → Past → Type 0
+LeftCalls v h = AreCalls v h.read h.closing h.calls
 
 -- the number of messages behind which a stream begins, or its AddMatch was put
 abbrev pub start_count : Start → ℕ
@@ -403,27 +404,44 @@ pub record AreStreams (v : List (Option Held)) (limits : Rule → ℕ) (ms : Lis
   pub queues : v ≡ map (held_of limits ms) ss
   pub within : AllByRecursion (IsWithin ms) ss
 
--- The history leaves these streams.
-abbrev pub LeftStreams : List (Option Held) → List Event → Type 0
-LeftStreams v h = AreStreams v (capacities h).rules (read h) (streams h)
+-- The past leaves these streams.
+abbrev pub LeftStreams : List (Option Held) → Past → Type 0
+LeftStreams v h = AreStreams v h.capacities.rules h.read h.streams
 
 -- a read takes nothing now
 unfoldable pub is_busy : View → Bool
 is_busy v = is_none v.calls.closing && list_any (is_over v.main) v.streams
 
--- The history leaves this core.
-pub record Left (v : View) (h : List Event) : Type 0 where
+-- each of these numbers is below those behind it
+abbrev pub Rising : List ℕ → Type 0
+Rising [] = ⊤
+Rising (n ∷ ns) = AllByRecursion (λ m. n < m) ns × Rising ns
+
+-- What holds of each past: the places of its calls in the outbox rise, and are below its end; and a writer that was closed is a
+-- closed peer's.
+pub record AreSound (put : List Seen) (writer : Writer) (closed : Option Error) (cs : List Call) : Type 0 where
+  pub below : AllByRecursion (λ place. place < length put) (map (λ c. c.index) cs)
+  pub rise : Rising (map (λ c. c.index) cs)
+  pub shut : writer ≡ writers.Closed → is_some closed ≡ true
+
+-- what holds of this past
+abbrev pub IsSound : Past → Type 0
+IsSound h = AreSound h.outbox.put h.outbox.writer h.closing h.calls
+
+-- The past leaves this core.
+pub record Left (v : View) (h : Past) : Type 0 where
   pub calls : LeftCalls v.calls h
-  pub bus : v.bus ≡ events.on_bus h
-  pub name : v.name ≡ events.unique_name h
+  pub bus : v.bus ≡ h.bus
+  pub name : v.name ≡ h.name
   pub streams : LeftStreams v.streams h
-  pub main : v.main ≡ main h
-  pub read : v.read ≡ length (events.read h)
-  pub last : v.last ≡ last_serial h
-  pub outbox : v.outbox ≡ put h
-  pub places : v.places ≡ map (λ c. c.index) (events.calls h)
-  pub done : v.done ≡ events.done h
-  pub writer : v.writer ≡ writer h
+  pub main : v.main ≡ h.capacities.main
+  pub read : v.read ≡ length h.read
+  pub last : v.last ≡ h.outbox.last
+  pub outbox : v.outbox ≡ h.outbox.put
+  pub places : v.places ≡ map (λ c. c.index) h.calls
+  pub done : v.done ≡ h.outbox.done
+  pub writer : v.writer ≡ h.outbox.writer
+  pub sound : IsSound h
 
 -- one call more, which waits for a reply to this serial
 abbrev pub with_call : Bool → ℕ → CallsView → CallsView
@@ -431,8 +449,8 @@ with_call inner serial v = record { slots = v.slots ++ slots.Waiting serial inne
 
 -- What cloning the stream with this number gives: the next number, where it is open; a stream that isn't is unknown. An error
 -- changes nothing.
-abbrev pub Clones : View → View → ℕ → List Event → Result MessageStream Error → Type 0
-Clones old new k h (Ok stream) = (is_open h k ≡ true) × (stream.number ≡ length (streams h)) × Left new (Made (Cloned k) ∷ h)
+abbrev pub Clones : View → View → ℕ → Past → Result MessageStream Error → Type 0
+Clones old new k h (Ok stream) = (is_open h k ≡ true) × (stream.number ≡ length h.streams) × Left new (after (Made (Cloned k)) h)
 Clones old new k h (Err errors.UnknownHandle) = (is_open h k ≡ false) × (new ≡ old)
 Clones old new k h (Err errors.Memory) = new ≡ old
 Clones old new k h (Err error) = ⊥

@@ -10,6 +10,9 @@ pub mod History
 pub mod Calls
 pub mod Streams
 pub mod Trail
+pub mod Shown
+pub mod Plan
+pub mod Entries
 pub mod Answers
 pub mod Told
 pub mod Left

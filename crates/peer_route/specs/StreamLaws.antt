@@ -1,20 +1,21 @@
 -- What the laws of streams, of busy reads and of what was sent say, in words of their own.
-use Rattle.std.specs.Prelude.{ℕ, ⊤, ◌≡◌, ◌==◌, ◌<◌, ◌&&◌, ◌||◌, ◌⊎◌, Bool, true, false, List, [], ◌∷◌, ◌++◌, if◌then◌else◌, length, map, drop, take, slice_get, Option, Some, None, Result, Ok}
+use Rattle.std.specs.Prelude.{ℕ, ⊤, ◌≡◌, ◌==◌, ◌<◌, ◌&&◌, ◌||◌, ◌⊎◌, Bool, true, false, List, [], ◌∷◌, ◌++◌, if◌then◌else◌, length, map, drop, take, slice_get, Option, Some, None, Ok}
 use Rattle.wire_message.specs.Front.{Seen}
 use Rattle.wire_message.specs.declared.error.Error.{Error}
 use Rattle.wire_message.specs.declared.error.Error.TheVariants as errors
 use Rattle.rule_match.specs.Rule.{Rule}
-use Rattle.rule_match.specs.Bytes.{rule_in_bytes}
 use Rattle.peer_route.specs.declared.words.Words.{Words}
 use Rattle.peer_route.specs.declared.words.Words.TheVariants as words
 use Rattle.peer_route.specs.declared.answer.Answer.{Answer}
 use Rattle.peer_route.specs.declared.answer.Answer.TheVariants as answers
 use Rattle.peer_route.specs.declared.answer.Entry.{Entry}
 use Rattle.peer_route.specs.Parcel.{Setting, Asked, message_of}
-use Rattle.peer_route.specs.History.{Event, Did, Gone, read, closing, bears, Stream, streams, rule_of, is_return, capacities}
+use Rattle.peer_route.specs.History.{Event, Did, Gone, read, closing, bears, Stream, streams, rule_of, is_return, capacities, past}
 use Rattle.peer_route.specs.Streams.{accepted, held, runs, limit_of, leaving, gone_then}
 use Rattle.peer_route.specs.BusCall.{add_message, remove_message}
-use Rattle.peer_route.specs.Trail.{Trail, place, second_place, asks, trail, next_serial, or_zero, removal}
+use Rattle.peer_route.specs.Trail.{Trail, place, next_serial, or_zero, count}
+use Rattle.peer_route.specs.Plan.{Plan, Sends, Adds, Leaves, plan}
+use Rattle.peer_route.specs.Entries.{trail, removal}
 
 -- ---- streams
 
@@ -162,41 +163,37 @@ sent_of (Ok parcel) (answers.Called call serial) = message_of parcel serial ∷ 
 sent_of (Ok parcel) (answers.Sent serial) = message_of parcel serial ∷ []
 sent_of asked answer = []
 
--- the message of an entry whose answer says that it was sent
-abbrev pub sent_by : Option Asked → Answer → List Seen
-sent_by None answer = []
-sent_by (Some asked) answer = sent_of asked answer
-
 -- the AddMatch of an entry whose answer says that it was sent
-abbrev pub asked_by : List Event → Result Rule Error → Answer → List Seen
-asked_by h (Ok rule) (answers.Opening number serial) = add_message h rule serial ∷ []
-asked_by h found answer = []
+abbrev pub asked_by : List Event → Rule → Answer → List Seen
+asked_by h rule (answers.Opening number serial) = add_message (past h) rule serial ∷ []
+asked_by h rule answer = []
 
 -- the RemoveMatch of each of these rules
 abbrev pub tellings : List Event → List Rule → List Seen
 tellings h [] = []
-tellings h (rule ∷ rules) = remove_message h rule (or_zero (next_serial h)) ∷ tellings (removal h rule ∷ h) rules
+tellings h (rule ∷ rules) = remove_message (past h) rule (or_zero (next_serial h)) ∷ tellings (removal h rule ∷ h) rules
 
 abbrev pub first_one : List Seen → List Seen
 first_one [] = []
 first_one (m ∷ ms) = m ∷ []
 
 -- those of an entry whose answer says that they were sent
-abbrev pub told_by : List Event → Option ℕ → Option ℕ → Answer → List Seen
-told_by h (Some k) j (answers.Gone last) = tellings (gone_then j (Did k Gone ∷ h)) (leaving h k j)
-told_by h (Some k) j (answers.SentFirst error) = first_one (tellings (gone_then j (Did k Gone ∷ h)) (leaving h k j))
+abbrev pub told_by : List Event → ℕ → Option ℕ → Answer → List Seen
+told_by h k j (answers.Gone last) = tellings (gone_then j (Did k Gone ∷ h)) (leaving (past h) k j)
+told_by h k j (answers.SentFirst error) = first_one (tellings (gone_then j (Did k Gone ∷ h)) (leaving (past h) k j))
 told_by h k j answer = []
 
--- the messages of an entry whose answer says that they were sent
-abbrev pub sent_in : Trail → ℕ → Words → Answer → List Seen
-sent_in t lane (words.Open max_queued rule) answer = asked_by t.events (rule_in_bytes rule) answer
-sent_in t lane (words.Unstream number second) answer = told_by t.events (place 0 lane number t.streams) (second_place lane second t.streams) answer
-sent_in t lane w answer = sent_by (asks t lane w) answer
+-- the messages of an entry whose answer says that they were sent, by what its command means
+abbrev pub sent_in : List Event → Plan → Answer → List Seen
+sent_in h (Sends asked) answer = sent_of asked answer
+sent_in h (Adds rule asked) answer = asked_by h rule answer
+sent_in h (Leaves k j) answer = told_by h k j answer
+sent_in h other answer = []
 
 -- the messages that the entries of a peer of this setting say were sent, oldest first; the entries are newest first
 abbrev pub all_sent : Setting → List Entry → List Seen
 all_sent setting [] = []
-all_sent setting (e ∷ es) = all_sent setting es ++ sent_in (trail setting es) e.lane e.words e.answer
+all_sent setting (e ∷ es) = all_sent setting es ++ sent_in (trail setting es).events (plan (trail setting es) e.lane e.words) e.answer
 
 -- What was put, by whether a write failed and how many messages were written: those that were sent are just those that were
 -- written, the first of what was put. Where no write failed that is all; where one failed it is that of the message behind them.

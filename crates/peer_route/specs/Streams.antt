@@ -1,4 +1,4 @@
--- The streams of a history: the messages that each matches, those that it holds still, and what it gives next.
+-- The streams of a past: the messages that each matches, those that it holds still, and what it gives next.
 use Rattle.std.specs.Prelude.{ℕ, zero, suc, ◌==◌, Bool, true, false, not, ◌&&◌, ◌||◌, if◌then◌else◌, nat_lt, is_none, is_some, List, [], ◌∷◌, ◌++◌, length, drop, filter, map, slice_get, Option, Some, None, Result, Ok, Err}
 use Rattle.std.specs.List.{list_any}
 use Rattle.wire_message.specs.Front.{Seen}
@@ -12,7 +12,7 @@ use Rattle.peer_route.specs.declared.progress.OpenState.{OpenState}
 use Rattle.peer_route.specs.declared.progress.OpenState.TheVariants as states
 use Rattle.wire_message.specs.declared.kind.MessageType.{MessageType}
 use Rattle.wire_message.specs.declared.kind.MessageType.TheVariants as types
-use Rattle.peer_route.specs.History.{Event, Gave, Told, Gone, Asked, Opened, Did, Stream, Phase, Asking, Denied, Since, Capacities, phase, read, closing, on_bus, streams, capacities, rule_of, is_subscribed}
+use Rattle.peer_route.specs.History.{Event, Gave, Told, Gone, Asked, Opened, Did, Stream, Phase, Asking, Denied, Since, Capacities, phase, rule_of, is_subscribed, Past, after}
 use Rattle.peer_route.specs.Calls.{in_flight}
 
 -- the messages that were read since the stream began
@@ -33,8 +33,8 @@ runs_at ms None = false
 runs_at ms (Some s) = runs ms s
 
 -- The stream with this number is open.
-unfoldable pub is_open : List Event → ℕ → Bool
-is_open h k = runs_at (read h) (slice_get (streams h) k)
+unfoldable pub is_open : Past → ℕ → Bool
+is_open h k = runs_at h.read (slice_get h.streams k)
 
 -- the messages that the rule accepts; without a rule all
 abbrev pub accepted : Option Rule → List Seen → List Seen
@@ -59,8 +59,8 @@ unfoldable pub gave_last : List Seen → Stream → Option Seen
 gave_last ms s = if s.gone then None else item_at (offered ms s) s.taken
 
 -- for each stream, the message that it gave last
-abbrev pub all_given : List Event → List (Option Seen)
-all_given h = map (gave_last (read h)) (streams h)
+abbrev pub all_given : Past → List (Option Seen)
+all_given h = map (gave_last h.read) h.streams
 
 -- Those that it didn't give yet.
 unfoldable pub held : List Seen → Stream → List Seen
@@ -76,8 +76,8 @@ unfoldable pub is_full : Capacities → List Seen → Stream → Bool
 is_full c ms s = not s.gone && nat_lt (limit_of c s.rule) (length (held ms s))
 
 -- The peer is open, and some stream holds more than its capacity: a read takes nothing now.
-unfoldable pub busy : List Event → Bool
-busy h = is_none (closing h) && list_any (is_full (capacities h) (read h)) (streams h)
+unfoldable pub busy : Past → Bool
+busy h = is_none h.closing && list_any (is_full h.capacities h.read) h.streams
 
 -- The first item; else nothing yet where the peer is open; else the closing error once; from then on the end.
 abbrev pub take_by : List Seen → Option Error → Bool → Polled Seen
@@ -91,8 +91,8 @@ take_at ms closed None = Err errors.UnknownHandle
 take_at ms closed (Some s) = if runs ms s then Ok (take_by (held ms s) closed s.told) else Err errors.UnknownHandle
 
 -- What taking from the stream with this number gives. A stream that wasn't made, isn't open yet, or was closed, is unknown.
-unfoldable pub take_answer : List Event → ℕ → Result (Polled Seen) Error
-take_answer h k = take_at (read h) (closing h) (slice_get (streams h) k)
+unfoldable pub take_answer : Past → ℕ → Result (Polled Seen) Error
+take_answer h k = take_at h.read h.closing (slice_get h.streams k)
 
 -- the position of the first of these messages
 abbrev pub first_position : List Seen → Option ℕ
@@ -104,8 +104,8 @@ next_at ms None = None
 next_at ms (Some s) = if runs ms s then first_position (held ms s) else None
 
 -- The position of the first message that the stream with this number holds; none where it holds none, or isn't open.
-unfoldable pub next_position : List Event → ℕ → Option ℕ
-next_position h k = next_at (read h) (slice_get (streams h) k)
+unfoldable pub next_position : Past → ℕ → Option ℕ
+next_position h k = next_at h.read (slice_get h.streams k)
 
 -- what a take is, by its answer
 abbrev pub take_events : ℕ → Result (Polled Seen) Error → List Event
@@ -128,32 +128,32 @@ may_be_signal (Some types.Signal) = true
 may_be_signal other = false
 
 -- A stream of this rule that is opened now is the rule's first, and the bus has to be asked for what it accepts.
-unfoldable pub asks_bus : List Event → Rule → Bool
-asks_bus h rule = on_bus h && (may_be_signal rule.kind && not (is_subscribed (read h) (streams h) rule))
+unfoldable pub asks_bus : Past → Rule → Bool
+asks_bus h rule = h.bus && (may_be_signal rule.kind && not (is_subscribed h.read h.streams rule))
 
-abbrev pub leaves_by : List Event → Option Rule → List Rule
+abbrev pub leaves_by : Past → Option Rule → List Rule
 leaves_by h None = []
-leaves_by h (Some rule) = if on_bus h && (is_none (closing h) && (may_be_signal rule.kind && not (is_subscribed (read h) (streams h) rule))) then rule ∷ [] else []
+leaves_by h (Some rule) = if h.bus && (is_none h.closing && (may_be_signal rule.kind && not (is_subscribed h.read h.streams rule))) then rule ∷ [] else []
 
 -- The rule of the stream with this number, which was closed last, where no other stream has it: the bus has to be told.
-abbrev pub leaves : List Event → ℕ → List Rule
-leaves h k = leaves_by h (rule_of (slice_get (streams h) k))
+abbrev pub leaves : Past → ℕ → List Rule
+leaves h k = leaves_by h (rule_of (slice_get h.streams k))
 
 -- The rules whose last streams go where the stream with this number is closed, and then the second: the bus has to be told of
 -- each (D-Bus Specification, "Message Bus Messages", `org.freedesktop.DBus.RemoveMatch`).
-unfoldable pub leaving : List Event → ℕ → Option ℕ → List Rule
-leaving h k None = leaves (Did k Gone ∷ h) k
-leaving h k (Some j) = leaves (Did k Gone ∷ h) k ++ leaves (Did j Gone ∷ Did k Gone ∷ h) j
+unfoldable pub leaving : Past → ℕ → Option ℕ → List Rule
+leaving h k None = leaves (after (Did k Gone) h) k
+leaving h k (Some j) = leaves (after (Did k Gone) h) k ++ leaves (after (Did j Gone) (after (Did k Gone) h)) j
 
-abbrev pub has_rule : List Event → ℕ → Bool
-has_rule h k = is_some (rule_of (slice_get (streams h) k))
+abbrev pub has_rule : Past → ℕ → Bool
+has_rule h k = is_some (rule_of (slice_get h.streams k))
 
-abbrev pub has_rule_at : List Event → Option ℕ → Bool
+abbrev pub has_rule_at : Past → Option ℕ → Bool
 has_rule_at h None = false
 has_rule_at h (Some j) = has_rule h j
 
 -- Closing these streams has to wait: one of them has a rule, and an AddMatch or a RemoveMatch is on its way.
-unfoldable pub close_waits : List Event → ℕ → Option ℕ → Bool
+unfoldable pub close_waits : Past → ℕ → Option ℕ → Bool
 close_waits h k j = in_flight h && (has_rule h k || has_rule_at h j)
 
 -- ---- opening a stream of a rule
@@ -171,8 +171,8 @@ opening_at ms closed (Some s) = if s.gone || s.opened then states.Unknown else o
 
 -- What asking gives whether the stream with this number, which was made with an AddMatch, is open: it is from the read of that
 -- one's return on. One that wasn't made so, was told so before, or was closed is unknown.
-unfoldable pub opening_answer : List Event → ℕ → OpenState
-opening_answer h k = opening_at (read h) (closing h) (slice_get (streams h) k)
+unfoldable pub opening_answer : Past → ℕ → OpenState
+opening_answer h k = opening_at h.read h.closing (slice_get h.streams k)
 
 -- what asking is: a stream that is open is told so; one that will not be is gone
 abbrev pub opening_events : ℕ → OpenState → List Event
@@ -188,13 +188,13 @@ known true = Ok tt
 known false = Err errors.UnknownHandle
 
 -- both are open, and they are two
-abbrev pub are_open : List Event → ℕ → Option ℕ → Bool
+abbrev pub are_open : Past → ℕ → Option ℕ → Bool
 are_open h k None = is_open h k
 are_open h k (Some j) = is_open h k && is_open h j && not (k == j)
 
 -- What closing the stream with this number gives, or of two in one step. One that isn't open is unknown, and so are two that
 -- are one.
-unfoldable pub close_answer : List Event → ℕ → Option ℕ → Result (Unit {0}) Error
+unfoldable pub close_answer : Past → ℕ → Option ℕ → Result (Unit {0}) Error
 close_answer h k j = known (are_open h k j)
 
 abbrev pub gone_then : Option ℕ → List Event → List Event
@@ -207,7 +207,7 @@ close_events k j (Ok done) = gone_then j (Did k Gone ∷ [])
 close_events k j (Err error) = []
 
 -- What asking for a capacity gives.
-unfoldable pub ask_answer : List Event → ℕ → Result (Unit {0}) Error
+unfoldable pub ask_answer : Past → ℕ → Result (Unit {0}) Error
 ask_answer h k = known (is_open h k)
 
 abbrev pub ask_events : {A E : Type 0} → ℕ → ℕ → Result A E → List Event
@@ -215,9 +215,9 @@ ask_events k limit (Ok done) = Did k (Asked limit) ∷ []
 ask_events k limit (Err error) = []
 
 -- How many messages the stream with this number may hold.
-unfoldable pub limit_answer : List Event → ℕ → Result ℕ Error
-limit_answer h k = if is_open h k then Ok (limit_of (capacities h) (rule_of (slice_get (streams h) k))) else Err errors.UnknownHandle
+unfoldable pub limit_answer : Past → ℕ → Result ℕ Error
+limit_answer h k = if is_open h k then Ok (limit_of h.capacities (rule_of (slice_get h.streams k))) else Err errors.UnknownHandle
 
 -- The rule of the stream with this number; none where it has none, or isn't open.
-unfoldable pub rule_answer : List Event → ℕ → Option Rule
-rule_answer h k = if is_open h k then rule_of (slice_get (streams h) k) else None
+unfoldable pub rule_answer : Past → ℕ → Option Rule
+rule_answer h k = if is_open h k then rule_of (slice_get h.streams k) else None

@@ -13,9 +13,10 @@ use Rattle.peer_route.specs.declared.answer.Answer.{Answer}
 use Rattle.peer_route.specs.declared.answer.Answer.TheVariants as answers
 use Rattle.peer_route.specs.declared.answer.Entry.{Entry}
 use Rattle.peer_route.specs.Parcel.{Setting}
-use Rattle.peer_route.specs.History.{Event, read, closing, put, written, is_failed}
-use Rattle.peer_route.specs.Streams.{busy}
-use Rattle.peer_route.specs.Trail.{trail}
+use Rattle.peer_route.specs.History.{Event, read, put, written, is_failed}
+use Rattle.peer_route.specs.Plan.{Plan, Reads, plan}
+use Rattle.peer_route.specs.Entries.{trail}
+use Rattle.peer_route.specs.Trail.{count}
 
 -- ---- the source
 
@@ -39,19 +40,15 @@ IsOutcome None count bytes answer =
     (answer ≡ answer_of (outcome count bytes kinds.Ended)) ⊎ (answer ≡ answers.Closed (errors.InputOutput kinds.Fault))
 
 -- a read of an open peer that isn't busy; a busy one takes nothing
-abbrev pub ReadOpenTold : Bool → Option Bool → List ℕ → List Event → Answer → Type 0
-ReadOpenTold true stop bytes h answer = ⊤
-ReadOpenTold false stop bytes h answer = IsOutcome stop (length (read h)) (left_after bytes h) answer
-
-abbrev pub ReadTold : Option Bool → List ℕ → List Event → Option Error → Words → Answer → Type 0
-ReadTold stop bytes h None words.Read answer = ReadOpenTold (busy h) stop bytes h answer
-ReadTold stop bytes h closed w answer = ⊤
+abbrev pub ReadTold : Option Bool → List ℕ → List Event → Plan → Answer → Type 0
+ReadTold stop bytes h Reads answer = IsOutcome stop (length (read h)) (left_after bytes h) answer
+ReadTold stop bytes h other answer = ⊤
 
 -- Each read of an open peer that isn't busy is what stands at the front of the bytes that the reads before it left.
 abbrev pub ReadsTold : Setting → Option Bool → List ℕ → List Entry → Type 0
 ReadsTold setting stop bytes [] = ⊤
 ReadsTold setting stop bytes (e ∷ es) =
-    ReadTold stop bytes (trail setting es).events (closing (trail setting es).events) e.words e.answer × ReadsTold setting stop bytes es
+    ReadTold stop bytes (trail setting es).events (plan (trail setting es) e.lane e.words) e.answer × ReadsTold setting stop bytes es
 
 -- ---- the sink
 

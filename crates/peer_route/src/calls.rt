@@ -1,6 +1,6 @@
 ghost use Rattle.std.specs.Prelude.{Bool, ℕ, ◌≡◌, ◌+◌, ◌<◌, ◌++◌, ◌∷◌, [], List, length, IfSome, IfNone, OnOk, OnErr, IfOk, None, is_none, slice_set, take, true, false};
 ghost use Rattle.std.specs.List.{list_any};
-ghost use Rattle.peer_route.specs.History.{Event, Took, Shut, Put, Call, bears, closing, calls};
+ghost use Rattle.peer_route.specs.History.{Took, Shut, Put, bears, Past, after, after_all, no_past};
 ghost use Rattle.peer_route.specs.Calls.{poll_answer, poll_events, drop_answer, drop_events, in_flight};
 ghost use Rattle.peer_route.specs.Calls as answers;
 ghost use Rattle.peer_route.specs.Left.{CallsView, LeftCalls, is_empty_slot, is_inner_slot, reply_kept, with_call, is_flying, is_number, answers_call, waiting_serial, IsIndex};
@@ -140,7 +140,7 @@ fn take_back_to(slots: &mut Vec<Slot>, waiting: &mut BTreeMap<u32, usize>, count
 impl PendingMethodCalls {
     /// No calls.
     pub fn new(alloc: Global) -> PendingMethodCalls
-        ensures { LeftCalls result [] }
+        ensures { LeftCalls result no_past }
     {
         PendingMethodCalls {
             slots: Vec::new(alloc),
@@ -157,7 +157,7 @@ impl PendingMethodCalls {
         ensures err { OnErr result (self.new ≡ self.old) }
         ensures number { IfOk result (λ k. k ≡ length self.old.slots) }
         ensures ok { OnOk result (self.new ≡ with_call false serial self.old) }
-        ensures left { OnOk result ((h : List Event) (m : Seen) → m.serial ≡ serial → LeftCalls self.old h → LeftCalls self.new (Put m true ∷ h)) }
+        ensures left { OnOk result ((p : Past) (m : Seen) → m.serial ≡ serial → LeftCalls self.old p → LeftCalls self.new (after (Put m true) p)) }
     {
         self.register(serial, false)
     }
@@ -188,9 +188,9 @@ impl PendingMethodCalls {
     /// error none waits.
     pub fn complete_call(&mut self, message: Message) -> Option<Message>
         ensures exact { is_none result ≡ answers_call self.old message }
-        ensures none { IfNone result ((h : List Event) → LeftCalls self.old h → LeftCalls self.new (Took message ∷ h)) }
+        ensures none { IfNone result ((p : Past) → LeftCalls self.old p → LeftCalls self.new (after (Took message) p)) }
         ensures back { IfSome result (λ m. (m ≡ message) × (self.new ≡ self.old)) }
-        ensures left { IfSome result (λ m. (h : List Event) → LeftCalls self.old h → closing h ≡ None → LeftCalls self.new (Took message ∷ h)) }
+        ensures left { IfSome result (λ m. (p : Past) → LeftCalls self.old p → p.closing ≡ None → LeftCalls self.new (after (Took message) p)) }
     {
         if self.closing.is_some() {
             return Some(message);
@@ -232,7 +232,7 @@ impl PendingMethodCalls {
     /// Answers each call that waits, and each one made later, with the closing error; a later one changes nothing.
     pub fn fail_all(&mut self, error: &Error)
         requires { closes error.now ≡ true }
-        ensures { (h : List Event) → LeftCalls self.old h → LeftCalls self.new (Shut error.now ∷ h) }
+        ensures { (p : Past) → LeftCalls self.old p → LeftCalls self.new (after (Shut error.now) p) }
     {
         if self.closing.is_none() {
             self.closing = ClosingError::of(error);
@@ -242,7 +242,7 @@ impl PendingMethodCalls {
     /// Whether an AddMatch or a RemoveMatch is on its way, on an open peer.
     pub(crate) fn is_flying(&self) -> bool
         ensures view { result ≡ is_flying self.now }
-        ensures flying { (h : List Event) → LeftCalls self.now h → result ≡ in_flight h }
+        ensures flying { (p : Past) → LeftCalls self.now p → result ≡ in_flight p }
     {
         self.closing.is_none() && is_some_inner(&self.slots)
     }
@@ -260,8 +260,8 @@ impl PendingMethodCalls {
     /// The answer of the call with this number: its reply once, else the closing error once, else NotYet; UnknownHandle
     /// exactly where no such call was made or its answer was given. Takes no memory.
     pub fn poll(&mut self, call: u64) -> Result<Polled<Message>, Error>
-        ensures answer { (h : List Event) → LeftCalls self.old h → result ≡ poll_answer h call }
-        ensures left { (h : List Event) → LeftCalls self.old h → LeftCalls self.new (poll_events call result ++ h) }
+        ensures answer { (p : Past) → LeftCalls self.old p → result ≡ poll_answer p call }
+        ensures left { (p : Past) → LeftCalls self.old p → LeftCalls self.new (after_all (poll_events call result) p) }
     {
         if call >= self.slots.len() as u64 {
             return Err(Error::UnknownHandle);
@@ -288,8 +288,8 @@ impl PendingMethodCalls {
     /// The answer of the call with this number as `poll` gives it, but NoneBefore in place of NotYet: what is there is the
     /// call's one answer, wherever it stands, so the position isn't looked at. Takes no memory.
     pub fn poll_before(&mut self, call: u64, _before: Sequence) -> Result<Polled<Message>, Error>
-        ensures answer { (h : List Event) → LeftCalls self.old h → result ≡ answers.by_position (poll_answer h call) }
-        ensures left { (h : List Event) → LeftCalls self.old h → LeftCalls self.new (poll_events call result ++ h) }
+        ensures answer { (p : Past) → LeftCalls self.old p → result ≡ answers.by_position (poll_answer p call) }
+        ensures left { (p : Past) → LeftCalls self.old p → LeftCalls self.new (after_all (poll_events call result) p) }
     {
         by_position(self.poll(call))
     }
@@ -297,8 +297,8 @@ impl PendingMethodCalls {
     /// Drops the call with this number: its answer is waited for no more, and a poll of it is refused. UnknownHandle exactly
     /// where no such call was made, its answer was given, or it was dropped before. Takes no memory.
     pub fn drop_call(&mut self, call: u64) -> Result<(), Error>
-        ensures answer { (h : List Event) → LeftCalls self.old h → result ≡ drop_answer h call }
-        ensures left { (h : List Event) → LeftCalls self.old h → LeftCalls self.new (drop_events call result ++ h) }
+        ensures answer { (p : Past) → LeftCalls self.old p → result ≡ drop_answer p call }
+        ensures left { (p : Past) → LeftCalls self.old p → LeftCalls self.new (after_all (drop_events call result) p) }
     {
         if call >= self.slots.len() as u64 {
             return Err(Error::UnknownHandle);

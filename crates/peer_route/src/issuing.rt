@@ -3,7 +3,7 @@ ghost use Rattle.std.specs.Prelude.{ℕ, ◌≡◌, ◌<◌, ◌++◌, ◌∷◌
 ghost use Rattle.std.specs.List.{list_any, AllByRecursion};
 ghost use Rattle.wire_message.specs.Circle.{IsNext};
 ghost use Rattle.peer_route.specs.CallMessage.{expects, expects_reply};
-ghost use Rattle.peer_route.specs.History.{Event};
+ghost use Rattle.peer_route.specs.History.{Past};
 ghost use Rattle.peer_route.specs.Issuing.{is_deep, IssuesAll, Waits};
 ghost use Rattle.peer_route.specs.Left.{Left, waiting_serial};
 ghost use Rattle.peer_route.specs.Parcel.{sent_by};
@@ -159,8 +159,8 @@ impl Route {
     /// InputOutput(Closed) exactly where it was closed before. An error changes nothing, and draws no serial.
     pub fn issue(&mut self, list: Vec<Letter<'_>>, served: bool) -> Result<Vec<Issued>>
         requires { AllByRecursion (λ p. length p.fds < 2 ^ 32) list.items }
-        ensures issues { (h : List Event) → Left self.old h
-            → IssuesAll (λ issued. issued.items) self.old self.new (map (sent_by self.old.name served) list.entry.items) h result }
+        ensures issues { (p : Past) → Left self.old p
+            → IssuesAll (λ issued. issued.items) self.old self.new (map (sent_by self.old.name served) list.entry.items) p result }
         ensures placed { IfOk result (λ issued. Waits self.old self.new (length list.entry.items) issued.items) }
     {
         if is_some_deep(list.as_slice()) {

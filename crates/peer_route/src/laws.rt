@@ -4,7 +4,7 @@ ghost use Rattle.std.specs.List.{AllByRecursion};
 ghost use Rattle.wire_message.specs.Front.{Seen};
 ghost use Rattle.wire_message.specs.declared.error.Error.{Error};
 ghost use Rattle.peer_route.specs.declared.answer.Entry.{Entry};
-ghost use Rattle.peer_route.specs.History.{Event, Took, Spent, Made, Making, Ruled, Did, Main, Deed, Asked, calls, closing, is_failed, writer, is_serial, put, written, read, unique_name, Stream, streams, main, rule_limit, is_subscribed, asked_or, raised};
+ghost use Rattle.peer_route.specs.History.{Event, Took, Spent, Made, Making, Ruled, Did, Main, Deed, Asked, closing, is_failed, writer, is_serial, put, written, read, unique_name, Stream, is_subscribed, asked_or, raised, Past, after};
 ghost use Rattle.peer_route.specs.Calls.{pending, poll_answer};
 ghost use Rattle.peer_route.specs.Streams.{runs, limit_answer, take_answer};
 ghost use Rattle.rule_match.specs.Rule.{Rule};
@@ -12,7 +12,7 @@ ghost use Rattle.rule_match.specs.Bytes.{rule_in_bytes};
 ghost use Rattle.rule_match.specs.contracts.rule.MatchRulePartialEq.TheImpl.{ghosts as of_rules};
 ghost use Rattle.peer_route.specs.Rules.{is_same, usual};
 ghost use Rattle.peer_route.specs.Parcel.{Setting};
-ghost use Rattle.peer_route.specs.Trail.{trail};
+ghost use Rattle.peer_route.specs.Entries.{trail};
 ghost use Rattle.peer_route.specs.Answers.{Legal};
 ghost use Rattle.peer_route.specs.StreamLaws.{Yields, holds, rule_at, closes_stream, says_closed, says_denied, IsNoStream, IsTake, IsEnded, IsLast, IsDrained, HoldsTooMany, IsPutOf, all_sent, YieldsAsked};
 ghost use Rattle.peer_route.specs.Laws.{IsPoll, IsFinal, IsReplyAt, IsUnknown, IsFirstReply, IsCutOff, IsPast, SamePoll, IsByPosition, IsNothingYet};
@@ -56,13 +56,13 @@ pub fn answered_by_the_closing_error()
 /// A message that is read changes the answer of no call that it isn't for: none whose serial it doesn't bear, and none that
 /// has its reply or is over. One that bears a serial that isn't pending changes the answer of no call at all.
 pub fn reply_changes_no_other()
-    ensures other { (h : List Event) (m : Seen) (k : ℕ) → IfSome (slice_get (calls h) k) (IsPast h m) → poll_answer (Took m ∷ h) k ≡ poll_answer h k }
-    ensures late { (h : List Event) (m : Seen) (serial : ℕ) → closing h ≡ None → is_serial m.reply_serial serial ≡ true → pending h serial ≡ false → (k : ℕ) → poll_answer (Took m ∷ h) k ≡ poll_answer h k }
+    ensures other { (p : Past) (m : Seen) (k : ℕ) → IfSome (slice_get p.calls k) (IsPast p m) → poll_answer (after (Took m) p) k ≡ poll_answer p k }
+    ensures late { (p : Past) (m : Seen) (serial : ℕ) → p.closing ≡ None → is_serial m.reply_serial serial ≡ true → pending p serial ≡ false → (k : ℕ) → poll_answer (after (Took m) p) k ≡ poll_answer p k }
 {}
 
 /// A poll or a drop changes the answer of no other call: neither of another number of its lane, nor of another lane.
 pub fn spent_changes_no_other()
-    ensures event { (h : List Event) (j k : ℕ) → j ≢ k → poll_answer (Spent j ∷ h) k ≡ poll_answer h k }
+    ensures event { (p : Past) (j k : ℕ) → j ≢ k → poll_answer (after (Spent j) p) k ≡ poll_answer p k }
     ensures entry { (setting : Setting) (older : List Entry) (e : Entry) (number lane other : ℕ) → Legal setting (e ∷ older) → IsPoll number e.words ⊎ (e.words ≡ Words.Drop number) → (lane ≡ e.lane → other ≢ number) → SamePoll (trail setting (e ∷ older)) (trail setting older) lane other }
 {}
 
@@ -110,23 +110,23 @@ pub fn stream_denied_for_good()
 /// What a stream does changes what no other gives: neither its items, nor its end, nor its closing, nor a capacity that it asks
 /// for.
 pub fn stream_changes_no_other()
-    ensures { (h : List Event) (j k : ℕ) (deed : Deed) → j ≢ k → take_answer (Did j deed ∷ h) k ≡ take_answer h k }
+    ensures { (p : Past) (j k : ℕ) (deed : Deed) → j ≢ k → take_answer (after (Did j deed) p) k ≡ take_answer p k }
 {}
 
 /// A capacity that is set, or asked for, throws nothing away: each stream gives what it gave.
 pub fn capacity_throws_nothing_away()
-    ensures set { (h : List Event) (limit k : ℕ) → take_answer (Main limit ∷ h) k ≡ take_answer h k }
-    ensures asked { (h : List Event) (limit j k : ℕ) → take_answer (Did j (Asked limit) ∷ h) k ≡ take_answer h k }
-    ensures opened { (h : List Event) (rule : Rule) (asked : Option ℕ) (k : ℕ) → k < length (streams h) → take_answer (Made (Ruled rule asked) ∷ h) k ≡ take_answer h k }
+    ensures set { (p : Past) (limit k : ℕ) → take_answer (after (Main limit) p) k ≡ take_answer p k }
+    ensures asked { (p : Past) (limit j k : ℕ) → take_answer (after (Did j (Asked limit)) p) k ≡ take_answer p k }
+    ensures opened { (p : Past) (rule : Rule) (asked : Option ℕ) (k : ℕ) → k < length p.streams → take_answer (after (Made (Ruled rule asked)) p) k ≡ take_answer p k }
 {}
 
 /// The main capacity, which streams without a rule share, is just what it is set to. One of them that asks for more raises it; a
 /// smaller request is passed over, and one of a stream with a rule.
 pub fn main_capacity()
-    ensures exact { (h : List Event) (limit : ℕ) → main (Main limit ∷ h) ≡ limit }
-    ensures raised { (h : List Event) (limit j : ℕ) (s : Stream) → slice_get (streams h) j ≡ Some s → s.rule ≡ None → main (Did j (Asked limit) ∷ h) ≡ max (main h) limit }
-    ensures opened { (h : List Event) (making : Making) → main (Made making ∷ h) ≡ main h }
-    ensures kept { (h : List Event) (limit j : ℕ) (s : Stream) (rule : Rule) → slice_get (streams h) j ≡ Some s → s.rule ≡ Some rule → main (Did j (Asked limit) ∷ h) ≡ main h }
+    ensures exact { (p : Past) (limit : ℕ) → (after (Main limit) p).capacities.main ≡ limit }
+    ensures raised { (p : Past) (limit j : ℕ) (s : Stream) → slice_get p.streams j ≡ Some s → s.rule ≡ None → (after (Did j (Asked limit)) p).capacities.main ≡ max p.capacities.main limit }
+    ensures opened { (p : Past) (making : Making) → (after (Made making) p).capacities.main ≡ p.capacities.main }
+    ensures kept { (p : Past) (limit j : ℕ) (s : Stream) (rule : Rule) → slice_get p.streams j ≡ Some s → s.rule ≡ Some rule → (after (Did j (Asked limit)) p).capacities.main ≡ p.capacities.main }
 {}
 
 /// Two rules are one exactly where each part of them is the same, and that is what `==` decides.
@@ -139,13 +139,13 @@ pub fn rules_are_one_where_equal()
 /// rule of an owner's changes, else 64; a later one of the rule that asks for more raises it, and a smaller request is passed
 /// over. What is asked for by another rule's stream, or is set for streams without a rule, changes nothing of it.
 pub fn rule_capacity()
-    ensures one { (h : List Event) (j k : ℕ) (s t : Stream) → slice_get (streams h) j ≡ Some s → slice_get (streams h) k ≡ Some t → runs (read h) s ≡ true → runs (read h) t ≡ true → s.rule ≡ t.rule → limit_answer h j ≡ limit_answer h k }
-    ensures first { (h : List Event) (rule : Rule) (asked : Option ℕ) → is_subscribed (read h) (streams h) rule ≡ false → rule_limit rule (Made (Ruled rule asked) ∷ h) ≡ asked_or asked (usual rule) }
-    ensures later { (h : List Event) (rule : Rule) (asked : Option ℕ) → is_subscribed (read h) (streams h) rule ≡ true → rule_limit rule (Made (Ruled rule asked) ∷ h) ≡ raised asked (rule_limit rule h) }
-    ensures asked { (h : List Event) (limit j : ℕ) (s : Stream) (rule : Rule) → slice_get (streams h) j ≡ Some s → s.rule ≡ Some rule → rule_limit rule (Did j (Asked limit) ∷ h) ≡ max (rule_limit rule h) limit }
-    ensures other { (h : List Event) (rule another : Rule) (asked : Option ℕ) → rule ≢ another → rule_limit rule (Made (Ruled another asked) ∷ h) ≡ rule_limit rule h }
-    ensures asked_other { (h : List Event) (limit j : ℕ) (s : Stream) (rule : Rule) → slice_get (streams h) j ≡ Some s → s.rule ≢ Some rule → rule_limit rule (Did j (Asked limit) ∷ h) ≡ rule_limit rule h }
-    ensures set { (h : List Event) (rule : Rule) (limit : ℕ) → rule_limit rule (Main limit ∷ h) ≡ rule_limit rule h }
+    ensures one { (p : Past) (j k : ℕ) (s t : Stream) → slice_get p.streams j ≡ Some s → slice_get p.streams k ≡ Some t → runs p.read s ≡ true → runs p.read t ≡ true → s.rule ≡ t.rule → limit_answer p j ≡ limit_answer p k }
+    ensures first { (p : Past) (rule : Rule) (asked : Option ℕ) → is_subscribed p.read p.streams rule ≡ false → (after (Made (Ruled rule asked)) p).capacities.rules rule ≡ asked_or asked (usual rule) }
+    ensures later { (p : Past) (rule : Rule) (asked : Option ℕ) → is_subscribed p.read p.streams rule ≡ true → (after (Made (Ruled rule asked)) p).capacities.rules rule ≡ raised asked (p.capacities.rules rule) }
+    ensures asked { (p : Past) (limit j : ℕ) (s : Stream) (rule : Rule) → slice_get p.streams j ≡ Some s → s.rule ≡ Some rule → (after (Did j (Asked limit)) p).capacities.rules rule ≡ max (p.capacities.rules rule) limit }
+    ensures other { (p : Past) (rule another : Rule) (asked : Option ℕ) → rule ≢ another → (after (Made (Ruled another asked)) p).capacities.rules rule ≡ p.capacities.rules rule }
+    ensures asked_other { (p : Past) (limit j : ℕ) (s : Stream) (rule : Rule) → slice_get p.streams j ≡ Some s → s.rule ≢ Some rule → (after (Did j (Asked limit)) p).capacities.rules rule ≡ p.capacities.rules rule }
+    ensures set { (p : Past) (rule : Rule) (limit : ℕ) → (after (Main limit) p).capacities.rules rule ≡ p.capacities.rules rule }
 {}
 
 /// The first cause stays, whatever comes: the error that closed the peer, and what became of its writer.

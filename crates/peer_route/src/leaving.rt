@@ -1,7 +1,7 @@
 //! Closing streams, and telling the bus which rules have none any more (D-Bus Specification, "Match Rules").
 ghost use Rattle.std.specs.Prelude.{ℕ, ◌≡◌, ◌↔◌, IsTrue, ◌++◌, ◌&&◌, ◌||◌, is_some, true, List, map, IfOk, IfErr, option_to_list};
 ghost use Rattle.std.specs.List.{list_all};
-ghost use Rattle.peer_route.specs.History.{Event};
+ghost use Rattle.peer_route.specs.History.{Past};
 ghost use Rattle.peer_route.specs.Left.{Left, kept_at, is_flying};
 ghost use Rattle.peer_route.specs.Leaving.{must_tell, without_both, left_by, rule_kept, left_rules, number_of, have_rules, ended, MakesRemoval, MakesRemovals, second_left, Tells, last_issued, ClosesStreams, TellsNow};
 ghost use Rattle.peer_route.specs.Placing.{IsMore};
@@ -176,7 +176,7 @@ impl Route {
     /// RemoveMatch finds each of the 4,294,967,295 serials pending, ExcessData exactly where one would pass 134,217,728 bytes,
     /// InputOutput(WriteFault) exactly where a write failed before. Of a closed peer's streams nothing is told.
     pub fn close_stream(&mut self, stream: MessageStream, second: Option<MessageStream>) -> Spent
-        ensures closes { (h : List Event) → Left self.old h → ClosesStreams self.old self.new stream.number (number_of second) h result }
+        ensures closes { (p : Past) → Left self.old p → ClosesStreams self.old self.new stream.number (number_of second) p result }
         ensures waits { TellsNow self.old self.new result }
     {
         let (number, other) = (stream.number, number_of(&second));

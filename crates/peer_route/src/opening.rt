@@ -3,7 +3,7 @@ ghost use Rattle.std.specs.Prelude.{◌≡◌, ◌<◌, ◌^◌, ◌&&◌, ◌++
 ghost use Rattle.std.specs.List.{list_any, AllByRecursion};
 ghost use Rattle.peer_route.specs.Issuing.{is_deep};
 ghost use Rattle.wire_names.specs.Names.{is_member_name};
-ghost use Rattle.peer_route.specs.History.{Event, OnBus, on_bus};
+ghost use Rattle.peer_route.specs.History.{OnBus, Past, after, after_all};
 ghost use Rattle.peer_route.specs.Streams.{opening_answer, opening_events, may_be_signal};
 ghost use Rattle.peer_route.specs.Bus.{OpensRule, AsksNow, IsShownAs, AsksFor, MakesBody, MakesLetter, PutsOwn};
 ghost use Rattle.peer_route.specs.BusCall.{bus_draft, match_parcel};
@@ -166,14 +166,14 @@ pub(crate) fn match_letter(
 impl Route {
     /// From now on the peer stands on a message bus: it asks the bus for what its rules accept.
     pub fn set_bus(&mut self)
-        ensures { (h : List Event) → Left self.old h → Left self.new (OnBus ∷ h) }
+        ensures { (p : Past) → Left self.old p → Left self.new (after OnBus p) }
     {
         self.bus = true;
     }
 
     /// Whether the peer stands on a message bus.
     pub fn is_bus(&self) -> bool
-        ensures { (h : List Event) → Left self.now h → result ≡ on_bus h }
+        ensures { (p : Past) → Left self.now p → result ≡ p.bus }
     {
         self.bus
     }
@@ -247,7 +247,7 @@ impl Route {
     /// pending, ExcessData exactly where the message would pass 134,217,728 bytes, InputOutput(WriteFault) exactly where a write
     /// failed. Memory for want of memory. An error changes nothing.
     pub fn open_rule(&mut self, rule: OwnedMatchRule, max_queued: Option<u64>) -> Result<Opens>
-        ensures opens { (h : List Event) → Left self.old h → OpensRule self.old self.new rule max_queued h result }
+        ensures opens { (p : Past) → Left self.old p → OpensRule self.old self.new rule max_queued p result }
         ensures waits { AsksNow self.old self.new result }
     {
         if self.calls.closing().is_some() {
@@ -274,8 +274,8 @@ impl Route {
     /// exactly where the peer is open and no reply came. Refused with an error that is the reply, and Over with what closed the
     /// peer before a reply came, end it; Over(UnknownHandle) exactly where it isn't one that is being opened. Takes no memory.
     pub fn poll_open(&mut self, opening: Opening) -> Opened
-        ensures shown { (h : List Event) → Left self.old h → IsShownAs opening (opening_answer h opening.number) result }
-        ensures left { (h : List Event) → Left self.old h → Left self.new (opening_events opening.number (opening_answer h opening.number) ++ h) }
+        ensures shown { (p : Past) → Left self.old p → IsShownAs opening (opening_answer p opening.number) result }
+        ensures left { (p : Past) → Left self.old p → Left self.new (after_all (opening_events opening.number (opening_answer p opening.number)) p) }
     {
         let number = opening.number;
         match self.streams.ask_open(number, self.calls.closing()) {

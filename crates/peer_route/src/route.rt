@@ -1,7 +1,7 @@
 ghost use Rattle.std.specs.Prelude.{ℕ, ◌≡◌, ◌≢◌, ◌↔◌, IsTrue, ◌+◌, ◌<◌, ◌≤◌, ◌^◌, ◌-◌, ◌==◌, [], ◌∷◌, ◌++◌, List, length, position, slice_get, option_copied, option_map, is_none, Some, None, Ok, Err, true, false, IfOk, IfErr, OnOk, OnErr};
 ghost use Rattle.std.specs.Borrow.{sem};
 ghost use Rattle.peer_route.specs.Lending.{LendsCalls};
-ghost use Rattle.peer_route.specs.History.{Event, Took, Shut, Put, Wrote, Fault, Named};
+ghost use Rattle.peer_route.specs.History.{Took, Shut, Wrote, Fault, Named, Past, after, after_all, no_past};
 ghost use Rattle.peer_route.specs.Calls.{poll_answer, poll_events, drop_answer, drop_events};
 ghost use Rattle.peer_route.specs.Streams.{busy};
 ghost use Rattle.peer_route.specs.Calls as answers;
@@ -90,7 +90,7 @@ fn call_at(places: &[u64], index: u64) -> Option<usize>
 impl Route {
     /// A peer that nothing happened to.
     pub fn new(alloc: Global) -> Route
-        ensures { Left result [] }
+        ensures { Left result no_past }
     {
         Route {
             alloc,
@@ -111,7 +111,7 @@ impl Route {
     /// Gives the peer its unique name: true exactly where it had none. One that it has stays (D-Bus Specification, "Bus names").
     pub fn set_unique_name(&mut self, name: OwnedUniqueName) -> bool
         ensures exact { result ≡ is_none self.old.name }
-        ensures named { IsTrue result → (h : List Event) → Left self.old h → Left self.new (Named name ∷ h) }
+        ensures named { IsTrue result → (p : Past) → Left self.old p → Left self.new (after (Named name) p) }
         ensures same { result ≡ false → self.new ≡ self.old }
     {
         if self.name.is_some() {
@@ -135,7 +135,7 @@ impl Route {
         requires has_room { is_busy self.old ≡ false }
         requires placed { message.position ≡ self.old.read + 1 }
         requires limit { message.position ≤ 2 ^ 64 - 2 }
-        ensures left { OnOk result ((h : List Event) → Left self.old h → Left self.new (Took message ∷ h)) }
+        ensures left { OnOk result ((p : Past) → Left self.old p → Left self.new (after (Took message) p)) }
         ensures back { IfErr result (λ e. (e.value ≡ message) × (self.new ≡ self.old)) }
     {
         if self.streams.arrive(&message).is_err() {
@@ -149,7 +149,7 @@ impl Route {
     /// Whether the peer is open and some open stream holds more messages than it may: then no message may be read.
     pub fn busy(&self) -> bool
         ensures view { result ≡ is_busy self.now }
-        ensures busy { (h : List Event) → Left self.now h → result ≡ busy h }
+        ensures busy { (p : Past) → Left self.now p → result ≡ busy p }
     {
         self.calls.closing().is_none() && self.streams.is_over(self.main)
     }
@@ -158,7 +158,7 @@ impl Route {
     /// its writer as well, so that nothing is put any more; any other is what ended a read, and leaves the writer as it is.
     pub fn close(&mut self, error: &Error)
         requires { closes error.now ≡ true }
-        ensures { (h : List Event) → Left self.old h → Left self.new (Shut error.now ∷ h) }
+        ensures { (p : Past) → Left self.old p → Left self.new (after (Shut error.now) p) }
     {
         self.calls.fail_all(error);
         self.writer = self.writer.then(Writer::of(error));
@@ -166,16 +166,16 @@ impl Route {
 
     /// The answer of the call with this number, as `PendingMethodCalls::poll`.
     pub fn poll(&mut self, call: u64) -> Result<Polled<Message>>
-        ensures answer { (h : List Event) → Left self.old h → result ≡ poll_answer h call }
-        ensures left { (h : List Event) → Left self.old h → Left self.new (poll_events call result ++ h) }
+        ensures answer { (p : Past) → Left self.old p → result ≡ poll_answer p call }
+        ensures left { (p : Past) → Left self.old p → Left self.new (after_all (poll_events call result) p) }
     {
         self.calls.poll(call)
     }
 
     /// The same by position, as `PendingMethodCalls::poll_before`.
     pub fn poll_before(&mut self, call: u64, before: Sequence) -> Result<Polled<Message>>
-        ensures answer { (h : List Event) → Left self.old h → result ≡ answers.by_position (poll_answer h call) }
-        ensures left { (h : List Event) → Left self.old h → Left self.new (poll_events call result ++ h) }
+        ensures answer { (p : Past) → Left self.old p → result ≡ answers.by_position (poll_answer p call) }
+        ensures left { (p : Past) → Left self.old p → Left self.new (after_all (poll_events call result) p) }
     {
         self.calls.poll_before(call, before)
     }
@@ -197,8 +197,8 @@ impl Route {
 
     /// Drops the call with this number, as `PendingMethodCalls::drop_call`.
     pub fn drop_call(&mut self, call: u64) -> Result<()>
-        ensures answer { (h : List Event) → Left self.old h → result ≡ drop_answer h call }
-        ensures left { (h : List Event) → Left self.old h → Left self.new (drop_events call result ++ h) }
+        ensures answer { (p : Past) → Left self.old p → result ≡ drop_answer p call }
+        ensures left { (p : Past) → Left self.old p → Left self.new (after_all (drop_events call result) p) }
     {
         self.calls.drop_call(call)
     }
@@ -250,7 +250,7 @@ impl Route {
         requires first { index ≡ self.old.done }
         requires there { index < length self.old.outbox }
         requires unfailed { self.old.writer ≢ Writer.Failed }
-        ensures left { (h : List Event) → Left self.old h → Left self.new (Wrote ∷ h) }
+        ensures left { (p : Past) → Left self.old p → Left self.new (after Wrote p) }
         ensures moves { (self.new.outbox ≡ self.old.outbox) × (self.new.done ≡ self.old.done + 1) × (self.new.writer ≡ self.old.writer) }
     {
         self.done += 1;
@@ -261,7 +261,7 @@ impl Route {
     pub fn write_fault(&mut self, index: u64)
         requires first { index ≡ self.old.done }
         requires there { index < length self.old.outbox }
-        ensures left { (h : List Event) → Left self.old h → Left self.new (Fault ∷ h) }
+        ensures left { (p : Past) → Left self.old p → Left self.new (after Fault p) }
         ensures moves { (self.new.outbox ≡ self.old.outbox) × (self.new.done ≡ self.old.done + 1) }
     {
         self.done += 1;

@@ -1,5 +1,5 @@
 -- Closing the peer: one entry more.
-use Rattle.peer_route.specs.History.{read}
+use Rattle.peer_route.specs.History.{past}
 use Rattle.std.proofs.Common.{◌≡◌, ℕ, inl, inr, refl, sym, ◌∙◌, ap, subst, ◌&&◌, ◌||◌, not, Bool, true, false, List, [], ◌∷◌, ◌++◌, length, Option, Some, None, IsSome, IfSome, IfErr, Result, Ok, Err}
 use Rattle.std.proofs.lemmas.List.{append-nil}
 use Rattle.std.specs.Io.KnownBytes.{Keeps}
@@ -8,17 +8,15 @@ use Rattle.wire_message.specs.declared.error.Error.TheVariants as errors
 use Rattle.wire_message.specs.declared.error.IoKind.TheVariants as kinds
 use Rattle.wire_framing.specs.Sink.{Closes, RoomStays}
 use Rattle.wire_framing.specs.declared.write_half.Writing.{Writing}
-use Rattle.peer_route.specs.declared.writer.Writer.{Writer}
-use Rattle.peer_route.specs.declared.writer.Writer.TheVariants as writers
 use Rattle.peer_route.specs.Parcel.{Setting}
 use Rattle.peer_route.specs.declared.words.Words.TheVariants as words
 use Rattle.peer_route.specs.declared.answer.Answer.{Answer}
 use Rattle.peer_route.specs.declared.answer.Answer.TheVariants as answers
 use Rattle.peer_route.specs.declared.answer.Entry.{Entry}
 use Rattle.peer_route.specs.History as events
-use Rattle.peer_route.specs.Trail.{trail, close_does, sent_names, made_streams}
+use Rattle.peer_route.specs.Entries.{said, trail}
 use Rattle.peer_route.specs.Answers.{IsClose}
-use Rattle.peer_route.specs.Told.{ReadsTold, CloseTold, ReadTold, WriteTold}
+use Rattle.peer_route.specs.Told.{ReadsTold, CloseTold, WriteTold}
 use Rattle.peer_route.specs.Left.{Left}
 use Rattle.peer_route.proofs.Given.{given_same}
 use Rattle.peer_route.proofs.Writers.{shut_writer}
@@ -43,13 +41,9 @@ shown_is : (r : Result (Unit {0}) Error) → IsClosed r → IsClose (shown_close
 shown_is (Ok done) is = inl refl
 shown_is (Err error) is = inr (ap answers.SendFailed is)
 
-does_shut : (r : Result (Unit {0}) Error) → close_does (shown_close r) ≡ shut ∷ []
+does_shut : (r : Result (Unit {0}) Error) → said (shown_close r) (shut ∷ []) ≡ shut ∷ []
 does_shut (Ok done) = refl
 does_shut (Err error) = refl
-
-makes_no_stream : (lane : ℕ) (r : Result (Unit {0}) Error) → made_streams lane (shown_close r) ≡ []
-makes_no_stream lane (Ok done) = refl
-makes_no_stream lane (Err error) = refl
 
 -- a failing `close` fails by its write
 pub closed_is : (r : Result (Unit {0}) Error) → IfErr r (λ e. e ≡ errors.InputOutput kinds.WriteFault) → IsClosed r
@@ -58,22 +52,15 @@ closed_is (Err error) is = is
 
 -- ---- the peer
 
-not_asked : (w : Writer) (h : List events.Event) (lane : ℕ) (r : Result (Unit {0}) Error) → events.writer h ≡ w → sent_names h lane None (shown_close r) ≡ []
-not_asked w h lane (Ok done) e = refl
-not_asked writers.Fine h lane (Err error) e = rw e refl
-not_asked writers.Failed h lane (Err error) e = rw e refl
-not_asked writers.Closed h lane (Err error) e = rw e refl
-
 follows_close : (setting : Setting) (p q : PeerView) (es : List Entry) (lane : ℕ) (r : Result (Unit {0}) Error) → Follows setting p es → IsClosed r
-    → q.names ≡ p.names → q.streams ≡ p.streams → q.given ≡ p.given → Left q.core (shut ∷ (trail setting es).events)
+    → q.names ≡ p.names → q.streams ≡ p.streams → q.given ≡ p.given → Left q.core (past (shut ∷ (trail setting es).events))
     → Follows setting q (entry lane words.Close (shown_close r) ∷ es)
 follows_close setting p q es lane r f is names same given left =
     let t = trail setting es in
     let a = shown_close r in
     let reads : q.core.read ≡ p.core.read = left.read ∙ sym f.left.read in
     follows_more setting q es (entry lane words.Close a) (shut ∷ t.events) (ap (λ xs. xs ++ t.events) (does_shut r)) left
-    (names ∙ f.names ∙ sym (append-nil t.names) ∙ ap (λ ns. t.names ++ ns) (sym (not_asked (events.writer t.events) t.events lane r refl)))
-    (same ∙ f.streams ∙ sym (append-nil t.streams) ∙ ap (λ ns. t.streams ++ ns) (sym (makes_no_stream lane r)))
+    (names ∙ f.names ∙ sym (append-nil t.names)) (same ∙ f.streams ∙ sym (append-nil t.streams))
     (given ∙ f.given ∙ sym (given_same (shut ∷ t.events) t.events refl refl)) f.legal (shown_is r is)
     (rw reads f.within)
     (left.done ∙ sym f.left.done ∙ f.written ∙ ap length (f.left.outbox ∙ sym left.outbox))
@@ -86,16 +73,12 @@ rest_shut : (o : Option Error) (count : ℕ) (rest : List ℕ) (stop : Option Bo
 rest_shut None count rest stop left now x = x
 rest_shut (Some error) count rest stop left now x = x
 
-told_close : (h : List events.Event) (stop : Option Bool) (bytes : List ℕ) (closing : Option Error) (a : Answer) → ReadTold stop bytes h closing words.Close a
-told_close h stop bytes None a = tt
-told_close h stop bytes (Some error) a = tt
-
 reads_close : (setting : Setting) (start now : Inlet) (es : List Entry) (lane : ℕ) (r : Result (Unit {0}) Error) → Reads setting start now es → Reads setting start now (entry lane words.Close (shown_close r) ∷ es)
 reads_close setting start now es lane r x = record { told = told_all start.left x.told; rest = rest_all start.left x.rest }
   where
     told_all : (left : Option (List ℕ)) → IfSome left (λ bytes. ReadsTold setting start.stop bytes es) → IfSome left (λ bytes. ReadsTold setting start.stop bytes (entry lane words.Close (shown_close r) ∷ es))
     told_all None t = tt
-    told_all (Some bytes) t = (told_close (trail setting es).events start.stop bytes (events.closing (trail setting es).events) (shown_close r), t)
+    told_all (Some bytes) t = (tt, t)
 
     rest_all : (left : Option (List ℕ)) → IfSome left (λ bytes. IsLeft bytes start.stop (trail setting es).events now.left now.stop)
         → IfSome left (λ bytes. IsLeft bytes start.stop (trail setting (entry lane words.Close (shown_close r) ∷ es)).events now.left now.stop)
@@ -186,7 +169,7 @@ never_fine setting es lane r writing e =
 
 pub closing : (setting : Setting) (p q : PeerView) (es : List Entry) (lane : ℕ) (r : Result (Unit {0}) Error) (now after : Outlet) (writing : Writing) → Follows setting p es → IsClosed r
     → Closes r now.held after.held now.room after.room now.faults after.faults
-    → q.names ≡ p.names → q.streams ≡ p.streams → q.given ≡ p.given → Left q.core (shut ∷ (trail setting es).events)
+    → q.names ≡ p.names → q.streams ≡ p.streams → q.given ≡ p.given → Left q.core (past (shut ∷ (trail setting es).events))
     → Sending setting q es lane words.Close now after writing (shown_close r)
 closing setting p q es lane r now after writing f is c names same given left = record {
   follows = follows_close setting p q es lane r f is names same given left;

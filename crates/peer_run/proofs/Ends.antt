@@ -4,7 +4,7 @@ use Rattle.peer_route.specs.Parcel.{Setting}
 use Rattle.peer_route.specs.declared.words.Command.{Command}
 use Rattle.peer_route.specs.declared.answer.Entry.{Entry}
 use Rattle.peer_route.specs.History.{Event, read, closing, put, written, is_failed}
-use Rattle.peer_route.specs.Trail.{trail, first_events}
+use Rattle.peer_route.specs.Entries.{trail, first_events}
 use Rattle.peer_route.specs.Told.{IsSentOf, IsCutAt, ReadsTold}
 use Rattle.wire_framing.specs.declared.write_half.Writing.{Writing}
 use Rattle.peer_script.specs.Script.{Script, is_bus, name_of}

@@ -11,15 +11,15 @@ use Rattle.wire_message.specs.Outcome.{IsReadRefusal}
 use Rattle.wire_message.specs.declared.error.Error.{Error}
 use Rattle.wire_message.specs.declared.error.Error.TheVariants as errors
 use Rattle.wire_message.specs.declared.error.IoKind.TheVariants as kinds
+use Rattle.peer_route.proofs.Writers.{fine_before as writers_before}
 use Rattle.peer_route.specs.Parcel.{Setting}
 use Rattle.peer_route.specs.declared.words.Words.{Words}
 use Rattle.peer_route.specs.declared.answer.Answer.{Answer}
 use Rattle.peer_route.specs.declared.answer.Entry.{Entry}
 use Rattle.peer_route.specs.declared.writer.Writer.TheVariants as writers
 use Rattle.peer_route.specs.History as events
-use Rattle.peer_route.specs.Trail.{trail, events_of}
+use Rattle.peer_route.specs.Entries.{trail, events_of}
 use Rattle.peer_run.specs.Stands.{IsRest, lost, entry}
-use Rattle.peer_route.proofs.Writers.{fine_before as writers_before}
 
 -- ---- a read
 

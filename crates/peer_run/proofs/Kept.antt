@@ -1,7 +1,6 @@
 -- What an entry leaves of the source or the sink that it doesn't touch.
-use Rattle.std.proofs.Common.{◌≡◌, ℕ, refl, sym, ◌∙◌, arith, nat_lt, ◌&&◌, ◌||◌, not, Bool, true, false, List, [], ◌∷◌, ◌++◌, Option, Some, None, IfSome}
+use Rattle.std.proofs.Common.{◌≡◌, ℕ, refl, sym, ◌∙◌, arith, nat_lt, ◌&&◌, ◌||◌, not, Bool, true, false, List, [], ◌∷◌, ◌++◌, Option, Some, None, IfSome, ap, ap}
 use Rattle.std.proofs.lemmas.Bool.Decides.{nat_tests}
-use Rattle.wire_message.specs.Front.{Seen}
 use Rattle.wire_message.specs.declared.error.Error.{Error}
 use Rattle.peer_route.specs.Parcel.{Setting}
 use Rattle.peer_route.specs.declared.words.Words.{Words}
@@ -10,10 +9,14 @@ use Rattle.peer_route.specs.declared.answer.Answer.{Answer}
 use Rattle.peer_route.specs.declared.answer.Answer.TheVariants as answers
 use Rattle.peer_route.specs.declared.answer.Entry.{Entry}
 use Rattle.peer_route.specs.History as events
-use Rattle.peer_route.specs.Trail.{trail, read_events, first_events}
+use Rattle.peer_route.specs.Plan.{plan, reads_by}
+use Rattle.peer_route.specs.Entries.{trail, does, first_events}
 use Rattle.peer_route.specs.Told.{ReadsTold, ReadTold, CloseTold, WriteTold, WritesTold}
 use Rattle.peer_run.proofs.Quiet.{first_same}
 use Rattle.peer_run.specs.Stands.{Inlet, Outlet, Reads, Writes, IsLeft, HoldsThen, Moves, SinkFaults, is_write_fault, has_broken, is_close, entry}
+use Rattle.peer_route.proofs.Plans.{said_keeps}
+use Rattle.peer_route.specs.Streams.{busy}
+use Rattle.peer_route.specs.History.{past}
 
 -- ---- the source
 
@@ -21,7 +24,7 @@ use Rattle.peer_run.specs.Stands.{Inlet, Outlet, Reads, Writes, IsLeft, HoldsThe
 pub reads_kept : (setting : Setting) (start now : Inlet) (es : List Entry) (lane : ℕ) (w : Words) (a : Answer)
     → events.read (trail setting (entry lane w a ∷ es)).events ≡ events.read (trail setting es).events
     → events.closing (trail setting (entry lane w a ∷ es)).events ≡ events.closing (trail setting es).events
-    → ((stop : Option Bool) (bytes : List ℕ) → ReadTold stop bytes (trail setting es).events (events.closing (trail setting es).events) w a)
+    → ((stop : Option Bool) (bytes : List ℕ) → ReadTold stop bytes (trail setting es).events (plan (trail setting es) lane w) a)
     → Reads setting start now es → Reads setting start now (entry lane w a ∷ es)
 reads_kept setting start now es lane w a same_read same_closing told r = record { told = told_kept start.left r.told; rest = rest_kept start.left r.rest }
   where
@@ -114,24 +117,19 @@ writes_kept setting start now es lane w a same_failed same_put same_written othe
 
 -- ---- a read sends nothing
 
-read_puts : (closing : Option Error) (a : Answer) (h : List events.Event)
-    → (events.is_failed (read_events closing a ++ h) ≡ events.is_failed h) × (events.put (read_events closing a ++ h) ≡ events.put h) × (events.written (read_events closing a ++ h) ≡ events.written h)
-read_puts (Some error) a h = (refl, refl, refl)
-read_puts None (answers.Got m) h = (refl, refl, refl)
-read_puts None (answers.Closed error) h = (refl, refl, refl)
-read_puts None a h = (refl, refl, refl)
+-- what is said to one sends nothing, and what is taken neither
+read_puts : (h : List events.Event) (closed : Option Error) (full : Bool) (a : Answer)
+    → (events.is_failed (does h (reads_by closed full) a ++ h) ≡ events.is_failed h) × (events.put (does h (reads_by closed full) a ++ h) ≡ events.put h)
+    × (events.written (does h (reads_by closed full) a ++ h) ≡ events.written h)
+read_puts h (Some error) full a = let same = (said_keeps a [] h tt).outbox_same in (ap (λ o. o.failed) same, ap (λ o. o.put) same, ap (λ o. o.written) same)
+read_puts h None true a = let same = (said_keeps a [] h tt).outbox_same in (ap (λ o. o.failed) same, ap (λ o. o.put) same, ap (λ o. o.written) same)
+read_puts h None false (answers.Got m) = (refl, refl, refl)
+read_puts h None false (answers.Closed error) = (refl, refl, refl)
+read_puts h None false a = (refl, refl, refl)
 
-pub writes_closed : (setting : Setting) (start now : Outlet) (es : List Entry) (lane : ℕ) (error : Error) → Writes setting start now es → Writes setting start now (entry lane words.Read (answers.Closed error) ∷ es)
-writes_closed setting start now es lane error r =
-    let p = read_puts (events.closing (trail setting es).events) (answers.Closed error) (trail setting es).events in
-    writes_kept setting start now es lane words.Read (answers.Closed error) p.0 p.1 p.2 refl (λ f. cc) r
-
-pub writes_got : (setting : Setting) (start now : Outlet) (es : List Entry) (lane : ℕ) (m : Seen) → Writes setting start now es → Writes setting start now (entry lane words.Read (answers.Got m) ∷ es)
-writes_got setting start now es lane m r =
-    let p = read_puts (events.closing (trail setting es).events) (answers.Got m) (trail setting es).events in
-    writes_kept setting start now es lane words.Read (answers.Got m) p.0 p.1 p.2 refl (λ f. cc) r
-
-pub writes_busy : (setting : Setting) (start now : Outlet) (es : List Entry) (lane : ℕ) → Writes setting start now es → Writes setting start now (entry lane words.Read answers.Busy ∷ es)
-writes_busy setting start now es lane r =
-    let p = read_puts (events.closing (trail setting es).events) answers.Busy (trail setting es).events in
-    writes_kept setting start now es lane words.Read answers.Busy p.0 p.1 p.2 refl (λ f. cc) r
+pub writes_read : (setting : Setting) (start now : Outlet) (es : List Entry) (lane : ℕ) (a : Answer) → (IsWriteFault a → ⊥) → Writes setting start now es
+    → Writes setting start now (entry lane words.Read a ∷ es)
+writes_read setting start now es lane a fault r =
+    let h = (trail setting es).events in
+    let p = read_puts h (events.closing h) (busy (past h)) a in
+    writes_kept setting start now es lane words.Read a p.0 p.1 p.2 refl (λ e. absurd (fault e)) r

@@ -21,31 +21,35 @@ use Rattle.peer_route.specs.declared.answer.Entry.{Entry}
 use Rattle.peer_route.specs.declared.writer.Writer.TheVariants as writers
 use Rattle.peer_route.specs.declared.leaving.Spent.TheVariants as spent
 use Rattle.peer_route.specs.declared.streams.MessageStream.{MessageStream}
-use Rattle.peer_route.specs.History.{Event, Did, Gone, Fault, Wrote}
-use Rattle.peer_route.specs.Streams.{all_given, are_open, close_waits, leaving, gone_then}
+use Rattle.peer_route.specs.History.{Event, Did, Gone, Fault, Wrote, past, Past}
+use Rattle.peer_route.specs.Streams.{are_open, close_waits, leaving, gone_then}
 use Rattle.peer_route.specs.History as events
 use Rattle.peer_route.specs.BusCall.{some_rules}
-use Rattle.peer_route.specs.Trail.{Trail, Names, trail, place, second_place, wrote_each, fault_each}
-use Rattle.peer_route.specs.Answers.{IsAnswer, IsLeaveOf, IsTold, is_open_at, are_open_at, write_fault, first_fault}
+use Rattle.peer_route.specs.Trail.{Names, place, second_place}
+use Rattle.peer_route.specs.Entries.{trail, wrote_each, fault_each}
+use Rattle.peer_route.specs.Answers.{IsTold, write_fault, first_fault}
+use Rattle.peer_route.specs.Plan.{is_open_at, are_open_at}
 use Rattle.peer_route.specs.Told.{encodings}
 use Rattle.peer_route.specs.StreamLaws.{tellings}
 use Rattle.peer_route.specs.Leaving.{TellsBus, TellsNow, MayClose, gone_both, ClosesStreams}
 use Rattle.peer_route.specs.Left.{View, Left}
 use Rattle.peer_route.proofs.Closings.{first_unnamed, second_unnamed}
-use Rattle.peer_route.proofs.Refused.{refused_changes_nothing}
 use Rattle.peer_route.proofs.Tellings.{gone_before}
 use Rattle.peer_route.proofs.Writers.{fine_unfailed, failed_so}
-use Rattle.peer_run.specs.Stands.{PeerView, Outlet, Follows, Writes, Sending, IsFine, IsKeptOpen, is_broken, entry}
+use Rattle.peer_run.specs.Stands.{PeerView, Outlet, Follows, Writes, Sending, IsFine, IsKeptOpen, is_broken}
 use Rattle.peer_run.specs.Tells.{waiting, AreBare, AreDue, told_names, forgotten, is_unknown, spent_answer, spent_given, Tells, NoneToTell, AllTold, NoneTold, FirstTold}
 use Rattle.peer_route.proofs.Tellings.{removals_put, removals_failed}
 use Rattle.peer_run.proofs.Telling.{IsPut, told_ok, untold, untold_failed, some_told, none_told, some_put, two_put, removals_done, tellings_each, tellings_bare, wrote_failed}
-use Rattle.peer_run.proofs.ChangeStep.{here}
+use Rattle.peer_run.proofs.Saying.{placed_stream, still_sending}
 use Rattle.peer_run.proofs.Quiet.{follows_more}
-use Rattle.peer_run.proofs.Kept.{reads_kept, writes_kept, IsWriteFault}
+use Rattle.peer_run.proofs.Kept.{reads_kept, writes_kept}
 use Rattle.peer_run.proofs.HalfStep.{fine_before}
 use Rattle.peer_route.proofs.Written.{removals_written, wrote_written, fault_written, tellings_count}
 use Rattle.peer_run.proofs.Outlets.{writes_all, writes_part, encoded_one}
-use Rattle.peer_run.proofs.LeaveStep.{Leave, word, left_entry, Named, leaves_by, may_leave, leaves_events, leaves_names, unstream_told, gone_given, gone, rules_of, told_of, gone_is, leaves_trail, leaves_follow, leaves_read, leaves_put, Closed, all_leaves, none_leaves, first_leaves}
+use Rattle.peer_run.proofs.LeaveStep.{Leave, word, left_entry, Named, ends_mean, leave_means, leaves_events, leaves_names, leaves_streams, leaves_told, gone_given, gone, rules_of, told_of, gone_is, leaves_trail, leaves_follow, leaves_read, leaves_put, Closed, all_leaves, none_leaves, first_leaves}
+use Rattle.peer_route.specs.Answers.{IsMeant}
+use Rattle.peer_route.specs.Plan.{ends, ends_now}
+use Rattle.peer_route.proofs.Pasts.{left_all}
 
 -- ---- whether a write failed
 
@@ -99,8 +103,8 @@ none_to_tell setting p r v es c last now after before writing a x none same outl
     let g = gone h c in
     let rules = rules_of h c in
     let no : rules ≡ [] = none_told g rules (sym x.is.serial ∙ none) in
-    let left : Left r.core (wrote_each rules ++ told_of h c rules) =
-    subst (λ u. Left u (wrote_each rules ++ told_of h c rules)) (sym same) (subst (λ rs. Left v (wrote_each rs ++ told_of h c rules)) (sym no) x.is.left) in
+    let left : Left r.core (past (wrote_each rules ++ told_of h c rules)) =
+    subst (λ u. Left u (past (wrote_each rules ++ told_of h c rules))) (sym same) (subst (λ rs. Left v (past (wrote_each rs ++ told_of h c rules))) (sym no) x.is.left) in
     let l = all_leaves setting p r v es c last now after before writing a x left in
     record {
       follows = leaves_follow setting p r es c (answers.Gone last) (wrote_each rules) rules l;
@@ -117,7 +121,7 @@ none_to_tell setting p r v es c last now after before writing a x none same outl
 -- all went out
 went_all : (setting : Setting) (p r : PeerView) (v : View) (es : List Entry) (c : Leave) (last : Option ℕ) (now after : Outlet) (before writing : Writing) (a : Answer) (serial : ℕ)
     → Closed setting p r v es c last now after before writing a → last ≡ Some serial
-    → Left r.core (wrote_each (rules_of (trail setting es).events c) ++ told_of (trail setting es).events c (rules_of (trail setting es).events c))
+    → Left r.core (past (wrote_each (rules_of (trail setting es).events c) ++ told_of (trail setting es).events c (rules_of (trail setting es).events c)))
     → Appends now.held after.held (encodings (tellings (gone (trail setting es).events c) (rules_of (trail setting es).events c)))
     → RoomFalls now.room after.room (length (encodings (tellings (gone (trail setting es).events c) (rules_of (trail setting es).events c))))
     → after.faults ≡ now.faults → writing ≡ Fine
@@ -142,7 +146,7 @@ went_all setting p r v es c last now after before writing a serial x there left 
 -- the first's write failed
 went_none : (setting : Setting) (p r : PeerView) (v : View) (es : List Entry) (c : Leave) (last : Option ℕ) (now after : Outlet) (before writing : Writing) (a : Answer) (m : Seen) (more : List Seen) (n : ℕ)
     → Closed setting p r v es c last now after before writing a → tellings (gone (trail setting es).events c) (rules_of (trail setting es).events c) ≡ m ∷ more
-    → Left r.core (fault_each (rules_of (trail setting es).events c) ++ told_of (trail setting es).events c (rules_of (trail setting es).events c))
+    → Left r.core (past (fault_each (rules_of (trail setting es).events c) ++ told_of (trail setting es).events c (rules_of (trail setting es).events c)))
     → Part m.bytes now.held after.held n → RoomBreaks now.room after.room n → MayRise now.faults after.faults
     → Sending setting r es c.lane (word c) now after writing write_fault
 went_none setting p r v es c last now after before writing a m more n x there left part breaks rises =
@@ -167,7 +171,7 @@ went_none setting p r v es c last now after before writing a m more n x there le
 -- the second's did
 went_first : (setting : Setting) (p r : PeerView) (v : View) (es : List Entry) (c : Leave) (last : Option ℕ) (now after : Outlet) (before writing : Writing) (a : Answer) (m other : Seen) (mid : Outlet) (n : ℕ)
     → Closed setting p r v es c last now after before writing a → tellings (gone (trail setting es).events c) (rules_of (trail setting es).events c) ≡ m ∷ other ∷ []
-    → Left r.core (Fault ∷ Wrote ∷ told_of (trail setting es).events c (rules_of (trail setting es).events c))
+    → Left r.core (past (Fault ∷ Wrote ∷ told_of (trail setting es).events c (rules_of (trail setting es).events c)))
     → Appends now.held mid.held m.bytes → RoomFalls now.room mid.room (length m.bytes) → mid.faults ≡ now.faults
     → Part other.bytes mid.held after.held n → RoomBreaks mid.room after.room n → MayRise mid.faults after.faults
     → Sending setting r es c.lane (word c) now after writing first_fault
@@ -178,7 +182,7 @@ went_first setting p r v es c last now after before writing a m other mid n x th
     let rules = two.0 ∷ two.1 ∷ [] in
     let some : some_rules (rules_of h c) ≡ true = some_put g (rules_of h c) m (other ∷ []) there in
     let unfailed : events.is_failed h ≡ false = fine_unfailed h (was_fine setting es c v last x.is some) in
-    let l = first_leaves setting p r v es c last now after before writing a two.0 two.1 x two.2 (subst (λ rs. Left r.core (Fault ∷ Wrote ∷ told_of h c rs)) two.2 left) in
+    let l = first_leaves setting p r v es c last now after before writing a two.0 two.1 x two.2 (subst (λ rs. Left r.core (past (Fault ∷ Wrote ∷ told_of h c rs))) two.2 left) in
     let failed : events.is_failed (trail setting (left_entry c first_fault ∷ es)).events ≡ true =
     ap events.is_failed (leaves_trail setting p r es c first_fault (Fault ∷ Wrote ∷ []) rules l) in
     record {
@@ -204,14 +208,14 @@ ends_by setting p r v es c last now after before writing a x (AllTold serial the
     let told = told_of (trail setting es).events c rules in
     subst (λ b. Sending setting r es c.lane (word c) now after writing b) (sym answer)
     (went_all setting p r v es c last now after before writing a serial x there
-    (subst (λ xs. Left r.core (xs ++ told)) (tellings_each Wrote g rules) (left told x.is.left)) appends falls faults still)
+    (subst (λ xs. Left r.core (past (xs ++ told))) (tellings_each Wrote g rules) (left_all r.core (map (λ m. Wrote) (tellings g rules)) told (left (past told) x.is.left))) appends falls faults still)
 ends_by setting p r v es c last now after before writing a x (NoneTold answer m more there left n part breaks rises) =
     let g = gone (trail setting es).events c in
     let rules = rules_of (trail setting es).events c in
     let told = told_of (trail setting es).events c rules in
     subst (λ b. Sending setting r es c.lane (word c) now after writing b) (sym answer)
     (went_none setting p r v es c last now after before writing a m more n x there
-    (subst (λ xs. Left r.core (xs ++ told)) (tellings_each Fault g rules) (left told x.is.left)) part breaks rises)
+    (subst (λ xs. Left r.core (past (xs ++ told))) (tellings_each Fault g rules) (left_all r.core (map (λ m. Fault) (tellings g rules)) told (left (past told) x.is.left))) part breaks rises)
 ends_by setting p r v es c last now after before writing a x (FirstTold answer m other there left mid appends falls faults n part breaks rises) =
     subst (λ b. Sending setting r es c.lane (word c) now after writing b) (sym answer)
     (went_first setting p r v es c last now after before writing a m other mid n x there (left _ x.is.left) appends falls faults part breaks rises)
@@ -224,7 +228,7 @@ closed_ends setting p r v es c last now after before writing a x = ends_by setti
 -- ---- what waits, by the core
 
 -- the history once the streams are closed, as the core has it
-both_is : (h : List Event) (k : ℕ) (j : Option ℕ) → gone_both k j h ≡ gone_then j (Did k Gone ∷ h)
+both_is : (h : List Event) (k : ℕ) (j : Option ℕ) → gone_both k j (past h) ≡ past (gone_then j (Did k Gone ∷ h))
 both_is h k None = refl
 both_is h k (Some j) = refl
 
@@ -259,7 +263,7 @@ names_by v g rules (Some serial) names put waits = ap (λ (ms : List Seen). name
 -- The core closed the streams, and what it put was written, or wasn't.
 pub gone_ends : (setting : Setting) (p r : PeerView) (v : View) (es : List Entry) (c : Leave) (last : Option ℕ) (now after : Outlet) (before writing : Writing) (a : Answer)
     → Named (trail setting es) c → Follows setting p es → IsFine (trail setting es).events before
-    → ((h : List Event) → Left p.core h → ClosesStreams p.core v c.k c.j h (spent.Gone last))
+    → ((h : Past) → Left p.core h → ClosesStreams p.core v c.k c.j h (spent.Gone last))
     → r.names ≡ told_names v last p.names → r.streams ≡ p.streams → r.given ≡ forgotten c.k c.j p.given
     → (AreBare (waiting v) → (IsSome last → before ≡ Fine) → Tells v r.core last (waiting v) now after before writing a)
     → Sending setting r es c.lane (word c) now after writing a
@@ -267,7 +271,7 @@ gone_ends setting p r v es c last now after before writing a named f fine said n
     let h = (trail setting es).events in
     let g = gone h c in
     let rules = rules_of h c in
-    let closes = said h f.left in
+    let closes = said (past h) f.left in
     let put : IsPut v g rules last = told_ok v g rules last (subst (λ x. TellsBus v x rules (Ok last)) (both_is h c.k c.j) closes.1) in
     let all : events.done h ≡ length (events.put h) = sym f.left.done ∙ f.written ∙ ap length f.left.outbox in
     let waits = waits_are v h c last put all in
@@ -288,107 +292,74 @@ gone_ends setting p r v es c last now after before writing a named f fine said n
 
 -- ---- nothing is put
 
--- an answer by which nothing changes
-same_ends : (setting : Setting) (p : PeerView) (es : List Entry) (lane number : ℕ) (second : Option ℕ) (a : Answer) (now : Outlet) (writing : Writing)
-    → trail setting (entry lane (words.Unstream number second) a ∷ es) ≡ trail setting es → IsAnswer (trail setting es) lane (words.Unstream number second) a
-    → (IsWriteFault a → ⊥) → Follows setting p es → IsFine (trail setting es).events writing
-    → Sending setting p es lane (words.Unstream number second) now now writing a
-same_ends setting p es lane number second a now writing same answer no_write f fine =
-    let t = trail setting es in
-    let w = words.Unstream number second in
-    record {
-      follows = record {
-        left = subst (λ (t : Trail). Left p.core t.events) (sym same) f.left;
-        names = f.names ∙ ap (λ (t : Trail). t.names) (sym same);
-        streams = f.streams ∙ ap (λ (t : Trail). t.streams) (sym same);
-        given = f.given ∙ ap (λ (t : Trail). all_given t.events) (sym same);
-        legal = (answer, f.legal);
-        within = f.within;
-        written = f.written;
-      };
-      writes = λ start x. writes_kept setting start now es lane w a (ap (λ (t : Trail). events.is_failed t.events) same) (ap (λ (t : Trail). events.put t.events) same)
-          (ap (λ (t : Trail). events.written t.events) same) refl (λ e. absurd (no_write e)) x;
-      reads = λ start now_in x. reads_kept setting start now_in es lane w a (ap (λ (t : Trail). events.read t.events) same) (ap (λ (t : Trail). events.closing t.events) same)
-          (λ stop bytes. unstream_told t.events number second stop bytes (events.closing t.events) a) x;
-      fine = λ e. fine (fine_before setting es lane w a e);
-    }
-
 -- streams that aren't open
 shut_ends : (setting : Setting) (p : PeerView) (es : List Entry) (lane number : ℕ) (second : Option ℕ) (now : Outlet) (writing : Writing)
     → are_open_at (trail setting es).events lane (trail setting es).streams number second ≡ false → Follows setting p es → IsFine (trail setting es).events writing
     → Sending setting p es lane (words.Unstream number second) now now writing (answers.Refused errors.UnknownHandle)
 shut_ends setting p es lane number second now writing shut f fine =
     let t = trail setting es in
-    let a = answers.Refused errors.UnknownHandle in
-    same_ends setting p es lane number second a now writing (refused_changes_nothing setting es (entry lane (words.Unstream number second) a) errors.UnknownHandle refl)
-    (subst (λ b. IsLeaveOf b t.events (place 0 lane number t.streams) (second_place lane second t.streams) a) (sym shut) refl) (λ e. cc) f fine
+    still_sending setting p es lane (words.Unstream number second) (answers.Refused errors.UnknownHandle) now writing f fine
+    (ap (λ b. ends b t.events (place 0 lane number t.streams) (second_place lane second t.streams)) shut)
 
 pub one_unknown : (setting : Setting) (p : PeerView) (es : List Entry) (lane number : ℕ) (now : Outlet) (writing : Writing)
     → Follows setting p es → IsFine (trail setting es).events writing → place 0 lane number p.streams ≡ None
     → Sending setting p es lane (words.Unstream number None) now now writing (answers.Refused errors.UnknownHandle)
 one_unknown setting p es lane number now writing f fine none =
-    shut_ends setting p es lane number None now writing (ap (is_open_at (trail setting es).events) (here setting p es lane number None f none)) f fine
+    shut_ends setting p es lane number None now writing (ap (is_open_at (trail setting es).events) (placed_stream setting p es lane number None f none)) f fine
 
 pub first_unknown : (setting : Setting) (p : PeerView) (es : List Entry) (lane number second : ℕ) (now : Outlet) (writing : Writing)
     → Follows setting p es → IsFine (trail setting es).events writing → place 0 lane number p.streams ≡ None
     → Sending setting p es lane (words.Unstream number (Some second)) now now writing (answers.Refused errors.UnknownHandle)
 first_unknown setting p es lane number second now writing f fine none =
     let t = trail setting es in
-    shut_ends setting p es lane number (Some second) now writing (first_unnamed t.events lane t.streams number second (here setting p es lane number None f none)) f fine
+    shut_ends setting p es lane number (Some second) now writing (first_unnamed t.events lane t.streams number second (placed_stream setting p es lane number None f none)) f fine
 
 pub second_unknown : (setting : Setting) (p : PeerView) (es : List Entry) (lane number second : ℕ) (now : Outlet) (writing : Writing)
     → Follows setting p es → IsFine (trail setting es).events writing → place 0 lane second p.streams ≡ None
     → Sending setting p es lane (words.Unstream number (Some second)) now now writing (answers.Refused errors.UnknownHandle)
 second_unknown setting p es lane number second now writing f fine none =
     let t = trail setting es in
-    shut_ends setting p es lane number (Some second) now writing (second_unnamed t.events lane t.streams number second (here setting p es lane second None f none)) f fine
+    shut_ends setting p es lane number (Some second) now writing (second_unnamed t.events lane t.streams number second (placed_stream setting p es lane second None f none)) f fine
 
 -- an AddMatch or a RemoveMatch is on its way
-busy_same : (setting : Setting) (es : List Entry) (c : Leave) → Named (trail setting es) c → trail setting (left_entry c answers.Busy ∷ es) ≡ trail setting es
-busy_same setting es c named =
-    let t = trail setting es in
-    let events_are = leaves_events setting es c answers.Busy named in
-    let names_are = ap (λ ns. t.names ++ ns) (leaves_names t c answers.Busy named) ∙ append-nil t.names in
-    let streams_are = append-nil t.streams in
-    λ i. record { events = events_are i; names = names_are i; streams = streams_are i; setting = t.setting }
-
 busy_ends : (setting : Setting) (p : PeerView) (es : List Entry) (c : Leave) (now : Outlet) (writing : Writing) → Named (trail setting es) c → Follows setting p es → IsFine (trail setting es).events writing
-    → are_open (trail setting es).events c.k c.j ≡ true → close_waits (trail setting es).events c.k c.j ≡ true
+    → are_open (past (trail setting es).events) c.k c.j ≡ true → close_waits (past (trail setting es).events) c.k c.j ≡ true
     → Sending setting p es c.lane (word c) now now writing answers.Busy
 busy_ends setting p es c now writing named f fine still waits =
-    same_ends setting p es c.lane c.number c.second answers.Busy now writing (busy_same setting es c named)
-    (leaves_by (trail setting es) c answers.Busy named (rw (still, waits) refl)) (λ e. cc) f fine
+    let t = trail setting es in
+    still_sending setting p es c.lane (word c) answers.Busy now writing f fine
+    (ends_mean t c named ∙ ap (λ b. ends b t.events (Some c.k) c.j) still ∙ ap (λ b. ends_now b c.k c.j) waits)
 
 -- the core handed the streams back
 pub back_ends : {E : Type 0} (p q : PeerView) (c : Leave) (s : MessageStream) (t : Option MessageStream) (error : Error) (r : Result Answer E) (now : Outlet) (writing : Writing)
-    → ((h : List Event) → Left p.core h → ClosesStreams p.core q.core c.k c.j h (spent.Back s t error))
+    → ((h : Past) → Left p.core h → ClosesStreams p.core q.core c.k c.j h (spent.Back s t error))
     → q.names ≡ p.names → q.streams ≡ p.streams → q.given ≡ p.given → IsKeptOpen error r
     → IfOk r (λ a. (setting : Setting) (es : List Entry) → Named (trail setting es) c → Follows setting p es → IsFine (trail setting es).events writing
     → Sending setting q es c.lane (word c) now now writing a)
 back_ends p q c s t error (Err e) now writing said names streams given is = tt
 back_ends p q c s t errors.Memory (Ok a) now writing said names streams given is = absurd is
 back_ends p q c s t errors.Busy (Ok a) now writing said names streams given is = λ setting es named f fine.
-    let x = said (trail setting es).events f.left in
+    let x = said (past (trail setting es).events) f.left in
     let same : q ≡ p = λ i. record { core = x.4 i; names = names i; streams = streams i; given = given i } in
     rw (is, same) (busy_ends setting p es c now writing named f fine x.0 x.1)
-back_ends p q c s t error (Ok a) now writing said names streams given is = λ setting es named f fine. absurd (said (trail setting es).events f.left)
+back_ends p q c s t error (Ok a) now writing said names streams given is = λ setting es named f fine. absurd (said (past (trail setting es).events) f.left)
 
 -- ---- the core spent the streams
 
-over_unknown : (old new : View) (k : ℕ) (j : Option ℕ) (h : List Event) (error : Error) → is_unknown error ≡ true → ClosesStreams old new k j h (spent.Over error)
-    → (error ≡ errors.UnknownHandle) × (are_open h k j ≡ false) × (new ≡ old)
+over_unknown : (old new : View) (k : ℕ) (j : Option ℕ) (h : List Event) (error : Error) → is_unknown error ≡ true → ClosesStreams old new k j (past h) (spent.Over error)
+    → (error ≡ errors.UnknownHandle) × (are_open (past h) k j ≡ false) × (new ≡ old)
 over_unknown old new k j h errors.UnknownHandle unknown x = (refl, x.0, x.1)
 over_unknown old new k j h error unknown x = absurd (cc)
 
-over_told : (old new : View) (k : ℕ) (j : Option ℕ) (h : List Event) (error : Error) → is_unknown error ≡ false → ClosesStreams old new k j h (spent.Over error)
-    → MayClose h k j × TellsBus new (gone_both k j h) (leaving h k j) (Err error)
+over_told : (old new : View) (k : ℕ) (j : Option ℕ) (h : List Event) (error : Error) → is_unknown error ≡ false → ClosesStreams old new k j (past h) (spent.Over error)
+    → MayClose (past h) k j × TellsBus new (gone_both k j (past h)) (leaving (past h) k j) (Err error)
 over_told old new k j h errors.UnknownHandle known x = absurd (cc)
 over_told old new k j h errors.Memory known x = absurd x
 over_told old new k j h error known x = x
 
 untold_follows : (setting : Setting) (p r : PeerView) (es : List Entry) (c : Leave) (error : Error) → Named (trail setting es) c → Follows setting p es
-    → MayClose (trail setting es).events c.k c.j → IsTold (gone (trail setting es).events c) (rules_of (trail setting es).events c) (answers.Untold error)
-    → Left r.core (gone (trail setting es).events c) → r.names ≡ p.names → r.streams ≡ p.streams → r.given ≡ forgotten c.k c.j p.given
+    → MayClose (past (trail setting es).events) c.k c.j → IsTold (gone (trail setting es).events c) (rules_of (trail setting es).events c) (answers.Untold error)
+    → Left r.core (past (gone (trail setting es).events c)) → r.names ≡ p.names → r.streams ≡ p.streams → r.given ≡ forgotten c.k c.j p.given
     → Follows setting r (left_entry c (answers.Untold error) ∷ es)
 untold_follows setting p r es c error named f may told left names streams given =
     let t = trail setting es in
@@ -396,11 +367,11 @@ untold_follows setting p r es c error named f may told left names streams given 
     let a = answers.Untold error in
     let z = gone_is h c in
     let reads : r.core.read ≡ p.core.read = left.read ∙ ap length z.read ∙ sym f.left.read in
-    follows_more setting r es (left_entry c a) (gone h c) (leaves_events setting es c a named ∙ gone_before c.k c.j h) left
-    (names ∙ f.names ∙ sym (append-nil t.names) ∙ ap (λ ns. t.names ++ ns) (sym (leaves_names t c a named)))
-    (streams ∙ f.streams ∙ sym (append-nil t.streams))
+    follows_more setting r es (left_entry c a) (gone h c) (leaves_events setting es c a named may ∙ gone_before c.k c.j h) left
+    (names ∙ f.names ∙ sym (append-nil t.names) ∙ ap (λ ns. t.names ++ ns) (sym (leaves_names t c a named may)))
+    (streams ∙ f.streams ∙ sym (append-nil t.streams) ∙ ap (λ ns. t.streams ++ ns) (sym (leaves_streams t c a named may)))
     (given ∙ ap (forgotten c.k c.j) f.given ∙ sym (gone_given h c)) f.legal
-    (leaves_by t c a named (may_leave h c a may told))
+    (subst (λ m. IsMeant t c.lane m a) (sym (leave_means t c named may)) told)
     (rw reads f.within)
     (left.done ∙ z.done ∙ sym f.left.done ∙ f.written ∙ ap length (f.left.outbox ∙ sym z.put ∙ sym left.outbox))
 
@@ -410,8 +381,8 @@ broken_is error e = absurd (cc)
 
 -- they are closed, and the bus can't be told
 untold_ends : (setting : Setting) (p r : PeerView) (es : List Entry) (c : Leave) (error : Error) (now : Outlet) (writing : Writing) → Named (trail setting es) c → Follows setting p es
-    → IsFine (trail setting es).events writing → MayClose (trail setting es).events c.k c.j
-    → TellsBus r.core (gone (trail setting es).events c) (rules_of (trail setting es).events c) (Err error)
+    → IsFine (trail setting es).events writing → MayClose (past (trail setting es).events) c.k c.j
+    → TellsBus r.core (past (gone (trail setting es).events c)) (rules_of (trail setting es).events c) (Err error)
     → r.names ≡ p.names → r.streams ≡ p.streams → r.given ≡ forgotten c.k c.j p.given
     → Sending setting r es c.lane (word c) now now writing (answers.Untold error)
 untold_ends setting p r es c error now writing named f fine may tells names streams given =
@@ -420,18 +391,18 @@ untold_ends setting p r es c error now writing named f fine may tells names stre
     let a = answers.Untold error in
     let z = gone_is h c in
     let told = untold r.core g (rules_of h c) error tells in
-    let same : (trail setting (left_entry c a ∷ es)).events ≡ g = leaves_events setting es c a named ∙ gone_before c.k c.j h in
+    let same : (trail setting (left_entry c a ∷ es)).events ≡ g = leaves_events setting es c a named may ∙ gone_before c.k c.j h in
     record {
       follows = untold_follows setting p r es c error named f may told.0 told.1 names streams given;
       writes = λ start x. writes_kept setting start now es c.lane (word c) a (ap events.is_failed same ∙ z.failed) (ap events.put same ∙ z.put) (ap events.written same ∙ z.written) refl
-          (λ e. failed_so h (sym z.writer ∙ untold_failed r.core g (rules_of h c) (subst (λ e. TellsBus r.core g (rules_of h c) (Err e)) (broken_is error e) tells))) x;
+          (λ e. failed_so h (sym z.writer ∙ untold_failed r.core g (rules_of h c) (subst (λ e. TellsBus r.core (past g) (rules_of h c) (Err e)) (broken_is error e) tells))) x;
       reads = λ start now_in x. reads_kept setting start now_in es c.lane (word c) a (ap events.read same ∙ z.read) (ap events.closing same ∙ z.closing)
-          (λ stop bytes. unstream_told h c.number c.second stop bytes (events.closing h) a) x;
+          (λ stop bytes. leaves_told (trail setting es) c a stop bytes named may) x;
       fine = λ e. fine (fine_before setting es c.lane (word c) a e);
     }
 
 over_by : (setting : Setting) (p r : PeerView) (v : View) (es : List Entry) (c : Leave) (error : Error) (now : Outlet) (writing : Writing) (unknown : Bool) → is_unknown error ≡ unknown → Named (trail setting es) c
-    → Follows setting p es → IsFine (trail setting es).events writing → ClosesStreams p.core v c.k c.j (trail setting es).events (spent.Over error)
+    → Follows setting p es → IsFine (trail setting es).events writing → ClosesStreams p.core v c.k c.j (past (trail setting es).events) (spent.Over error)
     → r.core ≡ v → r.names ≡ p.names → r.streams ≡ p.streams → r.given ≡ (if unknown then p.given else forgotten c.k c.j p.given)
     → Sending setting r es c.lane (word c) now now writing (if unknown then answers.Refused error else answers.Untold error)
 over_by setting p r v es c error now writing true is named f fine said core names streams given =
@@ -444,12 +415,12 @@ over_by setting p r v es c error now writing false is named f fine said core nam
     let h = (trail setting es).events in
     let x = over_told p.core v c.k c.j h error is said in
     untold_ends setting p r es c error now writing named f fine x.0
-    (subst (λ u. TellsBus u (gone h c) (rules_of h c) (Err error)) (sym core) (subst (λ g. TellsBus v g (rules_of h c) (Err error)) (both_is h c.k c.j) x.1)) names streams given
+    (subst (λ u. TellsBus u (past (gone h c)) (rules_of h c) (Err error)) (sym core) (subst (λ x. TellsBus v x (rules_of h c) (Err error)) (both_is h c.k c.j) x.1)) names streams given
 
 -- the streams weren't open, or are closed and the bus can't be told
 pub over_ends : (setting : Setting) (p r : PeerView) (v : View) (es : List Entry) (c : Leave) (error : Error) (now : Outlet) (writing : Writing) → Named (trail setting es) c → Follows setting p es
-    → IsFine (trail setting es).events writing → ((h : List Event) → Left p.core h → ClosesStreams p.core v c.k c.j h (spent.Over error))
+    → IsFine (trail setting es).events writing → ((h : Past) → Left p.core h → ClosesStreams p.core v c.k c.j h (spent.Over error))
     → r.core ≡ v → r.names ≡ p.names → r.streams ≡ p.streams → r.given ≡ spent_given error c.k c.j p.given
     → Sending setting r es c.lane (word c) now now writing (spent_answer error)
 over_ends setting p r v es c error now writing named f fine said core names streams given =
-    over_by setting p r v es c error now writing (is_unknown error) refl named f fine (said (trail setting es).events f.left) core names streams given
+    over_by setting p r v es c error now writing (is_unknown error) refl named f fine (said (past (trail setting es).events) f.left) core names streams given

@@ -1,7 +1,6 @@
 -- Streams are closed by a command, and the bus is told, or isn't: one entry more.
 use Rattle.std.proofs.Common.{◌≡◌, ℕ, ◌+◌, refl, sym, ◌∙◌, ap, subst, arith, Bool, true, List, [], ◌∷◌, ◌++◌, length, length-append, map, Option, Some, None}
 use Rattle.std.proofs.lemmas.List.{append-nil}
-use Rattle.wire_message.specs.declared.error.Error.{Error}
 use Rattle.wire_framing.specs.declared.write_half.Writing.{Writing}
 use Rattle.rule_match.specs.Rule.{Rule}
 use Rattle.peer_route.specs.Parcel.{Setting}
@@ -10,12 +9,14 @@ use Rattle.peer_route.specs.declared.words.Words.TheVariants as words
 use Rattle.peer_route.specs.declared.answer.Answer.{Answer}
 use Rattle.peer_route.specs.declared.answer.Answer.TheVariants as answers
 use Rattle.peer_route.specs.declared.answer.Entry.{Entry}
-use Rattle.peer_route.specs.History.{Event, Did, Gone, Wrote, Fault}
+use Rattle.peer_route.specs.History.{Event, Did, Gone, Wrote, Fault, past}
 use Rattle.peer_route.specs.Streams.{all_given, are_open, leaving, gone_then}
 use Rattle.peer_route.specs.History as events
 use Rattle.peer_route.specs.BusCall.{some_rules}
-use Rattle.peer_route.specs.Trail.{Trail, trail, place, second_place, removals, wrote_each, fault_each, wrote_first, unstream_does, leave_names, made_streams}
-use Rattle.peer_route.specs.Answers.{IsAnswer, IsLeaveOf, IsTold, are_open_at, write_fault, first_fault}
+use Rattle.peer_route.specs.Trail.{Trail, place, second_place}
+use Rattle.peer_route.specs.Entries.{trail, removals, wrote_each, fault_each, wrote_first, leave_names}
+use Rattle.peer_route.specs.Answers.{IsTold, write_fault, first_fault}
+use Rattle.peer_route.specs.Plan.{are_open_at}
 use Rattle.peer_route.specs.Told.{ReadTold}
 use Rattle.peer_route.specs.StreamLaws.{tellings}
 use Rattle.peer_route.specs.Leaving.{MayClose}
@@ -27,9 +28,13 @@ use Rattle.peer_run.specs.Stands.{PeerView, Inlet, Outlet, Follows, Reads, IsFin
 use Rattle.peer_run.specs.Tells.{forgotten, Tells}
 use Rattle.peer_route.proofs.Tellings.{removals_put}
 use Rattle.peer_run.proofs.Telling.{IsPut, told_all, told_none, told_first, Keeps, keeps_then, removals_keep, removals_done, tellings_long, tellings_each, wrote_keeps, wrote_put, wrote_done, fault_keeps, fault_put, fault_done}
-use Rattle.peer_run.proofs.ChangeStep.{here}
+use Rattle.peer_run.proofs.Saying.{placed_stream}
 use Rattle.peer_run.proofs.Quiet.{follows_more}
 use Rattle.peer_run.proofs.Kept.{reads_kept}
+use Rattle.peer_route.specs.Entries.{does, calls_by, streams_by, new_names, new_streams, leave_events, leave_names}
+use Rattle.peer_route.specs.Answers.{IsMeant}
+use Rattle.peer_route.specs.Plan as plans
+use Rattle.peer_route.specs.Plan.{plan, ends, ends_now}
 
 -- ---- the streams that the command names
 
@@ -54,7 +59,7 @@ gone h c = gone_then c.j (Did c.k Gone ∷ h)
 
 -- the rules of which the bus is to be told
 abbrev pub rules_of : List Event → Leave → List Rule
-rules_of h c = leaving h c.k c.j
+rules_of h c = leaving (past h) c.k c.j
 
 -- the history once it was, and before the messages are written
 abbrev pub told_of : List Event → Leave → List Rule → List Event
@@ -64,51 +69,51 @@ told_of h c rules = removals (gone h c) rules ++ gone h c
 pub record Named (t : Trail) (c : Leave) : Type 0 where
   pub first : place 0 c.lane c.number t.streams ≡ Some c.k
   pub other : second_place c.lane c.second t.streams ≡ c.j
-  pub both : are_open_at t.events c.lane t.streams c.number c.second ≡ are_open t.events c.k c.j
+  pub both : are_open_at t.events c.lane t.streams c.number c.second ≡ are_open (past t.events) c.k c.j
 
 -- the lane's number names the same stream by the history
 pub one_named : (setting : Setting) (p : PeerView) (es : List Entry) (lane number k : ℕ) → Follows setting p es → place 0 lane number p.streams ≡ Some k
     → Named (trail setting es) (record { lane = lane; number = number; second = None; k = k; j = None })
 one_named setting p es lane number k f at =
     let t = trail setting es in
-    let first = here setting p es lane number (Some k) f at in
+    let first = placed_stream setting p es lane number (Some k) f at in
     record { first = first; other = refl; both = one_open t.events lane t.streams number k first }
 
 pub two_named : (setting : Setting) (p : PeerView) (es : List Entry) (lane number second k j : ℕ) → Follows setting p es → place 0 lane number p.streams ≡ Some k
     → place 0 lane second p.streams ≡ Some j → Named (trail setting es) (record { lane = lane; number = number; second = Some second; k = k; j = Some j })
 two_named setting p es lane number second k j f at at₂ =
     let t = trail setting es in
-    let first = here setting p es lane number (Some k) f at in
-    let other = here setting p es lane second (Some j) f at₂ in
+    let first = placed_stream setting p es lane number (Some k) f at in
+    let other = placed_stream setting p es lane second (Some j) f at₂ in
     record { first = first; other = other; both = two_open t.events lane t.streams number second k j first other }
 
--- the answer, by what the core gave
-pub leaves_by : (t : Trail) (c : Leave) (a : Answer) → Named t c → IsLeaveOf (are_open t.events c.k c.j) t.events (Some c.k) c.j a → IsAnswer t c.lane (word c) a
-leaves_by t c a n is =
-    subst (λ b. IsLeaveOf b t.events (place 0 c.lane c.number t.streams) (second_place c.lane c.second t.streams) a) (sym n.both)
-    (subst (λ o. IsLeaveOf (are_open t.events c.k c.j) t.events o (second_place c.lane c.second t.streams) a) (sym n.first)
-    (subst (λ o. IsLeaveOf (are_open t.events c.k c.j) t.events (Some c.k) o a) (sym n.other) is))
+-- what it means, by the streams that are named
+pub ends_mean : (t : Trail) (c : Leave) → Named t c → plan t c.lane (word c) ≡ ends (are_open (past t.events) c.k c.j) t.events (Some c.k) c.j
+ends_mean t c n =
+    ap (λ b. ends b t.events (place 0 c.lane c.number t.streams) (second_place c.lane c.second t.streams)) n.both
+    ∙ ap (λ o. ends (are_open (past t.events) c.k c.j) t.events o (second_place c.lane c.second t.streams)) n.first
+    ∙ ap (λ o. ends (are_open (past t.events) c.k c.j) t.events (Some c.k) o) n.other
 
-pub may_leave : (h : List Event) (c : Leave) (a : Answer) → MayClose h c.k c.j → IsTold (gone h c) (rules_of h c) a → IsLeaveOf (are_open h c.k c.j) h (Some c.k) c.j a
-may_leave h c a may told = rw (may.0, may.1) told
+-- they are open, and need not wait
+pub leave_means : (t : Trail) (c : Leave) → Named t c → MayClose (past t.events) c.k c.j → plan t c.lane (word c) ≡ plans.Leaves c.k c.j
+leave_means t c n may = ends_mean t c n ∙ ap (λ b. ends b t.events (Some c.k) c.j) may.0 ∙ ap (λ b. ends_now b c.k c.j) may.1
 
 -- its events
-pub leaves_events : (setting : Setting) (es : List Entry) (c : Leave) (a : Answer) → Named (trail setting es) c
-    → (trail setting (left_entry c a ∷ es)).events ≡ unstream_does (trail setting es).events (Some c.k) c.j a ++ (trail setting es).events
-leaves_events setting es c a n =
-    let t = trail setting es in
-    ap (λ o. unstream_does t.events o (second_place c.lane c.second t.streams) a ++ t.events) n.first
-    ∙ ap (λ o. unstream_does t.events (Some c.k) o a ++ t.events) n.other
+pub leaves_events : (setting : Setting) (es : List Entry) (c : Leave) (a : Answer) → Named (trail setting es) c → MayClose (past (trail setting es).events) c.k c.j
+    → (trail setting (left_entry c a ∷ es)).events ≡ leave_events (trail setting es).events c.k c.j a ++ (trail setting es).events
+leaves_events setting es c a n may = let t = trail setting es in ap (λ p. does t.events p a ++ t.events) (leave_means t c n may)
 
 -- whose its calls are
-pub leaves_names : (t : Trail) (c : Leave) (a : Answer) → Named t c
-    → leave_names t.events (place 0 c.lane c.number t.streams) (second_place c.lane c.second t.streams) a ≡ leave_names t.events (Some c.k) c.j a
-leaves_names t c a n =
-    ap (λ o. leave_names t.events o (second_place c.lane c.second t.streams) a) n.first ∙ ap (λ o. leave_names t.events (Some c.k) o a) n.other
+pub leaves_names : (t : Trail) (c : Leave) (a : Answer) → Named t c → MayClose (past t.events) c.k c.j → new_names t c.lane (word c) a ≡ leave_names t.events c.k c.j a
+leaves_names t c a n may = ap (λ p. calls_by t.events c.lane p a) (leave_means t c n may)
 
-pub unstream_told : (h : List Event) (number : ℕ) (second : Option ℕ) (stop : Option Bool) (bytes : List ℕ) (closing : Option Error) (a : Answer) → ReadTold stop bytes h closing (words.Unstream number second) a
-unstream_told h number second stop bytes None a = tt
-unstream_told h number second stop bytes (Some error) a = tt
+-- it makes no stream
+pub leaves_streams : (t : Trail) (c : Leave) (a : Answer) → Named t c → MayClose (past t.events) c.k c.j → new_streams t c.lane (word c) a ≡ []
+leaves_streams t c a n may = ap (λ p. streams_by t.events c.lane p a) (leave_means t c n may)
+
+-- and reads nothing
+pub leaves_told : (t : Trail) (c : Leave) (a : Answer) (stop : Option Bool) (bytes : List ℕ) → Named t c → MayClose (past t.events) c.k c.j → ReadTold stop bytes t.events (plan t c.lane (word c)) a
+leaves_told t c a stop bytes n may = subst (λ p. ReadTold stop bytes t.events p a) (sym (leave_means t c n may)) tt
 
 -- ---- streams that are closed
 
@@ -129,11 +134,11 @@ gone_by h k (Some j) = record { read = refl; closing = refl; put = refl; done = 
 pub gone_is : (h : List Event) (c : Leave) → IsGone (gone h c) h
 gone_is h c = gone_by h c.k c.j
 
-given_by : (h : List Event) (k : ℕ) (j : Option ℕ) → all_given (gone_then j (Did k Gone ∷ h)) ≡ forgotten k j (all_given h)
+given_by : (h : List Event) (k : ℕ) (j : Option ℕ) → all_given (past (gone_then j (Did k Gone ∷ h))) ≡ forgotten k j (all_given (past h))
 given_by h k None = given_gone h k
 given_by h k (Some j) = given_gone_both h k j
 
-pub gone_given : (h : List Event) (c : Leave) → all_given (gone h c) ≡ forgotten c.k c.j (all_given h)
+pub gone_given : (h : List Event) (c : Leave) → all_given (past (gone h c)) ≡ forgotten c.k c.j (all_given (past h))
 gone_given h c = given_by h c.k c.j
 
 -- ---- the bus is told
@@ -161,14 +166,13 @@ first_are rule other = record {
 pub record Leaves (setting : Setting) (p r : PeerView) (es : List Entry) (c : Leave) (a : Answer) (xs : List Event) (rules : List Rule) : Type 0 where
   named : Named (trail setting es) c
   follows : Follows setting p es
-  may : MayClose (trail setting es).events c.k c.j
+  may : MayClose (past (trail setting es).events) c.k c.j
   told : IsTold (gone (trail setting es).events c) rules a
   is : rules_of (trail setting es).events c ≡ rules
   writes : AreWrites xs (length rules)
-  does : unstream_does (trail setting es).events (Some c.k) c.j a ++ (trail setting es).events ≡ xs ++ told_of (trail setting es).events c rules
-  makes : leave_names (trail setting es).events (Some c.k) c.j a ≡ map (λ rule. None) rules
-  none : made_streams c.lane a ≡ []
-  left : Left r.core (xs ++ told_of (trail setting es).events c rules)
+  does : leave_events (trail setting es).events c.k c.j a ++ (trail setting es).events ≡ xs ++ told_of (trail setting es).events c rules
+  makes : leave_names (trail setting es).events c.k c.j a ≡ map (λ rule. None) rules
+  left : Left r.core (past (xs ++ told_of (trail setting es).events c rules))
   names : r.names ≡ p.names ++ map (λ m. None) (tellings (gone (trail setting es).events c) rules)
   streams : r.streams ≡ p.streams
   given : r.given ≡ forgotten c.k c.j p.given
@@ -177,7 +181,7 @@ pub record Leaves (setting : Setting) (p r : PeerView) (es : List Entry) (c : Le
 record LeftAt (x h : List Event) (c : Leave) (rules : List Rule) : Type 0 where
   read : events.read x ≡ events.read h
   closing : events.closing x ≡ events.closing h
-  given : all_given x ≡ forgotten c.k c.j (all_given h)
+  given : all_given (past x) ≡ forgotten c.k c.j (all_given (past h))
   put : events.put x ≡ events.put h ++ tellings (gone h c) rules
   done : events.done x ≡ events.done h + length rules
 
@@ -198,7 +202,7 @@ left_at h c rules xs w =
 
 pub leaves_trail : (setting : Setting) (p r : PeerView) (es : List Entry) (c : Leave) (a : Answer) (xs : List Event) (rules : List Rule) → Leaves setting p r es c a xs rules
     → (trail setting (left_entry c a ∷ es)).events ≡ xs ++ told_of (trail setting es).events c rules
-leaves_trail setting p r es c a xs rules x = leaves_events setting es c a x.named ∙ x.does
+leaves_trail setting p r es c a xs rules x = leaves_events setting es c a x.named x.may ∙ x.does
 
 pub leaves_follow : (setting : Setting) (p r : PeerView) (es : List Entry) (c : Leave) (a : Answer) (xs : List Event) (rules : List Rule) → Leaves setting p r es c a xs rules
     → Follows setting r (left_entry c a ∷ es)
@@ -215,21 +219,21 @@ leaves_follow setting p r es c a xs rules x =
     let each = tellings_long g rules in
     follows_more setting r es (left_entry c a) (xs ++ told_of h c rules) (leaves_trail setting p r es c a xs rules x) x.left
     (x.names ∙ ap (λ ns. ns ++ map (λ m. None) (tellings g rules)) f.names
-    ∙ ap (λ ns. t.names ++ ns) (tellings_each None g rules ∙ sym (leaves_names t c a x.named ∙ x.makes)))
-    (x.streams ∙ f.streams ∙ sym (append-nil t.streams) ∙ ap (λ ns. t.streams ++ ns) (sym x.none))
+    ∙ ap (λ ns. t.names ++ ns) (tellings_each None g rules ∙ sym (leaves_names t c a x.named x.may ∙ x.makes)))
+    (x.streams ∙ f.streams ∙ sym (append-nil t.streams) ∙ ap (λ ns. t.streams ++ ns) (sym (leaves_streams t c a x.named x.may)))
     (x.given ∙ ap (forgotten c.k c.j) f.given ∙ sym at.given) f.legal
-    (leaves_by t c a x.named (may_leave h c a x.may (subst (λ rs. IsTold g rs a) (sym x.is) x.told)))
+    (subst (λ p. IsMeant t c.lane p a) (sym (leave_means t c x.named x.may)) (subst (λ rs. IsTold g rs a) (sym x.is) x.told))
     (rw reads f.within)
     (omega (arith, did, all, long, each))
 
 pub leaves_read : (setting : Setting) (p r : PeerView) (es : List Entry) (c : Leave) (a : Answer) (xs : List Event) (rules : List Rule) → Leaves setting p r es c a xs rules
     → (start now : Inlet) → Reads setting start now es → Reads setting start now (left_entry c a ∷ es)
 leaves_read setting p r es c a xs rules x start now reads =
-    let h = (trail setting es).events in
-    let at = left_at h c rules xs x.writes in
+    let t = trail setting es in
+    let at = left_at t.events c rules xs x.writes in
     let same = leaves_trail setting p r es c a xs rules x in
     reads_kept setting start now es c.lane (word c) a (ap events.read same ∙ at.read) (ap events.closing same ∙ at.closing)
-    (λ stop bytes. unstream_told h c.number c.second stop bytes (events.closing h) a) reads
+    (λ stop bytes. leaves_told t c a stop bytes x.named x.may) reads
 
 -- what it puts
 pub leaves_put : (setting : Setting) (p r : PeerView) (es : List Entry) (c : Leave) (a : Answer) (xs : List Event) (rules : List Rule) → Leaves setting p r es c a xs rules
@@ -245,7 +249,7 @@ pub record Closed (setting : Setting) (p r : PeerView) (v : View) (es : List Ent
   pub named : Named (trail setting es) c
   pub follows : Follows setting p es
   pub fine : IsFine (trail setting es).events before
-  pub may : MayClose (trail setting es).events c.k c.j
+  pub may : MayClose (past (trail setting es).events) c.k c.j
   pub is : IsPut v (gone (trail setting es).events c) (rules_of (trail setting es).events c) last
   pub names : r.names ≡ p.names ++ map (λ m. None) (tellings (gone (trail setting es).events c) (rules_of (trail setting es).events c))
   pub streams : r.streams ≡ p.streams
@@ -255,7 +259,7 @@ pub record Closed (setting : Setting) (p r : PeerView) (v : View) (es : List Ent
 -- all went out, or there was none
 pub all_leaves : (setting : Setting) (p r : PeerView) (v : View) (es : List Entry) (c : Leave) (last : Option ℕ) (now after : Outlet) (before writing : Writing) (a : Answer)
     → Closed setting p r v es c last now after before writing a
-    → Left r.core (wrote_each (rules_of (trail setting es).events c) ++ told_of (trail setting es).events c (rules_of (trail setting es).events c))
+    → Left r.core (past (wrote_each (rules_of (trail setting es).events c) ++ told_of (trail setting es).events c (rules_of (trail setting es).events c)))
     → Leaves setting p r es c (answers.Gone last) (wrote_each (rules_of (trail setting es).events c)) (rules_of (trail setting es).events c)
 all_leaves setting p r v es c last now after before writing a x left =
     let h = (trail setting es).events in
@@ -268,7 +272,6 @@ all_leaves setting p r v es c last now after before writing a x left =
       writes = wrote_are (rules_of h c);
       does = leave_parts wrote_each h c.k c.j;
       makes = refl;
-      none = refl;
       left = left;
       names = x.names;
       streams = x.streams;
@@ -278,7 +281,7 @@ all_leaves setting p r v es c last now after before writing a x left =
 -- none did
 pub none_leaves : (setting : Setting) (p r : PeerView) (v : View) (es : List Entry) (c : Leave) (last : Option ℕ) (now after : Outlet) (before writing : Writing) (a : Answer)
     → Closed setting p r v es c last now after before writing a → some_rules (rules_of (trail setting es).events c) ≡ true
-    → Left r.core (fault_each (rules_of (trail setting es).events c) ++ told_of (trail setting es).events c (rules_of (trail setting es).events c))
+    → Left r.core (past (fault_each (rules_of (trail setting es).events c) ++ told_of (trail setting es).events c (rules_of (trail setting es).events c)))
     → Leaves setting p r es c write_fault (fault_each (rules_of (trail setting es).events c)) (rules_of (trail setting es).events c)
 none_leaves setting p r v es c last now after before writing a x some left =
     let h = (trail setting es).events in
@@ -291,7 +294,6 @@ none_leaves setting p r v es c last now after before writing a x some left =
       writes = fault_are (rules_of h c);
       does = leave_parts fault_each h c.k c.j;
       makes = refl;
-      none = refl;
       left = left;
       names = x.names;
       streams = x.streams;
@@ -301,7 +303,7 @@ none_leaves setting p r v es c last now after before writing a x some left =
 -- only the first did
 pub first_leaves : (setting : Setting) (p r : PeerView) (v : View) (es : List Entry) (c : Leave) (last : Option ℕ) (now after : Outlet) (before writing : Writing) (a : Answer) (rule other : Rule)
     → Closed setting p r v es c last now after before writing a → rules_of (trail setting es).events c ≡ rule ∷ other ∷ []
-    → Left r.core (Fault ∷ Wrote ∷ told_of (trail setting es).events c (rule ∷ other ∷ []))
+    → Left r.core (past (Fault ∷ Wrote ∷ told_of (trail setting es).events c (rule ∷ other ∷ [])))
     → Leaves setting p r es c first_fault (Fault ∷ Wrote ∷ []) (rule ∷ other ∷ [])
 first_leaves setting p r v es c last now after before writing a rule other x two left =
     let h = (trail setting es).events in
@@ -315,7 +317,6 @@ first_leaves setting p r v es c last now after before writing a rule other x two
       writes = first_are rule other;
       does = leave_parts wrote_first h c.k c.j ∙ ap (λ rs. wrote_first rs ++ told_of h c rs) two;
       makes = ap (λ rs. map (λ rule. None) rs) two;
-      none = refl;
       left = left;
       names = x.names ∙ ap (λ rs. p.names ++ map (λ m. None) (tellings g rs)) two;
       streams = x.streams;

@@ -11,7 +11,8 @@ use Rattle.wire_framing.specs.Writing.{is_unsupported}
 use Rattle.wire_framing.specs.declared.write_half.Writing.{Writing}
 use Rattle.wire_framing.specs.declared.write_half.Writing.TheVariants.{Fine}
 use Rattle.peer_route.specs.declared.answer.Answer.TheVariants as answers
-use Rattle.peer_route.specs.History.{Event, Fault, Wrote}
+use Rattle.peer_route.specs.History.{Event, Fault, Wrote, past, Past}
+use Rattle.peer_route.specs.History as events
 use Rattle.peer_route.specs.Told.{encodings}
 use Rattle.peer_route.specs.Left.{View, Left}
 use Rattle.peer_route.specs.Trail.{Names}
@@ -102,7 +103,7 @@ pub both_went : (old mid new : View) (serial : ℕ) (m other : Seen) (now midway
 both_went old mid new serial m other now midway after before between writing failed failed₂ waits (DidWrite none left appends falls faults still) is (DidWrite none₂ left₂ appends₂ falls₂ faults₂ still₂) is₂ =
     let whole = both_whole m other now midway after appends falls appends₂ falls₂ in
     subst (λ ms. Tells old new (Some serial) ms now after before writing (answers.Gone (Some serial))) (sym waits)
-    (AllTold serial refl refl (λ h l. left₂ (Wrote ∷ h) (left h l)) whole.0 whole.1 (faults₂ ∙ faults) still₂)
+    (AllTold serial refl refl (λ h l. left₂ (events.after Wrote h) (left h l)) whole.0 whole.1 (faults₂ ∙ faults) still₂)
 both_went old mid new serial m other now midway after before between writing failed failed₂ waits (DidFail some left n part breaks rises still) is second is₂ = absurd (cc)
 both_went old mid new serial m other now midway after before between writing failed failed₂ waits (DidWrite none left appends falls faults still) is (DidFail some₂ left₂ n part breaks rises still₂) is₂ = absurd (cc)
 
@@ -113,20 +114,20 @@ pub second_failed : (old mid new : View) (serial : ℕ) (m other : Seen) (now mi
 second_failed old mid new serial m other now midway after before between writing failed failed₂ error waits (DidWrite none left appends falls faults still) is (DidFail some₂ left₂ n part breaks rises still₂) is₂ =
     let same : errors.InputOutput kinds.WriteFault ≡ error = cc in
     subst (λ e. Tells old new (Some serial) (waiting old) now after before writing (answers.SentFirst e)) same
-    (FirstTold refl m other waits (λ h l. left₂ (Wrote ∷ h) (left h l)) midway appends falls faults n part breaks rises)
+    (FirstTold refl m other waits (λ h l. left₂ (events.after Wrote h) (left h l)) midway appends falls faults n part breaks rises)
 second_failed old mid new serial m other now midway after before between writing failed failed₂ error waits (DidFail some left n part breaks rises still) is second is₂ = absurd (cc)
 second_failed old mid new serial m other now midway after before between writing failed failed₂ error waits (DidWrite none left appends falls faults still) is (DidWrite none₂ left₂ appends₂ falls₂ faults₂ still₂) is₂ = absurd (cc)
 
 -- the first's did, so that the second isn't written either
 pub both_failed : (old mid new : View) (serial : ℕ) (m other : Seen) (now after : Outlet) (before writing : Writing) (failed : Option Error) (error : Error) → waiting old ≡ m ∷ other ∷ []
-    → Written old mid m now after writing failed → failed ≡ Some error → ((h : List Event) → Left mid h → Left new (Fault ∷ h))
+    → Written old mid m now after writing failed → failed ≡ Some error → ((h : Past) → Left mid h → Left new (events.after Fault h))
     → Tells old new (Some serial) (waiting old) now after before writing (answers.SendFailed error)
 both_failed old mid new serial m other now after before writing failed error waits (DidWrite none left appends falls faults still) is more = absurd (cc)
 both_failed old mid new serial m other now after before writing failed error waits (DidFail some left n part breaks rises still) is more =
     let same : errors.InputOutput kinds.WriteFault ≡ error = cc in
     subst (λ e. Tells old new (Some serial) (waiting old) now after before writing (answers.SendFailed e)) same
     (subst (λ ms. Tells old new (Some serial) ms now after before writing (answers.SendFailed (errors.InputOutput kinds.WriteFault))) (sym waits)
-    (NoneTold refl m (other ∷ []) refl (λ h l. more (Fault ∷ h) (left h l)) n part breaks rises))
+    (NoneTold refl m (other ∷ []) refl (λ h l. more (events.after Fault h) (left h l)) n part breaks rises))
 
 -- two facts of one outcome
 pub if_ok2 : {A E : Type 0} (r : Result A E) (P Q S : A → Type 0) → ((a : A) → P a → Q a → S a) → IfOk r P → IfOk r Q → IfOk r S

@@ -3,12 +3,11 @@ pub mod Letters
 pub mod Quiet
 pub mod Kept
 pub mod Outlets
+pub mod HalfStep
+pub mod Saying
 pub mod ReadStep
-pub mod QuietStep
-pub mod PollStep
+pub mod CallStep
 pub mod StreamStep
-pub mod TakeStep
-pub mod ChangeStep
 pub mod Telling
 pub mod LeaveStep
 pub mod LeaveEnds
@@ -24,6 +23,5 @@ pub mod SendGrows
 pub mod Ends
 pub mod Transcripts
 pub mod OneText
-pub mod HalfStep
 pub mod Printing
 pub mod Closing

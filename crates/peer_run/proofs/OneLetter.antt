@@ -18,7 +18,7 @@ use Rattle.peer_route.specs.declared.words.Words.TheVariants as words
 use Rattle.peer_route.specs.declared.writer.Writer.TheVariants as writers
 use Rattle.peer_route.specs.Parcel.{Parcel, Asked, sent_by}
 use Rattle.peer_route.specs.CallMessage.{fds_of, values_in, words_refusal, name_refusal, asked_of, call_draft, signal_draft, call_asked, signal_asked, reply_asked, error_asked, sent_from}
-use Rattle.peer_route.specs.History.{Event, writer}
+use Rattle.peer_route.specs.History.{Event, writer, past}
 use Rattle.peer_route.specs.Left.{View, Left}
 use Rattle.peer_route.specs.Issuing.{is_deep, issued_of, AreDrawn, AreShort, SomeLong, issued_each, put_each, IssuesAll, AreInOrder, Waits}
 use Rattle.peer_route.specs.Trail.{asks_with}
@@ -31,32 +31,32 @@ last_one : (x y : Issued) (xs : List Issued) → xs ++ y ∷ [] ≡ x ∷ [] →
 last_one x y [] e = cc
 last_one x y (z ∷ zs) e = let f : zs ++ y ∷ [] ≡ [] = cc in absurd (omega (arith, ap length f, length_push zs y))
 
-one_by : (old new : View) (p : Parcel) (h : List Event) (issued : Issued) (serials : List ℕ) (before : List Issued) → AreDrawn h (p ∷ []) serials → AreShort (p ∷ []) serials
-    → before ++ issued ∷ [] ≡ issued_each h (p ∷ []) serials → Left new (put_each (p ∷ []) serials h) → writer h ≡ writers.Fine → IssuesOne old new p h (Ok issued)
+one_by : (old new : View) (p : Parcel) (h : List Event) (issued : Issued) (serials : List ℕ) (before : List Issued) → AreDrawn (past h) (p ∷ []) serials → AreShort (p ∷ []) serials
+    → before ++ issued ∷ [] ≡ issued_each (past h) (p ∷ []) serials → Left new (put_each (p ∷ []) serials (past h)) → writer h ≡ writers.Fine → IssuesOne old new p h (Ok issued)
 one_by old new p h issued [] before d s e left fine = absurd d
 one_by old new p h issued (serial ∷ []) before d s e left fine =
-    subst (λ i. IssuesOne old new p h (Ok i)) (last_one (issued_of h p serial) issued before e) (d.0, s.0, fine, refl, refl, left)
+    subst (λ i. IssuesOne old new p h (Ok i)) (last_one (issued_of (past h) p serial) issued before e) (d.0, s.0, fine, refl, refl, left)
 one_by old new p h issued (serial ∷ t ∷ serials) before d s e left fine = absurd d.1
 
 -- the one message is issued
 pub one_issued : {A : Type 0} (items : A → List Issued) (old new : View) (p : Parcel) (h : List Event) (all : A) (issued : Issued) (before : List Issued) → items all ≡ before ++ issued ∷ []
-    → IssuesAll items old new (p ∷ []) h (Ok all) → IssuesOne old new p h (Ok issued)
+    → IssuesAll items old new (p ∷ []) (past h) (Ok all) → IssuesOne old new p h (Ok issued)
 one_issued items old new p h all issued before e x =
     one_by old new p h issued x.1.0 before x.1.1 x.1.2 (sym e ∙ x.1.3) x.1.4 x.2
 
-long_by : (old new : View) (p : Parcel) (h : List Event) (serials : List ℕ) → AreDrawn h (p ∷ []) serials → SomeLong (p ∷ []) serials → new ≡ old → IssuesOne old new p h (Err errors.ExcessData)
+long_by : (old new : View) (p : Parcel) (h : List Event) (serials : List ℕ) → AreDrawn (past h) (p ∷ []) serials → SomeLong (p ∷ []) serials → new ≡ old → IssuesOne old new p h (Err errors.ExcessData)
 long_by old new p h [] d s e = absurd d
 long_by old new p h (serial ∷ []) d (inl long) e = (serial, d.0, long, e)
 long_by old new p h (serial ∷ []) d (inr none) e = absurd none
 long_by old new p h (serial ∷ t ∷ serials) d s e = absurd d.1
 
-failed_by : (old new : View) (p : Parcel) (h : List Event) (serials : List ℕ) → AreDrawn h (p ∷ []) serials → AreShort (p ∷ []) serials → writer h ≡ writers.Failed → new ≡ old
+failed_by : (old new : View) (p : Parcel) (h : List Event) (serials : List ℕ) → AreDrawn (past h) (p ∷ []) serials → AreShort (p ∷ []) serials → writer h ≡ writers.Failed → new ≡ old
     → IssuesOne old new p h (Err (errors.InputOutput kinds.WriteFault))
 failed_by old new p h [] d s w e = absurd d
 failed_by old new p h (serial ∷ []) d s w e = (serial, d.0, s.0, w, e)
 failed_by old new p h (serial ∷ t ∷ serials) d s w e = absurd d.1
 
-closed_by : (old new : View) (p : Parcel) (h : List Event) (serials : List ℕ) → AreDrawn h (p ∷ []) serials → AreShort (p ∷ []) serials → writer h ≡ writers.Closed → new ≡ old
+closed_by : (old new : View) (p : Parcel) (h : List Event) (serials : List ℕ) → AreDrawn (past h) (p ∷ []) serials → AreShort (p ∷ []) serials → writer h ≡ writers.Closed → new ≡ old
     → IssuesOne old new p h (Err (errors.InputOutput kinds.Closed))
 closed_by old new p h [] d s w e = absurd d
 closed_by old new p h (serial ∷ []) d s w e = (serial, d.0, s.0, w, e)
@@ -67,7 +67,7 @@ or_none true e = refl
 or_none false e = e
 
 -- the one message isn't issued
-pub one_refused : {A : Type 0} (items : A → List Issued) (old new : View) (p : Parcel) (h : List Event) (error : Error) → IssuesAll items old new (p ∷ []) h (Err error)
+pub one_refused : {A : Type 0} (items : A → List Issued) (old new : View) (p : Parcel) (h : List Event) (error : Error) → IssuesAll items old new (p ∷ []) (past h) (Err error)
     → IssuesOne old new p h (Err error)
 one_refused items old new p h errors.SerialsSpent x = elim x.1 [
   | inl all ↦ (all, x.2)
@@ -140,20 +140,7 @@ asks_named name takes_fds given (words.Call out) = ap Some (call_named name take
 asks_named name takes_fds given (words.Signal out) = ap Some (signal_named name takes_fds out)
 asks_named name takes_fds given (words.Reply stream body) = ap Some (reply_named name (given stream) body)
 asks_named name takes_fds given (words.Error stream text body) = ap Some (error_named name (given stream) text body)
-asks_named name takes_fds given words.Read = refl
-asks_named name takes_fds given (words.Poll number) = refl
-asks_named name takes_fds given (words.Opened number) = refl
-asks_named name takes_fds given (words.Before number before) = refl
-asks_named name takes_fds given (words.Drop number) = refl
-asks_named name takes_fds given words.Stream = refl
-asks_named name takes_fds given (words.Take number) = refl
-asks_named name takes_fds given (words.TakeBefore number before) = refl
-asks_named name takes_fds given (words.Clone number) = refl
-asks_named name takes_fds given (words.Unstream number second) = refl
-asks_named name takes_fds given (words.Queue number limit) = refl
-asks_named name takes_fds given (words.MainQueue limit) = refl
-asks_named name takes_fds given (words.Open max_queued rule) = refl
-asks_named name takes_fds given words.Close = refl
+asks_named name takes_fds given w = refl
 
 ok_named : (name : Option (List ℕ)) (o : Option Asked) (parcel : Parcel) → MakesAsked (Ok parcel) o → named_asks name o ≡ Some (Ok (sent_by name false parcel))
 ok_named name None parcel m = absurd m

@@ -5,7 +5,7 @@ use Rattle.wire_message.specs.Front.{Seen}
 use Rattle.peer_route.specs.declared.answer.Entry.{Entry}
 use Rattle.peer_route.specs.Answers.{Legal}
 use Rattle.peer_route.specs.History as events
-use Rattle.peer_route.specs.Trail.{trail}
+use Rattle.peer_route.specs.Entries.{trail}
 use Rattle.peer_route.specs.Told.{IsSentBytes, IsCutAt, WritesTold, encodings}
 use Rattle.peer_script.specs.Script.{Script}
 use Rattle.peer_script.specs.Reading.{script_of}

@@ -15,7 +15,7 @@ use Rattle.peer_route.specs.declared.words.Words.{Words}
 use Rattle.peer_route.specs.declared.answer.Answer.{Answer}
 use Rattle.peer_route.specs.declared.answer.Entry.{Entry}
 use Rattle.peer_route.specs.History as events
-use Rattle.peer_route.specs.Trail.{trail}
+use Rattle.peer_route.specs.Entries.{trail}
 use Rattle.peer_route.specs.Told.{WriteTold, IsSentBytes, IsCutAt, fitting, encodings}
 use Rattle.peer_run.specs.Stands.{Outlet, Writes, HoldsThen, RoomFor, Moves, is_write_fault, has_broken, is_close, entry}
 use Rattle.peer_run.proofs.Kept.{close_told, told_now, IsWriteFault, broken_kept, faults_kept}

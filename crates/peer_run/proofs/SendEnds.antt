@@ -14,7 +14,8 @@ use Rattle.peer_route.specs.declared.answer.Answer.TheVariants as answers
 use Rattle.peer_route.specs.declared.answer.Entry.{Entry}
 use Rattle.peer_route.specs.declared.route.Issued.{Issued}
 use Rattle.peer_route.specs.History as events
-use Rattle.peer_route.specs.Trail.{asks, asks_with, kept_at, given, place, trail, count, next_serial}
+use Rattle.peer_route.specs.Trail.{asks_with, kept_at, given, place, count, next_serial}
+use Rattle.peer_route.specs.Entries.{trail}
 use Rattle.peer_route.specs.declared.writer.Writer.{Writer}
 use Rattle.peer_route.specs.declared.writer.Writer.TheVariants as writers
 use Rattle.peer_route.proofs.Writers.{fine_unfailed, failed_so}
@@ -39,7 +40,8 @@ use Rattle.peer_route.proofs.Sent.{trail_setting}
 use Rattle.peer_run.specs.OneLetter.{IssuesOne}
 use Rattle.peer_run.specs.CallWords.{MakesAsked}
 use Rattle.peer_run.proofs.HalfStep.{fine_before}
-use Rattle.peer_run.proofs.SendStep.{IsSending, sending_is, asks_kept, entry_events, fault_events, follows_refused, follows_unsent, follows_sent, follows_failed, reads_send, writes_refused, writes_unsent, writes_sent, writes_failed}
+use Rattle.peer_run.proofs.SendStep.{IsSending, sending_is, asks_kept, entry_events, fault_events, follows_refused, follows_unsent, follows_sent, follows_failed, reads_send, writes_refused, writes_unsent, writes_sent, writes_failed, asks}
+use Rattle.peer_route.specs.History.{past, Past}
 
 -- ---- nothing was issued
 
@@ -121,7 +123,7 @@ at_end [] m = refl
 at_end (x ∷ xs) m = at_end xs m
 
 -- the message that was issued stands at its place of the outbox
-waits_there : (v : View) (h : List events.Event) (m : Seen) (expects : Bool) (index : ℕ) → index ≡ length (events.put h) → Left v (events.Put m expects ∷ h) → slice_get v.outbox index ≡ Some m
+waits_there : (v : View) (h : List events.Event) (m : Seen) (expects : Bool) (index : ℕ) → index ≡ length (events.put h) → Left v (past (events.Put m expects ∷ h)) → slice_get v.outbox index ≡ Some m
 waits_there v h m expects index e l = ap (λ xs. slice_get xs index) l.outbox ∙ ap (slice_get (events.put h ++ m ∷ [])) e ∙ at_end (events.put h) m
 
 -- the sink takes what goes with the message
@@ -136,7 +138,7 @@ makes_call false number = refl
 -- a write that failed leaves a proper part
 pub did_fail : (old new : View) (m : Seen) (now after : Outlet) (writing : Writing) (error : Error) → (error ≡ errors.Memory → ⊥)
     → Sends {A = Unit {0}} (Err error) writing m.bytes now.held after.held now.room after.room now.faults after.faults
-    → ((h : List events.Event) → Left old h → Left new (events.Fault ∷ h)) → Written old new m now after writing (Some error)
+    → ((h : Past) → Left old h → Left new (events.after events.Fault h)) → Written old new m now after writing (Some error)
 did_fail old new m now after writing (errors.InputOutput kinds.WriteFault) never s left = DidFail refl left s.0 s.1 s.2 s.3 s.4
 did_fail old new m now after writing errors.Memory never s left = absurd (never refl)
 did_fail old new m now after writing other never s left = absurd s
@@ -150,7 +152,7 @@ went old mid new lane issued m now after writing answer (DidWrite none left appe
     WentOut (answered ∙ ap (λ (v : PeerView). sent_answer b (count lane v.names) issued.serial) rest)
     (ap (λ (v : PeerView). v.names) made ∙ ap (λ (v : PeerView). named b (Some lane) v.names) rest)
     (ap (λ (v : PeerView). v.streams) made ∙ ap (λ (v : PeerView). v.streams) rest) (ap (λ (v : PeerView). v.given) made ∙ ap (λ (v : PeerView). v.given) rest)
-    (λ h l. subst (λ (v : PeerView). Left v.core (events.Wrote ∷ h)) (sym made) (left h l)) appends falls faults still
+    (λ h l. subst (λ (v : PeerView). Left v.core (events.after events.Wrote h)) (sym made) (left h l)) appends falls faults still
 went old mid new lane issued m now after writing answer (DidFail failed left n part breaks rises over) rest answered made = absurd (cc)
 
 -- its write failed
@@ -162,7 +164,7 @@ not_out old mid new lane issued m now after writing error (DidFail failed left n
     WriteFailed (ap answers.SendFailed same)
     (ap (λ (v : PeerView). v.names) made ∙ ap (λ (v : PeerView). named (is_some issued.call) None v.names) rest)
     (ap (λ (v : PeerView). v.streams) made ∙ ap (λ (v : PeerView). v.streams) rest) (ap (λ (v : PeerView). v.given) made ∙ ap (λ (v : PeerView). v.given) rest)
-    (λ h l. subst (λ (v : PeerView). Left v.core (events.Fault ∷ h)) (sym made) (left h l)) n part breaks rises over
+    (λ h l. subst (λ (v : PeerView). Left v.core (events.after events.Fault h)) (sym made) (left h l)) n part breaks rises over
 
 -- after a failed write the writer has failed
 failed_then : (setting : Setting) (es : List Entry) (lane : ℕ) (w : Words) (parcel : Parcel) (serial : ℕ) (a : Answer) → IsSending (trail setting es) lane w (Ok parcel) → a ≡ write_fault → events.writer (trail setting es).events ≡ writers.Fine

@@ -5,7 +5,6 @@ use Rattle.std.specs.Io.KnownBytes.{Appends}
 use Rattle.wire_message.specs.Front.{Seen}
 use Rattle.peer_route.specs.Parcel.{Setting, Parcel, Asked, message_of}
 use Rattle.peer_route.specs.CallMessage.{expects, call_asked, signal_asked, reply_asked, error_asked}
-use Rattle.peer_route.specs.declared.words.Outgoing.{Outgoing}
 use Rattle.wire_message.specs.declared.error.Error.{Error}
 use Rattle.wire_framing.specs.Source.{MayRise}
 use Rattle.wire_framing.specs.Sink.{RoomFalls, RoomBreaks}
@@ -16,7 +15,8 @@ use Rattle.peer_route.specs.declared.answer.Answer.{Answer}
 use Rattle.peer_route.specs.declared.answer.Answer.TheVariants as answers
 use Rattle.peer_route.specs.declared.answer.Entry.{Entry}
 use Rattle.peer_route.specs.History as events
-use Rattle.peer_route.specs.Trail.{Trail, Names, asks, asks_with, kept_at, given, trail, events_of, send_events, failed_put, failed_name, new_names, new_streams, sent_names, made_streams, place, count, next_serial, or_zero}
+use Rattle.peer_route.specs.Trail.{Trail, Names, asks_with, kept_at, given, place, count, next_serial, or_zero}
+use Rattle.peer_route.specs.Entries.{trail, events_of, send_events, failed_put, failed_name, new_names, new_streams, sent_names}
 use Rattle.peer_route.specs.declared.writer.Writer.{Writer}
 use Rattle.peer_route.specs.declared.writer.Writer.TheVariants as writers
 use Rattle.peer_route.specs.Answers.{IsAnswer, IsSent, IsSendOf, send_refusal, sent_answer, write_fault}
@@ -31,62 +31,47 @@ use Rattle.peer_run.proofs.Quiet.{follows_more}
 use Rattle.peer_run.proofs.Outlets.{encoded_one, writes_all, writes_broke}
 use Rattle.peer_run.proofs.Kept.{reads_kept, writes_kept, IsWriteFault}
 use Rattle.peer_route.proofs.Writers.{fine_unfailed}
+use Rattle.peer_route.proofs.Plans.{sends_silent}
+use Rattle.peer_route.specs.Entries.{does, calls_by, streams_by}
+use Rattle.peer_route.specs.Answers.{IsMeant}
+use Rattle.peer_route.specs.Plan.{Sends, plan}
+use Rattle.peer_route.specs.History.{past}
 
 -- ---- a command that sends
 
+-- what the command asks to be sent, by what the entries before it left
+abbrev pub asks : Trail → ℕ → Words → Option Asked
+asks t lane w = asks_with (events.unique_name t.events) t.setting.takes_fds (λ number. given t lane number) w
+
 -- what such a command is, by what it asks to be sent
 pub record IsSending (t : Trail) (lane : ℕ) (w : Words) (asked : Asked) : Type 0 where
-  pub wants : asks t lane w ≡ Some asked
   pub events : (a : Answer) → events_of t lane w a ≡ send_events t.events asked a
-  pub names : (a : Answer) → new_names t lane w a ≡ sent_names t.events lane (Some asked) a
-  pub streams : (a : Answer) → new_streams t lane w a ≡ made_streams lane a
+  pub names : (a : Answer) → new_names t lane w a ≡ sent_names t.events lane asked a
+  pub streams : (a : Answer) → new_streams t lane w a ≡ []
   pub answer : (a : Answer) → IsSendOf t lane asked a → IsAnswer t lane w a
-  pub told : (stop : Option Bool) (bytes : List ℕ) (closing : Option Error) (a : Answer) → ReadTold stop bytes t.events closing w a
+  pub told : (stop : Option Bool) (bytes : List ℕ) (a : Answer) → ReadTold stop bytes t.events (plan t lane w) a
   pub other : is_close w ≡ false
 
-call_told : (h : List events.Event) (out : Outgoing) (stop : Option Bool) (bytes : List ℕ) (closing : Option Error) (a : Answer) → ReadTold stop bytes h closing (words.Call out) a
-call_told h out stop bytes None a = tt
-call_told h out stop bytes (Some error) a = tt
-
-signal_told : (h : List events.Event) (out : Outgoing) (stop : Option Bool) (bytes : List ℕ) (closing : Option Error) (a : Answer) → ReadTold stop bytes h closing (words.Signal out) a
-signal_told h out stop bytes None a = tt
-signal_told h out stop bytes (Some error) a = tt
-
-reply_told : (h : List events.Event) (stream : ℕ) (body : Option (List ℕ)) (stop : Option Bool) (bytes : List ℕ) (closing : Option Error) (a : Answer) → ReadTold stop bytes h closing (words.Reply stream body) a
-reply_told h stream body stop bytes None a = tt
-reply_told h stream body stop bytes (Some error) a = tt
-
-error_told : (h : List events.Event) (stream : ℕ) (text : List ℕ) (body : Option (List ℕ)) (stop : Option Bool) (bytes : List ℕ) (closing : Option Error) (a : Answer) → ReadTold stop bytes h closing (words.Error stream text body) a
-error_told h stream text body stop bytes None a = tt
-error_told h stream text body stop bytes (Some error) a = tt
+sending_by : (t : Trail) (lane : ℕ) (w : Words) (asked : Asked) → plan t lane w ≡ Sends asked → is_close w ≡ false → IsSending t lane w asked
+sending_by t lane w asked means other = record {
+  events = λ a. ap (λ p. does t.events p a) means;
+  names = λ a. ap (λ p. calls_by t.events lane p a) means;
+  streams = λ a. ap (λ p. streams_by t.events lane p a) means;
+  answer = λ a x. subst (λ p. IsMeant t lane p a) (sym means) x;
+  told = λ stop bytes a. subst (λ p. ReadTold stop bytes t.events p a) (sym means) tt;
+  other = other;
+}
 
 pub sending_is : (t : Trail) (lane : ℕ) (w : Words) (asked : Asked) → asks t lane w ≡ Some asked → IsSending t lane w asked
 sending_is t lane (words.Call out) asked e =
-    let same : call_asked (events.unique_name t.events) t.setting.takes_fds out ≡ asked = cc in
-    subst (IsSending t lane (words.Call out)) same (record { wants = refl; events = λ a. refl; names = λ a. refl; streams = λ a. refl; answer = λ a x. x; told = call_told t.events out; other = refl })
+    let same : call_asked (events.unique_name t.events) t.setting.takes_fds out ≡ asked = cc in sending_by t lane (words.Call out) asked (ap Sends same) refl
 sending_is t lane (words.Signal out) asked e =
-    let same : signal_asked (events.unique_name t.events) t.setting.takes_fds out ≡ asked = cc in
-    subst (IsSending t lane (words.Signal out)) same (record { wants = refl; events = λ a. refl; names = λ a. refl; streams = λ a. refl; answer = λ a x. x; told = signal_told t.events out; other = refl })
+    let same : signal_asked (events.unique_name t.events) t.setting.takes_fds out ≡ asked = cc in sending_by t lane (words.Signal out) asked (ap Sends same) refl
 sending_is t lane (words.Reply stream body) asked e =
-    let same : reply_asked (events.unique_name t.events) (given t lane stream) body ≡ asked = cc in
-    subst (IsSending t lane (words.Reply stream body)) same (record { wants = refl; events = λ a. refl; names = λ a. refl; streams = λ a. refl; answer = λ a x. x; told = reply_told t.events stream body; other = refl })
+    let same : reply_asked (events.unique_name t.events) (given t lane stream) body ≡ asked = cc in sending_by t lane (words.Reply stream body) asked (ap Sends same) refl
 sending_is t lane (words.Error stream text body) asked e =
-    let same : error_asked (events.unique_name t.events) (given t lane stream) text body ≡ asked = cc in
-    subst (IsSending t lane (words.Error stream text body)) same (record { wants = refl; events = λ a. refl; names = λ a. refl; streams = λ a. refl; answer = λ a x. x; told = error_told t.events stream text body; other = refl })
-sending_is t lane words.Read asked e = cc
-sending_is t lane (words.Poll number) asked e = cc
-sending_is t lane (words.Before number before) asked e = cc
-sending_is t lane (words.Drop number) asked e = cc
-sending_is t lane words.Stream asked e = cc
-sending_is t lane (words.Take number) asked e = cc
-sending_is t lane (words.TakeBefore number before) asked e = cc
-sending_is t lane (words.Clone number) asked e = cc
-sending_is t lane (words.Unstream number second) asked e = cc
-sending_is t lane (words.Queue number limit) asked e = cc
-sending_is t lane (words.MainQueue limit) asked e = cc
-sending_is t lane (words.Open max_queued rule) asked e = cc
-sending_is t lane (words.Opened number) asked e = cc
-sending_is t lane words.Close asked e = cc
+    let same : error_asked (events.unique_name t.events) (given t lane stream) text body ≡ asked = cc in sending_by t lane (words.Error stream text body) asked (ap Sends same) refl
+sending_is t lane w asked e = cc
 
 -- it doesn't close the peer
 pub sends_other : (w : Words) → sends w ≡ true → is_close w ≡ false
@@ -105,20 +90,7 @@ asks_along name takes_fds f g (words.Call out) e = refl
 asks_along name takes_fds f g (words.Signal out) e = refl
 asks_along name takes_fds f g (words.Reply stream body) e = ap (λ m. Some (reply_asked name m body)) (e stream)
 asks_along name takes_fds f g (words.Error stream text body) e = ap (λ m. Some (error_asked name m text body)) (e stream)
-asks_along name takes_fds f g words.Read e = refl
-asks_along name takes_fds f g (words.Poll number) e = refl
-asks_along name takes_fds f g (words.Before number before) e = refl
-asks_along name takes_fds f g (words.Drop number) e = refl
-asks_along name takes_fds f g words.Stream e = refl
-asks_along name takes_fds f g (words.Take number) e = refl
-asks_along name takes_fds f g (words.TakeBefore number before) e = refl
-asks_along name takes_fds f g (words.Clone number) e = refl
-asks_along name takes_fds f g (words.Unstream number second) e = refl
-asks_along name takes_fds f g (words.Queue number limit) e = refl
-asks_along name takes_fds f g (words.MainQueue limit) e = refl
-asks_along name takes_fds f g (words.Open max_queued rule) e = refl
-asks_along name takes_fds f g (words.Opened number) e = refl
-asks_along name takes_fds f g words.Close e = refl
+asks_along name takes_fds f g w e = refl
 
 -- what a command asks of what the peer keeps, it asks of the history
 pub asks_kept : (setting : Setting) (p : PeerView) (es : List Entry) (lane : ℕ) (w : Words) → Follows setting p es
@@ -126,7 +98,7 @@ pub asks_kept : (setting : Setting) (p : PeerView) (es : List Entry) (lane : ℕ
 asks_kept setting p es lane w f =
     let t = trail setting es in
     asks_along p.core.name setting.takes_fds (λ n. kept_at p.given (place 0 lane n p.streams)) (λ n. given t lane n) w
-    (λ n. ap (λ gs. kept_at gs (place 0 lane n p.streams)) f.given ∙ ap (λ ns. kept_at (all_given t.events) (place 0 lane n ns)) f.streams ∙ kept_given t.events (place 0 lane n t.streams))
+    (λ n. ap (λ gs. kept_at gs (place 0 lane n p.streams)) f.given ∙ ap (λ ns. kept_at (all_given (past t.events)) (place 0 lane n ns)) f.streams ∙ kept_given t.events (place 0 lane n t.streams))
     ∙ ap (λ name. asks_with name setting.takes_fds (λ n. given t lane n) w) f.left.name
     ∙ ap (λ s. asks_with (events.unique_name t.events) s.takes_fds (λ n. given t lane n) w) (sym (trail_setting setting es))
 
@@ -183,14 +155,10 @@ sent_events : (h : List events.Event) (parcel : Parcel) (expects_one : Bool) (ca
 sent_events h parcel true call serial = refl
 sent_events h parcel false call serial = refl
 
-names_sent : (h : List events.Event) (lane : ℕ) (asked : Option Asked) (names : Names) (expects_one : Bool) (call serial : ℕ)
+names_sent : (h : List events.Event) (lane : ℕ) (asked : Asked) (names : Names) (expects_one : Bool) (call serial : ℕ)
     → named expects_one (Some lane) names ≡ names ++ sent_names h lane asked (sent_answer expects_one call serial)
 names_sent h lane asked names true call serial = refl
 names_sent h lane asked names false call serial = sym (append-nil names)
-
-sent_streams : (lane : ℕ) (names : Names) (expects_one : Bool) (call serial : ℕ) → names ≡ names ++ made_streams lane (sent_answer expects_one call serial)
-sent_streams lane names true call serial = sym (append-nil names)
-sent_streams lane names false call serial = sym (append-nil names)
 
 failed_names : (names : Names) (expects_one : Bool) → named expects_one None names ≡ names ++ failed_name writers.Fine expects_one
 failed_names names true = refl
@@ -200,7 +168,7 @@ failed_names names false = sym (append-nil names)
 pub follows_sent : (setting : Setting) (p q : PeerView) (es : List Entry) (lane serial : ℕ) (w : Words) (parcel : Parcel) → IsSending (trail setting es) lane w (Ok parcel) → Follows setting p es
     → send_refusal (trail setting es).events (Ok parcel) ≡ None → events.writer (trail setting es).events ≡ writers.Fine → next_serial (trail setting es).events ≡ Some serial
     → q.names ≡ named (expects (Ok parcel)) (Some lane) p.names → q.streams ≡ p.streams → q.given ≡ p.given
-    → Left q.core (events.Wrote ∷ events.Put (message_of parcel serial) (expects (Ok parcel)) ∷ (trail setting es).events)
+    → Left q.core (past (events.Wrote ∷ events.Put (message_of parcel serial) (expects (Ok parcel)) ∷ (trail setting es).events))
     → Follows setting q (entry lane w (sent_answer (expects (Ok parcel)) (count lane p.names) serial) ∷ es)
 follows_sent setting p q es lane serial w parcel k f r fine next names streams given left =
     let h = (trail setting es).events in
@@ -209,9 +177,9 @@ follows_sent setting p q es lane serial w parcel k f r fine next names streams g
     follows_more setting q es (entry lane w (sent_answer b number serial))
     (events.Wrote ∷ events.Put (message_of parcel serial) b ∷ h)
     (entry_events setting es lane w (Ok parcel) (sent_answer b number serial) k ∙ ap (λ xs. xs ++ h) (sent_events h parcel b number serial)) left
-    (names ∙ ap (named b (Some lane)) f.names ∙ names_sent h lane (Some (Ok parcel)) (trail setting es).names b number serial
+    (names ∙ ap (named b (Some lane)) f.names ∙ names_sent h lane (Ok parcel) (trail setting es).names b number serial
     ∙ ap (λ ns. (trail setting es).names ++ ns) (sym (k.names (sent_answer b number serial))))
-    (streams ∙ f.streams ∙ sent_streams lane (trail setting es).streams b number serial ∙ ap (λ ns. (trail setting es).streams ++ ns) (sym (k.streams (sent_answer b number serial))))
+    (streams ∙ f.streams ∙ sym (append-nil (trail setting es).streams) ∙ ap (λ ns. (trail setting es).streams ++ ns) (sym (k.streams (sent_answer b number serial))))
     (given ∙ f.given ∙ sym (given_same (events.Wrote ∷ events.Put (message_of parcel serial) b ∷ h) h refl refl)) f.legal
     (k.answer (sent_answer b number serial) (rw (r, fine) (inl (called_as (ap (count lane) f.names) next))))
     (let same : q.core.read ≡ p.core.read = left.read ∙ sym f.left.read in rw same f.within)
@@ -230,7 +198,7 @@ fault_events h parcel serial fine next = rw (fine, next) refl
 pub follows_failed : (setting : Setting) (p q : PeerView) (es : List Entry) (lane serial : ℕ) (w : Words) (parcel : Parcel) → IsSending (trail setting es) lane w (Ok parcel) → Follows setting p es
     → send_refusal (trail setting es).events (Ok parcel) ≡ None → events.writer (trail setting es).events ≡ writers.Fine → next_serial (trail setting es).events ≡ Some serial
     → q.names ≡ named (expects (Ok parcel)) None p.names → q.streams ≡ p.streams → q.given ≡ p.given
-    → Left q.core (events.Fault ∷ events.Put (message_of parcel serial) (expects (Ok parcel)) ∷ (trail setting es).events)
+    → Left q.core (past (events.Fault ∷ events.Put (message_of parcel serial) (expects (Ok parcel)) ∷ (trail setting es).events))
     → Follows setting q (entry lane w write_fault ∷ es)
 follows_failed setting p q es lane serial w parcel k f r fine next names streams given left =
     let h = (trail setting es).events in
@@ -248,27 +216,13 @@ follows_failed setting p q es lane serial w parcel k f r fine next names streams
 
 -- ---- the source
 
-put_reads : (w : Writer) (m : Seen) (expects_one : Bool) (h : List events.Event)
-    → (events.read (failed_put w (events.Put m expects_one) ++ h) ≡ events.read h) × (events.closing (failed_put w (events.Put m expects_one) ++ h) ≡ events.closing h)
-put_reads writers.Fine m expects_one h = (refl, refl)
-put_reads writers.Failed m expects_one h = (refl, refl)
-put_reads writers.Closed m expects_one h = (refl, refl)
-
-send_reads : (h : List events.Event) (asked : Asked) (a : Answer) → (events.read (send_events h asked a ++ h) ≡ events.read h) × (events.closing (send_events h asked a ++ h) ≡ events.closing h)
-send_reads h (Ok parcel) (answers.Called call serial) = (refl, refl)
-send_reads h (Ok parcel) (answers.Sent serial) = (refl, refl)
-send_reads h (Ok parcel) (answers.SendFailed error) = put_reads (events.writer h) _ _ h
-send_reads h (Ok parcel) a = (refl, refl)
-send_reads h (Err error) a = (refl, refl)
-
 -- a command that sends reads nothing
 pub reads_send : (setting : Setting) (start now : Inlet) (es : List Entry) (lane : ℕ) (w : Words) (asked : Asked) (a : Answer) → IsSending (trail setting es) lane w asked
     → Reads setting start now es → Reads setting start now (entry lane w a ∷ es)
 reads_send setting start now es lane w asked a k r =
-    let q = send_reads (trail setting es).events asked a in
+    let q = sends_silent (trail setting es).events asked a in
     let same = entry_events setting es lane w asked a k in
-    reads_kept setting start now es lane w a (ap events.read same ∙ q.0) (ap events.closing same ∙ q.1)
-    (λ stop bytes. k.told stop bytes (events.closing (trail setting es).events) a) r
+    reads_kept setting start now es lane w a (ap events.read same ∙ q.read_same) (ap events.closing same ∙ q.closing_same) (λ stop bytes. k.told stop bytes a) r
 
 -- ---- the sink
 

@@ -9,13 +9,14 @@ use Rattle.wire_message.specs.declared.error.IoKind.TheVariants as kinds
 use Rattle.rule_match.specs.Rule.{Rule}
 use Rattle.peer_route.specs.declared.writer.Writer.TheVariants as writers
 use Rattle.peer_route.specs.declared.answer.Answer.TheVariants as answers
-use Rattle.peer_route.specs.History.{Event, Wrote, Fault, Removed, Gone, put, done, is_failed, writer}
+use Rattle.peer_route.specs.History.{Event, Wrote, Fault, Removed, put, done, is_failed, writer, past}
 use Rattle.peer_route.specs.Streams.{all_given}
 use Rattle.peer_route.specs.History as events
 use Rattle.peer_route.specs.BusCall.{remove_message, last_of, some_rules}
 use Rattle.peer_route.specs.Parcel.{message_of}
 use Rattle.wire_message.specs.Draft.{built}
-use Rattle.peer_route.specs.Trail.{next_serial, or_zero, removal, removals, removal_serials, wrote_each, fault_each}
+use Rattle.peer_route.specs.Trail.{next_serial, or_zero}
+use Rattle.peer_route.specs.Entries.{removal, removals, removal_serials, wrote_each, fault_each}
 use Rattle.peer_route.specs.Answers.{have_serials, some_long, tell_refusal, IsTold, write_fault, first_fault}
 use Rattle.peer_route.specs.StreamLaws.{tellings}
 use Rattle.peer_route.specs.Leaving.{AreTold, TellsNone, AreBrief, SomeNotBrief, removed_each, MayTell, TellsBus}
@@ -26,48 +27,48 @@ use Rattle.peer_route.proofs.NextSerial.{next_serial-next, next_serial-none}
 -- ---- the serials
 
 -- the serials that were drawn are those that are next
-pub told_serials : (h : List Event) (rules : List Rule) (serials : List ℕ) → AreTold h rules serials → serials ≡ removal_serials h rules
+pub told_serials : (h : List Event) (rules : List Rule) (serials : List ℕ) → AreTold (past h) rules serials → serials ≡ removal_serials h rules
 told_serials h [] [] t = refl
 told_serials h [] (serial ∷ serials) t = absurd t
 told_serials h (rule ∷ rules) [] t = absurd t
 told_serials h (rule ∷ rules) (serial ∷ serials) t =
-    rw (next_serial-next h serial t.0) (ap (λ ns. serial ∷ ns) (told_serials (Removed (remove_message h rule serial) ∷ h) rules serials t.1))
+    rw (next_serial-next h serial t.0) (ap (λ ns. serial ∷ ns) (told_serials (Removed (remove_message (past h) rule serial) ∷ h) rules serials t.1))
 
 -- and what they leave is what telling of the rules is
-pub told_events : (h : List Event) (rules : List Rule) (serials : List ℕ) → AreTold h rules serials → removed_each rules serials h ≡ removals h rules ++ h
+pub told_events : (h : List Event) (rules : List Rule) (serials : List ℕ) → AreTold (past h) rules serials → removed_each rules serials (past h) ≡ past (removals h rules ++ h)
 told_events h [] [] t = refl
 told_events h [] (serial ∷ serials) t = absurd t
 told_events h (rule ∷ rules) [] t = absurd t
 told_events h (rule ∷ rules) (serial ∷ serials) t =
-    let e = Removed (remove_message h rule serial) in
-    rw (next_serial-next h serial t.0) (told_events (e ∷ h) rules serials t.1 ∙ sym (append_assoc (removals (e ∷ h) rules) (e ∷ []) h))
+    let e = Removed (remove_message (past h) rule serial) in
+    rw (next_serial-next h serial t.0) (told_events (e ∷ h) rules serials t.1 ∙ ap past (sym (append_assoc (removals (e ∷ h) rules) (e ∷ []) h)))
 
 -- ---- why nothing is told
 
-have_told : (h : List Event) (rules : List Rule) (serials : List ℕ) → AreTold h rules serials → have_serials h rules ≡ true
+have_told : (h : List Event) (rules : List Rule) (serials : List ℕ) → AreTold (past h) rules serials → have_serials h rules ≡ true
 have_told h [] serials t = refl
 have_told h (rule ∷ rules) [] t = absurd t
 have_told h (rule ∷ rules) (serial ∷ serials) t =
-    rw (next_serial-next h serial t.0) (have_told (Removed (remove_message h rule serial) ∷ h) rules serials t.1)
+    rw (next_serial-next h serial t.0) (have_told (Removed (remove_message (past h) rule serial) ∷ h) rules serials t.1)
 
-have_none : (h : List Event) (rules : List Rule) → TellsNone h rules → have_serials h rules ≡ false
+have_none : (h : List Event) (rules : List Rule) → TellsNone (past h) rules → have_serials h rules ≡ false
 have_none h [] t = absurd t
 have_none h (rule ∷ rules) (inl all) = rw (next_serial-none h all) refl
 have_none h (rule ∷ rules) (inr t) =
-    rw (next_serial-next h t.0 t.1) (have_none (Removed (remove_message h rule t.0) ∷ h) rules t.2)
+    rw (next_serial-next h t.0 t.1) (have_none (Removed (remove_message (past h) rule t.0) ∷ h) rules t.2)
 
-none_long : (h : List Event) (rules : List Rule) (serials : List ℕ) → AreTold h rules serials → AreBrief h rules serials → some_long h rules ≡ false
+none_long : (h : List Event) (rules : List Rule) (serials : List ℕ) → AreTold (past h) rules serials → AreBrief (past h) rules serials → some_long h rules ≡ false
 none_long h [] serials t b = refl
 none_long h (rule ∷ rules) [] t b = absurd t
 none_long h (rule ∷ rules) (serial ∷ serials) t b =
-    rw (next_serial-next h serial t.0, le-ltb _ _ b.0) (none_long (Removed (remove_message h rule serial) ∷ h) rules serials t.1 b.1)
+    rw (next_serial-next h serial t.0, le-ltb _ _ b.0) (none_long (Removed (remove_message (past h) rule serial) ∷ h) rules serials t.1 b.1)
 
-one_long : (h : List Event) (rules : List Rule) (serials : List ℕ) → AreTold h rules serials → SomeNotBrief h rules serials → some_long h rules ≡ true
+one_long : (h : List Event) (rules : List Rule) (serials : List ℕ) → AreTold (past h) rules serials → SomeNotBrief (past h) rules serials → some_long h rules ≡ true
 one_long h [] serials t b = absurd b
 one_long h (rule ∷ rules) [] t b = absurd t
 one_long h (rule ∷ rules) (serial ∷ serials) t (inl long) = rw (next_serial-next h serial t.0, lt-ltb _ _ long) refl
 one_long h (rule ∷ rules) (serial ∷ serials) t (inr long) =
-    rw (next_serial-next h serial t.0) (or_true (nat_lt 134217728 (length (remove_message h rule serial).bytes)) (one_long (Removed (remove_message h rule serial) ∷ h) rules serials t.1 long))
+    rw (next_serial-next h serial t.0) (or_true (nat_lt 134217728 (length (remove_message (past h) rule serial).bytes)) (one_long (Removed (remove_message (past h) rule serial) ∷ h) rules serials t.1 long))
   where
     or_true : (b : Bool) {c : Bool} → c ≡ true → (b || c) ≡ true
     or_true true e = refl
@@ -84,9 +85,9 @@ pub record IsPut (new : View) (g : List Event) (rules : List Rule) (last : Optio
   pub refusal : tell_refusal g rules ≡ None
   pub fine : some_rules rules ≡ true → writer g ≡ writers.Fine
   pub serial : last ≡ last_of (removal_serials g rules)
-  pub left : Left new (removals g rules ++ g)
+  pub left : Left new (past (removals g rules ++ g))
 
-pub told_ok : (new : View) (g : List Event) (rules : List Rule) (last : Option ℕ) → TellsBus new g rules (Ok last) → IsPut new g rules last
+pub told_ok : (new : View) (g : List Event) (rules : List Rule) (last : Option ℕ) → TellsBus new (past g) rules (Ok last) → IsPut new g rules last
 told_ok new g rules last x = record {
   refusal = refusal_by true false g rules (have_told g rules x.0 x.1) (none_long g rules x.0 x.1 x.2);
   fine = x.3;
@@ -94,7 +95,7 @@ told_ok new g rules last x = record {
   left = subst (Left new) (told_events g rules x.0 x.1) x.5;
 }
 
-may_tell : (g : List Event) (rules : List Rule) → MayTell g rules → tell_refusal g rules ≡ None
+may_tell : (g : List Event) (rules : List Rule) → MayTell (past g) rules → tell_refusal g rules ≡ None
 may_tell g rules x = refusal_by true false g rules (have_told g rules x.1.0 x.1.1) (none_long g rules x.1.0 x.1.1 x.1.2)
 
 -- where there are rules, and they can't be told of
@@ -102,7 +103,7 @@ by_refusal : (g : List Event) (rule : Rule) (rules : List Rule) (error : Error) 
 by_refusal g rule rules error e = rw e refl
 
 -- it isn't told, for this reason
-pub untold : (new : View) (g : List Event) (rules : List Rule) (error : Error) → TellsBus new g rules (Err error) → IsTold g rules (answers.Untold error) × Left new g
+pub untold : (new : View) (g : List Event) (rules : List Rule) (error : Error) → TellsBus new (past g) rules (Err error) → IsTold g rules (answers.Untold error) × Left new (past g)
 untold new g [] errors.SerialsSpent x = absurd x.0
 untold new g [] errors.ExcessData x = absurd x.0.2
 untold new g [] (errors.InputOutput kinds.WriteFault) x = let e : false ≡ true = x.0.0 in absurd (cc)
@@ -117,7 +118,7 @@ untold new g (rule ∷ rules) (errors.InputOutput kinds.Closed) x = (rw (may_tel
 untold new g (rule ∷ rules) error x = absurd x
 
 -- after a failed write it isn't told for that one
-pub untold_failed : (new : View) (g : List Event) (rules : List Rule) → TellsBus new g rules (Err (errors.InputOutput kinds.WriteFault)) → writer g ≡ writers.Failed
+pub untold_failed : (new : View) (g : List Event) (rules : List Rule) → TellsBus new (past g) rules (Err (errors.InputOutput kinds.WriteFault)) → writer g ≡ writers.Failed
 untold_failed new g rules x = x.1
 
 -- ---- what is answered where it was told
@@ -169,7 +170,7 @@ two_put g (rule ∷ other ∷ more ∷ rules) m n e =
 pub record Keeps (g h : List Event) : Type 0 where
   pub read : events.read g ≡ events.read h
   pub closing : events.closing g ≡ events.closing h
-  pub given : all_given g ≡ all_given h
+  pub given : all_given (past g) ≡ all_given (past h)
 
 pub keeps_then : (f g h : List Event) → Keeps f g → Keeps g h → Keeps f h
 keeps_then f g h a b = record { read = a.read ∙ b.read; closing = a.closing ∙ b.closing; given = a.given ∙ b.given }
@@ -201,7 +202,7 @@ tellings_each x g [] = refl
 tellings_each x g (rule ∷ rules) = ap (λ xs. x ∷ xs) (tellings_each x (removal g rule ∷ g) rules)
 
 -- no file descriptor goes with one
-remove_bare : (g : List Event) (rule : Rule) (serial : ℕ) → (remove_message g rule serial).unix_fds ≡ None
+remove_bare : (g : List Event) (rule : Rule) (serial : ℕ) → (remove_message (past g) rule serial).unix_fds ≡ None
 unfolding message_of built
 remove_bare g rule serial = refl
 

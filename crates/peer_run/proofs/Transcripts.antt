@@ -1,8 +1,7 @@
 -- Two histories of the same commands, of which the outside told the same, are the same; and so is what is printed of them.
-use Rattle.std.proofs.Common.{◌≡◌, ℕ, ◌+◌, refl, sym, ◌∙◌, ap, subst, arith, nat_lt, Bool, true, false, List, [], ◌∷◌, ◌++◌, length, map, Option, Some, None, Result, Ok, Err, inl, inr}
+use Rattle.std.proofs.Common.{◌≡◌, ℕ, ◌+◌, refl, sym, ◌∙◌, ap, subst, arith, nat_lt, Bool, true, false, List, [], ◌∷◌, ◌++◌, length, map, Option, Some, None, Ok, Err, inl, inr}
 use Rattle.wire_message.specs.declared.error.Error.{Error}
 use Rattle.rule_match.specs.Rule.{Rule}
-use Rattle.rule_match.specs.Bytes.{rule_in_bytes}
 use Rattle.peer_route.specs.Parcel.{Setting, Parcel, Asked, message_of}
 use Rattle.peer_route.specs.CallMessage.{expects}
 use Rattle.peer_route.specs.BusCall.{add_message, some_rules}
@@ -13,18 +12,23 @@ use Rattle.peer_route.specs.declared.answer.Answer.{Answer}
 use Rattle.peer_route.specs.declared.answer.Answer.TheVariants as answers
 use Rattle.peer_route.specs.declared.answer.Entry.{Entry}
 use Rattle.peer_route.specs.History as events
-use Rattle.peer_route.specs.Calls.{in_flight}
-use Rattle.peer_route.specs.Trail.{Trail, trail, events_of, send_events, open_makes, unstream_does, next_serial, or_zero, count}
+use Rattle.peer_route.specs.Trail.{Trail, next_serial, or_zero, count}
+use Rattle.peer_route.specs.Entries.{trail, events_of, send_events}
 use Rattle.peer_route.specs.declared.writer.Writer.{Writer}
 use Rattle.peer_route.specs.declared.writer.Writer.TheVariants as writers
-use Rattle.peer_route.specs.Answers.{Legal, IsAnswer, IsCalled, IsSent, IsSendOf, IsReadOf, send_refusal, sent_answer, write_fault, first_fault, IsOpenOf, IsRuleOf, IsNewOf, IsAskOf, tell_refusal, WentOut, IsToldBy, IsTold, IsLeaveBy, IsLeaveOf, are_open_at}
-use Rattle.peer_route.specs.Streams.{busy, asks_bus, leaving, close_waits, gone_then}
+use Rattle.peer_route.specs.Answers.{Legal, IsAnswer, IsCalled, IsSent, IsSendOf, send_refusal, sent_answer, write_fault, first_fault, IsAskOf, tell_refusal, WentOut, IsToldBy, IsTold}
+use Rattle.peer_route.specs.Streams.{leaving, gone_then}
 use Rattle.peer_route.specs.StreamLaws.{tellings, first_one}
-use Rattle.peer_route.specs.Told.{ReadsTold, ReadTold, ReadOpenTold, CloseTold, ClosesTold, WriteTold, WritesTold, fitting, encodings}
+use Rattle.peer_route.specs.Told.{ReadsTold, ReadTold, CloseTold, ClosesTold, WriteTold, WritesTold, fitting, encodings}
 use Rattle.peer_route.proofs.Writers.{fine_unfailed}
 use Rattle.peer_route.proofs.Tellings.{wrote_all_put, fault_all_put, first_all_put, wrote_all_failed, fault_all_failed, first_all_failed}
 use Rattle.peer_route.proofs.Written.{fault_all_written, first_all_written}
 use Rattle.peer_script.specs.Again.{command_of}
+use Rattle.peer_route.proofs.Plans.{by_plan}
+use Rattle.peer_route.specs.Answers.{IsMeant}
+use Rattle.peer_route.specs.Entries.{does, add_events, leave_events}
+use Rattle.peer_route.specs.Plan.{plan}
+use Rattle.peer_route.specs.History.{past}
 
 -- ---- what the sink's room decides
 
@@ -101,10 +105,10 @@ same_close room a b x y = x ∙ sym y
 
 -- what opening one does
 abbrev opens : List events.Event → Rule → Option ℕ → Answer → List events.Event
-opens h rule asked a = open_makes h (Ok rule) asked a ++ h
+opens h rule asked a = add_events h rule asked a ++ h
 
 ask_fault : (h : List events.Event) (rule : Rule) (asked : Option ℕ) → events.writer h ≡ writers.Fine
-    → (events.put (opens h rule asked write_fault) ≡ events.put h ++ add_message h rule (or_zero (next_serial h)) ∷ []) × (events.is_failed (opens h rule asked write_fault) ≡ true)
+    → (events.put (opens h rule asked write_fault) ≡ events.put h ++ add_message (past h) rule (or_zero (next_serial h)) ∷ []) × (events.is_failed (opens h rule asked write_fault) ≡ true)
 ask_fault h rule asked fine = rw fine (refl, refl)
 
 not_both_asks : (room : Option ℕ) (h : List events.Event) (rule : Rule) (asked : Option ℕ) (number : ℕ) (x y : Answer) → events.writer h ≡ writers.Fine
@@ -134,53 +138,37 @@ same_ask : (room : Option ℕ) (t : Trail) (lane : ℕ) (rule : Rule) (asked : O
     → ToldIf room (opens t.events rule asked) a → ToldIf room (opens t.events rule asked) b → a ≡ b
 same_ask room t lane rule asked a b x y p q = same_asking room t.events rule asked (count lane t.streams) _ a b x y p q
 
-same_new : (room : Option ℕ) (t : Trail) (lane : ℕ) (rule : Rule) (asked : Option ℕ) (asks : Bool) (a b : Answer) → IsNewOf t lane rule asks a → IsNewOf t lane rule asks b
-    → ToldIf room (opens t.events rule asked) a → ToldIf room (opens t.events rule asked) b → a ≡ b
-same_new room t lane rule asked true a b x y p q = same_ask room t lane rule asked a b x y p q
-same_new room t lane rule asked false a b x y p q = x ∙ sym y
-
-same_rule : (room : Option ℕ) (t : Trail) (lane : ℕ) (rule : Rule) (asked : Option ℕ) (closed : Option Error) (flies : Bool) (a b : Answer)
-    → IsRuleOf t lane rule closed flies a → IsRuleOf t lane rule closed flies b → ToldIf room (opens t.events rule asked) a → ToldIf room (opens t.events rule asked) b → a ≡ b
-same_rule room t lane rule asked (Some error) flies a b x y p q = x ∙ sym y
-same_rule room t lane rule asked None true a b x y p q = x ∙ sym y
-same_rule room t lane rule asked None false a b x y p q = same_new room t lane rule asked (asks_bus t.events rule) a b x y p q
-
-same_opening : (room : Option ℕ) (t : Trail) (lane : ℕ) (found : Result Rule Error) (asked : Option ℕ) (a b : Answer) → IsOpenOf t lane found a → IsOpenOf t lane found b
-    → ToldIf room (λ a. open_makes t.events found asked a ++ t.events) a → ToldIf room (λ a. open_makes t.events found asked a ++ t.events) b → a ≡ b
-same_opening room t lane (Err error) asked a b x y p q = x ∙ sym y
-same_opening room t lane (Ok rule) asked a b x y p q = same_rule room t lane rule asked (events.closing t.events) (in_flight t.events) a b x y p q
-
 -- ---- streams that are closed
 
 -- what closing them does
 abbrev leaves : List events.Event → ℕ → Option ℕ → Answer → List events.Event
-leaves h k j a = unstream_does h (Some k) j a ++ h
+leaves h k j a = leave_events h k j a ++ h
 
 -- all were written, or not the first, or not the second
-all_or_none : (room : Option ℕ) (h : List events.Event) (k : ℕ) (j : Option ℕ) (last : Option ℕ) (x y : Answer) → events.is_failed h ≡ false → some_rules (leaving h k j) ≡ true
+all_or_none : (room : Option ℕ) (h : List events.Event) (k : ℕ) (j : Option ℕ) (last : Option ℕ) (x y : Answer) → events.is_failed h ≡ false → some_rules (leaving (past h) k j) ≡ true
     → x ≡ answers.Gone last → y ≡ write_fault → ToldIf room (leaves h k j) x → ToldIf room (leaves h k j) y → ⊥
 all_or_none room h k j last x y fine some is not_y p q =
     differ room (leaves h k j (answers.Gone last)) (leaves h k j write_fault) (wrote_all_put h k j ∙ sym (fault_all_put h k j)) (wrote_all_failed h k j ∙ fine) (fault_all_failed h k j some)
     (subst (ToldIf room (leaves h k j)) is p) (subst (ToldIf room (leaves h k j)) not_y q)
 
 all_or_first : (room : Option ℕ) (h : List events.Event) (k : ℕ) (j : Option ℕ) (last : Option ℕ) (rule : Rule) (more : List Rule) (x y : Answer) → events.is_failed h ≡ false
-    → leaving h k j ≡ rule ∷ more → some_rules more ≡ true → x ≡ answers.Gone last → y ≡ first_fault → ToldIf room (leaves h k j) x → ToldIf room (leaves h k j) y → ⊥
+    → leaving (past h) k j ≡ rule ∷ more → some_rules more ≡ true → x ≡ answers.Gone last → y ≡ first_fault → ToldIf room (leaves h k j) x → ToldIf room (leaves h k j) y → ⊥
 all_or_first room h k j last rule more x y fine rules some is not_y p q =
     differ room (leaves h k j (answers.Gone last)) (leaves h k j first_fault) (wrote_all_put h k j ∙ sym (first_all_put h k j)) (wrote_all_failed h k j ∙ fine) (first_all_failed h k j rule more rules some)
     (subst (ToldIf room (leaves h k j)) is p) (subst (ToldIf room (leaves h k j)) not_y q)
 
 none_or_first : (room : Option ℕ) (h : List events.Event) (k : ℕ) (j : Option ℕ) (rule : Rule) (more : List Rule) (x y : Answer)
-    → leaving h k j ≡ rule ∷ more → x ≡ write_fault → y ≡ first_fault → ToldIf room (leaves h k j) x → ToldIf room (leaves h k j) y → ⊥
+    → leaving (past h) k j ≡ rule ∷ more → x ≡ write_fault → y ≡ first_fault → ToldIf room (leaves h k j) x → ToldIf room (leaves h k j) y → ⊥
 none_or_first room h k j rule more x y rules is not_y p q =
     let g = gone_then j (events.Did k events.Gone ∷ h) in
     let same = agree room (leaves h k j write_fault) (leaves h k j first_fault) (fault_all_put h k j ∙ sym (first_all_put h k j))
     (subst (ToldIf room (leaves h k j)) is p) (subst (ToldIf room (leaves h k j)) not_y q) in
-    let one : length (first_one (tellings g (leaving h k j))) ≡ 1 = ap (λ rs. length (first_one (tellings g rs))) rules in
+    let one : length (first_one (tellings g (leaving (past h) k j))) ≡ 1 = ap (λ rs. length (first_one (tellings g rs))) rules in
     let counts : events.written h + 0 ≡ events.written h + 1 =
     sym (fault_all_written h k j) ∙ same.counts (fault_all_failed h k j (ap some_rules rules)) ∙ first_all_written h k j ∙ ap (λ n. events.written h + n) one in
     absurd (omega (arith, counts))
 
-same_out : (room : Option ℕ) (h : List events.Event) (k : ℕ) (j : Option ℕ) (rules : List Rule) (a b : Answer) → leaving h k j ≡ rules → events.is_failed h ≡ false
+same_out : (room : Option ℕ) (h : List events.Event) (k : ℕ) (j : Option ℕ) (rules : List Rule) (a b : Answer) → leaving (past h) k j ≡ rules → events.is_failed h ≡ false
     → WentOut (gone_then j (events.Did k events.Gone ∷ h)) rules a → WentOut (gone_then j (events.Did k events.Gone ∷ h)) rules b
     → ToldIf room (leaves h k j) a → ToldIf room (leaves h k j) b → a ≡ b
 same_out room h k j [] a b e fine x y p q = absurd x
@@ -199,14 +187,14 @@ gone_writer k None h = refl
 gone_writer k (Some j) h = refl
 
 same_told_by : (room : Option ℕ) (h : List events.Event) (k : ℕ) (j : Option ℕ) (refusal : Option Error) (w : Writer) (rules : List Rule) (a b : Answer)
-    → leaving h k j ≡ rules → events.writer h ≡ w → IsToldBy refusal w (gone_then j (events.Did k events.Gone ∷ h)) rules a → IsToldBy refusal w (gone_then j (events.Did k events.Gone ∷ h)) rules b
+    → leaving (past h) k j ≡ rules → events.writer h ≡ w → IsToldBy refusal w (gone_then j (events.Did k events.Gone ∷ h)) rules a → IsToldBy refusal w (gone_then j (events.Did k events.Gone ∷ h)) rules b
     → ToldIf room (leaves h k j) a → ToldIf room (leaves h k j) b → a ≡ b
 same_told_by room h k j (Some error) w rules a b e f x y p q = x ∙ sym y
 same_told_by room h k j None writers.Failed rules a b e f x y p q = x ∙ sym y
 same_told_by room h k j None writers.Closed rules a b e f x y p q = x ∙ sym y
 same_told_by room h k j None writers.Fine rules a b e f x y p q = same_out room h k j rules a b e (fine_unfailed h f) x y p q
 
-same_told : (room : Option ℕ) (h : List events.Event) (k : ℕ) (j : Option ℕ) (rules : List Rule) (a b : Answer) → leaving h k j ≡ rules
+same_told : (room : Option ℕ) (h : List events.Event) (k : ℕ) (j : Option ℕ) (rules : List Rule) (a b : Answer) → leaving (past h) k j ≡ rules
     → IsTold (gone_then j (events.Did k events.Gone ∷ h)) rules a → IsTold (gone_then j (events.Did k events.Gone ∷ h)) rules b
     → ToldIf room (leaves h k j) a → ToldIf room (leaves h k j) b → a ≡ b
 same_told room h k j [] a b e x y p q = x ∙ sym y
@@ -214,61 +202,27 @@ same_told room h k j (rule ∷ rules) a b e x y p q =
     let g = gone_then j (events.Did k events.Gone ∷ h) in
     same_told_by room h k j (tell_refusal g (rule ∷ rules)) (events.writer g) (rule ∷ rules) a b e (sym (gone_writer k j h)) x y p q
 
-same_leave_by : (room : Option ℕ) (waits : Bool) (h : List events.Event) (k : ℕ) (j : Option ℕ) (a b : Answer) → IsLeaveBy waits h k j a → IsLeaveBy waits h k j b
-    → ToldIf room (leaves h k j) a → ToldIf room (leaves h k j) b → a ≡ b
-same_leave_by room true h k j a b x y p q = x ∙ sym y
-same_leave_by room false h k j a b x y p q = same_told room h k j (leaving h k j) a b refl x y p q
-
-same_leave : (room : Option ℕ) (open_ : Bool) (h : List events.Event) (k j : Option ℕ) (a b : Answer) → IsLeaveOf open_ h k j a → IsLeaveOf open_ h k j b
-    → ToldIf room (λ a. unstream_does h k j a ++ h) a → ToldIf room (λ a. unstream_does h k j a ++ h) b → a ≡ b
-same_leave room false h k j a b x y p q = x ∙ sym y
-same_leave room true h None j a b x y p q = x ∙ sym y
-same_leave room true h (Some k) j a b x y p q = same_leave_by room (close_waits h k j) h k j a b x y p q
-
--- ---- a read
-
-same_open : (full stop : Bool) (bytes : List ℕ) (h : List events.Event) (a b : Answer)
-    → IsReadOf None full (length (events.read h)) a → IsReadOf None full (length (events.read h)) b
-    → ReadOpenTold full (Some stop) bytes h a → ReadOpenTold full (Some stop) bytes h b → a ≡ b
-same_open true stop bytes h a b x y p q = x ∙ sym y
-same_open false stop bytes h a b x y p q = p ∙ sym q
-
-same_read : (closing : Option Error) (stop : Bool) (bytes : List ℕ) (h : List events.Event) (a b : Answer)
-    → IsReadOf closing (busy h) (length (events.read h)) a → IsReadOf closing (busy h) (length (events.read h)) b
-    → ReadTold (Some stop) bytes h closing words.Read a → ReadTold (Some stop) bytes h closing words.Read b → a ≡ b
-same_read (Some error) stop bytes h a b x y p q = x ∙ sym y
-same_read None stop bytes h a b x y p q = same_open (busy h) stop bytes h a b x y p q
+-- ---- every entry
 
 same_answer : (setting : Setting) (es : List Entry) (stop : Bool) (bytes : List ℕ) (room : Option ℕ) (lane : ℕ) (w : Words) (a b : Answer)
     → IsAnswer (trail setting es) lane w a → IsAnswer (trail setting es) lane w b
-    → ReadTold (Some stop) bytes (trail setting es).events (events.closing (trail setting es).events) w a
-    → ReadTold (Some stop) bytes (trail setting es).events (events.closing (trail setting es).events) w b
+    → ReadTold (Some stop) bytes (trail setting es).events (plan (trail setting es) lane w) a → ReadTold (Some stop) bytes (trail setting es).events (plan (trail setting es) lane w) b
     → ToldIf room (λ a. events_of (trail setting es) lane w a ++ (trail setting es).events) a → ToldIf room (λ a. events_of (trail setting es) lane w a ++ (trail setting es).events) b
     → CloseTold (Some room) w a → CloseTold (Some room) w b → a ≡ b
-same_answer setting es stop bytes room lane (words.Call out) a b x y p q u v m n = same_send room (trail setting es) lane _ a b x y u v
-same_answer setting es stop bytes room lane (words.Signal out) a b x y p q u v m n = same_send room (trail setting es) lane _ a b x y u v
-same_answer setting es stop bytes room lane (words.Reply stream body) a b x y p q u v m n = same_send room (trail setting es) lane _ a b x y u v
-same_answer setting es stop bytes room lane (words.Error stream error_name body) a b x y p q u v m n = same_send room (trail setting es) lane _ a b x y u v
-same_answer setting es stop bytes room lane words.Read a b x y p q u v m n = same_read (events.closing (trail setting es).events) stop bytes (trail setting es).events a b x y p q
-same_answer setting es stop bytes room lane (words.Poll number) a b x y p q u v m n = x ∙ sym y
-same_answer setting es stop bytes room lane (words.Before number before) a b x y p q u v m n = x ∙ sym y
-same_answer setting es stop bytes room lane (words.Drop number) a b x y p q u v m n = x ∙ sym y
-same_answer setting es stop bytes room lane words.Stream a b x y p q u v m n = x ∙ sym y
-same_answer setting es stop bytes room lane (words.Take number) a b x y p q u v m n = x ∙ sym y
-same_answer setting es stop bytes room lane (words.TakeBefore number before) a b x y p q u v m n = x ∙ sym y
-same_answer setting es stop bytes room lane (words.Clone number) a b x y p q u v m n = x ∙ sym y
-same_answer setting es stop bytes room lane (words.Unstream number second) a b x y p q u v m n =
-    same_leave room (are_open_at (trail setting es).events lane (trail setting es).streams number second) (trail setting es).events _ _ a b x y u v
-same_answer setting es stop bytes room lane (words.Queue number limit) a b x y p q u v m n = x ∙ sym y
-same_answer setting es stop bytes room lane (words.MainQueue limit) a b x y p q u v m n = x ∙ sym y
-same_answer setting es stop bytes room lane (words.Open max_queued rule) a b x y p q u v m n = same_opening room (trail setting es) lane (rule_in_bytes rule) max_queued a b x y u v
-same_answer setting es stop bytes room lane (words.Opened number) a b x y p q u v m n = x ∙ sym y
-same_answer setting es stop bytes room lane words.Close a b x y p q u v m n = same_close room a b m n
+same_answer setting es stop bytes room lane w a b x y p q u v m n =
+    let t = trail setting es in
+    let h = t.events in
+    by_plan
+    (λ k. IsMeant t lane k a → IsMeant t lane k b → ReadTold (Some stop) bytes h k a → ReadTold (Some stop) bytes h k b
+    → ToldIf room (λ c. does h k c ++ h) a → ToldIf room (λ c. does h k c ++ h) b → a ≡ b)
+    (λ answer deeds fair x y p q u v. x ∙ sym y) (λ asked x y p q u v. same_send room t lane asked a b x y u v)
+    (λ rule asked x y p q u v. same_ask room t lane rule asked a b x y u v) (λ k j x y p q u v. same_told room h k j (leaving (past h) k j) a b refl x y u v) t lane w
+    (λ open_ x y p q u v. p ∙ sym q) (λ is x y p q u v. same_close room a b (subst (λ k. CloseTold (Some room) k a) is m) (subst (λ k. CloseTold (Some room) k b) is n)) x y p q u v
 
 -- what is known of the newest entry
 record Newest (setting : Setting) (es : List Entry) (stop : Bool) (bytes : List ℕ) (room : Option ℕ) (e : Entry) : Type 0 where
   is_answer : IsAnswer (trail setting es) e.lane e.words e.answer
-  told : ReadTold (Some stop) bytes (trail setting es).events (events.closing (trail setting es).events) e.words e.answer
+  told : ReadTold (Some stop) bytes (trail setting es).events (plan (trail setting es) e.lane e.words) e.answer
   wrote : WriteTold (Some room) (trail setting (e ∷ es)).events
   closed : CloseTold (Some room) e.words e.answer
 

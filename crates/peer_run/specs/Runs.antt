@@ -4,7 +4,7 @@ use Rattle.wire_framing.specs.declared.write_half.Writing.{Writing}
 use Rattle.peer_route.specs.declared.words.Command.{Command}
 use Rattle.peer_route.specs.declared.answer.Entry.{Entry}
 use Rattle.peer_route.specs.Parcel.{Setting}
-use Rattle.peer_route.specs.Trail.{trail}
+use Rattle.peer_route.specs.Entries.{trail}
 use Rattle.peer_route.specs.Answers.{Legal}
 use Rattle.peer_route.specs.Told.{ReadsTold, ClosesTold, WritesTold}
 use Rattle.peer_script.specs.Again.{command_of}

@@ -19,11 +19,12 @@ use Rattle.peer_route.specs.declared.answer.Answer.{Answer}
 use Rattle.peer_route.specs.declared.answer.Answer.TheVariants as answers
 use Rattle.peer_route.specs.declared.answer.Entry.{Entry}
 use Rattle.peer_route.specs.declared.writer.Writer.TheVariants as writers
-use Rattle.peer_route.specs.History.{Event, Wrote, Fault, put, is_failed, writer}
+use Rattle.peer_route.specs.History.{Event, Wrote, Fault, put, is_failed, writer, Past, past}
 use Rattle.peer_route.specs.Streams.{all_given}
 use Rattle.peer_route.specs.History as events
 use Rattle.peer_route.specs.Parcel.{Setting}
-use Rattle.peer_route.specs.Trail.{Names, trail, count}
+use Rattle.peer_route.specs.Trail.{Names, count}
+use Rattle.peer_route.specs.Entries.{trail}
 use Rattle.peer_route.specs.declared.route.Issued.{Issued}
 use Rattle.peer_route.specs.Answers.{Legal, sent_answer, write_fault}
 use Rattle.peer_route.specs.Left.{View, Left}
@@ -55,13 +56,17 @@ pub record PeerView : Type 0 where
 
 -- The peer is what the history leaves, and the history is legal.
 pub record Follows (setting : Setting) (p : PeerView) (es : List Entry) : Type 0 where
-  pub left : Left p.core (trail setting es).events
+  pub left : Left p.core (past (trail setting es).events)
   pub names : p.names ≡ (trail setting es).names
   pub streams : p.streams ≡ (trail setting es).streams
-  pub given : p.given ≡ all_given (trail setting es).events
+  pub given : p.given ≡ all_given (past (trail setting es).events)
   pub legal : Legal setting es
   pub within : p.core.read ≤ 2 ^ 64 - 2
   pub written : p.core.done ≡ length p.core.outbox
+
+-- One entry more: a lane's command, and its answer.
+abbrev pub Steps : PeerView → PeerView → ℕ → Words → Answer → Type 0
+Steps old new lane w answer = (setting : Setting) (es : List Entry) → Follows setting old es → Follows setting new (entry lane w answer ∷ es)
 
 -- ---- the source
 
@@ -183,10 +188,10 @@ IsFine h writing = writer h ≡ writers.Fine → writing ≡ Fine
 
 -- The message that was the first of those that wait was written; or its write failed. `writing` is what the half that wrote has met.
 pub data Written (old new : View) (m : Seen) (now after : Outlet) (writing : Writing) (failed : Option Error) : Type 0 where
-  DidWrite : failed ≡ None → ((h : List Event) → Left old h → Left new (Wrote ∷ h))
+  DidWrite : failed ≡ None → ((h : Past) → Left old h → Left new (events.after Wrote h))
       → Appends now.held after.held m.bytes → RoomFalls now.room after.room (length m.bytes) → after.faults ≡ now.faults → writing ≡ Fine
       → Written old new m now after writing failed
-  DidFail : failed ≡ Some (errors.InputOutput kinds.WriteFault) → ((h : List Event) → Left old h → Left new (Fault ∷ h))
+  DidFail : failed ≡ Some (errors.InputOutput kinds.WriteFault) → ((h : Past) → Left old h → Left new (events.after Fault h))
       → (n : ℕ) → Part m.bytes now.held after.held n → RoomBreaks now.room after.room n → MayRise now.faults after.faults → writing ≡ Failed
       → Written old new m now after writing failed
 
@@ -200,11 +205,11 @@ named false owner names = names
 pub data Sent (old new : PeerView) (lane : ℕ) (issued : Issued) (m : Seen) (now after : Outlet) (writing : Writing) (answer : Answer) : Type 0 where
   WentOut : answer ≡ sent_answer (is_some issued.call) (count lane old.names) issued.serial
       → new.names ≡ named (is_some issued.call) (Some lane) old.names → new.streams ≡ old.streams → new.given ≡ old.given
-      → ((h : List Event) → Left old.core h → Left new.core (Wrote ∷ h))
+      → ((h : Past) → Left old.core h → Left new.core (events.after Wrote h))
       → Appends now.held after.held m.bytes → RoomFalls now.room after.room (length m.bytes) → after.faults ≡ now.faults → writing ≡ Fine
       → Sent old new lane issued m now after writing answer
   WriteFailed : answer ≡ write_fault → new.names ≡ named (is_some issued.call) None old.names → new.streams ≡ old.streams → new.given ≡ old.given
-      → ((h : List Event) → Left old.core h → Left new.core (Fault ∷ h))
+      → ((h : Past) → Left old.core h → Left new.core (events.after Fault h))
       → (n : ℕ) → Part m.bytes now.held after.held n → RoomBreaks now.room after.room n → MayRise now.faults after.faults → writing ≡ Failed
       → Sent old new lane issued m now after writing answer
 

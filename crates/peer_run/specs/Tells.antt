@@ -14,7 +14,8 @@ use Rattle.wire_framing.specs.declared.write_half.Writing.TheVariants.{Fine}
 use Rattle.peer_route.specs.declared.answer.Answer.{Answer}
 use Rattle.peer_route.specs.declared.answer.Answer.TheVariants as answers
 use Rattle.peer_route.specs.declared.writer.Writer.TheVariants as writers
-use Rattle.peer_route.specs.History.{Event, Wrote, Fault}
+use Rattle.peer_route.specs.History.{Wrote, Fault, Past}
+use Rattle.peer_route.specs.History as events
 use Rattle.peer_route.specs.Answers.{write_fault, first_fault}
 use Rattle.peer_route.specs.Left.{View, Left}
 use Rattle.peer_route.specs.Told.{encodings}
@@ -40,13 +41,13 @@ AreDue v (Some serial) = ((length v.outbox ≡ v.done + 1) ⊎ (length v.outbox 
 -- was written, or that of the second did. `writing` is what the half that writes has met.
 pub data Tells (old new : View) (last : Option ℕ) (ms : List Seen) (now after : Outlet) (before writing : Writing) (answer : Answer) : Type 0 where
   NoneToTell : last ≡ None → answer ≡ answers.Gone None → new ≡ old → after ≡ now → writing ≡ before → Tells old new last ms now after before writing answer
-  AllTold : (serial : ℕ) → last ≡ Some serial → answer ≡ answers.Gone last → ((h : List Event) → Left old h → Left new (map (λ m. Wrote) ms ++ h))
+  AllTold : (serial : ℕ) → last ≡ Some serial → answer ≡ answers.Gone last → ((h : Past) → Left old h → Left new (events.after_all (map (λ m. Wrote) ms) h))
       → Appends now.held after.held (encodings ms) → RoomFalls now.room after.room (length (encodings ms)) → after.faults ≡ now.faults → writing ≡ Fine
       → Tells old new last ms now after before writing answer
-  NoneTold : answer ≡ write_fault → (m : Seen) (more : List Seen) → ms ≡ m ∷ more → ((h : List Event) → Left old h → Left new (map (λ m. Fault) ms ++ h))
+  NoneTold : answer ≡ write_fault → (m : Seen) (more : List Seen) → ms ≡ m ∷ more → ((h : Past) → Left old h → Left new (events.after_all (map (λ m. Fault) ms) h))
       → (n : ℕ) → Part m.bytes now.held after.held n → RoomBreaks now.room after.room n → MayRise now.faults after.faults
       → Tells old new last ms now after before writing answer
-  FirstTold : answer ≡ first_fault → (m other : Seen) → ms ≡ m ∷ other ∷ [] → ((h : List Event) → Left old h → Left new (Fault ∷ Wrote ∷ h))
+  FirstTold : answer ≡ first_fault → (m other : Seen) → ms ≡ m ∷ other ∷ [] → ((h : Past) → Left old h → Left new (events.after Fault (events.after Wrote h)))
       → (mid : Outlet) → Appends now.held mid.held m.bytes → RoomFalls now.room mid.room (length m.bytes) → mid.faults ≡ now.faults
       → (n : ℕ) → Part other.bytes mid.held after.held n → RoomBreaks mid.room after.room n → MayRise mid.faults after.faults
       → Tells old new last ms now after before writing answer

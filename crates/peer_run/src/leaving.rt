@@ -4,7 +4,7 @@ ghost use Rattle.peer_route.specs.declared.answer.Entry.{Entry};
 ghost use Rattle.peer_route.specs.declared.words.Words.TheVariants as words;
 ghost use Rattle.peer_route.specs.declared.writer.Writer.TheVariants as writers;
 ghost use Rattle.peer_route.specs.Parcel.{Setting};
-ghost use Rattle.peer_route.specs.Trail.{trail};
+ghost use Rattle.peer_route.specs.Entries.{trail};
 ghost use Rattle.peer_run.specs.Stands.{Outlet, Follows, Sending, IsFine};
 ghost use Rattle.peer_run.specs.Tells as tells;
 ghost use Rattle.peer_run.specs.Tells.{waiting, AreBare, AreDue, Tells, told_names, spent_answer, spent_given};

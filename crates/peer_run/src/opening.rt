@@ -5,9 +5,9 @@ ghost use Rattle.peer_route.specs.declared.answer.Entry.{Entry};
 ghost use Rattle.peer_route.specs.declared.words.Words.TheVariants as words;
 ghost use Rattle.peer_route.specs.Parcel.{Setting};
 ghost use Rattle.peer_route.specs.Trail as trails;
-ghost use Rattle.peer_route.specs.Trail.{trail};
+ghost use Rattle.peer_route.specs.Entries.{trail};
 ghost use Rattle.peer_route.specs.declared.writer.Writer.TheVariants as writers;
-ghost use Rattle.peer_run.specs.Stands.{Inlet, Outlet, Follows, Reads, Writes, Asks, Sending, IsFine, entry};
+ghost use Rattle.peer_run.specs.Stands.{Follows, Writes, Asks, Sending, IsFine, Steps};
 ghost use Rattle.wire_framing.specs.Writing.{is_unsupported};
 ghost use Rattle.wire_framing.specs.declared.write_half.Writing.TheVariants.{Fine};
 ghost use Rattle.wire_message.specs.Front.{Seen};
@@ -94,11 +94,7 @@ impl Peer {
 
     /// Whether the lane's stream with this number, for which the bus was asked, is open.
     pub(crate) fn opened(&mut self, lane: u32, number: u64) -> Answer
-        ensures follows { (setting : Setting) (es : List Entry) → Follows setting self.old es → Follows setting self.new (entry lane (words.Opened number) result ∷ es) }
-        ensures reads { (setting : Setting) (start now : Inlet) (es : List Entry) → Follows setting self.old es
-            → Reads setting start now es → Reads setting start now (entry lane (words.Opened number) result ∷ es) }
-        ensures writes { (setting : Setting) (start now : Outlet) (es : List Entry) → Follows setting self.old es
-            → Writes setting start now es → Writes setting start now (entry lane (words.Opened number) result ∷ es) }
+        ensures { Steps self.old self.new lane (words.Opened number) result }
     {
         let Some(number) = self.streams.place(lane, number) else {
             return Answer::Refused(Error::UnknownHandle);

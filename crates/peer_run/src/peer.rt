@@ -4,14 +4,15 @@ ghost use Rattle.peer_route.specs.declared.words.Words.TheVariants as words;
 ghost use Rattle.peer_route.specs.declared.writer.Writer.TheVariants as writers;
 ghost use Rattle.peer_route.specs.Parcel.{Setting, sent_by};
 ghost use Rattle.peer_route.specs.Trail as trails;
-ghost use Rattle.peer_route.specs.Trail.{trail, asks_with, kept_at};
-ghost use Rattle.peer_route.specs.Answers as shows;
+ghost use Rattle.peer_route.specs.Trail.{asks_with, kept_at};
+ghost use Rattle.peer_route.specs.Entries.{trail};
+ghost use Rattle.peer_route.specs.Shown as shows;
 ghost use Rattle.peer_route.specs.Answers.{sent_answer};
-ghost use Rattle.peer_route.specs.History.{Event};
+ghost use Rattle.peer_route.specs.History.{Event, past};
 ghost use Rattle.peer_route.specs.Left.{Left};
 ghost use Rattle.peer_run.specs.CallWords.{MakesAsked};
 ghost use Rattle.peer_run.specs.OneLetter.{IssuesOne, WaitsOne};
-ghost use Rattle.peer_run.specs.Stands.{PeerView, Inlet, Outlet, Follows, Reads, Writes, Sent, Sending, SourceMoves, IsFine, IsRest, sends, given_after, named, entry};
+ghost use Rattle.peer_run.specs.Stands.{PeerView, Inlet, Outlet, Follows, Reads, Writes, Sent, Sending, SourceMoves, IsFine, IsRest, sends, named, entry, Steps};
 ghost use Rattle.wire_framing.specs.Receive.{Receives, Takes};
 ghost use Rattle.wire_framing.specs.Sink.{asked_again};
 ghost use Rattle.wire_framing.specs.Writing.{is_unsupported};
@@ -70,7 +71,7 @@ impl Drop for Peer {
 }
 
 impl Model for Peer {
-    ghost use Rattle.peer_route.specs.Answers as shows;
+    ghost use Rattle.peer_route.specs.Shown as shows;
     ghost use Rattle.peer_run.specs.Stands.{PeerView};
 
     ghost Value = { PeerView };
@@ -141,7 +142,7 @@ fn letter_of<'a>(
 /// Issues one message, sent by the peer; no call is served by it.
 fn issue_one(alloc: Global, route: &mut Route, letter: Letter<'_>) -> wire_message::Result<Issued>
     requires { length letter.fds < 2 ^ 32 }
-    ensures issues { (h : List Event) → Left route.old h → IssuesOne route.old route.new (sent_by route.old.name false letter.entry) h result }
+    ensures issues { (h : List Event) → Left route.old (past h) → IssuesOne route.old route.new (sent_by route.old.name false letter.entry) h result }
     ensures placed { IfOk result (WaitsOne route.old route.new) }
 {
     let mut list = Vec::new(alloc);
@@ -249,11 +250,7 @@ impl Peer {
 
     /// The answer of the lane's call with this number.
     pub(crate) fn poll(&mut self, lane: u32, number: u64) -> Answer
-        ensures follows { (setting : Setting) (es : List Entry) → Follows setting self.old es → Follows setting self.new (entry lane (words.Poll number) result ∷ es) }
-        ensures reads { (setting : Setting) (start now : Inlet) (es : List Entry) → Follows setting self.old es
-            → Reads setting start now es → Reads setting start now (entry lane (words.Poll number) result ∷ es) }
-        ensures writes { (setting : Setting) (start now : Outlet) (es : List Entry) → Follows setting self.old es
-            → Writes setting start now es → Writes setting start now (entry lane (words.Poll number) result ∷ es) }
+        ensures { Steps self.old self.new lane (words.Poll number) result }
     {
         match self.names.place(lane, number) {
             Some(call) => shown(self.route.poll(call)),
@@ -263,11 +260,7 @@ impl Peer {
 
     /// The answer of the lane's call with this number, by position.
     pub(crate) fn before(&mut self, lane: u32, number: u64, position: u64) -> Answer
-        ensures follows { (setting : Setting) (es : List Entry) → Follows setting self.old es → Follows setting self.new (entry lane (words.Before number position) result ∷ es) }
-        ensures reads { (setting : Setting) (start now : Inlet) (es : List Entry) → Follows setting self.old es
-            → Reads setting start now es → Reads setting start now (entry lane (words.Before number position) result ∷ es) }
-        ensures writes { (setting : Setting) (start now : Outlet) (es : List Entry) → Follows setting self.old es
-            → Writes setting start now es → Writes setting start now (entry lane (words.Before number position) result ∷ es) }
+        ensures { Steps self.old self.new lane (words.Before number position) result }
     {
         match self.names.place(lane, number) {
             Some(call) => shown(self.route.poll_before(call, Sequence(position))),
@@ -277,11 +270,7 @@ impl Peer {
 
     /// Drops the lane's call with this number.
     pub(crate) fn drop_call(&mut self, lane: u32, number: u64) -> Answer
-        ensures follows { (setting : Setting) (es : List Entry) → Follows setting self.old es → Follows setting self.new (entry lane (words.Drop number) result ∷ es) }
-        ensures reads { (setting : Setting) (start now : Inlet) (es : List Entry) → Follows setting self.old es
-            → Reads setting start now es → Reads setting start now (entry lane (words.Drop number) result ∷ es) }
-        ensures writes { (setting : Setting) (start now : Outlet) (es : List Entry) → Follows setting self.old es
-            → Writes setting start now es → Writes setting start now (entry lane (words.Drop number) result ∷ es) }
+        ensures { Steps self.old self.new lane (words.Drop number) result }
     {
         match self.names.place(lane, number) {
             Some(call) => shown_drop(self.route.drop_call(call)),

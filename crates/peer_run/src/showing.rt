@@ -5,7 +5,7 @@ ghost use Rattle.peer_route.specs.declared.opening.Opening.{Opening};
 ghost use Rattle.peer_route.specs.declared.progress.OpenState.{OpenState};
 ghost use Rattle.peer_route.specs.declared.progress.OpenState.TheVariants as states;
 ghost use Rattle.peer_route.specs.Bus.{IsShownAs};
-ghost use Rattle.peer_route.specs.Answers as shows;
+ghost use Rattle.peer_route.specs.Shown as shows;
 ghost use Rattle.peer_run.specs.Stands.{NotIssued, IsRefusal, IsUnopened, IsKeptOpen, over_answer};
 
 use crate::peer::RunError;

@@ -5,8 +5,8 @@ ghost use Rattle.peer_route.specs.declared.answer.Entry.{Entry};
 ghost use Rattle.peer_route.specs.declared.words.Words.TheVariants as words;
 ghost use Rattle.peer_route.specs.Parcel.{Setting};
 ghost use Rattle.peer_route.specs.Trail as trails;
-ghost use Rattle.peer_route.specs.Answers as shows;
-ghost use Rattle.peer_run.specs.Stands.{Inlet, Outlet, Follows, Reads, Writes, given_after, entry};
+ghost use Rattle.peer_route.specs.Shown as shows;
+ghost use Rattle.peer_run.specs.Stands.{given_after, Steps};
 
 use crate::peer::{Peer, RunError};
 use crate::showing::refused;
@@ -28,11 +28,7 @@ impl Peer {
 
     /// Opens a stream for the lane.
     pub(crate) fn stream(&mut self, lane: u32) -> Result<Answer, RunError>
-        ensures follows { IfOk result (λ answer. (setting : Setting) (es : List Entry) → Follows setting self.old es → Follows setting self.new (entry lane words.Stream answer ∷ es)) }
-        ensures reads { IfOk result (λ answer. (setting : Setting) (start now : Inlet) (es : List Entry) → Follows setting self.old es
-            → Reads setting start now es → Reads setting start now (entry lane words.Stream answer ∷ es)) }
-        ensures writes { IfOk result (λ answer. (setting : Setting) (start now : Outlet) (es : List Entry) → Follows setting self.old es
-            → Writes setting start now es → Writes setting start now (entry lane words.Stream answer ∷ es)) }
+        ensures { IfOk result (λ answer. Steps self.old self.new lane words.Stream answer) }
     {
         let _ = self.route.open()?;
         Ok(self.made(lane)?)
@@ -61,11 +57,7 @@ impl Peer {
 
     /// What the lane's stream with this number gives.
     pub(crate) fn take(&mut self, lane: u32, number: u64) -> Answer
-        ensures follows { (setting : Setting) (es : List Entry) → Follows setting self.old es → Follows setting self.new (entry lane (words.Take number) result ∷ es) }
-        ensures reads { (setting : Setting) (start now : Inlet) (es : List Entry) → Follows setting self.old es
-            → Reads setting start now es → Reads setting start now (entry lane (words.Take number) result ∷ es) }
-        ensures writes { (setting : Setting) (start now : Outlet) (es : List Entry) → Follows setting self.old es
-            → Writes setting start now es → Writes setting start now (entry lane (words.Take number) result ∷ es) }
+        ensures { Steps self.old self.new lane (words.Take number) result }
     {
         match self.streams.place(lane, number) {
             Some(number) => {
@@ -78,11 +70,7 @@ impl Peer {
 
     /// What the lane's stream with this number gives, by position.
     pub(crate) fn take_before(&mut self, lane: u32, number: u64, position: u64) -> Answer
-        ensures follows { (setting : Setting) (es : List Entry) → Follows setting self.old es → Follows setting self.new (entry lane (words.TakeBefore number position) result ∷ es) }
-        ensures reads { (setting : Setting) (start now : Inlet) (es : List Entry) → Follows setting self.old es
-            → Reads setting start now es → Reads setting start now (entry lane (words.TakeBefore number position) result ∷ es) }
-        ensures writes { (setting : Setting) (start now : Outlet) (es : List Entry) → Follows setting self.old es
-            → Writes setting start now es → Writes setting start now (entry lane (words.TakeBefore number position) result ∷ es) }
+        ensures { Steps self.old self.new lane (words.TakeBefore number position) result }
     {
         match self.streams.place(lane, number) {
             Some(number) => {
@@ -96,11 +84,7 @@ impl Peer {
 
     /// Opens a stream for the lane that goes on where its stream with this number is.
     pub(crate) fn clone_stream(&mut self, lane: u32, number: u64) -> Result<Answer, RunError>
-        ensures follows { IfOk result (λ answer. (setting : Setting) (es : List Entry) → Follows setting self.old es → Follows setting self.new (entry lane (words.Clone number) answer ∷ es)) }
-        ensures reads { IfOk result (λ answer. (setting : Setting) (start now : Inlet) (es : List Entry) → Follows setting self.old es
-            → Reads setting start now es → Reads setting start now (entry lane (words.Clone number) answer ∷ es)) }
-        ensures writes { IfOk result (λ answer. (setting : Setting) (start now : Outlet) (es : List Entry) → Follows setting self.old es
-            → Writes setting start now es → Writes setting start now (entry lane (words.Clone number) answer ∷ es)) }
+        ensures { IfOk result (λ answer. Steps self.old self.new lane (words.Clone number) answer) }
     {
         let Some(original) = self.streams.place(lane, number) else {
             return Ok(Answer::Refused(Error::UnknownHandle));
@@ -113,11 +97,7 @@ impl Peer {
 
     /// Asks that the lane's stream with this number may hold so many messages.
     pub(crate) fn queue(&mut self, lane: u32, number: u64, limit: u64) -> Answer
-        ensures follows { (setting : Setting) (es : List Entry) → Follows setting self.old es → Follows setting self.new (entry lane (words.Queue number limit) result ∷ es) }
-        ensures reads { (setting : Setting) (start now : Inlet) (es : List Entry) → Follows setting self.old es
-            → Reads setting start now es → Reads setting start now (entry lane (words.Queue number limit) result ∷ es) }
-        ensures writes { (setting : Setting) (start now : Outlet) (es : List Entry) → Follows setting self.old es
-            → Writes setting start now es → Writes setting start now (entry lane (words.Queue number limit) result ∷ es) }
+        ensures { Steps self.old self.new lane (words.Queue number limit) result }
     {
         let Some(number) = self.streams.place(lane, number) else {
             return Answer::Refused(Error::UnknownHandle);
@@ -130,11 +110,7 @@ impl Peer {
 
     /// Sets how many messages a stream may hold.
     pub(crate) fn main_queue(&mut self, lane: u32, limit: u64) -> Answer
-        ensures follows { (setting : Setting) (es : List Entry) → Follows setting self.old es → Follows setting self.new (entry lane (words.MainQueue limit) result ∷ es) }
-        ensures reads { (setting : Setting) (start now : Inlet) (es : List Entry) → Follows setting self.old es
-            → Reads setting start now es → Reads setting start now (entry lane (words.MainQueue limit) result ∷ es) }
-        ensures writes { (setting : Setting) (start now : Outlet) (es : List Entry) → Follows setting self.old es
-            → Writes setting start now es → Writes setting start now (entry lane (words.MainQueue limit) result ∷ es) }
+        ensures { Steps self.old self.new lane (words.MainQueue limit) result }
     {
         self.route.set_main_max_queued(limit);
         Answer::Set

@@ -28,10 +28,7 @@ abbrev IsLate : Stage → Type 0
 IsLate Start = ⊥
 IsLate Head = ⊥
 IsLate Queued = ⊥
-IsLate Sink = Unit {0}
-IsLate Pieces = Unit {0}
-IsLate Commands = Unit {0}
-IsLate Over = Unit {0}
+IsLate p = Unit {0}
 
 abbrev or_out : Option ℕ → Option ℕ → Option ℕ
 or_out out None = out
@@ -68,12 +65,7 @@ fits_nothing Over s whole n e = (refl, refl, refl, refl)
 
 end_whole : (stage : Stage) (s whole : Script) (n : ℕ) → end_of stage s n [] ≡ Ok whole → whole ≡ s
 end_whole Start s whole n e = absurd (cc)
-end_whole Head s whole n e = cc
-end_whole Queued s whole n e = cc
-end_whole Sink s whole n e = cc
-end_whole Pieces s whole n e = cc
-end_whole Commands s whole n e = cc
-end_whole Over s whole n e = cc
+end_whole p s whole n e = cc
 
 ends : (stage : Stage) (s whole : Script) (n : ℕ) (rest : List ℕ) → end_of stage s n rest ≡ Ok whole → Behind stage s whole (rest ∷ [])
 ends stage s whole n [] e =

@@ -22,12 +22,7 @@ some_part xs = omega (arith, length-slice_split (λ (b : ℕ). b == 10) xs)
 pub no_line : (stage : Stage) (s : Script) → take_line stage s None ≡ None
 unfolding take_line
 no_line Start s = refl
-no_line Head s = refl
-no_line Queued s = refl
-no_line Sink s = refl
-no_line Pieces s = refl
-no_line Commands s = refl
-no_line Over s = refl
+no_line p s = refl
 
 -- one line more
 pub step_to : (whole : Result Script ℕ) (stage : Stage) (s : Script) (n : ℕ) (line rest more : List ℕ) (o : Option Step)

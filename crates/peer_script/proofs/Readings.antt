@@ -88,12 +88,7 @@ takes_sent Over s o f e = absurd (cc (f.3))
 
 ends_here : (stage : Stage) (s : Script) (n : ℕ) (b : Bool) → Fits stage None [] [] b → read_lines (record { stage = stage; script = s }) n ([] ∷ []) ≡ Ok s
 ends_here Start s n b f = absurd f
-ends_here Head s n b f = refl
-ends_here Queued s n b f = refl
-ends_here Sink s n b f = refl
-ends_here Pieces s n b f = refl
-ends_here Commands s n b f = refl
-ends_here Over s n b f = refl
+ends_here p s n b f = refl
 
 read_end : (stage : Stage) (b : Bool) (s : Script) (n : ℕ) (lines : List (List ℕ)) → Fits stage None [] [] b → map line_of lines ≡ map Some (body None [] [] b)
     → read_lines (record { stage = stage; script = s }) n (lines ++ [] ∷ []) ≡ Ok s
@@ -134,29 +129,20 @@ abbrev IsFront : Stage → Type 0
 IsFront Start = ⊥
 IsFront Head = Unit {0}
 IsFront Queued = Unit {0}
-IsFront Sink = ⊥
-IsFront Pieces = ⊥
-IsFront Commands = ⊥
-IsFront Over = ⊥
+IsFront p = ⊥
 
 front_head : (stage : Stage) → IsFront stage → IsHead stage
 front_head Start h = absurd h
 front_head Head h = tt
 front_head Queued h = tt
-front_head Sink h = absurd h
-front_head Pieces h = absurd h
-front_head Commands h = absurd h
-front_head Over h = absurd h
+front_head p h = absurd h
 
 takes_fds : (stage : Stage) (s : Script) (o : Option Line) → IsFront stage → o ≡ Some Fds → take_line stage s o ≡ Some (record { stage = Sink; script = with_fds s })
 unfolding take_line
 takes_fds Start s o h e = absurd h
 takes_fds Head s o h e = ap (take_line Head s) e
 takes_fds Queued s o h e = ap (take_line Queued s) e
-takes_fds Sink s o h e = absurd h
-takes_fds Pieces s o h e = absurd h
-takes_fds Commands s o h e = absurd h
-takes_fds Over s o h e = absurd h
+takes_fds p s o h e = absurd h
 
 read_fds : (fds : Bool) (stage : Stage) (out : Option ℕ) (gs : List Given) (cs : List Command) (b : Bool) (kind : PeerKind) (queue : Option ℕ) (n : ℕ) (lines : List (List ℕ)) → IsFront stage
     → map line_of lines ≡ map Some (fds_lines fds ++ outfault_lines out ++ map given_line gs ++ map Do cs ++ sent_lines b)

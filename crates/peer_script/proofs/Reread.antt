@@ -84,10 +84,7 @@ shown_line (b ∷ text) h =
 
 io_line : (kind : IoKind) → list_all line_byte (io_word kind) ≡ true
 io_line kinds.Ended = refl
-io_line kinds.Fault = refl
-io_line kinds.Closed = refl
-io_line kinds.WriteFault = refl
-io_line kinds.TimedOut = refl
+io_line k = refl
 
 error_line : (error : Error) → HasBytes error → list_all line_byte (error_word error) ≡ true
 error_line errors.InterfaceNotFound h = refl
@@ -107,11 +104,7 @@ error_line errors.NameTaken h = refl
 error_line errors.InvalidMatchRule h = refl
 error_line (errors.Failure text) h = refl
 error_line (errors.MissingParameter name) h = joined line_byte (codes "MissingParameter.") (text_word name.now) refl (word_line (text_word name.now) (text_bytes name.now h))
-error_line (errors.InterfaceExists name path) h = refl
-error_line errors.Memory h = refl
-error_line errors.SerialsSpent h = refl
-error_line errors.UnknownHandle h = refl
-error_line errors.Busy h = refl
+error_line e h = refl
 
 untold_line : (io : Bool) → list_all line_byte (untold_word io) ≡ true
 untold_line true = refl

@@ -73,12 +73,7 @@ take_line stage s line = None
 -- a text may end at each stage but the first
 abbrev pub may_end : Stage → Bool
 may_end Start = false
-may_end Head = true
-may_end Queued = true
-may_end Sink = true
-may_end Pieces = true
-may_end Commands = true
-may_end Over = true
+may_end p = true
 
 abbrev pub end_of : Stage → Script → ℕ → List ℕ → Result Script ℕ
 end_of stage s n [] = if may_end stage then Ok s else Err n

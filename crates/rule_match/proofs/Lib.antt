@@ -13,3 +13,4 @@ pub mod Own
 pub mod BodyArguments
 pub mod Accepted
 pub mod Equal
+pub mod Orders

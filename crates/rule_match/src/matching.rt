@@ -137,7 +137,7 @@ fn tell_bytes(bytes: &[u8])
 
 impl MatchRule {
     /// Whether the message's arguments are those that are wanted.
-    #[tactic(auto, using(wire_message::proofs::Heads::order_named))]
+    #[tactic(auto, using(crate::proofs::Orders::order_named))]
     fn match_arguments(&self, message: &Message) -> bool
         ensures { IsTrue result ↔ ArgumentsMatch message.now.order (signature_text message.now) (body_bytes message.now.bytes) (wanted_of self.now) }
     {

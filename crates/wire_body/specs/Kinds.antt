@@ -2,24 +2,16 @@
 use Rattle.std.specs.Prelude.{ℕ, List, [], unwrap_or}
 use Rattle.wire_signature.specs.Shape.{Shape}
 use Rattle.wire_signature.specs.Parsing.{types_in}
-use Rattle.wire_tree.specs.Datum.{Datum, num, text, array, dict, struct, variant, list_of, pairs_of}
+use Rattle.wire_tree.specs.Datum.{Datum, num, text, array, dict, variant, list_of, pairs_of}
 
 -- the bits of a number
 abbrev pub bits_in : Datum → ℕ
 bits_in (num n v) = v
-bits_in (text t bytes) = 0
-bits_in (array t ds) = 0
-bits_in (dict k v es) = 0
-bits_in (struct ds) = 0
-bits_in (variant d) = 0
+bits_in d = 0
 
 abbrev pub text_in : Datum → List ℕ
-text_in (num n v) = []
 text_in (text t bytes) = bytes
-text_in (array t ds) = []
-text_in (dict k v es) = []
-text_in (struct ds) = []
-text_in (variant d) = []
+text_in d = []
 
 -- the types of which a signature is the text
 abbrev pub signature_in : Datum → List Shape
@@ -27,28 +19,16 @@ signature_in d = unwrap_or (types_in (text_in d)) []
 
 -- what a variant holds
 abbrev pub value_in : Datum → Datum
-value_in (num n v) = num n v
-value_in (text t bytes) = text t bytes
-value_in (array t ds) = array t ds
-value_in (dict k v es) = dict k v es
-value_in (struct ds) = struct ds
 value_in (variant d) = d
+value_in d = d
 
 abbrev pub elements_in : Datum → List Datum
-elements_in (num n v) = []
-elements_in (text t bytes) = []
 elements_in (array t ds) = list_of ds
-elements_in (dict k v es) = []
-elements_in (struct ds) = []
-elements_in (variant d) = []
+elements_in d = []
 
 abbrev pub entries_in : Datum → List (Datum × Datum)
-entries_in (num n v) = []
-entries_in (text t bytes) = []
-entries_in (array t ds) = []
 entries_in (dict k v es) = pairs_of es
-entries_in (struct ds) = []
-entries_in (variant d) = []
+entries_in d = []
 
 -- a key and its value, each by its own function
 abbrev pub both : {A B C D : Type 0} → (A → C) → (B → D) → A × B → C × D

@@ -2,7 +2,7 @@
 ghost use Rattle.std.specs.Prelude.{◌≡◌, ◌∷◌, [], IfErr, IfOk, map, refl};
 ghost use Rattle.wire_signature.specs.Shape.{IsType, dict as dict_of};
 ghost use Rattle.wire_signature.specs.declared.error.VariantError.TheVariants.{Memory};
-ghost use Rattle.wire_tree.specs.Datum.{AreEntries, dict, entries_of};
+ghost use Rattle.wire_tree.specs.Datum.{AreElements, dict, entries_of, entry_type};
 ghost use Rattle.wire_tree.specs.DatumView.{pair_of};
 ghost use Rattle.wire_body.specs.Arguments.{TellsRead};
 ghost use Rattle.wire_body.specs.Kinds.{both, entries_in};
@@ -91,7 +91,7 @@ fn dict_of_kind<K: Key, V: Argument>(
     value: &ValueType,
     entries: Entries,
 ) -> Result<Dict<K, V>, VariantError>
-    requires { AreEntries key value.now (entries_of entries) }
+    requires { AreElements (entry_type key value.now) (entries_of entries) }
     ensures { TellsRead result (map (both K.read V.read) entries) (dict_of key value.now) (dict_of K.basic V.kind) }
 {
     if key != K::basic() {
@@ -140,7 +140,7 @@ fn entries_read<K: Key, V: Argument>(
     alloc: Global,
     trees: Vec<(Tree, Tree)>,
 ) -> Result<Vec<(K, V)>, VariantError>
-    requires { AreEntries K.basic V.kind (entries_of (map pair_of trees.items)) }
+    requires { AreElements (entry_type K.basic V.kind) (entries_of (map pair_of trees.items)) }
     ensures value { IfOk result (λ entries. entries.items ≡ map (both K.read V.read) (map pair_of trees.items)) }
     ensures error { IfErr result (λ e. e ≡ Memory) }
 {
@@ -155,7 +155,7 @@ fn entry_read<K: Key, V: Argument>(
     alloc: Global,
     trees: (Tree, Tree),
 ) -> Result<(K, V), VariantError>
-    requires { AreEntries K.basic V.kind (entries_of (map pair_of (trees ∷ []))) }
+    requires { AreElements (entry_type K.basic V.kind) (entries_of (map pair_of (trees ∷ []))) }
     ensures value { IfOk result (λ entry. entry ≡ both K.read V.read (pair_of trees)) }
     ensures error { IfErr result (λ e. e ≡ Memory) }
 {

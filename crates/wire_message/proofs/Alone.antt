@@ -1,9 +1,8 @@
 -- Bytes that are one message.
-use Rattle.std.proofs.Common.{◌≡◌, ℕ, List, length, slice_index, Result, Ok, Err, refl, sym, ◌∙◌, ap, subst, arith, true, cond, ◌==◌, nat_lt, inl, inr}
+use Rattle.std.proofs.Common.{◌≡◌, ℕ, List, length, slice_index, Result, Ok, Err, refl, sym, ◌∙◌, ap, subst, arith}
 use Rattle.std.specs.Prelude.{IfOk}
-use Rattle.std.proofs.lemmas.Bool.{cond-false, cond-true, eqb-true, le-ltb}
+use Rattle.std.proofs.lemmas.Bool.Decides.{nat_tests}
 use Rattle.std.proofs.lemmas.List.{length-take-le}
-use Rattle.wire_signature.proofs.Takes.{if_ways}
 use Rattle.wire_number.specs.declared.endian.Endian.{Endian}
 use Rattle.wire_number.specs.declared.endian.Endian.TheVariants.{Little, Big}
 use Rattle.wire_number.proofs.Numbers.{IsBytes}
@@ -11,23 +10,17 @@ use Rattle.wire_message.specs.Front.{Seen, order_code, total, Front}
 use Rattle.wire_message.specs.Outcome.{front_outcome, Tells}
 use Rattle.wire_message.specs.Whole.{alone, whole_outcome}
 use Rattle.wire_message.specs.declared.error.Error.{Error}
-use Rattle.wire_message.specs.declared.error.Error.TheVariants as errors
 use Rattle.wire_message.specs.declared.error.IoKind.TheVariants as kinds
 use Rattle.wire_message.proofs.Grammar.{front_outcome-found, front_outcome-again}
 
 codes-differ : (a b : Endian) (n : ℕ) → n ≡ order_code a → n ≡ order_code b → a ≡ b
 codes-differ Little Little n e f = refl
 codes-differ Big Big n e f = refl
-codes-differ Little Big n e f = absurd (omega (arith, e, f))
-codes-differ Big Little n e f = absurd (omega (arith, e, f))
+codes-differ a b n e f = absurd (omega (arith, e, f))
 
 alone-ok : (bytes : List ℕ) (r : Result Seen Error) (m : Seen) → alone bytes r ≡ Ok m → (r ≡ Ok m) × (length m.bytes ≡ length bytes)
 alone-ok bytes (Err error) m e = absurd cc
-alone-ok bytes (Ok x) m e =
-    elim (if_ways (length x.bytes == length bytes) (Ok x) (Err errors.ExcessData) (Ok m) e) [
-      | inl a ↦ (let same : x ≡ m = (let s = a.1 in cc) in (a.1, subst (λ (y : Seen). length y.bytes ≡ length bytes) same (eqb-true (length x.bytes) (length bytes) a.0)))
-      | inr a ↦ absurd (let s = a.1 in cc)
-    ]
+alone-ok bytes (Ok x) m e = (grind (arith, nat_tests), grind (arith, nat_tests))
 
 -- a message that fills the bytes
 fills : (order : Endian) (bytes : List ℕ) (m : Seen) → slice_index bytes 0 ≡ order_code order → length m.bytes ≡ length bytes → Front bytes m (total bytes)
@@ -38,25 +31,17 @@ fills order bytes m o l f =
 
 pub whole-found : (order : Endian) (bytes : List ℕ) (m : Seen) → IsBytes bytes → whole_outcome order bytes ≡ Ok m → Front bytes m (length bytes) × (m.order ≡ order)
 whole-found order bytes m fits e =
-    elim (if_ways (nat_lt (length bytes) 16) (Err (errors.InputOutput kinds.Ended)) (cond (slice_index bytes 0 == order_code order) (alone bytes (front_outcome bytes kinds.Ended)) (Err errors.IncorrectEndian)) (Ok m) e) [
-      | inl a ↦ absurd (let x = a.1 in cc)
-      | inr a ↦ (elim (if_ways (slice_index bytes 0 == order_code order) (alone bytes (front_outcome bytes kinds.Ended)) (Err errors.IncorrectEndian) (Ok m) a.1) [
-        | inl b ↦ (let w = alone-ok bytes (front_outcome bytes kinds.Ended) m b.1 in fills order bytes m (eqb-true _ _ b.0) w.1 (front_outcome-found bytes kinds.Ended m fits w.0))
-        | inr b ↦ absurd (let x = b.1 in cc)
-      ])
-    ]
-
-same_eqb : (a b : ℕ) → a ≡ b → (a == b) ≡ true
-same_eqb a b e = grind (arith, e)
+    let found : alone bytes (front_outcome bytes kinds.Ended) ≡ Ok m = grind (arith, nat_tests) in
+    let w = alone-ok bytes (front_outcome bytes kinds.Ended) m found in
+    fills order bytes m (grind (arith, nat_tests)) w.1 (front_outcome-found bytes kinds.Ended m fits w.0)
 
 pub whole-again : (order : Endian) (bytes : List ℕ) (m : Seen) → m.position ≡ 0 → m.order ≡ order → Front bytes m (length bytes) → whole_outcome order bytes ≡ Ok m
 whole-again order bytes m p o f =
     let found : front_outcome bytes kinds.Ended ≡ Ok m = front_outcome-again bytes kinds.Ended m (length bytes) f ∙ ap (λ (q : ℕ). Ok (record m { position = q })) (sym p) in
     let long : length m.bytes ≡ length bytes = ap length f.own ∙ length-take-le (length bytes) bytes f.there in
-    cond-false (nat_lt (length bytes) 16) (Err (errors.InputOutput kinds.Ended)) (cond (slice_index bytes 0 == order_code order) (alone bytes (front_outcome bytes kinds.Ended)) (Err errors.IncorrectEndian)) (le-ltb _ _ f.head)
-    ∙ cond-true (slice_index bytes 0 == order_code order) (alone bytes (front_outcome bytes kinds.Ended)) (Err errors.IncorrectEndian) (same_eqb _ _ (f.order ∙ ap order_code o))
-    ∙ ap (alone bytes) found
-    ∙ cond-true (length m.bytes == length bytes) (Ok m) (Err errors.ExcessData) (same_eqb _ _ long)
+    let first : slice_index bytes 0 ≡ order_code order = f.order ∙ ap order_code o in
+    let head = f.head in
+    grind (arith, nat_tests)
 
 -- what the calls say of their results
 pub found-whole : (order : Endian) (bytes : List ℕ) (r : Result Seen Error) → IsBytes bytes → Tells (λ (x : Seen). x) r (whole_outcome order bytes)

@@ -102,16 +102,11 @@ pub arguments-again : {A : Type 0} (read : List Datum → A) (kinds : List Shape
 arguments-again read kinds values taken draft old new m x r are b again same t =
     built-read read kinds values draft m.serial m x r are b.0 (bare-built (signed draft kinds) m.serial (body_text draft.order values) m b.1.3) again b.1.2 same t
 
-values-again-of : {A : Type 0} (read : List Datum → A) (values : List Datum) (taken : ℕ → Bool) (draft : Draft) (fds : List ℕ) (old new : ℕ) (m : Seen) (x : A) (r : Result A Error)
-    → IsSignature (map type_of values) → AreAllSound values → BuildsValues taken draft values fds old new (Ok m) → ReadsAgain m → read values ≡ x
-    → ReadsBody r read (map type_of values) m → Tells (λ y. y) r (Ok x)
-values-again-of read values taken draft fds old new m x r signature sound b again same t =
-    let body : IsBody draft.order (map type_of values) values = record { signature = signature; sound = sound; within = b.0; fit = b.1 } in
-    let made = b.2 in
-    built-read read (map type_of values) values draft m.serial m x r refl body made.0.3 again made.0.2 same t
-
 pub values-again : {A : Type 0} (read : List Datum → A) (kinds : List Shape) (values : List Datum) (taken : ℕ → Bool) (draft : Draft) (fds : List ℕ) (old new : ℕ) (m : Seen) (x : A) (r : Result A Error)
     → map type_of values ≡ kinds → IsSignature kinds → AreAllSound values → BuildsValues taken draft values fds old new (Ok m) → ReadsAgain m → read values ≡ x
     → ReadsBody r read kinds m → Tells (λ y. y) r (Ok x)
 values-again read kinds values taken draft fds old new m x r are signature sound b again same t =
-    values-again-of read values taken draft fds old new m x r (subst IsSignature (sym are) signature) sound b again same (subst (λ (ts : List Shape). ReadsBody r read ts m) (sym are) t)
+    let body : IsBody draft.order kinds values = record { signature = signature; sound = sound; within = b.0; fit = b.1 } in
+    let made = b.2 in
+    let own = subst (λ (ts : List Shape). bare m ≡ built (signed draft ts) m.serial (body_text draft.order values)) are made.0.3 in
+    built-read read kinds values draft m.serial m x r are body own again made.0.2 same t

@@ -6,8 +6,9 @@ use Rattle.std.specs.List.{AllByRecursion}
 use Rattle.std.proofs.lemmas.List.{append-nil, length-take-le}
 use Rattle.std.proofs.lemmas.Bool.{leb-true, ltb-true, ltb-false, lt-ltb}
 use Rattle.wire_number.specs.declared.endian.Endian.{Endian}
-use Rattle.wire_number.specs.Number.{number, number_text, counted_text, padding}
-use Rattle.wire_number.proofs.Steps.{both_true, length-number_text}
+use Rattle.wire_number.specs.declared.endian.Endian.TheVariants.{Little, Big}
+use Rattle.wire_number.specs.Number.{number, number_at, number_text, counted_text, pad, padding}
+use Rattle.wire_number.proofs.Steps.{both_true, length-number_text, length_padding, number_of_text}
 use Rattle.wire_names.specs.Names.{is_interface_name, is_member_name, is_error_name, is_bus_name, is_unique_name, is_well_known_name, is_short, is_dotted, is_well_known_element, is_the_bus, is_connection}
 use Rattle.wire_message.specs.declared.field.FieldCode.{FieldCode}
 use Rattle.wire_message.specs.declared.field.FieldCode.TheVariants as codes
@@ -86,19 +87,71 @@ path-in : (order : Endian) (place : ℕ) (fields : Fields) → has_long_text fie
 unfolding field_list
 path-in order place fields h = path-any order place fields.path _ h
 
--- what stands before the fields
-abbrev pub front_of : Draft → ℕ → ℕ → List ℕ
-front_of draft serial size =
-    order_code draft.order ∷ kind_code draft.kind ∷ draft.flags ∷ 1 ∷ number_text w32 draft.order size ++ number_text w32 draft.order serial ++ number_text w32 draft.order (length (draft_fields draft))
+-- ---- a header by its words
 
-fields-in : (draft : Draft) (size serial : ℕ) → length (draft_fields draft) ≤ length (header_text draft size serial)
+abbrev pub laid : Endian → ℕ → ℕ → ℕ → ℕ → ℕ → ℕ → List ℕ → List ℕ
+laid order o k f body serial size rest = o ∷ k ∷ f ∷ 1 ∷ (number_text w32 order body ++ (number_text w32 order serial ++ (number_text w32 order size ++ rest)))
+
+pub record HasWords (order : Endian) (body serial size : ℕ) (rest all : List ℕ) : Type 0 where
+  pub body_is : body < 2 ^ 32 → number_at w32 order 4 all ≡ body
+  pub serial_is : serial < 2 ^ 32 → number_at w32 order 8 all ≡ serial
+  pub size_is : size < 2 ^ 32 → number_at w32 order 12 all ≡ size
+  pub rest_is : drop 16 all ≡ rest
+  pub long : length all ≡ 16 + length rest
+
+pub words : (order : Endian) (o k f body serial size : ℕ) (rest : List ℕ) → HasWords order body serial size rest (laid order o k f body serial size rest)
+words Little o k f body serial size rest =
+    record { body_is = number_of_text w32 Little body; serial_is = number_of_text w32 Little serial; size_is = number_of_text w32 Little size; rest_is = refl; long = omega arith }
+words Big o k f body serial size rest =
+    record { body_is = number_of_text w32 Big body; serial_is = number_of_text w32 Big serial; size_is = number_of_text w32 Big size; rest_is = refl; long = omega arith }
+
+laid-apart : (order : Endian) (o k f body serial size : ℕ) (rest : List ℕ) → laid order o k f body serial size rest ≡ laid order o k f body serial size [] ++ rest
+laid-apart Little o k f body serial size rest = refl
+laid-apart Big o k f body serial size rest = refl
+
+-- another length of the body, put in the place of the first
+pub body-put : (order : Endian) (o k f body serial size other : ℕ) (rest : List ℕ)
+    → take 4 (laid order o k f body serial size rest) ++ (number_text w32 order other ++ drop 8 (laid order o k f body serial size rest)) ≡ laid order o k f other serial size rest
+body-put Little o k f body serial size other rest = refl
+body-put Big o k f body serial size other rest = refl
+
+-- the words of a draft, and what stands behind its header
+abbrev pub head_of : Draft → ℕ → ℕ → List ℕ → List ℕ
+head_of draft size serial rest = laid draft.order (order_code draft.order) (kind_code draft.kind) draft.flags size serial (length (draft_fields draft)) rest
+
+abbrev pub behind : Draft → List ℕ → List ℕ
+behind draft rest = draft_fields draft ++ (padding (16 + length (draft_fields draft)) 8 ++ rest)
+
+pub header-laid : (draft : Draft) (size serial : ℕ) (rest : List ℕ) → header_text draft size serial ++ rest ≡ head_of draft size serial (behind draft rest)
 unfolding header_text
-fields-in draft size serial =
-    let front = front_of draft serial size in
-    omega (arith, length-append (front ++ draft_fields draft) (padding (length (front ++ draft_fields draft)) 8), length-append front (draft_fields draft))
+header-laid draft size serial rest =
+    let fields = draft_fields draft in
+    let nb = number_text w32 draft.order size in
+    let ns = number_text w32 draft.order serial in
+    let nf = number_text w32 draft.order (length fields) in
+    let front : List ℕ = order_code draft.order ∷ kind_code draft.kind ∷ draft.flags ∷ 1 ∷ nb ++ ns ++ nf ++ fields in
+    let long : length front ≡ 16 + length fields =
+    omega (arith, length-append (nb ++ ns ++ nf) fields, length-append (nb ++ ns) nf, length-append nb ns, length-number_text w32 draft.order size, length-number_text w32 draft.order serial, length-number_text w32 draft.order (length fields)) in
+    let pads = padding (length front) 8 in
+    let regrouped : ((((nb ++ ns) ++ nf) ++ fields) ++ pads) ++ rest ≡ nb ++ (ns ++ (nf ++ (fields ++ (pads ++ rest)))) = simp append_assoc in
+    ap (λ (l : List ℕ). order_code draft.order ∷ kind_code draft.kind ∷ draft.flags ∷ 1 ∷ l) regrouped ∙ ap (λ (n : ℕ). head_of draft size serial (fields ++ (padding n 8 ++ rest))) long
+
+pub header-length : (draft : Draft) (size serial : ℕ)
+    → length (header_text draft size serial) ≡ 16 + length (draft_fields draft) + pad (16 + length (draft_fields draft)) 8
+header-length draft size serial =
+    let fields = draft_fields draft in
+    let pads = padding (16 + length fields) 8 in
+    ap length (sym (append-nil (header_text draft size serial)) ∙ header-laid draft size serial [])
+    ∙ omega (
+      arith,
+      (words draft.order (order_code draft.order) (kind_code draft.kind) draft.flags size serial (length fields) (behind draft [])).long,
+      length-append fields (pads ++ []),
+      length-append pads [],
+      length_padding (16 + length fields) 8,
+    )
 
 pub path-long : (draft : Draft) (size serial : ℕ) → has_long_text draft.fields.path ≡ true → 134217728 < length (header_text draft size serial)
-path-long draft size serial h = omega (arith, fields-in draft size serial, path-in draft.order 16 draft.fields h)
+path-long draft size serial h = omega (arith, header-length draft size serial, path-in draft.order 16 draft.fields h)
 
 -- ---- the fields of a draft
 
@@ -186,24 +239,17 @@ list-says d =
 
 -- ---- the message
 
-pub regroup : (a b c d e f g : List ℕ) → (((((a ++ b) ++ c) ++ d) ++ e) ++ f) ++ g ≡ a ++ (b ++ (c ++ (d ++ (e ++ (f ++ g)))))
-regroup a b c d e f g = simp append_assoc
-
 -- the texts of a header stand where they were written
 pub header-finds : (draft : Draft) (size serial : ℕ) (old new more : List ℕ) (places : Places) → length old ≡ 16 → AppendsFields draft.order (field_list draft.fields) old no_places new places
     → found_fields (header_text draft size serial ++ more) places ≡ draft.fields
-unfolding header_text
 header-finds draft size serial old new more places l a =
-    let front = front_of draft serial size in
     let fields = draft_fields draft in
-    let nb = number_text w32 draft.order size in
-    let ns = number_text w32 draft.order serial in
-    let nf = number_text w32 draft.order (length fields) in
-    let pads = padding (length (front ++ fields)) 8 in
-    let long : length front ≡ length old =
-    omega (arith, l, length-append (nb ++ ns) nf, length-append nb ns, length-number_text w32 draft.order size, length-number_text w32 draft.order serial, length-number_text w32 draft.order (length fields)) in
-    let whole : ((front ++ fields) ++ pads) ++ more ≡ front ++ (fields ++ (pads ++ more)) = simp append_assoc in
-    a.found _ front (pads ++ more) long (whole ∙ ap (λ (k : ℕ). front ++ (fields_text draft.order k (field_list draft.fields) ++ (pads ++ more))) (sym l)) ∙ list-says draft.fields
+    let rest = padding (16 + length fields) 8 ++ more in
+    let front = head_of draft size serial [] in
+    let long : length front ≡ length old = omega (arith, l, (words draft.order (order_code draft.order) (kind_code draft.kind) draft.flags size serial (length fields) []).long) in
+    let whole : header_text draft size serial ++ more ≡ front ++ (fields ++ rest) =
+    header-laid draft size serial more ∙ laid-apart draft.order (order_code draft.order) (kind_code draft.kind) draft.flags size serial (length fields) (fields ++ rest) in
+    a.found _ front rest long (whole ∙ ap (λ (k : ℕ). front ++ (fields_text draft.order k (field_list draft.fields) ++ rest)) (sym l)) ∙ list-says draft.fields
 
 pub header-spans : (order own : Endian) (list : List Field) (old new put final : List ℕ) (size : ℕ) (places : Places) → length old ≡ 16 → AppendsFields order list old no_places new places
     → put ≡ take 12 new ++ (number_text w32 own size ++ drop 16 new) → final ≡ put ++ padding (0 + length put) 8 → AreSpans (length final) places

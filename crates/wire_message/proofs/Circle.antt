@@ -1,6 +1,6 @@
 -- Steps round the circle of serials.
 use Rattle.std.proofs.Common.{◌≡◌, ℕ, ◌+◌, ◌-◌, ◌%◌, ◌≤◌, ◌<◌, zero, suc, refl, sym, ◌∙◌, ap, arith, Bool, true, false, inl, inr}
-use Rattle.std.proofs.Math.Nat.{mod-add-mod, add-mod_right, mod-eq_of_lt, eq-or-lt_of_le}
+use Rattle.std.proofs.Math.Nat.{eq-or-lt_of_le}
 use Rattle.std.proofs.lemmas.Bool.{cases_lt}
 use Rattle.wire_message.specs.Circle.{serial_after, IsNext, AllTaken, taken_among}
 
@@ -13,25 +13,15 @@ pub record Tried (taken : ℕ → Bool) (last tried candidate : ℕ) : Type 0 wh
 
 -- the next candidate is the next round the circle
 pub after-tried : (taken : ℕ → Bool) (last tried candidate : ℕ) → last ≤ 4294967295 → Tried taken last tried candidate → candidate % 4294967295 + 1 ≡ serial_after last (tried + 1)
-after-tried taken last zero candidate h t = rw (t.first refl) (let e : last + (0 + 1) - 1 ≡ last = omega arith in rw e refl)
-after-tried taken last (suc k) candidate h t =
-    rw (t.later (omega arith))
-    (rw (mod-add-mod (last + suc k - 1) 4294967295 1)
-    (let e : last + (suc k + 1) - 1 ≡ last + suc k - 1 + 1 = omega arith in rw e refl))
-
-small_mod : (n : ℕ) → n < 4294967295 → n % 4294967295 ≡ n
-small_mod n h = mod-eq_of_lt h
+after-tried taken last zero candidate h t = let first = t.first refl in omega arith
+after-tried taken last (suc k) candidate h t = let later = t.later (omega arith) in omega arith
 
 -- a place on the round
 place_after : (last serial : ℕ) → 1 ≤ serial → serial ≤ 4294967295 → last < serial → serial_after last (serial - last) ≡ serial
-place_after last serial one limit h =
-    let e : last + (serial - last) - 1 ≡ serial - 1 = omega arith in
-    rw e (rw (small_mod (serial - 1) (omega arith)) (omega arith))
+place_after last serial one limit h = omega arith
 
 place_before : (last serial : ℕ) → 1 ≤ serial → serial ≤ last → last ≤ 4294967295 → serial_after last (serial + 4294967295 - last) ≡ serial
-place_before last serial one h limit =
-    let e : last + (serial + 4294967295 - last) - 1 ≡ serial - 1 + 4294967295 = omega arith in
-    rw e (rw (add-mod_right (serial - 1) 4294967295) (rw (small_mod (serial - 1) (omega arith)) (omega arith)))
+place_before last serial one h limit = omega arith
 
 -- each serial is met on one whole round
 pub round_all : (taken : ℕ → Bool) (last candidate : ℕ) → last ≤ 4294967295 → Tried taken last 4294967295 candidate → AllTaken taken
@@ -68,31 +58,25 @@ tried_more taken last tried candidate serial h t below e is_taken = record {
 
 -- ---- how many were tried
 
-among-grows : (taken : ℕ → Bool) (n k : ℕ) → ((j : ℕ) → 1 ≤ j → j ≤ k → taken (n + j) ≡ true) → taken_among taken n + k ≤ taken_among taken (n + k)
-unfolding taken_among
-among-grows taken n zero h = let e : n + 0 ≡ n = omega arith in rw e (omega arith)
-among-grows taken n (suc k) h =
-    let so_far = among-grows taken n k (λ j one le. h j one (omega arith)) in
-    let e : n + suc k ≡ suc (n + k) = omega arith in
-    let last : taken (suc (n + k)) ≡ true = ap taken (sym e) ∙ h (suc k) (omega arith) (omega arith) in
-    rw (e, last) (omega arith)
-
-among-more : (taken : ℕ → Bool) (n k : ℕ) → taken_among taken n ≤ taken_among taken (n + k)
-unfolding taken_among
-among-more taken n zero = let e : n + 0 ≡ n = omega arith in rw e (omega arith)
-among-more taken n (suc k) =
-    let e : n + suc k ≡ suc (n + k) = omega arith in
-    let so_far = among-more taken n k in
-    rw e (omega arith)
-
 among-up : (taken : ℕ → Bool) (n m : ℕ) → n ≤ m → taken_among taken n ≤ taken_among taken m
-among-up taken n m h = let e : n + (m - n) ≡ m = omega arith in rw e at (among-more taken n (m - n))
+unfolding taken_among
+among-up taken n zero h = let e : n ≡ 0 = omega arith in rw e (omega arith)
+among-up taken n (suc m) h = elim (eq-or-lt_of_le h) as (λ _. taken_among taken n ≤ taken_among taken (suc m)) [
+  | inl e ↦ rw e (omega arith)
+  | inr less ↦ let up = among-up taken n m (omega arith) in omega arith
+]
 
 -- each serial from `n` on to `m` is taken
 among-all : (taken : ℕ → Bool) (n m : ℕ) → n ≤ m → ((serial : ℕ) → n < serial → serial ≤ m → taken serial ≡ true) → taken_among taken n + (m - n) ≤ taken_among taken m
-among-all taken n m h all =
-    let e : n + (m - n) ≡ m = omega arith in
-    rw e at (among-grows taken n (m - n) (λ j one le. all (n + j) (omega arith) (omega arith)))
+unfolding taken_among
+among-all taken n zero h all = let e : n ≡ 0 = omega arith in rw e (omega arith)
+among-all taken n (suc m) h all = elim (eq-or-lt_of_le h) as (λ _. taken_among taken n + (suc m - n) ≤ taken_among taken (suc m)) [
+  | inl e ↦ rw e (omega arith)
+  | inr less ↦
+      let so_far = among-all taken n m (omega arith) (λ serial more le. all serial more (omega arith)) in
+      let last : taken (suc m) ≡ true = all (suc m) less (omega arith) in
+      rw last (omega arith)
+]
 
 -- the serials that were tried are among those that are taken
 pub tried-among : (taken : ℕ → Bool) (last tried candidate : ℕ) → last ≤ 4294967295 → Tried taken last tried candidate → tried ≤ taken_among taken 4294967295
@@ -118,7 +102,7 @@ pub ruleset round = (tried_more)
 -- a search after so many candidates, each a step
 pub record Searched (taken : ℕ → Bool) (last tried candidate before steps : ℕ) : Type 0 where
   pub tries : Tried taken last tried candidate
-  pub cost : steps ≡ before + tried
+  pub cost : steps ≤ before + tried
 
 -- where none is taken, none is counted
 pub among-none : (n : ℕ) → taken_among (λ serial. false) n ≡ 0

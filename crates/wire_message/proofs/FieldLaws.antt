@@ -1,19 +1,18 @@
 -- What is read as a header field is spelled so, and what is spelled so is read.
-use Rattle.std.proofs.Common.{◌≡◌, ℕ, ◌+◌, ◌-◌, ◌<◌, ◌≤◌, ◌%◌, Bool, true, false, cond, ◌&&◌, ◌==◌, List, [], ◌∷◌, ◌++◌, length, replicate, Option, Some, is_some, refl, sym, ap, subst, ◌∙◌, append_assoc, arith, inl, inr}
+use Rattle.std.proofs.Common.{◌≡◌, ℕ, ◌+◌, ◌-◌, ◌<◌, ◌≤◌, ◌%◌, Bool, true, false, ◌&&◌, ◌==◌, List, [], ◌∷◌, ◌++◌, length, replicate, Some, is_some, refl, sym, ap, subst, ◌∙◌, append_assoc, arith}
 use Rattle.std.specs.Prelude.{IsTrue}
 use Rattle.std.specs.Int.{Width, w8, w32, byte_len}
-use Rattle.std.proofs.lemmas.Bool.{eqb-true}
+use Rattle.std.proofs.lemmas.Bool.Decides.{nat_tests}
 use Rattle.wire_number.specs.declared.endian.Endian.{Endian}
 use Rattle.wire_number.specs.Number.{counted_text, number_text, pad, padding}
-use Rattle.wire_number.specs.Reading.{Cursor, ◌>>=◌, made, bytes_at, align_at, number_at, counted_at}
+use Rattle.wire_number.specs.Reading.{Cursor, made, bytes_at, align_at, number_at, counted_at}
 use Rattle.wire_number.proofs.Multiples.{padded-is-multiple}
-use Rattle.wire_number.proofs.Steps.{at, AreBytes, Reads, reads_then, Takes, IsNumber, IsShort as IsShortWidth, limit, bind_some, map_some, some_is, guard_some, guarded, bound_some, both_true, bytes_take, bytes_again, align_takes, align_again, number_takes, number_again, length-number_text, length_padding, length-padded, IsCounted, counted_takes, counted_again}
+use Rattle.wire_number.proofs.Steps.{at, AreBytes, Reads, reads_then, Takes, IsNumber, IsShort as IsShortWidth, limit, bind_some, map_some, some_is, guard_some, guarded, bound_some, bytes_take, bytes_again, align_takes, align_again, number_takes, number_again, length-number_text, length_padding, length-padded, IsCounted, counted_takes, counted_again}
 use Rattle.wire_signature.specs.declared.basic.BasicType.{BasicType}
 use Rattle.wire_signature.specs.declared.basic.BasicType.TheVariants as basics
 use Rattle.wire_signature.specs.Shape.{letter}
 use Rattle.wire_signature.specs.Parsing.{types_in}
 use Rattle.wire_signature.proofs.Exact.{is_some-types_in}
-use Rattle.wire_signature.proofs.Takes.{if_ways}
 use Rattle.wire_message.specs.declared.field.FieldCode.{FieldCode}
 use Rattle.wire_message.specs.declared.field.FieldCode.TheVariants as codes
 use Rattle.wire_message.specs.Field.{Value, Text, Number, Field, IsField, IsShort, is_value, is_text, is_number, code_byte, code_bytes, field_type, text_bytes, value_bytes, field_text}
@@ -21,20 +20,8 @@ use Rattle.wire_message.specs.Reading.{code_of, typed_code, code_at, value_at, f
 
 -- ---- the code
 
-one_of : (byte n : ℕ) (x code : FieldCode) (others : Option FieldCode) → code_byte x ≡ n
-    → cond (byte == n) (Some x) others ≡ Some code → (others ≡ Some code → byte ≡ code_byte code) → byte ≡ code_byte code
-one_of byte n x code others k e h =
-    elim (if_ways (byte == n) (Some x) others (Some code) e) [
-      | inl w ↦ eqb-true byte n w.0 ∙ sym k ∙ ap code_byte (some_is x code w.1)
-      | inr w ↦ h w.1
-    ]
-
 code_of-takes : (byte : ℕ) (code : FieldCode) → code_of byte ≡ Some code → byte ≡ code_byte code
-code_of-takes byte code e =
-    one_of byte 1 codes.Path code _ refl e (λ e. one_of byte 2 codes.Interface code _ refl e (λ e. one_of byte 3 codes.Member code _ refl e
-    (λ e. one_of byte 4 codes.ErrorName code _ refl e (λ e. one_of byte 5 codes.ReplySerial code _ refl e (λ e. one_of byte 6 codes.Destination code _ refl e
-    (λ e. one_of byte 7 codes.Sender code _ refl e (λ e. one_of byte 8 codes.Signature code _ refl e (λ e. one_of byte 9 codes.UnixFds code _ refl e
-    (λ e. absurd (cc))))))))))
+code_of-takes byte code e = grind (arith, nat_tests)
 
 code_of-again : (code : FieldCode) → code_of (code_byte code) ≡ Some code
 code_of-again codes.Path = refl
@@ -42,19 +29,14 @@ code_of-again code = refl
 
 code_at-takes : (bytes : List ℕ) (code : FieldCode) → length bytes ≡ 4 → code_at bytes ≡ Some code → bytes ≡ code_bytes code
 unfolding code_at
-code_at-takes [] code l e = absurd cc
-code_at-takes (a ∷ []) code l e = absurd cc
-code_at-takes (a ∷ b ∷ []) code l e = absurd cc
-code_at-takes (a ∷ b ∷ c ∷ []) code l e = absurd cc
-code_at-takes (a ∷ b ∷ c ∷ d ∷ x ∷ rest) code l e = absurd (omega arith)
 code_at-takes (a ∷ b ∷ c ∷ d ∷ []) code l e =
     let s = bind_some (code_of a) (λ x. typed_code x b c d) code e in
     let t = guard_some ((b == 1) && (c == letter (field_type s.0)) && (d == 0)) (Some s.0) code s.2 in
-    let two = both_true ((b == 1) && (c == letter (field_type s.0))) (d == 0) t.0 in
-    let one = both_true (b == 1) (c == letter (field_type s.0)) two.0 in
-    ap (λ (x : ℕ). x ∷ b ∷ c ∷ d ∷ []) (code_of-takes a s.0 s.1) ∙ ap (λ (x : ℕ). code_byte s.0 ∷ x ∷ c ∷ d ∷ []) (eqb-true b 1 one.0)
-    ∙ ap (λ (x : ℕ). code_byte s.0 ∷ 1 ∷ x ∷ d ∷ []) (eqb-true c (letter (field_type s.0)) one.1)
-    ∙ ap (λ (x : ℕ). code_byte s.0 ∷ 1 ∷ letter (field_type s.0) ∷ x ∷ []) (eqb-true d 0 two.1) ∙ ap code_bytes (some_is s.0 code t.1)
+    let first : a ≡ code_byte s.0 = code_of-takes a s.0 s.1 in
+    let same : s.0 ≡ code = some_is s.0 code t.1 in
+    let tests = t.0 in
+    grind (arith, nat_tests)
+code_at-takes bytes code l e = absurd (omega arith)
 
 code_at-again : (code : FieldCode) → code_at (code_bytes code) ≡ Some code
 unfolding code_at
@@ -87,21 +69,17 @@ text-value w order type c x s h e low same f =
     let r : Reads c (counted_text w order y.0.0) y.0.1 = unpadded c y.0.1 (byte_len w) (counted_text w order y.0.0) e k.reads in
     subst (λ (p : Value × Cursor). Valued order type c p) y.2 (subst (λ (l : List ℕ). Reads c l y.0.1) (sym (same y.0.0)) r, omega (arith, k.below, h))
 
-number-value : (order : Endian) (c : Cursor) (x : Value × Cursor) → pad c.place 4 ≡ 0 → AreBytes c.rest → made Number (align_at 4 c >>= number_at w32 order) ≡ Some x
-    → Valued order basics.Uint32 c x
-number-value order c x e low f =
-    let y = map_some (λ (y : ℕ × Cursor). (Number y.0, y.1)) (align_at 4 c >>= number_at w32 order) x f in
-    let p = bind_some (align_at 4 c) (number_at w32 order) y.0 y.1 in
-    let front : Reads c (padding c.place 4) p.0 = align_takes 4 c p.0 p.1 low in
-    let k : IsNumber w32 order p.0 y.0 = number_takes w32 order p.0 y.0 tt p.2 front.bytes in
-    let r : Reads c (number_text w32 order y.0.0) y.0.1 = unpadded c y.0.1 4 (number_text w32 order y.0.0) e (reads_then c p.0 y.0.1 _ _ front k.reads) in
-    subst (λ (p : Value × Cursor). Valued order basics.Uint32 c p) y.2 (r, omega (arith, k.below))
+number-value : (order : Endian) (c : Cursor) (x : Value × Cursor) → AreBytes c.rest → made Number (number_at w32 order c) ≡ Some x → Valued order basics.Uint32 c x
+number-value order c x low f =
+    let y = map_some (λ (y : ℕ × Cursor). (Number y.0, y.1)) (number_at w32 order c) x f in
+    let k : IsNumber w32 order c y.0 = number_takes w32 order c y.0 tt y.1 low in
+    subst (λ (p : Value × Cursor). Valued order basics.Uint32 c p) y.2 (k.reads, omega (arith, k.below))
 
 value_at-takes : (order : Endian) (code : FieldCode) (c : Cursor) (x : Value × Cursor) → pad c.place 4 ≡ 0 → AreBytes c.rest → value_at order (field_type code) c ≡ Some x
     → Valued order (field_type code) c x
 unfolding value_at
-value_at-takes order codes.ReplySerial c x p low e = number-value order c x p low e
-value_at-takes order codes.UnixFds c x p low e = number-value order c x p low e
+value_at-takes order codes.ReplySerial c x p low e = number-value order c x low e
+value_at-takes order codes.UnixFds c x p low e = number-value order c x low e
 value_at-takes order codes.Signature c x p low e = text-value w8 order basics.Signature c x tt (omega arith) (no_pad c.place) low (λ t. refl) e
 value_at-takes order code c x p low e = text-value w32 order (field_type code) c x tt (omega arith) p low (λ t. refl) e
 
@@ -111,14 +89,10 @@ text-again w order t p rest h e =
     subst (λ (k : ℕ). made Text (counted_at w order (at p ((replicate k 0 ++ counted_text w order t) ++ rest))) ≡ Some (Text t, at (p + length (replicate k 0 ++ counted_text w order t)) rest)) e
     (ap (made Text) (counted_again w order t p rest h))
 
-number-read : (order : Endian) (n p : ℕ) (rest : List ℕ) → n < 4294967296 → pad p 4 ≡ 0
-    → made Number (align_at 4 (at p (number_text w32 order n ++ rest)) >>= number_at w32 order) ≡ Some (Number n, at (p + length (number_text w32 order n)) rest)
-number-read order n p rest h e =
-    let text : List ℕ = number_text w32 order n in
-    let long : p + 0 + byte_len w32 ≡ p + length text = omega (arith, length-number_text w32 order n) in
-    let aligned : align_at 4 (at p (text ++ rest)) ≡ Some (at (p + 0) (text ++ rest)) =
-    subst (λ (k : ℕ). align_at 4 (at p (replicate k 0 ++ (text ++ rest))) ≡ Some (at (p + k) (text ++ rest))) e (align_again 4 p (text ++ rest)) in
-    ap (made Number) (bound_some _ (number_at w32 order) _ aligned ∙ number_again w32 order n (p + 0) rest h) ∙ ap (λ (k : ℕ). Some (Number n, at k rest)) long
+number-read : (order : Endian) (n p : ℕ) (rest : List ℕ) → n < 4294967296
+    → made Number (number_at w32 order (at p (number_text w32 order n ++ rest))) ≡ Some (Number n, at (p + length (number_text w32 order n)) rest)
+number-read order n p rest h =
+    ap (made Number) (number_again w32 order n p rest h) ∙ ap (λ (k : ℕ). Some (Number n, at (p + k) rest)) (sym (length-number_text w32 order n))
 
 -- a signature is short
 pub signature-below : (text : List ℕ) → IsTrue (is_text codes.Signature text) → length text < 256
@@ -137,8 +111,8 @@ is-true false h = not-so h
 value_at-again : (order : Endian) (code : FieldCode) (value : Value) (p : ℕ) (rest : List ℕ) → pad p 4 ≡ 0 → IsTrue (is_value code value) → IsShort value
     → value_at order (field_type code) (at p (value_bytes order (field_type code) value ++ rest)) ≡ Some (value, at (p + length (value_bytes order (field_type code) value)) rest)
 unfolding value_at is_text is_number
-value_at-again order codes.ReplySerial (Number n) p rest e h k = number-read order n p rest k e
-value_at-again order codes.UnixFds (Number n) p rest e h k = number-read order n p rest k e
+value_at-again order codes.ReplySerial (Number n) p rest e h k = number-read order n p rest k
+value_at-again order codes.UnixFds (Number n) p rest e h k = number-read order n p rest k
 value_at-again order codes.ReplySerial (Text t) p rest e h k = not-so h
 value_at-again order codes.UnixFds (Text t) p rest e h k = not-so h
 value_at-again order codes.Signature (Text t) p rest e h k = text-again w8 order t p rest (signature-below t h) (no_pad p)

@@ -20,7 +20,7 @@ use Rattle.wire_message.specs.declared.field.FieldCode.TheVariants as codes
 use Rattle.wire_message.specs.declared.kind.MessageType.{MessageType}
 use Rattle.wire_message.specs.declared.kind.MessageType.TheVariants as types
 use Rattle.wire_message.specs.Field.{Value, Text, Number, Field, IsField, is_value, is_text, is_number, code_byte, field_type, value_bytes, field_text, fields_text}
-use Rattle.wire_message.specs.Front.{Seen, Front, order_at, order_code, kind_code, fields_len, body_len, field_bytes, word_at}
+use Rattle.wire_message.specs.Front.{Seen, Front, order_at, order_code, kind_code, fields_len, body_len, word_at}
 use Rattle.wire_message.specs.Header.{held_datum, field_datum, field_data, header_datum, IsHeader}
 use Rattle.wire_message.proofs.FieldLaws.{placed, no_pad, not-so}
 use Rattle.wire_message.proofs.Grammar.{order-again}
@@ -84,9 +84,7 @@ header_bytes order o k f v body serial fields =
     o ∷ k ∷ f ∷ v ∷ (number_text w32 order body ++ (number_text w32 order serial ++ (number_text w32 order (length fields) ++ fields)))
 
 four_bytes : (o k f v : ℕ) (rest : List ℕ) → o < 256 → k < 256 → f < 256 → v < 256 → (o % 256) ∷ (k % 256) ∷ (f % 256) ∷ (v % 256) ∷ rest ≡ o ∷ k ∷ f ∷ v ∷ rest
-four_bytes o k f v rest a b c d =
-    ap (λ (x : ℕ). x ∷ (k % 256) ∷ (f % 256) ∷ (v % 256) ∷ rest) (mod-eq_of_lt a) ∙ ap (λ (x : ℕ). o ∷ x ∷ (f % 256) ∷ (v % 256) ∷ rest) (mod-eq_of_lt b)
-    ∙ ap (λ (x : ℕ). o ∷ k ∷ x ∷ (v % 256) ∷ rest) (mod-eq_of_lt c) ∙ ap (λ (x : ℕ). o ∷ k ∷ f ∷ x ∷ rest) (mod-eq_of_lt d)
+four_bytes o k f v rest a b c d = rw (mod-eq_of_lt a, mod-eq_of_lt b, mod-eq_of_lt c, mod-eq_of_lt d) refl
 
 pub header_spelled : (order : Endian) (o k f v body serial : ℕ) (fields : List Field) → o < 256 → k < 256 → f < 256 → v < 256 → AllByRecursion IsField fields
     → header_bytes order o k f v body serial (fields_text order 16 fields) ≡ spelling order 0 (header_datum o k f v body serial fields)
@@ -132,11 +130,8 @@ header-fits Big o k f v body serial fields h = (tt, (tt, (tt, (tt, (tt, (tt, ((h
 -- ---- of a message
 
 first_four : (bytes : List ℕ) → 4 ≤ length bytes → take 4 bytes ≡ slice_index bytes 0 ∷ slice_index bytes 1 ∷ slice_index bytes 2 ∷ slice_index bytes 3 ∷ []
-first_four [] h = absurd (omega arith)
-first_four (a ∷ []) h = absurd (omega arith)
-first_four (a ∷ b ∷ []) h = absurd (omega arith)
-first_four (a ∷ b ∷ c ∷ []) h = absurd (omega arith)
 first_four (a ∷ b ∷ c ∷ d ∷ rest) h = refl
+first_four bytes h = absurd (omega arith)
 
 word-back : (bytes : List ℕ) (order : Endian) (place : ℕ) → IsBytes bytes → place + 4 ≤ length bytes → number_text w32 order (number_at w32 order place bytes) ≡ take 4 (drop place bytes)
 word-back bytes order place fits h =
@@ -163,6 +158,11 @@ laid-out bytes n h =
     four-more (16 + n) (12 + n) 0 bytes (omega arith) ∙ ap (λ (r : List ℕ). r ++ take (12 + n) (drop 4 bytes)) (first_four bytes (omega arith))
     ∙ ap (λ (r : List ℕ). slice_index bytes 0 ∷ slice_index bytes 1 ∷ slice_index bytes 2 ∷ slice_index bytes 3 ∷ r) first
 
+-- the same bytes by their parts
+same_parts : {a b c d h k l : ℕ} {p q r s t u v w : List ℕ} → a ≡ h → b ≡ k → c ≡ l → p ≡ t → q ≡ u → r ≡ v → s ≡ w
+    → a ∷ b ∷ c ∷ d ∷ (p ++ (q ++ (r ++ s))) ≡ h ∷ k ∷ l ∷ d ∷ (t ++ (u ++ (v ++ w)))
+same_parts e f g h i j k = rw (e, f, g, h, i, j, k) refl
+
 order-low : (order : Endian) → order_code order < 256
 order-low Little = omega arith
 order-low Big = omega arith
@@ -171,8 +171,8 @@ kind-low : (kind : MessageType) → kind_code kind < 256
 kind-low types.MethodCall = omega arith
 kind-low kind = omega arith
 
-pub header-is : (bytes : List ℕ) (m : Seen) (n : ℕ) → IsBytes bytes → Front bytes m n → IsHeader bytes m
-header-is bytes m n fits f =
+pub header_is : (bytes : List ℕ) (m : Seen) (n : ℕ) → IsBytes bytes → Front bytes m n → IsHeader bytes m
+header_is bytes m n fits f =
     let order : order_at bytes ≡ m.order = order-again bytes m.order f.order in
     let fs = f.fields.0 in
     let long : 16 + fields_len bytes ≤ length bytes = omega (arith, f.there, f.whole) in
@@ -180,24 +180,10 @@ header-is bytes m n fits f =
     λ place h. ap (λ (o : Endian). number_text w32 o (word_at place bytes)) (sym order) ∙ word-back bytes (order_at bytes) place fits h in
     let size : length (fields_text m.order 16 fs) ≡ fields_len bytes =
     ap length (sym f.fields.2) ∙ length-take-le (fields_len bytes) (drop 16 bytes) (omega (arith, length-drop 16 bytes)) in
-    let fields : List ℕ = fields_text m.order 16 fs in
-    let third : take 4 (drop 12 bytes) ≡ number_text w32 m.order (length fields) = sym (word 12 (omega (arith, f.head))) ∙ ap (number_text w32 m.order) (sym size) in
+    let third : take 4 (drop 12 bytes) ≡ number_text w32 m.order (length (fields_text m.order 16 fs)) = sym (word 12 (omega (arith, f.head))) ∙ ap (number_text w32 m.order) (sym size) in
     let second : take 4 (drop 8 bytes) ≡ number_text w32 m.order m.serial = sym (word 8 (omega (arith, f.head))) ∙ ap (number_text w32 m.order) (sym f.serial) in
-    let front : List ℕ → List ℕ = λ (r : List ℕ). order_code m.order ∷ kind_code m.kind ∷ m.flags ∷ slice_index bytes 3 ∷ r in
-    let words : List ℕ → List ℕ → List ℕ → List ℕ → List ℕ = λ (a b c r : List ℕ). front (a ++ (b ++ (c ++ r))) in
-    let body : List ℕ = number_text w32 m.order (body_len bytes) in
-    let serial : List ℕ = number_text w32 m.order m.serial in
-    let size_text : List ℕ = number_text w32 m.order (length fields) in
-    let rest : List ℕ = take 4 (drop 4 bytes) ++ (take 4 (drop 8 bytes) ++ (take 4 (drop 12 bytes) ++ field_bytes bytes)) in
-    let text : take (16 + fields_len bytes) bytes ≡ words body serial size_text fields =
-    laid-out bytes (fields_len bytes) f.head
-    ∙ ap (λ (x : ℕ). x ∷ slice_index bytes 1 ∷ slice_index bytes 2 ∷ slice_index bytes 3 ∷ rest) f.order
-    ∙ ap (λ (x : ℕ). order_code m.order ∷ x ∷ slice_index bytes 2 ∷ slice_index bytes 3 ∷ rest) f.type
-    ∙ ap (λ (x : ℕ). order_code m.order ∷ kind_code m.kind ∷ x ∷ slice_index bytes 3 ∷ rest) f.flags
-    ∙ ap (λ (a : List ℕ). words a (take 4 (drop 8 bytes)) (take 4 (drop 12 bytes)) (field_bytes bytes)) (sym (word 4 (omega (arith, f.head))))
-    ∙ ap (λ (b : List ℕ). words body b (take 4 (drop 12 bytes)) (field_bytes bytes)) second
-    ∙ ap (λ (c : List ℕ). words body serial c (field_bytes bytes)) third
-    ∙ ap (words body serial size_text) f.fields.2 in
+    let first : take 4 (drop 4 bytes) ≡ number_text w32 m.order (body_len bytes) = sym (word 4 (omega (arith, f.head))) in
+    let text = laid-out bytes (fields_len bytes) f.head ∙ same_parts f.order f.type f.flags first second third f.fields.2 in
     record {
       list = fs;
       each = f.fields.1;

@@ -1,5 +1,5 @@
 -- The names of errors are in their grammar (D-Bus Specification, "Valid Names", "Error names").
-use Rattle.std.proofs.Common.{refl, codes}
+use Rattle.std.proofs.Common.{refl}
 use Rattle.fdo_kinds.specs.declared.kind.Kind.{Kind}
 use Rattle.fdo_kinds.specs.declared.kind.Kind.TheVariants as kinds
 use Rattle.fdo_kinds.specs.Names.{kind_name}
@@ -8,15 +8,12 @@ use Rattle.wire_message.specs.declared.fdo.Error.{Error as FdoError}
 use Rattle.wire_message.specs.declared.fdo.Error.TheVariants as fdo
 use Rattle.wire_names.specs.Names.{IsErrorName, is_error_name, is_interface_name, is_dotted, is_element}
 
-pub kind-name-valid : (kind : Kind) → IsErrorName (kind_name kind)
+kind-name-valid : (kind : Kind) → IsErrorName (kind_name kind)
 unfolding kind_name is_error_name is_interface_name is_dotted is_element
 kind-name-valid kinds.Failed = refl
 kind-name-valid kind = refl
 
-pub other-name-valid : IsErrorName (codes "org.freedesktop.zbus.Error")
-unfolding is_error_name is_interface_name is_dotted is_element
-other-name-valid = refl
-
 pub fdo-name-valid : (error : FdoError) → IsErrorName (fdo_name error)
-fdo-name-valid (fdo.ZBus error) = other-name-valid
+unfolding is_error_name is_interface_name is_dotted is_element
+fdo-name-valid (fdo.ZBus error) = refl
 fdo-name-valid (fdo.Std error) = kind-name-valid error.kind

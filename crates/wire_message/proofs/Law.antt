@@ -1,87 +1,34 @@
 -- What is written of a draft reads again as the draft, whatever follows it.
-use Rattle.std.proofs.Common.{◌≡◌, ℕ, Bool, Ok, Err, ◌+◌, ◌<◌, ◌≤◌, ◌^◌, List, [], ◌∷◌, ◌++◌, length, take, drop, refl, sym, ap, subst, ◌∙◌, arith, length-append}
+use Rattle.std.proofs.Common.{◌≡◌, ℕ, Bool, Ok, ◌+◌, ◌<◌, ◌≤◌, ◌^◌, List, [], ◌++◌, length, take, drop, refl, sym, ap, subst, ◌∙◌, arith, append_assoc, length-append}
 use Rattle.std.specs.Int.{w32}
 use Rattle.std.proofs.lemmas.List.{take_at, append-nil}
 use Rattle.wire_number.specs.declared.endian.Endian.{Endian}
-use Rattle.wire_number.specs.declared.endian.Endian.TheVariants.{Little, Big}
 use Rattle.wire_number.specs.Number.{number_text, number_at, pad, padding}
-use Rattle.wire_number.proofs.Steps.{length-number_text, length_padding, number_of_text}
 use Rattle.wire_message.specs.declared.places.Places.{Places}
 use Rattle.wire_message.specs.Field.{Fields, field_list}
 use Rattle.wire_message.specs.Front.{Seen, seen, bare, fields_of, Front, kind_code, order_code, order_at, word_at, total, field_bytes}
 use Rattle.wire_message.specs.Places.{found_fields, AreSpans, Stands}
-use Rattle.wire_message.specs.Draft.{Draft, draft_fields, header_text, message_text, built, IsDraft, Writes, Makes, MakesWith, Builds, BuildsWith, ReadsAgain}
+use Rattle.wire_message.specs.Draft.{Draft, draft_fields, header_text, message_text, built, IsDraft, Builds, ReadsAgain}
 use Rattle.wire_message.specs.Circle.{IsSerial, last_after}
 use Rattle.wire_message.specs.Valid.{AreFields}
-use Rattle.wire_message.specs.declared.error.Error.{Error}
-use Rattle.wire_message.specs.declared.error.Error.TheVariants as errors
-use Rattle.wire_message.proofs.Building.{list-valid, list-short, list-says, regroup, front_of}
+use Rattle.wire_message.proofs.Building.{list-valid, list-short, list-says, HasWords, words, head_of, behind, body-put, header-laid, header-length}
 use Rattle.wire_message.proofs.Grammar.{order-again}
 use Rattle.wire_message.proofs.Moved.{spans-more}
 
--- the bytes of a message by its words
-abbrev laid : Endian → ℕ → ℕ → ℕ → ℕ → ℕ → ℕ → List ℕ → List ℕ
-laid order o k f body serial size rest = o ∷ k ∷ f ∷ 1 ∷ (number_text w32 order body ++ (number_text w32 order serial ++ (number_text w32 order size ++ rest)))
-
-record HasWords (order : Endian) (body serial size : ℕ) (rest all : List ℕ) : Type 0 where
-  body_is : body < 2 ^ 32 → number_at w32 order 4 all ≡ body
-  serial_is : serial < 2 ^ 32 → number_at w32 order 8 all ≡ serial
-  size_is : size < 2 ^ 32 → number_at w32 order 12 all ≡ size
-  rest_is : drop 16 all ≡ rest
-  long : length all ≡ 16 + length rest
-
-words : (order : Endian) (o k f body serial size : ℕ) (rest : List ℕ) → HasWords order body serial size rest (laid order o k f body serial size rest)
-words Little o k f body serial size rest =
-    record { body_is = number_of_text w32 Little body; serial_is = number_of_text w32 Little serial; size_is = number_of_text w32 Little size; rest_is = refl; long = omega arith }
-words Big o k f body serial size rest =
-    record { body_is = number_of_text w32 Big body; serial_is = number_of_text w32 Big serial; size_is = number_of_text w32 Big size; rest_is = refl; long = omega arith }
-
 module _ (draft : Draft) (serial : ℕ) (body : List ℕ) where
-  -- what stands between the fields and the body
-  abbrev pads : List ℕ
-  pads = padding (length (front_of draft serial (length body) ++ draft_fields draft)) 8
-
-  abbrev behind : List ℕ → List ℕ
-  behind more = draft_fields draft ++ (pads ++ (body ++ more))
-
   abbrev whole_text : List ℕ → List ℕ
-  whole_text more = laid draft.order (order_code draft.order) (kind_code draft.kind) draft.flags (length body) serial (length (draft_fields draft)) (behind more)
+  whole_text more = head_of draft (length body) serial (behind draft (body ++ more))
 
   shape : (more : List ℕ) → message_text draft serial body ++ more ≡ whole_text more
-  unfolding message_text header_text
-  shape more = ap (λ (l : List ℕ). order_code draft.order ∷ kind_code draft.kind ∷ draft.flags ∷ 1 ∷ l)
-      (regroup (number_text w32 draft.order (length body)) (number_text w32 draft.order serial) (number_text w32 draft.order (length (draft_fields draft))) (draft_fields draft) pads body more)
+  unfolding message_text
+  shape more = append_assoc (header_text draft (length body) serial) body more ∙ header-laid draft (length body) serial (body ++ more)
 
-  words_of : (more : List ℕ) → HasWords draft.order (length body) serial (length (draft_fields draft)) (behind more) (whole_text more)
-  words_of more = words draft.order (order_code draft.order) (kind_code draft.kind) draft.flags (length body) serial (length (draft_fields draft)) (behind more)
+  words_of : (more : List ℕ) → HasWords draft.order (length body) serial (length (draft_fields draft)) (behind draft (body ++ more)) (whole_text more)
+  words_of more = words draft.order (order_code draft.order) (kind_code draft.kind) draft.flags (length body) serial (length (draft_fields draft)) (behind draft (body ++ more))
 
-  text-length : length (message_text draft serial body) ≡ 16 + length (draft_fields draft) + pad (16 + length (draft_fields draft)) 8 + length body
-  text-length =
-      let front = front_of draft serial (length body) in
-      let fields = draft_fields draft in
-      let nb = number_text w32 draft.order (length body) in
-      let ns = number_text w32 draft.order serial in
-      let nf = number_text w32 draft.order (length fields) in
-      let head : length (front ++ fields) ≡ 16 + length fields =
-      omega (
-        arith,
-        length-append (nb ++ ns ++ nf) fields,
-        length-append (nb ++ ns) nf,
-        length-append nb ns,
-        length-number_text w32 draft.order (length body),
-        length-number_text w32 draft.order serial,
-        length-number_text w32 draft.order (length fields),
-      ) in
-      ap length (sym (append-nil (message_text draft serial body)) ∙ shape [])
-      ∙ omega (
-        arith,
-        (words_of []).long,
-        length-append fields (pads ++ (body ++ [])),
-        length-append pads (body ++ []),
-        length-append body [],
-        length_padding (length (front ++ fields)) 8,
-        ap (λ (n : ℕ). pad n 8) head,
-      )
+  pub text-length : length (message_text draft serial body) ≡ 16 + length (draft_fields draft) + pad (16 + length (draft_fields draft)) 8 + length body
+  unfolding message_text
+  text-length = omega (arith, length-append (header_text draft (length body) serial) body, header-length draft (length body) serial)
 
   -- the length of the body, as the header says it
   pub size-read : length body < 2 ^ 32 → word_at 4 (message_text draft serial body) ≡ length body
@@ -105,7 +52,7 @@ module _ (draft : Draft) (serial : ℕ) (body : List ℕ) where
       let whole : length text ≡ total all =
       text-length ∙ ap (λ (n : ℕ). 16 + length fields + pad (16 + length fields) 8 + n) (sym word4) ∙ ap (λ (n : ℕ). 16 + n + pad (16 + n) 8 + word_at 4 all) (sym word12) in
       let found : field_bytes all ≡ fields =
-      ap (λ (n : ℕ). take n (drop 16 all)) word12 ∙ ap (take (length fields)) w.rest_is ∙ take_at fields (pads ++ (body ++ more)) (length fields) refl in
+      ap (λ (n : ℕ). take n (drop 16 all)) word12 ∙ ap (take (length fields)) w.rest_is ∙ take_at fields (padding (16 + length fields) 8 ++ (body ++ more)) (length fields) refl in
       let e = shape more in
       let own : text ≡ take (length text) all = sym (take_at text more (length text) refl) ∙ ap (take (length text)) e in
       let there : length text ≤ length all = omega (arith, length-append text more, ap length e) in
@@ -130,12 +77,6 @@ module _ (draft : Draft) (serial : ℕ) (body : List ℕ) where
 
 -- ---- of what was built
 
-pub built-again : (draft : Draft) (serial : ℕ) (body : List ℕ) (m : Seen) → IsDraft draft → 0 < serial → serial < 2 ^ 32 → length m.bytes ≤ 134217728 → m ≡ built draft serial body → ReadsAgain m
-unfolding built
-built-again draft serial body m valid some below limit e =
-    let short : length (message_text draft serial body) ≤ 134217728 = rw e at limit in
-    subst (λ (x : Seen). ReadsAgain x) (sym e) (λ more. read-again draft serial body more valid some below short)
-
 pub draft-bytes : (draft : Draft) (serial : ℕ) (body : List ℕ) → (built draft serial body).bytes ≡ message_text draft serial body
 unfolding built
 draft-bytes draft serial body = refl
@@ -145,8 +86,8 @@ unfolding built
 draft-fields draft serial body = refl
 
 pub draft-again : (draft : Draft) (serial : ℕ) (body : List ℕ) → IsDraft draft → 0 < serial → serial < 2 ^ 32 → length (message_text draft serial body) ≤ 134217728 → ReadsAgain (built draft serial body)
-draft-again draft serial body valid some below limit =
-    built-again draft serial body (built draft serial body) valid some below (rw (draft-bytes draft serial body) limit) refl
+unfolding built
+draft-again draft serial body valid some below limit = λ more. read-again draft serial body more valid some below limit
 
 own-front : (draft : Draft) (serial : ℕ) (body text : List ℕ) → IsDraft draft → 0 < serial → serial < 2 ^ 32 → text ≡ message_text draft serial body → length text ≤ 134217728
     → Front text (seen text 0 draft.kind draft.order draft.flags serial draft.fields) (length text)
@@ -157,39 +98,43 @@ own-front draft serial body text valid some below e limit =
     let bare = rw (append-nil (message_text draft serial body)) at front in
     subst (λ (l : List ℕ). Front l (seen l 0 draft.kind draft.order draft.flags serial draft.fields) (length l)) (sym e) bare
 
--- bytes that were written of a draft, and the places of its fields in them
+-- how long a body is with its header
+pub behind-length : (draft : Draft) (serial : ℕ) (head body mid : List ℕ) → head ≡ header_text draft 0 serial → mid ≡ head ++ body → length mid ≡ length (message_text draft serial body)
+behind-length draft serial head body mid e m = omega (arith, ap length m, length-append head body, ap length e, header-length draft 0 serial, text-length draft serial body)
+
+-- Bytes that were written of a draft, and the places of its fields in them.
 pub record Written (draft : Draft) (serial : ℕ) (body text : List ℕ) (places : Places) : Type 0 where
-  pub text_is : text ≡ message_text draft serial body
-  pub says : found_fields text places ≡ draft.fields
-  pub spans : AreSpans (length text) places
+  pub long : length text ≤ 134217728
+  pub stands : Stands text draft.kind draft.order draft.flags serial places
+  pub message : seen text 0 draft.kind draft.order draft.flags serial (found_fields text places) ≡ built draft serial body
+  pub again : ReadsAgain (built draft serial body)
 
-pub written : (draft : Draft) (serial : ℕ) (head body text : List ℕ) (places : Places) → head ≡ header_text draft (length body) serial
-    → ((more : List ℕ) → found_fields (header_text draft (length body) serial ++ more) places ≡ draft.fields) → AreSpans (length head) places → text ≡ head ++ body → Written draft serial body text places
-unfolding message_text
-written draft serial head body text places e f spans t =
-    let whole : text ≡ header_text draft (length body) serial ++ body = t ∙ ap (λ (l : List ℕ). l ++ body) e in
+-- A body behind its header, whose length is put into the header.
+pub written : (draft : Draft) (serial size : ℕ) (head body mid text : List ℕ) (places : Places) → IsDraft draft → 0 < serial → serial < 2 ^ 32 → length mid ≤ 134217728
+    → head ≡ header_text draft 0 serial → ((size : ℕ) (more : List ℕ) → found_fields (header_text draft size serial ++ more) places ≡ draft.fields) → AreSpans (length head) places
+    → mid ≡ head ++ body → text ≡ take 4 mid ++ (number_text w32 draft.order size ++ drop 8 mid) → size ≡ length body → Written draft serial body text places
+unfolding message_text built
+written draft serial size head body mid text places valid some below limit e f spans m t s =
+    let rest = behind draft body in
+    let first : mid ≡ head_of draft 0 serial rest = m ∙ ap (λ (l : List ℕ). l ++ body) e ∙ header-laid draft 0 serial body in
+    let whole : text ≡ header_text draft (length body) serial ++ body =
+    t ∙ ap (λ (l : List ℕ). take 4 l ++ (number_text w32 draft.order size ++ drop 8 l)) first
+    ∙ body-put draft.order (order_code draft.order) (kind_code draft.kind) draft.flags 0 serial (length (draft_fields draft)) size rest
+    ∙ ap (λ (n : ℕ). head_of draft n serial rest) s ∙ sym (header-laid draft (length body) serial body) in
+    let long : length text ≤ 134217728 = omega (arith, limit, ap length whole, behind-length draft serial head body mid e m) in
+    let more : length head ≤ length text = omega (arith, ap length whole, behind-length draft serial head body mid e m, ap length m, length-append head body) in
+    let says : found_fields text places ≡ draft.fields = ap (λ (l : List ℕ). found_fields l places) whole ∙ f (length body) body in
     record {
-      text_is = whole;
-      says = ap (λ (l : List ℕ). found_fields l places) whole ∙ f body;
-      spans = spans-more (length head) (length text) places (omega (arith, ap length t, length-append head body)) spans;
+      long = long;
+      stands = record {
+        front = subst (λ (x : Fields). Front text (seen text 0 draft.kind draft.order draft.flags serial x) (length text)) (sym says)
+            (own-front draft serial body text valid some below whole long);
+        spans = spans-more (length head) (length text) places more spans;
+        valid = subst (λ (x : Fields). AreFields x) (sym says) valid.fields;
+      };
+      message = ap (λ (x : Fields). seen text 0 draft.kind draft.order draft.flags serial x) says ∙ ap (λ (l : List ℕ). seen l 0 draft.kind draft.order draft.flags serial draft.fields) whole;
+      again = draft-again draft serial body valid some below (omega (arith, long, ap length whole));
     }
-
-pub written-stands : (draft : Draft) (serial : ℕ) (body text : List ℕ) (places : Places) → IsDraft draft → 0 < serial → serial < 2 ^ 32 → length text ≤ 134217728
-    → Written draft serial body text places → Stands text draft.kind draft.order draft.flags serial places
-written-stands draft serial body text places valid some below limit w = record {
-  front = subst (λ (x : Fields). Front text (seen text 0 draft.kind draft.order draft.flags serial x) (length text)) (sym w.says)
-      (own-front draft serial body text valid some below w.text_is limit);
-  spans = w.spans;
-  valid = subst (λ (x : Fields). AreFields x) (sym w.says) valid.fields;
-}
-
-pub written-built : (draft : Draft) (serial : ℕ) (body text : List ℕ) (places : Places) (m : Seen) → length text ≤ 134217728
-    → m ≡ seen text 0 draft.kind draft.order draft.flags serial (found_fields text places) → Written draft serial body text places → (m ≡ built draft serial body) × (length m.bytes ≤ 134217728)
-unfolding built
-written-built draft serial body text places m limit q w = (
-  q ∙ ap (λ (x : Fields). seen text 0 draft.kind draft.order draft.flags serial x) w.says ∙ ap (λ (l : List ℕ). seen l 0 draft.kind draft.order draft.flags serial draft.fields) w.text_is,
-  rw q limit,
-)
 
 -- the message with the serial that it was given
 pub builds-ok : (taken : ℕ → Bool) (draft : Draft) (body : List ℕ) (old new serial : ℕ) (m : Seen) → IsSerial taken draft.serial old serial → new ≡ last_after draft.serial old serial
@@ -207,27 +152,6 @@ pub bare-built : (draft : Draft) (serial : ℕ) (body : List ℕ) (m : Seen) →
 unfolding built
 bare-built draft serial body m e = ap (λ (x : Seen). bare x) e
 
--- the same with descriptors
-pub builds-with : (taken : ℕ → Bool) (draft : Draft) (body fds : List ℕ) (old new serial : ℕ) (m : Seen) → IsSerial taken draft.serial old serial → new ≡ last_after draft.serial old serial
-    → MakesWith draft serial body fds (Ok m) → BuildsWith taken draft body fds old new (Ok m)
-builds-with taken draft body fds old new serial m given last made = (builds-ok taken draft body old new serial (bare m) given last made.0, made.1)
-
--- without them
+-- without descriptors
 pub bare-is : (m : Seen) → m.fds ≡ [] → bare m ≡ m
 bare-is m e = ap (λ (ds : List ℕ). record m { fds = ds }) (sym e)
-
-pub builds-alone : (taken : ℕ → Bool) (draft : Draft) (body : List ℕ) (old new serial : ℕ) (m : Seen) → IsSerial taken draft.serial old serial → new ≡ last_after draft.serial old serial
-    → MakesWith draft serial body [] (Ok m) → Builds taken draft body old new (Ok m)
-builds-alone taken draft body old new serial m given last made =
-    subst (λ (x : Seen). Builds taken draft body old new (Ok x)) (bare-is m made.1) (builds-ok taken draft body old new serial (bare m) given last made.0)
-
--- what alone passes the limit of a message
-pub header-refused : (draft : Draft) (serial : ℕ) (body : List ℕ) (e : Error) → Writes (λ (x : List ℕ). x) (Err e) (header_text draft (length body) serial) → Makes draft serial body (Err e)
-unfolding message_text
-header-refused draft serial body errors.ExcessData h = omega (arith, h, length-append (header_text draft (length body) serial) body)
-header-refused draft serial body errors.Memory h = tt
-header-refused draft serial body other h = absurd h
-
-pub body-long : (draft : Draft) (serial : ℕ) (body : List ℕ) → 134217728 < length body → 134217728 < length (message_text draft serial body)
-unfolding message_text
-body-long draft serial body h = omega (arith, length-append (header_text draft (length body) serial) body)

@@ -11,7 +11,6 @@ pub mod Valid
 pub mod Setting
 pub mod Alone
 pub mod Refusals
-pub mod Heads
 pub mod BodyLaws
 pub mod BodyFound
 pub mod BodyAgain

@@ -7,7 +7,7 @@ use Rattle.wire_number.specs.Reading.{Cursor, ◌>>=◌}
 use Rattle.wire_number.proofs.Steps.{at, AreBytes, bytes_from, bytes-append}
 use Rattle.wire_number.proofs.Numbers.{IsBytes}
 use Rattle.wire_spelling.specs.Reading.{many_at}
-use Rattle.wire_spelling.proofs.Loops.{many_done, many_left, many_next, many_none}
+use Rattle.wire_spelling.proofs.Loops.{many_next}
 use Rattle.wire_message.specs.declared.field.FieldCode.{FieldCode}
 use Rattle.wire_message.specs.Field.{Fields, Field, field_text, with_field, gathered, no_fields}
 use Rattle.wire_message.specs.Reading.{field_at, fields_in}
@@ -71,21 +71,10 @@ going-more order bytes end n count places more c x g e some found put spans =
           ∙ ap (option_map (gathered (found_fields bytes places))) (sym (many_next n count (field_at order) c x e some found)) ∙ g.rest;
     }
 
-pub going-failed : (order : Endian) (bytes : List ℕ) (end n count : ℕ) (places : Places) (c : Cursor) → Going order bytes end count places c → count ≡ suc n → 0 < length c.rest
-    → field_at order c ≡ None → None ≡ fields_in order (area bytes 16 end)
-going-failed order bytes end n count places c g e some found =
-    ap (option_map (gathered (found_fields bytes places))) (sym (many_none n count (field_at order) c e some found)) ∙ g.rest
-
-pub going-left : (order : Endian) (bytes : List ℕ) (end count : ℕ) (places : Places) (c : Cursor) → Going order bytes end count places c → count ≡ 0 → 0 < length c.rest
-    → None ≡ fields_in order (area bytes 16 end)
-going-left order bytes end count places c g e some =
-    ap (option_map (gathered (found_fields bytes places))) (sym (many_left count (field_at order) c e some)) ∙ g.rest
-
-pub going-all : (order : Endian) (bytes : List ℕ) (end count : ℕ) (places : Places) (c : Cursor) → Going order bytes end count places c → length c.rest ≡ 0
-    → Some (found_fields bytes places) ≡ fields_in order (area bytes 16 end)
-unfolding gathered
-going-all order bytes end count places c g e =
-    ap (option_map (gathered (found_fields bytes places))) (sym (many_done count (field_at order) c e)) ∙ g.rest
+-- where the reading ends, it ends so for the whole array
+pub going-ends : (order : Endian) (bytes : List ℕ) (end count : ℕ) (places : Places) (c : Cursor) (o : Option (List Field)) → Going order bytes end count places c
+    → many_at count (field_at order) c ≡ o → option_map (gathered (found_fields bytes places)) o ≡ fields_in order (area bytes 16 end)
+going-ends order bytes end count places c o g e = ap (option_map (gathered (found_fields bytes places))) (sym e) ∙ g.rest
 
 -- what was read of a field stands where its cursor ends, in the first `end` bytes
 pub held-there : (order : Endian) (bytes : List ℕ) (end count : ℕ) (places : Places) (c after : Cursor) (code : FieldCode) (held : Held) → end ≤ length bytes

@@ -2,13 +2,14 @@
 use Rattle.std.specs.Prelude.{◌≡◌, ◌<◌, ◌≤◌, ◌⊎◌, ℕ, Bool, List, length, map, Option, Result, Ok, Err}
 use Rattle.wire_number.specs.declared.endian.Endian.{Endian}
 use Rattle.wire_signature.specs.Shape.{Shape, IsSignature}
+use Rattle.wire_signature.specs.declared.error.VariantError.{VariantError}
 use Rattle.wire_signature.specs.declared.error.VariantError.TheVariants as faults
 use Rattle.wire_tree.specs.Datum.{Datum, data_of, type_of}
 use Rattle.wire_spelling.specs.Spelling.{AllFit, depths, spellings}
 use Rattle.wire_body.specs.Arguments.{AreAllSound}
 use Rattle.wire_message.specs.Circle.{IsSerial, NoSerial}
-use Rattle.wire_message.specs.Draft.{Draft, message_text, built, Builds, BuildsWith}
-use Rattle.wire_message.specs.Front.{Seen, bare}
+use Rattle.wire_message.specs.Draft.{Draft, message_text, Builds, BuildsWith}
+use Rattle.wire_message.specs.Front.{Seen}
 use Rattle.wire_message.specs.Signed.{signed}
 use Rattle.wire_message.specs.declared.error.Error.{Error}
 use Rattle.wire_message.specs.declared.error.Error.TheVariants as errors
@@ -25,30 +26,12 @@ pub record IsBody (order : Endian) (kinds : List Shape) (values : List Datum) : 
   pub within : depths (data_of values) ≤ 64
   pub fit : AllFit order 0 (data_of values)
 
--- What comes of arguments: Signature exactly where their types together are no signature, Malformed exactly where they are
--- one and a text can't be one of its type.
-abbrev pub TakesArguments : Result (List Datum) Error → List Shape → List Datum → Type 0
-TakesArguments (Ok body) kinds values = (body ≡ values) × IsSignature kinds × AreAllSound values
-TakesArguments (Err (errors.Variant faults.Signature)) kinds values = IsSignature kinds → ⊥
-TakesArguments (Err (errors.Variant faults.Malformed)) kinds values = IsSignature kinds × (AreAllSound values → ⊥)
-TakesArguments (Err errors.Memory) kinds values = Unit {0}
-TakesArguments (Err error) kinds values = ⊥
-
--- Why there are no bytes of the values: Depth exactly where one opens more than 64 containers at once, ExcessData exactly where
--- none does and the elements of an array take too many bytes.
-abbrev pub HasNoBytes : Error → Endian → List Datum → Type 0
-HasNoBytes (errors.Variant faults.Depth) order values = 64 < depths (data_of values)
-HasNoBytes errors.ExcessData order values = (depths (data_of values) ≤ 64) × (AllFit order 0 (data_of values) → ⊥)
-HasNoBytes errors.Memory order values = Unit {0}
-HasNoBytes error order values = ⊥
-
--- the bytes of the values
-abbrev pub AreBytes : List ℕ → Endian → List Datum → Type 0
-AreBytes text order values = (text ≡ body_text order values) × (depths (data_of values) ≤ 64) × AllFit order 0 (data_of values)
-
-abbrev pub TakesBytes : {A : Type 0} → (A → List ℕ) → Result A Error → Endian → List Datum → Type 0
-TakesBytes bytes (Ok text) order values = AreBytes (bytes text) order values
-TakesBytes bytes (Err error) order values = HasNoBytes error order values
+-- what was made of arguments, with this crate's error
+abbrev pub body_taken : Result (List Datum) VariantError → Result (List Datum) Error
+body_taken (Ok body) = Ok body
+body_taken (Err faults.Signature) = Err (errors.Variant faults.Signature)
+body_taken (Err faults.Malformed) = Err (errors.Variant faults.Malformed)
+body_taken (Err error) = Err errors.Memory
 
 -- there is a serial for the message
 abbrev pub HasSerial : (ℕ → Bool) → Option ℕ → ℕ → Type 0
@@ -82,26 +65,6 @@ BuildsBody taken draft kinds values old new (Err errors.Memory) = new ≡ old
 BuildsBody taken draft kinds values old new (Err error) = ⊥
 
 -- ---- values as a body
-
--- The message with this serial was made of these values; or one opens more than 64 containers at once; or else an array passes
--- its limit; or else the message does.
-abbrev pub MakesValues : Draft → ℕ → List Datum → Result Seen Error → Type 0
-MakesValues draft serial values (Ok m) =
-    (depths (data_of values) ≤ 64) × AllFit draft.order 0 (data_of values)
-    × (m ≡ built (signed draft (map type_of values)) serial (body_text draft.order values)) × (length m.bytes ≤ 134217728)
-MakesValues draft serial values (Err (errors.Variant faults.Depth)) = 64 < depths (data_of values)
-MakesValues draft serial values (Err errors.ExcessData) =
-    (depths (data_of values) ≤ 64)
-    × ((AllFit draft.order 0 (data_of values) → ⊥)
-    ⊎ (AllFit draft.order 0 (data_of values)
-    × (134217728 < length (message_text (signed draft (map type_of values)) serial (body_text draft.order values)))))
-MakesValues draft serial values (Err errors.Memory) = Unit {0}
-MakesValues draft serial values (Err error) = ⊥
-
--- The same of a message that descriptors go with.
-abbrev pub MakesValuesWith : Draft → ℕ → List Datum → List ℕ → Result Seen Error → Type 0
-MakesValuesWith draft serial values fds (Ok m) = MakesValues draft serial values (Ok (bare m)) × (m.fds ≡ fds)
-MakesValuesWith draft serial values fds (Err error) = MakesValues draft serial values (Err error)
 
 -- What building with these values as the body gives: the message of the draft with their signature, their bytes and these
 -- descriptors. Refused, in this order: SerialsSpent where no serial was set and each is taken, Depth where a value opens too many

@@ -105,18 +105,6 @@ Writes items (Err errors.ExcessData) text = 134217728 < length text
 Writes items (Err errors.Memory) text = Unit {0}
 Writes items (Err error) text = ⊥
 
--- The message with this serial was made, or it would pass its limit.
-abbrev pub Makes : Draft → ℕ → List ℕ → Result Seen Error → Type 0
-Makes draft serial body (Ok m) = (m ≡ built draft serial body) × (length m.bytes ≤ 134217728)
-Makes draft serial body (Err errors.ExcessData) = 134217728 < length (message_text draft serial body)
-Makes draft serial body (Err errors.Memory) = Unit {0}
-Makes draft serial body (Err error) = ⊥
-
--- The same of a message that descriptors go with.
-abbrev pub MakesWith : Draft → ℕ → List ℕ → List ℕ → Result Seen Error → Type 0
-MakesWith draft serial body fds (Ok m) = Makes draft serial body (Ok (bare m)) × (m.fds ≡ fds)
-MakesWith draft serial body fds (Err error) = Makes draft serial body (Err error)
-
 -- What building gives: the message with the serial that was set, else with the next, which is drawn then alone; SerialsSpent
 -- where none was set and each is taken; else ExcessData where the message would pass 134,217,728 bytes.
 abbrev pub Builds : (ℕ → Bool) → Draft → List ℕ → ℕ → ℕ → Result Seen Error → Type 0

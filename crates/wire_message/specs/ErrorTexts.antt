@@ -45,13 +45,9 @@ abbrev pub detail_text : Option (List ℕ) → List ℕ
 detail_text None = codes "no details"
 detail_text (Some detail) = detail
 
--- a text between two backquotes
-unfoldable pub quoted : List ℕ → List ℕ
-quoted text = codes "`" ++ text ++ codes "`"
-
--- where an interface stands already
+-- where an interface stands already, from the end of its name on
 unfoldable pub place : List ℕ → List ℕ
-place path = codes " already exists at `" ++ path ++ codes "`"
+place path = codes "` already exists at `" ++ path ++ codes "`"
 
 -- an error, with what it holds beside its kind
 abbrev pub error_text : Error → List ℕ
@@ -71,8 +67,8 @@ error_text (errors.FDO error) = standard_text error
 error_text errors.NameTaken = codes "name already taken on the bus"
 error_text errors.InvalidMatchRule = codes "Invalid match rule string"
 error_text (errors.Failure text) = text
-error_text (errors.MissingParameter name) = codes "Parameter " ++ quoted name.now ++ codes " was not specified but it is required"
-error_text (errors.InterfaceExists name path) = codes "Interface " ++ quoted name ++ place path
+error_text (errors.MissingParameter name) = codes "Parameter `" ++ name.now ++ codes "` was not specified but it is required"
+error_text (errors.InterfaceExists name path) = codes "Interface `" ++ name ++ place path
 error_text errors.Memory = codes "Memory"
 error_text errors.SerialsSpent = codes "SerialsSpent"
 error_text errors.UnknownHandle = codes "UnknownHandle"

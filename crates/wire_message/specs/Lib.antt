@@ -7,7 +7,6 @@ pub mod Held
 pub mod Circle
 pub mod Draft
 pub mod Outcome
-pub mod Refusal
 pub mod Texts
 pub mod ErrorTexts
 pub mod ErrorKinds
@@ -19,6 +18,7 @@ pub mod Signed
 pub mod Drafts
 pub mod Lending
 pub mod Bodies
+pub mod Content
 pub mod Read
 pub mod MethodError
 pub mod FdoErrors

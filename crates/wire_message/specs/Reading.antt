@@ -1,6 +1,6 @@
 -- Reading the field array from left to right. The laws in proofs/ tie it to the texts of fields.
 use Rattle.std.specs.Prelude.{ℕ, ◌==◌, ◌&&◌, if◌then◌else◌, List, ◌∷◌, length, Option, Some, None, option_and_then, option_map}
-use Rattle.std.specs.Int.{Width, w8, w32}
+use Rattle.std.specs.Int.{w8, w32}
 use Rattle.wire_number.specs.declared.endian.Endian.{Endian}
 use Rattle.wire_number.specs.Reading.{Cursor, Parse, ◌>>=◌, made, bytes_at, align_at, number_at, counted_at}
 use Rattle.wire_signature.specs.declared.basic.BasicType.{BasicType}
@@ -25,17 +25,11 @@ code_of byte =
     else if byte == 9 then Some codes.UnixFds
     else None
 
--- a value by its type
-abbrev pub text_value : Width → Endian → Cursor → Parse Value
-text_value w order c = made Text (counted_at w order c)
-
-abbrev pub number_value : Endian → Cursor → Parse Value
-number_value order c = made Number (align_at 4 c >>= number_at w32 order)
-
+-- A value by its type. It stands behind four bytes at a multiple of 8, so that a number needs no padding.
 unfoldable pub value_at : Endian → BasicType → Cursor → Parse Value
-value_at order basics.Signature c = text_value w8 order c
-value_at order basics.Uint32 c = number_value order c
-value_at order type c = text_value w32 order c
+value_at order basics.Signature c = made Text (counted_at w8 order c)
+value_at order basics.Uint32 c = made Number (number_at w32 order c)
+value_at order type c = made Text (counted_at w32 order c)
 
 -- The code of a field whose value has its type, from its first four bytes: the code, the signature of one type.
 abbrev pub typed_code : FieldCode → ℕ → ℕ → ℕ → Option FieldCode

@@ -4,10 +4,12 @@ ghost use Rattle.wire_names.specs.BusName.{text_of};
 ghost use Rattle.wire_message.specs.Front.{order_code};
 ghost use Rattle.wire_message.specs.Circle.{Numbers, taken_among};
 ghost use Rattle.wire_message.specs.Field.{is_text, with_text};
-ghost use Rattle.wire_message.specs.Draft.{Draft, IsDraft, AreShort, new_draft, header_fields, header_text, message_text, call_draft, flagged, has_long_text, Writes, MakesWith, Builds, ReadsAgain};
+ghost use Rattle.wire_message.specs.Draft.{Draft, IsDraft, AreShort, new_draft, header_fields, header_text, message_text, call_draft, flagged, has_long_text, Writes, Builds, ReadsAgain};
+ghost use Rattle.wire_message.specs.Content.{BuildsOf, ContentFits, IsShallow, MakesOf, content_text};
 ghost use Rattle.wire_message.specs.Places.{found_fields, AreSpans};
 ghost use Rattle.wire_message.specs.declared.kind.MessageType.TheVariants as types;
 
+use crate::content::Content;
 use crate::error::{Error, Result};
 use crate::field::FieldCode;
 use crate::flags::Flags;
@@ -17,13 +19,14 @@ use crate::message::Message;
 use crate::places::Places;
 use crate::serials::{Serials, Taken};
 use crate::shared::Parts;
-use crate::steps::Steps;
+use crate::steps::{Counts, Steps, Uncounted};
 use crate::writing::{HeaderFields, NO_FIELDS, put_fields};
 use std::alloc::Global;
-use std::marker::{Brand, Model};
-use std::sync::ledger::{Blank, Ledger};
+use std::marker::Model;
+use std::sync::ledger::Ledger;
 use wire_names::{BusName, InterfaceName, MemberName, ObjectPath, UniqueName};
 use wire_number::{Endian, pad_to, put_u32, write_u32};
+use wire_signature::VariantError;
 
 /// A message that isn't built yet.
 pub struct Builder<'a> {
@@ -230,12 +233,12 @@ impl<'a> Builder<'a> {
         Flags(self.flags)
     }
 
-    /// The bytes of the header with that serial, for a body of that length, and where its texts stand, if it doesn't pass the
+    /// The bytes of the header with that serial, for a body of no bytes yet, and where its texts stand, if it doesn't pass the
     /// limit of a message.
     #[tactic(auto, unfolding(crate::specs::Draft::header_text))]
-    fn header_bytes(&self, alloc: Global, serial: u32, size: u32) -> Result<(Vec<u8>, Places)>
-        ensures written { Writes (λ x. x.0.items) result (header_text self.now size serial) }
-        ensures found { IfOk result (λ x. (more : List ℕ) → found_fields (header_text self.now size serial ++ more) x.1 ≡ self.now.fields) }
+    fn header_bytes(&self, alloc: Global, serial: u32) -> Result<(Vec<u8>, Places)>
+        ensures written { Writes (λ x. x.0.items) result (header_text self.now 0 serial) }
+        ensures found { IfOk result (λ x. (size : ℕ) (more : List ℕ) → found_fields (header_text self.now size serial ++ more) x.1 ≡ self.now.fields) }
         ensures spans { IfOk result (λ x. AreSpans (length x.0.items) x.1) }
         ensures valid { IsDraft self.now }
     {
@@ -244,7 +247,7 @@ impl<'a> Builder<'a> {
         }
         let mut text = Vec::new(alloc);
         text.extend_from_slice(&[order_byte(self.order), type_code(self.kind), self.flags, 1])?;
-        text.extend_from_slice(&write_u32(self.order, size))?;
+        text.extend_from_slice(&write_u32(self.order, 0))?;
         text.extend_from_slice(&write_u32(self.order, serial))?;
         // The length of the fields, which is known when they are written.
         text.extend_from_slice(&[0; 4])?;
@@ -258,26 +261,30 @@ impl<'a> Builder<'a> {
         Ok((text, places))
     }
 
-    /// The message with that serial, body and descriptors, if it doesn't pass its limit.
-    pub(crate) fn with_serial(
+    /// The message with that serial, body and descriptors, if no value of the body is too deep, and neither an array nor the
+    /// message passes its limit. The body is written behind its header, and its length into the header when it is known.
+    pub(crate) fn with_content(
         &self,
         alloc: Global,
         serial: u32,
-        body: &[u8],
+        content: Content<'_>,
         fds: &[u32],
     ) -> Result<Message>
         requires { 0 < serial }
-        ensures made { MakesWith self.now serial body.now fds.now result }
+        ensures made { MakesOf self.now serial (content_text self.now.order content.entry) (IsShallow content.entry) (ContentFits self.now.order content.entry) fds.now result }
         ensures again { IfOk result ReadsAgain }
     {
-        if body.len() > MESSAGE_LIMIT {
-            return Err(Error::ExcessData);
+        if !content.is_shallow() {
+            return Err(Error::Variant(VariantError::Depth));
         }
-        let (mut text, places) = self.header_bytes(alloc, serial, body.len() as u32)?;
-        text.extend_from_slice(body)?;
+        let (mut text, places) = self.header_bytes(alloc, serial)?;
+        let start = text.len();
+        content.append(self.order, &mut text)?;
         if text.len() > MESSAGE_LIMIT {
             return Err(Error::ExcessData);
         }
+        let size = text.len() - start;
+        put_u32(self.order, &mut text, 4, size as u32);
         let parts = Parts {
             kind: self.kind,
             order: self.order,
@@ -290,20 +297,41 @@ impl<'a> Builder<'a> {
     }
 
     /// The serial that was set, else the next, which is drawn.
-    pub(crate) fn own_or_next<T: Taken, L: Ledger>(
+    pub(crate) fn own_or_next<T: Taken, S: Counts>(
         &self,
         serials: &mut Serials,
         taken: &T,
-        steps: &mut Steps<L>,
+        steps: &mut S,
     ) -> Result<u32>
         ensures numbers { Numbers (T.is_taken taken.now) self.now.serial serials.old serials.new result }
         ensures some { IfOk result (λ serial. 0 < serial) }
-        ensures cost { steps.new ≤ steps.old + taken_among (T.is_taken taken.now) 4294967295 + 2 }
+        ensures cost { S.counted steps.new ≤ S.counted steps.old + taken_among (T.is_taken taken.now) 4294967295 + 2 }
     {
         match self.serial {
             Some(serial) => Ok(serial),
-            None => serials.next(taken, steps),
+            None => serials.draw(taken, steps),
         }
+    }
+
+    /// The message with that body, with the serial that was set, else with the next.
+    pub(crate) fn build_of<T: Taken, S: Counts>(
+        self,
+        alloc: Global,
+        serials: &mut Serials,
+        taken: &T,
+        content: Content<'_>,
+        fds: &[u32],
+        steps: &mut S,
+    ) -> Result<Message>
+        ensures built { BuildsOf (T.is_taken taken.now) self.entry (content_text self.entry.order content.entry) (IsShallow content.entry) (ContentFits self.entry.order content.entry) fds.now serials.old serials.new result }
+        ensures again { IfOk result ReadsAgain }
+        ensures cost { S.counted steps.new ≤ S.counted steps.old + taken_among (T.is_taken taken.now) 4294967295 + 2 }
+    {
+        let mut drawn = Serials::after(serials.last());
+        let serial = self.own_or_next(&mut drawn, taken, steps)?;
+        let message = self.with_content(alloc, serial, content, fds)?;
+        *serials = drawn;
+        Ok(message)
     }
 
     /// The message without a body, with the serial that was set, else with the next. SerialsSpent comes exactly where none was set and each
@@ -321,28 +349,7 @@ impl<'a> Builder<'a> {
         ensures again { IfOk result ReadsAgain }
         ensures cost { steps.new ≤ steps.old + taken_among (T.is_taken taken.now) 4294967295 + 2 }
     {
-        let mut drawn = Serials::after(serials.last());
-        let serial = self.own_or_next(&mut drawn, taken, steps)?;
-        let message = self.with_serial(alloc, serial, &[], &[])?;
-        *serials = drawn;
-        Ok(message)
-    }
-
-    fn empty_from<T: Taken, L: Ledger>(
-        self,
-        alloc: Global,
-        serials: &mut Serials,
-        taken: &T,
-        blank: Blank,
-    ) -> Result<Message>
-        requires name { blank.name ≡ L.name }
-        requires parts { blank.parts ≡ L.parts }
-        requires some { 0 < blank.parts }
-        ensures built { Builds (T.is_taken taken.now) self.entry [] serials.old serials.new result }
-        ensures again { IfOk result ReadsAgain }
-    {
-        let mut steps = Steps::<L>::start(blank);
-        self.build_empty(alloc, serials, taken, &mut steps)
+        self.build_of(alloc, serials, taken, Content::Bytes(&[]), &[], steps)
     }
 
     /// As `build_empty`, for a caller that counts no steps.
@@ -355,6 +362,13 @@ impl<'a> Builder<'a> {
         ensures built { Builds (T.is_taken taken.now) self.entry [] serials.old serials.new result }
         ensures again { IfOk result ReadsAgain }
     {
-        self.empty_from::<T, Brand>(alloc, serials, taken, Blank::new(1))
+        self.build_of(
+            alloc,
+            serials,
+            taken,
+            Content::Bytes(&[]),
+            &[],
+            &mut Uncounted,
+        )
     }
 }

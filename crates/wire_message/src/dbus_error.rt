@@ -1,21 +1,24 @@
 //! Errors as answers to calls (D-Bus Specification, "Types of messages", "Errors").
 ghost use Rattle.std.specs.Prelude.{◌≡◌, ◌+◌, ◌≤◌, IfOk, List, ℕ, Option, map, option_map};
-ghost use Rattle.wire_tree.specs.Datum.{type_of};
+ghost use Rattle.wire_tree.specs.Datum.{Datum, type_of};
+ghost use Rattle.wire_body.specs.Arguments.{TellsTo};
 ghost use Rattle.wire_message.specs.Bodies.{BuildsBody};
 ghost use Rattle.wire_message.specs.Circle.{taken_among};
 ghost use Rattle.wire_message.specs.Draft.{ReadsAgain};
 ghost use Rattle.wire_message.specs.Drafts.{error_draft};
-ghost use Rattle.wire_message.specs.FdoErrors.{fdo_name, fdo_description, reply_text as text_in_reply, one_string};
+ghost use Rattle.wire_message.specs.FdoErrors.{fdo_name, fdo_description, reply_text, one_string};
 
 use crate::error::Result;
 use crate::fdo;
 use crate::header::Header;
 use crate::message::Message;
 use crate::serials::{Serials, Taken};
-use crate::steps::Steps;
-use std::alloc::{AllocError, Global};
+use crate::steps::{Steps, Uncounted};
+use std::alloc::Global;
 use std::sync::ledger::Ledger;
+use wire_body::{BodyValues, to};
 use wire_names::{ErrorName, Text};
+use wire_signature::VariantError;
 
 /// An error that can answer a call.
 pub trait DBusError {
@@ -25,8 +28,8 @@ pub trait DBusError {
     /// what it says
     ghost described: { Self → Option (List ℕ) };
 
-    /// the text that the reply's body is
-    ghost replied: { Self → List ℕ };
+    /// the values that the reply's arguments are
+    ghost replied: { Self → List Datum };
 
     /// The name of the error in a reply's header (D-Bus Specification, "Valid Names", "Error names").
     fn name(&self) -> ErrorName<'_>
@@ -36,18 +39,18 @@ pub trait DBusError {
     fn description(&self) -> Option<&str>
         ensures { option_map (λ t. t.now) result ≡ described self.now };
 
-    /// The text that the body of its reply is, one string.
-    fn reply_text(&self, alloc: Global) -> std::result::Result<Text, AllocError>
-        ensures { IfOk result (λ text. text ≡ replied self.now) };
+    /// The arguments of its reply, as [`wire_body::to`] makes them a body, or refuses them.
+    fn reply(&self, alloc: Global) -> std::result::Result<BodyValues, VariantError>
+        ensures { TellsTo result (map type_of (replied self.now)) (replied self.now) };
 
-    /// The reply to a call of this header that is this error: as [`Message::error`] begins it and `build` gives it its body, one
-    /// string. A step is a serial that is looked at.
+    /// The reply to a call of this header that is this error: as [`Message::error`] begins it and `build` gives it its body. A
+    /// step is a serial that is looked at.
     ///
     /// # Errors
     ///
-    /// Those of `build`, exactly where they come there: SerialsSpent where each serial is pending; Variant where the text is
-    /// no body, as where it holds a 0 byte; ExcessData where the message would pass 134,217,728 bytes. Memory for want of
-    /// memory. A refusal draws no serial.
+    /// Those of `build`, exactly where they come there: SerialsSpent where each serial is pending; Variant where the arguments
+    /// are no body, as where a text holds a 0 byte; ExcessData where an array or the message would pass its limit. Memory for
+    /// want of memory. A refusal draws no serial.
     fn create_reply<T: Taken, L: Ledger>(
         &self,
         alloc: Global,
@@ -56,13 +59,13 @@ pub trait DBusError {
         taken: &T,
         steps: &mut Steps<L>,
     ) -> Result<Message>
-        ensures built { BuildsBody (T.is_taken taken.now) (error_draft call.now (named self.now)) (map type_of (one_string (replied self.now))) (one_string (replied self.now)) serials.old serials.new result }
+        ensures built { BuildsBody (T.is_taken taken.now) (error_draft call.now (named self.now)) (map type_of (replied self.now)) (replied self.now) serials.old serials.new result }
         ensures again { IfOk result ReadsAgain }
         ensures cost { steps.new ≤ steps.old + taken_among (T.is_taken taken.now) 4294967295 + 2 }
     {
-        let text = self.reply_text(alloc)?;
+        let reply = self.reply(alloc);
         let name = self.name();
-        Message::error(call, &name).build(alloc, serials, taken, (text,), steps)
+        Message::error(call, &name).build_to(alloc, serials, taken, reply, steps)
     }
 
     /// As `create_reply`, for a caller that counts no steps.
@@ -73,12 +76,12 @@ pub trait DBusError {
         serials: &mut Serials,
         taken: &T,
     ) -> Result<Message>
-        ensures built { BuildsBody (T.is_taken taken.now) (error_draft call.now (named self.now)) (map type_of (one_string (replied self.now))) (one_string (replied self.now)) serials.old serials.new result }
+        ensures built { BuildsBody (T.is_taken taken.now) (error_draft call.now (named self.now)) (map type_of (replied self.now)) (replied self.now) serials.old serials.new result }
         ensures again { IfOk result ReadsAgain }
     {
-        let text = self.reply_text(alloc)?;
+        let reply = self.reply(alloc);
         let name = self.name();
-        Message::error(call, &name).build_uncounted(alloc, serials, taken, (text,))
+        Message::error(call, &name).build_to(alloc, serials, taken, reply, &mut Uncounted)
     }
 }
 
@@ -99,7 +102,7 @@ impl DBusError for fdo::Error {
 
     ghost described = { fdo_description };
 
-    ghost replied = { text_in_reply };
+    ghost replied = { λ error. one_string (reply_text error) };
 
     fn name(&self) -> ErrorName<'_> {
         ErrorName::try_from(name_text(self)).unwrap()
@@ -112,10 +115,11 @@ impl DBusError for fdo::Error {
         }
     }
 
-    fn reply_text(&self, alloc: Global) -> std::result::Result<Text, AllocError> {
-        match self {
-            fdo::Error::ZBus(error) => Ok(Text::from_string(format!(in alloc; "{error}")?)),
-            fdo::Error::Std(error) => error.text.try_clone(alloc),
-        }
+    fn reply(&self, alloc: Global) -> std::result::Result<BodyValues, VariantError> {
+        let text = match self {
+            fdo::Error::ZBus(error) => Text::from_string(format!(in alloc; "{error}")?),
+            fdo::Error::Std(error) => error.text.try_clone(alloc)?,
+        };
+        to(alloc, (text,))
     }
 }

@@ -1,6 +1,6 @@
 //! What is printed of a message.
-ghost use Rattle.std.specs.Prelude.{◌≡◌, ◌≤◌, Some, length, option_map};
-ghost use Rattle.wire_message.specs.Front.{body_bytes, total as total_len};
+ghost use Rattle.std.specs.Prelude.{◌≡◌, Some, option_map};
+ghost use Rattle.wire_message.specs.Front.{body_bytes};
 ghost use Rattle.wire_message.specs.Texts.{kind_text, part_text, name_by, first_string as string_found, begins_with_string, first_argument as argument_found, detail_by, message_line};
 
 use crate::front::header_len;
@@ -50,25 +50,6 @@ fn first_string(order: Endian, bytes: &[u8]) -> Option<&str>
     Some(text)
 }
 
-/// The bytes behind the header of a whole message.
-fn body_of(bytes: &[u8]) -> &[u8]
-    requires head { 16 ≤ length bytes.now }
-    requires whole { length bytes.now ≡ total_len bytes.now }
-    ensures { result.now ≡ body_bytes bytes.now }
-{
-    &bytes[header_len(bytes)..]
-}
-
-impl Shared {
-    /// The body's bytes.
-    fn body_bytes(&self) -> &[u8]
-        ensures { result.now ≡ body_bytes self.now.bytes }
-    {
-        let _parts = &self.parts;
-        body_of(self.bytes.as_slice())
-    }
-}
-
 impl Message {
     /// The member of a call or a signal, the name of an error.
     fn shown_name(&self) -> Option<&str>
@@ -86,7 +67,9 @@ impl Message {
     pub(crate) fn body_bytes(&self) -> &[u8]
         ensures { result.now ≡ body_bytes self.now.bytes }
     {
-        self.shared.body_bytes()
+        let shared: &Shared = &self.shared;
+        let bytes = shared.bytes.as_slice();
+        &bytes[header_len(bytes)..]
     }
 
     /// Whether the signature's first type is a string.

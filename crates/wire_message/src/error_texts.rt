@@ -1,6 +1,6 @@
 //! What is printed of errors.
 ghost use Rattle.std.specs.Prelude.{◌≡◌, Some, option_map};
-ghost use Rattle.wire_message.specs.ErrorTexts.{io_text, names_text, variant_text, quoted, place, error_text, description as description_of};
+ghost use Rattle.wire_message.specs.ErrorTexts.{io_text, names_text, variant_text, place, error_text, description as description_of};
 
 use crate::error::{Error, IoKind};
 use std::fmt;
@@ -51,20 +51,7 @@ fn names_name(kind: NamesError) -> &'static str
     }
 }
 
-/// A text between two backquotes.
-#[derive(Clone, Copy)]
-struct Quoted<'a>(&'a str);
-
-impl<'a> fmt::Display for Quoted<'a> {
-    ghost output = { λ q. Some (quoted q.0.now) };
-
-    #[tactic(auto, unfolding(crate::specs::ErrorTexts::quoted))]
-    fn fmt<W: fmt::Write>(&self, f: &mut fmt::Formatter<W>) -> fmt::Result {
-        write!(f, "`{}`", self.0)
-    }
-}
-
-/// Where an interface stands already.
+/// Where an interface stands already, from the end of its name on.
 #[derive(Clone, Copy)]
 struct Place<'a>(&'a str);
 
@@ -73,7 +60,7 @@ impl<'a> fmt::Display for Place<'a> {
 
     #[tactic(auto, unfolding(crate::specs::ErrorTexts::place))]
     fn fmt<W: fmt::Write>(&self, f: &mut fmt::Formatter<W>) -> fmt::Result {
-        write!(f, " already exists at `{}`", self.0)
+        write!(f, "` already exists at `{}`", self.0)
     }
 }
 
@@ -105,12 +92,11 @@ impl fmt::Display for Error {
             Error::InvalidMatchRule => f.write_str("Invalid match rule string"),
             Error::Failure(text) => f.write_str(text.as_str()),
             Error::MissingParameter(name) => {
-                let name = Quoted(name);
-                write!(f, "Parameter {name} was not specified but it is required")
+                write!(f, "Parameter `{name}` was not specified but it is required")
             }
             Error::InterfaceExists(name, path) => {
-                let (name, place) = (Quoted(name.as_str()), Place(path.as_str()));
-                write!(f, "Interface {name}{place}")
+                let (name, place) = (name.as_str(), Place(path.as_str()));
+                write!(f, "Interface `{name}{place}")
             }
             Error::Memory => f.write_str("Memory"),
             Error::SerialsSpent => f.write_str("SerialsSpent"),

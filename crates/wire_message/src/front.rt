@@ -2,20 +2,19 @@ ghost use Rattle.std.specs.Prelude.{ℕ, ◌≡◌, ◌+◌, ◌<◌, ◌≤◌,
 ghost use Rattle.wire_number.specs.Number.{pad};
 ghost use Rattle.wire_message.specs.Field.{Fields};
 ghost use Rattle.wire_message.specs.Front.{Seen, Front, order_at, word_at, fields_len, header_len as header_length, total as total_len, field_bytes};
-ghost use Rattle.wire_message.specs.Refusal.{Finds, FindsTotal};
 ghost use Rattle.wire_message.specs.Outcome.{kind_of, fields_found, head_fault, front_outcome, message_by, Tells, TellsTotal};
 ghost use Rattle.wire_message.specs.Places.{found_fields, AreSpans};
 ghost use Rattle.wire_message.specs.declared.error.IoKind.TheVariants.{Ended};
 
-use crate::error::Result;
+use crate::error::{Error, IoKind, Result};
 use crate::kind::message_type;
 use crate::message::Message;
 use crate::places::Places;
 use crate::reading::places_in;
-use crate::refusal::Refusal;
 use crate::shared::Parts;
 use std::alloc::Global;
 use wire_number::{Endian, padding_for_8_bytes, read_u32};
+use wire_signature::VariantError;
 
 /// The greatest length of a message in bytes (D-Bus Specification, "Message Format").
 pub(crate) const MESSAGE_LIMIT: usize = 134_217_728;
@@ -44,20 +43,20 @@ pub(crate) fn header_len(bytes: &[u8]) -> usize
 }
 
 /// As `total_of`, of bytes that are at least 16.
-fn head_of(bytes: &[u8]) -> std::result::Result<u32, Refusal>
+fn head_of(bytes: &[u8]) -> Result<u32>
     requires { 16 ≤ length bytes.now }
-    ensures { FindsTotal result bytes.now }
+    ensures { TellsTotal result bytes.now }
 {
     if bytes[0] != b'l' && bytes[0] != b'B' {
-        return Err(Refusal::IncorrectEndian);
+        return Err(Error::IncorrectEndian);
     }
     let order = byte_order(bytes);
     if message_type(bytes[1]).is_none() || bytes[2] > 7 || read_u32(order, bytes, 8) == 0 {
-        return Err(Refusal::Malformed);
+        return Err(Error::Variant(VariantError::Malformed));
     }
     let total = header_len(bytes) + read_u32(order, bytes, 4) as usize;
     if total > MESSAGE_LIMIT {
-        return Err(Refusal::ExcessData);
+        return Err(Error::ExcessData);
     }
     Ok(total as u32)
 }
@@ -68,10 +67,7 @@ fn head_of(bytes: &[u8]) -> std::result::Result<u32, Refusal>
 pub fn total_of(first: &[u8; 16]) -> Result<u32>
     ensures { TellsTotal result first.now }
 {
-    match head_of(first) {
-        Ok(total) => Ok(total),
-        Err(refusal) => Err(refusal.error()),
-    }
+    head_of(first)
 }
 
 /// Where the header fields stand; None where the bytes of the fields are no field array.
@@ -87,18 +83,18 @@ fn places_of(bytes: &[u8]) -> Option<Places>
 }
 
 /// The message on the first bytes, whose head is right and whose total is there.
-fn message_on(alloc: Global, bytes: &[u8], total: usize) -> std::result::Result<Message, Refusal>
+fn message_on(alloc: Global, bytes: &[u8], total: usize) -> Result<Message>
     requires length { 16 ≤ length bytes.now }
     requires right { head_fault bytes.now ≡ None }
     requires there { total ≤ length bytes.now }
     requires whole { total ≡ total_len bytes.now }
-    ensures { Finds (λ m. m) result (message_by bytes.now (kind_of (slice_index bytes.now 1)) (fields_found bytes.now)) }
+    ensures { Tells (λ m. m) result (message_by bytes.now (kind_of (slice_index bytes.now 1)) (fields_found bytes.now)) }
 {
     let Some(kind) = message_type(bytes[1]) else {
-        return Err(Refusal::Malformed);
+        return Err(Error::Variant(VariantError::Malformed));
     };
     let Some(places) = places_of(bytes) else {
-        return Err(Refusal::Malformed);
+        return Err(Error::Variant(VariantError::Malformed));
     };
     let order = byte_order(bytes);
     let parts = Parts {
@@ -113,31 +109,20 @@ fn message_on(alloc: Global, bytes: &[u8], total: usize) -> std::result::Result<
 }
 
 /// The message that stands on the front of the bytes, and its length.
-pub(crate) fn found_at(alloc: Global, bytes: &[u8]) -> std::result::Result<(Message, u32), Refusal>
-    ensures exact { Finds (λ x. x.0) result (front_outcome bytes.now Ended) }
-    ensures length { IfOk result (λ x. x.1 ≡ total_len bytes.now) }
-{
-    if bytes.len() < 16 {
-        return Err(Refusal::Ended);
-    }
-    let total = head_of(bytes)?;
-    let len = total as usize;
-    if bytes.len() < len {
-        return Err(Refusal::Ended);
-    }
-    let message = message_on(alloc, bytes, len)?;
-    Ok((message, total))
-}
-
-/// The same with this crate's error.
 fn front_of(alloc: Global, bytes: &[u8]) -> Result<(Message, u32)>
     ensures exact { Tells (λ x. x.0) result (front_outcome bytes.now Ended) }
     ensures length { IfOk result (λ x. x.1 ≡ total_len bytes.now) }
 {
-    match found_at(alloc, bytes) {
-        Ok(front) => Ok(front),
-        Err(refusal) => Err(refusal.error()),
+    if bytes.len() < 16 {
+        return Err(Error::InputOutput(IoKind::Ended));
     }
+    let total = head_of(bytes)?;
+    let len = total as usize;
+    if bytes.len() < len {
+        return Err(Error::InputOutput(IoKind::Ended));
+    }
+    let message = message_on(alloc, bytes, len)?;
+    Ok((message, total))
 }
 
 /// The message that stands on the front of the bytes, not read yet, and its length (D-Bus Specification, "Message

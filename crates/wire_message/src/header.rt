@@ -22,6 +22,7 @@ use wire_number::Endian;
 
 /// The header of a message (D-Bus Specification, "Message Format", "Header Fields"): the part that each message has, as a copy
 /// that can be changed, and the header fields, whose texts are the message's own bytes.
+#[derive(Drop)]
 pub struct Header<'a> {
     primary: PrimaryHeader,
     shared: &'a Shared,
@@ -34,15 +35,6 @@ impl<'a> Model for Header<'a> {
     ghost Value = { Head };
 
     ghost view = { λ h. record { primary = h.primary; fields = fields_of h.shared.now } };
-}
-
-impl<'a> Drop for Header<'a> {
-    fn drop(self) {
-        let Header {
-            primary: _,
-            shared: _,
-        } = self;
-    }
 }
 
 /// The bytes of a span.
@@ -62,11 +54,7 @@ fn name_at<'a, K: NameKind>(bytes: &'a [u8], span: Option<Span>) -> Option<Name<
     requires valid { IfSome (option_map (span_text bytes.now) span) (λ text. IsTrue (K.is_name text)) }
     ensures { result ≡ option_map (span_text bytes.now) span }
 {
-    let span = span?;
-    match Name::try_from_bytes(&bytes[span.start..span.end]) {
-        Ok(name) => Some(name),
-        Err(_) => None,
-    }
+    Name::try_from_bytes(part(bytes, span)?).ok()
 }
 
 /// The same of a bus name.
@@ -75,11 +63,7 @@ fn bus_name_at(bytes: &[u8], span: Option<Span>) -> Option<BusName<'_>>
     requires valid { IfSome (option_map (span_text bytes.now) span) (λ text. IsBusName text) }
     ensures { result ≡ option_map bus_name_of (option_map (span_text bytes.now) span) }
 {
-    let span = span?;
-    match BusName::try_from_bytes(&bytes[span.start..span.end]) {
-        Ok(name) => Some(name),
-        Err(_) => None,
-    }
+    BusName::try_from_bytes(part(bytes, span)?).ok()
 }
 
 impl Message {
@@ -98,17 +82,8 @@ impl Message {
         ensures text { result.now ≡ body_signature self.now }
         ensures valid { IsTrue (is_some (types_in result.now)) }
     {
-        self.shared.signature_text()
-    }
-}
-
-impl Shared {
-    /// The text of the body's signature; the empty one where the header has none.
-    pub(crate) fn signature_text(&self) -> &[u8]
-        ensures text { result.now ≡ body_signature self.now }
-        ensures valid { IsTrue (is_some (types_in result.now)) }
-    {
-        match part(self.bytes.as_slice(), self.parts.places.signature) {
+        let shared: &Shared = &self.shared;
+        match part(shared.bytes.as_slice(), shared.parts.places.signature) {
             Some(text) => text,
             None => &[],
         }

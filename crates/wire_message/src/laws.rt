@@ -29,6 +29,7 @@ pub fn built_messages_are_read_again()
 
 /// A header's field is a value of type `(yv)`, and fields are such values one behind the other (D-Bus Specification, "Message
 /// Format", "Marshaling (Wire Format)").
+#[tactic(auto, using(crate::proofs::HeaderValue::field_spelled, crate::proofs::HeaderValue::fields_spelled))]
 pub fn fields_are_values()
     ensures one { (order : Endian) (place : ℕ) (field : Field) → IsField field → padding place 8 ++ field_text order field ≡ spelling order place (field_datum field) }
     ensures all { (order : Endian) (place : ℕ) (fields : List Field) → AllByRecursion IsField fields → fields_text order place fields ≡ spellings order place (field_data fields) }
@@ -36,12 +37,14 @@ pub fn fields_are_values()
 
 /// The first 16 bytes of a message and the fields behind them are the spelling of a value of types `yyyyuua(yv)` (D-Bus
 /// Specification, "Message Format").
+#[tactic(auto, using(crate::proofs::HeaderValue::header_is))]
 pub fn headers_are_values()
     ensures { (bytes : List ℕ) (m : Seen) (n : ℕ) → ((i : ℕ) → slice_index bytes i < 256) → Front bytes m n → IsHeader bytes m }
 {}
 
 /// At most one message and one length stand on the front of given bytes, but for the message's position (D-Bus
 /// Specification, "Message Format").
+#[tactic(auto, using(crate::proofs::Grammar::one_message))]
 pub fn one_message()
     ensures { (bytes : List ℕ) (m other : Seen) (n len : ℕ) → Front bytes m n → Front bytes other len → m.position ≡ other.position → (m ≡ other) × (n ≡ len) }
 {}
@@ -56,6 +59,7 @@ pub fn built_bodies_are_read_again<T: FromBody>()
 {}
 
 /// Two errors are equal exactly where they are the same.
+#[tactic(auto, using(crate::proofs::Equal::equal))]
 pub fn equal_errors_are_the_same(error: &Error, other: &Error) -> bool
     ensures { IsTrue result ↔ Same error.now other.now }
 {

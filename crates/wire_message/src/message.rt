@@ -64,42 +64,42 @@ impl Message {
     pub fn fds(&self) -> &[u32]
         ensures { result.now ≡ self.now.fds }
     {
-        self.shared.fds()
+        self.shared.fds.as_slice()
     }
 
     /// The message's bytes, header and body.
     pub fn data(&self) -> &[u8]
         ensures { result.now ≡ self.now.bytes }
     {
-        self.shared.data()
+        self.shared.bytes.as_slice()
     }
 
     /// What the message is.
     pub fn message_type(&self) -> MessageType
         ensures { result ≡ self.now.kind }
     {
-        self.shared.kind()
+        self.shared.parts.kind
     }
 
     /// The byte order of the message's numbers.
     pub(crate) fn order(&self) -> Endian
         ensures { result ≡ self.now.order }
     {
-        self.shared.order()
+        self.shared.parts.order
     }
 
     /// The message's serial.
     pub fn serial_num(&self) -> u32
         ensures { result ≡ self.now.serial }
     {
-        self.shared.serial()
+        self.shared.parts.serial
     }
 
     /// The serial of the call that the message answers.
     pub fn reply_serial(&self) -> Option<u32>
         ensures { result ≡ self.now.reply_serial }
     {
-        self.shared.reply_serial()
+        self.shared.parts.places.reply_serial
     }
 
     /// The position among the messages that the peer read, from 1 on; 0 where the message wasn't read.

@@ -10,7 +10,7 @@ use std::marker::Model;
 use wire_number::read_u32;
 
 /// The part of a header that each message has (D-Bus Specification, "Message Format").
-#[derive(Debug)]
+#[derive(Debug, Drop)]
 pub struct PrimaryHeader {
     endian_sig: EndianSig,
     msg_type: MessageType,
@@ -29,19 +29,6 @@ impl Model for PrimaryHeader {
     ghost view = { λ p. record { endian_sig = p.endian_sig; msg_type = p.msg_type; flags = p.flags.0; protocol_version = p.protocol_version; body_len = p.body_len; serial_num = p.serial_num } };
 
     ghost invariant = { λ p. 0 < p.serial_num };
-}
-
-impl Drop for PrimaryHeader {
-    fn drop(self) {
-        let PrimaryHeader {
-            endian_sig: _,
-            msg_type: _,
-            flags: _,
-            protocol_version: _,
-            body_len: _,
-            serial_num: _,
-        } = self;
-    }
 }
 
 impl PrimaryHeader {
@@ -142,22 +129,16 @@ impl Message {
     pub fn primary_header(&self) -> PrimaryHeader
         ensures { result ≡ primary_of self.now }
     {
-        self.shared.primary_header()
-    }
-}
-
-impl Shared {
-    fn primary_header(&self) -> PrimaryHeader
-        ensures { result ≡ primary_of self.now }
-    {
-        let bytes = self.data();
+        let shared: &Shared = &self.shared;
+        let parts = &shared.parts;
+        let bytes = shared.bytes.as_slice();
         PrimaryHeader {
-            endian_sig: EndianSig::from(self.parts.order),
-            msg_type: self.parts.kind,
-            flags: Flags(self.parts.flags),
+            endian_sig: EndianSig::from(parts.order),
+            msg_type: parts.kind,
+            flags: Flags(parts.flags),
             protocol_version: bytes[3],
-            body_len: read_u32(self.parts.order, bytes, 4),
-            serial_num: self.parts.serial,
+            body_len: read_u32(parts.order, bytes, 4),
+            serial_num: parts.serial,
         }
     }
 }

@@ -1,50 +1,34 @@
 //! Reading a field array, from left to right (D-Bus Specification, "Header Fields").
 ghost use Rattle.std.specs.Prelude.{◌≡◌, ◌≤◌, ◌-◌, length, option_map, IfSome};
-ghost use Rattle.std.specs.Int.{w8, w32};
 ghost use Rattle.wire_number.specs.ReaderView.{Finds, cursor_of};
 ghost use Rattle.wire_message.specs.Field.{is_value as has_value};
 ghost use Rattle.wire_message.specs.Held.{value_of};
 ghost use Rattle.wire_message.specs.Places.{area, found_fields, AreSpans};
-ghost use Rattle.wire_message.specs.Reading.{field_at as field_found, fields_in, number_value, text_value, value_at as value_found};
+ghost use Rattle.wire_message.specs.Reading.{field_at as field_found, fields_in, value_at as value_found};
 
 use crate::field::{FieldCode, code_at, is_number, is_text};
 use crate::places::{Held, Places};
 use wire_number::{Endian, Reader};
 use wire_signature::BasicType;
 
-/// A signature.
-fn signature<'a>(order: Endian, reader: Reader<'a>) -> Option<(Held<'a>, Reader<'a>)>
-    ensures { Finds (λ x. (value_of x.0, cursor_of x.1)) result (text_value w8 order (cursor_of reader.entry)) }
-{
-    let (text, after) = reader.short_text(order)?;
-    Some((Held::Text(text), after))
-}
-
-/// Another text.
-fn text<'a>(order: Endian, reader: Reader<'a>) -> Option<(Held<'a>, Reader<'a>)>
-    ensures { Finds (λ x. (value_of x.0, cursor_of x.1)) result (text_value w32 order (cursor_of reader.entry)) }
-{
-    let (text, after) = reader.long_text(order)?;
-    Some((Held::Text(text), after))
-}
-
-/// A number of four bytes.
-fn number<'a>(order: Endian, reader: Reader<'a>) -> Option<(Held<'a>, Reader<'a>)>
-    ensures { Finds (λ x. (value_of x.0, cursor_of x.1)) result (number_value order (cursor_of reader.entry)) }
-{
-    let (number, after) = reader.align(4)?.u32(order)?;
-    Some((Held::Number(number), after))
-}
-
-/// A value of the type.
+/// A value of the type. It stands behind four bytes at a multiple of 8, so that a number needs no padding.
 #[tactic(auto, unfolding(crate::specs::Reading::value_at))]
 fn value<'a>(order: Endian, kind: BasicType, reader: Reader<'a>) -> Option<(Held<'a>, Reader<'a>)>
     ensures { Finds (λ x. (value_of x.0, cursor_of x.1)) result (value_found order kind (cursor_of reader.entry)) }
 {
     match kind {
-        BasicType::Signature => signature(order, reader),
-        BasicType::Uint32 => number(order, reader),
-        _ => text(order, reader),
+        BasicType::Signature => {
+            let (text, after) = reader.short_text(order)?;
+            Some((Held::Text(text), after))
+        }
+        BasicType::Uint32 => {
+            let (number, after) = reader.u32(order)?;
+            Some((Held::Number(number), after))
+        }
+        _ => {
+            let (text, after) = reader.long_text(order)?;
+            Some((Held::Text(text), after))
+        }
     }
 }
 

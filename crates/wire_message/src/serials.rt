@@ -2,9 +2,9 @@ ghost use Rattle.std.specs.Prelude.{ℕ, ◌≡◌, ◌+◌, ◌<◌, ◌≤◌,
 ghost use Rattle.wire_message.specs.Circle.{Draws, IsNext, AllTaken, taken_among};
 
 use crate::error::{Error, Result};
-use crate::steps::Steps;
-use std::marker::{Brand, Model};
-use std::sync::ledger::{Blank, Ledger};
+use crate::steps::{Counts, Steps, Uncounted};
+use std::marker::Model;
+use std::sync::ledger::Ledger;
 
 /// Which serials are pending, so that none of them is drawn.
 pub trait Taken {
@@ -84,6 +84,20 @@ impl Serials {
         ensures drawn { Draws (T.is_taken taken.now) self.old self.new result }
         ensures cost { steps.new ≤ steps.old + taken_among (T.is_taken taken.now) 4294967295 + 2 }
     {
+        self.draw(taken, steps)
+    }
+
+    /// As `next`, for a caller that counts no steps.
+    pub fn next_uncounted<T: Taken>(&mut self, taken: &T) -> Result<u32>
+        ensures { Draws (T.is_taken taken.now) self.old self.new result }
+    {
+        self.draw(taken, &mut Uncounted)
+    }
+
+    pub(crate) fn draw<T: Taken, S: Counts>(&mut self, taken: &T, steps: &mut S) -> Result<u32>
+        ensures drawn { Draws (T.is_taken taken.now) self.old self.new result }
+        ensures cost { S.counted steps.new ≤ S.counted steps.old + taken_among (T.is_taken taken.now) 4294967295 + 2 }
+    {
         match next_after(self.last, taken, steps) {
             Some(serial) => {
                 self.last = serial;
@@ -91,23 +105,6 @@ impl Serials {
             }
             None => Err(Error::SerialsSpent),
         }
-    }
-
-    fn next_counted<T: Taken, L: Ledger>(&mut self, taken: &T, blank: Blank) -> Result<u32>
-        requires name { blank.name ≡ L.name }
-        requires parts { blank.parts ≡ L.parts }
-        requires some { 0 < blank.parts }
-        ensures { Draws (T.is_taken taken.now) self.old self.new result }
-    {
-        let mut steps = Steps::<L>::start(blank);
-        self.next(taken, &mut steps)
-    }
-
-    /// As `next`, for a caller that counts no steps.
-    pub fn next_uncounted<T: Taken>(&mut self, taken: &T) -> Result<u32>
-        ensures { Draws (T.is_taken taken.now) self.old self.new result }
-    {
-        self.next_counted::<T, Brand>(taken, Blank::new(1))
     }
 }
 
@@ -120,14 +117,14 @@ fn after(serial: u32) -> u32
 
 /// The first serial after the last one drawn that isn't pending.
 #[tactic(auto, using(crate::proofs::Circle::round))]
-fn next_after<T: Taken, L: Ledger>(last: u32, taken: &T, steps: &mut Steps<L>) -> Option<u32>
+fn next_after<T: Taken, S: Counts>(last: u32, taken: &T, steps: &mut S) -> Option<u32>
     ensures next { IfSome result (IsNext (T.is_taken taken.now) last) }
     ensures none { IfNone result (AllTaken (T.is_taken taken.now)) }
-    ensures cost { steps.new ≤ steps.old + taken_among (T.is_taken taken.now) 4294967295 + 2 }
+    ensures cost { S.counted steps.new ≤ S.counted steps.old + taken_among (T.is_taken taken.now) 4294967295 + 2 }
 {
     let mut candidate = last;
     for _ in 0..u32::MAX {
-        steps.tick();
+        steps.count();
         candidate = after(candidate);
         if !taken.taken(candidate) {
             return Some(candidate);

@@ -1,6 +1,4 @@
 //! What a message and its clones share.
-ghost use Rattle.std.specs.Prelude.{◌≡◌};
-
 use crate::kind::MessageType;
 use crate::places::Places;
 use std::marker::Model;
@@ -41,43 +39,5 @@ impl Drop for Shared {
             parts: _,
             fds: _,
         } = self;
-    }
-}
-
-impl Shared {
-    pub(crate) fn data(&self) -> &[u8]
-        ensures { result.now ≡ self.now.bytes }
-    {
-        self.bytes.as_slice()
-    }
-
-    pub(crate) fn fds(&self) -> &[u32]
-        ensures { result.now ≡ self.now.fds }
-    {
-        self.fds.as_slice()
-    }
-
-    pub(crate) fn kind(&self) -> MessageType
-        ensures { result ≡ self.now.kind }
-    {
-        self.parts.kind
-    }
-
-    pub(crate) fn order(&self) -> Endian
-        ensures { result ≡ self.now.order }
-    {
-        self.parts.order
-    }
-
-    pub(crate) fn serial(&self) -> u32
-        ensures { result ≡ self.now.serial }
-    {
-        self.parts.serial
-    }
-
-    pub(crate) fn reply_serial(&self) -> Option<u32>
-        ensures { result ≡ self.now.reply_serial }
-    {
-        self.parts.places.reply_serial
     }
 }

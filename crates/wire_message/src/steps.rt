@@ -1,4 +1,4 @@
-ghost use Rattle.std.specs.Prelude.{◌≡◌, ◌+◌, ◌<◌, ℕ};
+ghost use Rattle.std.specs.Prelude.{◌≡◌, ◌+◌, ◌<◌, ◌≤◌, ℕ};
 
 use std::marker::Model;
 use std::sync::ledger::{Blank, Book, Ledger, Share};
@@ -38,4 +38,31 @@ impl<L: Ledger> Steps<L> {
     {
         self.book.add(&mut self.share, 1);
     }
+}
+
+/// What may count steps.
+pub(crate) trait Counts {
+    ghost counted: { Self → ℕ };
+
+    /// One step more.
+    fn count(&mut self)
+        ensures { counted self.new ≤ counted self.old + 1 };
+}
+
+impl<L: Ledger> Counts for Steps<L> {
+    ghost counted = { λ n. n };
+
+    fn count(&mut self) {
+        self.tick();
+    }
+}
+
+/// For a caller that counts no steps.
+#[derive(Clone, Copy)]
+pub(crate) struct Uncounted;
+
+impl Counts for Uncounted {
+    ghost counted = { λ _. 0 };
+
+    fn count(&mut self) {}
 }

@@ -1,42 +1,30 @@
 ghost use Rattle.std.specs.Prelude.{◌≡◌, ℕ, IfOk, Ok, length};
 ghost use Rattle.wire_message.specs.Front.{Front, Seen, order_code};
-ghost use Rattle.wire_message.specs.Refusal.{Finds};
 ghost use Rattle.wire_message.specs.Outcome.{Tells};
 ghost use Rattle.wire_message.specs.Whole.{whole_outcome};
 
 use crate::builder::order_byte;
-use crate::error::Result;
-use crate::front::found_at;
+use crate::error::{Error, IoKind, Result};
+use crate::front::header_front;
 use crate::message::Message;
-use crate::refusal::Refusal;
 use std::alloc::Global;
 use wire_number::Endian;
 
 /// The message that the bytes are.
-fn found_in(alloc: Global, bytes: &[u8], order: Endian) -> std::result::Result<Message, Refusal>
-    ensures { Finds (λ m. m) result (whole_outcome order bytes.now) }
-{
-    if bytes.len() < 16 {
-        return Err(Refusal::Ended);
-    }
-    if bytes[0] != order_byte(order) {
-        return Err(Refusal::IncorrectEndian);
-    }
-    let (message, _) = found_at(alloc, bytes)?;
-    if message.data().len() == bytes.len() {
-        Ok(message)
-    } else {
-        Err(Refusal::ExcessData)
-    }
-}
-
-/// The same with this crate's error.
 fn whole_of(alloc: Global, bytes: &[u8], order: Endian) -> Result<Message>
     ensures { Tells (λ m. m) result (whole_outcome order bytes.now) }
 {
-    match found_in(alloc, bytes, order) {
-        Ok(message) => Ok(message),
-        Err(refusal) => Err(refusal.error()),
+    if bytes.len() < 16 {
+        return Err(Error::InputOutput(IoKind::Ended));
+    }
+    if bytes[0] != order_byte(order) {
+        return Err(Error::IncorrectEndian);
+    }
+    let (message, _) = header_front(alloc, bytes)?;
+    if message.data().len() == bytes.len() {
+        Ok(message)
+    } else {
+        Err(Error::ExcessData)
     }
 }
 

@@ -1,21 +1,21 @@
-//! The grammars as tests of bytes.
+//! What the grammars are made of, as tests of bytes.
 ghost use Rattle.std.specs.Prelude.{◌≡◌, nat_le, length, ◌==◌};
 ghost use Rattle.std.specs.List.{list_all};
-ghost use Rattle.wire_names.specs.Names.{elements, begins_with_digit, is_element_byte, is_element, is_connection, is_dotted, is_unique_name, is_well_known_name, is_interface_name, is_error_name, is_member_name, is_object_path};
+ghost use Rattle.wire_names.specs.Names.{elements, begins_with_digit, is_element_byte, is_element, is_connection, is_dotted};
 
 /// The most bytes that a name may have.
-const LONGEST_NAME: usize = 255;
+pub(crate) const LONGEST_NAME: usize = 255;
 
-const BUS: &[u8] = b"org.freedesktop.DBus";
+pub(crate) const BUS: &[u8] = b"org.freedesktop.DBus";
 
 /// What an element may have besides letters, `_`, and digits behind its first byte.
 #[derive(Clone, Copy)]
-struct Element {
+pub(crate) struct Element {
     hyphen: bool,
     leading_digit: bool,
 }
 
-const IN_PATH: Element = Element {
+pub(crate) const IN_PATH: Element = Element {
     hyphen: false,
     leading_digit: true,
 };
@@ -25,12 +25,12 @@ const IN_UNIQUE_NAME: Element = Element {
     leading_digit: true,
 };
 
-const IN_INTERFACE_NAME: Element = Element {
+pub(crate) const IN_INTERFACE_NAME: Element = Element {
     hyphen: false,
     leading_digit: false,
 };
 
-const IN_WELL_KNOWN_NAME: Element = Element {
+pub(crate) const IN_WELL_KNOWN_NAME: Element = Element {
     hyphen: true,
     leading_digit: false,
 };
@@ -57,7 +57,7 @@ fn has_element_bytes(element: &[u8], hyphen: bool) -> bool
 }
 
 #[tactic(auto, unfolding(crate::specs::Names::is_element))]
-fn is_element(element: &[u8], kind: Element) -> bool
+pub(crate) fn is_element(element: &[u8], kind: Element) -> bool
     ensures { result ≡ is_element kind.hyphen kind.leading_digit element.now }
 {
     !element.is_empty()
@@ -65,7 +65,7 @@ fn is_element(element: &[u8], kind: Element) -> bool
         && (kind.leading_digit || !begins_with_digit(element))
 }
 
-fn each_is_element(text: &[u8], separator: u8, kind: Element) -> bool
+pub(crate) fn each_is_element(text: &[u8], separator: u8, kind: Element) -> bool
     ensures { result ≡ list_all (is_element kind.hyphen kind.leading_digit) (elements separator text.now) }
 {
     text.split(|byte| *byte == separator)
@@ -79,63 +79,18 @@ fn has_dot(text: &[u8]) -> bool
 }
 
 #[tactic(auto, unfolding(crate::specs::Names::is_dotted))]
-fn is_dotted(text: &[u8], kind: Element) -> bool
+pub(crate) fn is_dotted(text: &[u8], kind: Element) -> bool
     ensures { result ≡ is_dotted (is_element kind.hyphen kind.leading_digit) text.now }
 {
     has_dot(text) && each_is_element(text, b'.', kind)
 }
 
 #[tactic(auto, unfolding(crate::specs::Names::is_connection))]
-fn is_connection(text: &[u8]) -> bool
+pub(crate) fn is_connection(text: &[u8]) -> bool
     ensures { result ≡ is_connection text.now }
 {
     match text {
         [b':', rest @ ..] => is_dotted(rest, IN_UNIQUE_NAME),
-        _ => false,
-    }
-}
-
-#[tactic(auto, unfolding(crate::specs::Names::is_unique_name))]
-pub(crate) fn is_unique_name(text: &[u8]) -> bool
-    ensures { result ≡ is_unique_name text.now }
-{
-    text.len() <= LONGEST_NAME && (text == BUS || is_connection(text))
-}
-
-#[tactic(auto, unfolding(crate::specs::Names::is_well_known_name))]
-pub(crate) fn is_well_known_name(text: &[u8]) -> bool
-    ensures { result ≡ is_well_known_name text.now }
-{
-    text.len() <= LONGEST_NAME && is_dotted(text, IN_WELL_KNOWN_NAME)
-}
-
-#[tactic(auto, unfolding(crate::specs::Names::is_interface_name))]
-pub(crate) fn is_interface_name(text: &[u8]) -> bool
-    ensures { result ≡ is_interface_name text.now }
-{
-    text.len() <= LONGEST_NAME && is_dotted(text, IN_INTERFACE_NAME)
-}
-
-#[tactic(auto, unfolding(crate::specs::Names::is_error_name))]
-pub(crate) fn is_error_name(text: &[u8]) -> bool
-    ensures { result ≡ is_error_name text.now }
-{
-    is_interface_name(text)
-}
-
-#[tactic(auto, unfolding(crate::specs::Names::is_member_name))]
-pub(crate) fn is_member_name(text: &[u8]) -> bool
-    ensures { result ≡ is_member_name text.now }
-{
-    text.len() <= LONGEST_NAME && is_element(text, IN_INTERFACE_NAME)
-}
-
-#[tactic(auto, unfolding(crate::specs::Names::is_object_path))]
-pub(crate) fn is_object_path(text: &[u8]) -> bool
-    ensures { result ≡ is_object_path text.now }
-{
-    match text {
-        [b'/', rest @ ..] => rest.is_empty() || each_is_element(rest, b'/', IN_PATH),
         _ => false,
     }
 }

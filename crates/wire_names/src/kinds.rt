@@ -4,7 +4,10 @@ ghost use Rattle.wire_names.specs.Ascii.{error_is_utf8, interface_is_utf8, membe
 ghost use Rattle.wire_names.specs.Names.{is_error_name, is_interface_name, is_member_name, is_object_path, is_unique_name, is_well_known_name};
 
 use crate::error::NamesError;
-use crate::grammar;
+use crate::grammar::{
+    BUS, IN_INTERFACE_NAME, IN_PATH, IN_WELL_KNOWN_NAME, LONGEST_NAME, each_is_element,
+    is_connection, is_dotted, is_element,
+};
 use crate::name::{Name, NameKind, OwnedName};
 
 /// The unique name of a connection, as `:1.42`, or that of the bus itself, `org.freedesktop.DBus` (D-Bus
@@ -25,8 +28,9 @@ impl NameKind for Unique {
 
     ghost is_text = { unique_is_utf8 };
 
+    #[tactic(auto, unfolding(crate::specs::Names::is_unique_name))]
     fn is_name(text: &[u8]) -> bool {
-        grammar::is_unique_name(text)
+        text.len() <= LONGEST_NAME && (text == BUS || is_connection(text))
     }
 
     fn refusal() -> NamesError {
@@ -52,8 +56,9 @@ impl NameKind for WellKnown {
 
     ghost is_text = { well_known_is_utf8 };
 
+    #[tactic(auto, unfolding(crate::specs::Names::is_well_known_name))]
     fn is_name(text: &[u8]) -> bool {
-        grammar::is_well_known_name(text)
+        text.len() <= LONGEST_NAME && is_dotted(text, IN_WELL_KNOWN_NAME)
     }
 
     fn refusal() -> NamesError {
@@ -79,8 +84,9 @@ impl NameKind for Interface {
 
     ghost is_text = { interface_is_utf8 };
 
+    #[tactic(auto, unfolding(crate::specs::Names::is_interface_name))]
     fn is_name(text: &[u8]) -> bool {
-        grammar::is_interface_name(text)
+        text.len() <= LONGEST_NAME && is_dotted(text, IN_INTERFACE_NAME)
     }
 
     fn refusal() -> NamesError {
@@ -106,8 +112,9 @@ impl NameKind for Member {
 
     ghost is_text = { member_is_utf8 };
 
+    #[tactic(auto, unfolding(crate::specs::Names::is_member_name))]
     fn is_name(text: &[u8]) -> bool {
-        grammar::is_member_name(text)
+        text.len() <= LONGEST_NAME && is_element(text, IN_INTERFACE_NAME)
     }
 
     fn refusal() -> NamesError {
@@ -133,8 +140,9 @@ impl NameKind for Error {
 
     ghost is_text = { error_is_utf8 };
 
+    #[tactic(auto, unfolding(crate::specs::Names::is_error_name))]
     fn is_name(text: &[u8]) -> bool {
-        grammar::is_error_name(text)
+        Interface::is_name(text)
     }
 
     fn refusal() -> NamesError {
@@ -160,8 +168,12 @@ impl NameKind for Path {
 
     ghost is_text = { path_is_utf8 };
 
+    #[tactic(auto, unfolding(crate::specs::Names::is_object_path))]
     fn is_name(text: &[u8]) -> bool {
-        grammar::is_object_path(text)
+        match text {
+            [b'/', rest @ ..] => rest.is_empty() || each_is_element(rest, b'/', IN_PATH),
+            _ => false,
+        }
     }
 
     fn refusal() -> NamesError {

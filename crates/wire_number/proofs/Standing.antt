@@ -13,11 +13,8 @@ all_bytes (x ∷ xs) h = (h 0 x (omega arith), all_bytes xs (λ k d l. h (suc k)
 
 -- the widths of at most eight bytes, and the numbers that they have
 is_short : (w : Width) → byte_len w ≤ 8 → IsShort w × (limit w ≡ 256 ^ byte_len w)
-is_short w8 h = (tt, refl)
-is_short w16 h = (tt, refl)
-is_short w32 h = (tt, refl)
-is_short w64 h = (tt, refl)
 is_short w128 h = absurd (omega arith)
+is_short w h = (tt, refl)
 
 stands : (text : List ℕ) (c after : Cursor) → Reads c text after → Stands text c after
 stands text c after r = (r.text_is, r.place_is)

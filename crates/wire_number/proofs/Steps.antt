@@ -148,11 +148,8 @@ align_again boundary p rest = zeros_again (pad p boundary) p rest
 
 -- the widths that numbers of D-Bus have
 abbrev pub IsShort : Width → Type 0
-IsShort w8 = Unit {0}
-IsShort w16 = Unit {0}
-IsShort w32 = Unit {0}
-IsShort w64 = Unit {0}
 IsShort w128 = ⊥
+IsShort w = Unit {0}
 
 one_byte : (bs : List ℕ) → length bs ≡ 1 → AreBytes bs → (order : Endian) → number_text w8 order (number w8 order bs) ≡ bs
 one_byte [] e h order = absurd (omega arith)
@@ -191,31 +188,18 @@ number_of_text w128 order n h = absurd (omega arith)
 
 pub length-number_text : (w : Width) (order : Endian) (n : ℕ) → length (number_text w order n) ≡ byte_len w
 length-number_text w8 Little n = refl
+length-number_text w Little n = refl
 length-number_text w8 Big n = refl
-length-number_text w16 Little n = refl
-length-number_text w16 Big n = refl
-length-number_text w32 Little n = refl
-length-number_text w32 Big n = refl
-length-number_text w64 Little n = refl
-length-number_text w64 Big n = refl
-length-number_text w128 Little n = refl
-length-number_text w128 Big n = refl
-
-below_256 : (bs : List ℕ) → AreBytes bs → (order : Endian) → number w8 order bs < 256
-below_256 bs h Little = byte_in bs h 0
-below_256 bs h Big = byte_in bs h 0
+length-number_text w Big n = refl
 
 number_below : (w : Width) (order : Endian) (bs : List ℕ) → IsShort w → AreBytes bs → number w order bs < limit w
-number_below w8 order bs s h = below_256 bs h order
-number_below w16 Little bs s h = omega (arith, byte_in bs h 0, byte_in bs h 1)
-number_below w16 Big bs s h = omega (arith, byte_in bs h 0, byte_in bs h 1)
-number_below w32 Little bs s h = omega (arith, byte_in bs h 0, byte_in bs h 1, byte_in bs h 2, byte_in bs h 3)
-number_below w32 Big bs s h = omega (arith, byte_in bs h 0, byte_in bs h 1, byte_in bs h 2, byte_in bs h 3)
-number_below w64 Little bs s h =
-    omega (arith, byte_in bs h 0, byte_in bs h 1, byte_in bs h 2, byte_in bs h 3, byte_in bs h 4, byte_in bs h 5, byte_in bs h 6, byte_in bs h 7)
-number_below w64 Big bs s h =
-    omega (arith, byte_in bs h 0, byte_in bs h 1, byte_in bs h 2, byte_in bs h 3, byte_in bs h 4, byte_in bs h 5, byte_in bs h 6, byte_in bs h 7)
 number_below w128 order bs s h = absurd s
+number_below w8 Little bs s h = byte_in bs h 0
+number_below w8 Big bs s h = byte_in bs h 0
+number_below w Little bs s h =
+    omega (arith, byte_in bs h 0, byte_in bs h 1, byte_in bs h 2, byte_in bs h 3, byte_in bs h 4, byte_in bs h 5, byte_in bs h 6, byte_in bs h 7)
+number_below w Big bs s h =
+    omega (arith, byte_in bs h 0, byte_in bs h 1, byte_in bs h 2, byte_in bs h 3, byte_in bs h 4, byte_in bs h 5, byte_in bs h 6, byte_in bs h 7)
 
 -- a number of the width that stands there
 pub record IsNumber (w : Width) (order : Endian) (c : Cursor) (y : ℕ × Cursor) : Type 0 where

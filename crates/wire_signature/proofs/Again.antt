@@ -21,60 +21,25 @@ list_of-shapes_of (t ∷ ts) = ap (λ us. t ∷ us) (list_of-shapes_of ts)
 -- a basic type's letter is no other mark
 no_bracket : (b : BasicType) (rest : List ℕ) → (past 41 (letter b ∷ rest) ≡ None) × (past 123 (letter b ∷ rest) ≡ None)
 no_bracket Byte rest = (refl, refl)
-no_bracket Boolean rest = (refl, refl)
-no_bracket Int16 rest = (refl, refl)
-no_bracket Uint16 rest = (refl, refl)
-no_bracket Int32 rest = (refl, refl)
-no_bracket Uint32 rest = (refl, refl)
-no_bracket Int64 rest = (refl, refl)
-no_bracket Uint64 rest = (refl, refl)
-no_bracket Double rest = (refl, refl)
-no_bracket String rest = (refl, refl)
-no_bracket ObjectPath rest = (refl, refl)
-no_bracket Signature rest = (refl, refl)
-no_bracket UnixFd rest = (refl, refl)
+no_bracket b rest = (refl, refl)
 
 -- no type begins with the bracket that opens a dict entry, nor with the one that closes a struct
 no_entry : (t : Shape) (rest : List ℕ) → past 123 (type_text t ++ rest) ≡ None
 no_entry (basic b) rest = (no_bracket b rest).1
-no_entry variant rest = refl
-no_entry (array t) rest = refl
-no_entry (dict k v) rest = refl
-no_entry (struct ts) rest = refl
+no_entry t rest = refl
 
 no_end : (until : End) (t : Shape) (rest : List ℕ) → behind until (type_text t ++ rest) ≡ None
 no_end ends.Bracket (basic b) rest = (no_bracket b rest).0
-no_end ends.Bracket variant rest = refl
-no_end ends.Bracket (array t) rest = refl
-no_end ends.Bracket (dict k v) rest = refl
-no_end ends.Bracket (struct ts) rest = refl
 no_end ends.Text (basic b) rest = refl
-no_end ends.Text variant rest = refl
-no_end ends.Text (array t) rest = refl
-no_end ends.Text (dict k v) rest = refl
-no_end ends.Text (struct ts) rest = refl
+no_end until t rest = refl
 
 some_text : (t : Shape) → 0 < length (type_text t)
 some_text (basic b) = omega arith
-some_text variant = omega arith
-some_text (array t) = omega arith
-some_text (dict k v) = omega arith
-some_text (struct ts) = omega arith
+some_text t = omega arith
 
 basic_again : (read : ℕ → ℕ → List ℕ → Found Shape) (a s : ℕ) (b : BasicType) (rest : List ℕ) → type_step read a s (letter b ∷ rest) ≡ Some (basic b, rest)
 basic_again read a s Byte rest = refl
-basic_again read a s Boolean rest = refl
-basic_again read a s Int16 rest = refl
-basic_again read a s Uint16 rest = refl
-basic_again read a s Int32 rest = refl
-basic_again read a s Uint32 rest = refl
-basic_again read a s Int64 rest = refl
-basic_again read a s Uint64 rest = refl
-basic_again read a s Double rest = refl
-basic_again read a s String rest = refl
-basic_again read a s ObjectPath rest = refl
-basic_again read a s Signature rest = refl
-basic_again read a s UnixFd rest = refl
+basic_again read a s b rest = refl
 
 if_true : {A : Type 0} (b : Bool) (x y : A) → b ≡ true → (if b then x else y) ≡ x
 if_true b x y e = ap (λ b. if b then x else y) e

@@ -8,18 +8,7 @@ use Rattle.wire_signature.specs.Shape.{Shape, basic, variant, array, dict, struc
 
 letter_low : (b : BasicType) → letter b < 128
 letter_low basics.Byte = omega arith
-letter_low basics.Boolean = omega arith
-letter_low basics.Int16 = omega arith
-letter_low basics.Uint16 = omega arith
-letter_low basics.Int32 = omega arith
-letter_low basics.Uint32 = omega arith
-letter_low basics.Int64 = omega arith
-letter_low basics.Uint64 = omega arith
-letter_low basics.Double = omega arith
-letter_low basics.String = omega arith
-letter_low basics.ObjectPath = omega arith
-letter_low basics.Signature = omega arith
-letter_low basics.UnixFd = omega arith
+letter_low b = omega arith
 
 one : (b : ℕ) → b < 128 → IsAscii (b ∷ [])
 one b h = IsAscii-cons b [] h IsAscii-nil

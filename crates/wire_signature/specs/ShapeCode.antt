@@ -8,18 +8,7 @@ use Rattle.wire_signature.specs.Shape.{Shape, basic, variant, array, dict, struc
 
 pub basic_of-letter : (b : BasicType) → basic_of (letter b) ≡ Some b
 basic_of-letter Byte = refl
-basic_of-letter Boolean = refl
-basic_of-letter Int16 = refl
-basic_of-letter Uint16 = refl
-basic_of-letter Int32 = refl
-basic_of-letter Uint32 = refl
-basic_of-letter Int64 = refl
-basic_of-letter Uint64 = refl
-basic_of-letter Double = refl
-basic_of-letter String = refl
-basic_of-letter ObjectPath = refl
-basic_of-letter Signature = refl
-basic_of-letter UnixFd = refl
+basic_of-letter b = refl
 
 -- the basic type of a code; of other numbers nothing is said
 abbrev pub basic_at : ℕ → BasicType

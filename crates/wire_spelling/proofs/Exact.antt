@@ -1,5 +1,5 @@
 -- What stands at the front of bytes, in the standard's words.
-use Rattle.std.proofs.Common.{◌≡◌, ℕ, ◌+◌, ◌-◌, ◌%◌, ◌<◌, ◌≤◌, List, [], ◌∷◌, ◌++◌, length, take, Some, None, refl, sym, ◌∙◌, ap, subst, arith, append-nil, length-append}
+use Rattle.std.proofs.Common.{◌≡◌, ℕ, ◌+◌, ◌-◌, ◌%◌, ◌<◌, ◌≤◌, List, [], ◌++◌, length, take, Some, None, refl, sym, ◌∙◌, ap, subst, arith, append-nil, length-append}
 use Rattle.std.proofs.lemmas.List.{take_at}
 use Rattle.std.proofs.Math.Nat.{mod-mod}
 use Rattle.wire_number.specs.declared.endian.Endian.{Endian}
@@ -14,7 +14,7 @@ use Rattle.wire_spelling.specs.Reading.{value_at}
 use Rattle.wire_spelling.specs.Walking.{value, AreShallow, Walks}
 use Rattle.wire_spelling.specs.Promises.{SpellNothing, SpellOnlyThe, StandsFirst, Explains}
 use Rattle.wire_spelling.specs.ReaderView.{Refuses}
-use Rattle.wire_spelling.proofs.Walks.{left_none, left_some}
+use Rattle.wire_spelling.proofs.Walks.{left_none, left_some, type_shallow}
 use Rattle.wire_number.proofs.Steps.{at, AreBytes, some_is}
 use Rattle.wire_spelling.proofs.FoundValues.{IsValue, value_takes}
 use Rattle.wire_spelling.proofs.ReadAgain.{value_again}
@@ -50,12 +50,12 @@ same_spelling order p t d bytes others s k = s.text ∙ sym k.text
 
 -- two spellings at the fronts of the same bytes are one, of one value
 pub same_front : (order : Endian) (p : ℕ) (t : Shape) (d e : Datum) (a b x y : List ℕ) → Spells order p t d a → Spells order p t e b → a ++ x ≡ b ++ y
-    → (a ≡ b) × (d ≡ e)
+    → (a ≡ b) × (d ≡ e) × (x ≡ y)
 same_front order p t d e a b x y s k same =
     let both : (d, at (p + length a) x) ≡ (e, at (p + length b) y) =
     some_is _ _ (sym (value_only order p t d a x s) ∙ ap (λ r. value_at 64 order t (at p r)) same ∙ value_only order p t e b y k) in
     let one : d ≡ e = ap (λ z. z.0) both in
-    (s.text ∙ ap (spelling order p) one ∙ sym k.text, one)
+    (s.text ∙ ap (spelling order p) one ∙ sym k.text, one, ap (λ z. z.1.rest) both)
 
 -- ---- what a reading found, in the standard's words
 
@@ -73,11 +73,6 @@ spelled_read order place t bytes d front rest s e =
 
 pub stands_begins : (t : Shape) (types : List ℕ) → IsType t → StandsFirst t types → BeginsWithType types (length (type_text t))
 stands_begins t types h k = record { first = t; rest = k.0; text = k.1; long = refl; arrays = h.arrays; structs = h.structs; fields = h.fields }
-
-type_shallow : (t : Shape) → IsType t → AreShallow (shapes t no_shapes)
-type_shallow t h =
-    let a : array_depth t ≤ 32 = h.arrays in
-    let s : struct_depth t ≤ 32 = h.structs in record { arrays = omega arith; structs = omega arith; fields = (h.fields, tt) }
 
 -- the first type of a text, if it is no longer than a signature may be
 pub first_is_type : (types : List ℕ) (n : ℕ) (b : BeginsWithType types n) → n ≤ 255 → IsType b.first
@@ -131,14 +126,15 @@ nothing_from order place t bytes c same e d front rest s f =
 
 pub explained_from : (e : VariantError) (order : Endian) (place : ℕ) (t : Shape) (bytes : List ℕ) (c : Cursor) → c ≡ start place bytes
     → Refuses e (value_at 64 order t c) → Explains e order place t bytes
-explained_from errors.Signature order place t bytes c same h = h
-explained_from errors.Depth order place t bytes c same h = h
 explained_from errors.Malformed order place t bytes c same h = nothing_from order place t bytes c same h
-explained_from errors.SignatureMismatch order place t bytes c same h = h
-explained_from errors.Memory order place t bytes c same h = tt
+explained_from e order place t bytes c same h = h
 
 pub spells_type : (order : Endian) (place : ℕ) (t : Shape) (d : Datum) (front : List ℕ) → Spells order place t d front → IsType t
 spells_type order place t d front s = subst IsType s.kind s.formed.type
+
+-- a type's text, alone at the front
+pub puts_first : (t : Shape) (text : List ℕ) → text ≡ type_text t → StandsFirst t text
+puts_first t text e = ([], e ∙ sym (append-nil (type_text t)))
 
 -- what a walk found, and that it found nothing
 pub walked_from : (order : Endian) (place : ℕ) (t : Shape) (types bytes : List ℕ) (c : Cursor) (y : List ℕ × Cursor) → c ≡ start place bytes → IsType t → StandsFirst t types
@@ -161,15 +157,9 @@ pub long_first : (order : Endian) (place : ℕ) (types bytes : List ℕ) (n : �
 long_first order place types bytes n b h t k d front rest s f =
     absurd (omega (arith, first_long t types n b k (spells_type order place t d front s)))
 
-no_more : (xs ys : List ℕ) → xs ++ ys ≡ xs → ys ≡ []
-no_more xs ys e = none ys (omega (arith, ap length e, length-append xs ys)) where
-  none : (ys : List ℕ) → length ys ≡ 0 → ys ≡ []
-  none [] h = refl
-  none (y ∷ ys) h = absurd (omega arith)
-
 pub same_value : (order : Endian) (p : ℕ) (t : Shape) (d e : Datum) (bytes : List ℕ) → Spells order p t d bytes → Spells order p t e bytes → d ≡ e
 same_value order p t d e bytes s k = (same_front order p t d e bytes bytes [] [] s k refl).1
 
 pub not_begun : (order : Endian) (p : ℕ) (t : Shape) (d e : Datum) (bytes rest : List ℕ) → Spells order p t d bytes → Spells order p t e (bytes ++ rest) → rest ≡ []
 not_begun order p t d e bytes rest s k =
-    no_more bytes rest (sym (same_front order p t d e bytes (bytes ++ rest) rest [] s k (sym (append-nil (bytes ++ rest)))).0)
+    (same_front order p t d e bytes (bytes ++ rest) rest [] s k (sym (append-nil (bytes ++ rest)))).2

@@ -1,5 +1,5 @@
 -- A value that is read stands there: the bytes that were read are its spelling, and it is within the limits.
-use Rattle.std.proofs.Common.{◌≡◌, ℕ, zero, suc, ◌+◌, ◌≤◌, nat_le, if◌then◌else◌, List, [], ◌∷◌, ◌++◌, length, replicate, Option, Some, None, refl, sym, ◌∙◌, ap, subst, arith}
+use Rattle.std.proofs.Common.{◌≡◌, ℕ, zero, suc, ◌+◌, ◌≤◌, nat_le, if◌then◌else◌, List, [], ◌∷◌, ◌++◌, length, replicate, Option, Some, None, refl, sym, ◌∙◌, ap, subst, arith, append-nil}
 use Rattle.std.specs.Int.{w32, w8}
 use Rattle.std.proofs.lemmas.Bool.{leb-true}
 use Rattle.std.proofs.lemmas.List.{length-replicate}
@@ -10,61 +10,26 @@ use Rattle.wire_signature.specs.declared.basic.BasicType.TheVariants as basics
 use Rattle.wire_signature.specs.Shape.{Shape, basic, variant as any, array as array_of, dict as dict_of, struct as struct_of, Shapes, no_shapes, shapes, alignment, IsType, TypeText, type_text}
 use Rattle.wire_signature.specs.Parsing.{type_in}
 use Rattle.wire_signature.proofs.Exact.{type_in-takes}
-use Rattle.wire_tree.specs.Datum.{Num, byte, boolean, int16, uint16, int32, uint32, int64, uint64, double, unix_fd, Txt, string, object_path, signature, Datum, num, text, array, dict, struct, variant, data_of, entries_of, num_type, text_type, type_of, types_of, IsSound, AreSound, AreElements, AreEntries}
-use Rattle.wire_spelling.specs.Spelling.{aligned, first_place, array_form, spelling, spellings, entry_spellings, depth, depths, entry_depths, ArraysFit, AllFit, EntriesFit}
+use Rattle.wire_tree.specs.Datum.{string, object_path, signature, Datum, array, dict, struct, variant, data_of, entry_type, type_of, types_of, AreSound, AreElements}
+use Rattle.wire_spelling.specs.Spelling.{aligned, first_place, array_form, spelling, spellings, depth, depths, ArraysFit, AllFit}
 use Rattle.wire_number.specs.Reading.{Cursor, Parse, made, bytes_at, align_at, number_at, counted_at}
-use Rattle.wire_spelling.specs.Reading.{num_at, text_at, num_value_at, text_value_at, basic_at, none_at, more_at, many_at, elements_at, array_at, variant_at, fields_at, struct_at, pair_at, leaf_at, value_step, value_at, entry_at}
+use Rattle.wire_spelling.specs.Reading.{basic_at, none_at, more_at, many_at, elements_at, array_at, variant_at, fields_at, struct_at, leaf_at, value_step, value_at}
 use Rattle.wire_number.proofs.Steps.{at, AreBytes, Reads, reads_then, Takes, IsNumber, bind_some, map_some, guard_some, some_is, bytes_take, align_takes, number_takes, length-number_text, IsCounted, counted_takes}
-use Rattle.wire_spelling.proofs.LeafLaws.{IsNum, num_takes, IsText, text_takes}
-
--- a value of a type, with at most so many containers open at once, that stands there
-pub record IsValue (room : ℕ) (order : Endian) (t : Shape) (c : Cursor) (y : Datum × Cursor) : Type 0 where
-  pub reads : Reads c (spelling order c.place y.0) y.1
-  pub kind : type_of y.0 ≡ t
-  pub sound : IsSound y.0
-  pub within : depth y.0 ≤ room
-  pub fit : ArraysFit order c.place y.0
+pub use Rattle.wire_spelling.proofs.LeafLaws.{IsValue}
+use Rattle.wire_spelling.proofs.LeafLaws.{made_as, num_takes, text_takes}
 
 -- what a reader of values gives
 abbrev pub IsReader : ℕ → Endian → (Shape → Cursor → Parse Datum) → Type 0
 IsReader room order read = (t : Shape) (c : Cursor) (y : Datum × Cursor) → read t c ≡ Some y → AreBytes c.rest → IsValue room order t c y
 
--- what was read and was made into a value
-made_as : {A : Type 0} (f : A → Datum) (found : Parse A) (y : Datum × Cursor) (P : Datum × Cursor → Type 0) → made f found ≡ Some y
-    → ((x : A × Cursor) → found ≡ Some x → P (f x.0, x.1)) → P y
-made_as f found y P e g = let x = map_some (λ x. (f x.0, x.1)) found y e in subst P x.2 (g x.0 x.1)
-
 -- ---- basic types
-
-num_value : (room : ℕ) (n : Num) (order : Endian) (c : Cursor) (y : Datum × Cursor) → num_value_at n order c ≡ Some y → AreBytes c.rest
-    → IsValue room order (basic (num_type n)) c y
-unfolding ArraysFit
-num_value room n order c y e low =
-    made_as (num n) (num_at n order c) y (IsValue room order (basic (num_type n)) c) e
-    (λ x f. let k : IsNum n order c x = num_takes n order c x f low in record { reads = k.reads; kind = refl; sound = k.sound; within = omega arith; fit = tt })
-
-text_value : (room : ℕ) (t : Txt) (order : Endian) (c : Cursor) (y : Datum × Cursor) → text_value_at t order c ≡ Some y → AreBytes c.rest
-    → IsValue room order (basic (text_type t)) c y
-unfolding ArraysFit
-text_value room t order c y e low =
-    made_as (text t) (text_at t order c) y (IsValue room order (basic (text_type t)) c) e
-    (λ x f. let k : IsText t order c x = text_takes t order c x f low in record { reads = k.reads; kind = refl; sound = k.sound; within = omega arith; fit = tt })
 
 pub basic_takes : (room : ℕ) (order : Endian) (b : BasicType) (c : Cursor) (y : Datum × Cursor) → basic_at b order c ≡ Some y → AreBytes c.rest
     → IsValue room order (basic b) c y
-basic_takes room order basics.Byte c y e low = num_value room byte order c y e low
-basic_takes room order basics.Boolean c y e low = num_value room boolean order c y e low
-basic_takes room order basics.Int16 c y e low = num_value room int16 order c y e low
-basic_takes room order basics.Uint16 c y e low = num_value room uint16 order c y e low
-basic_takes room order basics.Int32 c y e low = num_value room int32 order c y e low
-basic_takes room order basics.Uint32 c y e low = num_value room uint32 order c y e low
-basic_takes room order basics.Int64 c y e low = num_value room int64 order c y e low
-basic_takes room order basics.Uint64 c y e low = num_value room uint64 order c y e low
-basic_takes room order basics.Double c y e low = num_value room double order c y e low
-basic_takes room order basics.String c y e low = text_value room string order c y e low
-basic_takes room order basics.ObjectPath c y e low = text_value room object_path order c y e low
-basic_takes room order basics.Signature c y e low = text_value room signature order c y e low
-basic_takes room order basics.UnixFd c y e low = num_value room unix_fd order c y e low
+basic_takes room order basics.String c y e low = text_takes room string order c y e low
+basic_takes room order basics.ObjectPath c y e low = text_takes room object_path order c y e low
+basic_takes room order basics.Signature c y e low = text_takes room signature order c y e low
+basic_takes room order b c y e low = num_takes room _ order c y e low
 
 -- ---- arrays
 
@@ -99,25 +64,27 @@ elements_take order boundary c y e low =
     subst (λ (y : Cursor × Cursor). AreTheElements order boundary c y) (some_is (at f.0.place x.0.0, x.0.1) y x.2)
     (record { start = start; reads = whole; bytes = b.low; short = omega (arith, b.long, leb-true n.0.0 67108864 g.0) })
 
--- elements of a type that fill the bytes
-pub record AreItems (room : ℕ) (order : Endian) (t : Shape) (c : Cursor) (ds : List Datum) : Type 0 where
-  pub text_is : c.rest ≡ spellings order c.place (data_of ds)
-  pub sound : AreElements t (data_of ds)
-  pub within : depths (data_of ds) ≤ room
-  pub fit : AllFit order c.place (data_of ds)
+-- values that stand there one behind the other, with at most so many containers open at once in each
+pub record AreValues (room : ℕ) (order : Endian) (c : Cursor) (y : List Datum × Cursor) : Type 0 where
+  pub reads : Reads c (spellings order c.place (data_of y.0)) y.1
+  pub sound : AreSound (data_of y.0)
+  pub within : depths (data_of y.0) ≤ room
+  pub fit : AllFit order c.place (data_of y.0)
 
-no_items : (room : ℕ) (order : Endian) (t : Shape) (c : Cursor) → c.rest ≡ [] → AreItems room order t c []
+no_values : (room : ℕ) (order : Endian) (c : Cursor) → AreBytes c.rest → AreValues room order c ([], c)
 unfolding spellings AllFit
-no_items room order t c e = record { text_is = e; sound = tt; within = omega arith; fit = tt }
+no_values room order c low =
+    record { reads = record { text_is = refl; place_is = omega arith; bytes = low }; sound = tt; within = omega arith; fit = tt }
 
-more_items : (room : ℕ) (order : Endian) (t : Shape) (c : Cursor) (x : Datum × Cursor) (ds : List Datum) → IsValue room order t c x → AreItems room order t x.1 ds
-    → AreItems room order t c (x.0 ∷ ds)
+more_values : (room : ℕ) (order : Endian) (t : Shape) (c : Cursor) (x : Datum × Cursor) (y : List Datum × Cursor)
+    → IsValue room order t c x → AreValues room order x.1 y → AreValues room order c (x.0 ∷ y.0, y.1)
 unfolding spellings AllFit
-more_items room order t c x ds one others = record {
-  text_is = one.reads.text_is ∙ ap (λ r. spelling order c.place x.0 ++ r) (others.text_is ∙ ap (λ p. spellings order p (data_of ds)) one.reads.place_is);
-  sound = ((one.sound, one.kind), others.sound);
-  within = (let i : depth x.0 ≤ room = one.within in let j : depths (data_of ds) ≤ room = others.within in omega arith);
-  fit = (one.fit, subst (λ (p : ℕ). AllFit order p (data_of ds)) one.reads.place_is others.fit);
+more_values room order t c x y one others = record {
+  reads = reads_then c x.1 y.1 _ _ one.reads
+      (subst (λ (p : ℕ). Reads x.1 (spellings order p (data_of y.0)) y.1) one.reads.place_is others.reads);
+  sound = (one.sound, others.sound);
+  within = (let i : depth x.0 ≤ room = one.within in let j : depths (data_of y.0) ≤ room = others.within in omega arith);
+  fit = (one.fit, subst (λ (p : ℕ). AllFit order p (data_of y.0)) one.reads.place_is others.fit);
 }
 
 none_is : {A : Type 0} (bs : List ℕ) (xs : List A) → none_at bs ≡ Some xs → (bs ≡ []) × ([] ≡ xs)
@@ -149,179 +116,81 @@ many_hold {A} P read none more bytes zero c xs e low =
 many_hold {A} P read none more bytes (suc n) c xs e low =
     more_hold P read (many_at n read) none more bytes (many_hold P read none more bytes n) c c.rest refl xs e low
 
-pub items_take : (room : ℕ) (order : Endian) (t : Shape) (read : Shape → Cursor → Parse Datum) → IsReader room order read
+-- elements of a type that fill the bytes
+record AreItems (room : ℕ) (order : Endian) (t : Shape) (c : Cursor) (ds : List Datum) : Type 0 where
+  pub end : Cursor
+  pub values : AreValues room order c (ds, end)
+  pub whole : end.rest ≡ []
+  pub types : AreElements t (data_of ds)
+
+items_take : (room : ℕ) (order : Endian) (t : Shape) (read : Shape → Cursor → Parse Datum) → IsReader room order read
     → (n : ℕ) (c : Cursor) (ds : List Datum) → many_at n (read t) c ≡ Some ds → AreBytes c.rest → AreItems room order t c ds
 items_take room order t read reads n c ds e low =
-    many_hold (AreItems room order t) (read t) (no_items room order t)
-    (λ c x ds f l others. more_items room order t c x ds (reads t c x f l) others)
+    many_hold (AreItems room order t) (read t)
+    (λ c e. record { end = c; values = no_values room order c (subst AreBytes (sym e) tt); whole = e; types = tt })
+    (λ c x ds f l others. let one : IsValue room order t c x = reads t c x f l in record {
+      end = others.end;
+      values = more_values room order t c x (ds, others.end) one others.values;
+      whole = others.whole;
+      types = ((one.sound, one.kind), others.types);
+    })
     (λ c x f l. (reads t c x f l).reads.bytes)
     n c ds e low
 
-array_value : (room : ℕ) (order : Endian) (t : Shape) (read : Shape → Cursor → Parse Datum) → IsReader room order read
-    → (c : Cursor) (y : Datum × Cursor) → made (λ ds. array t (data_of ds)) (array_at (alignment t) (read t) order c) ≡ Some y → AreBytes c.rest
-    → IsValue (suc room) order (array_of t) c y
+-- an array of what was read as one
+array_takes : (room : ℕ) (order : Endian) (t : Shape) (read : Shape → Cursor → Parse Datum) → IsReader room order read
+    → (c : Cursor) (z : List Datum × Cursor) → array_at (alignment t) (read t) order c ≡ Some z → AreBytes c.rest
+    → IsValue (suc room) order (array_of t) c (array t (data_of z.0), z.1)
 unfolding array_at spelling ArraysFit
-array_value room order t read reads c y e low =
-    made_as (λ ds. array t (data_of ds)) (array_at (alignment t) (read t) order c) y (IsValue (suc room) order (array_of t) c) e
-    (λ z f.
+array_takes room order t read reads c z f low =
     let x = bind_some (elements_at order (alignment t) c) _ z f in
     let xs = bind_some (many_at (length x.0.0.rest) (read t) x.0.0) (λ xs. Some (xs, x.0.1)) z x.2 in
     let k : AreTheElements order (alignment t) c x.0 = elements_take order (alignment t) c x.0 x.1 low in
     let i : AreItems room order t x.0.0 xs.0 = items_take room order t read reads (length x.0.0.rest) x.0.0 xs.0 xs.1 k.bytes in
-    let body : x.0.0.rest ≡ spellings order (first_place c.place (alignment t)) (data_of xs.0) = i.text_is ∙ ap (λ p. spellings order p (data_of xs.0)) k.start in
+    let body : x.0.0.rest ≡ spellings order (first_place c.place (alignment t)) (data_of xs.0) =
+    i.values.reads.text_is ∙ ap (λ r. spellings order x.0.0.place (data_of xs.0) ++ r) i.whole ∙ append-nil (spellings order x.0.0.place (data_of xs.0))
+    ∙ ap (λ p. spellings order p (data_of xs.0)) k.start in
     subst (λ (z : List Datum × Cursor). IsValue (suc room) order (array_of t) c (array t (data_of z.0), z.1)) (some_is (xs.0, x.0.1) z xs.2)
     (record {
       reads = subst (λ (r : List ℕ). Reads c (array_form order c.place (alignment t) r) x.0.1) body k.reads;
       kind = refl;
-      sound = i.sound;
-      within = (let j : depths (data_of xs.0) ≤ room = i.within in omega arith);
-      fit = (subst (λ (r : List ℕ). length r ≤ 67108864) body k.short, subst (λ (p : ℕ). AllFit order p (data_of xs.0)) k.start i.fit);
-    }))
+      sound = i.types;
+      within = (let j : depths (data_of xs.0) ≤ room = i.values.within in omega arith);
+      fit = (subst (λ (r : List ℕ). length r ≤ 67108864) body k.short, subst (λ (p : ℕ). AllFit order p (data_of xs.0)) k.start i.values.fit);
+    })
 
--- ---- dict entries
+array_value : (room : ℕ) (order : Endian) (t : Shape) (read : Shape → Cursor → Parse Datum) → IsReader room order read
+    → (c : Cursor) (y : Datum × Cursor) → made (λ ds. array t (data_of ds)) (array_at (alignment t) (read t) order c) ≡ Some y → AreBytes c.rest
+    → IsValue (suc room) order (array_of t) c y
+array_value room order t read reads c y e low =
+    made_as (λ ds. array t (data_of ds)) (array_at (alignment t) (read t) order c) y (IsValue (suc room) order (array_of t) c) e
+    (λ z f. array_takes room order t read reads c z f low)
 
--- a key and a value that stand there behind their padding
-pub record IsPair (room : ℕ) (order : Endian) (k : BasicType) (v : Shape) (c : Cursor) (y : (Datum × Datum) × Cursor) : Type 0 where
-  pub front : Cursor
-  pub middle : Cursor
-  pub pads : Reads c (padding c.place 8) front
-  pub key : IsValue 0 order (basic k) front (y.0.0, middle)
-  pub value : IsValue room order v middle (y.0.1, y.1)
-
-pub pair_takes : (room : ℕ) (order : Endian) (k : BasicType) (v : Shape) (read : Shape → Cursor → Parse Datum) → IsReader room order read
-    → (c : Cursor) (y : (Datum × Datum) × Cursor) → pair_at read order k v c ≡ Some y → AreBytes c.rest → IsPair room order k v c y
-unfolding pair_at
-pair_takes room order k v read reads c y e low =
-    let p = bind_some (align_at 8 c) _ y e in
-    let a = bind_some (basic_at k order p.0) _ y p.2 in
-    let b = bind_some (read v a.0.1) (λ b. Some ((a.0.0, b.0), b.1)) y a.2 in
-    let pads : Reads c (padding c.place 8) p.0 = align_takes 8 c p.0 p.1 low in
-    let key : IsValue 0 order (basic k) p.0 a.0 = basic_takes 0 order k p.0 a.0 a.1 pads.bytes in
-    let value : IsValue room order v a.0.1 b.0 = reads v a.0.1 b.0 b.1 key.reads.bytes in
-    subst (λ (y : (Datum × Datum) × Cursor). IsPair room order k v c y) (some_is ((a.0.0, b.0.0), b.0.1) y b.2)
-    (record { front = p.0; middle = a.0.1; pads = pads; key = key; value = value })
-
--- dict entries that fill the bytes; an entry counts as a container
-pub record ArePairs (room : ℕ) (order : Endian) (k : BasicType) (v : Shape) (c : Cursor) (es : List (Datum × Datum)) : Type 0 where
-  pub text_is : c.rest ≡ entry_spellings order c.place (entries_of es)
-  pub sound : AreEntries k v (entries_of es)
-  pub within : entry_depths (entries_of es) ≤ room
-  pub fit : EntriesFit order c.place (entries_of es)
-
-no_pairs : (room : ℕ) (order : Endian) (k : BasicType) (v : Shape) (c : Cursor) → c.rest ≡ [] → ArePairs room order k v c []
-unfolding entry_spellings EntriesFit
-no_pairs room order k v c e = record { text_is = e; sound = tt; within = omega arith; fit = tt }
-
-front_place : (c f : Cursor) → Reads c (padding c.place 8) f → f.place ≡ aligned c.place 8
-front_place c f h = h.place_is ∙ ap (λ n. c.place + n) (length-replicate (pad c.place 8) 0)
-
-more_pairs : (room : ℕ) (order : Endian) (k : BasicType) (v : Shape) (c : Cursor) (x : (Datum × Datum) × Cursor) (es : List (Datum × Datum))
-    → IsPair room order k v c x → ArePairs (suc room) order k v x.1 es → ArePairs (suc room) order k v c (x.0 ∷ es)
-unfolding entry_spellings EntriesFit
-more_pairs room order k v c x es one others =
-    let a : Datum = x.0.0 in
-    let b : Datum = x.0.1 in
-    let at_key : one.front.place ≡ aligned c.place 8 = front_place c one.front one.pads in
-    let at_value : one.middle.place ≡ aligned c.place 8 + length (spelling order (aligned c.place 8) a) =
-    one.key.reads.place_is ∙ ap (λ p. p + length (spelling order p a)) at_key in
-    let at_end : x.1.place ≡ one.middle.place + length (spelling order one.middle.place b) = one.value.reads.place_is in
-    let chain_from : ℕ → List ℕ = λ p. spelling order p b ++ entry_spellings order (p + length (spelling order p b)) (entries_of es) in
-    let tail : one.middle.rest ≡ chain_from one.middle.place =
-    one.value.reads.text_is ∙ ap (λ r. spelling order one.middle.place b ++ r) (others.text_is ∙ ap (λ p. entry_spellings order p (entries_of es)) at_end) in
-    let rest : one.front.rest ≡ spelling order (aligned c.place 8) a ++ chain_from (aligned c.place 8 + length (spelling order (aligned c.place 8) a)) =
-    one.key.reads.text_is ∙ ap (λ p. spelling order p a ++ one.middle.rest) at_key
-    ∙ ap (λ r. spelling order (aligned c.place 8) a ++ r) (tail ∙ ap chain_from at_value) in
-    record {
-      text_is = one.pads.text_is ∙ ap (λ r. padding c.place 8 ++ r) rest;
-      sound = ((one.key.sound, one.key.kind), (one.value.sound, one.value.kind), others.sound);
-      within = (let i : depth a ≤ 0 = one.key.within in let j : depth b ≤ room = one.value.within in let l : entry_depths (entries_of es) ≤ suc room = others.within in omega arith);
-      fit = (
-        subst (λ (p : ℕ). ArraysFit order p a) at_key one.key.fit,
-        subst (λ (p : ℕ). ArraysFit order p b) at_value one.value.fit,
-        subst (λ (p : ℕ). EntriesFit order (p + length (spelling order p b)) (entries_of es)) at_value
-            (subst (λ (p : ℕ). EntriesFit order p (entries_of es)) at_end others.fit),
-      );
-    }
-
--- what a reader of dict entries gives
-abbrev pub IsPairReader : ℕ → Endian → (BasicType → Shape → Cursor → Parse (Datum × Datum)) → Type 0
-IsPairReader room order read =
-    (k : BasicType) (v : Shape) (c : Cursor) (y : (Datum × Datum) × Cursor) → read k v c ≡ Some y → AreBytes c.rest
-    → (lower : ℕ) × (suc lower ≡ room) × IsPair lower order k v c y
-
-pair_more : (room : ℕ) (order : Endian) (k : BasicType) (v : Shape) (c : Cursor) (x : (Datum × Datum) × Cursor) (es : List (Datum × Datum))
-    → (lower : ℕ) × (suc lower ≡ room) × IsPair lower order k v c x → ArePairs room order k v x.1 es → ArePairs room order k v c (x.0 ∷ es)
-pair_more room order k v c x es one others =
-    subst (λ (r : ℕ). ArePairs r order k v x.1 es → ArePairs r order k v c (x.0 ∷ es)) one.1
-    (more_pairs one.0 order k v c x es one.2) others
-
-pub pairs_take : (room : ℕ) (order : Endian) (k : BasicType) (v : Shape) (read : BasicType → Shape → Cursor → Parse (Datum × Datum)) → IsPairReader room order read
-    → (n : ℕ) (c : Cursor) (es : List (Datum × Datum)) → many_at n (read k v) c ≡ Some es → AreBytes c.rest → ArePairs room order k v c es
-pairs_take room order k v read reads n c es e low =
-    many_hold (ArePairs room order k v) (read k v) (no_pairs room order k v)
-    (λ c x es f l others. pair_more room order k v c x es (reads k v c x f l) others)
-    (λ c x f l. (reads k v c x f l).2.value.reads.bytes)
-    n c es e low
-
-dict_value : (room : ℕ) (order : Endian) (k : BasicType) (v : Shape) (read : BasicType → Shape → Cursor → Parse (Datum × Datum)) → IsPairReader room order read
-    → (c : Cursor) (y : Datum × Cursor) → made (λ es. dict k v (entries_of es)) (array_at 8 (read k v) order c) ≡ Some y → AreBytes c.rest
+-- A dict stands there as an array of its entries does.
+dict_value : (room : ℕ) (order : Endian) (k : BasicType) (v : Shape) (read : Shape → Cursor → Parse Datum) → IsReader room order read
+    → (c : Cursor) (y : Datum × Cursor) → made (λ ds. dict k v (data_of ds)) (array_at 8 (read (entry_type k v)) order c) ≡ Some y → AreBytes c.rest
     → IsValue (suc room) order (dict_of k v) c y
-unfolding array_at spelling ArraysFit
+unfolding spelling ArraysFit
 dict_value room order k v read reads c y e low =
-    made_as (λ es. dict k v (entries_of es)) (array_at 8 (read k v) order c) y (IsValue (suc room) order (dict_of k v) c) e
+    made_as (λ ds. dict k v (data_of ds)) (array_at 8 (read (entry_type k v)) order c) y (IsValue (suc room) order (dict_of k v) c) e
     (λ z f.
-    let x = bind_some (elements_at order 8 c) _ z f in
-    let xs = bind_some (many_at (length x.0.0.rest) (read k v) x.0.0) (λ xs. Some (xs, x.0.1)) z x.2 in
-    let el : AreTheElements order 8 c x.0 = elements_take order 8 c x.0 x.1 low in
-    let i : ArePairs room order k v x.0.0 xs.0 = pairs_take room order k v read reads (length x.0.0.rest) x.0.0 xs.0 xs.1 el.bytes in
-    let body : x.0.0.rest ≡ entry_spellings order (first_place c.place 8) (entries_of xs.0) = i.text_is ∙ ap (λ p. entry_spellings order p (entries_of xs.0)) el.start in
-    subst (λ (z : List (Datum × Datum) × Cursor). IsValue (suc room) order (dict_of k v) c (dict k v (entries_of z.0), z.1)) (some_is (xs.0, x.0.1) z xs.2)
-    (record {
-      reads = subst (λ (r : List ℕ). Reads c (array_form order c.place 8 r) x.0.1) body el.reads;
-      kind = refl;
-      sound = i.sound;
-      within = (let j : entry_depths (entries_of xs.0) ≤ room = i.within in omega arith);
-      fit = (subst (λ (r : List ℕ). length r ≤ 67108864) body el.short, subst (λ (p : ℕ). EntriesFit order p (entries_of xs.0)) el.start i.fit);
-    }))
+    let h : IsValue (suc room) order (array_of (entry_type k v)) c (array (entry_type k v) (data_of z.0), z.1) = array_takes room order (entry_type k v) read reads c z f low in
+    record { reads = h.reads; kind = refl; sound = h.sound; within = h.within; fit = h.fit })
 
 -- ---- structs
 
--- values of these types, one behind the other
-pub record AreFields (room : ℕ) (order : Endian) (ts : Shapes) (c : Cursor) (y : List Datum × Cursor) : Type 0 where
-  pub reads : Reads c (spellings order c.place (data_of y.0)) y.1
-  pub kinds : types_of (data_of y.0) ≡ ts
-  pub sound : AreSound (data_of y.0)
-  pub within : depths (data_of y.0) ≤ room
-  pub fit : AllFit order c.place (data_of y.0)
-
-no_fields : (room : ℕ) (order : Endian) (c : Cursor) → AreBytes c.rest → AreFields room order no_shapes c ([], c)
-unfolding spellings AllFit
-no_fields room order c low =
-    record { reads = record { text_is = refl; place_is = omega arith; bytes = low }; kinds = refl; sound = tt; within = omega arith; fit = tt }
-
-more_fields : (room : ℕ) (order : Endian) (t : Shape) (ts : Shapes) (c : Cursor) (x : Datum × Cursor) (y : List Datum × Cursor)
-    → IsValue room order t c x → AreFields room order ts x.1 y → AreFields room order (shapes t ts) c (x.0 ∷ y.0, y.1)
-unfolding spellings AllFit
-more_fields room order t ts c x y one others = record {
-  reads = reads_then c x.1 y.1 _ _ one.reads
-      (subst (λ (p : ℕ). Reads x.1 (spellings order p (data_of y.0)) y.1) one.reads.place_is others.reads);
-  kinds = ap (λ u. shapes u (types_of (data_of y.0))) one.kind ∙ ap (shapes t) others.kinds;
-  sound = (one.sound, others.sound);
-  within = (let i : depth x.0 ≤ room = one.within in let j : depths (data_of y.0) ≤ room = others.within in omega arith);
-  fit = (one.fit, subst (λ (p : ℕ). AllFit order p (data_of y.0)) one.reads.place_is others.fit);
-}
-
-pub fields_take : (room : ℕ) (order : Endian) (read : Shape → Cursor → Parse Datum) → IsReader room order read
-    → (ts : Shapes) (c : Cursor) (y : List Datum × Cursor) → fields_at read ts c ≡ Some y → AreBytes c.rest → AreFields room order ts c y
+fields_take : (room : ℕ) (order : Endian) (read : Shape → Cursor → Parse Datum) → IsReader room order read
+    → (ts : Shapes) (c : Cursor) (y : List Datum × Cursor) → fields_at read ts c ≡ Some y → AreBytes c.rest → AreValues room order c y × (types_of (data_of y.0) ≡ ts)
 unfolding fields_at
 fields_take room order read reads no_shapes c y e low =
-    subst (λ (y : List Datum × Cursor). AreFields room order no_shapes c y) (some_is ([], c) y e) (no_fields room order c low)
+    subst (λ (y : List Datum × Cursor). AreValues room order c y × (types_of (data_of y.0) ≡ no_shapes)) (some_is ([], c) y e) (no_values room order c low, refl)
 fields_take room order read reads (shapes t ts) c y e low =
     let x = bind_some (read t c) _ y e in
     let z = map_some (λ z. (x.0.0 ∷ z.0, z.1)) (fields_at read ts x.0.1) y x.2 in
     let k : IsValue room order t c x.0 = reads t c x.0 x.1 low in
-    subst (λ (y : List Datum × Cursor). AreFields room order (shapes t ts) c y) z.2
-    (more_fields room order t ts c x.0 z.0 k (fields_take room order read reads ts x.0.1 z.0 z.1 k.reads.bytes))
+    let others = fields_take room order read reads ts x.0.1 z.0 z.1 k.reads.bytes in
+    subst (λ (y : List Datum × Cursor). AreValues room order c y × (types_of (data_of y.0) ≡ shapes t ts)) z.2
+    (more_values room order t c x.0 z.0 k others.0, ap (λ u. shapes u (types_of (data_of z.0.0))) k.kind ∙ ap (shapes t) others.1)
 
 struct_value : (room : ℕ) (order : Endian) (read : Shape → Cursor → Parse Datum) → IsReader room order read
     → (ts : Shapes) (c : Cursor) (y : Datum × Cursor) → made (λ ds. struct (data_of ds)) (struct_at read ts c) ≡ Some y → AreBytes c.rest
@@ -332,14 +201,15 @@ struct_value room order read reads ts c y e low =
     (λ z f.
     let p = bind_some (align_at 8 c) (fields_at read ts) z f in
     let pads : Reads c (padding c.place 8) p.0 = align_takes 8 c p.0 p.1 low in
-    let k : AreFields room order ts p.0 z = fields_take room order read reads ts p.0 z p.2 pads.bytes in
-    let start : p.0.place ≡ aligned c.place 8 = front_place c p.0 pads in
+    let k = fields_take room order read reads ts p.0 z p.2 pads.bytes in
+    let values : AreValues room order p.0 z = k.0 in
+    let start : p.0.place ≡ aligned c.place 8 = pads.place_is ∙ ap (λ n. c.place + n) (length-replicate (pad c.place 8) 0) in
     record {
-      reads = reads_then c p.0 z.1 _ _ pads (subst (λ (q : ℕ). Reads p.0 (spellings order q (data_of z.0)) z.1) start k.reads);
-      kind = ap struct_of k.kinds;
-      sound = k.sound;
-      within = (let j : depths (data_of z.0) ≤ room = k.within in omega arith);
-      fit = subst (λ (q : ℕ). AllFit order q (data_of z.0)) start k.fit;
+      reads = reads_then c p.0 z.1 _ _ pads (subst (λ (q : ℕ). Reads p.0 (spellings order q (data_of z.0)) z.1) start values.reads);
+      kind = ap struct_of k.1;
+      sound = values.sound;
+      within = (let j : depths (data_of z.0) ≤ room = values.within in omega arith);
+      fit = subst (λ (q : ℕ). AllFit order q (data_of z.0)) start values.fit;
     })
 
 -- ---- variants
@@ -375,29 +245,17 @@ variant_value room order read reads c y e low =
 
 leaf_value : (order : Endian) (t : Shape) (c : Cursor) (y : Datum × Cursor) → leaf_at order t c ≡ Some y → AreBytes c.rest → IsValue 0 order t c y
 leaf_value order (basic b) c y e low = basic_takes 0 order b c y e low
-leaf_value order any c y e low = absurd (cc)
-leaf_value order (array_of t) c y e low = absurd (cc)
-leaf_value order (dict_of k v) c y e low = absurd (cc)
-leaf_value order (struct_of ts) c y e low = absurd (cc)
+leaf_value order t c y e low = absurd (cc)
 
-step_value : (room : ℕ) (order : Endian) (read : Shape → Cursor → Parse Datum) (pairs : BasicType → Shape → Cursor → Parse (Datum × Datum))
-    → IsReader room order read → IsPairReader room order pairs
-    → (t : Shape) (c : Cursor) (y : Datum × Cursor) → value_step read pairs order t c ≡ Some y → AreBytes c.rest → IsValue (suc room) order t c y
-step_value room order read pairs reads pair_reads (basic b) c y e low = basic_takes (suc room) order b c y e low
-step_value room order read pairs reads pair_reads any c y e low = variant_value room order read reads c y e low
-step_value room order read pairs reads pair_reads (array_of t) c y e low = array_value room order t read reads c y e low
-step_value room order read pairs reads pair_reads (dict_of k v) c y e low = dict_value room order k v pairs pair_reads c y e low
-step_value room order read pairs reads pair_reads (struct_of ts) c y e low = struct_value room order read reads ts c y e low
+step_value : (room : ℕ) (order : Endian) (read : Shape → Cursor → Parse Datum) → IsReader room order read
+    → (t : Shape) (c : Cursor) (y : Datum × Cursor) → value_step read order t c ≡ Some y → AreBytes c.rest → IsValue (suc room) order t c y
+step_value room order read reads (basic b) c y e low = basic_takes (suc room) order b c y e low
+step_value room order read reads any c y e low = variant_value room order read reads c y e low
+step_value room order read reads (array_of t) c y e low = array_value room order t read reads c y e low
+step_value room order read reads (dict_of k v) c y e low = dict_value room order k v read reads c y e low
+step_value room order read reads (struct_of ts) c y e low = struct_value room order read reads ts c y e low
 
-mutual
-  unfolding value_at entry_at
-
-  pub value_takes : (room : ℕ) (order : Endian) → IsReader room order (value_at room order)
-  value_takes zero order t c y e low = leaf_value order t c y e low
-  value_takes (suc room) order t c y e low =
-      step_value room order (value_at room order) (entry_at room order) (value_takes room order) (entry_takes room order) t c y e low
-
-  pub entry_takes : (room : ℕ) (order : Endian) → IsPairReader room order (entry_at room order)
-  entry_takes zero order k v c y e low = absurd (cc)
-  entry_takes (suc room) order k v c y e low =
-      (room, refl, pair_takes room order k v (value_at room order) (value_takes room order) c y e low)
+pub value_takes : (room : ℕ) (order : Endian) → IsReader room order (value_at room order)
+unfolding value_at
+value_takes zero order t c y e low = leaf_value order t c y e low
+value_takes (suc room) order t c y e low = step_value room order (value_at room order) (value_takes room order) t c y e low

@@ -8,48 +8,50 @@ use Rattle.std.proofs.lemmas.Bool.{ltb-true, lt-ltb}
 use Rattle.std.proofs.lemmas.List.Sums.{AllPass-from_list_all, list_all-from_AllPass}
 use Rattle.wire_number.specs.declared.endian.Endian.{Endian}
 use Rattle.wire_number.specs.Number.{number_text, pad, padding, counted_text}
-use Rattle.wire_signature.specs.Shape.{basic_alignment}
+use Rattle.wire_signature.specs.Shape.{Shape, basic, basic_alignment}
 use Rattle.wire_signature.specs.Parsing.{types_in}
 use Rattle.wire_signature.proofs.Exact.{is_some-types_in}
-use Rattle.wire_tree.specs.Datum.{Num, byte, boolean, int16, uint16, int32, uint32, int64, uint64, double, unix_fd, Txt, string, object_path, signature, num, text, bound, num_type, text_type, IsTextOf}
-use Rattle.wire_spelling.specs.Spelling.{width_of, length_width, spelling}
-use Rattle.wire_number.specs.Reading.{Cursor, align_at, number_at, counted_at}
-use Rattle.wire_spelling.specs.Reading.{num_at, is_text_of, text_at}
-use Rattle.wire_number.proofs.Steps.{at, AreBytes, Reads, reads_then, IsNumber, IsShort, limit, bind_some, both_true, guard_some, guarded, bound_some, some_is, align_takes, align_again, number_takes, number_again, length-number_text, length-padded, IsCounted, counted_takes, counted_again}
+use Rattle.wire_tree.specs.Datum.{Num, byte, boolean, int16, uint16, int32, uint32, int64, uint64, double, unix_fd, Txt, string, object_path, signature, Datum, num, text, bound, num_type, text_type, type_of, IsTextOf, IsSound}
+use Rattle.wire_spelling.specs.Spelling.{width_of, length_width, spelling, depth, ArraysFit}
+use Rattle.wire_number.specs.Reading.{Cursor, Parse, made, align_at, number_at, counted_at}
+use Rattle.wire_spelling.specs.Reading.{num_at, is_text_of, text_at, num_value_at, text_value_at}
+use Rattle.wire_number.proofs.Steps.{at, AreBytes, Reads, reads_then, IsNumber, IsShort, limit, bind_some, map_some, both_true, guard_some, guarded, bound_some, some_is, align_takes, align_again, number_takes, number_again, length-number_text, length-padded, IsCounted, counted_takes, counted_again}
 
 -- a number of the type is one of its width
 num_width : (n : Num) → IsShort (width_of n) × (bound n ≤ limit (width_of n))
 num_width byte = (tt, omega arith)
-num_width boolean = (tt, omega arith)
-num_width int16 = (tt, omega arith)
-num_width uint16 = (tt, omega arith)
-num_width int32 = (tt, omega arith)
-num_width uint32 = (tt, omega arith)
-num_width int64 = (tt, omega arith)
-num_width uint64 = (tt, omega arith)
-num_width double = (tt, omega arith)
-num_width unix_fd = (tt, omega arith)
+num_width n = (tt, omega arith)
 
 short_text : (t : Txt) → IsShort (length_width t)
 short_text string = tt
-short_text object_path = tt
-short_text signature = tt
+short_text t = tt
 
--- a number that stands there
-pub record IsNum (n : Num) (order : Endian) (c : Cursor) (y : ℕ × Cursor) : Type 0 where
-  pub reads : Reads c (spelling order c.place (num n y.0)) y.1
-  pub sound : y.0 < bound n
+-- a value of a type, with at most so many containers open at once, that stands there
+pub record IsValue (room : ℕ) (order : Endian) (t : Shape) (c : Cursor) (y : Datum × Cursor) : Type 0 where
+  pub reads : Reads c (spelling order c.place y.0) y.1
+  pub kind : type_of y.0 ≡ t
+  pub sound : IsSound y.0
+  pub within : depth y.0 ≤ room
+  pub fit : ArraysFit order c.place y.0
 
-pub num_takes : (n : Num) (order : Endian) (c : Cursor) (y : ℕ × Cursor) → num_at n order c ≡ Some y → AreBytes c.rest → IsNum n order c y
-unfolding num_at spelling
-num_takes n order c y e low =
-    let p = bind_some (align_at (basic_alignment (num_type n)) c) _ y e in
-    let x = bind_some (number_at (width_of n) order p.0) (λ x. if nat_lt x.0 (bound n) then Some x else None) y p.2 in
-    let g = guard_some (nat_lt x.0.0 (bound n)) (Some x.0) y x.2 in
+-- what was read and was made into a value
+pub made_as : {A : Type 0} (f : A → Datum) (found : Parse A) (y : Datum × Cursor) (P : Datum × Cursor → Type 0) → made f found ≡ Some y
+    → ((x : A × Cursor) → found ≡ Some x → P (f x.0, x.1)) → P y
+made_as f found y P e g = let x = map_some (λ x. (f x.0, x.1)) found y e in subst P x.2 (g x.0 x.1)
+
+pub num_takes : (room : ℕ) (n : Num) (order : Endian) (c : Cursor) (y : Datum × Cursor) → num_value_at n order c ≡ Some y → AreBytes c.rest
+    → IsValue room order (basic (num_type n)) c y
+unfolding num_at spelling ArraysFit
+num_takes room n order c y e low =
+    made_as (num n) (num_at n order c) y (IsValue room order (basic (num_type n)) c) e
+    (λ z f.
+    let p = bind_some (align_at (basic_alignment (num_type n)) c) _ z f in
+    let x = bind_some (number_at (width_of n) order p.0) (λ x. if nat_lt x.0 (bound n) then Some x else None) z p.2 in
+    let g = guard_some (nat_lt x.0.0 (bound n)) (Some x.0) z x.2 in
     let front : Reads c (padding c.place (basic_alignment (num_type n))) p.0 = align_takes (basic_alignment (num_type n)) c p.0 p.1 low in
     let k : IsNumber (width_of n) order p.0 x.0 = number_takes (width_of n) order p.0 x.0 (num_width n).0 x.1 front.bytes in
-    subst (λ (y : ℕ × Cursor). IsNum n order c y) (some_is x.0 y g.1)
-    (record { reads = reads_then c p.0 x.0.1 _ _ front k.reads; sound = ltb-true x.0.0 (bound n) g.0 })
+    subst (λ (z : ℕ × Cursor). IsValue room order (basic (num_type n)) c (num n z.0, z.1)) (some_is x.0 z g.1)
+    (record { reads = reads_then c p.0 x.0.1 _ _ front k.reads; kind = refl; sound = ltb-true x.0.0 (bound n) g.0; within = omega arith; fit = tt }))
 
 pub num_again : (n : Num) (order : Endian) (v p : ℕ) (rest : List ℕ) → v < bound n
     → num_at n order (at p (spelling order p (num n v) ++ rest)) ≡ Some (v, at (p + length (spelling order p (num n v))) rest)
@@ -69,8 +71,7 @@ num_again n order v p rest h =
 -- a text begins on the boundary of its length
 pub text_boundary : (t : Txt) → byte_len (length_width t) ≡ basic_alignment (text_type t)
 text_boundary string = refl
-text_boundary object_path = refl
-text_boundary signature = refl
+text_boundary t = refl
 
 -- a text as the test has it
 text_is : (t : Txt) (bs : List ℕ) → is_text_of t bs ≡ true → length bs < limit (length_width t) → IsTextOf t bs
@@ -94,21 +95,23 @@ text_below string bs h = omega (arith, h.2)
 text_below object_path bs h = omega (arith, h.1)
 text_below signature bs h = omega (arith, ap length h.1.text, h.1.valid.within)
 
-pub record IsText (t : Txt) (order : Endian) (c : Cursor) (y : List ℕ × Cursor) : Type 0 where
-  pub reads : Reads c (spelling order c.place (text t y.0)) y.1
-  pub sound : IsTextOf t y.0
-
-pub text_takes : (t : Txt) (order : Endian) (c : Cursor) (y : List ℕ × Cursor) → text_at t order c ≡ Some y → AreBytes c.rest → IsText t order c y
-unfolding text_at spelling
-text_takes t order c y e low =
-    let x = bind_some (counted_at (length_width t) order c) _ y e in
-    let g = guard_some (is_text_of t x.0.0) (Some x.0) y x.2 in
+pub text_takes : (room : ℕ) (t : Txt) (order : Endian) (c : Cursor) (y : Datum × Cursor) → text_value_at t order c ≡ Some y → AreBytes c.rest
+    → IsValue room order (basic (text_type t)) c y
+unfolding text_at spelling ArraysFit
+text_takes room t order c y e low =
+    made_as (text t) (text_at t order c) y (IsValue room order (basic (text_type t)) c) e
+    (λ z f.
+    let x = bind_some (counted_at (length_width t) order c) _ z f in
+    let g = guard_some (is_text_of t x.0.0) (Some x.0) z x.2 in
     let k : IsCounted (length_width t) order c x.0 = counted_takes (length_width t) order c x.0 (short_text t) x.1 low in
-    subst (λ (y : List ℕ × Cursor). IsText t order c y) (some_is x.0 y g.1)
+    subst (λ (z : List ℕ × Cursor). IsValue room order (basic (text_type t)) c (text t z.0, z.1)) (some_is x.0 z g.1)
     (record {
       reads = subst (λ (n : ℕ). Reads c (padding c.place n ++ counted_text (length_width t) order x.0.0) x.0.1) (text_boundary t) k.reads;
+      kind = refl;
       sound = text_is t x.0.0 g.0 k.below;
-    })
+      within = omega arith;
+      fit = tt;
+    }))
 
 pub text_again : (t : Txt) (order : Endian) (bs : List ℕ) (p : ℕ) (rest : List ℕ) → IsTextOf t bs
     → text_at t order (at p (spelling order p (text t bs) ++ rest)) ≡ Some (bs, at (p + length (spelling order p (text t bs))) rest)

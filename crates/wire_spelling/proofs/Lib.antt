@@ -8,4 +8,3 @@ pub mod Ascii
 pub mod Walks
 pub mod Exact
 pub mod Boundaries
-pub mod TypeTexts

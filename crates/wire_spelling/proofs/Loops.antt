@@ -7,7 +7,7 @@ use Rattle.wire_tree.specs.Datum.{Datum}
 use Rattle.wire_spelling.specs.ReaderView.{Refuses}
 use Rattle.wire_number.specs.declared.endian.Endian.{Endian}
 use Rattle.wire_number.specs.Reading.{Cursor, Parse, made, ◌>>=◌}
-use Rattle.wire_spelling.specs.Reading.{many_at, more_at, none_at, fields_at, value_step, value_at, entry_at}
+use Rattle.wire_spelling.specs.Reading.{many_at, more_at, none_at, fields_at, value_step, value_at}
 
 done_by : {A : Type 0} (n : ℕ) (read : Cursor → Parse A) (c : Cursor) (bs : List ℕ) → c.rest ≡ bs → length bs ≡ 0 → many_at n read c ≡ Some []
 unfolding many_at
@@ -122,14 +122,11 @@ joined_left m read c front whole w k h = w ∙ ap (joined front) (many_left m re
 
 -- a refusal of a part is one of the whole
 pub refuses_as : {X Y : Type 0} (e : VariantError) (part : Option X) (whole : Option Y) → (part ≡ None → whole ≡ None) → Refuses e part → Refuses e whole
-refuses_as errors.Signature part whole f h = absurd h
-refuses_as errors.Depth part whole f h = absurd h
 refuses_as errors.Malformed part whole f h = f h
-refuses_as errors.SignatureMismatch part whole f h = absurd h
-refuses_as errors.Memory part whole f h = tt
+refuses_as e part whole f h = h
 
 pub value_in_room : (room : ℕ) (order : Endian) (t : Shape) (c : Cursor) → 0 < room
-    → value_at room order t c ≡ value_step (value_at (room - 1) order) (entry_at (room - 1) order) order t c
+    → value_at room order t c ≡ value_step (value_at (room - 1) order) order t c
 unfolding value_at
 value_in_room zero order t c h = absurd (omega arith)
-value_in_room (suc room) order t c h = ap (λ n. value_step (value_at n order) (entry_at n order) order t c) (omega arith)
+value_in_room (suc room) order t c h = ap (λ n. value_step (value_at n order) order t c) (omega arith)

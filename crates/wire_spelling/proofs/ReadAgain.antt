@@ -7,21 +7,23 @@ use Rattle.wire_number.specs.Number.{number_text, padding, counted_text}
 use Rattle.wire_signature.specs.declared.basic.BasicType.{BasicType}
 use Rattle.wire_signature.specs.Shape.{Shape, basic, alignment, basic_alignment, IsType, TypeText, type_text, HasFields, AllHaveFields, AreFields}
 use Rattle.wire_signature.proofs.Exact.{type_in-again}
-use Rattle.wire_tree.specs.Datum.{Num, byte, boolean, int16, uint16, int32, uint32, int64, uint64, double, unix_fd, Txt, string, object_path, signature, Datum, num, text, array, dict, struct, variant, Data, no_data, items, Entries, no_entries, entry, data_of, list_of, entries_of, pairs_of, num_type, text_type, type_of, types_of, IsSound, AreSound, AreElements, AreEntries}
-use Rattle.wire_spelling.specs.Spelling.{width_of, length_width, chain, aligned, first_place, array_form, spelling, spellings, entry_spellings, depth, depths, entry_depths, ArraysFit, AllFit, EntriesFit}
+use Rattle.wire_tree.specs.Datum.{Num, byte, boolean, int16, uint16, int32, uint32, int64, uint64, double, unix_fd, Txt, string, object_path, signature, Datum, num, text, array, dict, struct, variant, Data, no_data, items, data_of, list_of, entry_type, num_type, text_type, type_of, types_of, IsSound, AreSound, AreElements}
+use Rattle.wire_spelling.specs.Spelling.{width_of, length_width, aligned, first_place, array_form, spelling, spellings, depth, depths, ArraysFit, AllFit}
 use Rattle.wire_number.specs.Reading.{Cursor, Parse, made, ◌>>=◌, counted_at}
-use Rattle.wire_spelling.specs.Reading.{num_value_at, text_value_at, basic_at, many_at, elements_at, array_at, variant_at, fields_at, struct_at, pair_at, value_at, entry_at}
+use Rattle.wire_spelling.specs.Reading.{num_value_at, text_value_at, basic_at, many_at, elements_at, array_at, variant_at, fields_at, struct_at, value_at}
 use Rattle.wire_number.proofs.Steps.{at, guarded, bound_some, bytes_again, align_again, number_again, length-number_text, length-padded, counted_again}
 use Rattle.wire_spelling.proofs.LeafLaws.{num_again, text_again}
+use Rattle.wire_spelling.proofs.Loops.{many_done, many_next}
 use Rattle.wire_spelling.proofs.FoundValues.{pad_one}
 
 data_of-list_of : (ds : Data) → data_of (list_of ds) ≡ ds
 data_of-list_of no_data = refl
 data_of-list_of (items d ds) = ap (items d) (data_of-list_of ds)
 
-entries_of-pairs_of : (es : Entries) → entries_of (pairs_of es) ≡ es
-entries_of-pairs_of no_entries = refl
-entries_of-pairs_of (entry k v es) = ap (entry k v) (entries_of-pairs_of es)
+-- a list that was read is held by a value
+held_again : (hold : Data → Datum) (found : Parse (List Datum)) (ds : Data) (c : Cursor) → found ≡ Some (list_of ds, c)
+    → made (λ ds. hold (data_of ds)) found ≡ Some (hold ds, c)
+held_again hold found ds c e = ap (made (λ ds. hold (data_of ds))) e ∙ ap (λ ds. Some (hold ds, c)) (data_of-list_of ds)
 
 -- ---- basic types
 
@@ -32,29 +34,17 @@ basic_room (suc room) order b c = refl
 
 num_basic : (n : Num) (order : Endian) (c : Cursor) → basic_at (num_type n) order c ≡ num_value_at n order c
 num_basic byte order c = refl
-num_basic boolean order c = refl
-num_basic int16 order c = refl
-num_basic uint16 order c = refl
-num_basic int32 order c = refl
-num_basic uint32 order c = refl
-num_basic int64 order c = refl
-num_basic uint64 order c = refl
-num_basic double order c = refl
-num_basic unix_fd order c = refl
+num_basic n order c = refl
 
 text_basic : (t : Txt) (order : Endian) (c : Cursor) → basic_at (text_type t) order c ≡ text_value_at t order c
 text_basic string order c = refl
-text_basic object_path order c = refl
-text_basic signature order c = refl
+text_basic t order c = refl
 
 -- ---- no spelling is empty
 
 some_width : (w : Width) → 0 < byte_len w
 some_width w8 = omega arith
-some_width w16 = omega arith
-some_width w32 = omega arith
-some_width w64 = omega arith
-some_width w128 = omega arith
+some_width w = omega arith
 
 some_text : (t : Txt) (order : Endian) (bs : List ℕ) → 0 < length (counted_text (length_width t) order bs)
 some_text t order bs =
@@ -76,7 +66,7 @@ mutual
   some_spelling order p (num n v) h = omega (arith, length-padded p (basic_alignment (num_type n)) (number_text (width_of n) order v), length-number_text (width_of n) order v, some_width (width_of n))
   some_spelling order p (text t bs) h = omega (arith, length-padded p (basic_alignment (text_type t)) (counted_text (length_width t) order bs), some_text t order bs)
   some_spelling order p (array t ds) h = some_array order p (alignment t) (spellings order (first_place p (alignment t)) ds)
-  some_spelling order p (dict k v es) h = some_array order p 8 (entry_spellings order (first_place p 8) es)
+  some_spelling order p (dict k v es) h = some_array order p 8 (spellings order (first_place p 8) es)
   some_spelling order p (struct ds) h = omega (arith, length-padded p 8 (spellings order (aligned p 8) ds), some_spellings order (aligned p 8) ds h.0 h.1)
   some_spelling order p (variant d) h =
       omega (
@@ -112,37 +102,13 @@ elements_again order boundary p elements rest h =
     ∙ bound_some _ _ _ (bytes_again (length elements) (first_place p boundary) elements rest refl)
     ∙ ap (λ k. Some (at (first_place p boundary) elements, at k rest)) long
 
--- where bytes are left, one more is read
-many_more : {A : Type 0} (n p : ℕ) (read : Cursor → Parse A) (bs : List ℕ) → 0 < length bs
-    → many_at (suc n) read (at p bs) ≡ (read (at p bs) >>= λ x. many_at n read x.1 >>= λ xs. Some (x.0 ∷ xs))
-unfolding many_at
-many_more n p read [] h = absurd (omega arith)
-many_more n p read (b ∷ bs) h = refl
-
-many_end : {A : Type 0} (n p : ℕ) (read : Cursor → Parse A) → many_at n read (at p []) ≡ Some []
-unfolding many_at
-many_end zero p read = refl
-many_end (suc n) p read = refl
-
 -- one more, of which it is known how it and the others are read
 pub many_with : {A : Type 0} (n p : ℕ) (read : Cursor → Parse A) (front back : List ℕ) (x : A) (xs : List A) → 0 < length front
     → read (at p (front ++ back)) ≡ Some (x, at (p + length front) back) → many_at n read (at (p + length front) back) ≡ Some xs
     → many_at (suc n) read (at p (front ++ back)) ≡ Some (x ∷ xs)
 many_with n p read front back x xs h e f =
-    many_more n p read (front ++ back) (omega (arith, length-append front back))
-    ∙ bound_some (read (at p (front ++ back))) _ _ e ∙ bound_some (many_at n read (at (p + length front) back)) _ _ f
-
-many_step : {A : Type 0} (n p : ℕ) (read : Cursor → Parse A) (bs : List ℕ) (x : A) (c : Cursor) (xs : List A) → 0 < length bs
-    → read (at p bs) ≡ Some (x, c) → many_at n read c ≡ Some xs → many_at (suc n) read (at p bs) ≡ Some (x ∷ xs)
-many_step n p read bs x c xs h e f =
-    many_more n p read bs h ∙ bound_some (read (at p bs)) _ _ e ∙ bound_some (many_at n read c) _ _ f
-
-some_entry : (order : Endian) (p : ℕ) (a b : Datum) (others : ℕ → List ℕ) → HasFields (type_of a)
-    → 0 < length (padding p 8 ++ chain (aligned p 8) (spelling order (aligned p 8) a) (λ middle. chain middle (spelling order middle b) others))
-some_entry order p a b others h =
-    let q : ℕ = aligned p 8 in
-    let back : List ℕ = chain (q + length (spelling order q a)) (spelling order (q + length (spelling order q a)) b) others in
-    omega (arith, length-padded p 8 (spelling order q a ++ back), length-append (spelling order q a) back, some_spelling order q a h)
+    many_next n (suc n) read (at p (front ++ back)) _ refl (omega (arith, length-append front back)) e
+    ∙ bound_some (many_at n read (at (p + length front) back)) _ _ f
 
 -- an array whose elements are known
 array_with : {A : Type 0} (order : Endian) (boundary p : ℕ) (read : Cursor → Parse A) (elements rest : List ℕ) (xs : List A) → length elements ≤ 67108864
@@ -151,15 +117,6 @@ array_with : {A : Type 0} (order : Endian) (boundary p : ℕ) (read : Cursor →
 unfolding array_at
 array_with order boundary p read elements rest xs h e =
     bound_some _ _ _ (elements_again order boundary p elements rest h) ∙ bound_some _ _ _ e
-
--- a dict entry whose key and value are known
-pair_with : (read : Shape → Cursor → Parse Datum) (order : Endian) (k : BasicType) (v : Shape) (p : ℕ) (a b : Datum) (key value rest : List ℕ)
-    → basic_at k order (at (aligned p 8) (key ++ (value ++ rest))) ≡ Some (a, at (aligned p 8 + length key) (value ++ rest))
-    → read v (at (aligned p 8 + length key) (value ++ rest)) ≡ Some (b, at (aligned p 8 + length key + length value) rest)
-    → pair_at read order k v (at p (padding p 8 ++ (key ++ (value ++ rest)))) ≡ Some ((a, b), at (aligned p 8 + length key + length value) rest)
-unfolding pair_at
-pair_with read order k v p a b key value rest e f =
-    bound_some _ _ _ (align_again 8 p (key ++ (value ++ rest))) ∙ bound_some _ _ _ e ∙ bound_some _ _ _ f
 
 variant_with : (read : Shape → Cursor → Parse Datum) (order : Endian) (p : ℕ) (d : Datum) (body rest : List ℕ) → IsType (type_of d)
     → read (type_of d) (at (p + length (counted_text w8 order (type_text (type_of d)))) (body ++ rest))
@@ -185,7 +142,7 @@ variant_with read order p d body rest h e =
 -- ---- all values
 
 mutual
-  unfolding value_at entry_at spelling spellings entry_spellings ArraysFit AllFit EntriesFit fields_at struct_at
+  unfolding value_at spelling spellings ArraysFit AllFit fields_at struct_at
 
   pub value_again : (room : ℕ) (order : Endian) (t : Shape) (d : Datum) (p : ℕ) (rest : List ℕ) → type_of d ≡ t → IsSound d → HasFields (type_of d) → depth d ≤ room → ArraysFit order p d
       → value_at room order t (at p (spelling order p d ++ rest)) ≡ Some (d, at (p + length (spelling order p d)) rest)
@@ -197,41 +154,32 @@ mutual
       let c : Cursor = at p (spelling order p (text x bs) ++ rest) in
       ap (λ t. value_at room order t c) (sym k) ∙ basic_room room order (text_type x) c ∙ text_basic x order c
       ∙ ap (made (text x)) (text_again x order bs p rest s)
-  value_again zero order t (array u ds) p rest k s h w f = absurd (omega arith)
   value_again (suc room) order t (array u ds) p rest k s h w f =
       let elements : List ℕ = spellings order (first_place p (alignment u)) ds in
       ap (λ t. value_at (suc room) order t (at p (array_form order p (alignment u) elements ++ rest))) (sym k)
-      ∙ ap (made (λ ds. array u (data_of ds)))
-      (array_with order (alignment u) p (value_at room order u) elements rest (list_of ds) f.0
+      ∙ held_again (array u) _ ds _ (array_with order (alignment u) p (value_at room order u) elements rest (list_of ds) f.0
       (items_again (length elements) room order u ds (first_place p (alignment u)) s h (omega arith) f.1 (omega arith)))
-      ∙ ap (λ ds. Some (array u ds, at (p + length (array_form order p (alignment u) elements)) rest)) (data_of-list_of ds)
-  value_again zero order t (dict a v es) p rest k s h w f = absurd (omega arith)
-  value_again (suc room) order t (dict a v es) p rest k s h w f =
-      let elements : List ℕ = entry_spellings order (first_place p 8) es in
+  value_again (suc room) order t (dict a v ds) p rest k s h w f =
+      let elements : List ℕ = spellings order (first_place p 8) ds in
       ap (λ t. value_at (suc room) order t (at p (array_form order p 8 elements ++ rest))) (sym k)
-      ∙ ap (made (λ es. dict a v (entries_of es)))
-      (array_with order 8 p (entry_at room order a v) elements rest (pairs_of es) f.0
-      (entries_again (length elements) room order a v es (first_place p 8) s h (omega arith) f.1 (omega arith)))
-      ∙ ap (λ es. Some (dict a v es, at (p + length (array_form order p 8 elements)) rest)) (entries_of-pairs_of es)
-  value_again zero order t (struct ds) p rest k s h w f = absurd (omega arith)
+      ∙ held_again (dict a v) _ ds _ (array_with order 8 p (value_at room order (entry_type a v)) elements rest (list_of ds) f.0
+      (items_again (length elements) room order (entry_type a v) ds (first_place p 8) s (tt, (tt, (h, tt))) (omega arith) f.1 (omega arith)))
   value_again (suc room) order t (struct ds) p rest k s h w f =
       let body : List ℕ = spellings order (aligned p 8) ds in
       ap (λ t. value_at (suc room) order t (at p ((padding p 8 ++ body) ++ rest))) (sym k)
       ∙ ap (λ r. made (λ ds. struct (data_of ds)) (struct_at (value_at room order) (types_of ds) (at p r))) (append_assoc (padding p 8) body rest)
-      ∙ ap (made (λ ds. struct (data_of ds)))
-      (bound_some _ _ _ (align_again 8 p (body ++ rest)) ∙ fields_again room order ds (aligned p 8) rest s h.1 (omega arith) f)
-      ∙ ap (λ ds. Some (struct ds, at (aligned p 8 + length body) rest)) (data_of-list_of ds)
+      ∙ held_again struct _ ds _ (bound_some _ _ _ (align_again 8 p (body ++ rest)) ∙ fields_again room order ds (aligned p 8) rest s h.1 (omega arith) f)
       ∙ ap (λ q. Some (struct ds, at q rest)) (omega (arith, length-padded p 8 body))
-  value_again zero order t (variant d) p rest k s h w f = absurd (omega arith)
   value_again (suc room) order t (variant d) p rest k s h w f =
       let q : ℕ = p + length (counted_text w8 order (type_text (type_of d))) in
       ap (λ t. value_at (suc room) order t (at p (spelling order p (variant d) ++ rest))) (sym k)
       ∙ variant_with (value_at room order) order p d (spelling order q d) rest s.1
       (value_again room order (type_of d) d q rest refl s.0 s.1.fields (omega arith) f)
+  value_again zero order t d p rest k s h w f = absurd (omega arith)
 
   pub items_again : (n room : ℕ) (order : Endian) (t : Shape) (ds : Data) (p : ℕ) → AreElements t ds → HasFields t → depths ds ≤ room → AllFit order p ds
       → length (spellings order p ds) ≤ n → many_at n (value_at room order t) (at p (spellings order p ds)) ≡ Some (list_of ds)
-  items_again n room order t no_data p s h w f l = many_end n p (value_at room order t)
+  items_again n room order t no_data p s h w f l = many_done n (value_at room order t) (at p []) refl
   items_again zero room order t (items d ds) p s h w f l =
       absurd (omega (arith, length-append (spelling order p d) (spellings order (p + length (spelling order p d)) ds), some_spelling order p d (subst HasFields (sym s.0.1) h)))
   items_again (suc n) room order t (items d ds) p s h w f l =
@@ -241,33 +189,6 @@ mutual
       many_with n p (value_at room order t) (spelling order p d) (spellings order q ds) d (list_of ds) some
       (value_again room order t d p (spellings order q ds) s.0.1 s.0.0 fields (omega arith) f.0)
       (items_again n room order t ds q s.1 h (omega arith) f.1 (omega (arith, length-append (spelling order p d) (spellings order q ds))))
-
-  pub entries_again : (n room : ℕ) (order : Endian) (k : BasicType) (v : Shape) (es : Entries) (p : ℕ) → AreEntries k v es → HasFields v → entry_depths es ≤ room → EntriesFit order p es
-      → length (entry_spellings order p es) ≤ n → many_at n (entry_at room order k v) (at p (entry_spellings order p es)) ≡ Some (pairs_of es)
-  entries_again n room order k v no_entries p s h w f l = many_end n p (entry_at room order k v)
-  entries_again n zero order k v (entry a b es) p s h w f l = absurd (omega arith)
-  entries_again zero (suc room) order k v (entry a b es) p s h w f l =
-      let plain : HasFields (type_of a) = subst HasFields (sym s.0.1) tt in
-      absurd (omega (arith, l, some_entry order p a b (λ q. entry_spellings order q es) plain))
-  entries_again (suc n) (suc room) order k v (entry a b es) p s h w f l =
-      let front : ℕ = aligned p 8 in
-      let key : List ℕ = spelling order front a in
-      let middle : ℕ = front + length key in
-      let value : List ℕ = spelling order middle b in
-      let end : ℕ = middle + length value in
-      let others : List ℕ = entry_spellings order end es in
-      let plain : HasFields (type_of a) = subst HasFields (sym s.0.1) tt in
-      let fields : HasFields (type_of b) = subst HasFields (sym s.1.1) h in
-      let some : 0 < length (padding p 8 ++ (key ++ (value ++ others))) = some_entry order p a b (λ q. entry_spellings order q es) plain in
-      let a_read : basic_at k order (at front (key ++ (value ++ others))) ≡ Some (a, at middle (value ++ others)) =
-      sym (basic_room room order k (at front (key ++ (value ++ others))))
-      ∙ value_again room order (basic k) a front (value ++ others) s.0.1 s.0.0 plain (omega arith) f.0 in
-      let b_read : value_at room order v (at middle (value ++ others)) ≡ Some (b, at end others) =
-      value_again room order v b middle others s.1.1 s.1.0 fields (omega arith) f.1 in
-      many_step n p (entry_at (suc room) order k v) (padding p 8 ++ (key ++ (value ++ others))) (a, b) (at end others) (pairs_of es) some
-      (pair_with (value_at room order) order k v p a b key value others a_read b_read)
-      (entries_again n (suc room) order k v es end s.2 h (omega arith) f.2
-      (omega (arith, length-padded p 8 (key ++ (value ++ others)), length-append key (value ++ others), length-append value others, some_spelling order front a plain)))
 
   pub fields_again : (room : ℕ) (order : Endian) (ds : Data) (p : ℕ) (rest : List ℕ) → AreSound ds → AllHaveFields (types_of ds) → depths ds ≤ room → AllFit order p ds
       → fields_at (value_at room order) (types_of ds) (at p (spellings order p ds ++ rest)) ≡ Some (list_of ds, at (p + length (spellings order p ds)) rest)

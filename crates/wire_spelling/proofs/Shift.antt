@@ -6,8 +6,8 @@ use Rattle.wire_number.specs.Number.{number_text, pad, padding, counted_text}
 use Rattle.wire_signature.specs.declared.basic.BasicType.{BasicType}
 use Rattle.wire_signature.specs.declared.basic.BasicType.TheVariants as basics
 use Rattle.wire_signature.specs.Shape.{Shape, basic, variant as any, array as array_of, dict as dict_of, struct as struct_of, alignment, basic_alignment, type_text}
-use Rattle.wire_tree.specs.Datum.{Datum, num, text, array, dict, struct, variant, Data, no_data, items, Entries, no_entries, entry, num_type, text_type, type_of}
-use Rattle.wire_spelling.specs.Spelling.{width_of, aligned, first_place, array_form, spelling, spellings, entry_spellings, ArraysFit, AllFit, EntriesFit, length_width}
+use Rattle.wire_tree.specs.Datum.{Datum, num, text, array, dict, struct, variant, Data, no_data, items, entry_type, num_type, text_type, type_of}
+use Rattle.wire_spelling.specs.Spelling.{width_of, aligned, first_place, array_form, spelling, spellings, ArraysFit, AllFit, length_width}
 
 -- places with the same rest modulo 8
 pub record Alike (p q : ℕ) : Type 0 where
@@ -16,39 +16,17 @@ pub record Alike (p q : ℕ) : Type 0 where
 plus : (p q n : ℕ) → Alike p q → Alike (p + n) (q + n)
 plus p q n h = record { rest = (let e : p % 8 ≡ q % 8 = h.rest in omega arith) }
 
-pad_1 : (p q : ℕ) → Alike p q → pad p 1 ≡ pad q 1
-pad_1 p q h = omega arith
-
-pad_2 : (p q : ℕ) → Alike p q → pad p 2 ≡ pad q 2
-pad_2 p q h = let e : p % 8 ≡ q % 8 = h.rest in let f : p % 2 ≡ q % 2 = omega arith in ap (λ r. (2 - r) % 2) f
+pad_alike : (p q a : ℕ) → p % a ≡ q % a → pad p a ≡ pad q a
+pad_alike p q a e = ap (λ r. (a - r) % a) e
 
 pad_4 : (p q : ℕ) → Alike p q → pad p 4 ≡ pad q 4
-pad_4 p q h = let e : p % 8 ≡ q % 8 = h.rest in let f : p % 4 ≡ q % 4 = omega arith in ap (λ r. (4 - r) % 4) f
-
-pad_8 : (p q : ℕ) → Alike p q → pad p 8 ≡ pad q 8
-pad_8 p q h = ap (λ r. (8 - r) % 8) h.rest
-
-basic_pad : (b : BasicType) (p q : ℕ) → Alike p q → pad p (basic_alignment b) ≡ pad q (basic_alignment b)
-basic_pad basics.Byte p q h = pad_1 p q h
-basic_pad basics.Boolean p q h = pad_4 p q h
-basic_pad basics.Int16 p q h = pad_2 p q h
-basic_pad basics.Uint16 p q h = pad_2 p q h
-basic_pad basics.Int32 p q h = pad_4 p q h
-basic_pad basics.Uint32 p q h = pad_4 p q h
-basic_pad basics.Int64 p q h = pad_8 p q h
-basic_pad basics.Uint64 p q h = pad_8 p q h
-basic_pad basics.Double p q h = pad_8 p q h
-basic_pad basics.String p q h = pad_4 p q h
-basic_pad basics.ObjectPath p q h = pad_4 p q h
-basic_pad basics.Signature p q h = pad_1 p q h
-basic_pad basics.UnixFd p q h = pad_4 p q h
+pad_4 p q h = pad_alike p q 4 (let e : p % 8 ≡ q % 8 = h.rest in omega arith)
 
 shape_pad : (t : Shape) (p q : ℕ) → Alike p q → pad p (alignment t) ≡ pad q (alignment t)
-shape_pad (basic b) p q h = basic_pad b p q h
-shape_pad any p q h = pad_1 p q h
-shape_pad (array_of t) p q h = pad_4 p q h
-shape_pad (dict_of k v) p q h = pad_4 p q h
-shape_pad (struct_of ts) p q h = pad_8 p q h
+shape_pad (basic basics.Byte) p q h = omega arith
+shape_pad (basic b) p q h = pad_alike p q (basic_alignment b) (let e : p % 8 ≡ q % 8 = h.rest in omega arith)
+shape_pad any p q h = omega arith
+shape_pad t p q h = pad_alike p q (alignment t) (let e : p % 8 ≡ q % 8 = h.rest in omega arith)
 
 -- the next place on a boundary
 on : (p q b : ℕ) → Alike p q → pad p b ≡ pad q b → Alike (aligned p b) (aligned q b)
@@ -62,89 +40,59 @@ first_alike p q t h =
     let k : Alike (aligned p 4 + 4) (aligned q 4 + 4) = after_length p q h in
     on (aligned p 4 + 4) (aligned q 4 + 4) (alignment t) k (shape_pad t _ _ k)
 
-first_entry : (p q : ℕ) → Alike p q → Alike (first_place p 8) (first_place q 8)
-first_entry p q h =
-    let k : Alike (aligned p 4 + 4) (aligned q 4 + 4) = after_length p q h in
-    on (aligned p 4 + 4) (aligned q 4 + 4) 8 k (pad_8 _ _ k)
-
 -- an array's form, where its elements are the same
-array_alike : (order : Endian) (p q b : ℕ) (xs ys : List ℕ) → Alike p q → pad (aligned p 4 + 4) b ≡ pad (aligned q 4 + 4) b → xs ≡ ys
-    → array_form order p b xs ≡ array_form order q b ys
-array_alike order p q b xs ys h e f =
+array_alike : (order : Endian) (p q : ℕ) (t : Shape) (xs ys : List ℕ) → Alike p q → xs ≡ ys
+    → array_form order p (alignment t) xs ≡ array_form order q (alignment t) ys
+array_alike order p q t xs ys h f =
+    let b : ℕ = alignment t in
     ap (λ n. replicate n 0 ++ (number_text w32 order (length xs) ++ (padding (aligned p 4 + 4) b ++ xs))) (pad_4 p q h)
-    ∙ ap (λ n. padding q 4 ++ (number_text w32 order (length xs) ++ (replicate n 0 ++ xs))) e
+    ∙ ap (λ n. padding q 4 ++ (number_text w32 order (length xs) ++ (replicate n 0 ++ xs))) (shape_pad t _ _ (after_length p q h))
     ∙ ap (λ zs. padding q 4 ++ (number_text w32 order (length zs) ++ (padding (aligned q 4 + 4) b ++ zs))) f
 
 -- behind texts that are the same
 behind : (p q : ℕ) (xs ys : List ℕ) → Alike p q → xs ≡ ys → Alike (p + length xs) (q + length ys)
 behind p q xs ys h e = subst (λ (zs : List ℕ). Alike (p + length xs) (q + length zs)) e (plus p q (length xs) h)
 
-mutual
-  unfolding spelling spellings entry_spellings
+-- the same of an array, and whether it fits
+list_alike : (order : Endian) (p q : ℕ) (t : Shape) (ds : Data) → Alike p q
+    → (spellings order (first_place p (alignment t)) ds ≡ spellings order (first_place q (alignment t)) ds)
+    × (AllFit order (first_place p (alignment t)) ds → AllFit order (first_place q (alignment t)) ds)
+    → (spelling order p (array t ds) ≡ spelling order q (array t ds)) × (ArraysFit order p (array t ds) → ArraysFit order q (array t ds))
+unfolding spelling ArraysFit
+list_alike order p q t ds h k = (array_alike order p q t _ _ h k.0, λ f. (subst (λ (r : List ℕ). length r ≤ 67108864) k.0 f.0, k.1 f.1))
 
-  pub spelling_alike : (order : Endian) (p q : ℕ) (d : Datum) → Alike p q → spelling order p d ≡ spelling order q d
-  spelling_alike order p q (num n v) h = ap (λ k. replicate k 0 ++ number_text (width_of n) order v) (basic_pad (num_type n) p q h)
-  spelling_alike order p q (text t bs) h = ap (λ k. replicate k 0 ++ counted_text (length_width t) order bs) (basic_pad (text_type t) p q h)
-  spelling_alike order p q (array t ds) h =
-      array_alike order p q (alignment t) _ _ h (shape_pad t _ _ (after_length p q h))
-      (spellings_alike order (first_place p (alignment t)) (first_place q (alignment t)) ds (first_alike p q t h))
-  spelling_alike order p q (dict k v es) h =
-      array_alike order p q 8 _ _ h (pad_8 _ _ (after_length p q h)) (entries_alike order (first_place p 8) (first_place q 8) es (first_entry p q h))
-  spelling_alike order p q (struct ds) h =
-      ap (λ k. replicate k 0 ++ spellings order (aligned p 8) ds) (pad_8 p q h)
-      ∙ ap (λ r. padding q 8 ++ r) (spellings_alike order (aligned p 8) (aligned q 8) ds (on p q 8 h (pad_8 p q h)))
-  spelling_alike order p q (variant d) h =
+mutual
+  unfolding spelling spellings ArraysFit AllFit
+
+  -- what a value is spelled as, and whether it fits
+  pub value_alike : (order : Endian) (p q : ℕ) (d : Datum) → Alike p q → (spelling order p d ≡ spelling order q d) × (ArraysFit order p d → ArraysFit order q d)
+  value_alike order p q (num n v) h = (ap (λ k. replicate k 0 ++ number_text (width_of n) order v) (shape_pad (basic (num_type n)) p q h), λ f. tt)
+  value_alike order p q (text t bs) h = (ap (λ k. replicate k 0 ++ counted_text (length_width t) order bs) (shape_pad (basic (text_type t)) p q h), λ f. tt)
+  value_alike order p q (array t ds) h = list_alike order p q t ds h (values_alike order _ _ ds (first_alike p q t h))
+  value_alike order p q (dict k v ds) h = list_alike order p q (entry_type k v) ds h (values_alike order _ _ ds (first_alike p q (entry_type k v) h))
+  value_alike order p q (struct ds) h =
+      let pads : pad p 8 ≡ pad q 8 = pad_alike p q 8 h.rest in
+      let k = values_alike order (aligned p 8) (aligned q 8) ds (on p q 8 h pads) in
+      (ap (λ k. replicate k 0 ++ spellings order (aligned p 8) ds) pads ∙ ap (λ r. padding q 8 ++ r) k.0, k.1)
+  value_alike order p q (variant d) h =
       let sign : List ℕ = counted_text w8 order (type_text (type_of d)) in
-      ap (λ r. sign ++ r) (spelling_alike order (p + length sign) (q + length sign) d (plus p q (length sign) h))
+      let k = value_alike order (p + length sign) (q + length sign) d (plus p q (length sign) h) in (ap (λ r. sign ++ r) k.0, k.1)
 
-  pub spellings_alike : (order : Endian) (p q : ℕ) (ds : Data) → Alike p q → spellings order p ds ≡ spellings order q ds
-  spellings_alike order p q no_data h = refl
-  spellings_alike order p q (items d ds) h =
-      let one : spelling order p d ≡ spelling order q d = spelling_alike order p q d h in
-      ap (λ r. r ++ spellings order (p + length (spelling order p d)) ds) one
-      ∙ ap (λ r. spelling order q d ++ r) (spellings_alike order (p + length (spelling order p d)) (q + length (spelling order q d)) ds (behind p q _ _ h one))
+  values_alike : (order : Endian) (p q : ℕ) (ds : Data) → Alike p q → (spellings order p ds ≡ spellings order q ds) × (AllFit order p ds → AllFit order q ds)
+  values_alike order p q no_data h = (refl, λ f. tt)
+  values_alike order p q (items d ds) h =
+      let one = value_alike order p q d h in
+      let others = values_alike order (p + length (spelling order p d)) (q + length (spelling order q d)) ds (behind p q _ _ h one.0) in
+      (ap (λ r. r ++ spellings order (p + length (spelling order p d)) ds) one.0 ∙ ap (λ r. spelling order q d ++ r) others.0, λ f. (one.1 f.0, others.1 f.1))
 
-  pub entries_alike : (order : Endian) (p q : ℕ) (es : Entries) → Alike p q → entry_spellings order p es ≡ entry_spellings order q es
-  entries_alike order p q no_entries h = refl
-  entries_alike order p q (entry a b es) h =
-      let f : Alike (aligned p 8) (aligned q 8) = on p q 8 h (pad_8 p q h) in
-      let key : spelling order (aligned p 8) a ≡ spelling order (aligned q 8) a = spelling_alike order (aligned p 8) (aligned q 8) a f in
-      let m : Alike (aligned p 8 + length (spelling order (aligned p 8) a)) (aligned q 8 + length (spelling order (aligned q 8) a)) = behind (aligned p 8) (aligned q 8) _ _ f key in
-      let middle_p : ℕ = aligned p 8 + length (spelling order (aligned p 8) a) in
-      let middle_q : ℕ = aligned q 8 + length (spelling order (aligned q 8) a) in
-      let value : spelling order middle_p b ≡ spelling order middle_q b = spelling_alike order middle_p middle_q b m in
-      let rest : entry_spellings order (middle_p + length (spelling order middle_p b)) es ≡ entry_spellings order (middle_q + length (spelling order middle_q b)) es =
-      entries_alike order (middle_p + length (spelling order middle_p b)) (middle_q + length (spelling order middle_q b)) es (behind middle_p middle_q _ _ m value) in
-      ap (λ k. replicate k 0 ++ (spelling order (aligned p 8) a ++ (spelling order middle_p b ++ entry_spellings order (middle_p + length (spelling order middle_p b)) es))) (pad_8 p q h)
-      ∙ ap (λ r. padding q 8 ++ (r ++ (spelling order middle_p b ++ entry_spellings order (middle_p + length (spelling order middle_p b)) es))) key
-      ∙ ap (λ r. padding q 8 ++ (spelling order (aligned q 8) a ++ (r ++ entry_spellings order (middle_p + length (spelling order middle_p b)) es))) value
-      ∙ ap (λ r. padding q 8 ++ (spelling order (aligned q 8) a ++ (spelling order middle_q b ++ r))) rest
+pub spelling_alike : (order : Endian) (p q : ℕ) (d : Datum) → Alike p q → spelling order p d ≡ spelling order q d
+spelling_alike order p q d h = (value_alike order p q d h).0
 
-mutual
-  unfolding ArraysFit AllFit EntriesFit
+pub fits_alike : (order : Endian) (p q : ℕ) (d : Datum) → Alike p q → ArraysFit order p d → ArraysFit order q d
+fits_alike order p q d h f = (value_alike order p q d h).1 f
 
-  pub fits_alike : (order : Endian) (p q : ℕ) (d : Datum) → Alike p q → ArraysFit order p d → ArraysFit order q d
-  fits_alike order p q (num n v) h f = tt
-  fits_alike order p q (text t bs) h f = tt
-  fits_alike order p q (array t ds) h f =
-      let k : Alike (first_place p (alignment t)) (first_place q (alignment t)) = first_alike p q t h in
-      (subst (λ (r : List ℕ). length r ≤ 67108864) (spellings_alike order _ _ ds k) f.0, all_alike order _ _ ds k f.1)
-  fits_alike order p q (dict a b es) h f =
-      let k : Alike (first_place p 8) (first_place q 8) = first_entry p q h in
-      (subst (λ (r : List ℕ). length r ≤ 67108864) (entries_alike order _ _ es k) f.0, entries_fit_alike order _ _ es k f.1)
-  fits_alike order p q (struct ds) h f = all_alike order (aligned p 8) (aligned q 8) ds (on p q 8 h (pad_8 p q h)) f
-  fits_alike order p q (variant d) h f =
-      let n : ℕ = length (counted_text w8 order (type_text (type_of d))) in fits_alike order (p + n) (q + n) d (plus p q n h) f
+pub spellings_alike : (order : Endian) (p q : ℕ) (ds : Data) → Alike p q → spellings order p ds ≡ spellings order q ds
+spellings_alike order p q ds h = (values_alike order p q ds h).0
 
-  pub all_alike : (order : Endian) (p q : ℕ) (ds : Data) → Alike p q → AllFit order p ds → AllFit order q ds
-  all_alike order p q no_data h f = tt
-  all_alike order p q (items d ds) h f =
-      (fits_alike order p q d h f.0, all_alike order _ _ ds (behind p q _ _ h (spelling_alike order p q d h)) f.1)
-
-  pub entries_fit_alike : (order : Endian) (p q : ℕ) (es : Entries) → Alike p q → EntriesFit order p es → EntriesFit order q es
-  entries_fit_alike order p q no_entries h f = tt
-  entries_fit_alike order p q (entry a b es) h f =
-      let k : Alike (aligned p 8) (aligned q 8) = on p q 8 h (pad_8 p q h) in
-      let m : Alike (aligned p 8 + length (spelling order (aligned p 8) a)) (aligned q 8 + length (spelling order (aligned q 8) a)) =
-      behind (aligned p 8) (aligned q 8) _ _ k (spelling_alike order (aligned p 8) (aligned q 8) a k) in
-      (fits_alike order _ _ a k f.0, fits_alike order _ _ b m f.1, entries_fit_alike order _ _ es (behind _ _ _ _ m (spelling_alike order _ _ b m)) f.2)
+pub all_alike : (order : Endian) (p q : ℕ) (ds : Data) → Alike p q → AllFit order p ds → AllFit order q ds
+all_alike order p q ds h = (values_alike order p q ds h).1

@@ -1,5 +1,5 @@
 -- Walking by the text of a type leads as far as reading by the type.
-use Rattle.std.proofs.Common.{◌≡◌, ℕ, suc, ◌+◌, ◌-◌, ◌<◌, ◌≤◌, max, ◌==◌, ◌⊎◌, inl, inr, true, if◌then◌else◌, List, [], ◌∷◌, ◌++◌, length, drop, Option, Some, None, is_some, refl, sym, ◌∙◌, ap, subst, arith, option_map, append_assoc, append-nil, length-append}
+use Rattle.std.proofs.Common.{◌≡◌, ℕ, suc, ◌+◌, ◌-◌, ◌<◌, ◌≤◌, max, ◌==◌, ◌⊎◌, inl, inr, true, if◌then◌else◌, List, [], ◌∷◌, ◌++◌, length, get_or, drop, Option, Some, None, is_some, refl, sym, ◌∙◌, ap, subst, arith, option_map, append_assoc, append-nil, length-append}
 use Rattle.std.proofs.lemmas.Bool.{ne_eqb}
 use Rattle.std.proofs.lemmas.List.{drop_at}
 use Rattle.std.specs.Int.{w8}
@@ -7,12 +7,12 @@ use Rattle.wire_number.specs.declared.endian.Endian.{Endian}
 use Rattle.wire_number.specs.Reading.{Cursor, Parse, made, behind, ◌>>=◌, align_at, counted_at}
 use Rattle.wire_number.proofs.Steps.{some_is, bound_some}
 use Rattle.wire_signature.specs.declared.basic.BasicType.{BasicType}
-use Rattle.wire_signature.specs.Shape.{Shape, basic, variant as any, array as array_of, dict as dict_of, struct as struct_of, Shapes, no_shapes, shapes, letter, type_text, types_text, basic_of, array_depth, array_depths, struct_depth, struct_depths, BeginsWithType, TypeText}
+use Rattle.wire_signature.specs.Shape.{Shape, basic, variant as any, array as array_of, dict as dict_of, struct as struct_of, Shapes, no_shapes, shapes, letter, type_text, types_text, basic_of, array_depth, array_depths, struct_depth, struct_depths, IsType, BeginsWithType, TypeText}
 use Rattle.wire_signature.specs.ShapeCode.{basic_of-letter}
 use Rattle.wire_signature.specs.Parsing.{type_in, first_length}
 use Rattle.wire_signature.proofs.Exact.{begins_again, type_in-takes}
-use Rattle.wire_tree.specs.Datum.{Datum, array, dict, struct, variant, data_of, entries_of}
-use Rattle.wire_spelling.specs.Reading.{basic_at, many_at, elements_at, array_at, variant_at, fields_at, struct_at, pair_at, value_at, entry_at}
+use Rattle.wire_tree.specs.Datum.{Datum, array, dict, struct, variant, data_of}
+use Rattle.wire_spelling.specs.Reading.{basic_at, many_at, elements_at, array_at, variant_at, fields_at, struct_at, value_at}
 use Rattle.wire_spelling.specs.Walking.{IsBracket, past_bracket, Item, value, pair, item_text, item_types, item_boundary, array_type, text_boundary, letter_boundary, item_at, leaving, Walks, AreShallow}
 use Rattle.wire_spelling.proofs.ReadAgain.{basic_room}
 
@@ -33,11 +33,7 @@ left_some rest (Some x) y e = let same : (rest, x.1) ≡ y = some_is _ _ e in (a
 
 pub boundary_is : (i : Item) (rest : List ℕ) → text_boundary (item_text i ++ rest) ≡ item_boundary i
 boundary_is (value (basic b)) rest = ap (letter_boundary (letter b)) (basic_of-letter b)
-boundary_is (value any) rest = refl
-boundary_is (value (array_of t)) rest = refl
-boundary_is (value (dict_of k v)) rest = refl
-boundary_is (value (struct_of ts)) rest = refl
-boundary_is (pair k v) rest = refl
+boundary_is i rest = refl
 
 -- a byte that is no basic type's letter is none's
 no_letter : (b : BasicType) (c : ℕ) → basic_of c ≡ None → letter b ≡ c → ⊥
@@ -52,69 +48,38 @@ basic_walks room order c l inner b h (value (basic a)) rest e =
     let same : a ≡ b = some_is a b (sym (ap basic_of head ∙ basic_of-letter a) ∙ h) in
     ap (λ found. leaving rest (behind found)) (basic_room room order a c)
     ∙ ap (λ b. leaving rest (behind (basic_at b order c))) same ∙ ap (λ r. leaving r (behind (basic_at b order c))) (sym tail)
-basic_walks room order c l inner b h (value any) rest e = let k : l ≡ 118 = cc in let g : None ≡ Some b = ap basic_of (sym k) ∙ h in absurd (cc)
-basic_walks room order c l inner b h (value (array_of t)) rest e = let k : l ≡ 97 = cc in let g : None ≡ Some b = ap basic_of (sym k) ∙ h in absurd (cc)
-basic_walks room order c l inner b h (value (dict_of k v)) rest e = let k : l ≡ 97 = cc in let g : None ≡ Some b = ap basic_of (sym k) ∙ h in absurd (cc)
-basic_walks room order c l inner b h (value (struct_of ts)) rest e = let k : l ≡ 40 = cc in let g : None ≡ Some b = ap basic_of (sym k) ∙ h in absurd (cc)
-basic_walks room order c l inner b h (pair k v) rest e = let k : l ≡ 123 = cc in let g : None ≡ Some b = ap basic_of (sym k) ∙ h in absurd (cc)
+basic_walks room order c l inner b h i rest e = let g : None ≡ Some b = sym (ap (λ text. basic_of (get_or text 0 0)) e) ∙ h in absurd (cc)
 
 -- where no container may be opened
 pub no_room : (order : Endian) (c : Cursor) (l : ℕ) (inner : List ℕ) → basic_of l ≡ None → (i : Item) (rest : List ℕ) → l ∷ inner ≡ item_text i ++ rest
     → leaving rest (behind (item_at 0 order i c)) ≡ None
-unfolding value_at entry_at
+unfolding value_at
 no_room order c l inner h (value (basic b)) rest e = absurd (no_letter b l h cc)
-no_room order c l inner h (value any) rest e = refl
-no_room order c l inner h (value (array_of t)) rest e = refl
-no_room order c l inner h (value (dict_of k v)) rest e = refl
-no_room order c l inner h (value (struct_of ts)) rest e = refl
-no_room order c l inner h (pair k v) rest e = refl
+no_room order c l inner h i rest e = refl
 
 pub no_text : (i : Item) (rest : List ℕ) → [] ≡ item_text i ++ rest → ⊥
 no_text (value (basic b)) rest e = absurd (cc)
-no_text (value any) rest e = absurd (cc)
-no_text (value (array_of t)) rest e = absurd (cc)
-no_text (value (dict_of k v)) rest e = absurd (cc)
-no_text (value (struct_of ts)) rest e = absurd (cc)
-no_text (pair k v) rest e = absurd (cc)
+no_text i rest e = absurd (cc)
 
 -- ---- nesting
 
 both_shallow : (t : Shape) (ts : Shapes) → AreShallow (shapes t ts) → AreShallow (shapes t no_shapes) × AreShallow ts
-both_shallow t ts h =
-    let a : max (array_depth t) (array_depths ts) ≤ 32 = h.arrays in
-    let s : max (struct_depth t) (struct_depths ts) ≤ 32 = h.structs in (
-      record { arrays = omega arith; structs = omega arith; fields = (h.fields.0, tt) },
-      record { arrays = omega arith; structs = omega arith; fields = h.fields.1 },
-    )
+both_shallow t ts h = (
+  record { arrays = omega (arith, h.arrays); structs = omega (arith, h.structs); fields = (h.fields.0, tt) },
+  record { arrays = omega (arith, h.arrays); structs = omega (arith, h.structs); fields = h.fields.1 },
+)
 
 item_shallow : (i : Item) → AreShallow (shapes (array_type i) no_shapes) → AreShallow (item_types i)
-item_shallow (value t) h =
-    let a : max (array_depth t + 1) 0 ≤ 32 = h.arrays in record { arrays = omega arith; structs = h.structs; fields = h.fields }
-item_shallow (pair k v) h =
-    let a : max (array_depth v + 1) 0 ≤ 32 = h.arrays in
-    let s : max (struct_depth v) 0 ≤ 32 = h.structs in record { arrays = omega arith; structs = omega arith; fields = (tt, h.fields) }
+item_shallow (value t) h = record { arrays = omega (arith, h.arrays); structs = h.structs; fields = h.fields }
+item_shallow (pair k v) h = record { arrays = omega (arith, h.arrays); structs = omega (arith, h.structs); fields = (tt, h.fields) }
 
 fields_shallow : (ts : Shapes) → AreShallow (shapes (struct_of ts) no_shapes) → AreShallow ts
-fields_shallow ts h =
-    let a : max (array_depths ts) 0 ≤ 32 = h.arrays in
-    let s : max (struct_depths ts + 1) 0 ≤ 32 = h.structs in record { arrays = omega arith; structs = omega arith; fields = h.fields.0.1 }
+fields_shallow ts h = record { arrays = omega (arith, h.arrays); structs = omega (arith, h.structs); fields = h.fields.0.1 }
+
+pub type_shallow : (t : Shape) → IsType t → AreShallow (shapes t no_shapes)
+type_shallow t h = record { arrays = omega (arith, h.arrays); structs = omega (arith, h.structs); fields = (h.fields, tt) }
 
 -- ---- containers, by their first byte
-
-same_behind : {A B C : Type 0} (found : Option A) (f : A → Parse B) (g : A → Parse C) → ((x : A) → behind (f x) ≡ behind (g x)) → behind (found >>= f) ≡ behind (found >>= g)
-same_behind None f g h = refl
-same_behind (Some x) f g h = h x
-
--- A dict entry is read as a struct of its key and its value is.
-pair_fields : (room : ℕ) (order : Endian) (k : BasicType) (v : Shape) (c : Cursor)
-    → behind (pair_at (value_at room order) order k v c) ≡ behind (struct_at (value_at room order) (shapes (basic k) (shapes v no_shapes)) c)
-unfolding pair_at struct_at fields_at
-pair_fields room order k v c =
-    same_behind (align_at 8 c) _ _
-    (λ p.
-    ap (λ found. behind {A = Datum × Datum} (found >>= λ a. value_at room order v a.1 >>= λ b. Some ((a.0, b.0), b.1))) (sym (basic_room room order k p))
-    ∙ same_behind (value_at room order (basic k) p) _ _
-    (λ a. same_behind (value_at room order v a.1) _ (λ x. made (λ ds. x.0 ∷ ds) (Some ([], x.1))) (λ b. refl) ∙ sym (behind-made (λ ds. a.0 ∷ ds) _)))
 
 found_as : (IsFound : Parse (List ℕ) → Type 0) (rest : List ℕ) (x y : Option Cursor) → x ≡ y → IsFound (leaving rest y) → IsFound (leaving rest x)
 found_as IsFound rest x y e h = subst (λ (x : Option Cursor). IsFound (leaving rest x)) (sym e) h
@@ -128,7 +93,7 @@ pub opened : (n room : ℕ) (order : Endian) (c : Cursor) (text : List ℕ) (l :
     → IsFound (leaving rest (behind (struct_at (value_at room order) ts c))))
     → (l ≡ 118 → IsFound (leaving inner (behind (variant_at (value_at room order) order c))))
     → Walks n order text c IsFound
-unfolding value_at entry_at
+unfolding value_at
 opened n room order c text l inner IsFound r s h a f v (value (basic b)) rest k e = absurd (no_letter b l h cc)
 opened n room order c text l inner IsFound r s h a f v (value any) rest k e =
     let head : l ≡ 118 = cc in
@@ -140,7 +105,7 @@ opened n room order c text l inner IsFound r s h a f v (value (array_of t)) rest
     found_as IsFound rest (behind (value_at n order (array_of t) c)) _ (ap (λ n. behind (value_at n order (array_of t) c)) r ∙ behind-made (λ ds. array t (data_of ds)) _)
     (let head : l ≡ 97 = cc in a head (value t) rest k e)
 opened n room order c text l inner IsFound r s h a f v (value (dict_of u w)) rest k e =
-    found_as IsFound rest (behind (value_at n order (dict_of u w) c)) _ (ap (λ n. behind (value_at n order (dict_of u w) c)) r ∙ behind-made (λ es. dict u w (entries_of es)) _)
+    found_as IsFound rest (behind (value_at n order (dict_of u w) c)) _ (ap (λ n. behind (value_at n order (dict_of u w) c)) r ∙ behind-made (λ ds. dict u w (data_of ds)) _)
     (let head : l ≡ 97 = cc in a head (pair u w) rest k e)
 opened n room order c text l inner IsFound r s h a f v (value (struct_of ts)) rest k e =
     let same : inner ≡ (types_text ts ++ 41 ∷ []) ++ rest = cc in
@@ -151,7 +116,7 @@ opened n room order c text l inner IsFound r s h a f v (pair u w) rest k e =
     let same : inner ≡ letter u ∷ ((type_text w ++ 125 ∷ []) ++ rest) = cc in
     let spread : (type_text w ++ 125 ∷ []) ++ rest ≡ (type_text w ++ []) ++ (125 ∷ rest) =
     append_assoc (type_text w) (125 ∷ []) rest ∙ ap (λ t. t ++ (125 ∷ rest)) (sym (append-nil (type_text w))) in
-    found_as IsFound rest (behind (entry_at n order u w c)) _ (ap (λ n. behind (entry_at n order u w c)) r ∙ pair_fields room order u w c)
+    found_as IsFound rest (behind (value_at n order (struct_of ts) c)) _ (ap (λ n. behind (value_at n order (struct_of ts) c)) r ∙ behind-made (λ ds. struct (data_of ds)) _)
     (let head : l ≡ 123 = cc in f (inr head) ts 125 rest k (inr refl) (same ∙ ap (λ t. letter u ∷ t) spread))
 
 -- ---- arrays
@@ -166,8 +131,8 @@ rest_of_type t text rest h e =
       rest = rest;
       text = e;
       long = refl;
-      arrays = (let a : max (array_depth t) 0 ≤ 32 = h.arrays in omega arith);
-      structs = (let s : max (struct_depth t) 0 ≤ 32 = h.structs in omega arith);
+      arrays = omega (arith, h.arrays);
+      structs = omega (arith, h.structs);
       fields = h.fields.0;
     } in
     ap (option_map (λ n. drop n text)) (begins_again text (length (type_text t)) k)
@@ -209,25 +174,26 @@ no_bracket (basic b) rest =
     ap (λ e. if e then Some rest else (if letter b == 125 then Some rest else None)) (ne_eqb (letter b) 41 (no_letter b 41 refl))
     ∙ ap (λ e. if e then Some rest else None) (ne_eqb (letter b) 125 (no_letter b 125 refl))
 no_bracket any rest = refl
-no_bracket (array_of t) rest = refl
-no_bracket (dict_of k v) rest = refl
-no_bracket (struct_of ts) rest = refl
+no_bracket t rest = refl
 
 at_bracket : (close : ℕ) (rest : List ℕ) → IsBracket close → past_bracket (close ∷ rest) ≡ Some rest
 at_bracket close rest (inl e) = ap (λ c. past_bracket (c ∷ rest)) e
 at_bracket close rest (inr e) = ap (λ c. past_bracket (c ∷ rest)) e
 
--- What is left of fields, at most so many bytes of text: all of them end where these do.
-abbrev pub FieldsLeft : ℕ → Endian → List ℕ → Cursor → List ℕ → Cursor → ℕ → Type 0
-FieldsLeft room order text c left stand n =
-    (ts : Shapes) (close : ℕ) (rest : List ℕ) → AreShallow ts → IsBracket close → text ≡ types_text ts ++ (close ∷ rest)
-    → (us : Shapes) × AreShallow us × (left ≡ types_text us ++ (close ∷ rest)) × (length left ≤ n)
-    × (behind (struct_at (value_at room order) ts c) ≡ behind (fields_at (value_at room order) us stand))
+-- Whichever fields and closing bracket stand at the front of a text of at most so many bytes, this is what reading them leaves.
+abbrev pub FieldsLeave : ℕ → Endian → List ℕ → Cursor → ℕ → Parse (List ℕ) → Type 0
+FieldsLeave room order text c n left =
+    (ts : Shapes) (close : ℕ) (rest : List ℕ) → AreShallow ts → IsBracket close → text ≡ types_text ts ++ (close ∷ rest) → length text ≤ n
+    → leaving rest (behind (fields_at (value_at room order) ts c)) ≡ left
 
-pub fields_start : (room : ℕ) (order : Endian) (text : List ℕ) (c stand : Cursor) → align_at 8 c ≡ Some stand
-    → FieldsLeft room order text c text stand (length text - 0)
+-- the fields behind the padding before them
+pub fields_behind : (room : ℕ) (order : Endian) (text : List ℕ) (c stand : Cursor) (left : Parse (List ℕ)) → align_at 8 c ≡ Some stand
+    → FieldsLeave room order text stand (length text - 0) left
+    → (ts : Shapes) (close : ℕ) (rest : List ℕ) → AreShallow ts → IsBracket close → text ≡ types_text ts ++ (close ∷ rest)
+    → leaving rest (behind (struct_at (value_at room order) ts c)) ≡ left
 unfolding struct_at
-fields_start room order text c stand a ts close rest h b e = (ts, h, e, omega arith, ap behind (bound_some (align_at 8 c) (fields_at (value_at room order) ts) stand a))
+fields_behind room order text c stand left a f ts close rest h b e =
+    ap (λ found. leaving rest (behind (found >>= fields_at (value_at room order) ts))) a ∙ f ts close rest h b e (omega arith)
 
 pub fields_nowhere : (room : ℕ) (order : Endian) (ts : Shapes) (rest : List ℕ) (c : Cursor) → align_at 8 c ≡ None
     → leaving rest (behind (struct_at (value_at room order) ts c)) ≡ None
@@ -235,76 +201,50 @@ unfolding struct_at
 fields_nowhere room order ts rest c a = ap (λ found. leaving rest (behind (found >>= fields_at (value_at room order) ts))) a
 
 -- the bracket was reached
-pub fields_end : (room : ℕ) (order : Endian) (text : List ℕ) (c : Cursor) (left : List ℕ) (stand : Cursor) (n : ℕ) (end : List ℕ)
-    → FieldsLeft room order text c left stand n → past_bracket left ≡ Some end
-    → (ts : Shapes) (close : ℕ) (rest : List ℕ) → AreShallow ts → IsBracket close → text ≡ types_text ts ++ (close ∷ rest)
-    → leaving rest (behind (struct_at (value_at room order) ts c)) ≡ Some (end, stand)
+pub fields_end : (room : ℕ) (order : Endian) (text : List ℕ) (c : Cursor) (n : ℕ) (end : List ℕ) → past_bracket text ≡ Some end
+    → FieldsLeave room order text c n (Some (end, c))
 unfolding fields_at
-fields_end room order text c left stand n end l p ts close rest h b e =
-    let k = l ts close rest h b e in ap (leaving rest) k.4 ∙ by k.0 k.2 where
-      by : (us : Shapes) → left ≡ types_text us ++ (close ∷ rest) → leaving rest (behind (fields_at (value_at room order) us stand)) ≡ Some (end, stand)
-      by no_shapes s = let same : rest ≡ end = some_is rest end (sym (ap past_bracket s ∙ at_bracket close rest b) ∙ p) in ap (λ r. Some (r, stand)) same
-      by (shapes t us) s =
-          let none : past_bracket left ≡ None = ap past_bracket (s ∙ append_assoc (type_text t) (types_text us) (close ∷ rest)) ∙ no_bracket t (types_text us ++ (close ∷ rest)) in
-          absurd (cc)
+fields_end room order text c n end p no_shapes close rest h b e l =
+    ap (λ r. Some (r, c)) (some_is rest end (sym (ap past_bracket e ∙ at_bracket close rest b) ∙ p))
+fields_end room order text c n end p (shapes t us) close rest h b e l =
+    let none : past_bracket text ≡ None = ap past_bracket (e ∙ append_assoc (type_text t) (types_text us) (close ∷ rest)) ∙ no_bracket t (types_text us ++ (close ∷ rest)) in
+    absurd (cc)
 
 types_length : (t : Shape) → 0 < length (type_text t)
 types_length (basic b) = omega arith
-types_length any = omega arith
-types_length (array_of t) = omega arith
-types_length (dict_of k v) = omega arith
-types_length (struct_of ts) = omega arith
-
--- the first of what is left, where no bracket was reached, and the others
-record First (room : ℕ) (order : Endian) (left : List ℕ) (stand : Cursor) (close : ℕ) (rest : List ℕ) (found : Option Cursor) : Type 0 where
-  pub first : Shape
-  pub others : Shapes
-  pub shallow : AreShallow (shapes first no_shapes) × AreShallow others
-  pub text : left ≡ type_text first ++ (types_text others ++ (close ∷ rest))
-  pub read : found ≡ behind (value_at room order first stand >>= λ x. made (λ ds. x.0 ∷ ds) (fields_at (value_at room order) others x.1))
-
-first_left : (room : ℕ) (order : Endian) (left : List ℕ) (stand : Cursor) (close : ℕ) (rest : List ℕ) (found : Option Cursor) (us : Shapes) → IsBracket close → past_bracket left ≡ None
-    → AreShallow us → left ≡ types_text us ++ (close ∷ rest) → found ≡ behind (fields_at (value_at room order) us stand) → First room order left stand close rest found
-unfolding fields_at
-first_left room order left stand close rest found no_shapes b p h s e = let some : past_bracket left ≡ Some rest = ap past_bracket s ∙ at_bracket close rest b in absurd (cc)
-first_left room order left stand close rest found (shapes t us) b p h s e =
-    record { first = t; others = us; shallow = both_shallow t us h; text = s ∙ append_assoc (type_text t) (types_text us) (close ∷ rest); read = e }
+types_length t = omega arith
 
 -- One field more was passed, and no bracket was reached.
-pub fields_more : (room : ℕ) (order : Endian) (text : List ℕ) (c : Cursor) (left : List ℕ) (stand : Cursor) (n m : ℕ) (next : List ℕ) (after : Cursor)
-    → FieldsLeft room order text c left stand n → past_bracket left ≡ None → Walks room order left stand (λ found. found ≡ Some (next, after)) → n ≡ suc m
-    → FieldsLeft room order text c next after m
-fields_more room order text c left stand n m next after l p w q ts close rest h b e =
-    let k = l ts close rest h b e in
-    let f : First room order left stand close rest (behind (struct_at (value_at room order) ts c)) = first_left room order left stand close rest _ k.0 b p k.1 k.2 k.4 in
-    let others : List ℕ = types_text f.others ++ (close ∷ rest) in
-    let y = left_some others (value_at room order f.first stand) (next, after) (w (value f.first) others f.shallow.0 f.text) in (
-      f.others,
-      f.shallow.1,
-      y.0,
-      omega (arith, k.3, ap length f.text, length-append (type_text f.first) others, types_length f.first, ap length y.0),
-      f.read ∙ ap (λ found. behind (found >>= λ x. made (λ ds. x.0 ∷ ds) (fields_at (value_at room order) f.others x.1))) y.1.1
-          ∙ behind-made (λ ds. y.1.0 ∷ ds) (fields_at (value_at room order) f.others after),
-    )
+pub fields_more : (room : ℕ) (order : Endian) (text : List ℕ) (c : Cursor) (n m : ℕ) (next : List ℕ) (after : Cursor) (left : Parse (List ℕ)) → n ≡ suc m
+    → past_bracket text ≡ None → Walks room order text c (λ found. found ≡ Some (next, after)) → FieldsLeave room order next after m left
+    → FieldsLeave room order text c n left
+unfolding fields_at
+fields_more room order text c n m next after left q p w f no_shapes close rest h b e l =
+    let some : past_bracket text ≡ Some rest = ap past_bracket e ∙ at_bracket close rest b in absurd (cc)
+fields_more room order text c n m next after left q p w f (shapes t us) close rest h b e l =
+    let others : List ℕ = types_text us ++ (close ∷ rest) in
+    let parts : text ≡ type_text t ++ others = e ∙ append_assoc (type_text t) (types_text us) (close ∷ rest) in
+    let k = both_shallow t us h in
+    let y = left_some others (value_at room order t c) (next, after) (w (value t) others k.0 parts) in
+    ap (λ found. leaving rest (behind (found >>= λ x. made (λ ds. x.0 ∷ ds) (fields_at (value_at room order) us x.1)))) y.1.1
+    ∙ ap (leaving rest) (behind-made (λ ds. y.1.0 ∷ ds) (fields_at (value_at room order) us after))
+    ∙ f us close rest k.1 b y.0 (omega (arith, l, q, ap length parts, length-append (type_text t) others, types_length t, ap length y.0))
 
 -- no field was found, and no bracket was reached
-pub fields_lost : (room : ℕ) (order : Endian) (text : List ℕ) (c : Cursor) (left : List ℕ) (stand : Cursor) (n : ℕ)
-    → FieldsLeft room order text c left stand n → past_bracket left ≡ None → Walks room order left stand (λ found. found ≡ None)
-    → (ts : Shapes) (close : ℕ) (rest : List ℕ) → AreShallow ts → IsBracket close → text ≡ types_text ts ++ (close ∷ rest) → leaving rest (behind (struct_at (value_at room order) ts c)) ≡ None
-fields_lost room order text c left stand n l p w ts close rest h b e =
-    let k = l ts close rest h b e in
-    let f : First room order left stand close rest (behind (struct_at (value_at room order) ts c)) = first_left room order left stand close rest _ k.0 b p k.1 k.2 k.4 in
-    let others : List ℕ = types_text f.others ++ (close ∷ rest) in
-    ap (leaving rest)
-    (f.read ∙ ap (λ found. behind (found >>= λ x. made (λ ds. x.0 ∷ ds) (fields_at (value_at room order) f.others x.1)))
-    (left_none others (value_at room order f.first stand) (w (value f.first) others f.shallow.0 f.text)))
+pub fields_lost : (room : ℕ) (order : Endian) (text : List ℕ) (c : Cursor) (n : ℕ) → past_bracket text ≡ None → Walks room order text c (λ found. found ≡ None)
+    → FieldsLeave room order text c n None
+unfolding fields_at
+fields_lost room order text c n p w no_shapes close rest h b e l =
+    let some : past_bracket text ≡ Some rest = ap past_bracket e ∙ at_bracket close rest b in absurd (cc)
+fields_lost room order text c n p w (shapes t us) close rest h b e l =
+    let others : List ℕ = types_text us ++ (close ∷ rest) in
+    let parts : text ≡ type_text t ++ others = e ∙ append_assoc (type_text t) (types_text us) (close ∷ rest) in
+    ap (λ found. leaving rest (behind (found >>= λ x. made (λ ds. x.0 ∷ ds) (fields_at (value_at room order) us x.1))))
+    (left_none others (value_at room order t c) (w (value t) others (both_shallow t us h).0 parts))
 
 -- no text is left
-pub fields_out : (room : ℕ) (order : Endian) (text : List ℕ) (c : Cursor) (left : List ℕ) (stand : Cursor) (n : ℕ)
-    → FieldsLeft room order text c left stand n → n ≡ 0
-    → (ts : Shapes) (close : ℕ) (rest : List ℕ) → AreShallow ts → IsBracket close → text ≡ types_text ts ++ (close ∷ rest) → leaving rest (behind (struct_at (value_at room order) ts c)) ≡ None
-fields_out room order text c left stand n l z ts close rest h b e =
-    let k = l ts close rest h b e in absurd (omega (arith, k.3, ap length k.2, length-append (types_text k.0) (close ∷ rest)))
+pub fields_out : (room : ℕ) (order : Endian) (text : List ℕ) (c : Cursor) (n : ℕ) → n ≡ 0 → FieldsLeave room order text c n None
+fields_out room order text c n z ts close rest h b e l = absurd (omega (arith, l, z, ap length e, length-append (types_text ts) (close ∷ rest)))
 
 -- ---- variants
 
@@ -323,11 +263,6 @@ variant_walks room order c s inner rest found e k w =
       by None f k = absurd (cc)
       by (Some t) f k =
           let x : TypeText t s = type_in-takes s t f in
-          let shallow : AreShallow (shapes t no_shapes) = record {
-            arrays = (let a : array_depth t ≤ 32 = x.valid.arrays in omega arith);
-            structs = (let a : struct_depth t ≤ 32 = x.valid.structs in omega arith);
-            fields = (x.valid.fields, tt);
-          } in
           ap (leaving rest)
           (behind-made variant (value_at room order t inner) ∙ sym (behind-leaving [] (behind (value_at room order t inner)))
-          ∙ ap behind (w (value t) [] shallow (x.text ∙ sym (append-nil (type_text t)))))
+          ∙ ap behind (w (value t) [] (type_shallow t x.valid) (x.text ∙ sym (append-nil (type_text t)))))

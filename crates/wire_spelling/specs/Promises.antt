@@ -23,11 +23,9 @@ SpellOnlyThe order place t bytes x =
 
 -- What an error of decoding says: `Malformed` that no front of the bytes spells a value. Want of memory tells nothing.
 abbrev pub Explains : VariantError → Endian → ℕ → Shape → List ℕ → Type 0
-Explains errors.Signature order place t bytes = ⊥
-Explains errors.Depth order place t bytes = ⊥
 Explains errors.Malformed order place t bytes = SpellNothing order place t bytes
-Explains errors.SignatureMismatch order place t bytes = ⊥
 Explains errors.Memory order place t bytes = Unit {0}
+Explains e order place t bytes = ⊥
 
 -- The text begins with that of the type.
 abbrev pub StandsFirst : Shape → List ℕ → Type 0

@@ -5,11 +5,9 @@ use Rattle.wire_signature.specs.declared.error.VariantError.TheVariants as error
 
 -- A refusal says that nothing was found. Want of memory tells nothing.
 abbrev pub Refuses : {Y : Type 0} → VariantError → Option Y → Type 0
-Refuses errors.Signature found = ⊥
-Refuses errors.Depth found = ⊥
 Refuses errors.Malformed found = found ≡ None
-Refuses errors.SignatureMismatch found = ⊥
 Refuses errors.Memory found = Unit {0}
+Refuses e found = ⊥
 
 -- Seen by `view`, what a call that takes memory returned is what reading finds.
 abbrev pub Gives : {X Y : Type 0} → (X → Y) → Result X VariantError → Option Y → Type 0

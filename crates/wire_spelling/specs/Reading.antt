@@ -10,7 +10,7 @@ use Rattle.wire_signature.specs.declared.basic.BasicType.{BasicType}
 use Rattle.wire_signature.specs.declared.basic.BasicType.TheVariants as basics
 use Rattle.wire_signature.specs.Shape.{Shape, basic, variant as any, array as array_of, dict as dict_of, struct as struct_of, Shapes, no_shapes, shapes, alignment, basic_alignment}
 use Rattle.wire_signature.specs.Parsing.{type_in, types_in}
-use Rattle.wire_tree.specs.Datum.{Num, byte, boolean, int16, uint16, int32, uint32, int64, uint64, double, unix_fd, Txt, string, object_path, signature, Datum, num, text, array, dict, struct, variant, data_of, entries_of, bound, num_type}
+use Rattle.wire_tree.specs.Datum.{Num, byte, boolean, int16, uint16, int32, uint32, int64, uint64, double, unix_fd, Txt, string, object_path, signature, Datum, num, text, array, dict, struct, variant, data_of, entry_type, bound, num_type}
 use Rattle.wire_spelling.specs.Spelling.{width_of, length_width}
 use Rattle.wire_number.specs.Reading.{Cursor, Parse, ◌>>=◌, made, bytes_at, align_at, number_at, counted_at}
 
@@ -106,36 +106,20 @@ fields_at read (shapes t ts) c = do
 unfoldable pub struct_at : (Shape → Cursor → Parse Datum) → Shapes → Cursor → Parse (List Datum)
 struct_at read ts c = align_at 8 c >>= fields_at read ts
 
--- a dict entry
-unfoldable pub pair_at : (Shape → Cursor → Parse Datum) → Endian → BasicType → Shape → Cursor → Parse (Datum × Datum)
-pair_at read order k v c = do
-  p ← align_at 8 c
-  key ← basic_at k order p
-  value ← read v key.1
-  Some ((key.0, value.0), value.1)
-
 -- a value where no container may be opened any more
 abbrev pub leaf_at : Endian → Shape → Cursor → Parse Datum
 leaf_at order (basic b) c = basic_at b order c
-leaf_at order any c = None
-leaf_at order (array_of t) c = None
-leaf_at order (dict_of k v) c = None
-leaf_at order (struct_of ts) c = None
+leaf_at order t c = None
 
--- a value; `read` reads the values inside, and `entry` dict entries
-abbrev pub value_step : (Shape → Cursor → Parse Datum) → (BasicType → Shape → Cursor → Parse (Datum × Datum)) → Endian → Shape → Cursor → Parse Datum
-value_step read entry order (basic b) c = basic_at b order c
-value_step read entry order any c = variant_at read order c
-value_step read entry order (array_of t) c = made (λ ds. array t (data_of ds)) (array_at (alignment t) (read t) order c)
-value_step read entry order (dict_of k v) c = made (λ es. dict k v (entries_of es)) (array_at 8 (entry k v) order c)
-value_step read entry order (struct_of ts) c = made (λ ds. struct (data_of ds)) (struct_at read ts c)
+-- a value; `read` reads the values inside
+abbrev pub value_step : (Shape → Cursor → Parse Datum) → Endian → Shape → Cursor → Parse Datum
+value_step read order (basic b) c = basic_at b order c
+value_step read order any c = variant_at read order c
+value_step read order (array_of t) c = made (λ ds. array t (data_of ds)) (array_at (alignment t) (read t) order c)
+value_step read order (dict_of k v) c = made (λ ds. dict k v (data_of ds)) (array_at 8 (read (entry_type k v)) order c)
+value_step read order (struct_of ts) c = made (λ ds. struct (data_of ds)) (struct_at read ts c)
 
 -- A value of a type, where so many containers may still be opened.
-unfoldable mutual
-  pub value_at : ℕ → Endian → Shape → Cursor → Parse Datum
-  value_at zero order t c = leaf_at order t c
-  value_at (suc room) order t c = value_step (value_at room order) (entry_at room order) order t c
-
-  pub entry_at : ℕ → Endian → BasicType → Shape → Cursor → Parse (Datum × Datum)
-  entry_at zero order k v c = None
-  entry_at (suc room) order k v c = pair_at (value_at room order) order k v c
+unfoldable pub value_at : ℕ → Endian → Shape → Cursor → Parse Datum
+value_at zero order t c = leaf_at order t c
+value_at (suc room) order t c = value_step (value_at room order) order t c

@@ -4,20 +4,17 @@ use Rattle.std.specs.Int.{Width, w8, w16, w32, w64}
 use Rattle.wire_number.specs.declared.endian.Endian.{Endian}
 use Rattle.wire_number.specs.Number.{number_text, pad, padding, counted_text}
 use Rattle.wire_signature.specs.Shape.{Shape, alignment, basic_alignment, type_text}
-use Rattle.wire_tree.specs.Datum.{Num, byte, boolean, int16, uint16, int32, uint32, int64, uint64, double, unix_fd, Txt, string, object_path, signature, Datum, num, text, array, dict, struct, variant, Data, no_data, items, Entries, no_entries, entry, type_of, num_type, text_type, IsFormed}
+use Rattle.wire_tree.specs.Datum.{Num, byte, boolean, int16, uint16, int32, uint32, int64, uint64, double, unix_fd, Txt, string, object_path, signature, Datum, num, text, array, dict, struct, variant, Data, no_data, items, type_of, num_type, text_type, IsFormed}
 
 -- the width of a number of the type
 abbrev pub width_of : Num → Width
 width_of byte = w8
-width_of boolean = w32
 width_of int16 = w16
 width_of uint16 = w16
-width_of int32 = w32
-width_of uint32 = w32
 width_of int64 = w64
 width_of uint64 = w64
 width_of double = w64
-width_of unix_fd = w32
+width_of n = w32
 
 -- the next place on a boundary
 abbrev pub aligned : ℕ → ℕ → ℕ
@@ -29,9 +26,8 @@ chain place first others = first ++ others (place + length first)
 
 -- the width of a text's length: one byte for a signature, a `UINT32` for others
 abbrev pub length_width : Txt → Width
-length_width string = w32
-length_width object_path = w32
 length_width signature = w8
+length_width t = w32
 
 -- where an array's first element would begin, padding included
 abbrev pub first_place : ℕ → ℕ → ℕ
@@ -51,7 +47,7 @@ unfoldable mutual
   spelling order place (num n v) = padding place (basic_alignment (num_type n)) ++ number_text (width_of n) order v
   spelling order place (text t bytes) = padding place (basic_alignment (text_type t)) ++ counted_text (length_width t) order bytes
   spelling order place (array t ds) = array_form order place (alignment t) (spellings order (first_place place (alignment t)) ds)
-  spelling order place (dict k v es) = array_form order place 8 (entry_spellings order (first_place place 8) es)
+  spelling order place (dict k v es) = array_form order place 8 (spellings order (first_place place 8) es)
   spelling order place (struct ds) = padding place 8 ++ spellings order (aligned place 8) ds
   spelling order place (variant d) = chain place (counted_text w8 order (type_text (type_of d))) (λ behind. spelling order behind d)
 
@@ -60,13 +56,6 @@ unfoldable mutual
   spellings order place no_data = []
   spellings order place (items d ds) = chain place (spelling order place d) (λ behind. spellings order behind ds)
 
-  -- of dict entries
-  pub entry_spellings : Endian → ℕ → Entries → List ℕ
-  entry_spellings order place no_entries = []
-  entry_spellings order place (entry k v es) =
-      padding place 8
-      ++ chain (aligned place 8) (spelling order (aligned place 8) k) (λ middle. chain middle (spelling order middle v) (λ behind. entry_spellings order behind es))
-
 -- How many containers are open at once in a value: arrays, dict entries beside their array, structs and variants
 -- (D-Bus Specification, "Valid Signatures" and "Message Protocol": at most 64 of them).
 abbrev mutual
@@ -74,17 +63,13 @@ abbrev mutual
   depth (num n v) = 0
   depth (text t bytes) = 0
   depth (array t ds) = depths ds + 1
-  depth (dict k v es) = entry_depths es + 1
+  depth (dict k v es) = depths es + 1
   depth (struct ds) = depths ds + 1
   depth (variant d) = depth d + 1
 
   pub depths : Data → ℕ
   depths no_data = 0
   depths (items d ds) = max (depth d) (depths ds)
-
-  pub entry_depths : Entries → ℕ
-  entry_depths no_entries = 0
-  entry_depths (entry k v es) = max (max (depth k) (depth v) + 1) (entry_depths es)
 
 -- The elements of each array take at most 67,108,864 bytes (D-Bus Specification, "Marshaling", `ARRAY`).
 unfoldable mutual
@@ -94,20 +79,13 @@ unfoldable mutual
   ArraysFit order place (array t ds) =
       (length (spellings order (first_place place (alignment t)) ds) ≤ 67108864) × AllFit order (first_place place (alignment t)) ds
   ArraysFit order place (dict k v es) =
-      (length (entry_spellings order (first_place place 8) es) ≤ 67108864) × EntriesFit order (first_place place 8) es
+      (length (spellings order (first_place place 8) es) ≤ 67108864) × AllFit order (first_place place 8) es
   ArraysFit order place (struct ds) = AllFit order (aligned place 8) ds
   ArraysFit order place (variant d) = ArraysFit order (place + length (counted_text w8 order (type_text (type_of d)))) d
 
   pub AllFit : Endian → ℕ → Data → Type 0
   AllFit order place no_data = Unit {0}
   AllFit order place (items d ds) = ArraysFit order place d × AllFit order (place + length (spelling order place d)) ds
-
-  pub EntriesFit : Endian → ℕ → Entries → Type 0
-  EntriesFit order place no_entries = Unit {0}
-  EntriesFit order place (entry k v es) =
-      ArraysFit order (aligned place 8) k
-      × ArraysFit order (aligned place 8 + length (spelling order (aligned place 8) k)) v
-      × EntriesFit order (aligned place 8 + length (spelling order (aligned place 8) k) + length (spelling order (aligned place 8 + length (spelling order (aligned place 8) k)) v)) es
 
 -- Bytes that begin at a place spell a value of a type: it is formed, of that type, within the limits, and they are its
 -- spelling (D-Bus Specification, "Marshaling (Wire Format)").

@@ -4,8 +4,8 @@ use Rattle.wire_number.specs.declared.endian.Endian.{Endian}
 use Rattle.wire_number.specs.Reading.{Cursor, Parse, behind}
 use Rattle.wire_signature.specs.declared.basic.BasicType.{BasicType}
 use Rattle.wire_signature.specs.Shape.{Shape, basic, array, dict, Shapes, no_shapes, shapes, letter, type_text, alignment, basic_alignment, basic_of, array_depths, struct_depths, AllHaveFields}
-use Rattle.wire_tree.specs.Datum.{Datum}
-use Rattle.wire_spelling.specs.Reading.{value_at, entry_at}
+use Rattle.wire_tree.specs.Datum.{Datum, entry_type}
+use Rattle.wire_spelling.specs.Reading.{value_at}
 
 -- What a walk leads over: a value, or an entry of a dict, which stands in an array alone (D-Bus Specification, "Container
 -- types").
@@ -34,10 +34,14 @@ pub record AreShallow (ts : Shapes) : Type 0 where
   pub structs : struct_depths ts ≤ 32
   pub fields : AllHaveFields ts
 
+-- the type that it is read as
+abbrev pub item_type : Item → Shape
+item_type (value t) = t
+item_type (pair k v) = entry_type k v
+
 -- the boundary on which an item begins
 abbrev pub item_boundary : Item → ℕ
-item_boundary (value t) = alignment t
-item_boundary (pair k v) = 8
+item_boundary i = alignment (item_type i)
 
 -- the same by the first byte of its text
 abbrev pub letter_boundary : ℕ → Option BasicType → ℕ
@@ -57,13 +61,8 @@ past_bracket [] = None
 past_bracket (c ∷ rest) = if c == 41 then Some rest else if c == 125 then Some rest else None
 
 -- reading an item, where so many containers may still be opened
-abbrev pub ItemOf : Item → Type 0
-ItemOf (value t) = Datum
-ItemOf (pair k v) = Datum × Datum
-
-abbrev pub item_at : ℕ → Endian → (i : Item) → Cursor → Parse (ItemOf i)
-item_at room order (value t) c = value_at room order t c
-item_at room order (pair k v) c = entry_at room order k v c
+abbrev pub item_at : ℕ → Endian → Item → Cursor → Parse Datum
+item_at room order i c = value_at room order (item_type i) c
 
 -- what a walk leaves: the text behind the item's, and the cursor behind the item, where it is there
 abbrev pub leaving : List ℕ → Option Cursor → Parse (List ℕ)

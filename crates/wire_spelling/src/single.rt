@@ -8,8 +8,11 @@ use wire_signature::{MAX_LENGTH, first_type};
 pub(crate) fn is_type(text: &[u8]) -> bool
     ensures { result ≡ is_some (type_in text.now) }
 {
+    if text.len() > MAX_LENGTH {
+        return false;
+    }
     match first_type(text) {
-        Some(length) => length <= MAX_LENGTH && length == text.len(),
+        Some(length) => length == text.len(),
         None => false,
     }
 }

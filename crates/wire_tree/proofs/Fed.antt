@@ -1,20 +1,17 @@
 -- What the values of a list feed a hasher.
 use Rattle.std.proofs.Common.{◌≡◌, ℕ, zero, suc, ◌<◌, List, [], ◌∷◌, ◌++◌, length, fold, get_or, map, take, refl, sym, ◌∙◌, ap, arith, append_assoc, append-nil}
-use Rattle.wire_tree.specs.Datum.{Datum, array, dict, data_of, list_of, entries_of, pairs_of}
-use Rattle.wire_tree.specs.DatumView.{datum_of, pair_of}
+use Rattle.wire_tree.specs.Datum.{Datum, array, dict, data_of, list_of, entries_of}
+use Rattle.wire_tree.specs.DatumView.{datum_of, pair_of, entry_of}
 use Rattle.std.specs.Hash.{le_bytes}
 use Rattle.wire_signature.specs.declared.basic.BasicType.{BasicType}
 use Rattle.wire_signature.specs.Shape.{Shape}
 use Rattle.wire_tree.specs.Equal.{writes, writes_of, writes_in}
 use Rattle.wire_tree.specs.declared.tree.Tree.{Tree}
+use Rattle.wire_tree.proofs.Parts.{entries_are}
 
-pub counted : (ts : List Tree) → length (list_of (data_of (map datum_of ts))) ≡ length ts
-counted [] = refl
-counted (t ∷ ts) = ap suc (counted ts)
-
-pub counted-pairs : (ps : List (Tree × Tree)) → length (pairs_of (entries_of (map pair_of ps))) ≡ length ps
-counted-pairs [] = refl
-counted-pairs (p ∷ ps) = ap suc (counted-pairs ps)
+counted : {A : Type 0} (f : A → Datum) (xs : List A) → length (list_of (data_of (map f xs))) ≡ length xs
+counted f [] = refl
+counted f (x ∷ xs) = ap suc (counted f xs)
 
 -- one value more
 pub writes_of-take : (ts : List Tree) (i : ℕ) (t : Tree) → i < length ts → t ≡ get_or ts i t
@@ -30,9 +27,10 @@ pub writes_in-take : (ps : List (Tree × Tree)) (i : ℕ) (p : Tree × Tree) →
     → writes_in (entries_of (map pair_of (take (suc i) ps))) ≡ (writes_in (entries_of (map pair_of (take i ps))) ++ writes (datum_of p.0)) ++ writes (datum_of p.1)
 writes_in-take [] i p h e = absurd (omega arith)
 writes_in-take (a ∷ ps) zero p h e =
-    append-nil (writes (datum_of a.0) ++ writes (datum_of a.1)) ∙ sym (ap (λ u. writes (datum_of u.0) ++ writes (datum_of u.1)) e)
+    append-nil (writes (datum_of a.0) ++ (writes (datum_of a.1) ++ [])) ∙ ap (λ w. writes (datum_of a.0) ++ w) (append-nil (writes (datum_of a.1)))
+    ∙ sym (ap (λ u. writes (datum_of u.0) ++ writes (datum_of u.1)) e)
 writes_in-take (a ∷ ps) (suc i) p h e =
-    ap (λ r. writes (datum_of a.0) ++ writes (datum_of a.1) ++ r) (writes_in-take ps i p (omega arith) e) ∙ grind (arith, append_assoc)
+    ap (λ r. (writes (datum_of a.0) ++ (writes (datum_of a.1) ++ [])) ++ r) (writes_in-take ps i p (omega arith) e) ∙ grind (arith, append_assoc)
 
 module _ {S : Type 0} (write : S → List ℕ → S) (s s1 s2 s3 : S) (d : Datum) where
   pub fed_array : (ts : List Tree) (ds : List Datum) (t : Shape) → d ≡ array t (data_of ds) → map datum_of ts ≡ ds
@@ -40,7 +38,7 @@ module _ {S : Type 0} (write : S → List ℕ → S) (s s1 s2 s3 : S) (d : Datum
       → s3 ≡ fold write s (writes d)
   fed_array ts ds t e f p q r =
       r ∙ ap (λ x. fold write x (writes_of (data_of (map datum_of ts)))) (q ∙ ap (λ x. write x (le_bytes 8 (length ts))) p)
-      ∙ ap (λ n. fold write (write (write s (97 ∷ [])) (le_bytes 8 n)) (writes_of (data_of (map datum_of ts)))) (sym (counted ts))
+      ∙ ap (λ n. fold write (write (write s (97 ∷ [])) (le_bytes 8 n)) (writes_of (data_of (map datum_of ts)))) (sym (counted datum_of ts))
       ∙ ap (λ es. fold write s (writes (array t (data_of es)))) f ∙ ap (λ x. fold write s (writes x)) (sym e)
 
   pub fed_dict : (ps : List (Tree × Tree)) (es : List (Datum × Datum)) (k : BasicType) (v : Shape) → d ≡ dict k v (entries_of es) → map pair_of ps ≡ es
@@ -48,5 +46,5 @@ module _ {S : Type 0} (write : S → List ℕ → S) (s s1 s2 s3 : S) (d : Datum
       → s3 ≡ fold write s (writes d)
   fed_dict ps es k v e f p q r =
       r ∙ ap (λ x. fold write x (writes_in (entries_of (map pair_of ps)))) (q ∙ ap (λ x. write x (le_bytes 8 (length ps))) p)
-      ∙ ap (λ n. fold write (write (write s (123 ∷ [])) (le_bytes 8 n)) (writes_in (entries_of (map pair_of ps)))) (sym (counted-pairs ps))
+      ∙ ap (λ n. fold write (write (write s (123 ∷ [])) (le_bytes 8 n)) (writes_in (entries_of (map pair_of ps)))) (sym (ap (λ es. length (list_of es)) (entries_are ps) ∙ counted entry_of ps))
       ∙ ap (λ es. fold write s (writes (dict k v (entries_of es)))) f ∙ ap (λ x. fold write s (writes x)) (sym e)

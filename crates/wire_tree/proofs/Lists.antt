@@ -2,7 +2,7 @@
 use Rattle.std.proofs.Common.{◌≡◌, ◌↔◌, ℕ, zero, suc, ◌<◌, Bool, IsTrue, List, [], ◌∷◌, length, get_or, map, refl, sym, ◌∙◌, ap, arith}
 use Rattle.wire_signature.specs.declared.basic.BasicType.{BasicType}
 use Rattle.wire_signature.specs.Shape.{Shape}
-use Rattle.wire_tree.specs.Datum.{Datum, Data, Entries, array, dict, struct, data_of, list_of, entries_of, pairs_of}
+use Rattle.wire_tree.specs.Datum.{Datum, array, dict, struct, data_of, list_of, entries_of, pairs_of}
 
 pub list_of-data_of : (ds : List Datum) → list_of (data_of ds) ≡ ds
 list_of-data_of [] = refl
@@ -18,35 +18,19 @@ data_of-one xs ys e = sym (list_of-data_of xs) ∙ ap list_of e ∙ list_of-data
 pub entries_of-one : (xs ys : List (Datum × Datum)) → entries_of xs ≡ entries_of ys → xs ≡ ys
 entries_of-one xs ys e = sym (pairs_of-entries_of xs) ∙ ap pairs_of e ∙ pairs_of-entries_of ys
 
-fields_of : (xs ys : Data) → struct xs ≡ struct ys → xs ≡ ys
-fields_of xs ys e = cc
+-- Values that hold lists are one where the lists are, if what holds a list tells which.
+pub lists-same : {A : Type 0} (hold : List A → Datum) → ((xs ys : List A) → hold xs ≡ hold ys → xs ≡ ys) → (b : Bool) (xs ys : List A) (d e : Datum)
+    → hold xs ≡ d → hold ys ≡ e → IsTrue b ↔ (xs ≡ ys) → IsTrue b ↔ (d ≡ e)
+lists-same hold one b xs ys d e f g h = (λ k. sym f ∙ ap hold (h.0 k) ∙ g, λ k. h.1 (one xs ys (f ∙ k ∙ sym g)))
 
-pub structs-same : (b : Bool) (xs ys : List Datum) (d e : Datum) → struct (data_of xs) ≡ d → struct (data_of ys) ≡ e
-    → IsTrue b ↔ (xs ≡ ys) → IsTrue b ↔ (d ≡ e)
-structs-same b xs ys d e f g h = (
-  λ k. sym f ∙ ap (λ zs. struct (data_of zs)) (h.0 k) ∙ g,
-  λ k. h.1 (data_of-one xs ys (fields_of (data_of xs) (data_of ys) (f ∙ k ∙ sym g))),
-)
+pub structs-one : (xs ys : List Datum) → struct (data_of xs) ≡ struct (data_of ys) → xs ≡ ys
+structs-one xs ys e = data_of-one xs ys (cc)
 
-elements_of : (t u : Shape) (xs ys : Data) → array t xs ≡ array u ys → xs ≡ ys
-elements_of t u xs ys e = cc
+pub arrays-one : (t : Shape) (xs ys : List Datum) → array t (data_of xs) ≡ array t (data_of ys) → xs ≡ ys
+arrays-one t xs ys e = data_of-one xs ys (cc)
 
-pub arrays-same : (b : Bool) (t : Shape) (xs ys : List Datum) (d e : Datum) → array t (data_of xs) ≡ d → array t (data_of ys) ≡ e
-    → IsTrue b ↔ (xs ≡ ys) → IsTrue b ↔ (d ≡ e)
-arrays-same b t xs ys d e f g h = (
-  λ k. sym f ∙ ap (λ zs. array t (data_of zs)) (h.0 k) ∙ g,
-  λ k. h.1 (data_of-one xs ys (elements_of t t (data_of xs) (data_of ys) (f ∙ k ∙ sym g))),
-)
-
-entries_in : (b c : BasicType) (t u : Shape) (xs ys : Entries) → dict b t xs ≡ dict c u ys → xs ≡ ys
-entries_in b c t u xs ys e = cc
-
-pub dicts-same : (b : Bool) (k : BasicType) (t : Shape) (xs ys : List (Datum × Datum)) (d e : Datum) → dict k t (entries_of xs) ≡ d → dict k t (entries_of ys) ≡ e
-    → IsTrue b ↔ (xs ≡ ys) → IsTrue b ↔ (d ≡ e)
-dicts-same b k t xs ys d e f g h = (
-  λ p. sym f ∙ ap (λ zs. dict k t (entries_of zs)) (h.0 p) ∙ g,
-  λ p. h.1 (entries_of-one xs ys (entries_in k k t t (entries_of xs) (entries_of ys) (f ∙ p ∙ sym g))),
-)
+pub dicts-one : (k : BasicType) (t : Shape) (xs ys : List (Datum × Datum)) → dict k t (entries_of xs) ≡ dict k t (entries_of ys) → xs ≡ ys
+dicts-one k t xs ys e = entries_of-one xs ys (cc)
 
 -- one item of two lists that are seen as one
 pub seen-item : {A B : Type 0} (f : A → B) (xs ys : List A) (i : ℕ) (x y : A) → map f xs ≡ map f ys → i < length xs → x ≡ get_or xs i x → y ≡ get_or ys i y → f x ≡ f y

@@ -1,5 +1,5 @@
 -- Values of D-Bus as plain data (D-Bus Specification, "Type System").
-use Rattle.std.specs.Prelude.{◌≡◌, ℕ, ◌+◌, ◌<◌, ◌≤◌, List, [], ◌∷◌, length, All, IsUtf8}
+use Rattle.std.specs.Prelude.{◌≡◌, ℕ, ◌+◌, ◌<◌, ◌≤◌, List, [], ◌∷◌, length, map, All, IsUtf8}
 use Rattle.wire_names.specs.Names.{IsObjectPath}
 use Rattle.wire_signature.specs.declared.basic.BasicType.{BasicType}
 use Rattle.wire_signature.specs.declared.basic.BasicType.TheVariants as basics
@@ -25,25 +25,20 @@ pub data Txt : Type 0 where
   signature : Txt
 
 -- A value: a number by its bits, signed ones in two's complement and a double by its 64 raw bits; a text by its bytes; an
--- array by its elements' type and its elements; a dict by its keys' type, its values' type and its entries; a struct by
--- its fields; a variant by the value that it holds.
+-- array by its elements' type and its elements; a dict by its keys' type, its values' type and its entries, each of them a
+-- struct of a key and its value; a struct by its fields; a variant by the value that it holds.
 mutual
   pub data Datum : Type 0 where
     num : Num → ℕ → Datum
     text : Txt → List ℕ → Datum
     array : Shape → Data → Datum
-    dict : BasicType → Shape → Entries → Datum
+    dict : BasicType → Shape → Data → Datum
     struct : Data → Datum
     variant : Datum → Datum
 
   pub data Data : Type 0 where
     no_data : Data
     items : Datum → Data → Data
-
-  -- keys and values, in their order
-  pub data Entries : Type 0 where
-    no_entries : Entries
-    entry : Datum → Datum → Entries → Entries
 
 abbrev pub data_of : List Datum → Data
 data_of [] = no_data
@@ -53,13 +48,21 @@ abbrev pub list_of : Data → List Datum
 list_of no_data = []
 list_of (items d ds) = d ∷ list_of ds
 
-abbrev pub entries_of : List (Datum × Datum) → Entries
-entries_of [] = no_entries
-entries_of (e ∷ es) = entry e.0 e.1 (entries_of es)
+-- a dict entry, which is a struct of a key and its value (D-Bus Specification, "Container types")
+abbrev pub entry : Datum × Datum → Datum
+entry e = struct (items e.0 (items e.1 no_data))
 
-abbrev pub pairs_of : Entries → List (Datum × Datum)
-pairs_of no_entries = []
-pairs_of (entry k v es) = (k, v) ∷ pairs_of es
+abbrev pub entry_type : BasicType → Shape → Shape
+entry_type k v = struct_of (shapes (basic k) (shapes v no_shapes))
+
+abbrev pub entries_of : List (Datum × Datum) → Data
+entries_of es = data_of (map entry es)
+
+-- the keys and values of dict entries, in their order; what is no entry is left out
+abbrev pub pairs_of : Data → List (Datum × Datum)
+pairs_of no_data = []
+pairs_of (items (struct (items k (items v ds))) es) = (k, v) ∷ pairs_of es
+pairs_of (items d es) = pairs_of es
 
 abbrev pub num_type : Num → BasicType
 num_type byte = basics.Byte
@@ -128,14 +131,14 @@ IsTextOf string bytes = IsUtf8 bytes × HasNoZero bytes × (length bytes ≤ 429
 IsTextOf object_path bytes = IsObjectPath bytes × (length bytes ≤ 4294967295)
 IsTextOf signature bytes = (ts : List Shape) × SignatureText ts bytes
 
--- Each number is in its type's range, each text is one of its type, each element has its array's type, each key and value
--- that of its dict, and what each variant holds is of a type that a signature may hold.
+-- Each number is in its type's range, each text is one of its type, each element has its array's type, each entry that of
+-- its dict, and what each variant holds is of a type that a signature may hold.
 abbrev mutual
   pub IsSound : Datum → Type 0
   IsSound (num n v) = v < bound n
   IsSound (text t bytes) = IsTextOf t bytes
   IsSound (array t ds) = AreElements t ds
-  IsSound (dict k v es) = AreEntries k v es
+  IsSound (dict k v es) = AreElements (entry_type k v) es
   IsSound (struct ds) = AreSound ds
   IsSound (variant d) = IsSound d × IsType (type_of d)
 
@@ -144,25 +147,15 @@ abbrev mutual
   AreSound no_data = Unit {0}
   AreSound (items d ds) = IsSound d × AreSound ds
 
-  -- the elements of an array
+  -- the elements of an array, or the entries of a dict
   pub AreElements : Shape → Data → Type 0
   AreElements t no_data = Unit {0}
   AreElements t (items d ds) = (IsSound d × (type_of d ≡ t)) × AreElements t ds
 
-  -- the entries of a dict
-  pub AreEntries : BasicType → Shape → Entries → Type 0
-  AreEntries k v no_entries = Unit {0}
-  AreEntries k v (entry a b es) =
-      (IsSound a × (type_of a ≡ basic k)) × (IsSound b × (type_of b ≡ v)) × AreEntries k v es
-
 -- one number
 abbrev pub IsNumber : Datum → Type 0
 IsNumber (num n v) = Unit {0}
-IsNumber (text t bytes) = ⊥
-IsNumber (array t ds) = ⊥
-IsNumber (dict k v es) = ⊥
-IsNumber (struct ds) = ⊥
-IsNumber (variant d) = ⊥
+IsNumber d = ⊥
 
 -- A value that a message may hold: sound, and of a type that a signature may hold, so without an empty struct.
 pub record IsFormed (d : Datum) : Type 0 where
@@ -175,14 +168,10 @@ abbrev mutual
   size_of (num n v) = 1
   size_of (text t bytes) = 1
   size_of (array t ds) = sizes_of ds + 1
-  size_of (dict k v es) = sizes_in es + 1
+  size_of (dict k v es) = sizes_of es + 1
   size_of (struct ds) = sizes_of ds + 1
   size_of (variant d) = size_of d + 1
 
   pub sizes_of : Data → ℕ
   sizes_of no_data = 1
   sizes_of (items d ds) = size_of d + sizes_of ds
-
-  pub sizes_in : Entries → ℕ
-  sizes_in no_entries = 1
-  sizes_in (entry a b es) = size_of a + size_of b + sizes_in es

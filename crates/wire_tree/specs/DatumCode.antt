@@ -7,8 +7,7 @@ use Rattle.wire_signature.specs.declared.basic.BasicType.TheVariants.{Byte}
 use Rattle.wire_signature.specs.Shape.{letter}
 use Rattle.wire_signature.specs.ShapeCode as types
 use Rattle.wire_tree.specs.Datum.{Num, byte, boolean, int16, uint16, int32, uint32, int64, uint64, double, unix_fd, Txt, string, object_path, signature}
-use Rattle.wire_tree.specs.Datum.{Datum, num, text, array, dict, struct, variant, Data, no_data, items, Entries, no_entries, entry}
-use Rattle.wire_tree.specs.Datum.{num_type, text_type}
+use Rattle.wire_tree.specs.Datum.{Datum, num, text, array, dict, struct, variant, Data, no_data, items, num_type, text_type}
 
 -- the type of a number by the code of its letter; of other codes nothing is said
 abbrev pub num_at : ℕ → Num
@@ -19,15 +18,7 @@ num_at c =
 
 num_at-letter : (n : Num) → num_at (letter (num_type n)) ≡ n
 num_at-letter byte = refl
-num_at-letter boolean = refl
-num_at-letter int16 = refl
-num_at-letter uint16 = refl
-num_at-letter int32 = refl
-num_at-letter uint32 = refl
-num_at-letter int64 = refl
-num_at-letter uint64 = refl
-num_at-letter double = refl
-num_at-letter unix_fd = refl
+num_at-letter n = refl
 
 -- the same of a text's
 abbrev pub text_at : ℕ → Txt
@@ -59,7 +50,7 @@ abbrev mutual
   code (num n v) = gcons (gcons (gnum 0) (gnum (letter (num_type n)))) (gnum v)
   code (text t bytes) = gcons (gcons (gnum 1) (gnum (letter (text_type t)))) (bytes_code bytes)
   code (array t ds) = gcons (gcons (gnum 2) (types.code t)) (codes ds)
-  code (dict k v es) = gcons (gcons (gcons (gnum 0) (gnum (letter k))) (types.code v)) (codes_in es)
+  code (dict k v es) = gcons (gcons (gcons (gnum 0) (gnum (letter k))) (types.code v)) (codes es)
   code (struct ds) = gcons (gnum 0) (codes ds)
   code (variant d) = gcons (gnum 1) (code d)
 
@@ -67,22 +58,16 @@ abbrev mutual
   codes no_data = gnil
   codes (items d ds) = gcons (code d) (codes ds)
 
-  pub codes_in : Entries → Gv
-  codes_in no_entries = gnil
-  codes_in (entry k v es) = gcons (gcons (code k) (code v)) (codes_in es)
-
 -- a tree of numbers read in each way
 pub record Read : Type 0 where
   pub one : Datum
-  pub two : Datum × Datum
   pub list : Data
-  pub pairs : Entries
 
 abbrev pub nothing : Datum
 nothing = struct no_data
 
 abbrev pub none : Read
-none = record { one = nothing; two = (nothing, nothing); list = no_data; pairs = no_entries }
+none = record { one = nothing; list = no_data }
 
 -- a value by its first part, which says what it is, and its second
 abbrev pub typed_by : Gv → Gv → Gv → Read → Datum
@@ -90,7 +75,7 @@ typed_by gnil x b r = nothing
 typed_by (gnum zero) x b r = num (num_at (types.number_in x)) (types.number_in b)
 typed_by (gnum (suc zero)) x b r = text (text_at (types.number_in x)) (bytes_in b)
 typed_by (gnum (suc (suc n))) x b r = array (types.back x).0 r.list
-typed_by (gcons m k) x b r = dict (types.basic_at (types.number_in k)) (types.back x).0 r.pairs
+typed_by (gcons m k) x b r = dict (types.basic_at (types.number_in k)) (types.back x).0 r.list
 
 abbrev pub form_of : Gv → Gv → Read → Datum
 form_of gnil b r = nothing
@@ -101,12 +86,7 @@ form_of (gcons m x) b r = typed_by m x b r
 abbrev pub back : Gv → Read
 back gnil = none
 back (gnum n) = none
-back (gcons a b) = record {
-  one = form_of a b (back b);
-  two = ((back a).one, (back b).one);
-  list = items (back a).one (back b).list;
-  pairs = entry (back a).two.0 (back a).two.1 (back b).pairs;
-}
+back (gcons a b) = record { one = form_of a b (back b); list = items (back a).one (back b).list }
 
 mutual
   pub back-code : (d : Datum) → (back (code d)).one ≡ d
@@ -114,20 +94,14 @@ mutual
   back-code (text t bytes) = ap (λ s. text s (bytes_in (bytes_code bytes))) (text_at-letter t) ∙ ap (text t) (bytes_in-code bytes)
   back-code (array t ds) = ap (λ s. array s (back (codes ds)).list) (types.back-code t) ∙ ap (array t) (back-codes ds)
   back-code (dict k v es) =
-      ap (λ b. dict b (types.back (types.code v)).0 (back (codes_in es)).pairs) (basic_at-letter k)
-      ∙ ap (λ s. dict k s (back (codes_in es)).pairs) (types.back-code v) ∙ ap (dict k v) (back-codes_in es)
+      ap (λ b. dict b (types.back (types.code v)).0 (back (codes es)).list) (basic_at-letter k)
+      ∙ ap (λ s. dict k s (back (codes es)).list) (types.back-code v) ∙ ap (dict k v) (back-codes es)
   back-code (struct ds) = ap struct (back-codes ds)
   back-code (variant d) = ap variant (back-code d)
 
   pub back-codes : (ds : Data) → (back (codes ds)).list ≡ ds
   back-codes no_data = refl
   back-codes (items d ds) = ap (λ e. items e (back (codes ds)).list) (back-code d) ∙ ap (items d) (back-codes ds)
-
-  pub back-codes_in : (es : Entries) → (back (codes_in es)).pairs ≡ es
-  back-codes_in no_entries = refl
-  back-codes_in (entry k v es) =
-      ap (λ e. entry e (back (code v)).one (back (codes_in es)).pairs) (back-code k)
-      ∙ ap (λ e. entry k e (back (codes_in es)).pairs) (back-code v) ∙ ap (entry k v) (back-codes_in es)
 
 pub code-inj : (d e : Datum) → code d ≡ code e → d ≡ e
 code-inj d e p = sym (back-code d) ∙ ap (λ g. (back g).one) p ∙ back-code e

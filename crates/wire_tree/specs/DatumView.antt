@@ -2,7 +2,7 @@
 use Rattle.std.specs.Prelude.{cond}
 use Rattle.std.specs.Int.{w16, w32, w64, cast_unsigned}
 use Rattle.wire_tree.specs.Datum.{byte, boolean, int16, uint16, int32, uint32, int64, uint64, double, unix_fd, string, object_path, signature}
-use Rattle.wire_tree.specs.Datum.{Datum, num, text, array, dict, struct, variant, data_of, entries_of}
+use Rattle.wire_tree.specs.Datum.{Datum, num, text, array, dict, struct, variant, data_of, entry, entries_of}
 use Rattle.wire_tree.specs.declared.tree.Tree.{Tree}
 use Rattle.wire_tree.specs.declared.tree.Tree.TheVariants.{U8, Bool, I16, U16, I32, U32, I64, U64, F64, Str, Path, Sig, Fd, Array, Dict, Struct, Variant}
 
@@ -28,3 +28,7 @@ datum_of (Variant t) = variant t
 -- a key and its value
 abbrev pub pair_of : Tree × Tree → Datum × Datum
 pair_of e = (datum_of e.0, datum_of e.1)
+
+-- the dict entry that they are
+abbrev pub entry_of : Tree × Tree → Datum
+entry_of e = entry (pair_of e)

@@ -3,32 +3,28 @@ use Rattle.std.specs.Prelude.{Bool, true, false, ◌==◌, ◌&&◌, [], ◌++�
 use Rattle.std.specs.Hash as fed
 use base.Stored.{Gv, gnil, gnum, gcons}
 use Rattle.wire_signature.specs.Shape.{letter}
-use Rattle.wire_tree.specs.Datum.{Datum, num, text, array, dict, struct, variant, Data, no_data, items, Entries, no_entries, entry, num_type, text_type, list_of, pairs_of}
+use Rattle.wire_tree.specs.Datum.{Datum, num, text, array, dict, struct, variant, Data, no_data, items, num_type, text_type, list_of}
 use Rattle.wire_tree.specs.DatumCode.{code}
 
 -- trees of numbers, number by number
 abbrev pub alike : Gv → Gv → Bool
 alike gnil gnil = true
-alike gnil (gnum n) = false
-alike gnil (gcons c d) = false
-alike (gnum m) gnil = false
 alike (gnum m) (gnum n) = m == n
-alike (gnum m) (gcons c d) = false
-alike (gcons a b) gnil = false
-alike (gcons a b) (gnum n) = false
 alike (gcons a b) (gcons c d) = alike a c && alike b d
+alike g h = false
 
 -- values of one type and of one form
 unfoldable pub same : Datum → Datum → Bool
 same d e = alike (code d) (code e)
 
--- A leaf feeds its type's letter and then itself; a container its own letter, the number of its elements, and each of them.
+-- A leaf feeds its type's letter and then itself; a container its own letter, the number of its elements, and each of them;
+-- a dict entry its key and its value alone.
 abbrev mutual
   pub writes : Datum → fed.HashWrites
   writes (num n v) = fed.u8 (letter (num_type n)) ++ fed.u64 v
   writes (text t bytes) = fed.u8 (letter (text_type t)) ++ fed.str bytes
   writes (array t ds) = fed.u8 97 ++ fed.usize (length (list_of ds)) ++ writes_of ds
-  writes (dict k v es) = fed.u8 123 ++ fed.usize (length (pairs_of es)) ++ writes_in es
+  writes (dict k v es) = fed.u8 123 ++ fed.usize (length (list_of es)) ++ writes_in es
   writes (struct ds) = fed.u8 40 ++ writes_of ds
   writes (variant d) = fed.u8 118 ++ writes d
 
@@ -36,6 +32,7 @@ abbrev mutual
   writes_of no_data = []
   writes_of (items d ds) = writes d ++ writes_of ds
 
-  pub writes_in : Entries → fed.HashWrites
-  writes_in no_entries = []
-  writes_in (entry k v es) = writes k ++ writes v ++ writes_in es
+  pub writes_in : Data → fed.HashWrites
+  writes_in no_data = []
+  writes_in (items (struct ds) es) = writes_of ds ++ writes_in es
+  writes_in (items d es) = writes d ++ writes_in es

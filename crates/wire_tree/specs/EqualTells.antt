@@ -18,15 +18,10 @@ right false b e = absurd (cc)
 
 alike-one : (g h : Gv) → alike g h ≡ true → g ≡ h
 alike-one gnil gnil e = refl
-alike-one gnil (gnum n) e = absurd (cc)
-alike-one gnil (gcons c d) e = absurd (cc)
-alike-one (gnum m) gnil e = absurd (cc)
 alike-one (gnum m) (gnum n) e = ap gnum ((unsigned_Decides m n).0 e)
-alike-one (gnum m) (gcons c d) e = absurd (cc)
-alike-one (gcons a b) gnil e = absurd (cc)
-alike-one (gcons a b) (gnum n) e = absurd (cc)
 alike-one (gcons a b) (gcons c d) e =
     let p : a ≡ c = alike-one a c (left (alike a c) (alike b d) e) in let q : b ≡ d = alike-one b d (right (alike a c) (alike b d) e) in cc
+alike-one g h e = absurd (cc)
 
 alike-self : (g : Gv) → alike g g ≡ true
 alike-self gnil = refl

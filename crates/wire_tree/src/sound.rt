@@ -1,6 +1,6 @@
 //! Whether a tree is a value that a message may hold.
 ghost use Rattle.std.specs.Prelude.{◌≡◌, ◌↔◌, IfOk, IsTrue, map};
-ghost use Rattle.wire_tree.specs.Datum.{AreElements, AreEntries, AreSound, HasNoZero, IsNumber, IsSound, IsTextOf, data_of, entries_of, object_path, signature, string, type_of};
+ghost use Rattle.wire_tree.specs.Datum.{AreElements, AreSound, HasNoZero, IsNumber, IsSound, IsTextOf, data_of, entries_of, entry_type, object_path, signature, string, type_of};
 ghost use Rattle.wire_signature.specs.Shape.{basic as basic_shape};
 ghost use Rattle.wire_tree.specs.DatumView.{datum_of, pair_of};
 
@@ -140,7 +140,7 @@ fn are_entries(
     value: &ValueType,
     entries: &[(Tree, Tree)],
 ) -> Result<bool, AllocError>
-    ensures { IfOk result (λ sound. IsTrue sound ↔ AreEntries key value.now (entries_of (map pair_of entries.now))) }
+    ensures { IfOk result (λ sound. IsTrue sound ↔ AreElements (entry_type key value.now) (entries_of (map pair_of entries.now))) }
 {
     for each in entries {
         if !is_entry(alloc, key, value, &each.0, &each.1)? {

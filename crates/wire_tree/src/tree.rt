@@ -124,7 +124,7 @@ impl Model for Trees {
 impl Model for Entries {
     ghost use Rattle.std.specs.Prelude.{List, map};
     ghost use Rattle.std.specs.Coded.{coded_list, coded×};
-    ghost use Rattle.wire_tree.specs.Datum.{Datum, entries_of, sizes_in};
+    ghost use Rattle.wire_tree.specs.Datum.{Datum, entries_of, sizes_of};
     ghost use Rattle.wire_tree.specs.DatumCode.{datum_code};
 
     ghost Value = { List (Datum × Datum) };
@@ -135,11 +135,11 @@ impl Model for Entries {
 
     ghost view = { λ t. map pair_of t.pairs.items };
 
-    ghost size = { λ es. sizes_in (entries_of es) };
+    ghost size = { λ es. sizes_of (entries_of es) };
 
-    ghost use Rattle.wire_tree.specs.DatumFalls.{pairs_le-sizes_in};
+    ghost use Rattle.wire_tree.specs.DatumFalls.{pairs_le-sizes_of};
 
-    ghost size_decreases = { λ a h. pairs_le-sizes_in a.pairs.items };
+    ghost size_decreases = { λ a h. pairs_le-sizes_of a.pairs.items };
 }
 
 impl Model for Inner {

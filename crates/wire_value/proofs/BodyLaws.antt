@@ -1,13 +1,14 @@
 -- The bytes and the depths of a body's values.
-use Rattle.std.proofs.Common.{◌≡◌, ℕ, zero, suc, ◌+◌, ◌<◌, ◌≤◌, List, [], ◌∷◌, ◌++◌, length, get_or, take, drop, drop-cons, add-one, sym, ◌∙◌, ap, subst, arith, refl, Bool, true, false, ◌⊎◌, inl, inr}
+use Rattle.std.proofs.Common.{◌≡◌, ℕ, zero, suc, ◌+◌, ◌%◌, ◌<◌, ◌≤◌, Result, List, [], ◌∷◌, ◌++◌, length, get_or, take, drop, drop-cons, add-one, sym, ◌∙◌, ap, subst, arith, refl, Bool, true, false, ◌⊎◌, inl, inr}
 use Rattle.std.proofs.lemmas.Bool.{cases_lt}
 use Rattle.wire_number.specs.declared.endian.Endian.{Endian}
 use Rattle.wire_tree.specs.Datum.{Datum, Data, no_data, items, data_of}
 use Rattle.wire_spelling.specs.Spelling.{spelling, spellings, depth, depths, ArraysFit, AllFit}
-use Rattle.wire_value.specs.Writing.{Refused, AreNotEncoded}
+use Rattle.wire_value.specs.Writing.{Refused, Wrote, AreNotEncoded}
 use Rattle.wire_value.specs.declared.error.EncodeError.{EncodeError}
 use Rattle.wire_value.specs.declared.error.EncodeError.TheVariants.{Variant, ExcessData, Memory}
-use Rattle.wire_value.proofs.Writes.{Writing, write_one, all_written, first_fits, refused}
+use Rattle.wire_value.proofs.Writes.{Writing, write_one, all_written, first_fits, refused, as_whole}
+use Rattle.wire_spelling.proofs.Shift.{Alike, spellings_alike, all_alike}
 
 -- ---- depths
 
@@ -65,21 +66,21 @@ deeper : (n : ℕ) (b : Bool) → (n ≤ 64 → b ≡ true) → b ≡ false → 
 deeper n b f e (inl h) = h
 deeper n b f e (inr h) = absurd (let same : false ≡ true = sym e ∙ f h in cc)
 
-pub body_deep : (ds es : List Datum) (b : Bool) → ds ≡ es → (depths (data_of ds) ≤ 64 → b ≡ true) → b ≡ false → 64 < depths (data_of es)
-body_deep ds es b same f e =
-    subst (λ (xs : List Datum). 64 < depths (data_of xs)) same (deeper (depths (data_of ds)) b f e (cases_lt 64 (depths (data_of ds))))
+pub body_deep : (ds : List Datum) (b : Bool) → (depths (data_of ds) ≤ 64 → b ≡ true) → b ≡ false → 64 < depths (data_of ds)
+body_deep ds b f e = deeper (depths (data_of ds)) b f e (cases_lt 64 (depths (data_of ds)))
 
-pub body_refused : (e : EncodeError) (order : Endian) (ds es : List Datum) (start : List ℕ) → ds ≡ es → start ≡ [] → depths (data_of ds) ≤ 64
-    → Refused e (AllFit order (0 + length start) (data_of ds)) → AreNotEncoded e order es
-body_refused (Variant v) order ds es start same none within h = absurd h
-body_refused ExcessData order ds es start same none within h =
-    subst (λ (xs : List Datum). (depths (data_of xs) ≤ 64) × (AllFit order 0 (data_of xs) → ⊥)) same
-    (within, subst (λ (s : List ℕ). AllFit order (0 + length s) (data_of ds) → ⊥) none h)
-body_refused Memory order ds es start same none within h = tt
+pub body_refused : (e : EncodeError) (order : Endian) (ds : List Datum) → depths (data_of ds) ≤ 64 → Refused e (AllFit order 0 (data_of ds)) → AreNotEncoded e order ds
+body_refused (Variant v) order ds within h = absurd h
+body_refused ExcessData order ds within h = (within, h)
+body_refused Memory order ds within h = tt
 
-pub body_written : (order : Endian) (ds es : List Datum) (start new : List ℕ) → ds ≡ es → start ≡ [] → depths (data_of ds) ≤ 64
-    → (new ≡ start ++ spellings order (0 + length start) (data_of ds)) × AllFit order (0 + length start) (data_of ds)
-    → (new ≡ spellings order 0 (data_of es)) × (depths (data_of es) ≤ 64) × AllFit order 0 (data_of es)
-body_written order ds es start new same none within w =
-    let own = subst (λ (s : List ℕ). (new ≡ s ++ spellings order (0 + length s) (data_of ds)) × AllFit order (0 + length s) (data_of ds)) none w in
-    subst (λ (xs : List Datum). (new ≡ spellings order 0 (data_of xs)) × (depths (data_of xs) ≤ 64) × AllFit order 0 (data_of xs)) same (own.0, within, own.1)
+-- A body that begins on a multiple of 8 is spelled as one that begins at 0.
+pub body_placed : {A : Type 0} (r : Result A EncodeError) (order : Endian) (ds es : List Datum) (old new : List ℕ) → ds ≡ es → length old % 8 ≡ 0
+    → Wrote r (spellings order (0 + length old) (data_of ds)) (AllFit order (0 + length old) (data_of ds)) old new
+    → Wrote r (spellings order 0 (data_of es)) (AllFit order 0 (data_of es)) old new
+body_placed r order ds es old new same placed h =
+    let there : Alike (0 + length old) 0 = record { rest = omega (arith, placed) } in
+    let here : Alike 0 (0 + length old) = record { rest = omega (arith, placed) } in
+    subst (λ (xs : List Datum). Wrote r (spellings order 0 (data_of xs)) (AllFit order 0 (data_of xs)) old new) same
+    (as_whole r _ _ _ _ old old new (ap (λ t. old ++ t) (spellings_alike order (0 + length old) 0 (data_of ds) there))
+    (all_alike order (0 + length old) 0 (data_of ds) there) (all_alike order 0 (0 + length old) (data_of ds) here) h)

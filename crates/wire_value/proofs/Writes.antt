@@ -5,12 +5,9 @@ use Rattle.std.proofs.lemmas.List.{take_at, drop_at}
 use Rattle.wire_number.specs.declared.endian.Endian.{Endian}
 use Rattle.wire_number.specs.Number.{number_text, pad, padding, counted_text}
 use Rattle.wire_signature.specs.Shape.{Shape, alignment, type_text}
-use Rattle.wire_signature.specs.declared.basic.BasicType.{BasicType}
-use Rattle.wire_tree.specs.Datum.{Datum, array, struct, variant, Data, no_data, items, Entries, no_entries, entry, data_of, entries_of, type_of, IsSound, AreSound, AreElements, AreEntries}
-use Rattle.wire_tree.specs.DatumView.{datum_of, pair_of}
-use Rattle.wire_tree.specs.declared.tree.Tree.{Tree}
-use Rattle.wire_spelling.specs.Spelling.{aligned, first_place, array_form, spelling, spellings, entry_spellings, ArraysFit, AllFit, EntriesFit}
-use Rattle.wire_value.specs.Writing.{Refused, Wrote, Closed, ArePairsSound}
+use Rattle.wire_tree.specs.Datum.{Datum, array, struct, variant, Data, no_data, items, entry, data_of, type_of, AreSound, AreElements}
+use Rattle.wire_spelling.specs.Spelling.{aligned, first_place, array_form, spelling, spellings, ArraysFit, AllFit}
+use Rattle.wire_value.specs.Writing.{Refused, Wrote, Closed}
 use Rattle.wire_value.specs.declared.error.EncodeError.{EncodeError}
 use Rattle.wire_value.specs.declared.error.EncodeError.TheVariants.{Variant, ExcessData, Memory}
 use Rattle.wire_number.proofs.Steps.{length_padding}
@@ -20,21 +17,6 @@ use Rattle.wire_number.proofs.Steps.{length_padding}
 pub elements_sound : (t : Shape) (ds : Data) → AreElements t ds → AreSound ds
 elements_sound t no_data h = tt
 elements_sound t (items d ds) h = (h.0.0, elements_sound t ds h.1)
-
-pub entries_sound : (k : BasicType) (v : Shape) (es : Entries) → AreEntries k v es → ArePairsSound es
-entries_sound k v no_entries h = tt
-entries_sound k v (entry a b es) h = (h.0.0, h.1.0, entries_sound k v es h.2)
-
-pub sound_item : (ts : List Tree) (i : ℕ) (t : Tree) → AreSound (data_of (map datum_of ts)) → i < length ts → t ≡ get_or ts i t → IsSound (datum_of t)
-sound_item [] i t s h e = absurd (omega arith)
-sound_item (u ∷ us) zero t s h e = subst (λ (v : Tree). IsSound (datum_of v)) (sym e) s.0
-sound_item (u ∷ us) (suc i) t s h e = sound_item us i t s.1 (omega arith) e
-
-pub sound_pair : (ts : List (Tree × Tree)) (i : ℕ) (t : Tree × Tree) → ArePairsSound (entries_of (map pair_of ts)) → i < length ts → t ≡ get_or ts i t
-    → IsSound (datum_of t.0) × IsSound (datum_of t.1)
-sound_pair [] i t s h e = absurd (omega arith)
-sound_pair (u ∷ us) zero t s h e = subst (λ (v : Tree × Tree). IsSound (datum_of v.0) × IsSound (datum_of v.1)) (sym e) (s.0, s.1)
-sound_pair (u ∷ us) (suc i) t s h e = sound_pair us i t s.2 (omega arith) e
 
 -- ---- refusals
 
@@ -79,143 +61,48 @@ write_one order shift ds d left old now next w e f =
       forth = λ h. subst (λ (p : ℕ). AllFit order p left) end (w.forth h).1;
     }
 
-next_item : (ts : List Tree) (i : ℕ) (t : Tree) → i < length ts → t ≡ get_or ts i t
-    → data_of (map datum_of (drop i ts)) ≡ items (datum_of t) (data_of (map datum_of (drop (i + 1) ts)))
-next_item ts i t h e =
-    let first : drop i ts ≡ t ∷ drop (i + 1) ts = rw add-one (drop-cons ts i t h ∙ ap (λ u. u ∷ drop (suc i) ts) (sym e)) in
-    ap (λ us. data_of (map datum_of us)) first
+next_item : {A : Type 0} (f : A → Datum) (xs : List A) (i : ℕ) (x : A) → i < length xs → x ≡ get_or xs i x
+    → data_of (map f (drop i xs)) ≡ items (f x) (data_of (map f (drop (i + 1) xs)))
+next_item f xs i x h e =
+    let first : drop i xs ≡ x ∷ drop (i + 1) xs = rw add-one (drop-cons xs i x h ∙ ap (λ u. u ∷ drop (suc i) xs) (sym e)) in
+    ap (λ us. data_of (map f us)) first
 
-pub write_next : (order : Endian) (shift : ℕ) (ds : Data) (ts : List Tree) (i : ℕ) (t : Tree) (old now next : List ℕ)
-    → Writing order shift ds (data_of (map datum_of (drop i ts))) old now → i < length ts → t ≡ get_or ts i t
-    → (next ≡ now ++ spelling order (shift + length now) (datum_of t)) × ArraysFit order (shift + length now) (datum_of t)
-    → Writing order shift ds (data_of (map datum_of (drop (i + 1) ts))) old next
-write_next order shift ds ts i t old now next w h e f =
-    write_one order shift ds (datum_of t) (data_of (map datum_of (drop (i + 1) ts))) old now next
-    (subst (λ (es : Data). Writing order shift ds es old now) (next_item ts i t h e) w) f.0 f.1
+pub write_next : {A : Type 0} (f : A → Datum) (order : Endian) (shift : ℕ) (ds : Data) (xs : List A) (i : ℕ) (x : A) (old now next : List ℕ)
+    → Writing order shift ds (data_of (map f (drop i xs))) old now → i < length xs → x ≡ get_or xs i x
+    → (next ≡ now ++ spelling order (shift + length now) (f x)) × ArraysFit order (shift + length now) (f x)
+    → Writing order shift ds (data_of (map f (drop (i + 1) xs))) old next
+write_next f order shift ds xs i x old now next w h e k =
+    write_one order shift ds (f x) (data_of (map f (drop (i + 1) xs))) old now next
+    (subst (λ (es : Data). Writing order shift ds es old now) (next_item f xs i x h e) w) k.0 k.1
 
-none_left : (ts : List Tree) (i : ℕ) → length ts ≤ i → data_of (map datum_of (drop i ts)) ≡ no_data
-none_left [] zero h = refl
-none_left [] (suc i) h = refl
-none_left (t ∷ ts) zero h = absurd (omega arith)
-none_left (t ∷ ts) (suc i) h = none_left ts i (omega arith)
+none_left : {A : Type 0} (f : A → Datum) (xs : List A) (i : ℕ) → length xs ≤ i → data_of (map f (drop i xs)) ≡ no_data
+none_left f [] zero h = refl
+none_left f [] (suc i) h = refl
+none_left f (x ∷ xs) zero h = absurd (omega arith)
+none_left f (x ∷ xs) (suc i) h = none_left f xs i (omega arith)
 
 pub all_written : (order : Endian) (shift : ℕ) (ds : Data) (old now : List ℕ) → Writing order shift ds no_data old now
     → (now ≡ old ++ spellings order (shift + length old) ds) × AllFit order (shift + length old) ds
 unfolding spellings AllFit
 all_written order shift ds old now w = (sym (append-nil now) ∙ w.whole, w.back tt)
 
-pub write_done : (order : Endian) (shift : ℕ) (ds : Data) (ts : List Tree) (i : ℕ) (old now : List ℕ)
-    → Writing order shift ds (data_of (map datum_of (drop i ts))) old now → length ts ≤ i
+pub write_done : {A : Type 0} (f : A → Datum) (order : Endian) (shift : ℕ) (ds : Data) (xs : List A) (i : ℕ) (old now : List ℕ)
+    → Writing order shift ds (data_of (map f (drop i xs))) old now → length xs ≤ i
     → (now ≡ old ++ spellings order (shift + length old) ds) × AllFit order (shift + length old) ds
-write_done order shift ds ts i old now w h =
-    all_written order shift ds old now (subst (λ (es : Data). Writing order shift ds es old now) (none_left ts i h) w)
+write_done f order shift ds xs i old now w h =
+    all_written order shift ds old now (subst (λ (es : Data). Writing order shift ds es old now) (none_left f xs i h) w)
 
 pub first_fits : (order : Endian) (shift : ℕ) (ds : Data) (d : Datum) (left : Data) (old now : List ℕ) → Writing order shift ds (items d left) old now
     → AllFit order (shift + length old) ds → ArraysFit order (shift + length now) d
 unfolding AllFit
 first_fits order shift ds d left old now w h = (w.forth h).0
 
-pub write_refused : (order : Endian) (shift : ℕ) (ds : Data) (ts : List Tree) (i : ℕ) (t : Tree) (old now : List ℕ) (e : EncodeError)
-    → Writing order shift ds (data_of (map datum_of (drop i ts))) old now → i < length ts → t ≡ get_or ts i t
-    → Refused e (ArraysFit order (shift + length now) (datum_of t)) → Refused e (AllFit order (shift + length old) ds)
-write_refused order shift ds ts i t old now e w h k f =
-    let v = subst (λ (es : Data). Writing order shift ds es old now) (next_item ts i t h k) w in
-    refused e _ _ (first_fits order shift ds (datum_of t) (data_of (map datum_of (drop (i + 1) ts))) old now v) f
-
--- ---- dict entries one behind the other
-
-pub record WritingEntries (order : Endian) (shift : ℕ) (es left : Entries) (old now : List ℕ) : Type 0 where
-  pub whole : now ++ entry_spellings order (shift + length now) left ≡ old ++ entry_spellings order (shift + length old) es
-  pub back : EntriesFit order (shift + length now) left → EntriesFit order (shift + length old) es
-  pub forth : EntriesFit order (shift + length old) es → EntriesFit order (shift + length now) left
-
--- an entry before others
-entry_before : (order : Endian) (p : ℕ) (a b : Datum) (left : Entries)
-    → entry_spellings order p (entry a b left) ≡ entry_spellings order p (entry a b no_entries) ++ entry_spellings order (p + length (entry_spellings order p (entry a b no_entries))) left
-unfolding entry_spellings
-entry_before order p a b left =
-    let q : ℕ = aligned p 8 in
-    let key : List ℕ = spelling order q a in
-    let m : ℕ = q + length key in
-    let value : List ℕ = spelling order m b in
-    let end : m + length value ≡ p + length (padding p 8 ++ (key ++ (value ++ []))) =
-    omega (arith, length-append (padding p 8) (key ++ (value ++ [])), length_padding p 8, length-append key (value ++ []), ap length (append-nil value)) in
-    let rest : List ℕ = entry_spellings order (p + length (padding p 8 ++ (key ++ (value ++ [])))) left in
-    ap (λ n. padding p 8 ++ (key ++ (value ++ entry_spellings order n left))) end
-    ∙ ap (λ r. padding p 8 ++ (key ++ (r ++ rest))) (sym (append-nil value))
-    ∙ ap (λ r. padding p 8 ++ r) (sym (append_assoc key (value ++ []) rest))
-    ∙ sym (append_assoc (padding p 8) (key ++ (value ++ [])) rest)
-
-entry_end : (order : Endian) (p : ℕ) (a b : Datum)
-    → p + length (entry_spellings order p (entry a b no_entries)) ≡ aligned p 8 + length (spelling order (aligned p 8) a) + length (spelling order (aligned p 8 + length (spelling order (aligned p 8) a)) b)
-unfolding entry_spellings
-entry_end order p a b =
-    let key : List ℕ = spelling order (aligned p 8) a in
-    let value : List ℕ = spelling order (aligned p 8 + length key) b in
-    omega (arith, length-append (padding p 8) (key ++ (value ++ [])), length_padding p 8, length-append key (value ++ []), ap length (append-nil value))
-
-write_pair : (order : Endian) (shift : ℕ) (es : Entries) (a b : Datum) (left : Entries) (old now next : List ℕ)
-    → WritingEntries order shift es (entry a b left) old now → next ≡ now ++ entry_spellings order (shift + length now) (entry a b no_entries)
-    → EntriesFit order (shift + length now) (entry a b no_entries) → WritingEntries order shift es left old next
-unfolding EntriesFit
-write_pair order shift es a b left old now next w e f =
-    let p : ℕ = shift + length now in
-    let one : List ℕ = entry_spellings order p (entry a b no_entries) in
-    let end : p + length one ≡ shift + length next = there shift now next one e in
-    let place : aligned p 8 + length (spelling order (aligned p 8) a) + length (spelling order (aligned p 8 + length (spelling order (aligned p 8) a)) b) ≡ shift + length next =
-    sym (entry_end order p a b) ∙ end in
-    record {
-      whole = ap (λ r. r ++ entry_spellings order (shift + length next) left) e
-          ∙ append_assoc now one (entry_spellings order (shift + length next) left)
-          ∙ ap (λ n. now ++ (one ++ entry_spellings order n left)) (sym end)
-          ∙ ap (λ r. now ++ r) (sym (entry_before order p a b left)) ∙ w.whole;
-      back = λ h. w.back (f.0, f.1, subst (λ (n : ℕ). EntriesFit order n left) (sym place) h);
-      forth = λ h. subst (λ (n : ℕ). EntriesFit order n left) place (w.forth h).2;
-    }
-
-next_pair : (ts : List (Tree × Tree)) (i : ℕ) (t : Tree × Tree) → i < length ts → t ≡ get_or ts i t
-    → entries_of (map pair_of (drop i ts)) ≡ entry (datum_of t.0) (datum_of t.1) (entries_of (map pair_of (drop (i + 1) ts)))
-next_pair ts i t h e =
-    let first : drop i ts ≡ t ∷ drop (i + 1) ts = rw add-one (drop-cons ts i t h ∙ ap (λ u. u ∷ drop (suc i) ts) (sym e)) in
-    ap (λ us. entries_of (map pair_of us)) first
-
-pub pair_next : (order : Endian) (shift : ℕ) (es : Entries) (ts : List (Tree × Tree)) (i : ℕ) (t : Tree × Tree) (old now next : List ℕ)
-    → WritingEntries order shift es (entries_of (map pair_of (drop i ts))) old now → i < length ts → t ≡ get_or ts i t
-    → (next ≡ now ++ entry_spellings order (shift + length now) (entry (datum_of t.0) (datum_of t.1) no_entries))
-    × EntriesFit order (shift + length now) (entry (datum_of t.0) (datum_of t.1) no_entries)
-    → WritingEntries order shift es (entries_of (map pair_of (drop (i + 1) ts))) old next
-pair_next order shift es ts i t old now next w h e f =
-    write_pair order shift es (datum_of t.0) (datum_of t.1) (entries_of (map pair_of (drop (i + 1) ts))) old now next
-    (subst (λ (fs : Entries). WritingEntries order shift es fs old now) (next_pair ts i t h e) w) f.0 f.1
-
-none_entries : (ts : List (Tree × Tree)) (i : ℕ) → length ts ≤ i → entries_of (map pair_of (drop i ts)) ≡ no_entries
-none_entries [] zero h = refl
-none_entries [] (suc i) h = refl
-none_entries (t ∷ ts) zero h = absurd (omega arith)
-none_entries (t ∷ ts) (suc i) h = none_entries ts i (omega arith)
-
-all_pairs : (order : Endian) (shift : ℕ) (es : Entries) (old now : List ℕ) → WritingEntries order shift es no_entries old now
-    → (now ≡ old ++ entry_spellings order (shift + length old) es) × EntriesFit order (shift + length old) es
-unfolding entry_spellings EntriesFit
-all_pairs order shift es old now w = (sym (append-nil now) ∙ w.whole, w.back tt)
-
-pub pair_done : (order : Endian) (shift : ℕ) (es : Entries) (ts : List (Tree × Tree)) (i : ℕ) (old now : List ℕ)
-    → WritingEntries order shift es (entries_of (map pair_of (drop i ts))) old now → length ts ≤ i
-    → (now ≡ old ++ entry_spellings order (shift + length old) es) × EntriesFit order (shift + length old) es
-pair_done order shift es ts i old now w h =
-    all_pairs order shift es old now (subst (λ (fs : Entries). WritingEntries order shift es fs old now) (none_entries ts i h) w)
-
-first_pair_fits : (order : Endian) (shift : ℕ) (es : Entries) (a b : Datum) (left : Entries) (old now : List ℕ) → WritingEntries order shift es (entry a b left) old now
-    → EntriesFit order (shift + length old) es → EntriesFit order (shift + length now) (entry a b no_entries)
-unfolding EntriesFit
-first_pair_fits order shift es a b left old now w h = let k = w.forth h in (k.0, k.1, tt)
-
-pub pair_refused : (order : Endian) (shift : ℕ) (es : Entries) (ts : List (Tree × Tree)) (i : ℕ) (t : Tree × Tree) (old now : List ℕ) (e : EncodeError)
-    → WritingEntries order shift es (entries_of (map pair_of (drop i ts))) old now → i < length ts → t ≡ get_or ts i t
-    → Refused e (EntriesFit order (shift + length now) (entry (datum_of t.0) (datum_of t.1) no_entries)) → Refused e (EntriesFit order (shift + length old) es)
-pair_refused order shift es ts i t old now e w h k f =
-    let v = subst (λ (fs : Entries). WritingEntries order shift es fs old now) (next_pair ts i t h k) w in
-    refused e _ _ (first_pair_fits order shift es (datum_of t.0) (datum_of t.1) (entries_of (map pair_of (drop (i + 1) ts))) old now v) f
+pub write_refused : {A : Type 0} (f : A → Datum) (order : Endian) (shift : ℕ) (ds : Data) (xs : List A) (i : ℕ) (x : A) (old now : List ℕ) (e : EncodeError)
+    → Writing order shift ds (data_of (map f (drop i xs))) old now → i < length xs → x ≡ get_or xs i x
+    → Refused e (ArraysFit order (shift + length now) (f x)) → Refused e (AllFit order (shift + length old) ds)
+write_refused f order shift ds xs i x old now e w h k r =
+    let v = subst (λ (es : Data). Writing order shift ds es old now) (next_item f xs i x h k) w in
+    refused e _ _ (first_fits order shift ds (f x) (data_of (map f (drop (i + 1) xs))) old now v) r
 
 -- ---- arrays
 
@@ -298,19 +185,6 @@ array_refused order shift t ds old mid e f h =
     let start : shift + length mid ≡ first_place (shift + length old) (alignment t) = array_place shift (alignment t) old mid f in
     refused e _ _ (λ k. subst (λ (n : ℕ). AllFit order n ds) (sym start) k.1) h
 
-pub dict_written : {A : Type 0} (r : Result A EncodeError) (order : Endian) (shift : ℕ) (es : Entries) (old mid full new : List ℕ) (place : ℕ)
-    → place ≡ length old + pad (shift + length old) 4
-    → mid ≡ old ++ (padding (shift + length old) 4 ++ (0 ∷ 0 ∷ 0 ∷ 0 ∷ padding (aligned (shift + length old) 4 + 4) 8))
-    → (full ≡ mid ++ entry_spellings order (shift + length mid) es) × EntriesFit order (shift + length mid) es
-    → Closed r (length full - length mid) (take place full ++ (number_text w32 order (length full - length mid) ++ drop (place + 4) full)) new
-    → Wrote r (array_form order (shift + length old) 8 (entry_spellings order (first_place (shift + length old) 8) es))
-    ((length (entry_spellings order (first_place (shift + length old) 8) es) ≤ 67108864) × EntriesFit order (first_place (shift + length old) 8) es) old new
-dict_written r order shift es old mid full new place e f g h =
-    let p : ℕ = first_place (shift + length old) 8 in
-    let start : shift + length mid ≡ p = array_place shift 8 old mid f in
-    closed_form r order shift 8 old mid (entry_spellings order p es) full new place (EntriesFit order p es) e f
-    (g.0 ∙ ap (λ n. mid ++ entry_spellings order n es) start) (subst (λ (n : ℕ). EntriesFit order n es) start g.1) h
-
 -- ---- structs, variants, dict entries
 
 -- behind the padding of what begins on a multiple of 8
@@ -348,8 +222,8 @@ pub entry_written : {A : Type 0} (r : Result A EncodeError) (order : Endian) (sh
     → mid ≡ old ++ padding (shift + length old) 8
     → (next ≡ mid ++ spelling order (shift + length mid) a) × ArraysFit order (shift + length mid) a
     → Wrote r (spelling order (shift + length next) b) (ArraysFit order (shift + length next) b) next new
-    → Wrote r (entry_spellings order (shift + length old) (entry a b no_entries)) (EntriesFit order (shift + length old) (entry a b no_entries)) old new
-unfolding entry_spellings EntriesFit
+    → Wrote r (spelling order (shift + length old) (entry (a, b))) (ArraysFit order (shift + length old) (entry (a, b))) old new
+unfolding spelling spellings ArraysFit AllFit
 entry_written r order shift a b old mid next new e f h =
     let p : ℕ = aligned (shift + length old) 8 in
     let front : List ℕ = padding (shift + length old) 8 in
@@ -363,16 +237,13 @@ entry_written r order shift a b old mid next new e f h =
     ∙ append_assoc (old ++ front) key value ∙ append_assoc old front (key ++ value)
     ∙ ap (λ n. old ++ (front ++ (key ++ spelling order n b))) middle
     ∙ ap (λ r. old ++ (front ++ (key ++ r))) (sym (append-nil (spelling order (p + length key) b))))
-    (λ k. (subst (λ (n : ℕ). ArraysFit order n a) start f.1, subst (λ (n : ℕ). ArraysFit order n b) middle k, tt))
-    (λ k. subst (λ (n : ℕ). ArraysFit order n b) (sym middle) k.1) h
+    (λ k. (subst (λ (n : ℕ). ArraysFit order n a) start f.1, (subst (λ (n : ℕ). ArraysFit order n b) middle k, tt)))
+    (λ k. subst (λ (n : ℕ). ArraysFit order n b) (sym middle) k.1.0) h
 
 pub key_refused : (order : Endian) (shift : ℕ) (a b : Datum) (old mid : List ℕ) (e : EncodeError)
     → mid ≡ old ++ padding (shift + length old) 8
-    → Refused e (ArraysFit order (shift + length mid) a) → Refused e (EntriesFit order (shift + length old) (entry a b no_entries))
-unfolding EntriesFit
+    → Refused e (ArraysFit order (shift + length mid) a) → Refused e (ArraysFit order (shift + length old) (entry (a, b)))
+unfolding ArraysFit AllFit
 key_refused order shift a b old mid e f h =
     let start : shift + length mid ≡ aligned (shift + length old) 8 = behind_8 shift old mid f in
     refused e _ _ (λ k. subst (λ (n : ℕ). ArraysFit order n a) (sym start) k.0) h
-
-pub pair_start : (order : Endian) (shift : ℕ) (es : Entries) (old : List ℕ) → WritingEntries order shift es es old old
-pair_start order shift es old = record { whole = refl; back = λ h. h; forth = λ h. h }

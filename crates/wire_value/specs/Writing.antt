@@ -2,7 +2,7 @@
 use Rattle.std.specs.Prelude.{◌≡◌, ℕ, ◌<◌, ◌≤◌, List, ◌++◌, Result, Ok, Err}
 use Rattle.wire_number.specs.declared.endian.Endian.{Endian}
 use Rattle.wire_signature.specs.declared.error.VariantError.TheVariants as errors
-use Rattle.wire_tree.specs.Datum.{Datum, data_of, type_of, IsSound, Entries, no_entries, entry}
+use Rattle.wire_tree.specs.Datum.{Datum, data_of, type_of}
 use Rattle.wire_spelling.specs.Spelling.{AllFit, ArraysFit, Spells, depth, depths, spellings}
 use Rattle.wire_value.specs.declared.error.EncodeError.{EncodeError}
 use Rattle.wire_value.specs.declared.error.EncodeError.TheVariants.{Variant, ExcessData, Memory}
@@ -46,11 +46,6 @@ AreNotEncoded Memory order ds = Unit {0}
 abbrev pub EncodedAll : {A : Type 0} → (A → List ℕ) → Result A EncodeError → Endian → List Datum → Type 0
 EncodedAll bytes (Ok text) order ds = (bytes text ≡ spellings order 0 (data_of ds)) × (depths (data_of ds) ≤ 64) × AllFit order 0 (data_of ds)
 EncodedAll bytes (Err e) order ds = AreNotEncoded e order ds
-
--- keys and values that are sound
-abbrev pub ArePairsSound : Entries → Type 0
-ArePairsSound no_entries = Unit {0}
-ArePairsSound (entry k v es) = IsSound k × IsSound v × ArePairsSound es
 
 -- The length of an array's elements was put where it belongs, unless they are too long.
 abbrev pub Closed : {A : Type 0} → Result A EncodeError → ℕ → List ℕ → List ℕ → Type 0

@@ -1,5 +1,5 @@
 //! The bytes of a body's values, and the values of its bytes.
-ghost use Rattle.std.specs.Prelude.{◌≡◌, ◌+◌, ◌<◌, ◌≤◌, ◌↔◌, IfErr, IfOk, IsTrue, length, take};
+ghost use Rattle.std.specs.Prelude.{◌≡◌, ◌+◌, ◌%◌, ◌<◌, ◌≤◌, ◌↔◌, IfErr, IfOk, IsTrue, length, take};
 ghost use Rattle.wire_tree.specs.Datum.{data_of};
 ghost use Rattle.wire_spelling.specs.Spelling.{AllFit, depths, spellings};
 ghost use Rattle.wire_spelling.specs.Each.{SpellEach};
@@ -54,6 +54,23 @@ fn write_each(
     Ok(())
 }
 
+/// Appends the bytes of a body to an output that ends on a multiple of 8, where a body begins in its message (D-Bus
+/// Specification, "Message Format", "Marshaling (Wire Format)"). How many containers its values open was asked before, by
+/// [`is_shallow`]. After an error nothing is said of the output.
+///
+/// # Errors
+///
+/// [`EncodeError::ExcessData`] exactly where the elements of an array take more than 67,108,864 bytes.
+/// [`EncodeError::Memory`] for want of memory.
+pub fn append_body(order: Endian, body: &BodyValues, out: &mut Vec<u8>) -> Result<(), EncodeError>
+    requires shallow { depths (data_of body.now) ≤ 64 }
+    requires placed { length out.old.items % 8 ≡ 0 }
+    ensures { Wrote result (spellings order 0 (data_of body.now)) (AllFit order 0 (data_of body.now)) out.old.items out.new.items }
+{
+    let alloc = *out.allocator();
+    write_each(alloc, order, 0, out, body.values())
+}
+
 /// The bytes of a body: the spellings of its values, one behind the other (D-Bus Specification, "Message Format",
 /// "Marshaling (Wire Format)"). A body begins at a multiple of 8 in its message, so places are counted from its first byte.
 ///
@@ -65,12 +82,11 @@ fn write_each(
 pub fn encode_body(alloc: Global, order: Endian, body: &BodyValues) -> Result<Vec<u8>, EncodeError>
     ensures { EncodedAll (λ v. v.items) result order body.now }
 {
-    let values = body.values();
-    if !are_shallow(values) {
+    if !is_shallow(body) {
         return Err(EncodeError::Variant(VariantError::Depth));
     }
     let mut text = Vec::new(alloc);
-    write_each(alloc, order, 0, &mut text, values)?;
+    append_body(order, body, &mut text)?;
     Ok(text)
 }
 

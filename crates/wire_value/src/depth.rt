@@ -2,7 +2,7 @@
 ghost use Rattle.std.specs.Prelude.{◌≤◌, ◌↔◌, ◌+◌, IsTrue, map, max};
 ghost use Rattle.wire_tree.specs.Datum.{data_of, entries_of};
 ghost use Rattle.wire_tree.specs.DatumView.{datum_of, pair_of};
-ghost use Rattle.wire_spelling.specs.Spelling.{depth, depths, entry_depths};
+ghost use Rattle.wire_spelling.specs.Spelling.{depth, depths};
 
 use wire_tree::Tree;
 
@@ -46,7 +46,7 @@ fn are_within(room: usize, trees: &[Tree]) -> bool
 
 #[cycle(within)]
 fn pairs_within(room: usize, pairs: &[(Tree, Tree)]) -> bool
-    ensures { IsTrue result ↔ (entry_depths (entries_of (map pair_of pairs.now)) ≤ room) }
+    ensures { IsTrue result ↔ (depths (entries_of (map pair_of pairs.now)) ≤ room) }
 {
     for each in pairs {
         if !pair_within(room, &each.0, &each.1) {

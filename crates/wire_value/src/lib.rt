@@ -2,7 +2,7 @@
 //! bodies of arguments and what walks over bytes without memory stand in crates below, and are found here too.
 #![tactic(auto)]
 
-pub use crate::bodies::{decode_body, encode_body, is_shallow};
+pub use crate::bodies::{append_body, decode_body, encode_body, is_shallow};
 pub use crate::decoding::decode;
 pub use crate::encoding::encode;
 pub use crate::error::EncodeError;

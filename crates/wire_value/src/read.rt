@@ -2,10 +2,10 @@
 ghost use Rattle.std.specs.Prelude.{◌≡◌, length, map};
 ghost use Rattle.wire_signature.specs.Parsing.{type_in};
 ghost use Rattle.wire_signature.specs.Shape.{alignment, shapes_of};
-ghost use Rattle.wire_tree.specs.Datum.{array as array_datum, data_of, dict as dict_datum, entries_of, struct as struct_datum};
-ghost use Rattle.wire_tree.specs.DatumView.{datum_of, pair_of};
+ghost use Rattle.wire_tree.specs.Datum.{array as array_datum, data_of, dict as dict_datum, entry_type, struct as struct_datum};
+ghost use Rattle.wire_tree.specs.DatumView.{datum_of, entry_of};
 ghost use Rattle.wire_number.specs.Reading.{made};
-ghost use Rattle.wire_spelling.specs.Reading.{array_at, entry_at, fields_at, leaf_at, many_at, struct_at, value_at, value_step, variant_at};
+ghost use Rattle.wire_spelling.specs.Reading.{array_at, fields_at, leaf_at, many_at, struct_at, value_at, value_step, variant_at};
 ghost use Rattle.wire_number.specs.ReaderView.{cursor_of};
 ghost use Rattle.wire_spelling.specs.ReaderView.{Gives};
 
@@ -72,7 +72,7 @@ fn read_kind<'a>(
     value_type: &ValueType,
     reader: Reader<'a>,
 ) -> Result<(Tree, Reader<'a>), VariantError>
-    ensures { Gives (λ x. (datum_of x.0, cursor_of x.1)) result (value_step (value_at room order) (entry_at room order) order value_type.now (cursor_of reader.entry)) }
+    ensures { Gives (λ x. (datum_of x.0, cursor_of x.1)) result (value_step (value_at room order) order value_type.now (cursor_of reader.entry)) }
 {
     match value_type.node() {
         TypeNode::Basic(basic) => read_basic(alloc, order, *basic, reader),
@@ -150,7 +150,7 @@ fn read_items<'a>(
 
 /// An array of dict entries.
 #[cycle(read)]
-#[tactic(auto, unfolding(wire_spelling::specs::Reading::array_at))]
+#[tactic(auto, using(crate::proofs::Pairs::entries), unfolding(wire_spelling::specs::Reading::array_at))]
 fn read_dict<'a>(
     alloc: Global,
     order: Endian,
@@ -159,7 +159,7 @@ fn read_dict<'a>(
     value: &ValueType,
     reader: Reader<'a>,
 ) -> Result<(Tree, Reader<'a>), VariantError>
-    ensures { Gives (λ x. (datum_of x.0, cursor_of x.1)) result (made (λ es. dict_datum key value.now (entries_of es)) (array_at 8 (entry_at room order key value.now) order (cursor_of reader.entry))) }
+    ensures { Gives (λ x. (datum_of x.0, cursor_of x.1)) result (made (λ ds. dict_datum key value.now (data_of ds)) (array_at 8 (value_at room order (entry_type key value.now)) order (cursor_of reader.entry))) }
 {
     let (entries, after) = elements(order, 8, reader).ok_or(VariantError::Malformed)?;
     let pairs = read_entries(alloc, order, room, key, value, entries)?;
@@ -177,7 +177,7 @@ fn read_entries<'a>(
     value: &ValueType,
     entries: Reader<'a>,
 ) -> Result<Vec<(Tree, Tree)>, VariantError>
-    ensures { Gives (λ v. map pair_of v.items) result (many_at (length entries.entry.rest.now) (entry_at room order key value.now) (cursor_of entries.entry)) }
+    ensures { Gives (λ v. map entry_of v.items) result (many_at (length entries.entry.rest.now) (value_at room order (entry_type key value.now)) (cursor_of entries.entry)) }
 {
     let mut pairs = Vec::new(alloc);
     let mut left = entries;
@@ -198,7 +198,7 @@ fn read_entries<'a>(
 
 /// A dict entry, which counts as a container.
 #[cycle(read)]
-#[tactic(auto, unfolding(wire_spelling::specs::Reading::entry_at, wire_spelling::specs::Reading::pair_at))]
+#[tactic(auto, using(crate::proofs::Pairs::entries), unfolding(wire_spelling::specs::Reading::value_at, wire_spelling::specs::Reading::struct_at, wire_spelling::specs::Reading::fields_at))]
 fn read_entry<'a>(
     alloc: Global,
     order: Endian,
@@ -207,7 +207,7 @@ fn read_entry<'a>(
     value: &ValueType,
     reader: Reader<'a>,
 ) -> Result<((Tree, Tree), Reader<'a>), VariantError>
-    ensures { Gives (λ x. (pair_of x.0, cursor_of x.1)) result (entry_at room order key value.now (cursor_of reader.entry)) }
+    ensures { Gives (λ x. (entry_of x.0, cursor_of x.1)) result (value_at room order (entry_type key value.now) (cursor_of reader.entry)) }
 {
     if room == 0 {
         return Err(VariantError::Malformed);

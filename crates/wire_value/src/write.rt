@@ -3,11 +3,12 @@
 ghost use Rattle.std.specs.Prelude.{◌≡◌, ◌+◌, ◌-◌, ◌<◌, ◌≤◌, ◌++◌, drop, length, map, take};
 ghost use Rattle.std.specs.Int.{w32};
 ghost use Rattle.wire_number.specs.Number.{number_text};
-ghost use Rattle.wire_signature.specs.Shape.{IsType, alignment};
-ghost use Rattle.wire_tree.specs.Datum.{AreElements, AreSound, IsSound, array as array_datum, data_of, entries_of, entry, no_entries, struct as struct_datum, type_of, variant};
+ghost use Rattle.wire_signature.specs.Shape.{IsType, Shape, alignment};
+ghost use Rattle.wire_signature.specs.declared.basic.BasicType.{BasicType};
+ghost use Rattle.wire_tree.specs.Datum.{AreElements, AreSound, IsSound, array as array_datum, data_of, dict as dict_datum, entries_of, entry, struct as struct_datum, type_of, variant};
 ghost use Rattle.wire_tree.specs.DatumView.{datum_of, pair_of};
-ghost use Rattle.wire_spelling.specs.Spelling.{AllFit, ArraysFit, EntriesFit, array_form, entry_spellings, first_place, spelling, spellings};
-ghost use Rattle.wire_value.specs.Writing.{ArePairsSound, Closed, Wrote};
+ghost use Rattle.wire_spelling.specs.Spelling.{AllFit, ArraysFit, spelling, spellings};
+ghost use Rattle.wire_value.specs.Writing.{Closed, Wrote};
 
 use crate::error::EncodeError;
 use crate::opening::open_array;
@@ -145,8 +146,8 @@ fn write_dict(
     pairs: &[(Tree, Tree)],
 ) -> Result<(), EncodeError>
     requires shift { shift < 8 }
-    requires sound { ArePairsSound (entries_of (map pair_of pairs.now)) }
-    ensures { Wrote result (array_form order (shift + length out.old.items) 8 (entry_spellings order (first_place (shift + length out.old.items) 8) (entries_of (map pair_of pairs.now)))) ((length (entry_spellings order (first_place (shift + length out.old.items) 8) (entries_of (map pair_of pairs.now))) ≤ 67108864) × EntriesFit order (first_place (shift + length out.old.items) 8) (entries_of (map pair_of pairs.now))) out.old.items out.new.items }
+    requires sound { AreSound (entries_of (map pair_of pairs.now)) }
+    ensures { (k : BasicType) (v : Shape) → Wrote result (spelling order (shift + length out.old.items) (dict_datum k v (entries_of (map pair_of pairs.now)))) (ArraysFit order (shift + length out.old.items) (dict_datum k v (entries_of (map pair_of pairs.now)))) out.old.items out.new.items }
 {
     let place = out.len() + padding_for_n_bytes(shift + out.len(), 4);
     open_array(out, shift, 8)?;
@@ -165,8 +166,8 @@ fn write_entries(
     pairs: &[(Tree, Tree)],
 ) -> Result<(), EncodeError>
     requires shift { shift < 8 }
-    requires sound { ArePairsSound (entries_of (map pair_of pairs.now)) }
-    ensures { Wrote result (entry_spellings order (shift + length out.old.items) (entries_of (map pair_of pairs.now))) (EntriesFit order (shift + length out.old.items) (entries_of (map pair_of pairs.now))) out.old.items out.new.items }
+    requires sound { AreSound (entries_of (map pair_of pairs.now)) }
+    ensures { Wrote result (spellings order (shift + length out.old.items) (entries_of (map pair_of pairs.now))) (AllFit order (shift + length out.old.items) (entries_of (map pair_of pairs.now))) out.old.items out.new.items }
 {
     for each in pairs {
         write_entry(alloc, order, shift, out, &each.0, &each.1)?;
@@ -187,7 +188,7 @@ fn write_entry(
     requires shift { shift < 8 }
     requires key { IsSound (datum_of key.now) }
     requires value { IsSound (datum_of value.now) }
-    ensures { Wrote result (entry_spellings order (shift + length out.old.items) (entry (datum_of key.now) (datum_of value.now) no_entries)) (EntriesFit order (shift + length out.old.items) (entry (datum_of key.now) (datum_of value.now) no_entries)) out.old.items out.new.items }
+    ensures { Wrote result (spelling order (shift + length out.old.items) (entry (datum_of key.now, datum_of value.now))) (ArraysFit order (shift + length out.old.items) (entry (datum_of key.now, datum_of value.now))) out.old.items out.new.items }
 {
     pad_to(out, shift, 8)?;
     write_value(alloc, order, shift, out, key)?;

@@ -3,10 +3,13 @@ use Rattle.std.proofs.lemmas.Result.{IfOk-weaker}
 use Rattle.wire_framing.specs.Sink.{asked_again}
 use Rattle.peer_route.specs.declared.words.Words.TheVariants as words
 use Rattle.peer_run.specs.Stands.{SourceMoves}
-use Rattle.peer_run.proofs.Ends.{if_ok3, if_ok4}
+use Rattle.peer_run.proofs.Ends.{if_ok4}
 use Rattle.peer_run.proofs.SendStep.{sends_other, sends_nothing}
 use Rattle.peer_run.proofs.HalfStep.{fine_before}
 use Rattle.peer_run.proofs.run.answer_to.Goals as goal
+use Rattle.peer_run.proofs.Saying.{stands_said, clones_said, more_said}
+use Rattle.peer_route.specs.Trail.{place}
+use Rattle.peer_route.specs.Entries.{trail}
 
 pub returns-in-Read-clause-stands : goal.returns-in-Read-clause-stands
 returns-in-Read-clause-stands g c =
@@ -22,68 +25,23 @@ returns-in-Read-clause-stands g c =
 
 pub returns-in-Poll-clause-stands : goal.returns-in-Poll-clause-stands
 returns-in-Poll-clause-stands g c setting start_in start_out es takes s =
-    let before = fine_before setting es c.args.command.now.lane c.args.command.now.words c.poll.result in
-    let step = rw (c.in-Poll.is) at before in
-    rw (c.in-Poll.is) (record {
-      follows = c.poll.ensures.follows setting es s.follows;
-      reads = c.poll.ensures.reads setting start_in _ es s.follows s.reads;
-      writes = c.poll.ensures.writes setting start_out _ es s.follows s.writes;
-      source = (_, s.source, refl);
-      asked = s.asked;
-      fine = λ e. s.fine (step e);
-    })
+    rw (c.in-Poll.is) (stands_said setting start_in start_out _ _ _ _ _ es c.args.command.now.lane _ c.poll.result tt refl (c.poll.ensures setting es s.follows) s)
 
 pub returns-in-Drop-clause-stands : goal.returns-in-Drop-clause-stands
 returns-in-Drop-clause-stands g c setting start_in start_out es takes s =
-    let before = fine_before setting es c.args.command.now.lane c.args.command.now.words c.drop_call.result in
-    let step = rw (c.in-Drop.is) at before in
-    rw (c.in-Drop.is) (record {
-      follows = c.drop_call.ensures.follows setting es s.follows;
-      reads = c.drop_call.ensures.reads setting start_in _ es s.follows s.reads;
-      writes = c.drop_call.ensures.writes setting start_out _ es s.follows s.writes;
-      source = (_, s.source, refl);
-      asked = s.asked;
-      fine = λ e. s.fine (step e);
-    })
+    rw (c.in-Drop.is) (stands_said setting start_in start_out _ _ _ _ _ es c.args.command.now.lane _ c.drop_call.result tt refl (c.drop_call.ensures setting es s.follows) s)
 
 pub returns-in-Take-clause-stands : goal.returns-in-Take-clause-stands
 returns-in-Take-clause-stands g c setting start_in start_out es takes s =
-    let before = fine_before setting es c.args.command.now.lane c.args.command.now.words c.take.result in
-    let step = rw (c.in-Take.is) at before in
-    rw (c.in-Take.is) (record {
-      follows = c.take.ensures.follows setting es s.follows;
-      reads = c.take.ensures.reads setting start_in _ es s.follows s.reads;
-      writes = c.take.ensures.writes setting start_out _ es s.follows s.writes;
-      source = (_, s.source, refl);
-      asked = s.asked;
-      fine = λ e. s.fine (step e);
-    })
+    rw (c.in-Take.is) (stands_said setting start_in start_out _ _ _ _ _ es c.args.command.now.lane _ c.take.result tt refl (c.take.ensures setting es s.follows) s)
 
 pub returns-in-Before-clause-stands : goal.returns-in-Before-clause-stands
 returns-in-Before-clause-stands g c setting start_in start_out es takes s =
-    let before = fine_before setting es c.args.command.now.lane c.args.command.now.words c.before-in-Before.result in
-    let step = rw (c.in-Before.is) at before in
-    rw (c.in-Before.is) (record {
-      follows = c.before-in-Before.ensures.follows setting es s.follows;
-      reads = c.before-in-Before.ensures.reads setting start_in _ es s.follows s.reads;
-      writes = c.before-in-Before.ensures.writes setting start_out _ es s.follows s.writes;
-      source = (_, s.source, refl);
-      asked = s.asked;
-      fine = λ e. s.fine (step e);
-    })
+    rw (c.in-Before.is) (stands_said setting start_in start_out _ _ _ _ _ es c.args.command.now.lane _ c.before-in-Before.result tt refl (c.before-in-Before.ensures setting es s.follows) s)
 
 pub returns-in-TakeBefore-clause-stands : goal.returns-in-TakeBefore-clause-stands
 returns-in-TakeBefore-clause-stands g c setting start_in start_out es takes s =
-    let before = fine_before setting es c.args.command.now.lane c.args.command.now.words c.take_before.result in
-    let step = rw (c.in-TakeBefore.is) at before in
-    rw (c.in-TakeBefore.is) (record {
-      follows = c.take_before.ensures.follows setting es s.follows;
-      reads = c.take_before.ensures.reads setting start_in _ es s.follows s.reads;
-      writes = c.take_before.ensures.writes setting start_out _ es s.follows s.writes;
-      source = (_, s.source, refl);
-      asked = s.asked;
-      fine = λ e. s.fine (step e);
-    })
+    rw (c.in-TakeBefore.is) (stands_said setting start_in start_out _ _ _ _ _ es c.args.command.now.lane _ c.take_before.result tt refl (c.take_before.ensures setting es s.follows) s)
 
 pub returns-in-Unstream-clause-stands : goal.returns-in-Unstream-clause-stands
 returns-in-Unstream-clause-stands g c =
@@ -101,41 +59,23 @@ returns-in-Unstream-clause-stands g c =
 
 pub returns-in-Queue-clause-stands : goal.returns-in-Queue-clause-stands
 returns-in-Queue-clause-stands g c setting start_in start_out es takes s =
-    let before = fine_before setting es c.args.command.now.lane c.args.command.now.words c.queue.result in
-    let step = rw (c.in-Queue.is) at before in
-    rw (c.in-Queue.is) (record {
-      follows = c.queue.ensures.follows setting es s.follows;
-      reads = c.queue.ensures.reads setting start_in _ es s.follows s.reads;
-      writes = c.queue.ensures.writes setting start_out _ es s.follows s.writes;
-      source = (_, s.source, refl);
-      asked = s.asked;
-      fine = λ e. s.fine (step e);
-    })
+    let t = trail setting es in
+    rw (c.in-Queue.is)
+    (stands_said setting start_in start_out _ _ _ _ _ es c.args.command.now.lane _ c.queue.result (more_said c.in-Queue.limit t.events (place 0 c.args.command.now.lane c.in-Queue.stream t.streams)) refl
+    (c.queue.ensures setting es s.follows) s)
 
 pub returns-in-MainQueue-clause-stands : goal.returns-in-MainQueue-clause-stands
 returns-in-MainQueue-clause-stands g c setting start_in start_out es takes s =
-    let before = fine_before setting es c.args.command.now.lane c.args.command.now.words c.main_queue.result in
-    let step = rw (c.in-MainQueue.is) at before in
-    rw (c.in-MainQueue.is) (record {
-      follows = c.main_queue.ensures.follows setting es s.follows;
-      reads = c.main_queue.ensures.reads setting start_in _ es s.follows s.reads;
-      writes = c.main_queue.ensures.writes setting start_out _ es s.follows s.writes;
-      source = (_, s.source, refl);
-      asked = s.asked;
-      fine = λ e. s.fine (step e);
-    })
+    rw (c.in-MainQueue.is) (stands_said setting start_in start_out _ _ _ _ _ es c.args.command.now.lane _ c.main_queue.result tt refl (c.main_queue.ensures setting es s.follows) s)
 
 pub returns-in-Clone-clause-stands : goal.returns-in-Clone-clause-stands
 returns-in-Clone-clause-stands g c =
-    rw (c.in-Clone.is) (if_ok3 c.clone_stream.result _ _ _ _
-    (λ answer f r w setting start_in start_out es takes s. record {
-      follows = f setting es s.follows;
-      reads = r setting start_in _ es s.follows s.reads;
-      writes = w setting start_out _ es s.follows s.writes;
-      source = (_, s.source, refl);
-      asked = s.asked;
-      fine = λ e. s.fine (fine_before setting es c.args.command.now.lane (words.Clone c.in-Clone.number) answer e);
-    }) c.clone_stream.ensures.follows c.clone_stream.ensures.reads c.clone_stream.ensures.writes)
+    rw (c.in-Clone.is) (IfOk-weaker c.clone_stream.result _ _
+    (λ answer steps setting start_in start_out es takes s.
+    let t = trail setting es in
+    let lane = c.args.command.now.lane in
+    stands_said setting start_in start_out _ _ _ _ _ es lane _ answer (clones_said lane t.streams t.events (place 0 lane c.in-Clone.number t.streams)) refl (steps setting es s.follows) s)
+    c.clone_stream.ensures)
 
 pub returns-in-Open-clause-stands : goal.returns-in-Open-clause-stands
 returns-in-Open-clause-stands g c =
@@ -153,16 +93,7 @@ returns-in-Open-clause-stands g c =
 
 pub returns-in-Opened-clause-stands : goal.returns-in-Opened-clause-stands
 returns-in-Opened-clause-stands g c setting start_in start_out es takes s =
-    let before = fine_before setting es c.args.command.now.lane c.args.command.now.words c.opened.result in
-    let step = rw (c.in-Opened.is) at before in
-    rw (c.in-Opened.is) (record {
-      follows = c.opened.ensures.follows setting es s.follows;
-      reads = c.opened.ensures.reads setting start_in _ es s.follows s.reads;
-      writes = c.opened.ensures.writes setting start_out _ es s.follows s.writes;
-      source = (_, s.source, refl);
-      asked = s.asked;
-      fine = λ e. s.fine (step e);
-    })
+    rw (c.in-Opened.is) (stands_said setting start_in start_out _ _ _ _ _ es c.args.command.now.lane _ c.opened.result tt refl (c.opened.ensures setting es s.follows) s)
 
 pub returns-in-Close-clause-stands : goal.returns-in-Close-clause-stands
 returns-in-Close-clause-stands g c setting start_in start_out es takes s =
@@ -178,15 +109,9 @@ returns-in-Close-clause-stands g c setting start_in start_out es takes s =
 
 pub returns-in-Stream-clause-stands : goal.returns-in-Stream-clause-stands
 returns-in-Stream-clause-stands g c =
-    rw (c.in-Stream.is) (if_ok3 c.stream.result _ _ _ _
-    (λ answer f r w setting start_in start_out es takes s. record {
-      follows = f setting es s.follows;
-      reads = r setting start_in _ es s.follows s.reads;
-      writes = w setting start_out _ es s.follows s.writes;
-      source = (_, s.source, refl);
-      asked = s.asked;
-      fine = λ e. s.fine (fine_before setting es c.args.command.now.lane words.Stream answer e);
-    }) c.stream.ensures.follows c.stream.ensures.reads c.stream.ensures.writes)
+    rw (c.in-Stream.is) (IfOk-weaker c.stream.result _ _
+    (λ answer steps setting start_in start_out es takes s. stands_said setting start_in start_out _ _ _ _ _ es c.args.command.now.lane words.Stream answer tt refl (steps setting es s.follows) s)
+    c.stream.ensures)
 
 pub returns-in-Call-clause-stands : goal.returns-in-Call-clause-stands
 returns-in-Call-clause-stands g c =

@@ -26,14 +26,7 @@ some (a ∷ b ∷ c ∷ d ∷ e ∷ f ∷ g ∷ ws) gt lt = absurd (omega (arith
 many : (ws : List (Bor (List ℕ))) → 7 < length ws → None ≡ command_words (said ws)
 unfolding command_words
 many (a ∷ b ∷ c ∷ d ∷ e ∷ f ∷ g ∷ h ∷ ws) gt = refl
-many [] gt = absurd (omega (arith, gt))
-many (a ∷ []) gt = absurd (omega (arith, gt))
-many (a ∷ b ∷ []) gt = absurd (omega (arith, gt))
-many (a ∷ b ∷ c ∷ []) gt = absurd (omega (arith, gt))
-many (a ∷ b ∷ c ∷ d ∷ []) gt = absurd (omega (arith, gt))
-many (a ∷ b ∷ c ∷ d ∷ e ∷ []) gt = absurd (omega (arith, gt))
-many (a ∷ b ∷ c ∷ d ∷ e ∷ f ∷ []) gt = absurd (omega (arith, gt))
-many (a ∷ b ∷ c ∷ d ∷ e ∷ f ∷ g ∷ []) gt = absurd (omega (arith, gt))
+many w gt = absurd (omega (arith, gt))
 
 pub returns-in_default : goal.returns-in_default
 returns-in_default c = elim c.in_default.branch [

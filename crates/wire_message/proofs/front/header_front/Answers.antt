@@ -1,14 +1,14 @@
 use Rattle.std.proofs.Common.{arith}
 use Rattle.wire_message.specs.declared.error.IoKind.TheVariants.{Ended}
-use Rattle.wire_message.proofs.Grammar.{found-of, length-of, only-of}
+use Rattle.wire_message.proofs.Grammar.{found_of, length_of, only_of}
 use Rattle.wire_message.proofs.front.header_front.Goals as goal
 
 pub returns-clause-length : goal.returns-clause-length
 returns-clause-length c =
-    length-of c.args.bytes.now _ (found-of c.args.bytes.now Ended _ (λ i. omega (arith, c.type_inv.bytes i)) c.front_of.ensures.exact c.front_of.ensures.length)
+    length_of c.args.bytes.now _ (found_of c.args.bytes.now Ended _ (λ i. omega (arith, c.type_inv.bytes i)) c.front_of.ensures.exact c.front_of.ensures.length)
 
 pub returns-clause-found : goal.returns-clause-found
-returns-clause-found c = found-of c.args.bytes.now Ended _ (λ i. omega (arith, c.type_inv.bytes i)) c.front_of.ensures.exact c.front_of.ensures.length
+returns-clause-found c = found_of c.args.bytes.now Ended _ (λ i. omega (arith, c.type_inv.bytes i)) c.front_of.ensures.exact c.front_of.ensures.length
 
 pub returns-clause-only : goal.returns-clause-only
-returns-clause-only c = λ m n p f. only-of c.args.bytes.now Ended _ m n c.front_of.ensures.exact p f
+returns-clause-only c = λ m n p f. only_of c.args.bytes.now Ended _ m n c.front_of.ensures.exact p f

@@ -1,7 +1,10 @@
 use Rattle.std.proofs.Common.{◌≡◌, ◌<◌, ◌-◌, ◌+◌, length, arith}
 use Rattle.std.proofs.lemmas.Bool.Decides.{nat_tests}
 use Rattle.wire_number.specs.ReaderView.{cursor_of}
-use Rattle.wire_message.proofs.Stepping.{going-first, going-more, going-failed, going-left, going-all, held-there}
+use Rattle.wire_spelling.proofs.Loops.{many_done, many_left, many_none}
+use Rattle.wire_message.specs.Field.{gathered}
+use Rattle.wire_message.specs.Reading.{field_at}
+use Rattle.wire_message.proofs.Stepping.{going-first, going-more, going-ends, held-there}
 use Rattle.wire_message.proofs.reading.places_in.Goals as goal
 
 pub loop-init : goal.loop-init
@@ -10,15 +13,16 @@ loop-init c =
     (omega arith) c.reader_of-left.ensures c.new-places.ensures
 
 pub returns-then-is_empty-clause-found : goal.returns-then-is_empty-clause-found
+unfolding gathered
 returns-then-is_empty-clause-found c =
     let none : length c.loop.left.rest.now ≡ 0 = grind (arith, nat_tests) in
-    going-all _ _ _ _ _ (cursor_of c.loop.left) c.loop.invariant none
+    going-ends _ _ _ _ _ (cursor_of c.loop.left) _ c.loop.invariant (many_done _ (field_at c.args.order) (cursor_of c.loop.left) none)
 
 pub returns-in_err-code-clause-found : goal.returns-in_err-code-clause-found
 returns-in_err-code-clause-found c =
     let some : 0 < length c.loop.left.rest.now = grind (arith, nat_tests) in
     rw c.from_residual.ensures
-    (going-failed _ _ _ (c.args.end - 16 - (c.loop.counter + 1)) _ _ (cursor_of c.loop.left) c.loop.invariant (omega arith) some c.in_err-code.ensures)
+    (going-ends _ _ _ _ _ (cursor_of c.loop.left) _ c.loop.invariant (many_none (c.args.end - 16 - (c.loop.counter + 1)) _ (field_at c.args.order) (cursor_of c.loop.left) (omega arith) some c.in_err-code.ensures))
 
 pub with_value-places-requires : goal.with_value-places-requires
 with_value-places-requires c =
@@ -32,11 +36,12 @@ loop-preserved c =
     (c.with_value-places.ensures.field c.args.bytes.now held.1) (c.with_value-places.ensures.spans c.args.end c.loop.invariant.spans held.2)
 
 pub returns-then-is_empty-2-clause-found : goal.returns-then-is_empty-2-clause-found
+unfolding gathered
 returns-then-is_empty-2-clause-found c =
     let none : length c.loop.left.rest.now ≡ 0 = grind (arith, nat_tests) in
-    going-all _ _ _ _ _ (cursor_of c.loop.left) c.loop.invariant none
+    going-ends _ _ _ _ _ (cursor_of c.loop.left) _ c.loop.invariant (many_done _ (field_at c.args.order) (cursor_of c.loop.left) none)
 
 pub returns-else-is_empty-2-clause-found : goal.returns-else-is_empty-2-clause-found
 returns-else-is_empty-2-clause-found c =
     let some : 0 < length c.loop.left.rest.now = grind (arith, nat_tests) in
-    going-left _ _ _ _ _ (cursor_of c.loop.left) c.loop.invariant (omega arith) some
+    going-ends _ _ _ _ _ (cursor_of c.loop.left) _ c.loop.invariant (many_left _ (field_at c.args.order) (cursor_of c.loop.left) (omega arith) some)

@@ -1,8 +1,7 @@
 use Rattle.std.proofs.Common.{arith}
 use Rattle.wire_number.specs.ReaderView.{cursor_of}
 use Rattle.wire_number.proofs.Steps.{bytes_from}
-use Rattle.wire_spelling.proofs.Exact.{walked_from, walked_nothing}
-use Rattle.wire_spelling.proofs.TypeTexts.{puts_first}
+use Rattle.wire_spelling.proofs.Exact.{puts_first, walked_from, walked_nothing}
 use Rattle.wire_spelling.proofs.skipping.skip.Goals as goal
 
 pub returns-in_err-after-clause-none : goal.returns-in_err-after-clause-none

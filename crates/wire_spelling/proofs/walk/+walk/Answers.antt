@@ -4,7 +4,7 @@ use Rattle.wire_number.specs.Reading.{behind}
 use Rattle.wire_number.specs.ReaderView.{Finds, cursor_of}
 use Rattle.wire_spelling.specs.Walking.{item_at, leaving}
 use Rattle.wire_spelling.proofs.Loops.{many_done, many_left, many_none, some_next}
-use Rattle.wire_spelling.proofs.Walks.{basic_walks, no_room, no_text, opened, array_walks, left_none, left_some, fields_start, fields_nowhere, fields_end, fields_more, fields_lost, fields_out, variant_walks}
+use Rattle.wire_spelling.proofs.Walks.{basic_walks, no_room, no_text, opened, array_walks, left_none, left_some, fields_nowhere, fields_behind, fields_end, fields_more, fields_lost, fields_out, variant_walks}
 use Rattle.wire_spelling.proofs.walk.+walk.Goals as goal
 
 pub walk_value-returns-in_err-letter : goal.walk_value-returns-in_err-letter
@@ -102,20 +102,20 @@ pub walk_fields-returns-in_err-stand : goal.walk_fields-returns-in_err-stand
 walk_fields-returns-in_err-stand t c = rw c.from_residual.ensures (λ ts close rest h b e. fields_nowhere _ _ ts rest _ c.in_err-stand.ensures)
 
 pub walk_fields-loop-init : goal.walk_fields-loop-init
-walk_fields-loop-init t c = fields_start _ _ _ _ _ c.in_ok-stand.ensures
+walk_fields-loop-init t c = λ found f. fields_behind _ _ _ _ _ found c.in_ok-stand.ensures f
 
 pub walk_fields-returns-in-Some : goal.walk_fields-returns-in-Some
-walk_fields-returns-in-Some t c = fields_end _ _ _ _ _ _ _ _ c.loop.invariant c.in-Some.ensures
+walk_fields-returns-in-Some t c = c.loop.invariant _ (fields_end _ _ _ _ _ _ c.in-Some.ensures)
 
 pub walk_fields-returns-in_err-rest : goal.walk_fields-returns-in_err-rest
 walk_fields-returns-in_err-rest t c =
-    rw c.from_residual-in_err-rest.ensures (fields_lost _ _ _ _ _ _ _ c.loop.invariant c.in_default.ensures c.in_err-rest.ensures)
+    rw c.from_residual-in_err-rest.ensures (c.loop.invariant None (fields_lost _ _ _ _ _ c.in_default.ensures c.in_err-rest.ensures))
 
 pub walk_fields-loop-preserved : goal.walk_fields-loop-preserved
-walk_fields-loop-preserved t c = fields_more _ _ _ _ _ _ _ _ _ _ c.loop.invariant c.in_default.ensures c.in_ok-rest.ensures (omega arith)
+walk_fields-loop-preserved t c = λ found f. c.loop.invariant found (fields_more _ _ _ _ _ _ _ _ found (omega arith) c.in_default.ensures c.in_ok-rest.ensures f)
 
 pub walk_fields-returns : goal.walk_fields-returns
-walk_fields-returns t c = fields_out _ _ _ _ _ _ _ c.loop.invariant (omega arith)
+walk_fields-returns t c = c.loop.invariant None (fields_out _ _ _ _ _ (omega arith))
 
 pub walk_variant-returns-in_err-after : goal.walk_variant-returns-in_err-after
 walk_variant-returns-in_err-after t c =

@@ -1,5 +1,5 @@
 use Rattle.std.proofs.Common.{◌≡◌, map, take, fold}
-use Rattle.wire_tree.specs.Datum.{data_of, entries_of, size_of, sizes_of, sizes_in}
+use Rattle.wire_tree.specs.Datum.{data_of, entries_of, size_of, sizes_of}
 use Rattle.wire_tree.specs.DatumView.{datum_of, pair_of}
 use Rattle.wire_tree.specs.Equal.{writes_of, writes_in}
 use Rattle.wire_tree.proofs.hash.+feeding.Given as goal
@@ -8,7 +8,7 @@ abbrev pub decreases-feed_all : goal.decreases-feed_all
 decreases-feed_all g l = sizes_of (data_of (map datum_of l.trees.now))
 
 abbrev pub decreases-feed_pairs : goal.decreases-feed_pairs
-decreases-feed_pairs g l = sizes_in (entries_of (map pair_of l.pairs.now))
+decreases-feed_pairs g l = sizes_of (entries_of (map pair_of l.pairs.now))
 
 abbrev pub decreases-feed : goal.decreases-feed
 decreases-feed g l = size_of (datum_of l.tree.now)

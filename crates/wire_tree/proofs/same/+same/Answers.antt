@@ -1,7 +1,7 @@
 use Rattle.std.proofs.Common.{◌≡◌, arith, map, refl, sym, ◌∙◌}
 use Rattle.wire_tree.specs.Datum.{array, dict, struct, data_of, entries_of}
 use Rattle.wire_tree.specs.DatumView.{datum_of, pair_of}
-use Rattle.wire_tree.proofs.Lists.{structs-same, arrays-same, dicts-same, seen-item}
+use Rattle.wire_tree.proofs.Lists.{lists-same, structs-one, arrays-one, dicts-one, seen-item}
 use Rattle.wire_tree.proofs.Parts.{size_item, size_pair}
 use Rattle.wire_tree.proofs.same.+same.Goals as goal
 
@@ -32,13 +32,13 @@ is_same-returns-then-is_same_type t c =
     let k : c.in-Array-Array.element ≡ c.in-Array-Array.other_element = c.if-is_same_type.ensures.0 refl in
     let d : array c.in-Array-Array.element (data_of (map datum_of c.as_slice.result.now)) ≡ datum_of c.args.tree.now = grind arith in
     let e : array c.in-Array-Array.element (data_of (map datum_of c.as_slice-then-is_same_type.result.now)) ≡ datum_of c.args.other.now = grind arith in
-    arrays-same c.are_same.result c.in-Array-Array.element _ _ _ _ d e c.are_same.ensures
+    lists-same (λ ds. array c.in-Array-Array.element (data_of ds)) (arrays-one c.in-Array-Array.element) c.are_same.result _ _ _ _ d e c.are_same.ensures
 
 pub is_same-returns-in-Struct-Struct : goal.is_same-returns-in-Struct-Struct
 is_same-returns-in-Struct-Struct t c =
     let d : struct (data_of (map datum_of c.as_slice-in-Struct-Struct.result.now)) ≡ datum_of c.args.tree.now = grind arith in
     let e : struct (data_of (map datum_of c.as_slice-in-Struct-Struct-2.result.now)) ≡ datum_of c.args.other.now = grind arith in
-    structs-same c.are_same-in-Struct-Struct.result _ _ _ _ d e c.are_same-in-Struct-Struct.ensures
+    lists-same (λ ds. struct (data_of ds)) structs-one c.are_same-in-Struct-Struct.result _ _ _ _ d e c.are_same-in-Struct-Struct.ensures
 
 pub is_same-returns-then-is_same_entry_type : goal.is_same-returns-then-is_same_entry_type
 is_same-returns-then-is_same_entry_type t c =
@@ -46,4 +46,5 @@ is_same-returns-then-is_same_entry_type t c =
     let p = k.0 in let q = k.1 in
     let d : dict c.in-Dict-Dict.key c.in-Dict-Dict.value (entries_of (map pair_of c.as_slice-then-is_same_entry_type.result.now)) ≡ datum_of c.args.tree.now = grind arith in
     let e : dict c.in-Dict-Dict.key c.in-Dict-Dict.value (entries_of (map pair_of c.as_slice-then-is_same_entry_type-2.result.now)) ≡ datum_of c.args.other.now = grind arith in
-    dicts-same c.are_same_pairs.result c.in-Dict-Dict.key c.in-Dict-Dict.value _ _ _ _ d e c.are_same_pairs.ensures
+    lists-same (λ es. dict c.in-Dict-Dict.key c.in-Dict-Dict.value (entries_of es)) (dicts-one c.in-Dict-Dict.key c.in-Dict-Dict.value) c.are_same_pairs.result _ _ _ _ d e
+    c.are_same_pairs.ensures

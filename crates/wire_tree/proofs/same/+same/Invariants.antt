@@ -1,5 +1,5 @@
 use Rattle.std.proofs.Common.{◌≡◌, ◌+◌, ◌*◌, length, map, take}
-use Rattle.wire_tree.specs.Datum.{data_of, entries_of, size_of, sizes_of, sizes_in}
+use Rattle.wire_tree.specs.Datum.{data_of, entries_of, size_of, sizes_of}
 use Rattle.wire_tree.specs.DatumView.{datum_of, pair_of}
 use Rattle.wire_tree.proofs.same.+same.Given as goal
 
@@ -7,7 +7,7 @@ abbrev pub decreases-are_same : goal.decreases-are_same
 decreases-are_same l = 2 * sizes_of (data_of (map datum_of l.trees.now))
 
 abbrev pub decreases-are_same_pairs : goal.decreases-are_same_pairs
-decreases-are_same_pairs l = 2 * sizes_in (entries_of (map pair_of l.pairs.now))
+decreases-are_same_pairs l = 2 * sizes_of (entries_of (map pair_of l.pairs.now))
 
 abbrev pub decreases-is_same : goal.decreases-is_same
 decreases-is_same l = 2 * size_of (datum_of l.tree.now)

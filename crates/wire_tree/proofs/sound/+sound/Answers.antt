@@ -1,4 +1,5 @@
 use Rattle.std.proofs.Common.{add-one, arith, sym, ◌∙◌}
+use Rattle.wire_tree.specs.DatumView.{datum_of}
 use Rattle.wire_tree.proofs.Parts.{size_item, size_pair}
 use Rattle.wire_tree.proofs.Checked.{sound-item, sound-take, element-item, element-take, entry-item, entry-take}
 use Rattle.wire_tree.proofs.sound.+sound.Goals as goal
@@ -19,7 +20,7 @@ pub are_sound-returns-then-not-branch : goal.are_sound-returns-then-not-branch
 are_sound-returns-then-not-branch t c = (
   λ h. absurd (cc),
   λ s. sym c.if-not-branch.true ∙ c.in_ok-is_sound.ensures.1
-      (sound-item c.args.fields.now c.loop-each.each-index c.each-item.result s c.loop-each-test.true c.each-item.is),
+      (sound-item datum_of c.args.fields.now c.loop-each.each-index c.each-item.result s c.loop-each-test.true c.each-item.is),
 )
 
 pub are_sound-loop-each-preserved : goal.are_sound-loop-each-preserved
@@ -32,13 +33,13 @@ pub are_elements-returns-then-not-branch : goal.are_elements-returns-then-not-br
 are_elements-returns-then-not-branch t c = (
   λ h. absurd (cc),
   λ s. sym c.if-not-branch.true ∙ c.in_ok-is_element.ensures.1
-      (element-item c.args.element.now c.args.elements.now c.loop-each.each-index c.each-item.result s c.loop-each-test.true c.each-item.is),
+      (element-item datum_of c.args.element.now c.args.elements.now c.loop-each.each-index c.each-item.result s c.loop-each-test.true c.each-item.is),
 )
 
 pub are_elements-loop-each-preserved : goal.are_elements-loop-each-preserved
 are_elements-loop-each-preserved t c =
     rw add-one
-    (element-take c.args.element.now c.args.elements.now c.loop-each.each-index c.each-item.result c.loop-each.invariant c.loop-each-test.true c.each-item.is
+    (element-take datum_of c.args.element.now c.args.elements.now c.loop-each.each-index c.each-item.result c.loop-each.invariant c.loop-each-test.true c.each-item.is
     (c.in_ok-is_element.ensures.0 c.if-not-branch.false))
 
 pub are_entries-returns-then-not-branch : goal.are_entries-returns-then-not-branch

@@ -1,5 +1,5 @@
 use Rattle.std.proofs.Common.{◌+◌, ◌*◌, map, take}
-use Rattle.wire_tree.specs.Datum.{data_of, entries_of, size_of, sizes_of, sizes_in, AreElements, AreEntries, AreSound}
+use Rattle.wire_tree.specs.Datum.{data_of, entries_of, size_of, sizes_of, entry_type, AreElements, AreSound}
 use Rattle.wire_tree.specs.DatumView.{datum_of, pair_of}
 use Rattle.wire_tree.proofs.sound.+sound.Given as goal
 
@@ -13,7 +13,7 @@ abbrev pub decreases-are_elements : goal.decreases-are_elements
 decreases-are_elements l = 2 * sizes_of (data_of (map datum_of l.elements.now))
 
 abbrev pub decreases-are_entries : goal.decreases-are_entries
-decreases-are_entries l = 2 * sizes_in (entries_of (map pair_of l.entries.now))
+decreases-are_entries l = 2 * sizes_of (entries_of (map pair_of l.entries.now))
 
 abbrev pub decreases-is_element : goal.decreases-is_element
 decreases-is_element l = 2 * size_of (datum_of l.tree.now) + 1
@@ -28,4 +28,4 @@ abbrev pub invariant-are_elements-loop-each : goal.invariant-are_elements-loop-e
 invariant-are_elements-loop-each l = AreElements l.element (data_of (map datum_of (take l.each-index l.elements)))
 
 abbrev pub invariant-are_entries-loop-each : goal.invariant-are_entries-loop-each
-invariant-are_entries-loop-each l = AreEntries l.key l.value (entries_of (map pair_of (take l.each-index l.entries)))
+invariant-are_entries-loop-each l = AreElements (entry_type l.key l.value) (entries_of (map pair_of (take l.each-index l.entries)))

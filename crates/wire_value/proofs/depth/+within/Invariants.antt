@@ -1,7 +1,7 @@
 use Rattle.std.proofs.Common.{◌≤◌, ◌+◌, ◌*◌, map, take}
 use Rattle.wire_tree.specs.Datum.{data_of, entries_of}
 use Rattle.wire_tree.specs.DatumView.{datum_of, pair_of}
-use Rattle.wire_spelling.specs.Spelling.{depths, entry_depths}
+use Rattle.wire_spelling.specs.Spelling.{depths}
 use Rattle.wire_value.proofs.depth.+within.Given as goal
 
 abbrev pub decreases-is_within : goal.decreases-is_within
@@ -20,4 +20,4 @@ abbrev pub invariant-are_within-loop-each : goal.invariant-are_within-loop-each
 invariant-are_within-loop-each l = depths (data_of (map datum_of (take l.each-index l.trees))) ≤ l.room
 
 abbrev pub invariant-pairs_within-loop-each : goal.invariant-pairs_within-loop-each
-invariant-pairs_within-loop-each l = entry_depths (entries_of (map pair_of (take l.each-index l.pairs))) ≤ l.room
+invariant-pairs_within-loop-each l = depths (entries_of (map pair_of (take l.each-index l.pairs))) ≤ l.room

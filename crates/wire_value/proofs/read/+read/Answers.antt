@@ -2,7 +2,8 @@ use Rattle.std.proofs.Common.{◌≡◌, ◌<◌, ◌+◌, ◌-◌, length, arit
 use Rattle.std.proofs.lemmas.Bool.Decides.{nat_tests}
 use Rattle.std.proofs.lemmas.List.{map-append}
 use Rattle.std.proofs.lemmas.Result.{err_from_is_err_and}
-use Rattle.wire_spelling.specs.Reading.{value_at, entry_at}
+use Rattle.wire_tree.specs.Datum.{entry_type}
+use Rattle.wire_spelling.specs.Reading.{value_at}
 use Rattle.wire_number.specs.ReaderView.{cursor_of}
 use Rattle.wire_spelling.proofs.Loops.{joined_end, joined_more, joined_none, joined_left, joined_field, joined_done, joined_fields, types_none, refuses_as, value_in_room}
 use Rattle.wire_value.proofs.read.+read.Goals as goal
@@ -51,7 +52,7 @@ read_entries-returns-in_err-pair t c =
     let some : 0 < length c.loop.left.rest.now = grind (arith, nat_tests) in
     let p = err_from_is_err_and c.from_residual.result c.from_residual.ensures.1 in
     rw (p.1, p.2)
-    (refuses_as _ (entry_at c.args.room c.args.order c.args.key c.args.value.now (cursor_of c.loop.left)) _
+    (refuses_as _ (value_at c.args.room c.args.order (entry_type c.args.key c.args.value.now) (cursor_of c.loop.left)) _
     (λ none. joined_none (length c.args.entries.rest.now - c.loop.counter - 1) _ _ (cursor_of c.loop.left) _ _ c.loop.invariant (omega arith) some none)
     c.in_err-pair.ensures)
 

@@ -1,7 +1,8 @@
 use Rattle.std.proofs.Common.{◌≡◌, ◌+◌, length, drop, map, ◌-◌, ◌*◌}
 use Rattle.wire_signature.specs.Shape.{shapes_of}
-use Rattle.wire_tree.specs.DatumView.{datum_of, pair_of}
-use Rattle.wire_spelling.specs.Reading.{entry_at, fields_at, many_at, value_at}
+use Rattle.wire_tree.specs.Datum.{entry_type}
+use Rattle.wire_tree.specs.DatumView.{datum_of, entry_of}
+use Rattle.wire_spelling.specs.Reading.{fields_at, many_at, value_at}
 use Rattle.wire_number.specs.ReaderView.{cursor_of}
 use Rattle.wire_spelling.proofs.Loops.{joined, joined_fields}
 use Rattle.wire_value.proofs.read.+read.Given as goal
@@ -45,8 +46,8 @@ invariant-read_items-loop l =
 -- the same of entries
 abbrev pub invariant-read_entries-loop : goal.invariant-read_entries-loop
 invariant-read_entries-loop l =
-    many_at (length l.entries.rest.now) (entry_at l.room l.order l.key l.value) (cursor_of l.entries)
-    ≡ joined (map pair_of l.pairs.items) (many_at (length l.entries.rest.now - l.counter) (entry_at l.room l.order l.key l.value) (cursor_of l.left))
+    many_at (length l.entries.rest.now) (value_at l.room l.order (entry_type l.key l.value)) (cursor_of l.entries)
+    ≡ joined (map entry_of l.pairs.items) (many_at (length l.entries.rest.now - l.counter) (value_at l.room l.order (entry_type l.key l.value)) (cursor_of l.left))
 
 -- the fields so far, and those that are left, are all
 abbrev pub invariant-read_fields-loop-each : goal.invariant-read_fields-loop-each

@@ -1,11 +1,12 @@
-use Rattle.std.proofs.Common.{◌≡◌, length, arith, ◌∙◌, ap}
+use Rattle.std.proofs.Common.{◌≡◌, length, map, arith, ◌∙◌, ap, subst}
 use Rattle.std.proofs.lemmas.Result.{err_from_is_err_and}
-use Rattle.wire_tree.specs.Datum.{data_of, entries_of, AreElements, AreEntries, type_of, size_of, sizes_of, sizes_in}
+use Rattle.wire_tree.specs.Datum.{Data, data_of, entries_of, entry_type, AreElements, AreSound, type_of, size_of, sizes_of}
 use Rattle.wire_signature.specs.Shape.{type_text}
-use Rattle.wire_tree.specs.DatumView.{datum_of}
-use Rattle.wire_tree.proofs.Parts.{size_item, size_pair}
+use Rattle.wire_tree.specs.DatumView.{datum_of, pair_of, entry_of}
+use Rattle.wire_tree.proofs.Parts.{size_item, size_pair, entries_are}
+use Rattle.wire_tree.proofs.Checked.{sound-item}
 use Rattle.wire_spelling.specs.Spelling.{spelling, ArraysFit}
-use Rattle.wire_value.proofs.Writes.{elements_sound, entries_sound, sound_item, sound_pair, write_start, write_next, write_done, write_refused, pair_start, pair_next, pair_done, pair_refused, array_written, array_refused, dict_written, struct_written, variant_written, entry_written, key_refused}
+use Rattle.wire_value.proofs.Writes.{Writing, elements_sound, write_start, write_next, write_done, write_refused, array_written, array_refused, struct_written, variant_written, entry_written, key_refused}
 use Rattle.wire_value.proofs.write.+write.Goals as goal
 
 pub write_value-write_array-requires : goal.write_value-write_array-requires
@@ -17,14 +18,13 @@ write_value-write_array-requires t c =
 
 pub write_value-write_dict-requires : goal.write_value-write_dict-requires
 write_value-write_dict-requires t c =
-    let s : AreEntries c.in-Dict.field-0 c.in-Dict.field-1 (entries_of c.in-Dict.entries) = rw c.in-Dict.is at c.requires.sound in (
-      omega (arith, ap (λ es. sizes_in (entries_of es)) c.as_slice-in-Dict.ensures, ap (λ u. size_of (datum_of u)) c.in-Dict.is),
-      (c.requires.shift, rw c.as_slice-in-Dict.ensures (entries_sound _ _ _ s)),
+    let s : AreElements (entry_type c.in-Dict.field-0 c.in-Dict.field-1) (entries_of c.in-Dict.entries) = rw c.in-Dict.is at c.requires.sound in (
+      omega (arith, ap (λ es. sizes_of (entries_of es)) c.as_slice-in-Dict.ensures, ap (λ u. size_of (datum_of u)) c.in-Dict.is),
+      (c.requires.shift, rw c.as_slice-in-Dict.ensures (elements_sound _ _ s)),
     )
 
 pub write_value-returns-in-Dict : goal.write_value-returns-in-Dict
-unfolding spelling ArraysFit
-write_value-returns-in-Dict t c = rw c.in-Dict.is (rw c.as_slice-in-Dict.ensures at c.write_dict.ensures)
+write_value-returns-in-Dict t c = rw c.in-Dict.is (rw c.as_slice-in-Dict.ensures at c.write_dict.ensures c.in-Dict.field-0 c.in-Dict.field-1)
 
 pub write_items-loop-each-init : goal.write_items-loop-each-init
 write_items-loop-each-init t c = write_start _ _ _ _
@@ -32,44 +32,46 @@ write_items-loop-each-init t c = write_start _ _ _ _
 pub write_items-write_value-requires : goal.write_items-write_value-requires
 write_items-write_value-requires t c = (
   omega (arith, size_item c.args.trees.now c.loop-each.each-index c.each-item.result c.loop-each-test.true c.each-item.is),
-  (c.requires.shift, sound_item c.args.trees.now c.loop-each.each-index c.each-item.result c.requires.sound c.loop-each-test.true c.each-item.is),
+  (c.requires.shift, sound-item datum_of c.args.trees.now c.loop-each.each-index c.each-item.result c.requires.sound c.loop-each-test.true c.each-item.is),
 )
 
 pub write_items-returns-in_err-write_value : goal.write_items-returns-in_err-write_value
 write_items-returns-in_err-write_value t c =
     let p = err_from_is_err_and c.from_residual.result c.from_residual.ensures.1 in
     rw (p.1, p.2)
-    (write_refused _ _ _ _ c.loop-each.each-index c.each-item.result _ _ _ c.loop-each.invariant c.loop-each-test.true c.each-item.is c.in_err-write_value.ensures)
+    (write_refused datum_of _ _ _ _ c.loop-each.each-index c.each-item.result _ _ _ c.loop-each.invariant c.loop-each-test.true c.each-item.is c.in_err-write_value.ensures)
 
 pub write_items-loop-each-preserved : goal.write_items-loop-each-preserved
 write_items-loop-each-preserved t c =
-    write_next _ _ _ _ c.loop-each.each-index c.each-item.result _ _ _ c.loop-each.invariant c.loop-each-test.true c.each-item.is c.in_ok-write_value.ensures
+    write_next datum_of _ _ _ _ c.loop-each.each-index c.each-item.result _ _ _ c.loop-each.invariant c.loop-each-test.true c.each-item.is c.in_ok-write_value.ensures
 
 pub write_items-returns : goal.write_items-returns
-write_items-returns t c = write_done _ _ _ _ c.loop-each.each-index _ _ c.loop-each.invariant (omega arith)
+write_items-returns t c = write_done datum_of _ _ _ _ c.loop-each.each-index _ _ c.loop-each.invariant (omega arith)
 
 pub write_entries-write_entry-requires : goal.write_entries-write_entry-requires
 write_entries-write_entry-requires t c =
-    let s = sound_pair c.args.pairs.now c.loop-each.each-index c.each-item.result c.requires.sound c.loop-each-test.true c.each-item.is in (
+    let s = sound-item entry_of c.args.pairs.now c.loop-each.each-index c.each-item.result (subst AreSound (entries_are c.args.pairs.now) c.requires.sound) c.loop-each-test.true c.each-item.is in (
       omega (arith, size_pair c.args.pairs.now c.loop-each.each-index c.each-item.result c.loop-each-test.true c.each-item.is),
-      (c.requires.shift, s),
+      (c.requires.shift, (s.0, s.1.0)),
     )
 
 pub write_entries-loop-each-init : goal.write_entries-loop-each-init
-write_entries-loop-each-init t c = pair_start _ _ _ _
+write_entries-loop-each-init t c =
+    let whole : Data = entries_of (map pair_of c.args.pairs.now) in
+    subst (λ ds. Writing c.args.order c.args.shift whole ds c.args.out.now.items c.args.out.now.items) (entries_are c.args.pairs.now) (write_start _ _ whole _)
 
 pub write_entries-returns-in_err-write_entry : goal.write_entries-returns-in_err-write_entry
 write_entries-returns-in_err-write_entry t c =
     let p = err_from_is_err_and c.from_residual.result c.from_residual.ensures.1 in
     rw (p.1, p.2)
-    (pair_refused _ _ _ _ c.loop-each.each-index c.each-item.result _ _ _ c.loop-each.invariant c.loop-each-test.true c.each-item.is c.in_err-write_entry.ensures)
+    (write_refused entry_of _ _ _ _ c.loop-each.each-index c.each-item.result _ _ _ c.loop-each.invariant c.loop-each-test.true c.each-item.is c.in_err-write_entry.ensures)
 
 pub write_entries-loop-each-preserved : goal.write_entries-loop-each-preserved
 write_entries-loop-each-preserved t c =
-    pair_next _ _ _ _ c.loop-each.each-index c.each-item.result _ _ _ c.loop-each.invariant c.loop-each-test.true c.each-item.is c.in_ok-write_entry.ensures
+    write_next entry_of _ _ _ _ c.loop-each.each-index c.each-item.result _ _ _ c.loop-each.invariant c.loop-each-test.true c.each-item.is c.in_ok-write_entry.ensures
 
 pub write_entries-returns : goal.write_entries-returns
-write_entries-returns t c = pair_done _ _ _ _ c.loop-each.each-index _ _ c.loop-each.invariant (omega arith)
+write_entries-returns t c = write_done entry_of _ _ _ _ c.loop-each.each-index _ _ c.loop-each.invariant (omega arith)
 
 pub write_array-returns-in_err-write_items : goal.write_array-returns-in_err-write_items
 write_array-returns-in_err-write_items t c =
@@ -82,10 +84,17 @@ write_array-returns t c =
     array_written _ _ _ c.args.element.now _ _ _ _ _ _ (omega (arith, c.padding_for_n_bytes.ensures.exact)) (rw c.boundary.ensures.exact at c.in_ok-open_array.ensures)
     c.in_ok-write_items.ensures (rw start at c.close_array.ensures)
 
+pub write_dict-returns-in_err-write_entries : goal.write_dict-returns-in_err-write_entries
+unfolding spelling ArraysFit
+write_dict-returns-in_err-write_entries t c =
+    let p = err_from_is_err_and c.from_residual-in_err-write_entries.result c.from_residual-in_err-write_entries.ensures.1 in
+    rw (p.1, p.2) (λ k v. array_refused _ _ (entry_type k v) _ _ _ _ c.in_ok-open_array.ensures c.in_err-write_entries.ensures)
+
 pub write_dict-returns : goal.write_dict-returns
+unfolding spelling ArraysFit
 write_dict-returns t c =
     let start : c.len-first.result ≡ length c.open_array.new.out.items = omega arith in
-    dict_written _ _ _ _ _ _ _ _ _ (omega (arith, c.padding_for_n_bytes.ensures.exact)) c.in_ok-open_array.ensures
+    λ k v. array_written _ _ _ (entry_type k v) _ _ _ _ _ _ (omega (arith, c.padding_for_n_bytes.ensures.exact)) c.in_ok-open_array.ensures
     c.in_ok-write_entries.ensures (rw start at c.close_array.ensures)
 
 pub write_struct-returns : goal.write_struct-returns

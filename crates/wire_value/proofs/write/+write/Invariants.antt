@@ -1,7 +1,7 @@
 use Rattle.std.proofs.Common.{◌+◌, ◌*◌, map, drop}
-use Rattle.wire_tree.specs.Datum.{data_of, entries_of, size_of, sizes_of, sizes_in}
-use Rattle.wire_tree.specs.DatumView.{datum_of, pair_of}
-use Rattle.wire_value.proofs.Writes.{Writing, WritingEntries}
+use Rattle.wire_tree.specs.Datum.{data_of, entries_of, size_of, sizes_of}
+use Rattle.wire_tree.specs.DatumView.{datum_of, pair_of, entry_of}
+use Rattle.wire_value.proofs.Writes.{Writing}
 use Rattle.wire_value.proofs.write.+write.Given as goal
 
 abbrev pub decreases-write_value : goal.decreases-write_value
@@ -17,10 +17,10 @@ abbrev pub decreases-write_items : goal.decreases-write_items
 decreases-write_items l = 4 * sizes_of (data_of (map datum_of l.trees.now)) + 2
 
 abbrev pub decreases-write_dict : goal.decreases-write_dict
-decreases-write_dict l = 4 * sizes_in (entries_of (map pair_of l.pairs.now)) + 3
+decreases-write_dict l = 4 * sizes_of (entries_of (map pair_of l.pairs.now)) + 3
 
 abbrev pub decreases-write_entries : goal.decreases-write_entries
-decreases-write_entries l = 4 * sizes_in (entries_of (map pair_of l.pairs.now)) + 2
+decreases-write_entries l = 4 * sizes_of (entries_of (map pair_of l.pairs.now)) + 2
 
 abbrev pub decreases-write_entry : goal.decreases-write_entry
 decreases-write_entry l = 4 * (size_of (datum_of l.key.now) + size_of (datum_of l.value.now)) + 1
@@ -35,4 +35,4 @@ invariant-write_items-loop-each l =
 
 abbrev pub invariant-write_entries-loop-each : goal.invariant-write_entries-loop-each
 invariant-write_entries-loop-each l =
-    WritingEntries l.order l.shift (entries_of (map pair_of l.pairs)) (entries_of (map pair_of (drop l.each-index l.pairs))) l.fn.out.items l.out.items
+    Writing l.order l.shift (entries_of (map pair_of l.pairs)) (data_of (map entry_of (drop l.each-index l.pairs))) l.fn.out.items l.out.items

@@ -1,10 +1,10 @@
 -- The call that waits for the message's reply serial takes it.
-use Rattle.std.proofs.Common.{◌≡◌, ℕ, Bool, true, false, length, refl, sym, ◌∙◌, ap, set, get_or, is_some, subst, ◌∷◌}
+use Rattle.std.proofs.Common.{◌≡◌, ℕ, Bool, true, false, length, refl, sym, ◌∙◌, ap, set, get_or, is_some, subst}
 use Rattle.std.specs.List.{list_any}
 use Rattle.std.proofs.lemmas.Bool.{false≢true}
 use Rattle.std.proofs.lemmas.List.{get_or_read_under}
 use Rattle.wire_message.specs.Front.{Seen}
-use Rattle.peer_route.specs.History.{Took}
+use Rattle.peer_route.specs.History.{Took, after}
 use Rattle.peer_route.specs.Left.{CallsView, LeftCalls, is_waiting, is_inner_slot, reply_kept}
 use Rattle.peer_route.specs.declared.calls.Slot.TheVariants.{Gone}
 use Rattle.peer_route.proofs.Core.{took_by_none, took_past, took_first}
@@ -48,7 +48,7 @@ returns-in-None-clause-left c h left open_ =
     let i = c.self.invariant (open_none c.self.inside.closing (sym c.is_some.ensures ∙ c.if-is_some.false)) in
     let none = ap (λ (v : CallsView). list_any (is_waiting c.in-Some.serial) v.slots) (sym c.self.view_is)
     ∙ sym (any_index c.self.inside.waiting c.self.inside.slots.items c.in-Some.serial i) ∙ ap is_some (sym c.remove.ensures.value ∙ c.in-None.is) in
-    subst (λ v. LeftCalls v (Took c.args.message ∷ h)) (sym c.self.view_is)
+    subst (λ v. LeftCalls v (after (Took c.args.message) h)) (sym c.self.view_is)
     (took_past c.args.message c.in-Some.serial c.args.self.now h c.in-Some.ensures none left)
 
 -- ---- a serial that a call waits for

@@ -1,9 +1,9 @@
 -- The stream is asked, and what is shown is what it says.
-use Rattle.std.proofs.Common.{◌≡◌, refl, sym, ◌∙◌, ap, subst, ◌++◌}
+use Rattle.std.proofs.Common.{◌≡◌, refl, sym, ◌∙◌, ap, subst}
 use Rattle.peer_route.specs.declared.progress.OpenState.{OpenState}
 use Rattle.peer_route.specs.declared.opening.Opened.{Opened}
 use Rattle.peer_route.specs.declared.opening.Opening.{Opening}
-use Rattle.peer_route.specs.History.{edit}
+use Rattle.peer_route.specs.History.{edit, after_all}
 use Rattle.peer_route.specs.Streams.{opening_answer, opening_events}
 use Rattle.peer_route.specs.Bus.{IsShownAs}
 use Rattle.peer_route.specs.Left.{View, Left, any_at, held_opening, opened_held}
@@ -34,6 +34,6 @@ pub returns-clause-left : goal.returns-clause-left
 returns-clause-left c h left =
     let k = c.args.opening.number in
     let e = ap (λ (v : View). held_opening (any_at v.streams k) v.calls.closing) c.self.view_is ∙ opening_so c.args.self.now k h left in
-    let Q : View → Type 0 = λ v. Left (record v { streams = edit k (opened_held (opening_answer h k)) v.streams }) (opening_events k (opening_answer h k) ++ h) in
+    let Q : View → Type 0 = λ v. Left (record v { streams = edit k (opened_held (opening_answer h k)) v.streams }) (after_all (opening_events k (opening_answer h k)) h) in
     rw (c.ask_open.ensures.left, c.closing.ensures, e)
     (subst Q (sym c.self.view_is) (left_opened c.args.self.now k h (opening_answer h k) left))

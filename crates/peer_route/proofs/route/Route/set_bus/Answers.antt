@@ -1,11 +1,11 @@
 -- The peer stands on a bus.
-use Rattle.std.proofs.Common.{sym, subst, true, ◌∷◌}
-use Rattle.peer_route.specs.History.{OnBus}
+use Rattle.std.proofs.Common.{sym, subst, true}
+use Rattle.peer_route.specs.History.{OnBus, after}
 use Rattle.peer_route.specs.Left.{View, Left}
 use Rattle.peer_route.proofs.Openings.{left_bus}
 use Rattle.peer_route.proofs.route.Route.set_bus.Goals as goal
 
 pub returns : goal.returns
 returns c h left =
-    let Q : View → Type 0 = λ v. Left (record v { bus = true }) (OnBus ∷ h) in
+    let Q : View → Type 0 = λ v. Left (record v { bus = true }) (after OnBus h) in
     subst Q (sym c.self.view_is) (left_bus c.args.self.now h left)

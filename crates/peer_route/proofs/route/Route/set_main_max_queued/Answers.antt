@@ -1,11 +1,11 @@
 -- The main capacity is set.
-use Rattle.std.proofs.Common.{sym, subst, ◌∷◌}
-use Rattle.peer_route.specs.History.{Main}
+use Rattle.std.proofs.Common.{sym, subst}
+use Rattle.peer_route.specs.History.{Main, after}
 use Rattle.peer_route.specs.Left.{View, Left}
 use Rattle.peer_route.proofs.Core.{left_main}
 use Rattle.peer_route.proofs.route.Route.set_main_max_queued.Goals as goal
 
 pub returns : goal.returns
 returns c h left =
-    let Q : View → Type 0 = λ v. Left (record v { main = c.args.max }) (Main c.args.max ∷ h) in
+    let Q : View → Type 0 = λ v. Left (record v { main = c.args.max }) (after (Main c.args.max) h) in
     subst Q (sym c.self.view_is) (left_main c.args.self.now c.args.max h left)

@@ -3,10 +3,11 @@ use Rattle.std.proofs.Common.{◌≡◌, ◌∙◌, arith, refl, sym, subst, Lis
 use Rattle.std.proofs.lemmas.Result.{IfOk-weaker}
 use Rattle.rule_match.specs.Building.{Gives}
 use Rattle.rule_match.specs.Bytes.{rule_in_bytes}
-use Rattle.peer_route.specs.Trail.{trail}
+use Rattle.peer_route.specs.Entries.{trail}
 use Rattle.peer_run.specs.Stands.{PeerView, Follows}
 use Rattle.peer_run.proofs.OpenStep.{rule_given, follows_open, text_refused, open_refused, asked_now}
 use Rattle.peer_run.proofs.peer.Peer.open.Goals as goal
+use Rattle.peer_route.specs.History.{past}
 
 pub returns-in-Err-clause-sent : goal.returns-in-Err-clause-sent
 returns-in-Err-clause-sent g c =
@@ -19,7 +20,7 @@ returns-in_ok-made-in-Ok-Open-clause-sent g c setting es f fine =
     let k : Follows setting p es = rw (← c.self.view_is) at f in
     let found = rule_given c.in-Ok.rule _ (subst (λ (t : List ℕ). Gives (Ok c.in-Ok.rule) (rule_in_bytes t)) c.as_slice.ensures.value c.in-Ok.ensures) in
     let opened = rw c.in-Ok-Open.field-0-is at c.in-Ok-Open.ensures.opens in
-    let said = opened (trail setting es).events k.left in
+    let said = opened (past (trail setting es).events) k.left in
     rw (c.in_ok-made-in-Ok-Open.ensures.answer, c.in_ok-made-in-Ok-Open.ensures.made)
     (follows_open setting p _ es c.args.lane c.args.max_queued c.args.text.now c.in-Ok.rule _ _ k found said.0 said.1 said.2.0 refl refl refl said.2.2 fine)
 

@@ -4,7 +4,8 @@ use Rattle.std.proofs.lemmas.Result.{IfOk-weaker}
 use Rattle.wire_framing.specs.Writing.{is_unsupported}
 use Rattle.wire_message.specs.Front.{Seen}
 use Rattle.peer_route.specs.Parcel.{Parcel, sent_by}
-use Rattle.peer_route.specs.Trail.{trail, asks_with, kept_at, place}
+use Rattle.peer_route.specs.Trail.{asks_with, kept_at, place}
+use Rattle.peer_route.specs.Entries.{trail}
 use Rattle.peer_route.proofs.Asked.{asked_goes}
 use Rattle.peer_run.specs.CallWords.{MakesAsked}
 use Rattle.peer_run.specs.OneLetter.{IssuesOne}

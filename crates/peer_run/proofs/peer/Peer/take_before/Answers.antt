@@ -1,29 +1,21 @@
-use Rattle.std.proofs.Common.{refl, sym, ◌∙◌, Err}
-use Rattle.peer_route.specs.Trail.{trail}
+use Rattle.std.proofs.Common.{refl, sym, ◌∙◌}
+use Rattle.peer_route.specs.Entries.{trail}
 use Rattle.peer_run.specs.Stands.{PeerView, Follows}
-use Rattle.peer_run.proofs.TakeStep.{follows_take_before, reads_take_before}
-use Rattle.wire_message.specs.declared.error.Error.TheVariants as errors
-use Rattle.peer_run.proofs.TakeStep.{writes_take_before}
+use Rattle.peer_run.proofs.StreamStep.{take_before_so, take_before_unknown}
 use Rattle.peer_run.proofs.peer.Peer.take_before.Goals as goal
+use Rattle.peer_route.specs.History.{past}
 
-pub returns-in-Some-clause-follows : goal.returns-in-Some-clause-follows
-returns-in-Some-clause-follows c setting es f =
+pub returns-in-Some : goal.returns-in-Some
+returns-in-Some c setting es f =
     let p : PeerView = record { core = c.self.inside.route; names = c.self.inside.names; streams = c.self.inside.streams; given = c.self.inside.given.items } in
-    let kept = c.show_take.ensures.kept in
     let g : Follows setting p es = rw (← c.self.view_is) at f in
+    let kept = c.show_take.ensures.kept in
     rw (c.show_take.ensures.answer, kept)
-    (follows_take_before setting p _ es c.args.lane c.args.number c.args.position c.in-Some.number c.take_before-polled.result g
-    (sym c.place.ensures ∙ c.in-Some.is)
-    (c.take_before-polled.ensures.answer (trail setting es).events g.left) refl refl refl (c.take_before-polled.ensures.left (trail setting es).events g.left))
+    (take_before_so setting p _ es c.args.lane c.args.number c.args.position c.in-Some.number c.take_before-polled.result g (sym c.place.ensures ∙ c.in-Some.is)
+    (c.take_before-polled.ensures.answer (past (trail setting es).events) g.left) refl refl refl (c.take_before-polled.ensures.left (past (trail setting es).events) g.left))
 
-pub returns-in-Some-clause-reads : goal.returns-in-Some-clause-reads
-returns-in-Some-clause-reads c setting start now es f r =
-    let g : Follows setting _ es = rw (← c.self.view_is) at f in
-    rw (c.show_take.ensures.answer) (reads_take_before setting start now es c.args.lane c.args.number c.args.position c.take_before-polled.result r)
-
-pub returns-in-Some-clause-writes : goal.returns-in-Some-clause-writes
-returns-in-Some-clause-writes c setting start now es f w =
-    rw (c.show_take.ensures.answer) (writes_take_before setting start now es c.args.lane c.args.number c.args.position c.take_before-polled.result w)
-
-pub returns-in-None-clause-writes : goal.returns-in-None-clause-writes
-returns-in-None-clause-writes c setting start now es f w = writes_take_before setting start now es c.args.lane c.args.number c.args.position (Err errors.UnknownHandle) w
+pub returns-in-None : goal.returns-in-None
+returns-in-None c setting es f =
+    let p : PeerView = record { core = c.self.inside.route; names = c.self.inside.names; streams = c.self.inside.streams; given = c.self.inside.given.items } in
+    let g : Follows setting p es = rw (← c.self.view_is) at f in
+    rw (← c.self.view_is) (take_before_unknown setting p es c.args.lane c.args.number c.args.position g (sym c.place.ensures ∙ c.in-None.is))

@@ -10,12 +10,12 @@ put_fields-requires c =
 pub returns-then-has_long_path-clause-written : goal.returns-then-has_long_path-clause-written
 returns-then-has_long_path-clause-written c =
     let draft : Draft = record { kind = c.self.inside.kind; order = c.self.inside.order; flags = c.self.inside.flags; serial = c.self.inside.serial; fields = header_fields c.self.inside.fields } in
-    rw (← c.self.view_is) (path-long draft c.args.size c.args.serial (sym c.has_long_path.ensures ∙ c.if-has_long_path.true))
+    rw (← c.self.view_is) (path-long draft 0 c.args.serial (sym c.has_long_path.ensures ∙ c.if-has_long_path.true))
 
 pub returns-clause-found : goal.returns-clause-found
-returns-clause-found c = λ more.
+returns-clause-found c = λ size more.
     let draft : Draft = record { kind = c.self.inside.kind; order = c.self.inside.order; flags = c.self.inside.flags; serial = c.self.inside.serial; fields = header_fields c.self.inside.fields } in
-    rw (← c.self.view_is) (header-finds draft c.args.size c.args.serial c.extend_from_slice-4.new.self.items c.put_fields.new.out.items more c.in_ok-places.places (omega (arith, c.extend_from_slice-4.new.self.ok.0, c.new-text.ensures.len, c.in_ok-extend_from_slice.ensures.len, c.in_ok-extend_from_slice-2.ensures.len, c.in_ok-extend_from_slice-3.ensures.len, c.in_ok-extend_from_slice-4.ensures.len)) c.in_ok-places.ensures)
+    rw (← c.self.view_is) (header-finds draft size c.args.serial c.extend_from_slice-4.new.self.items c.put_fields.new.out.items more c.in_ok-places.places (omega (arith, c.extend_from_slice-4.new.self.ok.0, c.new-text.ensures.len, c.in_ok-extend_from_slice.ensures.len, c.in_ok-extend_from_slice-2.ensures.len, c.in_ok-extend_from_slice-3.ensures.len, c.in_ok-extend_from_slice-4.ensures.len)) c.in_ok-places.ensures)
 
 pub returns-clause-spans : goal.returns-clause-spans
 returns-clause-spans c =

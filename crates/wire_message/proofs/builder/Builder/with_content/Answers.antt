@@ -1,0 +1,75 @@
+use Rattle.std.proofs.Common.{arith, ap, sym, subst, ◌∙◌, length, length-append, inr}
+use Rattle.std.proofs.lemmas.Result.{err_from_is_err_and}
+use Rattle.wire_message.specs.Content.{ContentFits, IsNotAppended, IsShallow, content_text}
+use Rattle.wire_message.specs.Draft.{Draft, header_fields, ReadsAgain}
+use Rattle.wire_message.specs.Front.{Seen, bare}
+use Rattle.wire_message.proofs.BodyLaws.{body-refused, content-decided, header-refused}
+use Rattle.wire_message.proofs.Building.{header-length}
+use Rattle.wire_message.proofs.Law.{behind-length, written}
+use Rattle.wire_message.proofs.builder.Builder.with_content.Goals as goal
+
+pub returns-in_err-text-clause-made : goal.returns-in_err-text-clause-made
+returns-in_err-text-clause-made c =
+    let p = err_from_is_err_and c.from_residual.result c.from_residual.ensures.1 in
+    let order = c.args.self.now.order in
+    rw (p.1, p.2)
+    (header-refused c.args.self.now (content_text order c.args.content) (IsShallow c.args.content) (ContentFits order c.args.content) c.args.fds.now c.args.serial _
+    (content-decided order c.args.content) (c.is_shallow.ensures.0 c.if-not-is_shallow.false) c.in_err-text.ensures.written)
+
+pub append-requires : goal.append-requires
+append-requires c = record {
+  shallow = c.is_shallow.ensures.0 c.if-not-is_shallow.false;
+  placed = omega (arith, ap length c.in_ok-text.ensures.written, header-length c.args.self.now 0 c.args.serial);
+}
+
+pub returns-in_err-append-clause-made : goal.returns-in_err-append-clause-made
+returns-in_err-append-clause-made c =
+    let p = err_from_is_err_and c.from_residual-in_err-append.result c.from_residual-in_err-append.ensures.1 in
+    let order = c.args.self.now.order in
+    let own = subst (λ (d : Draft). IsNotAppended c.in_err-append.field-0.0 (content_text d.order c.args.content) (ContentFits d.order c.args.content)) c.self.view_is c.in_err-append.ensures in
+    rw (p.1, p.2)
+    (body-refused c.args.self.now (content_text order c.args.content) (IsShallow c.args.content) (ContentFits order c.args.content) c.args.fds.now c.args.serial _
+    (c.is_shallow.ensures.0 c.if-not-is_shallow.false) own)
+
+pub returns-then-len-gt-MESSAGE_LIMIT-clause-made : goal.returns-then-len-gt-MESSAGE_LIMIT-clause-made
+returns-then-len-gt-MESSAGE_LIMIT-clause-made c =
+    let draft : Draft = record { kind = c.self.inside.kind; order = c.self.inside.order; flags = c.self.inside.flags; serial = c.self.inside.serial; fields = header_fields c.self.inside.fields } in
+    let h = rw (← c.self.view_is) at c.in_ok-text.ensures in
+    let body = content_text draft.order c.args.content in
+    let size = behind-length draft c.args.serial c.in_ok-text.text.items body c.append.new.out.items h.written c.in_ok-append.ensures.0 in
+    rw (← c.self.view_is) (c.is_shallow.ensures.0 c.if-not-is_shallow.false, inr (c.in_ok-append.ensures.1, omega (arith, c.len.ensures ∙ c.append.new.out.ok.0, size)))
+
+pub put_u32-requires : goal.put_u32-requires
+put_u32-requires c =
+    omega (arith, ap length c.in_ok-append.ensures.0, length-append c.in_ok-text.text.items (content_text c.self.inside.order c.args.content), ap length c.in_ok-text.ensures.written, header-length c.args.self.now 0 c.args.serial)
+
+pub from_parts-requires : goal.from_parts-requires
+from_parts-requires c =
+    let draft : Draft = record { kind = c.self.inside.kind; order = c.self.inside.order; flags = c.self.inside.flags; serial = c.self.inside.serial; fields = header_fields c.self.inside.fields } in
+    let h = rw (← c.self.view_is) at c.in_ok-text.ensures in
+    let body = content_text draft.order c.args.content in
+    let w = written draft c.args.serial _ c.in_ok-text.text.items body c.append.new.out.items c.put_u32.new.out.items c.in_ok-text.places c.self.invariant c.requires (omega arith)
+    (omega (arith, c.len.ensures ∙ c.append.new.out.ok.0)) h.written h.found h.spans c.in_ok-append.ensures.0 c.put_u32.ensures
+    (omega (arith, c.len.ensures ∙ c.append.new.out.ok.0, ap length c.in_ok-append.ensures.0, length-append c.in_ok-text.text.items body)) in
+    w.stands
+
+pub returns-clause-made : goal.returns-clause-made
+returns-clause-made c =
+    let draft : Draft = record { kind = c.self.inside.kind; order = c.self.inside.order; flags = c.self.inside.flags; serial = c.self.inside.serial; fields = header_fields c.self.inside.fields } in
+    let h = rw (← c.self.view_is) at c.in_ok-text.ensures in
+    let body = content_text draft.order c.args.content in
+    let w = written draft c.args.serial _ c.in_ok-text.text.items body c.append.new.out.items c.put_u32.new.out.items c.in_ok-text.places c.self.invariant c.requires (omega arith)
+    (omega (arith, c.len.ensures ∙ c.append.new.out.ok.0)) h.written h.found h.spans c.in_ok-append.ensures.0 c.put_u32.ensures
+    (omega (arith, c.len.ensures ∙ c.append.new.out.ok.0, ap length c.in_ok-append.ensures.0, length-append c.in_ok-text.text.items body)) in
+    let made = c.in_ok-message.ensures in
+    rw (← c.self.view_is) (c.is_shallow.ensures.0 c.if-not-is_shallow.false, c.in_ok-append.ensures.1, ap (λ (x : Seen). bare x) made ∙ w.message, rw made w.long, ap (λ (x : Seen). x.fds) made)
+
+pub returns-clause-again : goal.returns-clause-again
+returns-clause-again c =
+    let draft : Draft = record { kind = c.self.inside.kind; order = c.self.inside.order; flags = c.self.inside.flags; serial = c.self.inside.serial; fields = header_fields c.self.inside.fields } in
+    let h = rw (← c.self.view_is) at c.in_ok-text.ensures in
+    let body = content_text draft.order c.args.content in
+    let w = written draft c.args.serial _ c.in_ok-text.text.items body c.append.new.out.items c.put_u32.new.out.items c.in_ok-text.places c.self.invariant c.requires (omega arith)
+    (omega (arith, c.len.ensures ∙ c.append.new.out.ok.0)) h.written h.found h.spans c.in_ok-append.ensures.0 c.put_u32.ensures
+    (omega (arith, c.len.ensures ∙ c.append.new.out.ok.0, ap length c.in_ok-append.ensures.0, length-append c.in_ok-text.text.items body)) in
+    subst (λ (x : Seen). ReadsAgain x) (sym (ap (λ (x : Seen). bare x) c.in_ok-message.ensures ∙ w.message)) w.again

@@ -1,4 +1,0 @@
-use Rattle.wire_message.proofs.serials.Serials.next_uncounted.Given as goal
-
-abbrev pub ghosts-next_counted : goal.ghosts-next_counted
-ghosts-next_counted g a = record { name = a.blank.name; parts = a.blank.parts }
