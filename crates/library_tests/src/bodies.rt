@@ -23,13 +23,18 @@ fn is_written(alloc: Global, order: Endian, body: &BodyValues, bytes: &[u8]) -> 
     }
 }
 
-/// Whether the body is appended as these bytes.
+/// What stands in an output before a body.
+const FRONT: &[u8] = b"l\x01\0\x01\0\0\0\x07";
+
+/// Whether the body is appended as these bytes, and what stands before it stays.
 fn is_appended(alloc: Global, order: Endian, body: &BodyValues, bytes: &[u8]) -> bool {
-    if !is_shallow(body) {
+    let mut out = Vec::new(alloc);
+    let front = out.extend_from_slice(FRONT).is_ok();
+    if !front || out.len() % 8 != 0 || !is_shallow(body) {
         return false;
     }
-    let mut out = Vec::new(alloc);
-    append_body(order, body, &mut out).is_ok() && out.as_slice() == bytes
+    let written = append_body(order, body, &mut out).is_ok();
+    written && out.as_slice().strip_prefix(FRONT) == Some(bytes)
 }
 
 /// Whether the bytes, all of them, are read as the body's values.

@@ -2,13 +2,14 @@
 use peer_route::{
     answered_by_the_closing_error, answered_by_the_first, answered_once,
     arrival_order_is_the_order_of_positions, asked_stream_gives_what_comes_behind_the_return,
-    body_words_are_read, busy_where_a_stream_is_full, capacity_throws_nothing_away,
-    clone_goes_on_where_its_original_is, dropped_for_good, first_cause_stays, main_capacity,
-    name_stays, none_before_is_by_position, nothing_is_put_after_closing, put_is_what_was_sent,
-    refused_changes_nothing, reply_changes_no_other, rule_capacity,
-    rule_stream_gives_what_it_accepts, rules_are_one_where_equal, spent_changes_no_other,
-    stream_after_closing_is_over, stream_changes_no_other, stream_closed_for_good,
-    stream_denied_for_good, stream_ends_once, stream_gives_all, stream_gives_the_first_error,
+    body_words_are_read, busy_changes_nothing, busy_where_a_stream_is_full,
+    capacity_throws_nothing_away, clone_goes_on_where_its_original_is, done_where_nothing_refuses,
+    dropped_for_good, first_cause_stays, main_capacity, name_stays, none_before_is_by_position,
+    nothing_is_put_after_closing, put_is_what_was_sent, refused_changes_nothing,
+    reply_changes_no_other, rule_capacity, rule_stream_gives_what_it_accepts,
+    rules_are_one_where_equal, spent_changes_no_other, stream_after_closing_is_over,
+    stream_changes_no_other, stream_closed_for_good, stream_denied_for_good, stream_ends_once,
+    stream_gives_all, stream_gives_the_first_error, unstream_changes_no_other,
 };
 
 #[test]
@@ -22,6 +23,8 @@ fn laws_of_calls_do_nothing(_rt: HostRuntime) {
     spent_changes_no_other();
     none_before_is_by_position();
     refused_changes_nothing();
+    busy_changes_nothing();
+    done_where_nothing_refuses();
     first_cause_stays();
     nothing_is_put_after_closing();
     put_is_what_was_sent();
@@ -36,6 +39,7 @@ fn laws_of_streams_do_nothing(_rt: HostRuntime) {
     asked_stream_gives_what_comes_behind_the_return();
     clone_goes_on_where_its_original_is();
     stream_changes_no_other();
+    unstream_changes_no_other();
     stream_closed_for_good();
     stream_denied_for_good();
     stream_ends_once();

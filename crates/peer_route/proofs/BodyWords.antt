@@ -1,5 +1,5 @@
 -- The values of a body's word are those of which it is the word.
-use Rattle.std.proofs.Common.{ℕ, ◌≡◌, ◌+◌, ◌<◌, ◌≤◌, ◌==◌, Bool, true, false, not, ◌&&◌, nat_lt, List, [], ◌∷◌, ◌++◌, length, take, drop, get_or, map, Option, Some, None, is_some, option_map, refl, sym, ap, ◌∙◌, subst, arith, append_assoc, append-nil, length-append}
+use Rattle.std.proofs.Common.{ℕ, ◌≡◌, ◌+◌, ◌<◌, ◌==◌, Bool, true, false, not, ◌&&◌, nat_lt, List, [], ◌∷◌, ◌++◌, length, take, drop, get_or, map, Option, Some, None, is_some, option_map, refl, sym, ap, ◌∙◌, subst, arith, append-nil, length-append}
 use Rattle.std.specs.List.{list_all, position, position_or_len, All}
 use Rattle.std.proofs.Math.Seq.{take-append_seam, drop-append-add}
 use Rattle.std.proofs.lemmas.Bool.Decides.{nat_tests}
@@ -11,95 +11,19 @@ use Rattle.wire_number.specs.declared.endian.Endian.{Endian}
 use Rattle.wire_number.specs.declared.endian.Endian.TheVariants.{Little}
 use Rattle.wire_signature.specs.declared.basic.BasicType.{BasicType}
 use Rattle.wire_signature.specs.declared.basic.BasicType.TheVariants as basics
-use Rattle.wire_signature.specs.Shape.{Shape, basic, variant, array, dict, struct, Shapes, no_shapes, shapes, shapes_of, letter, type_text, types_text, array_depths, struct_depths, AllHaveFields, IsType, IsSignature, SignatureText}
+use Rattle.wire_signature.specs.Shape.{Shape, basic, variant, array, dict, struct, Shapes, no_shapes, shapes, shapes_of, letter, type_text, types_text, IsSignature, SignatureText}
 use Rattle.wire_signature.specs.Parsing.{types_in}
 use Rattle.wire_signature.proofs.Exact.{types_in-takes, types_in-again}
 use Rattle.wire_tree.specs.Datum.{Datum, type_of}
-use Rattle.wire_spelling.specs.Spelling.{spelling, Spells}
 use Rattle.wire_spelling.specs.Each.{SpellEach}
-use Rattle.wire_number.specs.Reading.{Cursor, made, ◌>>=◌}
+use Rattle.wire_number.specs.Reading.{Cursor, ◌>>=◌}
 use Rattle.wire_spelling.specs.Reading.{value_at, fields_at}
 use Rattle.wire_number.proofs.Steps.{at, AreBytes, bind_some, map_some, some_is}
 use Rattle.wire_value.specs.Bodies.{HasNoBody, HasOnlyBody}
-use Rattle.wire_spelling.proofs.FoundValues.{IsValue, value_takes}
-use Rattle.wire_spelling.proofs.Exact.{value_only}
+use Rattle.rule_match.proofs.BodyArguments.{each_found, each_again}
 use Rattle.peer_route.specs.Hex.{hex_word, bytes_of}
 use Rattle.peer_route.specs.BodyWord.{IsBodyWord, at_colon, with_nothing_behind, spelled_values, values_of, body_values}
 use Rattle.peer_route.proofs.Spelled.{digits_are, bytes_again}
-
--- ---- values, one of each type
-
-first_by : (t : Shape) (ts : List Shape) → array_depths (shapes_of (t ∷ ts)) ≤ 32 → struct_depths (shapes_of (t ∷ ts)) ≤ 32 → AllHaveFields (shapes_of (t ∷ ts))
-    → length (types_text (shapes_of (t ∷ ts))) ≤ 255 → IsType t × IsSignature ts
-first_by t ts a s f w =
-    let long = length-append (type_text t) (types_text (shapes_of ts)) in (
-      record { arrays = omega arith; structs = omega arith; fields = f.0; within = omega arith },
-      record { arrays = omega arith; structs = omega arith; fields = f.1; within = omega arith },
-    )
-
-first_type : (t : Shape) (ts : List Shape) → IsSignature (t ∷ ts) → IsType t × IsSignature ts
-first_type t ts h = first_by t ts h.arrays h.structs h.fields h.within
-
--- what stands at the front of bytes, and what is left behind it
-record Front (order : Endian) (ts : List Shape) (p : ℕ) (bytes : List ℕ) (y : List Datum × Cursor) : Type 0 where
-  front : List ℕ
-  whole : bytes ≡ front ++ y.1.rest
-  spelled : SpellEach order p ts y.0 front
-
-spells_by : (order : Endian) (p : ℕ) (t : Shape) (bytes : List ℕ) (x : Datum × Cursor) → IsType t → IsValue 64 order t (at p bytes) x → Spells order p t x.0 (spelling order p x.0)
-spells_by order p t bytes x valid k = record {
-  kind = k.kind;
-  formed = record { type = subst IsType (sym k.kind) valid; sound = k.sound };
-  within = k.within;
-  fit = k.fit;
-  text = refl;
-}
-
-more_front : (order : Endian) (t : Shape) (ts : List Shape) (p : ℕ) (bytes : List ℕ) (x : Datum × Cursor) (z : List Datum × Cursor) → IsType t
-    → IsValue 64 order t (at p bytes) x → Front order ts x.1.place x.1.rest z → Front order (t ∷ ts) p bytes (x.0 ∷ z.0, z.1)
-more_front order t ts p bytes x z valid k f = record {
-  front = spelling order p x.0 ++ f.front;
-  whole = k.reads.text_is ∙ ap (λ r. spelling order p x.0 ++ r) f.whole ∙ sym (append_assoc (spelling order p x.0) f.front z.1.rest);
-  spelled = (
-    spelling order p x.0,
-    f.front,
-    refl,
-    spells_by order p t bytes x valid k,
-    subst (λ (n : ℕ). SpellEach order n ts z.0 f.front) k.reads.place_is f.spelled,
-  );
-}
-
-each_found : (order : Endian) (ts : List Shape) (p : ℕ) (bytes : List ℕ) (y : List Datum × Cursor) → IsSignature ts → AreBytes bytes
-    → fields_at (value_at 64 order) (shapes_of ts) (at p bytes) ≡ Some y → Front order ts p bytes y
-unfolding fields_at
-each_found order [] p bytes y h low e =
-    subst (λ (y : List Datum × Cursor). Front order [] p bytes y) (some_is ([], at p bytes) y e) (record { front = []; whole = refl; spelled = refl })
-each_found order (t ∷ ts) p bytes y h low e =
-    let x = bind_some (value_at 64 order t (at p bytes)) _ y e in
-    let z = map_some (λ z. (x.0.0 ∷ z.0, z.1)) (fields_at (value_at 64 order) (shapes_of ts) x.0.1) y x.2 in
-    let k : IsValue 64 order t (at p bytes) x.0 = value_takes 64 order t (at p bytes) x.0 x.1 low in
-    let one = first_type t ts h in
-    subst (λ (y : List Datum × Cursor). Front order (t ∷ ts) p bytes y) z.2
-    (more_front order t ts p bytes x.0 z.0 one.0 k (each_found order ts x.0.1.place x.0.1.rest z.0 one.1 k.reads.bytes z.1))
-
-none_again : (order : Endian) (p : ℕ) (front rest : List ℕ) → front ≡ [] → fields_at (value_at 64 order) no_shapes (at p (front ++ rest)) ≡ Some ([], at (p + length front) rest)
-unfolding fields_at
-none_again order p front rest s =
-    let here : p ≡ p + length front = omega (arith, ap length s) in
-    ap (λ f. Some ([], at p (f ++ rest))) s ∙ ap (λ n. Some ([], at n rest)) here
-
-each_again : (order : Endian) (ts : List Shape) (p : ℕ) (ds : List Datum) (front rest : List ℕ) → SpellEach order p ts ds front
-    → fields_at (value_at 64 order) (shapes_of ts) (at p (front ++ rest)) ≡ Some (ds, at (p + length front) rest)
-unfolding fields_at
-each_again order [] p [] front rest s = none_again order p front rest s
-each_again order [] p (d ∷ ds) front rest s = absurd s
-each_again order (t ∷ ts) p [] front rest s = absurd s
-each_again order (t ∷ ts) p (d ∷ ds) front rest s =
-    let there : p + length s.0 + length s.1 ≡ p + length front = omega (arith, ap length s.2, length-append s.0 s.1) in
-    ap (λ b. fields_at (value_at 64 order) (shapes t (shapes_of ts)) (at p b)) (ap (λ f. f ++ rest) s.2 ∙ append_assoc s.0 s.1 rest)
-    ∙ ap (λ o. o >>= (λ x. made (λ (vs : List Datum). x.0 ∷ vs) (fields_at (value_at 64 order) (shapes_of ts) x.1))) (value_only order p t d s.0 (s.1 ++ rest) s.3)
-    ∙ ap (λ o. made (λ (vs : List Datum). d ∷ vs) o) (each_again order ts (p + length s.0) ds s.1 rest s.4)
-    ∙ ap (λ n. Some (d ∷ ds, at n rest)) there
 
 -- ---- and nothing behind them
 

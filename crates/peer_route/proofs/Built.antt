@@ -2,7 +2,7 @@
 use Rattle.std.proofs.Common.{◌≡◌, ℕ, ◌<◌, ◌≤◌, ◌^◌, ◌||◌, refl, sym, ◌∙◌, ap, subst, inl, inr, Bool, true, false, List, [], ◌∷◌, ◌++◌, length, map, Option, Some, None, IsSome, Result, Ok, Err, is_some}
 use Rattle.std.specs.List.{list_any, AllByRecursion}
 use Rattle.std.proofs.lemmas.Bool.{true≢false, false≢true}
-use borrow.Author.Tests.{lt-ltb}
+use borrow.Author.Tests.{ltb-false}
 use Rattle.wire_tree.specs.Datum.{Datum, type_of}
 use Rattle.wire_signature.specs.declared.error.VariantError.TheVariants as faults
 use Rattle.wire_message.specs.Front.{Seen, bare}
@@ -42,11 +42,11 @@ makes_at taken parcel serial last new (Ok m) shallow b =
     let is : m ≡ message_of parcel serial =
     with_fds m _ parcel.fds w.3 b.2.1 ∙ same_built parcel (Some serial) m.serial ∙ ap (message_of parcel) w.0 in
     (is, (b.1, subst (λ (n : Seen). length n.bytes ≤ 134217728) is w.2))
-makes_at taken parcel serial last new (Err errors.ExcessData) shallow b = elim b.2 [
+makes_at taken parcel serial last new (Err errors.ExcessData) shallow b = elim b.3 [
   | inl unfit ↦ inl unfit
-  | inr long ↦ inr (long.0, subst (λ text. 134217728 < length text) (ap (λ n. message_text (signed (counted (with_serial parcel.draft (Some serial)) parcel.fds) (map type_of parcel.values)) n (body_text parcel.draft.order parcel.values)) long.1.1 ∙ same_text parcel (Some serial) serial) long.1.2)
+  | inr long ↦ inr (long.0, subst (λ text. 134217728 < length text) (ap (λ n. message_text (signed (counted (with_serial parcel.draft (Some serial)) parcel.fds) (map type_of parcel.values)) n (body_text parcel.draft.order parcel.values)) b.1 ∙ same_text parcel (Some serial) serial) long.1)
 ]
-makes_at taken parcel serial last new (Err (errors.Variant faults.Depth)) shallow b = absurd (false≢true (sym shallow ∙ lt-ltb _ _ b.1))
+makes_at taken parcel serial last new (Err (errors.Variant faults.Depth)) shallow b = absurd (b.1 (ltb-false _ _ shallow))
 makes_at taken parcel serial last new (Err errors.SerialsSpent) shallow b = absurd b.0
 makes_at taken parcel serial last new (Err errors.Memory) shallow b = tt
 makes_at taken parcel serial last new (Err other) shallow b = absurd b

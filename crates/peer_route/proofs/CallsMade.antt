@@ -7,7 +7,7 @@ use Rattle.wire_message.specs.Front.{Seen}
 use Rattle.wire_message.specs.declared.error.Error.{Error}
 use Rattle.peer_route.specs.declared.writer.Writer.{Writer}
 use Rattle.peer_route.specs.declared.writer.Writer.TheVariants as writers
-use Rattle.peer_route.specs.History.{Event, Shut, Put, Fault, Spent, Added, Removed, Call, new_call, inner_call, edit, spend, fail_at, first_of, worse, Past, after, no_past}
+use Rattle.peer_route.specs.History.{Event, Shut, Put, OfLane, Fault, Spent, Adds, Removes, Call, new_call, inner_call, edit, spend, fail_at, first_of, worse, Past, after, no_past}
 use Rattle.peer_route.specs.Left.{Rising, IsSound}
 use Rattle.peer_route.proofs.Plain.{Below, Below-more, Below-push, Rising-push}
 
@@ -68,14 +68,14 @@ pub sound_first : IsSound no_past
 sound_first = record { below = tt; rise = tt; shut = λ e. absurd (cc) }
 
 pub sound_after : (e : Event) (h : Past) → IsSound h → IsSound (after e h)
-sound_after (Put m true) h s = let g = grown h.outbox.put m h.calls (new_call h m) refl s.below s.rise in record { below = g.0; rise = g.1; shut = s.shut }
-sound_after (Put m false) h s = record {
+sound_after (Put m (OfLane true)) h s = let g = grown h.outbox.put m h.calls (new_call h m) refl s.below s.rise in record { below = g.0; rise = g.1; shut = s.shut }
+sound_after (Put m (OfLane false)) h s = record {
   below = Below-more (length h.outbox.put) (length (h.outbox.put ++ m ∷ [])) (places h.calls) (omega (arith, length-append h.outbox.put (m ∷ []))) s.below;
   rise = s.rise;
   shut = s.shut;
 }
-sound_after (Added m rule asked) h s = let g = grown h.outbox.put m h.calls (inner_call h m) refl s.below s.rise in record { below = g.0; rise = g.1; shut = s.shut }
-sound_after (Removed m) h s = let g = grown h.outbox.put m h.calls (inner_call h m) refl s.below s.rise in record { below = g.0; rise = g.1; shut = s.shut }
+sound_after (Put m (Adds rule asked)) h s = let g = grown h.outbox.put m h.calls (inner_call h m) refl s.below s.rise in record { below = g.0; rise = g.1; shut = s.shut }
+sound_after (Put m Removes) h s = let g = grown h.outbox.put m h.calls (inner_call h m) refl s.below s.rise in record { below = g.0; rise = g.1; shut = s.shut }
 sound_after (Spent k) h s = record {
   below = subst (Below (length h.outbox.put)) (sym (places-edit k h.calls)) s.below;
   rise = subst Rising (sym (places-edit k h.calls)) s.rise;

@@ -9,7 +9,7 @@ use Rattle.peer_route.specs.declared.words.Words.TheVariants as words
 use Rattle.peer_route.specs.declared.answer.Answer.{Answer}
 use Rattle.peer_route.specs.declared.answer.Answer.TheVariants as answers
 use Rattle.peer_route.specs.declared.answer.Entry.{Entry}
-use Rattle.peer_route.specs.History.{Event, Fault, Made, Did, Added, Deed, Gave, Told, Gone, Asked, Opened, done, closing, unique_name, edit, Stream, streams, phase, asks_by, new_stream, asking_stream, done_by, fail_stream, past, read}
+use Rattle.peer_route.specs.History.{Event, Fault, Made, Did, Put, Adds, Deed, Gave, Told, Gone, Asked, Opened, done, closing, unique_name, edit, Stream, streams, phase, asks_by, new_stream, asking_stream, done_by, fail_stream, past, read}
 use Rattle.peer_route.specs.Calls.{by_position}
 use Rattle.peer_route.specs.Streams.{is_since, runs, runs_at, is_open, gave_last, held, take_by, take_at, take_answer, leaving, gone_then, opening_at, opening_answer, opening_events}
 use Rattle.peer_route.specs.declared.progress.OpenState.TheVariants as states
@@ -63,7 +63,7 @@ closed_event : (e : Event) (h : List Event) (k : ℕ) → closed_at (streams h) 
 closed_event Fault h k g = closed_fail h (done h) k (streams h) g
 closed_event (Made making) h k g = closed_append (streams h) (new_stream (past h) (streams h) making ∷ []) k g
 closed_event (Did j deed) h k g = closed_edit deed j k (streams h) g
-closed_event (Added m rule asked) h k g = closed_append (streams h) (asking_stream (past h) m rule ∷ []) k g
+closed_event (Put m (Adds rule asked)) h k g = closed_append (streams h) (asking_stream (past h) m rule ∷ []) k g
 closed_event e h k g = g
 
 closed_events : (es h : List Event) (k : ℕ) → closed_at (streams h) k ≡ true → closed_at (streams (es ++ h)) k ≡ true

@@ -11,7 +11,7 @@ use Rattle.peer_route.specs.declared.words.Words.{Words}
 use Rattle.peer_route.specs.declared.words.Words.TheVariants as words
 use Rattle.peer_route.specs.declared.answer.Answer.{Answer}
 use Rattle.peer_route.specs.declared.answer.Answer.TheVariants as answers
-use Rattle.peer_route.specs.History.{Event, Fault, Made, Did, Added, Deed, Gave, Told, Gone, Asked, Opened, done, edit, closing, Stream, streams, phase, asks_by, new_stream, asking_stream, done_by, fail_stream, past, read}
+use Rattle.peer_route.specs.History.{Event, Fault, Made, Did, Put, Adds, Deed, Gave, Told, Gone, Asked, Opened, done, edit, closing, Stream, streams, phase, asks_by, new_stream, asking_stream, done_by, fail_stream, past, read}
 use Rattle.peer_route.specs.Trail.{Trail, place, second_place, Names}
 use Rattle.peer_route.specs.StreamLaws.{is_take}
 use Rattle.peer_route.proofs.Edits.{edit_other, edit_here, get_append}
@@ -203,6 +203,6 @@ pub stays : (xs h : List Event) (k : ℕ) (s : Stream) → Only (Spares k) xs �
 stays [] h k s only at = record { now_told = s.told; now_gone = s.gone; now_opened = s.opened; made = at; told_on = λ e. e }
 stays (Did j deed ∷ xs) h k s only at = stays_deed deed (streams (xs ++ h)) j k s only.0 (stays xs h k s only.1 at)
 stays (Made making ∷ xs) h k s only at = stays_append (streams (xs ++ h)) (new_stream (past (xs ++ h)) (streams (xs ++ h)) making) k s (stays xs h k s only at)
-stays (Added m rule asked ∷ xs) h k s only at = stays_append (streams (xs ++ h)) (asking_stream (past (xs ++ h)) m rule) k s (stays xs h k s only at)
+stays (Put m (Adds rule asked) ∷ xs) h k s only at = stays_append (streams (xs ++ h)) (asking_stream (past (xs ++ h)) m rule) k s (stays xs h k s only at)
 stays (Fault ∷ xs) h k s only at = stays_failed (xs ++ h) (done (xs ++ h)) (streams (xs ++ h)) k s (stays xs h k s only at)
 stays (e ∷ xs) h k s only at = stays xs h k s only at

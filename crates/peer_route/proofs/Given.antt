@@ -10,7 +10,7 @@ use Rattle.wire_message.specs.declared.error.Error.TheVariants as errors
 use Rattle.rule_match.specs.Rule.{Rule}
 use Rattle.peer_route.specs.declared.polled.Polled.{Polled}
 use Rattle.peer_route.specs.declared.polled.Polled.TheVariants as polled
-use Rattle.peer_route.specs.History.{Event, Took, Fault, Made, Did, Main, Added, Making, Plain, Ruled, Cloned, Gone, Asked, Opened, done, read, closing, edit, Stream, Phase, Asking, Denied, Since, asks_by, phase, streams, clone_of, new_stream, asking_stream, fail_stream, give, tell, end_one, open_one, past}
+use Rattle.peer_route.specs.History.{Event, Took, Fault, Made, Did, Main, Put, Adds, Making, Plain, Ruled, Cloned, Gone, Asked, Opened, done, read, closing, edit, Stream, Phase, Asking, Denied, Since, asks_by, phase, streams, clone_of, new_stream, asking_stream, fail_stream, give, tell, end_one, open_one, past}
 use Rattle.peer_route.specs.Streams.{since_in, accepted, matched, offered, held, item_at, gave_last, all_given, runs, take_by, take_at, take_answer, take_events}
 use Rattle.peer_route.specs.Left.{IsWithin, View, Left}
 use Rattle.peer_route.specs.Trail.{given_by, given_at, kept_by, kept_at}
@@ -120,11 +120,11 @@ unfolding gave_last
 asking_gave g h m rule = refl
 
 -- nor did one that waits for the return to its AddMatch
-pub given_added : (m : Seen) (rule : Rule) (asked : Option ℕ) (h : List Event) → all_given (past (Added m rule asked ∷ h)) ≡ all_given (past h) ++ None ∷ []
+pub given_added : (m : Seen) (rule : Rule) (asked : Option ℕ) (h : List Event) → all_given (past (Put m (Adds rule asked) ∷ h)) ≡ all_given (past h) ++ None ∷ []
 given_added m rule asked h =
-    map-append (gave_last (read (Added m rule asked ∷ h))) (streams h) (asking_stream (past h) m rule ∷ [])
-    ∙ ap (λ os. os ++ gave_last (read (Added m rule asked ∷ h)) (asking_stream (past h) m rule) ∷ []) (each_same (Added m rule asked ∷ h) h (streams h) refl)
-    ∙ ap (λ o. all_given (past h) ++ o ∷ []) (asking_gave (Added m rule asked ∷ h) h m rule)
+    map-append (gave_last (read (Put m (Adds rule asked) ∷ h))) (streams h) (asking_stream (past h) m rule ∷ [])
+    ∙ ap (λ os. os ++ gave_last (read (Put m (Adds rule asked) ∷ h)) (asking_stream (past h) m rule) ∷ []) (each_same (Put m (Adds rule asked) ∷ h) h (streams h) refl)
+    ∙ ap (λ o. all_given (past h) ++ o ∷ []) (asking_gave (Put m (Adds rule asked) ∷ h) h m rule)
 
 opened_gave : (h : List Event) (s : Stream) → gave_last (read h) (open_one s) ≡ gave_last (read h) s
 unfolding gave_last offered matched phase

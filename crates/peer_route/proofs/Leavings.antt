@@ -1,126 +1,51 @@
 -- The bus is told which rules have no stream any more: by what is kept, and by the history.
-use Rattle.std.proofs.Common.{rules, ◌≡◌, ℕ, zero, suc, ◌+◌, ◌<◌, ◌≤◌, refl, sym, ◌∙◌, ap, subst, arith, inl, inr, codes, Bool, true, false, not, ◌&&◌, ◌||◌, ◌==◌, if◌then◌else◌, is_none, is_some, List, [], ◌∷◌, ◌++◌, length, map, Option, Some, None, Ok, Err, option_to_list}
+use Rattle.std.proofs.Common.{rules, ◌≡◌, ℕ, zero, suc, ◌+◌, ◌≤◌, refl, sym, ◌∙◌, ap, subst, arith, inl, inr, codes, Bool, true, false, not, ◌&&◌, ◌||◌, ◌==◌, if◌then◌else◌, is_none, is_some, List, [], ◌∷◌, ◌++◌, length, map, Option, Some, None, Ok, Err, option_to_list}
 use Rattle.std.specs.List.{slice_get, list_all}
 use Rattle.std.proofs.lemmas.List.Folds.{list_all-map}
 use Rattle.std.proofs.lemmas.List.{append-nil, map-append, length-append}
-use Rattle.wire_tree.specs.Datum.{data_of}
-use Rattle.wire_spelling.specs.Spelling.{AllFit}
-use Rattle.wire_message.specs.Front.{Seen}
 use Rattle.wire_message.specs.declared.error.Error.{Error}
 use Rattle.wire_message.specs.declared.error.Error.TheVariants as errors
-use Rattle.wire_message.specs.declared.error.IoKind.TheVariants as kinds
 use Rattle.rule_match.specs.Rule.{Rule}
 use Rattle.peer_route.specs.declared.route.Issued.{Issued}
 use Rattle.peer_route.specs.Parcel.{message_of}
 use Rattle.peer_route.specs.CallMessage.{expects, expects_reply}
-use Rattle.peer_route.specs.History.{Did, Gone, Removed, Call, inner_call, edit, calls, Stream, end_one, rule_of, Past, after}
+use Rattle.peer_route.specs.History.{Did, Gone, edit, calls, Stream, end_one, rule_of, Past, after}
 use Rattle.peer_route.specs.Calls.{in_flight}
 use Rattle.peer_route.specs.Streams.{is_open, are_open, has_rule, has_rule_at, close_waits, may_be_signal, leaves, leaves_by, leaving, rule_answer}
-use Rattle.peer_route.specs.Left.{Held, CallsView, View, Left, kept_at, shared, waiting_serial, is_flying, with_call}
-use Rattle.peer_route.specs.Issuing.{AreShort, SomeLong}
-use Rattle.peer_route.specs.Placing.{IsMore, made_call, Draws, Spends, messages_of, with_messages, issued_from, place_of}
-use Rattle.peer_route.specs.BusCall.{remove_parcel, remove_message, last_of, some_rules}
+use Rattle.peer_route.specs.Left.{Held, CallsView, View, Left, kept_at, shared, is_flying}
+use Rattle.peer_route.specs.Issuing.{AreShort, are_deep, parcels, put_each}
+use Rattle.peer_route.specs.Placing.{IsMore, made_call, Draws, messages_of, with_messages, issued_from, place_of, PutsAll}
+use Rattle.peer_route.specs.BusCall.{remove_parcel, last_of, some_rules}
 use Rattle.peer_route.specs.Bus.{letter_about, rule_call, PutsOwn}
 use Rattle.peer_route.specs.declared.opening.RuleCall.{RuleCall}
 use Rattle.peer_route.specs.declared.opening.RuleCalls.{RuleCalls}
-use Rattle.peer_route.specs.Leaving.{AreTold, TellsNone, AreBrief, SomeNotBrief, removed_each, TellsBus, gone_both, MayClose, number_of, ClosesStreams, TellsNow, have_rules, ended, without, left_by, rule_kept, must_tell, second_left, left_rules, removals, last_issued, MakesRemoval, MakesRemovals, Tells}
+use Rattle.peer_route.specs.Leaving.{tellings_of, TellsBus, gone_both, MayClose, number_of, ClosesStreams, TellsNow, have_rules, ended, without, left_by, rule_kept, must_tell, second_left, left_rules, removals, last_issued, MakesRemoval, MakesRemovals, Tells}
 use Rattle.peer_route.specs.declared.streams.MessageStream.{MessageStream}
 use Rattle.peer_route.specs.declared.leaving.Spent.TheVariants as spent
 use Rattle.peer_route.proofs.Core.{left_ended, flying-left}
-use Rattle.peer_route.proofs.CallsMade.{places, sound_after}
 use Rattle.peer_route.proofs.RuledStreams.{subscribed_left, rule_left}
-use Rattle.peer_route.proofs.Issues.{called, message_serial, same_expects, next_left, spent_left, placed_more, with_none}
+use Rattle.peer_route.proofs.Issues.{message_serial, AreOf, AreQuiet, drawn_left, put_left, refused_by}
 use Rattle.peer_route.proofs.BusMessages.{match_expects, refused_any}
 use Rattle.peer_route.proofs.RuleCalls.{puts_about}
 use Rattle.peer_route.proofs.Placed.{all_wait}
 
--- ---- a RemoveMatch is put
+-- ---- a RemoveMatch of each rule
 
--- the core with one message of the peer's own more
-abbrev placed_own : View → Seen → ℕ → View
-placed_own v m serial = record v {
-  calls = with_call true serial v.calls;
-  last = serial;
-  outbox = v.outbox ++ m ∷ [];
-  places = v.places ++ length v.outbox ∷ [];
-}
+told_parcels : (h : Past) (name : Option (List ℕ)) (rules : List Rule) → name ≡ h.name → removals name rules ≡ parcels (tellings_of h rules)
+told_parcels h name [] e = refl
+told_parcels h name (rule ∷ rules) e = ap (λ n. remove_parcel n rule ∷ removals name rules) e ∙ ap (λ ps. remove_parcel h.name rule ∷ ps) (told_parcels h name rules e)
 
-left_removed : (v : View) (m : Seen) (serial : ℕ) (h : Past) → m.serial ≡ serial → Left v h → waiting_serial v.calls serial ≡ false → Left (placed_own v m serial) (after (Removed m) h)
-left_removed v m serial h e left free =
-    let made = called m true v.calls (with_call true serial v.calls) (after (Removed m) h) h (ap (λ n. with_call true n v.calls) (sym e)) refl refl refl (ap (waiting_serial v.calls) e ∙ free) left.calls in
-    let placed = ap (λ ns. ns ++ length v.outbox ∷ []) left.places ∙ ap (λ ms. places h.calls ++ length ms ∷ []) left.outbox
-    ∙ sym (map-append (λ (c : Call). c.index) h.calls (inner_call h m ∷ [])) in
-    let sound = sound_after (Removed m) h left.sound in search rules
+told_own : (h : Past) (rules : List Rule) → AreOf true (tellings_of h rules)
+told_own h [] = tt
+told_own h (rule ∷ rules) = ((match_expects (codes "RemoveMatch") h.name rule, tt), told_own h rules)
 
-removal_expects : (name : Option (List ℕ)) (rule : Rule) → expects (Ok (remove_parcel name rule)) ≡ true
-removal_expects name rule = match_expects (codes "RemoveMatch") name rule
+told_quiet : (h : Past) (rules : List Rule) → AreQuiet (tellings_of h rules)
+told_quiet h [] = tt
+told_quiet h (rule ∷ rules) = (tt, told_quiet h rules)
 
--- ---- all of them
-
-told_left : (rules : List Rule) (serials : List ℕ) (v : View) (w : CallsView) (end : ℕ) (h : Past) → Left v h → Draws true v.calls v.last (removals v.name rules) serials w end
-    → Left (with_messages v (messages_of (removals v.name rules) serials) w end) (removed_each rules serials h)
-told_left [] [] v w end h left d = subst (λ u. Left u h) (sym (with_none v w end d.0 d.1)) left
-told_left (rule ∷ rules) (serial ∷ serials) v w end h left d =
-    let p = remove_parcel v.name rule in
-    let m = message_of p serial in
-    let n = remove_message h rule serial in
-    let same : m ≡ n = ap (λ name. message_of (remove_parcel name rule) serial) left.name in
-    let one : Left (placed_own v m serial) (after (Removed n) h) =
-    subst (λ x. Left (placed_own v m serial) (after (Removed x) h)) same (left_removed v m serial h (message_serial p serial) left d.0.free) in
-    let more : Draws true (with_call true serial v.calls) serial (removals v.name rules) serials w end =
-    subst (λ b. Draws true (made_call true b v.calls serial) serial (removals v.name rules) serials w end) (removal_expects v.name rule) d.1 in
-    subst (λ u. Left u (removed_each rules serials (after (Removed n) h)))
-    (placed_more v v true true m (messages_of (removals v.name rules) serials) w serial end refl (same_expects p serial ∙ removal_expects v.name rule))
-    (told_left rules serials (placed_own v m serial) w end (after (Removed n) h) one more)
-told_left [] (serial ∷ serials) v w end h left d = absurd d
-told_left (rule ∷ rules) [] v w end h left d = absurd d
-
-told_drawn : (rules : List Rule) (serials : List ℕ) (v : View) (w : CallsView) (end : ℕ) (h : Past) → Left v h → Draws true v.calls v.last (removals v.name rules) serials w end → AreTold h rules serials
-told_drawn [] [] v w end h left d = tt
-told_drawn (rule ∷ rules) (serial ∷ serials) v w end h left d =
-    let p = remove_parcel v.name rule in
-    let m = message_of p serial in
-    let n = remove_message h rule serial in
-    let same : m ≡ n = ap (λ name. message_of (remove_parcel name rule) serial) left.name in
-    let one : Left (placed_own v m serial) (after (Removed n) h) =
-    subst (λ x. Left (placed_own v m serial) (after (Removed x) h)) same (left_removed v m serial h (message_serial p serial) left d.0.free) in
-    let more : Draws true (with_call true serial v.calls) serial (removals v.name rules) serials w end =
-    subst (λ b. Draws true (made_call true b v.calls serial) serial (removals v.name rules) serials w end) (removal_expects v.name rule) d.1 in
-    (next_left v.calls v.last serial h left.calls left.last d.0, told_drawn rules serials (placed_own v m serial) w end (after (Removed n) h) one more)
-told_drawn [] (serial ∷ serials) v w end h left d = absurd d
-told_drawn (rule ∷ rules) [] v w end h left d = absurd d
-
-told_brief : (rules : List Rule) (serials : List ℕ) (name : Option (List ℕ)) (h : Past) → name ≡ h.name → AreShort (removals name rules) serials → AreBrief h rules serials
-told_brief [] serials name h e short = tt
-told_brief (rule ∷ rules) [] name h e short = tt
-told_brief (rule ∷ rules) (serial ∷ serials) name h e short =
-    (subst (λ o. length (message_of (remove_parcel o rule) serial).bytes ≤ 134217728) e short.0.1, told_brief rules serials name (after (Removed (remove_message h rule serial)) h) e short.1)
-
-fits : (name : Option (List ℕ)) (rule : Rule) → AllFit (remove_parcel name rule).draft.order 0 (data_of (remove_parcel name rule).values)
-unfolding AllFit
-fits name rule = (tt, tt)
-
-told_long : (rules : List Rule) (serials : List ℕ) (name : Option (List ℕ)) (h : Past) → name ≡ h.name → SomeLong (removals name rules) serials → SomeNotBrief h rules serials
-told_long [] serials name h e long = absurd long
-told_long (rule ∷ rules) [] name h e long = absurd long
-told_long (rule ∷ rules) (serial ∷ serials) name h e (inl (inl unfit)) = absurd (unfit (fits name rule))
-told_long (rule ∷ rules) (serial ∷ serials) name h e (inl (inr x)) = inl (subst (λ o. 134217728 < length (message_of (remove_parcel o rule) serial).bytes) e x.1)
-told_long (rule ∷ rules) (serial ∷ serials) name h e (inr more) = inr (told_long rules serials name (after (Removed (remove_message h rule serial)) h) e more)
-
-told_none : (rules : List Rule) (v : View) (h : Past) → Left v h → Spends true v.calls v.last (removals v.name rules) → TellsNone h rules
-told_none [] v h left x = absurd x
-told_none (rule ∷ rules) v h left (inl all) = inl (spent_left v.calls h left.calls all)
-told_none (rule ∷ rules) v h left (inr x) =
-    let serial = x.0 in
-    let p = remove_parcel v.name rule in
-    let m = message_of p serial in
-    let n = remove_message h rule serial in
-    let same : m ≡ n = ap (λ name. message_of (remove_parcel name rule) serial) left.name in
-    let one : Left (placed_own v m serial) (after (Removed n) h) =
-    subst (λ y. Left (placed_own v m serial) (after (Removed y) h)) same (left_removed v m serial h (message_serial p serial) left x.1.free) in
-    let more : Spends true (with_call true serial v.calls) serial (removals v.name rules) =
-    subst (λ b. Spends true (made_call true b v.calls serial) serial (removals v.name rules)) (removal_expects v.name rule) x.2 in
-    inr (serial, next_left v.calls v.last serial h left.calls left.last x.1, told_none rules (placed_own v m serial) (after (Removed n) h) one more)
+told_shallow : (h : Past) (rules : List Rule) → are_deep (tellings_of h rules) ≡ false
+told_shallow h [] = refl
+told_shallow h (rule ∷ rules) = told_shallow h rules
 
 -- the serial of the last
 told_last : (rules : List Rule) (serials : List ℕ) (name : Option (List ℕ)) (v w : CallsView) (last end place count : ℕ) → Draws true v last (removals name rules) serials w end
@@ -143,32 +68,33 @@ closed_view v qs = record v { streams = qs }
 
 pub tells_bus : (v mid : View) (qs : List (Option Held)) (rules : List Rule) (h : Past) (last : Option ℕ) → Tells v mid rules (Ok last) → Left (closed_view v qs) h
     → TellsBus (closed_view mid qs) h rules (Ok last)
-tells_bus v mid qs [] h last t left = ([], tt, tt, (λ e. cc), t.0, subst (λ (u : View). Left (closed_view u qs) h) (sym t.1) left)
+tells_bus v mid qs [] h last t left = (t.0, subst (λ (u : View). Left (closed_view u qs) h) (sym t.1) left)
 tells_bus v mid qs (rule ∷ rules) h last t left =
+    let ds = tellings_of h (rule ∷ rules) in
     let p = t.1 in
-    let g = closed_view v qs in
-    let serials = p.0 in (
-      serials,
-      told_drawn (rule ∷ rules) serials g mid.calls mid.last h left p.1,
-      told_brief (rule ∷ rules) serials v.name h left.name p.2,
-      (λ e. sym left.writer ∙ p.3),
-      t.2 ∙ ap last_issued p.4 ∙ told_last (rule ∷ rules) serials v.name v.calls mid.calls v.last mid.last (length v.outbox) (length v.places) p.1,
-      subst (λ (u : View). Left (closed_view u qs) (removed_each (rule ∷ rules) serials h)) (sym p.5)
-          (told_left (rule ∷ rules) serials g mid.calls mid.last h left p.1),
+    let same = told_parcels h v.name (rule ∷ rules) left.name in
+    let draws = subst (λ ps. Draws true v.calls v.last ps p.0 mid.calls mid.last) same p.1 in
+    let own = told_own h (rule ∷ rules) in (
+      told_shallow h (rule ∷ rules),
+      (
+        p.0,
+        drawn_left true ds p.0 v.calls mid.calls v.last mid.last h own left.calls left.last draws,
+        subst (λ ps. AreShort ps p.0) same p.2,
+        t.2 ∙ ap last_issued p.4 ∙ told_last (rule ∷ rules) p.0 v.name v.calls mid.calls v.last mid.last (length v.outbox) (length v.places) p.1,
+        subst (λ (u : View). Left (closed_view u qs) (put_each ds p.0 h))
+            (ap (λ ps. with_messages v (messages_of ps p.0) mid.calls mid.last) (sym same) ∙ sym p.5)
+            (put_left true ds p.0 (closed_view v qs) mid.calls mid.last h own (told_quiet h (rule ∷ rules)) left draws),
+      ),
+      sym left.writer ∙ p.3,
     )
 
-pub tells_not : (v mid : View) (qs : List (Option Held)) (rules : List Rule) (h : Past) (error : Error) → Tells v mid rules (Err error) → (error ≡ errors.Memory → ⊥) → Left (closed_view v qs) h
+pub tells_not : (v mid : View) (qs : List (Option Held)) (rules : List Rule) (h : Past) (error : Error) → Tells v mid rules (Err error) → Left (closed_view v qs) h
     → TellsBus (closed_view v qs) h rules (Err error)
-tells_not v mid qs [] h error t some left = absurd t
-tells_not v mid qs (rule ∷ rules) h errors.SerialsSpent t some left = (told_none (rule ∷ rules) (closed_view v qs) h left t, left)
-tells_not v mid qs (rule ∷ rules) h errors.ExcessData t some left =
-    ((t.0, told_drawn (rule ∷ rules) t.0 (closed_view v qs) mid.calls mid.last h left t.1, told_long (rule ∷ rules) t.0 v.name h left.name t.2), left)
-tells_not v mid qs (rule ∷ rules) h (errors.InputOutput kinds.WriteFault) t some left =
-    ((refl, (t.0, told_drawn (rule ∷ rules) t.0 (closed_view v qs) mid.calls mid.last h left t.1, told_brief (rule ∷ rules) t.0 v.name h left.name t.2)), sym left.writer ∙ t.3, left)
-tells_not v mid qs (rule ∷ rules) h (errors.InputOutput kinds.Closed) t some left =
-    ((refl, (t.0, told_drawn (rule ∷ rules) t.0 (closed_view v qs) mid.calls mid.last h left t.1, told_brief (rule ∷ rules) t.0 v.name h left.name t.2)), sym left.writer ∙ t.3, left)
-tells_not v mid qs (rule ∷ rules) h errors.Memory t some left = absurd (some refl)
-tells_not v mid qs (rule ∷ rules) h other t some left = absurd t
+tells_not v mid qs [] h error t left = absurd t
+tells_not v mid qs (rule ∷ rules) h error t left =
+    refused_by true (λ (is : List Issued). is) (λ last serials. last ≡ last_of serials) (Left (closed_view v qs) h) v mid (closed_view v qs) (tellings_of h (rule ∷ rules)) h error
+    (told_own h (rule ∷ rules)) (told_shallow h (rule ∷ rules)) left.calls left.last left.writer left
+    (subst (λ ps. PutsAll true (λ (is : List Issued). is) v mid ps (Err error)) (told_parcels h v.name (rule ∷ rules) left.name) t)
 
 -- what making the messages is refused for
 pub tells_unmade : (v : View) (rules : List Rule) (error : Error) → MakesRemovals rules (Err error) → Tells v v rules (Err error)
@@ -351,7 +277,7 @@ pub closes_over : (v mid : View) (h : Past) (k : ℕ) (o : Option ℕ) (error : 
 closes_over v mid h k o error left there idle t some =
     closes_by v mid (closed_view v (ended k o v.streams)) h k o (left_rules v k o) error t some (there, sym (waits_so v h k o left there) ∙ idle)
     (subst (λ rs. TellsBus (closed_view v (ended k o v.streams)) (gone_both k o h) rs (Err error)) (leaving_so v h k o left there)
-    (tells_not v mid (ended k o v.streams) (left_rules v k o) (gone_both k o h) error t some (gone_left v h k o left)))
+    (tells_not v mid (ended k o v.streams) (left_rules v k o) (gone_both k o h) error t (gone_left v h k o left)))
 
 tells_some : (v mid : View) (rules : List Rule) (error : Error) → Tells v mid rules (Err error) → some_rules rules ≡ true
 tells_some v mid [] error t = absurd t

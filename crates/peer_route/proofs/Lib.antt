@@ -57,3 +57,6 @@ pub mod Writers
 pub mod Written
 pub mod Refused
 pub mod NoneBefore
+pub mod Begins
+pub mod Unstreamed
+pub mod Granted

@@ -6,7 +6,7 @@ use Rattle.peer_route.specs.declared.words.Words.TheVariants as words
 use Rattle.peer_route.specs.declared.answer.Answer.{Answer}
 use Rattle.peer_route.specs.declared.answer.Answer.TheVariants as answers
 use Rattle.peer_route.specs.declared.answer.Entry.{Entry}
-use Rattle.peer_route.specs.History.{Event, Put, Fault, Spent, Added, Removed, Call, calls, new_call, inner_call, edit, spend, fail_at, done, closing, past, read}
+use Rattle.peer_route.specs.History.{Event, Put, OfLane, Fault, Spent, Adds, Removes, Call, calls, new_call, inner_call, edit, spend, fail_at, done, closing, past, read}
 use Rattle.peer_route.specs.Calls.{is_gone, polled_at, poll_answer, by_position, dropped_at, drop_answer, drop_events, poll_events}
 use Rattle.peer_route.specs.Parcel.{Setting}
 use Rattle.peer_route.specs.Trail.{Trail, Names, place}
@@ -53,11 +53,11 @@ gone_fail i zero (c ∷ cs) g = gone_by c.spent c.failed (c.index == i) g
 gone_fail i (suc k) (c ∷ cs) g = gone_fail i k cs g
 
 gone_event : (e : Event) (h : List Event) (k : ℕ) → gone_at (calls h) k ≡ true → gone_at (calls (e ∷ h)) k ≡ true
-gone_event (Put m true) h k g = gone_append (calls h) (new_call (past h) m ∷ []) k g
+gone_event (Put m (OfLane true)) h k g = gone_append (calls h) (new_call (past h) m ∷ []) k g
 gone_event Fault h k g = gone_fail (done h) k (calls h) g
 gone_event (Spent j) h k g = gone_edit j k (calls h) g
-gone_event (Added m rule asked) h k g = gone_append (calls h) (inner_call (past h) m ∷ []) k g
-gone_event (Removed m) h k g = gone_append (calls h) (inner_call (past h) m ∷ []) k g
+gone_event (Put m (Adds rule asked)) h k g = gone_append (calls h) (inner_call (past h) m ∷ []) k g
+gone_event (Put m Removes) h k g = gone_append (calls h) (inner_call (past h) m ∷ []) k g
 gone_event e h k g = g
 
 gone_events : (es h : List Event) (k : ℕ) → gone_at (calls h) k ≡ true → gone_at (calls (es ++ h)) k ≡ true

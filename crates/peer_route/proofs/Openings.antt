@@ -1,11 +1,10 @@
 -- A stream for which the bus is asked: what the core is then, and once it is asked whether it is open.
-use Rattle.std.proofs.Common.{rules, ◌≡◌, ℕ, ◌<◌, ◌≤◌, inl, inr, codes, refl, sym, ◌∙◌, ap, subst, Bool, true, false, not, ◌&&◌, ◌||◌, if◌then◌else◌, is_some, List, [], ◌∷◌, ◌++◌, length, Option, Some, None, Ok, Err}
+use Rattle.std.proofs.Common.{rules, ◌≡◌, ℕ, codes, refl, sym, ◌∙◌, ap, subst, Bool, true, false, not, ◌&&◌, ◌||◌, if◌then◌else◌, is_some, List, [], ◌∷◌, ◌++◌, length, Option, Some, None, Ok, Err}
 use Rattle.std.specs.List.{slice_get}
 use Rattle.std.specs.Option.{option_map}
 use Rattle.std.proofs.lemmas.List.{map-append, length-append}
 use Rattle.std.proofs.lemmas.Bool.{false≢true}
 use Rattle.wire_message.specs.Front.{Seen}
-use Rattle.wire_message.specs.Circle.{IsNext, AllTaken}
 use Rattle.wire_message.specs.declared.error.Error.{Error}
 use Rattle.wire_message.specs.declared.error.Error.TheVariants as errors
 use Rattle.wire_message.specs.declared.error.IoKind.TheVariants as kinds
@@ -15,25 +14,23 @@ use Rattle.peer_route.specs.declared.opening.Opens.TheVariants as opens
 use Rattle.peer_route.specs.declared.opening.Opening.{Opening}
 use Rattle.peer_route.specs.declared.progress.OpenState.{OpenState}
 use Rattle.peer_route.specs.declared.progress.OpenState.TheVariants as states
-use Rattle.peer_route.specs.History.{Made, Ruled, Gone, Opened, OnBus, Added, Named, Call, inner_call, edit, first_name, Stream, Phase, Asking, Denied, Since, phase, open_one, Past, after, after_all}
+use Rattle.peer_route.specs.History.{Made, Ruled, Gone, Opened, OnBus, Put, Adds, Named, Call, inner_call, edit, first_name, Stream, Phase, Asking, Denied, Since, phase, open_one, Past, after, after_all}
 use Rattle.peer_route.specs.Calls.{in_flight}
 use Rattle.peer_route.specs.Streams.{asks_bus, may_be_signal, matched, offered, held, opening_by, opening_at, opening_answer, opening_events}
 use Rattle.peer_route.specs.Left.{Held, held_by, held_of, progress_by, kept_by, any_at, shared, asked_by, held_opening, opened_held, is_flying, with_stream, with_asking, with_call, CallsView, waiting_serial, LeftStreams, IsWithin, View, Left}
-use Rattle.peer_route.specs.BusCall.{add_parcel, add_message}
-use Rattle.peer_route.specs.Bus.{OpensRule, AsksNow, Asks, AsksFor}
-use Rattle.peer_route.specs.Parcel.{Parcel, message_of}
+use Rattle.peer_route.specs.BusCall.{add_parcel}
+use Rattle.peer_route.specs.Bus.{asking_of, IsOpening, OpensBy, OpensRule, AsksNow, Asks, AsksFor}
+use Rattle.peer_route.specs.Parcel.{message_of}
 use Rattle.peer_route.specs.CallMessage.{expects}
-use Rattle.peer_route.specs.Issuing.{IsShort, AreShort, SomeLong}
+use Rattle.peer_route.specs.Issuing.{IsShort, AreShort}
 use Rattle.peer_route.specs.declared.route.Issued.{Issued}
-use Rattle.peer_route.specs.Placing.{made_call, Draws, Spends, place_of, places_of, issued_at, issued_from, messages_of, with_messages, PutsAll}
-use Rattle.wire_tree.specs.Datum.{data_of}
-use Rattle.wire_spelling.specs.Spelling.{AllFit}
+use Rattle.peer_route.specs.Placing.{made_call, Draws, place_of, places_of, issued_at, issued_from, messages_of, with_messages, PutsAll}
 use Rattle.peer_route.proofs.Core.{flying-left, left_ruled, left_idle, left_did}
 use Rattle.peer_route.proofs.CallsMade.{places, sound_after}
 use Rattle.peer_route.proofs.Edits.{map_edit_all, edit-none}
 use Rattle.peer_route.proofs.StreamsMade.{any_of, any_left, streams_ended, within_each}
 use Rattle.peer_route.proofs.RuledStreams.{streams_asking, subscribed_left}
-use Rattle.peer_route.proofs.Issues.{called, next_left, spent_left, message_serial, same_expects}
+use Rattle.peer_route.proofs.Issues.{called, AreOf, drawn_left, refused_by, message_serial, same_expects}
 use Rattle.peer_route.proofs.BusMessages.{match_expects}
 use Rattle.peer_route.proofs.Index.{open_none}
 use Rattle.peer_route.proofs.OpenStreams.{streams_len}
@@ -64,13 +61,13 @@ asked_view v m serial rule asked = record v {
 }
 
 left_added : (v : View) (m : Seen) (rule : Rule) (asked : Option ℕ) (h : Past) → Left v h → waiting_serial v.calls m.serial ≡ false
-    → Left (asked_view v m m.serial rule asked) (after (Added m rule asked) h)
+    → Left (asked_view v m m.serial rule asked) (after (Put m (Adds rule asked)) h)
 left_added v m rule asked h left free =
-    let made = called m true v.calls (with_call true m.serial v.calls) (after (Added m rule asked) h) h refl refl refl refl free left.calls in
-    let kept = subst (λ i. LeftStreams (with_asking rule asked m.serial i v.streams) (after (Added m rule asked) h)) (sym (ap length left.outbox)) (streams_asking m rule asked v.streams h left.streams) in
+    let made = called m true v.calls (with_call true m.serial v.calls) (after (Put m (Adds rule asked)) h) h refl refl refl refl free left.calls in
+    let kept = subst (λ i. LeftStreams (with_asking rule asked m.serial i v.streams) (after (Put m (Adds rule asked)) h)) (sym (ap length left.outbox)) (streams_asking m rule asked v.streams h left.streams) in
     let placed = ap (λ ns. ns ++ length v.outbox ∷ []) left.places ∙ ap (λ ms. places h.calls ++ length ms ∷ []) left.outbox
     ∙ sym (map-append (λ (c : Call). c.index) h.calls (inner_call h m ∷ [])) in
-    let sound = sound_after (Added m rule asked) h left.sound in search rules
+    let sound = sound_after (Put m (Adds rule asked)) h left.sound in search rules
 
 -- the one message that was put, and the stream that waits for its return
 asks_by : (old mid : View) (rule : Rule) (asked : Option ℕ) (i : Issued) (number : ℕ) (serials : List ℕ)
@@ -198,70 +195,55 @@ pub opens_once : (v : View) (rule : Rule) (asked : Option ℕ) (sv : List (Optio
     → OpensRule v (record v { streams = sv }) rule asked h (Ok (opens.Open (record { number = number })))
 opens_once v rule asked sv number h idle none e new left =
     let Q : List (Option Held) → Type 0 = λ qs. Left (record v { streams = qs }) (after (Made (Ruled rule asked)) h) in
-    (idle.0, idle.1, (none, e ∙ streams_len v h left, subst Q (sym new) (left_ruled v rule asked h left)))
+    let R : Bool → Type 0 = λ b. OpensBy b v (record v { streams = sv }) rule asked h (Ok (opens.Open (record { number = number }))) in
+    (idle.0, idle.1, subst R (sym none) (e ∙ streams_len v h left, subst Q (sym new) (left_ruled v rule asked h left)))
 
--- the message is the one that the history says
-message_so : (v : View) (rule : Rule) (serial : ℕ) (h : Past) → Left v h → message_of (add_parcel v.name rule) serial ≡ add_message h rule serial
-message_so v rule serial h left = ap (λ name. message_of (add_parcel name rule) serial) left.name
+asking_own : (h : Past) (rule : Rule) (asked : Option ℕ) → AreOf true (asking_of h rule asked ∷ [])
+asking_own h rule asked = ((match_expects (codes "AddMatch") h.name rule, tt), tt)
 
 pub opens_asking : (old new : View) (rule : Rule) (asked : Option ℕ) (o : Opening) (h : Past) → IsIdle h → asks_bus h rule ≡ true → Asks old new rule asked o → Left old h
     → OpensRule old new rule asked h (Ok (opens.Opening o))
 opens_asking old new rule asked o h idle asks a left =
-    let p = add_parcel old.name rule in
-    let m = message_of p o.serial in
-    let is : m.serial ≡ o.serial = message_serial p o.serial in
+    let m = message_of (add_parcel old.name rule) o.serial in
+    let is : m.serial ≡ o.serial = message_serial (add_parcel old.name rule) o.serial in
     let free : waiting_serial old.calls m.serial ≡ false = ap (waiting_serial old.calls) is ∙ a.drawn.0.free in
-    let now : Left (asked_view old m m.serial rule asked) (after (Added m rule asked) h) = left_added old m rule asked h left free in
-    let asked_now : Left new (after (Added m rule asked) h) =
-    subst (λ v. Left v (after (Added m rule asked) h)) (ap (λ n. asked_view old m n rule asked) is ∙ sym (asks_view old new rule asked o a)) now in (
+    let now : Left (asked_view old m m.serial rule asked) (after (Put m (Adds rule asked)) h) = left_added old m rule asked h left free in
+    let asked_now : Left new (after (Put m (Adds rule asked)) h) =
+    subst (λ v. Left v (after (Put m (Adds rule asked)) h)) (ap (λ n. asked_view old m n rule asked) is ∙ sym (asks_view old new rule asked o a)) now in
+    let draws = subst (λ name. Draws true old.calls old.last (add_parcel name rule ∷ []) (o.serial ∷ []) new.calls new.last) left.name a.drawn in
+    let R : Bool → Type 0 = λ b. OpensBy b old new rule asked h (Ok (opens.Opening o)) in (
       idle.0,
       idle.1,
-      (
-        asks,
+      subst R (sym asks) (
+        refl,
+        (
+          o.serial ∷ [],
+          drawn_left true (asking_of h rule asked ∷ []) (o.serial ∷ []) old.calls new.calls old.last new.last h (asking_own h rule asked) left.calls left.last draws,
+          (subst (λ name. IsShort (add_parcel name rule) o.serial) left.name a.short, tt),
+          (refl, a.number ∙ streams_len old h left, a.index ∙ ap length left.outbox),
+          subst (λ name. Left new (after (Put (message_of (add_parcel name rule) o.serial) (Adds rule asked)) h)) left.name asked_now,
+        ),
         sym left.writer ∙ a.fine,
-        next_left old.calls old.last o.serial h left.calls left.last a.drawn.0,
-        subst (λ (n : Seen). length n.bytes ≤ 134217728) (message_so old rule o.serial h left) a.short.1,
-        a.number ∙ streams_len old h left,
-        a.index ∙ ap length left.outbox,
-        subst (λ n. Left new (after (Added n rule asked) h)) (message_so old rule o.serial h left) asked_now,
       ),
     )
 
--- the one message finds no serial
-spent_one : (v : CallsView) (last : ℕ) (p : Parcel) → Spends true v last (p ∷ []) → AllTaken (waiting_serial v)
-spent_one v last p (inl all) = all
-spent_one v last p (inr more) = absurd more.2
-
--- a limit that it passes is its own
-long_one : (p : Parcel) (serials : List ℕ) (v w : CallsView) (last end : ℕ) → Draws true v last (p ∷ []) serials w end → AllFit p.draft.order 0 (data_of p.values) → SomeLong (p ∷ []) serials
-    → (serial : ℕ) × IsNext (waiting_serial v) last serial × (134217728 < length (message_of p serial).bytes)
-long_one p [] v w last end d fit long = absurd long
-long_one p (serial ∷ more) v w last end d fit (inl (inl unfit)) = absurd (unfit fit)
-long_one p (serial ∷ more) v w last end d fit (inl (inr x)) = (serial, d.0, x.1)
-long_one p (serial ∷ []) v w last end d fit (inr none) = absurd none
-long_one p (serial ∷ again ∷ more) v w last end d fit (inr none) = absurd none
-
-short_one : (p : Parcel) (serials : List ℕ) (v w : CallsView) (last end : ℕ) → Draws true v last (p ∷ []) serials w end → AreShort (p ∷ []) serials
-    → (serial : ℕ) × IsNext (waiting_serial v) last serial × (length (message_of p serial).bytes ≤ 134217728)
-short_one p [] v w last end d short = absurd d
-short_one p (serial ∷ more) v w last end d short = (serial, d.0, short.0.1)
+-- where the bus has to be asked, and can't be
+asks_not : (old mid new : View) (rule : Rule) (asked : Option ℕ) (error : Error) (h : Past) → asks_bus h rule ≡ true → new ≡ old → AsksFor old mid rule asked (Err error) → Left old h
+    → OpensBy (asks_bus h rule) old new rule asked h (Err error)
+asks_not old mid new rule asked error h asks same a left =
+    let R : Bool → Type 0 = λ b. OpensBy b old new rule asked h (Err error) in
+    subst R (sym asks)
+    (refused_by true (λ (i : Issued). i ∷ []) (IsOpening h) (new ≡ old) old mid new (asking_of h rule asked ∷ []) h error (asking_own h rule asked) refl left.calls left.last left.writer same
+    (subst (λ name. PutsAll true (λ (i : Issued). i ∷ []) old mid (add_parcel name rule ∷ []) (Err error)) left.name a))
 
 pub opens_not : (old mid new : View) (rule : Rule) (asked : Option ℕ) (error : Error) (h : Past) → IsIdle h → asks_bus h rule ≡ true
     → new ≡ old → AsksFor old mid rule asked (Err error) → Left old h → OpensRule old new rule asked h (Err error)
-unfolding AllFit
-opens_not old mid new rule asked errors.SerialsSpent h idle asks same a left =
-    ((idle.0, idle.1, asks), spent_left old.calls h left.calls (spent_one old.calls old.last (add_parcel old.name rule) a), same)
-opens_not old mid new rule asked errors.ExcessData h idle asks same a left =
-    let x = long_one (add_parcel old.name rule) a.0 old.calls mid.calls old.last mid.last a.1 (tt, tt) a.2 in
-    ((idle.0, idle.1, asks), (x.0, next_left old.calls old.last x.0 h left.calls left.last x.1, subst (λ (n : Seen). 134217728 < length n.bytes) (message_so old rule x.0 h left) x.2), same)
-opens_not old mid new rule asked (errors.InputOutput kinds.WriteFault) h idle asks same a left =
-    let x = short_one (add_parcel old.name rule) a.0 old.calls mid.calls old.last mid.last a.1 a.2 in
-    ((idle.0, idle.1, asks), (x.0, next_left old.calls old.last x.0 h left.calls left.last x.1, subst (λ (n : Seen). length n.bytes ≤ 134217728) (message_so old rule x.0 h left) x.2), sym left.writer ∙ a.3, same)
 opens_not old mid new rule asked (errors.InputOutput kinds.Closed) h idle asks same a left =
     let shut_ : is_some h.closing ≡ true = left.sound.shut (sym left.writer ∙ a.3) in
     absurd (false≢true (sym (ap is_some idle.0) ∙ shut_))
+opens_not old mid new rule asked errors.Busy h idle asks same a left = absurd a
 opens_not old mid new rule asked errors.Memory h idle asks same a left = same
-opens_not old mid new rule asked other h idle asks same a left = absurd a
+opens_not old mid new rule asked error h idle asks same a left = (idle.0, idle.1, asks_not old mid new rule asked error h asks same a left)
 
 -- the AddMatch waits at the end of the outbox
 pub asks_now : (old new : View) (rule : Rule) (asked : Option ℕ) (o : Opening) → Asks old new rule asked o → AsksNow old new (Ok (opens.Opening o))

@@ -18,7 +18,7 @@ use Rattle.peer_route.specs.declared.words.Words.TheVariants as words
 use Rattle.peer_route.specs.declared.answer.Answer.{Answer}
 use Rattle.peer_route.specs.declared.answer.Answer.TheVariants as answers
 use Rattle.peer_route.specs.Parcel as parcels
-use Rattle.peer_route.specs.History.{Event, Put, Wrote, Fault, Spent, Made, Did, Main, Added, Removed, Gone, Making, past, writer, read, closing, unique_name}
+use Rattle.peer_route.specs.History.{Event, Put, OfLane, Wrote, Fault, Spent, Made, Did, Main, Adds, Removes, Gone, Making, past, writer, read, closing, unique_name}
 use Rattle.peer_route.specs.Calls.{in_flight, poll_answer, by_position, poll_events, drop_answer, drop_events}
 use Rattle.peer_route.specs.Streams.{busy, take_answer, take_events, is_open, asks_bus, close_waits, leaving, gone_then, opening_answer, opening_events}
 use Rattle.peer_route.specs.Shown.{error_answer, reply_by, shown, shown_drop, shown_take, shown_opening}
@@ -246,9 +246,9 @@ said_keeps a ds h only = deeds_keep ds h only
 
 -- a message is put, written, or its write fails; or a stream is closed; whether one may be an AddMatch
 abbrev pub IsPosting : Bool → Event → Type 0
-IsPosting adds (Put m expects) = Unit {0}
-IsPosting adds (Added m rule asked) = adds ≡ true
-IsPosting adds (Removed m) = Unit {0}
+IsPosting adds (Put m (OfLane expects)) = Unit {0}
+IsPosting adds (Put m (Adds rule asked)) = adds ≡ true
+IsPosting adds (Put m Removes) = Unit {0}
 IsPosting adds Wrote = Unit {0}
 IsPosting adds Fault = Unit {0}
 IsPosting adds (Did k Gone) = Unit {0}
@@ -322,9 +322,7 @@ pub record Silent (g h : List Event) : Type 0 where
   pub name_same : unique_name g ≡ unique_name h
 
 posting_silent : (e : Event) (h : List Event) → IsPosting true e → Silent (e ∷ h) h
-posting_silent (Put m expects) h is = record { read_same = refl; closing_same = refl; bus_same = refl; name_same = refl }
-posting_silent (Added m rule asked) h is = record { read_same = refl; closing_same = refl; bus_same = refl; name_same = refl }
-posting_silent (Removed m) h is = record { read_same = refl; closing_same = refl; bus_same = refl; name_same = refl }
+posting_silent (Put m purpose) h is = record { read_same = refl; closing_same = refl; bus_same = refl; name_same = refl }
 posting_silent Wrote h is = record { read_same = refl; closing_same = refl; bus_same = refl; name_same = refl }
 posting_silent Fault h is = record { read_same = refl; closing_same = refl; bus_same = refl; name_same = refl }
 posting_silent (Did k Gone) h is = record { read_same = refl; closing_same = refl; bus_same = refl; name_same = refl }

@@ -22,7 +22,7 @@ use Rattle.peer_route.specs.CallMessage.{expects, expects_reply}
 use Rattle.peer_route.specs.BusCall.{match_parcel}
 use Rattle.peer_route.specs.Bus.{fits_string, body_if, letter_about, PutsOwn}
 use Rattle.peer_route.specs.Left.{CallsView, View}
-use Rattle.peer_route.specs.Issuing.{is_deep, SomeLong}
+use Rattle.peer_route.specs.Issuing.{is_deep, IsTooLong, SomeLong}
 use Rattle.peer_route.specs.Placing.{made_call, Draws, Spends, PutsAll, issued_at, issued_from, messages_of}
 use Rattle.peer_route.proofs.BusMessages.{match_expects}
 
@@ -65,6 +65,11 @@ long_message member name rule serial unfit =
 fits_one : (member : List ℕ) (name : Option (List ℕ)) (rule : Rule) → AllFit Little 0 (data_of (match_parcel member name rule).values)
 unfolding AllFit
 fits_one member name rule = (tt, tt)
+
+-- a limit that it passes is its own
+pub rule_long : (member : List ℕ) (name : Option (List ℕ)) (rule : Rule) (serial : ℕ) → IsTooLong (match_parcel member name rule) serial → 134217728 < length (message_of (match_parcel member name rule) serial).bytes
+rule_long member name rule serial (inl unfit) = absurd (unfit (fits_one member name rule))
+rule_long member name rule serial (inr long) = long.1
 
 -- ---- serials
 

@@ -8,7 +8,7 @@ use Rattle.wire_message.specs.Front.{Seen}
 use Rattle.rule_match.specs.Rule.{Rule}
 use Rattle.peer_route.specs.declared.queue.Subscription.{Subscription}
 use Rattle.peer_route.specs.Rules.{is_same}
-use Rattle.peer_route.specs.History.{Made, Did, Added, Ruled, Asked, inner_call, edit, Stream, Phase, Asking, Denied, Since, is_denied, since_reply, phase, rule_stream, asking_stream, done_by, rule_of, plain_asks, is_of, subscribes, is_subscribed, raised, limit_then, asked_limit, rule_asks, Past, after}
+use Rattle.peer_route.specs.History.{Made, Did, Put, Adds, Ruled, Asked, inner_call, edit, Stream, Phase, Asking, Denied, Since, is_denied, since_reply, phase, rule_stream, asking_stream, done_by, rule_of, plain_asks, is_of, subscribes, is_subscribed, raised, limit_then, asked_limit, rule_asks, Past, after}
 use Rattle.peer_route.specs.Streams.{is_since, limit_of, runs, runs_at, is_open, matched, offered, held, rule_answer}
 use Rattle.peer_route.specs.Left.{Held, held_by, held_of, kept_by, kept_at, subscription, wants_by, progress_by, empty_held, asking_held, raise_held, raise_all, or_else, shared, limit_or, limit_now, with_stream, with_asking, wants_of, asked_for, main_asked, IsWithin, LeftStreams}
 use Rattle.peer_route.proofs.SameRule.{same_self, same_one}
@@ -163,19 +163,19 @@ unfolding phase
 phase_asking h m rule = ap (since_reply (inner_call h m)) (drop-length h.read)
 
 asking_new : (v : List (Option Held)) (h : Past) (m : Seen) (rule : Rule) (asked : Option ℕ) → LeftStreams v h
-    → Some (asking_held (record { rule = rule; limit = limit_now rule asked (shared rule v) }) m.serial (length h.outbox.put)) ≡ held_of (after (Added m rule asked) h).capacities.rules (after (Added m rule asked) h).read (asking_stream h m rule)
+    → Some (asking_held (record { rule = rule; limit = limit_now rule asked (shared rule v) }) m.serial (length h.outbox.put)) ≡ held_of (after (Put m (Adds rule asked)) h).capacities.rules (after (Put m (Adds rule asked)) h).read (asking_stream h m rule)
 unfolding held_of
 asking_new v h m rule asked left =
-    let g : Past = after (Added m rule asked) h in
+    let g : Past = after (Put m (Adds rule asked)) h in
     let s = asking_stream h m rule in
     ap (λ n. Some (with_limit rule n s (Asking (inner_call h m)) [])) (new_limit v g h rule asked (record { reads = refl; limits = λ r. refl }) left)
     ∙ ap (λ items. Some (shown g (Some rule) s (Asking (inner_call h m)) items)) (sym (held_same g h s refl ∙ held_nothing h s (ap is_since (phase_asking h m rule))))
     ∙ ap (λ p. Some (shown g (Some rule) s p (held g.read s))) (sym (phase_same g h s refl ∙ phase_asking h m rule))
 
 pub streams_asking : (m : Seen) (rule : Rule) (asked : Option ℕ) (v : List (Option Held)) (h : Past) → LeftStreams v h
-    → LeftStreams (with_asking rule asked m.serial (length h.outbox.put) v) (after (Added m rule asked) h)
+    → LeftStreams (with_asking rule asked m.serial (length h.outbox.put) v) (after (Put m (Adds rule asked)) h)
 streams_asking m rule asked v h left =
-    opened_all v (after (Added m rule asked) h) h rule asked _ (asking_stream h m rule) (record { reads = refl; limits = λ r. refl })
+    opened_all v (after (Put m (Adds rule asked)) h) h rule asked _ (asking_stream h m rule) (record { reads = refl; limits = λ r. refl })
     (asking_new v h m rule asked left) (within_asking h m rule) refl left
 
 -- ---- what an open stream wants

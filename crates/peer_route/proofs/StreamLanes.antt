@@ -9,7 +9,7 @@ use Rattle.peer_route.specs.declared.words.Words.{Words}
 use Rattle.peer_route.specs.declared.answer.Answer.{Answer}
 use Rattle.peer_route.specs.declared.answer.Answer.TheVariants as answers
 use Rattle.peer_route.specs.declared.answer.Entry.{Entry}
-use Rattle.peer_route.specs.History.{Event, Put, Wrote, Did, Added, Gone, done, read, writer, streams, new_stream, asking_stream, done_by, fail_stream, past, Made, Removed, Spent, Main, Fault}
+use Rattle.peer_route.specs.History.{Event, Put, OfLane, Wrote, Did, Adds, Gone, done, read, writer, streams, new_stream, asking_stream, done_by, fail_stream, past, Made, Removes, Spent, Main, Fault}
 use Rattle.peer_route.specs.Parcel.{Setting}
 use Rattle.peer_route.specs.BusCall.{add_message}
 use Rattle.peer_route.specs.Trail.{next_serial, or_zero}
@@ -41,20 +41,20 @@ said_made lane a ds h only = deeds_made lane ds h only
 -- messages that are no AddMatch make none
 postings_make : (es h : List Event) → ArePostings false es → length (streams (es ++ h)) ≡ length (streams h)
 postings_make [] h all = refl
-postings_make (Put m expects ∷ es) h all = postings_make es h all.1
-postings_make (Removed m ∷ es) h all = postings_make es h all.1
+postings_make (Put m (OfLane expects) ∷ es) h all = postings_make es h all.1
+postings_make (Put m Removes ∷ es) h all = postings_make es h all.1
 postings_make (Wrote ∷ es) h all = postings_make es h all.1
 postings_make (Fault ∷ es) h all = length-map (streams (es ++ h)) (fail_stream (read (es ++ h)) (done (es ++ h))) ∙ postings_make es h all.1
 postings_make (Did k Gone ∷ es) h all = edit-length k (done_by Gone) (streams (es ++ h)) ∙ postings_make es h all.1
-postings_make (Added m rule asked ∷ es) h all = let q : false ≡ true = all.0 in cc
+postings_make (Put m (Adds rule asked) ∷ es) h all = let q : false ≡ true = all.0 in cc
 postings_make (e ∷ es) h all = absurd all.0
 
 -- an AddMatch whose own write failed has a stream, which is nobody's
 failed_made : (w : Writer) (m : Seen) (rule : Rule) (asked : Option ℕ) (h : List Event)
-    → length (streams (failed_put w (Added m rule asked) ++ h)) ≡ length (failed_name w true) + length (streams h)
+    → length (streams (failed_put w (Put m (Adds rule asked)) ++ h)) ≡ length (failed_name w true) + length (streams h)
 failed_made writers.Fine m rule asked h =
     let one = length-append (streams h) (asking_stream (past h) m rule ∷ []) in
-    length-map (streams (Added m rule asked ∷ h)) (fail_stream (read (Added m rule asked ∷ h)) (done h)) ∙ omega (arith, one)
+    length-map (streams (Put m (Adds rule asked) ∷ h)) (fail_stream (read (Put m (Adds rule asked) ∷ h)) (done h)) ∙ omega (arith, one)
 failed_made writers.Failed m rule asked h = omega arith
 failed_made writers.Closed m rule asked h = omega arith
 

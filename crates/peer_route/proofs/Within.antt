@@ -7,7 +7,7 @@ use Rattle.peer_route.specs.declared.words.Words.{Words}
 use Rattle.peer_route.specs.declared.words.Words.TheVariants as words
 use Rattle.peer_route.specs.declared.answer.Answer.{Answer}
 use Rattle.peer_route.specs.declared.answer.Entry.{Entry}
-use Rattle.peer_route.specs.History.{Event, Took, Fault, Made, Did, Added, Making, Plain, Ruled, Cloned, Deed, Gave, Told, Gone, Asked, Opened, done, edit, closing, Stream, streams, phase, clone_of, new_stream, asking_stream, fail_stream, give, done_by, past, read}
+use Rattle.peer_route.specs.History.{Event, Took, Fault, Made, Did, Put, Adds, Making, Plain, Ruled, Cloned, Deed, Gave, Told, Gone, Asked, Opened, done, edit, closing, Stream, streams, phase, clone_of, new_stream, asking_stream, fail_stream, give, done_by, past, read}
 use Rattle.peer_route.specs.Streams.{matched, held}
 use Rattle.peer_route.specs.Left.{IsWithin}
 use Rattle.peer_route.specs.Parcel.{Setting}
@@ -75,7 +75,7 @@ within_events (Did j deed ∷ xs) h only w =
     let g = xs ++ h in
     (within_edit g j j deed (streams g) only.0 (within_events xs h only.1 w))
 within_events (Fault ∷ xs) h only w = within_failed (xs ++ h) (done (xs ++ h)) (streams (xs ++ h)) (within_events xs h only w)
-within_events (Added m rule asked ∷ xs) h only w =
+within_events (Put m (Adds rule asked) ∷ xs) h only w =
     let g = xs ++ h in
     let rest = within_events xs h only w in
     (within_push (past g) (streams g) (asking_stream (past g) m rule) rest (within_asking (past g) m rule))

@@ -6,7 +6,7 @@ use Rattle.peer_route.specs.declared.answer.Answer.TheVariants as answers
 use Rattle.peer_route.specs.declared.answer.Entry.{Entry}
 use Rattle.peer_route.specs.declared.writer.Writer.{Writer}
 use Rattle.peer_route.specs.declared.writer.Writer.TheVariants as writers
-use Rattle.peer_route.specs.History.{Event, Wrote, Did, Gone, Put, Added, writer, written, past}
+use Rattle.peer_route.specs.History.{Event, Wrote, Did, Gone, Put, OfLane, Adds, writer, written, past}
 use Rattle.peer_route.specs.Streams.{leaving, gone_then}
 use Rattle.peer_route.specs.Parcel.{Setting, Asked, message_of}
 use Rattle.peer_route.specs.CallMessage.{expects}
@@ -29,13 +29,13 @@ failed_written writers.Closed put h same = sym (add-zero (written h))
 pub send_written : (h : List Event) (asked : Asked) (a : Answer) → written (send_events h asked a ++ h) ≡ written h + length (sent_of asked a)
 send_written h (Ok parcel) (answers.Called call serial) = refl
 send_written h (Ok parcel) (answers.Sent serial) = refl
-send_written h (Ok parcel) (answers.SendFailed error) = failed_written (writer h) (Put (message_of parcel (or_zero (next_serial h))) (expects (Ok parcel))) h refl
+send_written h (Ok parcel) (answers.SendFailed error) = failed_written (writer h) (Put (message_of parcel (or_zero (next_serial h))) (OfLane (expects (Ok parcel)))) h refl
 send_written h (Ok parcel) a = sym (add-zero (written h))
 send_written h (Err error) a = sym (add-zero (written h))
 
 add_written : (h : List Event) (rule : Rule) (asked : Option ℕ) (a : Answer) → written (add_events h rule asked a ++ h) ≡ written h + length (asked_by h rule a)
 add_written h rule asked (answers.Opening number serial) = refl
-add_written h rule asked (answers.SendFailed error) = failed_written (writer h) (Added (add_message (past h) rule (or_zero (next_serial h))) rule asked) h refl
+add_written h rule asked (answers.SendFailed error) = failed_written (writer h) (Put (add_message (past h) rule (or_zero (next_serial h))) (Adds rule asked)) h refl
 add_written h rule asked a = sym (add-zero (written h))
 
 -- ---- those that tell the bus

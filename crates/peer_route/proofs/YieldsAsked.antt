@@ -9,7 +9,7 @@ use Rattle.peer_route.specs.declared.words.Words.TheVariants as words
 use Rattle.peer_route.specs.declared.answer.Answer.{Answer}
 use Rattle.peer_route.specs.declared.answer.Answer.TheVariants as answers
 use Rattle.peer_route.specs.declared.answer.Entry.{Entry}
-use Rattle.peer_route.specs.History.{Event, Took, Shut, Put, Wrote, Fault, Spent, Made, Did, Main, OnBus, Added, Removed, Named, Gave, Call, inner_call, bears, read, unique_name, Stream, OnReturn, Denied, Since, is_return, since_reply, phase_by, phase, streams, asking_stream, give, past}
+use Rattle.peer_route.specs.History.{Event, Took, Shut, Put, Wrote, Fault, Spent, Made, Did, Main, OnBus, Adds, Named, Gave, Call, inner_call, bears, read, unique_name, Stream, OnReturn, Denied, Since, is_return, since_reply, phase_by, phase, streams, asking_stream, give, past}
 use Rattle.peer_route.specs.Streams.{since_in, accepted, matched, held}
 use Rattle.peer_route.specs.Left.{start_count}
 use Rattle.peer_route.specs.Parcel.{Setting}
@@ -85,7 +85,7 @@ asked_along : (rule : Rule) (add : Call) (xs h : List Event) (s : Stream) (given
 asked_along rule add [] h s given r = r
 asked_along rule add (Took m ∷ xs) h s given r = asked_took rule add m (xs ++ h) s given (asked_along rule add xs h s given r)
 asked_along rule add (Shut error ∷ xs) h s given r = asked_quiet rule add (Shut error ∷ xs ++ h) (xs ++ h) s given refl (asked_along rule add xs h s given r)
-asked_along rule add (Put m expects ∷ xs) h s given r = asked_quiet rule add (Put m expects ∷ xs ++ h) (xs ++ h) s given refl (asked_along rule add xs h s given r)
+asked_along rule add (Put m purpose ∷ xs) h s given r = asked_quiet rule add (Put m purpose ∷ xs ++ h) (xs ++ h) s given refl (asked_along rule add xs h s given r)
 asked_along rule add (Wrote ∷ xs) h s given r = asked_quiet rule add (Wrote ∷ xs ++ h) (xs ++ h) s given refl (asked_along rule add xs h s given r)
 asked_along rule add (Fault ∷ xs) h s given r = asked_quiet rule add (Fault ∷ xs ++ h) (xs ++ h) s given refl (asked_along rule add xs h s given r)
 asked_along rule add (Spent call ∷ xs) h s given r = asked_quiet rule add (Spent call ∷ xs ++ h) (xs ++ h) s given refl (asked_along rule add xs h s given r)
@@ -93,8 +93,6 @@ asked_along rule add (Made making ∷ xs) h s given r = asked_quiet rule add (Ma
 asked_along rule add (Did j deed ∷ xs) h s given r = asked_quiet rule add (Did j deed ∷ xs ++ h) (xs ++ h) s given refl (asked_along rule add xs h s given r)
 asked_along rule add (Main limit ∷ xs) h s given r = asked_quiet rule add (Main limit ∷ xs ++ h) (xs ++ h) s given refl (asked_along rule add xs h s given r)
 asked_along rule add (OnBus ∷ xs) h s given r = asked_quiet rule add (OnBus ∷ xs ++ h) (xs ++ h) s given refl (asked_along rule add xs h s given r)
-asked_along rule add (Added m of asked ∷ xs) h s given r = asked_quiet rule add (Added m of asked ∷ xs ++ h) (xs ++ h) s given refl (asked_along rule add xs h s given r)
-asked_along rule add (Removed m ∷ xs) h s given r = asked_quiet rule add (Removed m ∷ xs ++ h) (xs ++ h) s given refl (asked_along rule add xs h s given r)
 asked_along rule add (Named name ∷ xs) h s given r = asked_quiet rule add (Named name ∷ xs ++ h) (xs ++ h) s given refl (asked_along rule add xs h s given r)
 
 asked_same : (rule : Rule) (add : Call) (h : List Event) (s : Stream) (given : List ℕ) (a b c : Bool) → Asked rule add h s given
@@ -139,7 +137,7 @@ made_asking t lane rule asked p a number serial (Asks means is) e =
 made_asking t lane rule asked p a number serial (Fails error is) e = let q : answers.SendFailed error ≡ answers.Opening number serial = sym is ∙ e in cc
 
 flow_asked : (t : Trail) (lane number : ℕ) (m : Seen) (rule : Rule) (asked : Option ℕ) → length t.streams ≡ length (streams t.events) → count lane t.streams ≡ number
-    → Flow (Asked rule (inner_call (past t.events) m)) (t.streams ++ Some lane ∷ []) (Wrote ∷ Added m rule asked ∷ t.events) lane number []
+    → Flow (Asked rule (inner_call (past t.events) m)) (t.streams ++ Some lane ∷ []) (Wrote ∷ Put m (Adds rule asked) ∷ t.events) lane number []
 flow_asked t lane number m rule asked e is =
     let h = t.events in
     let s = asking_stream (past h) m rule in

@@ -1,8 +1,7 @@
 -- What a peer asks of the bus for its streams, and what opening a stream of a rule gives (D-Bus Specification, "Message Bus
 -- Messages", `org.freedesktop.DBus.AddMatch` and `org.freedesktop.DBus.RemoveMatch`).
-use Rattle.std.specs.Prelude.{ℕ, ⊤, ◌≡◌, ◌+◌, ◌<◌, ◌≤◌, nat_le, Bool, true, false, List, [], ◌∷◌, length, map, Option, Some, None, IsSome, Result, Ok, Err}
+use Rattle.std.specs.Prelude.{ℕ, ⊤, ◌≡◌, ◌+◌, nat_le, Bool, true, false, List, [], ◌∷◌, length, map, Option, Some, None, IsSome, Result, Ok, Err}
 use Rattle.wire_tree.specs.Datum.{Datum, text, string}
-use Rattle.wire_message.specs.Circle.{IsNext, AllTaken}
 use Rattle.wire_message.specs.declared.error.Error.{Error}
 use Rattle.wire_message.specs.declared.error.Error.TheVariants as errors
 use Rattle.wire_message.specs.declared.error.IoKind.TheVariants as kinds
@@ -16,44 +15,44 @@ use Rattle.peer_route.specs.declared.opening.Opened.TheVariants as opened
 use Rattle.peer_route.specs.declared.progress.OpenState.{OpenState}
 use Rattle.peer_route.specs.declared.progress.OpenState.TheVariants as states
 use Rattle.peer_route.specs.Parcel.{Parcel, message_of, sent_by}
-use Rattle.peer_route.specs.History.{Made, Ruled, Added, Past, after}
-use Rattle.peer_route.specs.Calls.{pending, in_flight}
+use Rattle.peer_route.specs.History.{Made, Ruled, Adds, Past, after}
+use Rattle.peer_route.specs.Calls.{in_flight}
 use Rattle.peer_route.specs.Streams.{asks_bus}
 use Rattle.peer_route.specs.declared.opening.Opening.{Opening}
 use Rattle.peer_route.specs.declared.opening.RuleCall.{RuleCall}
 use Rattle.peer_route.specs.declared.route.Issued.{Issued}
-use Rattle.peer_route.specs.BusCall.{bus_draft, add_parcel, add_message}
-use Rattle.peer_route.specs.Issuing.{IsShort}
+use Rattle.peer_route.specs.BusCall.{bus_draft, add_parcel}
+use Rattle.peer_route.specs.Issuing.{IsShort, Posting, Issues}
 use Rattle.peer_route.specs.Left.{View, with_asking, Left}
 use Rattle.peer_route.specs.Placing.{Draws, Spends, with_messages, PutsAll}
 
--- The stream is open at once; or AddMatch was put, and it waits for the return.
-abbrev pub IsOpened : View → Rule → Option ℕ → Past → Opens → Type 0
-IsOpened new rule asked h (opens.Open stream) =
-    (asks_bus h rule ≡ false) × (stream.number ≡ length h.streams) × Left new (after (Made (Ruled rule asked)) h)
-IsOpened new rule asked h (opens.Opening o) =
-    (asks_bus h rule ≡ true) × (h.outbox.writer ≡ writers.Fine) × IsNext (pending h) h.outbox.last o.serial
-    × (length (add_message h rule o.serial).bytes ≤ 134217728)
-    × (o.number ≡ length h.streams) × (o.index ≡ length h.outbox.put) × Left new (after (Added (add_message h rule o.serial) rule asked) h)
+-- AddMatch of a rule, for whose stream this capacity is asked, if one is
+abbrev pub asking_of : Past → Rule → Option ℕ → Posting
+asking_of h rule asked = record { parcel = add_parcel h.name rule; purpose = Adds rule asked }
 
--- nothing was opened: the peer is open, nothing of its own is on its way, and the bus would have to be asked
-abbrev pub WouldAsk : Past → Rule → Type 0
-WouldAsk h rule = (h.closing ≡ None) × (in_flight h ≡ false) × (asks_bus h rule ≡ true)
+-- a stream that is open at once
+abbrev pub OpensNow : View → View → Rule → Option ℕ → Past → Result Opens Error → Type 0
+OpensNow old new rule asked h (Ok (opens.Open stream)) = (stream.number ≡ length h.streams) × Left new (after (Made (Ruled rule asked)) h)
+OpensNow old new rule asked h (Err errors.Memory) = new ≡ old
+OpensNow old new rule asked h result = ⊥
 
--- What opening a stream of this rule gives. An error changes nothing.
+-- what is told of a stream for which AddMatch was put: its number among the streams, and the message's place and serial
+abbrev pub IsOpening : Past → Opens → List ℕ → Type 0
+IsOpening h (opens.Opening o) serials = (serials ≡ o.serial ∷ []) × (o.number ≡ length h.streams) × (o.index ≡ length h.outbox.put)
+IsOpening h (opens.Open stream) serials = ⊥
+
+-- The bus has to be asked, by an AddMatch for whose return the stream waits; or the stream is open at once.
+abbrev pub OpensBy : Bool → View → View → Rule → Option ℕ → Past → Result Opens Error → Type 0
+OpensBy true old new rule asked h result = Issues (IsOpening h) (new ≡ old) new (asking_of h rule asked ∷ []) h result
+OpensBy false old new rule asked h result = OpensNow old new rule asked h result
+
+-- What opening a stream of this rule gives: a closed peer opens none, and while an AddMatch or a RemoveMatch of the peer is on its
+-- way it is busy. An error changes nothing.
 abbrev pub OpensRule : View → View → Rule → Option ℕ → Past → Result Opens Error → Type 0
-OpensRule old new rule asked h (Ok o) = (h.closing ≡ None) × (in_flight h ≡ false) × IsOpened new rule asked h o
 OpensRule old new rule asked h (Err (errors.InputOutput kinds.Closed)) = IsSome h.closing × (new ≡ old)
 OpensRule old new rule asked h (Err errors.Busy) = (h.closing ≡ None) × (in_flight h ≡ true) × (new ≡ old)
-OpensRule old new rule asked h (Err errors.SerialsSpent) = WouldAsk h rule × AllTaken (pending h) × (new ≡ old)
-OpensRule old new rule asked h (Err errors.ExcessData) =
-    WouldAsk h rule × ((serial : ℕ) × IsNext (pending h) h.outbox.last serial × (134217728 < length (add_message h rule serial).bytes)) × (new ≡ old)
-OpensRule old new rule asked h (Err (errors.InputOutput kinds.WriteFault)) =
-    WouldAsk h rule
-    × ((serial : ℕ) × IsNext (pending h) h.outbox.last serial × (length (add_message h rule serial).bytes ≤ 134217728))
-    × (h.outbox.writer ≡ writers.Failed) × (new ≡ old)
 OpensRule old new rule asked h (Err errors.Memory) = new ≡ old
-OpensRule old new rule asked h (Err error) = ⊥
+OpensRule old new rule asked h result = (h.closing ≡ None) × (in_flight h ≡ false) × OpensBy (asks_bus h rule) old new rule asked h result
 
 -- The AddMatch waits at the end of the outbox; no write failed, nor was the peer closed.
 abbrev pub AsksNow : View → View → Result Opens Error → Type 0

@@ -12,7 +12,7 @@ use Rattle.peer_route.specs.declared.writer.Writer.TheVariants as writers
 use Rattle.peer_route.specs.Parcel.{Setting, Asked, message_of}
 use Rattle.peer_route.specs.CallMessage.{expects}
 use Rattle.peer_route.specs.BusCall.{add_message, remove_message}
-use Rattle.peer_route.specs.History.{Event, Took, Shut, Put, Wrote, Fault, Made, Did, Gone, Main, OnBus, Added, Removed, Named, writer, past}
+use Rattle.peer_route.specs.History.{Event, Took, Shut, Put, OfLane, Wrote, Fault, Made, Did, Gone, Main, OnBus, Adds, Removes, Named, writer, past}
 use Rattle.peer_route.specs.Streams.{leaving, gone_then}
 use Rattle.peer_route.specs.Trail.{Trail, Names, next_serial, or_zero, given}
 use Rattle.peer_route.specs.Plan.{Plan, Says, Sends, Adds, Leaves, Reads, Closes, plan}
@@ -32,22 +32,22 @@ failed_put other put = []
 
 -- a message that went out, with a call that waits for its reply or without one; or one that didn't
 abbrev pub send_events : List Event → Asked → Answer → List Event
-send_events h (Ok parcel) (answers.Called call serial) = Wrote ∷ Put (message_of parcel serial) true ∷ []
-send_events h (Ok parcel) (answers.Sent serial) = Wrote ∷ Put (message_of parcel serial) false ∷ []
+send_events h (Ok parcel) (answers.Called call serial) = Wrote ∷ Put (message_of parcel serial) (OfLane true) ∷ []
+send_events h (Ok parcel) (answers.Sent serial) = Wrote ∷ Put (message_of parcel serial) (OfLane false) ∷ []
 send_events h (Ok parcel) (answers.SendFailed error) =
-    failed_put (writer h) (Put (message_of parcel (or_zero (next_serial h))) (expects (Ok parcel)))
+    failed_put (writer h) (Put (message_of parcel (or_zero (next_serial h))) (OfLane (expects (Ok parcel))))
 send_events h other answer = []
 
 -- AddMatch went out, or didn't
 abbrev pub add_events : List Event → Rule → Option ℕ → Answer → List Event
-add_events h rule asked (answers.Opening number serial) = Wrote ∷ Added (add_message (past h) rule serial) rule asked ∷ []
+add_events h rule asked (answers.Opening number serial) = Wrote ∷ Put (add_message (past h) rule serial) (Adds rule asked) ∷ []
 add_events h rule asked (answers.SendFailed error) =
-    failed_put (writer h) (Added (add_message (past h) rule (or_zero (next_serial h))) rule asked)
+    failed_put (writer h) (Put (add_message (past h) rule (or_zero (next_serial h))) (Adds rule asked))
 add_events h rule asked answer = []
 
 -- the bus is told of a rule, by the next serial
 abbrev pub removal : List Event → Rule → Event
-removal h rule = Removed (remove_message (past h) rule (or_zero (next_serial h)))
+removal h rule = Put (remove_message (past h) rule (or_zero (next_serial h))) Removes
 
 -- and of each of these, in order; newest first
 abbrev pub removals : List Event → List Rule → List Event

@@ -30,10 +30,16 @@ pub data Deed : Type 0 where
   Asked : (limit : ℕ) → Deed  -- it asked for this capacity
   Opened : Deed  -- who asked for it was told that it is open
 
+-- why a message is put
+pub data Purpose : Type 0 where
+  OfLane : (waits : Bool) → Purpose  -- for a lane, whose call waits for the reply or doesn't
+  Adds : (rule : Rule) (asked : Option ℕ) → Purpose  -- the peer's own AddMatch: a stream of the rule is made that waits for its return; the capacity that was asked for, if one was
+  Removes : Purpose  -- the peer's own RemoveMatch
+
 pub data Event : Type 0 where
   Took : (m : Seen) → Event  -- a read took the message
   Shut : (error : Error) → Event  -- a read ended the peer's messages, or it was closed
-  Put : (m : Seen) (expects : Bool) → Event  -- a message was put in the outbox; whether it expects a reply
+  Put : (m : Seen) (purpose : Purpose) → Event  -- a message was put in the outbox, and why
   Wrote : Event  -- the first message that isn't done was written
   Fault : Event  -- its write failed
   Spent : (call : ℕ) → Event  -- the call's answer was given, or it was dropped
@@ -41,8 +47,6 @@ pub data Event : Type 0 where
   Did : (stream : ℕ) (deed : Deed) → Event  -- the stream with this number did it
   Main : (limit : ℕ) → Event  -- the main capacity was set
   OnBus : Event  -- the peer stands on a message bus
-  Added : (m : Seen) (rule : Rule) (asked : Option ℕ) → Event  -- AddMatch was put, and a stream of the rule made that waits for its return
-  Removed : (m : Seen) → Event  -- RemoveMatch was put
   Named : (name : List ℕ) → Event  -- the peer was given its unique name
 
 -- ---- a call, a stream, the outbox
@@ -184,14 +188,9 @@ abbrev pub shuts : Error → Writer
 shuts (errors.InputOutput kind) = shuts_by kind
 shuts error = writers.Fine
 
-abbrev pub put_in : Seen → Outbox → Outbox
-put_in m o = record o { put = o.put ++ m ∷ []; last = m.serial }
-
 -- the outbox once the event happened: a message stands at its end, the first that wasn't done is written or fails, or the peer is shut
 abbrev pub outbox_after : Event → Outbox → Outbox
-outbox_after (Put m expects) o = put_in m o
-outbox_after (Added m rule asked) o = put_in m o
-outbox_after (Removed m) o = put_in m o
+outbox_after (Put m purpose) o = record o { put = o.put ++ m ∷ []; last = m.serial }
 outbox_after Wrote o = record o { written = o.written + 1; done = o.done + 1 }
 outbox_after Fault o = record o { done = o.done + 1; failed = true; writer = worse o.writer writers.Failed }
 outbox_after (Shut error) o = record o { writer = worse o.writer (shuts error) }
@@ -220,11 +219,14 @@ spend c = record c { spent = true }
 abbrev pub fail_at : ℕ → Call → Call
 fail_at index c = record c { failed = c.failed || (c.index == index) }
 
+-- a message's call, where it makes one: a lane's that waits, or the peer's own
+abbrev pub calls_put : Past → Seen → Purpose → List Call → List Call
+calls_put p m (OfLane waits) cs = if waits then cs ++ new_call p m ∷ [] else cs
+calls_put p m purpose cs = cs ++ inner_call p m ∷ []
+
 -- the calls once the event happened: one more, one that is over, or those that failed with the message of a failed write
 abbrev pub calls_after : Past → Event → List Call → List Call
-calls_after p (Put m expects) cs = if expects then cs ++ new_call p m ∷ [] else cs
-calls_after p (Added m rule asked) cs = cs ++ inner_call p m ∷ []
-calls_after p (Removed m) cs = cs ++ inner_call p m ∷ []
+calls_after p (Put m purpose) cs = calls_put p m purpose cs
 calls_after p (Spent k) cs = edit k spend cs
 calls_after p Fault cs = map (fail_at p.outbox.done) cs
 calls_after p e cs = cs
@@ -296,7 +298,7 @@ fail_stream ms index s = record s { gone = s.gone || asks_by index (phase ms s) 
 -- the streams once the event happened: one more, one that did something, or those that are gone with their AddMatch's failed write
 abbrev pub streams_after : Past → Event → List Stream → List Stream
 streams_after p (Made making) ss = ss ++ new_stream p ss making ∷ []
-streams_after p (Added m rule asked) ss = ss ++ asking_stream p m rule ∷ []
+streams_after p (Put m (Adds rule asked)) ss = ss ++ asking_stream p m rule ∷ []
 streams_after p (Did t deed) ss = edit t (done_by deed) ss
 streams_after p Fault ss = map (fail_stream p.read p.outbox.done) ss
 streams_after p e ss = ss
@@ -356,7 +358,7 @@ rule_asks rule of limit n = if is_of rule of then max limit n else limit
 abbrev pub capacities_after : Past → Event → Capacities → Capacities
 capacities_after p (Main limit) c = record c { main = limit }
 capacities_after p (Made making) c = record c { rules = λ rule. made_limit p rule making (c.rules rule) }
-capacities_after p (Added m r asked) c = record c { rules = λ rule. asked_limit p rule r asked (c.rules rule) }
+capacities_after p (Put m (Adds r asked)) c = record c { rules = λ rule. asked_limit p rule r asked (c.rules rule) }
 capacities_after p (Did t (Asked n)) c = record { main = plain_asks (slice_get p.streams t) c.main n; rules = λ rule. rule_asks rule (rule_of (slice_get p.streams t)) (c.rules rule) n }
 capacities_after p e c = c
 

@@ -1,6 +1,6 @@
--- What sending the messages of one command gives: all of them are put in the outbox, in order, or none (D-Bus Specification,
--- "Message Format", "Message Protocol").
-use Rattle.std.specs.Prelude.{ℕ, ⊤, ◌≡◌, ◌+◌, ◌<◌, ◌≤◌, ◌⊎◌, nat_lt, Bool, true, false, List, [], ◌∷◌, length, Option, Some, None, Result, Ok, Err}
+-- What putting messages gives: all of them are put in the outbox, in order, or none (D-Bus Specification, "Message Format",
+-- "Message Protocol").
+use Rattle.std.specs.Prelude.{ℕ, ⊤, ◌≡◌, ◌+◌, ◌<◌, ◌≤◌, ◌⊎◌, nat_lt, Bool, true, false, List, [], ◌∷◌, length, map, Option, Some, None, Result, Ok, Err}
 use Rattle.std.specs.List.{list_any}
 use Rattle.wire_tree.specs.Datum.{data_of}
 use Rattle.wire_spelling.specs.Spelling.{AllFit, depths}
@@ -13,7 +13,7 @@ use Rattle.peer_route.specs.declared.route.Issued.{Issued}
 use Rattle.peer_route.specs.declared.writer.Writer.TheVariants as writers
 use Rattle.peer_route.specs.Parcel.{Parcel, message_of}
 use Rattle.peer_route.specs.CallMessage.{expects}
-use Rattle.peer_route.specs.History.{Event, Put, Past, after}
+use Rattle.peer_route.specs.History.{Event, Purpose, Put, OfLane, Past, after}
 use Rattle.peer_route.specs.Calls.{pending}
 use Rattle.peer_route.specs.Left.{View, Left}
 
@@ -33,9 +33,18 @@ IsTooLong parcel serial =
     (AllFit parcel.draft.order 0 (data_of parcel.values) → ⊥)
     ⊎ (AllFit parcel.draft.order 0 (data_of parcel.values) × (134217728 < length (message_of parcel serial).bytes))
 
--- the message with this serial as it is put; whether it waits for a reply
-abbrev pub put_of : Parcel → ℕ → Event
-put_of parcel serial = Put (message_of parcel serial) (expects (Ok parcel))
+-- a message to be put, and why
+pub record Posting : Type 0 where
+  pub parcel : Parcel
+  pub purpose : Purpose
+
+-- for a lane, whose call waits where a reply is expected
+abbrev pub of_lane : Parcel → Posting
+of_lane parcel = record { parcel = parcel; purpose = OfLane (expects (Ok parcel)) }
+
+-- it is put with this serial
+abbrev pub put_of : Posting → ℕ → Event
+put_of d serial = Put (message_of d.parcel serial) d.purpose
 
 -- the number of the call that a message makes, if it expects a reply
 abbrev pub call_number : Bool → ℕ → Option ℕ
@@ -43,35 +52,43 @@ call_number true number = Some number
 call_number false number = None
 
 -- what is answered of a message that is put: its place in the outbox, its serial, its call's number
-abbrev pub issued_of : Past → Parcel → ℕ → Issued
-issued_of h parcel serial = record { index = length h.outbox.put; serial = serial; call = call_number (expects (Ok parcel)) (length h.calls) }
+abbrev pub issued_of : Past → Posting → ℕ → Issued
+issued_of h d serial = record { index = length h.outbox.put; serial = serial; call = call_number (expects (Ok d.parcel)) (length h.calls) }
 
--- ---- the messages of a command
+-- ---- several messages
+
+-- a value of some message opens too many containers at once
+abbrev pub are_deep : List Posting → Bool
+are_deep ds = list_any (λ d. is_deep d.parcel) ds
 
 -- The serials that messages draw, one after another: each is the next once those before it were put.
-abbrev pub AreDrawn : Past → List Parcel → List ℕ → Type 0
+abbrev pub AreDrawn : Past → List Posting → List ℕ → Type 0
 AreDrawn h [] [] = ⊤
-AreDrawn h (p ∷ ps) (serial ∷ serials) = IsNext (pending h) h.outbox.last serial × AreDrawn (after (put_of p serial) h) ps serials
+AreDrawn h (d ∷ ds) (serial ∷ serials) = IsNext (pending h) h.outbox.last serial × AreDrawn (after (put_of d serial) h) ds serials
 AreDrawn h [] (serial ∷ serials) = ⊥
-AreDrawn h (p ∷ ps) [] = ⊥
+AreDrawn h (d ∷ ds) [] = ⊥
 
 -- Some message finds no serial: each is pending once those before it were put.
-abbrev pub RunsOut : Past → List Parcel → Type 0
+abbrev pub RunsOut : Past → List Posting → Type 0
 RunsOut h [] = ⊥
-RunsOut h (p ∷ ps) =
-    AllTaken (pending h) ⊎ ((serial : ℕ) × IsNext (pending h) h.outbox.last serial × RunsOut (after (put_of p serial) h) ps)
+RunsOut h (d ∷ ds) =
+    AllTaken (pending h) ⊎ ((serial : ℕ) × IsNext (pending h) h.outbox.last serial × RunsOut (after (put_of d serial) h) ds)
 
 -- the past once they were put, in order
-abbrev pub put_each : List Parcel → List ℕ → Past → Past
+abbrev pub put_each : List Posting → List ℕ → Past → Past
 put_each [] serials h = h
-put_each (p ∷ ps) [] h = h
-put_each (p ∷ ps) (serial ∷ serials) h = put_each ps serials (after (put_of p serial) h)
+put_each (d ∷ ds) [] h = h
+put_each (d ∷ ds) (serial ∷ serials) h = put_each ds serials (after (put_of d serial) h)
 
 -- what is answered of each
-abbrev pub issued_each : Past → List Parcel → List ℕ → List Issued
+abbrev pub issued_each : Past → List Posting → List ℕ → List Issued
 issued_each h [] serials = []
-issued_each h (p ∷ ps) [] = []
-issued_each h (p ∷ ps) (serial ∷ serials) = issued_of h p serial ∷ issued_each (after (put_of p serial) h) ps serials
+issued_each h (d ∷ ds) [] = []
+issued_each h (d ∷ ds) (serial ∷ serials) = issued_of h d serial ∷ issued_each (after (put_of d serial) h) ds serials
+
+-- the messages without their purposes
+abbrev pub parcels : List Posting → List Parcel
+parcels ds = map (λ d. d.parcel) ds
 
 -- each message is within its limits
 abbrev pub AreShort : List Parcel → List ℕ → Type 0
@@ -86,32 +103,35 @@ SomeLong (p ∷ ps) [] = ⊥
 SomeLong (p ∷ ps) (serial ∷ serials) = IsTooLong p serial ⊎ SomeLong ps serials
 
 -- There is a serial for each message, and each is within its limits.
-abbrev pub AreReady : Past → List Parcel → Type 0
-AreReady h ps = (serials : List ℕ) × AreDrawn h ps serials × AreShort ps serials
+abbrev pub AreReady : Past → List Posting → Type 0
+AreReady h ds = (serials : List ℕ) × AreDrawn h ds serials × AreShort (parcels ds) serials
 
--- What issuing the messages of a command gives, by the past before it: all are put, in order, or none, and then nothing
--- changes. What refuses them is asked for all of them before the next is.
-abbrev pub IssuesAll : {A : Type 0} → (A → List Issued) → View → View → List Parcel → Past → Result A Error → Type 0
-IssuesAll items old new ps h (Ok issued) =
-    (list_any is_deep ps ≡ false)
-    × ((serials : List ℕ) × AreDrawn h ps serials × AreShort ps serials
-    × (items issued ≡ issued_each h ps serials) × Left new (put_each ps serials h))
+-- What putting messages gives, by the past before it: all are put, in order, and the answer tells their serials; or none. What
+-- refuses them is asked for all of them before the next is; `stays` is what an error leaves.
+abbrev pub Issues : {A : Type 0} → (A → List ℕ → Type 0) → Type 0 → View → List Posting → Past → Result A Error → Type 0
+Issues tells stays new ds h (Ok answer) =
+    (are_deep ds ≡ false)
+    × ((serials : List ℕ) × AreDrawn h ds serials × AreShort (parcels ds) serials × tells answer serials × Left new (put_each ds serials h))
     × (h.outbox.writer ≡ writers.Fine)
 -- a value of some message opens too many containers at once
-IssuesAll items old new ps h (Err (errors.Variant faults.Depth)) = (list_any is_deep ps ≡ true) × (new ≡ old)
+Issues tells stays new ds h (Err (errors.Variant faults.Depth)) = (are_deep ds ≡ true) × stays
 -- else, some message finds each serial pending
-IssuesAll items old new ps h (Err errors.SerialsSpent) = (list_any is_deep ps ≡ false) × RunsOut h ps × (new ≡ old)
+Issues tells stays new ds h (Err errors.SerialsSpent) = (are_deep ds ≡ false) × RunsOut h ds × stays
 -- else, an array or a message would pass its limit
-IssuesAll items old new ps h (Err errors.ExcessData) =
-    (list_any is_deep ps ≡ false) × ((serials : List ℕ) × AreDrawn h ps serials × SomeLong ps serials) × (new ≡ old)
+Issues tells stays new ds h (Err errors.ExcessData) =
+    (are_deep ds ≡ false) × ((serials : List ℕ) × AreDrawn h ds serials × SomeLong (parcels ds) serials) × stays
 -- else, an earlier write failed
-IssuesAll items old new ps h (Err (errors.InputOutput kinds.WriteFault)) =
-    (list_any is_deep ps ≡ false) × AreReady h ps × (h.outbox.writer ≡ writers.Failed) × (new ≡ old)
+Issues tells stays new ds h (Err (errors.InputOutput kinds.WriteFault)) =
+    (are_deep ds ≡ false) × AreReady h ds × (h.outbox.writer ≡ writers.Failed) × stays
 -- else, the peer was closed before
-IssuesAll items old new ps h (Err (errors.InputOutput kinds.Closed)) =
-    (list_any is_deep ps ≡ false) × AreReady h ps × (h.outbox.writer ≡ writers.Closed) × (new ≡ old)
-IssuesAll items old new ps h (Err errors.Memory) = new ≡ old
-IssuesAll items old new ps h (Err error) = ⊥
+Issues tells stays new ds h (Err (errors.InputOutput kinds.Closed)) =
+    (are_deep ds ≡ false) × AreReady h ds × (h.outbox.writer ≡ writers.Closed) × stays
+Issues tells stays new ds h (Err errors.Memory) = stays
+Issues tells stays new ds h (Err error) = ⊥
+
+-- What issuing the messages of a lane's command gives: for each its place, its serial and its call. An error changes nothing.
+abbrev pub IssuesAll : {A : Type 0} → (A → List Issued) → View → View → List Parcel → Past → Result A Error → Type 0
+IssuesAll items old new ps h r = Issues (λ issued serials. items issued ≡ issued_each h (map of_lane ps) serials) (new ≡ old) new (map of_lane ps) h r
 
 -- the places of messages that stand one behind the other, from this one on
 abbrev pub AreInOrder : ℕ → List Issued → Type 0

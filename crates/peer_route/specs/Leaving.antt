@@ -1,11 +1,9 @@
 -- What closing streams asks of the bus, and gives (D-Bus Specification, "Message Bus Messages",
 -- `org.freedesktop.DBus.RemoveMatch`).
-use Rattle.std.specs.Prelude.{ℕ, ⊤, ◌≡◌, ◌+◌, ◌<◌, ◌≤◌, ◌⊎◌, ◌&&◌, ◌||◌, ◌==◌, not, is_none, is_some, if◌then◌else◌, Bool, true, false, List, [], ◌∷◌, ◌++◌, length, map, Option, Some, None, Result, Ok, Err, codes, option_map, option_to_list}
+use Rattle.std.specs.Prelude.{ℕ, ◌≡◌, ◌+◌, ◌⊎◌, ◌&&◌, ◌||◌, ◌==◌, not, is_none, is_some, if◌then◌else◌, Bool, true, false, List, [], ◌∷◌, ◌++◌, length, map, Option, Some, None, Result, Ok, Err, codes, option_map, option_to_list}
 use Rattle.std.specs.List.{list_all}
-use Rattle.wire_message.specs.Circle.{IsNext, AllTaken}
 use Rattle.wire_message.specs.declared.error.Error.{Error}
 use Rattle.wire_message.specs.declared.error.Error.TheVariants as errors
-use Rattle.wire_message.specs.declared.error.IoKind.TheVariants as kinds
 use Rattle.rule_match.specs.Rule.{Rule}
 use Rattle.peer_route.specs.declared.writer.Writer.TheVariants as writers
 use Rattle.peer_route.specs.declared.queue.Subscription.{Subscription}
@@ -14,63 +12,26 @@ use Rattle.peer_route.specs.declared.leaving.Spent.{Spent}
 use Rattle.peer_route.specs.declared.leaving.Spent.TheVariants as spent
 use Rattle.peer_route.specs.declared.route.Issued.{Issued}
 use Rattle.peer_route.specs.Parcel.{Parcel}
-use Rattle.peer_route.specs.History.{Removed, Did, Gone, edit, Past, after}
-use Rattle.peer_route.specs.Calls.{pending}
+use Rattle.peer_route.specs.History.{Removes, Did, Gone, edit, Past, after}
 use Rattle.peer_route.specs.Streams.{are_open, close_waits, leaving, may_be_signal}
 use Rattle.peer_route.specs.Left.{Held, View, Left, kept_at, wants_of, shared}
 use Rattle.peer_route.specs.declared.opening.RuleCall.{RuleCall}
 use Rattle.peer_route.specs.declared.opening.RuleCalls.{RuleCalls}
-use Rattle.peer_route.specs.BusCall.{remove_parcel, remove_message, last_of, some_rules}
+use Rattle.peer_route.specs.BusCall.{remove_parcel, last_of, some_rules}
 use Rattle.peer_route.specs.Bus.{fits_string, letter_about, rule_call}
+use Rattle.peer_route.specs.Issuing.{Posting, Issues}
 use Rattle.peer_route.specs.Placing.{PutsAll}
 
--- The serials that the RemoveMatch of these rules draw, one after another.
-abbrev pub AreTold : Past → List Rule → List ℕ → Type 0
-AreTold h [] [] = ⊤
-AreTold h (rule ∷ rules) (serial ∷ serials) = IsNext (pending h) h.outbox.last serial × AreTold (after (Removed (remove_message h rule serial)) h) rules serials
-AreTold h [] (serial ∷ serials) = ⊥
-AreTold h (rule ∷ rules) [] = ⊥
+-- RemoveMatch of each of these rules
+abbrev pub tellings_of : Past → List Rule → List Posting
+tellings_of h rules = map (λ rule. record { parcel = remove_parcel h.name rule; purpose = Removes }) rules
 
--- Some RemoveMatch finds no serial: each is pending once those before it were put.
-abbrev pub TellsNone : Past → List Rule → Type 0
-TellsNone h [] = ⊥
-TellsNone h (rule ∷ rules) =
-    AllTaken (pending h) ⊎ ((serial : ℕ) × IsNext (pending h) h.outbox.last serial × TellsNone (after (Removed (remove_message h rule serial)) h) rules)
-
--- each passes no limit
-abbrev pub AreBrief : Past → List Rule → List ℕ → Type 0
-AreBrief h [] serials = ⊤
-AreBrief h (rule ∷ rules) [] = ⊤
-AreBrief h (rule ∷ rules) (serial ∷ serials) =
-    (length (remove_message h rule serial).bytes ≤ 134217728) × AreBrief (after (Removed (remove_message h rule serial)) h) rules serials
-
--- some passes its limit
-abbrev pub SomeNotBrief : Past → List Rule → List ℕ → Type 0
-SomeNotBrief h [] serials = ⊥
-SomeNotBrief h (rule ∷ rules) [] = ⊥
-SomeNotBrief h (rule ∷ rules) (serial ∷ serials) =
-    (134217728 < length (remove_message h rule serial).bytes) ⊎ SomeNotBrief (after (Removed (remove_message h rule serial)) h) rules serials
-
--- the past once they were put, in order
-abbrev pub removed_each : List Rule → List ℕ → Past → Past
-removed_each [] serials h = h
-removed_each (rule ∷ rules) [] h = h
-removed_each (rule ∷ rules) (serial ∷ serials) h = removed_each rules serials (after (Removed (remove_message h rule serial)) h)
-
--- There are rules to tell of, a serial for each RemoveMatch, and each passes no limit.
-abbrev pub MayTell : Past → List Rule → Type 0
-MayTell h rules = (some_rules rules ≡ true) × ((serials : List ℕ) × AreTold h rules serials × AreBrief h rules serials)
-
--- What telling the bus gives, after the streams were closed: `h` has that already.
+-- What telling the bus of these rules gives, after the streams were closed, which `h` has already: the last serial, if there are
+-- any.
 abbrev pub TellsBus : View → Past → List Rule → Result (Option ℕ) Error → Type 0
-TellsBus new h rules (Ok last) =
-    (serials : List ℕ) × AreTold h rules serials × AreBrief h rules serials × (some_rules rules ≡ true → h.outbox.writer ≡ writers.Fine)
-    × (last ≡ last_of serials) × Left new (removed_each rules serials h)
-TellsBus new h rules (Err errors.SerialsSpent) = TellsNone h rules × Left new h
-TellsBus new h rules (Err errors.ExcessData) = ((serials : List ℕ) × AreTold h rules serials × SomeNotBrief h rules serials) × Left new h
-TellsBus new h rules (Err (errors.InputOutput kinds.WriteFault)) = MayTell h rules × (h.outbox.writer ≡ writers.Failed) × Left new h
-TellsBus new h rules (Err (errors.InputOutput kinds.Closed)) = MayTell h rules × (h.outbox.writer ≡ writers.Closed) × Left new h
-TellsBus new h rules (Err error) = ⊥
+TellsBus new h [] (Ok last) = (last ≡ None) × Left new h
+TellsBus new h [] (Err error) = ⊥
+TellsBus new h rules result = Issues (λ last serials. last ≡ last_of serials) (Left new h) new (tellings_of h rules) h result
 
 -- the past once these streams were closed
 abbrev pub gone_both : ℕ → Option ℕ → Past → Past

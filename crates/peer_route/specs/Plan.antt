@@ -26,6 +26,7 @@ pub data Plan : Type 0 where
   Reads : Plan  -- the next message is taken from the source
   Closes : Plan  -- the peer is closed
 
+-- it is refused so, and does nothing
 abbrev pub refuses : Error → Plan
 refuses error = Says (answers.Refused error) []
 
@@ -41,13 +42,16 @@ abbrev pub before_of : List Event → Option ℕ → Answer
 before_of h None = answers.Refused errors.UnknownHandle
 before_of h (Some k) = shown (by_position (poll_answer (past h) k))
 
+-- what asking for it does
 abbrev pub poll_does : List Event → Option ℕ → List Event
 poll_does h None = []
 poll_does h (Some k) = poll_events k (poll_answer (past h) k)
 
+-- its answer is asked for
 abbrev pub polls : List Event → Option ℕ → Plan
 polls h k = Says (poll_of h k) (poll_does h k)
 
+-- the same by position
 abbrev pub polls_before : List Event → Option ℕ → Plan
 polls_before h k = Says (before_of h k) (poll_does h k)
 
@@ -56,10 +60,12 @@ abbrev pub drop_of : List Event → Option ℕ → Answer
 drop_of h None = answers.Refused errors.UnknownHandle
 drop_of h (Some k) = shown_drop (drop_answer (past h) k)
 
+-- what that does
 abbrev pub drop_does : List Event → Option ℕ → List Event
 drop_does h None = []
 drop_does h (Some k) = drop_events k (drop_answer (past h) k)
 
+-- the call is dropped
 abbrev pub drops : List Event → Option ℕ → Plan
 drops h k = Says (drop_of h k) (drop_does h k)
 
@@ -75,13 +81,16 @@ abbrev pub take_before_of : List Event → Option ℕ → Answer
 take_before_of h None = answers.Refused errors.UnknownHandle
 take_before_of h (Some k) = shown_take (by_position (take_answer (past h) k))
 
+-- what giving it does
 abbrev pub take_does : List Event → Option ℕ → List Event
 take_does h None = []
 take_does h (Some k) = take_events k (take_answer (past h) k)
 
+-- its next item is taken
 abbrev pub takes_item : List Event → Option ℕ → Plan
 takes_item h k = Says (take_of h k) (take_does h k)
 
+-- the same by position
 abbrev pub takes_item_before : List Event → Option ℕ → Plan
 takes_item_before h k = Says (take_before_of h k) (take_does h k)
 
@@ -90,10 +99,12 @@ abbrev pub opened_of : List Event → Option ℕ → Answer
 opened_of h None = answers.Refused errors.UnknownHandle
 opened_of h (Some k) = shown_opening (opening_answer (past h) k)
 
+-- what being told so does
 abbrev pub opened_does : List Event → Option ℕ → List Event
 opened_does h None = []
 opened_does h (Some k) = opening_events k (opening_answer (past h) k)
 
+-- whether it is open is asked
 abbrev pub asks_open : List Event → Option ℕ → Plan
 asks_open h k = Says (opened_of h k) (opened_does h k)
 
@@ -101,6 +112,7 @@ asks_open h k = Says (opened_of h k) (opened_does h k)
 abbrev pub makes : ℕ → Names → Making → Plan
 makes lane streams making = Says (answers.Streaming (count lane streams)) (Made making ∷ [])
 
+-- the stream that is named is open
 abbrev pub is_open_at : List Event → Option ℕ → Bool
 is_open_at h None = false
 is_open_at h (Some k) = is_open (past h) k
@@ -110,10 +122,12 @@ abbrev pub where_open : Bool → Plan → Plan
 where_open true done = done
 where_open false done = refuses errors.UnknownHandle
 
+-- a clone of the stream that is named is made, where it is open
 abbrev pub clones : ℕ → Names → List Event → Option ℕ → Plan
 clones lane streams h None = refuses errors.UnknownHandle
 clones lane streams h (Some k) = where_open (is_open (past h) k) (makes lane streams (Cloned k))
 
+-- it asks for this capacity, where it is open
 abbrev pub asks_more : ℕ → List Event → Option ℕ → Plan
 asks_more limit h None = refuses errors.UnknownHandle
 asks_more limit h (Some k) = where_open (is_open (past h) k) (Says answers.Set (Did k (Asked limit) ∷ []))

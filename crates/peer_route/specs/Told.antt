@@ -16,7 +16,6 @@ use Rattle.peer_route.specs.Parcel.{Setting}
 use Rattle.peer_route.specs.History.{Event, read, put, written, is_failed}
 use Rattle.peer_route.specs.Plan.{Plan, Reads, plan}
 use Rattle.peer_route.specs.Entries.{trail}
-use Rattle.peer_route.specs.Trail.{count}
 
 -- ---- the source
 

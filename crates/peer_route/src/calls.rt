@@ -1,6 +1,6 @@
 ghost use Rattle.std.specs.Prelude.{Bool, ℕ, ◌≡◌, ◌+◌, ◌<◌, ◌++◌, ◌∷◌, [], List, length, IfSome, IfNone, OnOk, OnErr, IfOk, None, is_none, slice_set, take, true, false};
 ghost use Rattle.std.specs.List.{list_any};
-ghost use Rattle.peer_route.specs.History.{Took, Shut, Put, bears, Past, after, after_all, no_past};
+ghost use Rattle.peer_route.specs.History.{Took, Shut, Put, OfLane, bears, Past, after, after_all, no_past};
 ghost use Rattle.peer_route.specs.Calls.{poll_answer, poll_events, drop_answer, drop_events, in_flight};
 ghost use Rattle.peer_route.specs.Calls as answers;
 ghost use Rattle.peer_route.specs.Left.{CallsView, LeftCalls, is_empty_slot, is_inner_slot, reply_kept, with_call, is_flying, is_number, answers_call, waiting_serial, IsIndex};
@@ -157,7 +157,7 @@ impl PendingMethodCalls {
         ensures err { OnErr result (self.new ≡ self.old) }
         ensures number { IfOk result (λ k. k ≡ length self.old.slots) }
         ensures ok { OnOk result (self.new ≡ with_call false serial self.old) }
-        ensures left { OnOk result ((p : Past) (m : Seen) → m.serial ≡ serial → LeftCalls self.old p → LeftCalls self.new (after (Put m true) p)) }
+        ensures left { OnOk result ((p : Past) (m : Seen) → m.serial ≡ serial → LeftCalls self.old p → LeftCalls self.new (after (Put m (OfLane true)) p)) }
     {
         self.register(serial, false)
     }

@@ -4,7 +4,7 @@ ghost use Rattle.std.specs.List.{AllByRecursion};
 ghost use Rattle.wire_message.specs.Front.{Seen};
 ghost use Rattle.wire_message.specs.declared.error.Error.{Error};
 ghost use Rattle.peer_route.specs.declared.answer.Entry.{Entry};
-ghost use Rattle.peer_route.specs.History.{Event, Took, Spent, Made, Making, Ruled, Did, Main, Deed, Asked, closing, is_failed, writer, is_serial, put, written, read, unique_name, Stream, is_subscribed, asked_or, raised, Past, after};
+ghost use Rattle.peer_route.specs.History.{Event, Took, Spent, Made, Making, Ruled, Did, Main, Deed, Asked, closing, is_failed, writer, is_serial, put, written, read, unique_name, Stream, is_subscribed, asked_or, raised, Past, after, past};
 ghost use Rattle.peer_route.specs.Calls.{pending, poll_answer};
 ghost use Rattle.peer_route.specs.Streams.{runs, limit_answer, take_answer};
 ghost use Rattle.rule_match.specs.Rule.{Rule};
@@ -12,8 +12,13 @@ ghost use Rattle.rule_match.specs.Bytes.{rule_in_bytes};
 ghost use Rattle.rule_match.specs.contracts.rule.MatchRulePartialEq.TheImpl.{ghosts as of_rules};
 ghost use Rattle.peer_route.specs.Rules.{is_same, usual};
 ghost use Rattle.peer_route.specs.Parcel.{Setting};
+ghost use Rattle.peer_route.specs.Parcel as parcels;
+ghost use Rattle.peer_route.specs.CallMessage.{expects};
+ghost use Rattle.peer_route.specs.BusCall.{add_parcel};
+ghost use Rattle.peer_route.specs.Plan.{Says, Sends, Adds, plan};
+ghost use Rattle.peer_route.specs.Trail.{place, second_place, count, next_serial, or_zero};
 ghost use Rattle.peer_route.specs.Entries.{trail};
-ghost use Rattle.peer_route.specs.Answers.{Legal};
+ghost use Rattle.peer_route.specs.Answers.{Legal, send_refusal, long_refusal, sent_answer, write_fault};
 ghost use Rattle.peer_route.specs.StreamLaws.{Yields, holds, rule_at, closes_stream, says_closed, says_denied, IsNoStream, IsTake, IsEnded, IsLast, IsDrained, HoldsTooMany, IsPutOf, all_sent, YieldsAsked};
 ghost use Rattle.peer_route.specs.Laws.{IsPoll, IsFinal, IsReplyAt, IsUnknown, IsFirstReply, IsCutOff, IsPast, SamePoll, IsByPosition, IsNothingYet};
 
@@ -207,4 +212,27 @@ pub fn name_stays()
 /// A refused command leaves all as it was: what the entries leave is the same as before it.
 pub fn refused_changes_nothing()
     ensures { (setting : Setting) (older : List Entry) (e : Entry) (error : Error) → e.answer ≡ Answer.Refused error → trail setting (e ∷ older) ≡ trail setting older }
+{}
+
+/// So does one that is answered busy, a read as well as the opening of a stream: what the entries leave is the same as before it.
+pub fn busy_changes_nothing()
+    ensures { (setting : Setting) (older : List Entry) (e : Entry) → e.answer ≡ Answer.Busy → trail setting (e ∷ older) ≡ trail setting older }
+{}
+
+/// Closing streams changes nothing else, the RemoveMatch that tells the bus of it included, whether that was written or not: each other
+/// stream gives the same, a poll of each call that was issued before gives the same, and each capacity is the same.
+pub fn unstream_changes_no_other()
+    ensures streams { (setting : Setting) (older : List Entry) (e : Entry) (number : ℕ) (second : Option ℕ) (k : ℕ) → Legal setting (e ∷ older) → e.words ≡ Words.Unstream number second → place 0 e.lane number (trail setting older).streams ≢ Some k → second_place e.lane second (trail setting older).streams ≢ Some k → take_answer (past (trail setting (e ∷ older)).events) k ≡ take_answer (past (trail setting older).events) k }
+    ensures calls { (setting : Setting) (older : List Entry) (e : Entry) (number : ℕ) (second : Option ℕ) (k : ℕ) → Legal setting (e ∷ older) → e.words ≡ Words.Unstream number second → k < length (past (trail setting older).events).calls → poll_answer (past (trail setting (e ∷ older)).events) k ≡ poll_answer (past (trail setting older).events) k }
+    ensures capacities { (setting : Setting) (older : List Entry) (e : Entry) (number : ℕ) (second : Option ℕ) → Legal setting (e ∷ older) → e.words ≡ Words.Unstream number second → (past (trail setting (e ∷ older)).events).capacities ≡ (past (trail setting older).events).capacities }
+{}
+
+/// A command to which no refusal applies has its defined answer. One that asks or does by itself has what its plan says; a message
+/// that is to be sent, with a serial that is free and within its limit, while the writer is fine, is answered as a call with its
+/// number in the lane or as sent, with the next serial, or else by the fault of its own write; and so is the AddMatch of a stream that
+/// is to be opened.
+pub fn done_where_nothing_refuses()
+    ensures says { (setting : Setting) (older : List Entry) (e : Entry) (answer : Answer) (deeds : List Event) → Legal setting (e ∷ older) → plan (trail setting older) e.lane e.words ≡ Says answer deeds → e.answer ≡ answer }
+    ensures sends { (setting : Setting) (older : List Entry) (e : Entry) (asked : parcels.Asked) → Legal setting (e ∷ older) → plan (trail setting older) e.lane e.words ≡ Sends asked → send_refusal (trail setting older).events asked ≡ None → writer (trail setting older).events ≡ Writer.Fine → (e.answer ≡ sent_answer (expects asked) (count e.lane (trail setting older).names) (or_zero (next_serial (trail setting older).events))) ⊎ (e.answer ≡ write_fault) }
+    ensures adds { (setting : Setting) (older : List Entry) (e : Entry) (rule : Rule) (asked : Option ℕ) → Legal setting (e ∷ older) → plan (trail setting older) e.lane e.words ≡ Adds rule asked → long_refusal (next_serial (trail setting older).events) (add_parcel (unique_name (trail setting older).events) rule) ≡ None → writer (trail setting older).events ≡ Writer.Fine → (e.answer ≡ Answer.Opening (count e.lane (trail setting older).streams) (or_zero (next_serial (trail setting older).events))) ⊎ (e.answer ≡ write_fault) }
 {}

@@ -357,6 +357,10 @@ over_told old new k j h errors.UnknownHandle known x = absurd (cc)
 over_told old new k j h errors.Memory known x = absurd x
 over_told old new k j h error known x = x
 
+never_memory : (old new : View) (k : ℕ) (j : Option ℕ) (h : List Event) (error : Error) → ClosesStreams old new k j (past h) (spent.Over error) → error ≡ errors.Memory → ⊥
+never_memory old new k j h errors.Memory x e = x
+never_memory old new k j h error x e = cc
+
 untold_follows : (setting : Setting) (p r : PeerView) (es : List Entry) (c : Leave) (error : Error) → Named (trail setting es) c → Follows setting p es
     → MayClose (past (trail setting es).events) c.k c.j → IsTold (gone (trail setting es).events c) (rules_of (trail setting es).events c) (answers.Untold error)
     → Left r.core (past (gone (trail setting es).events c)) → r.names ≡ p.names → r.streams ≡ p.streams → r.given ≡ forgotten c.k c.j p.given
@@ -382,15 +386,15 @@ broken_is error e = absurd (cc)
 -- they are closed, and the bus can't be told
 untold_ends : (setting : Setting) (p r : PeerView) (es : List Entry) (c : Leave) (error : Error) (now : Outlet) (writing : Writing) → Named (trail setting es) c → Follows setting p es
     → IsFine (trail setting es).events writing → MayClose (past (trail setting es).events) c.k c.j
-    → TellsBus r.core (past (gone (trail setting es).events c)) (rules_of (trail setting es).events c) (Err error)
+    → (error ≡ errors.Memory → ⊥) → TellsBus r.core (past (gone (trail setting es).events c)) (rules_of (trail setting es).events c) (Err error)
     → r.names ≡ p.names → r.streams ≡ p.streams → r.given ≡ forgotten c.k c.j p.given
     → Sending setting r es c.lane (word c) now now writing (answers.Untold error)
-untold_ends setting p r es c error now writing named f fine may tells names streams given =
+untold_ends setting p r es c error now writing named f fine may never tells names streams given =
     let h = (trail setting es).events in
     let g = gone h c in
     let a = answers.Untold error in
     let z = gone_is h c in
-    let told = untold r.core g (rules_of h c) error tells in
+    let told = untold r.core g (rules_of h c) error never tells in
     let same : (trail setting (left_entry c a ∷ es)).events ≡ g = leaves_events setting es c a named may ∙ gone_before c.k c.j h in
     record {
       follows = untold_follows setting p r es c error named f may told.0 told.1 names streams given;
@@ -414,7 +418,7 @@ over_by setting p r v es c error now writing true is named f fine said core name
 over_by setting p r v es c error now writing false is named f fine said core names streams given =
     let h = (trail setting es).events in
     let x = over_told p.core v c.k c.j h error is said in
-    untold_ends setting p r es c error now writing named f fine x.0
+    untold_ends setting p r es c error now writing named f fine x.0 (never_memory p.core v c.k c.j h error said)
     (subst (λ u. TellsBus u (past (gone h c)) (rules_of h c) (Err error)) (sym core) (subst (λ x. TellsBus v x (rules_of h c) (Err error)) (both_is h c.k c.j) x.1)) names streams given
 
 -- the streams weren't open, or are closed and the bus can't be told

@@ -18,9 +18,11 @@ use Rattle.peer_route.specs.declared.words.Words.TheVariants as words
 use Rattle.peer_route.specs.declared.writer.Writer.TheVariants as writers
 use Rattle.peer_route.specs.Parcel.{Parcel, Asked, sent_by}
 use Rattle.peer_route.specs.CallMessage.{fds_of, values_in, words_refusal, name_refusal, asked_of, call_draft, signal_draft, call_asked, signal_asked, reply_asked, error_asked, sent_from}
-use Rattle.peer_route.specs.History.{Event, writer, past}
+use Rattle.wire_message.specs.Circle.{IsNext}
+use Rattle.peer_route.specs.History.{Event, last_serial, writer, past}
+use Rattle.peer_route.specs.Calls.{pending}
 use Rattle.peer_route.specs.Left.{View, Left}
-use Rattle.peer_route.specs.Issuing.{is_deep, issued_of, AreDrawn, AreShort, SomeLong, issued_each, put_each, IssuesAll, AreInOrder, Waits}
+use Rattle.peer_route.specs.Issuing.{is_deep, Posting, of_lane, issued_of, AreDrawn, IsShort, AreShort, SomeLong, issued_each, put_each, Issues, IssuesAll, AreInOrder, Waits}
 use Rattle.peer_route.specs.Trail.{asks_with}
 use Rattle.peer_run.specs.CallWords.{MakesAsked}
 use Rattle.peer_run.specs.OneLetter.{IssuesOne, WaitsOne}
@@ -31,11 +33,11 @@ last_one : (x y : Issued) (xs : List Issued) → xs ++ y ∷ [] ≡ x ∷ [] →
 last_one x y [] e = cc
 last_one x y (z ∷ zs) e = let f : zs ++ y ∷ [] ≡ [] = cc in absurd (omega (arith, ap length f, length_push zs y))
 
-one_by : (old new : View) (p : Parcel) (h : List Event) (issued : Issued) (serials : List ℕ) (before : List Issued) → AreDrawn (past h) (p ∷ []) serials → AreShort (p ∷ []) serials
-    → before ++ issued ∷ [] ≡ issued_each (past h) (p ∷ []) serials → Left new (put_each (p ∷ []) serials (past h)) → writer h ≡ writers.Fine → IssuesOne old new p h (Ok issued)
+one_by : (old new : View) (p : Parcel) (h : List Event) (issued : Issued) (serials : List ℕ) (before : List Issued) → AreDrawn (past h) (of_lane p ∷ []) serials → AreShort (p ∷ []) serials
+    → before ++ issued ∷ [] ≡ issued_each (past h) (of_lane p ∷ []) serials → Left new (put_each (of_lane p ∷ []) serials (past h)) → writer h ≡ writers.Fine → IssuesOne old new p h (Ok issued)
 one_by old new p h issued [] before d s e left fine = absurd d
 one_by old new p h issued (serial ∷ []) before d s e left fine =
-    subst (λ i. IssuesOne old new p h (Ok i)) (last_one (issued_of (past h) p serial) issued before e) (d.0, s.0, fine, refl, refl, left)
+    subst (λ i. IssuesOne old new p h (Ok i)) (last_one (issued_of (past h) (of_lane p) serial) issued before e) (d.0, s.0, fine, refl, refl, left)
 one_by old new p h issued (serial ∷ t ∷ serials) before d s e left fine = absurd d.1
 
 -- the one message is issued
@@ -44,41 +46,36 @@ pub one_issued : {A : Type 0} (items : A → List Issued) (old new : View) (p : 
 one_issued items old new p h all issued before e x =
     one_by old new p h issued x.1.0 before x.1.1 x.1.2 (sym e ∙ x.1.3) x.1.4 x.2
 
-long_by : (old new : View) (p : Parcel) (h : List Event) (serials : List ℕ) → AreDrawn (past h) (p ∷ []) serials → SomeLong (p ∷ []) serials → new ≡ old → IssuesOne old new p h (Err errors.ExcessData)
-long_by old new p h [] d s e = absurd d
-long_by old new p h (serial ∷ []) d (inl long) e = (serial, d.0, long, e)
-long_by old new p h (serial ∷ []) d (inr none) e = absurd none
-long_by old new p h (serial ∷ t ∷ serials) d s e = absurd d.1
+long_by : (old new : View) (d : Posting) (h : List Event) (serials : List ℕ) → AreDrawn (past h) (d ∷ []) serials → SomeLong (d.parcel ∷ []) serials → new ≡ old
+    → IssuesOne old new d.parcel h (Err errors.ExcessData)
+long_by old new d h [] x s e = absurd x
+long_by old new d h (serial ∷ []) x (inl long) e = (serial, x.0, long, e)
+long_by old new d h (serial ∷ []) x (inr none) e = absurd none
+long_by old new d h (serial ∷ t ∷ serials) x s e = absurd x.1
 
-failed_by : (old new : View) (p : Parcel) (h : List Event) (serials : List ℕ) → AreDrawn (past h) (p ∷ []) serials → AreShort (p ∷ []) serials → writer h ≡ writers.Failed → new ≡ old
-    → IssuesOne old new p h (Err (errors.InputOutput kinds.WriteFault))
-failed_by old new p h [] d s w e = absurd d
-failed_by old new p h (serial ∷ []) d s w e = (serial, d.0, s.0, w, e)
-failed_by old new p h (serial ∷ t ∷ serials) d s w e = absurd d.1
-
-closed_by : (old new : View) (p : Parcel) (h : List Event) (serials : List ℕ) → AreDrawn (past h) (p ∷ []) serials → AreShort (p ∷ []) serials → writer h ≡ writers.Closed → new ≡ old
-    → IssuesOne old new p h (Err (errors.InputOutput kinds.Closed))
-closed_by old new p h [] d s w e = absurd d
-closed_by old new p h (serial ∷ []) d s w e = (serial, d.0, s.0, w, e)
-closed_by old new p h (serial ∷ t ∷ serials) d s w e = absurd d.1
+ready_by : (d : Posting) (h : List Event) (serials : List ℕ) → AreDrawn (past h) (d ∷ []) serials → AreShort (d.parcel ∷ []) serials
+    → (serial : ℕ) × IsNext (pending (past h)) (last_serial h) serial × IsShort d.parcel serial
+ready_by d h [] x s = absurd x
+ready_by d h (serial ∷ []) x s = (serial, x.0, s.0)
+ready_by d h (serial ∷ t ∷ serials) x s = absurd x.1
 
 or_none : (b : Bool) → (b || false) ≡ true → b ≡ true
 or_none true e = refl
 or_none false e = e
 
--- the one message isn't issued
-pub one_refused : {A : Type 0} (items : A → List Issued) (old new : View) (p : Parcel) (h : List Event) (error : Error) → IssuesAll items old new (p ∷ []) (past h) (Err error)
-    → IssuesOne old new p h (Err error)
-one_refused items old new p h errors.SerialsSpent x = elim x.1 [
+-- the one message isn't put
+pub one_refused : {A : Type 0} (tells : A → List ℕ → Type 0) (old new : View) (d : Posting) (h : List Event) (error : Error) → Issues tells (new ≡ old) new (d ∷ []) (past h) (Err error)
+    → IssuesOne old new d.parcel h (Err error)
+one_refused tells old new d h errors.SerialsSpent x = elim x.1 [
   | inl all ↦ (all, x.2)
   | inr none ↦ absurd none.2
 ]
-one_refused items old new p h (errors.Variant faults.Depth) x = (or_none (is_deep p) x.0, x.1)
-one_refused items old new p h errors.ExcessData x = long_by old new p h x.1.0 x.1.1 x.1.2 x.2
-one_refused items old new p h (errors.InputOutput kinds.WriteFault) x = failed_by old new p h x.1.0 x.1.1 x.1.2 x.2 x.3
-one_refused items old new p h (errors.InputOutput kinds.Closed) x = closed_by old new p h x.1.0 x.1.1 x.1.2 x.2 x.3
-one_refused items old new p h errors.Memory x = x
-one_refused items old new p h other x = absurd x
+one_refused tells old new d h (errors.Variant faults.Depth) x = (or_none (is_deep d.parcel) x.0, x.1)
+one_refused tells old new d h errors.ExcessData x = long_by old new d h x.1.0 x.1.1 x.1.2 x.2
+one_refused tells old new d h (errors.InputOutput kinds.WriteFault) x = let y = ready_by d h x.1.0 x.1.1 x.1.2 in (y.0, y.1, y.2, x.2, x.3)
+one_refused tells old new d h (errors.InputOutput kinds.Closed) x = let y = ready_by d h x.1.0 x.1.1 x.1.2 in (y.0, y.1, y.2, x.2, x.3)
+one_refused tells old new d h errors.Memory x = x
+one_refused tells old new d h other x = absurd x
 
 -- and it waits at the end of the outbox
 pub one_waits : (old new : View) (all before : List Issued) (issued : Issued) → all ≡ before ++ issued ∷ [] → Waits old new 1 all → WaitsOne old new issued

@@ -1,5 +1,5 @@
 -- A stream of a rule that is opened, for which the bus is asked, or that isn't opened: one entry more.
-use Rattle.std.proofs.Common.{◌≡◌, ◌+◌, ◌≤◌, ℕ, Bool, true, false, inl, inr, refl, sym, ◌∙◌, ap, subst, List, [], ◌∷◌, ◌++◌, length, slice_get, Option, Some, None, IsSome, Result, Ok, Err, IfOk}
+use Rattle.std.proofs.Common.{◌≡◌, codes, ◌+◌, ◌≤◌, ℕ, Bool, true, false, inl, inr, refl, sym, ◌∙◌, ap, subst, List, [], ◌∷◌, ◌++◌, length, slice_get, Option, Some, None, IsSome, Result, Ok, Err, IfOk}
 use Rattle.std.proofs.lemmas.List.{append-nil, length_push}
 use Rattle.std.specs.Io.KnownBytes.{Appends}
 use Rattle.wire_message.specs.Circle.{IsNext}
@@ -20,6 +20,7 @@ use Rattle.peer_route.specs.declared.answer.Answer.{Answer}
 use Rattle.peer_route.specs.declared.answer.Answer.TheVariants as answers
 use Rattle.peer_route.specs.declared.answer.Entry.{Entry}
 use Rattle.peer_route.specs.declared.opening.Opening.{Opening}
+use Rattle.peer_route.specs.declared.streams.MessageStream.{MessageStream}
 use Rattle.peer_route.specs.declared.opening.Opens.TheVariants as opens
 use Rattle.peer_route.specs.declared.writer.Writer.{Writer}
 use Rattle.peer_route.specs.declared.writer.Writer.TheVariants as writers
@@ -32,8 +33,12 @@ use Rattle.peer_route.specs.Trail.{Trail, count, next_serial, or_zero}
 use Rattle.peer_route.specs.Entries.{trail, failed_put, failed_name, asked_streams}
 use Rattle.peer_route.specs.Answers.{IsAskOf, IsCalled, long_refusal, write_fault}
 use Rattle.peer_route.specs.Told.{ReadTold}
-use Rattle.peer_route.specs.Left.{Left}
-use Rattle.peer_route.specs.Bus.{OpensRule, WouldAsk}
+use Rattle.peer_route.specs.Left.{View, Left}
+use Rattle.peer_route.specs.Bus.{asking_of, IsOpening, OpensBy, OpensRule}
+use Rattle.peer_route.specs.Issuing.{Posting, parcels, put_of, AreDrawn, IsShort, AreShort, put_each, Issues}
+use Rattle.wire_signature.specs.declared.error.VariantError.TheVariants as faults
+use Rattle.peer_run.proofs.OneLetter.{one_refused}
+use Rattle.peer_route.proofs.RuleCalls.{rule_long}
 use Rattle.peer_route.proofs.Given.{given_made, given_added, given_fault, given_same}
 use Rattle.peer_route.proofs.NextSerial.{next_serial-next}
 use Rattle.peer_route.proofs.Steps.{refused-spent, refused-long, not_refused}
@@ -51,6 +56,40 @@ use Rattle.peer_route.specs.Entries.{does, calls_by, streams_by, add_names}
 use Rattle.peer_route.specs.Plan.{Says, Adds, opens_new, opens_rule, plan}
 use Rattle.peer_route.specs.Plan as plans
 use Rattle.peer_route.specs.History.{past, Past}
+
+-- ---- what the core gives
+
+-- nothing was opened: the peer is open, nothing of its own is on its way, and the bus would have to be asked
+abbrev pub WouldAsk : Past → Rule → Type 0
+WouldAsk h rule = (h.closing ≡ None) × (in_flight h ≡ false) × (asks_bus h rule ≡ true)
+
+-- it was opened at once, so the bus hadn't to be asked
+pub opens_once : (asks : Bool) (old new : View) (rule : Rule) (asked : Option ℕ) (stream : MessageStream) (h : Past) → OpensBy asks old new rule asked h (Ok (opens.Open stream))
+    → (asks ≡ false) × Left new (events.after (events.Made (events.Ruled rule asked)) h)
+opens_once true old new rule asked stream h x = absurd x.1.3
+opens_once false old new rule asked stream h x = (refl, x.1)
+
+-- an AddMatch was put, so the bus had to be asked
+asks_put : (asks : Bool) (old new : View) (rule : Rule) (asked : Option ℕ) (o : Opening) (h : Past) → OpensBy asks old new rule asked h (Ok (opens.Opening o))
+    → (asks ≡ true) × Issues (IsOpening h) (new ≡ old) new (asking_of h rule asked ∷ []) h (Ok (opens.Opening o))
+asks_put true old new rule asked o h x = (refl, x)
+asks_put false old new rule asked o h x = absurd x
+
+-- it couldn't be put, so too
+asks_refused : (asks : Bool) (old new : View) (rule : Rule) (asked : Option ℕ) (error : Error) (h : Past) → (error ≡ errors.Memory → ⊥) → OpensBy asks old new rule asked h (Err error)
+    → (asks ≡ true) × Issues (IsOpening h) (new ≡ old) new (asking_of h rule asked ∷ []) h (Err error)
+asks_refused true old new rule asked error h n x = (refl, x)
+asks_refused false old new rule asked errors.Memory h n x = absurd (n refl)
+asks_refused false old new rule asked error h n x = absurd x
+
+-- and for one message: there was a serial for it, and it is put
+put_one : (new : View) (d : Posting) (serial : ℕ) (serials : List ℕ) (h : Past) → serials ≡ serial ∷ [] → AreDrawn h (d ∷ []) serials → AreShort (parcels (d ∷ [])) serials → Left new (put_each (d ∷ []) serials h)
+    → IsNext (pending h) h.outbox.last serial × IsShort d.parcel serial × Left new (events.after (put_of d serial) h)
+put_one new d serial [] h e x s left = absurd x
+put_one new d serial (n ∷ []) h e x s left =
+    let same : n ≡ serial = cc in
+    (subst (IsNext (pending h) h.outbox.last) same x.0, subst (IsShort d.parcel) same s.0, subst (λ k. Left new (events.after (put_of d k) h)) same left)
+put_one new d serial (n ∷ k ∷ serials) h e x s left = absurd x.1
 
 -- ---- what such a command means
 
@@ -130,7 +169,7 @@ unsent_same : (setting : Setting) (es : List Entry) (lane : ℕ) (asked : Option
 unsent_same setting es lane asked text rule means failed =
     let t = trail setting es in
     let m = add_message (past t.events) rule (or_zero (next_serial t.events)) in
-    let events_are = ap (λ p. does t.events p write_fault ++ t.events) means ∙ ap (λ w. failed_put w (events.Added m rule asked) ++ t.events) failed in
+    let events_are = ap (λ p. does t.events p write_fault ++ t.events) means ∙ ap (λ w. failed_put w (events.Put m (events.Adds rule asked)) ++ t.events) failed in
     let names_are = ap (λ p. t.names ++ calls_by t.events lane p write_fault) means ∙ ap (λ w. t.names ++ failed_name w true) failed ∙ append-nil t.names in
     let streams_are = ap (λ p. t.streams ++ streams_by t.events lane p write_fault) means ∙ ap (λ w. t.streams ++ failed_name w true) failed ∙ append-nil t.streams in
     λ i. record { events = events_are i; names = names_are i; streams = streams_are i; setting = t.setting }
@@ -155,31 +194,43 @@ not_opened setting p q es lane asked text rule errors.Busy E a now writing found
     )
 not_opened setting p q es lane asked text rule errors.SerialsSpent E a now writing found f fine said is =
     let t = trail setting es in
-    let parcel = add_parcel (events.unique_name t.events) rule in (
-      said.2,
+    let parcel = add_parcel (events.unique_name t.events) rule in
+    let x = asks_refused (asks_bus (past t.events) rule) p.core q.core rule asked errors.SerialsSpent (past t.events) (λ e. cc) said.2 in
+    let y = one_refused (IsOpening (past t.events)) p.core q.core (asking_of (past t.events) rule asked) t.events errors.SerialsSpent x.1 in (
+      y.1,
       subst (λ x. Sending setting p es lane (words.Open asked text) now now writing x) (sym is)
-          (called_refused setting p es lane asked text rule errors.SerialsSpent now writing found said.0 (refused-spent t.events (Ok parcel) parcel refl said.1) f fine),
+          (called_refused setting p es lane asked text rule errors.SerialsSpent now writing found (said.0, said.1, x.0) (refused-spent t.events (Ok parcel) parcel refl y.0) f fine),
     )
 not_opened setting p q es lane asked text rule errors.ExcessData E a now writing found f fine said is =
     let t = trail setting es in
-    let parcel = add_parcel (events.unique_name t.events) rule in (
-      said.2,
+    let parcel = add_parcel (events.unique_name t.events) rule in
+    let x = asks_refused (asks_bus (past t.events) rule) p.core q.core rule asked errors.ExcessData (past t.events) (λ e. cc) said.2 in
+    let y = one_refused (IsOpening (past t.events)) p.core q.core (asking_of (past t.events) rule asked) t.events errors.ExcessData x.1 in (
+      y.3,
       subst (λ x. Sending setting p es lane (words.Open asked text) now now writing x) (sym is)
-          (called_refused setting p es lane asked text rule errors.ExcessData now writing found said.0 (refused-long t.events (Ok parcel) parcel said.1.0 refl said.1.1 said.1.2) f fine),
+          (called_refused setting p es lane asked text rule errors.ExcessData now writing found (said.0, said.1, x.0)
+          (refused-long t.events (Ok parcel) parcel y.0 refl y.1 (rule_long (codes "AddMatch") (events.unique_name t.events) rule y.0 y.2)) f fine),
     )
 not_opened setting p q es lane asked text rule (errors.InputOutput kinds.WriteFault) E a now writing found f fine said is =
     let t = trail setting es in
     let parcel = add_parcel (events.unique_name t.events) rule in
-    let means = adds_means t lane asked text rule found said.0 in (
-      said.3,
+    let x = asks_refused (asks_bus (past t.events) rule) p.core q.core rule asked (errors.InputOutput kinds.WriteFault) (past t.events) (λ e. cc) said.2 in
+    let y = one_refused (IsOpening (past t.events)) p.core q.core (asking_of (past t.events) rule asked) t.events (errors.InputOutput kinds.WriteFault) x.1 in
+    let means = adds_means t lane asked text rule found (said.0, said.1, x.0) in (
+      y.4,
       subst (λ x. Sending setting p es lane (words.Open asked text) now now writing x) (sym is)
-          (same_sending setting p es lane (words.Open asked text) write_fault now writing (unsent_same setting es lane asked text rule means said.2)
+          (same_sending setting p es lane (words.Open asked text) write_fault now writing (unsent_same setting es lane asked text rule means y.3)
           (subst (λ m. IsMeant t lane m write_fault) (sym means)
-          (called_so t lane rule None writers.Failed write_fault (not_refused t.events (Ok parcel) parcel said.1.0 refl said.1.1 said.1.2) said.2 refl)) refl
-          (λ stop bytes. adds_told t lane asked text rule write_fault stop bytes means) (λ e. failed_so t.events said.2) f fine),
+          (called_so t lane rule None writers.Failed write_fault (not_refused t.events (Ok parcel) parcel y.0 refl y.1 y.2.1) y.3 refl)) refl
+          (λ stop bytes. adds_told t lane asked text rule write_fault stop bytes means) (λ e. failed_so t.events y.3) f fine),
     )
+not_opened setting p q es lane asked text rule (errors.Variant faults.Depth) E a now writing found f fine said is =
+    let t = trail setting es in
+    let x = asks_refused (asks_bus (past t.events) rule) p.core q.core rule asked (errors.Variant faults.Depth) (past t.events) (λ e. cc) said.2 in
+    let deep : false ≡ true = x.1.0 in absurd (cc)
 not_opened setting p q es lane asked text rule errors.Memory E a now writing found f fine said is = absurd is
-not_opened setting p q es lane asked text rule error E a now writing found f fine said is = absurd said
+not_opened setting p q es lane asked text rule error E a now writing found f fine said is =
+    absurd (asks_refused (asks_bus (past (trail setting es).events) rule) p.core q.core rule asked error (past (trail setting es).events) (λ e. cc) said.2).1
 
 -- a stream that wasn't opened
 pub open_refused : {E : Type 0} (p q : PeerView) (lane : ℕ) (asked : Option ℕ) (text : List ℕ) (rule : Rule) (error : Error) (r : Result Answer E) (now : Outlet) (writing : Writing) → rule_in_bytes text ≡ Ok rule
@@ -218,25 +269,30 @@ pub record IsAsking (setting : Setting) (p q : PeerView) (es : List Entry) (aske
   pub next : IsNext (pending (past (trail setting es).events)) (events.last_serial (trail setting es).events) o.serial
   pub short : length (add_message (past (trail setting es).events) rule o.serial).bytes ≤ 134217728
   pub index : o.index ≡ length (events.put (trail setting es).events)
-  pub left : Left q.core (past (events.Added (add_message (past (trail setting es).events) rule o.serial) rule asked ∷ (trail setting es).events))
+  pub left : Left q.core (past (events.Put (add_message (past (trail setting es).events) rule o.serial) (events.Adds rule asked) ∷ (trail setting es).events))
   pub names : q.names ≡ p.names
   pub streams : q.streams ≡ p.streams
   pub given : q.given ≡ p.given
 
 pub is_asking : (setting : Setting) (p q : PeerView) (es : List Entry) (asked : Option ℕ) (text : List ℕ) (rule : Rule) (o : Opening) → rule_in_bytes text ≡ Ok rule
     → OpensRule p.core q.core rule asked (past (trail setting es).events) (Ok (opens.Opening o)) → q.names ≡ p.names → q.streams ≡ p.streams → q.given ≡ p.given → IsAsking setting p q es asked text rule o
-is_asking setting p q es asked text rule o found said names streams given = record {
-  found = found;
-  would = (said.0, said.1, said.2.0);
-  fine = said.2.1;
-  next = said.2.2;
-  short = said.2.3;
-  index = said.2.5;
-  left = said.2.6;
-  names = names;
-  streams = streams;
-  given = given;
-}
+is_asking setting p q es asked text rule o found said names streams given =
+    let h = past (trail setting es).events in
+    let x = asks_put (asks_bus h rule) p.core q.core rule asked o h said.2 in
+    let i = x.1.1 in
+    let one = put_one q.core (asking_of h rule asked) o.serial i.0 h i.3.0 i.1 i.2 i.4 in
+    record {
+      found = found;
+      would = (said.0, said.1, x.0);
+      fine = x.1.2;
+      next = one.0;
+      short = one.1.1;
+      index = i.3.2;
+      left = one.2;
+      names = names;
+      streams = streams;
+      given = given;
+    }
 
 -- the AddMatch waits at its place
 pub waits_asked : (setting : Setting) (p q : PeerView) (es : List Entry) (asked : Option ℕ) (text : List ℕ) (rule : Rule) (o : Opening) → IsAsking setting p q es asked text rule o
@@ -260,24 +316,24 @@ not_long setting p q es asked text rule o k =
 -- by its message in front of the history
 follows_asked : (setting : Setting) (p q r : PeerView) (es : List Entry) (lane : ℕ) (asked : Option ℕ) (text : List ℕ) (rule : Rule) (o : Opening) (a : Answer) (done : events.Event) (owner : Option ℕ)
     → IsAsking setting p q es asked text rule o → Follows setting p es
-    → (trail setting (entry lane (words.Open asked text) a ∷ es)).events ≡ done ∷ events.Added (add_message (past (trail setting es).events) rule o.serial) rule asked ∷ (trail setting es).events
+    → (trail setting (entry lane (words.Open asked text) a ∷ es)).events ≡ done ∷ events.Put (add_message (past (trail setting es).events) rule o.serial) (events.Adds rule asked) ∷ (trail setting es).events
     → add_names (trail setting es).events a ≡ None ∷ [] → asked_streams (trail setting es).events lane a ≡ owner ∷ []
-    → events.read (done ∷ events.Added (add_message (past (trail setting es).events) rule o.serial) rule asked ∷ (trail setting es).events) ≡ events.read (trail setting es).events
-    → all_given (past (done ∷ events.Added (add_message (past (trail setting es).events) rule o.serial) rule asked ∷ (trail setting es).events))
-    ≡ all_given (past (events.Added (add_message (past (trail setting es).events) rule o.serial) rule asked ∷ (trail setting es).events))
-    → events.put (done ∷ events.Added (add_message (past (trail setting es).events) rule o.serial) rule asked ∷ (trail setting es).events)
+    → events.read (done ∷ events.Put (add_message (past (trail setting es).events) rule o.serial) (events.Adds rule asked) ∷ (trail setting es).events) ≡ events.read (trail setting es).events
+    → all_given (past (done ∷ events.Put (add_message (past (trail setting es).events) rule o.serial) (events.Adds rule asked) ∷ (trail setting es).events))
+    ≡ all_given (past (events.Put (add_message (past (trail setting es).events) rule o.serial) (events.Adds rule asked) ∷ (trail setting es).events))
+    → events.put (done ∷ events.Put (add_message (past (trail setting es).events) rule o.serial) (events.Adds rule asked) ∷ (trail setting es).events)
     ≡ events.put (trail setting es).events ++ add_message (past (trail setting es).events) rule o.serial ∷ []
-    → events.done (done ∷ events.Added (add_message (past (trail setting es).events) rule o.serial) rule asked ∷ (trail setting es).events) ≡ events.done (trail setting es).events + 1
+    → events.done (done ∷ events.Put (add_message (past (trail setting es).events) rule o.serial) (events.Adds rule asked) ∷ (trail setting es).events) ≡ events.done (trail setting es).events + 1
     → IsAskOf (trail setting es) lane rule a
     → r.names ≡ q.names ++ None ∷ [] → r.streams ≡ q.streams ++ owner ∷ [] → r.given ≡ q.given ++ None ∷ []
-    → Left r.core (past (done ∷ events.Added (add_message (past (trail setting es).events) rule o.serial) rule asked ∷ (trail setting es).events))
+    → Left r.core (past (done ∷ events.Put (add_message (past (trail setting es).events) rule o.serial) (events.Adds rule asked) ∷ (trail setting es).events))
     → Follows setting r (entry lane (words.Open asked text) a ∷ es)
 follows_asked setting p q r es lane asked text rule o a done owner k f same no_call owns read given_still put_more done_more answer names streams given left =
     let t = trail setting es in
     let h = t.events in
     let m = add_message (past h) rule o.serial in
     let means = adds_means t lane asked text rule k.found k.would in
-    follows_more setting r es (entry lane (words.Open asked text) a) (done ∷ events.Added m rule asked ∷ h) same left
+    follows_more setting r es (entry lane (words.Open asked text) a) (done ∷ events.Put m (events.Adds rule asked) ∷ h) same left
     (names ∙ ap (λ ns. ns ++ None ∷ []) (k.names ∙ f.names) ∙ ap (λ ns. t.names ++ ns) (sym (ap (λ p. calls_by h lane p a) means ∙ no_call)))
     (streams ∙ ap (λ ns. ns ++ owner ∷ []) (k.streams ∙ f.streams) ∙ ap (λ ns. t.streams ++ ns) (sym (ap (λ p. streams_by h lane p a) means ∙ owns)))
     (given ∙ ap (λ gs. gs ++ None ∷ []) (k.given ∙ f.given) ∙ sym (given_still ∙ given_added m rule asked h))
@@ -289,7 +345,7 @@ follows_asked setting p q r es lane asked text rule o a done owner k f same no_c
 asked_out : (setting : Setting) (p q r : PeerView) (es : List Entry) (lane : ℕ) (asked : Option ℕ) (text : List ℕ) (rule : Rule) (o : Opening) (now after : Outlet) (writing : Writing)
     → IsAsking setting p q es asked text rule o → Follows setting p es
     → r.names ≡ q.names ++ None ∷ [] → r.streams ≡ q.streams ++ Some lane ∷ [] → r.given ≡ q.given ++ None ∷ []
-    → Left r.core (past (events.Wrote ∷ events.Added (add_message (past (trail setting es).events) rule o.serial) rule asked ∷ (trail setting es).events))
+    → Left r.core (past (events.Wrote ∷ events.Put (add_message (past (trail setting es).events) rule o.serial) (events.Adds rule asked) ∷ (trail setting es).events))
     → Appends now.held after.held (add_message (past (trail setting es).events) rule o.serial).bytes
     → RoomFalls now.room after.room (length (add_message (past (trail setting es).events) rule o.serial).bytes) → after.faults ≡ now.faults → writing ≡ Fine
     → Sending setting r es lane (words.Open asked text) now after writing (answers.Opening (count lane q.streams) o.serial)
@@ -302,11 +358,11 @@ asked_out setting p q r es lane asked text rule o now after writing k f names st
     let next = next_serial-next h o.serial k.next in
     let means = adds_means t lane asked text rule k.found k.would in
     let to : a ≡ b = ap (λ ns. answers.Opening (count lane ns) o.serial) (k.streams ∙ f.streams) ∙ ap (λ s. answers.Opening (count lane t.streams) (or_zero s)) (sym next) in
-    let same : (trail setting (entry lane (words.Open asked text) a ∷ es)).events ≡ events.Wrote ∷ events.Added m rule asked ∷ h =
+    let same : (trail setting (entry lane (words.Open asked text) a ∷ es)).events ≡ events.Wrote ∷ events.Put m (events.Adds rule asked) ∷ h =
     ap (λ p. does h p a ++ h) means in
     record {
       follows = follows_asked setting p q r es lane asked text rule o a events.Wrote (Some lane) k f same refl refl refl
-          (given_same (events.Wrote ∷ events.Added m rule asked ∷ h) (events.Added m rule asked ∷ h) refl refl) refl refl
+          (given_same (events.Wrote ∷ events.Put m (events.Adds rule asked) ∷ h) (events.Put m (events.Adds rule asked) ∷ h) refl refl) refl refl
           (called_so t lane rule None writers.Fine a (not_long setting p q es asked text rule o k) k.fine (inl to)) names streams given left;
       writes = λ start x. writes_all setting start now after es lane (words.Open asked text) a (m ∷ []) (ap events.put same) (ap events.written same) (ap events.is_failed same ∙ fine_unfailed h k.fine) (fine_unfailed h k.fine)
           (subst (λ bytes. Appends now.held after.held bytes) (sym (encoded_one m)) appends)
@@ -332,12 +388,12 @@ asked_by setting p q r es lane asked text rule o now after writing a failed k f 
     let m = add_message (past h) rule o.serial in
     let next = next_serial-next h o.serial k.next in
     let means = adds_means t lane asked text rule k.found k.would in
-    let same : (trail setting (entry lane (words.Open asked text) write_fault ∷ es)).events ≡ events.Fault ∷ events.Added m rule asked ∷ h =
-    ap (λ p. does h p write_fault ++ h) means ∙ ap (λ w. failed_put w (events.Added (add_message (past h) rule (or_zero (next_serial h))) rule asked) ++ h) k.fine
-    ∙ ap (λ s. events.Fault ∷ events.Added (add_message (past h) rule (or_zero s)) rule asked ∷ h) next in
+    let same : (trail setting (entry lane (words.Open asked text) write_fault ∷ es)).events ≡ events.Fault ∷ events.Put m (events.Adds rule asked) ∷ h =
+    ap (λ p. does h p write_fault ++ h) means ∙ ap (λ w. failed_put w (events.Put (add_message (past h) rule (or_zero (next_serial h))) (events.Adds rule asked)) ++ h) k.fine
+    ∙ ap (λ s. events.Fault ∷ events.Put (add_message (past h) rule (or_zero s)) (events.Adds rule asked) ∷ h) next in
     subst (λ x. Sending setting r es lane (words.Open asked text) now after writing x) (sym (is ∙ ap (λ e. ask_answer e (count lane q.streams) o.serial) error)) (record {
       follows = follows_asked setting p q r es lane asked text rule o write_fault events.Fault None k f same (ap (λ w. failed_name w true) k.fine) (ap (λ w. failed_name w true) k.fine) refl
-          (given_fault (events.Added m rule asked ∷ h)) refl refl
+          (given_fault (events.Put m (events.Adds rule asked) ∷ h)) refl refl
           (called_so t lane rule None writers.Fine write_fault (not_long setting p q es asked text rule o k) k.fine (inr refl)) names
           (streams ∙ ap (λ e. q.streams ++ ask_owner e lane ∷ []) error) given (left _ k.left);
       writes = λ start x. writes_broke setting start now after es lane (words.Open asked text) write_fault m [] n (ap events.put same) (ap events.written same) (ap events.is_failed same) (fine_unfailed h k.fine)

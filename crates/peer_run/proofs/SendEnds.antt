@@ -123,7 +123,7 @@ at_end [] m = refl
 at_end (x ∷ xs) m = at_end xs m
 
 -- the message that was issued stands at its place of the outbox
-waits_there : (v : View) (h : List events.Event) (m : Seen) (expects : Bool) (index : ℕ) → index ≡ length (events.put h) → Left v (past (events.Put m expects ∷ h)) → slice_get v.outbox index ≡ Some m
+waits_there : (v : View) (h : List events.Event) (m : Seen) (expects : Bool) (index : ℕ) → index ≡ length (events.put h) → Left v (past (events.Put m (events.OfLane expects) ∷ h)) → slice_get v.outbox index ≡ Some m
 waits_there v h m expects index e l = ap (λ xs. slice_get xs index) l.outbox ∙ ap (slice_get (events.put h ++ m ∷ [])) e ∙ at_end (events.put h) m
 
 -- the sink takes what goes with the message
@@ -171,7 +171,7 @@ failed_then : (setting : Setting) (es : List Entry) (lane : ℕ) (w : Words) (pa
     → next_serial (trail setting es).events ≡ Some serial → events.writer (trail setting (entry lane w a ∷ es)).events ≡ writers.Fine → ⊥
 failed_then setting es lane w parcel serial a k answer fine next f =
     let m = message_of parcel serial in
-    let same : (trail setting (entry lane w write_fault ∷ es)).events ≡ events.Fault ∷ events.Put m (expects (Ok parcel)) ∷ (trail setting es).events =
+    let same : (trail setting (entry lane w write_fault ∷ es)).events ≡ events.Fault ∷ events.Put m (events.OfLane (expects (Ok parcel))) ∷ (trail setting es).events =
     entry_events setting es lane w (Ok parcel) write_fault k ∙ fault_events (trail setting es).events parcel serial fine next in
     let g : writers.Failed ≡ writers.Fine = sym (ap (λ w. events.worse w writers.Failed) fine) ∙ sym (ap events.writer same) ∙ sym (ap (λ b. events.writer (trail setting (entry lane w b ∷ es)).events) answer) ∙ f in
     cc

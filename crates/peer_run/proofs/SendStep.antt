@@ -151,7 +151,7 @@ follows_unsent setting p es lane w asked error k f r ne is =
 
 -- what a message that went out leaves
 sent_events : (h : List events.Event) (parcel : Parcel) (expects_one : Bool) (call serial : ℕ)
-    → send_events h (Ok parcel) (sent_answer expects_one call serial) ≡ events.Wrote ∷ events.Put (message_of parcel serial) expects_one ∷ []
+    → send_events h (Ok parcel) (sent_answer expects_one call serial) ≡ events.Wrote ∷ events.Put (message_of parcel serial) (events.OfLane expects_one) ∷ []
 sent_events h parcel true call serial = refl
 sent_events h parcel false call serial = refl
 
@@ -168,19 +168,19 @@ failed_names names false = sym (append-nil names)
 pub follows_sent : (setting : Setting) (p q : PeerView) (es : List Entry) (lane serial : ℕ) (w : Words) (parcel : Parcel) → IsSending (trail setting es) lane w (Ok parcel) → Follows setting p es
     → send_refusal (trail setting es).events (Ok parcel) ≡ None → events.writer (trail setting es).events ≡ writers.Fine → next_serial (trail setting es).events ≡ Some serial
     → q.names ≡ named (expects (Ok parcel)) (Some lane) p.names → q.streams ≡ p.streams → q.given ≡ p.given
-    → Left q.core (past (events.Wrote ∷ events.Put (message_of parcel serial) (expects (Ok parcel)) ∷ (trail setting es).events))
+    → Left q.core (past (events.Wrote ∷ events.Put (message_of parcel serial) (events.OfLane (expects (Ok parcel))) ∷ (trail setting es).events))
     → Follows setting q (entry lane w (sent_answer (expects (Ok parcel)) (count lane p.names) serial) ∷ es)
 follows_sent setting p q es lane serial w parcel k f r fine next names streams given left =
     let h = (trail setting es).events in
     let b = expects (Ok parcel) in
     let number = count lane p.names in
     follows_more setting q es (entry lane w (sent_answer b number serial))
-    (events.Wrote ∷ events.Put (message_of parcel serial) b ∷ h)
+    (events.Wrote ∷ events.Put (message_of parcel serial) (events.OfLane b) ∷ h)
     (entry_events setting es lane w (Ok parcel) (sent_answer b number serial) k ∙ ap (λ xs. xs ++ h) (sent_events h parcel b number serial)) left
     (names ∙ ap (named b (Some lane)) f.names ∙ names_sent h lane (Ok parcel) (trail setting es).names b number serial
     ∙ ap (λ ns. (trail setting es).names ++ ns) (sym (k.names (sent_answer b number serial))))
     (streams ∙ f.streams ∙ sym (append-nil (trail setting es).streams) ∙ ap (λ ns. (trail setting es).streams ++ ns) (sym (k.streams (sent_answer b number serial))))
-    (given ∙ f.given ∙ sym (given_same (events.Wrote ∷ events.Put (message_of parcel serial) b ∷ h) h refl refl)) f.legal
+    (given ∙ f.given ∙ sym (given_same (events.Wrote ∷ events.Put (message_of parcel serial) (events.OfLane b) ∷ h) h refl refl)) f.legal
     (k.answer (sent_answer b number serial) (rw (r, fine) (inl (called_as (ap (count lane) f.names) next))))
     (let same : q.core.read ≡ p.core.read = left.read ∙ sym f.left.read in rw same f.within)
     (left.done ∙ ap (λ n. n + 1) (sym f.left.done ∙ f.written ∙ ap length f.left.outbox) ∙ sym (length_push (events.put h) _) ∙ ap length (sym left.outbox))
@@ -191,25 +191,25 @@ follows_sent setting p q es lane serial w parcel k f r fine next names streams g
 
 -- the events of a message whose write failed
 pub fault_events : (h : List events.Event) (parcel : Parcel) (serial : ℕ) → events.writer h ≡ writers.Fine → next_serial h ≡ Some serial
-    → send_events h (Ok parcel) write_fault ++ h ≡ events.Fault ∷ events.Put (message_of parcel serial) (expects (Ok parcel)) ∷ h
+    → send_events h (Ok parcel) write_fault ++ h ≡ events.Fault ∷ events.Put (message_of parcel serial) (events.OfLane (expects (Ok parcel))) ∷ h
 fault_events h parcel serial fine next = rw (fine, next) refl
 
 -- the message's write failed
 pub follows_failed : (setting : Setting) (p q : PeerView) (es : List Entry) (lane serial : ℕ) (w : Words) (parcel : Parcel) → IsSending (trail setting es) lane w (Ok parcel) → Follows setting p es
     → send_refusal (trail setting es).events (Ok parcel) ≡ None → events.writer (trail setting es).events ≡ writers.Fine → next_serial (trail setting es).events ≡ Some serial
     → q.names ≡ named (expects (Ok parcel)) None p.names → q.streams ≡ p.streams → q.given ≡ p.given
-    → Left q.core (past (events.Fault ∷ events.Put (message_of parcel serial) (expects (Ok parcel)) ∷ (trail setting es).events))
+    → Left q.core (past (events.Fault ∷ events.Put (message_of parcel serial) (events.OfLane (expects (Ok parcel))) ∷ (trail setting es).events))
     → Follows setting q (entry lane w write_fault ∷ es)
 follows_failed setting p q es lane serial w parcel k f r fine next names streams given left =
     let h = (trail setting es).events in
     let b = expects (Ok parcel) in
     follows_more setting q es (entry lane w write_fault)
-    (events.Fault ∷ events.Put (message_of parcel serial) b ∷ h)
+    (events.Fault ∷ events.Put (message_of parcel serial) (events.OfLane b) ∷ h)
     (entry_events setting es lane w (Ok parcel) write_fault k ∙ fault_events h parcel serial fine next) left
     (names ∙ ap (named b None) f.names ∙ failed_names (trail setting es).names b ∙ ap (λ x. (trail setting es).names ++ failed_name x b) (sym fine)
     ∙ ap (λ ns. (trail setting es).names ++ ns) (sym (k.names write_fault)))
     (streams ∙ f.streams ∙ sym (append-nil (trail setting es).streams) ∙ ap (λ ns. (trail setting es).streams ++ ns) (sym (k.streams write_fault)))
-    (given ∙ f.given ∙ sym (given_fault (events.Put (message_of parcel serial) b ∷ h) ∙ given_same (events.Put (message_of parcel serial) b ∷ h) h refl refl)) f.legal
+    (given ∙ f.given ∙ sym (given_fault (events.Put (message_of parcel serial) (events.OfLane b) ∷ h) ∙ given_same (events.Put (message_of parcel serial) (events.OfLane b) ∷ h) h refl refl)) f.legal
     (k.answer write_fault (rw (r, fine) (inr refl)))
     (let same : q.core.read ≡ p.core.read = left.read ∙ sym f.left.read in rw same f.within)
     (left.done ∙ ap (λ n. n + 1) (sym f.left.done ∙ f.written ∙ ap length f.left.outbox) ∙ sym (length_push (events.put h) _) ∙ ap length (sym left.outbox))
@@ -261,7 +261,7 @@ writes_sent setting start now after es lane number serial w parcel k fine append
     let h = (trail setting es).events in
     let m = message_of parcel serial in
     let b = expects (Ok parcel) in
-    let same : (trail setting (entry lane w (sent_answer b number serial) ∷ es)).events ≡ events.Wrote ∷ events.Put m b ∷ h =
+    let same : (trail setting (entry lane w (sent_answer b number serial) ∷ es)).events ≡ events.Wrote ∷ events.Put m (events.OfLane b) ∷ h =
     entry_events setting es lane w (Ok parcel) (sent_answer b number serial) k ∙ ap (λ xs. xs ++ h) (sent_events h parcel b number serial) in
     writes_all setting start now after es lane w (sent_answer b number serial) (m ∷ []) (ap events.put same) (ap events.written same) (ap events.is_failed same ∙ fine) fine
     (subst (λ bytes. Appends now.held after.held bytes) (sym (encoded_one m)) appends)
@@ -278,6 +278,6 @@ pub writes_failed : (setting : Setting) (start now after : Outlet) (es : List En
 writes_failed setting start now after es lane serial w parcel n k writes_still next part breaks rises r =
     let h = (trail setting es).events in
     let m = message_of parcel serial in
-    let same : (trail setting (entry lane w write_fault ∷ es)).events ≡ events.Fault ∷ events.Put m (expects (Ok parcel)) ∷ h =
+    let same : (trail setting (entry lane w write_fault ∷ es)).events ≡ events.Fault ∷ events.Put m (events.OfLane (expects (Ok parcel))) ∷ h =
     entry_events setting es lane w (Ok parcel) write_fault k ∙ fault_events h parcel serial writes_still next in
     writes_broke setting start now after es lane w write_fault m [] n (ap events.put same) (ap events.written same) (ap events.is_failed same) (fine_unfailed h writes_still) part breaks rises refl k.other r

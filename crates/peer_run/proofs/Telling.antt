@@ -1,5 +1,5 @@
 -- What telling a message bus of rules is: the events that it is by a history, the messages that it puts, and why it isn't done.
-use Rattle.std.proofs.Common.{◌≡◌, ℕ, ◌+◌, ◌||◌, inl, inr, refl, sym, ◌∙◌, ap, subst, arith, Bool, true, false, nat_lt, if◌then◌else◌, List, [], ◌∷◌, ◌++◌, length, map, Option, Some, None, Ok, Err, append_assoc}
+use Rattle.std.proofs.Common.{◌≡◌, ℕ, codes, ◌+◌, ◌||◌, inl, inr, refl, sym, ◌∙◌, ap, subst, arith, Bool, true, false, nat_lt, if◌then◌else◌, List, [], ◌∷◌, ◌++◌, length, map, Option, Some, None, Ok, Err, append_assoc}
 use Rattle.std.specs.List.{AllByRecursion}
 use borrow.Author.Tests.{lt-ltb, le-ltb}
 use Rattle.wire_message.specs.Front.{Seen}
@@ -9,7 +9,7 @@ use Rattle.wire_message.specs.declared.error.IoKind.TheVariants as kinds
 use Rattle.rule_match.specs.Rule.{Rule}
 use Rattle.peer_route.specs.declared.writer.Writer.TheVariants as writers
 use Rattle.peer_route.specs.declared.answer.Answer.TheVariants as answers
-use Rattle.peer_route.specs.History.{Event, Wrote, Fault, Removed, put, done, is_failed, writer, past}
+use Rattle.peer_route.specs.History.{Event, Wrote, Fault, Put, Removes, put, done, is_failed, writer, Past, past}
 use Rattle.peer_route.specs.Streams.{all_given}
 use Rattle.peer_route.specs.History as events
 use Rattle.peer_route.specs.BusCall.{remove_message, last_of, some_rules}
@@ -19,7 +19,10 @@ use Rattle.peer_route.specs.Trail.{next_serial, or_zero}
 use Rattle.peer_route.specs.Entries.{removal, removals, removal_serials, wrote_each, fault_each}
 use Rattle.peer_route.specs.Answers.{have_serials, some_long, tell_refusal, IsTold, write_fault, first_fault}
 use Rattle.peer_route.specs.StreamLaws.{tellings}
-use Rattle.peer_route.specs.Leaving.{AreTold, TellsNone, AreBrief, SomeNotBrief, removed_each, MayTell, TellsBus}
+use Rattle.peer_route.specs.Leaving.{tellings_of, TellsBus}
+use Rattle.peer_route.specs.Issuing.{are_deep, parcels, AreDrawn, RunsOut, put_each, AreShort, SomeLong, AreReady}
+use Rattle.wire_signature.specs.declared.error.VariantError.TheVariants as faults
+use Rattle.peer_route.proofs.RuleCalls.{rule_long}
 use Rattle.peer_route.specs.Left.{View, Left}
 use Rattle.peer_route.proofs.Given.{given_same, given_fault}
 use Rattle.peer_route.proofs.NextSerial.{next_serial-next, next_serial-none}
@@ -27,48 +30,51 @@ use Rattle.peer_route.proofs.NextSerial.{next_serial-next, next_serial-none}
 -- ---- the serials
 
 -- the serials that were drawn are those that are next
-pub told_serials : (h : List Event) (rules : List Rule) (serials : List ℕ) → AreTold (past h) rules serials → serials ≡ removal_serials h rules
+pub told_serials : (h : List Event) (rules : List Rule) (serials : List ℕ) → AreDrawn (past h) (tellings_of (past h) rules) serials → serials ≡ removal_serials h rules
 told_serials h [] [] t = refl
 told_serials h [] (serial ∷ serials) t = absurd t
 told_serials h (rule ∷ rules) [] t = absurd t
 told_serials h (rule ∷ rules) (serial ∷ serials) t =
-    rw (next_serial-next h serial t.0) (ap (λ ns. serial ∷ ns) (told_serials (Removed (remove_message (past h) rule serial) ∷ h) rules serials t.1))
+    rw (next_serial-next h serial t.0) (ap (λ ns. serial ∷ ns) (told_serials (Put (remove_message (past h) rule serial) Removes ∷ h) rules serials t.1))
 
 -- and what they leave is what telling of the rules is
-pub told_events : (h : List Event) (rules : List Rule) (serials : List ℕ) → AreTold (past h) rules serials → removed_each rules serials (past h) ≡ past (removals h rules ++ h)
+pub told_events : (h : List Event) (rules : List Rule) (serials : List ℕ) → AreDrawn (past h) (tellings_of (past h) rules) serials
+    → put_each (tellings_of (past h) rules) serials (past h) ≡ past (removals h rules ++ h)
 told_events h [] [] t = refl
 told_events h [] (serial ∷ serials) t = absurd t
 told_events h (rule ∷ rules) [] t = absurd t
 told_events h (rule ∷ rules) (serial ∷ serials) t =
-    let e = Removed (remove_message (past h) rule serial) in
+    let e = Put (remove_message (past h) rule serial) Removes in
     rw (next_serial-next h serial t.0) (told_events (e ∷ h) rules serials t.1 ∙ ap past (sym (append_assoc (removals (e ∷ h) rules) (e ∷ []) h)))
 
 -- ---- why nothing is told
 
-have_told : (h : List Event) (rules : List Rule) (serials : List ℕ) → AreTold (past h) rules serials → have_serials h rules ≡ true
+have_told : (h : List Event) (rules : List Rule) (serials : List ℕ) → AreDrawn (past h) (tellings_of (past h) rules) serials → have_serials h rules ≡ true
 have_told h [] serials t = refl
 have_told h (rule ∷ rules) [] t = absurd t
 have_told h (rule ∷ rules) (serial ∷ serials) t =
-    rw (next_serial-next h serial t.0) (have_told (Removed (remove_message (past h) rule serial) ∷ h) rules serials t.1)
+    rw (next_serial-next h serial t.0) (have_told (Put (remove_message (past h) rule serial) Removes ∷ h) rules serials t.1)
 
-have_none : (h : List Event) (rules : List Rule) → TellsNone (past h) rules → have_serials h rules ≡ false
+have_none : (h : List Event) (rules : List Rule) → RunsOut (past h) (tellings_of (past h) rules) → have_serials h rules ≡ false
 have_none h [] t = absurd t
 have_none h (rule ∷ rules) (inl all) = rw (next_serial-none h all) refl
 have_none h (rule ∷ rules) (inr t) =
-    rw (next_serial-next h t.0 t.1) (have_none (Removed (remove_message (past h) rule t.0) ∷ h) rules t.2)
+    rw (next_serial-next h t.0 t.1) (have_none (Put (remove_message (past h) rule t.0) Removes ∷ h) rules t.2)
 
-none_long : (h : List Event) (rules : List Rule) (serials : List ℕ) → AreTold (past h) rules serials → AreBrief (past h) rules serials → some_long h rules ≡ false
+none_long : (h : List Event) (rules : List Rule) (serials : List ℕ) → AreDrawn (past h) (tellings_of (past h) rules) serials → AreShort (parcels (tellings_of (past h) rules)) serials
+    → some_long h rules ≡ false
 none_long h [] serials t b = refl
 none_long h (rule ∷ rules) [] t b = absurd t
 none_long h (rule ∷ rules) (serial ∷ serials) t b =
-    rw (next_serial-next h serial t.0, le-ltb _ _ b.0) (none_long (Removed (remove_message (past h) rule serial) ∷ h) rules serials t.1 b.1)
+    rw (next_serial-next h serial t.0, le-ltb _ _ b.0.1) (none_long (Put (remove_message (past h) rule serial) Removes ∷ h) rules serials t.1 b.1)
 
-one_long : (h : List Event) (rules : List Rule) (serials : List ℕ) → AreTold (past h) rules serials → SomeNotBrief (past h) rules serials → some_long h rules ≡ true
+one_long : (h : List Event) (rules : List Rule) (serials : List ℕ) → AreDrawn (past h) (tellings_of (past h) rules) serials → SomeLong (parcels (tellings_of (past h) rules)) serials
+    → some_long h rules ≡ true
 one_long h [] serials t b = absurd b
 one_long h (rule ∷ rules) [] t b = absurd t
-one_long h (rule ∷ rules) (serial ∷ serials) t (inl long) = rw (next_serial-next h serial t.0, lt-ltb _ _ long) refl
+one_long h (rule ∷ rules) (serial ∷ serials) t (inl long) = rw (next_serial-next h serial t.0, lt-ltb _ _ (rule_long (codes "RemoveMatch") (past h).name rule serial long)) refl
 one_long h (rule ∷ rules) (serial ∷ serials) t (inr long) =
-    rw (next_serial-next h serial t.0) (or_true (nat_lt 134217728 (length (remove_message (past h) rule serial).bytes)) (one_long (Removed (remove_message (past h) rule serial) ∷ h) rules serials t.1 long))
+    rw (next_serial-next h serial t.0) (or_true (nat_lt 134217728 (length (remove_message (past h) rule serial).bytes)) (one_long (Put (remove_message (past h) rule serial) Removes ∷ h) rules serials t.1 long))
   where
     or_true : (b : Bool) {c : Bool} → c ≡ true → (b || c) ≡ true
     or_true true e = refl
@@ -88,38 +94,46 @@ pub record IsPut (new : View) (g : List Event) (rules : List Rule) (last : Optio
   pub left : Left new (past (removals g rules ++ g))
 
 pub told_ok : (new : View) (g : List Event) (rules : List Rule) (last : Option ℕ) → TellsBus new (past g) rules (Ok last) → IsPut new g rules last
-told_ok new g rules last x = record {
-  refusal = refusal_by true false g rules (have_told g rules x.0 x.1) (none_long g rules x.0 x.1 x.2);
-  fine = x.3;
-  serial = x.4 ∙ ap last_of (told_serials g rules x.0 x.1);
-  left = subst (Left new) (told_events g rules x.0 x.1) x.5;
-}
+told_ok new g [] last x = record { refusal = refl; fine = λ e. cc; serial = x.0; left = x.1 }
+told_ok new g (rule ∷ rules) last x =
+    let serials = x.1.0 in
+    let drawn = x.1.1 in
+    record {
+      refusal = refusal_by true false g (rule ∷ rules) (have_told g (rule ∷ rules) serials drawn) (none_long g (rule ∷ rules) serials drawn x.1.2);
+      fine = λ e. x.2;
+      serial = x.1.3 ∙ ap last_of (told_serials g (rule ∷ rules) serials drawn);
+      left = subst (Left new) (told_events g (rule ∷ rules) serials drawn) x.1.4;
+    }
 
-may_tell : (g : List Event) (rules : List Rule) → MayTell (past g) rules → tell_refusal g rules ≡ None
-may_tell g rules x = refusal_by true false g rules (have_told g rules x.1.0 x.1.1) (none_long g rules x.1.0 x.1.1 x.1.2)
+may_tell : (g : List Event) (rules : List Rule) → AreReady (past g) (tellings_of (past g) rules) → tell_refusal g rules ≡ None
+may_tell g rules x = refusal_by true false g rules (have_told g rules x.0 x.1) (none_long g rules x.0 x.1 x.2)
+
+none_deep : (h : Past) (rules : List Rule) → are_deep (tellings_of h rules) ≡ false
+none_deep h [] = refl
+none_deep h (rule ∷ rules) = none_deep h rules
 
 -- where there are rules, and they can't be told of
 by_refusal : (g : List Event) (rule : Rule) (rules : List Rule) (error : Error) → tell_refusal g (rule ∷ rules) ≡ Some error → IsTold g (rule ∷ rules) (answers.Untold error)
 by_refusal g rule rules error e = rw e refl
 
 -- it isn't told, for this reason
-pub untold : (new : View) (g : List Event) (rules : List Rule) (error : Error) → TellsBus new (past g) rules (Err error) → IsTold g rules (answers.Untold error) × Left new (past g)
-untold new g [] errors.SerialsSpent x = absurd x.0
-untold new g [] errors.ExcessData x = absurd x.0.2
-untold new g [] (errors.InputOutput kinds.WriteFault) x = let e : false ≡ true = x.0.0 in absurd (cc)
-untold new g [] (errors.InputOutput kinds.Closed) x = let e : false ≡ true = x.0.0 in absurd (cc)
-untold new g [] error x = absurd x
-untold new g (rule ∷ rules) errors.SerialsSpent x =
-    (by_refusal g rule rules errors.SerialsSpent (ap (λ b. if b then (if some_long g (rule ∷ rules) then Some errors.ExcessData else None) else Some errors.SerialsSpent) (have_none g (rule ∷ rules) x.0)), x.1)
-untold new g (rule ∷ rules) errors.ExcessData x =
-    (by_refusal g rule rules errors.ExcessData (refusal_by true true g (rule ∷ rules) (have_told g (rule ∷ rules) x.0.0 x.0.1) (one_long g (rule ∷ rules) x.0.0 x.0.1 x.0.2)), x.1)
-untold new g (rule ∷ rules) (errors.InputOutput kinds.WriteFault) x = (rw (may_tell g (rule ∷ rules) x.0, x.1) refl, x.2)
-untold new g (rule ∷ rules) (errors.InputOutput kinds.Closed) x = (rw (may_tell g (rule ∷ rules) x.0, x.1) refl, x.2)
-untold new g (rule ∷ rules) error x = absurd x
+pub untold : (new : View) (g : List Event) (rules : List Rule) (error : Error) → (error ≡ errors.Memory → ⊥) → TellsBus new (past g) rules (Err error)
+    → IsTold g rules (answers.Untold error) × Left new (past g)
+untold new g [] error n x = absurd x
+untold new g (rule ∷ rules) errors.SerialsSpent n x =
+    (by_refusal g rule rules errors.SerialsSpent (ap (λ b. if b then (if some_long g (rule ∷ rules) then Some errors.ExcessData else None) else Some errors.SerialsSpent) (have_none g (rule ∷ rules) x.1)), x.2)
+untold new g (rule ∷ rules) errors.ExcessData n x =
+    (by_refusal g rule rules errors.ExcessData (refusal_by true true g (rule ∷ rules) (have_told g (rule ∷ rules) x.1.0 x.1.1) (one_long g (rule ∷ rules) x.1.0 x.1.1 x.1.2)), x.2)
+untold new g (rule ∷ rules) (errors.InputOutput kinds.WriteFault) n x = (rw (may_tell g (rule ∷ rules) x.1, x.2) refl, x.3)
+untold new g (rule ∷ rules) (errors.InputOutput kinds.Closed) n x = (rw (may_tell g (rule ∷ rules) x.1, x.2) refl, x.3)
+untold new g (rule ∷ rules) (errors.Variant faults.Depth) n x = let e : false ≡ true = sym (none_deep (past g) (rule ∷ rules)) ∙ x.0 in absurd (cc)
+untold new g (rule ∷ rules) errors.Memory n x = absurd (n refl)
+untold new g (rule ∷ rules) error n x = absurd x
 
 -- after a failed write it isn't told for that one
 pub untold_failed : (new : View) (g : List Event) (rules : List Rule) → TellsBus new (past g) rules (Err (errors.InputOutput kinds.WriteFault)) → writer g ≡ writers.Failed
-untold_failed new g rules x = x.1
+untold_failed new g [] x = absurd x
+untold_failed new g (rule ∷ rules) x = x.2
 
 -- ---- what is answered where it was told
 

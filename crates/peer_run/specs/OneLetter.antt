@@ -12,7 +12,7 @@ use Rattle.peer_route.specs.CallMessage.{expects}
 use Rattle.peer_route.specs.History.{Event, put, calls, last_serial, writer, past}
 use Rattle.peer_route.specs.Calls.{pending}
 use Rattle.peer_route.specs.Left.{View, Left}
-use Rattle.peer_route.specs.Issuing.{is_deep, IsShort, IsTooLong, put_of, call_number}
+use Rattle.peer_route.specs.Issuing.{is_deep, IsShort, IsTooLong, of_lane, put_of, call_number}
 
 -- By the history before it, the message is put with the next serial, or nothing changes.
 abbrev pub IssuesOne : View → View → Parcel → List Event → Result Issued Error → Type 0
@@ -21,7 +21,7 @@ IssuesOne old new parcel h (Ok issued) =
     × IsShort parcel issued.serial
     × (writer h ≡ writers.Fine)
     × (issued.index ≡ length (put h)) × (issued.call ≡ call_number (expects (Ok parcel)) (length (calls h)))
-    × Left new (past (put_of parcel issued.serial ∷ h))
+    × Left new (past (put_of (of_lane parcel) issued.serial ∷ h))
 IssuesOne old new parcel h (Err errors.SerialsSpent) = AllTaken (pending (past h)) × (new ≡ old)
 IssuesOne old new parcel h (Err (errors.Variant faults.Depth)) = (is_deep parcel ≡ true) × (new ≡ old)
 IssuesOne old new parcel h (Err errors.ExcessData) =

@@ -255,6 +255,49 @@ fn command_of_two(
     }
 }
 
+/// The words of a name and three words more.
+#[tactic(auto, unfolding(crate::specs::Script::command_words))]
+fn command_of_three(
+    alloc: Global,
+    name: &[u8],
+    stream: &[u8],
+    error: &[u8],
+    body: &[u8],
+) -> Result<Option<Words>, AllocError>
+    ensures { IfOk result (λ words. words ≡ command_words (name.now ∷ stream.now ∷ error.now ∷ body.now ∷ [])) }
+{
+    if same(name, b"error") {
+        error_of(alloc, stream, error, body)
+    } else {
+        Ok(None)
+    }
+}
+
+/// The words of a name and six words more.
+#[tactic(auto, unfolding(crate::specs::Script::command_words))]
+fn command_of_six(
+    alloc: Global,
+    name: &[u8],
+    destination: &[u8],
+    path: &[u8],
+    interface: &[u8],
+    member: &[u8],
+    flags: &[u8],
+    body: &[u8],
+) -> Result<Option<Words>, AllocError>
+    ensures { IfOk result (λ words. words ≡ command_words (name.now ∷ destination.now ∷ path.now ∷ interface.now ∷ member.now ∷ flags.now ∷ body.now ∷ [])) }
+{
+    if same(name, b"call") {
+        let interface = optional_of(alloc, interface)?;
+        Ok(call_of(outgoing_of(alloc, destination, path, interface, member, flags, body)?))
+    } else if same(name, b"signal") {
+        let interface = present_of(alloc, interface)?;
+        Ok(signal_of(outgoing_of(alloc, destination, path, interface, member, flags, body)?))
+    } else {
+        Ok(None)
+    }
+}
+
 #[tactic(auto, unfolding(crate::specs::Script::command_words))]
 fn command_words(alloc: Global, words: &[&[u8]]) -> Result<Option<Words>, AllocError>
     ensures { IfOk result (λ w. w ≡ command_words (map (λ word. word.now) words.now)) }
@@ -263,31 +306,18 @@ fn command_words(alloc: Global, words: &[&[u8]]) -> Result<Option<Words>, AllocE
         [name] => Ok(lone_command(name)),
         [name, number] => Ok(numbered_command(name, number)),
         [name, number, word] => command_of_two(alloc, name, number, word),
-        [name, stream, error, body] => {
-            if same(name, b"error") {
-                error_of(alloc, stream, error, body)
-            } else {
-                Ok(None)
-            }
-        }
+        [name, stream, error, body] => command_of_three(alloc, name, stream, error, body),
         [name, destination, path, interface, member, flags, body] => {
-            if same(name, b"call") {
-                let interface = optional_of(alloc, interface)?;
-                Ok(call_of(outgoing_of(alloc, destination, path, interface, member, flags, body)?))
-            } else if same(name, b"signal") {
-                let interface = present_of(alloc, interface)?;
-                Ok(signal_of(outgoing_of(
-                    alloc,
-                    destination,
-                    path,
-                    interface,
-                    member,
-                    flags,
-                    body,
-                )?))
-            } else {
-                Ok(None)
-            }
+            command_of_six(
+                alloc,
+                name,
+                destination,
+                path,
+                interface,
+                member,
+                flags,
+                body,
+            )
         }
         _ => Ok(None),
     }

@@ -2,37 +2,17 @@
 use Rattle.std.proofs.Common.{◌≡◌, refl, sym, ◌∙◌, ap, subst, ℕ, suc, ◌+◌, ◌<◌, false, true, List, [], ◌∷◌, ◌++◌, length, arith, append_assoc, length-append, drop}
 use Rattle.std.proofs.Math.Seq.{drop-append_seam}
 use Rattle.wire_number.specs.declared.endian.Endian.{Endian}
-use Rattle.wire_signature.specs.Shape.{Shape, basic, variant, array, dict, struct, shapes_of, type_text, types_text, IsType}
-use Rattle.wire_signature.specs.Parsing.{first_at}
-use Rattle.wire_signature.proofs.Takes.{Takes}
-use Rattle.wire_signature.proofs.Exact.{first_again}
+use Rattle.wire_signature.specs.Shape.{Shape, shapes_of, type_text, types_text, IsType}
 use Rattle.wire_tree.specs.Datum.{Datum}
 use Rattle.wire_spelling.specs.Spelling.{Spells}
 use Rattle.wire_number.specs.Reading.{Cursor}
-use Rattle.wire_number.proofs.Steps.{some_is}
-use Rattle.wire_spelling.proofs.Exact.{spells_type, same_front}
+use Rattle.wire_spelling.proofs.Walks.{types_length}
+use Rattle.wire_spelling.proofs.Exact.{first_one, spells_type, same_front}
 use Rattle.wire_spelling.specs.Each.{SpellEach}
 use Rattle.rule_arguments.specs.Wanted.{Wanted}
 use Rattle.rule_arguments.specs.Passing.{passes, pass_from, all_below, Left, Passed, PassedValue, NonePasses, NoValuePasses}
 use Rattle.rule_arguments.proofs.Both.{first_true, second_true, both_true}
 use Rattle.rule_arguments.proofs.Tests.{pass_step, pass_end}
-
-takes_itself : (t : Shape) (rest : List ℕ) → IsType t → Takes 32 32 (type_text t ++ rest) t rest
-takes_itself t rest h = record { text_is = refl; arrays_in = h.arrays; structs_in = h.structs; fields = h.fields }
-
--- one type stands at the front of a text
-pub first_one : (t u : Shape) (rest others : List ℕ) → IsType t → IsType u → type_text t ++ rest ≡ type_text u ++ others → (t ≡ u) × (rest ≡ others)
-first_one t u rest others h k e =
-    let both : (t, rest) ≡ (u, others) =
-    some_is _ _ (sym (first_again t rest (takes_itself t rest h)) ∙ ap first_at e ∙ first_again u others (takes_itself u others k)) in
-    (ap (λ x. x.0) both, ap (λ x. x.1) both)
-
-types_length : (t : Shape) → 0 < length (type_text t)
-types_length (basic b) = omega arith
-types_length variant = omega arith
-types_length (array t) = omega arith
-types_length (dict k v) = omega arith
-types_length (struct ts) = omega arith
 
 not_empty : (t : Shape) (rest : List ℕ) → type_text t ++ rest ≡ [] → ⊥
 not_empty t rest e = absurd (omega (arith, types_length t, ap length e, length-append (type_text t) rest))

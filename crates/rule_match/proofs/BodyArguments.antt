@@ -29,10 +29,10 @@ first_type : (t : Shape) (ts : List Shape) → IsSignature (t ∷ ts) → IsType
 first_type t ts h = first_by t ts h.arrays h.structs h.fields h.within
 
 -- what stands at the front of bytes, and what is left behind it
-record Front (order : Endian) (ts : List Shape) (p : ℕ) (bytes : List ℕ) (y : List Datum × Cursor) : Type 0 where
-  front : List ℕ
-  whole : bytes ≡ front ++ y.1.rest
-  spelled : SpellEach order p ts y.0 front
+pub record Front (order : Endian) (ts : List Shape) (p : ℕ) (bytes : List ℕ) (y : List Datum × Cursor) : Type 0 where
+  pub front : List ℕ
+  pub whole : bytes ≡ front ++ y.1.rest
+  pub spelled : SpellEach order p ts y.0 front
 
 spells_by : (order : Endian) (p : ℕ) (t : Shape) (bytes : List ℕ) (x : Datum × Cursor) → IsType t → IsValue 64 order t (at p bytes) x → Spells order p t x.0 (spelling order p x.0)
 spells_by order p t bytes x valid k = record {
@@ -57,7 +57,7 @@ more_front order t ts p bytes x z valid k f = record {
   );
 }
 
-each_found : (order : Endian) (ts : List Shape) (p : ℕ) (bytes : List ℕ) (y : List Datum × Cursor) → IsSignature ts → AreBytes bytes
+pub each_found : (order : Endian) (ts : List Shape) (p : ℕ) (bytes : List ℕ) (y : List Datum × Cursor) → IsSignature ts → AreBytes bytes
     → fields_at (value_at 64 order) (shapes_of ts) (at p bytes) ≡ Some y → Front order ts p bytes y
 unfolding fields_at
 each_found order [] p bytes y h low e =
@@ -76,7 +76,7 @@ none_again order p front rest s =
     let here : p ≡ p + length front = omega (arith, ap length s) in
     ap (λ f. Some ([], at p (f ++ rest))) s ∙ ap (λ n. Some ([], at n rest)) here
 
-each_again : (order : Endian) (ts : List Shape) (p : ℕ) (ds : List Datum) (front rest : List ℕ) → SpellEach order p ts ds front
+pub each_again : (order : Endian) (ts : List Shape) (p : ℕ) (ds : List Datum) (front rest : List ℕ) → SpellEach order p ts ds front
     → fields_at (value_at 64 order) (shapes_of ts) (at p (front ++ rest)) ≡ Some (ds, at (p + length front) rest)
 unfolding fields_at
 each_again order [] p [] front rest s = none_again order p front rest s

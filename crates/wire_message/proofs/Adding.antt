@@ -1,5 +1,5 @@
 -- Fields that are added one behind the other, and where their texts stand.
-use Rattle.std.proofs.Common.{◌≡◌, ℕ, ◌+◌, ◌-◌, ◌≤◌, List, [], ◌∷◌, ◌++◌, length, take, drop, replicate, Result, Ok, Err, refl, sym, ap, ◌∙◌, append_assoc, arith, length-append}
+use Rattle.std.proofs.Common.{◌≡◌, ℕ, ◌+◌, ◌-◌, ◌≤◌, List, [], ◌∷◌, ◌++◌, length, take, drop, Result, Ok, Err, refl, sym, ap, ◌∙◌, append_assoc, arith, length-append}
 use Rattle.std.specs.Prelude.{IfOk}
 use Rattle.std.specs.Int.{w8, w32}
 use Rattle.std.proofs.lemmas.List.{append-nil, take_at, drop_at}
@@ -10,10 +10,9 @@ use Rattle.wire_message.specs.declared.field.FieldCode.{FieldCode}
 use Rattle.wire_message.specs.declared.field.FieldCode.TheVariants as codes
 use Rattle.wire_message.specs.declared.places.Held.{Held}
 use Rattle.wire_message.specs.declared.places.Held.TheVariants as helds
-use Rattle.wire_message.specs.declared.places.Places.{Places}
 use Rattle.wire_message.specs.Field.{Fields, Field, code_bytes, field_type, text_bytes, value_bytes, field_text, fields_text, with_field, gathered}
 use Rattle.wire_message.specs.Held.{HasRoom, StandsAt, value_of}
-use Rattle.wire_message.specs.Places.{area, found_fields, no_places, AreSpans, AppendsFields}
+use Rattle.wire_message.specs.Places.{area, found_fields, AreSpans, AppendsFields, Places}
 use Rattle.wire_message.proofs.FieldLaws.{placed}
 
 -- ---- where a text stands
@@ -54,10 +53,6 @@ held-stands order code (helds.Text lent) bytes front more place next e n =
     (omega (arith, stop), area-there bytes before text ((0 ∷ []) ++ more) (next - 1 - length text) (next - 1) whole (omega (arith, stop)) (omega (arith, stop)))
 
 -- ---- one field
-
--- what needs no padding is appended alone
-pub alone : (p n : ℕ) (text old new : List ℕ) → pad p n ≡ 0 → new ≡ old ++ (padding p n ++ text) → new ≡ old ++ text
-alone p n text old new e h = h ∙ ap (λ (k : ℕ). old ++ (replicate k 0 ++ text)) e
 
 -- behind a field's first four bytes no value needs padding
 pub code-placed : (code : FieldCode) (old new : List ℕ) → new ≡ old ++ (padding (length old) 8 ++ code_bytes code) → pad (length new) 4 ≡ 0
@@ -102,9 +97,9 @@ pub if-ok : {A E : Type 0} {P Q : A → Type 0} (r : Result A E) → ((x : A) �
 if-ok (Ok x) f p = f x p
 if-ok (Err e) f p = p
 
-pub none-added : (order : Endian) (old : List ℕ) (places : Places) → AppendsFields order [] old places old places
+pub none_added : (order : Endian) (old : List ℕ) (places : Places) → AppendsFields order [] old places old places
 unfolding fields_text gathered
-none-added order old places = record { text = sym (append-nil old); found = λ bytes front more l same. refl; spans = λ n h s. s }
+none_added order old places = record { text = sym (append-nil old); found = λ bytes front more l same. refl; spans = λ n h s. s }
 
 pub fields-append : (order : Endian) (place : ℕ) (xs ys : List Field) → fields_text order place (xs ++ ys) ≡ fields_text order place xs ++ fields_text order (place + length (fields_text order place xs)) ys
 unfolding fields_text
@@ -137,6 +132,3 @@ added-then order a b c p q r xs ys f g =
           ∙ ap (λ (t : Fields). gathered t ys) (f.found bytes front (y ++ more) l here) ∙ sym (gathered-append (found_fields bytes p) xs ys);
       spans = λ n h s. g.spans n h (f.spans n (omega (arith, h, ap length g.text, length-append b y)) s);
     }
-
-pub no-spans : (n : ℕ) → AreSpans n no_places
-no-spans n = record { path = tt; interface = tt; member = tt; error_name = tt; destination = tt; sender = tt; signature = tt }

@@ -1,22 +1,18 @@
 -- Bytes that are one message.
 use Rattle.std.proofs.Common.{◌≡◌, ℕ, List, length, slice_index, Result, Ok, Err, refl, sym, ◌∙◌, ap, subst, arith}
-use Rattle.std.specs.Prelude.{IfOk}
 use Rattle.std.proofs.lemmas.Bool.Decides.{nat_tests}
 use Rattle.std.proofs.lemmas.List.{length-take-le}
 use Rattle.wire_number.specs.declared.endian.Endian.{Endian}
-use Rattle.wire_number.specs.declared.endian.Endian.TheVariants.{Little, Big}
 use Rattle.wire_number.proofs.Numbers.{IsBytes}
 use Rattle.wire_message.specs.Front.{Seen, order_code, total, Front}
-use Rattle.wire_message.specs.Outcome.{front_outcome, Tells}
+use Rattle.wire_message.specs.Outcome.{front_outcome}
 use Rattle.wire_message.specs.Whole.{alone, whole_outcome}
 use Rattle.wire_message.specs.declared.error.Error.{Error}
 use Rattle.wire_message.specs.declared.error.IoKind.TheVariants as kinds
 use Rattle.wire_message.proofs.Grammar.{front_outcome-found, front_outcome-again}
 
 codes-differ : (a b : Endian) (n : ℕ) → n ≡ order_code a → n ≡ order_code b → a ≡ b
-codes-differ Little Little n e f = refl
-codes-differ Big Big n e f = refl
-codes-differ a b n e f = absurd (omega (arith, e, f))
+codes-differ a b n e f = grind (arith, nat_tests)
 
 alone-ok : (bytes : List ℕ) (r : Result Seen Error) (m : Seen) → alone bytes r ≡ Ok m → (r ≡ Ok m) × (length m.bytes ≡ length bytes)
 alone-ok bytes (Err error) m e = absurd cc
@@ -43,17 +39,4 @@ whole-again order bytes m p o f =
     let head = f.head in
     grind (arith, nat_tests)
 
--- what the calls say of their results
-pub found-whole : (order : Endian) (bytes : List ℕ) (r : Result Seen Error) → IsBytes bytes → Tells (λ (x : Seen). x) r (whole_outcome order bytes)
-    → IfOk r (λ m. Front bytes m (length bytes))
-found-whole order bytes (Ok m) fits t = (whole-found order bytes m fits t).0
-found-whole order bytes (Err error) fits t = tt
-
-pub order-whole : (order : Endian) (bytes : List ℕ) (r : Result Seen Error) → IsBytes bytes → Tells (λ (x : Seen). x) r (whole_outcome order bytes)
-    → IfOk r (λ m. m.order ≡ order)
-order-whole order bytes (Ok m) fits t = (whole-found order bytes m fits t).1
-order-whole order bytes (Err error) fits t = tt
-
-pub only-whole : (order : Endian) (bytes : List ℕ) (r : Result Seen Error) (m : Seen) → Tells (λ (x : Seen). x) r (whole_outcome order bytes)
-    → m.position ≡ 0 → m.order ≡ order → Front bytes m (length bytes) → Tells (λ (x : Seen). x) r (Ok m)
-only-whole order bytes r m t p o f = subst (λ (q : Result Seen Error). Tells (λ (x : Seen). x) r q) (whole-again order bytes m p o f) t
+pub ruleset wholes = (whole-found, whole-again)

@@ -11,15 +11,15 @@ use Rattle.wire_spelling.specs.Spelling.{spelling, spellings, depths, AllFit}
 use Rattle.wire_spelling.specs.Each.{SpellEach}
 use Rattle.wire_body.specs.Arguments.{AreAllSound, AllAreTypes}
 use Rattle.wire_body.proofs.Rows.{IsSignature-each}
-use Rattle.wire_message.specs.Bodies.{IsBody, BuildsBody, BuildsValues, body_text}
+use Rattle.wire_message.specs.Bodies.{BuildsValues, body_text}
 use Rattle.wire_message.specs.Draft.{Draft, header_text, message_text, built, ReadsAgain}
 use Rattle.wire_message.specs.Front.{Seen, bare, Front, total, header_len, body_len, body_bytes}
 use Rattle.wire_message.specs.Outcome.{Tells}
-use Rattle.wire_message.specs.Read.{HasTypes, BeginsBody, ReadsBody}
+use Rattle.wire_message.specs.Read.{BeginsNoBody, HasTypes, BeginsBody, ReadsBody}
 use Rattle.wire_message.specs.Signed.{signed, signature_field}
 use Rattle.wire_message.specs.declared.error.Error.{Error}
 use Rattle.wire_message.specs.declared.error.Error.TheVariants as errors
-use Rattle.wire_message.proofs.Law.{bare-built, size-read}
+use Rattle.wire_message.proofs.Law.{size-read}
 
 -- the values' texts are a body
 spelled-each : (order : Endian) (place : ℕ) (ds : List Datum) → AllAreTypes (map type_of ds) → AreAllSound ds → depths (data_of ds) ≤ 64 → AllFit order place (data_of ds)
@@ -33,12 +33,6 @@ spelled-each order place (d ∷ ds) t s w f = (
   record { kind = refl; formed = record { type = t.0; sound = s.0 }; within = omega arith; fit = f.0; text = refl },
   spelled-each order (place + length (spelling order place d)) ds t.1 s.1 (omega arith) f.1,
 )
-
-pub body-spelled : (order : Endian) (kinds : List Shape) (values : List Datum) → map type_of values ≡ kinds → IsBody order kinds values
-    → SpellEach order 0 kinds values (body_text order values)
-body-spelled order kinds values same b =
-    subst (λ (ts : List Shape). SpellEach order 0 ts values (body_text order values)) same
-    (spelled-each order 0 values (subst AllAreTypes (sym same) (IsSignature-each kinds b.signature)) b.sound b.within b.fit)
 
 -- the bytes of the body
 body-again : (draft : Draft) (serial : ℕ) (body text : List ℕ) → text ≡ message_text draft serial body → length text ≡ total text → length text ≤ 134217728 → body_bytes text ≡ body
@@ -71,6 +65,7 @@ module _ {A : Type 0} (read : List Datum → A) (kinds : List Shape) (values : L
     (types : HasTypes m kinds) (body : BeginsBody m.order kinds (body_bytes m.bytes) values) (same : read values ≡ x) where
   -- what is there is read
   read-there : (r : Result A Error) → ReadsBody r read kinds m → Tells (λ y. y) r (Ok x)
+  unfolding BeginsNoBody
   read-there (Ok y) t =
       let b = t.1 in ap Ok (sym same ∙ ap read (sym (b.only values body)) ∙ sym b.same)
   read-there (Err (errors.Variant faults.SignatureMismatch)) t = absurd (t types)
@@ -79,34 +74,16 @@ module _ {A : Type 0} (read : List Datum → A) (kinds : List Shape) (values : L
   read-there (Err other) t = absurd t
 
 -- what was built of values is read as them
-built-read : {A : Type 0} (read : List Datum → A) (kinds : List Shape) (values : List Datum) (draft : Draft) (serial : ℕ) (m : Seen) (x : A) (r : Result A Error)
-    → map type_of values ≡ kinds → IsBody draft.order kinds values → bare m ≡ built (signed draft kinds) serial (body_text draft.order values) → ReadsAgain m
-    → length m.bytes ≤ 134217728 → read values ≡ x → ReadsBody r read kinds m → Tells (λ y. y) r (Ok x)
-built-read read kinds values draft serial m x r are b e again limit same t =
-    let own = built-body (signed draft kinds) serial (body_text draft.order values) m e again limit in
-    let types : HasTypes m kinds =
-    subst (λ (o : Option (List ℕ)). SignatureText kinds (unwrap_or o [])) (sym own.2) (signature-is kinds b.signature) in
-    let spelled : SpellEach m.order 0 kinds values (body_text draft.order values) =
-    subst (λ (o : Endian). SpellEach o 0 kinds values (body_text draft.order values)) (sym own.1) (body-spelled draft.order kinds values are b) in
-    let there : BeginsBody m.order kinds (body_bytes m.bytes) values = record {
-      front = body_text draft.order values;
-      rest = [];
-      text = own.0 ∙ sym (append-nil (body_text draft.order values));
-      signature = b.signature;
-      spelled = spelled;
-    } in
+pub values_again : {A : Type 0} (read : List Datum → A) (values : List Datum) (taken : ℕ → Bool) (draft : Draft) (fds : List ℕ) (old new : ℕ) (m : Seen) (x : A) (r : Result A Error)
+    → IsSignature (map type_of values) → AreAllSound values → BuildsValues taken draft values fds old new (Ok m) → ReadsAgain m → read values ≡ x
+    → ReadsBody r read (map type_of values) m → Tells (λ y. y) r (Ok x)
+values_again read values taken draft fds old new m x r signature sound b again same t =
+    let kinds = map type_of values in
+    let text = body_text draft.order values in
+    let own = built-body (signed draft kinds) m.serial text m b.2.0.3 again b.2.0.2 in
+    let types : HasTypes m kinds = subst (λ (o : Option (List ℕ)). SignatureText kinds (unwrap_or o [])) (sym own.2) (signature-is kinds signature) in
+    let spelled : SpellEach m.order 0 kinds values text =
+    subst (λ (o : Endian). SpellEach o 0 kinds values text) (sym own.1) (spelled-each draft.order 0 values (IsSignature-each kinds signature) sound b.0 b.1) in
+    let there : BeginsBody m.order kinds (body_bytes m.bytes) values =
+    record { front = text; rest = []; text = own.0 ∙ sym (append-nil text); signature = signature; spelled = spelled } in
     read-there read kinds values m x types there same r t
-
-pub arguments-again : {A : Type 0} (read : List Datum → A) (kinds : List Shape) (values : List Datum) (taken : ℕ → Bool) (draft : Draft) (old new : ℕ) (m : Seen) (x : A) (r : Result A Error)
-    → map type_of values ≡ kinds → BuildsBody taken draft kinds values old new (Ok m) → ReadsAgain m → read values ≡ x → ReadsBody r read kinds m → Tells (λ y. y) r (Ok x)
-arguments-again read kinds values taken draft old new m x r are b again same t =
-    built-read read kinds values draft m.serial m x r are b.0 (bare-built (signed draft kinds) m.serial (body_text draft.order values) m b.1.3) again b.1.2 same t
-
-pub values-again : {A : Type 0} (read : List Datum → A) (kinds : List Shape) (values : List Datum) (taken : ℕ → Bool) (draft : Draft) (fds : List ℕ) (old new : ℕ) (m : Seen) (x : A) (r : Result A Error)
-    → map type_of values ≡ kinds → IsSignature kinds → AreAllSound values → BuildsValues taken draft values fds old new (Ok m) → ReadsAgain m → read values ≡ x
-    → ReadsBody r read kinds m → Tells (λ y. y) r (Ok x)
-values-again read kinds values taken draft fds old new m x r are signature sound b again same t =
-    let body : IsBody draft.order kinds values = record { signature = signature; sound = sound; within = b.0; fit = b.1 } in
-    let made = b.2 in
-    let own = subst (λ (ts : List Shape). bare m ≡ built (signed draft ts) m.serial (body_text draft.order values)) are made.0.3 in
-    built-read read kinds values draft m.serial m x r are body own again made.0.2 same t

@@ -1,67 +1,44 @@
 -- What is written of a draft is a message, and reads as the draft.
-use Rattle.std.proofs.Common.{◌≡◌, ℕ, ◌+◌, ◌<◌, ◌≤◌, ◌^◌, Bool, true, false, ◌&&◌, ◌||◌, List, [], ◌∷◌, ◌++◌, length, Option, Some, None, take, drop, refl, sym, ap, ◌∙◌, append_assoc, arith, length-append, length-drop, inl, inr, ◌⊎◌}
+use Rattle.std.proofs.Common.{◌≡◌, ℕ, ◌+◌, ◌-◌, ◌<◌, ◌≤◌, ◌^◌, true, false, List, [], ◌∷◌, ◌++◌, length, Option, Some, None, take, drop, refl, sym, ap, ◌∙◌, append_assoc, arith, length-append}
 use Rattle.std.specs.Prelude.{IfSome, IsTrue, ◌≢◌}
 use Rattle.std.specs.Int.{Width, w8, w32}
 use Rattle.std.specs.List.{AllByRecursion}
-use Rattle.std.proofs.lemmas.List.{append-nil, length-take-le}
-use Rattle.std.proofs.lemmas.Bool.{leb-true, ltb-true, ltb-false, lt-ltb}
+use Rattle.std.proofs.lemmas.List.{append-nil}
+use Rattle.std.proofs.lemmas.Bool.Decides.{nat_tests}
+use Rattle.std.proofs.lemmas.Bool.{ltb-true, ltb-false, lt-ltb}
 use Rattle.wire_number.specs.declared.endian.Endian.{Endian}
 use Rattle.wire_number.specs.declared.endian.Endian.TheVariants.{Little, Big}
 use Rattle.wire_number.specs.Number.{number, number_at, number_text, counted_text, pad, padding}
-use Rattle.wire_number.proofs.Steps.{both_true, length-number_text, length_padding, number_of_text}
-use Rattle.wire_names.specs.Names.{is_interface_name, is_member_name, is_error_name, is_bus_name, is_unique_name, is_well_known_name, is_short, is_dotted, is_well_known_element, is_the_bus, is_connection}
+use Rattle.wire_number.proofs.Steps.{length_padding, number_of_text}
+use Rattle.wire_names.specs.Names.{is_interface_name, is_member_name, is_error_name, is_bus_name, is_unique_name, is_well_known_name}
 use Rattle.wire_message.specs.declared.field.FieldCode.{FieldCode}
 use Rattle.wire_message.specs.declared.field.FieldCode.TheVariants as codes
-use Rattle.wire_message.specs.Field.{Fields, no_fields, Value, Text, Number, Field, IsField, IsShort, is_value, is_text, is_number, field_type, text_bytes, value_bytes, field_text, fields_text, with_field, with_text, with_number, gathered, text_field, number_field, field_list}
-use Rattle.wire_message.specs.Front.{kind_code, order_code}
-use Rattle.wire_message.specs.Draft.{Draft, draft_fields, header_text, AreShort, has_long_text}
-use Rattle.wire_message.specs.Places.{found_fields, no_places, AreSpans, AppendsFields}
-use Rattle.wire_message.specs.declared.places.Places.{Places}
+use Rattle.wire_message.specs.Field.{Fields, no_fields, Value, Text, Number, Field, IsField, IsShort, is_value, is_text, field_type, text_bytes, value_bytes, field_text, fields_text, with_field, gathered, there, field_list}
+use Rattle.wire_message.specs.declared.kind.MessageType.{MessageType}
+use Rattle.wire_message.specs.Draft.{Draft, draft_fields, header_text, laid, AreShort, IsHeaderOf, IsShortText, has_long_text}
+use Rattle.wire_message.specs.Places.{AppendsFields, Places}
 use Rattle.wire_message.specs.Valid.{AreFields}
-use Rattle.wire_message.proofs.FieldLaws.{is-true, not-so, signature-below}
-use Rattle.wire_message.proofs.Adding.{no-spans}
+use Rattle.wire_message.proofs.FieldLaws.{signature-below}
+use Rattle.wire_message.proofs.Each.{each_but_path, each_none, if_some}
 
 -- ---- texts in their grammars are short
 
-short-of : (text : List ℕ) (more : Bool) → (is_short text && more) ≡ true → length text ≤ 255
-short-of text more h = leb-true (length text) 255 (both_true (is_short text) more h).0
-
-either-true : (a b : Bool) → (a || b) ≡ true → (a ≡ true) ⊎ (b ≡ true)
-either-true true b h = inl refl
-either-true false b h = inr h
-
 short-text : (code : FieldCode) (text : List ℕ) → code ≢ codes.Path → IsTrue (is_text code text) → length text ≤ 255
-unfolding is_text is_interface_name is_member_name is_error_name is_bus_name is_unique_name is_well_known_name
+unfolding is_interface_name is_member_name is_error_name is_bus_name is_unique_name is_well_known_name
 short-text codes.Path text n h = absurd (n refl)
-short-text codes.Interface text n h = short-of text _ (is-true _ h)
-short-text codes.Member text n h = short-of text _ (is-true _ h)
-short-text codes.ErrorName text n h = short-of text _ (is-true _ h)
-short-text codes.Sender text n h = short-of text _ (is-true _ h)
-short-text codes.Destination text n h = elim (either-true (is_unique_name text) (is_well_known_name text) (is-true _ h)) [
-  | inl a ↦ short-of text (is_the_bus text || is_connection text) a
-  | inr b ↦ short-of text (is_dotted is_well_known_element text) b
-]
 short-text codes.Signature text n h = omega (arith, signature-below text h)
-short-text code text n h = not-so h
+short-text code text n h = grind (arith, nat_tests)
 
-short-if : (limit : ℕ) (P : List ℕ → Type 0) (o : Option (List ℕ)) → 255 < limit → ((text : List ℕ) → P text → length text ≤ 255) → IfSome o P → IfSome o (λ text. length text < limit)
-short-if limit P None h f p = tt
-short-if limit P (Some text) h f p = let le = f text p in omega arith
+short-text-of : (code : FieldCode) (text : List ℕ) → code ≢ codes.Path → IsTrue (is_text code text) → IsShortText (field_type code) text
+short-text-of codes.Signature text n h = signature-below text h
+short-text-of code text n h = let le = short-text code text n h in omega arith
 
 path-short : (o : Option (List ℕ)) → has_long_text o ≡ false → IfSome o (λ text. length text < 2 ^ 32)
 path-short None h = tt
 path-short (Some text) h = let le = ltb-false 134217728 (length text) h in omega arith
 
 pub fields-short : (fields : Fields) → AreFields fields → has_long_text fields.path ≡ false → AreShort fields
-fields-short fields f h = record {
-  path = path-short fields.path h;
-  interface = short-if (2 ^ 32) _ fields.interface (omega arith) (λ t. short-text codes.Interface t (λ e. cc)) f.interface;
-  member = short-if (2 ^ 32) _ fields.member (omega arith) (λ t. short-text codes.Member t (λ e. cc)) f.member;
-  error_name = short-if (2 ^ 32) _ fields.error_name (omega arith) (λ t. short-text codes.ErrorName t (λ e. cc)) f.error_name;
-  destination = short-if (2 ^ 32) _ fields.destination (omega arith) (λ t. short-text codes.Destination t (λ e. cc)) f.destination;
-  sender = short-if (2 ^ 32) _ fields.sender (omega arith) (λ t. short-text codes.Sender t (λ e. cc)) f.sender;
-  signature = short-if 256 _ fields.signature (omega arith) (λ t. short-text codes.Signature t (λ e. cc)) f.signature;
-}
+fields-short fields f h = each_but_path _ _ fields short-text-of (path-short fields.path h) f.texts
 
 -- ---- how long a message is
 
@@ -76,7 +53,7 @@ path-field order place text fs =
     let value = counted_text w32 order text in
     omega (arith, length-append front (fields_text order (place + length front) fs), length-append (padding place 8) (field_text order field), text-length w32 order text)
 
-path-any : (order : Endian) (place : ℕ) (path : Option (List ℕ)) (rest : List Field) → has_long_text path ≡ true → 134217728 < length (fields_text order place (text_field codes.Path path ++ rest))
+path-any : (order : Endian) (place : ℕ) (path : Option (List ℕ)) (rest : List Field) → has_long_text path ≡ true → 134217728 < length (fields_text order place (there Text codes.Path path ++ rest))
 path-any order place None rest h = absurd cc
 path-any order place (Some text) rest h =
     let less : 134217728 < length text = ltb-true 134217728 (length text) h in
@@ -89,9 +66,6 @@ path-in order place fields h = path-any order place fields.path _ h
 
 -- ---- a header by its words
 
-abbrev pub laid : Endian → ℕ → ℕ → ℕ → ℕ → ℕ → ℕ → List ℕ → List ℕ
-laid order o k f body serial size rest = o ∷ k ∷ f ∷ 1 ∷ (number_text w32 order body ++ (number_text w32 order serial ++ (number_text w32 order size ++ rest)))
-
 pub record HasWords (order : Endian) (body serial size : ℕ) (rest all : List ℕ) : Type 0 where
   pub body_is : body < 2 ^ 32 → number_at w32 order 4 all ≡ body
   pub serial_is : serial < 2 ^ 32 → number_at w32 order 8 all ≡ serial
@@ -99,42 +73,45 @@ pub record HasWords (order : Endian) (body serial size : ℕ) (rest all : List �
   pub rest_is : drop 16 all ≡ rest
   pub long : length all ≡ 16 + length rest
 
-pub words : (order : Endian) (o k f body serial size : ℕ) (rest : List ℕ) → HasWords order body serial size rest (laid order o k f body serial size rest)
-words Little o k f body serial size rest =
+pub words : (order : Endian) (kind : MessageType) (f body serial size : ℕ) (rest : List ℕ) → HasWords order body serial size rest (laid order kind f body serial size rest)
+words Little kind f body serial size rest =
     record { body_is = number_of_text w32 Little body; serial_is = number_of_text w32 Little serial; size_is = number_of_text w32 Little size; rest_is = refl; long = omega arith }
-words Big o k f body serial size rest =
+words Big kind f body serial size rest =
     record { body_is = number_of_text w32 Big body; serial_is = number_of_text w32 Big serial; size_is = number_of_text w32 Big size; rest_is = refl; long = omega arith }
 
-laid-apart : (order : Endian) (o k f body serial size : ℕ) (rest : List ℕ) → laid order o k f body serial size rest ≡ laid order o k f body serial size [] ++ rest
-laid-apart Little o k f body serial size rest = refl
-laid-apart Big o k f body serial size rest = refl
+laid-then : (order : Endian) (kind : MessageType) (f body serial size : ℕ) (rest more : List ℕ) → laid order kind f body serial size rest ++ more ≡ laid order kind f body serial size (rest ++ more)
+laid-then order kind f body serial size rest more = grind arith
 
 -- another length of the body, put in the place of the first
-pub body-put : (order : Endian) (o k f body serial size other : ℕ) (rest : List ℕ)
-    → take 4 (laid order o k f body serial size rest) ++ (number_text w32 order other ++ drop 8 (laid order o k f body serial size rest)) ≡ laid order o k f other serial size rest
-body-put Little o k f body serial size other rest = refl
-body-put Big o k f body serial size other rest = refl
+pub body-put : (order : Endian) (kind : MessageType) (f body serial size other : ℕ) (rest : List ℕ)
+    → take 4 (laid order kind f body serial size rest) ++ (number_text w32 order other ++ drop 8 (laid order kind f body serial size rest)) ≡ laid order kind f other serial size rest
+body-put order kind f body serial size other rest = grind arith
+
+-- the length of the fields, put in its place
+size-put : (order : Endian) (kind : MessageType) (f serial size : ℕ) (rest : List ℕ)
+    → take 12 (laid order kind f 0 serial 0 rest) ++ (number_text w32 order size ++ drop 16 (laid order kind f 0 serial 0 rest)) ≡ laid order kind f 0 serial size rest
+size-put order kind f serial size rest = grind arith
 
 -- the words of a draft, and what stands behind its header
 abbrev pub head_of : Draft → ℕ → ℕ → List ℕ → List ℕ
-head_of draft size serial rest = laid draft.order (order_code draft.order) (kind_code draft.kind) draft.flags size serial (length (draft_fields draft)) rest
+head_of draft size serial rest = laid draft.order draft.kind draft.flags size serial (length (draft_fields draft)) rest
 
 abbrev pub behind : Draft → List ℕ → List ℕ
 behind draft rest = draft_fields draft ++ (padding (16 + length (draft_fields draft)) 8 ++ rest)
+
+pub head-words : (draft : Draft) (size serial : ℕ) (rest : List ℕ) → HasWords draft.order size serial (length (draft_fields draft)) rest (head_of draft size serial rest)
+head-words draft size serial rest = words draft.order draft.kind draft.flags size serial (length (draft_fields draft)) rest
+
+head-then : (draft : Draft) (size serial : ℕ) (rest more : List ℕ) → head_of draft size serial rest ++ more ≡ head_of draft size serial (rest ++ more)
+head-then draft size serial rest more = laid-then draft.order draft.kind draft.flags size serial (length (draft_fields draft)) rest more
 
 pub header-laid : (draft : Draft) (size serial : ℕ) (rest : List ℕ) → header_text draft size serial ++ rest ≡ head_of draft size serial (behind draft rest)
 unfolding header_text
 header-laid draft size serial rest =
     let fields = draft_fields draft in
-    let nb = number_text w32 draft.order size in
-    let ns = number_text w32 draft.order serial in
-    let nf = number_text w32 draft.order (length fields) in
-    let front : List ℕ = order_code draft.order ∷ kind_code draft.kind ∷ draft.flags ∷ 1 ∷ nb ++ ns ++ nf ++ fields in
-    let long : length front ≡ 16 + length fields =
-    omega (arith, length-append (nb ++ ns ++ nf) fields, length-append (nb ++ ns) nf, length-append nb ns, length-number_text w32 draft.order size, length-number_text w32 draft.order serial, length-number_text w32 draft.order (length fields)) in
-    let pads = padding (length front) 8 in
-    let regrouped : ((((nb ++ ns) ++ nf) ++ fields) ++ pads) ++ rest ≡ nb ++ (ns ++ (nf ++ (fields ++ (pads ++ rest)))) = simp append_assoc in
-    ap (λ (l : List ℕ). order_code draft.order ∷ kind_code draft.kind ∷ draft.flags ∷ 1 ∷ l) regrouped ∙ ap (λ (n : ℕ). head_of draft size serial (fields ++ (padding n 8 ++ rest))) long
+    let pads = padding (length (head_of draft size serial fields)) 8 in
+    append_assoc (head_of draft size serial fields) pads rest ∙ head-then draft size serial fields (pads ++ rest)
+    ∙ ap (λ (n : ℕ). head_of draft size serial (fields ++ (padding n 8 ++ rest))) (head-words draft size serial fields).long
 
 pub header-length : (draft : Draft) (size serial : ℕ)
     → length (header_text draft size serial) ≡ 16 + length (draft_fields draft) + pad (16 + length (draft_fields draft)) 8
@@ -144,7 +121,7 @@ header-length draft size serial =
     ap length (sym (append-nil (header_text draft size serial)) ∙ header-laid draft size serial [])
     ∙ omega (
       arith,
-      (words draft.order (order_code draft.order) (kind_code draft.kind) draft.flags size serial (length fields) (behind draft [])).long,
+      (head-words draft size serial (behind draft [])).long,
       length-append fields (pads ++ []),
       length-append pads [],
       length_padding (16 + length fields) 8,
@@ -167,32 +144,24 @@ all-append : (P : Field → Type 0) (xs ys : List Field) → AllByRecursion P xs
 all-append P [] ys p q = q
 all-append P (x ∷ xs) ys p q = (p.0, all-append P xs ys p.1 q)
 
-text-valid : (code : FieldCode) (o : Option (List ℕ)) → IfSome o (λ text. IsTrue (is_text code text)) → AllByRecursion IsValid (text_field code o)
-text-valid code None h = tt
-text-valid code (Some text) h = ((h, tt), tt)
+there-valid : {A : Type 0} (value : A → Value) (code : FieldCode) (o : Option A) → IfSome o (λ x. IsValid (record { code = code; value = value x })) → AllByRecursion IsValid (there value code o)
+there-valid value code None h = tt
+there-valid value code (Some x) h = (h, tt)
 
-reply-valid : (o : Option ℕ) → IfSome o (λ number. (0 < number) × (number < 2 ^ 32)) → AllByRecursion IsValid (number_field codes.ReplySerial o)
-unfolding is_number
-reply-valid None h = tt
-reply-valid (Some number) h = ((lt-ltb 0 number h.0, h.1), tt)
-
-fds-valid : (o : Option ℕ) → IfSome o (λ number. number < 2 ^ 32) → AllByRecursion IsValid (number_field codes.UnixFds o)
-unfolding is_number
-fds-valid None h = tt
-fds-valid (Some number) h = ((refl, h), tt)
+text-valid : (code : FieldCode) (o : Option (List ℕ)) → IfSome o (λ text. IsTrue (is_text code text)) → AllByRecursion IsValid (there Text code o)
+text-valid code o h = there-valid Text code o (if_some o (λ text t. (t, tt)) h)
 
 pub list-valid : (fields : Fields) → AreFields fields → AllByRecursion IsValid (field_list fields)
 unfolding field_list
 list-valid fields f =
-    all-append IsValid _ _ (text-valid codes.Path fields.path f.path) (all-append IsValid _ _ (text-valid codes.Interface fields.interface f.interface)
-    (all-append IsValid _ _ (text-valid codes.Member fields.member f.member) (all-append IsValid _ _ (text-valid codes.ErrorName fields.error_name f.error_name)
-    (all-append IsValid _ _ (reply-valid fields.reply_serial f.reply_serial) (all-append IsValid _ _ (text-valid codes.Destination fields.destination f.destination)
-    (all-append IsValid _ _ (text-valid codes.Sender fields.sender f.sender) (all-append IsValid _ _ (text-valid codes.Signature fields.signature f.signature)
-    (fds-valid fields.unix_fds f.unix_fds))))))))
+    all-append IsValid _ _ (text-valid codes.Path fields.path f.texts.path) (all-append IsValid _ _ (text-valid codes.Interface fields.interface f.texts.interface)
+    (all-append IsValid _ _ (text-valid codes.Member fields.member f.texts.member) (all-append IsValid _ _ (text-valid codes.ErrorName fields.error_name f.texts.error_name)
+    (all-append IsValid _ _ (there-valid Number codes.ReplySerial fields.reply_serial (if_some fields.reply_serial (λ number h. (lt-ltb 0 number h.0, h.1)) f.reply_serial)) (all-append IsValid _ _ (text-valid codes.Destination fields.destination f.texts.destination)
+    (all-append IsValid _ _ (text-valid codes.Sender fields.sender f.texts.sender) (all-append IsValid _ _ (text-valid codes.Signature fields.signature f.texts.signature)
+    (there-valid Number codes.UnixFds fields.unix_fds (if_some fields.unix_fds (λ number h. (refl, h)) f.unix_fds)))))))))
 
 text-bytes-length : (order : Endian) (code : FieldCode) (text : List ℕ) → length text ≤ length (text_bytes order (field_type code) text)
-text-bytes-length order codes.Signature text = text-length w8 order text
-text-bytes-length order code text = text-length w32 order text
+text-bytes-length order code text = grind (arith, text-length w8 order text, text-length w32 order text)
 
 value-short : (order : Endian) (code : FieldCode) (value : Value) (n : ℕ) → IsNumber value → length (value_bytes order (field_type code) value) ≤ n → n < 2 ^ 32 → IsShort value
 value-short order code (Text text) n h k l = let le = text-bytes-length order code text in omega arith
@@ -211,58 +180,59 @@ list-short order place (field ∷ fs) h k =
 
 -- ---- and what they say
 
-next-text : (code : FieldCode) (o : Option (List ℕ)) (f : Option (List ℕ) → Fields) (rest : List Field)
-    → ((text : List ℕ) → with_text code text (f None) ≡ f (Some text)) → gathered (f None) (text_field code o ++ rest) ≡ gathered (f o) rest
-unfolding gathered with_field
-next-text code None f rest h = refl
-next-text code (Some text) f rest h = ap (λ (x : Fields). gathered x rest) (h text)
-
-next-number : (code : FieldCode) (o : Option ℕ) (f : Option ℕ → Fields) (rest : List Field)
-    → ((number : ℕ) → with_number code number (f None) ≡ f (Some number)) → gathered (f None) (number_field code o ++ rest) ≡ gathered (f o) rest
-unfolding gathered with_field
-next-number code None f rest h = refl
-next-number code (Some number) f rest h = ap (λ (x : Fields). gathered x rest) (h number)
+next : {A : Type 0} (value : A → Value) (code : FieldCode) (o : Option A) (f : Option A → Fields) (rest : List Field)
+    → ((x : A) → with_field (record { code = code; value = value x }) (f None) ≡ f (Some x)) → gathered (f None) (there value code o ++ rest) ≡ gathered (f o) rest
+unfolding gathered
+next value code None f rest h = refl
+next value code (Some x) f rest h = ap (λ (fields : Fields). gathered fields rest) (h x)
 
 pub list-says : (d : Fields) → gathered no_fields (field_list d) ≡ d
-unfolding field_list gathered
+unfolding field_list gathered with_field
 list-says d =
-    next-text codes.Path d.path (λ o. record no_fields { path = o }) _ (λ t. refl)
-    ∙ next-text codes.Interface d.interface (λ o. record no_fields { path = d.path; interface = o }) _ (λ t. refl)
-    ∙ next-text codes.Member d.member (λ o. record no_fields { path = d.path; interface = d.interface; member = o }) _ (λ t. refl)
-    ∙ next-text codes.ErrorName d.error_name (λ o. record no_fields { path = d.path; interface = d.interface; member = d.member; error_name = o }) _ (λ t. refl)
-    ∙ next-number codes.ReplySerial d.reply_serial (λ o. record d { reply_serial = o; destination = None; sender = None; signature = None; unix_fds = None }) _ (λ n. refl)
-    ∙ next-text codes.Destination d.destination (λ o. record d { destination = o; sender = None; signature = None; unix_fds = None }) _ (λ t. refl)
-    ∙ next-text codes.Sender d.sender (λ o. record d { sender = o; signature = None; unix_fds = None }) _ (λ t. refl)
-    ∙ next-text codes.Signature d.signature (λ o. record d { signature = o; unix_fds = None }) _ (λ t. refl)
-    ∙ ap (gathered (record d { unix_fds = None })) (sym (append-nil (number_field codes.UnixFds d.unix_fds)))
-    ∙ next-number codes.UnixFds d.unix_fds (λ o. record d { unix_fds = o }) [] (λ n. refl)
+    next Text codes.Path d.path (λ o. record no_fields { path = o }) _ (λ t. refl)
+    ∙ next Text codes.Interface d.interface (λ o. record no_fields { path = d.path; interface = o }) _ (λ t. refl)
+    ∙ next Text codes.Member d.member (λ o. record no_fields { path = d.path; interface = d.interface; member = o }) _ (λ t. refl)
+    ∙ next Text codes.ErrorName d.error_name (λ o. record no_fields { path = d.path; interface = d.interface; member = d.member; error_name = o }) _ (λ t. refl)
+    ∙ next Number codes.ReplySerial d.reply_serial (λ o. record d { reply_serial = o; destination = None; sender = None; signature = None; unix_fds = None }) _ (λ n. refl)
+    ∙ next Text codes.Destination d.destination (λ o. record d { destination = o; sender = None; signature = None; unix_fds = None }) _ (λ t. refl)
+    ∙ next Text codes.Sender d.sender (λ o. record d { sender = o; signature = None; unix_fds = None }) _ (λ t. refl)
+    ∙ next Text codes.Signature d.signature (λ o. record d { signature = o; unix_fds = None }) _ (λ t. refl)
+    ∙ ap (gathered (record d { unix_fds = None })) (sym (append-nil (there Number codes.UnixFds d.unix_fds)))
+    ∙ next Number codes.UnixFds d.unix_fds (λ o. record d { unix_fds = o }) [] (λ n. refl)
 
 -- ---- the message
 
--- the texts of a header stand where they were written
-pub header-finds : (draft : Draft) (size serial : ℕ) (old new more : List ℕ) (places : Places) → length old ≡ 16 → AppendsFields draft.order (field_list draft.fields) old no_places new places
-    → found_fields (header_text draft size serial ++ more) places ≡ draft.fields
-header-finds draft size serial old new more places l a =
-    let fields = draft_fields draft in
-    let rest = padding (16 + length fields) 8 ++ more in
-    let front = head_of draft size serial [] in
-    let long : length front ≡ length old = omega (arith, l, (words draft.order (order_code draft.order) (kind_code draft.kind) draft.flags size serial (length fields) []).long) in
-    let whole : header_text draft size serial ++ more ≡ front ++ (fields ++ rest) =
-    header-laid draft size serial more ∙ laid-apart draft.order (order_code draft.order) (kind_code draft.kind) draft.flags size serial (length fields) (fields ++ rest) in
-    a.found _ front rest long (whole ∙ ap (λ (k : ℕ). front ++ (fields_text draft.order k (field_list draft.fields) ++ rest)) (sym l)) ∙ list-says draft.fields
+module _ (draft : Draft) (serial size : ℕ) (start old : List ℕ) (places : Places) (s : start ≡ laid draft.order draft.kind draft.flags 0 serial 0 [])
+    (a : AppendsFields draft.order (field_list draft.fields) start no_fields old places) (n : size ≡ length old - 16) where
+  start-long : length start ≡ 16
+  start-long = ap length s ∙ (words draft.order draft.kind draft.flags 0 serial 0 []).long
 
-pub header-spans : (order own : Endian) (list : List Field) (old new put final : List ℕ) (size : ℕ) (places : Places) → length old ≡ 16 → AppendsFields order list old no_places new places
-    → put ≡ take 12 new ++ (number_text w32 own size ++ drop 16 new) → final ≡ put ++ padding (0 + length put) 8 → AreSpans (length final) places
-header-spans order own list old new put final size places l a p f =
-    let long : 16 ≤ length new = omega (arith, l, ap length a.text, length-append old (fields_text order (length old) list)) in
-    let same : length put ≡ length new =
-    omega (
-      arith,
-      ap length p,
-      length-append (take 12 new) (number_text w32 own size ++ drop 16 new),
-      length-append (number_text w32 own size) (drop 16 new),
-      length-number_text w32 own size,
-      length-take-le 12 new (omega arith),
-      length-drop 16 new,
-    ) in
-    a.spans (length final) (omega (arith, same, ap length f, length-append put (padding (0 + length put) 8))) (no-spans (length final))
+  fields-behind : old ≡ start ++ draft_fields draft
+  fields-behind = a.text ∙ ap (λ (k : ℕ). start ++ fields_text draft.order k (field_list draft.fields)) start-long
+
+  size-is : size ≡ length (draft_fields draft)
+  size-is = omega (arith, n, ap length fields-behind, length-append start (draft_fields draft), start-long)
+
+  pub fields-long : 134217728 < size → 134217728 < length (header_text draft 0 serial)
+  fields-long h = omega (arith, h, size-is, header-length draft 0 serial)
+
+  -- the first 16 bytes, the fields, their length put in its place, zeros; the texts stand where they were written
+  pub header-made : (put final : List ℕ) → put ≡ take 12 old ++ (number_text w32 draft.order size ++ drop 16 old) → final ≡ put ++ padding (0 + length put) 8 → IsHeaderOf draft serial final places
+  unfolding header_text
+  header-made put final p f =
+      let fields = draft_fields draft in
+      let put_is : put ≡ head_of draft 0 serial fields =
+      p ∙ ap (λ (l : List ℕ). take 12 l ++ (number_text w32 draft.order size ++ drop 16 l)) (fields-behind ∙ ap (λ (l : List ℕ). l ++ fields) s ∙ laid-then draft.order _ _ 0 serial 0 [] fields)
+      ∙ size-put draft.order _ _ serial size fields
+      ∙ ap (λ (k : ℕ). laid draft.order draft.kind draft.flags 0 serial k fields) size-is in
+      let none : 0 + length put ≡ length put = omega arith in
+      let whole : final ≡ header_text draft 0 serial = f ∙ ap (λ (k : ℕ). put ++ padding k 8) none ∙ ap (λ (l : List ℕ). l ++ padding (length l) 8) put_is in
+      record {
+        written = whole;
+        found = λ other more.
+            let rest = padding (16 + length fields) 8 ++ more in
+            let front = head_of draft other serial [] in
+            a.found _ front rest (omega (arith, (head-words draft other serial []).long, start-long)) (header-laid draft other serial more ∙ sym (head-then draft other serial [] (fields ++ rest))
+            ∙ ap (λ (k : ℕ). front ++ (fields_text draft.order k (field_list draft.fields) ++ rest)) (sym start-long)) ∙ list-says draft.fields;
+        spans = a.spans (length final) (omega (arith, ap length whole, header-length draft 0 serial, ap length fields-behind, length-append start fields, start-long)) (each_none _);
+      }

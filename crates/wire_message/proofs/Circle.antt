@@ -105,7 +105,7 @@ pub record Searched (taken : ℕ → Bool) (last tried candidate before steps : 
   pub cost : steps ≤ before + tried
 
 -- where none is taken, none is counted
-pub among-none : (n : ℕ) → taken_among (λ serial. false) n ≡ 0
+pub among_none : (n : ℕ) → taken_among (λ serial. false) n ≡ 0
 unfolding taken_among
-among-none zero = refl
-among-none (suc n) = let e = among-none n in omega arith
+among_none zero = refl
+among_none (suc n) = let e = among_none n in omega arith

@@ -15,17 +15,13 @@ use Rattle.wire_signature.specs.Parsing.{types_in}
 use Rattle.wire_signature.proofs.Exact.{is_some-types_in}
 use Rattle.wire_message.specs.declared.field.FieldCode.{FieldCode}
 use Rattle.wire_message.specs.declared.field.FieldCode.TheVariants as codes
-use Rattle.wire_message.specs.Field.{Value, Text, Number, Field, IsField, IsShort, is_value, is_text, is_number, code_byte, code_bytes, field_type, text_bytes, value_bytes, field_text}
+use Rattle.wire_message.specs.Field.{Value, Text, Number, Field, IsField, IsShort, is_value, is_text, code_byte, code_bytes, field_type, text_bytes, value_bytes, field_text}
 use Rattle.wire_message.specs.Reading.{code_of, typed_code, code_at, value_at, field_at}
 
 -- ---- the code
 
 code_of-takes : (byte : ℕ) (code : FieldCode) → code_of byte ≡ Some code → byte ≡ code_byte code
 code_of-takes byte code e = grind (arith, nat_tests)
-
-code_of-again : (code : FieldCode) → code_of (code_byte code) ≡ Some code
-code_of-again codes.Path = refl
-code_of-again code = refl
 
 code_at-takes : (bytes : List ℕ) (code : FieldCode) → length bytes ≡ 4 → code_at bytes ≡ Some code → bytes ≡ code_bytes code
 unfolding code_at
@@ -40,8 +36,7 @@ code_at-takes bytes code l e = absurd (omega arith)
 
 code_at-again : (code : FieldCode) → code_at (code_bytes code) ≡ Some code
 unfolding code_at
-code_at-again codes.Path = refl
-code_at-again code = refl
+code_at-again code = grind (arith, nat_tests)
 
 -- ---- the value
 
@@ -96,7 +91,6 @@ number-read order n p rest h =
 
 -- a signature is short
 pub signature-below : (text : List ℕ) → IsTrue (is_text codes.Signature text) → length text < 256
-unfolding is_text
 signature-below text h =
     let k = (is_some-types_in (is_some (types_in text)) text refl).0 h in
     omega (arith, ap length k.1.text, k.1.valid.within)
@@ -105,12 +99,11 @@ pub not-so : {A : Type 0} → IsTrue false → A
 not-so h = absurd cc
 
 pub is-true : (b : Bool) → IsTrue b → b ≡ true
-is-true true h = refl
-is-true false h = not-so h
+is-true b h = grind arith
 
 value_at-again : (order : Endian) (code : FieldCode) (value : Value) (p : ℕ) (rest : List ℕ) → pad p 4 ≡ 0 → IsTrue (is_value code value) → IsShort value
     → value_at order (field_type code) (at p (value_bytes order (field_type code) value ++ rest)) ≡ Some (value, at (p + length (value_bytes order (field_type code) value)) rest)
-unfolding value_at is_text is_number
+unfolding value_at
 value_at-again order codes.ReplySerial (Number n) p rest e h k = number-read order n p rest k
 value_at-again order codes.UnixFds (Number n) p rest e h k = number-read order n p rest k
 value_at-again order codes.ReplySerial (Text t) p rest e h k = not-so h

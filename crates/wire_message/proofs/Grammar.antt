@@ -4,14 +4,12 @@ use Rattle.std.specs.Prelude.{IfOk}
 use Rattle.std.proofs.lemmas.Bool.Decides.{nat_tests}
 use Rattle.std.proofs.lemmas.List.{length-take-le}
 use Rattle.wire_number.specs.declared.endian.Endian.{Endian}
-use Rattle.wire_number.specs.declared.endian.Endian.TheVariants.{Little, Big}
 use Rattle.wire_number.proofs.Numbers.{IsBytes, IsBytes-drop, IsBytes-take}
 use Rattle.wire_message.specs.Field.{Fields}
 use Rattle.wire_message.specs.Front.{Seen, seen, fields_of, kind_code, order_code, order_at, word_at, fields_len, total, field_bytes, Front}
 use Rattle.wire_message.specs.Reading.{fields_in}
 use Rattle.wire_message.specs.Outcome.{kind_of, is_order, head_fault, fields_found, message_by, front_outcome, Tells}
 use Rattle.wire_message.specs.declared.kind.MessageType.{MessageType}
-use Rattle.wire_message.specs.declared.kind.MessageType.TheVariants as types
 use Rattle.wire_message.specs.declared.error.Error.{Error}
 use Rattle.wire_message.specs.declared.error.IoKind.{IoKind}
 use Rattle.wire_message.proofs.Lists.{fields_in-takes, fields_in-again}
@@ -20,8 +18,7 @@ use Rattle.wire_number.proofs.Steps.{bytes_from}
 -- ---- the head
 
 kind_of-code : (k : MessageType) → kind_of (kind_code k) ≡ Some k
-kind_of-code types.MethodCall = refl
-kind_of-code kind = refl
+kind_of-code kind = grind arith
 
 kind_of-takes : (code : ℕ) (kind : MessageType) → kind_of code ≡ Some kind → code ≡ kind_code kind
 kind_of-takes code kind e = grind (arith, nat_tests)
@@ -51,14 +48,12 @@ order-named : (bytes : List ℕ) → is_order (slice_index bytes 0) ≡ true →
 unfolding order_at
 order-named bytes e = grind (arith, nat_tests)
 
-pub order-again : (bytes : List ℕ) (order : Endian) → slice_index bytes 0 ≡ order_code order → order_at bytes ≡ order
+pub order_again : (bytes : List ℕ) (order : Endian) → slice_index bytes 0 ≡ order_code order → order_at bytes ≡ order
 unfolding order_at
-order-again bytes Little e = rw e refl
-order-again bytes Big e = rw e refl
+order_again bytes order e = grind (arith, nat_tests)
 
 order-right : (bytes : List ℕ) (order : Endian) → slice_index bytes 0 ≡ order_code order → is_order (slice_index bytes 0) ≡ true
-order-right bytes Little e = rw e refl
-order-right bytes Big e = rw e refl
+order-right bytes order e = grind (arith, nat_tests)
 
 -- ---- the message
 
@@ -108,26 +103,17 @@ front_outcome-found bytes ending m fits e = front-found bytes m fits (grind (ari
 -- what a field array says of a message that stands on the bytes
 pub front-fields : (bytes : List ℕ) (m : Seen) (n : ℕ) → Front bytes m n → fields_found bytes ≡ Some (fields_of m)
 front-fields bytes m n f =
-    let order : order_at bytes ≡ m.order = order-again bytes m.order f.order in
+    let order : order_at bytes ≡ m.order = order_again bytes m.order f.order in
     let fs = f.fields.0 in
     ap (λ (o : Endian). fields_in o (field_bytes bytes)) order ∙ ap (fields_in m.order) f.fields.2
     ∙ fields_in-again m.order fs f.fields.1 ∙ ap (λ (r : Fields). Some r) (sym f.fields.3)
-
--- messages of the same parts are one
-pub seen-same : {b c : List ℕ} {kind : MessageType} {o p : Endian} {f g s t : ℕ} {x y : Fields} → b ≡ c → o ≡ p → f ≡ g → s ≡ t → x ≡ y
-    → ◌≡◌ {A = Result Seen Error} (Ok (seen b 0 kind o f s x)) (Ok (seen c 0 kind p g t y))
-seen-same d e h i j = rw (d, e, h, i, j) refl
 
 -- the bytes alone say which message stands on their front, but for its position
 front-made : (bytes : List ℕ) (m : Seen) (n : ℕ) → Front bytes m n
     → message_by bytes (kind_of (slice_index bytes 1)) (fields_found bytes) ≡ Ok (record m { position = 0 })
 front-made bytes m n f =
     let kind : kind_of (slice_index bytes 1) ≡ Some m.kind = ap kind_of f.type ∙ kind_of-code m.kind in
-    let order : order_at bytes ≡ m.order = order-again bytes m.order f.order in
-    let fields = front-fields bytes m n f in
-    let own : take (total bytes) bytes ≡ m.bytes = ap (λ (k : ℕ). take k bytes) (sym f.whole) ∙ sym f.own in
-    ap (λ (k : Option MessageType). message_by bytes k (fields_found bytes)) kind ∙ ap (λ (r : Option Fields). message_by bytes (Some m.kind) r) fields
-    ∙ seen-same own order f.flags (sym f.serial) refl ∙ ap (λ (ds : List ℕ). Ok (record m { position = 0; fds = ds })) (sym f.fds)
+    rw (kind, front-fields bytes m n f, f.own, f.whole, f.serial, ← (order_again bytes m.order f.order), ← f.flags, f.fds) refl
 
 front-head : (bytes : List ℕ) (m : Seen) (n : ℕ) → Front bytes m n → IsHead bytes
 front-head bytes m n f = record { order = order-right bytes m.order f.order; flags = rw f.flags f.known; not_zero = rw (← f.serial) f.not_zero; limit = rw (← f.whole) f.limit }

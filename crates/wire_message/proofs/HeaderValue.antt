@@ -1,5 +1,5 @@
 -- A header's fields are spelled as values of `(yv)`, and a header as one of `yyyyuua(yv)`.
-use Rattle.std.proofs.Common.{◌≡◌, ℕ, ◌+◌, ◌<◌, ◌≤◌, ◌%◌, List, [], ◌∷◌, ◌++◌, length, take, drop, slice_index, replicate, refl, sym, ap, subst, ◌∙◌, arith, length-drop}
+use Rattle.std.proofs.Common.{◌≡◌, ℕ, ◌+◌, ◌<◌, ◌≤◌, List, [], ◌∷◌, ◌++◌, length, take, drop, slice_index, replicate, refl, sym, ap, subst, ◌∙◌, arith, length-drop}
 use Rattle.std.specs.Prelude.{IsTrue}
 use Rattle.std.specs.List.{AllByRecursion}
 use Rattle.std.specs.Int.{w8, w32}
@@ -18,12 +18,11 @@ use Rattle.wire_value.proofs.Appends.{byte_text}
 use Rattle.wire_message.specs.declared.field.FieldCode.{FieldCode}
 use Rattle.wire_message.specs.declared.field.FieldCode.TheVariants as codes
 use Rattle.wire_message.specs.declared.kind.MessageType.{MessageType}
-use Rattle.wire_message.specs.declared.kind.MessageType.TheVariants as types
-use Rattle.wire_message.specs.Field.{Value, Text, Number, Field, IsField, is_value, is_text, is_number, code_byte, field_type, value_bytes, field_text, fields_text}
+use Rattle.wire_message.specs.Field.{Value, Text, Number, Field, IsField, is_value, code_byte, field_type, value_bytes, field_text, fields_text}
 use Rattle.wire_message.specs.Front.{Seen, Front, order_at, order_code, kind_code, fields_len, body_len, word_at}
 use Rattle.wire_message.specs.Header.{held_datum, field_datum, field_data, header_datum, IsHeader}
 use Rattle.wire_message.proofs.FieldLaws.{placed, no_pad, not-so}
-use Rattle.wire_message.proofs.Grammar.{order-again}
+use Rattle.wire_message.proofs.Grammar.{order_again}
 
 -- ---- one field
 
@@ -36,7 +35,7 @@ no_front : (q n : ℕ) (text : List ℕ) → pad q n ≡ 0 → padding q n ++ te
 no_front q n text e = ap (λ (k : ℕ). replicate k 0 ++ text) e
 
 held_spelled : (order : Endian) (code : FieldCode) (value : Value) (q : ℕ) → pad q 4 ≡ 0 → IsTrue (is_value code value) → HeldSpelled order code value q
-unfolding spelling is_text is_number
+unfolding spelling
 held_spelled order codes.ReplySerial (Number n) q e h = (refl, no_front q 4 _ e)
 held_spelled order codes.UnixFds (Number n) q e h = (refl, no_front q 4 _ e)
 held_spelled order codes.ReplySerial (Text t) q e h = not-so h
@@ -46,8 +45,7 @@ held_spelled order code (Text t) q e h = (refl, no_front q 4 _ e)
 held_spelled order code (Number n) q e h = not-so h
 
 code-low : (code : FieldCode) → code_byte code < 256
-code-low codes.Path = omega arith
-code-low code = omega arith
+code-low code = grind arith
 
 pub field_spelled : (order : Endian) (p : ℕ) (field : Field) → IsField field → padding p 8 ++ field_text order field ≡ spelling order p (field_datum field)
 unfolding spelling spellings field_text
@@ -83,30 +81,18 @@ abbrev pub header_bytes : Endian → ℕ → ℕ → ℕ → ℕ → ℕ → ℕ
 header_bytes order o k f v body serial fields =
     o ∷ k ∷ f ∷ v ∷ (number_text w32 order body ++ (number_text w32 order serial ++ (number_text w32 order (length fields) ++ fields)))
 
-four_bytes : (o k f v : ℕ) (rest : List ℕ) → o < 256 → k < 256 → f < 256 → v < 256 → (o % 256) ∷ (k % 256) ∷ (f % 256) ∷ (v % 256) ∷ rest ≡ o ∷ k ∷ f ∷ v ∷ rest
-four_bytes o k f v rest a b c d = rw (mod-eq_of_lt a, mod-eq_of_lt b, mod-eq_of_lt c, mod-eq_of_lt d) refl
-
 pub header_spelled : (order : Endian) (o k f v body serial : ℕ) (fields : List Field) → o < 256 → k < 256 → f < 256 → v < 256 → AllByRecursion IsField fields
     → header_bytes order o k f v body serial (fields_text order 16 fields) ≡ spelling order 0 (header_datum o k f v body serial fields)
 unfolding spelling spellings
-header_spelled Little o k f v body serial fields a b c d h =
-    let text : List ℕ = spellings Little 16 (field_data fields) in
-    let front : List ℕ → List ℕ = λ (r : List ℕ). (o % 256) ∷ (k % 256) ∷ (f % 256) ∷ (v % 256) ∷ (number_text w32 Little body ++ (number_text w32 Little serial ++ r)) in
-    ap (header_bytes Little o k f v body serial) (fields_spelled Little 16 fields h)
-    ∙ sym (four_bytes o k f v (number_text w32 Little body ++ (number_text w32 Little serial ++ (number_text w32 Little (length text) ++ text))) a b c d)
-    ∙ ap front (sym (append-nil (number_text w32 Little (length text) ++ text)))
-header_spelled Big o k f v body serial fields a b c d h =
-    let text : List ℕ = spellings Big 16 (field_data fields) in
-    let front : List ℕ → List ℕ = λ (r : List ℕ). (o % 256) ∷ (k % 256) ∷ (f % 256) ∷ (v % 256) ∷ (number_text w32 Big body ++ (number_text w32 Big serial ++ r)) in
-    ap (header_bytes Big o k f v body serial) (fields_spelled Big 16 fields h)
-    ∙ sym (four_bytes o k f v (number_text w32 Big body ++ (number_text w32 Big serial ++ (number_text w32 Big (length text) ++ text))) a b c d)
-    ∙ ap front (sym (append-nil (number_text w32 Big (length text) ++ text)))
+header_spelled order o k f v body serial fields a b c d h = ap (header_bytes order o k f v body serial) (fields_spelled order 16 fields h) ∙ laid order where
+  laid : (order : Endian) → header_bytes order o k f v body serial (spellings order 16 (field_data fields)) ≡ spelling order 0 (header_datum o k f v body serial fields)
+  laid Little = rw (mod-eq_of_lt a, mod-eq_of_lt b, mod-eq_of_lt c, mod-eq_of_lt d, append-nil (number_text w32 Little (length (spellings Little 16 (field_data fields))) ++ spellings Little 16 (field_data fields))) refl
+  laid Big = rw (mod-eq_of_lt a, mod-eq_of_lt b, mod-eq_of_lt c, mod-eq_of_lt d, append-nil (number_text w32 Big (length (spellings Big 16 (field_data fields))) ++ spellings Big 16 (field_data fields))) refl
 
 -- ---- its limits
 
 held-flat : (code : FieldCode) (value : Value) → depth (held_datum code value) ≡ 0
-held-flat code (Text t) = refl
-held-flat code (Number n) = refl
+held-flat code value = grind arith
 
 fields-flat : (fields : List Field) → depths (field_data fields) ≤ 2
 fields-flat [] = omega arith
@@ -114,8 +100,7 @@ fields-flat (field ∷ fields) = omega (arith, held-flat field.code field.value,
 
 held-fits : (order : Endian) (p : ℕ) (code : FieldCode) (value : Value) → ArraysFit order p (held_datum code value)
 unfolding ArraysFit
-held-fits order p code (Text t) = tt
-held-fits order p code (Number n) = tt
+held-fits order p code value = grind arith
 
 fields-fit : (order : Endian) (fields : List Field) (p : ℕ) → AllFit order p (field_data fields)
 unfolding ArraysFit AllFit
@@ -164,16 +149,14 @@ same_parts : {a b c d h k l : ℕ} {p q r s t u v w : List ℕ} → a ≡ h → 
 same_parts e f g h i j k = rw (e, f, g, h, i, j, k) refl
 
 order-low : (order : Endian) → order_code order < 256
-order-low Little = omega arith
-order-low Big = omega arith
+order-low order = grind arith
 
 kind-low : (kind : MessageType) → kind_code kind < 256
-kind-low types.MethodCall = omega arith
-kind-low kind = omega arith
+kind-low kind = grind arith
 
 pub header_is : (bytes : List ℕ) (m : Seen) (n : ℕ) → IsBytes bytes → Front bytes m n → IsHeader bytes m
 header_is bytes m n fits f =
-    let order : order_at bytes ≡ m.order = order-again bytes m.order f.order in
+    let order : order_at bytes ≡ m.order = order_again bytes m.order f.order in
     let fs = f.fields.0 in
     let long : 16 + fields_len bytes ≤ length bytes = omega (arith, f.there, f.whole) in
     let word : (place : ℕ) → place + 4 ≤ length bytes → number_text w32 m.order (word_at place bytes) ≡ take 4 (drop place bytes) =

@@ -13,7 +13,7 @@ unfolding kind_name is_error_name is_interface_name is_dotted is_element
 kind-name-valid kinds.Failed = refl
 kind-name-valid kind = refl
 
-pub fdo-name-valid : (error : FdoError) → IsErrorName (fdo_name error)
+pub fdo_name_valid : (error : FdoError) → IsErrorName (fdo_name error)
 unfolding is_error_name is_interface_name is_dotted is_element
-fdo-name-valid (fdo.ZBus error) = refl
-fdo-name-valid (fdo.Std error) = kind-name-valid error.kind
+fdo_name_valid (fdo.ZBus error) = refl
+fdo_name_valid (fdo.Std error) = kind-name-valid error.kind

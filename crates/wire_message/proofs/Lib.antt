@@ -1,3 +1,4 @@
+pub mod Each
 pub mod FieldLaws
 pub mod Lists
 pub mod Grammar

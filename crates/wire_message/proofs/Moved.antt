@@ -1,6 +1,6 @@
 -- A message stands on its own bytes, whatever stands behind them.
-use Rattle.std.proofs.Common.{◌≡◌, ℕ, ◌+◌, ◌-◌, ◌<◌, ◌≤◌, List, length, take, drop, slice_index, Option, Some, None, Ok, refl, sym, ap, ◌∙◌, arith, cond}
-use Rattle.std.specs.Prelude.{option_map, IfSome, ◌==◌}
+use Rattle.std.proofs.Common.{◌≡◌, ℕ, ◌+◌, ◌-◌, ◌<◌, ◌≤◌, List, length, take, drop, slice_index, Some, None, Ok, refl, sym, ap, ◌∙◌, arith, cond}
+use Rattle.std.specs.Prelude.{◌==◌}
 use Rattle.std.specs.Int.{w32}
 use Rattle.std.proofs.lemmas.List.{length-take-le, get_or-take, drop-take, take-take}
 use Rattle.wire_number.specs.declared.endian.Endian.{Endian}
@@ -10,10 +10,9 @@ use Rattle.wire_number.proofs.Numbers.{IsBytes}
 use Rattle.wire_message.specs.Field.{Fields}
 use Rattle.wire_message.specs.Front.{Seen, seen, Front, order_at, word_at, fields_len, header_len, total, field_bytes}
 use Rattle.wire_message.specs.Outcome.{kind_of, fields_found, head_fault, message_by}
-use Rattle.wire_message.specs.Places.{span_text, found_fields, IsSpan, AreSpans, Stands}
+use Rattle.wire_message.specs.Places.{found_fields, AreSpans, Places, Stands}
 use Rattle.wire_message.specs.declared.kind.MessageType.{MessageType}
-use Rattle.wire_message.specs.declared.places.Span.{Span}
-use Rattle.wire_message.specs.declared.places.Places.{Places}
+use Rattle.wire_message.proofs.Each.{each_map, each_same}
 use Rattle.wire_message.proofs.Grammar.{front-found}
 use Rattle.wire_message.proofs.Valid.{front-valid}
 
@@ -68,76 +67,38 @@ front-moved xs ys m n f there e =
 
 -- ---- the places of texts
 
-span-more : (k n : ℕ) (o : Option Span) → k ≤ n → IfSome o (IsSpan k) → IfSome o (IsSpan n)
-span-more k n None h s = tt
-span-more k n (Some span) h s = (s.0, omega (arith, s.1))
-
 pub spans-more : (k n : ℕ) (places : Places) → k ≤ n → AreSpans k places → AreSpans n places
-spans-more k n places h s = record {
-  path = span-more k n places.path h s.path;
-  interface = span-more k n places.interface h s.interface;
-  member = span-more k n places.member h s.member;
-  error_name = span-more k n places.error_name h s.error_name;
-  destination = span-more k n places.destination h s.destination;
-  sender = span-more k n places.sender h s.sender;
-  signature = span-more k n places.signature h s.signature;
-}
-
-texts-own : (k n : ℕ) (bytes : List ℕ) (o : Option Span) → k ≤ n → IfSome o (IsSpan k) → option_map (span_text (take n bytes)) o ≡ option_map (span_text bytes) o
-texts-own k n bytes None h s = refl
-texts-own k n bytes (Some span) h s = ap Some (part-take n span.start (span.end - span.start) bytes (omega (arith, s.0, s.1)))
+spans-more k n places h s = each_map _ _ places (λ code span t. (t.0, omega (arith, t.1))) s
 
 pub found-own : (k n : ℕ) (bytes : List ℕ) (places : Places) → k ≤ n → AreSpans k places → found_fields (take n bytes) places ≡ found_fields bytes places
 found-own k n bytes places h s =
-    rw (
-      texts-own k n bytes places.path h s.path,
-      texts-own k n bytes places.interface h s.interface,
-      texts-own k n bytes places.member h s.member,
-      texts-own k n bytes places.error_name h s.error_name,
-      texts-own k n bytes places.destination h s.destination,
-      texts-own k n bytes places.sender h s.sender,
-      texts-own k n bytes places.signature h s.signature,
-    ) refl
+    each_same _ _ places (each_map _ _ places (λ code span t. part-take n span.start (span.end - span.start) bytes (omega (arith, t.0, t.1))) s)
 
 -- ---- the message of what was found
 
-made-of : (bytes : List ℕ) (kind : MessageType) (places : Places) → Some kind ≡ kind_of (slice_index bytes 1) → Some (found_fields bytes places) ≡ fields_found bytes
-    → message_by bytes (kind_of (slice_index bytes 1)) (fields_found bytes)
-    ≡ Ok (seen (take (total bytes) bytes) 0 kind (order_at bytes) (slice_index bytes 2) (word_at 8 bytes) (found_fields bytes places))
-made-of bytes kind places k f =
-    ap (λ (x : Option MessageType). message_by bytes x (fields_found bytes)) (sym k) ∙ ap (λ (x : Option Fields). message_by bytes (Some kind) x) (sym f)
-
-pub message-made : (bytes own : List ℕ) (n : ℕ) (kind : MessageType) (places : Places) (order : Endian) (flags serial : ℕ)
-    → 16 + fields_len bytes ≤ n → n ≡ total bytes → Some kind ≡ kind_of (slice_index bytes 1) → Some (found_fields bytes places) ≡ fields_found bytes
-    → AreSpans (16 + fields_len bytes) places → own ≡ take n bytes → order ≡ order_at bytes → flags ≡ slice_index bytes 2 → serial ≡ word_at 8 bytes
-    → message_by bytes (kind_of (slice_index bytes 1)) (fields_found bytes) ≡ Ok (seen own 0 kind order flags serial (found_fields own places))
-message-made bytes own n kind places order flags serial inside whole k f spans o q r s =
-    let texts : found_fields own places ≡ found_fields bytes places =
-    ap (λ (l : List ℕ). found_fields l places) o ∙ found-own (16 + fields_len bytes) n bytes places inside spans in
-    let bytes-are : own ≡ take (total bytes) bytes = o ∙ ap (λ (j : ℕ). take j bytes) whole in
-    made-of bytes kind places k f
-    ∙ ap (λ (b : List ℕ). Ok (seen b 0 kind (order_at bytes) (slice_index bytes 2) (word_at 8 bytes) (found_fields bytes places))) (sym bytes-are)
-    ∙ ap (λ (x : Endian). Ok (seen own 0 kind x (slice_index bytes 2) (word_at 8 bytes) (found_fields bytes places))) (sym q)
-    ∙ ap (λ (x : ℕ). Ok (seen own 0 kind order x (word_at 8 bytes) (found_fields bytes places))) (sym r)
-    ∙ ap (λ (x : ℕ). Ok (seen own 0 kind order flags x (found_fields bytes places))) (sym s)
-    ∙ ap (λ (x : Fields). Ok (seen own 0 kind order flags serial x)) (sym texts)
-
-pub message-stands : (bytes own : List ℕ) (n : ℕ) (kind : MessageType) (places : Places) (order : Endian) (flags serial : ℕ)
+pub message-found : (bytes own : List ℕ) (n : ℕ) (kind : MessageType) (places : Places) (order : Endian) (flags serial : ℕ)
     → IsBytes bytes → 16 ≤ length bytes → head_fault bytes ≡ None → n ≤ length bytes → n ≡ total bytes
     → Some kind ≡ kind_of (slice_index bytes 1) → Some (found_fields bytes places) ≡ fields_found bytes → AreSpans (16 + fields_len bytes) places
-    → own ≡ take n bytes → order ≡ order_at bytes → flags ≡ slice_index bytes 2 → serial ≡ word_at 8 bytes → Stands own kind order flags serial places
-message-stands bytes own n kind places order flags serial fits long right there whole k f spans o q r s =
+    → own ≡ take n bytes → order ≡ order_at bytes → flags ≡ slice_index bytes 2 → serial ≡ word_at 8 bytes
+    → Stands own kind order flags serial places × (message_by bytes (kind_of (slice_index bytes 1)) (fields_found bytes) ≡ Ok (seen own 0 kind order flags serial (found_fields own places)))
+message-found bytes own n kind places order flags serial fits long right there whole k f spans o q r s =
     let inside : 16 + fields_len bytes ≤ n = omega arith in
+    let texts : found_fields own places ≡ found_fields bytes places =
+    ap (λ (l : List ℕ). found_fields l places) o ∙ found-own (16 + fields_len bytes) n bytes places inside spans in
+    let alike : message_by bytes (kind_of (slice_index bytes 1)) (fields_found bytes) ≡ Ok (seen own 0 kind order flags serial (found_fields bytes places)) =
+    rw (← k, ← f, o, whole, q, r, s) refl in
     let m = seen own 0 kind order flags serial (found_fields own places) in
-    let made = message-made bytes own n kind places order flags serial inside whole k f spans o q r s in
+    let made : message_by bytes (kind_of (slice_index bytes 1)) (fields_found bytes) ≡ Ok m = alike ∙ ap (λ (x : Fields). Ok (seen own 0 kind order flags serial x)) (sym texts) in
     let all : total bytes ≤ length bytes = omega arith in
     let front = front-found bytes m fits long all right made in
     let len : length own ≡ n = ap length o ∙ length-take-le n bytes there in
     let same : take n bytes ≡ take n own = sym (ap (λ (l : List ℕ). take n l) o ∙ take-take n n bytes (omega arith)) in
     let here : Front bytes m n = rw whole front in
-    let moved : Front own m n = front-moved bytes own m n here (omega arith) same in
-    record {
-      front = rw len moved;
-      spans = spans-more (16 + fields_len bytes) (length own) places (omega arith) spans;
-      valid = front-valid own m n moved;
-    }
+    let moved : Front own m n = front-moved bytes own m n here (omega arith) same in (
+      record {
+        front = rw len moved;
+        spans = spans-more (16 + fields_len bytes) (length own) places (omega arith) spans;
+        valid = front-valid own m n moved;
+      },
+      made,
+    )

@@ -1,5 +1,5 @@
 -- Reading a field array field by field.
-use Rattle.std.proofs.Common.{◌≡◌, ℕ, suc, ◌+◌, ◌-◌, ◌<◌, ◌≤◌, List, ◌∷◌, ◌++◌, length, take, drop, Option, Some, None, refl, sym, ap, subst, ◌∙◌, arith, append_assoc, length-append, option_map}
+use Rattle.std.proofs.Common.{◌≡◌, ℕ, ◌+◌, ◌-◌, ◌<◌, ◌≤◌, List, ◌∷◌, ◌++◌, length, take, drop, Option, Some, None, refl, sym, ap, subst, ◌∙◌, arith, append_assoc, length-append, option_map}
 use Rattle.std.proofs.lemmas.List.{take-append-drop, drop-take, length-take-le}
 use Rattle.wire_number.specs.declared.endian.Endian.{Endian}
 use Rattle.wire_number.specs.Number.{padding}
@@ -7,80 +7,98 @@ use Rattle.wire_number.specs.Reading.{Cursor, ◌>>=◌}
 use Rattle.wire_number.proofs.Steps.{at, AreBytes, bytes_from, bytes-append}
 use Rattle.wire_number.proofs.Numbers.{IsBytes}
 use Rattle.wire_spelling.specs.Reading.{many_at}
-use Rattle.wire_spelling.proofs.Loops.{many_next}
+use Rattle.wire_spelling.proofs.Loops.{many_done, many_next, many_none}
 use Rattle.wire_message.specs.declared.field.FieldCode.{FieldCode}
 use Rattle.wire_message.specs.Field.{Fields, Field, field_text, with_field, gathered, no_fields}
 use Rattle.wire_message.specs.Reading.{field_at, fields_in}
-use Rattle.wire_message.specs.Places.{area, AreSpans, found_fields, no_places}
+use Rattle.wire_message.specs.Places.{area, AreSpans, found_fields, Places}
 use Rattle.wire_message.specs.Held.{HasRoom, StandsAt, value_of}
-use Rattle.wire_message.specs.declared.places.Places.{Places}
 use Rattle.wire_message.specs.declared.places.Held.{Held}
-use Rattle.wire_message.proofs.Adding.{held-stands, no-spans}
+use Rattle.wire_message.proofs.Adding.{held-stands}
+use Rattle.wire_message.proofs.Each.{each_none}
 use Rattle.wire_message.proofs.FieldLaws.{Taken, field_at-takes}
+use Rattle.wire_message.proofs.Lists.{field-some}
 
 -- What is still to be read completes what was read. The cursor stands in the first `end` bytes.
-pub record Going (order : Endian) (bytes : List ℕ) (end count : ℕ) (places : Places) (c : Cursor) : Type 0 where
+pub record Going (order : Endian) (bytes : List ℕ) (end : ℕ) (places : Places) (c : Cursor) : Type 0 where
   pub front : List ℕ
   pub whole : take end bytes ≡ front ++ c.rest
   pub here : length front ≡ c.place
   pub low : AreBytes c.rest
   pub spans : AreSpans end places
-  pub rest : option_map (gathered (found_fields bytes places)) (many_at count (field_at order) c) ≡ fields_in order (area bytes 16 end)
+  pub room : ℕ
+  pub enough : length c.rest ≤ room
+  pub rest : option_map (gathered (found_fields bytes places)) (many_at room (field_at order) c) ≡ fields_in order (area bytes 16 end)
 
-pub going-first : (order : Endian) (bytes : List ℕ) (end count : ℕ) (places : Places) (c : Cursor) → IsBytes bytes → 16 ≤ end → end ≤ length bytes → count ≡ end - 16
-    → c ≡ at 16 (area bytes 16 end) → places ≡ no_places → Going order bytes end count places c
+pub going-first : (order : Endian) (bytes : List ℕ) (end : ℕ) (places : Places) (c : Cursor) → IsBytes bytes → 16 ≤ end → end ≤ length bytes
+    → c ≡ at 16 (area bytes 16 end) → places ≡ no_fields → Going order bytes end places c
 unfolding fields_in
-going-first order bytes end count places c fits h k counted same none =
+going-first order bytes end places c fits h k same none =
     let all : List ℕ = take end bytes in
     let n : end ≡ 16 + (end - 16) = omega arith in
     let part : drop 16 all ≡ area bytes 16 end = ap (λ (m : ℕ). drop 16 (take m bytes)) n ∙ drop-take 16 (end - 16) bytes in
-    let long : length all ≡ end = length-take-le end bytes k in
     let low : AreBytes (all ++ drop end bytes) = subst AreBytes (sym (take-append-drop end bytes)) (bytes_from bytes fits) in
     let inner : AreBytes (take 16 all ++ drop 16 all) = subst AreBytes (sym (take-append-drop 16 all)) (bytes-append all (drop end bytes) low).0 in
-    let size : count ≡ length (area bytes 16 end) =
-    omega (arith, counted, long, length-take-le 16 all (omega (arith, long)), ap length (take-append-drop 16 all), length-append (take 16 all) (drop 16 all), ap length part) in
-    let from : Going order bytes end count no_places (at 16 (area bytes 16 end)) = record {
+    let from : Going order bytes end no_fields (at 16 (area bytes 16 end)) = record {
       front = take 16 all;
       whole = sym (take-append-drop 16 all) ∙ ap (λ (l : List ℕ). take 16 all ++ l) part;
-      here = length-take-le 16 all (omega (arith, long));
+      here = length-take-le 16 all (omega (arith, length-take-le end bytes k));
       low = subst AreBytes part (bytes-append (take 16 all) (drop 16 all) inner).1;
-      spans = no-spans end;
-      rest = ap (λ (m : ℕ). option_map (gathered no_fields) (many_at m (field_at order) (at 16 (area bytes 16 end)))) size;
+      spans = each_none _;
+      room = length (area bytes 16 end);
+      enough = omega arith;
+      rest = refl;
     } in
-    subst (λ (p : Places). Going order bytes end count p c) (sym none) (subst (λ (d : Cursor). Going order bytes end count no_places d) (sym same) from)
+    rw (none, same) from
 
 one-more : (fields : Fields) (field : Field) (o : Option (List Field)) → option_map (gathered fields) (o >>= λ fs. Some (field ∷ fs)) ≡ option_map (gathered (with_field field fields)) o
 unfolding gathered
-one-more fields field None = refl
-one-more fields field (Some fs) = refl
+one-more fields field o = grind arith
 
-pub going-more : (order : Endian) (bytes : List ℕ) (end n count : ℕ) (places more : Places) (c : Cursor) (x : Field × Cursor) → Going order bytes end count places c
-    → count ≡ suc n → 0 < length c.rest → field_at order c ≡ Some x → found_fields bytes more ≡ with_field x.0 (found_fields bytes places) → AreSpans end more
-    → Going order bytes end n more x.1
-going-more order bytes end n count places more c x g e some found put spans =
+-- a field takes bytes
+pub field-takes : (order : Endian) (c : Cursor) (x : Field × Cursor) → Taken order c x → length x.1.rest < length c.rest
+field-takes order c x t =
+    omega (arith, ap length t.reads.text_is, length-append (padding c.place 8 ++ field_text order x.0) x.1.rest, field-some order c.place x.0)
+
+pub going-more : (order : Endian) (bytes : List ℕ) (end : ℕ) (places more : Places) (c : Cursor) (x : Field × Cursor) → Going order bytes end places c
+    → field_at order c ≡ Some x → found_fields bytes more ≡ with_field x.0 (found_fields bytes places) → AreSpans end more
+    → Going order bytes end more x.1
+going-more order bytes end places more c x g found put spans =
     let t : Taken order c x = field_at-takes order c x g.low found in
     let text : List ℕ = padding c.place 8 ++ field_text order x.0 in
+    let less = field-takes order c x t in
+    let enough = g.enough in
     record {
       front = g.front ++ text;
       whole = g.whole ∙ ap (λ (l : List ℕ). g.front ++ l) t.reads.text_is ∙ sym (append_assoc g.front text x.1.rest);
       here = omega (arith, length-append g.front text, g.here, t.reads.place_is);
       low = t.reads.bytes;
       spans = spans;
-      rest = ap (λ (f : Fields). option_map (gathered f) (many_at n (field_at order) x.1)) put
-          ∙ sym (one-more (found_fields bytes places) x.0 (many_at n (field_at order) x.1))
-          ∙ ap (option_map (gathered (found_fields bytes places))) (sym (many_next n count (field_at order) c x e some found)) ∙ g.rest;
+      room = g.room - 1;
+      enough = omega arith;
+      rest = ap (λ (f : Fields). option_map (gathered f) (many_at (g.room - 1) (field_at order) x.1)) put
+          ∙ sym (one-more (found_fields bytes places) x.0 (many_at (g.room - 1) (field_at order) x.1))
+          ∙ ap (option_map (gathered (found_fields bytes places))) (sym (many_next (g.room - 1) g.room (field_at order) c x (omega arith) (omega arith) found)) ∙ g.rest;
     }
 
--- where the reading ends, it ends so for the whole array
-pub going-ends : (order : Endian) (bytes : List ℕ) (end count : ℕ) (places : Places) (c : Cursor) (o : Option (List Field)) → Going order bytes end count places c
-    → many_at count (field_at order) c ≡ o → option_map (gathered (found_fields bytes places)) o ≡ fields_in order (area bytes 16 end)
-going-ends order bytes end count places c o g e = ap (option_map (gathered (found_fields bytes places))) (sym e) ∙ g.rest
+-- at its end, the field array says what was read
+pub going-done : (order : Endian) (bytes : List ℕ) (end : ℕ) (places : Places) (c : Cursor) → Going order bytes end places c → length c.rest ≡ 0
+    → Some (found_fields bytes places) ≡ fields_in order (area bytes 16 end)
+unfolding gathered
+going-done order bytes end places c g e = ap (option_map (gathered (found_fields bytes places))) (sym (many_done g.room (field_at order) c e)) ∙ g.rest
+
+-- where no field can be read, the bytes are no field array
+pub going-fails : (order : Endian) (bytes : List ℕ) (end : ℕ) (places : Places) (c : Cursor) → Going order bytes end places c → 0 < length c.rest → field_at order c ≡ None
+    → None ≡ fields_in order (area bytes 16 end)
+going-fails order bytes end places c g some e =
+    let enough = g.enough in
+    ap (option_map (gathered (found_fields bytes places))) (sym (many_none (g.room - 1) g.room (field_at order) c (omega arith) some e)) ∙ g.rest
 
 -- what was read of a field stands where its cursor ends, in the first `end` bytes
-pub held-there : (order : Endian) (bytes : List ℕ) (end count : ℕ) (places : Places) (c after : Cursor) (code : FieldCode) (held : Held) → end ≤ length bytes
-    → Going order bytes end count places c → field_at order c ≡ Some (record { code = code; value = value_of held }, after)
+pub held-there : (order : Endian) (bytes : List ℕ) (end : ℕ) (places : Places) (c after : Cursor) (code : FieldCode) (held : Held) → end ≤ length bytes
+    → Going order bytes end places c → field_at order c ≡ Some (record { code = code; value = value_of held }, after)
     → HasRoom after.place held × StandsAt bytes after.place held × (after.place ≤ end)
-held-there order bytes end count places c after code held k g found =
+held-there order bytes end places c after code held k g found =
     let t : Taken order c (record { code = code; value = value_of held }, after) = field_at-takes order c _ g.low found in
     let text : List ℕ = padding c.place 8 ++ field_text order (record { code = code; value = value_of held }) in
     let next : after.place ≡ length g.front + length text = omega (arith, g.here, t.reads.place_is) in

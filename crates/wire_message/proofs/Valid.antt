@@ -1,34 +1,25 @@
 -- The header fields of a message that stands on its bytes are each in its grammar.
-use Rattle.std.proofs.Common.{◌≡◌, ℕ, ◌<◌, List, [], ◌∷◌, Option, Some, None, refl, sym, ap, arith, subst, ◌^◌}
-use Rattle.std.specs.Prelude.{IfSome, IsTrue, is_some, option_map}
+use Rattle.std.proofs.Common.{ℕ, ◌<◌, List, [], ◌∷◌, refl, sym, ap, arith, subst, ◌^◌}
+use Rattle.std.specs.Prelude.{IsTrue, is_some}
 use Rattle.std.specs.List.{AllByRecursion}
 use Rattle.std.proofs.lemmas.Bool.{ltb-true}
 use Rattle.wire_signature.specs.Parsing.{types_in}
 use Rattle.wire_signature.proofs.Exact.{types_in-again}
 use Rattle.wire_message.specs.declared.field.FieldCode.{FieldCode}
 use Rattle.wire_message.specs.declared.field.FieldCode.TheVariants as codes
-use Rattle.wire_message.specs.declared.places.Span.{Span}
 use Rattle.wire_message.specs.Field.{Fields, no_fields, Value, Text, Number, Field, IsField, is_text, is_number, with_field, with_text, with_number, gathered}
 use Rattle.wire_message.specs.Front.{Seen, Front, fields_of}
-use Rattle.wire_message.specs.Places.{span_text}
 use Rattle.wire_message.specs.Valid.{AreFields}
+use Rattle.wire_message.proofs.Each.{each_none, each_numbers, each_with}
 use Rattle.wire_message.proofs.FieldLaws.{is-true, not-so}
 
 pub with_text-valid : (code : FieldCode) (text : List ℕ) (fields : Fields) → IsTrue (is_text code text) → AreFields fields → AreFields (with_text code text fields)
-unfolding is_text
-with_text-valid codes.Path text fields h f = record { path = h; interface = f.interface; member = f.member; error_name = f.error_name; reply_serial = f.reply_serial; destination = f.destination; sender = f.sender; signature = f.signature; unix_fds = f.unix_fds }
-with_text-valid codes.Interface text fields h f = record { path = f.path; interface = h; member = f.member; error_name = f.error_name; reply_serial = f.reply_serial; destination = f.destination; sender = f.sender; signature = f.signature; unix_fds = f.unix_fds }
-with_text-valid codes.Member text fields h f = record { path = f.path; interface = f.interface; member = h; error_name = f.error_name; reply_serial = f.reply_serial; destination = f.destination; sender = f.sender; signature = f.signature; unix_fds = f.unix_fds }
-with_text-valid codes.ErrorName text fields h f = record { path = f.path; interface = f.interface; member = f.member; error_name = h; reply_serial = f.reply_serial; destination = f.destination; sender = f.sender; signature = f.signature; unix_fds = f.unix_fds }
-with_text-valid codes.Destination text fields h f = record { path = f.path; interface = f.interface; member = f.member; error_name = f.error_name; reply_serial = f.reply_serial; destination = h; sender = f.sender; signature = f.signature; unix_fds = f.unix_fds }
-with_text-valid codes.Sender text fields h f = record { path = f.path; interface = f.interface; member = f.member; error_name = f.error_name; reply_serial = f.reply_serial; destination = f.destination; sender = h; signature = f.signature; unix_fds = f.unix_fds }
-with_text-valid codes.Signature text fields h f = record { path = f.path; interface = f.interface; member = f.member; error_name = f.error_name; reply_serial = f.reply_serial; destination = f.destination; sender = f.sender; signature = h; unix_fds = f.unix_fds }
-with_text-valid code text fields h f = not-so h
+with_text-valid codes.Path text fields h f = record { texts = each_with _ codes.Path text fields h f.texts; reply_serial = f.reply_serial; unix_fds = f.unix_fds }
+with_text-valid code text fields h f = record { texts = each_with _ code text fields h f.texts; reply_serial = f.reply_serial; unix_fds = f.unix_fds }
 
 with_number-valid : (code : FieldCode) (number : ℕ) (fields : Fields) → IsTrue (is_number code number) → number < 2 ^ 32 → AreFields fields → AreFields (with_number code number fields)
-unfolding is_number
-with_number-valid codes.ReplySerial number fields h k f = record { path = f.path; interface = f.interface; member = f.member; error_name = f.error_name; reply_serial = (ltb-true 0 number (is-true _ h), k); destination = f.destination; sender = f.sender; signature = f.signature; unix_fds = f.unix_fds }
-with_number-valid codes.UnixFds number fields h k f = record { path = f.path; interface = f.interface; member = f.member; error_name = f.error_name; reply_serial = f.reply_serial; destination = f.destination; sender = f.sender; signature = f.signature; unix_fds = k }
+with_number-valid codes.ReplySerial number fields h k f = record { texts = each_numbers _ fields _ _ f.texts; reply_serial = (ltb-true 0 number (is-true _ h), k); unix_fds = f.unix_fds }
+with_number-valid codes.UnixFds number fields h k f = record { texts = each_numbers _ fields _ _ f.texts; reply_serial = f.reply_serial; unix_fds = k }
 with_number-valid code number fields h k f = not-so h
 
 with_value-valid : (code : FieldCode) (value : Value) (fields : Fields) → IsField (record { code = code; value = value }) → AreFields fields → AreFields (with_field (record { code = code; value = value }) fields)
@@ -42,22 +33,16 @@ gathered-valid fields [] h f = f
 gathered-valid fields (field ∷ fs) h f = gathered-valid (with_field field fields) fs h.1 (with_value-valid field.code field.value fields h.0 f)
 
 none-valid : AreFields no_fields
-none-valid = record { path = tt; interface = tt; member = tt; error_name = tt; reply_serial = tt; destination = tt; sender = tt; signature = tt; unix_fds = tt }
+none-valid = record { texts = each_none _; reply_serial = tt; unix_fds = tt }
 
 pub front-valid : (bytes : List ℕ) (m : Seen) (n : ℕ) → Front bytes m n → AreFields (fields_of m)
 front-valid bytes m n front =
     let fs = front.fields in
     subst AreFields (sym fs.3) (gathered-valid no_fields fs.0 fs.1 none-valid)
 
--- ---- a text that was lent
+-- ---- the text of a signature
 
-pub at-some : (bytes : List ℕ) (span : Option Span) (text : List ℕ) (P : List ℕ → Type 0) → Some text ≡ option_map (span_text bytes) span → IfSome (option_map (span_text bytes) span) P → P text
-at-some bytes None text P e h = absurd cc
-at-some bytes (Some span) text P e h = let same : span_text bytes span ≡ text = cc in subst P same h
+pub no_types_text : IsTrue (is_some (types_in []))
+no_types_text = ap is_some (types_in-again [] [] (record { valid = record { arrays = omega arith; structs = omega arith; fields = tt; within = omega arith }; text = refl }))
 
-pub signature-text : (text : List ℕ) → IsTrue (is_text codes.Signature text) → IsTrue (is_some (types_in text))
-unfolding is_text
-signature-text text h = h
-
-pub no-types-text : IsTrue (is_some (types_in []))
-no-types-text = ap is_some (types_in-again [] [] (record { valid = record { arrays = omega arith; structs = omega arith; fields = tt; within = omega arith }; text = refl }))
+pub ruleset signature_fields = types_in-again

@@ -1,15 +1,17 @@
 -- A message as bytes, from what a builder holds (D-Bus Specification, "Message Format").
-use Rattle.std.specs.Prelude.{ℕ, ◌≡◌, ◌<◌, ◌≤◌, ◌==◌, if◌then◌else◌, Bool, false, nat_lt, List, ◌∷◌, ◌++◌, length, Option, Some, None, option_map, IfSome, ◌^◌, Result, Ok, Err}
+use Rattle.std.specs.Prelude.{ℕ, ◌≡◌, ◌<◌, ◌≤◌, ◌==◌, if◌then◌else◌, Bool, false, nat_lt, List, ◌∷◌, ◌++◌, length, Option, Some, None, IfSome, ◌^◌, Result, Ok, Err}
+use Rattle.std.specs.Borrow.{Bor}
 use Rattle.std.specs.Int.{w32}
 use Rattle.std.specs.Int.RustNames.{bit_and, bit_or}
 use Rattle.wire_number.specs.declared.endian.Endian.{Endian}
 use Rattle.wire_number.specs.declared.endian.Endian.TheVariants.{Little}
 use Rattle.wire_number.specs.Number.{number_text, padded}
-use Rattle.wire_message.specs.Field.{Fields, no_fields, Value, Text, Number, fields_text, field_list}
+use Rattle.wire_message.specs.Field.{Fields, no_fields, EachText, Value, Text, Number, field_type, fields_text, field_list, read_by}
 use Rattle.wire_message.specs.Front.{Seen, seen, bare, Front, kind_code, order_code}
 use Rattle.wire_signature.specs.declared.basic.BasicType.{BasicType}
 use Rattle.wire_signature.specs.declared.basic.BasicType.TheVariants as basics
-use Rattle.wire_message.specs.declared.writing.HeaderFields.{HeaderFields}
+use Rattle.wire_message.specs.declared.field.FieldsOf.{FieldsOf}
+use Rattle.wire_message.specs.Places.{Places, found_fields, AreSpans}
 use Rattle.wire_message.specs.Valid.{AreFields}
 use Rattle.wire_message.specs.Circle.{IsSerial, NoSerial, last_after}
 use Rattle.wire_message.specs.declared.kind.MessageType.{MessageType}
@@ -29,12 +31,23 @@ pub record Draft : Type 0 where
 abbrev pub draft_fields : Draft → List ℕ
 draft_fields draft = fields_text draft.order 16 (field_list draft.fields)
 
--- Byte order, message type, flags, version 1, the body's length, the serial, the fields' length, the fields, zeros up to a
--- multiple of 8.
+-- byte order, message type, flags, version 1, the body's length, the serial, the fields' length, and what follows them
+abbrev pub laid : Endian → MessageType → ℕ → ℕ → ℕ → ℕ → List ℕ → List ℕ
+laid order kind flags body_length serial fields_length rest =
+    order_code order ∷ kind_code kind ∷ flags ∷ 1
+    ∷ (number_text w32 order body_length ++ (number_text w32 order serial ++ (number_text w32 order fields_length ++ rest)))
+
+-- These with the fields, and zeros up to a multiple of 8.
 unfoldable pub header_text : Draft → ℕ → ℕ → List ℕ
 header_text draft body_length serial =
-    padded 8 (order_code draft.order ∷ kind_code draft.kind ∷ draft.flags ∷ 1 ∷ number_text w32 draft.order body_length
-    ++ number_text w32 draft.order serial ++ number_text w32 draft.order (length (draft_fields draft)) ++ draft_fields draft)
+    padded 8 (laid draft.order draft.kind draft.flags body_length serial (length (draft_fields draft)) (draft_fields draft))
+
+-- The header for a body of no bytes yet was written, and these are the places of its texts, whatever is put in for the length of
+-- the body.
+pub record IsHeaderOf (draft : Draft) (serial : ℕ) (text : List ℕ) (places : Places) : Type 0 where
+  pub written : text ≡ header_text draft 0 serial
+  pub found : (size : ℕ) (more : List ℕ) → found_fields (header_text draft size serial ++ more) places ≡ draft.fields
+  pub spans : AreSpans (length text) places
 
 -- the header and the body
 unfoldable pub message_text : Draft → ℕ → List ℕ → List ℕ
@@ -70,28 +83,12 @@ abbrev pub IsShortValue : BasicType → Value → Type 0
 IsShortValue type (Text text) = IsShortText type text
 IsShortValue type (Number number) = Unit {0}
 
-pub record AreShort (fields : Fields) : Type 0 where
-  pub path : IfSome fields.path (λ text. length text < 2 ^ 32)
-  pub interface : IfSome fields.interface (λ text. length text < 2 ^ 32)
-  pub member : IfSome fields.member (λ text. length text < 2 ^ 32)
-  pub error_name : IfSome fields.error_name (λ text. length text < 2 ^ 32)
-  pub destination : IfSome fields.destination (λ text. length text < 2 ^ 32)
-  pub sender : IfSome fields.sender (λ text. length text < 2 ^ 32)
-  pub signature : IfSome fields.signature (λ text. length text < 256)
+abbrev pub AreShort : Fields → Type 0
+AreShort fields = EachText (λ code text. IsShortText (field_type code) text) fields
 
--- the header fields of the code
-abbrev pub header_fields : HeaderFields → Fields
-header_fields fields = record {
-  path = option_map (λ t. t.now) fields.path;
-  interface = option_map (λ t. t.now) fields.interface;
-  member = option_map (λ t. t.now) fields.member;
-  error_name = option_map (λ t. t.now) fields.error_name;
-  reply_serial = fields.reply_serial;
-  destination = option_map (λ t. t.now) fields.destination;
-  sender = option_map (λ t. t.now) fields.sender;
-  signature = option_map (λ t. t.now) fields.signature;
-  unix_fds = fields.unix_fds;
-}
+-- the header fields whose texts are lent
+abbrev pub header_fields : FieldsOf (Bor (List ℕ)) → Fields
+header_fields fields = read_by (λ t. t.now) fields
 
 -- a text that alone passes the limit of a message
 abbrev pub has_long_text : Option (List ℕ) → Bool

@@ -1,5 +1,5 @@
 -- What is printed of an error, and its description.
-use Rattle.std.specs.Prelude.{ℕ, List, ◌++◌, codes, Option, Some, None}
+use Rattle.std.specs.Prelude.{ℕ, List, [], ◌++◌, codes, Option, Some, None}
 use Rattle.fdo_kinds.specs.Names.{kind_name}
 use Rattle.wire_message.specs.declared.fdo.StandardError.{StandardError}
 use Rattle.wire_message.specs.declared.error.Error.{Error}
@@ -49,30 +49,35 @@ detail_text (Some detail) = detail
 unfoldable pub place : List ℕ → List ℕ
 place path = codes "` already exists at `" ++ path ++ codes "`"
 
+-- an error that holds nothing beside its kind; of another this says nothing
+abbrev pub bare_text : Error → List ℕ
+bare_text errors.InterfaceNotFound = codes "Interface not found"
+bare_text errors.InvalidField = codes "invalid message field"
+bare_text errors.ExcessData = codes "excess data"
+bare_text errors.IncorrectEndian = codes "incorrect endian"
+bare_text errors.InvalidReply = codes "Invalid D-Bus method reply"
+bare_text errors.MissingField = codes "A required field is missing from message headers"
+bare_text errors.InvalidGUID = codes "Invalid GUID"
+bare_text errors.Unsupported = codes "Connection support is lacking"
+bare_text errors.NameTaken = codes "name already taken on the bus"
+bare_text errors.InvalidMatchRule = codes "Invalid match rule string"
+bare_text errors.Memory = codes "Memory"
+bare_text errors.SerialsSpent = codes "SerialsSpent"
+bare_text errors.UnknownHandle = codes "UnknownHandle"
+bare_text errors.Busy = codes "Busy"
+bare_text error = []
+
 -- an error, with what it holds beside its kind
 abbrev pub error_text : Error → List ℕ
-error_text errors.InterfaceNotFound = codes "Interface not found"
 error_text (errors.InputOutput kind) = codes "I/O error: " ++ io_text kind
-error_text errors.InvalidField = codes "invalid message field"
-error_text errors.ExcessData = codes "excess data"
 error_text (errors.Variant kind) = codes "variant error: " ++ variant_text kind
 error_text (errors.Names kind) = codes "invalid " ++ names_text kind
-error_text errors.IncorrectEndian = codes "incorrect endian"
-error_text errors.InvalidReply = codes "Invalid D-Bus method reply"
 error_text (errors.MethodError name detail message) = name ++ codes ": " ++ detail_text detail
-error_text errors.MissingField = codes "A required field is missing from message headers"
-error_text errors.InvalidGUID = codes "Invalid GUID"
-error_text errors.Unsupported = codes "Connection support is lacking"
 error_text (errors.FDO error) = standard_text error
-error_text errors.NameTaken = codes "name already taken on the bus"
-error_text errors.InvalidMatchRule = codes "Invalid match rule string"
 error_text (errors.Failure text) = text
 error_text (errors.MissingParameter name) = codes "Parameter `" ++ name.now ++ codes "` was not specified but it is required"
 error_text (errors.InterfaceExists name path) = codes "Interface `" ++ name ++ place path
-error_text errors.Memory = codes "Memory"
-error_text errors.SerialsSpent = codes "SerialsSpent"
-error_text errors.UnknownHandle = codes "UnknownHandle"
-error_text errors.Busy = codes "Busy"
+error_text error = bare_text error
 
 -- what went wrong, in general
 abbrev pub description : Error → Option (List ℕ)
@@ -94,7 +99,4 @@ description errors.InvalidMatchRule = Some (codes "invalid match rule string")
 description (errors.Failure text) = Some text
 description (errors.MissingParameter name) = Some (codes "A required parameter is missing")
 description (errors.InterfaceExists name path) = Some (codes "interface already exists")
-description errors.Memory = None
-description errors.SerialsSpent = None
-description errors.UnknownHandle = None
-description errors.Busy = None
+description error = None

@@ -1,5 +1,5 @@
 -- Header fields (D-Bus Specification, "Message Format", "Header Fields").
-use Rattle.std.specs.Prelude.{ℕ, ◌+◌, ◌<◌, ◌^◌, nat_lt, Bool, true, false, List, [], ◌∷◌, ◌++◌, length, Option, Some, None, IsTrue, is_some}
+use Rattle.std.specs.Prelude.{ℕ, ◌+◌, ◌<◌, ◌^◌, nat_lt, Bool, true, false, List, [], ◌∷◌, ◌++◌, length, Option, Some, None, IfSome, IsTrue, is_some, option_map}
 use Rattle.std.specs.Int.{w8, w32}
 use Rattle.wire_number.specs.declared.endian.Endian.{Endian}
 use Rattle.wire_number.specs.Number.{number_text, counted_text, padding}
@@ -10,20 +10,14 @@ use Rattle.wire_signature.specs.Shape.{letter}
 use Rattle.wire_signature.specs.Parsing.{types_in}
 use Rattle.wire_message.specs.declared.field.FieldCode.{FieldCode}
 use Rattle.wire_message.specs.declared.field.FieldCode.TheVariants as codes
+use Rattle.wire_message.specs.declared.field.FieldsOf.{FieldsOf}
 
 -- the nine fields of a header, each there or not
-pub record Fields : Type 0 where
-  pub path : Option (List ℕ)
-  pub interface : Option (List ℕ)
-  pub member : Option (List ℕ)
-  pub error_name : Option (List ℕ)
-  pub reply_serial : Option ℕ
-  pub destination : Option (List ℕ)
-  pub sender : Option (List ℕ)
-  pub signature : Option (List ℕ)
-  pub unix_fds : Option ℕ
+abbrev pub Fields : Type 0
+Fields = FieldsOf (List ℕ)
 
-abbrev pub no_fields : Fields
+-- none of them
+abbrev pub no_fields : {A : Type 0} → FieldsOf A
 no_fields = record {
   path = None;
   interface = None;
@@ -35,6 +29,30 @@ no_fields = record {
   signature = None;
   unix_fds = None;
 }
+
+-- the fields, with what stands for their texts read by `read`
+abbrev pub read_by : {A B : Type 0} → (A → B) → FieldsOf A → FieldsOf B
+read_by read fields = record {
+  path = option_map read fields.path;
+  interface = option_map read fields.interface;
+  member = option_map read fields.member;
+  error_name = option_map read fields.error_name;
+  reply_serial = fields.reply_serial;
+  destination = option_map read fields.destination;
+  sender = option_map read fields.sender;
+  signature = option_map read fields.signature;
+  unix_fds = fields.unix_fds;
+}
+
+-- each text that is there is as `P` says of its field
+pub record EachText {A : Type 0} (P : FieldCode → A → Type 0) (fields : FieldsOf A) : Type 0 where
+  pub path : IfSome fields.path (P codes.Path)
+  pub interface : IfSome fields.interface (P codes.Interface)
+  pub member : IfSome fields.member (P codes.Member)
+  pub error_name : IfSome fields.error_name (P codes.ErrorName)
+  pub destination : IfSome fields.destination (P codes.Destination)
+  pub sender : IfSome fields.sender (P codes.Sender)
+  pub signature : IfSome fields.signature (P codes.Signature)
 
 -- ---- one field
 
@@ -69,7 +87,7 @@ field_type code = basics.String
 
 -- The text is in the grammar of the field: a path, an interface's, a member's, an error's name; a bus name as destination;
 -- a unique name as sender; a signature.
-unfoldable pub is_text : FieldCode → List ℕ → Bool
+abbrev pub is_text : FieldCode → List ℕ → Bool
 is_text codes.Path text = is_object_path text
 is_text codes.Interface text = is_interface_name text
 is_text codes.Member text = is_member_name text
@@ -81,7 +99,7 @@ is_text codes.ReplySerial text = false
 is_text codes.UnixFds text = false
 
 -- a reply serial isn't 0
-unfoldable pub is_number : FieldCode → ℕ → Bool
+abbrev pub is_number : FieldCode → ℕ → Bool
 is_number codes.ReplySerial number = nat_lt 0 number
 is_number codes.UnixFds number = true
 is_number code number = false
@@ -129,7 +147,7 @@ fields_text order place (field ∷ fields) =
 -- ---- what fields say
 
 -- a field more: its value stands for an earlier one of its code
-abbrev pub with_text : FieldCode → List ℕ → Fields → Fields
+abbrev pub with_text : {A : Type 0} → FieldCode → A → FieldsOf A → FieldsOf A
 with_text codes.Path text fields = record fields { path = Some text }
 with_text codes.Interface text fields = record fields { interface = Some text }
 with_text codes.Member text fields = record fields { member = Some text }
@@ -139,7 +157,7 @@ with_text codes.Sender text fields = record fields { sender = Some text }
 with_text codes.Signature text fields = record fields { signature = Some text }
 with_text code text fields = fields
 
-abbrev pub with_number : FieldCode → ℕ → Fields → Fields
+abbrev pub with_number : {A : Type 0} → FieldCode → ℕ → FieldsOf A → FieldsOf A
 with_number codes.ReplySerial number fields = record fields { reply_serial = Some number }
 with_number codes.UnixFds number fields = record fields { unix_fds = Some number }
 with_number code number fields = fields
@@ -153,17 +171,13 @@ gathered fields [] = fields
 gathered fields (field ∷ more) = gathered (with_field field fields) more
 
 -- The fields that are there, in the order of their codes.
-abbrev pub text_field : FieldCode → Option (List ℕ) → List Field
-text_field code None = []
-text_field code (Some text) = record { code = code; value = Text text } ∷ []
-
-abbrev pub number_field : FieldCode → Option ℕ → List Field
-number_field code None = []
-number_field code (Some number) = record { code = code; value = Number number } ∷ []
+abbrev pub there : {A : Type 0} → (A → Value) → FieldCode → Option A → List Field
+there value code None = []
+there value code (Some x) = record { code = code; value = value x } ∷ []
 
 unfoldable pub field_list : Fields → List Field
 field_list fields =
-    text_field codes.Path fields.path ++ (text_field codes.Interface fields.interface ++ (text_field codes.Member fields.member
-    ++ (text_field codes.ErrorName fields.error_name ++ (number_field codes.ReplySerial fields.reply_serial
-    ++ (text_field codes.Destination fields.destination ++ (text_field codes.Sender fields.sender
-    ++ (text_field codes.Signature fields.signature ++ number_field codes.UnixFds fields.unix_fds)))))))
+    there Text codes.Path fields.path ++ (there Text codes.Interface fields.interface ++ (there Text codes.Member fields.member
+    ++ (there Text codes.ErrorName fields.error_name ++ (there Number codes.ReplySerial fields.reply_serial
+    ++ (there Text codes.Destination fields.destination ++ (there Text codes.Sender fields.sender
+    ++ (there Text codes.Signature fields.signature ++ there Number codes.UnixFds fields.unix_fds)))))))

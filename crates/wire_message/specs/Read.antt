@@ -27,7 +27,7 @@ pub record BeginsBody (order : Endian) (types : List Shape) (bytes : List ℕ) (
   pub spelled : SpellEach order 0 types values front
 
 -- No front of the bytes is a body of these types.
-abbrev pub BeginsNoBody : Endian → List Shape → List ℕ → Type 0
+unfoldable pub BeginsNoBody : Endian → List Shape → List ℕ → Type 0
 BeginsNoBody order types bytes = (values : List Datum) → BeginsBody order types bytes values → ⊥
 
 -- A front of the bytes is a body with these values, and none is one with others; this is what they are read as.

@@ -1,10 +1,11 @@
 //! Messages whose bodies are arguments, values, or bytes.
 ghost use Rattle.std.specs.Prelude.{◌≡◌, ◌+◌, ◌<◌, ◌≤◌, ◌^◌, IfErr, IfOk, IfSome, IsTrue, List, length, map, option_map};
-ghost use Rattle.wire_signature.specs.Shape.{Shape, SignatureText};
+ghost use Rattle.wire_signature.specs.Shape.{SignatureText};
 ghost use Rattle.wire_tree.specs.Datum.{Datum, type_of};
 ghost use Rattle.wire_body.specs.Arguments.{TellsTo};
-ghost use Rattle.wire_message.specs.Bodies.{BuildsBody, BuildsValues, body_taken};
+ghost use Rattle.wire_message.specs.Bodies.{BuildsBody, BuildsOf, BuildsValues};
 ghost use Rattle.wire_message.specs.Circle.{taken_among};
+ghost use Rattle.wire_message.specs.Content.{ContentFits, IsShallow, content_text};
 ghost use Rattle.wire_message.specs.Draft.{BuildsWith, ReadsAgain};
 ghost use Rattle.wire_message.specs.Field.{is_text};
 ghost use Rattle.wire_message.specs.Signed.{counted, signature_field, signed};
@@ -22,20 +23,8 @@ use std::sync::ledger::Ledger;
 use wire_body::{BodyValues, ToBody, to};
 use wire_signature::{Signature, VariantError};
 
-/// What `to` made of arguments, with this crate's error.
-fn body_of(body: std::result::Result<BodyValues, VariantError>) -> Result<BodyValues>
-    ensures { result ≡ body_taken body }
-{
-    match body {
-        Ok(body) => Ok(body),
-        Err(VariantError::Signature) => Err(Error::Variant(VariantError::Signature)),
-        Err(VariantError::Malformed) => Err(Error::Variant(VariantError::Malformed)),
-        // Of arguments nothing else comes.
-        Err(_) => Err(Error::Memory),
-    }
-}
-
 /// The text as a header field, where it isn't that of an empty signature.
+#[tactic(auto, using(crate::proofs::Valid::signature_fields))]
 fn field_of<'a>(signature: &Signature, text: &'a str) -> Option<&'a str>
     requires { SignatureText signature.now text.now }
     ensures text { option_map (λ t. t.now) result ≡ signature_field signature.now }
@@ -78,6 +67,26 @@ impl<'a> Builder<'a> {
         Builder { fields, ..self }
     }
 
+    /// The message with that content and its signature, and with these descriptors.
+    fn build_signed<T: Taken, S: Counts>(
+        self,
+        alloc: Global,
+        serials: &mut Serials,
+        taken: &T,
+        content: Content<'_>,
+        signature: &Signature,
+        fds: &[u32],
+        steps: &mut S,
+    ) -> Result<Message>
+        ensures built { BuildsOf (T.is_taken taken.now) (signed self.entry signature.now) (content_text self.entry.order content.entry) (IsShallow content.entry) (ContentFits self.entry.order content.entry) fds.now serials.old serials.new result }
+        ensures again { IfOk result ReadsAgain }
+        ensures cost { S.counted steps.new ≤ S.counted steps.old + taken_among (T.is_taken taken.now) 4294967295 + 2 }
+    {
+        let text = signature.to_text(alloc)?;
+        let builder = self.with_signature(signature, text.as_str());
+        builder.build_of(alloc, serials, taken, content, fds, steps)
+    }
+
     /// As `build`, with what `to` made of the arguments.
     pub(crate) fn build_to<T: Taken, S: Counts>(
         self,
@@ -87,20 +96,23 @@ impl<'a> Builder<'a> {
         body: std::result::Result<BodyValues, VariantError>,
         steps: &mut S,
     ) -> Result<Message>
-        ensures built { (kinds : List Shape) (values : List Datum) → TellsTo body kinds values → map type_of values ≡ kinds → BuildsBody (T.is_taken taken.now) self.entry kinds values serials.old serials.new result }
+        ensures built { (values : List Datum) → TellsTo body (map type_of values) values → BuildsBody (T.is_taken taken.now) self.entry values serials.old serials.new result }
         ensures only { IfOk result (λ _. IfErr body (λ _. ⊥)) }
         ensures again { IfOk result ReadsAgain }
         ensures cost { S.counted steps.new ≤ S.counted steps.old + taken_among (T.is_taken taken.now) 4294967295 + 2 }
     {
-        let mut drawn = Serials::after(serials.last());
-        let serial = self.own_or_next(&mut drawn, taken, steps)?;
-        let body = body_of(body)?;
-        let signature = body.signature();
-        let text = signature.to_text(alloc)?;
-        let builder = self.with_signature(signature, text.as_str());
-        let message = builder.with_content(alloc, serial, Content::Values(&body), &[])?;
-        *serials = drawn;
-        Ok(message)
+        match body {
+            Ok(body) => {
+                let content = Content::Values(&body);
+                self.build_signed(alloc, serials, taken, content, body.signature(), &[], steps)
+            }
+            Err(kind) => {
+                // That there is no serial is told first; this one is not kept.
+                let mut drawn = Serials::after(serials.last());
+                self.own_or_next(&mut drawn, taken, steps)?;
+                Err(Error::from(kind))
+            }
+        }
     }
 
     /// The message with these arguments as its body, which are given up, and with the serial that was set, else with the next
@@ -124,7 +136,7 @@ impl<'a> Builder<'a> {
         body: B,
         steps: &mut Steps<L>,
     ) -> Result<Message>
-        ensures built { BuildsBody (T.is_taken taken.now) self.entry B.kinds (B.datums body) serials.old serials.new result }
+        ensures built { BuildsBody (T.is_taken taken.now) self.entry (B.datums body) serials.old serials.new result }
         ensures round { IfOk result (λ _. B.read (B.datums body) ≡ body) }
         ensures again { IfOk result ReadsAgain }
         ensures cost { steps.new ≤ steps.old + taken_among (T.is_taken taken.now) 4294967295 + 2 }
@@ -140,7 +152,7 @@ impl<'a> Builder<'a> {
         taken: &T,
         body: B,
     ) -> Result<Message>
-        ensures built { BuildsBody (T.is_taken taken.now) self.entry B.kinds (B.datums body) serials.old serials.new result }
+        ensures built { BuildsBody (T.is_taken taken.now) self.entry (B.datums body) serials.old serials.new result }
         ensures round { IfOk result (λ _. B.read (B.datums body) ≡ body) }
         ensures again { IfOk result ReadsAgain }
     {
@@ -169,12 +181,9 @@ impl<'a> Builder<'a> {
         ensures again { IfOk result ReadsAgain }
         ensures cost { steps.new ≤ steps.old + taken_among (T.is_taken taken.now) 4294967295 + 2 }
     {
-        let signature = body.signature();
-        let text = signature.to_text(alloc)?;
-        let builder = self
-            .with_signature(signature, text.as_str())
-            .with_count(fds);
-        builder.build_of(alloc, serials, taken, Content::Values(body), fds, steps)
+        let content = Content::Values(body);
+        let builder = self.with_count(fds);
+        builder.build_signed(alloc, serials, taken, content, body.signature(), fds, steps)
     }
 
     /// As `build_body`, for a caller that counts no steps.
@@ -190,19 +199,9 @@ impl<'a> Builder<'a> {
         ensures built { BuildsValues (T.is_taken taken.now) (counted self.entry fds.now) body.now fds.now serials.old serials.new result }
         ensures again { IfOk result ReadsAgain }
     {
-        let signature = body.signature();
-        let text = signature.to_text(alloc)?;
-        let builder = self
-            .with_signature(signature, text.as_str())
-            .with_count(fds);
-        builder.build_of(
-            alloc,
-            serials,
-            taken,
-            Content::Values(body),
-            fds,
-            &mut Uncounted,
-        )
+        let (content, steps) = (Content::Values(body), &mut Uncounted);
+        let builder = self.with_count(fds);
+        builder.build_signed(alloc, serials, taken, content, body.signature(), fds, steps)
     }
 
     /// As `build_empty`, with these bytes as the body, that signature, and these descriptors. The bytes are put as they are, and not
@@ -223,11 +222,16 @@ impl<'a> Builder<'a> {
         ensures again { IfOk result ReadsAgain }
         ensures cost { steps.new ≤ steps.old + taken_among (T.is_taken taken.now) 4294967295 + 2 }
     {
-        let text = signature.to_text(alloc)?;
-        let builder = self
-            .with_signature(signature, text.as_str())
-            .with_count(fds);
-        builder.build_of(alloc, serials, taken, Content::Bytes(body), fds, steps)
+        let builder = self.with_count(fds);
+        builder.build_signed(
+            alloc,
+            serials,
+            taken,
+            Content::Bytes(body),
+            signature,
+            fds,
+            steps,
+        )
     }
 
     /// As `build_raw_body`, for a caller that counts no steps.
@@ -244,17 +248,8 @@ impl<'a> Builder<'a> {
         ensures built { BuildsWith (T.is_taken taken.now) (counted (signed self.entry signature.now) fds.now) body.now fds.now serials.old serials.new result }
         ensures again { IfOk result ReadsAgain }
     {
-        let text = signature.to_text(alloc)?;
-        let builder = self
-            .with_signature(signature, text.as_str())
-            .with_count(fds);
-        builder.build_of(
-            alloc,
-            serials,
-            taken,
-            Content::Bytes(body),
-            fds,
-            &mut Uncounted,
-        )
+        let (content, steps) = (Content::Bytes(body), &mut Uncounted);
+        let builder = self.with_count(fds);
+        builder.build_signed(alloc, serials, taken, content, signature, fds, steps)
     }
 }

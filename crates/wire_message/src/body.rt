@@ -47,6 +47,7 @@ fn types_of<T: ToBody>(alloc: Global) -> std::result::Result<Signature, VariantE
 }
 
 /// The arguments that a front of a body's bytes spells.
+#[tactic(auto, using(crate::proofs::BodyFound::found_bodies), unfolding(crate::specs::Read::BeginsNoBody))]
 fn begun<T: FromBody>(
     alloc: Global,
     order: Endian,
@@ -141,6 +142,7 @@ impl<'a> Body<'a> {
     ///
     /// Variant of `SignatureMismatch` exactly where the header's signature is not that of the target's types; else Variant of
     /// `Malformed` exactly where no front of the body spells a value of each type. Memory for want of memory.
+    #[tactic(auto, using(crate::proofs::BodyFound::own_types))]
     pub fn deserialize<T: FromBody>(&self, alloc: Global) -> Result<T>
         ensures { ReadsBody result T.read T.kinds self.now }
     {

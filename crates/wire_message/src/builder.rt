@@ -4,8 +4,9 @@ ghost use Rattle.wire_names.specs.BusName.{text_of};
 ghost use Rattle.wire_message.specs.Front.{order_code};
 ghost use Rattle.wire_message.specs.Circle.{Numbers, taken_among};
 ghost use Rattle.wire_message.specs.Field.{is_text, with_text};
-ghost use Rattle.wire_message.specs.Draft.{Draft, IsDraft, AreShort, new_draft, header_fields, header_text, message_text, call_draft, flagged, has_long_text, Writes, Builds, ReadsAgain};
-ghost use Rattle.wire_message.specs.Content.{BuildsOf, ContentFits, IsShallow, MakesOf, content_text};
+ghost use Rattle.wire_message.specs.Draft.{Draft, IsDraft, AreShort, new_draft, header_fields, header_text, laid, IsHeaderOf, message_text, call_draft, flagged, has_long_text, Writes, Builds, ReadsAgain};
+ghost use Rattle.wire_message.specs.Bodies.{BuildsOf, MakesOf};
+ghost use Rattle.wire_message.specs.Content.{ContentFits, IsShallow, content_text};
 ghost use Rattle.wire_message.specs.Places.{found_fields, AreSpans};
 ghost use Rattle.wire_message.specs.declared.kind.MessageType.TheVariants as types;
 
@@ -20,7 +21,7 @@ use crate::places::Places;
 use crate::serials::{Serials, Taken};
 use crate::shared::Parts;
 use crate::steps::{Counts, Steps, Uncounted};
-use crate::writing::{HeaderFields, NO_FIELDS, put_fields};
+use crate::writing::{HeaderFields, put_fields};
 use std::alloc::Global;
 use std::marker::Model;
 use std::sync::ledger::Ledger;
@@ -79,6 +80,15 @@ impl Message {
     }
 }
 
+/// The first 16 bytes of a header, whose lengths are known when the fields and the body are written.
+fn start_of(order: Endian, kind: MessageType, flags: u8, serial: u32) -> [u8; 16]
+    ensures { result ≡ laid order kind flags 0 serial 0 [] }
+{
+    let (o, k) = (order_byte(order), type_code(kind));
+    let [a, b, c, d] = write_u32(order, serial);
+    [o, k, flags, 1, 0, 0, 0, 0, a, b, c, d, 0, 0, 0, 0]
+}
+
 /// Whether the path alone passes the limit of a message.
 fn has_long_path(fields: &HeaderFields<'_>) -> bool
     ensures { result ≡ has_long_text (header_fields fields.now).path }
@@ -99,17 +109,17 @@ impl<'a> Builder<'a> {
             order,
             flags: 0,
             serial: None,
-            fields: NO_FIELDS,
+            fields: HeaderFields::none(),
         }
     }
 
     /// With that text as the field of that code.
+    #[tactic(auto, using(crate::proofs::Each::read_with))]
     pub(crate) fn with_text(self, code: FieldCode, text: &'a str) -> Builder<'a>
         requires { IsTrue (is_text code text.now) }
         ensures { result ≡ record self.entry { fields = with_text code text.now self.entry.fields } }
     {
-        let mut fields = self.fields;
-        fields.set_text(code, text);
+        let fields = self.fields.with_text(code, text);
         Builder { fields, ..self }
     }
 
@@ -122,6 +132,7 @@ impl<'a> Builder<'a> {
 
     /// With these flags beside those that it has; bits above 0x4 are left out. InvalidField exactly for NoReplyExpected on a
     /// message that isn't a method call (D-Bus Specification, "Message Format"); the builder is given up then.
+    #[tactic(auto, using(crate::proofs::Setting::known))]
     pub fn with_flags(self, flags: Flags) -> Result<Builder<'a>>
         ensures { result ≡ flagged self.entry flags.0 }
     {
@@ -136,7 +147,6 @@ impl<'a> Builder<'a> {
     }
 
     /// With that path (D-Bus Specification, "Header Fields", `PATH`).
-    #[tactic(auto, unfolding(crate::specs::Field::is_text))]
     pub fn path(self, path: &ObjectPath<'a>) -> Builder<'a>
         ensures { result ≡ record self.entry { fields = record self.entry.fields { path = Some path.now } } }
     {
@@ -144,7 +154,6 @@ impl<'a> Builder<'a> {
     }
 
     /// With that member (D-Bus Specification, "Header Fields", `MEMBER`).
-    #[tactic(auto, unfolding(crate::specs::Field::is_text))]
     pub fn member(self, member: &MemberName<'a>) -> Builder<'a>
         ensures { result ≡ record self.entry { fields = record self.entry.fields { member = Some member.now } } }
     {
@@ -173,6 +182,7 @@ impl<'a> Builder<'a> {
     }
 
     /// With that reply serial (D-Bus Specification, "Header Fields", `REPLY_SERIAL`).
+    #[tactic(auto, using(crate::proofs::Setting::set_reply_serial))]
     pub fn reply_serial(self, serial: u32) -> Builder<'a>
         requires { 0 < serial }
         ensures { result ≡ record self.entry { fields = record self.entry.fields { reply_serial = Some serial } } }
@@ -185,7 +195,6 @@ impl<'a> Builder<'a> {
     }
 
     /// With that interface (D-Bus Specification, "Header Fields", `INTERFACE`).
-    #[tactic(auto, unfolding(crate::specs::Field::is_text))]
     pub fn interface(self, interface: &InterfaceName<'a>) -> Builder<'a>
         ensures { result ≡ record self.entry { fields = record self.entry.fields { interface = Some interface.now } } }
     {
@@ -193,7 +202,6 @@ impl<'a> Builder<'a> {
     }
 
     /// With that destination (D-Bus Specification, "Header Fields", `DESTINATION`).
-    #[tactic(auto, unfolding(crate::specs::Field::is_text))]
     pub fn destination(self, destination: &BusName<'a>) -> Builder<'a>
         ensures { result ≡ record self.entry { fields = record self.entry.fields { destination = Some (text_of destination.now) } } }
     {
@@ -201,7 +209,6 @@ impl<'a> Builder<'a> {
     }
 
     /// With that sender (D-Bus Specification, "Header Fields", `SENDER`).
-    #[tactic(auto, unfolding(crate::specs::Field::is_text))]
     pub fn sender(self, sender: &UniqueName<'a>) -> Builder<'a>
         ensures { result ≡ record self.entry { fields = record self.entry.fields { sender = Some sender.now } } }
     {
@@ -235,22 +242,15 @@ impl<'a> Builder<'a> {
 
     /// The bytes of the header with that serial, for a body of no bytes yet, and where its texts stand, if it doesn't pass the
     /// limit of a message.
-    #[tactic(auto, unfolding(crate::specs::Draft::header_text))]
     fn header_bytes(&self, alloc: Global, serial: u32) -> Result<(Vec<u8>, Places)>
         ensures written { Writes (λ x. x.0.items) result (header_text self.now 0 serial) }
-        ensures found { IfOk result (λ x. (size : ℕ) (more : List ℕ) → found_fields (header_text self.now size serial ++ more) x.1 ≡ self.now.fields) }
-        ensures spans { IfOk result (λ x. AreSpans (length x.0.items) x.1) }
-        ensures valid { IsDraft self.now }
+        ensures made { IfOk result (λ x. IsHeaderOf self.now serial x.0.items x.1) }
     {
         if has_long_path(&self.fields) {
             return Err(Error::ExcessData);
         }
-        let mut text = Vec::new(alloc);
-        text.extend_from_slice(&[order_byte(self.order), type_code(self.kind), self.flags, 1])?;
-        text.extend_from_slice(&write_u32(self.order, 0))?;
-        text.extend_from_slice(&write_u32(self.order, serial))?;
-        // The length of the fields, which is known when they are written.
-        text.extend_from_slice(&[0; 4])?;
+        let start = start_of(self.order, self.kind, self.flags, serial);
+        let mut text = Vec::from_slice(alloc, &start)?;
         let places = put_fields(&mut text, self.order, &self.fields)?;
         let fields_len = text.len() - 16;
         if fields_len > MESSAGE_LIMIT {

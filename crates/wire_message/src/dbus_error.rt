@@ -14,7 +14,7 @@ use crate::header::Header;
 use crate::message::Message;
 use crate::serials::{Serials, Taken};
 use crate::steps::{Steps, Uncounted};
-use std::alloc::Global;
+use std::alloc::{AllocError, Global};
 use std::sync::ledger::Ledger;
 use wire_body::{BodyValues, to};
 use wire_names::{ErrorName, Text};
@@ -59,7 +59,7 @@ pub trait DBusError {
         taken: &T,
         steps: &mut Steps<L>,
     ) -> Result<Message>
-        ensures built { BuildsBody (T.is_taken taken.now) (error_draft call.now (named self.now)) (map type_of (replied self.now)) (replied self.now) serials.old serials.new result }
+        ensures built { BuildsBody (T.is_taken taken.now) (error_draft call.now (named self.now)) (replied self.now) serials.old serials.new result }
         ensures again { IfOk result ReadsAgain }
         ensures cost { steps.new ≤ steps.old + taken_among (T.is_taken taken.now) 4294967295 + 2 }
     {
@@ -76,7 +76,7 @@ pub trait DBusError {
         serials: &mut Serials,
         taken: &T,
     ) -> Result<Message>
-        ensures built { BuildsBody (T.is_taken taken.now) (error_draft call.now (named self.now)) (map type_of (replied self.now)) (replied self.now) serials.old serials.new result }
+        ensures built { BuildsBody (T.is_taken taken.now) (error_draft call.now (named self.now)) (replied self.now) serials.old serials.new result }
         ensures again { IfOk result ReadsAgain }
     {
         let reply = self.reply(alloc);
@@ -95,6 +95,16 @@ fn name_text(error: &fdo::Error) -> &'static str
     }
 }
 
+/// What the body of its reply says.
+fn said(alloc: Global, error: &fdo::Error) -> std::result::Result<Text, AllocError>
+    ensures { IfOk result (λ text. text ≡ reply_text error.now) }
+{
+    match error {
+        fdo::Error::ZBus(error) => Ok(Text::from_string(error.to_string(alloc)?)),
+        fdo::Error::Std(error) => error.text.try_clone(alloc),
+    }
+}
+
 /// A standard error has its kind's name and says its text; another has the name `org.freedesktop.zbus.Error`, and is described as
 /// it is by itself. The body of a reply is one string: the text of a standard error, of another what is printed of it.
 impl DBusError for fdo::Error {
@@ -104,6 +114,7 @@ impl DBusError for fdo::Error {
 
     ghost replied = { λ error. one_string (reply_text error) };
 
+    #[tactic(auto, using(crate::proofs::KindNames::fdo_name_valid))]
     fn name(&self) -> ErrorName<'_> {
         ErrorName::try_from(name_text(self)).unwrap()
     }
@@ -116,10 +127,6 @@ impl DBusError for fdo::Error {
     }
 
     fn reply(&self, alloc: Global) -> std::result::Result<BodyValues, VariantError> {
-        let text = match self {
-            fdo::Error::ZBus(error) => Text::from_string(format!(in alloc; "{error}")?),
-            fdo::Error::Std(error) => error.text.try_clone(alloc)?,
-        };
-        to(alloc, (text,))
+        to(alloc, (said(alloc, self)?,))
     }
 }

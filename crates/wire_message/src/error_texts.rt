@@ -1,6 +1,6 @@
 //! What is printed of errors.
 ghost use Rattle.std.specs.Prelude.{◌≡◌, Some, option_map};
-ghost use Rattle.wire_message.specs.ErrorTexts.{io_text, names_text, variant_text, place, error_text, description as description_of};
+ghost use Rattle.wire_message.specs.ErrorTexts.{bare_text, io_text, names_text, variant_text, place, error_text, description as description_of};
 
 use crate::error::{Error, IoKind};
 use std::fmt;
@@ -64,32 +64,43 @@ impl<'a> fmt::Display for Place<'a> {
     }
 }
 
+/// What is printed of an error that holds nothing beside its kind.
+fn text_of_bare(error: &Error) -> &'static str
+    ensures { result.now ≡ bare_text error.now }
+{
+    match error {
+        Error::InterfaceNotFound => "Interface not found",
+        Error::InvalidField => "invalid message field",
+        Error::ExcessData => "excess data",
+        Error::IncorrectEndian => "incorrect endian",
+        Error::InvalidReply => "Invalid D-Bus method reply",
+        Error::MissingField => "A required field is missing from message headers",
+        Error::InvalidGUID => "Invalid GUID",
+        Error::Unsupported => "Connection support is lacking",
+        Error::NameTaken => "name already taken on the bus",
+        Error::InvalidMatchRule => "Invalid match rule string",
+        Error::Memory => "Memory",
+        Error::SerialsSpent => "SerialsSpent",
+        Error::UnknownHandle => "UnknownHandle",
+        Error::Busy => "Busy",
+        _ => "",
+    }
+}
+
 /// What went wrong, with what the error holds beside its kind; of a method's error its name and its detail.
 impl fmt::Display for Error {
     ghost output = { λ e. Some (error_text e) };
 
     fn fmt<W: fmt::Write>(&self, f: &mut fmt::Formatter<W>) -> fmt::Result {
         match self {
-            Error::InterfaceNotFound => f.write_str("Interface not found"),
             Error::InputOutput(kind) => write!(f, "I/O error: {kind}"),
-            Error::InvalidField => f.write_str("invalid message field"),
-            Error::ExcessData => f.write_str("excess data"),
             Error::Variant(kind) => write!(f, "variant error: {}", variant_name(*kind)),
             Error::Names(kind) => write!(f, "invalid {}", names_name(*kind)),
-            Error::IncorrectEndian => f.write_str("incorrect endian"),
-            Error::InvalidReply => f.write_str("Invalid D-Bus method reply"),
             Error::MethodError(name, Some(detail), _) => {
                 write!(f, "{}: {}", name.as_str(), detail.as_str())
             }
             Error::MethodError(name, None, _) => write!(f, "{}: no details", name.as_str()),
-            Error::MissingField => {
-                f.write_str("A required field is missing from message headers")
-            }
-            Error::InvalidGUID => f.write_str("Invalid GUID"),
-            Error::Unsupported => f.write_str("Connection support is lacking"),
             Error::FDO(error) => write!(f, "{error}"),
-            Error::NameTaken => f.write_str("name already taken on the bus"),
-            Error::InvalidMatchRule => f.write_str("Invalid match rule string"),
             Error::Failure(text) => f.write_str(text.as_str()),
             Error::MissingParameter(name) => {
                 write!(f, "Parameter `{name}` was not specified but it is required")
@@ -98,10 +109,7 @@ impl fmt::Display for Error {
                 let (name, place) = (name.as_str(), Place(path.as_str()));
                 write!(f, "Interface `{name}{place}")
             }
-            Error::Memory => f.write_str("Memory"),
-            Error::SerialsSpent => f.write_str("SerialsSpent"),
-            Error::UnknownHandle => f.write_str("UnknownHandle"),
-            Error::Busy => f.write_str("Busy"),
+            error => f.write_str(text_of_bare(error)),
         }
     }
 }

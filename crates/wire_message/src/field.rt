@@ -1,6 +1,6 @@
 //! Codes of header fields, and what each holds.
 ghost use Rattle.std.specs.Prelude.{◌≡◌, ◌≤◌, length, IsSome};
-ghost use Rattle.wire_message.specs.Field.{code_byte, field_type, is_text as has_text, is_number as has_number};
+ghost use Rattle.wire_message.specs.Field.{code_byte, field_type, is_text as has_text, is_number as has_number, no_fields, with_text as text_put, with_number as number_put};
 ghost use Rattle.wire_message.specs.Reading.{code_of, code_at as code_found};
 
 use wire_names::{BusName, ErrorName, InterfaceName, MemberName, ObjectPath, UniqueName};
@@ -69,6 +69,74 @@ impl FieldCode {
     }
 }
 
+/// The nine header fields, each there or not: texts as `T`, and numbers.
+#[derive(Clone, Copy)]
+pub(crate) struct FieldsOf<T> {
+    pub(crate) path: Option<T>,
+    pub(crate) interface: Option<T>,
+    pub(crate) member: Option<T>,
+    pub(crate) error_name: Option<T>,
+    pub(crate) reply_serial: Option<u32>,
+    pub(crate) destination: Option<T>,
+    pub(crate) sender: Option<T>,
+    pub(crate) signature: Option<T>,
+    pub(crate) unix_fds: Option<u32>,
+}
+
+impl<T: Copy> FieldsOf<T> {
+    /// None of them is there.
+    pub(crate) fn none() -> FieldsOf<T>
+        ensures { result ≡ no_fields }
+    {
+        FieldsOf {
+            path: None,
+            interface: None,
+            member: None,
+            error_name: None,
+            reply_serial: None,
+            destination: None,
+            sender: None,
+            signature: None,
+            unix_fds: None,
+        }
+    }
+
+    /// With the text in place of an earlier one of the field.
+    pub(crate) fn with_text(self, code: FieldCode, text: T) -> FieldsOf<T>
+        ensures { result ≡ text_put code text self }
+    {
+        let mut fields = self;
+        match code {
+            FieldCode::Path => fields.path = Some(text),
+            FieldCode::Interface => fields.interface = Some(text),
+            FieldCode::Member => fields.member = Some(text),
+            FieldCode::ErrorName => fields.error_name = Some(text),
+            FieldCode::Destination => fields.destination = Some(text),
+            FieldCode::Sender => fields.sender = Some(text),
+            FieldCode::Signature => fields.signature = Some(text),
+            FieldCode::ReplySerial | FieldCode::UnixFds => {}
+        }
+        fields
+    }
+
+    /// With the number in place of an earlier one of the field.
+    pub(crate) fn with_number(self, code: FieldCode, number: u32) -> FieldsOf<T>
+        ensures { result ≡ number_put code number self }
+    {
+        match code {
+            FieldCode::ReplySerial => FieldsOf {
+                reply_serial: Some(number),
+                ..self
+            },
+            FieldCode::UnixFds => FieldsOf {
+                unix_fds: Some(number),
+                ..self
+            },
+            _ => self,
+        }
+    }
+}
+
 /// The code at the front of a field whose value has its type.
 #[tactic(auto, unfolding(crate::specs::Reading::code_at))]
 pub(crate) fn code_at(bytes: &[u8]) -> Option<FieldCode>
@@ -89,7 +157,6 @@ pub(crate) fn code_at(bytes: &[u8]) -> Option<FieldCode>
 }
 
 /// Whether the text is in the field's grammar.
-#[tactic(auto, unfolding(crate::specs::Field::is_text))]
 pub(crate) fn is_text(code: FieldCode, text: &[u8]) -> bool
     ensures { result ≡ has_text code text.now }
 {
@@ -106,7 +173,6 @@ pub(crate) fn is_text(code: FieldCode, text: &[u8]) -> bool
 }
 
 /// Whether the field may have this number: a reply serial isn't 0.
-#[tactic(auto, unfolding(crate::specs::Field::is_number))]
 pub(crate) fn is_number(code: FieldCode, number: u32) -> bool
     ensures { result ≡ has_number code number }
 {

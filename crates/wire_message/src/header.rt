@@ -78,6 +78,7 @@ impl Message {
     }
 
     /// The text of the body's signature; the empty one where the header has none.
+    #[tactic(auto, using(crate::proofs::Valid::no_types_text))]
     pub(crate) fn signature_text(&self) -> &[u8]
         ensures text { result.now ≡ body_signature self.now }
         ensures valid { IsTrue (is_some (types_in result.now)) }
@@ -136,7 +137,6 @@ impl<'a> Header<'a> {
     }
 
     /// The object that the message is sent to, or a signal from.
-    #[tactic(auto, unfolding(crate::specs::Field::is_text))]
     pub fn path(&self) -> Option<ObjectPath<'a>>
         ensures { result ≡ self.now.fields.path }
     {
@@ -145,7 +145,6 @@ impl<'a> Header<'a> {
     }
 
     /// The interface that the member belongs to.
-    #[tactic(auto, unfolding(crate::specs::Field::is_text))]
     pub fn interface(&self) -> Option<InterfaceName<'a>>
         ensures { result ≡ self.now.fields.interface }
     {
@@ -154,7 +153,6 @@ impl<'a> Header<'a> {
     }
 
     /// The method or signal.
-    #[tactic(auto, unfolding(crate::specs::Field::is_text))]
     pub fn member(&self) -> Option<MemberName<'a>>
         ensures { result ≡ self.now.fields.member }
     {
@@ -163,7 +161,6 @@ impl<'a> Header<'a> {
     }
 
     /// The error, of an error reply.
-    #[tactic(auto, unfolding(crate::specs::Field::is_text))]
     pub fn error_name(&self) -> Option<ErrorName<'a>>
         ensures { result ≡ self.now.fields.error_name }
     {
@@ -181,7 +178,6 @@ impl<'a> Header<'a> {
     }
 
     /// The connection that the message is for.
-    #[tactic(auto, unfolding(crate::specs::Field::is_text))]
     pub fn destination(&self) -> Option<BusName<'a>>
         ensures { result ≡ option_map bus_name_of self.now.fields.destination }
     {
@@ -190,7 +186,6 @@ impl<'a> Header<'a> {
     }
 
     /// The connection that sent the message.
-    #[tactic(auto, unfolding(crate::specs::Field::is_text))]
     pub fn sender(&self) -> Option<UniqueName<'a>>
         ensures { result ≡ self.now.fields.sender }
     {

@@ -21,6 +21,7 @@ use wire_body::FromBody;
 
 /// What is built of a draft stands on its own bytes, whatever follows them, with exactly the fields that were set (D-Bus
 /// Specification, "Message Format", "Header Fields").
+#[tactic(auto, unfolding(crate::specs::Draft::built))]
 pub fn built_messages_are_read_again()
     ensures again { (draft : Draft) (serial : ℕ) (body : List ℕ) → IsDraft draft → 0 < serial → serial < 2 ^ 32 → length (message_text draft serial body) ≤ 134217728 → ReadsAgain (built draft serial body) }
     ensures fields { (draft : Draft) (serial : ℕ) (body : List ℕ) → fields_of (built draft serial body) ≡ draft.fields }
@@ -53,8 +54,9 @@ pub fn one_message()
 /// arguments that [`crate::Builder::build`] took, and of those that were made a body by [`wire_body::to`] and given to
 /// [`crate::Builder::build_body`]. The last premise of each is what [`crate::Body::deserialize`] promises of its answer
 /// (D-Bus Specification, "Message Format", "Marshaling (Wire Format)").
+#[tactic(auto, using(crate::proofs::BodyAgain::values_again))]
 pub fn built_bodies_are_read_again<T: FromBody>()
-    ensures arguments { (taken : ℕ → Bool) (draft : Draft) (old new : ℕ) (m : Seen) (x : T) (r : Result T Error) → BuildsBody taken draft T.kinds (T.datums x) old new (Ok m) → ReadsAgain m → T.read (T.datums x) ≡ x → ReadsBody r T.read T.kinds m → Tells (λ y. y) r (Ok x) }
+    ensures arguments { (taken : ℕ → Bool) (draft : Draft) (old new : ℕ) (m : Seen) (x : T) (r : Result T Error) → BuildsBody taken draft (T.datums x) old new (Ok m) → ReadsAgain m → T.read (T.datums x) ≡ x → ReadsBody r T.read T.kinds m → Tells (λ y. y) r (Ok x) }
     ensures values { (taken : ℕ → Bool) (draft : Draft) (fds : List ℕ) (old new : ℕ) (m : Seen) (x : T) (r : Result T Error) → IsSignature T.kinds → AreAllSound (T.datums x) → BuildsValues taken draft (T.datums x) fds old new (Ok m) → ReadsAgain m → T.read (T.datums x) ≡ x → ReadsBody r T.read T.kinds m → Tells (λ y. y) r (Ok x) }
 {}
 

@@ -1,10 +1,10 @@
 //! Where the texts of a message's header stand in its bytes.
-ghost use Rattle.std.specs.Prelude.{◌≡◌, ◌≤◌, ℕ, List, None};
-ghost use Rattle.wire_message.specs.Field.{with_field, with_text, with_number as with_number_of};
+ghost use Rattle.std.specs.Prelude.{◌≡◌, ◌≤◌, ℕ, List};
+ghost use Rattle.wire_message.specs.Field.{with_field};
 ghost use Rattle.wire_message.specs.Held.{HasRoom, StandsAt, value_of};
-ghost use Rattle.wire_message.specs.Places.{span_text, found_fields, no_places, AreSpans, IsSpan};
+ghost use Rattle.wire_message.specs.Places.{found_fields, AreSpans};
 
-use crate::field::FieldCode;
+use crate::field::{FieldCode, FieldsOf};
 
 /// A field's value.
 #[derive(Clone, Copy)]
@@ -21,39 +21,11 @@ pub(crate) struct Span {
 }
 
 /// The header fields: texts by their places, and numbers.
-#[derive(Clone, Copy)]
-pub(crate) struct Places {
-    pub(crate) path: Option<Span>,
-    pub(crate) interface: Option<Span>,
-    pub(crate) member: Option<Span>,
-    pub(crate) error_name: Option<Span>,
-    pub(crate) reply_serial: Option<u32>,
-    pub(crate) destination: Option<Span>,
-    pub(crate) sender: Option<Span>,
-    pub(crate) signature: Option<Span>,
-    pub(crate) unix_fds: Option<u32>,
-}
+pub(crate) type Places = FieldsOf<Span>;
 
-impl Places {
-    /// No field.
-    pub(crate) fn new() -> Places
-        ensures { result ≡ no_places }
-    {
-        Places {
-            path: None,
-            interface: None,
-            member: None,
-            error_name: None,
-            reply_serial: None,
-            destination: None,
-            sender: None,
-            signature: None,
-            unix_fds: None,
-        }
-    }
-
+impl FieldsOf<Span> {
     /// With the value of a field whose last byte stands before the place `next`, in place of an earlier one.
-    #[tactic(auto, unfolding(crate::specs::Field::with_field))]
+    #[tactic(auto, unfolding(crate::specs::Field::with_field), using(crate::proofs::Each::read_with_number))]
     pub(crate) fn with_value(self, code: FieldCode, held: Held<'_>, next: usize) -> Places
         requires { HasRoom next held }
         ensures field { (bytes : List ℕ) → StandsAt bytes next held.entry → found_fields bytes result ≡ with_field (record { code = code; value = value_of held.entry }) (found_fields bytes self) }
@@ -63,46 +35,9 @@ impl Places {
             Held::Text(text) => {
                 let end = next - 1;
                 let start = end - text.len();
-                let mut places = self;
-                places.set_text(code, Span { start, end });
-                places
+                self.with_text(code, Span { start, end })
             }
             Held::Number(number) => self.with_number(code, number),
-        }
-    }
-
-    /// Sets the text in place of an earlier one of the field.
-    fn set_text(&mut self, code: FieldCode, span: Span)
-        ensures text { (bytes : List ℕ) → found_fields bytes self.new ≡ with_text code (span_text bytes span) (found_fields bytes self.old) }
-        ensures spans { (n : ℕ) → AreSpans n self.old → IsSpan n span → AreSpans n self.new }
-    {
-        match code {
-            FieldCode::Path => self.path = Some(span),
-            FieldCode::Interface => self.interface = Some(span),
-            FieldCode::Member => self.member = Some(span),
-            FieldCode::ErrorName => self.error_name = Some(span),
-            FieldCode::Destination => self.destination = Some(span),
-            FieldCode::Sender => self.sender = Some(span),
-            FieldCode::Signature => self.signature = Some(span),
-            FieldCode::ReplySerial | FieldCode::UnixFds => {}
-        }
-    }
-
-    /// With the number in place of an earlier one of the field.
-    fn with_number(self, code: FieldCode, number: u32) -> Places
-        ensures number { (bytes : List ℕ) → found_fields bytes result ≡ with_number_of code number (found_fields bytes self) }
-        ensures spans { (n : ℕ) → AreSpans n self → AreSpans n result }
-    {
-        match code {
-            FieldCode::ReplySerial => Places {
-                reply_serial: Some(number),
-                ..self
-            },
-            FieldCode::UnixFds => Places {
-                unix_fds: Some(number),
-                ..self
-            },
-            _ => self,
         }
     }
 }

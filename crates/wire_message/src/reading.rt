@@ -1,5 +1,5 @@
 //! Reading a field array, from left to right (D-Bus Specification, "Header Fields").
-ghost use Rattle.std.specs.Prelude.{◌≡◌, ◌≤◌, ◌-◌, length, option_map, IfSome};
+ghost use Rattle.std.specs.Prelude.{◌≡◌, ◌≤◌, length, option_map, IfSome};
 ghost use Rattle.wire_number.specs.ReaderView.{Finds, cursor_of};
 ghost use Rattle.wire_message.specs.Field.{is_value as has_value};
 ghost use Rattle.wire_message.specs.Held.{value_of};
@@ -76,19 +76,12 @@ pub(crate) fn places_in(order: Endian, bytes: &[u8], end: usize) -> Option<Place
     ensures found { option_map (found_fields bytes.now) result ≡ fields_in order (area bytes.now 16 end) }
     ensures spans { IfSome result (AreSpans end) }
 {
-    let mut places = Places::new();
+    let mut places = Places::none();
     let mut left = reader_of(bytes, end);
-    for _ in 0..end - 16 {
-        if left.rest.is_empty() {
-            return Some(places);
-        }
+    while !left.rest.is_empty() {
         let ((code, held), after) = next_field(order, left)?;
         places = places.with_value(code, held, after.place);
         left = after;
     }
-    if left.rest.is_empty() {
-        Some(places)
-    } else {
-        None
-    }
+    Some(places)
 }

@@ -17,7 +17,7 @@ use wire_number::Endian;
 /// A name's text.
 fn name_text<'a, K: NameKind>(name: &Option<Name<'a, K>>) -> Option<&'a str>
     ensures text { option_map (λ t. t.now) result ≡ name.now }
-    ensures valid { IfSome result (λ t. IsTrue (K.is_name t.now)) }
+    ensures valid { IfSome (option_map (λ t. t.now) result) (λ text. IsTrue (K.is_name text)) }
 {
     match name {
         Some(name) => Some(name.as_str()),
@@ -28,7 +28,7 @@ fn name_text<'a, K: NameKind>(name: &Option<Name<'a, K>>) -> Option<&'a str>
 /// The same of a bus name.
 fn bus_name_text<'a>(name: &Option<BusName<'a>>) -> Option<&'a str>
     ensures text { option_map (λ t. t.now) result ≡ option_map text_of name.now }
-    ensures valid { IfSome result (λ t. IsBusName t.now) }
+    ensures valid { IfSome (option_map (λ t. t.now) result) (λ text. IsBusName text) }
 {
     match name {
         Some(name) => Some(name.as_str()),
@@ -37,6 +37,7 @@ fn bus_name_text<'a>(name: &Option<BusName<'a>>) -> Option<&'a str>
 }
 
 /// An answer to the message of a header.
+#[tactic(auto, using(crate::proofs::Setting::unique_bus))]
 fn reply<'a>(kind: MessageType, reply_to: &Header<'a>) -> Builder<'a>
     ensures { result ≡ reply_draft kind reply_to.now }
 {
@@ -70,7 +71,6 @@ impl Message {
     }
 
     /// The answer to a method call by an error of that name, else as `method_return`.
-    #[tactic(auto, unfolding(crate::specs::Field::is_text))]
     pub fn error<'a>(reply_to: &Header<'a>, name: &ErrorName<'a>) -> Builder<'a>
         ensures { result ≡ error_draft reply_to.now name.now }
     {
@@ -82,6 +82,7 @@ impl Message {
 impl<'a> From<Header<'a>> for Builder<'a> {
     ghost from_gives = { λ header builder. builder ≡ draft_from header };
 
+    #[tactic(auto, using(crate::proofs::Setting::low_flags))]
     /// What a header says, to be built anew: its type, byte order, flags and fields, and its serial as one that was set. The
     /// signature and the count of descriptors are left out, as they belong to a body, and so are flags above 0x4. It takes no
     /// memory.

@@ -30,6 +30,7 @@ impl Taken for NonePending {
         false
     }
 
+    #[tactic(auto, using(crate::proofs::Circle::among_none))]
     fn count(&self) -> u64 {
         0
     }

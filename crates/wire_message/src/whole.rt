@@ -32,6 +32,7 @@ impl Message {
     /// The message that the bytes are, not read yet. The first that holds: InputOutput(Ended), where fewer than 16 bytes are
     /// there; IncorrectEndian, where the first byte doesn't name this byte order; what `header_front` refuses; ExcessData,
     /// where bytes follow the message.
+    #[tactic(auto, using(crate::proofs::Alone::wholes))]
     pub fn from_bytes(alloc: Global, bytes: &[u8], order: Endian) -> Result<Message>
         ensures exact { Tells (λ m. m) result (whole_outcome order bytes.now) }
         ensures found { IfOk result (λ m. Front bytes.now m (length bytes.now)) }

@@ -1,61 +1,19 @@
 //! Writing a header (D-Bus Specification, "Message Format", "Header Fields").
 ghost use Rattle.std.specs.Prelude.{◌≡◌, ◌++◌, ◌∷◌, [], length, option_map, IfSome, OnOk, IfOk};
 ghost use Rattle.wire_number.specs.Number.{pad};
-ghost use Rattle.wire_message.specs.Field.{field_type, value_bytes, with_text, text_field, number_field, field_list};
+ghost use Rattle.wire_message.specs.Field.{field_type, value_bytes, no_fields, Text, Number, there, field_list};
 ghost use Rattle.wire_message.specs.Draft.{header_fields, AreShort, IsShortText, IsShortValue};
 ghost use Rattle.wire_message.specs.Held.{value_of};
-ghost use Rattle.wire_message.specs.Places.{no_places, AppendsFields};
+ghost use Rattle.wire_message.specs.Places.{AppendsFields};
 
-use crate::field::FieldCode;
+use crate::field::{FieldCode, FieldsOf};
 use crate::places::{Held, Places};
 use std::alloc::AllocError;
 use wire_number::{Endian, append, append_signature, append_text, write_u32};
 use wire_signature::BasicType;
 
-/// The nine header fields, each there or not.
-#[derive(Clone, Copy)]
-pub(crate) struct HeaderFields<'a> {
-    pub(crate) path: Option<&'a str>,
-    pub(crate) interface: Option<&'a str>,
-    pub(crate) member: Option<&'a str>,
-    pub(crate) error_name: Option<&'a str>,
-    pub(crate) reply_serial: Option<u32>,
-    pub(crate) destination: Option<&'a str>,
-    pub(crate) sender: Option<&'a str>,
-    pub(crate) signature: Option<&'a str>,
-    pub(crate) unix_fds: Option<u32>,
-}
-
-/// None of them is there.
-pub(crate) const NO_FIELDS: HeaderFields<'static> = HeaderFields {
-    path: None,
-    interface: None,
-    member: None,
-    error_name: None,
-    reply_serial: None,
-    destination: None,
-    sender: None,
-    signature: None,
-    unix_fds: None,
-};
-
-impl<'a> HeaderFields<'a> {
-    /// Sets a field that is a text.
-    pub(crate) fn set_text(&mut self, code: FieldCode, text: &'a str)
-        ensures { header_fields self.new ≡ with_text code text.now (header_fields self.old) }
-    {
-        match code {
-            FieldCode::Path => self.path = Some(text),
-            FieldCode::Interface => self.interface = Some(text),
-            FieldCode::Member => self.member = Some(text),
-            FieldCode::ErrorName => self.error_name = Some(text),
-            FieldCode::Destination => self.destination = Some(text),
-            FieldCode::Sender => self.sender = Some(text),
-            FieldCode::Signature => self.signature = Some(text),
-            FieldCode::ReplySerial | FieldCode::UnixFds => {}
-        }
-    }
-}
+/// The header fields, their texts lent.
+pub(crate) type HeaderFields<'a> = FieldsOf<&'a str>;
 
 /// Adds a value of the type, on the boundary of its length.
 fn put_value(
@@ -103,7 +61,7 @@ fn put_text(
     places: Places,
 ) -> Result<Places, AllocError>
     requires { IfSome text (λ t. IsShortText (field_type code) t.now) }
-    ensures { IfOk result (AppendsFields order (text_field code (option_map (λ t. t.now) text.entry)) out.old.items places out.new.items) }
+    ensures { IfOk result (AppendsFields order (there Text code (option_map (λ t. t.now) text.entry)) out.old.items places out.new.items) }
 {
     match text {
         Some(text) => put_field(out, order, code, Held::Text(text.as_bytes()), places),
@@ -119,7 +77,7 @@ fn put_number(
     number: Option<u32>,
     places: Places,
 ) -> Result<Places, AllocError>
-    ensures { IfOk result (AppendsFields order (number_field code number) out.old.items places out.new.items) }
+    ensures { IfOk result (AppendsFields order (there Number code number) out.old.items places out.new.items) }
 {
     match number {
         Some(number) => put_field(out, order, code, Held::Number(number), places),
@@ -134,9 +92,9 @@ pub(crate) fn put_fields(
     fields: &HeaderFields<'_>,
 ) -> Result<Places, AllocError>
     requires { AreShort (header_fields fields.now) }
-    ensures { IfOk result (AppendsFields order (field_list (header_fields fields.now)) out.old.items no_places out.new.items) }
+    ensures { IfOk result (AppendsFields order (field_list (header_fields fields.now)) out.old.items no_fields out.new.items) }
 {
-    let found = put_text(out, order, FieldCode::Path, fields.path, Places::new())?;
+    let found = put_text(out, order, FieldCode::Path, fields.path, Places::none())?;
     let found = put_text(out, order, FieldCode::Interface, fields.interface, found)?;
     let found = put_text(out, order, FieldCode::Member, fields.member, found)?;
     let found = put_text(out, order, FieldCode::ErrorName, fields.error_name, found)?;

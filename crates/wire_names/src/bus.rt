@@ -1,6 +1,6 @@
 ghost use Rattle.std.specs.Prelude.{◌≡◌, ◌↔◌, ◌⊎◌, IfOk, IfErr, Some, Err, nat_eq, refl};
 ghost use Rattle.std.specs.Cmp;
-ghost use Rattle.std.specs.Cmp.{on_equiv, on_total, on_per, on_po, partial_equiv_from_equiv};
+ghost use Rattle.std.specs.Cmp.{on_total, on_per, on_po, partial_equiv_from_equiv};
 ghost use Rattle.std.specs.Cmp.Lexicographic.{pointwise, slice_cmp, nat_list_eq_equiv, nat_list_cmp_total, texts_ties, texts_po};
 ghost use Rattle.std.specs.Cmp.Rules.{hashing};
 ghost use Rattle.std.specs.Hash as fed;
@@ -22,7 +22,7 @@ use std::hash::{Hash, Hasher};
 ///
 /// `try_from` of a `&str` takes no memory. It reads a unique name where the text is one, so
 /// `org.freedesktop.DBus` is unique, and answers [`NamesError::Bus`] exactly where the text is neither. Bus names are compared, ordered and hashed by their texts.
-#[derive(Debug, Drop)]
+#[derive(Debug, Drop, Eq)]
 pub enum BusName<'a> {
     Unique(UniqueName<'a>),
     WellKnown(WellKnownName<'a>),
@@ -51,6 +51,7 @@ impl<'a> BusName<'a> {
     /// # Errors
     ///
     /// [`NamesError::Bus`] exactly outside the grammar.
+    #[tactic(auto, using(crate::specs::Ascii::bus_is_utf8))]
     pub fn try_from_bytes(bytes: &'a [u8]) -> Result<BusName<'a>, NamesError>
         ensures value { OkIff result (IsBusName bytes.now) (bus_name_of bytes.now) }
         ensures error { IfErr result (λ e. e ≡ Bus) }
@@ -111,10 +112,6 @@ impl<'a> PartialEq for BusName<'a> {
     }
 }
 
-impl<'a> Eq for BusName<'a> {
-    ghost laws = { on_equiv text_of nat_list_eq_equiv };
-}
-
 impl<'a> PartialOrd for BusName<'a> {
     ghost partial_cmp = { λ x y. Some (slice_cmp nat_cmp (text_of x) (text_of y)) };
 
@@ -150,7 +147,7 @@ impl<'a> Hash for BusName<'a> {
 }
 
 /// A [`BusName`] that owns its text.
-#[derive(Debug, Drop)]
+#[derive(Debug, Drop, Eq)]
 pub enum OwnedBusName {
     Unique(OwnedUniqueName),
     WellKnown(OwnedWellKnownName),
@@ -171,15 +168,11 @@ impl OwnedBusName {
         Ok(name.to_owned(alloc)?)
     }
 
-    #[tactic(auto, unfolding(crate::specs::Names::is_bus_name))]
     pub fn as_str(&self) -> &str
         ensures value { result.now ≡ text_of_owned self.now }
         ensures valid { IsBusName (text_of_owned self.now) }
     {
-        match self {
-            OwnedBusName::Unique(name) => name.as_str(),
-            OwnedBusName::WellKnown(name) => name.as_str(),
-        }
+        self.as_ref().as_str()
     }
 
     pub fn as_ref(&self) -> BusName<'_>
@@ -194,10 +187,7 @@ impl OwnedBusName {
     pub fn try_clone(&self, alloc: Global) -> Result<OwnedBusName, AllocError>
         ensures { IfOk result (λ name. name ≡ self.now) }
     {
-        match self {
-            OwnedBusName::Unique(name) => Ok(OwnedBusName::Unique(name.try_clone(alloc)?)),
-            OwnedBusName::WellKnown(name) => Ok(OwnedBusName::WellKnown(name.try_clone(alloc)?)),
-        }
+        self.as_ref().to_owned(alloc)
     }
 }
 
@@ -217,10 +207,6 @@ impl PartialEq for OwnedBusName {
     fn eq(&self, other: &OwnedBusName) -> bool {
         self.as_str() == other.as_str()
     }
-}
-
-impl Eq for OwnedBusName {
-    ghost laws = { on_equiv text_of_owned nat_list_eq_equiv };
 }
 
 impl PartialOrd for OwnedBusName {

@@ -41,15 +41,6 @@ fn is_element_byte(byte: u8, hyphen: bool) -> bool
     byte.is_ascii_alphanumeric() || byte == b'_' || (hyphen && byte == b'-')
 }
 
-fn begins_with_digit(element: &[u8]) -> bool
-    ensures { result ≡ begins_with_digit element.now }
-{
-    match element {
-        [first, ..] => first.is_ascii_digit(),
-        [] => false,
-    }
-}
-
 fn has_element_bytes(element: &[u8], hyphen: bool) -> bool
     ensures { result ≡ list_all (is_element_byte hyphen) element.now }
 {
@@ -62,7 +53,7 @@ pub(crate) fn is_element(element: &[u8], kind: Element) -> bool
 {
     !element.is_empty()
         && has_element_bytes(element, kind.hyphen)
-        && (kind.leading_digit || !begins_with_digit(element))
+        && (kind.leading_digit || !matches!(element, [first, ..] if first.is_ascii_digit()))
 }
 
 pub(crate) fn each_is_element(text: &[u8], separator: u8, kind: Element) -> bool
@@ -72,17 +63,11 @@ pub(crate) fn each_is_element(text: &[u8], separator: u8, kind: Element) -> bool
         .all(|element| is_element(element, kind))
 }
 
-fn has_dot(text: &[u8]) -> bool
-    ensures { result ≡ nat_le 2 (length (elements 46 text.now)) }
-{
-    text.contains(&b'.')
-}
-
-#[tactic(auto, unfolding(crate::specs::Names::is_dotted))]
+#[tactic(auto, using(crate::proofs::Elements::two_parts), unfolding(crate::specs::Names::is_dotted))]
 pub(crate) fn is_dotted(text: &[u8], kind: Element) -> bool
     ensures { result ≡ is_dotted (is_element kind.hyphen kind.leading_digit) text.now }
 {
-    has_dot(text) && each_is_element(text, b'.', kind)
+    text.contains(&b'.') && each_is_element(text, b'.', kind)
 }
 
 #[tactic(auto, unfolding(crate::specs::Names::is_connection))]

@@ -3,7 +3,7 @@ ghost use Rattle.std.specs.Prelude.{◌≡◌, ◌⊎◌, IfOk, IfErr, IsTrue, S
 ghost use Rattle.std.specs.Result.{OkIff};
 
 use crate::error::NamesError;
-use crate::small::{Text, TextRef};
+use crate::small::Text;
 use std::alloc::{AllocError, Global};
 use std::fmt;
 use std::marker::{Model, PhantomData};
@@ -37,7 +37,7 @@ pub trait NameKind: Drop {
 #[derive(Drop)]
 #[derive_where(Debug, PartialEq, Eq, PartialOrd, Ord, Hash)]
 pub struct Name<'a, K: NameKind> {
-    text: TextRef<'a>,
+    text: Text<&'a str>,
     #[derive_where(skip(EqHashOrd))]
     kind: PhantomData<K>,
 }
@@ -61,9 +61,8 @@ impl<'a, K: NameKind> TryFrom<&'a str> for Name<'a, K> {
 
     fn try_from(text: &'a str) -> Result<Name<'a, K>, NamesError> {
         if K::is_name(text.as_bytes()) {
-            let text = TextRef::new(text);
             Ok(Name {
-                text,
+                text: Text { string: text },
                 kind: PhantomData,
             })
         } else {
@@ -92,16 +91,16 @@ impl<'a, K: NameKind> Name<'a, K> {
         ensures value { result.now ≡ self.now }
         ensures valid { IsTrue (K.is_name self.now) }
     {
-        self.text.as_str()
+        self.text.string
     }
 
     /// The same name again.
     pub fn as_ref(&self) -> Name<'a, K>
         ensures { result ≡ self.now }
     {
-        let text = TextRef::new(self.text.as_str());
+        let string = self.as_str();
         Name {
-            text,
+            text: Text { string },
             kind: PhantomData,
         }
     }
@@ -110,7 +109,7 @@ impl<'a, K: NameKind> Name<'a, K> {
     pub fn to_owned(&self, alloc: Global) -> Result<OwnedName<K>, AllocError>
         ensures { IfOk result (λ name. name ≡ self.now) }
     {
-        let text = Text::from_str(alloc, self.text.as_str())?;
+        let text = Text::from_str(alloc, self.as_str())?;
         Ok(OwnedName {
             text,
             kind: PhantomData,
@@ -172,9 +171,9 @@ impl<K: NameKind> OwnedName<K> {
     pub fn as_ref(&self) -> Name<'_, K>
         ensures { result ≡ self.now }
     {
-        let text = TextRef::new(self.text.as_str());
+        let string = self.as_str();
         Name {
-            text,
+            text: Text { string },
             kind: PhantomData,
         }
     }
@@ -190,11 +189,7 @@ impl<K: NameKind> OwnedName<K> {
     pub fn try_clone(&self, alloc: Global) -> Result<OwnedName<K>, AllocError>
         ensures { IfOk result (λ name. name ≡ self.now) }
     {
-        let text = self.text.try_clone(alloc)?;
-        Ok(OwnedName {
-            text,
-            kind: PhantomData,
-        })
+        self.as_ref().to_owned(alloc)
     }
 }
 

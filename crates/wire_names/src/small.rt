@@ -14,25 +14,52 @@ use std::fmt;
 use std::hash::{Hash, Hasher};
 use std::marker::Model;
 
-/// A `String` that contracts see as the list of its bytes.
+/// What holds a text: a `String`, or a `&str`.
+pub trait HasText: Drop {
+    ghost use Rattle.std.specs.Prelude.{◌≡◌, List, ℕ};
+
+    // its bytes
+    ghost bytes_of: { Self → List ℕ };
+
+    fn text(&self) -> &str
+        ensures { result.now ≡ bytes_of self.now };
+}
+
+impl HasText for String {
+    ghost bytes_of = { string_bytes };
+
+    fn text(&self) -> &str {
+        self.as_str()
+    }
+}
+
+impl<'a> HasText for &'a str {
+    ghost bytes_of = { λ text. text.now };
+
+    fn text(&self) -> &str {
+        *self
+    }
+}
+
+/// A `String` that contracts see as the list of its bytes, or as `Text<&str>` a text that was lent.
 #[derive(Debug)]
-pub struct Text {
-    string: String,
+pub struct Text<S: HasText = String> {
+    pub(crate) string: S,
 }
 
 // Written out: a derived one is taken apart again wherever a type that holds a text ends.
-impl Drop for Text {
+impl<S: HasText> Drop for Text<S> {
     fn drop(self) {
         let Text { string: _ } = self;
     }
 }
 
-impl Model for Text {
-    ghost use Rattle.std.specs.Prelude.{List, ℕ, string_bytes};
+impl<S: HasText> Model for Text<S> {
+    ghost use Rattle.std.specs.Prelude.{List, ℕ};
 
     ghost Value = { List ℕ };
 
-    ghost view = { λ t. string_bytes t.string };
+    ghost view = { λ t. S.bytes_of t.string };
 }
 
 impl Text {
@@ -84,31 +111,31 @@ impl Text {
     }
 }
 
-impl PartialEq for Text {
+impl<S: HasText> PartialEq for Text<S> {
     ghost eq = { pointwise nat_eq };
 
     ghost laws = { on_per (λ t. t) (partial_equiv_from_equiv nat_list_eq_equiv) };
 
-    fn eq(&self, other: &Text) -> bool {
-        self.as_str() == other.as_str()
+    fn eq(&self, other: &Text<S>) -> bool {
+        self.string.text() == other.string.text()
     }
 }
 
-impl Eq for Text {
+impl<S: HasText> Eq for Text<S> {
     ghost laws = { on_equiv (λ t. t) nat_list_eq_equiv };
 }
 
-impl PartialOrd for Text {
+impl<S: HasText> PartialOrd for Text<S> {
     ghost partial_cmp = { λ x y. Some (slice_cmp nat_cmp x y) };
 
     ghost laws = { on_po (λ t. t) texts_po };
 
-    fn partial_cmp(&self, other: &Text) -> Option<Ordering> {
+    fn partial_cmp(&self, other: &Text<S>) -> Option<Ordering> {
         Some(self.cmp(other))
     }
 }
 
-impl Ord for Text {
+impl<S: HasText> Ord for Text<S> {
     ghost cmp = { slice_cmp nat_cmp };
 
     ghost total = { on_total (λ t. t) nat_list_cmp_total };
@@ -117,102 +144,26 @@ impl Ord for Text {
 
     ghost matches_eq = { texts_ties };
 
-    fn cmp(&self, other: &Text) -> Ordering {
-        self.as_str().cmp(other.as_str())
+    fn cmp(&self, other: &Text<S>) -> Ordering {
+        self.string.text().cmp(other.string.text())
     }
 }
 
-impl Hash for Text {
+impl<S: HasText> Hash for Text<S> {
     ghost hash_input = { λ t. fed.str t };
 
     ghost respects_eq = { Prim.search (hashing, rules) };
 
     fn hash<H: Hasher>(&self, state: &mut H) {
-        self.as_str().hash(state);
+        self.string.text().hash(state);
     }
 }
 
-impl fmt::Display for Text {
+impl<S: HasText> fmt::Display for Text<S> {
     ghost output = { λ t. Some t };
 
     fn fmt<W: fmt::Write>(&self, f: &mut fmt::Formatter<W>) -> fmt::Result {
-        fmt::Display::fmt(self.as_str(), f)
-    }
-}
-
-/// A `&str` that contracts see as the list of its bytes.
-#[derive(Debug, Drop)]
-pub(crate) struct TextRef<'a> {
-    text: &'a str,
-}
-
-impl<'a> Model for TextRef<'a> {
-    ghost use Rattle.std.specs.Prelude.{List, ℕ};
-
-    ghost Value = { List ℕ };
-
-    ghost view = { λ t. t.text.now };
-}
-
-impl<'a> TextRef<'a> {
-    pub(crate) fn new(text: &'a str) -> TextRef<'a>
-        ensures { result ≡ text.now }
-    {
-        TextRef { text }
-    }
-
-    pub(crate) fn as_str(&self) -> &'a str
-        ensures { result.now ≡ self.now }
-    {
-        self.text
-    }
-}
-
-impl<'a> PartialEq for TextRef<'a> {
-    ghost eq = { pointwise nat_eq };
-
-    ghost laws = { on_per (λ t. t) (partial_equiv_from_equiv nat_list_eq_equiv) };
-
-    fn eq(&self, other: &TextRef<'a>) -> bool {
-        self.as_str() == other.as_str()
-    }
-}
-
-impl<'a> Eq for TextRef<'a> {
-    ghost laws = { on_equiv (λ t. t) nat_list_eq_equiv };
-}
-
-impl<'a> PartialOrd for TextRef<'a> {
-    ghost partial_cmp = { λ x y. Some (slice_cmp nat_cmp x y) };
-
-    ghost laws = { on_po (λ t. t) texts_po };
-
-    fn partial_cmp(&self, other: &TextRef<'a>) -> Option<Ordering> {
-        Some(self.cmp(other))
-    }
-}
-
-impl<'a> Ord for TextRef<'a> {
-    ghost cmp = { slice_cmp nat_cmp };
-
-    ghost total = { on_total (λ t. t) nat_list_cmp_total };
-
-    ghost matches_partial_cmp = { λ x y. refl };
-
-    ghost matches_eq = { texts_ties };
-
-    fn cmp(&self, other: &TextRef<'a>) -> Ordering {
-        self.as_str().cmp(other.as_str())
-    }
-}
-
-impl<'a> Hash for TextRef<'a> {
-    ghost hash_input = { λ t. fed.str t };
-
-    ghost respects_eq = { Prim.search (hashing, rules) };
-
-    fn hash<H: Hasher>(&self, state: &mut H) {
-        self.as_str().hash(state);
+        fmt::Display::fmt(self.string.text(), f)
     }
 }
 

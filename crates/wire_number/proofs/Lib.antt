@@ -2,4 +2,3 @@ pub mod Multiples
 pub mod Numbers
 pub mod Steps
 pub mod Appends
-pub mod Standing

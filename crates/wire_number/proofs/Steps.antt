@@ -1,15 +1,15 @@
 -- Steps of reading: what is read stands there, and what stands there is read.
-use Rattle.std.proofs.Common.{◌≡◌, ℕ, zero, suc, ◌+◌, ◌<◌, ◌≤◌, Bool, true, false, ◌&&◌, ◌==◌, nat_le, if◌then◌else◌, List, [], ◌∷◌, ◌++◌, length, take, drop, get_or, replicate, Option, Some, None, refl, sym, ◌∙◌, ap, subst, arith, option_map, append_assoc, length-append}
-use Rattle.std.specs.List.{list_all}
+use Rattle.std.proofs.Common.{◌≡◌, ◌↔◌, ℕ, zero, suc, ◌+◌, ◌<◌, ◌≤◌, ◌^◌, Bool, true, ◌&&◌, ◌==◌, nat_le, if◌then◌else◌, List, [], ◌∷◌, ◌++◌, length, take, drop, get_or, replicate, Option, Some, None, refl, sym, ◌∙◌, ap, subst, arith, option_map, append_assoc, length-append}
+use Rattle.std.specs.List.{All, list_all}
 use Rattle.std.specs.Int.{Width, w8, w16, w32, w64, w128, byte_len}
-use Rattle.std.proofs.lemmas.Bool.{eqb-true, leb-true, le-leb}
+use Rattle.std.proofs.lemmas.Bool.{and_parts, leb-true}
+use Rattle.std.proofs.lemmas.Bool.Decides.{nat_tests}
 use Rattle.std.proofs.Math.Nat.{mod-eq_of_lt}
 use Rattle.std.proofs.lemmas.List.{take-append-drop, length-take-le, length-replicate, take_at, drop_at}
 use Rattle.std.proofs.lemmas.Nat.{le_bytes_2, be_bytes_2, le_bytes_4, be_bytes_4, le_bytes_8, be_bytes_8, from_le_bytes-to_le_bytes_2, from_be_bytes-to_be_bytes_2, from_le_bytes-to_le_bytes_4, from_be_bytes-to_be_bytes_4, from_le_bytes-to_le_bytes_8, from_be_bytes-to_be_bytes_8}
 use Rattle.wire_number.specs.declared.endian.Endian.{Endian}
-use Rattle.wire_number.specs.declared.endian.Endian.TheVariants.{Little, Big}
 use Rattle.wire_number.specs.Number.{number, number_text, pad, padding, counted_text}
-use Rattle.wire_number.specs.Reading.{Cursor, made, ◌>>=◌, bytes_at, zeros, align_at, number_at, counted_at}
+use Rattle.wire_number.specs.Reading.{Cursor, Stands, ◌>>=◌, bytes_at, zeros, align_at, number_at, counted_at}
 
 abbrev pub at : ℕ → List ℕ → Cursor
 at place rest = record { place = place; rest = rest }
@@ -46,15 +46,13 @@ pub some_is : {A : Type 0} (x y : A) → Some x ≡ Some y → x ≡ y
 some_is x y e = cc
 
 pub guard_some : {A : Type 0} (b : Bool) (x : Option A) (y : A) → (if b then x else None) ≡ Some y → (b ≡ true) × (x ≡ Some y)
-guard_some true x y e = (refl, e)
-guard_some false x y e = absurd (cc)
+guard_some b x y e = grind arith
 
 pub guarded : {A : Type 0} (b : Bool) (x : Option A) → b ≡ true → (if b then x else None) ≡ x
 guarded b x e = ap (λ b. if b then x else None) e
 
 pub both_true : (a b : Bool) → (a && b) ≡ true → (a ≡ true) × (b ≡ true)
-both_true true b e = (refl, e)
-both_true false b e = absurd (cc)
+both_true a b e = and_parts a b e
 
 pub bound_some : {A B : Type 0} (o : Option A) (f : A → Option B) (x : A) → o ≡ Some x → (o >>= f) ≡ f x
 bound_some o f x e = ap (λ o. o >>= f) e
@@ -67,11 +65,8 @@ pub record Reads (c : Cursor) (text : List ℕ) (after : Cursor) : Type 0 where
   pub bytes : AreBytes after.rest
 
 pub reads_then : (c m after : Cursor) (front back : List ℕ) → Reads c front m → Reads m back after → Reads c (front ++ back) after
-reads_then c m after front back h k = record {
-  text_is = h.text_is ∙ ap (λ r. front ++ r) k.text_is ∙ sym (append_assoc front back after.rest);
-  place_is = omega (arith, h.place_is, k.place_is, length-append front back);
-  bytes = k.bytes;
-}
+reads_then c m after front back h k =
+    record { text_is = cc (append_assoc front back after.rest); place_is = omega (arith, length-append front back); bytes = k.bytes }
 
 -- so many bytes
 pub record Takes (n : ℕ) (c : Cursor) (text : List ℕ) (after : Cursor) : Type 0 where
@@ -79,36 +74,25 @@ pub record Takes (n : ℕ) (c : Cursor) (text : List ℕ) (after : Cursor) : Typ
   pub long : length text ≡ n
   pub low : AreBytes text
 
-bytes_are : (n : ℕ) (c : Cursor) → n ≤ length c.rest → AreBytes c.rest → Takes n c (take n c.rest) (at (c.place + n) (drop n c.rest))
-bytes_are n c within low =
-    let long : length (take n c.rest) ≡ n = length-take-le n c.rest within in
-    let parts = bytes-append (take n c.rest) (drop n c.rest) (rw take-append-drop low) in
-    record {
-      reads = record { text_is = sym (take-append-drop n c.rest); place_is = ap (λ k. c.place + k) (sym long); bytes = parts.1 };
-      long = long;
-      low = parts.0;
-    }
-
 pub bytes_take : (n : ℕ) (c : Cursor) (y : List ℕ × Cursor) → bytes_at n c ≡ Some y → AreBytes c.rest → Takes n c y.0 y.1
 bytes_take n c y e low =
     let g = guard_some (nat_le n (length c.rest)) (Some (take n c.rest, at (c.place + n) (drop n c.rest))) y e in
-    subst (λ (y : List ℕ × Cursor). Takes n c y.0 y.1) (some_is _ y g.1) (bytes_are n c (leb-true n (length c.rest) g.0) low)
+    let long : length (take n c.rest) ≡ n = length-take-le n c.rest (leb-true n (length c.rest) g.0) in
+    let parts = bytes-append (take n c.rest) (drop n c.rest) (rw take-append-drop low) in
+    rw (← some_is _ y g.1) (record {
+      reads = record { text_is = sym (take-append-drop n c.rest); place_is = ap (λ k. c.place + k) (sym long); bytes = parts.1 };
+      long = long;
+      low = parts.0;
+    })
 
 pub bytes_again : (n p : ℕ) (text rest : List ℕ) → length text ≡ n → bytes_at n (at p (text ++ rest)) ≡ Some (text, at (p + n) rest)
-bytes_again n p text rest e =
-    guarded (nat_le n (length (text ++ rest))) _ (le-leb n (length (text ++ rest)) (omega (arith, length-append text rest)))
-    ∙ ap (λ t. Some (t, at (p + n) (drop n (text ++ rest)))) (take_at text rest n e)
-    ∙ ap (λ r. Some (text, at (p + n) r)) (drop_at text rest n e)
+bytes_again n p text rest e = grind (arith, nat_tests, length-append text rest, take_at text rest n, drop_at text rest n)
 
 -- ---- padding
 
 all_zero : (xs : List ℕ) → list_all (λ b. b == 0) xs ≡ true → xs ≡ replicate (length xs) 0
 all_zero [] e = refl
-all_zero (x ∷ xs) e =
-    let two = both_true (x == 0) (list_all (λ b. b == 0) xs) e in
-    let head : x ≡ 0 = eqb-true x 0 two.0 in
-    let tail : xs ≡ replicate (length xs) 0 = all_zero xs two.1 in
-    ap (λ b. b ∷ xs) head ∙ ap (λ r. 0 ∷ r) tail
+all_zero (x ∷ xs) e = grind (arith, nat_tests, all_zero xs)
 
 zeros_all : (n : ℕ) → list_all (λ b. b == 0) (replicate n 0) ≡ true
 zeros_all zero = refl
@@ -119,15 +103,11 @@ zeros_take n c after e low =
     let x = bind_some (bytes_at n c) zeros after e in
     let g = guard_some (list_all (λ b. b == 0) x.0.0) (Some x.0.1) after x.2 in
     let k : Takes n c x.0.0 x.0.1 = bytes_take n c x.0 x.1 low in
-    let same : x.0.0 ≡ replicate n 0 = all_zero x.0.0 g.0 ∙ ap (λ m. replicate m 0) k.long in
-    let end : x.0.1 ≡ after = some_is x.0.1 after g.1 in
-    let r : Reads c (replicate n 0) x.0.1 = subst (λ (t : List ℕ). Reads c t x.0.1) same k.reads in
-    subst (λ (m : Cursor). Reads c (replicate n 0) m) end r
+    let same : x.0.0 ≡ replicate n 0 = cc (all_zero x.0.0 g.0, k.long) in
+    subst (λ (m : Cursor). Reads c (replicate n 0) m) (some_is x.0.1 after g.1) (subst (λ (t : List ℕ). Reads c t x.0.1) same k.reads)
 
 pub zeros_again : (n p : ℕ) (rest : List ℕ) → (bytes_at n (at p (replicate n 0 ++ rest)) >>= zeros) ≡ Some (at (p + n) rest)
-zeros_again n p rest =
-    bound_some _ zeros _ (bytes_again n p (replicate n 0) rest (length-replicate n 0))
-    ∙ guarded (list_all (λ b. b == 0) (replicate n 0)) (Some (at (p + n) rest)) (zeros_all n)
+zeros_again n p rest = rw (bytes_again n p (replicate n 0) rest (length-replicate n 0), zeros_all n)
 
 pub length_padding : (p boundary : ℕ) → length (padding p boundary) ≡ pad p boundary
 length_padding p boundary = length-replicate (pad p boundary) 0
@@ -151,20 +131,13 @@ abbrev pub IsShort : Width → Type 0
 IsShort w128 = ⊥
 IsShort w = Unit {0}
 
-one_byte : (bs : List ℕ) → length bs ≡ 1 → AreBytes bs → (order : Endian) → number_text w8 order (number w8 order bs) ≡ bs
-one_byte [] e h order = absurd (omega arith)
-one_byte (b ∷ []) e h Little = ap (λ n. n ∷ []) (mod-eq_of_lt h.0)
-one_byte (b ∷ []) e h Big = ap (λ n. n ∷ []) (mod-eq_of_lt h.0)
-one_byte (b ∷ c ∷ bs) e h order = absurd (omega arith)
-
 pub text_of_number : (w : Width) (order : Endian) (bs : List ℕ) → IsShort w → length bs ≡ byte_len w → AreBytes bs → number_text w order (number w order bs) ≡ bs
-text_of_number w8 order bs s e h = one_byte bs e h order
-text_of_number w16 Little bs s e h = le_bytes_2 bs _ e (byte_in bs h) refl
-text_of_number w16 Big bs s e h = be_bytes_2 bs _ e (byte_in bs h) refl
-text_of_number w32 Little bs s e h = le_bytes_4 bs _ e (byte_in bs h) refl
-text_of_number w32 Big bs s e h = be_bytes_4 bs _ e (byte_in bs h) refl
-text_of_number w64 Little bs s e h = le_bytes_8 bs _ e (byte_in bs h) refl
-text_of_number w64 Big bs s e h = be_bytes_8 bs _ e (byte_in bs h) refl
+text_of_number w8 order (b ∷ []) s e h = grind (arith, mod-eq_of_lt h.0)
+text_of_number w8 order (b ∷ c ∷ bs) s e h = absurd (omega arith)
+text_of_number w8 order [] s e h = absurd (omega arith)
+text_of_number w16 order bs s e h = grind (arith, le_bytes_2 bs _ e (byte_in bs h) refl, be_bytes_2 bs _ e (byte_in bs h) refl)
+text_of_number w32 order bs s e h = grind (arith, le_bytes_4 bs _ e (byte_in bs h) refl, be_bytes_4 bs _ e (byte_in bs h) refl)
+text_of_number w64 order bs s e h = grind (arith, le_bytes_8 bs _ e (byte_in bs h) refl, be_bytes_8 bs _ e (byte_in bs h) refl)
 text_of_number w128 order bs s e h = absurd s
 
 -- one more than the greatest number of a width
@@ -176,30 +149,19 @@ limit w64 = 18446744073709551616
 limit w128 = 0
 
 pub number_of_text : (w : Width) (order : Endian) (n : ℕ) → n < limit w → number w order (number_text w order n) ≡ n
-number_of_text w8 Little n h = mod-eq_of_lt h
-number_of_text w8 Big n h = mod-eq_of_lt h
-number_of_text w16 Little n h = from_le_bytes-to_le_bytes_2 n h
-number_of_text w16 Big n h = from_be_bytes-to_be_bytes_2 n h
-number_of_text w32 Little n h = from_le_bytes-to_le_bytes_4 n h
-number_of_text w32 Big n h = from_be_bytes-to_be_bytes_4 n h
-number_of_text w64 Little n h = from_le_bytes-to_le_bytes_8 n h
-number_of_text w64 Big n h = from_be_bytes-to_be_bytes_8 n h
+number_of_text w8 order n h = grind (arith, mod-eq_of_lt h)
+number_of_text w16 order n h = grind (arith, from_le_bytes-to_le_bytes_2 n h, from_be_bytes-to_be_bytes_2 n h)
+number_of_text w32 order n h = grind (arith, from_le_bytes-to_le_bytes_4 n h, from_be_bytes-to_be_bytes_4 n h)
+number_of_text w64 order n h = grind (arith, from_le_bytes-to_le_bytes_8 n h, from_be_bytes-to_be_bytes_8 n h)
 number_of_text w128 order n h = absurd (omega arith)
 
 pub length-number_text : (w : Width) (order : Endian) (n : ℕ) → length (number_text w order n) ≡ byte_len w
-length-number_text w8 Little n = refl
-length-number_text w Little n = refl
-length-number_text w8 Big n = refl
-length-number_text w Big n = refl
+length-number_text w8 order n = grind arith
+length-number_text w order n = grind arith
 
 number_below : (w : Width) (order : Endian) (bs : List ℕ) → IsShort w → AreBytes bs → number w order bs < limit w
 number_below w128 order bs s h = absurd s
-number_below w8 Little bs s h = byte_in bs h 0
-number_below w8 Big bs s h = byte_in bs h 0
-number_below w Little bs s h =
-    omega (arith, byte_in bs h 0, byte_in bs h 1, byte_in bs h 2, byte_in bs h 3, byte_in bs h 4, byte_in bs h 5, byte_in bs h 6, byte_in bs h 7)
-number_below w Big bs s h =
-    omega (arith, byte_in bs h 0, byte_in bs h 1, byte_in bs h 2, byte_in bs h 3, byte_in bs h 4, byte_in bs h 5, byte_in bs h 6, byte_in bs h 7)
+number_below w order bs s h = grind (arith, byte_in bs h)
 
 -- a number of the width that stands there
 pub record IsNumber (w : Width) (order : Endian) (c : Cursor) (y : ℕ × Cursor) : Type 0 where
@@ -212,16 +174,13 @@ unfolding number_at
 number_takes w order c y s e low =
     let x = map_some (λ x. (number w order x.0, x.1)) (bytes_at (byte_len w) c) y e in
     let k : Takes (byte_len w) c x.0.0 x.0.1 = bytes_take (byte_len w) c x.0 x.1 low in
-    let same : x.0.0 ≡ number_text w order (number w order x.0.0) = sym (text_of_number w order x.0.0 s k.long k.low) in
-    let r : Reads c (number_text w order (number w order x.0.0)) x.0.1 = subst (λ (t : List ℕ). Reads c t x.0.1) same k.reads in
-    subst (λ (y : ℕ × Cursor). IsNumber w order c y) x.2 (record { reads = r; below = number_below w order x.0.0 s k.low })
+    subst (λ (y : ℕ × Cursor). IsNumber w order c y) x.2 (record { reads = rw (text_of_number w order x.0.0 s k.long k.low) k.reads; below = number_below w order x.0.0 s k.low })
 
 pub number_again : (w : Width) (order : Endian) (n p : ℕ) (rest : List ℕ) → n < limit w
     → number_at w order (at p (number_text w order n ++ rest)) ≡ Some (n, at (p + byte_len w) rest)
 unfolding number_at
 number_again w order n p rest h =
-    ap (made (number w order)) (bytes_again (byte_len w) p (number_text w order n) rest (length-number_text w order n))
-    ∙ ap (λ m. Some (m, at (p + byte_len w) rest)) (number_of_text w order n h)
+    rw (bytes_again (byte_len w) p (number_text w order n) rest (length-number_text w order n), number_of_text w order n h)
 
 -- ---- texts
 
@@ -241,7 +200,7 @@ counted_takes w order c y s e low =
     let k : IsNumber w order p.0 n.0 = number_takes w order p.0 n.0 s n.1 front.bytes in
     let b : Takes n.0.0 n.0.1 x.0.0 x.0.1 = bytes_take n.0.0 n.0.1 x.0 x.1 k.reads.bytes in
     let end : Reads x.0.1 (0 ∷ []) z.0 = zeros_take 1 x.0.1 z.0 z.1 b.reads.bytes in
-    let digits : Reads p.0 (number_text w order (length x.0.0)) n.0.1 = subst (λ (m : ℕ). Reads p.0 (number_text w order m) n.0.1) (sym b.long) k.reads in
+    let digits : Reads p.0 (number_text w order (length x.0.0)) n.0.1 = rw b.long k.reads in
     let body : Reads p.0 (counted_text w order x.0.0) z.0 = reads_then p.0 n.0.1 z.0 _ _ digits (reads_then n.0.1 x.0.1 z.0 _ _ b.reads end) in
     subst (λ (y : List ℕ × Cursor). IsCounted w order c y) (some_is (x.0.0, z.0) y z.2)
     (record { reads = reads_then c p.0 z.0 _ _ front body; below = omega (arith, k.below, b.long) })
@@ -255,12 +214,45 @@ counted_again w order bs p rest h =
     let digits : List ℕ = number_text w order (length bs) in
     let long : p + pad p a + byte_len w + length bs + 1 ≡ p + length (padding p a ++ counted_text w order bs) =
     omega (arith, length-padded p a (counted_text w order bs), length-append digits (bs ++ 0 ∷ []), length-append bs (0 ∷ []), length-number_text w order (length bs)) in
-    let regrouped : (padding p a ++ counted_text w order bs) ++ rest ≡ padding p a ++ (digits ++ (bs ++ (0 ∷ rest))) =
-    append_assoc (padding p a) (counted_text w order bs) rest
-    ∙ ap (λ r. padding p a ++ r) (append_assoc digits (bs ++ 0 ∷ []) rest ∙ ap (λ r. digits ++ r) (append_assoc bs (0 ∷ []) rest)) in
-    ap (counted_at w order) (ap (at p) regrouped)
-    ∙ bound_some _ _ _ (align_again a p (digits ++ (bs ++ (0 ∷ rest))))
-    ∙ bound_some _ _ _ (number_again w order (length bs) (p + pad p a) (bs ++ (0 ∷ rest)) h)
-    ∙ bound_some _ _ _ (bytes_again (length bs) (p + pad p a + byte_len w) bs (0 ∷ rest) refl)
-    ∙ bound_some _ _ _ (zeros_again 1 (p + pad p a + byte_len w + length bs) rest)
-    ∙ ap (λ k. Some (bs, at k rest)) long
+    let regrouped : (padding p a ++ counted_text w order bs) ++ rest ≡ padding p a ++ (digits ++ (bs ++ (0 ∷ rest))) = simp append_assoc in
+    let again = bytes_again (length bs) (p + pad p a + byte_len w) bs (0 ∷ rest) refl in
+    rw (regrouped, align_again, number_again, again, zeros_again 1 (p + pad p a + byte_len w + length bs) rest, long)
+
+-- ---- what stands there is what is read
+
+all_bytes : (xs : List ℕ) → All (λ b. b < 256) xs → AreBytes xs
+all_bytes [] h = tt
+all_bytes (x ∷ xs) h = (h 0 x (omega arith), all_bytes xs (λ k d l. h (suc k) d (omega arith)))
+
+-- the widths of at most eight bytes, and the numbers that they have
+is_short : (w : Width) → byte_len w ≤ 8 → IsShort w × (limit w ≡ 256 ^ byte_len w)
+is_short w128 h = absurd (omega arith)
+is_short w h = (tt, refl)
+
+again : {B : Type 0} (read : Cursor → Option B) (give : Cursor → B) (text : List ℕ) (n : ℕ) (c after : Cursor) → length text ≡ n
+    → Stands text c after → read (at c.place (text ++ after.rest)) ≡ Some (give (at (c.place + n) after.rest)) → read c ≡ Some (give after)
+again read give text n c after long h e =
+    ap (λ r. read (at c.place r)) h.0 ∙ e ∙ ap (λ p. Some (give (at p after.rest))) (sym (h.1 ∙ ap (λ m. c.place + m) long))
+
+pub padding_stands : (boundary : ℕ) (c after : Cursor) → All (λ b. b < 256) c.rest → (align_at boundary c ≡ Some after) ↔ Stands (padding c.place boundary) c after
+padding_stands boundary c after low = (
+  λ e. let r = align_takes boundary c after e (all_bytes c.rest low) in (r.text_is, r.place_is),
+  λ h. again (align_at boundary) (λ m. m) (padding c.place boundary) (pad c.place boundary) c after (length_padding c.place boundary) h (align_again boundary c.place after.rest),
+)
+
+pub number_stands : (w : Width) (order : Endian) (n : ℕ) (c after : Cursor) → byte_len w ≤ 8 → All (λ b. b < 256) c.rest
+    → (number_at w order c ≡ Some (n, after)) ↔ (Stands (number_text w order n) c after × (n < 256 ^ byte_len w))
+number_stands w order n c after s low =
+    let k = is_short w s in (
+      λ e. let r = number_takes w order c (n, after) k.0 e (all_bytes c.rest low) in ((r.reads.text_is, r.reads.place_is), subst (λ m. n < m) k.1 r.below),
+      λ h. again (number_at w order) (λ m. (n, m)) (number_text w order n) (byte_len w) c after (length-number_text w order n) h.0
+          (number_again w order n c.place after.rest (subst (λ m. n < m) (sym k.1) h.1)),
+    )
+
+pub text_stands : (w : Width) (order : Endian) (bytes : List ℕ) (c after : Cursor) → byte_len w ≤ 8 → All (λ b. b < 256) c.rest
+    → (counted_at w order c ≡ Some (bytes, after)) ↔ (Stands (padding c.place (byte_len w) ++ counted_text w order bytes) c after × (length bytes < 256 ^ byte_len w))
+text_stands w order bytes c after s low =
+    let k = is_short w s in (
+      λ e. let r = counted_takes w order c (bytes, after) k.0 e (all_bytes c.rest low) in ((r.reads.text_is, r.reads.place_is), subst (λ m. length bytes < m) k.1 r.below),
+      λ h. again (counted_at w order) (λ m. (bytes, m)) _ _ c after refl h.0 (counted_again w order bytes c.place after.rest (subst (λ m. length bytes < m) (sym k.1) h.1)),
+    )

@@ -1,6 +1,6 @@
 //! Bytes at the end of an output. `shift` is the place of the output's first byte. Only for want of memory a call fails, and
 //! then it may have appended a front of its bytes.
-ghost use Rattle.std.specs.Prelude.{◌≡◌, ◌+◌, ◌≤◌, ◌++◌, drop, length, take};
+ghost use Rattle.std.specs.Prelude.{◌≡◌, ◌+◌, ◌≤◌, ◌++◌, ◌∷◌, [], drop, length, take};
 ghost use Rattle.std.specs.Int.{w8, w32};
 ghost use Rattle.wire_number.specs.Number.{counted_text, number_text, padding};
 ghost use Rattle.wire_number.specs.Appending.{Appended};
@@ -43,6 +43,17 @@ pub fn append(
     Ok(())
 }
 
+/// Appends a text's length, its bytes and a 0 byte.
+#[tactic(auto, using(crate::proofs::Appends::appends))]
+fn append_counted(out: &mut Vec<u8>, length: &[u8], bytes: &[u8]) -> Result<(), AllocError>
+    ensures { Appended result (length.now ++ (bytes.now ++ 0 ∷ [])) out.old.items out.new.items }
+{
+    out.extend_from_slice(length)?;
+    out.extend_from_slice(bytes)?;
+    out.push(0)?;
+    Ok(())
+}
+
 /// Appends a text whose length is a `UINT32`, behind its padding.
 #[tactic(auto, using(crate::proofs::Appends::appends))]
 pub fn append_text(
@@ -55,10 +66,8 @@ pub fn append_text(
     requires short { length bytes.now ≤ 4294967295 }
     ensures { Appended result (padding (shift + length out.old.items) 4 ++ counted_text w32 order bytes.now) out.old.items out.new.items }
 {
-    append(out, shift, 4, &write_u32(order, bytes.len() as u32))?;
-    out.extend_from_slice(bytes)?;
-    out.push(0)?;
-    Ok(())
+    pad_to(out, shift, 4)?;
+    append_counted(out, &write_u32(order, bytes.len() as u32), bytes)
 }
 
 /// Appends a text whose length is one byte.
@@ -67,10 +76,7 @@ pub fn append_signature(order: Endian, out: &mut Vec<u8>, bytes: &[u8]) -> Resul
     requires short { length bytes.now ≤ 255 }
     ensures { Appended result (counted_text w8 order bytes.now) out.old.items out.new.items }
 {
-    out.push(bytes.len() as u8)?;
-    out.extend_from_slice(bytes)?;
-    out.push(0)?;
-    Ok(())
+    append_counted(out, &[bytes.len() as u8], bytes)
 }
 
 /// Puts a number of four bytes in place of those that stand at a place.

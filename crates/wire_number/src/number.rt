@@ -5,18 +5,6 @@ ghost use Rattle.wire_number.specs.Number.{number, number_text, number_at};
 
 use crate::endian::Endian;
 
-/// The number that two bytes are (D-Bus Specification, "Marshaling", `UINT16`).
-pub(crate) fn read_u16(order: Endian, bytes: &[u8]) -> u16
-    requires { length bytes.now ≡ 2 }
-    ensures { result ≡ number w16 order bytes.now }
-{
-    let two = [bytes[0], bytes[1]];
-    match order {
-        Endian::Little => u16::from_le_bytes(two),
-        Endian::Big => u16::from_be_bytes(two),
-    }
-}
-
 /// The number in the four bytes from a place on (D-Bus Specification, "Marshaling", `UINT32`).
 pub fn read_u32(order: Endian, bytes: &[u8], place: usize) -> u32
     requires { place + 4 ≤ length bytes.now }
@@ -31,20 +19,6 @@ pub fn read_u32(order: Endian, bytes: &[u8], place: usize) -> u32
     match order {
         Endian::Little => u32::from_le_bytes(four),
         Endian::Big => u32::from_be_bytes(four),
-    }
-}
-
-/// The number that eight bytes are (D-Bus Specification, "Marshaling", `UINT64`).
-pub(crate) fn read_u64(order: Endian, bytes: &[u8]) -> u64
-    requires { length bytes.now ≡ 8 }
-    ensures { result ≡ number w64 order bytes.now }
-{
-    let eight = [
-        bytes[0], bytes[1], bytes[2], bytes[3], bytes[4], bytes[5], bytes[6], bytes[7],
-    ];
-    match order {
-        Endian::Little => u64::from_le_bytes(eight),
-        Endian::Big => u64::from_be_bytes(eight),
     }
 }
 

@@ -6,7 +6,7 @@ ghost use Rattle.wire_number.specs.Reading.{align_at, boolean_at, bytes_at, coun
 ghost use Rattle.wire_number.specs.ReaderView.{Finds, cursor_of};
 
 use crate::endian::Endian;
-use crate::number::{read_u16, read_u32, read_u64};
+use crate::number::read_u32;
 use crate::padding::padding_for_n_bytes;
 use crate::reader::Reader;
 
@@ -71,7 +71,12 @@ impl<'a> Reader<'a> {
         ensures { Finds (λ x. (x.0, cursor_of x.1)) result (number_at w16 order (cursor_of self.entry)) }
     {
         let (bytes, after) = self.bytes(2)?;
-        Some((read_u16(order, bytes), after))
+        let two = [bytes[0], bytes[1]];
+        let number = match order {
+            Endian::Little => u16::from_le_bytes(two),
+            Endian::Big => u16::from_be_bytes(two),
+        };
+        Some((number, after))
     }
 
     /// The number in the next four bytes.
@@ -89,7 +94,14 @@ impl<'a> Reader<'a> {
         ensures { Finds (λ x. (x.0, cursor_of x.1)) result (number_at w64 order (cursor_of self.entry)) }
     {
         let (bytes, after) = self.bytes(8)?;
-        Some((read_u64(order, bytes), after))
+        let eight = [
+            bytes[0], bytes[1], bytes[2], bytes[3], bytes[4], bytes[5], bytes[6], bytes[7],
+        ];
+        let number = match order {
+            Endian::Little => u64::from_le_bytes(eight),
+            Endian::Big => u64::from_be_bytes(eight),
+        };
+        Some((number, after))
     }
 
     /// The boolean behind its padding. No number but 0 and 1 is one.

@@ -8,14 +8,12 @@ use Rattle.wire_signature.specs.Parsing.{type_in, types_in}
 use Rattle.wire_signature.proofs.Ascii.{type_utf8, types_utf8}
 use Rattle.wire_signature.proofs.Exact.{is_some-types_in, type_in-takes}
 
-pub signature_utf8 : (bs : List ℕ) → is_some (types_in bs) ≡ true → is_utf8 bs ≡ true
-signature_utf8 bs e =
-    let k = (is_some-types_in (is_some (types_in bs)) bs refl).0 e in
-    is_utf8-from_IsUtf8 bs (types_utf8 bs (shapes_of k.0) k.1.text)
-
 -- bytes that are no UTF-8 are no signature
 pub no_signature : (bs : List ℕ) → is_utf8 bs ≡ false → is_some (types_in bs) ≡ false
-no_signature bs e = false_from_ne_true (is_some (types_in bs)) (λ h. let g : is_utf8 bs ≡ true = signature_utf8 bs h in absurd (cc))
+no_signature bs e =
+    false_from_ne_true (is_some (types_in bs))
+    (λ h. let k = (is_some-types_in (is_some (types_in bs)) bs refl).0 h in
+    let g : is_utf8 bs ≡ true = is_utf8-from_IsUtf8 bs (types_utf8 bs (shapes_of k.0) k.1.text) in absurd (cc))
 
 pub no_type : (bs : List ℕ) → is_utf8 bs ≡ false → type_in bs ≡ None
 no_type bs e = nothing (type_in bs) refl where
@@ -25,11 +23,7 @@ no_type bs e = nothing (type_in bs) refl where
       let k : TypeText t bs = type_in-takes bs t f in
       let g : is_utf8 bs ≡ true = is_utf8-from_IsUtf8 bs (type_utf8 bs t k.text) in absurd (cc)
 
-pub ruleset signatures = no_signature
-
 pub not_utf8 : (bs : List ℕ) → (IsUtf8 bs → ⊥) → is_utf8 bs ≡ false
 not_utf8 bs h = false_from_ne_true (is_utf8 bs) (λ e. h (IsUtf8-from_is_utf8 bs e))
 
 pub ruleset utf8_tests = (not_utf8, is_utf8-from_IsUtf8)
-
-pub ruleset no_types = no_type

@@ -1,22 +1,96 @@
 -- A value that is read stands there: the bytes that were read are its spelling, and it is within the limits.
-use Rattle.std.proofs.Common.{◌≡◌, ℕ, zero, suc, ◌+◌, ◌≤◌, nat_le, if◌then◌else◌, List, [], ◌∷◌, ◌++◌, length, replicate, Option, Some, None, refl, sym, ◌∙◌, ap, subst, arith, append-nil}
-use Rattle.std.specs.Int.{w32, w8}
-use Rattle.std.proofs.lemmas.Bool.{leb-true}
+use Rattle.std.proofs.Common.{◌≡◌, ◌↔◌, ℕ, zero, suc, ◌+◌, ◌<◌, ◌≤◌, true, nat_le, nat_lt, if◌then◌else◌, List, [], ◌∷◌, ◌++◌, length, Some, None, is_some, refl, sym, ◌∙◌, ap, subst, arith, append-nil}
+use Rattle.std.specs.List.{list_all}
+use Rattle.std.specs.Int.{w32, w8, byte_len}
+use Rattle.std.specs.Str.{is_utf8}
+use Rattle.std.proofs.lemmas.Str.{IsUtf8-from_is_utf8, is_utf8-from_IsUtf8}
+use Rattle.std.proofs.lemmas.Bool.{leb-true, ltb-true, lt-ltb}
 use Rattle.std.proofs.lemmas.List.{length-replicate}
+use Rattle.std.proofs.lemmas.List.Sums.{AllPass-from_list_all, list_all-from_AllPass}
 use Rattle.wire_number.specs.declared.endian.Endian.{Endian}
 use Rattle.wire_number.specs.Number.{number_text, pad, padding, counted_text}
 use Rattle.wire_signature.specs.declared.basic.BasicType.{BasicType}
 use Rattle.wire_signature.specs.declared.basic.BasicType.TheVariants as basics
-use Rattle.wire_signature.specs.Shape.{Shape, basic, variant as any, array as array_of, dict as dict_of, struct as struct_of, Shapes, no_shapes, shapes, alignment, IsType, TypeText, type_text}
-use Rattle.wire_signature.specs.Parsing.{type_in}
-use Rattle.wire_signature.proofs.Exact.{type_in-takes}
-use Rattle.wire_tree.specs.Datum.{string, object_path, signature, Datum, array, dict, struct, variant, data_of, entry_type, type_of, types_of, AreSound, AreElements}
-use Rattle.wire_spelling.specs.Spelling.{aligned, first_place, array_form, spelling, spellings, depth, depths, ArraysFit, AllFit}
+use Rattle.wire_signature.specs.Shape.{Shape, basic, variant as any, array as array_of, dict as dict_of, struct as struct_of, Shapes, no_shapes, shapes, alignment, basic_alignment, IsType, TypeText, type_text}
+use Rattle.wire_signature.specs.Parsing.{type_in, types_in}
+use Rattle.wire_signature.proofs.Exact.{is_some-types_in, type_in-takes}
+use Rattle.wire_tree.specs.Datum.{Num, byte, Txt, string, object_path, signature, Datum, num, text, array, struct, variant, bound, num_type, text_type, data_of, entry_type, type_of, types_of, IsTextOf, IsSound, AreSound, AreElements}
+use Rattle.wire_spelling.specs.Spelling.{width_of, length_width, aligned, first_place, array_form, spelling, spellings, depth, depths, ArraysFit, AllFit}
 use Rattle.wire_number.specs.Reading.{Cursor, Parse, made, bytes_at, align_at, number_at, counted_at}
-use Rattle.wire_spelling.specs.Reading.{basic_at, none_at, more_at, many_at, elements_at, array_at, variant_at, fields_at, struct_at, leaf_at, value_step, value_at}
-use Rattle.wire_number.proofs.Steps.{at, AreBytes, Reads, reads_then, Takes, IsNumber, bind_some, map_some, guard_some, some_is, bytes_take, align_takes, number_takes, length-number_text, IsCounted, counted_takes}
-pub use Rattle.wire_spelling.proofs.LeafLaws.{IsValue}
-use Rattle.wire_spelling.proofs.LeafLaws.{made_as, num_takes, text_takes}
+use Rattle.wire_spelling.specs.Reading.{num_at, is_text_of, text_at, num_value_at, text_value_at, basic_at, none_at, more_at, many_at, elements_at, array_at, variant_at, fields_at, struct_at, value_at}
+use Rattle.wire_number.proofs.Steps.{at, AreBytes, Reads, reads_then, Takes, IsNumber, IsShort, limit, bind_some, map_some, both_true, guard_some, some_is, bytes_take, align_takes, number_takes, length-number_text, IsCounted, counted_takes}
+
+-- a number of the type is one of its width
+pub num_width : (n : Num) → IsShort (width_of n) × (bound n ≤ limit (width_of n))
+num_width byte = (tt, omega arith)
+num_width n = (tt, omega arith)
+
+short_text : (t : Txt) → IsShort (length_width t)
+short_text string = tt
+short_text t = tt
+
+-- a value of a type, with at most so many containers open at once, that stands there
+pub record IsValue (room : ℕ) (order : Endian) (t : Shape) (c : Cursor) (y : Datum × Cursor) : Type 0 where
+  pub reads : Reads c (spelling order c.place y.0) y.1
+  pub kind : type_of y.0 ≡ t
+  pub sound : IsSound y.0
+  pub within : depth y.0 ≤ room
+  pub fit : ArraysFit order c.place y.0
+
+-- what was read and was made into a value
+pub made_as : {A : Type 0} (f : A → Datum) (found : Parse A) (y : Datum × Cursor) (P : Datum × Cursor → Type 0) → made f found ≡ Some y
+    → ((x : A × Cursor) → found ≡ Some x → P (f x.0, x.1)) → P y
+made_as f found y P e g = let x = map_some (λ x. (f x.0, x.1)) found y e in subst P x.2 (g x.0 x.1)
+
+pub num_takes : (room : ℕ) (n : Num) (order : Endian) (c : Cursor) (y : Datum × Cursor) → num_value_at n order c ≡ Some y → AreBytes c.rest
+    → IsValue room order (basic (num_type n)) c y
+unfolding num_at spelling ArraysFit
+num_takes room n order c y e low =
+    made_as (num n) (num_at n order c) y (IsValue room order (basic (num_type n)) c) e
+    (λ z f.
+    let p = bind_some (align_at (basic_alignment (num_type n)) c) _ z f in
+    let x = bind_some (number_at (width_of n) order p.0) (λ x. if nat_lt x.0 (bound n) then Some x else None) z p.2 in
+    let g = guard_some (nat_lt x.0.0 (bound n)) (Some x.0) z x.2 in
+    let front : Reads c (padding c.place (basic_alignment (num_type n))) p.0 = align_takes (basic_alignment (num_type n)) c p.0 p.1 low in
+    let k : IsNumber (width_of n) order p.0 x.0 = number_takes (width_of n) order p.0 x.0 (num_width n).0 x.1 front.bytes in
+    subst (λ (z : ℕ × Cursor). IsValue room order (basic (num_type n)) c (num n z.0, z.1)) (some_is x.0 z g.1)
+    (record { reads = reads_then c p.0 x.0.1 _ _ front k.reads; kind = refl; sound = ltb-true x.0.0 (bound n) g.0; within = omega arith; fit = tt }))
+
+-- a text begins on the boundary of its length
+pub text_boundary : (t : Txt) → byte_len (length_width t) ≡ basic_alignment (text_type t)
+text_boundary string = refl
+text_boundary t = refl
+
+-- a text as the test has it, no longer than its length can say
+pub text_is : (t : Txt) (bs : List ℕ) → ((is_text_of t bs ≡ true) × (length bs < limit (length_width t))) ↔ IsTextOf t bs
+text_is string bs = (
+  λ h. let two = both_true (is_utf8 bs) (list_all (λ b. nat_lt 0 b) bs) h.0 in
+      (IsUtf8-from_is_utf8 bs two.0, λ k d i. ltb-true 0 _ (AllPass-from_list_all (λ b. nat_lt 0 b) bs two.1 k d i), omega arith),
+  λ h. let one = is_utf8-from_IsUtf8 bs h.0 in
+      let two : list_all (λ b. nat_lt 0 b) bs ≡ true = list_all-from_AllPass (λ b. nat_lt 0 b) bs (λ k d i. lt-ltb 0 _ (h.1 k d i)) in (cc, omega (arith, h.2)),
+)
+text_is object_path bs = (λ h. (h.0, omega arith), λ h. (h.0, omega (arith, h.1)))
+text_is signature bs =
+    let k = is_some-types_in (is_some (types_in bs)) bs refl in
+    (λ h. k.0 h.0, λ h. (k.1 h, omega (arith, ap length h.1.text, h.1.valid.within)))
+
+pub text_takes : (room : ℕ) (t : Txt) (order : Endian) (c : Cursor) (y : Datum × Cursor) → text_value_at t order c ≡ Some y → AreBytes c.rest
+    → IsValue room order (basic (text_type t)) c y
+unfolding text_at spelling ArraysFit
+text_takes room t order c y e low =
+    made_as (text t) (text_at t order c) y (IsValue room order (basic (text_type t)) c) e
+    (λ z f.
+    let x = bind_some (counted_at (length_width t) order c) _ z f in
+    let g = guard_some (is_text_of t x.0.0) (Some x.0) z x.2 in
+    let k : IsCounted (length_width t) order c x.0 = counted_takes (length_width t) order c x.0 (short_text t) x.1 low in
+    subst (λ (z : List ℕ × Cursor). IsValue room order (basic (text_type t)) c (text t z.0, z.1)) (some_is x.0 z g.1)
+    (record {
+      reads = subst (λ (n : ℕ). Reads c (padding c.place n ++ counted_text (length_width t) order x.0.0) x.0.1) (text_boundary t) k.reads;
+      kind = refl;
+      sound = (text_is t x.0.0).0 (g.0, k.below);
+      within = omega arith;
+      fit = tt;
+    }))
 
 -- what a reader of values gives
 abbrev pub IsReader : ℕ → Endian → (Shape → Cursor → Parse Datum) → Type 0
@@ -91,19 +165,6 @@ none_is : {A : Type 0} (bs : List ℕ) (xs : List A) → none_at bs ≡ Some xs 
 none_is [] xs e = (refl, some_is [] xs e)
 none_is (b ∷ bs) xs e = absurd (cc)
 
-more_hold : {A : Type 0} (P : Cursor → List A → Type 0) (read : Cursor → Parse A) (others : Cursor → Option (List A))
-    → ((c : Cursor) → c.rest ≡ [] → P c [])
-    → ((c : Cursor) (x : A × Cursor) (xs : List A) → read c ≡ Some x → AreBytes c.rest → P x.1 xs → P c (x.0 ∷ xs))
-    → ((c : Cursor) (x : A × Cursor) → read c ≡ Some x → AreBytes c.rest → AreBytes x.1.rest)
-    → ((c : Cursor) (xs : List A) → others c ≡ Some xs → AreBytes c.rest → P c xs)
-    → (c : Cursor) (bs : List ℕ) → c.rest ≡ bs → (xs : List A) → more_at others read c bs ≡ Some xs → AreBytes c.rest → P c xs
-more_hold {A} P read others none more bytes hold c [] r xs e low = subst (λ (xs : List A). P c xs) (some_is [] xs e) (none c r)
-more_hold {A} P read others none more bytes hold c (b ∷ bs) r xs e low =
-    let x = bind_some (read c) _ xs e in
-    let y = bind_some (others x.0.1) (λ ys. Some (x.0.0 ∷ ys)) xs x.2 in
-    subst (λ (xs : List A). P c xs) (some_is (x.0.0 ∷ y.0) xs y.2)
-    (more c x.0 y.0 x.1 low (hold x.0.1 y.0 y.1 (bytes c x.0 x.1 low)))
-
 -- What holds of nothing where no bytes are left, and of one more where it holds of the others, holds of what is read.
 pub many_hold : {A : Type 0} (P : Cursor → List A → Type 0) (read : Cursor → Parse A)
     → ((c : Cursor) → c.rest ≡ [] → P c [])
@@ -113,8 +174,14 @@ pub many_hold : {A : Type 0} (P : Cursor → List A → Type 0) (read : Cursor �
 unfolding many_at
 many_hold {A} P read none more bytes zero c xs e low =
     let k = none_is c.rest xs e in subst (λ (xs : List A). P c xs) k.1 (none c k.0)
-many_hold {A} P read none more bytes (suc n) c xs e low =
-    more_hold P read (many_at n read) none more bytes (many_hold P read none more bytes n) c c.rest refl xs e low
+many_hold {A} P read none more bytes (suc n) c xs e low = by (many_hold P read none more bytes n) c.rest refl e where
+  by : ((c : Cursor) (xs : List A) → many_at n read c ≡ Some xs → AreBytes c.rest → P c xs) → (bs : List ℕ) → c.rest ≡ bs
+      → more_at (many_at n read) read c bs ≡ Some xs → P c xs
+  by others [] r e = subst (λ (xs : List A). P c xs) (some_is [] xs e) (none c r)
+  by others (b ∷ bs) r e =
+      let x = bind_some (read c) _ xs e in
+      let y = bind_some (many_at n read x.0.1) (λ ys. Some (x.0.0 ∷ ys)) xs x.2 in
+      subst (λ (xs : List A). P c xs) (some_is (x.0.0 ∷ y.0) xs y.2) (more c x.0 y.0 x.1 low (others x.0.1 y.0 y.1 (bytes c x.0 x.1 low)))
 
 -- elements of a type that fill the bytes
 record AreItems (room : ℕ) (order : Endian) (t : Shape) (c : Cursor) (ds : List Datum) : Type 0 where
@@ -159,24 +226,6 @@ array_takes room order t read reads c z f low =
       fit = (subst (λ (r : List ℕ). length r ≤ 67108864) body k.short, subst (λ (p : ℕ). AllFit order p (data_of xs.0)) k.start i.values.fit);
     })
 
-array_value : (room : ℕ) (order : Endian) (t : Shape) (read : Shape → Cursor → Parse Datum) → IsReader room order read
-    → (c : Cursor) (y : Datum × Cursor) → made (λ ds. array t (data_of ds)) (array_at (alignment t) (read t) order c) ≡ Some y → AreBytes c.rest
-    → IsValue (suc room) order (array_of t) c y
-array_value room order t read reads c y e low =
-    made_as (λ ds. array t (data_of ds)) (array_at (alignment t) (read t) order c) y (IsValue (suc room) order (array_of t) c) e
-    (λ z f. array_takes room order t read reads c z f low)
-
--- A dict stands there as an array of its entries does.
-dict_value : (room : ℕ) (order : Endian) (k : BasicType) (v : Shape) (read : Shape → Cursor → Parse Datum) → IsReader room order read
-    → (c : Cursor) (y : Datum × Cursor) → made (λ ds. dict k v (data_of ds)) (array_at 8 (read (entry_type k v)) order c) ≡ Some y → AreBytes c.rest
-    → IsValue (suc room) order (dict_of k v) c y
-unfolding spelling ArraysFit
-dict_value room order k v read reads c y e low =
-    made_as (λ ds. dict k v (data_of ds)) (array_at 8 (read (entry_type k v)) order c) y (IsValue (suc room) order (dict_of k v) c) e
-    (λ z f.
-    let h : IsValue (suc room) order (array_of (entry_type k v)) c (array (entry_type k v) (data_of z.0), z.1) = array_takes room order (entry_type k v) read reads c z f low in
-    record { reads = h.reads; kind = refl; sound = h.sound; within = h.within; fit = h.fit })
-
 -- ---- structs
 
 fields_take : (room : ℕ) (order : Endian) (read : Shape → Cursor → Parse Datum) → IsReader room order read
@@ -192,13 +241,11 @@ fields_take room order read reads (shapes t ts) c y e low =
     subst (λ (y : List Datum × Cursor). AreValues room order c y × (types_of (data_of y.0) ≡ shapes t ts)) z.2
     (more_values room order t c x.0 z.0 k others.0, ap (λ u. shapes u (types_of (data_of z.0.0))) k.kind ∙ ap (shapes t) others.1)
 
-struct_value : (room : ℕ) (order : Endian) (read : Shape → Cursor → Parse Datum) → IsReader room order read
-    → (ts : Shapes) (c : Cursor) (y : Datum × Cursor) → made (λ ds. struct (data_of ds)) (struct_at read ts c) ≡ Some y → AreBytes c.rest
-    → IsValue (suc room) order (struct_of ts) c y
+struct_takes : (room : ℕ) (order : Endian) (read : Shape → Cursor → Parse Datum) → IsReader room order read
+    → (ts : Shapes) (c : Cursor) (z : List Datum × Cursor) → struct_at read ts c ≡ Some z → AreBytes c.rest
+    → IsValue (suc room) order (struct_of ts) c (struct (data_of z.0), z.1)
 unfolding struct_at spelling ArraysFit
-struct_value room order read reads ts c y e low =
-    made_as (λ ds. struct (data_of ds)) (struct_at read ts c) y (IsValue (suc room) order (struct_of ts) c) e
-    (λ z f.
+struct_takes room order read reads ts c z f low =
     let p = bind_some (align_at 8 c) (fields_at read ts) z f in
     let pads : Reads c (padding c.place 8) p.0 = align_takes 8 c p.0 p.1 low in
     let k = fields_take room order read reads ts p.0 z p.2 pads.bytes in
@@ -210,7 +257,7 @@ struct_value room order read reads ts c y e low =
       sound = values.sound;
       within = (let j : depths (data_of z.0) ≤ room = values.within in omega arith);
       fit = subst (λ (q : ℕ). AllFit order q (data_of z.0)) start values.fit;
-    })
+    }
 
 -- ---- variants
 
@@ -230,9 +277,7 @@ variant_value room order read reads c y e low =
     let v : IsValue room order t.0 s.0.1 x = reads t.0 s.0.1 x f k.reads.bytes in
     let d : Datum = x.0 in
     let type_is : s.0.0 ≡ type_text (type_of d) = spelled.text ∙ ap type_text (sym v.kind) in
-    let unpadded : Reads c (counted_text w8 order s.0.0) s.0.1 =
-    subst (λ (n : ℕ). Reads c (replicate n 0 ++ counted_text w8 order s.0.0) s.0.1) (pad_one c.place) k.reads in
-    let sign : Reads c (counted_text w8 order (type_text (type_of d))) s.0.1 = subst (λ (r : List ℕ). Reads c (counted_text w8 order r) s.0.1) type_is unpadded in
+    let sign = rw (type_is, pad_one c.place) at k.reads in
     record {
       reads = reads_then c s.0.1 x.1 _ _ sign (subst (λ (q : ℕ). Reads s.0.1 (spelling order q d) x.1) sign.place_is v.reads);
       kind = refl;
@@ -243,19 +288,18 @@ variant_value room order read reads c y e low =
 
 -- ---- all values
 
-leaf_value : (order : Endian) (t : Shape) (c : Cursor) (y : Datum × Cursor) → leaf_at order t c ≡ Some y → AreBytes c.rest → IsValue 0 order t c y
-leaf_value order (basic b) c y e low = basic_takes 0 order b c y e low
-leaf_value order t c y e low = absurd (cc)
-
-step_value : (room : ℕ) (order : Endian) (read : Shape → Cursor → Parse Datum) → IsReader room order read
-    → (t : Shape) (c : Cursor) (y : Datum × Cursor) → value_step read order t c ≡ Some y → AreBytes c.rest → IsValue (suc room) order t c y
-step_value room order read reads (basic b) c y e low = basic_takes (suc room) order b c y e low
-step_value room order read reads any c y e low = variant_value room order read reads c y e low
-step_value room order read reads (array_of t) c y e low = array_value room order t read reads c y e low
-step_value room order read reads (dict_of k v) c y e low = dict_value room order k v read reads c y e low
-step_value room order read reads (struct_of ts) c y e low = struct_value room order read reads ts c y e low
-
 pub value_takes : (room : ℕ) (order : Endian) → IsReader room order (value_at room order)
-unfolding value_at
-value_takes zero order t c y e low = leaf_value order t c y e low
-value_takes (suc room) order t c y e low = step_value room order (value_at room order) (value_takes room order) t c y e low
+unfolding value_at spelling ArraysFit
+value_takes zero order (basic b) c y e low = basic_takes 0 order b c y e low
+value_takes zero order t c y e low = absurd (cc)
+value_takes (suc room) order (basic b) c y e low = basic_takes (suc room) order b c y e low
+value_takes (suc room) order any c y e low = variant_value room order (value_at room order) (value_takes room order) c y e low
+value_takes (suc room) order (array_of t) c y e low =
+    made_as _ _ y (IsValue _ order _ c) e (λ z f. array_takes room order t (value_at room order) (value_takes room order) c z f low)
+-- a dict stands there as an array of its entries does
+value_takes (suc room) order (dict_of k v) c y e low =
+    made_as _ _ y (IsValue _ order _ c) e
+    (λ z f. let h = array_takes room order (entry_type k v) (value_at room order) (value_takes room order) c z f low in
+    record { reads = h.reads; kind = refl; sound = h.sound; within = h.within; fit = h.fit })
+value_takes (suc room) order (struct_of ts) c y e low =
+    made_as _ _ y (IsValue _ order _ c) e (λ z f. struct_takes room order (value_at room order) (value_takes room order) ts c z f low)

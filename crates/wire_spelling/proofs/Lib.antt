@@ -1,4 +1,3 @@
-pub mod LeafLaws
 pub mod FoundValues
 pub mod ReadAgain
 pub mod Shift
@@ -7,4 +6,3 @@ pub mod OneType
 pub mod Ascii
 pub mod Walks
 pub mod Exact
-pub mod Boundaries

@@ -1,5 +1,6 @@
 -- Steps of the loops over elements and fields.
 use Rattle.std.proofs.Common.{◌≡◌, ℕ, zero, suc, ◌+◌, ◌-◌, ◌<◌, ◌≤◌, List, [], ◌∷◌, ◌++◌, length, get_or, drop, drop-cons, add-one, Option, Some, None, is_some, refl, sym, ◌∙◌, ap, arith, option_map, append_assoc, append-nil}
+use Rattle.std.proofs.lemmas.List.{drop_all, nil_from_length}
 use Rattle.wire_signature.specs.Shape.{Shape, shapes_of}
 use Rattle.wire_signature.specs.declared.error.VariantError.{VariantError}
 use Rattle.wire_signature.specs.declared.error.VariantError.TheVariants as errors
@@ -7,41 +8,31 @@ use Rattle.wire_tree.specs.Datum.{Datum}
 use Rattle.wire_spelling.specs.ReaderView.{Refuses}
 use Rattle.wire_number.specs.declared.endian.Endian.{Endian}
 use Rattle.wire_number.specs.Reading.{Cursor, Parse, made, ◌>>=◌}
-use Rattle.wire_spelling.specs.Reading.{many_at, more_at, none_at, fields_at, value_step, value_at}
-
-done_by : {A : Type 0} (n : ℕ) (read : Cursor → Parse A) (c : Cursor) (bs : List ℕ) → c.rest ≡ bs → length bs ≡ 0 → many_at n read c ≡ Some []
-unfolding many_at
-done_by zero read c [] r e = ap none_at r
-done_by (suc n) read c [] r e = ap (more_at (many_at n read) read c) r
-done_by n read c (b ∷ bs) r e = absurd (omega arith)
+use Rattle.wire_spelling.specs.Reading.{many_at, more_at, fields_at, value_step, value_at}
 
 pub many_done : {A : Type 0} (n : ℕ) (read : Cursor → Parse A) (c : Cursor) → length c.rest ≡ 0 → many_at n read c ≡ Some []
-many_done n read c e = done_by n read c c.rest refl e
-
-left_by : {A : Type 0} (read : Cursor → Parse A) (c : Cursor) (bs : List ℕ) → c.rest ≡ bs → 0 < length bs → many_at 0 read c ≡ None
 unfolding many_at
-left_by read c [] r h = absurd (omega arith)
-left_by read c (b ∷ bs) r h = ap none_at r
+many_done zero read c e = rw (nil_from_length c.rest e) refl
+many_done (suc n) read c e = rw (nil_from_length c.rest e) refl
 
 pub many_left : {A : Type 0} (m : ℕ) (read : Cursor → Parse A) (c : Cursor) → m ≡ 0 → 0 < length c.rest → many_at m read c ≡ None
-many_left m read c e h = ap (λ m. many_at m read c) e ∙ left_by read c c.rest refl h
-
-many_some : {A : Type 0} (n : ℕ) (read : Cursor → Parse A) (c : Cursor) (bs : List ℕ) → c.rest ≡ bs → 0 < length bs
-    → many_at (suc n) read c ≡ (read c >>= λ x. many_at n read x.1 >>= λ xs. Some (x.0 ∷ xs))
 unfolding many_at
-many_some n read c [] r h = absurd (omega arith)
-many_some n read c (b ∷ bs) r h = ap (more_at (many_at n read) read c) r
+many_left m read c e h = rw (e, drop-cons c.rest 0 0 h) refl
+
+many_by : {A : Type 0} (n m : ℕ) (read : Cursor → Parse A) (c : Cursor) (found : Parse A) → m ≡ suc n → 0 < length c.rest → read c ≡ found
+    → many_at m read c ≡ (found >>= λ x. many_at n read x.1 >>= λ xs. Some (x.0 ∷ xs))
+unfolding many_at
+many_by n m read c found k h e =
+    rw k (ap (more_at (many_at n read) read c) (drop-cons c.rest 0 0 h) ∙ ap (λ found. found >>= λ x. many_at n read x.1 >>= λ xs. Some (x.0 ∷ xs)) e)
 
 pub many_next : {A : Type 0} (n m : ℕ) (read : Cursor → Parse A) (c : Cursor) (x : A × Cursor) → m ≡ suc n → 0 < length c.rest → read c ≡ Some x
     → many_at m read c ≡ (many_at n read x.1 >>= λ xs. Some (x.0 ∷ xs))
-many_next n m read c x k h e =
-    ap (λ m. many_at m read c) k ∙ many_some n read c c.rest refl h ∙ ap (λ found. found >>= λ x. many_at n read x.1 >>= λ xs. Some (x.0 ∷ xs)) e
+many_next n m read c x k h e = many_by n m read c (Some x) k h e
 
 pub many_none : {A : Type 0} (n m : ℕ) (read : Cursor → Parse A) (c : Cursor) → m ≡ suc n → 0 < length c.rest → read c ≡ None → many_at m read c ≡ None
-many_none n m read c k h e =
-    ap (λ m. many_at m read c) k ∙ many_some n read c c.rest refl h ∙ ap (λ found. found >>= λ x. many_at n read x.1 >>= λ xs. Some (x.0 ∷ xs)) e
+many_none n m read c k h e = many_by n m read c None k h e
 
-with_first : {A : Type 0} (x : A) (found : Option (List A)) → is_some (found >>= λ xs. Some (x ∷ xs)) ≡ is_some found
+pub with_first : {A : Type 0} (x : A) (found : Option (List A)) → is_some (found >>= λ xs. Some (x ∷ xs)) ≡ is_some found
 with_first x None = refl
 with_first x (Some xs) = refl
 
@@ -50,38 +41,38 @@ pub some_next : {A : Type 0} (n m : ℕ) (read : Cursor → Parse A) (c : Cursor
     → is_some (many_at m read c) ≡ is_some (many_at n read x.1)
 some_next n m read c x k h e = ap is_some (many_next n m read c x k h e) ∙ with_first x.0 (many_at n read x.1)
 
+pub ruleset elements = (many_done, many_left)
+
 -- ---- the elements so far, and those to come
 
 abbrev pub joined : {A : Type 0} → List A → Option (List A) → Option (List A)
 joined front found = option_map (λ xs. front ++ xs) found
 
-pub joined_next : {A : Type 0} (front : List A) (x : A) (found : Option (List A)) → joined front (found >>= λ xs. Some (x ∷ xs)) ≡ joined (front ++ x ∷ []) found
+pub joined_end : {A : Type 0} (n : ℕ) (read : Cursor → Parse A) (c : Cursor) (front : List A) → length c.rest ≡ 0 → joined front (many_at n read c) ≡ Some front
+joined_end n read c front e = ap (joined front) (many_done n read c e) ∙ ap Some (append-nil front)
+
+pub ruleset gathered = (joined_end, many_left)
+
+joined_next : {A : Type 0} (front : List A) (x : A) (found : Option (List A)) → joined front (found >>= λ xs. Some (x ∷ xs)) ≡ joined (front ++ x ∷ []) found
 joined_next front x None = refl
 joined_next front x (Some xs) = ap Some (sym (append_assoc front (x ∷ []) xs))
 
--- ---- the types of a struct's fields
+pub joined_more : {A : Type 0} (n m : ℕ) (read : Cursor → Parse A) (c : Cursor) (x : A × Cursor) (front : List A) (whole : Option (List A))
+    → whole ≡ joined front (many_at m read c) → m ≡ suc n → 0 < length c.rest → read c ≡ Some x
+    → whole ≡ joined (front ++ x.0 ∷ []) (many_at n read x.1)
+joined_more n m read c x front whole w k h f =
+    w ∙ ap (joined front) (many_next n m read c x k h f) ∙ joined_next front x.0 (many_at n read x.1)
 
-pub types_none : (read : Shape → Cursor → Parse Datum) (ts : List Shape) (i : ℕ) (t : Shape) (c : Cursor) → i < length ts → t ≡ get_or ts i t → read t c ≡ None
-    → fields_at read (shapes_of (drop i ts)) c ≡ None
-unfolding fields_at
-types_none read ts i t c h k f =
-    let first : drop i ts ≡ t ∷ drop (suc i) ts = drop-cons ts i t h ∙ ap (λ u. u ∷ drop (suc i) ts) (sym k) in
-    ap (λ us. fields_at read (shapes_of us) c) first
-    ∙ ap (λ found. found >>= λ x. made (λ ds. x.0 ∷ ds) (fields_at read (shapes_of (drop (suc i) ts)) x.1)) f
-
-pub types_done : (read : Shape → Cursor → Parse Datum) (ts : List Shape) (i : ℕ) (c : Cursor) → length ts ≤ i → fields_at read (shapes_of (drop i ts)) c ≡ Some ([], c)
-unfolding fields_at
-types_done read ts i c h = ap (λ us. fields_at read (shapes_of us) c) (none ts i h) where
-  none : (ts : List Shape) (i : ℕ) → length ts ≤ i → drop i ts ≡ []
-  none [] zero h = refl
-  none [] (suc i) h = refl
-  none (t ∷ ts) zero h = absurd (omega arith)
-  none (t ∷ ts) (suc i) h = none ts i (omega arith)
-
--- ---- values so far, and those to come
+-- ---- the fields so far, and those to come
 
 abbrev pub joined_fields : List Datum → Parse (List Datum) → Parse (List Datum)
 joined_fields front found = made (λ ds. front ++ ds) found
+
+pub fields_next : (read : Shape → Cursor → Parse Datum) (ts : List Shape) (i : ℕ) (t : Shape) (c : Cursor) (found : Parse Datum) → i < length ts → t ≡ get_or ts i t
+    → read t c ≡ found → fields_at read (shapes_of (drop i ts)) c ≡ (found >>= λ x. made (λ ds. x.0 ∷ ds) (fields_at read (shapes_of (drop (i + 1) ts)) x.1))
+unfolding fields_at
+fields_next read ts i t c found h k f =
+    let first : drop i ts ≡ t ∷ drop (i + 1) ts = rw add-one (drop-cons ts i t h ∙ ap (λ u. u ∷ drop (suc i) ts) (sym k)) in rw (first, f) refl
 
 joined_one : (front : List Datum) (d : Datum) (found : Parse (List Datum)) → joined_fields front (made (λ ds. d ∷ ds) found) ≡ joined_fields (front ++ d ∷ []) found
 joined_one front d None = refl
@@ -90,35 +81,13 @@ joined_one front d (Some x) = ap (λ ds. Some (ds, x.1)) (sym (append_assoc fron
 pub joined_field : (read : Shape → Cursor → Parse Datum) (ts : List Shape) (i : ℕ) (t : Shape) (c : Cursor) (x : Datum × Cursor) (front : List Datum) (whole : Parse (List Datum))
     → whole ≡ joined_fields front (fields_at read (shapes_of (drop i ts)) c) → i < length ts → t ≡ get_or ts i t → read t c ≡ Some x
     → whole ≡ joined_fields (front ++ x.0 ∷ []) (fields_at read (shapes_of (drop (i + 1) ts)) x.1)
-unfolding fields_at
-joined_field read ts i t c x front whole w h k f =
-    let first : drop i ts ≡ t ∷ drop (i + 1) ts = rw add-one (drop-cons ts i t h ∙ ap (λ u. u ∷ drop (suc i) ts) (sym k)) in
-    w ∙ ap (λ us. joined_fields front (fields_at read (shapes_of us) c)) first
-    ∙ ap (λ found. joined_fields front (found >>= λ x. made (λ ds. x.0 ∷ ds) (fields_at read (shapes_of (drop (i + 1) ts)) x.1))) f
-    ∙ joined_one front x.0 (fields_at read (shapes_of (drop (i + 1) ts)) x.1)
+joined_field read ts i t c x front whole w h k f = w ∙ ap (joined_fields front) (fields_next read ts i t c _ h k f) ∙ joined_one front x.0 _
 
 pub joined_done : (read : Shape → Cursor → Parse Datum) (ts : List Shape) (i : ℕ) (c : Cursor) (front : List Datum) (whole : Parse (List Datum))
     → whole ≡ joined_fields front (fields_at read (shapes_of (drop i ts)) c) → length ts ≤ i → whole ≡ Some (front, c)
+unfolding fields_at
 joined_done read ts i c front whole w h =
-    w ∙ ap (joined_fields front) (types_done read ts i c h) ∙ ap (λ ds. Some (ds, c)) (append-nil front)
-
-pub joined_end : {A : Type 0} (n : ℕ) (read : Cursor → Parse A) (c : Cursor) (front : List A) (whole : Option (List A))
-    → whole ≡ joined front (many_at n read c) → length c.rest ≡ 0 → whole ≡ Some front
-joined_end n read c front whole w h = w ∙ ap (joined front) (many_done n read c h) ∙ ap Some (append-nil front)
-
-pub joined_more : {A : Type 0} (n m : ℕ) (read : Cursor → Parse A) (c : Cursor) (x : A × Cursor) (front : List A) (whole : Option (List A))
-    → whole ≡ joined front (many_at m read c) → m ≡ suc n → 0 < length c.rest → read c ≡ Some x
-    → whole ≡ joined (front ++ x.0 ∷ []) (many_at n read x.1)
-joined_more n m read c x front whole w k h f =
-    w ∙ ap (joined front) (many_next n m read c x k h f) ∙ joined_next front x.0 (many_at n read x.1)
-
-pub joined_none : {A : Type 0} (n m : ℕ) (read : Cursor → Parse A) (c : Cursor) (front : List A) (whole : Option (List A))
-    → whole ≡ joined front (many_at m read c) → m ≡ suc n → 0 < length c.rest → read c ≡ None → whole ≡ None
-joined_none n m read c front whole w k h f = w ∙ ap (joined front) (many_none n m read c k h f)
-
-pub joined_left : {A : Type 0} (m : ℕ) (read : Cursor → Parse A) (c : Cursor) (front : List A) (whole : Option (List A))
-    → whole ≡ joined front (many_at m read c) → m ≡ 0 → 0 < length c.rest → whole ≡ None
-joined_left m read c front whole w k h = w ∙ ap (joined front) (many_left m read c k h)
+    w ∙ rw (drop_all i ts h) (ap (λ ds. Some (ds, c)) (append-nil front))
 
 -- a refusal of a part is one of the whole
 pub refuses_as : {X Y : Type 0} (e : VariantError) (part : Option X) (whole : Option Y) → (part ≡ None → whole ≡ None) → Refuses e part → Refuses e whole

@@ -1,20 +1,19 @@
 -- A value within the limits is read where its spelling stands, whatever stands behind it.
-use Rattle.std.proofs.Common.{◌≡◌, ℕ, zero, suc, ◌+◌, ◌<◌, ◌≤◌, nat_le, List, [], ◌∷◌, ◌++◌, length, replicate, Some, refl, sym, ◌∙◌, ap, subst, arith, append_assoc, length-append}
-use Rattle.std.specs.Int.{Width, w8, w16, w32, w64, w128, byte_len}
-use Rattle.std.proofs.lemmas.Bool.{le-leb}
+use Rattle.std.proofs.Common.{◌≡◌, ℕ, zero, suc, ◌+◌, ◌<◌, ◌≤◌, nat_le, nat_lt, List, [], ◌∷◌, ◌++◌, length, Some, refl, sym, ◌∙◌, ap, subst, arith, append_assoc, length-append}
+use Rattle.std.specs.Int.{Width, w8, w32, byte_len}
+use Rattle.std.proofs.lemmas.Bool.{le-leb, lt-ltb}
 use Rattle.wire_number.specs.declared.endian.Endian.{Endian}
-use Rattle.wire_number.specs.Number.{number_text, padding, counted_text}
+use Rattle.wire_number.specs.Number.{number_text, pad, padding, counted_text}
 use Rattle.wire_signature.specs.declared.basic.BasicType.{BasicType}
 use Rattle.wire_signature.specs.Shape.{Shape, basic, alignment, basic_alignment, IsType, TypeText, type_text, HasFields, AllHaveFields, AreFields}
 use Rattle.wire_signature.proofs.Exact.{type_in-again}
-use Rattle.wire_tree.specs.Datum.{Num, byte, boolean, int16, uint16, int32, uint32, int64, uint64, double, unix_fd, Txt, string, object_path, signature, Datum, num, text, array, dict, struct, variant, Data, no_data, items, data_of, list_of, entry_type, num_type, text_type, type_of, types_of, IsSound, AreSound, AreElements}
+use Rattle.wire_tree.specs.Datum.{Num, byte, Txt, string, Datum, num, text, array, dict, struct, variant, Data, no_data, items, data_of, list_of, bound, IsTextOf, entry_type, num_type, text_type, type_of, types_of, IsSound, AreSound, AreElements}
 use Rattle.wire_spelling.specs.Spelling.{width_of, length_width, aligned, first_place, array_form, spelling, spellings, depth, depths, ArraysFit, AllFit}
-use Rattle.wire_number.specs.Reading.{Cursor, Parse, made, ◌>>=◌, counted_at}
-use Rattle.wire_spelling.specs.Reading.{num_value_at, text_value_at, basic_at, many_at, elements_at, array_at, variant_at, fields_at, struct_at, value_at}
-use Rattle.wire_number.proofs.Steps.{at, guarded, bound_some, bytes_again, align_again, number_again, length-number_text, length-padded, counted_again}
-use Rattle.wire_spelling.proofs.LeafLaws.{num_again, text_again}
+use Rattle.wire_number.specs.Reading.{Cursor, Parse, made}
+use Rattle.wire_spelling.specs.Reading.{num_at, is_text_of, text_at, num_value_at, text_value_at, basic_at, many_at, elements_at, array_at, variant_at, fields_at, struct_at, value_at}
+use Rattle.wire_number.proofs.Steps.{at, guarded, bound_some, bytes_again, align_again, number_again, length-number_text, length_padding, length-padded, counted_again}
 use Rattle.wire_spelling.proofs.Loops.{many_done, many_next}
-use Rattle.wire_spelling.proofs.FoundValues.{pad_one}
+use Rattle.wire_spelling.proofs.FoundValues.{num_width, text_boundary, text_is, pad_one}
 
 data_of-list_of : (ds : Data) → data_of (list_of ds) ≡ ds
 data_of-list_of no_data = refl
@@ -40,45 +39,47 @@ text_basic : (t : Txt) (order : Endian) (c : Cursor) → basic_at (text_type t) 
 text_basic string order c = refl
 text_basic t order c = refl
 
+pub num_again : (n : Num) (order : Endian) (v p : ℕ) (rest : List ℕ) → v < bound n
+    → num_at n order (at p (spelling order p (num n v) ++ rest)) ≡ Some (v, at (p + length (spelling order p (num n v))) rest)
+unfolding num_at spelling
+num_again n order v p rest h =
+    let a : ℕ = basic_alignment (num_type n) in
+    let digits : List ℕ = number_text (width_of n) order v in
+    let long : p + pad p a + byte_len (width_of n) ≡ p + length (padding p a ++ digits) = omega (arith, length-padded p a digits, length-number_text (width_of n) order v) in
+    rw append_assoc
+    (bound_some _ _ _ (align_again a p (digits ++ rest))
+    ∙ bound_some _ _ _ (number_again (width_of n) order v (p + pad p a) rest (omega (arith, (num_width n).1)))
+    ∙ guarded (nat_lt v (bound n)) _ (lt-ltb v (bound n) h)
+    ∙ ap (λ k. Some (v, at k rest)) long)
+
+pub text_again : (t : Txt) (order : Endian) (bs : List ℕ) (p : ℕ) (rest : List ℕ) → IsTextOf t bs
+    → text_at t order (at p (spelling order p (text t bs) ++ rest)) ≡ Some (bs, at (p + length (spelling order p (text t bs))) rest)
+unfolding text_at spelling
+text_again t order bs p rest h =
+    let found = rw (text_boundary t) at (counted_again (length_width t) order bs p rest ((text_is t bs).1 h).1) in
+    bound_some _ _ _ found ∙ guarded (is_text_of t bs) _ ((text_is t bs).1 h).0
+
 -- ---- no spelling is empty
 
 some_width : (w : Width) → 0 < byte_len w
 some_width w8 = omega arith
 some_width w = omega arith
 
-some_text : (t : Txt) (order : Endian) (bs : List ℕ) → 0 < length (counted_text (length_width t) order bs)
-some_text t order bs =
-    omega (arith, length-append (number_text (length_width t) order (length bs)) (bs ++ 0 ∷ []), length-append bs (0 ∷ []))
-
-some_array : (order : Endian) (p boundary : ℕ) (elements : List ℕ) → 0 < length (array_form order p boundary elements)
-some_array order p boundary elements =
-    omega (
-      arith,
-      length-padded p 4 (number_text w32 order (length elements) ++ (padding (aligned p 4 + 4) boundary ++ elements)),
-      length-append (number_text w32 order (length elements)) (padding (aligned p 4 + 4) boundary ++ elements),
-      length-number_text w32 order (length elements),
-    )
-
 mutual
   unfolding spelling spellings
 
   pub some_spelling : (order : Endian) (p : ℕ) (d : Datum) → HasFields (type_of d) → 0 < length (spelling order p d)
-  some_spelling order p (num n v) h = omega (arith, length-padded p (basic_alignment (num_type n)) (number_text (width_of n) order v), length-number_text (width_of n) order v, some_width (width_of n))
-  some_spelling order p (text t bs) h = omega (arith, length-padded p (basic_alignment (text_type t)) (counted_text (length_width t) order bs), some_text t order bs)
-  some_spelling order p (array t ds) h = some_array order p (alignment t) (spellings order (first_place p (alignment t)) ds)
-  some_spelling order p (dict k v es) h = some_array order p 8 (spellings order (first_place p 8) es)
-  some_spelling order p (struct ds) h = omega (arith, length-padded p 8 (spellings order (aligned p 8) ds), some_spellings order (aligned p 8) ds h.0 h.1)
-  some_spelling order p (variant d) h =
-      omega (
-        arith,
-        length-append (counted_text w8 order (type_text (type_of d))) (spelling order (p + length (counted_text w8 order (type_text (type_of d)))) d),
-        some_text signature order (type_text (type_of d)),
-      )
+  some_spelling order p (num n v) h = omega (arith, length-append {A = ℕ}, length-number_text (width_of n) order v, some_width (width_of n))
+  some_spelling order p (text t bs) h = omega (arith, length-append {A = ℕ})
+  some_spelling order p (array t ds) h =
+      omega (arith, length-append {A = ℕ}, length-number_text w32 order (length (spellings order (first_place p (alignment t)) ds)))
+  some_spelling order p (dict k v es) h = omega (arith, length-append {A = ℕ}, length-number_text w32 order (length (spellings order (first_place p 8) es)))
+  some_spelling order p (struct ds) h = omega (arith, length-append {A = ℕ}, some_spellings order (aligned p 8) ds h.0 h.1)
+  some_spelling order p (variant d) h = omega (arith, length-append {A = ℕ})
 
   pub some_spellings : (order : Endian) (p : ℕ) (ds : Data) → AreFields (types_of ds) → AllHaveFields (types_of ds) → 0 < length (spellings order p ds)
   some_spellings order p no_data f h = absurd f
-  some_spellings order p (items d ds) f h =
-      omega (arith, length-append (spelling order p d) (spellings order (p + length (spelling order p d)) ds), some_spelling order p d h.0)
+  some_spellings order p (items d ds) f h = omega (arith, length-append {A = ℕ}, some_spelling order p d h.0)
 
 -- ---- arrays
 
@@ -90,17 +91,14 @@ elements_again order boundary p elements rest h =
     let digits : List ℕ = number_text w32 order (length elements) in
     let q : ℕ = aligned p 4 in
     let gap : List ℕ = padding (q + 4) boundary in
-    let regrouped : array_form order p boundary elements ++ rest ≡ padding p 4 ++ (digits ++ (gap ++ (elements ++ rest))) =
-    append_assoc (padding p 4) (digits ++ (gap ++ elements)) rest
-    ∙ ap (λ r. padding p 4 ++ r) (append_assoc digits (gap ++ elements) rest ∙ ap (λ r. digits ++ r) (append_assoc gap elements rest)) in
     let long : first_place p boundary + length elements ≡ p + length (array_form order p boundary elements) =
-    omega (arith, length-padded p 4 (digits ++ (gap ++ elements)), length-append digits (gap ++ elements), length-padded (q + 4) boundary elements, length-number_text w32 order (length elements)) in
-    ap (elements_at order boundary) (ap (at p) regrouped)
-    ∙ bound_some _ _ _ (align_again 4 p (digits ++ (gap ++ (elements ++ rest))))
+    omega (arith, length-append {A = ℕ}, length_padding p 4, length_padding (q + 4) boundary, length-number_text w32 order (length elements)) in
+    simp append_assoc
+    (bound_some _ _ _ (align_again 4 p (digits ++ (gap ++ (elements ++ rest))))
     ∙ bound_some _ _ _ (number_again w32 order (length elements) q (gap ++ (elements ++ rest)) (omega arith))
     ∙ bound_some _ _ _ (guarded (nat_le (length elements) 67108864) _ (le-leb (length elements) 67108864 h) ∙ align_again boundary (q + 4) (elements ++ rest))
     ∙ bound_some _ _ _ (bytes_again (length elements) (first_place p boundary) elements rest refl)
-    ∙ ap (λ k. Some (at (first_place p boundary) elements, at k rest)) long
+    ∙ ap (λ k. Some (at (first_place p boundary) elements, at k rest)) long)
 
 -- one more, of which it is known how it and the others are read
 pub many_with : {A : Type 0} (n p : ℕ) (read : Cursor → Parse A) (front back : List ℕ) (x : A) (xs : List A) → 0 < length front
@@ -127,68 +125,56 @@ unfolding variant_at
 variant_with read order p d body rest h e =
     let t : List ℕ = type_text (type_of d) in
     let sign : List ℕ = counted_text w8 order t in
-    let none : sign ≡ padding p 1 ++ sign = ap (λ n. replicate n 0 ++ sign) (sym (pad_one p)) in
     let spelled : TypeText (type_of d) t = record { valid = h; text = refl } in
-    let found : counted_at w8 order (at p (sign ++ (body ++ rest))) ≡ Some (t, at (p + length sign) (body ++ rest)) =
-    ap (λ r. counted_at w8 order (at p (r ++ (body ++ rest)))) none
-    ∙ counted_again w8 order t p (body ++ rest) (omega (arith, h.within))
-    ∙ ap (λ r. Some (t, at (p + length r) (body ++ rest))) (sym none) in
-    ap (variant_at read order) (ap (at p) (append_assoc sign body rest))
-    ∙ bound_some _ _ _ found
+    let found = rw (pad_one p) at (counted_again w8 order t p (body ++ rest) (omega (arith, h.within))) in
+    rw (append_assoc sign body rest)
+    (bound_some _ _ _ found
     ∙ bound_some _ _ _ (type_in-again (type_of d) t spelled)
     ∙ ap (made variant) e
-    ∙ ap (λ k. Some (variant d, at k rest)) (omega (arith, length-append sign body))
+    ∙ ap (λ k. Some (variant d, at k rest)) (omega (arith, length-append sign body)))
 
 -- ---- all values
 
 mutual
   unfolding value_at spelling spellings ArraysFit AllFit fields_at struct_at
 
-  pub value_again : (room : ℕ) (order : Endian) (t : Shape) (d : Datum) (p : ℕ) (rest : List ℕ) → type_of d ≡ t → IsSound d → HasFields (type_of d) → depth d ≤ room → ArraysFit order p d
-      → value_at room order t (at p (spelling order p d ++ rest)) ≡ Some (d, at (p + length (spelling order p d)) rest)
-  value_again room order t (num n v) p rest k s h w f =
-      let c : Cursor = at p (spelling order p (num n v) ++ rest) in
-      ap (λ t. value_at room order t c) (sym k) ∙ basic_room room order (num_type n) c ∙ num_basic n order c
-      ∙ ap (made (num n)) (num_again n order v p rest s)
-  value_again room order t (text x bs) p rest k s h w f =
-      let c : Cursor = at p (spelling order p (text x bs) ++ rest) in
-      ap (λ t. value_at room order t c) (sym k) ∙ basic_room room order (text_type x) c ∙ text_basic x order c
-      ∙ ap (made (text x)) (text_again x order bs p rest s)
-  value_again (suc room) order t (array u ds) p rest k s h w f =
+  pub value_again : (room : ℕ) (order : Endian) (d : Datum) (p : ℕ) (rest : List ℕ) → IsSound d → HasFields (type_of d) → depth d ≤ room → ArraysFit order p d
+      → value_at room order (type_of d) (at p (spelling order p d ++ rest)) ≡ Some (d, at (p + length (spelling order p d)) rest)
+  value_again room order (num n v) p rest s h w f =
+      basic_room room order (num_type n) _ ∙ num_basic n order _ ∙ ap (made (num n)) (num_again n order v p rest s)
+  value_again room order (text x bs) p rest s h w f =
+      basic_room room order (text_type x) _ ∙ text_basic x order _ ∙ ap (made (text x)) (text_again x order bs p rest s)
+  value_again (suc room) order (array u ds) p rest s h w f =
       let elements : List ℕ = spellings order (first_place p (alignment u)) ds in
-      ap (λ t. value_at (suc room) order t (at p (array_form order p (alignment u) elements ++ rest))) (sym k)
-      ∙ held_again (array u) _ ds _ (array_with order (alignment u) p (value_at room order u) elements rest (list_of ds) f.0
+      held_again (array u) _ ds _ (array_with order (alignment u) p (value_at room order u) elements rest (list_of ds) f.0
       (items_again (length elements) room order u ds (first_place p (alignment u)) s h (omega arith) f.1 (omega arith)))
-  value_again (suc room) order t (dict a v ds) p rest k s h w f =
+  value_again (suc room) order (dict a v ds) p rest s h w f =
       let elements : List ℕ = spellings order (first_place p 8) ds in
-      ap (λ t. value_at (suc room) order t (at p (array_form order p 8 elements ++ rest))) (sym k)
-      ∙ held_again (dict a v) _ ds _ (array_with order 8 p (value_at room order (entry_type a v)) elements rest (list_of ds) f.0
+      held_again (dict a v) _ ds _ (array_with order 8 p (value_at room order (entry_type a v)) elements rest (list_of ds) f.0
       (items_again (length elements) room order (entry_type a v) ds (first_place p 8) s (tt, (tt, (h, tt))) (omega arith) f.1 (omega arith)))
-  value_again (suc room) order t (struct ds) p rest k s h w f =
+  value_again (suc room) order (struct ds) p rest s h w f =
       let body : List ℕ = spellings order (aligned p 8) ds in
-      ap (λ t. value_at (suc room) order t (at p ((padding p 8 ++ body) ++ rest))) (sym k)
-      ∙ ap (λ r. made (λ ds. struct (data_of ds)) (struct_at (value_at room order) (types_of ds) (at p r))) (append_assoc (padding p 8) body rest)
-      ∙ held_again struct _ ds _ (bound_some _ _ _ (align_again 8 p (body ++ rest)) ∙ fields_again room order ds (aligned p 8) rest s h.1 (omega arith) f)
-      ∙ ap (λ q. Some (struct ds, at q rest)) (omega (arith, length-padded p 8 body))
-  value_again (suc room) order t (variant d) p rest k s h w f =
+      rw (append_assoc (padding p 8) body rest)
+      (held_again struct _ ds _ (bound_some _ _ _ (align_again 8 p (body ++ rest)) ∙ fields_again room order ds (aligned p 8) rest s h.1 (omega arith) f)
+      ∙ ap (λ q. Some (struct ds, at q rest)) (omega (arith, length-padded p 8 body)))
+  value_again (suc room) order (variant d) p rest s h w f =
       let q : ℕ = p + length (counted_text w8 order (type_text (type_of d))) in
-      ap (λ t. value_at (suc room) order t (at p (spelling order p (variant d) ++ rest))) (sym k)
-      ∙ variant_with (value_at room order) order p d (spelling order q d) rest s.1
-      (value_again room order (type_of d) d q rest refl s.0 s.1.fields (omega arith) f)
-  value_again zero order t d p rest k s h w f = absurd (omega arith)
+      variant_with (value_at room order) order p d (spelling order q d) rest s.1 (value_again room order d q rest s.0 s.1.fields (omega arith) f)
+  value_again zero order d p rest s h w f = absurd (omega arith)
 
   pub items_again : (n room : ℕ) (order : Endian) (t : Shape) (ds : Data) (p : ℕ) → AreElements t ds → HasFields t → depths ds ≤ room → AllFit order p ds
       → length (spellings order p ds) ≤ n → many_at n (value_at room order t) (at p (spellings order p ds)) ≡ Some (list_of ds)
   items_again n room order t no_data p s h w f l = many_done n (value_at room order t) (at p []) refl
   items_again zero room order t (items d ds) p s h w f l =
-      absurd (omega (arith, length-append (spelling order p d) (spellings order (p + length (spelling order p d)) ds), some_spelling order p d (subst HasFields (sym s.0.1) h)))
+      absurd (omega (arith, length-append {A = ℕ}, some_spelling order p d (subst HasFields (sym s.0.1) h)))
   items_again (suc n) room order t (items d ds) p s h w f l =
       let q : ℕ = p + length (spelling order p d) in
       let fields : HasFields (type_of d) = subst HasFields (sym s.0.1) h in
       let some : 0 < length (spelling order p d) = some_spelling order p d fields in
       many_with n p (value_at room order t) (spelling order p d) (spellings order q ds) d (list_of ds) some
-      (value_again room order t d p (spellings order q ds) s.0.1 s.0.0 fields (omega arith) f.0)
-      (items_again n room order t ds q s.1 h (omega arith) f.1 (omega (arith, length-append (spelling order p d) (spellings order q ds))))
+      (subst (λ (t : Shape). value_at room order t (at p (spelling order p d ++ spellings order q ds)) ≡ Some (d, at q (spellings order q ds))) s.0.1
+      (value_again room order d p (spellings order q ds) s.0.0 fields (omega arith) f.0))
+      (items_again n room order t ds q s.1 h (omega arith) f.1 (omega (arith, length-append {A = ℕ})))
 
   pub fields_again : (room : ℕ) (order : Endian) (ds : Data) (p : ℕ) (rest : List ℕ) → AreSound ds → AllHaveFields (types_of ds) → depths ds ≤ room → AllFit order p ds
       → fields_at (value_at room order) (types_of ds) (at p (spellings order p ds ++ rest)) ≡ Some (list_of ds, at (p + length (spellings order p ds)) rest)
@@ -196,7 +182,7 @@ mutual
   fields_again room order (items d ds) p rest s h w f =
       let q : ℕ = p + length (spelling order p d) in
       let others : List ℕ = spellings order q ds in
-      ap (fields_at (value_at room order) (types_of (items d ds))) (ap (at p) (append_assoc (spelling order p d) others rest))
-      ∙ bound_some _ _ _ (value_again room order (type_of d) d p (others ++ rest) refl s.0 h.0 (omega arith) f.0)
+      rw (append_assoc (spelling order p d) others rest)
+      (bound_some _ _ _ (value_again room order d p (others ++ rest) s.0 h.0 (omega arith) f.0)
       ∙ ap (made (λ ds. d ∷ ds)) (fields_again room order ds q rest s.1 h.1 (omega arith) f.1)
-      ∙ ap (λ k. Some (d ∷ list_of ds, at k rest)) (omega (arith, length-append (spelling order p d) others))
+      ∙ ap (λ k. Some (d ∷ list_of ds, at k rest)) (omega (arith, length-append (spelling order p d) others)))

@@ -4,7 +4,7 @@ use Rattle.std.specs.Int.{Width, w8, w16, w32, w64}
 use Rattle.wire_number.specs.declared.endian.Endian.{Endian}
 use Rattle.wire_number.specs.Number.{number_text, pad, padding, counted_text}
 use Rattle.wire_signature.specs.Shape.{Shape, alignment, basic_alignment, type_text}
-use Rattle.wire_tree.specs.Datum.{Num, byte, boolean, int16, uint16, int32, uint32, int64, uint64, double, unix_fd, Txt, string, object_path, signature, Datum, num, text, array, dict, struct, variant, Data, no_data, items, type_of, num_type, text_type, IsFormed}
+use Rattle.wire_tree.specs.Datum.{Num, byte, int16, uint16, int64, uint64, double, Txt, signature, Datum, num, text, array, dict, struct, variant, Data, no_data, items, type_of, num_type, text_type, IsFormed}
 
 -- the width of a number of the type
 abbrev pub width_of : Num → Width

@@ -12,12 +12,14 @@ pub fn one_spelling()
 {}
 
 /// For an order, a place and a type, bytes spell at most one value.
+#[tactic(auto, using(crate::proofs::Exact::same_value))]
 pub fn one_value()
     ensures { (order : Endian) (place : ℕ) (t : Shape) (first second : Datum) (bytes : List ℕ)
         → Spells order place t first bytes → Spells order place t second bytes → first ≡ second }
 {}
 
 /// For an order, a place and a type, no spelling begins another.
+#[tactic(auto, using(crate::proofs::Exact::not_begun))]
 pub fn no_spelling_begins_another()
     ensures { (order : Endian) (place : ℕ) (t : Shape) (first second : Datum) (bytes rest : List ℕ)
         → Spells order place t first bytes → Spells order place t second (bytes ++ rest) → rest ≡ [] }

@@ -19,9 +19,7 @@ pub fn skip(order: Endian, at: usize, value_type: &ValueType, bytes: &[u8]) -> O
 {
     let mut text = [0; MAX_LENGTH];
     let end = value_type.put_text(&mut text);
-    let reader = Reader::new(at, bytes);
-    let (_, after) = walk_value(order, MAX_DEPTH, &text[..end], reader)?;
-    Some(after.place - reader.place)
+    skip_by_text(order, at, &text[..end], bytes)
 }
 
 /// How many bytes the value takes that stands at the front of bytes, and whose type stands at the front of a text, without

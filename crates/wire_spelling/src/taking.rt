@@ -34,7 +34,7 @@ pub fn elements<'a>(
 }
 
 /// The boundary on which a value of the type begins.
-#[tactic(auto, using(crate::proofs::Boundaries::boundaries))]
+#[tactic(auto, using(crate::proofs::Shift::boundary_some))]
 pub fn boundary(value_type: &ValueType) -> usize
     ensures exact { result ≡ alignment value_type.now }
     ensures some { 1 ≤ result }

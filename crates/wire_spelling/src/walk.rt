@@ -1,18 +1,16 @@
 //! Walking over bytes by the text of a type, without memory. `room` is how many containers may still be opened.
-ghost use Rattle.std.specs.Prelude.{◌≡◌, ◌++◌, [], ◌∷◌, ◌≤◌, List, ℕ, drop, is_some, length, MatchOption, option_map};
-ghost use Rattle.wire_signature.specs.Shape.{Shapes, no_shapes, shapes, type_text, types_text};
-ghost use Rattle.wire_signature.specs.Parsing.{first_length};
+ghost use Rattle.std.specs.Prelude.{◌≡◌, [], ◌∷◌, ◌≤◌, is_some, length, MatchOption};
+ghost use Rattle.wire_signature.specs.Parsing.{type_in};
 ghost use Rattle.wire_number.specs.Reading.{behind};
-ghost use Rattle.wire_spelling.specs.Reading.{array_at, basic_at, many_at, struct_at, value_at, variant_at};
-ghost use Rattle.wire_spelling.specs.Walking.{AreShallow, IsBracket, Item, Walks, array_type, item_at, item_boundary, item_text, item_types, leaving, past_bracket, text_boundary};
 ghost use Rattle.wire_number.specs.ReaderView.{Finds, cursor_of};
+ghost use Rattle.wire_spelling.specs.Reading.{basic_at, many_at};
+ghost use Rattle.wire_spelling.specs.Walking.{over_array, over_struct, over_variant, past_bracket, text_behind, text_boundary, walk_at};
 
 use crate::nums::{boolean, byte, uint16, uint32, uint64};
-use crate::single::is_type;
 use crate::taking::elements;
 use crate::words::{path, signature, string};
 use wire_number::{Endian, Reader};
-use wire_signature::{BasicType, first_type};
+use wire_signature::{BasicType, MAX_LENGTH, first_type};
 
 /// The most containers that are open at once (D-Bus Specification, "Message Protocol").
 pub const MAX_DEPTH: usize = 64;
@@ -55,10 +53,24 @@ fn split(text: &[u8]) -> Option<(u8, &[u8])>
 
 /// The text behind the type at its front.
 fn text_behind(text: &[u8]) -> Option<&[u8]>
-    ensures { Finds (λ x. x.now) result (option_map (λ n. drop n text.now) (first_length text.now)) }
+    ensures { Finds (λ x. x.now) result (text_behind text.now) }
 {
     let length = first_type(text)?;
     Some(&text[length..])
+}
+
+/// Whether a text is a single complete type (D-Bus Specification, "Valid Signatures").
+#[tactic(auto, using(crate::proofs::OneType::type_test))]
+fn is_type(text: &[u8]) -> bool
+    ensures { result ≡ is_some (type_in text.now) }
+{
+    if text.len() > MAX_LENGTH {
+        return false;
+    }
+    match first_type(text) {
+        Some(length) => length == text.len(),
+        None => false,
+    }
 }
 
 /// Past a value of a basic type.
@@ -82,13 +94,14 @@ fn past_basic<'a>(order: Endian, basic: BasicType, reader: Reader<'a>) -> Option
 /// Over the value, or the dict entry, whose type stands at the front of a text: the text behind that, and what stands
 /// behind the value.
 #[cycle(walk)]
+#[tactic(auto, using(crate::proofs::Walks::walking))]
 pub(crate) fn walk_value<'t, 'a>(
     order: Endian,
     room: usize,
     text: &'t [u8],
     reader: Reader<'a>,
 ) -> Option<(&'t [u8], Reader<'a>)>
-    ensures { Walks room order text.now (cursor_of reader.entry) (Finds (λ x. (x.0.now, cursor_of x.1)) result) }
+    ensures { Finds (λ x. (x.0.now, cursor_of x.1)) result (walk_at room order text.now (cursor_of reader.entry)) }
 {
     let (letter, rest) = split(text)?;
     if let Some(basic) = BasicType::from_letter(letter) {
@@ -99,25 +112,24 @@ pub(crate) fn walk_value<'t, 'a>(
         return None;
     }
     match letter {
-        b'a' => walk_array(order, room - 1, text, reader),
+        b'a' => walk_array(order, room - 1, text, rest, reader),
         b'(' | b'{' => walk_fields(order, room - 1, rest, reader),
         b'v' => walk_variant(order, room - 1, rest, reader),
         _ => None,
     }
 }
 
-/// Over an array; the text is its type.
+/// Over an array; the text is its type, and behind the first byte its elements'.
 #[cycle(walk)]
 fn walk_array<'t, 'a>(
     order: Endian,
     room: usize,
     text: &'t [u8],
+    element: &'t [u8],
     reader: Reader<'a>,
 ) -> Option<(&'t [u8], Reader<'a>)>
-    ensures { (i : Item) (rest : List ℕ) → AreShallow (shapes (array_type i) no_shapes) → text.now ≡ type_text (array_type i) ++ rest
-        → Finds (λ x. (x.0.now, cursor_of x.1)) result (leaving rest (behind (array_at (item_boundary i) (item_at room order i) order (cursor_of reader.entry)))) }
+    ensures { Finds (λ x. (x.0.now, cursor_of x.1)) result (over_array (walk_at room order) order text.now element.now (cursor_of reader.entry)) }
 {
-    let (_, element) = split(text)?;
     let rest = text_behind(text)?;
     let (elements, after) = elements(order, boundary_of(element), reader)?;
     walk_items(order, room, element, elements)?;
@@ -126,14 +138,14 @@ fn walk_array<'t, 'a>(
 
 /// Over all elements of an array, which fill the bytes.
 #[cycle(walk)]
+#[tactic(auto, using(crate::proofs::Loops::elements))]
 fn walk_items<'t, 'a>(
     order: Endian,
     room: usize,
     element: &'t [u8],
     elements: Reader<'a>,
 ) -> Option<()>
-    ensures { (i : Item) (rest : List ℕ) → AreShallow (item_types i) → element.now ≡ item_text i ++ rest
-        → is_some result ≡ is_some (many_at (length elements.entry.rest.now) (item_at room order i) (cursor_of elements.entry)) }
+    ensures { is_some result ≡ is_some (many_at (length elements.entry.rest.now) (walk_at room order element.now) (cursor_of elements.entry)) }
 {
     let mut left = elements;
     for _ in 0..elements.rest.len() {
@@ -149,14 +161,14 @@ fn walk_items<'t, 'a>(
 /// Over the fields of a struct, or a dict entry's key and value, and the bracket that closes it. The opening one was
 /// passed.
 #[cycle(walk)]
+#[tactic(auto, using(crate::proofs::Walks::fielding))]
 fn walk_fields<'t, 'a>(
     order: Endian,
     room: usize,
     text: &'t [u8],
     reader: Reader<'a>,
 ) -> Option<(&'t [u8], Reader<'a>)>
-    ensures { (ts : Shapes) (close : ℕ) (rest : List ℕ) → AreShallow ts → IsBracket close → text.now ≡ types_text ts ++ (close ∷ rest)
-        → Finds (λ x. (x.0.now, cursor_of x.1)) result (leaving rest (behind (struct_at (value_at room order) ts (cursor_of reader.entry)))) }
+    ensures { Finds (λ x. (x.0.now, cursor_of x.1)) result (over_struct (walk_at room order) text.now (cursor_of reader.entry)) }
 {
     let mut left = text;
     let mut stand = reader.align(8)?;
@@ -173,14 +185,13 @@ fn walk_fields<'t, 'a>(
 
 /// Over a variant. Its own signature says what it holds.
 #[cycle(walk)]
-#[tactic(auto, unfolding(crate::specs::Reading::variant_at))]
 fn walk_variant<'t, 'a>(
     order: Endian,
     room: usize,
     rest: &'t [u8],
     reader: Reader<'a>,
 ) -> Option<(&'t [u8], Reader<'a>)>
-    ensures { Finds (λ x. (x.0.now, cursor_of x.1)) result (leaving rest.now (behind (variant_at (value_at room order) order (cursor_of reader.entry)))) }
+    ensures { Finds (λ x. (x.0.now, cursor_of x.1)) result (over_variant (walk_at room order) order rest.now (cursor_of reader.entry)) }
 {
     let (text, inner) = reader.short_text(order)?;
     if !is_type(text) {

@@ -1,13 +1,14 @@
 -- The bytes and the depths of a body's values.
-use Rattle.std.proofs.Common.{◌≡◌, ℕ, zero, suc, ◌+◌, ◌%◌, ◌<◌, ◌≤◌, Result, List, [], ◌∷◌, ◌++◌, length, get_or, take, drop, drop-cons, add-one, sym, ◌∙◌, ap, subst, arith, refl, Bool, true, false, ◌⊎◌, inl, inr}
+use Rattle.std.proofs.Common.{◌≡◌, ℕ, zero, suc, ◌+◌, ◌%◌, ◌<◌, ◌≤◌, Result, Ok, Err, List, [], ◌∷◌, ◌++◌, append-nil, length, get_or, take, drop, drop-cons, add-one, sym, ◌∙◌, ap, subst, arith, refl, Bool, true, false, ◌⊎◌, inl, inr}
 use Rattle.std.proofs.lemmas.Bool.{cases_lt}
+use Rattle.std.proofs.lemmas.List.{take_at}
 use Rattle.wire_number.specs.declared.endian.Endian.{Endian}
 use Rattle.wire_tree.specs.Datum.{Datum, Data, no_data, items, data_of}
 use Rattle.wire_spelling.specs.Spelling.{spelling, spellings, depth, depths, ArraysFit, AllFit}
-use Rattle.wire_value.specs.Writing.{Refused, Wrote, AreNotEncoded}
+use Rattle.wire_value.specs.Writing.{Refused, Grown, Wrote, AreNotEncoded}
 use Rattle.wire_value.specs.declared.error.EncodeError.{EncodeError}
 use Rattle.wire_value.specs.declared.error.EncodeError.TheVariants.{Variant, ExcessData, Memory}
-use Rattle.wire_value.proofs.Writes.{Writing, write_one, all_written, first_fits, refused, as_whole}
+use Rattle.wire_value.proofs.Writes.{Writing, write_one, all_written, first_fits, refused, grown_more, as_whole}
 use Rattle.wire_spelling.proofs.Shift.{Alike, spellings_alike, all_alike}
 
 -- ---- depths
@@ -52,13 +53,15 @@ pub values_done : (order : Endian) (shift : ℕ) (all : Data) (ds : List Datum) 
 values_done order shift all ds i old now w h =
     all_written order shift all old now (subst (λ (es : Data). Writing order shift all es old now) (no_value ds i h) w)
 
-pub value_refused : (order : Endian) (shift : ℕ) (all : Data) (ds : List Datum) (i : ℕ) (d t : Datum) (old now : List ℕ) (e : EncodeError)
+pub value_refused : (order : Endian) (shift : ℕ) (all : Data) (ds : List Datum) (i : ℕ) (d t : Datum) (old now next : List ℕ) (e : EncodeError)
     → Writing order shift all (data_of (drop i ds)) old now → i < length ds → d ≡ get_or ds i d → t ≡ d
-    → Refused e (ArraysFit order (shift + length now) t) → Refused e (AllFit order (shift + length old) all)
-value_refused order shift all ds i d t old now e w h k same f =
-    let v = subst (λ (es : Data). Writing order shift all es old now) (next_value ds i d h k) w in
-    refused e _ _ (first_fits order shift all d (data_of (drop (i + 1) ds)) old now v)
-    (subst (λ (x : Datum). Refused e (ArraysFit order (shift + length now) x)) same f)
+    → Refused e (ArraysFit order (shift + length now) t) × Grown now next → Refused e (AllFit order (shift + length old) all) × Grown old next
+value_refused order shift all ds i d t old now next e w h k same f =
+    let v = subst (λ (es : Data). Writing order shift all es old now) (next_value ds i d h k) w in (
+      refused e _ _ (first_fits order shift all d (data_of (drop (i + 1) ds)) old now v)
+          (subst (λ (x : Datum). Refused e (ArraysFit order (shift + length now) x)) same f.0),
+      grown_more old now next w.grown f.1,
+    )
 
 -- ---- the whole body
 
@@ -82,5 +85,16 @@ body_placed r order ds es old new same placed h =
     let there : Alike (0 + length old) 0 = record { rest = omega (arith, placed) } in
     let here : Alike 0 (0 + length old) = record { rest = omega (arith, placed) } in
     subst (λ (xs : List Datum). Wrote r (spellings order 0 (data_of xs)) (AllFit order 0 (data_of xs)) old new) same
-    (as_whole r _ _ _ _ old old new (ap (λ t. old ++ t) (spellings_alike order (0 + length old) 0 (data_of ds) there))
+    (as_whole r _ _ _ _ old old new ([], sym (append-nil old)) (ap (λ t. old ++ t) (spellings_alike order (0 + length old) 0 (data_of ds) there))
     (all_alike order (0 + length old) 0 (data_of ds) there) (all_alike order 0 (0 + length old) (data_of ds) here) h)
+
+-- What was written whole stays; else the output is cut back to what stood before.
+pub body_stays : {A : Type 0} (r : Result A EncodeError) (done : A) (text : List ℕ) (fits : Type 0) (old new : List ℕ) → r ≡ Ok done
+    → Wrote r text fits old new → (new ≡ old ++ text) × fits
+body_stays {A} r done text fits old new e h = subst (λ (r : Result A EncodeError). Wrote r text fits old new) e h
+
+pub body_cut : {A : Type 0} (r : Result A EncodeError) (error : EncodeError) (text : List ℕ) (fits : Type 0) (old mid new : List ℕ) (n : ℕ) → r ≡ Err error
+    → n ≡ length old → new ≡ take n mid → Wrote r text fits old mid → Refused error fits × (new ≡ old)
+body_cut {A} r error text fits old mid new n e long cut h =
+    let w = subst (λ (r : Result A EncodeError). Wrote r text fits old mid) e h in
+    (w.0, cut ∙ ap (take n) w.1.1 ∙ take_at old w.1.0 n (sym long))

@@ -6,7 +6,7 @@ use Rattle.wire_spelling.specs.Spelling.{spelling, depth, ArraysFit, Spells}
 use Rattle.wire_value.specs.Writing.{Refused, NotEncoded}
 use Rattle.wire_value.specs.declared.error.EncodeError.{EncodeError}
 use Rattle.wire_value.specs.declared.error.EncodeError.TheVariants.{Variant, ExcessData, Memory}
-use Rattle.wire_spelling.proofs.Shift.{Alike, spelling_alike, fits_alike}
+use Rattle.wire_spelling.proofs.Shift.{Alike, value_alike}
 
 beginning : (place : ℕ) (start : List ℕ) → start ≡ [] → Alike (place % 8 + length start) place
 beginning place start e = let none : length start ≡ 0 = ap length e in record { rest = omega arith }
@@ -21,13 +21,13 @@ encoded order place d e start body old new same none within formed wrote last =
     let p : ℕ = place % 8 + length start in
     let alike : Alike p place = beginning place start none in
     let one : body ≡ spelling order place d =
-    wrote.0 ∙ ap (λ s. s ++ spelling order p e) none ∙ spelling_alike order p place e alike ∙ ap (spelling order place) same in (
+    wrote.0 ∙ ap (λ s. s ++ spelling order p e) none ∙ (value_alike order p place e alike).0 ∙ ap (spelling order place) same in (
       spelling order place d,
       record {
         kind = refl;
         formed = formed;
         within = subst (λ (x : Datum). depth x ≤ 64) same within;
-        fit = subst (λ (x : Datum). ArraysFit order place x) same (fits_alike order p place e alike wrote.1);
+        fit = subst (λ (x : Datum). ArraysFit order place x) same ((value_alike order p place e alike).1 wrote.1);
         text = refl;
       },
       last ∙ ap (λ r. old ++ r) one,
@@ -38,7 +38,7 @@ pub not_encoded : (x : EncodeError) (order : Endian) (place : ℕ) (d e : Datum)
 not_encoded (Variant v) order place d e start old same none within h = absurd h
 not_encoded ExcessData order place d e start old same none within h = (
   subst (λ (x : Datum). depth x ≤ 64) same within,
-  λ k. h (fits_alike order place (place % 8 + length start) e (ending place start none) (subst (λ (x : Datum). ArraysFit order place x) (sym same) k)),
+  λ k. h ((value_alike order place (place % 8 + length start) e (ending place start none)).1 (subst (λ (x : Datum). ArraysFit order place x) (sym same) k)),
   refl,
 )
 not_encoded Memory order place d e start old same none within h = refl

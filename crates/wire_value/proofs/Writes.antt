@@ -7,7 +7,7 @@ use Rattle.wire_number.specs.Number.{number_text, pad, padding, counted_text}
 use Rattle.wire_signature.specs.Shape.{Shape, alignment, type_text}
 use Rattle.wire_tree.specs.Datum.{Datum, array, struct, variant, Data, no_data, items, entry, data_of, type_of, AreSound, AreElements}
 use Rattle.wire_spelling.specs.Spelling.{aligned, first_place, array_form, spelling, spellings, ArraysFit, AllFit}
-use Rattle.wire_value.specs.Writing.{Refused, Wrote, Closed}
+use Rattle.wire_value.specs.Writing.{Refused, Grown, Wrote, Closed}
 use Rattle.wire_value.specs.declared.error.EncodeError.{EncodeError}
 use Rattle.wire_value.specs.declared.error.EncodeError.TheVariants.{Variant, ExcessData, Memory}
 use Rattle.wire_number.proofs.Steps.{length_padding}
@@ -26,12 +26,15 @@ refused (Variant e) part fits f h = h
 refused ExcessData part fits f h = λ k. h (f k)
 refused Memory part fits f h = tt
 
+pub grown_more : (old mid new : List ℕ) → Grown old mid → Grown mid new → Grown old new
+grown_more old mid new f g = (f.0 ++ g.0, g.1 ∙ ap (λ r. r ++ g.0) f.1 ∙ append_assoc old f.0 g.0)
+
 -- A part of a whole, whose other parts were written before.
 pub as_whole : {A : Type 0} (r : Result A EncodeError) (part whole : List ℕ) (part_fits fits : Type 0) (old mid new : List ℕ)
-    → ((mid ++ part) ≡ old ++ whole) → (part_fits → fits) → (fits → part_fits)
+    → Grown old mid → ((mid ++ part) ≡ old ++ whole) → (part_fits → fits) → (fits → part_fits)
     → Wrote r part part_fits mid new → Wrote r whole fits old new
-as_whole (Ok done) part whole part_fits fits old mid new e f g h = (h.0 ∙ e, f h.1)
-as_whole (Err x) part whole part_fits fits old mid new e f g h = refused x part_fits fits g h
+as_whole (Ok done) part whole part_fits fits old mid new more e f g h = (h.0 ∙ e, f h.1)
+as_whole (Err x) part whole part_fits fits old mid new more e f g h = (refused x part_fits fits g h.0, grown_more old mid new more h.1)
 
 -- ---- values one behind the other
 
@@ -39,9 +42,10 @@ pub record Writing (order : Endian) (shift : ℕ) (ds left : Data) (old now : Li
   pub whole : now ++ spellings order (shift + length now) left ≡ old ++ spellings order (shift + length old) ds
   pub back : AllFit order (shift + length now) left → AllFit order (shift + length old) ds
   pub forth : AllFit order (shift + length old) ds → AllFit order (shift + length now) left
+  pub grown : Grown old now
 
 pub write_start : (order : Endian) (shift : ℕ) (ds : Data) (old : List ℕ) → Writing order shift ds ds old old
-write_start order shift ds old = record { whole = refl; back = λ h. h; forth = λ h. h }
+write_start order shift ds old = record { whole = refl; back = λ h. h; forth = λ h. h; grown = ([], sym (append-nil old)) }
 
 there : (shift : ℕ) (now next text : List ℕ) → next ≡ now ++ text → shift + length now + length text ≡ shift + length next
 there shift now next text e = omega (arith, ap length e, length-append now text)
@@ -59,6 +63,7 @@ write_one order shift ds d left old now next w e f =
           ∙ ap (λ p. now ++ (one ++ spellings order p left)) (sym end) ∙ w.whole;
       back = λ h. w.back (f, subst (λ (p : ℕ). AllFit order p left) (sym end) h);
       forth = λ h. subst (λ (p : ℕ). AllFit order p left) end (w.forth h).1;
+      grown = grown_more old now next w.grown (one, e);
     }
 
 next_item : {A : Type 0} (f : A → Datum) (xs : List A) (i : ℕ) (x : A) → i < length xs → x ≡ get_or xs i x
@@ -97,12 +102,12 @@ pub first_fits : (order : Endian) (shift : ℕ) (ds : Data) (d : Datum) (left : 
 unfolding AllFit
 first_fits order shift ds d left old now w h = (w.forth h).0
 
-pub write_refused : {A : Type 0} (f : A → Datum) (order : Endian) (shift : ℕ) (ds : Data) (xs : List A) (i : ℕ) (x : A) (old now : List ℕ) (e : EncodeError)
+pub write_refused : {A : Type 0} (f : A → Datum) (order : Endian) (shift : ℕ) (ds : Data) (xs : List A) (i : ℕ) (x : A) (old now next : List ℕ) (e : EncodeError)
     → Writing order shift ds (data_of (map f (drop i xs))) old now → i < length xs → x ≡ get_or xs i x
-    → Refused e (ArraysFit order (shift + length now) (f x)) → Refused e (AllFit order (shift + length old) ds)
-write_refused f order shift ds xs i x old now e w h k r =
+    → Refused e (ArraysFit order (shift + length now) (f x)) × Grown now next → Refused e (AllFit order (shift + length old) ds) × Grown old next
+write_refused f order shift ds xs i x old now next e w h k r =
     let v = subst (λ (es : Data). Writing order shift ds es old now) (next_item f xs i x h k) w in
-    refused e _ _ (first_fits order shift ds (f x) (data_of (map f (drop (i + 1) xs))) old now v) r
+    (refused e _ _ (first_fits order shift ds (f x) (data_of (map f (drop (i + 1) xs))) old now v) r.0, grown_more old now next w.grown r.1)
 
 -- ---- arrays
 
@@ -140,7 +145,7 @@ closed_form : {A : Type 0} (r : Result A EncodeError) (order : Endian) (shift bo
     → place ≡ length old + pad (shift + length old) 4
     → mid ≡ old ++ (padding (shift + length old) 4 ++ (0 ∷ 0 ∷ 0 ∷ 0 ∷ padding (aligned (shift + length old) 4 + 4) boundary))
     → full ≡ mid ++ body → fits
-    → Closed r (length full - length mid) (take place full ++ (number_text w32 order (length full - length mid) ++ drop (place + 4) full)) new
+    → Closed r (length full - length mid) (take place full ++ (number_text w32 order (length full - length mid) ++ drop (place + 4) full)) full new
     → Wrote r (array_form order (shift + length old) boundary body) ((length body ≤ 67108864) × fits) old new
 closed_form {A} r order shift boundary old mid body full new place fits e f g fit = by r where
   long : length full - length mid ≡ length body
@@ -152,7 +157,7 @@ closed_form {A} r order shift boundary old mid body full new place fits e f g fi
   there_is : place ≡ length old + length (padding (shift + length old) 4)
   there_is = e ∙ ap (λ k. length old + k) (sym (length_padding (shift + length old) 4))
 
-  by : (r : Result A EncodeError) → Closed r (length full - length mid) (take place full ++ (number_text w32 order (length full - length mid) ++ drop (place + 4) full)) new
+  by : (r : Result A EncodeError) → Closed r (length full - length mid) (take place full ++ (number_text w32 order (length full - length mid) ++ drop (place + 4) full)) full new
       → Wrote r (array_form order (shift + length old) boundary body) ((length body ≤ 67108864) × fits) old new
   by (Ok done) h = (
     h.0
@@ -160,15 +165,15 @@ closed_form {A} r order shift boundary old mid body full new place fits e f g fi
         ∙ ap (λ n. old ++ (padding (shift + length old) 4 ++ (number_text w32 order n ++ (padding (aligned (shift + length old) 4 + 4) boundary ++ body)))) long,
     (subst (λ (n : ℕ). n ≤ 67108864) long h.1, fit),
   )
-  by (Err (Variant x)) h = h
-  by (Err ExcessData) h = λ k. absurd (omega (arith, h, k.0, long))
+  by (Err (Variant x)) h = absurd h
+  by (Err ExcessData) h = (λ k. absurd (omega (arith, h.0, k.0, long)), grown_more old mid new (_, f) (body, h.1 ∙ g))
   by (Err Memory) h = absurd h
 
 pub array_written : {A : Type 0} (r : Result A EncodeError) (order : Endian) (shift : ℕ) (t : Shape) (ds : Data) (old mid full new : List ℕ) (place : ℕ)
     → place ≡ length old + pad (shift + length old) 4
     → mid ≡ old ++ (padding (shift + length old) 4 ++ (0 ∷ 0 ∷ 0 ∷ 0 ∷ padding (aligned (shift + length old) 4 + 4) (alignment t)))
     → (full ≡ mid ++ spellings order (shift + length mid) ds) × AllFit order (shift + length mid) ds
-    → Closed r (length full - length mid) (take place full ++ (number_text w32 order (length full - length mid) ++ drop (place + 4) full)) new
+    → Closed r (length full - length mid) (take place full ++ (number_text w32 order (length full - length mid) ++ drop (place + 4) full)) full new
     → Wrote r (spelling order (shift + length old) (array t ds)) (ArraysFit order (shift + length old) (array t ds)) old new
 unfolding spelling ArraysFit
 array_written r order shift t ds old mid full new place e f g h =
@@ -177,13 +182,13 @@ array_written r order shift t ds old mid full new place e f g h =
     closed_form r order shift (alignment t) old mid (spellings order p ds) full new place (AllFit order p ds) e f
     (g.0 ∙ ap (λ n. mid ++ spellings order n ds) start) (subst (λ (n : ℕ). AllFit order n ds) start g.1) h
 
-pub array_refused : (order : Endian) (shift : ℕ) (t : Shape) (ds : Data) (old mid : List ℕ) (e : EncodeError)
+pub array_refused : (order : Endian) (shift : ℕ) (t : Shape) (ds : Data) (old mid new : List ℕ) (e : EncodeError)
     → mid ≡ old ++ (padding (shift + length old) 4 ++ (0 ∷ 0 ∷ 0 ∷ 0 ∷ padding (aligned (shift + length old) 4 + 4) (alignment t)))
-    → Refused e (AllFit order (shift + length mid) ds) → Refused e (ArraysFit order (shift + length old) (array t ds))
+    → Refused e (AllFit order (shift + length mid) ds) × Grown mid new → Refused e (ArraysFit order (shift + length old) (array t ds)) × Grown old new
 unfolding ArraysFit
-array_refused order shift t ds old mid e f h =
+array_refused order shift t ds old mid new e f h =
     let start : shift + length mid ≡ first_place (shift + length old) (alignment t) = array_place shift (alignment t) old mid f in
-    refused e _ _ (λ k. subst (λ (n : ℕ). AllFit order n ds) (sym start) k.1) h
+    (refused e _ _ (λ k. subst (λ (n : ℕ). AllFit order n ds) (sym start) k.1) h.0, grown_more old mid new (_, f) h.1)
 
 -- ---- structs, variants, dict entries
 
@@ -199,7 +204,7 @@ unfolding spelling ArraysFit
 struct_written r order shift ds old mid new e h =
     let p : ℕ = aligned (shift + length old) 8 in
     let start : shift + length mid ≡ p = behind_8 shift old mid e in
-    as_whole r (spellings order (shift + length mid) ds) _ (AllFit order (shift + length mid) ds) _ old mid new
+    as_whole r (spellings order (shift + length mid) ds) _ (AllFit order (shift + length mid) ds) _ old mid new (_, e)
     (ap (λ r. r ++ spellings order (shift + length mid) ds) e ∙ append_assoc old (padding (shift + length old) 8) (spellings order (shift + length mid) ds)
     ∙ ap (λ n. old ++ (padding (shift + length old) 8 ++ spellings order n ds)) start)
     (λ k. subst (λ (n : ℕ). AllFit order n ds) start k) (λ k. subst (λ (n : ℕ). AllFit order n ds) (sym start) k) h
@@ -213,7 +218,7 @@ variant_written r order shift d old mid new kind k e h =
     let sign : List ℕ = counted_text w8 order (type_text (type_of d)) in
     let f : mid ≡ old ++ sign = e ∙ ap (λ t. old ++ counted_text w8 order t) k in
     let start : shift + length old + length sign ≡ shift + length mid = there shift old mid sign f in
-    as_whole r (spelling order (shift + length mid) d) _ (ArraysFit order (shift + length mid) d) _ old mid new
+    as_whole r (spelling order (shift + length mid) d) _ (ArraysFit order (shift + length mid) d) _ old mid new (sign, f)
     (ap (λ r. r ++ spelling order (shift + length mid) d) f ∙ append_assoc old sign (spelling order (shift + length mid) d)
     ∙ ap (λ n. old ++ (sign ++ spelling order n d)) (sym start))
     (λ k. subst (λ (n : ℕ). ArraysFit order n d) (sym start) k) (λ k. subst (λ (n : ℕ). ArraysFit order n d) start k) h
@@ -232,7 +237,7 @@ entry_written r order shift a b old mid next new e f h =
     let wrote : next ≡ mid ++ key = f.0 ∙ ap (λ n. mid ++ spelling order n a) start in
     let middle : shift + length next ≡ p + length key = sym (there shift mid next key wrote) ∙ ap (λ n. n + length key) start in
     let value : List ℕ = spelling order (shift + length next) b in
-    as_whole r value _ (ArraysFit order (shift + length next) b) _ old next new
+    as_whole r value _ (ArraysFit order (shift + length next) b) _ old next new (grown_more old mid next (front, e) (key, wrote))
     (ap (λ r. r ++ value) (wrote ∙ ap (λ r. r ++ key) e)
     ∙ append_assoc (old ++ front) key value ∙ append_assoc old front (key ++ value)
     ∙ ap (λ n. old ++ (front ++ (key ++ spelling order n b))) middle
@@ -240,10 +245,10 @@ entry_written r order shift a b old mid next new e f h =
     (λ k. (subst (λ (n : ℕ). ArraysFit order n a) start f.1, (subst (λ (n : ℕ). ArraysFit order n b) middle k, tt)))
     (λ k. subst (λ (n : ℕ). ArraysFit order n b) (sym middle) k.1.0) h
 
-pub key_refused : (order : Endian) (shift : ℕ) (a b : Datum) (old mid : List ℕ) (e : EncodeError)
+pub key_refused : (order : Endian) (shift : ℕ) (a b : Datum) (old mid new : List ℕ) (e : EncodeError)
     → mid ≡ old ++ padding (shift + length old) 8
-    → Refused e (ArraysFit order (shift + length mid) a) → Refused e (ArraysFit order (shift + length old) (entry (a, b)))
+    → Refused e (ArraysFit order (shift + length mid) a) × Grown mid new → Refused e (ArraysFit order (shift + length old) (entry (a, b))) × Grown old new
 unfolding ArraysFit AllFit
-key_refused order shift a b old mid e f h =
+key_refused order shift a b old mid new e f h =
     let start : shift + length mid ≡ aligned (shift + length old) 8 = behind_8 shift old mid f in
-    refused e _ _ (λ k. subst (λ (n : ℕ). ArraysFit order n a) (sym start) k.0) h
+    (refused e _ _ (λ k. subst (λ (n : ℕ). ArraysFit order n a) (sym start) k.0) h.0, grown_more old mid new (_, f) h.1)

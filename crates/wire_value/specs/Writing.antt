@@ -13,10 +13,19 @@ Refused (Variant e) fits = ⊥
 Refused ExcessData fits = fits → ⊥
 Refused Memory fits = Unit {0}
 
--- A writing appended a text, and what it wrote fits.
+-- What stood there still stands first, and more may stand behind it.
+abbrev pub Grown : List ℕ → List ℕ → Type 0
+Grown old new = (more : List ℕ) × (new ≡ old ++ more)
+
+-- A writing appended a text, and what it wrote fits; or it was refused on its way.
 abbrev pub Wrote : {A : Type 0} → Result A EncodeError → List ℕ → Type 0 → List ℕ → List ℕ → Type 0
 Wrote (Ok done) body fits old new = (new ≡ old ++ body) × fits
-Wrote (Err e) body fits old new = Refused e fits
+Wrote (Err e) body fits old new = Refused e fits × Grown old new
+
+-- The same, whole or not at all.
+abbrev pub WroteWhole : {A : Type 0} → Result A EncodeError → List ℕ → Type 0 → List ℕ → List ℕ → Type 0
+WroteWhole (Ok done) body fits old new = (new ≡ old ++ body) × fits
+WroteWhole (Err e) body fits old new = Refused e fits × (new ≡ old)
 
 -- Why encoding was refused: `Depth` exactly where more than 64 containers are open at once, `ExcessData` exactly where no
 -- such depth is there and the elements of an array take too many bytes. Each leaves the output as before.
@@ -48,8 +57,8 @@ EncodedAll bytes (Ok text) order ds = (bytes text ≡ spellings order 0 (data_of
 EncodedAll bytes (Err e) order ds = AreNotEncoded e order ds
 
 -- The length of an array's elements was put where it belongs, unless they are too long.
-abbrev pub Closed : {A : Type 0} → Result A EncodeError → ℕ → List ℕ → List ℕ → Type 0
-Closed (Ok done) long expected new = (new ≡ expected) × (long ≤ 67108864)
-Closed (Err (Variant e)) long expected new = ⊥
-Closed (Err ExcessData) long expected new = 67108864 < long
-Closed (Err Memory) long expected new = ⊥
+abbrev pub Closed : {A : Type 0} → Result A EncodeError → ℕ → List ℕ → List ℕ → List ℕ → Type 0
+Closed (Ok done) long expected old new = (new ≡ expected) × (long ≤ 67108864)
+Closed (Err (Variant e)) long expected old new = ⊥
+Closed (Err ExcessData) long expected old new = (67108864 < long) × (new ≡ old)
+Closed (Err Memory) long expected old new = ⊥

@@ -4,7 +4,7 @@ ghost use Rattle.wire_tree.specs.Datum.{data_of};
 ghost use Rattle.wire_spelling.specs.Spelling.{AllFit, depths, spellings};
 ghost use Rattle.wire_spelling.specs.Each.{SpellEach};
 ghost use Rattle.wire_value.specs.Bodies.{Explains, HasOnlyBody};
-ghost use Rattle.wire_value.specs.Writing.{EncodedAll, Wrote};
+ghost use Rattle.wire_value.specs.Writing.{EncodedAll, Wrote, WroteWhole};
 
 use crate::decoding::decode;
 use crate::depth::is_within;
@@ -56,7 +56,7 @@ fn write_each(
 
 /// Appends the bytes of a body to an output that ends on a multiple of 8, where a body begins in its message (D-Bus
 /// Specification, "Message Format", "Marshaling (Wire Format)"). How many containers its values open was asked before, by
-/// [`is_shallow`]. After an error nothing is said of the output.
+/// [`is_shallow`]. After an error the output is as before.
 ///
 /// # Errors
 ///
@@ -65,10 +65,17 @@ fn write_each(
 pub fn append_body(order: Endian, body: &BodyValues, out: &mut Vec<u8>) -> Result<(), EncodeError>
     requires shallow { depths (data_of body.now) ≤ 64 }
     requires placed { length out.old.items % 8 ≡ 0 }
-    ensures { Wrote result (spellings order 0 (data_of body.now)) (AllFit order 0 (data_of body.now)) out.old.items out.new.items }
+    ensures { WroteWhole result (spellings order 0 (data_of body.now)) (AllFit order 0 (data_of body.now)) out.old.items out.new.items }
 {
+    let before = out.len();
     let alloc = *out.allocator();
-    write_each(alloc, order, 0, out, body.values())
+    match write_each(alloc, order, 0, out, body.values()) {
+        Ok(()) => Ok(()),
+        Err(error) => {
+            out.truncate(before);
+            Err(error)
+        }
+    }
 }
 
 /// The bytes of a body: the spellings of its values, one behind the other (D-Bus Specification, "Message Format",

@@ -2,6 +2,7 @@
 ghost use Rattle.std.specs.Prelude.{◌≡◌, ◌+◌, ◌<◌, ◌≤◌, ◌++◌, OnOk, length, replicate};
 ghost use Rattle.wire_number.specs.Number.{padding};
 ghost use Rattle.wire_spelling.specs.Spelling.{aligned};
+ghost use Rattle.wire_value.specs.Writing.{Grown};
 
 use std::alloc::AllocError;
 use wire_number::{append, pad_to};
@@ -13,7 +14,8 @@ pub(crate) fn open_array(out: &mut Vec<u8>, shift: usize, boundary: usize) -> Re
     requires shift { shift < 8 }
     requires some { 1 ≤ boundary }
     requires small { boundary ≤ 8 }
-    ensures { OnOk result (out.new.items ≡ out.old.items ++ (padding (shift + length out.old.items) 4 ++ (replicate 4 0 ++ padding (aligned (shift + length out.old.items) 4 + 4) boundary))) }
+    ensures grown { Grown out.old.items out.new.items }
+    ensures opened { OnOk result (out.new.items ≡ out.old.items ++ (padding (shift + length out.old.items) 4 ++ (replicate 4 0 ++ padding (aligned (shift + length out.old.items) 4 + 4) boundary))) }
 {
     append(out, shift, 4, &[0, 0, 0, 0])?;
     pad_to(out, shift, boundary)?;

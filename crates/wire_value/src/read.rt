@@ -17,7 +17,7 @@ use wire_spelling::{boundary, elements, utf8};
 use wire_tree::{Entries, Inner, Tree, Trees};
 
 /// The single complete type that bytes are the text of.
-#[tactic(auto, using(wire_spelling::proofs::Ascii::no_types))]
+#[tactic(auto, using(wire_spelling::proofs::Ascii::no_type))]
 fn read_type(alloc: Global, bytes: &[u8]) -> Result<ValueType, VariantError>
     ensures { Gives (λ t. t) result (type_in bytes.now) }
 {
@@ -122,6 +122,7 @@ fn read_array<'a>(
 
 /// All elements of an array, which fill the bytes.
 #[cycle(read)]
+#[tactic(auto, using(wire_spelling::proofs::Loops::gathered))]
 fn read_items<'a>(
     alloc: Global,
     order: Endian,
@@ -169,6 +170,7 @@ fn read_dict<'a>(
 
 /// All entries of a dict, which fill the bytes.
 #[cycle(read)]
+#[tactic(auto, using(wire_spelling::proofs::Loops::gathered))]
 fn read_entries<'a>(
     alloc: Global,
     order: Endian,

@@ -31,7 +31,7 @@ fn close_array(
 ) -> Result<(), EncodeError>
     requires place { place + 4 ≤ length out.old.items }
     requires start { start ≤ length out.old.items }
-    ensures { Closed result (length out.old.items - start) (take place out.old.items ++ (number_text w32 order (length out.old.items - start) ++ drop (place + 4) out.old.items)) out.new.items }
+    ensures { Closed result (length out.old.items - start) (take place out.old.items ++ (number_text w32 order (length out.old.items - start) ++ drop (place + 4) out.old.items)) out.old.items out.new.items }
 {
     let long = out.len() - start;
     if long > MAX_ARRAY_LENGTH as usize {

@@ -1,9 +1,9 @@
-use Rattle.std.proofs.Common.{[], ◌∷◌, ◌++◌, map, take, sym, ◌∙◌, ap, arith, refl}
-use Rattle.std.proofs.lemmas.List.{take_more, reverse-append, map_push}
+use Rattle.std.proofs.Common.{rules, [], ◌∷◌, ◌++◌, map, take, sym, ◌∙◌, ap, arith, refl}
+use Rattle.std.proofs.lemmas.List.{take_all, take_more, reverse-append, map_push}
 use Rattle.peer_script.specs.Script.{is_bus, name_of}
 use Rattle.peer_script.specs.Again.{command_of}
 use Rattle.peer_run.specs.Stands.{setting_by}
-use Rattle.peer_run.proofs.Ends.{start_reads, start_writes}
+use Rattle.peer_run.proofs.Ends.{start_reads, start_writes, runs_of}
 use Rattle.peer_run.proofs.run.run_peer.Goals as goal
 
 pub loop-command-init : goal.loop-command-init
@@ -39,3 +39,10 @@ loop-command-preserved g c =
       source = omega (arith, inv.source, c.in_ok-entry.ensures.source_grows);
       sink = omega (arith, inv.sink, c.in_ok-entry.ensures.sink_grows);
     }
+
+pub returns-clause-run : goal.returns-clause-run
+returns-clause-run g c =
+    let inv = c.loop-command.invariant in
+    let run = runs_of _ _ _ _ _ _ _ c.args.commands.now c.loop-command.entries.items inv.stands
+    (inv.commands ∙ take_all c.loop-command.command-index c.args.commands.now (omega arith)) in
+    search rules

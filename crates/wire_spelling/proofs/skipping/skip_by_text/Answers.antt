@@ -1,6 +1,8 @@
 use Rattle.std.proofs.Common.{arith}
 use Rattle.wire_number.specs.ReaderView.{cursor_of}
 use Rattle.wire_number.proofs.Steps.{bytes_from}
+use Rattle.wire_signature.specs.Shape.{Shape, IsType}
+use Rattle.wire_spelling.specs.Promises.{StandsFirst}
 use Rattle.wire_spelling.proofs.Exact.{first_is_type, long_first, no_first, spells_type, walked_from, walked_nothing}
 use Rattle.wire_spelling.proofs.skipping.skip_by_text.Goals as goal
 
@@ -21,21 +23,15 @@ overflow_sub-result c =
     (walked_from _ _ b.first _ _ (cursor_of c.new-reader.result) (c.in_ok-after.field-0-0.now, cursor_of c.in_ok-after.after) c.new-reader.ensures
     (first_is_type _ _ b (omega arith)) (b.rest, b.text) (bytes_from c.args.bytes.now (λ i. omega (arith, c.type_inv.bytes i))) c.in_ok-after.ensures).1.before
 
-pub returns-clause-found : goal.returns-clause-found
-returns-clause-found c =
+pub returns : goal.returns
+returns c =
     let b = c.in_ok-first_type.ensures.found in
-    let k = walked_from _ _ b.first _ _ (cursor_of c.new-reader.result) (c.in_ok-after.field-0-0.now, cursor_of c.in_ok-after.after) c.new-reader.ensures
-    (first_is_type _ _ b (omega arith)) (b.rest, b.text) (bytes_from c.args.bytes.now (λ i. omega (arith, c.type_inv.bytes i))) c.in_ok-after.ensures in
-    (b.first, k.0, (b.rest, b.text), k.1.found)
-
-pub returns-clause-within : goal.returns-clause-within
-returns-clause-within c =
-    let b = c.in_ok-first_type.ensures.found in
-    (walked_from _ _ b.first _ _ (cursor_of c.new-reader.result) (c.in_ok-after.field-0-0.now, cursor_of c.in_ok-after.after) c.new-reader.ensures
-    (first_is_type _ _ b (omega arith)) (b.rest, b.text) (bytes_from c.args.bytes.now (λ i. omega (arith, c.type_inv.bytes i))) c.in_ok-after.ensures).1.within
-
-pub returns-clause-only : goal.returns-clause-only
-returns-clause-only c =
-    λ t k d front rest s e.
-    ((walked_from _ _ t _ _ (cursor_of c.new-reader.result) (c.in_ok-after.field-0-0.now, cursor_of c.in_ok-after.after) c.new-reader.ensures
-    (spells_type _ _ t d front s) k (bytes_from c.args.bytes.now (λ i. omega (arith, c.type_inv.bytes i))) c.in_ok-after.ensures).1.only d front rest s e).1
+    let over = λ (t : Shape) (valid : IsType t) (first : StandsFirst t c.args.types.now).
+    walked_from _ _ t _ _ (cursor_of c.new-reader.result) (c.in_ok-after.field-0-0.now, cursor_of c.in_ok-after.after) c.new-reader.ensures
+    valid first (bytes_from c.args.bytes.now (λ i. omega (arith, c.type_inv.bytes i))) c.in_ok-after.ensures in
+    let k = over b.first (first_is_type _ _ b (omega arith)) (b.rest, b.text) in record {
+      found = (b.first, k.0, (b.rest, b.text), k.1.found);
+      within = k.1.within;
+      only = λ t first d front rest s e. ((over t (spells_type _ _ t d front s) first).1.only d front rest s e).1;
+      none = tt;
+    }

@@ -1,10 +1,7 @@
-use Rattle.std.proofs.Common.{◌≡◌, ◌+◌, ◌++◌, ◌∷◌, List, ℕ, length, ◌-◌, ◌*◌, is_some}
-use Rattle.wire_number.specs.Reading.{Parse, behind}
-use Rattle.wire_signature.specs.Shape.{Shapes, types_text}
-use Rattle.wire_spelling.specs.Reading.{many_at, struct_at, value_at}
-use Rattle.wire_spelling.specs.Walking.{Item, item_at, item_text, item_types, leaving, AreShallow, IsBracket}
+use Rattle.std.proofs.Common.{◌≡◌, ◌+◌, length, ◌-◌, ◌*◌, is_some}
+use Rattle.wire_spelling.specs.Reading.{many_at}
+use Rattle.wire_spelling.specs.Walking.{over_fields, over_struct, walk_at}
 use Rattle.wire_number.specs.ReaderView.{cursor_of}
-use Rattle.wire_spelling.proofs.Walks.{FieldsLeave}
 use Rattle.wire_spelling.proofs.walk.+walk.Given as goal
 
 abbrev pub decreases-walk_value : goal.decreases-walk_value
@@ -25,13 +22,11 @@ decreases-walk_variant l = 4 * l.room + 1
 -- the elements in what is left are there exactly where all are
 abbrev pub invariant-walk_items-loop : goal.invariant-walk_items-loop
 invariant-walk_items-loop l =
-    (i : Item) (rest : List ℕ) → AreShallow (item_types i) → l.element ≡ item_text i ++ rest
-    → is_some (many_at (length l.elements.rest.now) (item_at l.room l.order i) (cursor_of l.elements))
-    ≡ is_some (many_at (length l.elements.rest.now - l.counter) (item_at l.room l.order i) (cursor_of l.left))
+    is_some (many_at (length l.elements.rest.now) (walk_at l.room l.order l.element) (cursor_of l.elements))
+    ≡ is_some (many_at (length l.elements.rest.now - l.counter) (walk_at l.room l.order l.element) (cursor_of l.left))
 
 -- what the fields in what is left leave, all leave
 abbrev pub invariant-walk_fields-loop : goal.invariant-walk_fields-loop
 invariant-walk_fields-loop l =
-    (found : Parse (List ℕ)) → FieldsLeave l.room l.order l.left (cursor_of l.stand) (length l.text - l.counter) found
-    → (ts : Shapes) (close : ℕ) (rest : List ℕ) → AreShallow ts → IsBracket close → l.text ≡ types_text ts ++ (close ∷ rest)
-    → leaving rest (behind (struct_at (value_at l.room l.order) ts (cursor_of l.reader))) ≡ found
+    over_struct (walk_at l.room l.order) l.text (cursor_of l.reader)
+    ≡ over_fields (length l.text - l.counter) (walk_at l.room l.order) l.left (cursor_of l.stand)

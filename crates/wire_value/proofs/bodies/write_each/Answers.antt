@@ -11,7 +11,7 @@ pub returns-in_err-write_value : goal.returns-in_err-write_value
 returns-in_err-write_value c =
     let p = err_from_is_err_and c.from_residual.result c.from_residual.ensures.1 in
     rw (p.1, p.2)
-    (value_refused _ _ _ _ c.loop-value.value-index c.value-item.result _ _ _ _ c.loop-value.invariant c.loop-value-test.true c.value-item.is c.tree.ensures.tree c.in_err-write_value.ensures)
+    (value_refused _ _ _ _ c.loop-value.value-index c.value-item.result _ _ _ _ _ c.loop-value.invariant c.loop-value-test.true c.value-item.is c.tree.ensures.tree c.in_err-write_value.ensures)
 
 pub loop-value-preserved : goal.loop-value-preserved
 loop-value-preserved c =

@@ -21,19 +21,8 @@ overflow_sub-result c =
     (decoded_from _ _ _ _ (cursor_of c.new-reader.result) (datum_of c.in_ok-tree.tree, cursor_of c.in_ok-tree.after) c.new-reader.ensures c.node.ensures.valid
     (bytes_from c.args.bytes.now (λ i. omega (arith, c.type_inv.bytes i))) c.in_ok-tree.ensures).before
 
-pub returns-clause-found : goal.returns-clause-found
-returns-clause-found c =
-    rw c.from_formed-value.ensures
-    (decoded_from _ _ _ _ (cursor_of c.new-reader.result) (datum_of c.in_ok-tree.tree, cursor_of c.in_ok-tree.after) c.new-reader.ensures c.node.ensures.valid
-    (bytes_from c.args.bytes.now (λ i. omega (arith, c.type_inv.bytes i))) c.in_ok-tree.ensures).found
-
-pub returns-clause-within : goal.returns-clause-within
-returns-clause-within c =
-    (decoded_from _ _ _ _ (cursor_of c.new-reader.result) (datum_of c.in_ok-tree.tree, cursor_of c.in_ok-tree.after) c.new-reader.ensures c.node.ensures.valid
-    (bytes_from c.args.bytes.now (λ i. omega (arith, c.type_inv.bytes i))) c.in_ok-tree.ensures).within
-
-pub returns-clause-only : goal.returns-clause-only
-returns-clause-only c =
-    rw c.from_formed-value.ensures
-    (decoded_from _ _ _ _ (cursor_of c.new-reader.result) (datum_of c.in_ok-tree.tree, cursor_of c.in_ok-tree.after) c.new-reader.ensures c.node.ensures.valid
-    (bytes_from c.args.bytes.now (λ i. omega (arith, c.type_inv.bytes i))) c.in_ok-tree.ensures).only
+pub returns : goal.returns
+returns c =
+    let k = decoded_from _ _ _ _ (cursor_of c.new-reader.result) (datum_of c.in_ok-tree.tree, cursor_of c.in_ok-tree.after) c.new-reader.ensures c.node.ensures.valid
+    (bytes_from c.args.bytes.now (λ i. omega (arith, c.type_inv.bytes i))) c.in_ok-tree.ensures in
+    rw c.from_formed-value.ensures (record { found = k.found; within = k.within; only = k.only; error = tt })

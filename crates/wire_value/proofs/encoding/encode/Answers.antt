@@ -9,7 +9,7 @@ returns-in_err-write_value c =
     let p = err_from_is_err_and c.from_residual.result c.from_residual.ensures.1 in
     rw (p.1, p.2)
     (not_encoded _ c.args.order c.args.at c.args.value.now (datum_of c.tree-tree.result.now) _ c.args.out.now.items c.tree-tree.ensures.tree c.new-text.ensures.items
-    (c.is_within.ensures.0 c.if-not-is_within.false) c.in_err-write_value.ensures)
+    (c.is_within.ensures.0 c.if-not-is_within.false) c.in_err-write_value.ensures.0)
 
 pub returns : goal.returns
 returns c =

@@ -1,83 +1,49 @@
-use Rattle.std.proofs.Common.{◌≡◌, ◌<◌, ◌+◌, ◌-◌, length, arith, ◌∙◌, ap}
+use Rattle.std.proofs.Common.{◌+◌, ◌-◌, length, None, arith, ◌∙◌, ap}
 use Rattle.std.proofs.lemmas.Bool.Decides.{nat_tests}
 use Rattle.std.proofs.lemmas.List.{map-append}
 use Rattle.std.proofs.lemmas.Result.{err_from_is_err_and}
 use Rattle.wire_tree.specs.Datum.{entry_type}
 use Rattle.wire_spelling.specs.Reading.{value_at}
 use Rattle.wire_number.specs.ReaderView.{cursor_of}
-use Rattle.wire_spelling.proofs.Loops.{joined_end, joined_more, joined_none, joined_left, joined_field, joined_done, joined_fields, types_none, refuses_as, value_in_room}
+use Rattle.wire_spelling.proofs.Loops.{many_none, joined, joined_more, joined_field, joined_done, joined_fields, fields_next, refuses_as, value_in_room}
 use Rattle.wire_value.proofs.read.+read.Goals as goal
 
 pub read_value-returns-else-room-eq0 : goal.read_value-returns-else-room-eq0
 read_value-returns-else-room-eq0 t c =
     rw (value_in_room c.args.room c.args.order c.args.value_type.now (cursor_of c.args.reader) (omega arith)) c.read_kind.ensures
 
-pub read_items-returns-then-is_empty : goal.read_items-returns-then-is_empty
-read_items-returns-then-is_empty t c =
-    let none : length c.loop.left.rest.now ≡ 0 = grind (arith, nat_tests) in
-    joined_end _ _ (cursor_of c.loop.left) _ _ c.loop.invariant none
-
 pub read_items-returns-in_err-item : goal.read_items-returns-in_err-item
 read_items-returns-in_err-item t c =
-    let some : 0 < length c.loop.left.rest.now = grind (arith, nat_tests) in
     let p = err_from_is_err_and c.from_residual.result c.from_residual.ensures.1 in
     rw (p.1, p.2)
     (refuses_as _ (value_at c.args.room c.args.order c.args.element.now (cursor_of c.loop.left)) _
-    (λ none. joined_none (length c.args.elements.rest.now - c.loop.counter - 1) _ _ (cursor_of c.loop.left) _ _ c.loop.invariant (omega arith) some none)
+    (λ none. c.loop.invariant ∙ ap (joined _) (many_none (length c.args.elements.rest.now - c.loop.counter - 1) _ _ (cursor_of c.loop.left) (omega arith) (grind (arith, nat_tests)) none))
     c.in_err-item.ensures)
 
 pub read_items-loop-preserved : goal.read_items-loop-preserved
 read_items-loop-preserved t c =
-    let some : 0 < length c.loop.left.rest.now = grind (arith, nat_tests) in
     rw (c.in_ok-push.ensures.items, map-append)
-    (joined_more (length c.args.elements.rest.now - (c.loop.counter + 1)) _ _ (cursor_of c.loop.left) _ _ _ c.loop.invariant (omega arith) some c.in_ok-item.ensures)
-
-pub read_items-returns-then-is_empty-2 : goal.read_items-returns-then-is_empty-2
-read_items-returns-then-is_empty-2 t c =
-    let none : length c.loop.left.rest.now ≡ 0 = grind (arith, nat_tests) in
-    joined_end _ _ (cursor_of c.loop.left) _ _ c.loop.invariant none
-
-pub read_items-returns-else-is_empty-2 : goal.read_items-returns-else-is_empty-2
-read_items-returns-else-is_empty-2 t c =
-    let some : 0 < length c.loop.left.rest.now = grind (arith, nat_tests) in
-    joined_left _ _ (cursor_of c.loop.left) _ _ c.loop.invariant (omega arith) some
-
-pub read_entries-returns-then-is_empty : goal.read_entries-returns-then-is_empty
-read_entries-returns-then-is_empty t c =
-    let none : length c.loop.left.rest.now ≡ 0 = grind (arith, nat_tests) in
-    joined_end _ _ (cursor_of c.loop.left) _ _ c.loop.invariant none
+    (joined_more (length c.args.elements.rest.now - (c.loop.counter + 1)) _ _ (cursor_of c.loop.left) _ _ _ c.loop.invariant (omega arith) (grind (arith, nat_tests)) c.in_ok-item.ensures)
 
 pub read_entries-returns-in_err-pair : goal.read_entries-returns-in_err-pair
 read_entries-returns-in_err-pair t c =
-    let some : 0 < length c.loop.left.rest.now = grind (arith, nat_tests) in
     let p = err_from_is_err_and c.from_residual.result c.from_residual.ensures.1 in
     rw (p.1, p.2)
     (refuses_as _ (value_at c.args.room c.args.order (entry_type c.args.key c.args.value.now) (cursor_of c.loop.left)) _
-    (λ none. joined_none (length c.args.entries.rest.now - c.loop.counter - 1) _ _ (cursor_of c.loop.left) _ _ c.loop.invariant (omega arith) some none)
+    (λ none. c.loop.invariant ∙ ap (joined _) (many_none (length c.args.entries.rest.now - c.loop.counter - 1) _ _ (cursor_of c.loop.left) (omega arith) (grind (arith, nat_tests)) none))
     c.in_err-pair.ensures)
 
 pub read_entries-loop-preserved : goal.read_entries-loop-preserved
 read_entries-loop-preserved t c =
-    let some : 0 < length c.loop.left.rest.now = grind (arith, nat_tests) in
     rw (c.in_ok-push.ensures.items, map-append)
-    (joined_more (length c.args.entries.rest.now - (c.loop.counter + 1)) _ _ (cursor_of c.loop.left) _ _ _ c.loop.invariant (omega arith) some c.in_ok-pair.ensures)
-
-pub read_entries-returns-then-is_empty-2 : goal.read_entries-returns-then-is_empty-2
-read_entries-returns-then-is_empty-2 t c =
-    let none : length c.loop.left.rest.now ≡ 0 = grind (arith, nat_tests) in
-    joined_end _ _ (cursor_of c.loop.left) _ _ c.loop.invariant none
-
-pub read_entries-returns-else-is_empty-2 : goal.read_entries-returns-else-is_empty-2
-read_entries-returns-else-is_empty-2 t c =
-    let some : 0 < length c.loop.left.rest.now = grind (arith, nat_tests) in
-    joined_left _ _ (cursor_of c.loop.left) _ _ c.loop.invariant (omega arith) some
+    (joined_more (length c.args.entries.rest.now - (c.loop.counter + 1)) _ _ (cursor_of c.loop.left) _ _ _ c.loop.invariant (omega arith) (grind (arith, nat_tests)) c.in_ok-pair.ensures)
 
 pub read_fields-returns-in_err-item : goal.read_fields-returns-in_err-item
 read_fields-returns-in_err-item t c =
     let p = err_from_is_err_and c.from_residual.result c.from_residual.ensures.1 in
     rw (p.1, p.2)
     (refuses_as _ (value_at c.args.room c.args.order c.each-item.result (cursor_of c.loop-each.stand)) _
-    (λ none. c.loop-each.invariant ∙ ap (joined_fields _) (types_none _ _ c.loop-each.each-index _ _ (omega arith) c.each-item.is none))
+    (λ none. c.loop-each.invariant ∙ ap (joined_fields _) (fields_next _ _ c.loop-each.each-index _ _ None (omega arith) c.each-item.is none))
     c.in_err-item.ensures)
 
 pub read_fields-loop-each-preserved : goal.read_fields-loop-each-preserved

@@ -39,7 +39,7 @@ pub write_items-returns-in_err-write_value : goal.write_items-returns-in_err-wri
 write_items-returns-in_err-write_value t c =
     let p = err_from_is_err_and c.from_residual.result c.from_residual.ensures.1 in
     rw (p.1, p.2)
-    (write_refused datum_of _ _ _ _ c.loop-each.each-index c.each-item.result _ _ _ c.loop-each.invariant c.loop-each-test.true c.each-item.is c.in_err-write_value.ensures)
+    (write_refused datum_of _ _ _ _ c.loop-each.each-index c.each-item.result _ _ _ _ c.loop-each.invariant c.loop-each-test.true c.each-item.is c.in_err-write_value.ensures)
 
 pub write_items-loop-each-preserved : goal.write_items-loop-each-preserved
 write_items-loop-each-preserved t c =
@@ -64,7 +64,7 @@ pub write_entries-returns-in_err-write_entry : goal.write_entries-returns-in_err
 write_entries-returns-in_err-write_entry t c =
     let p = err_from_is_err_and c.from_residual.result c.from_residual.ensures.1 in
     rw (p.1, p.2)
-    (write_refused entry_of _ _ _ _ c.loop-each.each-index c.each-item.result _ _ _ c.loop-each.invariant c.loop-each-test.true c.each-item.is c.in_err-write_entry.ensures)
+    (write_refused entry_of _ _ _ _ c.loop-each.each-index c.each-item.result _ _ _ _ c.loop-each.invariant c.loop-each-test.true c.each-item.is c.in_err-write_entry.ensures)
 
 pub write_entries-loop-each-preserved : goal.write_entries-loop-each-preserved
 write_entries-loop-each-preserved t c =
@@ -76,25 +76,25 @@ write_entries-returns t c = write_done entry_of _ _ _ _ c.loop-each.each-index _
 pub write_array-returns-in_err-write_items : goal.write_array-returns-in_err-write_items
 write_array-returns-in_err-write_items t c =
     let p = err_from_is_err_and c.from_residual-in_err-write_items.result c.from_residual-in_err-write_items.ensures.1 in
-    rw (p.1, p.2) (array_refused _ _ c.args.element.now _ _ _ _ (rw c.boundary.ensures.exact at c.in_ok-open_array.ensures) c.in_err-write_items.ensures)
+    rw (p.1, p.2) (array_refused _ _ c.args.element.now _ _ _ _ _ (rw c.boundary.ensures.exact at c.in_ok-open_array.ensures.opened) c.in_err-write_items.ensures)
 
 pub write_array-returns : goal.write_array-returns
 write_array-returns t c =
     let start : c.len-start.result ≡ length c.open_array.new.out.items = omega arith in
-    array_written _ _ _ c.args.element.now _ _ _ _ _ _ (omega (arith, c.padding_for_n_bytes.ensures.exact)) (rw c.boundary.ensures.exact at c.in_ok-open_array.ensures)
+    array_written _ _ _ c.args.element.now _ _ _ _ _ _ (omega (arith, c.padding_for_n_bytes.ensures.exact)) (rw c.boundary.ensures.exact at c.in_ok-open_array.ensures.opened)
     c.in_ok-write_items.ensures (rw start at c.close_array.ensures)
 
 pub write_dict-returns-in_err-write_entries : goal.write_dict-returns-in_err-write_entries
 unfolding spelling ArraysFit
 write_dict-returns-in_err-write_entries t c =
     let p = err_from_is_err_and c.from_residual-in_err-write_entries.result c.from_residual-in_err-write_entries.ensures.1 in
-    rw (p.1, p.2) (λ k v. array_refused _ _ (entry_type k v) _ _ _ _ c.in_ok-open_array.ensures c.in_err-write_entries.ensures)
+    rw (p.1, p.2) (λ k v. array_refused _ _ (entry_type k v) _ _ _ _ _ c.in_ok-open_array.ensures.opened c.in_err-write_entries.ensures)
 
 pub write_dict-returns : goal.write_dict-returns
 unfolding spelling ArraysFit
 write_dict-returns t c =
     let start : c.len-first.result ≡ length c.open_array.new.out.items = omega arith in
-    λ k v. array_written _ _ _ (entry_type k v) _ _ _ _ _ _ (omega (arith, c.padding_for_n_bytes.ensures.exact)) c.in_ok-open_array.ensures
+    λ k v. array_written _ _ _ (entry_type k v) _ _ _ _ _ _ (omega (arith, c.padding_for_n_bytes.ensures.exact)) c.in_ok-open_array.ensures.opened
     c.in_ok-write_entries.ensures (rw start at c.close_array.ensures)
 
 pub write_struct-returns : goal.write_struct-returns
@@ -109,7 +109,7 @@ write_variant-returns t c =
 pub write_entry-returns-in_err-write_value : goal.write_entry-returns-in_err-write_value
 write_entry-returns-in_err-write_value t c =
     let p = err_from_is_err_and c.from_residual-in_err-write_value.result c.from_residual-in_err-write_value.ensures.1 in
-    rw (p.1, p.2) (key_refused _ _ _ (datum_of c.args.value.now) _ _ _ c.in_ok-pad_to.ensures c.in_err-write_value.ensures)
+    rw (p.1, p.2) (key_refused _ _ _ (datum_of c.args.value.now) _ _ _ _ c.in_ok-pad_to.ensures c.in_err-write_value.ensures)
 
 pub write_entry-returns : goal.write_entry-returns
 write_entry-returns t c = entry_written _ _ _ _ _ _ _ _ _ c.in_ok-pad_to.ensures c.in_ok-write_value.ensures c.write_value-2.ensures

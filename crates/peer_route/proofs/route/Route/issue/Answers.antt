@@ -6,7 +6,7 @@ use Rattle.peer_route.specs.declared.route.Issued.{Issued}
 use Rattle.peer_route.specs.Issuing.{is_deep, Waits}
 use Rattle.peer_route.specs.Parcel.{sent_by}
 use Rattle.peer_route.proofs.Drawn.{deep_sent}
-use Rattle.peer_route.proofs.Issues.{issued_all, refused_all}
+use Rattle.peer_route.proofs.Issues.{lane_deep, issued_all, refused_all}
 use Rattle.peer_route.proofs.Placed.{all_wait, back_same}
 use Rattle.peer_route.proofs.route.Route.issue.Goals as goal
 
@@ -15,7 +15,8 @@ items v = v.items
 
 pub returns-then-is_some_deep-clause-issues : goal.returns-then-is_some_deep-clause-issues
 returns-then-is_some_deep-clause-issues c h left = (
-  deep_sent false c.args.self.now.name c.args.served c.args.list.items
+  lane_deep (map (sent_by c.args.self.now.name c.args.served) c.args.list.items)
+      ∙ deep_sent false c.args.self.now.name c.args.served c.args.list.items
       ∙ ap (list_any is_deep) (sym c.as_slice.ensures.value) ∙ sym c.is_some_deep.ensures ∙ c.if-is_some_deep.true,
   refl,
 )

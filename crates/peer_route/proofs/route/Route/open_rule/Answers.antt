@@ -1,8 +1,9 @@
 -- What opening gives: at once, by an AddMatch that was put, or not.
-use Rattle.std.proofs.Common.{◌≡◌, sym, ◌∙◌, ap, subst, is_some, length, true, false}
-use Rattle.peer_route.specs.History.{Made, Ruled, after}
+use Rattle.std.proofs.Common.{◌≡◌, sym, ◌∙◌, ap, subst, is_some, length, true, false, Ok}
 use Rattle.peer_route.specs.Streams.{asks_bus}
-use Rattle.peer_route.specs.Left.{View, Left, is_flying, with_stream}
+use Rattle.peer_route.specs.Left.{View, is_flying, with_stream}
+use Rattle.peer_route.specs.Bus.{OpensBy}
+use Rattle.peer_route.specs.declared.opening.Opens.TheVariants as opens
 use Rattle.peer_route.proofs.Openings.{IsIdle, idle_so, asks_so, opens_once, opens_asking, opens_not, asks_now}
 use Rattle.peer_route.proofs.Placed.{back_same}
 use Rattle.peer_route.proofs.route.Route.open_rule.Goals as goal
@@ -14,11 +15,11 @@ returns-then-not-asks_bus-clause-opens c h left =
     let flies = ap (λ (w : View). is_flying w.calls) (sym c.self.view_is) ∙ sym c.is_flying.ensures.view ∙ c.if-is_flying.false in
     let idle : IsIdle h = idle_so v h open_ flies left in
     let none : asks_bus h c.args.rule ≡ false = sym (asks_so v c.args.rule h left) ∙ sym c.if-not-asks_bus.ensures in
-    let Q : View → Type 0 = λ w. Left (record w { streams = c.open_rule.new.self }) (after (Made (Ruled c.args.rule c.args.max_queued)) h) in
+    let Q : View → Type 0 = λ w. OpensBy (asks_bus h c.args.rule) v (record w { streams = c.open_rule.new.self }) c.args.rule c.args.max_queued h (Ok (opens.Open (record { number = c.in_ok-number.number }))) in
     let once = opens_once v c.args.rule c.args.max_queued c.open_rule.new.self c.in_ok-number.number h idle none
     (c.in_ok-number.ensures.number ∙ ap (λ (w : View). length w.streams) c.self.view_is)
     (c.in_ok-number.ensures.ok ∙ ap (λ (w : View). with_stream c.args.rule c.args.max_queued w.streams) c.self.view_is) left in
-    (once.0, once.1, (once.2.0, once.2.1, subst Q (sym c.self.view_is) once.2.2))
+    (once.0, once.1, subst Q (sym c.self.view_is) once.2)
 
 pub returns-in-Ok-clause-opens : goal.returns-in-Ok-clause-opens
 returns-in-Ok-clause-opens c h left =

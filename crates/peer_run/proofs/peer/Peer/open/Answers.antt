@@ -5,7 +5,7 @@ use Rattle.rule_match.specs.Building.{Gives}
 use Rattle.rule_match.specs.Bytes.{rule_in_bytes}
 use Rattle.peer_route.specs.Entries.{trail}
 use Rattle.peer_run.specs.Stands.{PeerView, Follows}
-use Rattle.peer_run.proofs.OpenStep.{rule_given, follows_open, text_refused, open_refused, asked_now}
+use Rattle.peer_run.proofs.OpenStep.{rule_given, opens_once, follows_open, text_refused, open_refused, asked_now}
 use Rattle.peer_run.proofs.peer.Peer.open.Goals as goal
 use Rattle.peer_route.specs.History.{past}
 
@@ -21,8 +21,9 @@ returns-in_ok-made-in-Ok-Open-clause-sent g c setting es f fine =
     let found = rule_given c.in-Ok.rule _ (subst (λ (t : List ℕ). Gives (Ok c.in-Ok.rule) (rule_in_bytes t)) c.as_slice.ensures.value c.in-Ok.ensures) in
     let opened = rw c.in-Ok-Open.field-0-is at c.in-Ok-Open.ensures.opens in
     let said = opened (past (trail setting es).events) k.left in
+    let once = opens_once _ _ _ _ _ _ _ said.2 in
     rw (c.in_ok-made-in-Ok-Open.ensures.answer, c.in_ok-made-in-Ok-Open.ensures.made)
-    (follows_open setting p _ es c.args.lane c.args.max_queued c.args.text.now c.in-Ok.rule _ _ k found said.0 said.1 said.2.0 refl refl refl said.2.2 fine)
+    (follows_open setting p _ es c.args.lane c.args.max_queued c.args.text.now c.in-Ok.rule _ _ k found said.0 said.1 once.0 refl refl refl once.1 fine)
 
 pub ask-requires : goal.ask-requires
 ask-requires g c =

@@ -1,11 +1,11 @@
-use Rattle.std.proofs.Common.{arith, ap, sym, subst, ◌∙◌, length, length-append, inr}
+use Rattle.std.proofs.Common.{arith, ap, subst, ◌∙◌, length, length-append, inr}
 use Rattle.std.proofs.lemmas.Result.{err_from_is_err_and}
 use Rattle.wire_message.specs.Content.{ContentFits, IsNotAppended, IsShallow, content_text}
-use Rattle.wire_message.specs.Draft.{Draft, header_fields, ReadsAgain}
+use Rattle.wire_message.specs.Draft.{Draft}
 use Rattle.wire_message.specs.Front.{Seen, bare}
 use Rattle.wire_message.proofs.BodyLaws.{body-refused, content-decided, header-refused}
 use Rattle.wire_message.proofs.Building.{header-length}
-use Rattle.wire_message.proofs.Law.{behind-length, written}
+use Rattle.wire_message.proofs.Law.{again-of, behind-length, written}
 use Rattle.wire_message.proofs.builder.Builder.with_content.Goals as goal
 
 pub returns-in_err-text-clause-made : goal.returns-in_err-text-clause-made
@@ -33,10 +33,8 @@ returns-in_err-append-clause-made c =
 
 pub returns-then-len-gt-MESSAGE_LIMIT-clause-made : goal.returns-then-len-gt-MESSAGE_LIMIT-clause-made
 returns-then-len-gt-MESSAGE_LIMIT-clause-made c =
-    let draft : Draft = record { kind = c.self.inside.kind; order = c.self.inside.order; flags = c.self.inside.flags; serial = c.self.inside.serial; fields = header_fields c.self.inside.fields } in
     let h = rw (← c.self.view_is) at c.in_ok-text.ensures in
-    let body = content_text draft.order c.args.content in
-    let size = behind-length draft c.args.serial c.in_ok-text.text.items body c.append.new.out.items h.written c.in_ok-append.ensures.0 in
+    let size = behind-length _ c.args.serial c.in_ok-text.text.items _ c.append.new.out.items h.written c.in_ok-append.ensures.0 in
     rw (← c.self.view_is) (c.is_shallow.ensures.0 c.if-not-is_shallow.false, inr (c.in_ok-append.ensures.1, omega (arith, c.len.ensures ∙ c.append.new.out.ok.0, size)))
 
 pub put_u32-requires : goal.put_u32-requires
@@ -45,31 +43,21 @@ put_u32-requires c =
 
 pub from_parts-requires : goal.from_parts-requires
 from_parts-requires c =
-    let draft : Draft = record { kind = c.self.inside.kind; order = c.self.inside.order; flags = c.self.inside.flags; serial = c.self.inside.serial; fields = header_fields c.self.inside.fields } in
     let h = rw (← c.self.view_is) at c.in_ok-text.ensures in
-    let body = content_text draft.order c.args.content in
-    let w = written draft c.args.serial _ c.in_ok-text.text.items body c.append.new.out.items c.put_u32.new.out.items c.in_ok-text.places c.self.invariant c.requires (omega arith)
-    (omega (arith, c.len.ensures ∙ c.append.new.out.ok.0)) h.written h.found h.spans c.in_ok-append.ensures.0 c.put_u32.ensures
-    (omega (arith, c.len.ensures ∙ c.append.new.out.ok.0, ap length c.in_ok-append.ensures.0, length-append c.in_ok-text.text.items body)) in
-    w.stands
+    (written _ c.args.serial _ c.in_ok-text.text.items _ c.append.new.out.items c.put_u32.new.out.items c.in_ok-text.places c.self.invariant c.requires (omega arith)
+    (omega (arith, c.len.ensures ∙ c.append.new.out.ok.0)) h.made c.in_ok-append.ensures.0 c.put_u32.ensures
+    (omega (arith, c.len.ensures ∙ c.append.new.out.ok.0, ap length c.in_ok-append.ensures.0, length-append c.in_ok-text.text.items (content_text c.self.inside.order c.args.content)))).stands
 
 pub returns-clause-made : goal.returns-clause-made
 returns-clause-made c =
-    let draft : Draft = record { kind = c.self.inside.kind; order = c.self.inside.order; flags = c.self.inside.flags; serial = c.self.inside.serial; fields = header_fields c.self.inside.fields } in
     let h = rw (← c.self.view_is) at c.in_ok-text.ensures in
-    let body = content_text draft.order c.args.content in
-    let w = written draft c.args.serial _ c.in_ok-text.text.items body c.append.new.out.items c.put_u32.new.out.items c.in_ok-text.places c.self.invariant c.requires (omega arith)
-    (omega (arith, c.len.ensures ∙ c.append.new.out.ok.0)) h.written h.found h.spans c.in_ok-append.ensures.0 c.put_u32.ensures
-    (omega (arith, c.len.ensures ∙ c.append.new.out.ok.0, ap length c.in_ok-append.ensures.0, length-append c.in_ok-text.text.items body)) in
+    let w = written _ c.args.serial _ c.in_ok-text.text.items _ c.append.new.out.items c.put_u32.new.out.items c.in_ok-text.places c.self.invariant c.requires (omega arith)
+    (omega (arith, c.len.ensures ∙ c.append.new.out.ok.0)) h.made c.in_ok-append.ensures.0 c.put_u32.ensures
+    (omega (arith, c.len.ensures ∙ c.append.new.out.ok.0, ap length c.in_ok-append.ensures.0, length-append c.in_ok-text.text.items (content_text c.self.inside.order c.args.content))) in
     let made = c.in_ok-message.ensures in
     rw (← c.self.view_is) (c.is_shallow.ensures.0 c.if-not-is_shallow.false, c.in_ok-append.ensures.1, ap (λ (x : Seen). bare x) made ∙ w.message, rw made w.long, ap (λ (x : Seen). x.fds) made)
 
 pub returns-clause-again : goal.returns-clause-again
 returns-clause-again c =
-    let draft : Draft = record { kind = c.self.inside.kind; order = c.self.inside.order; flags = c.self.inside.flags; serial = c.self.inside.serial; fields = header_fields c.self.inside.fields } in
-    let h = rw (← c.self.view_is) at c.in_ok-text.ensures in
-    let body = content_text draft.order c.args.content in
-    let w = written draft c.args.serial _ c.in_ok-text.text.items body c.append.new.out.items c.put_u32.new.out.items c.in_ok-text.places c.self.invariant c.requires (omega arith)
-    (omega (arith, c.len.ensures ∙ c.append.new.out.ok.0)) h.written h.found h.spans c.in_ok-append.ensures.0 c.put_u32.ensures
-    (omega (arith, c.len.ensures ∙ c.append.new.out.ok.0, ap length c.in_ok-append.ensures.0, length-append c.in_ok-text.text.items body)) in
-    subst (λ (x : Seen). ReadsAgain x) (sym (ap (λ (x : Seen). bare x) c.in_ok-message.ensures ∙ w.message)) w.again
+    let made = returns-clause-made c in
+    again-of c.args.self.now c.args.serial _ c.in_ok-message.message (rw (← c.self.view_is) c.self.invariant) c.requires (omega arith) made.2 made.3

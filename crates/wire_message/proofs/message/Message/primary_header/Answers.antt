@@ -5,7 +5,7 @@ use Rattle.wire_message.specs.Front.{Seen, seen, order_at}
 use Rattle.wire_message.specs.Places.{found_fields}
 use Rattle.wire_message.specs.Primary.{Primary, primary_of, sig_of}
 use Rattle.wire_message.specs.declared.endian_sig.EndianSig.{EndianSig}
-use Rattle.wire_message.proofs.Grammar.{order-again}
+use Rattle.wire_message.proofs.Grammar.{order_again}
 use Rattle.wire_message.proofs.message.Message.primary_header.Goals as goal
 
 -- what the head of a message says
@@ -18,5 +18,5 @@ returns c =
     let bytes = c.shared.inside.bytes.items in
     let p = c.shared.inside.parts in
     let m : Seen = seen bytes 0 p.kind p.order p.flags p.serial (found_fields bytes p.places) in
-    primary-is m c.as_slice-bytes.result.now c.from.result c.read_u32.result c.as_slice-bytes.ensures.value c.from.ensures c.read_u32.ensures (order-again bytes p.order c.shared.invariant.front.order)
+    primary-is m c.as_slice-bytes.result.now c.from.result c.read_u32.result c.as_slice-bytes.ensures.value c.from.ensures c.read_u32.ensures (order_again bytes p.order c.shared.invariant.front.order)
     ∙ ap primary_of (c.shared.view_is ∙ c.deref-shared.ensures) ∙ ap primary_of c.self.view_is
