@@ -20,12 +20,13 @@ use Rattle.peer_route.specs.BusCall.{add_parcel, remove_message, last_of, some_r
 use Rattle.peer_route.specs.Trail.{Trail, count, next_serial, or_zero}
 use Rattle.peer_route.specs.Plan.{Plan, Says, Sends, Adds, Leaves, Reads, Closes, plan}
 use Rattle.peer_route.specs.Entries.{trail, removal, removal_serials, more, said}
+use Rattle.peer_route.specs.Limits.{message_limit}
 
 -- ---- a message that is sent
 
 abbrev pub long_refusal : Option ℕ → Parcel → Option Error
 long_refusal None parcel = Some errors.SerialsSpent
-long_refusal (Some serial) parcel = if nat_lt 134217728 (length (message_of parcel serial).bytes) then Some errors.ExcessData else None
+long_refusal (Some serial) parcel = if nat_lt message_limit (length (message_of parcel serial).bytes) then Some errors.ExcessData else None
 
 -- Why a command that sends is refused, the first case that holds: there is nothing to send, for that reason; each serial is
 -- pending; the message would pass its limit. An array of its body never does: the body's word spells it.
@@ -90,7 +91,7 @@ have_serials h (rule ∷ rules) = is_some (next_serial h) && have_serials (remov
 abbrev pub some_long : List Event → List Rule → Bool
 some_long h [] = false
 some_long h (rule ∷ rules) =
-    nat_lt 134217728 (length (remove_message (past h) rule (or_zero (next_serial h))).bytes) || some_long (removal h rule ∷ h) rules
+    nat_lt message_limit (length (remove_message (past h) rule (or_zero (next_serial h))).bytes) || some_long (removal h rule ∷ h) rules
 
 -- why no RemoveMatch is put, the first case that holds
 abbrev pub tell_refusal : List Event → List Rule → Option Error

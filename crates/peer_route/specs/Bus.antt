@@ -25,6 +25,7 @@ use Rattle.peer_route.specs.BusCall.{bus_draft, add_parcel}
 use Rattle.peer_route.specs.Issuing.{IsShort, Posting, Issues}
 use Rattle.peer_route.specs.Left.{View, with_asking, Left}
 use Rattle.peer_route.specs.Placing.{Draws, Spends, with_messages, PutsAll}
+use Rattle.peer_route.specs.Limits.{string_limit}
 
 -- AddMatch of a rule, for whose stream this capacity is asked, if one is
 abbrev pub asking_of : Past → Rule → Option ℕ → Posting
@@ -74,7 +75,7 @@ IsShownAs o state shown = ⊥
 
 -- a string of a message may be as long as the rule's text
 abbrev pub fits_string : Rule → Bool
-fits_string rule = nat_le (length (rule_text rule)) 4294967295
+fits_string rule = nat_le (length (rule_text rule)) string_limit
 
 -- the body with a rule's text; None where no string may be as long
 abbrev pub MakesBody : Result (Option (List Datum)) Error → Rule → Type 0

@@ -16,6 +16,7 @@ use Rattle.peer_route.specs.CallMessage.{expects}
 use Rattle.peer_route.specs.History.{Event, Purpose, Put, OfLane, Past, after}
 use Rattle.peer_route.specs.Calls.{pending}
 use Rattle.peer_route.specs.Left.{View, Left}
+use Rattle.peer_route.specs.Limits.{message_limit}
 
 -- ---- one message
 
@@ -25,13 +26,13 @@ is_deep parcel = nat_lt 64 (depths (data_of parcel.values))
 
 -- Each array is within its limit in the message's order, and so is the message with this serial.
 abbrev pub IsShort : Parcel → ℕ → Type 0
-IsShort parcel serial = AllFit parcel.draft.order 0 (data_of parcel.values) × (length (message_of parcel serial).bytes ≤ 134217728)
+IsShort parcel serial = AllFit parcel.draft.order 0 (data_of parcel.values) × (length (message_of parcel serial).bytes ≤ message_limit)
 
 -- an array passes its limit, or else the message does
 abbrev pub IsTooLong : Parcel → ℕ → Type 0
 IsTooLong parcel serial =
     (AllFit parcel.draft.order 0 (data_of parcel.values) → ⊥)
-    ⊎ (AllFit parcel.draft.order 0 (data_of parcel.values) × (134217728 < length (message_of parcel serial).bytes))
+    ⊎ (AllFit parcel.draft.order 0 (data_of parcel.values) × (message_limit < length (message_of parcel serial).bytes))
 
 -- a message to be put, and why
 pub record Posting : Type 0 where

@@ -24,6 +24,7 @@ use Rattle.peer_route.specs.Streams.{matched, held, is_open, take_by, first_posi
 use Rattle.peer_route.specs.declared.progress.OpenState.{OpenState}
 use Rattle.peer_route.specs.declared.progress.OpenState.TheVariants as states
 use Rattle.peer_route.specs.declared.polled.Polled.{Polled}
+use Rattle.peer_route.specs.Limits.{greatest_serial}
 
 -- what is kept of a reply: nothing where the call is one of the peer's own
 abbrev pub reply_kept : Bool → Seen → Slot
@@ -87,7 +88,7 @@ answers_call v m = is_none v.closing && list_any (takes m) v.slots
 pub record IsIndex (places : BTreeMap ℕ ℕ) (ss : List Slot) : Type 0 where
   pub there : (serial place : ℕ) → get nat_cmp places serial ≡ Some place → is_waiting serial (get_or ss place slots.Gone) ≡ true
   pub whole : (serial place : ℕ) → is_waiting serial (get_or ss place slots.Gone) ≡ true → get nat_cmp places serial ≡ Some place
-  pub circle : (serial : ℕ) → IsSome (get nat_cmp places serial) → (1 ≤ serial) × (serial ≤ 4294967295)
+  pub circle : (serial : ℕ) → IsSome (get nat_cmp places serial) → (1 ≤ serial) × (serial ≤ greatest_serial)
 
 -- the number is there and is this
 abbrev pub is_number : Option ℕ → ℕ → Bool

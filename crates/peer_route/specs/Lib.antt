@@ -1,3 +1,4 @@
+pub mod Limits
 pub mod Hex
 pub mod BodyWord
 pub mod BusCall

@@ -9,6 +9,7 @@ use Rattle.peer_route.specs.CallMessage.{call_asked, signal_asked, reply_asked, 
 use Rattle.peer_route.specs.History.{Event, last_serial, Stream, streams, read, past}
 use Rattle.peer_route.specs.Calls.{pending}
 use Rattle.peer_route.specs.Streams.{gave_last}
+use Rattle.peer_route.specs.Limits.{greatest_serial}
 
 -- ---- serials
 
@@ -19,7 +20,7 @@ first_free taken last k (suc n) = if taken (serial_after last k) then first_free
 
 -- the serial that is drawn next: the first after the last one drawn, round the circle, that isn't pending
 unfoldable pub next_serial : List Event → Option ℕ
-next_serial h = first_free (pending (past h)) (last_serial h) 1 4294967295
+next_serial h = first_free (pending (past h)) (last_serial h) 1 greatest_serial
 
 abbrev pub or_zero : Option ℕ → ℕ
 or_zero None = 0
