@@ -1,9 +1,9 @@
 -- The messages of a command are built, each with the serial that it drew.
-use Rattle.std.proofs.Common.{◌≡◌, ℕ, ◌<◌, ◌≤◌, ◌^◌, ◌||◌, refl, sym, ◌∙◌, ap, subst, inl, inr, Bool, true, false, List, [], ◌∷◌, ◌++◌, length, map, Option, Some, None, IsSome, Result, Ok, Err, is_some}
+use Rattle.std.proofs.Common.{◌≡◌, ℕ, ◌<◌, ◌≤◌, ◌^◌, ◌||◌, refl, sym, ◌∙◌, ap, subst, inl, inr, Bool, true, false, List, [], ◌∷◌, ◌++◌, length, map, Option, Some, None, IsSome, Result, Ok, Err, is_some, unwrap_or, not, nat_lt}
 use Rattle.std.specs.List.{list_any, AllByRecursion}
-use Rattle.std.proofs.lemmas.Bool.{true≢false, false≢true}
+use Rattle.std.proofs.lemmas.Bool.{true≢false, false≢true, or_right}
 use borrow.Author.Tests.{ltb-false}
-use Rattle.wire_tree.specs.Datum.{Datum, type_of}
+use Rattle.wire_tree.specs.Datum.{Datum, type_of, data_of}
 use Rattle.wire_signature.specs.declared.error.VariantError.TheVariants as faults
 use Rattle.wire_message.specs.Front.{Seen, bare}
 use Rattle.wire_message.specs.Draft.{built, header_text, message_text, Draft}
@@ -12,9 +12,10 @@ use Rattle.wire_message.specs.Bodies.{body_text, BuildsValues}
 use Rattle.wire_message.specs.declared.error.Error.{Error}
 use Rattle.wire_message.specs.declared.error.Error.TheVariants as errors
 use Rattle.peer_route.specs.Parcel.{Parcel, message_of, sender_of, sent_by}
-use Rattle.peer_route.specs.Issuing.{is_deep, IsTooLong, AreShort, SomeLong}
-use Rattle.peer_route.specs.Trail.{or_zero}
-use Rattle.peer_route.specs.Placing.{numbered, numbered_each, own, own_message, IsReady, IsOwnShort, SomeOwnLong, MakesAt, MakesOwn, NotMade, messages_of}
+use Rattle.peer_route.specs.Fitting.{all_fit}
+use Rattle.peer_route.specs.Issuing.{is_deep, is_long, some_long, messages_of}
+use Rattle.peer_route.specs.Placing.{numbered, numbered_each, own, own_message, IsReady, is_own_long, MakesAt, MakesOwn, NotMade}
+use Rattle.peer_route.proofs.Fitting.{short_so, long_so}
 
 -- ---- one message
 
@@ -41,22 +42,22 @@ makes_at taken parcel serial last new (Ok m) shallow b =
     let w = b.2.0 in
     let is : m ≡ message_of parcel serial =
     with_fds m _ parcel.fds w.3 b.2.1 ∙ same_built parcel (Some serial) m.serial ∙ ap (message_of parcel) w.0 in
-    (is, (b.1, subst (λ (n : Seen). length n.bytes ≤ 134217728) is w.2))
-makes_at taken parcel serial last new (Err errors.ExcessData) shallow b = elim b.3 [
+    (is, short_so parcel serial b.1 (subst (λ (n : Seen). length n.bytes ≤ 134217728) is w.2))
+makes_at taken parcel serial last new (Err errors.ExcessData) shallow b = long_so parcel serial (elim b.3 [
   | inl unfit ↦ inl unfit
   | inr long ↦ inr (long.0, subst (λ text. 134217728 < length text) (ap (λ n. message_text (signed (counted (with_serial parcel.draft (Some serial)) parcel.fds) (map type_of parcel.values)) n (body_text parcel.draft.order parcel.values)) b.1 ∙ same_text parcel (Some serial) serial) long.1)
-]
+])
 makes_at taken parcel serial last new (Err (errors.Variant faults.Depth)) shallow b = absurd (b.1 (ltb-false _ _ shallow))
 makes_at taken parcel serial last new (Err errors.SerialsSpent) shallow b = absurd b.0
 makes_at taken parcel serial last new (Err errors.Memory) shallow b = tt
 makes_at taken parcel serial last new (Err other) shallow b = absurd b
 
-the_serial : (o : Option ℕ) → is_some o ≡ true → o ≡ Some (or_zero o)
+the_serial : (o : Option ℕ) → is_some o ≡ true → o ≡ Some (unwrap_or o 0)
 the_serial None e = absurd (false≢true e)
 the_serial (Some n) e = refl
 
 -- a message that has its serial is built with it
-pub makes_own : (taken : ℕ → Bool) (parcel : Parcel) (last new : ℕ) (r : Result Seen Error) → IsSome parcel.draft.serial → is_deep parcel ≡ false
+makes_own : (taken : ℕ → Bool) (parcel : Parcel) (last new : ℕ) (r : Result Seen Error) → IsSome parcel.draft.serial → is_deep parcel ≡ false
     → BuildsValues taken (counted parcel.draft parcel.fds) parcel.values parcel.fds last new r → MakesOwn parcel r
 makes_own taken parcel last new r some shallow b =
     makes_at taken parcel (own parcel) last new r shallow
@@ -99,30 +100,19 @@ messages_own (p ∷ ps) [] = refl
 messages_own (p ∷ ps) (s ∷ serials) =
     ap (λ m. m ∷ map own_message (numbered_each ps serials)) (same_message p s) ∙ ap (λ ms. message_of p s ∷ ms) (messages_own ps serials)
 
-pub short_own : (ps : List Parcel) (serials : List ℕ) → AllByRecursion IsOwnShort (numbered_each ps serials) → AreShort ps serials
-short_own [] serials a = tt
-short_own (p ∷ ps) [] a = tt
-short_own (p ∷ ps) (s ∷ serials) a =
-    ((a.0.0, subst (λ (m : Seen). length m.bytes ≤ 134217728) (same_message p s) a.0.1), short_own ps serials a.1)
+same_long : (p : Parcel) (serial : ℕ) → is_long (numbered serial p) serial ≡ is_long p serial
+unfolding is_long
+same_long p serial = ap (λ (m : Seen). not (all_fit p.draft.order 0 (data_of p.values)) || nat_lt 134217728 (length m.bytes)) (same_message p serial)
 
-long_one : (p : Parcel) (serial : ℕ) → IsTooLong (numbered serial p) serial → IsTooLong p serial
-long_one p serial (inl unfit) = inl unfit
-long_one p serial (inr long) = inr (long.0, subst (λ (m : Seen). 134217728 < length m.bytes) (same_message p serial) long.1)
+pub long_own : (ps : List Parcel) (serials : List ℕ) → list_any is_own_long (numbered_each ps serials) ≡ some_long ps serials
+long_own [] serials = refl
+long_own (p ∷ ps) [] = refl
+long_own (p ∷ ps) (s ∷ serials) =
+    ap (λ b. b || list_any is_own_long (numbered_each ps serials)) (same_long p s) ∙ ap (λ b. is_long p s || b) (long_own ps serials)
 
-pub long_own : (ps : List Parcel) (serials : List ℕ) → SomeOwnLong (numbered_each ps serials) → SomeLong ps serials
-long_own [] serials x = absurd x
-long_own (p ∷ ps) [] x = absurd x
-long_own (p ∷ ps) (s ∷ serials) (inl long) = inl (long_one p s long)
-long_own (p ∷ ps) (s ∷ serials) (inr x) = inr (long_own ps serials x)
-
--- one message more
-pub all_more : {X : Type 0} (P : X → Type 0) (xs : List X) (x : X) → AllByRecursion P xs → P x → AllByRecursion P (xs ++ x ∷ [])
-all_more P [] x a p = (p, tt)
-all_more P (y ∷ xs) x a p = (a.0, all_more P xs x a.1 p)
-
-long_in : (xs : List Parcel) (p : Parcel) (rest : List Parcel) → IsTooLong p (own p) → SomeOwnLong (xs ++ p ∷ rest)
-long_in [] p rest long = inl long
-long_in (x ∷ xs) p rest long = inr (long_in xs p rest long)
+long_in : (xs : List Parcel) (p : Parcel) (rest : List Parcel) → is_own_long p ≡ true → list_any is_own_long (xs ++ p ∷ rest) ≡ true
+long_in [] p rest long = ap (λ b. b || list_any is_own_long rest) long
+long_in (x ∷ xs) p rest long = or_right (is_own_long x) _ (long_in xs p rest long)
 
 pub not_made : (xs : List Parcel) (p : Parcel) (rest : List Parcel) (error : Error) → MakesOwn p (Err error) → NotMade (xs ++ p ∷ rest) error
 not_made xs p rest errors.ExcessData m = long_in xs p rest m

@@ -1,8 +1,6 @@
 -- The messages by which a peer asks the bus, to be sent.
-use Rattle.std.proofs.Common.{◌≡◌, ℕ, refl, arith, codes, Bool, true, false, List, [], ◌∷◌, Option, Ok, Err}
+use Rattle.std.proofs.Common.{◌≡◌, ℕ, refl, codes, Bool, true, List, Option, Ok, Err}
 use Rattle.wire_names.specs.Names.{is_element, is_dotted, is_unique_name, is_bus_name, is_interface_name, is_member_name, is_object_path, IsBusName, IsInterfaceName, IsObjectPath}
-use Rattle.wire_signature.specs.Shape.{basic, IsSignature}
-use Rattle.wire_signature.specs.declared.basic.BasicType.TheVariants as basics
 use Rattle.wire_message.specs.declared.error.Error.{Error}
 use Rattle.wire_message.specs.declared.error.Error.TheVariants as errors
 use Rattle.wire_message.specs.declared.error.IoKind.TheVariants as kinds
@@ -10,7 +8,6 @@ use Rattle.rule_match.specs.Rule.{Rule}
 use Rattle.peer_route.specs.declared.route.Issued.{Issued}
 use Rattle.peer_route.specs.Parcel.{Parcel}
 use Rattle.peer_route.specs.CallMessage.{expects, expects_reply}
-use Rattle.peer_route.specs.Issuing.{is_deep}
 use Rattle.peer_route.specs.Left.{View}
 use Rattle.peer_route.specs.BusCall.{match_parcel}
 use Rattle.peer_route.specs.Placing.{PutsAll}
@@ -36,18 +33,10 @@ pub remove_is : is_member_name (codes "RemoveMatch") ≡ true
 unfolding is_member_name is_element
 remove_is = refl
 
--- one string is a signature
-pub string_signature : IsSignature (basic basics.String ∷ [])
-string_signature = record { arrays = omega arith; structs = omega arith; fields = (tt, tt); within = omega arith }
-
 -- it waits for a reply
 pub match_expects : (member : List ℕ) (name : Option (List ℕ)) (rule : Rule) → expects (Ok (match_parcel member name rule)) ≡ true
 unfolding expects_reply
 match_expects member name rule = refl
-
--- and none of its values opens a container
-pub match_shallow : (member : List ℕ) (name : Option (List ℕ)) (rule : Rule) → is_deep (match_parcel member name rule) ≡ false
-match_shallow member name rule = refl
 
 -- a refusal is the same whatever else would be given
 pub refused_any : {A B : Type 0} (inner : Bool) (items : A → List Issued) (others : B → List Issued) (old new : View) (ps : List Parcel) (error : Error)

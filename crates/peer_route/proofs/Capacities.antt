@@ -1,17 +1,35 @@
--- What becomes of the main capacity and of a rule's.
-use Rattle.std.proofs.Common.{◌≡◌, ◌≢◌, ℕ, max, refl, sym, ◌∙◌, ap, Bool, true, false, is_none, if◌then◌else◌, Option, Some, None, Ok, Err}
+-- What a stream does, that one is opened, and what a capacity is, leave what each other stream gives; and what becomes of capacities.
+use Rattle.std.proofs.Common.{◌≡◌, ◌≢◌, ℕ, refl, ◌∙◌, ap, ◌<◌, length, [], ◌∷◌, Option, Some, None, max, sym, true, false, is_none, if◌then◌else◌, Ok, Err}
+use Rattle.std.proofs.lemmas.Bool.{false_from_ne_true}
 use Rattle.std.specs.List.{slice_get}
-use Rattle.wire_message.specs.declared.error.Error.TheVariants as errors
 use Rattle.rule_match.specs.Rule.{Rule}
+use Rattle.peer_route.specs.History.{Made, Did, Main, Ruled, Deed, Asked, Stream, done_by, rule_stream, Past, after, plain_asks, is_subscribed, asked_or, raised, limit_then, rule_of, is_of, rule_asks}
+use Rattle.peer_route.specs.Streams.{runs, take_at, take_answer, runs_at, is_open, limit_of, limit_answer}
+use Rattle.peer_route.proofs.Edits.{edit_other, edit_nothing, get_before}
+use Rattle.wire_message.specs.declared.error.Error.TheVariants as errors
 use Rattle.peer_route.specs.Rules.{is_same, usual}
-use Rattle.peer_route.specs.History.{Made, Making, Did, Main, Ruled, Asked, Stream, plain_asks, is_subscribed, asked_or, raised, limit_then, rule_of, is_of, rule_asks, Past, after}
-use Rattle.peer_route.specs.Streams.{runs, runs_at, is_open, limit_of, limit_answer}
 use Rattle.peer_route.proofs.SameRule.{same_self, same_one}
 
--- ---- the main one
+-- ---- other streams
 
-pub main_exact : (h : Past) (limit : ℕ) → (after (Main limit) h).capacities.main ≡ limit
-main_exact h limit = refl
+pub did_other : (h : Past) (j k : ℕ) (deed : Deed) → j ≢ k → take_answer (after (Did j deed) h) k ≡ take_answer h k
+unfolding take_answer
+did_other h j k deed ne = ap (take_at h.read h.closing) (edit_other (done_by deed) j k h.streams ne)
+
+pub main_keeps : (h : Past) (limit k : ℕ) → take_answer (after (Main limit) h) k ≡ take_answer h k
+unfolding take_answer
+main_keeps h limit k = refl
+
+pub asked_keeps : (h : Past) (limit j k : ℕ) → take_answer (after (Did j (Asked limit)) h) k ≡ take_answer h k
+unfolding take_answer
+asked_keeps h limit j k = ap (λ ss. take_at h.read h.closing (slice_get ss k)) (edit_nothing j h.streams)
+
+-- a stream that is opened comes behind those that were there
+pub opened_keeps : (h : Past) (rule : Rule) (asked : Option ℕ) (k : ℕ) → k < length h.streams → take_answer (after (Made (Ruled rule asked)) h) k ≡ take_answer h k
+unfolding take_answer
+opened_keeps h rule asked k le = ap (take_at h.read h.closing) (get_before k h.streams (rule_stream h rule ∷ []) le)
+
+-- ---- the main one
 
 pub main_raised : (h : Past) (limit j : ℕ) (s : Stream) → slice_get h.streams j ≡ Some s → s.rule ≡ None → (after (Did j (Asked limit)) h).capacities.main ≡ max h.capacities.main limit
 main_raised h limit j s at plain = ap (λ o. plain_asks o h.capacities.main limit) at ∙ ap (λ r. if is_none r then max h.capacities.main limit else h.capacities.main) plain
@@ -19,17 +37,10 @@ main_raised h limit j s at plain = ap (λ o. plain_asks o h.capacities.main limi
 pub main_kept : (h : Past) (limit j : ℕ) (s : Stream) (rule : Rule) → slice_get h.streams j ≡ Some s → s.rule ≡ Some rule → (after (Did j (Asked limit)) h).capacities.main ≡ h.capacities.main
 main_kept h limit j s rule at ruled = ap (λ o. plain_asks o h.capacities.main limit) at ∙ ap (λ r. if is_none r then max h.capacities.main limit else h.capacities.main) ruled
 
-pub main_made : (h : Past) (making : Making) → (after (Made making) h).capacities.main ≡ h.capacities.main
-main_made h making = refl
-
 -- ---- a rule's
 
 same_other : (rule another : Rule) → rule ≢ another → is_same rule another ≡ false
-same_other rule another differ = not_one (is_same rule another) (λ e. differ (same_one rule another e))
-  where
-    not_one : (b : Bool) → (b ≡ true → ⊥) → b ≡ false
-    not_one true no_ = absurd (no_ refl)
-    not_one false no_ = refl
+same_other rule another differ = false_from_ne_true (is_same rule another) (λ e. differ (same_one rule another e))
 
 -- an open stream's
 limit_there : (h : Past) (k : ℕ) (s : Stream) → slice_get h.streams k ≡ Some s → runs h.read s ≡ true → limit_answer h k ≡ Ok (limit_of h.capacities s.rule)
@@ -69,6 +80,3 @@ differs rule (Some r) ne = same_other rule r (λ e. ne (ap Some (sym e)))
 pub asked_other : (h : Past) (limit j : ℕ) (s : Stream) (rule : Rule) → slice_get h.streams j ≡ Some s → s.rule ≢ Some rule → (after (Did j (Asked limit)) h).capacities.rules rule ≡ h.capacities.rules rule
 asked_other h limit j s rule at ne =
     ap (λ o. rule_asks rule (rule_of o) (h.capacities.rules rule) limit) at ∙ ap (λ b. if b then max (h.capacities.rules rule) limit else h.capacities.rules rule) (differs rule s.rule ne)
-
-pub set_limit : (h : Past) (rule : Rule) (limit : ℕ) → (after (Main limit) h).capacities.rules rule ≡ h.capacities.rules rule
-set_limit h rule limit = refl

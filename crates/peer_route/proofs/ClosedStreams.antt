@@ -1,344 +1,250 @@
 -- A stream that was closed, or that the bus denied, is unknown for good.
-use Rattle.std.proofs.Common.{◌≡◌, inl, inr, ℕ, zero, suc, ◌==◌, ◌&&◌, not, refl, sym, ◌∙◌, ap, subst, ◌||◌, Bool, true, false, if◌then◌else◌, is_some, List, [], ◌∷◌, ◌++◌, map, Option, Some, None, Ok, Err, append_assoc}
+use Rattle.std.proofs.Common.{◌≡◌, ◌⊎◌, inl, inr, ℕ, ◌==◌, ◌&&◌, not, refl, sym, ◌∙◌, ap, subst, ◌||◌, Bool, true, false, if◌then◌else◌, List, [], ◌∷◌, ◌++◌, Option, Some, None, option_map, Ok, Err}
 use Rattle.std.specs.List.{slice_get, AllByRecursion}
-use Rattle.std.proofs.lemmas.Bool.{or_cases, eqb-true}
+use Rattle.std.proofs.Math.Bool.{and-false}
+use Rattle.std.proofs.lemmas.Bool.{cases_eq, eq-eqb, eqb-true, and_parts, not-true}
+use Rattle.std.proofs.lemmas.Option.{slice_get-map}
+use Rattle.wire_message.specs.Front.{Seen}
 use Rattle.wire_message.specs.declared.error.Error.TheVariants as errors
-use Rattle.rule_match.specs.Rule.{Rule}
+use Rattle.peer_route.specs.declared.progress.OpenState.{OpenState}
+use Rattle.peer_route.specs.declared.progress.OpenState.TheVariants as states
 use Rattle.peer_route.specs.declared.words.Words.{Words}
 use Rattle.peer_route.specs.declared.words.Words.TheVariants as words
-use Rattle.peer_route.specs.declared.answer.Answer.{Answer}
+use Rattle.peer_route.specs.declared.words.StreamOp.{StreamOp}
+use Rattle.peer_route.specs.declared.words.StreamOp.TheVariants as ops
 use Rattle.peer_route.specs.declared.answer.Answer.TheVariants as answers
 use Rattle.peer_route.specs.declared.answer.Entry.{Entry}
-use Rattle.peer_route.specs.History.{Event, Fault, Made, Did, Put, Adds, Deed, Gave, Told, Gone, Asked, Opened, done, closing, unique_name, edit, Stream, streams, phase, asks_by, new_stream, asking_stream, done_by, fail_stream, past, read}
-use Rattle.peer_route.specs.Calls.{by_position}
-use Rattle.peer_route.specs.Streams.{is_since, runs, runs_at, is_open, gave_last, held, take_by, take_at, take_answer, leaving, gone_then, opening_at, opening_answer, opening_events}
-use Rattle.peer_route.specs.declared.progress.OpenState.TheVariants as states
-use Rattle.peer_route.specs.Parcel.{Setting}
 use Rattle.peer_route.specs.CallMessage.{reply_asked, error_asked}
-use Rattle.peer_route.specs.Trail.{Trail, place, given_by, given_at, given}
-use Rattle.peer_route.specs.Answers.{IsAnswer, IsSendOf, Legal, IsMeant}
-use Rattle.peer_route.specs.StreamLaws.{names_stream, closes_stream, says_closed, says_denied, IsNoStream}
-use Rattle.peer_route.proofs.BusAnswers.{OfLeave, Unknown, Delays, leave_answered, Ended}
-use Rattle.peer_route.proofs.Edits.{edit_there}
-use Rattle.peer_route.proofs.Once.{place_append, legal_from}
-use Rattle.peer_route.specs.Entries.{trail, removals, wrote_each, fault_each, wrote_first, leave_with, events_of, new_streams, does, leave_events, more, said}
-use Rattle.peer_route.specs.Plan.{opened_does, opened_of, take_of, take_before_of, where_open, is_open_at, are_open_at, Leaves, Plan, asks_more, clones, ends, plan}
-use Rattle.peer_route.specs.Shown.{shown_opening, shown_take}
-use Rattle.peer_route.proofs.Plans.{error_kept}
-use Rattle.peer_route.specs.declared.progress.OpenState.{OpenState}
+use Rattle.peer_route.specs.History.{Event, Fault, Made, Cloned, Did, Put, Adds, Deed, Gone, Asked, edit, Stream, phase, asks_by, new_stream, asking_stream, end_one, done_by, fail_stream, Past, after, after_all}
+use Rattle.peer_route.specs.Calls.{by_position}
+use Rattle.peer_route.specs.Streams.{is_since, runs, runs_at, is_open, are_open, close_waits, item_at, offered, gave_last, held, take_by, take_at, take_answer, take_events, gone_events, opening_by, opening_at, opening_answer, opening_events}
+use Rattle.peer_route.specs.Shown.{shown_take, shown_opening}
+use Rattle.peer_route.specs.Parcel.{Setting}
+use Rattle.peer_route.specs.Trail.{Trail, place}
+use Rattle.peer_route.specs.Plan.{Plan, Says, refuses, where_named, where_open, unless_waits, makes, sends, leaves, ends, second_place, given_by, given_last, on_stream, plan}
+use Rattle.peer_route.specs.Entries.{IsMeant, deeds, trail, more, Legal, postings, writes}
+use Rattle.peer_route.specs.StreamLaws.{is_second, names_stream, closes_stream, stays_open, says_denied, IsNoStream}
+use Rattle.peer_route.proofs.Edits.{edit_other, edit_here, get_append}
+use Rattle.peer_route.proofs.Plans.{legal_from}
+use Rattle.peer_route.proofs.Kept.{every}
+use Rattle.peer_route.proofs.Deeds.{open_stream, named_done, open_done, waits_done}
+use Rattle.peer_route.specs.Issuing.{puts}
+use Rattle.peer_route.proofs.Flowing.{named_on}
 
--- ---- a stream that is closed
+-- ---- a stream that is gone
 
--- the stream with this number was made and is closed
-abbrev closed_at : List Stream → ℕ → Bool
-closed_at [] k = false
-closed_at (s ∷ ss) zero = s.gone
-closed_at (s ∷ ss) (suc k) = closed_at ss k
+abbrev There : List Stream → ℕ → Type 0
+There ss k = (s : Stream) × (slice_get ss k ≡ Some s)
 
-closed_append : (ss more : List Stream) (k : ℕ) → closed_at ss k ≡ true → closed_at (ss ++ more) k ≡ true
-closed_append [] more k g = cc
-closed_append (s ∷ ss) more zero g = g
-closed_append (s ∷ ss) more (suc k) g = closed_append ss more k g
+record GoneAt (ss : List Stream) (k : ℕ) : Type 0 where
+  stream : Stream
+  made : slice_get ss k ≡ Some stream
+  gone : stream.gone ≡ true
 
-closed_deed : (deed : Deed) (s : Stream) → s.gone ≡ true → (done_by deed s).gone ≡ true
-closed_deed Gave s g = g
-closed_deed Told s g = g
-closed_deed Gone s g = refl
-closed_deed (Asked limit) s g = g
-closed_deed Opened s g = g
+still_gone : (deed : Deed) (s : Stream) → s.gone ≡ true → (done_by deed s).gone ≡ true
+still_gone Gone s e = refl
+still_gone deed s e = e
 
-closed_edit : (deed : Deed) (j k : ℕ) (ss : List Stream) → closed_at ss k ≡ true → closed_at (edit j (done_by deed) ss) k ≡ true
-closed_edit deed j k [] g = g
-closed_edit deed zero zero (s ∷ ss) g = closed_deed deed s g
-closed_edit deed zero (suc k) (s ∷ ss) g = g
-closed_edit deed (suc j) zero (s ∷ ss) g = g
-closed_edit deed (suc j) (suc k) (s ∷ ss) g = closed_edit deed j k ss g
+gone_edit : (deed : Deed) (ss : List Stream) (j k : ℕ) → GoneAt ss k → GoneAt (edit j (done_by deed) ss) k
+gone_edit deed ss j k g = elim (cases_eq j k) as (λ _. GoneAt (edit j (done_by deed) ss) k) [
+  | inl same ↦ record { stream = done_by deed g.stream; made = ap (λ i. slice_get (edit i (done_by deed) ss) k) same ∙ edit_here (done_by deed) k ss g.stream g.made; gone = still_gone deed g.stream g.gone }
+  | inr ne ↦ record { stream = g.stream; made = edit_other (done_by deed) j k ss ne ∙ g.made; gone = g.gone }
+]
 
-closed_fail : (h : List Event) (n k : ℕ) (ss : List Stream) → closed_at ss k ≡ true → closed_at (map (fail_stream (read h) n) ss) k ≡ true
-closed_fail h n k [] g = cc
-closed_fail h n zero (s ∷ ss) g = ap (λ b. b || asks_by n (phase (read h) s)) g
-closed_fail h n (suc k) (s ∷ ss) g = closed_fail h n k ss g
+-- whatever happens
+gone_after : (k : ℕ) (e : Event) (h : Past) → GoneAt h.streams k → GoneAt (after e h).streams k
+gone_after k (Did j deed) h g = gone_edit deed h.streams j k g
+gone_after k (Made making) h g = record { stream = g.stream; made = get_append k h.streams (new_stream h h.streams making ∷ []) g.stream g.made; gone = g.gone }
+gone_after k (Put m (Adds rule asked)) h g = record { stream = g.stream; made = get_append k h.streams (asking_stream h m rule ∷ []) g.stream g.made; gone = g.gone }
+gone_after k Fault h g =
+    let fails = fail_stream h.read h.outbox.done in
+    record { stream = fails g.stream; made = slice_get-map fails h.streams k ∙ ap (option_map fails) g.made; gone = ap (λ b. b || asks_by h.outbox.done (phase h.read g.stream)) g.gone }
+gone_after k e h g = g
 
-closed_event : (e : Event) (h : List Event) (k : ℕ) → closed_at (streams h) k ≡ true → closed_at (streams (e ∷ h)) k ≡ true
-closed_event Fault h k g = closed_fail h (done h) k (streams h) g
-closed_event (Made making) h k g = closed_append (streams h) (new_stream (past h) (streams h) making ∷ []) k g
-closed_event (Did j deed) h k g = closed_edit deed j k (streams h) g
-closed_event (Put m (Adds rule asked)) h k g = closed_append (streams h) (asking_stream (past h) m rule ∷ []) k g
-closed_event e h k g = g
+gone_now : (ss : List Stream) (k : ℕ) → There ss k → GoneAt (edit k end_one ss) k
+gone_now ss k there = record { stream = end_one there.0; made = edit_here end_one k ss there.0 there.1; gone = refl }
 
-closed_events : (es h : List Event) (k : ℕ) → closed_at (streams h) k ≡ true → closed_at (streams (es ++ h)) k ≡ true
-closed_events [] h k g = g
-closed_events (e ∷ es) h k g = closed_event e (es ++ h) k (closed_events es h k g)
+-- ---- what is asked of it
 
--- ---- it is closed by an entry
-
-closed_here : (k : ℕ) (ss : List Stream) → is_some (slice_get ss k) ≡ true → closed_at (edit k (done_by Gone) ss) k ≡ true
-closed_here k [] e = cc
-closed_here zero (s ∷ ss) e = refl
-closed_here (suc k) (s ∷ ss) e = closed_here k ss e
-
-there_made : (h : List Event) (o : Option Stream) → runs_at (read h) o ≡ true → is_some o ≡ true
-there_made h None e = cc
-there_made h (Some s) e = refl
-
--- an open stream was made
-open_there : (h : List Event) (i : ℕ) → is_open (past h) i ≡ true → is_some (slice_get (streams h) i) ≡ true
-unfolding is_open
-open_there h i e = there_made h (slice_get (streams h) i) e
-
-named_there : (h : List Event) (p : Option ℕ) (i : ℕ) → p ≡ Some i → is_open_at h p ≡ true → is_some (slice_get (streams h) i) ≡ true
-named_there h p i named e = open_there h i (ap (is_open_at h) (sym named) ∙ e)
-
-open_named : (h : List Event) (p : Option ℕ) → is_open_at h p ≡ true → (k : ℕ) × (p ≡ Some k)
-open_named h None e = cc
-open_named h (Some k) e = (k, refl)
-
-two_open : (a b c : Bool) → (a && b && c) ≡ true → (a ≡ true) × (b ≡ true)
-two_open true true c e = (refl, refl)
-two_open true false c e = cc
-two_open false b c e = cc
-
--- The stream at this place is closed after these events.
-abbrev IsEndedBy : List Event → List Event → Option ℕ → Type 0
-IsEndedBy xs h p = (k : ℕ) × (p ≡ Some k) × (closed_at (streams (xs ++ h)) k ≡ true)
-
-closes_front : (xs ys h : List Event) (k : ℕ) → closed_at (streams (ys ++ h)) k ≡ true → closed_at (streams ((xs ++ ys) ++ h)) k ≡ true
-closes_front xs ys h k g = subst (λ (zs : List Event). closed_at (streams zs) k ≡ true) (sym (append_assoc xs ys h)) (closed_events xs (ys ++ h) k g)
-
--- whatever becomes of telling the bus
-closes_leave : (writes : List Rule → List Event) (h : List Event) (i : ℕ) (j : Option ℕ) (k : ℕ) → closed_at (streams (gone_then j (Did i Gone ∷ []) ++ h)) k ≡ true
-    → closed_at (streams (leave_with writes h i j ++ h)) k ≡ true
-closes_leave writes h i j k g =
-    closes_front (writes (leaving (past h) i j) ++ removals (gone_then j (Did i Gone ∷ h)) (leaving (past h) i j)) (gone_then j (Did i Gone ∷ [])) h k g
-
-closes_said : (h : List Event) (i : ℕ) (j : Option ℕ) (a : Answer) (k : ℕ) → says_closed a ≡ true → closed_at (streams (gone_then j (Did i Gone ∷ []) ++ h)) k ≡ true
-    → closed_at (streams (leave_events h i j a ++ h)) k ≡ true
-closes_said h i j (answers.Gone last) k e g = closes_leave wrote_each h i j k g
-closes_said h i j (answers.SendFailed error) k e g = closes_leave fault_each h i j k g
-closes_said h i j (answers.SentFirst error) k e g = closes_leave wrote_first h i j k g
-closes_said h i j (answers.Untold error) k e g = g
-closes_said h i j a k e g = cc
-
-ended_one : (h : List Event) (p : Option ℕ) (pl : Plan) (a : Answer) → OfLeave (is_open_at h p) p None pl a → says_closed a ≡ true → IsEndedBy (does h pl a) h p
-ended_one h p pl a (Ended i there named means said) e = (
-  i,
-  named,
-  subst (λ q. closed_at (streams (does h q a ++ h)) i ≡ true) (sym means) (closes_said h i None a i e (closed_here i (streams h) (named_there h p i named there))),
-)
-ended_one h p pl a (Unknown is) e = let q : false ≡ true = ap says_closed (sym is) ∙ e in cc
-ended_one h p pl a (Delays is) e = let q : false ≡ true = ap says_closed (sym is) ∙ e in cc
-
-ended_both : (h : List Event) (i j : ℕ) (a : Answer) → says_closed a ≡ true → is_some (slice_get (streams h) i) ≡ true → is_some (slice_get (streams h) j) ≡ true
-    → (closed_at (streams (leave_events h i (Some j) a ++ h)) i ≡ true) × (closed_at (streams (leave_events h i (Some j) a ++ h)) j ≡ true)
-ended_both h i j a e first second =
-    let one : closed_at (streams (Did i Gone ∷ h)) i ≡ true = closed_here i (streams h) first in
-    let there : is_some (slice_get (streams (Did i Gone ∷ h)) j) ≡ true = edit_there (done_by Gone) i j (streams h) ∙ second in
-    (closes_said h i (Some j) a i e (closed_edit Gone j i (streams (Did i Gone ∷ h)) one), closes_said h i (Some j) a j e (closed_here j (streams (Did i Gone ∷ h)) there))
-
-ended_two : (h : List Event) (p q : Option ℕ) (c : Bool) (pl : Plan) (a : Answer) → OfLeave (is_open_at h p && is_open_at h q && c) p q pl a → says_closed a ≡ true
-    → IsEndedBy (does h pl a) h p × IsEndedBy (does h pl a) h q
-ended_two h p q c pl a (Ended i there named means said) e =
-    let open_ = two_open (is_open_at h p) (is_open_at h q) c there in
-    let j = open_named h q open_.1 in
-    let both = ended_both h i j.0 a e (named_there h p i named open_.0) (named_there h q j.0 j.1 open_.1) in
-    let means_so : pl ≡ Leaves i (Some j.0) = means ∙ ap (Leaves i) j.1 in (
-      (i, named, subst (λ x. closed_at (streams (does h x a ++ h)) i ≡ true) (sym means_so) both.0),
-      (j.0, j.1, subst (λ x. closed_at (streams (does h x a ++ h)) j.0 ≡ true) (sym means_so) both.1),
-    )
-ended_two h p q c pl a (Unknown is) e = let f : false ≡ true = ap says_closed (sym is) ∙ e in cc
-ended_two h p q c pl a (Delays is) e = let f : false ≡ true = ap says_closed (sym is) ∙ e in cc
-
-closes_at : (t : Trail) (lane n number : ℕ) (xs : List Event) → (n == number) ≡ true → IsEndedBy xs t.events (place 0 lane n t.streams) → IsEndedBy xs t.events (place 0 lane number t.streams)
-closes_at t lane n number xs e c = subst (λ i. IsEndedBy xs t.events (place 0 lane i t.streams)) (eqb-true n number e) c
-
-closes_by : (t : Trail) (lane : ℕ) (w : Words) (a : Answer) (number : ℕ) → IsAnswer t lane w a → closes_stream number w ≡ true → says_closed a ≡ true
-    → IsEndedBy (events_of t lane w a) t.events (place 0 lane number t.streams)
-closes_by t lane (words.Unstream n None) a number is e said =
-    let p = place 0 lane n t.streams in
-    let w = words.Unstream n None in
-    closes_at t lane n number (events_of t lane w a) e (ended_one t.events p (plan t lane w) a (leave_answered t lane (is_open_at t.events p) p None a is) said)
-closes_by t lane (words.Unstream n (Some second)) a number is e said =
-    let p = place 0 lane n t.streams in
-    let q = place 0 lane second t.streams in
-    let w = words.Unstream n (Some second) in
-    let both = ended_two t.events p q (not (n == second)) (plan t lane w) a (leave_answered t lane (are_open_at t.events lane t.streams n (Some second)) p q a is) said in
-    elim (or_cases (n == number) (second == number) e) as (λ _. IsEndedBy (events_of t lane w a) t.events (place 0 lane number t.streams)) [
-      | inl one ↦ closes_at t lane n number (events_of t lane w a) one both.0
-      | inr two ↦ closes_at t lane second number (events_of t lane w a) two both.1
-    ]
-closes_by t lane w a number is e said = cc
-
--- ---- or is denied
-
-denied_does : (k : ℕ) (state : OpenState) → says_denied (shown_opening state) ≡ true → said (shown_opening state) (opening_events k state) ≡ Did k Gone ∷ []
-denied_does k (states.Refused m) e = error_kept m m.error_name (Did k Gone ∷ [])
-denied_does k (states.Over error) e = refl
-denied_does k state e = cc
-
-denied_made : (h : List Event) (o : Option Stream) → says_denied (shown_opening (opening_at (read h) (closing h) o)) ≡ true → is_some o ≡ true
-denied_made h None e = cc
-denied_made h (Some s) e = refl
-
-closes_denied : (h : List Event) (p : Option ℕ) (a : Answer) → a ≡ opened_of h p → says_denied a ≡ true → IsEndedBy (said a (opened_does h p)) h p
-unfolding opening_answer
-closes_denied h None a is e = let q : false ≡ true = ap says_denied (sym is) ∙ e in cc
-closes_denied h (Some k) a is e =
-    let denied = ap says_denied (sym is) ∙ e in
-    let does_so : said a (opened_does h (Some k)) ≡ Did k Gone ∷ [] = ap (λ x. said x (opened_does h (Some k))) is ∙ denied_does k (opening_answer (past h) k) denied in
-    (k, refl, subst (λ xs. closed_at (streams (xs ++ h)) k ≡ true) (sym does_so) (closed_here k (streams h) (denied_made h (slice_get (streams h) k) denied)))
-
--- ---- it is unknown
-
-not_running : (opened gone since : Bool) → gone ≡ true → (opened && (not gone && since)) ≡ false
-not_running true true since e = refl
-not_running true false since e = cc
-not_running false gone since e = refl
-
--- a stream that was closed doesn't run
-gone_runs : (h : List Event) (s : Stream) → s.gone ≡ true → runs (read h) s ≡ false
+gone_runs : (ms : List Seen) (s : Stream) → s.gone ≡ true → runs ms s ≡ false
 unfolding runs
-gone_runs h s g = not_running s.opened s.gone (is_since (phase (read h) s)) g
+gone_runs ms s e = ap (λ b. s.opened && (not b && is_since (phase ms s))) e ∙ and-false s.opened
 
-closed_there : (h : List Event) (ss : List Stream) (k : ℕ) → closed_at ss k ≡ true → runs_at (read h) (slice_get ss k) ≡ false
-closed_there h [] k g = cc
-closed_there h (s ∷ ss) zero g = gone_runs h s g
-closed_there h (s ∷ ss) (suc k) g = closed_there h ss k g
-
-closed_take_at : (h : List Event) (ss : List Stream) (k : ℕ) → closed_at ss k ≡ true → take_at (read h) (closing h) (slice_get ss k) ≡ Err errors.UnknownHandle
-closed_take_at h [] k g = cc
-closed_take_at h (s ∷ ss) zero g = ap (λ b. if b then Ok (take_by (held (read h) s) (closing h) s.told) else Err errors.UnknownHandle) (gone_runs h s g)
-closed_take_at h (s ∷ ss) (suc k) g = closed_take_at h ss k g
-
-closed_given : (h : List Event) (ss : List Stream) (k : ℕ) → closed_at ss k ≡ true → given_by h (slice_get ss k) ≡ None
-unfolding gave_last
-closed_given h [] k g = cc
-closed_given h (s ∷ ss) zero g = rw g refl
-closed_given h (s ∷ ss) (suc k) g = closed_given h ss k g
-
--- The lane's number names a stream that was closed.
-record IsClosed (t : Trail) (lane number : ℕ) : Type 0 where
-  k : ℕ
-  named : place 0 lane number t.streams ≡ Some k
-  closed : closed_at (streams t.events) k ≡ true
-
-not_taken : (t : Trail) (lane number : ℕ) → IsClosed t lane number → take_of t.events (place 0 lane number t.streams) ≡ answers.Refused errors.UnknownHandle
+gone_take : (h : Past) (k : ℕ) → GoneAt h.streams k → take_answer h k ≡ Err errors.UnknownHandle
 unfolding take_answer
-not_taken t lane number c = ap (take_of t.events) c.named ∙ ap shown_take (closed_take_at t.events (streams t.events) c.k c.closed)
+gone_take h k g = ap (take_at h.read h.closing) g.made ∙ ap (λ b. if b then Ok (take_by (held h.read g.stream) h.closing g.stream.told) else Err errors.UnknownHandle) (gone_runs h.read g.stream g.gone)
 
-not_taken_before : (t : Trail) (lane number : ℕ) → IsClosed t lane number → take_before_of t.events (place 0 lane number t.streams) ≡ answers.Refused errors.UnknownHandle
-unfolding take_answer
-not_taken_before t lane number c =
-    ap (take_before_of t.events) c.named ∙ ap (λ r. shown_take (by_position r)) (closed_take_at t.events (streams t.events) c.k c.closed)
-
-not_open : (t : Trail) (lane number : ℕ) → IsClosed t lane number → is_open_at t.events (place 0 lane number t.streams) ≡ false
+gone_open : (h : Past) (k : ℕ) → GoneAt h.streams k → is_open h k ≡ false
 unfolding is_open
-not_open t lane number c = ap (is_open_at t.events) c.named ∙ closed_there t.events (streams t.events) c.k c.closed
+gone_open h k g = ap (runs_at h.read) g.made ∙ gone_runs h.read g.stream g.gone
 
-closed_opening : (h : List Event) (ss : List Stream) (k : ℕ) → closed_at ss k ≡ true → opening_at (read h) (closing h) (slice_get ss k) ≡ states.Unknown
-closed_opening h [] k g = cc
-closed_opening h (s ∷ ss) zero g = rw g refl
-closed_opening h (s ∷ ss) (suc k) g = closed_opening h ss k g
-
-not_opened : (t : Trail) (lane number : ℕ) → IsClosed t lane number → opened_of t.events (place 0 lane number t.streams) ≡ answers.Refused errors.UnknownHandle
+gone_opening : (h : Past) (k : ℕ) → GoneAt h.streams k → opening_answer h k ≡ states.Unknown
 unfolding opening_answer
-not_opened t lane number c = ap (opened_of t.events) c.named ∙ ap shown_opening (closed_opening t.events (streams t.events) c.k c.closed)
+gone_opening h k g = ap (opening_at h.read h.closing) g.made ∙ ap (λ b. if b || g.stream.opened then states.Unknown else opening_by (phase h.read g.stream) h.closing) g.gone
 
-none_given : (t : Trail) (lane number : ℕ) → IsClosed t lane number → given t lane number ≡ None
-none_given t lane number c = ap (given_at t.events) c.named ∙ closed_given t.events (streams t.events) c.k c.closed
+gone_given : (h : Past) (k : ℕ) → GoneAt h.streams k → given_last h k ≡ None
+unfolding gave_last
+gone_given h k g = ap (given_by h) g.made ∙ ap (λ b. if b then None else item_at (offered h.read g.stream) g.stream.taken) g.gone
 
-refused_where : (t : Trail) (lane : ℕ) (b : Bool) (done : Plan) (a : Answer) → IsMeant t lane (where_open b done) a → b ≡ false → a ≡ answers.Refused errors.UnknownHandle
-refused_where t lane true done a is e = cc
-refused_where t lane false done a is e = is
+one_gone : (h : Past) (k : ℕ) (j : Option ℕ) → is_open h k ≡ false → are_open h k j ≡ false
+one_gone h k None e = e
+one_gone h k (Some j) e = ap (λ b. b && is_open h j && not (k == j)) e
 
-refused_clone : (t : Trail) (lane : ℕ) (p : Option ℕ) (a : Answer) → IsMeant t lane (clones lane t.streams t.events p) a → is_open_at t.events p ≡ false
-    → a ≡ answers.Refused errors.UnknownHandle
-refused_clone t lane None a is e = is
-refused_clone t lane (Some k) a is e = refused_where t lane (is_open (past t.events) k) _ a is e
+ends_unopened : (h : Past) (k : ℕ) (j : Option (Option ℕ)) → is_open h k ≡ false → ends h k j ≡ refuses errors.UnknownHandle
+ends_unopened h k None e = refl
+ends_unopened h k (Some j) e = ap (λ b. where_open b (unless_waits (close_waits h k j) (leaves h k j))) (one_gone h k j e)
 
-refused_more : (t : Trail) (lane limit : ℕ) (p : Option ℕ) (a : Answer) → IsMeant t lane (asks_more limit t.events p) a → is_open_at t.events p ≡ false
-    → a ≡ answers.Refused errors.UnknownHandle
-refused_more t lane limit None a is e = is
-refused_more t lane limit (Some k) a is e = refused_where t lane (is_open (past t.events) k) _ a is e
+-- whatever is asked of a stream that is gone
+gone_plan : (t : Trail) (lane : ℕ) (op : StreamOp) (k : ℕ) → GoneAt t.past.streams k → on_stream t lane op k ≡ refuses errors.UnknownHandle
+gone_plan t lane (ops.Reply body) k g = ap (λ m. sends t lane (reply_asked t.past.name m body)) (gone_given t.past k g)
+gone_plan t lane (ops.Error name body) k g = ap (λ m. sends t lane (error_asked t.past.name m name body)) (gone_given t.past k g)
+gone_plan t lane ops.Take k g = ap (λ r. Says (shown_take r) (take_events k r)) (gone_take t.past k g)
+gone_plan t lane (ops.TakeBefore before) k g = ap (λ r. Says (shown_take (by_position r)) (take_events k r)) (gone_take t.past k g)
+gone_plan t lane ops.Clone k g = ap (λ b. where_open b (makes t lane (Cloned k))) (gone_open t.past k g)
+gone_plan t lane ops.Opened k g = ap (λ r. Says (shown_opening r) (opening_events k r)) (gone_opening t.past k g)
+gone_plan t lane (ops.Queue limit) k g = ap (λ b. where_open b (Says answers.Set (Did k (Asked limit) ∷ []))) (gone_open t.past k g)
+gone_plan t lane (ops.Unstream second) k g = ends_unopened t.past k (second_place t lane second) (gone_open t.past k g)
 
-refused_leave : (t : Trail) (lane : ℕ) (there : Bool) (p q : Option ℕ) (a : Answer) → IsMeant t lane (ends there t.events p q) a → there ≡ false → a ≡ answers.Refused errors.UnknownHandle
-refused_leave t lane true p q a is e = cc
-refused_leave t lane false p q a is e = is
-
-first_not : (a b c : Bool) → a ≡ false → (a && b && c) ≡ false
-first_not false b c e = refl
-first_not true b c e = cc
-
-second_not : (a b c : Bool) → b ≡ false → (a && b && c) ≡ false
-second_not false b c e = refl
-second_not true false c e = refl
-second_not true true c e = cc
-
-named_at : (t : Trail) (lane n number : ℕ) → (n == number) ≡ true → IsClosed t lane number → IsClosed t lane n
-named_at t lane n number e c = subst (IsClosed t lane) (sym (eqb-true n number e)) c
-
-no_stream : (t : Trail) (lane : ℕ) (w : Words) (a : Answer) (number : ℕ) → IsAnswer t lane w a → IsClosed t lane number → names_stream number w ≡ true
-    → a ≡ answers.Refused errors.UnknownHandle
-no_stream t lane (words.Take n) a number is c e = is ∙ not_taken t lane n (named_at t lane n number e c)
-no_stream t lane (words.TakeBefore n before) a number is c e = is ∙ not_taken_before t lane n (named_at t lane n number e c)
-no_stream t lane (words.Clone n) a number is c e = refused_clone t lane (place 0 lane n t.streams) a is (not_open t lane n (named_at t lane n number e c))
-no_stream t lane (words.Queue n limit) a number is c e = refused_more t lane limit (place 0 lane n t.streams) a is (not_open t lane n (named_at t lane n number e c))
-no_stream t lane (words.Opened n) a number is c e = is ∙ not_opened t lane n (named_at t lane n number e c)
-no_stream t lane (words.Unstream n None) a number is c e = refused_leave t lane _ (place 0 lane n t.streams) None a is (not_open t lane n (named_at t lane n number e c))
-no_stream t lane (words.Unstream n (Some second)) a number is c e =
-    let p = is_open_at t.events (place 0 lane n t.streams) in
-    let q = is_open_at t.events (place 0 lane second t.streams) in
-    refused_leave t lane (p && q && not (n == second)) (place 0 lane n t.streams) (place 0 lane second t.streams) a is (elim (or_cases (n == number) (second == number) e) as (λ _. (p && q && not (n == second)) ≡ false) [
-      | inl one ↦ first_not p q (not (n == second)) (not_open t lane n (named_at t lane n number one c))
-      | inr two ↦ second_not p q (not (n == second)) (not_open t lane second (named_at t lane second number two c))
-    ])
-no_stream t lane (words.Reply n body) a number is c e =
-    subst (λ o. IsSendOf t lane (reply_asked (unique_name t.events) o body) a) (none_given t lane n (named_at t lane n number e c)) is
-no_stream t lane (words.Error n name body) a number is c e =
-    subst (λ o. IsSendOf t lane (error_asked (unique_name t.events) o name body) a) (none_given t lane n (named_at t lane n number e c)) is
-no_stream t lane w a number is c e = cc
+-- or where it is the second of two that are to be closed
+second_gone : (t : Trail) (lane k : ℕ) (first : Option ℕ) (second : ℕ) → place 0 lane second t.streams ≡ Some k → GoneAt t.past.streams k
+    → where_named (on_stream t lane (ops.Unstream (Some second))) first ≡ refuses errors.UnknownHandle
+second_gone t lane k None second named g = refl
+second_gone t lane k (Some i) second named g =
+    ap (λ o. ends t.past i (option_map Some o)) named
+    ∙ ap (λ b. where_open (is_open t.past i && b && not (i == k)) (unless_waits (close_waits t.past i (Some k)) (leaves t.past i (Some k)))) (gone_open t.past k g)
+    ∙ ap (λ b. where_open (b && not (i == k)) (unless_waits (close_waits t.past i (Some k)) (leaves t.past i (Some k)))) (and-false (is_open t.past i))
 
 -- ---- entries
 
-closed_more : (setting : Setting) (e : Entry) (es : List Entry) (lane number : ℕ) → IsClosed (trail setting es) lane number → IsClosed (trail setting (e ∷ es)) lane number
-closed_more setting e es lane number c = record {
-  k = c.k;
-  named = place_append 0 lane number (trail setting es).streams (new_streams (trail setting es) e.lane e.words e.answer) c.k c.named;
-  closed = closed_events (events_of (trail setting es) e.lane e.words e.answer) (trail setting es).events c.k c.closed;
-}
+-- The lane's number names a stream that is gone.
+record IsClosed (t : Trail) (lane number : ℕ) : Type 0 where
+  k : ℕ
+  named : place 0 lane number t.streams ≡ Some k
+  closed : GoneAt t.past.streams k
 
-closed_now : (setting : Setting) (e : Entry) (es : List Entry) (number : ℕ) → IsEndedBy (events_of (trail setting es) e.lane e.words e.answer) (trail setting es).events (place 0 e.lane number (trail setting es).streams)
-    → IsClosed (trail setting (e ∷ es)) e.lane number
-closed_now setting e es number c =
-    record { k = c.0; named = place_append 0 e.lane number (trail setting es).streams (new_streams (trail setting es) e.lane e.words e.answer) c.0 c.1; closed = c.2 }
+-- a command names it as the first, or as the second
+refused_by : (t : Trail) (lane n number : ℕ) (op : StreamOp) → IsClosed t lane number → (is_first second : Bool) → (n == number) ≡ is_first → is_second number op ≡ second → (is_first || second) ≡ true
+    → plan t lane (words.OfStream n op) ≡ refuses errors.UnknownHandle
+refused_by t lane n number op c true second first is e =
+    ap (λ x. where_named (on_stream t lane op) (place 0 lane x t.streams)) (eqb-true n number first) ∙ ap (where_named (on_stream t lane op)) c.named ∙ gone_plan t lane op c.k c.closed
+refused_by t lane n number (ops.Unstream (Some second)) c false true first is e =
+    second_gone t lane c.k (place 0 lane n t.streams) second (ap (λ x. place 0 lane x t.streams) (eqb-true second number is) ∙ c.named) c.closed
+refused_by t lane n number op c false true first is e = cc
+refused_by t lane n number op c false false first is e = cc
 
-closed_after : (setting : Setting) (e : Entry) (es : List Entry) (number : ℕ) → Legal setting (e ∷ es) → closes_stream number e.words ≡ true → says_closed e.answer ≡ true
-    → IsClosed (trail setting (e ∷ es)) e.lane number
-closed_after setting e es number legal w said = closed_now setting e es number (closes_by (trail setting es) e.lane e.words e.answer number legal.0 w said)
+no_stream : (t : Trail) (lane : ℕ) (w : Words) (number : ℕ) → IsClosed t lane number → names_stream number w ≡ true → plan t lane w ≡ refuses errors.UnknownHandle
+no_stream t lane (words.OfStream n op) number c e = refused_by t lane n number op c (n == number) (is_second number op) refl refl e
+no_stream t lane w number c e = cc
 
-denied_after : (setting : Setting) (e : Entry) (es : List Entry) (number : ℕ) → Legal setting (e ∷ es) → e.words ≡ words.Opened number → says_denied e.answer ≡ true
-    → IsClosed (trail setting (e ∷ es)) e.lane number
-denied_after setting e es number legal w said =
-    let t = trail setting es in
-    let p = place 0 e.lane number t.streams in
-    let is : e.answer ≡ opened_of t.events p = subst (λ x. IsAnswer t e.lane x e.answer) w legal.0 in
-    closed_now setting e es number (subst (λ x. IsEndedBy (events_of t e.lane x e.answer) t.events p) (sym w) (closes_denied t.events p e.answer is said))
+unknown_entry : (t : Trail) (x : Entry) (lane number : ℕ) → IsMeant t.past (plan t x.lane x.words) x → IsClosed t lane number → IsNoStream lane number x
+unknown_entry t x lane number is c same named = (subst (λ pl. IsMeant t.past pl x) (no_stream t x.lane x.words number (subst (λ l. IsClosed t l number) (sym same) c) named) is).1
 
-unknown_entry : (t : Trail) (x : Entry) (lane number : ℕ) → IsAnswer t x.lane x.words x.answer → IsClosed t lane number → IsNoStream lane number x
-unknown_entry t x lane number is c same named = no_stream t x.lane x.words x.answer number is (subst (λ l. IsClosed t l number) (sym same) c) named
+-- the deeds closed the lane's stream with this number
+abbrev Closes : Trail → Entry → Plan → ℕ → Type 0
+Closes t e pl number = (k : ℕ) × (place 0 e.lane number t.streams ≡ Some k) × GoneAt (after_all (deeds pl e) t.past).streams k
+
+-- what the deeds closed is closed behind the entry
+closed_entry : (t : Trail) (e : Entry) (lane number k : ℕ) → place 0 lane number t.streams ≡ Some k → GoneAt (after_all (deeds (plan t e.lane e.words) e) t.past).streams k → IsClosed (more t e) lane number
+closed_entry t e lane number k named g =
+    let pl = plan t e.lane e.words in
+    record {
+      k = k;
+      named = named_on pl e t lane number k named;
+      closed = every (λ (h : Past). GoneAt h.streams k) (gone_after k) (writes e) _ (every (λ (h : Past). GoneAt h.streams k) (gone_after k) (puts (postings pl) e.put) _ g);
+    }
 
 closed_later : (setting : Setting) (newer older : List Entry) (e : Entry) (lane number : ℕ) → Legal setting (newer ++ e ∷ older) → IsClosed (trail setting (e ∷ older)) lane number
     → IsClosed (trail setting (newer ++ e ∷ older)) lane number × AllByRecursion (IsNoStream lane number) newer
 closed_later setting [] older e lane number legal c = (c, tt)
 closed_later setting (x ∷ newer) older e lane number legal c =
     let rest = closed_later setting newer older e lane number legal.1 c in
-    (closed_more setting x (newer ++ e ∷ older) lane number rest.0, (unknown_entry (trail setting (newer ++ e ∷ older)) x lane number legal.0 rest.0, rest.1))
+    let t = trail setting (newer ++ e ∷ older) in
+    let o = rest.0 in
+    let ds = deeds (plan t x.lane x.words) x in
+    (closed_entry t x lane number o.k o.named (every (λ (h : Past). GoneAt h.streams o.k) (gone_after o.k) ds t.past o.closed), (unknown_entry t x lane number legal.0 o, rest.1))
+
+-- ---- what closes
+
+ends_done : (h : Past) (k : ℕ) (q : Option (Option ℕ)) (e : Entry) → IsMeant h (ends h k q) e → stays_open e.answer ≡ false
+    → (j : Option ℕ) × (q ≡ Some j) × (are_open h k j ≡ true) × (ends h k q ≡ leaves h k j)
+ends_done h k None e is not_ = let x : true ≡ false = ap stays_open (sym is.1) ∙ not_ in cc
+ends_done h k (Some j) e is not_ =
+    let o = open_done h (are_open h k j) (unless_waits (close_waits h k j) (leaves h k j)) e is not_ in
+    (j, refl, o.0, o.1 ∙ waits_done h (close_waits h k j) (leaves h k j) e (subst (λ pl. IsMeant h pl e) o.1 is) not_)
+
+open_there : (h : Past) (k : ℕ) → is_open h k ≡ true → There h.streams k
+open_there h k e = let o = open_stream h k e in (o.0, o.1)
+
+-- those that were open are gone
+gone_of : (h : Past) (k : ℕ) (j : Option ℕ) (i : ℕ) → are_open h k j ≡ true → (i ≡ k) ⊎ (j ≡ Some i) → GoneAt (after_all (gone_events k j) h).streams i
+gone_of h k None i opens (inl same) = subst (GoneAt (edit k end_one h.streams)) (sym same) (gone_now h.streams k (open_there h k opens))
+gone_of h k None i opens (inr same) = cc
+gone_of h k (Some j) i opens which =
+    let both = and_parts (is_open h k) (is_open h j) (and_parts (is_open h k && is_open h j) (not (k == j)) opens).0 in
+    let apart : (k == j) ≡ false = not-true (k == j) (and_parts (is_open h k && is_open h j) (not (k == j)) opens).1 in
+    let there = open_there h j both.1 in
+    elim which as (λ _. GoneAt (edit j end_one (edit k end_one h.streams)) i) [
+      | inl same ↦ subst (GoneAt (edit j end_one (edit k end_one h.streams))) (sym same) (gone_edit Gone (edit k end_one h.streams) j k (gone_now h.streams k (open_there h k both.0)))
+      | inr same ↦
+          let one : j ≡ i = cc in
+          subst (GoneAt (edit j end_one (edit k end_one h.streams))) one
+          (gone_now (edit k end_one h.streams) j (there.0, edit_other end_one k j h.streams (λ e. let x : (k == j) ≡ true = eq-eqb k j e in cc) ∙ there.1))
+    ]
+
+-- the number names one of them
+which_by : (t : Trail) (lane n number k : ℕ) (second j : Option ℕ) → place 0 lane n t.streams ≡ Some k → second_place t lane second ≡ Some j → (is_first other : Bool) → (n == number) ≡ is_first
+    → is_second number (ops.Unstream second) ≡ other → (is_first || other) ≡ true → (i : ℕ) × (place 0 lane number t.streams ≡ Some i) × ((i ≡ k) ⊎ (j ≡ Some i))
+which_by t lane n number k second j one two true other first q e = (k, ap (λ x. place 0 lane x t.streams) (sym (eqb-true n number first)) ∙ one, inl refl)
+which_by t lane n number k (Some x) j one two false true first q e = by_second (place 0 lane x t.streams) (ap (λ y. place 0 lane y t.streams) (sym (eqb-true x number q))) two
+  where
+    by_second : (o : Option ℕ) → place 0 lane number t.streams ≡ o → option_map Some o ≡ Some j → (i : ℕ) × (place 0 lane number t.streams ≡ Some i) × ((i ≡ k) ⊎ (j ≡ Some i))
+    by_second None named same = cc
+    by_second (Some i) named same = (i, named, inr (let q : Some (Some i) ≡ Some j = same in cc))
+which_by t lane n number k None j one two false true first q e = cc
+which_by t lane n number k second j one two false false first q e = cc
+
+closes_entry : (t : Trail) (e : Entry) (w : Words) (number : ℕ) → IsMeant t.past (plan t e.lane w) e → closes_stream number w ≡ true → stays_open e.answer ≡ false → Closes t e (plan t e.lane w) number
+closes_entry t e (words.OfStream n (ops.Unstream second)) number is closes not_ =
+    let h = t.past in
+    let o = named_done h (on_stream t e.lane (ops.Unstream second)) (place 0 e.lane n t.streams) e is not_ in
+    let l = ends_done h o.0 (second_place t e.lane second) e (subst (λ pl. IsMeant h pl e) o.2 is) not_ in
+    let which = which_by t e.lane n number o.0 second l.0 o.1 l.1 (n == number) (is_second number (ops.Unstream second)) refl refl closes in
+    (which.0, which.1, subst (λ pl. GoneAt (after_all (deeds pl e) h).streams which.0) (sym (o.2 ∙ l.3)) (gone_of h o.0 l.0 which.0 l.2 which.2))
+closes_entry t e w number is closes not_ = cc
 
 pub closed_for_good : (setting : Setting) (newer older : List Entry) (e : Entry) (number : ℕ) → Legal setting (newer ++ e ∷ older) → closes_stream number e.words ≡ true
-    → says_closed e.answer ≡ true → AllByRecursion (IsNoStream e.lane number) newer
-closed_for_good setting newer older e number legal w said =
-    (closed_later setting newer older e e.lane number legal (closed_after setting e older number (legal_from setting newer (e ∷ older) legal) w said)).1
+    → stays_open e.answer ≡ false → AllByRecursion (IsNoStream e.lane number) newer
+closed_for_good setting newer older e number legal closes not_ =
+    let t = trail setting older in
+    let c = closes_entry t e e.words number (legal_from setting newer (e ∷ older) legal).0 closes not_ in
+    (closed_later setting newer older e e.lane number legal (closed_entry t e e.lane number c.0 c.1 c.2)).1
 
-pub denied_for_good : (setting : Setting) (newer older : List Entry) (e : Entry) (number : ℕ) → Legal setting (newer ++ e ∷ older) → e.words ≡ words.Opened number
+-- ---- what is denied
+
+denied_state : (h : Past) (k : ℕ) (state : OpenState) → There h.streams k → says_denied (shown_opening state) ≡ true → GoneAt (after_all (opening_events k state) h).streams k
+denied_state h k (states.Refused m) there said = gone_now h.streams k there
+denied_state h k (states.Over error) there said = gone_now h.streams k there
+denied_state h k state there said = cc
+
+denied_at : (h : Past) (k : ℕ) (o : Option Stream) → slice_get h.streams k ≡ o → says_denied (shown_opening (opening_at h.read h.closing o)) ≡ true
+    → GoneAt (after_all (opening_events k (opening_at h.read h.closing o)) h).streams k
+denied_at h k None at said = cc
+denied_at h k (Some s) at said = denied_state h k (opening_at h.read h.closing (Some s)) (s, at) said
+
+denied_so : (h : Past) (k : ℕ) → says_denied (shown_opening (opening_answer h k)) ≡ true → GoneAt (after_all (opening_events k (opening_answer h k)) h).streams k
+unfolding opening_answer
+denied_so h k said = denied_at h k (slice_get h.streams k) refl said
+
+denies : (t : Trail) (e : Entry) (number : ℕ) (p : Option ℕ) → place 0 e.lane number t.streams ≡ p → IsMeant t.past (where_named (on_stream t e.lane ops.Opened) p) e → says_denied e.answer ≡ true
+    → Closes t e (where_named (on_stream t e.lane ops.Opened) p) number
+denies t e number None named is said = let q : false ≡ true = ap says_denied (sym is.1) ∙ said in cc
+denies t e number (Some k) named is said = (k, named, denied_so t.past k (ap says_denied (sym is.1) ∙ said))
+
+pub denied_for_good : (setting : Setting) (newer older : List Entry) (e : Entry) (number : ℕ) → Legal setting (newer ++ e ∷ older) → e.words ≡ words.OfStream number ops.Opened
     → says_denied e.answer ≡ true → AllByRecursion (IsNoStream e.lane number) newer
 denied_for_good setting newer older e number legal w said =
-    (closed_later setting newer older e e.lane number legal (denied_after setting e older number (legal_from setting newer (e ∷ older) legal) w said)).1
+    let t = trail setting older in
+    let means = ap (plan t e.lane) w in
+    let is = subst (λ pl. IsMeant t.past pl e) means (legal_from setting newer (e ∷ older) legal).0 in
+    let c = denies t e number (place 0 e.lane number t.streams) refl is said in
+    (closed_later setting newer older e e.lane number legal (closed_entry t e e.lane number c.0 c.1 (subst (λ pl. GoneAt (after_all (deeds pl e) t.past).streams c.0) (sym means) c.2))).1

@@ -31,7 +31,7 @@ use Rattle.peer_route.proofs.Slots.{arrived, slots_took, arrived_nowhere, arrive
 taken_slots : (m : Seen) (v : CallsView) (h : Past) → LeftCalls v h → map (arrived m) v.slots ≡ map (slot_of (after (Took m) h).read) h.calls
 taken_slots m v h left = ap (map (arrived m)) left.slots ∙ sym (slots_took m h h.calls left.early)
 
-pub took : (m : Seen) (v new : CallsView) (h : Past) → LeftCalls v h → new.closing ≡ v.closing → new.slots ≡ map (arrived m) v.slots → LeftCalls new (after (Took m) h)
+took : (m : Seen) (v new : CallsView) (h : Past) → LeftCalls v h → new.closing ≡ v.closing → new.slots ≡ map (arrived m) v.slots → LeftCalls new (after (Took m) h)
 took m v new h left same e = record {
   slots = e ∙ taken_slots m v h left;
   closing = same ∙ left.closing;
@@ -90,7 +90,7 @@ unfolding slot_of
 gives_at h None = refl
 gives_at h (Some c) = slot_gives_by (is_gone c) c.inner c.serial (found h.read c) h.closing
 
-pub gives : (v : CallsView) (h : Past) (k : ℕ) → LeftCalls v h → slot_gives (slice_get v.slots k) v.closing ≡ poll_answer h k
+gives : (v : CallsView) (h : Past) (k : ℕ) → LeftCalls v h → slot_gives (slice_get v.slots k) v.closing ≡ poll_answer h k
 unfolding poll_answer
 gives v h k left =
     rw left.slots (rw left.closing (rw (slice_get-map (slot_of h.read) h.calls k) (gives_at h (slice_get h.calls k))))

@@ -2,6 +2,7 @@
 use Rattle.std.proofs.Common.{◌≡◌, ℕ, refl, sym, ◌∙◌, ap, subst, inl, inr, Bool, true, false, List, [], ◌∷◌, ◌++◌, map, Option, Ok, append_assoc}
 use Rattle.std.specs.List.{list_any}
 use Rattle.std.proofs.lemmas.List.{append-nil}
+use mathlib.Core.List.{map-map}
 use Rattle.wire_message.specs.Circle.{IsNext, AllTaken}
 use Rattle.wire_message.specs.declared.error.Error.{Error}
 use Rattle.wire_message.specs.declared.error.Error.TheVariants as errors
@@ -11,6 +12,10 @@ use Rattle.peer_route.specs.CallMessage.{expects}
 use Rattle.peer_route.specs.Left.{CallsView, waiting_serial}
 use Rattle.peer_route.specs.Issuing.{is_deep}
 use Rattle.peer_route.specs.Placing.{made_call, Draws, Spends, NotDrawn, NotDrawnOne, AreMade, numbered, numbered_each}
+
+-- it expects a reply
+abbrev pub sends : Parcel → Bool
+sends p = expects (Ok p)
 
 module _ (inner : Bool) where
   -- ---- one serial more
@@ -82,14 +87,25 @@ module _ (inner : Bool) where
   pub made_by : (v w : CallsView) (last end : ℕ) (ps qs : List Parcel) → Drawing v last ps qs w end → AreMade v w
   made_by v w last end ps qs d = made_all ps d.0 v w last end d.1
 
-  -- ---- whose name is on them doesn't matter
+  -- ---- only whether they expect replies matters, and not whose name is on them
 
-  draws_sent : (name : Option (List ℕ)) (served : Bool) (ps : List Parcel) (serials : List ℕ) (v w : CallsView) (last end : ℕ) → Draws inner v last ps serials w end
-      → Draws inner v last (map (sent_by name served) ps) serials w end
-  draws_sent name served [] [] v w last end d = d
-  draws_sent name served (p ∷ ps) (s ∷ serials) v w last end d = (d.0, draws_sent name served ps serials (made_call inner (expects (Ok p)) v s) w s end d.1)
-  draws_sent name served [] (s ∷ serials) v w last end d = absurd d
-  draws_sent name served (p ∷ ps) [] v w last end d = absurd d
+  pub draws_like : (ps qs : List Parcel) (serials : List ℕ) (v w : CallsView) (last end : ℕ) → map sends ps ≡ map sends qs → Draws inner v last ps serials w end → Draws inner v last qs serials w end
+  draws_like [] [] serials v w last end e d = d
+  draws_like (p ∷ ps) (q ∷ qs) [] v w last end e d = absurd d
+  draws_like (p ∷ ps) (q ∷ qs) (s ∷ serials) v w last end e d =
+      let same : sends p ≡ sends q = cc in
+      (d.0, draws_like ps qs serials (made_call inner (sends q) v s) w s end (cc) (subst (λ b. Draws inner (made_call inner b v s) s ps serials w end) same d.1))
+  draws_like [] (q ∷ qs) serials v w last end e d = cc
+  draws_like (p ∷ ps) [] serials v w last end e d = cc
+
+  pub spends_like : (ps qs : List Parcel) (v : CallsView) (last : ℕ) → map sends ps ≡ map sends qs → Spends inner v last ps → Spends inner v last qs
+  spends_like [] [] v last e x = x
+  spends_like (p ∷ ps) (q ∷ qs) v last e (inl all) = inl all
+  spends_like (p ∷ ps) (q ∷ qs) v last e (inr x) =
+      let same : sends p ≡ sends q = cc in
+      inr (x.0, x.1, spends_like ps qs (made_call inner (sends q) v x.0) x.0 (cc) (subst (λ b. Spends inner (made_call inner b v x.0) x.0 ps) same x.2))
+  spends_like [] (q ∷ qs) v last e x = cc
+  spends_like (p ∷ ps) [] v last e x = cc
 
   numbered_sent : (name : Option (List ℕ)) (served : Bool) (ps : List Parcel) (serials : List ℕ)
       → map (sent_by name served) (numbered_each ps serials) ≡ numbered_each (map (sent_by name served) ps) serials
@@ -100,19 +116,14 @@ module _ (inner : Bool) where
   pub drawing_sent : (name : Option (List ℕ)) (served : Bool) (v w : CallsView) (last end : ℕ) (ps qs : List Parcel) → Drawing v last ps qs w end
       → Drawing v last (map (sent_by name served) ps) (map (sent_by name served) qs) w end
   drawing_sent name served v w last end ps qs d =
-      (d.0, draws_sent name served ps d.0 v w last end d.1, ap (map (sent_by name served)) d.2 ∙ numbered_sent name served ps d.0)
-
-  spends_sent : (name : Option (List ℕ)) (served : Bool) (ps : List Parcel) (v : CallsView) (last : ℕ) → Spends inner v last ps → Spends inner v last (map (sent_by name served) ps)
-  spends_sent name served [] v last x = absurd x
-  spends_sent name served (p ∷ ps) v last (inl all) = inl all
-  spends_sent name served (p ∷ ps) v last (inr x) = inr (x.0, x.1, spends_sent name served ps (made_call inner (expects (Ok p)) v x.0) x.0 x.2)
+      (d.0, draws_like ps (map (sent_by name served) ps) d.0 v w last end (sym (map-map sends (sent_by name served) ps)) d.1, ap (map (sent_by name served)) d.2 ∙ numbered_sent name served ps d.0)
 
   pub not_drawn_sent : (name : Option (List ℕ)) (served : Bool) (ps : List Parcel) (v : CallsView) (last : ℕ) (error : Error) → NotDrawn inner v last ps error
       → NotDrawn inner v last (map (sent_by name served) ps) error
-  not_drawn_sent name served ps v last errors.SerialsSpent n = spends_sent name served ps v last n
+  not_drawn_sent name served ps v last errors.SerialsSpent n = spends_like ps (map (sent_by name served) ps) v last (sym (map-map sends (sent_by name served) ps)) n
   not_drawn_sent name served ps v last errors.Memory n = tt
   not_drawn_sent name served ps v last other n = absurd n
 
-  pub deep_sent : (name : Option (List ℕ)) (served : Bool) (ps : List Parcel) → list_any is_deep (map (sent_by name served) ps) ≡ list_any is_deep ps
-  deep_sent name served [] = refl
-  deep_sent name served (p ∷ ps) = rw (deep_sent name served ps) refl
+pub deep_sent : (name : Option (List ℕ)) (served : Bool) (ps : List Parcel) → list_any is_deep (map (sent_by name served) ps) ≡ list_any is_deep ps
+deep_sent name served [] = refl
+deep_sent name served (p ∷ ps) = rw (deep_sent name served ps) refl

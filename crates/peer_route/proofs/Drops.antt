@@ -14,7 +14,7 @@ use Rattle.peer_route.specs.Left.{is_over, is_busy, is_empty_slot, slot_of, slot
 use Rattle.peer_route.proofs.Core.{calls_of, left_spent, left_same}
 
 -- what a slot gives a drop
-abbrev pub slot_drops : Option Slot → Result (Unit {0}) Error
+abbrev slot_drops : Option Slot → Result (Unit {0}) Error
 slot_drops None = Err errors.UnknownHandle
 slot_drops (Some slots.Gone) = Err errors.UnknownHandle
 slot_drops (Some (slots.Replied m)) = Ok tt
@@ -32,7 +32,7 @@ unfolding slot_of
 drops_at h None = refl
 drops_at h (Some c) = slot_drops_by (is_gone c) c.inner c.serial (found h.read c)
 
-pub drops : (v : CallsView) (h : Past) (k : ℕ) → LeftCalls v h → slot_drops (slice_get v.slots k) ≡ drop_answer h k
+drops : (v : CallsView) (h : Past) (k : ℕ) → LeftCalls v h → slot_drops (slice_get v.slots k) ≡ drop_answer h k
 unfolding drop_answer
 drops v h k left = rw left.slots (rw (slice_get-map (slot_of h.read) h.calls k) (drops_at h (slice_get h.calls k)))
 

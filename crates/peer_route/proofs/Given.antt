@@ -1,39 +1,25 @@
 -- The message that each stream gave last, after each event.
 use Rattle.std.proofs.Common.{◌≡◌, ℕ, ◌+◌, ◌≤◌, zero, suc, refl, sym, ◌∙◌, ap, arith, ◌||◌, Bool, true, false, if◌then◌else◌, List, [], ◌∷◌, ◌++◌, length, drop, map, Option, Some, None, Result, Ok, Err}
 use Rattle.std.specs.List.{slice_get, slice_set, AllByRecursion}
-use Rattle.std.specs.Option.{option_map}
+use Rattle.std.specs.Option.{option_map, option_flatten}
 use Rattle.std.proofs.lemmas.List.{map-append, drop-append-le, length-drop}
+use Rattle.std.proofs.Math.Seq.{drop-nil}
 use Rattle.std.proofs.lemmas.Option.{slice_get-map}
+use mathlib.Core.List.{map-map}
 use Rattle.wire_message.specs.Front.{Seen}
 use Rattle.wire_message.specs.declared.error.Error.{Error}
 use Rattle.wire_message.specs.declared.error.Error.TheVariants as errors
 use Rattle.rule_match.specs.Rule.{Rule}
 use Rattle.peer_route.specs.declared.polled.Polled.{Polled}
 use Rattle.peer_route.specs.declared.polled.Polled.TheVariants as polled
-use Rattle.peer_route.specs.History.{Event, Took, Fault, Made, Did, Main, Put, Adds, Making, Plain, Ruled, Cloned, Gone, Asked, Opened, done, read, closing, edit, Stream, Phase, Asking, Denied, Since, asks_by, phase, streams, clone_of, new_stream, asking_stream, fail_stream, give, tell, end_one, open_one, past}
+use Rattle.peer_route.specs.History.{Event, Took, Shut, Wrote, Fault, Spent, Made, Did, Main, OnBus, Named, Put, OfLane, Adds, Removes, Making, Plain, Ruled, Cloned, Gave, Told, Gone, Asked, Opened, Stream, Phase, Asking, Denied, Since, asks_by, phase, edit, new_stream, clone_of, fail_stream, give, tell, end_one, open_one, Past, after, after_all}
 use Rattle.peer_route.specs.Streams.{since_in, accepted, matched, offered, held, item_at, gave_last, all_given, runs, take_by, take_at, take_answer, take_events}
 use Rattle.peer_route.specs.Left.{IsWithin, View, Left}
-use Rattle.peer_route.specs.Trail.{given_by, given_at, kept_by, kept_at}
+use Rattle.peer_route.specs.Plan.{given_by, given_last}
+use Rattle.peer_route.proofs.Plain.{map_along, map_each}
 use Rattle.peer_route.proofs.Edits.{edit_nothing, map_edit, map_edit_all, set_edit, get_before, get_first}
-use Rattle.peer_route.proofs.Matched.{arriving, matched_took, matched_same, accepted_nothing}
+use Rattle.peer_route.proofs.Matched.{arriving, matched_took, accepted_nothing}
 use Rattle.peer_route.proofs.StreamsMade.{runs_so}
-
--- what was given, by what the stream offers
-gave_by : (h : List Event) (s : Stream) (ms : List Seen) → offered (read h) s ≡ ms → gave_last (read h) s ≡ (if s.gone then None else item_at ms s.taken)
-unfolding gave_last
-gave_by h s ms e = ap (λ xs. if s.gone then None else item_at xs s.taken) e
-
-gave_same : (g h : List Event) (s : Stream) → read g ≡ read h → gave_last (read g) s ≡ gave_last (read h) s
-unfolding gave_last offered
-gave_same g h s e = gave_by g s (offered (read h) s) (ap (drop s.skip) (matched_same (past g) (past h) s e))
-
-each_same : (g h : List Event) (ss : List Stream) → read g ≡ read h → map (gave_last (read g)) ss ≡ map (gave_last (read h)) ss
-each_same g h [] e = refl
-each_same g h (s ∷ ss) e = let a = gave_same g h s e in let b = each_same g h ss e in cc
-
--- what is asked of a history that read the same messages and has the same streams is the same
-pub given_same : (g h : List Event) → read g ≡ read h → streams g ≡ streams h → all_given (past g) ≡ all_given (past h)
-given_same g h r s = each_same g h (streams g) r ∙ ap (map (gave_last (read h))) s
 
 -- ---- a message comes
 
@@ -41,29 +27,20 @@ item_push : (taken : ℕ) (ms xs : List Seen) → taken ≤ length ms → item_a
 item_push zero ms xs le = refl
 item_push (suc n) ms xs le = get_before n ms xs (omega arith)
 
-gave_took : (m : Seen) (h : List Event) (s : Stream) → IsWithin (read h) s → gave_last (read (Took m ∷ h)) s ≡ gave_last (read h) s
+gave_took : (m : Seen) (h : Past) (s : Stream) → IsWithin h.read s → gave_last (h.read ++ m ∷ []) s ≡ gave_last h.read s
 unfolding gave_last offered
 gave_took m h s w =
     let passed = w.passed in
-    let some = arriving (phase (read h) s) s.rule m in
-    let more : offered (read (Took m ∷ h)) s ≡ offered (read h) s ++ some =
-    ap (drop s.skip) (matched_took m (past h) s w.start) ∙ drop-append-le s.skip (matched (read h) s) some (omega arith) in
-    gave_by (Took m ∷ h) s (offered (read h) s ++ some) more
-    ∙ ap (λ o. if s.gone then None else o) (item_push s.taken (offered (read h) s) some (omega (arith, length-drop s.skip (matched (read h) s))))
-
-each_took : (m : Seen) (h : List Event) (ss : List Stream) → AllByRecursion (IsWithin (read h)) ss → map (gave_last (read (Took m ∷ h))) ss ≡ map (gave_last (read h)) ss
-each_took m h [] w = refl
-each_took m h (s ∷ ss) w = let a = gave_took m h s w.0 in let b = each_took m h ss w.1 in cc
+    let some = arriving (phase h.read s) s.rule m in
+    let more : drop s.skip (matched (h.read ++ m ∷ []) s) ≡ offered h.read s ++ some = ap (drop s.skip) (matched_took m h s w.start) ∙ drop-append-le s.skip (matched h.read s) some (omega arith) in
+    ap (λ ms. if s.gone then None else item_at ms s.taken) more
+    ∙ ap (λ o. if s.gone then None else o) (item_push s.taken (offered h.read s) some (omega (arith, length-drop s.skip (matched h.read s))))
 
 -- what streams gave stays when a message comes
-pub given_took : (m : Seen) (v : View) (h : List Event) → Left v (past h) → all_given (past (Took m ∷ h)) ≡ all_given (past h)
-given_took m v h left = each_took m h (streams h) left.streams.within
+pub given_took : (m : Seen) (v : View) (h : Past) → Left v h → all_given (after (Took m) h) ≡ all_given h
+given_took m v h left = map_along (IsWithin h.read) (gave_last (h.read ++ m ∷ [])) (gave_last h.read) (gave_took m h) h.streams left.streams.within
 
 -- ---- a write fails
-
-drop_nothing : (n : ℕ) → drop {A = Seen} n [] ≡ []
-drop_nothing zero = refl
-drop_nothing (suc n) = refl
 
 item_nothing : (n : ℕ) → item_at [] n ≡ None
 item_nothing zero = refl
@@ -76,86 +53,80 @@ failed_by n skip taken rule true p = refl
 failed_by n skip taken rule false (Since ms) = refl
 failed_by n skip taken rule false (Denied m) = refl
 failed_by n skip taken rule false (Asking add) =
-    let none : item_at (drop skip (accepted rule [])) taken ≡ None = ap (λ ms. item_at (drop skip ms) taken) (accepted_nothing rule) ∙ ap (λ ms. item_at ms taken) (drop_nothing skip) ∙ item_nothing taken in
+    let none : item_at (drop skip (accepted rule [])) taken ≡ None = ap (λ ms. item_at (drop skip ms) taken) (accepted_nothing rule) ∙ ap (λ ms. item_at ms taken) (drop-nil skip) ∙ item_nothing taken in
     either (asks_by n (Asking add)) (item_at (drop skip (accepted rule [])) taken) none
   where
     either : (b : Bool) (o : Option Seen) → o ≡ None → (if b then None else o) ≡ o
     either true o e = sym e
     either false o e = refl
 
-gave_failed : (h : List Event) (n : ℕ) (s : Stream) → gave_last (read (Fault ∷ h)) (fail_stream (read h) n s) ≡ gave_last (read h) s
+gave_failed : (ms : List Seen) (n : ℕ) (s : Stream) → gave_last ms (fail_stream ms n s) ≡ gave_last ms s
 unfolding gave_last offered matched phase
-gave_failed h n s = failed_by n s.skip s.taken s.rule s.gone (phase (read h) s)
+gave_failed ms n s = failed_by n s.skip s.taken s.rule s.gone (phase ms s)
 
-each_failed : (h : List Event) (n : ℕ) (ss : List Stream) → map (gave_last (read (Fault ∷ h))) (map (fail_stream (read h) n) ss) ≡ map (gave_last (read h)) ss
-each_failed h n [] = refl
-each_failed h n (s ∷ ss) = let a = gave_failed h n s in let b = each_failed h n ss in cc
+-- ---- each event that gives nothing
 
--- what streams gave stays when a write fails
-pub given_fault : (h : List Event) → all_given (past (Fault ∷ h)) ≡ all_given (past h)
-given_fault h = each_failed h (done h) (streams h)
+-- What it leaves of what streams gave: one that is made gave nothing yet, a clone neither, and of one that was closed nothing can be
+-- answered.
+abbrev pub left_given : Event → List (Option Seen) → List (Option Seen)
+left_given (Made making) gs = gs ++ None ∷ []
+left_given (Put m (Adds rule asked)) gs = gs ++ None ∷ []
+left_given (Did k Gone) gs = slice_set gs k None
+left_given e gs = gs
 
--- ---- a stream is made, closed, or asks for a capacity
+abbrev pub all_left_given : List Event → List (Option Seen) → List (Option Seen)
+all_left_given [] gs = gs
+all_left_given (e ∷ es) gs = all_left_given es (left_given e gs)
 
-clone_gave : (g h : List Event) (o : Option Stream) → gave_last (read g) (clone_of (past h) o) ≡ None
+abbrev pub GivesNone : Event → Type 0
+GivesNone (Took m) = ⊥
+GivesNone (Did k Gave) = ⊥
+GivesNone e = Unit {0}
+
+clone_gave : (h : Past) (o : Option Stream) → gave_last h.read (clone_of h o) ≡ None
 unfolding gave_last
-clone_gave g h None = refl
-clone_gave g h (Some s) = refl
+clone_gave h None = refl
+clone_gave h (Some s) = refl
 
-new_gave : (g h : List Event) (making : Making) → gave_last (read g) (new_stream (past h) (streams h) making) ≡ None
+new_gave : (h : Past) (making : Making) → gave_last h.read (new_stream h h.streams making) ≡ None
 unfolding gave_last
-new_gave g h Plain = clone_gave g h None
-new_gave g h (Ruled rule asked) = refl
-new_gave g h (Cloned t) = clone_gave g h (slice_get (streams h) t)
+new_gave h Plain = refl
+new_gave h (Ruled rule asked) = refl
+new_gave h (Cloned t) = clone_gave h (slice_get h.streams t)
 
--- a stream that was made, a clone too, gave nothing yet
-pub given_made : (making : Making) (h : List Event) → all_given (past (Made making ∷ h)) ≡ all_given (past h) ++ None ∷ []
-given_made making h =
-    map-append (gave_last (read (Made making ∷ h))) (streams h) (new_stream (past h) (streams h) making ∷ [])
-    ∙ ap (λ os. os ++ gave_last (read (Made making ∷ h)) (new_stream (past h) (streams h) making) ∷ []) (each_same (Made making ∷ h) h (streams h) refl)
-    ∙ ap (λ o. all_given (past h) ++ o ∷ []) (new_gave (Made making ∷ h) h making)
+-- a stream more that gave nothing
+one_more : (h : Past) (s : Stream) → gave_last h.read s ≡ None → map (gave_last h.read) (h.streams ++ s ∷ []) ≡ all_given h ++ None ∷ []
+one_more h s e = map-append (gave_last h.read) h.streams (s ∷ []) ∙ ap (λ o. all_given h ++ o ∷ []) e
 
-asking_gave : (g h : List Event) (m : Seen) (rule : Rule) → gave_last (read g) (asking_stream (past h) m rule) ≡ None
-unfolding gave_last
-asking_gave g h m rule = refl
+-- a change of a stream after which it gave the same
+same_gave : (h : Past) (k : ℕ) (f : Stream → Stream) → ((s : Stream) → gave_last h.read (f s) ≡ gave_last h.read s) → map (gave_last h.read) (edit k f h.streams) ≡ all_given h
+same_gave h k f e = map_edit_all (gave_last h.read) f (λ o. o) h.streams k e ∙ edit_nothing k (all_given h)
 
--- nor did one that waits for the return to its AddMatch
-pub given_added : (m : Seen) (rule : Rule) (asked : Option ℕ) (h : List Event) → all_given (past (Put m (Adds rule asked) ∷ h)) ≡ all_given (past h) ++ None ∷ []
-given_added m rule asked h =
-    map-append (gave_last (read (Put m (Adds rule asked) ∷ h))) (streams h) (asking_stream (past h) m rule ∷ [])
-    ∙ ap (λ os. os ++ gave_last (read (Put m (Adds rule asked) ∷ h)) (asking_stream (past h) m rule) ∷ []) (each_same (Put m (Adds rule asked) ∷ h) h (streams h) refl)
-    ∙ ap (λ o. all_given (past h) ++ o ∷ []) (asking_gave (Put m (Adds rule asked) ∷ h) h m rule)
-
-opened_gave : (h : List Event) (s : Stream) → gave_last (read h) (open_one s) ≡ gave_last (read h) s
+pub given_along : (e : Event) (h : Past) → GivesNone e → all_given (after e h) ≡ left_given e (all_given h)
 unfolding gave_last offered matched phase
-opened_gave h s = refl
+given_along (Took m) h x = absurd x
+given_along (Shut error) h x = refl
+given_along (Put m (OfLane waits)) h x = refl
+given_along (Put m (Adds rule asked)) h x = one_more h _ refl
+given_along (Put m Removes) h x = refl
+given_along Wrote h x = refl
+given_along Fault h x =
+    map-map (gave_last h.read) (fail_stream h.read h.outbox.done) h.streams ∙ map_each (λ s. gave_last h.read (fail_stream h.read h.outbox.done s)) (gave_last h.read) (gave_failed h.read h.outbox.done) h.streams
+given_along (Spent k) h x = refl
+given_along (Made making) h x = one_more h (new_stream h h.streams making) (new_gave h making)
+given_along (Did k Gave) h x = absurd x
+given_along (Did k Told) h x = same_gave h k tell (λ s. refl)
+given_along (Did k Gone) h x = map_edit_all (gave_last h.read) end_one (λ o. None) h.streams k (λ s. refl) ∙ sym (set_edit (all_given h) k None)
+given_along (Did k (Asked limit)) h x = same_gave h k (λ s. s) (λ s. refl)
+given_along (Did k Opened) h x = same_gave h k open_one (λ s. refl)
+given_along (Main limit) h x = refl
+given_along OnBus h x = refl
+given_along (Named name) h x = refl
 
--- who asked for a stream is told that it is open: what it gave stays
-pub given_opened : (h : List Event) (k : ℕ) → all_given (past (Did k Opened ∷ h)) ≡ all_given (past h)
-given_opened h k =
-    each_same (Did k Opened ∷ h) h (edit k open_one (streams h)) refl
-    ∙ map_edit_all (gave_last (read h)) open_one (λ o. o) (streams h) k (opened_gave h)
-    ∙ edit_nothing k (all_given (past h))
-
-closed_gave : (h : List Event) (s : Stream) → gave_last (read h) (end_one s) ≡ None
-unfolding gave_last
-closed_gave h s = refl
-
--- a stream that was closed gave nothing that can be answered
-pub given_gone : (h : List Event) (k : ℕ) → all_given (past (Did k Gone ∷ h)) ≡ slice_set (all_given (past h)) k None
-given_gone h k =
-    each_same (Did k Gone ∷ h) h (edit k end_one (streams h)) refl
-    ∙ map_edit_all (gave_last (read h)) end_one (λ o. None) (streams h) k (closed_gave h)
-    ∙ sym (set_edit (all_given (past h)) k None)
-
-pub given_gone_both : (h : List Event) (k j : ℕ) → all_given (past (Did j Gone ∷ Did k Gone ∷ h)) ≡ slice_set (slice_set (all_given (past h)) k None) j None
-given_gone_both h k j = given_gone (Did k Gone ∷ h) j ∙ ap (λ os. slice_set os j None) (given_gone h k)
-
-pub given_asked : (h : List Event) (k limit : ℕ) → all_given (past (Did k (Asked limit) ∷ h)) ≡ all_given (past h)
-given_asked h k limit = given_same (Did k (Asked limit) ∷ h) h refl (edit_nothing k (streams h))
-
-pub given_main : (h : List Event) (limit : ℕ) → all_given (past (Main limit ∷ h)) ≡ all_given (past h)
-given_main h limit = given_same (Main limit ∷ h) h refl refl
+-- and several, one after another
+pub given_all : (es : List Event) (h : Past) → AllByRecursion GivesNone es → all_given (after_all es h) ≡ all_left_given es (all_given h)
+given_all [] h a = refl
+given_all (e ∷ es) h a = given_all es (after e h) a.1 ∙ ap (all_left_given es) (given_along e h a.0)
 
 -- ---- a stream gives
 
@@ -164,43 +135,40 @@ abbrev pub given_after : ℕ → Result (Polled Seen) Error → List (Option See
 given_after k (Ok (polled.Now m)) gs = slice_set gs k (Some m)
 given_after k other gs = gs
 
-gave_now : (h : List Event) (s : Stream) (m : Seen) (ms : List Seen) → s.gone ≡ false → held (read h) s ≡ m ∷ ms → gave_last (read h) (give s) ≡ Some m
+gave_now : (ms : List Seen) (s : Stream) (m : Seen) (rest : List Seen) → s.gone ≡ false → held ms s ≡ m ∷ rest → gave_last ms (give s) ≡ Some m
 unfolding gave_last held offered matched phase
-gave_now h s m ms still e =
-    ap (λ b. if b then None else item_at (offered (read h) s) (s.taken + 1)) still
-    ∙ ap (item_at (offered (read h) s)) (let n : s.taken + 1 ≡ suc s.taken = omega arith in n) ∙ get_first s.taken (offered (read h) s) m ms e
+gave_now ms s m rest still e =
+    ap (λ b. if b then None else item_at (offered ms s) (s.taken + 1)) still
+    ∙ ap (item_at (offered ms s)) (let n : s.taken + 1 ≡ suc s.taken = omega arith in n) ∙ get_first s.taken (offered ms s) m rest e
 
-given_by_take : (h : List Event) (k : ℕ) (s : Stream) (items : List Seen) (error : Option Error) (told : Bool) → slice_get (streams h) k ≡ Some s → s.gone ≡ false → held (read h) s ≡ items
-    → all_given (past (take_events k (Ok (take_by items error told)) ++ h)) ≡ given_after k (Ok (take_by items error told)) (all_given (past h))
-unfolding gave_last offered matched phase
+given_by_take : (h : Past) (k : ℕ) (s : Stream) (items : List Seen) (error : Option Error) (told : Bool) → slice_get h.streams k ≡ Some s → s.gone ≡ false → held h.read s ≡ items
+    → all_given (after_all (take_events k (Ok (take_by items error told))) h) ≡ given_after k (Ok (take_by items error told)) (all_given h)
 given_by_take h k s (m ∷ ms) error told at still e =
-    map_edit (gave_last (read h)) give (λ _. Some m) (streams h) k s at (gave_now h s m ms still e) ∙ sym (set_edit (all_given (past h)) k (Some m))
+    map_edit (gave_last h.read) give (λ _. Some m) h.streams k s at (gave_now h.read s m ms still e) ∙ sym (set_edit (all_given h) k (Some m))
 given_by_take h k s [] None told at still e = refl
-given_by_take h k s [] (Some error) false at still e =
-    map_edit_all (gave_last (read h)) tell (λ o. o) (streams h) k (λ x. refl) ∙ edit_nothing k (all_given (past h))
+given_by_take h k s [] (Some error) false at still e = given_along (Did k Told) h tt
 given_by_take h k s [] (Some error) true at still e = refl
 
-given_if : (h : List Event) (k : ℕ) (s : Stream) (open_ : Bool) → slice_get (streams h) k ≡ Some s → runs (read h) s ≡ open_
-    → all_given (past (take_events k (if open_ then Ok (take_by (held (read h) s) (closing h) s.told) else Err errors.UnknownHandle) ++ h))
-    ≡ given_after k (if open_ then Ok (take_by (held (read h) s) (closing h) s.told) else Err errors.UnknownHandle) (all_given (past h))
+given_if : (h : Past) (k : ℕ) (s : Stream) (open_ : Bool) → slice_get h.streams k ≡ Some s → runs h.read s ≡ open_
+    → all_given (after_all (take_events k (if open_ then Ok (take_by (held h.read s) h.closing s.told) else Err errors.UnknownHandle)) h)
+    ≡ given_after k (if open_ then Ok (take_by (held h.read s) h.closing s.told) else Err errors.UnknownHandle) (all_given h)
 given_if h k s false at e = refl
-given_if h k s true at e = let is = runs_so (past h) s e in given_by_take h k s (held (read h) s) (closing h) s.told at is.still refl
+given_if h k s true at e = let is = runs_so h s e in given_by_take h k s (held h.read s) h.closing s.told at is.still refl
 
-given_take_at : (h : List Event) (k : ℕ) (o : Option Stream) → slice_get (streams h) k ≡ o
-    → all_given (past (take_events k (take_at (read h) (closing h) o) ++ h)) ≡ given_after k (take_at (read h) (closing h) o) (all_given (past h))
+given_take_at : (h : Past) (k : ℕ) (o : Option Stream) → slice_get h.streams k ≡ o
+    → all_given (after_all (take_events k (take_at h.read h.closing o)) h) ≡ given_after k (take_at h.read h.closing o) (all_given h)
 given_take_at h k None at = refl
-given_take_at h k (Some s) at = given_if h k s (runs (read h) s) at refl
+given_take_at h k (Some s) at = given_if h k s (runs h.read s) at refl
 
-pub given_taken : (h : List Event) (k : ℕ) → all_given (past (take_events k (take_answer (past h) k) ++ h)) ≡ given_after k (take_answer (past h) k) (all_given (past h))
+pub given_taken : (h : Past) (k : ℕ) → all_given (after_all (take_events k (take_answer h k)) h) ≡ given_after k (take_answer h k) (all_given h)
 unfolding take_answer
-given_taken h k = given_take_at h k (slice_get (streams h) k) refl
+given_taken h k = given_take_at h k (slice_get h.streams k) refl
 
 -- ---- what a number names
 
-by_stream : (h : List Event) (o : Option Stream) → kept_by (option_map (gave_last (read h)) o) ≡ given_by h o
+by_stream : (h : Past) (o : Option Stream) → option_flatten (option_map (gave_last h.read) o) ≡ given_by h o
 by_stream h None = refl
 by_stream h (Some s) = refl
 
-pub kept_given : (h : List Event) (p : Option ℕ) → kept_at (all_given (past h)) p ≡ given_at h p
-kept_given h None = refl
-kept_given h (Some k) = ap kept_by (slice_get-map (gave_last (read h)) (streams h) k) ∙ by_stream h (slice_get (streams h) k)
+pub last_given : (h : Past) (k : ℕ) → option_flatten (slice_get (all_given h) k) ≡ given_last h k
+last_given h k = ap option_flatten (slice_get-map (gave_last h.read) h.streams k) ∙ by_stream h (slice_get h.streams k)

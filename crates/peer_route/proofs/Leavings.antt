@@ -1,33 +1,32 @@
 -- The bus is told which rules have no stream any more: by what is kept, and by the history.
-use Rattle.std.proofs.Common.{rules, ◌≡◌, ℕ, zero, suc, ◌+◌, ◌≤◌, refl, sym, ◌∙◌, ap, subst, arith, inl, inr, codes, Bool, true, false, not, ◌&&◌, ◌||◌, ◌==◌, if◌then◌else◌, is_none, is_some, List, [], ◌∷◌, ◌++◌, length, map, Option, Some, None, Ok, Err, option_to_list}
+use Rattle.std.proofs.Common.{rules, ◌≡◌, ℕ, zero, suc, ◌+◌, refl, sym, ◌∙◌, ap, subst, codes, Bool, true, false, not, ◌&&◌, ◌||◌, ◌==◌, if◌then◌else◌, is_none, is_some, List, [], ◌∷◌, ◌++◌, length, map, Option, Some, None, Ok, Err, option_to_list}
 use Rattle.std.specs.List.{slice_get, list_all}
 use Rattle.std.proofs.lemmas.List.Folds.{list_all-map}
-use Rattle.std.proofs.lemmas.List.{append-nil, map-append, length-append}
+use Rattle.std.proofs.lemmas.List.{append-nil, map-append}
 use Rattle.wire_message.specs.declared.error.Error.{Error}
 use Rattle.wire_message.specs.declared.error.Error.TheVariants as errors
 use Rattle.rule_match.specs.Rule.{Rule}
 use Rattle.peer_route.specs.declared.route.Issued.{Issued}
 use Rattle.peer_route.specs.Parcel.{message_of}
 use Rattle.peer_route.specs.CallMessage.{expects, expects_reply}
-use Rattle.peer_route.specs.History.{Did, Gone, edit, calls, Stream, end_one, rule_of, Past, after}
+use Rattle.peer_route.specs.History.{Did, Gone, Removes, edit, Stream, end_one, rule_of, Past, after}
 use Rattle.peer_route.specs.Calls.{in_flight}
 use Rattle.peer_route.specs.Streams.{is_open, are_open, has_rule, has_rule_at, close_waits, may_be_signal, leaves, leaves_by, leaving, rule_answer}
 use Rattle.peer_route.specs.Left.{Held, CallsView, View, Left, kept_at, shared, is_flying}
-use Rattle.peer_route.specs.Issuing.{AreShort, are_deep, parcels, put_each}
-use Rattle.peer_route.specs.Placing.{IsMore, made_call, Draws, messages_of, with_messages, issued_from, place_of, PutsAll}
-use Rattle.peer_route.specs.BusCall.{remove_parcel, last_of, some_rules}
+use Rattle.peer_route.specs.Issuing.{are_deep, parcels, put_each, some_long, messages_of, issued}
+use Rattle.peer_route.specs.Placing.{IsMore, made_call, Draws, with_messages, issued_from, place_of, PutsAll}
+use Rattle.peer_route.specs.BusCall.{remove_parcel, tellings_of, last_of, some_rules}
 use Rattle.peer_route.specs.Bus.{letter_about, rule_call, PutsOwn}
 use Rattle.peer_route.specs.declared.opening.RuleCall.{RuleCall}
 use Rattle.peer_route.specs.declared.opening.RuleCalls.{RuleCalls}
-use Rattle.peer_route.specs.Leaving.{tellings_of, TellsBus, gone_both, MayClose, number_of, ClosesStreams, TellsNow, have_rules, ended, without, left_by, rule_kept, must_tell, second_left, left_rules, removals, last_issued, MakesRemoval, MakesRemovals, Tells}
+use Rattle.peer_route.specs.Leaving.{TellsBus, gone_both, MayClose, number_of, ClosesStreams, have_rules, ended, without, left_by, rule_kept, left_rules, removals, last_issued, MakesRemoval, MakesRemovals, Tells}
 use Rattle.peer_route.specs.declared.streams.MessageStream.{MessageStream}
 use Rattle.peer_route.specs.declared.leaving.Spent.TheVariants as spent
 use Rattle.peer_route.proofs.Core.{left_ended, flying-left}
 use Rattle.peer_route.proofs.RuledStreams.{subscribed_left, rule_left}
-use Rattle.peer_route.proofs.Issues.{message_serial, AreOf, AreQuiet, drawn_left, put_left, refused_by}
+use Rattle.peer_route.proofs.Issues.{message_serial, AreOf, AreQuiet, drawn_left, put_left, issued_so, refused_by}
 use Rattle.peer_route.proofs.BusMessages.{match_expects, refused_any}
 use Rattle.peer_route.proofs.RuleCalls.{puts_about}
-use Rattle.peer_route.proofs.Placed.{all_wait}
 
 -- ---- a RemoveMatch of each rule
 
@@ -37,7 +36,7 @@ told_parcels h name (rule ∷ rules) e = ap (λ n. remove_parcel n rule ∷ remo
 
 told_own : (h : Past) (rules : List Rule) → AreOf true (tellings_of h rules)
 told_own h [] = tt
-told_own h (rule ∷ rules) = ((match_expects (codes "RemoveMatch") h.name rule, tt), told_own h rules)
+told_own h (rule ∷ rules) = ((refl, sym (match_expects (codes "RemoveMatch") h.name rule)), told_own h rules)
 
 told_quiet : (h : Past) (rules : List Rule) → AreQuiet (tellings_of h rules)
 told_quiet h [] = tt
@@ -66,33 +65,30 @@ told_last (rule ∷ r ∷ rules) (serial ∷ []) name v w last end place count d
 abbrev pub closed_view : View → List (Option Held) → View
 closed_view v qs = record v { streams = qs }
 
-pub tells_bus : (v mid : View) (qs : List (Option Held)) (rules : List Rule) (h : Past) (last : Option ℕ) → Tells v mid rules (Ok last) → Left (closed_view v qs) h
+tells_bus : (v mid : View) (qs : List (Option Held)) (rules : List Rule) (h : Past) (last : Option ℕ) → Tells v mid rules (Ok last) → Left (closed_view v qs) h
     → TellsBus (closed_view mid qs) h rules (Ok last)
-tells_bus v mid qs [] h last t left = (t.0, subst (λ (u : View). Left (closed_view u qs) h) (sym t.1) left)
+unfolding issued
+tells_bus v mid qs [] h last t left = ([], refl, t.0, subst (λ (u : View). Left (closed_view u qs) h) (sym t.1) left)
 tells_bus v mid qs (rule ∷ rules) h last t left =
     let ds = tellings_of h (rule ∷ rules) in
     let p = t.1 in
     let same = told_parcels h v.name (rule ∷ rules) left.name in
     let draws = subst (λ ps. Draws true v.calls v.last ps p.0 mid.calls mid.last) same p.1 in
     let own = told_own h (rule ∷ rules) in (
-      told_shallow h (rule ∷ rules),
-      (
-        p.0,
-        drawn_left true ds p.0 v.calls mid.calls v.last mid.last h own left.calls left.last draws,
-        subst (λ ps. AreShort ps p.0) same p.2,
-        t.2 ∙ ap last_issued p.4 ∙ told_last (rule ∷ rules) p.0 v.name v.calls mid.calls v.last mid.last (length v.outbox) (length v.places) p.1,
-        subst (λ (u : View). Left (closed_view u qs) (put_each ds p.0 h))
-            (ap (λ ps. with_messages v (messages_of ps p.0) mid.calls mid.last) (sym same) ∙ sym p.5)
-            (put_left true ds p.0 (closed_view v qs) mid.calls mid.last h own (told_quiet h (rule ∷ rules)) left draws),
-      ),
-      sym left.writer ∙ p.3,
+      p.0,
+      issued_so h ds p.0 (told_shallow h (rule ∷ rules)) (drawn_left true ds p.0 v.calls mid.calls v.last mid.last h own left.calls left.last draws)
+          (ap (λ ps. some_long ps p.0) (sym same) ∙ p.2) (sym left.writer ∙ p.3),
+      t.2 ∙ ap last_issued p.4 ∙ told_last (rule ∷ rules) p.0 v.name v.calls mid.calls v.last mid.last (length v.outbox) (length v.places) p.1,
+      subst (λ (u : View). Left (closed_view u qs) (put_each ds p.0 h))
+          (ap (λ ps. with_messages v (messages_of ps p.0) mid.calls mid.last) (sym same) ∙ sym p.5)
+          (put_left true ds p.0 (closed_view v qs) mid.calls mid.last h own (told_quiet h (rule ∷ rules)) left draws),
     )
 
-pub tells_not : (v mid : View) (qs : List (Option Held)) (rules : List Rule) (h : Past) (error : Error) → Tells v mid rules (Err error) → Left (closed_view v qs) h
+tells_not : (v mid : View) (qs : List (Option Held)) (rules : List Rule) (h : Past) (error : Error) → Tells v mid rules (Err error) → Left (closed_view v qs) h
     → TellsBus (closed_view v qs) h rules (Err error)
 tells_not v mid qs [] h error t left = absurd t
 tells_not v mid qs (rule ∷ rules) h error t left =
-    refused_by true (λ (is : List Issued). is) (λ last serials. last ≡ last_of serials) (Left (closed_view v qs) h) v mid (closed_view v qs) (tellings_of h (rule ∷ rules)) h error
+    refused_by true (λ (is : List Issued). is) (λ last serials. last ≡ last_of serials) (Left (closed_view v qs) h) v mid (closed_view v qs) (record { parcel = remove_parcel h.name rule; purpose = Removes }) (tellings_of h rules) h error
     (told_own h (rule ∷ rules)) (told_shallow h (rule ∷ rules)) left.calls left.last left.writer left
     (subst (λ ps. PutsAll true (λ (is : List Issued). is) v mid ps (Err error)) (told_parcels h v.name (rule ∷ rules) left.name) t)
 
@@ -150,40 +146,6 @@ tells_put items old mid [] calls issued last m some x l = absurd (some m.0)
 tells_put items old mid (rule ∷ rules) calls issued last m some x l =
     (items issued, puts_about items (codes "RemoveMatch") old mid (rule ∷ rules) calls.letters.items calls.fit (Ok issued) m.0 m.1 x, l)
 
--- ---- they wait
-
-one_at_most : (rule : Rule) (b : Bool) → length (if b then rule ∷ [] else []) ≤ 1
-one_at_most rule true = omega arith
-one_at_most rule false = omega arith
-
-left_few : (v : View) (qs : List (Option Held)) (o : Option Rule) → length (left_by v qs o) ≤ 1
-left_few v qs None = omega arith
-left_few v qs (Some rule) = one_at_most rule (must_tell v rule qs)
-
-second_few : (v : View) (k : ℕ) (o : Option ℕ) → length (second_left v k o) ≤ 1
-second_few v k None = omega arith
-second_few v k (Some j) = left_few v (without j (without k v.streams)) (rule_kept (kept_at v.streams j))
-
-rules_few : (v : View) (k : ℕ) (o : Option ℕ) → length (left_rules v k o) ≤ 2
-rules_few v k o =
-    let rs = left_by v (without k v.streams) (rule_kept (kept_at v.streams k)) in
-    omega (arith, length-append rs (second_left v k o), left_few v (without k v.streams) (rule_kept (kept_at v.streams k)), second_few v k o)
-
-now_by : (old mid : View) (rules : List Rule) (last : Option ℕ) → Tells old mid rules (Ok last) → length rules ≤ 2 → (qs : List (Option Held)) → TellsNow old (closed_view mid qs) (spent.Gone last)
-now_by old mid rules None t few qs = tt
-now_by old mid [] (Some serial) t few qs = let e : Some serial ≡ None = t.0 in cc
-now_by old mid (rule ∷ []) (Some serial) t few qs =
-    let w = all_wait true (λ (is : List Issued). is) old mid (removals old.name (rule ∷ [])) t.0 t.1 in
-    (inl w.2, w.3, w.4, w.5)
-now_by old mid (rule ∷ other ∷ []) (Some serial) t few qs =
-    let w = all_wait true (λ (is : List Issued). is) old mid (removals old.name (rule ∷ other ∷ [])) t.0 t.1 in
-    (inr w.2, w.3, w.4, w.5)
-now_by old mid (rule ∷ other ∷ more ∷ rules) (Some serial) t few qs = absurd (omega (arith, few))
-
--- so many RemoveMatch wait at the end of the outbox as there are rules, which are no more than two
-pub tells_now : (old mid : View) (k : ℕ) (o last : Option ℕ) (qs : List (Option Held)) → Tells old mid (left_rules old k o) (Ok last) → TellsNow old (closed_view mid qs) (spent.Gone last)
-tells_now old mid k o last qs t = now_by old mid (left_rules old k o) last t (rules_few old k o) qs
-
 -- ---- which rules
 
 rule_edit : (k j : ℕ) (xs : List Stream) → rule_of (slice_get (edit k end_one xs) j) ≡ rule_of (slice_get xs j)
@@ -214,7 +176,7 @@ two_open true true c e = (refl, refl)
 two_open true false c e = cc
 two_open false b c e = cc
 
-pub leaving_so : (v : View) (h : Past) (k : ℕ) (o : Option ℕ) → Left v h → are_open h k o ≡ true → left_rules v k o ≡ leaving h k o
+leaving_so : (v : View) (h : Past) (k : ℕ) (o : Option ℕ) → Left v h → are_open h k o ≡ true → left_rules v k o ≡ leaving h k o
 unfolding leaving
 leaving_so v h k None left there =
     let w = closed_view v (without k v.streams) in
@@ -248,20 +210,21 @@ waits_so : (v : View) (h : Past) (k : ℕ) (o : Option ℕ) → Left v h → are
 unfolding close_waits
 waits_so v h k o left there = ap (λ b. b && have_rules v k o) (flying-left v.calls h left.calls) ∙ ap (λ b. in_flight h && b) (have_so v h k o left there)
 
-pub closes_unknown : (v : View) (h : Past) (k : ℕ) (o : Option ℕ) → are_open h k o ≡ false → ClosesStreams v v k o h (spent.Over errors.UnknownHandle)
-closes_unknown v h k o e = (e, refl)
+pub may_so : (v : View) (h : Past) (k : ℕ) (o : Option ℕ) (b c : Bool) → Left v h → b ≡ are_open h k o → b ≡ true → c ≡ (is_flying v.calls && have_rules v k o) → c ≡ false → MayClose h k o
+may_so v h k o b c left there two waits idle = let all = sym there ∙ two in (all, sym (waits_so v h k o left all) ∙ sym waits ∙ idle)
 
-pub closes_busy : (v : View) (h : Past) (s : MessageStream) (t : Option MessageStream) → Left v h → are_open h s.number (number_of t) ≡ true
-    → (is_flying v.calls && have_rules v s.number (number_of t)) ≡ true → ClosesStreams v v s.number (number_of t) h (spent.Back s t errors.Busy)
-closes_busy v h s t left there busy = (there, sym (waits_so v h s.number (number_of t) left there) ∙ busy, refl, refl, refl)
+pub closes_busy : (v : View) (h : Past) (s : MessageStream) (t : Option MessageStream) (o : Option ℕ) → o ≡ number_of t → Left v h → are_open h s.number o ≡ true
+    → (is_flying v.calls && have_rules v s.number o) ≡ true → ClosesStreams v v s.number (number_of t) h (spent.Back s t errors.Busy)
+closes_busy v h s t o e left there busy =
+    subst (λ j. ClosesStreams v v s.number j h (spent.Back s t errors.Busy)) e (there, sym (waits_so v h s.number o left there) ∙ busy, refl, sym e, refl)
 
-pub closes_gone : (v mid : View) (h : Past) (k : ℕ) (o last : Option ℕ) → Left v h → are_open h k o ≡ true → (is_flying v.calls && have_rules v k o) ≡ false
+pub closes_gone : (v mid : View) (h : Past) (k : ℕ) (o last : Option ℕ) → Left v h → MayClose h k o
     → Tells v mid (left_rules v k o) (Ok last) → IsMore v mid → ClosesStreams v (closed_view mid (ended k o mid.streams)) k o h (spent.Gone last)
-closes_gone v mid h k o last left there idle t more =
+closes_gone v mid h k o last left may t more =
     let kept : mid.streams ≡ v.streams = ap (λ (u : View). u.streams) more.same in (
-      (there, sym (waits_so v h k o left there) ∙ idle),
+      may,
       subst (λ qs. TellsBus (closed_view mid (ended k o qs)) (gone_both k o h) (leaving h k o) (Ok last)) (sym kept)
-          (subst (λ rs. TellsBus (closed_view mid (ended k o v.streams)) (gone_both k o h) rs (Ok last)) (leaving_so v h k o left there)
+          (subst (λ rs. TellsBus (closed_view mid (ended k o v.streams)) (gone_both k o h) rs (Ok last)) (leaving_so v h k o left may.0)
           (tells_bus v mid (ended k o v.streams) (left_rules v k o) (gone_both k o h) last t (gone_left v h k o left))),
     )
 
@@ -272,25 +235,20 @@ closes_by v mid new h k o (rule ∷ rules) errors.UnknownHandle t some may x = a
 closes_by v mid new h k o rules errors.Memory t some may x = absurd (some refl)
 closes_by v mid new h k o rules other t some may x = (may, x)
 
-pub closes_over : (v mid : View) (h : Past) (k : ℕ) (o : Option ℕ) (error : Error) → Left v h → are_open h k o ≡ true → (is_flying v.calls && have_rules v k o) ≡ false
+pub closes_over : (v mid : View) (h : Past) (k : ℕ) (o : Option ℕ) (error : Error) → Left v h → MayClose h k o
     → Tells v mid (left_rules v k o) (Err error) → (error ≡ errors.Memory → ⊥) → ClosesStreams v (closed_view v (ended k o v.streams)) k o h (spent.Over error)
-closes_over v mid h k o error left there idle t some =
-    closes_by v mid (closed_view v (ended k o v.streams)) h k o (left_rules v k o) error t some (there, sym (waits_so v h k o left there) ∙ idle)
-    (subst (λ rs. TellsBus (closed_view v (ended k o v.streams)) (gone_both k o h) rs (Err error)) (leaving_so v h k o left there)
+closes_over v mid h k o error left may t some =
+    closes_by v mid (closed_view v (ended k o v.streams)) h k o (left_rules v k o) error t some may
+    (subst (λ rs. TellsBus (closed_view v (ended k o v.streams)) (gone_both k o h) rs (Err error)) (leaving_so v h k o left may.0)
     (tells_not v mid (ended k o v.streams) (left_rules v k o) (gone_both k o h) error t (gone_left v h k o left)))
 
 tells_some : (v mid : View) (rules : List Rule) (error : Error) → Tells v mid rules (Err error) → some_rules rules ≡ true
 tells_some v mid [] error t = absurd t
 tells_some v mid (rule ∷ rules) error t = refl
 
-pub closes_back : (v mid new : View) (h : Past) (s : MessageStream) (t : Option MessageStream) (error : Error) → Left v h → are_open h s.number (number_of t) ≡ true
-    → (is_flying v.calls && have_rules v s.number (number_of t)) ≡ false → Tells v mid (left_rules v s.number (number_of t)) (Err error) → error ≡ errors.Memory → new ≡ v
-    → ClosesStreams v new s.number (number_of t) h (spent.Back s t error)
-closes_back v mid new h s t error left there idle tells e same =
-    subst (λ x. ClosesStreams v new s.number (number_of t) h (spent.Back s t x)) (sym e) (
-      (there, sym (waits_so v h s.number (number_of t) left there) ∙ idle),
-      ap some_rules (sym (leaving_so v h s.number (number_of t) left there)) ∙ tells_some v mid (left_rules v s.number (number_of t)) error tells,
-      refl,
-      refl,
-      same,
-    )
+pub closes_back : (v mid new : View) (h : Past) (s : MessageStream) (t : Option MessageStream) (o : Option ℕ) (error : Error) → o ≡ number_of t → Left v h → MayClose h s.number o
+    → Tells v mid (left_rules v s.number o) (Err error) → error ≡ errors.Memory → new ≡ v → ClosesStreams v new s.number (number_of t) h (spent.Back s t error)
+closes_back v mid new h s t o error f left may tells e same =
+    subst (λ x. ClosesStreams v new s.number (number_of t) h (spent.Back s t x)) (sym e)
+    (subst (λ j. ClosesStreams v new s.number j h (spent.Back s t errors.Memory)) f
+    (may, ap some_rules (sym (leaving_so v h s.number o left may.0)) ∙ tells_some v mid (left_rules v s.number o) error tells, refl, sym f, same))

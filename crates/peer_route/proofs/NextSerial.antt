@@ -1,10 +1,10 @@
 -- The next serial, as a first one and as a function.
-use Rattle.std.proofs.Common.{◌≡◌, ℕ, zero, suc, ◌+◌, ◌-◌, ◌≤◌, ◌<◌, refl, sym, ◌∙◌, ap, arith, Bool, true, false, List, Some, None, inl, inr, lit<}
+use Rattle.std.proofs.Common.{◌≡◌, ℕ, zero, suc, ◌+◌, ◌-◌, ◌≤◌, ◌<◌, refl, sym, ◌∙◌, ap, arith, Bool, true, false, Some, None, inl, inr, lit<}
 use Rattle.std.proofs.Math.Nat.{eq-or-lt_of_le, mod-lt}
 use Rattle.wire_message.specs.Circle.{serial_after, IsNext, AllTaken}
-use Rattle.peer_route.specs.History.{Event, last_serial, past}
+use Rattle.peer_route.specs.History.{Past}
 use Rattle.peer_route.specs.Calls.{pending}
-use Rattle.peer_route.specs.Trail.{first_free, next_serial}
+use Rattle.peer_route.specs.Issuing.{first_free, next_serial}
 
 -- the first place from k on that is free is found
 found_from : (taken : ℕ → Bool) (last p k n : ℕ) → k ≤ p → p < k + n → taken (serial_after last p) ≡ false
@@ -23,21 +23,21 @@ unfolding first_free
 none_from taken last k zero all = refl
 none_from taken last k (suc n) all = rw (all k (omega arith) (omega arith)) (none_from taken last (k + 1) n (λ j a b. all j (omega arith) (omega arith)))
 
-pub first_free-next : (taken : ℕ → Bool) (last serial : ℕ) → IsNext taken last serial → first_free taken last 1 4294967295 ≡ Some serial
+first_free-next : (taken : ℕ → Bool) (last serial : ℕ) → IsNext taken last serial → first_free taken last 1 4294967295 ≡ Some serial
 first_free-next taken last serial next =
     found_from taken last next.place 1 4294967295 next.one (omega (arith, next.round)) (rw (sym next.there) next.free) (λ j a b. next.first j a b)
     ∙ ap Some (sym next.there)
 
-pub serial_after-within : (last k : ℕ) → (1 ≤ serial_after last k) × (serial_after last k ≤ 4294967295)
+serial_after-within : (last k : ℕ) → (1 ≤ serial_after last k) × (serial_after last k ≤ 4294967295)
 serial_after-within last k = (omega arith, omega (arith, mod-lt (last + k - 1) {m = 4294967295} (lit< tt)))
 
-pub first_free-none : (taken : ℕ → Bool) (last : ℕ) → AllTaken taken → first_free taken last 1 4294967295 ≡ None
+first_free-none : (taken : ℕ → Bool) (last : ℕ) → AllTaken taken → first_free taken last 1 4294967295 ≡ None
 first_free-none taken last all = none_from taken last 1 4294967295 (λ j a b. all (serial_after last j) (serial_after-within last j).0 (serial_after-within last j).1)
 
-pub next_serial-next : (h : List Event) (serial : ℕ) → IsNext (pending (past h)) (last_serial h) serial → next_serial h ≡ Some serial
+pub next_serial-next : (h : Past) (serial : ℕ) → IsNext (pending h) h.outbox.last serial → next_serial h ≡ Some serial
 unfolding next_serial
-next_serial-next h serial next = first_free-next (pending (past h)) (last_serial h) serial next
+next_serial-next h serial next = first_free-next (pending h) h.outbox.last serial next
 
-pub next_serial-none : (h : List Event) → AllTaken (pending (past h)) → next_serial h ≡ None
+pub next_serial-none : (h : Past) → AllTaken (pending h) → next_serial h ≡ None
 unfolding next_serial
-next_serial-none h all = first_free-none (pending (past h)) (last_serial h) all
+next_serial-none h all = first_free-none (pending h) h.outbox.last all

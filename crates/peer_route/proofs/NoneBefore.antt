@@ -1,255 +1,322 @@
--- Only a poll or a take by position is answered that there is none before it.
-use Rattle.std.proofs.Common.{inl, inr, ◌≡◌, ℕ, refl, sym, ◌∙◌, ap, subst, Bool, true, false, if◌then◌else◌, List, [], ◌∷◌, Option, Some, None, Result, Ok, Err}
-use Rattle.std.specs.List.{slice_get}
+-- What commands say at once: none that a message was sent; that there is none before by position alone; and the name alone is given by its
+-- own line.
+use Rattle.std.proofs.Common.{inl, inr, ◌&&◌, ◌||◌, not, is_none, ◌≡◌, ℕ, refl, sym, ◌∙◌, ap, subst, Bool, true, false, if◌then◌else◌, List, [], ◌∷◌, Option, Some, None, Result, Ok, Err, ◌++◌}
+use Rattle.std.specs.List.{slice_get, AllByRecursion}
+use Rattle.std.proofs.lemmas.Bool.{and_parts}
 use Rattle.wire_message.specs.Front.{Seen}
 use Rattle.wire_message.specs.declared.kind.MessageType.{MessageType}
 use Rattle.wire_message.specs.declared.kind.MessageType.TheVariants as types
 use Rattle.wire_message.specs.declared.error.Error.{Error}
 use Rattle.wire_message.specs.declared.error.Error.TheVariants as errors
+use Rattle.rule_match.specs.Rule.{Rule}
 use Rattle.rule_match.specs.Bytes.{rule_in_bytes}
-use Rattle.peer_route.specs.declared.writer.Writer.TheVariants as writers
-use Rattle.peer_route.specs.declared.writer.Writer.{Writer}
 use Rattle.peer_route.specs.declared.polled.Polled.{Polled}
 use Rattle.peer_route.specs.declared.polled.Polled.TheVariants as polled
-use Rattle.peer_route.specs.BusCall.{add_parcel}
+use Rattle.peer_route.specs.declared.progress.OpenState.{OpenState}
+use Rattle.peer_route.specs.declared.progress.OpenState.TheVariants as states
 use Rattle.peer_route.specs.declared.words.Words.{Words}
 use Rattle.peer_route.specs.declared.words.Words.TheVariants as words
+use Rattle.peer_route.specs.declared.words.CallOp.{CallOp}
+use Rattle.peer_route.specs.declared.words.CallOp.TheVariants as calls
+use Rattle.peer_route.specs.declared.words.StreamOp.{StreamOp}
+use Rattle.peer_route.specs.declared.words.StreamOp.TheVariants as ops
+use Rattle.peer_route.specs.declared.words.Live.{Live}
+use Rattle.peer_route.specs.declared.words.Live.TheVariants as live
 use Rattle.peer_route.specs.declared.answer.Answer.{Answer}
 use Rattle.peer_route.specs.declared.answer.Answer.TheVariants as answers
 use Rattle.peer_route.specs.declared.answer.Entry.{Entry}
-use Rattle.peer_route.specs.History.{Event, Call, closing, writer, calls, Stream, streams, read, Making, Plain, Cloned, unique_name, Ruled, past}
-use Rattle.peer_route.specs.Calls.{found, is_nobodys, polled_by, polled_at, poll_answer, by_position, drop_answer, in_flight}
-use Rattle.peer_route.specs.Streams.{held, runs, busy, take_by, take_at, take_answer, opening_answer, is_open, asks_bus}
-use Rattle.peer_route.specs.declared.progress.OpenState.{OpenState}
-use Rattle.peer_route.specs.declared.progress.OpenState.TheVariants as states
 use Rattle.peer_route.specs.Parcel.{Setting, Asked}
-use Rattle.peer_route.specs.CallMessage.{expects}
-use Rattle.peer_route.specs.Trail.{Trail, place, second_place, count, next_serial, or_zero}
-use Rattle.peer_route.specs.Answers.{IsAnswer, IsCalled, IsSendOf, Legal, write_fault, write_closed, sent_answer, IsMeant, long_refusal}
-use Rattle.peer_route.specs.StreamLaws.{says_closed}
-use Rattle.peer_route.specs.Laws.{IsByPosition, IsNothingYet}
-use Rattle.peer_route.proofs.BusAnswers.{OfLeave, Unknown, Delays, leave_answered, Ended}
-use Rattle.peer_route.specs.Entries.{trail, said}
+use Rattle.peer_route.specs.CallMessage.{expects, outgoing_asked, reply_asked, error_asked}
+use Rattle.peer_route.specs.History.{Event, Named, Spent, Did, Gone, Call, Stream, Past, first_name, no_past, after}
+use Rattle.peer_route.specs.Calls.{found, in_flight, is_nobodys, polled_by, polled_at, poll_answer, by_position, poll_events, drop_answer, drop_events}
+use Rattle.peer_route.specs.Streams.{held, runs, busy, take_by, take_at, take_answer, take_events, opening_answer, opening_events, gone_events, is_open, are_open, asks_bus, close_waits}
 use Rattle.peer_route.specs.Shown.{error_answer, reply_by, shown, shown_drop, shown_take, shown_opening}
-use Rattle.peer_route.specs.Plan.{poll_of, before_of, drop_of, take_of, take_before_of, where_open, are_open_at, opened_of, Plan, Reads, Says, asks_more, clones, ends, makes, opens, opens_new, opens_rule, reads_by, refuses}
-use Rattle.rule_match.specs.Rule.{Rule}
+use Rattle.peer_route.specs.Issuing.{Posting}
+use Rattle.peer_route.specs.Trail.{Trail, place}
+use Rattle.peer_route.specs.Plan.{Plan, Says, Sends, where_named, where_open, unless_waits, sent_answer, sends, on_call, ends, second_place, given_last, on_stream, opens_new, opens, reads_by, is_due, writes_by, named_now, lives, plan, Reads, Closes, Writes, Never}
+use Rattle.peer_route.specs.Entries.{IsMeant, IsSending, IsRead, IsClose, Legal, trail, write_fault, IsOfRun, deeds, past_after, with_queue, with_bus, with_name}
+use Rattle.peer_route.specs.Laws.{IsByPosition, IsNothingYet, told_serial}
+use Rattle.peer_route.proofs.Plans.{by_plan}
+use Rattle.peer_route.proofs.Kept.{is_live, every_entry, Keeps, entry_keeps, read_all, write_all, of_run}
+use Rattle.peer_route.proofs.Refused.{quiet_past, idle_more}
 
--- ---- a message that is sent, and a read
+-- where an answer fits a command by position alone, and where none by position alone
+abbrev place_of : Answer → Option Bool
+place_of answers.NoneBefore = Some true
+place_of answers.NotYet = Some false
+place_of answers.Empty = Some false
+place_of other = None
 
-sent_other : (expects : Bool) (call serial : ℕ) → sent_answer expects call serial ≡ answers.NoneBefore → ⊥
-sent_other true call serial e = cc
-sent_other false call serial e = cc
+abbrev fits : Bool → Option Bool → Bool
+fits by None = true
+fits by (Some place) = if by then place else not place
 
-called_other : (r : Option Error) (w : Writer) (success a : Answer) → (success ≡ answers.NoneBefore → ⊥) → IsCalled r w success a → a ≡ answers.NoneBefore → ⊥
-called_other (Some error) w success a other is e = let q : answers.Refused error ≡ answers.NoneBefore = sym is ∙ e in cc
-called_other None writers.Failed success a other is e = let q : write_fault ≡ answers.NoneBefore = sym is ∙ e in cc
-called_other None writers.Closed success a other is e = let q : write_closed ≡ answers.NoneBefore = sym is ∙ e in cc
-called_other None writers.Fine success a other (inl is) e = other (sym is ∙ e)
-called_other None writers.Fine success a other (inr is) e = let q : write_fault ≡ answers.NoneBefore = sym is ∙ e in cc
+-- none of these gives the peer its name
+abbrev pub unnamed : List Event → Bool
+unnamed [] = true
+unnamed (Named name ∷ es) = false
+unnamed (e ∷ es) = unnamed es
 
-send_other : (t : Trail) (lane : ℕ) (asked : Asked) (a : Answer) → IsSendOf t lane asked a → a ≡ answers.NoneBefore → ⊥
-send_other t lane asked a is e = called_other _ (writer t.events) _ a (sent_other (expects asked) _ _) is e
+-- What is said tells no serial and fits the command; what is done gives the name where that may be.
+abbrev pub is_tame : Bool → Bool → Plan → Bool
+is_tame by live (Says answer deeds) = is_none (told_serial answer) && (fits by (place_of answer) && (live || unnamed deeds))
+is_tame by live (Sends deeds ds sent) = unnamed deeds
+is_tame by live other = true
 
--- what a command means is never that there is none before
-abbrev IsOther : Trail → ℕ → Plan → Type 0
-IsOther t lane p = (a : Answer) → IsMeant t lane p a → a ≡ answers.NoneBefore → ⊥
+abbrev pub by_place : Words → Bool
+by_place (words.OfCall number (calls.Before before)) = true
+by_place (words.OfStream number (ops.TakeBefore before)) = true
+by_place w = false
 
-refuses_other : (t : Trail) (lane : ℕ) (error : Error) → IsOther t lane (refuses error)
-refuses_other t lane error a is e = let q : answers.Refused error ≡ answers.NoneBefore = sym is ∙ e in cc
+-- ---- answers
 
-busy_other : (t : Trail) (lane : ℕ) → IsOther t lane (Says answers.Busy [])
-busy_other t lane a is e = let q : answers.Busy ≡ answers.NoneBefore = sym is ∙ e in cc
+error_tame : (by : Bool) (e : Event) (m : Seen) (name : Option (List ℕ)) → unnamed (e ∷ []) ≡ true → is_tame by false (Says (error_answer m name) (e ∷ [])) ≡ true
+error_tame by e m (Some name) free = free
+error_tame by e m None free = free
 
-reads_other : (t : Trail) (lane : ℕ) (o : Option Error) (full : Bool) → IsOther t lane (reads_by o full)
-reads_other t lane (Some error) full a is e = let q : answers.Closed error ≡ answers.NoneBefore = sym is ∙ e in cc
-reads_other t lane None true a is e = busy_other t lane a is e
-reads_other t lane None false a is e = subst (λ x. IsMeant t lane Reads x) e is
+reply_tame : (by : Bool) (k : ℕ) (m : Seen) (kind : MessageType) → is_tame by false (Says (reply_by m kind) (Spent k ∷ [])) ≡ true
+reply_tame by k m types.Error = error_tame by (Spent k) m m.error_name refl
+reply_tame by k m kind = refl
 
--- ---- a poll
+polled_tame : (k : ℕ) (b : Bool) (f : Option Seen) (o : Option Error) (r : Result (Polled Seen) Error) → r ≡ (if b then Err errors.UnknownHandle else polled_by f o) → is_tame false false (Says (shown r) (poll_events k r)) ≡ true
+polled_tame k true f o r e = rw e refl
+polled_tame k false (Some m) o r e = rw e (reply_tame false k m m.kind)
+polled_tame k false None (Some error) r e = rw e refl
+polled_tame k false None None r e = rw e refl
 
-polled_other : (b : Bool) (f : Option Seen) (o : Option Error) → (if b then Err errors.UnknownHandle else polled_by f o) ≡ Ok polled.NoneBefore → ⊥
-polled_other true f o e = cc
-polled_other false (Some m) o e = cc
-polled_other false None (Some error) e = cc
-polled_other false None None e = cc
+polled_at_tame : (k : ℕ) (ms : List Seen) (closing : Option Error) (o : Option Call) → is_tame false false (Says (shown (polled_at ms closing o)) (poll_events k (polled_at ms closing o))) ≡ true
+polled_at_tame k ms closing None = refl
+polled_at_tame k ms closing (Some c) = polled_tame k (is_nobodys c) (found ms c) closing _ refl
 
-polled_at_other : (h : List Event) (o : Option Call) → polled_at (read h) (closing h) o ≡ Ok polled.NoneBefore → ⊥
-polled_at_other h None e = cc
-polled_at_other h (Some c) e = polled_other (is_nobodys c) (found (read h) c) (closing h) e
+before_tame : (k : ℕ) (r : Result (Polled Seen) Error) → is_tame true false (Says (shown (by_position r)) (poll_events k r)) ≡ true
+before_tame k (Ok (polled.Now m)) = reply_tame true k m m.kind
+before_tame k r = refl
 
-answer_other : (h : List Event) (k : ℕ) → poll_answer (past h) k ≡ Ok polled.NoneBefore → ⊥
+drop_tame : (k : ℕ) (r : Result (Unit {0}) Error) → is_tame false false (Says (shown_drop r) (drop_events k r)) ≡ true
+drop_tame k (Ok done) = refl
+drop_tame k (Err error) = refl
+
+call_tame : (h : Past) (n : ℕ) (op : CallOp) (k : ℕ) → is_tame (by_place (words.OfCall n op)) false (on_call h op k) ≡ true
 unfolding poll_answer
-answer_other h k e = polled_at_other h (slice_get (calls h) k) e
+call_tame h n calls.Poll k = polled_at_tame k h.read h.closing (slice_get h.calls k)
+call_tame h n (calls.Before before) k = before_tame k (poll_answer h k)
+call_tame h n calls.Drop k = drop_tame k (drop_answer h k)
 
-error_other : (m : Seen) (name : Option (List ℕ)) → error_answer m name ≡ answers.NoneBefore → ⊥
-error_other m (Some name) e = cc
-error_other m None e = cc
+take_by_tame : (k : ℕ) (b : Bool) (ms : List Seen) (o : Option Error) (told : Bool) (r : Result (Polled Seen) Error) → r ≡ (if b then Ok (take_by ms o told) else Err errors.UnknownHandle)
+    → is_tame false false (Says (shown_take r) (take_events k r)) ≡ true
+take_by_tame k false ms o told r e = rw e refl
+take_by_tame k true (m ∷ ms) o told r e = rw e refl
+take_by_tame k true [] None told r e = rw e refl
+take_by_tame k true [] (Some error) false r e = rw e refl
+take_by_tame k true [] (Some error) true r e = rw e refl
 
-reply_other : (m : Seen) (kind : MessageType) → reply_by m kind ≡ answers.NoneBefore → ⊥
-reply_other m types.MethodReturn e = cc
-reply_other m types.MethodCall e = cc
-reply_other m types.Error e = error_other m m.error_name e
-reply_other m types.Signal e = cc
+take_at_tame : (k : ℕ) (ms : List Seen) (closing : Option Error) (o : Option Stream) → is_tame false false (Says (shown_take (take_at ms closing o)) (take_events k (take_at ms closing o))) ≡ true
+take_at_tame k ms closing None = refl
+take_at_tame k ms closing (Some s) = take_by_tame k (runs ms s) (held ms s) closing s.told _ refl
 
-shown_other : (r : Result (Polled Seen) Error) → shown r ≡ answers.NoneBefore → r ≡ Ok polled.NoneBefore
-shown_other (Ok (polled.Now m)) e = absurd (reply_other m m.kind e)
-shown_other (Ok polled.NotYet) e = cc
-shown_other (Ok polled.NoneBefore) e = refl
-shown_other (Ok (polled.Closed error)) e = cc
-shown_other (Ok polled.Ended) e = cc
-shown_other (Err error) e = cc
+take_before_tame : (k : ℕ) (r : Result (Polled Seen) Error) → is_tame true false (Says (shown_take (by_position r)) (take_events k r)) ≡ true
+take_before_tame k (Ok (polled.Now m)) = refl
+take_before_tame k r = refl
 
-poll_other : (h : List Event) (p : Option ℕ) → poll_of h p ≡ answers.NoneBefore → ⊥
-poll_other h None e = cc
-poll_other h (Some k) e = answer_other h k (shown_other (poll_answer (past h) k) e)
+opening_tame : (k : ℕ) (state : OpenState) → is_tame false false (Says (shown_opening state) (opening_events k state)) ≡ true
+opening_tame k (states.Refused m) = error_tame false (Did k Gone) m m.error_name refl
+opening_tame k state = refl
 
-drop_shown_other : (r : Result (Unit {0}) Error) → shown_drop r ≡ answers.NoneBefore → ⊥
-drop_shown_other (Ok done) e = cc
-drop_shown_other (Err error) e = cc
+-- ---- what the commands mean
 
-drop_other : (h : List Event) (p : Option ℕ) → drop_of h p ≡ answers.NoneBefore → ⊥
-drop_other h None e = cc
-drop_other h (Some k) e = drop_shown_other (drop_answer (past h) k) e
+named_tame : (by : Bool) (done : ℕ → Plan) (k : Option ℕ) → ((n : ℕ) → is_tame by false (done n) ≡ true) → is_tame by false (where_named done k) ≡ true
+named_tame by done None so = refl
+named_tame by done (Some k) so = so k
 
--- ---- a take
+open_tame : (b : Bool) (p : Plan) → is_tame false false p ≡ true → is_tame false false (where_open b p) ≡ true
+open_tame true p so = so
+open_tame false p so = refl
 
-take_by_other : (items : List Seen) (o : Option Error) (told : Bool) → shown_take (Ok (take_by items o told)) ≡ answers.NoneBefore → ⊥
-take_by_other (m ∷ ms) o told e = cc
-take_by_other [] None told e = cc
-take_by_other [] (Some error) false e = cc
-take_by_other [] (Some error) true e = cc
+waits_tame : (b : Bool) (p : Plan) → is_tame false false p ≡ true → is_tame false false (unless_waits b p) ≡ true
+waits_tame true p so = refl
+waits_tame false p so = so
 
-take_if_other : (open_ : Bool) (items : List Seen) (o : Option Error) (told : Bool)
-    → shown_take (if open_ then Ok (take_by items o told) else Err errors.UnknownHandle) ≡ answers.NoneBefore → ⊥
-take_if_other true items o told e = take_by_other items o told e
-take_if_other false items o told e = cc
+sends_tame : (t : Trail) (lane : ℕ) (asked : Asked) → is_tame false false (sends t lane asked) ≡ true
+sends_tame t lane (Err error) = refl
+sends_tame t lane (Ok parcel) = refl
 
-take_at_other : (h : List Event) (o : Option Stream) → shown_take (take_at (read h) (closing h) o) ≡ answers.NoneBefore → ⊥
-take_at_other h None e = cc
-take_at_other h (Some s) e = take_if_other (runs (read h) s) (held (read h) s) (closing h) s.told e
+gone_unnamed : (k : ℕ) (j : Option ℕ) → unnamed (gone_events k j) ≡ true
+gone_unnamed k None = refl
+gone_unnamed k (Some j) = refl
 
-take_other : (h : List Event) (p : Option ℕ) → take_of h p ≡ answers.NoneBefore → ⊥
+ends_tame : (h : Past) (k : ℕ) (j : Option (Option ℕ)) → is_tame false false (ends h k j) ≡ true
+ends_tame h k None = refl
+ends_tame h k (Some j) = open_tame (are_open h k j) _ (waits_tame (close_waits h k j) _ (gone_unnamed k j))
+
+stream_tame : (t : Trail) (lane n : ℕ) (op : StreamOp) (k : ℕ) → is_tame (by_place (words.OfStream n op)) false (on_stream t lane op k) ≡ true
 unfolding take_answer
-take_other h None e = cc
-take_other h (Some k) e = take_at_other h (slice_get (streams h) k) e
+stream_tame t lane n (ops.Reply body) k = sends_tame t lane (reply_asked t.past.name (given_last t.past k) body)
+stream_tame t lane n (ops.Error name body) k = sends_tame t lane (error_asked t.past.name (given_last t.past k) name body)
+stream_tame t lane n ops.Take k = take_at_tame k t.past.read t.past.closing (slice_get t.past.streams k)
+stream_tame t lane n (ops.TakeBefore before) k = take_before_tame k (take_answer t.past k)
+stream_tame t lane n ops.Clone k = open_tame (is_open t.past k) _ refl
+stream_tame t lane n ops.Opened k = opening_tame k (opening_answer t.past k)
+stream_tame t lane n (ops.Queue limit) k = open_tame (is_open t.past k) _ refl
+stream_tame t lane n (ops.Unstream second) k = ends_tame t.past k (second_place t lane second)
 
--- ---- a stream that is named
+opens_tame : (t : Trail) (lane : ℕ) (found : Result Rule Error) (asked : Option ℕ) (shut : Option Error) → is_tame false false (opens t lane found asked shut) ≡ true
+opens_tame t lane (Err error) asked shut = refl
+opens_tame t lane (Ok rule) asked (Some error) = refl
+opens_tame t lane (Ok rule) asked None = waits_tame (in_flight t.past) _ (new (asks_bus t.past rule))
+  where
+    new : (asks : Bool) → is_tame false false (opens_new t lane rule asked asks) ≡ true
+    new true = refl
+    new false = refl
 
-open_other : (t : Trail) (lane : ℕ) (b : Bool) (p : Plan) → IsOther t lane p → IsOther t lane (where_open b p)
-open_other t lane true p other a is e = other a is e
-open_other t lane false p other a is e = refuses_other t lane _ a is e
+reads_tame : (shut : Option Error) (full : Bool) → is_tame false false (reads_by shut full) ≡ true
+reads_tame (Some error) full = refl
+reads_tame None true = refl
+reads_tame None false = refl
 
-makes_other : (t : Trail) (lane : ℕ) (making : Making) → IsOther t lane (makes lane t.streams making)
-makes_other t lane making a is e = let q : answers.Streaming (count lane t.streams) ≡ answers.NoneBefore = sym is ∙ e in cc
+writes_tame : (due fails : Bool) → is_tame false true (writes_by due fails) ≡ true
+writes_tame true fails = refl
+writes_tame false fails = refl
 
-clones_other : (t : Trail) (lane : ℕ) (k : Option ℕ) → IsOther t lane (clones lane t.streams t.events k)
-clones_other t lane None a is e = refuses_other t lane _ a is e
-clones_other t lane (Some k) a is e = open_other t lane (is_open (past t.events) k) (makes lane t.streams (Cloned k)) (makes_other t lane (Cloned k)) a is e
+name_tame : (given : Option (List ℕ)) (name : List ℕ) → is_tame false true (named_now given name) ≡ true
+name_tame None name = refl
+name_tame (Some earlier) name = refl
 
-more_other : (t : Trail) (lane limit : ℕ) (k : Option ℕ) → IsOther t lane (asks_more limit t.events k)
-more_other t lane limit None a is e = refuses_other t lane _ a is e
-more_other t lane limit (Some k) a is e = open_other t lane (is_open (past t.events) k) _ (λ b set same. let q : answers.Set ≡ answers.NoneBefore = sym set ∙ same in cc) a is e
+lives_tame : (h : Past) (lane : ℕ) (line : Live) → is_tame false true (lives h lane line) ≡ true
+lives_tame h lane (live.Written index) = writes_tame (is_due h lane index && not h.outbox.failed) false
+lives_tame h lane (live.Fault index) = writes_tame (is_due h lane index) true
+lives_tame h lane (live.Unique name) = name_tame h.name name
+lives_tame h lane line = refl
 
--- a stream of a rule is opened, or refused, or the bus is asked
-new_other : (t : Trail) (lane : ℕ) (rule : Rule) (asked : Option ℕ) (asks : Bool) → IsOther t lane (opens_new t lane rule asked asks)
-new_other t lane rule asked true a is e =
-    called_other (long_refusal (next_serial t.events) (add_parcel (unique_name t.events) rule)) (writer t.events)
-    (answers.Opening (count lane t.streams) (or_zero (next_serial t.events))) a (λ q. cc) is e
-new_other t lane rule asked false a is e = makes_other t lane (Ruled rule asked) a is e
+pub plan_tame : (t : Trail) (lane : ℕ) (w : Words) → is_tame (by_place w) (is_live w) (plan t lane w) ≡ true
+plan_tame t lane (words.Send out) = sends_tame t lane (outgoing_asked t.past.name t.setting.takes_fds out)
+plan_tame t lane words.Read = reads_tame t.past.closing (busy t.past)
+plan_tame t lane (words.OfCall n op) = named_tame (by_place (words.OfCall n op)) (on_call t.past op) (place 0 lane n t.names) (call_tame t.past n op)
+plan_tame t lane words.Stream = refl
+plan_tame t lane (words.Open asked text) = opens_tame t lane (rule_in_bytes text) asked t.past.closing
+plan_tame t lane (words.OfStream n op) = named_tame (by_place (words.OfStream n op)) (on_stream t lane op) (place 0 lane n t.streams) (stream_tame t lane n op)
+plan_tame t lane (words.MainQueue limit) = refl
+plan_tame t lane words.Close = refl
+plan_tame t lane (words.Live line) = lives_tame t.past lane line
 
-rule_other : (t : Trail) (lane : ℕ) (rule : Rule) (asked : Option ℕ) (shut : Option Error) (flies : Bool) → IsOther t lane (opens_rule t lane rule asked shut flies)
-rule_other t lane rule asked (Some error) flies a is e = refuses_other t lane _ a is e
-rule_other t lane rule asked None true a is e = busy_other t lane a is e
-rule_other t lane rule asked None false a is e = new_other t lane rule asked (asks_bus (past t.events) rule) a is e
+-- ---- what fits
 
-opens_other : (t : Trail) (lane : ℕ) (found : Result Rule Error) (asked : Option ℕ) → IsOther t lane (opens t lane found asked)
-opens_other t lane (Err error) asked a is e = refuses_other t lane error a is e
-opens_other t lane (Ok rule) asked a is e = rule_other t lane rule asked (closing t.events) (in_flight (past t.events)) a is e
+-- messages that are sent are answered where any may be
+sending_fits : (by : Bool) (r : Result (List ℕ) Error) (ds : List Posting) (sent : List ℕ → Answer) (e : Entry) → ((serials : List ℕ) → place_of (sent serials) ≡ None) → IsSending r ds sent e → fits by (place_of e.answer) ≡ true
+sending_fits by (Ok serials) ds sent e other is = by_fault e.failed is.answer
+  where
+    by_fault : (b : Bool) → e.answer ≡ (if b then write_fault else sent serials) → fits by (place_of e.answer) ≡ true
+    by_fault true a = ap (λ x. fits by (place_of x)) a
+    by_fault false a = ap (λ x. fits by (place_of x)) a ∙ ap (fits by) (other serials)
+sending_fits by (Err (errors.InputOutput kind)) ds sent e other is = ap (λ x. fits by (place_of x)) is.0
+sending_fits by (Err error) ds sent e other is = ap (λ x. fits by (place_of x)) is.0
 
-state_other : (state : OpenState) → shown_opening state ≡ answers.NoneBefore → ⊥
-state_other states.Unknown e = cc
-state_other states.NotYet e = cc
-state_other states.Open e = cc
-state_other (states.Refused m) e = error_other m m.error_name e
-state_other (states.Over error) e = cc
+sent_place : (waits : Bool) (call serial : ℕ) → place_of (sent_answer waits call serial) ≡ None
+sent_place true call serial = refl
+sent_place false call serial = refl
 
-opened_other : (h : List Event) (p : Option ℕ) → opened_of h p ≡ answers.NoneBefore → ⊥
-opened_other h None e = cc
-opened_other h (Some k) e = state_other (opening_answer (past h) k) e
+read_fits : (by : Bool) (n : ℕ) (m : Option Seen) (a : Answer) → IsRead n m a → fits by (place_of a) ≡ true
+read_fits by n (Some m) a is = ap (λ x. fits by (place_of x)) is.0
+read_fits by n None a is = ap (λ x. fits by (place_of x)) is.1
 
-left_other : (there : Bool) (k j : Option ℕ) (p : Plan) (a : Answer) → OfLeave there k j p a → a ≡ answers.NoneBefore → ⊥
-left_other there k j p a (Ended i open_ named means said) e = let q : true ≡ false = sym said ∙ ap says_closed e in cc
-left_other there k j p a (Unknown is) e = let q : answers.Refused errors.UnknownHandle ≡ answers.NoneBefore = sym is ∙ e in cc
-left_other there k j p a (Delays is) e = let q : answers.Busy ≡ answers.NoneBefore = sym is ∙ e in cc
+close_fits : (by : Bool) (a : Answer) → IsClose a → fits by (place_of a) ≡ true
+close_fits by a (inl is) = ap (λ x. fits by (place_of x)) is
+close_fits by a (inr is) = ap (λ x. fits by (place_of x)) is
 
-ends_other : (t : Trail) (lane : ℕ) (there : Bool) (k j : Option ℕ) → IsOther t lane (ends there t.events k j)
-ends_other t lane there k j a is e = left_other there k j _ a (leave_answered t lane there k j a is) e
+entry_fits : (t : Trail) (lane : ℕ) (e : Entry) (w : Words) → is_tame (by_place w) (is_live w) (plan t lane w) ≡ true → IsMeant t.past (plan t lane w) e → fits (by_place w) (place_of e.answer) ≡ true
+entry_fits t lane e =
+    by_plan (λ w pl. is_tame (by_place w) (is_live w) pl ≡ true → IsMeant t.past pl e → fits (by_place w) (place_of e.answer) ≡ true) t lane
+    (λ w answer done fair tame is. ap (λ x. fits (by_place w) (place_of x)) is.1 ∙ (and_parts _ _ (and_parts (is_none (told_serial answer)) _ tame).1).0)
+    (λ w parcel from tame is. sending_fits (by_place w) _ _ _ e (λ serials. sent_place (expects (Ok parcel)) _ _) is.1) (λ asked text rule tame is. sending_fits false _ _ _ e (λ serials. refl) is.1)
+    (λ n second k j open_ tame is. sending_fits false _ _ _ e (λ serials. refl) is.1) (λ shut tame is. read_fits false _ e.read e.answer is.0) (λ tame is. close_fits false e.answer is.1)
+    (λ line fails fine tame is. ap (λ x. fits false (place_of x)) is.1) (λ line tame is. absurd is)
 
--- ---- entries
+place_fits : (t : Trail) (e : Entry) (so : Option Bool) → IsMeant t.past (plan t e.lane e.words) e → place_of e.answer ≡ so → fits (by_place e.words) so ≡ true
+place_fits t e so is at = ap (fits (by_place e.words)) (sym at) ∙ entry_fits t e.lane e e.words (plan_tame t e.lane e.words) is
 
-only_by : (t : Trail) (lane : ℕ) (w : Words) (a : Answer) → IsAnswer t lane w a → a ≡ answers.NoneBefore → IsByPosition w
-only_by t lane (words.Call out) a is e = send_other t lane _ a is e
-only_by t lane (words.Signal out) a is e = send_other t lane _ a is e
-only_by t lane (words.Reply stream body) a is e = send_other t lane _ a is e
-only_by t lane (words.Error stream name body) a is e = send_other t lane _ a is e
-only_by t lane words.Read a is e = reads_other t lane (closing t.events) (busy (past t.events)) a is e
-only_by t lane (words.Poll n) a is e = poll_other t.events (place 0 lane n t.names) (sym is ∙ e)
-only_by t lane (words.Before n before) a is e = tt
-only_by t lane (words.Drop n) a is e = drop_other t.events (place 0 lane n t.names) (sym is ∙ e)
-only_by t lane words.Stream a is e = makes_other t lane Plain a is e
-only_by t lane (words.Open max_queued rule) a is e = opens_other t lane (rule_in_bytes rule) max_queued a is e
-only_by t lane (words.Opened n) a is e = opened_other t.events (place 0 lane n t.streams) (sym is ∙ e)
-only_by t lane (words.Take n) a is e = take_other t.events (place 0 lane n t.streams) (sym is ∙ e)
-only_by t lane (words.TakeBefore n before) a is e = tt
-only_by t lane (words.Clone n) a is e = clones_other t lane (place 0 lane n t.streams) a is e
-only_by t lane (words.Unstream n second) a is e =
-    ends_other t lane (are_open_at t.events lane t.streams n second) (place 0 lane n t.streams) (second_place lane second t.streams) a is e
-only_by t lane (words.Queue n limit) a is e = more_other t lane limit (place 0 lane n t.streams) a is e
-only_by t lane (words.MainQueue limit) a is e = let q = sym is ∙ e in cc
-only_by t lane words.Close a (inl is) e = let q = sym is ∙ e in cc
-only_by t lane words.Close a (inr is) e = let q = sym is ∙ e in cc
+only_by : (w : Words) → fits (by_place w) (Some true) ≡ true → IsByPosition w
+only_by (words.OfCall number (calls.Before before)) e = tt
+only_by (words.OfStream number (ops.TakeBefore before)) e = tt
+only_by w e = cc
 
 pub only : (setting : Setting) (older : List Entry) (e : Entry) → Legal setting (e ∷ older) → e.answer ≡ answers.NoneBefore → IsByPosition e.words
-only setting older e legal a = only_by (trail setting older) e.lane e.words e.answer legal.0 a
+only setting older e legal a = only_by e.words (place_fits (trail setting older) e (Some true) legal.0 (ap place_of a))
 
-error_said : (m : Seen) (name : Option (List ℕ)) → IsNothingYet (error_answer m name) → ⊥
-error_said m (Some name) n = n
-error_said m None n = n
+never_by : (w : Words) → fits (by_place w) (Some false) ≡ true → IsByPosition w → ⊥
+never_by (words.OfCall number (calls.Before before)) e by = cc
+never_by (words.OfStream number (ops.TakeBefore before)) e by = cc
+never_by w e by = by
 
-reply_said : (m : Seen) (kind : MessageType) → IsNothingYet (reply_by m kind) → ⊥
-reply_said m types.MethodReturn n = n
-reply_said m types.MethodCall n = n
-reply_said m types.Error n = error_said m m.error_name n
-reply_said m types.Signal n = n
-
-shown_said : (r : Result (Polled Seen) Error) → IsNothingYet (shown (by_position r)) → ⊥
-shown_said (Ok (polled.Now m)) n = reply_said m m.kind n
-shown_said (Ok polled.NotYet) n = n
-shown_said (Ok polled.NoneBefore) n = n
-shown_said (Ok (polled.Closed error)) n = n
-shown_said (Ok polled.Ended) n = n
-shown_said (Err error) n = n
-
-before_said : (h : List Event) (p : Option ℕ) → IsNothingYet (before_of h p) → ⊥
-before_said h None n = n
-before_said h (Some k) n = shown_said (poll_answer (past h) k) n
-
-shown_take_said : (r : Result (Polled Seen) Error) → IsNothingYet (shown_take (by_position r)) → ⊥
-shown_take_said (Ok (polled.Now m)) n = n
-shown_take_said (Ok polled.NotYet) n = n
-shown_take_said (Ok polled.NoneBefore) n = n
-shown_take_said (Ok (polled.Closed error)) n = n
-shown_take_said (Ok polled.Ended) n = n
-shown_take_said (Err error) n = n
-
-take_before_said : (h : List Event) (p : Option ℕ) → IsNothingYet (take_before_of h p) → ⊥
-take_before_said h None n = n
-take_before_said h (Some k) n = shown_take_said (take_answer (past h) k) n
-
-never_by : (t : Trail) (lane : ℕ) (w : Words) (a : Answer) → IsAnswer t lane w a → IsByPosition w → IsNothingYet a → ⊥
-never_by t lane (words.Before number before) a is by n = before_said t.events (place 0 lane number t.names) (subst IsNothingYet is n)
-never_by t lane (words.TakeBefore number before) a is by n = take_before_said t.events (place 0 lane number t.streams) (subst IsNothingYet is n)
-never_by t lane w a is by n = absurd by
+nothing_yet : (a : Answer) → IsNothingYet a → place_of a ≡ Some false
+nothing_yet answers.NotYet n = refl
+nothing_yet answers.Empty n = refl
+nothing_yet a n = absurd n
 
 pub never : (setting : Setting) (older : List Entry) (e : Entry) → Legal setting (e ∷ older) → IsByPosition e.words → IsNothingYet e.answer → ⊥
-never setting older e legal by n = never_by (trail setting older) e.lane e.words e.answer legal.0 by n
+never setting older e legal by n = never_by e.words (place_fits (trail setting older) e (Some false) legal.0 (nothing_yet e.answer n)) by
+
+-- ---- the name stays
+
+-- it leaves the name as it was
+abbrev Unnames : Event → Type 0
+Unnames e = Keeps (λ h. h.name) e
+
+are_unnamed : (es : List Event) → unnamed es ≡ true → AllByRecursion Unnames es
+are_unnamed [] e = tt
+are_unnamed (Named name ∷ es) e = cc
+are_unnamed (event ∷ es) e = (λ h. refl, are_unnamed es e)
+
+-- the deeds of a plan that no line of lanes that run at once has
+tame_deeds : (before : Bool) (pl : Plan) (e : Entry) → is_tame before false pl ≡ true → AllByRecursion Unnames (deeds pl e)
+tame_deeds before (Says answer done) e tame = are_unnamed done (and_parts _ _ (and_parts _ _ tame).1).1
+tame_deeds before (Sends done ds sent) e tame = are_unnamed done tame
+tame_deeds before Reads e tame = read_all Unnames (λ m h. refl) (λ error h. refl) e.read e.answer
+tame_deeds before Closes e tame = (λ h. refl, tt)
+tame_deeds before (Writes fails) e tame = write_all Unnames fails (λ h. refl, λ h. refl)
+tame_deeds before Never e tame = tt
+
+pub start : (setting : Setting) (es : List Entry) → AllByRecursion (λ (e : Entry). IsOfRun e.words) es → (trail setting es).past.name ≡ setting.name
+start setting [] all = first setting.bus setting.name setting.queue
+  where
+    first : (bus : Bool) (name : Option (List ℕ)) (queue : Option ℕ) → (with_name name (with_bus bus (with_queue queue no_past))).name ≡ name
+    first true None None = refl
+    first true None (Some limit) = refl
+    first true (Some name) None = refl
+    first true (Some name) (Some limit) = refl
+    first false None None = refl
+    first false None (Some limit) = refl
+    first false (Some name) None = refl
+    first false (Some name) (Some limit) = refl
+start setting (e ∷ es) all =
+    let t = trail setting es in
+    let pl = plan t e.lane e.words in
+    let tame = subst (λ b. is_tame (by_place e.words) b pl ≡ true) (of_run e.words all.0) (plan_tame t e.lane e.words) in
+    entry_keeps (λ h. h.name) pl e t.past (tame_deeds (by_place e.words) pl e tame) (λ m purpose h. refl) (λ h. refl) (λ h. refl) ∙ start setting es all.1
+
+name_keeps : (name : List ℕ) (e : Event) (h : Past) → h.name ≡ Some name → (after e h).name ≡ Some name
+name_keeps name (Named later) h is = ap (λ o. first_name o later) is
+name_keeps name e h is = is
+
+pub kept : (setting : Setting) (newer older : List Entry) (name : List ℕ) → (trail setting older).past.name ≡ Some name → (trail setting (newer ++ older)).past.name ≡ Some name
+kept setting [] older name is = is
+kept setting (e ∷ newer) older name is =
+    let t = trail setting (newer ++ older) in every_entry (λ q. q.name ≡ Some name) (name_keeps name) (plan t e.lane e.words) e t.past (kept setting newer older name is)
+
+-- the line that gives a name
+names : (t : Trail) (e : Entry) (name : List ℕ) (given : Option (List ℕ)) → e.words ≡ words.Live (live.Unique name) → t.past.name ≡ given → plan t e.lane e.words ≡ named_now given name
+names t e name given w is = ap (plan t e.lane) w ∙ ap (λ o. named_now o name) is
+
+pub given : (setting : Setting) (older : List Entry) (e : Entry) (name : List ℕ) → Legal setting (e ∷ older) → e.words ≡ words.Live (live.Unique name) → (trail setting older).past.name ≡ None
+    → (e.answer ≡ answers.Named true) × ((trail setting (e ∷ older)).past.name ≡ Some name)
+given setting older e name legal w is =
+    let t = trail setting older in
+    let means = names t e name None w is in
+    let meant = subst (λ pl. IsMeant t.past pl e) means legal.0 in
+    (meant.1, ap (λ pl. (past_after pl e t.past).name) means ∙ ap (λ (q : Past). q.name) (quiet_past (named_now None name) e t.past meant.2) ∙ ap (λ o. first_name o name) is)
+
+pub later : (setting : Setting) (older : List Entry) (e : Entry) (name earlier : List ℕ) → Legal setting (e ∷ older) → e.words ≡ words.Live (live.Unique name) → (trail setting older).past.name ≡ Some earlier
+    → (e.answer ≡ answers.Named false) × (trail setting (e ∷ older) ≡ trail setting older)
+later setting older e name earlier legal w is =
+    let t = trail setting older in
+    let means = names t e name (Some earlier) w is in
+    let meant = subst (λ pl. IsMeant t.past pl e) means legal.0 in
+    (meant.1, idle_more (plan t e.lane e.words) e t (meant.2, ap (λ pl. deeds pl e) means))

@@ -5,12 +5,12 @@ use Rattle.std.specs.Option.{option_map}
 use Rattle.std.proofs.lemmas.List.{length-map}
 use Rattle.wire_message.specs.declared.error.Error.{Error}
 use Rattle.wire_message.specs.declared.error.Error.TheVariants as errors
-use Rattle.peer_route.specs.History.{Made, Did, Cloned, Gone, Asked, edit, rule_of, Past, after}
-use Rattle.peer_route.specs.Streams.{limit_of, is_open, known, are_open, close_answer, ask_answer, limit_answer}
+use Rattle.peer_route.specs.History.{Made, Did, Cloned, Asked, rule_of, Past, after}
+use Rattle.peer_route.specs.Streams.{limit_of, is_open, known, are_open, ask_answer, limit_answer}
 use Rattle.peer_route.specs.declared.queue.Subscription.{Subscription}
 use Rattle.peer_route.specs.Left.{Held, held_of, kept_at, limit_or, wants_of, asked_for, main_asked, ClonesHeld, View, Left, Clones}
 use Rattle.peer_route.proofs.RuledStreams.{limit_left}
-use Rattle.peer_route.proofs.Core.{open_so, left_cloned, left_ended, left_asked}
+use Rattle.peer_route.proofs.Core.{open_so, left_cloned, left_asked}
 
 -- ---- clones
 
@@ -35,15 +35,6 @@ clones_not v sv k h other left c = absurd c
 pub two_so : (v : View) (h : Past) (k j : ℕ) → Left v h
     → (is_some (kept_at v.streams k) && is_some (kept_at v.streams j) && not (k == j)) ≡ are_open h k (Some j)
 two_so v h k j left = rw (open_so v k h left, open_so v j h left) refl
-
-pub close_so : (h : Past) (k : ℕ) (j : Option ℕ) (b : Bool) → b ≡ are_open h k j → close_answer h k j ≡ known b
-unfolding close_answer
-close_so h k j b e = ap known (sym e)
-
--- one is closed, and another
-pub ends_two : (v : View) (h : Past) (k j : ℕ) → Left v h
-    → Left (record v { streams = edit j (λ q. None) (edit k (λ q. None) v.streams) }) (after (Did j Gone) (after (Did k Gone) h))
-ends_two v h k j left = left_ended (record v { streams = edit k (λ q. None) v.streams }) j (after (Did k Gone) h) (left_ended v k h left)
 
 -- ---- capacities
 

@@ -1,9 +1,9 @@
 -- A stream for which the bus is asked: what the core is then, and once it is asked whether it is open.
-use Rattle.std.proofs.Common.{rules, ◌≡◌, ℕ, codes, refl, sym, ◌∙◌, ap, subst, Bool, true, false, not, ◌&&◌, ◌||◌, if◌then◌else◌, is_some, List, [], ◌∷◌, ◌++◌, length, Option, Some, None, Ok, Err}
+use Rattle.std.proofs.Common.{rules, ◌≡◌, ℕ, codes, refl, sym, ◌∙◌, ap, subst, Bool, true, false, not, ◌&&◌, ◌||◌, if◌then◌else◌, is_some, List, [], ◌∷◌, length, Option, Some, None, Ok, Err}
 use Rattle.std.specs.List.{slice_get}
 use Rattle.std.specs.Option.{option_map}
-use Rattle.std.proofs.lemmas.List.{map-append, length-append}
 use Rattle.std.proofs.lemmas.Bool.{false≢true}
+use Rattle.std.proofs.Math.Bool.{or-false}
 use Rattle.wire_message.specs.Front.{Seen}
 use Rattle.wire_message.specs.declared.error.Error.{Error}
 use Rattle.wire_message.specs.declared.error.Error.TheVariants as errors
@@ -14,23 +14,21 @@ use Rattle.peer_route.specs.declared.opening.Opens.TheVariants as opens
 use Rattle.peer_route.specs.declared.opening.Opening.{Opening}
 use Rattle.peer_route.specs.declared.progress.OpenState.{OpenState}
 use Rattle.peer_route.specs.declared.progress.OpenState.TheVariants as states
-use Rattle.peer_route.specs.History.{Made, Ruled, Gone, Opened, OnBus, Put, Adds, Named, Call, inner_call, edit, first_name, Stream, Phase, Asking, Denied, Since, phase, open_one, Past, after, after_all}
+use Rattle.peer_route.specs.History.{Made, Ruled, Gone, Opened, OnBus, Put, Adds, Removes, Named, edit, first_name, Stream, Phase, Asking, Denied, Since, phase, open_one, Past, after, after_all}
 use Rattle.peer_route.specs.Calls.{in_flight}
 use Rattle.peer_route.specs.Streams.{asks_bus, may_be_signal, matched, offered, held, opening_by, opening_at, opening_answer, opening_events}
-use Rattle.peer_route.specs.Left.{Held, held_by, held_of, progress_by, kept_by, any_at, shared, asked_by, held_opening, opened_held, is_flying, with_stream, with_asking, with_call, CallsView, waiting_serial, LeftStreams, IsWithin, View, Left}
-use Rattle.peer_route.specs.BusCall.{add_parcel}
-use Rattle.peer_route.specs.Bus.{asking_of, IsOpening, OpensBy, OpensRule, AsksNow, Asks, AsksFor}
+use Rattle.peer_route.specs.Left.{Held, held_by, held_of, progress_by, kept_by, any_at, shared, asked_by, held_opening, opened_held, is_flying, with_stream, with_asking, LeftStreams, IsWithin, View, Left}
+use Rattle.peer_route.specs.BusCall.{add_parcel, asking_of}
+use Rattle.peer_route.specs.Bus.{IsOpening, OpensBy, OpensRule, Asks, AsksFor}
 use Rattle.peer_route.specs.Parcel.{message_of}
-use Rattle.peer_route.specs.CallMessage.{expects}
-use Rattle.peer_route.specs.Issuing.{IsShort, AreShort}
+use Rattle.peer_route.specs.Issuing.{Posting, is_long, some_long, messages_of, put_each}
 use Rattle.peer_route.specs.declared.route.Issued.{Issued}
-use Rattle.peer_route.specs.Placing.{made_call, Draws, place_of, places_of, issued_at, issued_from, messages_of, with_messages, PutsAll}
+use Rattle.peer_route.specs.Placing.{Draws, issued_at, issued_from, with_messages, PutsAll}
 use Rattle.peer_route.proofs.Core.{flying-left, left_ruled, left_idle, left_did}
-use Rattle.peer_route.proofs.CallsMade.{places, sound_after}
 use Rattle.peer_route.proofs.Edits.{map_edit_all, edit-none}
 use Rattle.peer_route.proofs.StreamsMade.{any_of, any_left, streams_ended, within_each}
 use Rattle.peer_route.proofs.RuledStreams.{streams_asking, subscribed_left}
-use Rattle.peer_route.proofs.Issues.{called, AreOf, drawn_left, refused_by, message_serial, same_expects}
+use Rattle.peer_route.proofs.Issues.{AreOf, drawn_left, put_left, issued_so, refused_by, message_serial}
 use Rattle.peer_route.proofs.BusMessages.{match_expects}
 use Rattle.peer_route.proofs.Index.{open_none}
 use Rattle.peer_route.proofs.OpenStreams.{streams_len}
@@ -50,28 +48,14 @@ left_named v name h none left =
 
 -- ---- an AddMatch is put
 
--- the core with an AddMatch in the outbox, and a stream of the rule that waits for its return
-abbrev asked_view : View → Seen → ℕ → Rule → Option ℕ → View
-asked_view v m serial rule asked = record v {
-  calls = with_call true serial v.calls;
-  streams = with_asking rule asked serial (length v.outbox) v.streams;
-  last = serial;
-  outbox = v.outbox ++ m ∷ [];
-  places = v.places ++ length v.outbox ∷ [];
-}
-
-left_added : (v : View) (m : Seen) (rule : Rule) (asked : Option ℕ) (h : Past) → Left v h → waiting_serial v.calls m.serial ≡ false
-    → Left (asked_view v m m.serial rule asked) (after (Put m (Adds rule asked)) h)
-left_added v m rule asked h left free =
-    let made = called m true v.calls (with_call true m.serial v.calls) (after (Put m (Adds rule asked)) h) h refl refl refl refl free left.calls in
-    let kept = subst (λ i. LeftStreams (with_asking rule asked m.serial i v.streams) (after (Put m (Adds rule asked)) h)) (sym (ap length left.outbox)) (streams_asking m rule asked v.streams h left.streams) in
-    let placed = ap (λ ns. ns ++ length v.outbox ∷ []) left.places ∙ ap (λ ms. places h.calls ++ length ms ∷ []) left.outbox
-    ∙ sym (map-append (λ (c : Call). c.index) h.calls (inner_call h m ∷ [])) in
-    let sound = sound_after (Put m (Adds rule asked)) h left.sound in search rules
+-- where it makes a stream
+left_adds : (v : View) (sv : List (Option Held)) (m : Seen) (rule : Rule) (asked : Option ℕ) (h : Past) → Left v (after (Put m Removes) h) → LeftStreams sv (after (Put m (Adds rule asked)) h)
+    → Left (record v { streams = sv }) (after (Put m (Adds rule asked)) h)
+left_adds v sv m rule asked h left kept = search rules
 
 -- the one message that was put, and the stream that waits for its return
 asks_by : (old mid : View) (rule : Rule) (asked : Option ℕ) (i : Issued) (number : ℕ) (serials : List ℕ)
-    → Draws true old.calls old.last (add_parcel old.name rule ∷ []) serials mid.calls mid.last → AreShort (add_parcel old.name rule ∷ []) serials → old.writer ≡ writers.Fine
+    → Draws true old.calls old.last (add_parcel old.name rule ∷ []) serials mid.calls mid.last → some_long (add_parcel old.name rule ∷ []) serials ≡ false → old.writer ≡ writers.Fine
     → i ∷ [] ≡ issued_from (length old.outbox) (length old.places) (messages_of (add_parcel old.name rule ∷ []) serials)
     → mid ≡ with_messages old (messages_of (add_parcel old.name rule ∷ []) serials) mid.calls mid.last → number ≡ length mid.streams
     → Asks old (record mid { streams = with_asking rule asked i.serial i.index mid.streams }) rule asked (record { number = number; index = i.index; serial = i.serial })
@@ -86,7 +70,7 @@ asks_by old mid rule asked i number (serial ∷ []) d short fine e view n =
       number = n ∙ ap (λ (v : View). length v.streams) view;
       index = place;
       drawn = subst (λ k. Draws true old.calls old.last (p ∷ []) (k ∷ []) mid.calls mid.last) (sym own) d;
-      short = subst (IsShort p) (sym own) short.0;
+      short = ap (is_long p) own ∙ sym (or-false (is_long p serial)) ∙ short;
       fine = fine;
       view = ap (λ (v : View). record v { streams = with_asking rule asked i.serial i.index v.streams }) view
           ∙ ap (λ k. record (with_messages old (message_of p serial ∷ []) mid.calls mid.last) { streams = with_asking rule asked i.serial k old.streams }) place
@@ -96,21 +80,6 @@ asks_by old mid rule asked i number (serial ∷ []) d short fine e view n =
 pub asks_put : (old mid : View) (rule : Rule) (asked : Option ℕ) (i : Issued) (number : ℕ) → PutsAll true (λ (j : Issued). j ∷ []) old mid (add_parcel old.name rule ∷ []) (Ok i) → number ≡ length mid.streams
     → Asks old (record mid { streams = with_asking rule asked i.serial i.index mid.streams }) rule asked (record { number = number; index = i.index; serial = i.serial })
 asks_put old mid rule asked i number p n = asks_by old mid rule asked i number p.0 p.1 p.2 p.3 p.4 p.5 n
-
-asks_view : (old new : View) (rule : Rule) (asked : Option ℕ) (o : Opening) → Asks old new rule asked o
-    → new ≡ asked_view old (message_of (add_parcel old.name rule) o.serial) o.serial rule asked
-asks_view old new rule asked o a =
-    let p = add_parcel old.name rule in
-    let m = message_of p o.serial in
-    let n = length old.outbox in
-    let sends : expects (Ok p) ≡ true = match_expects (codes "AddMatch") old.name rule in
-    let kept = with_asking rule asked o.serial n old.streams in
-    a.view
-    ∙ ap (λ (c : CallsView). record old { calls = c; streams = kept; last = new.last; outbox = old.outbox ++ m ∷ []; places = old.places ++ places_of n (m ∷ []) })
-    (a.drawn.1.0 ∙ ap (λ b. made_call true b old.calls o.serial) sends)
-    ∙ ap (λ l. record old { calls = with_call true o.serial old.calls; streams = kept; last = l; outbox = old.outbox ++ m ∷ []; places = old.places ++ places_of n (m ∷ []) }) a.drawn.1.1
-    ∙ ap (λ b. record old { calls = with_call true o.serial old.calls; streams = kept; last = o.serial; outbox = old.outbox ++ m ∷ []; places = old.places ++ (place_of n b ++ []) })
-    (same_expects p o.serial ∙ sends)
 
 -- ---- whether the bus is asked
 
@@ -140,7 +109,7 @@ unfolding held_of
 opening_one h None = refl
 opening_one h (Some s) = opening_kept s.gone s.opened (held_by h.capacities.rules h.read s) (phase h.read s) h.closing refl refl
 
-pub opening_left : (v : List (Option Held)) (h : Past) (k : ℕ) → LeftStreams v h → held_opening (any_at v k) h.closing ≡ opening_answer h k
+opening_left : (v : List (Option Held)) (h : Past) (k : ℕ) → LeftStreams v h → held_opening (any_at v k) h.closing ≡ opening_answer h k
 unfolding opening_answer
 opening_left v h k left = ap (λ q. held_opening q h.closing) (any_left v h k left) ∙ opening_one h (slice_get h.streams k)
 
@@ -187,8 +156,10 @@ opening_so v k h left = ap (held_opening (any_at v.streams k)) left.calls.closin
 abbrev pub IsIdle : Past → Type 0
 IsIdle h = (h.closing ≡ None) × (in_flight h ≡ false)
 
-pub idle_so : (v : View) (h : Past) → is_some v.calls.closing ≡ false → is_flying v.calls ≡ false → Left v h → IsIdle h
-idle_so v h open_ idle left = (sym left.calls.closing ∙ open_none v.calls.closing open_, sym (flying-left v.calls h left.calls) ∙ idle)
+pub idle_so : (w v : View) (h : Past) → w ≡ v → is_some w.calls.closing ≡ false → is_flying w.calls ≡ false → Left v h → IsIdle h
+idle_so w v h e open_ idle left =
+    let shut = sym left.calls.closing ∙ open_none v.calls.closing (ap (λ (u : View). is_some u.calls.closing) (sym e) ∙ open_) in
+    (shut, sym (flying-left v.calls h left.calls) ∙ ap (λ (u : View). is_flying u.calls) (sym e) ∙ idle)
 
 pub opens_once : (v : View) (rule : Rule) (asked : Option ℕ) (sv : List (Option Held)) (number : ℕ) (h : Past) → IsIdle h → asks_bus h rule ≡ false
     → number ≡ length v.streams → sv ≡ with_stream rule asked v.streams → Left v h
@@ -199,31 +170,36 @@ opens_once v rule asked sv number h idle none e new left =
     (idle.0, idle.1, subst R (sym none) (e ∙ streams_len v h left, subst Q (sym new) (left_ruled v rule asked h left)))
 
 asking_own : (h : Past) (rule : Rule) (asked : Option ℕ) → AreOf true (asking_of h rule asked ∷ [])
-asking_own h rule asked = ((match_expects (codes "AddMatch") h.name rule, tt), tt)
+asking_own h rule asked = ((refl, sym (match_expects (codes "AddMatch") h.name rule)), tt)
+
+-- the streams and the core once it was put
+asked_left : (old new : View) (rule : Rule) (asked : Option ℕ) (o : Opening) (h : Past) → Asks old new rule asked o → Left old h → Left new (put_each (asking_of h rule asked ∷ []) (o.serial ∷ []) h)
+asked_left old new rule asked o h a left =
+    let m = message_of (add_parcel old.name rule) o.serial in
+    let sends = match_expects (codes "AddMatch") old.name rule in
+    let removal : Posting = record { parcel = add_parcel old.name rule; purpose = Removes } in
+    let put = put_left true (removal ∷ []) (o.serial ∷ []) old new.calls new.last h ((refl, sym sends), tt) (tt, tt) left a.drawn in
+    let kept =
+    subst (λ i. LeftStreams (with_asking rule asked o.serial i old.streams) (after (Put m (Adds rule asked)) h)) (sym (ap length left.outbox))
+    (subst (λ n. LeftStreams (with_asking rule asked n (length h.outbox.put) old.streams) (after (Put m (Adds rule asked)) h)) (message_serial (add_parcel old.name rule) o.serial)
+    (streams_asking m rule asked old.streams h left.streams)) in
+    subst (λ name. Left new (after (Put (message_of (add_parcel name rule) o.serial) (Adds rule asked)) h)) left.name
+    (subst (λ v. Left v (after (Put m (Adds rule asked)) h)) (sym a.view) (left_adds _ (with_asking rule asked o.serial (length old.outbox) old.streams) m rule asked h put kept))
 
 pub opens_asking : (old new : View) (rule : Rule) (asked : Option ℕ) (o : Opening) (h : Past) → IsIdle h → asks_bus h rule ≡ true → Asks old new rule asked o → Left old h
     → OpensRule old new rule asked h (Ok (opens.Opening o))
 opens_asking old new rule asked o h idle asks a left =
-    let m = message_of (add_parcel old.name rule) o.serial in
-    let is : m.serial ≡ o.serial = message_serial (add_parcel old.name rule) o.serial in
-    let free : waiting_serial old.calls m.serial ≡ false = ap (waiting_serial old.calls) is ∙ a.drawn.0.free in
-    let now : Left (asked_view old m m.serial rule asked) (after (Put m (Adds rule asked)) h) = left_added old m rule asked h left free in
-    let asked_now : Left new (after (Put m (Adds rule asked)) h) =
-    subst (λ v. Left v (after (Put m (Adds rule asked)) h)) (ap (λ n. asked_view old m n rule asked) is ∙ sym (asks_view old new rule asked o a)) now in
     let draws = subst (λ name. Draws true old.calls old.last (add_parcel name rule ∷ []) (o.serial ∷ []) new.calls new.last) left.name a.drawn in
+    let short = ap (λ name. is_long (add_parcel name rule) o.serial || false) (sym left.name) ∙ ap (λ b. b || false) a.short in
     let R : Bool → Type 0 = λ b. OpensBy b old new rule asked h (Ok (opens.Opening o)) in (
       idle.0,
       idle.1,
       subst R (sym asks) (
-        refl,
-        (
-          o.serial ∷ [],
-          drawn_left true (asking_of h rule asked ∷ []) (o.serial ∷ []) old.calls new.calls old.last new.last h (asking_own h rule asked) left.calls left.last draws,
-          (subst (λ name. IsShort (add_parcel name rule) o.serial) left.name a.short, tt),
-          (refl, a.number ∙ streams_len old h left, a.index ∙ ap length left.outbox),
-          subst (λ name. Left new (after (Put (message_of (add_parcel name rule) o.serial) (Adds rule asked)) h)) left.name asked_now,
-        ),
-        sym left.writer ∙ a.fine,
+        o.serial ∷ [],
+        issued_so h (asking_of h rule asked ∷ []) (o.serial ∷ []) refl
+            (drawn_left true (asking_of h rule asked ∷ []) (o.serial ∷ []) old.calls new.calls old.last new.last h (asking_own h rule asked) left.calls left.last draws) short (sym left.writer ∙ a.fine),
+        (refl, a.number ∙ streams_len old h left, a.index ∙ ap length left.outbox),
+        asked_left old new rule asked o h a left,
       ),
     )
 
@@ -233,7 +209,7 @@ asks_not : (old mid new : View) (rule : Rule) (asked : Option ℕ) (error : Erro
 asks_not old mid new rule asked error h asks same a left =
     let R : Bool → Type 0 = λ b. OpensBy b old new rule asked h (Err error) in
     subst R (sym asks)
-    (refused_by true (λ (i : Issued). i ∷ []) (IsOpening h) (new ≡ old) old mid new (asking_of h rule asked ∷ []) h error (asking_own h rule asked) refl left.calls left.last left.writer same
+    (refused_by true (λ (i : Issued). i ∷ []) (IsOpening h) (new ≡ old) old mid new (asking_of h rule asked) [] h error (asking_own h rule asked) refl left.calls left.last left.writer same
     (subst (λ name. PutsAll true (λ (i : Issued). i ∷ []) old mid (add_parcel name rule ∷ []) (Err error)) left.name a))
 
 pub opens_not : (old mid new : View) (rule : Rule) (asked : Option ℕ) (error : Error) (h : Past) → IsIdle h → asks_bus h rule ≡ true
@@ -244,13 +220,3 @@ opens_not old mid new rule asked (errors.InputOutput kinds.Closed) h idle asks s
 opens_not old mid new rule asked errors.Busy h idle asks same a left = absurd a
 opens_not old mid new rule asked errors.Memory h idle asks same a left = same
 opens_not old mid new rule asked error h idle asks same a left = (idle.0, idle.1, asks_not old mid new rule asked error h asks same a left)
-
--- the AddMatch waits at the end of the outbox
-pub asks_now : (old new : View) (rule : Rule) (asked : Option ℕ) (o : Opening) → Asks old new rule asked o → AsksNow old new (Ok (opens.Opening o))
-asks_now old new rule asked o a = (
-  a.index,
-  ap (λ (v : View). length v.outbox) a.view ∙ length-append old.outbox (message_of (add_parcel old.name rule) o.serial ∷ []),
-  ap (λ (v : View). v.done) a.view,
-  a.fine,
-  ap (λ (v : View). v.writer) a.view ∙ a.fine,
-)

@@ -7,6 +7,15 @@ use Rattle.std.specs.declared.vec.IntoIter.{IntoIter}
 use Rattle.std.proofs.lemmas.Bool.{cases_lt, lt-ltb, le-ltb}
 use Rattle.peer_route.specs.Left.{Rising}
 
+-- maps that agree on each element of a list
+pub map_along : {X Y : Type 0} (P : X → Type 0) (f g : X → Y) → ((x : X) → P x → f x ≡ g x) → (xs : List X) → AllByRecursion P xs → map f xs ≡ map g xs
+map_along P f g e [] all = refl
+map_along P f g e (x ∷ xs) all = let a = e x all.0 in let b = map_along P f g e xs all.1 in cc
+
+pub map_each : {X Y : Type 0} (f g : X → Y) → ((x : X) → f x ≡ g x) → (xs : List X) → map f xs ≡ map g xs
+map_each f g e [] = refl
+map_each f g e (x ∷ xs) = let a = e x in let b = map_each f g e xs in cc
+
 -- a test of the images is a test of the elements
 pub list_any-map : {X Y : Type 0} (p : Y → Bool) (f : X → Y) (xs : List X) → list_any p (map f xs) ≡ list_any (λ x. p (f x)) xs
 list_any-map p f [] = refl

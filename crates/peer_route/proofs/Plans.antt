@@ -1,6 +1,11 @@
--- What commands do that send nothing, read nothing and close nothing; and what all that aren't a read or a closing leave as it was.
-use Rattle.std.proofs.Common.{◌≡◌, ℕ, refl, ◌∙◌, Bool, true, false, List, [], ◌∷◌, ◌++◌, Option, Some, None, Result, Ok, Err}
+-- What holds of each kind of plan holds of every command's; what commands do beside their messages; and what holds along the events of an
+-- entry.
+use Rattle.std.proofs.Common.{◌≡◌, ℕ, ◌-◌, zero, suc, refl, sym, subst, ◌&&◌, not, Bool, true, false, if◌then◌else◌, List, [], ◌∷◌, ◌++◌, length, Option, Some, None, Result, Ok, Err}
 use Rattle.std.specs.List.{AllByRecursion}
+use Rattle.wire_tree.specs.Datum.{Datum}
+use Rattle.wire_message.specs.Draft.{Draft, are_misplaced}
+use Rattle.wire_message.specs.Drafts.{reply_draft, error_draft}
+use Rattle.wire_message.specs.Primary.{head_of}
 use Rattle.wire_message.specs.Front.{Seen}
 use Rattle.wire_message.specs.declared.kind.MessageType.{MessageType}
 use Rattle.wire_message.specs.declared.kind.MessageType.TheVariants as types
@@ -11,361 +16,289 @@ use Rattle.peer_route.specs.declared.polled.Polled.{Polled}
 use Rattle.peer_route.specs.declared.polled.Polled.TheVariants as polled
 use Rattle.peer_route.specs.declared.progress.OpenState.{OpenState}
 use Rattle.peer_route.specs.declared.progress.OpenState.TheVariants as states
-use Rattle.peer_route.specs.declared.writer.Writer.{Writer}
-use Rattle.peer_route.specs.declared.writer.Writer.TheVariants as writers
 use Rattle.peer_route.specs.declared.words.Words.{Words}
 use Rattle.peer_route.specs.declared.words.Words.TheVariants as words
+use Rattle.peer_route.specs.declared.words.CallOp.{CallOp}
+use Rattle.peer_route.specs.declared.words.CallOp.TheVariants as calls
+use Rattle.peer_route.specs.declared.words.StreamOp.{StreamOp}
+use Rattle.peer_route.specs.declared.words.StreamOp.TheVariants as ops
+use Rattle.peer_route.specs.declared.words.Live.{Live}
+use Rattle.peer_route.specs.declared.words.Live.TheVariants as live
+use Rattle.peer_route.specs.declared.words.Outgoing.{Outgoing}
+use Rattle.peer_route.specs.declared.words.OutgoingKind.{OutgoingKind}
+use Rattle.peer_route.specs.declared.words.OutgoingKind.TheVariants as outgoing
 use Rattle.peer_route.specs.declared.answer.Answer.{Answer}
 use Rattle.peer_route.specs.declared.answer.Answer.TheVariants as answers
-use Rattle.peer_route.specs.Parcel as parcels
-use Rattle.peer_route.specs.History.{Event, Put, OfLane, Wrote, Fault, Spent, Made, Did, Main, Adds, Removes, Gone, Making, past, writer, read, closing, unique_name}
+use Rattle.peer_route.specs.declared.answer.Entry.{Entry}
+use Rattle.peer_route.specs.Parcel.{Setting, Parcel, Asked}
+use Rattle.peer_route.specs.CallMessage.{fds_of, words_refusal, name_refusal, values_in, asked_of, member_asked, outgoing_draft, outgoing_asked, sent_from, reply_asked, error_asked}
+use Rattle.peer_route.specs.History.{Event, Put, Wrote, Fault, Spent, Made, Did, Main, Named, Making, Gave, Gone, Past, after, after_all}
 use Rattle.peer_route.specs.Calls.{in_flight, poll_answer, by_position, poll_events, drop_answer, drop_events}
-use Rattle.peer_route.specs.Streams.{busy, take_answer, take_events, is_open, asks_bus, close_waits, leaving, gone_then, opening_answer, opening_events}
+use Rattle.peer_route.specs.Streams.{busy, take_answer, take_events, is_open, are_open, asks_bus, close_waits, gone_events, opening_answer, opening_events}
 use Rattle.peer_route.specs.Shown.{error_answer, reply_by, shown, shown_drop, shown_take, shown_opening}
-use Rattle.peer_route.specs.StreamLaws.{says_closed}
-use Rattle.peer_route.specs.Trail.{Trail, Names, place, second_place}
-use Rattle.peer_route.specs.Plan.{Plan, Says, Sends, Adds, Leaves, Reads, Closes, poll_of, before_of, poll_does, drop_of, drop_does, take_of, take_before_of, take_does, opened_of, opened_does, makes, where_open, clones, asks_more, opens_new, opens_rule, opens, refuses, are_open_at, ends_now, ends, reads_by, plan}
-use Rattle.peer_route.specs.Entries.{said, failed_put, send_events, add_events, removal, removals, wrote_each, fault_each, wrote_first, leave_with, leave_events, does}
+use Rattle.peer_route.specs.Issuing.{Posting, puts}
+use Rattle.peer_route.specs.Trail.{Trail, place}
+use Rattle.peer_route.specs.Plan.{Plan, Says, Reads, Closes, Writes, Never, refuses, where_named, where_open, unless_waits, sends, on_call, makes, leaves, ends, second_place, given_last, on_stream, opens_new, opens, reads_by, writes_by, named_now, is_due, lives, plan}
+use Rattle.peer_route.specs.StreamLaws.{is_take_op}
+use Rattle.peer_route.specs.Entries.{Legal, repeat, writes, deeds, postings, past_after}
 
 -- ---- deeds
 
--- a call's answer is given or it is dropped, a stream is made or does something, or the main capacity is set
+-- a call's answer is given or it is dropped, a stream is made or does something, the main capacity is set, or the peer gets its name
 abbrev pub IsDeed : Event → Type 0
 IsDeed (Spent k) = Unit {0}
 IsDeed (Made making) = Unit {0}
 IsDeed (Did k deed) = Unit {0}
 IsDeed (Main limit) = Unit {0}
+IsDeed (Named name) = Unit {0}
 IsDeed e = ⊥
 
 abbrev pub AreDeeds : List Event → Type 0
 AreDeeds es = AllByRecursion IsDeed es
 
--- What is said goes with what is done: a refusal, or to have to wait, with nothing; and it says nothing of a message.
-pub record Fair (answer : Answer) (deeds : List Event) : Type 0 where
-  pub only : AreDeeds deeds
-  pub kept : said answer deeds ≡ deeds
-  pub unsent : says_closed answer ≡ false
+-- the answer says that nothing is done
+abbrev pub is_idle : Answer → Bool
+is_idle (answers.Refused error) = true
+is_idle answers.Busy = true
+is_idle other = false
 
-abbrev pub IsFair : Plan → Type 0
-IsFair (Says answer deeds) = Fair answer deeds
-IsFair other = Unit {0}
+-- the command takes from a stream
+abbrev pub takes : Words → Bool
+takes (words.OfStream n op) = is_take_op op
+takes w = false
 
-pub said_none : (a : Answer) → said a [] ≡ []
-said_none (answers.Refused error) = refl
-said_none a = refl
+-- no item is given
+abbrev pub NoItem : Event → Type 0
+NoItem (Did j Gave) = ⊥
+NoItem e = Unit {0}
 
-none : (a : Answer) → says_closed a ≡ false → Fair a []
-none a unsent = record { only = tt; kept = said_none a; unsent = unsent }
+-- What is said goes with what is done: a refusal, or to have to wait, with nothing; and only a take with an item.
+pub record Fair (w : Words) (answer : Answer) (done : List Event) : Type 0 where
+  pub only : AreDeeds done
+  pub idle : is_idle answer ≡ true → done ≡ []
+  pub quiet : takes w ≡ false → AllByRecursion NoItem done
 
-error_unsent : (m : Seen) (name : Option (List ℕ)) → says_closed (error_answer m name) ≡ false
-error_unsent m (Some name) = refl
-error_unsent m None = refl
+pub none : (w : Words) (a : Answer) → Fair w a []
+none w a = record { only = tt; idle = λ e. refl; quiet = λ e. tt }
 
-reply_unsent : (m : Seen) (kind : MessageType) → says_closed (reply_by m kind) ≡ false
-reply_unsent m types.Error = error_unsent m m.error_name
-reply_unsent m kind = refl
+does : (w : Words) (a : Answer) (es : List Event) → AreDeeds es → is_idle a ≡ false → (takes w ≡ false → AllByRecursion NoItem es) → Fair w a es
+does w a es only not_idle quiet = record { only = only; idle = λ e. cc; quiet = quiet }
 
-pub error_kept : (m : Seen) (name : Option (List ℕ)) (ds : List Event) → said (error_answer m name) ds ≡ ds
-error_kept m (Some name) ds = refl
-error_kept m None ds = refl
+error_does : (m : Seen) (name : Option (List ℕ)) → is_idle (error_answer m name) ≡ false
+error_does m (Some name) = refl
+error_does m None = refl
 
-pub reply_kept : (m : Seen) (kind : MessageType) (ds : List Event) → said (reply_by m kind) ds ≡ ds
-reply_kept m types.Error ds = error_kept m m.error_name ds
-reply_kept m kind ds = refl
+reply_does : (m : Seen) (kind : MessageType) → is_idle (reply_by m kind) ≡ false
+reply_does m types.Error = error_does m m.error_name
+reply_does m kind = refl
 
-poll_fair : (k : ℕ) (r : Result (Polled Seen) Error) → Fair (shown r) (poll_events k r)
-poll_fair k (Ok (polled.Now m)) = record { only = (tt, tt); kept = reply_kept m m.kind (Spent k ∷ []); unsent = reply_unsent m m.kind }
-poll_fair k (Ok (polled.Closed error)) = record { only = (tt, tt); kept = refl; unsent = refl }
-poll_fair k r = none (shown r) refl
+poll_fair : (w : Words) (k : ℕ) (r : Result (Polled Seen) Error) → Fair w (shown r) (poll_events k r)
+poll_fair w k (Ok (polled.Now m)) = does w _ (Spent k ∷ []) (tt, tt) (reply_does m m.kind) (λ e. (tt, tt))
+poll_fair w k (Ok (polled.Closed error)) = does w _ (Spent k ∷ []) (tt, tt) refl (λ e. (tt, tt))
+poll_fair w k r = none w (shown r)
 
-before_fair : (k : ℕ) (r : Result (Polled Seen) Error) → Fair (shown (by_position r)) (poll_events k r)
-before_fair k (Ok (polled.Now m)) = record { only = (tt, tt); kept = reply_kept m m.kind (Spent k ∷ []); unsent = reply_unsent m m.kind }
-before_fair k (Ok (polled.Closed error)) = record { only = (tt, tt); kept = refl; unsent = refl }
-before_fair k r = none (shown (by_position r)) refl
+before_fair : (w : Words) (k : ℕ) (r : Result (Polled Seen) Error) → Fair w (shown (by_position r)) (poll_events k r)
+before_fair w k (Ok (polled.Now m)) = does w _ (Spent k ∷ []) (tt, tt) (reply_does m m.kind) (λ e. (tt, tt))
+before_fair w k (Ok (polled.Closed error)) = does w _ (Spent k ∷ []) (tt, tt) refl (λ e. (tt, tt))
+before_fair w k r = none w (shown (by_position r))
 
-drop_fair : (k : ℕ) (r : Result (Unit {0}) Error) → Fair (shown_drop r) (drop_events k r)
-drop_fair k (Ok done) = record { only = (tt, tt); kept = refl; unsent = refl }
-drop_fair k (Err error) = none (answers.Refused error) refl
+drop_fair : (w : Words) (k : ℕ) (r : Result (Unit {0}) Error) → Fair w (shown_drop r) (drop_events k r)
+drop_fair w k (Ok done) = does w _ (Spent k ∷ []) (tt, tt) refl (λ e. (tt, tt))
+drop_fair w k (Err error) = none w (answers.Refused error)
 
-take_fair : (k : ℕ) (r : Result (Polled Seen) Error) → Fair (shown_take r) (take_events k r)
-take_fair k (Ok (polled.Now m)) = record { only = (tt, tt); kept = refl; unsent = refl }
-take_fair k (Ok (polled.Closed error)) = record { only = (tt, tt); kept = refl; unsent = refl }
-take_fair k r = none (shown_take r) refl
+take_fair : (n k : ℕ) (r : Result (Polled Seen) Error) → Fair (words.OfStream n ops.Take) (shown_take r) (take_events k r)
+take_fair n k (Ok (polled.Now m)) = does _ _ (take_events k (Ok (polled.Now m))) (tt, tt) refl (λ e. cc)
+take_fair n k (Ok (polled.Closed error)) = does _ _ (take_events k (Ok (polled.Closed error))) (tt, tt) refl (λ e. (tt, tt))
+take_fair n k r = none _ (shown_take r)
 
-take_before_fair : (k : ℕ) (r : Result (Polled Seen) Error) → Fair (shown_take (by_position r)) (take_events k r)
-take_before_fair k (Ok (polled.Now m)) = record { only = (tt, tt); kept = refl; unsent = refl }
-take_before_fair k (Ok (polled.Closed error)) = record { only = (tt, tt); kept = refl; unsent = refl }
-take_before_fair k r = none (shown_take (by_position r)) refl
+take_before_fair : (n before k : ℕ) (r : Result (Polled Seen) Error) → Fair (words.OfStream n (ops.TakeBefore before)) (shown_take (by_position r)) (take_events k r)
+take_before_fair n before k (Ok (polled.Now m)) = does _ _ (take_events k (Ok (polled.Now m))) (tt, tt) refl (λ e. cc)
+take_before_fair n before k (Ok (polled.Closed error)) = does _ _ (take_events k (Ok (polled.Closed error))) (tt, tt) refl (λ e. (tt, tt))
+take_before_fair n before k r = none _ (shown_take (by_position r))
 
-opening_fair : (k : ℕ) (state : OpenState) → Fair (shown_opening state) (opening_events k state)
-opening_fair k states.Open = record { only = (tt, tt); kept = refl; unsent = refl }
-opening_fair k (states.Refused m) = record { only = (tt, tt); kept = error_kept m m.error_name (Did k Gone ∷ []); unsent = error_unsent m m.error_name }
-opening_fair k (states.Over error) = record { only = (tt, tt); kept = refl; unsent = refl }
-opening_fair k state = none (shown_opening state) refl
+opening_fair : (w : Words) (k : ℕ) (state : OpenState) → Fair w (shown_opening state) (opening_events k state)
+opening_fair w k states.Open = does w _ (opening_events k states.Open) (tt, tt) refl (λ e. (tt, tt))
+opening_fair w k (states.Refused m) = does w _ (Did k Gone ∷ []) (tt, tt) (error_does m m.error_name) (λ e. (tt, tt))
+opening_fair w k (states.Over error) = does w _ (Did k Gone ∷ []) (tt, tt) refl (λ e. (tt, tt))
+opening_fair w k state = none w (shown_opening state)
 
--- ---- what is named
+pub gone_deeds : (k : ℕ) (j : Option ℕ) → AreDeeds (gone_events k j)
+gone_deeds k None = (tt, tt)
+gone_deeds k (Some j) = (tt, (tt, tt))
 
-named_poll : (h : List Event) (k : Option ℕ) → Fair (poll_of h k) (poll_does h k)
-named_poll h None = none (answers.Refused _) refl
-named_poll h (Some k) = poll_fair k (poll_answer (past h) k)
+-- ---- whose name a message bears
 
-named_before : (h : List Event) (k : Option ℕ) → Fair (before_of h k) (poll_does h k)
-named_before h None = none (answers.Refused _) refl
-named_before h (Some k) = before_fair k (poll_answer (past h) k)
+abbrev pub IsFrom : Option (List ℕ) → Asked → Type 0
+IsFrom name (Ok parcel) = parcel.draft.fields.sender ≡ name
+IsFrom name (Err error) = Unit {0}
 
-named_drop : (h : List Event) (k : Option ℕ) → Fair (drop_of h k) (drop_does h k)
-named_drop h None = none (answers.Refused _) refl
-named_drop h (Some k) = drop_fair k (drop_answer (past h) k)
+asked_from : (name : Option (List ℕ)) (refusal : Option Error) (values : Option (List Datum)) (misplaced unsupported : Bool) (draft : Draft) (fds : List ℕ) → draft.fields.sender ≡ name
+    → IsFrom name (asked_of refusal values misplaced unsupported draft fds)
+asked_from name (Some error) values misplaced unsupported draft fds e = tt
+asked_from name None None misplaced unsupported draft fds e = tt
+asked_from name None (Some values) true unsupported draft fds e = tt
+asked_from name None (Some values) false true draft fds e = tt
+asked_from name None (Some values) false false draft fds e = e
 
-named_take : (h : List Event) (k : Option ℕ) → Fair (take_of h k) (take_does h k)
-named_take h None = none (answers.Refused _) refl
-named_take h (Some k) = take_fair k (take_answer (past h) k)
+outgoing_from : (name : Option (List ℕ)) (takes_fds : Bool) (kind : OutgoingKind) (out : Outgoing) → out.kind ≡ kind → IsFrom name (outgoing_asked name takes_fds out)
+outgoing_from name takes_fds outgoing.Call out e =
+    let draft = outgoing_draft outgoing.Call name out in
+    subst (λ k. IsFrom name (member_asked takes_fds out (outgoing_draft k name out))) (sym e)
+    (asked_from name (words_refusal draft) (values_in out.body) (are_misplaced draft.kind draft.flags) (out.flags.descriptor && not takes_fds) draft (fds_of out.flags.descriptor) refl)
+outgoing_from name takes_fds outgoing.Signal out e =
+    let draft = outgoing_draft outgoing.Signal name out in
+    subst (λ k. IsFrom name (member_asked takes_fds out (outgoing_draft k name out))) (sym e)
+    (asked_from name (words_refusal draft) (values_in out.body) (are_misplaced draft.kind draft.flags) (out.flags.descriptor && not takes_fds) draft (fds_of out.flags.descriptor) refl)
 
-named_take_before : (h : List Event) (k : Option ℕ) → Fair (take_before_of h k) (take_does h k)
-named_take_before h None = none (answers.Refused _) refl
-named_take_before h (Some k) = take_before_fair k (take_answer (past h) k)
+reply_from : (name : Option (List ℕ)) (m : Option Seen) (body : Option (List ℕ)) → IsFrom name (reply_asked name m body)
+reply_from name None body = tt
+reply_from name (Some m) body = asked_from name None (values_in body) false false (sent_from name (reply_draft types.MethodReturn (head_of m))) [] refl
 
-named_opening : (h : List Event) (k : Option ℕ) → Fair (opened_of h k) (opened_does h k)
-named_opening h None = none (answers.Refused _) refl
-named_opening h (Some k) = opening_fair k (opening_answer (past h) k)
+error_from : (name : Option (List ℕ)) (m : Option Seen) (text : List ℕ) (body : Option (List ℕ)) → IsFrom name (error_asked name m text body)
+error_from name None text body = tt
+error_from name (Some m) text body = asked_from name (name_refusal text) (values_in body) false false (sent_from name (error_draft (head_of m) text)) [] refl
 
 -- ---- every command
 
--- what holds of each kind of plan holds of a command's
-module _ (P : Plan → Type 0) (says : (answer : Answer) (deeds : List Event) → Fair answer deeds → P (Says answer deeds)) (sends : (asked : parcels.Asked) → P (Sends asked))
-    (adds : (rule : Rule) (asked : Option ℕ) → P (Adds rule asked)) (ending : (k : ℕ) (j : Option ℕ) → P (Leaves k j)) where
-  refuses_so : (error : Error) → P (refuses error)
-  refuses_so error = says (answers.Refused error) [] (none (answers.Refused error) refl)
+-- the plan of a lane's message
+abbrev pub sends_one : Trail → ℕ → Parcel → Plan
+sends_one t lane parcel = sends t lane (Ok parcel)
 
-  open_so : (b : Bool) (p : Plan) → P p → P (where_open b p)
-  open_so true p so = so
-  open_so false p so = refuses_so _
+-- what holds of each kind of plan, and of the commands that it is of, holds of every command's
+module _ (P : Words → Plan → Type 0) (t : Trail) (lane : ℕ) (says : (w : Words) (answer : Answer) (done : List Event) → Fair w answer done → P w (Says answer done))
+    (one : (w : Words) (parcel : Parcel) → parcel.draft.fields.sender ≡ t.past.name → P w (sends_one t lane parcel))
+    (asks : (asked : Option ℕ) (text : List ℕ) (rule : Rule) → P (words.Open asked text) (opens_new t lane rule asked true))
+    (leave : (n : ℕ) (second : Option ℕ) (k : ℕ) (j : Option ℕ) → are_open t.past k j ≡ true → P (words.OfStream n (ops.Unstream second)) (leaves t.past k j))
+    (reads : t.past.closing ≡ None → P words.Read Reads) (closes : P words.Close Closes)
+    (writes_so : (line : Live) (fails : Bool) → (fails ≡ false → t.past.outbox.failed ≡ false) → P (words.Live line) (Writes fails)) (never : (line : Live) → P (words.Live line) Never) where
+  refuses_so : (w : Words) (error : Error) → P w (refuses error)
+  refuses_so w error = says w (answers.Refused error) [] (none w (answers.Refused error))
 
-  makes_so : (lane : ℕ) (streams : Names) (making : Making) → P (makes lane streams making)
-  makes_so lane streams making = says _ _ (record { only = (tt, tt); kept = refl; unsent = refl })
+  pub named_so : (w : Words) (done : ℕ → Plan) (k : Option ℕ) → ((n : ℕ) → P w (done n)) → P w (where_named done k)
+  named_so w done None so = refuses_so w _
+  named_so w done (Some k) so = so k
 
-  clones_so : (lane : ℕ) (streams : Names) (h : List Event) (k : Option ℕ) → P (clones lane streams h k)
-  clones_so lane streams h None = refuses_so _
-  clones_so lane streams h (Some k) = open_so (is_open (past h) k) _ (makes_so lane streams _)
+  open_so : (w : Words) (b : Bool) (p : Plan) → (b ≡ true → P w p) → P w (where_open b p)
+  open_so w true p so = so refl
+  open_so w false p so = refuses_so w _
 
-  more_so : (limit : ℕ) (h : List Event) (k : Option ℕ) → P (asks_more limit h k)
-  more_so limit h None = refuses_so _
-  more_so limit h (Some k) = open_so (is_open (past h) k) _ (says _ _ (record { only = (tt, tt); kept = refl; unsent = refl }))
+  waits_so : (w : Words) (b : Bool) (p : Plan) → P w p → P w (unless_waits b p)
+  waits_so w true p so = says w answers.Busy [] (none w answers.Busy)
+  waits_so w false p so = so
 
-  opens_new_so : (t : Trail) (lane : ℕ) (rule : Rule) (asked : Option ℕ) (asks : Bool) → P (opens_new t lane rule asked asks)
-  opens_new_so t lane rule asked true = adds rule asked
-  opens_new_so t lane rule asked false = makes_so lane t.streams _
+  makes_so : (w : Words) (making : Making) → P w (makes t lane making)
+  makes_so w making = says w _ (Made making ∷ []) (does w _ (Made making ∷ []) (tt, tt) refl (λ e. (tt, tt)))
 
-  opens_rule_so : (t : Trail) (lane : ℕ) (rule : Rule) (asked : Option ℕ) (shut : Option Error) (flies : Bool) → P (opens_rule t lane rule asked shut flies)
-  opens_rule_so t lane rule asked (Some error) flies = refuses_so _
-  opens_rule_so t lane rule asked None true = says answers.Busy [] (none answers.Busy refl)
-  opens_rule_so t lane rule asked None false = opens_new_so t lane rule asked (asks_bus (past t.events) rule)
+  sends_so : (w : Words) (asked : Asked) → IsFrom t.past.name asked → P w (sends t lane asked)
+  sends_so w (Err error) from = refuses_so w error
+  sends_so w (Ok parcel) from = one w parcel from
 
-  opens_so : (t : Trail) (lane : ℕ) (found : Result Rule Error) (asked : Option ℕ) → P (opens t lane found asked)
-  opens_so t lane (Err error) asked = refuses_so error
-  opens_so t lane (Ok rule) asked = opens_rule_so t lane rule asked (closing t.events) (in_flight (past t.events))
+  call_so : (n : ℕ) (op : CallOp) (k : ℕ) → P (words.OfCall n op) (on_call t.past op k)
+  call_so n calls.Poll k = says _ _ _ (poll_fair _ k (poll_answer t.past k))
+  call_so n (calls.Before before) k = says _ _ _ (before_fair _ k (poll_answer t.past k))
+  call_so n calls.Drop k = says _ _ _ (drop_fair _ k (drop_answer t.past k))
 
-  ends_now_so : (waits : Bool) (k : ℕ) (j : Option ℕ) → P (ends_now waits k j)
-  ends_now_so true k j = says answers.Busy [] (none answers.Busy refl)
-  ends_now_so false k j = ending k j
+  ends_so : (n : ℕ) (second : Option ℕ) (k : ℕ) (j : Option (Option ℕ)) → P (words.OfStream n (ops.Unstream second)) (ends t.past k j)
+  ends_so n second k None = refuses_so _ _
+  ends_so n second k (Some j) = open_so _ (are_open t.past k j) _ (λ o. waits_so _ (close_waits t.past k j) _ (leave n second k j o))
 
-  ends_so : (there : Bool) (h : List Event) (k j : Option ℕ) → P (ends there h k j)
-  ends_so true h (Some k) j = ends_now_so (close_waits (past h) k j) k j
-  ends_so true h None j = refuses_so _
-  ends_so false h k j = refuses_so _
+  stream_so : (n : ℕ) (op : StreamOp) (k : ℕ) → P (words.OfStream n op) (on_stream t lane op k)
+  stream_so n (ops.Reply body) k = sends_so _ _ (reply_from t.past.name (given_last t.past k) body)
+  stream_so n (ops.Error name body) k = sends_so _ _ (error_from t.past.name (given_last t.past k) name body)
+  stream_so n ops.Take k = says _ _ _ (take_fair n k (take_answer t.past k))
+  stream_so n (ops.TakeBefore before) k = says _ _ _ (take_before_fair n before k (take_answer t.past k))
+  stream_so n ops.Clone k = open_so _ (is_open t.past k) _ (λ o. makes_so _ _)
+  stream_so n ops.Opened k = says _ _ _ (opening_fair _ k (opening_answer t.past k))
+  stream_so n (ops.Queue limit) k = open_so _ (is_open t.past k) _ (λ o. says _ answers.Set _ (does _ answers.Set _ (tt, tt) refl (λ e. (tt, tt))))
+  stream_so n (ops.Unstream second) k = ends_so n second k (second_place t lane second)
 
-  reads_so : (shut : Option Error) (full : Bool) → (shut ≡ None → P Reads) → P (reads_by shut full)
-  reads_so (Some error) full reads = says (answers.Closed error) [] (none (answers.Closed error) refl)
-  reads_so None true reads = says answers.Busy [] (none answers.Busy refl)
-  reads_so None false reads = reads refl
+  new_so : (asked : Option ℕ) (text : List ℕ) (rule : Rule) (b : Bool) → P (words.Open asked text) (opens_new t lane rule asked b)
+  new_so asked text rule true = asks asked text rule
+  new_so asked text rule false = makes_so _ _
 
-  -- a read takes a message only of an open peer
-  pub by_plan : (t : Trail) (lane : ℕ) (w : Words) → (closing t.events ≡ None → P Reads) → (w ≡ words.Close → P Closes) → P (plan t lane w)
-  by_plan t lane (words.Call out) reads closes = sends _
-  by_plan t lane (words.Signal out) reads closes = sends _
-  by_plan t lane (words.Reply stream body) reads closes = sends _
-  by_plan t lane (words.Error stream text body) reads closes = sends _
-  by_plan t lane words.Read reads closes = reads_so (closing t.events) (busy (past t.events)) reads
-  by_plan t lane (words.Poll n) reads closes = says _ _ (named_poll t.events (place 0 lane n t.names))
-  by_plan t lane (words.Before n before) reads closes = says _ _ (named_before t.events (place 0 lane n t.names))
-  by_plan t lane (words.Drop n) reads closes = says _ _ (named_drop t.events (place 0 lane n t.names))
-  by_plan t lane words.Stream reads closes = makes_so lane t.streams _
-  by_plan t lane (words.Open max_queued rule) reads closes = opens_so t lane (rule_in_bytes rule) max_queued
-  by_plan t lane (words.Opened n) reads closes = says _ _ (named_opening t.events (place 0 lane n t.streams))
-  by_plan t lane (words.Take n) reads closes = says _ _ (named_take t.events (place 0 lane n t.streams))
-  by_plan t lane (words.TakeBefore n before) reads closes = says _ _ (named_take_before t.events (place 0 lane n t.streams))
-  by_plan t lane (words.Clone n) reads closes = clones_so lane t.streams t.events (place 0 lane n t.streams)
-  by_plan t lane (words.Unstream n second) reads closes =
-      ends_so (are_open_at t.events lane t.streams n second) t.events (place 0 lane n t.streams) (second_place lane second t.streams)
-  by_plan t lane (words.Queue n limit) reads closes = more_so limit t.events (place 0 lane n t.streams)
-  by_plan t lane (words.MainQueue limit) reads closes = says _ _ (record { only = (tt, tt); kept = refl; unsent = refl })
-  by_plan t lane words.Close reads closes = closes refl
+  opens_so : (asked : Option ℕ) (text : List ℕ) (found : Result Rule Error) (shut : Option Error) → P (words.Open asked text) (opens t lane found asked shut)
+  opens_so asked text (Err error) shut = refuses_so _ error
+  opens_so asked text (Ok rule) (Some error) = refuses_so _ _
+  opens_so asked text (Ok rule) None = waits_so _ (in_flight t.past) _ (new_so asked text rule (asks_bus t.past rule))
 
-pub plan_fair : (t : Trail) (lane : ℕ) (w : Words) → IsFair (plan t lane w)
-plan_fair t lane w = by_plan IsFair (λ answer deeds fair. fair) (λ asked. tt) (λ rule asked. tt) (λ k j. tt) t lane w (λ e. tt) (λ e. tt)
+  reads_so : (shut : Option Error) (full : Bool) → (shut ≡ None → P words.Read Reads) → P words.Read (reads_by shut full)
+  reads_so (Some error) full open_ = says _ (answers.Closed error) [] (none _ (answers.Closed error))
+  reads_so None true open_ = says _ answers.Busy [] (none _ answers.Busy)
+  reads_so None false open_ = open_ refl
 
--- ---- what deeds leave as it was
+  name_so : (line : Live) (given : Option (List ℕ)) (name : List ℕ) → P (words.Live line) (named_now given name)
+  name_so line None name = says _ (answers.Named true) _ (does _ (answers.Named true) _ (tt, tt) refl (λ e. (tt, tt)))
+  name_so line (Some earlier) name = says _ (answers.Named false) [] (none _ (answers.Named false))
 
--- nothing is read or put, nor is the peer closed, named or put on a bus
-pub record Unmoved (g h : List Event) : Type 0 where
-  pub read_same : read g ≡ read h
-  pub closing_same : closing g ≡ closing h
-  pub bus_same : (past g).bus ≡ (past h).bus
-  pub name_same : unique_name g ≡ unique_name h
-  pub outbox_same : (past g).outbox ≡ (past h).outbox
+  writes_where : (line : Live) (due fails : Bool) → (due ≡ true → fails ≡ false → t.past.outbox.failed ≡ false) → P (words.Live line) (writes_by due fails)
+  writes_where line true fails fine = writes_so line fails (fine refl)
+  writes_where line false fails fine = never line
 
-still : (h : List Event) → Unmoved h h
-still h = record { read_same = refl; closing_same = refl; bus_same = refl; name_same = refl; outbox_same = refl }
+  and_right : (a b : Bool) → (a && not b) ≡ true → b ≡ false
+  and_right true false e = refl
+  and_right true true e = cc
+  and_right false b e = cc
 
-pub both_still : (f g h : List Event) → Unmoved f g → Unmoved g h → Unmoved f h
-both_still f g h a b = record {
-  read_same = a.read_same ∙ b.read_same;
-  closing_same = a.closing_same ∙ b.closing_same;
-  bus_same = a.bus_same ∙ b.bus_same;
-  name_same = a.name_same ∙ b.name_same;
-  outbox_same = a.outbox_same ∙ b.outbox_same;
-}
+  lives_so : (line : Live) → P (words.Live line) (lives t.past lane line)
+  lives_so (live.Written index) =
+      writes_where _ (is_due t.past lane index && not t.past.outbox.failed) false (λ e f. and_right (is_due t.past lane index) t.past.outbox.failed e)
+  lives_so (live.Fault index) = writes_where _ (is_due t.past lane index) true (λ e f. cc)
+  lives_so (live.Unique name) = name_so _ t.past.name name
+  lives_so line = never line
 
-deed_keeps : (e : Event) (h : List Event) → IsDeed e → Unmoved (e ∷ h) h
-deed_keeps (Spent k) h is = record { read_same = refl; closing_same = refl; bus_same = refl; name_same = refl; outbox_same = refl }
-deed_keeps (Made making) h is = record { read_same = refl; closing_same = refl; bus_same = refl; name_same = refl; outbox_same = refl }
-deed_keeps (Did k deed) h is = record { read_same = refl; closing_same = refl; bus_same = refl; name_same = refl; outbox_same = refl }
-deed_keeps (Main limit) h is = record { read_same = refl; closing_same = refl; bus_same = refl; name_same = refl; outbox_same = refl }
-deed_keeps e h is = absurd is
+  pub by_plan : (w : Words) → P w (plan t lane w)
+  by_plan (words.Send out) = sends_so _ _ (outgoing_from t.past.name t.setting.takes_fds out.kind out refl)
+  by_plan words.Read = reads_so t.past.closing (busy t.past) reads
+  by_plan (words.OfCall n op) = named_so _ (on_call t.past op) (place 0 lane n t.names) (call_so n op)
+  by_plan words.Stream = makes_so _ _
+  by_plan (words.Open asked text) = opens_so asked text (rule_in_bytes text) t.past.closing
+  by_plan (words.OfStream n op) = named_so _ (on_stream t lane op) (place 0 lane n t.streams) (stream_so n op)
+  by_plan (words.MainQueue limit) = says _ answers.Set _ (does _ answers.Set _ (tt, tt) refl (λ e. (tt, tt)))
+  by_plan words.Close = closes
+  by_plan (words.Live line) = lives_so line
 
-pub deeds_keep : (es h : List Event) → AreDeeds es → Unmoved (es ++ h) h
-deeds_keep [] h only = still h
-deeds_keep (e ∷ es) h only = both_still (e ∷ es ++ h) (es ++ h) h (deed_keeps e (es ++ h) only.0) (deeds_keep es h only.1)
+-- ---- along events
 
-pub said_keeps : (a : Answer) (ds h : List Event) → AreDeeds ds → Unmoved (said a ds ++ h) h
-said_keeps (answers.Refused error) ds h only = still h
-said_keeps answers.Busy ds h only = still h
-said_keeps a ds h only = deeds_keep ds h only
+-- what each of these events keeps
+pub along : (P : Past → Type 0) (Is : Event → Type 0) → ((e : Event) (h : Past) → Is e → P h → P (after e h)) → (es : List Event) (h : Past) → AllByRecursion Is es → P h → P (after_all es h)
+along P Is keeps [] h all so = so
+along P Is keeps (e ∷ es) h all so = along P Is keeps es (after e h) all.1 (keeps e h all.0 so)
 
--- ---- what messages leave as it was
+-- a message is written, or its write fails
+abbrev pub IsWrite : Event → Type 0
+IsWrite Wrote = Unit {0}
+IsWrite Fault = Unit {0}
+IsWrite e = ⊥
 
--- a message is put, written, or its write fails; or a stream is closed; whether one may be an AddMatch
-abbrev pub IsPosting : Bool → Event → Type 0
-IsPosting adds (Put m (OfLane expects)) = Unit {0}
-IsPosting adds (Put m (Adds rule asked)) = adds ≡ true
-IsPosting adds (Put m Removes) = Unit {0}
-IsPosting adds Wrote = Unit {0}
-IsPosting adds Fault = Unit {0}
-IsPosting adds (Did k Gone) = Unit {0}
-IsPosting adds e = ⊥
+pub repeat_all : (Is : Event → Type 0) (n : ℕ) (e : Event) → Is e → AllByRecursion Is (repeat n e)
+repeat_all Is zero e is = tt
+repeat_all Is (suc n) e is = (is, repeat_all Is n e is)
 
-abbrev pub ArePostings : Bool → List Event → Type 0
-ArePostings adds es = AllByRecursion (IsPosting adds) es
+pub all_append : (Is : Event → Type 0) (xs ys : List Event) → AllByRecursion Is xs → AllByRecursion Is ys → AllByRecursion Is (xs ++ ys)
+all_append Is [] ys a b = b
+all_append Is (x ∷ xs) ys a b = (a.0, all_append Is xs ys a.1 b)
 
-both_postings : (adds : Bool) (xs ys : List Event) → ArePostings adds xs → ArePostings adds ys → ArePostings adds (xs ++ ys)
-both_postings adds [] ys a b = b
-both_postings adds (x ∷ xs) ys a b = (a.0, both_postings adds xs ys a.1 b)
+pub are_writes : (Is : Event → Type 0) (e : Entry) → Is Wrote → Is Fault → AllByRecursion Is (writes e)
+are_writes Is e wrote fault = all_append Is (repeat e.written Wrote) _ (repeat_all Is e.written Wrote wrote) (faults e.failed)
+  where
+    faults : (b : Bool) → AllByRecursion Is (if b then repeat (length e.put - e.written) Fault else [])
+    faults true = repeat_all Is (length e.put - e.written) Fault fault
+    faults false = tt
 
-failed_postings : (adds : Bool) (w : Writer) (e : Event) → IsPosting adds e → ArePostings adds (failed_put w e)
-failed_postings adds writers.Fine e is = (tt, (is, tt))
-failed_postings adds w e is = tt
+pub are_puts : (Is : Event → Type 0) (Of : Posting → Type 0) → ((d : Posting) (m : Seen) → Of d → Is (Put m d.purpose)) → (ds : List Posting) (ms : List Seen) → AllByRecursion Of ds → AllByRecursion Is (puts ds ms)
+are_puts Is Of put [] ms all = tt
+are_puts Is Of put (d ∷ ds) [] all = tt
+are_puts Is Of put (d ∷ ds) (m ∷ ms) all = (put d m all.0, are_puts Is Of put ds ms all.1)
 
-pub send_postings : (adds : Bool) (h : List Event) (asked : parcels.Asked) (a : Answer) → ArePostings adds (send_events h asked a)
-send_postings adds h (Ok parcel) (answers.Called call serial) = (tt, (tt, tt))
-send_postings adds h (Ok parcel) (answers.Sent serial) = (tt, (tt, tt))
-send_postings adds h (Ok parcel) (answers.SendFailed error) = failed_postings adds (writer h) _ tt
-send_postings adds h (Ok parcel) a = tt
-send_postings adds h (Err error) a = tt
+-- what the events of an entry keep
+pub along_entry : (P : Past → Type 0) (Is : Event → Type 0) → ((e : Event) (h : Past) → Is e → P h → P (after e h)) → (pl : Plan) (e : Entry) (h : Past) → AllByRecursion Is (deeds pl e)
+    → AllByRecursion Is (puts (postings pl) e.put) → Is Wrote → Is Fault → P h → P (past_after pl e h)
+along_entry P Is keeps pl e h done put wrote fault so =
+    along P Is keeps (writes e) (after_all (puts (postings pl) e.put) (after_all (deeds pl e) h)) (are_writes Is e wrote fault)
+    (along P Is keeps (puts (postings pl) e.put) (after_all (deeds pl e) h) put (along P Is keeps (deeds pl e) h done so))
 
-pub add_postings : (h : List Event) (rule : Rule) (asked : Option ℕ) (a : Answer) → ArePostings true (add_events h rule asked a)
-add_postings h rule asked (answers.Opening number serial) = (tt, (refl, tt))
-add_postings h rule asked (answers.SendFailed error) = failed_postings true (writer h) _ refl
-add_postings h rule asked a = tt
+-- ---- histories
 
-wrote_postings : (adds : Bool) (rules : List Rule) → ArePostings adds (wrote_each rules)
-wrote_postings adds [] = tt
-wrote_postings adds (rule ∷ rules) = (tt, wrote_postings adds rules)
-
-fault_postings : (adds : Bool) (rules : List Rule) → ArePostings adds (fault_each rules)
-fault_postings adds [] = tt
-fault_postings adds (rule ∷ rules) = (tt, fault_postings adds rules)
-
-first_postings : (adds : Bool) (rules : List Rule) → ArePostings adds (wrote_first rules)
-first_postings adds [] = tt
-first_postings adds (rule ∷ rules) = both_postings adds (fault_each rules) (Wrote ∷ []) (fault_postings adds rules) (tt, tt)
-
-removed_postings : (adds : Bool) (g : List Event) (rules : List Rule) → ArePostings adds (removals g rules)
-removed_postings adds g [] = tt
-removed_postings adds g (rule ∷ rules) =
-    both_postings adds (removals (removal g rule ∷ g) rules) (removal g rule ∷ []) (removed_postings adds (removal g rule ∷ g) rules) (tt, tt)
-
-gone_postings : (adds : Bool) (k : ℕ) (j : Option ℕ) → ArePostings adds (gone_then j (Did k Gone ∷ []))
-gone_postings adds k None = (tt, tt)
-gone_postings adds k (Some j) = (tt, (tt, tt))
-
-left_postings : (adds : Bool) (writes : List Rule → List Event) (h : List Event) (k : ℕ) (j : Option ℕ) → ArePostings adds (writes (leaving (past h) k j))
-    → ArePostings adds (leave_with writes h k j)
-left_postings adds writes h k j all =
-    let told = removals (gone_then j (Did k Gone ∷ h)) (leaving (past h) k j) in
-    both_postings adds (writes (leaving (past h) k j) ++ told) (gone_then j (Did k Gone ∷ []))
-    (both_postings adds (writes (leaving (past h) k j)) told all (removed_postings adds (gone_then j (Did k Gone ∷ h)) (leaving (past h) k j))) (gone_postings adds k j)
-
-pub leave_postings : (adds : Bool) (h : List Event) (k : ℕ) (j : Option ℕ) (a : Answer) → ArePostings adds (leave_events h k j a)
-leave_postings adds h k j (answers.Gone last) = left_postings adds wrote_each h k j (wrote_postings adds (leaving (past h) k j))
-leave_postings adds h k j (answers.SendFailed error) = left_postings adds fault_each h k j (fault_postings adds (leaving (past h) k j))
-leave_postings adds h k j (answers.SentFirst error) = left_postings adds wrote_first h k j (first_postings adds (leaving (past h) k j))
-leave_postings adds h k j (answers.Untold error) = gone_postings adds k j
-leave_postings adds h k j a = tt
-
--- ---- what an entry leaves as it was
-
--- nothing is read, nor is the peer closed, named or put on a bus
-pub record Silent (g h : List Event) : Type 0 where
-  pub read_same : read g ≡ read h
-  pub closing_same : closing g ≡ closing h
-  pub bus_same : (past g).bus ≡ (past h).bus
-  pub name_same : unique_name g ≡ unique_name h
-
-posting_silent : (e : Event) (h : List Event) → IsPosting true e → Silent (e ∷ h) h
-posting_silent (Put m purpose) h is = record { read_same = refl; closing_same = refl; bus_same = refl; name_same = refl }
-posting_silent Wrote h is = record { read_same = refl; closing_same = refl; bus_same = refl; name_same = refl }
-posting_silent Fault h is = record { read_same = refl; closing_same = refl; bus_same = refl; name_same = refl }
-posting_silent (Did k Gone) h is = record { read_same = refl; closing_same = refl; bus_same = refl; name_same = refl }
-posting_silent e h is = absurd is
-
-both_silent : (f g h : List Event) → Silent f g → Silent g h → Silent f h
-both_silent f g h a b = record {
-  read_same = a.read_same ∙ b.read_same;
-  closing_same = a.closing_same ∙ b.closing_same;
-  bus_same = a.bus_same ∙ b.bus_same;
-  name_same = a.name_same ∙ b.name_same;
-}
-
-postings_silent : (es h : List Event) → ArePostings true es → Silent (es ++ h) h
-postings_silent [] h all = record { read_same = refl; closing_same = refl; bus_same = refl; name_same = refl }
-postings_silent (e ∷ es) h all = both_silent (e ∷ es ++ h) (es ++ h) h (posting_silent e (es ++ h) all.0) (postings_silent es h all.1)
-
-unmoved_silent : (g h : List Event) → Unmoved g h → Silent g h
-unmoved_silent g h u = record { read_same = u.read_same; closing_same = u.closing_same; bus_same = u.bus_same; name_same = u.name_same }
-
--- what a command leaves as it was that reads nothing and closes nothing
-pub says_silent : (h : List Event) (a : Answer) (answer : Answer) (deeds : List Event) → Fair answer deeds → Silent (said a deeds ++ h) h
-says_silent h a answer deeds fair = unmoved_silent _ h (said_keeps a deeds h fair.only)
-
-pub sends_silent : (h : List Event) (asked : parcels.Asked) (a : Answer) → Silent (send_events h asked a ++ h) h
-sends_silent h asked a = postings_silent (send_events h asked a) h (send_postings true h asked a)
-
-pub adds_silent : (h : List Event) (rule : Rule) (asked : Option ℕ) (a : Answer) → Silent (add_events h rule asked a ++ h) h
-adds_silent h rule asked a = postings_silent (add_events h rule asked a) h (add_postings h rule asked a)
-
-pub ends_silent : (h : List Event) (k : ℕ) (j : Option ℕ) (a : Answer) → Silent (leave_events h k j a ++ h) h
-ends_silent h k j a = postings_silent (leave_events h k j a) h (leave_postings true h k j a)
-
--- it reads the source, or closes the peer
-abbrev pub is_loud : Plan → Bool
-is_loud Reads = true
-is_loud Closes = true
-is_loud other = false
-
-pub plan_silent : (h : List Event) (p : Plan) (a : Answer) → IsFair p → is_loud p ≡ false → Silent (does h p a ++ h) h
-plan_silent h (Says answer deeds) a fair quiet = says_silent h a answer deeds fair
-plan_silent h (Sends asked) a fair quiet = sends_silent h asked a
-plan_silent h (Adds rule asked) a fair quiet = adds_silent h rule asked a
-plan_silent h (Leaves k j) a fair quiet = ends_silent h k j a
-plan_silent h Reads a fair quiet = cc
-plan_silent h Closes a fair quiet = cc
+pub legal_from : (setting : Setting) (newer older : List Entry) → Legal setting (newer ++ older) → Legal setting older
+legal_from setting [] older legal = legal
+legal_from setting (e ∷ newer) older legal = legal_from setting newer older legal.1

@@ -6,8 +6,7 @@ use Rattle.wire_message.specs.Front.{Seen}
 use Rattle.peer_route.specs.History.{edit}
 use Rattle.peer_route.specs.declared.progress.Progress.{Progress}
 use Rattle.peer_route.specs.declared.progress.Progress.TheVariants as steps
-use Rattle.rule_match.specs.Rule.{Rule}
-use Rattle.peer_route.specs.Left.{Held, pushed, pushed_by, queued, queued_first, denies_by, denies, denied_count, repeated, settled_by, settled_at, arrived_at, shared, or_else, limit_if, wants_of}
+use Rattle.peer_route.specs.Left.{Held, pushed, pushed_by, queued, queued_first, denies_by, denies, denied_count, repeated, settled_by, settled_at, arrived_at}
 
 pub queued_first-length : (n : ℕ) (m : Seen) (qs : List (Option Held)) → length (queued_first n m qs) ≡ length qs
 queued_first-length zero m qs = refl
@@ -15,28 +14,28 @@ queued_first-length (suc n) m [] = refl
 queued_first-length (suc n) m (q ∷ qs) = ap (λ k. suc k) (queued_first-length n m qs)
 
 -- one further
-pub queued_first-more : (n : ℕ) (m : Seen) (qs : List (Option Held)) (d : Option Held) → n < length qs → set (queued_first n m qs) n (queued m (get_or (queued_first n m qs) n d)) ≡ queued_first (suc n) m qs
+queued_first-more : (n : ℕ) (m : Seen) (qs : List (Option Held)) (d : Option Held) → n < length qs → set (queued_first n m qs) n (queued m (get_or (queued_first n m qs) n d)) ≡ queued_first (suc n) m qs
 queued_first-more n m [] d lt = absurd (omega arith)
 queued_first-more zero m (q ∷ qs) d lt = refl
 queued_first-more (suc n) m (q ∷ qs) d lt = ap (λ rest. queued m q ∷ rest) (queued_first-more n m qs d (omega arith))
 
 -- the last of them
-pub queued_first-at : (n : ℕ) (m : Seen) (qs : List (Option Held)) (d : Option Held) → n < length qs → get_or (queued_first (suc n) m qs) n d ≡ queued m (get_or qs n d)
+queued_first-at : (n : ℕ) (m : Seen) (qs : List (Option Held)) (d : Option Held) → n < length qs → get_or (queued_first (suc n) m qs) n d ≡ queued m (get_or qs n d)
 queued_first-at n m [] d lt = absurd (omega arith)
 queued_first-at zero m (q ∷ qs) d lt = refl
 queued_first-at (suc n) m (q ∷ qs) d lt = queued_first-at n m qs d (omega arith)
 
-pub queued_first-less : (n : ℕ) (m : Seen) (qs : List (Option Held)) (d : Option Held) → n < length qs → set (queued_first (suc n) m qs) n (get_or qs n d) ≡ queued_first n m qs
+queued_first-less : (n : ℕ) (m : Seen) (qs : List (Option Held)) (d : Option Held) → n < length qs → set (queued_first (suc n) m qs) n (get_or qs n d) ≡ queued_first n m qs
 queued_first-less n m [] d lt = absurd (omega arith)
 queued_first-less zero m (q ∷ qs) d lt = refl
 queued_first-less (suc n) m (q ∷ qs) d lt = ap (λ rest. queued m q ∷ rest) (queued_first-less n m qs d (omega arith))
 
-pub queued_all : (m : Seen) (qs : List (Option Held)) → queued_first (length qs) m qs ≡ map (queued m) qs
+queued_all : (m : Seen) (qs : List (Option Held)) → queued_first (length qs) m qs ≡ map (queued m) qs
 queued_all m [] = refl
 queued_all m (q ∷ qs) = ap (λ rest. queued m q ∷ rest) (queued_all m qs)
 
 -- one element changed
-pub edit-set : {A : Type 0} (xs : List A) (k : ℕ) (f : A → A) (d : A) → k < length xs → set xs k (f (get_or xs k d)) ≡ edit k f xs
+edit-set : {A : Type 0} (xs : List A) (k : ℕ) (f : A → A) (d : A) → k < length xs → set xs k (f (get_or xs k d)) ≡ edit k f xs
 edit-set [] k f d lt = absurd (omega arith)
 edit-set (x ∷ xs) zero f d lt = refl
 edit-set (x ∷ xs) (suc k) f d lt = ap (λ rest. x ∷ rest) (edit-set xs k f d (omega arith))
@@ -79,7 +78,7 @@ each_first f zero xs = xs
 each_first f (suc n) [] = []
 each_first f (suc n) (x ∷ xs) = f x ∷ each_first f n xs
 
-pub each_first-length : {A : Type 0} (f : A → A) (n : ℕ) (xs : List A) → length (each_first f n xs) ≡ length xs
+each_first-length : {A : Type 0} (f : A → A) (n : ℕ) (xs : List A) → length (each_first f n xs) ≡ length xs
 each_first-length f zero xs = refl
 each_first-length f (suc n) [] = refl
 each_first-length f (suc n) (x ∷ xs) = ap (λ k. suc k) (each_first-length f n xs)
@@ -130,58 +129,7 @@ put_changed f xs k away x at =
 pub put_same : {A : Type 0} (xs : List A) (k : ℕ) (away x : A) → x ≡ get_or xs k x → set (set xs k away) k x ≡ xs
 put_same xs k away x at = set-set xs k away x ∙ ap (set xs k) at ∙ set-get_or xs k x
 
--- ---- the capacity that a rule's streams share
-
-shared_cons : (rule : Rule) (o : Option Held) (qs : List (Option Held)) → shared rule (o ∷ qs) ≡ or_else (limit_if rule (wants_of o)) (shared rule qs)
-shared_cons rule None qs = refl
-shared_cons rule (Some q) qs = refl
-
-shared_at : (rule : Rule) (qs : List (Option Held)) (i : ℕ) (o : Option Held) → i < length qs → o ≡ get_or qs i o
-    → shared rule (drop i qs) ≡ or_else (limit_if rule (wants_of o)) (shared rule (drop (i + 1) qs))
-shared_at rule qs i o lt at =
-    let one : i + 1 ≡ suc i = omega arith in
-    rw one
-    (ap (shared rule) (drop-cons qs i o lt)
-    ∙ shared_cons rule (get_or qs i o) (drop (suc i) qs)
-    ∙ ap (λ p. or_else (limit_if rule (wants_of p)) (shared rule (drop (suc i) qs))) (sym at))
-
-pub shared_here : (rule : Rule) (qs : List (Option Held)) (i : ℕ) (o : Option Held) (n : ℕ) → shared rule qs ≡ shared rule (drop i qs) → i < length qs → o ≡ get_or qs i o
-    → limit_if rule (wants_of o) ≡ Some n → Some n ≡ shared rule qs
-shared_here rule qs i o n e lt at is = sym (e ∙ shared_at rule qs i o lt at ∙ ap (λ l. or_else l (shared rule (drop (i + 1) qs))) is)
-
-pub shared_past : (rule : Rule) (qs : List (Option Held)) (i : ℕ) (o : Option Held) → shared rule qs ≡ shared rule (drop i qs) → i < length qs → o ≡ get_or qs i o
-    → limit_if rule (wants_of o) ≡ None → shared rule qs ≡ shared rule (drop (i + 1) qs)
-shared_past rule qs i o e lt at is = e ∙ shared_at rule qs i o lt at ∙ ap (λ l. or_else l (shared rule (drop (i + 1) qs))) is
-
-pub shared_none : (rule : Rule) (qs : List (Option Held)) (i : ℕ) → shared rule qs ≡ shared rule (drop i qs) → length qs ≤ i → None ≡ shared rule qs
-shared_none rule qs i e past = sym (e ∙ ap (shared rule) (drop_all i qs past))
-
 -- ---- copies for the streams that a message denies
-
-denied_cons : (m : Seen) (q : Option Held) (qs : List (Option Held)) (b : Bool) → denies m q ≡ b → denied_count m (q ∷ qs) ≡ (if b then denied_count m qs + 1 else denied_count m qs)
-denied_cons m q qs b e = ap (λ x. if x then denied_count m qs + 1 else denied_count m qs) e
-
--- the count with one stream passed
-pub denied_here : (m : Seen) (qs : List (Option Held)) (i count : ℕ) (q : Option Held) → count + denied_count m (drop i qs) ≡ denied_count m qs → i < length qs → q ≡ get_or qs i q
-    → denies m q ≡ true → count + 1 + denied_count m (drop (i + 1) qs) ≡ denied_count m qs
-denied_here m qs i count q e lt at is =
-    let one : i + 1 ≡ suc i = omega arith in
-    let split : denied_count m (drop i qs) ≡ denied_count m (drop (suc i) qs) + 1 =
-    ap (denied_count m) (drop-cons qs i q lt) ∙ ap (λ p. denied_count m (p ∷ drop (suc i) qs)) (sym at) ∙ denied_cons m q (drop (suc i) qs) true is in
-    rw one (omega (arith, e, split))
-
-pub denied_past : (m : Seen) (qs : List (Option Held)) (i count : ℕ) (q : Option Held) → count + denied_count m (drop i qs) ≡ denied_count m qs → i < length qs → q ≡ get_or qs i q
-    → denies m q ≡ false → count + denied_count m (drop (i + 1) qs) ≡ denied_count m qs
-denied_past m qs i count q e lt at is =
-    let one : i + 1 ≡ suc i = omega arith in
-    let split : denied_count m (drop i qs) ≡ denied_count m (drop (suc i) qs) =
-    ap (denied_count m) (drop-cons qs i q lt) ∙ ap (λ p. denied_count m (p ∷ drop (suc i) qs)) (sym at) ∙ denied_cons m q (drop (suc i) qs) false is in
-    rw one (omega (arith, e, split))
-
-pub denied_all : (m : Seen) (qs : List (Option Held)) (i count : ℕ) → count + denied_count m (drop i qs) ≡ denied_count m qs → length qs ≤ i → count ≡ denied_count m qs
-denied_all m qs i count e past =
-    let none : denied_count m (drop i qs) ≡ 0 = ap (denied_count m) (drop_all i qs past) in
-    omega (arith, e, none)
 
 -- pushing a message denies no stream
 denied_pushed : (m : Seen) (q : Held) (p : Progress) → q.progress ≡ p → denies m (Some (pushed_by p m q)) ≡ denies_by m p
@@ -216,7 +164,7 @@ copies_by : (m : Seen) (qs : List (Option Held)) (i : ℕ) (q : Option Held) (b 
     → denied_count m (drop i qs) ≡ (if b then denied_count m (drop (i + 1) qs) + 1 else denied_count m (drop (i + 1) qs))
 copies_by m qs i q b lt at is =
     let one : i + 1 ≡ suc i = omega arith in
-    rw one (ap (denied_count m) (drop-cons qs i q lt) ∙ ap (λ p. denied_count m (p ∷ drop (suc i) qs)) (sym at) ∙ denied_cons m q (drop (suc i) qs) b is)
+    rw one (ap (denied_count m) (drop-cons qs i q lt) ∙ ap (λ p. denied_count m (p ∷ drop (suc i) qs)) (sym at) ∙ ap (λ x. if x then denied_count m (drop (suc i) qs) + 1 else denied_count m (drop (suc i) qs)) is)
 
 pub copies_here : (m : Seen) (qs : List (Option Held)) (i : ℕ) (q : Option Held) (copies : List Seen) → i < length qs → q ≡ get_or qs i q → denies m q ≡ true
     → copies ≡ repeated (denied_count m (drop i qs)) m → copies ≡ repeated (denied_count m (drop (i + 1) qs)) m ++ m ∷ []

@@ -1,5 +1,5 @@
 -- Calls of the bus about rules, with the rules' texts or without them: where a text is too long for a string its message is too long.
-use Rattle.std.proofs.Common.{◌≡◌, ℕ, ◌<◌, ◌≤◌, refl, sym, ◌∙◌, ap, subst, arith, inl, inr, Bool, true, false, nat_le, ◌&&◌, ◌||◌, List, [], ◌∷◌, ◌++◌, length, map, Option, Result, Ok, Err, IsUtf8}
+use Rattle.std.proofs.Common.{◌≡◌, ℕ, ◌<◌, ◌≤◌, refl, sym, ◌∙◌, ap, subst, arith, inr, Bool, true, false, nat_le, ◌&&◌, ◌||◌, List, [], ◌∷◌, ◌++◌, length, map, Option, Result, Ok, Err, IsUtf8}
 use Rattle.std.specs.List.{All, list_all, list_any}
 use Rattle.std.proofs.lemmas.Bool.Decides.{nat_tests}
 use Rattle.std.proofs.lemmas.List.{length-append}
@@ -22,9 +22,14 @@ use Rattle.peer_route.specs.CallMessage.{expects, expects_reply}
 use Rattle.peer_route.specs.BusCall.{match_parcel}
 use Rattle.peer_route.specs.Bus.{fits_string, body_if, letter_about, PutsOwn}
 use Rattle.peer_route.specs.Left.{CallsView, View}
-use Rattle.peer_route.specs.Issuing.{is_deep, IsTooLong, SomeLong}
-use Rattle.peer_route.specs.Placing.{made_call, Draws, Spends, PutsAll, issued_at, issued_from, messages_of}
+use Rattle.peer_route.specs.Issuing.{is_deep, is_long, some_long, messages_of}
+use Rattle.peer_route.specs.Placing.{made_call, Draws, PutsAll, issued_at, issued_from}
 use Rattle.peer_route.proofs.BusMessages.{match_expects}
+use mathlib.Core.List.{map-map}
+use Rattle.peer_route.proofs.Plain.{map_each}
+use Rattle.peer_route.proofs.Drawn.{sends, draws_like, spends_like}
+use Rattle.peer_route.proofs.Fitting.{long_so}
+use Rattle.std.proofs.lemmas.Bool.{true≢false, or_left, or_right}
 
 -- ---- a text that is too long
 
@@ -34,9 +39,6 @@ long_text rule utf8 plain never = by (nat_le (length (rule_text rule)) 429496729
     by : (b : Bool) → nat_le (length (rule_text rule)) 4294967295 ≡ b → b ≡ false
     by true e = let short : length (rule_text rule) ≤ 4294967295 = grind (arith, nat_tests) in absurd (never (utf8, plain, short))
     by false e = refl
-
-pub short_text : (rule : Rule) → IsTextOf string (rule_text rule) → fits_string rule ≡ true
-short_text rule t = let short = t.2 in grind (arith, nat_tests)
 
 -- ---- its message
 
@@ -66,10 +68,8 @@ fits_one : (member : List ℕ) (name : Option (List ℕ)) (rule : Rule) → AllF
 unfolding AllFit
 fits_one member name rule = (tt, tt)
 
--- a limit that it passes is its own
-pub rule_long : (member : List ℕ) (name : Option (List ℕ)) (rule : Rule) (serial : ℕ) → IsTooLong (match_parcel member name rule) serial → 134217728 < length (message_of (match_parcel member name rule) serial).bytes
-rule_long member name rule serial (inl unfit) = absurd (unfit (fits_one member name rule))
-rule_long member name rule serial (inr long) = long.1
+rule_long : (member : List ℕ) (name : Option (List ℕ)) (rule : Rule) (serial : ℕ) → fits_string rule ≡ false → is_long (match_parcel member name rule) serial ≡ true
+rule_long member name rule serial unfit = long_so (match_parcel member name rule) serial (inr (fits_one member name rule, long_message member name rule serial unfit))
 
 -- ---- serials
 
@@ -77,44 +77,23 @@ letter_expects : (member : List ℕ) (rule : Rule) → expects (Ok (letter_about
 unfolding expects_reply
 letter_expects member rule = refl
 
-same_expected : (member : List ℕ) (name : Option (List ℕ)) (rule : Rule) → expects (Ok (letter_about member rule)) ≡ expects (Ok (match_parcel member name rule))
-same_expected member name rule = letter_expects member rule ∙ sym (match_expects member name rule)
+sends_about : (member : List ℕ) (name : Option (List ℕ)) (rules : List Rule) → map sends (map (letter_about member) rules) ≡ map sends (map (match_parcel member name) rules)
+sends_about member name rules =
+    map-map sends (letter_about member) rules ∙ map_each _ _ (λ rule. letter_expects member rule ∙ sym (match_expects member name rule)) rules
+    ∙ sym (map-map sends (match_parcel member name) rules)
 
-draws_about : (member : List ℕ) (name : Option (List ℕ)) (rules : List Rule) (serials : List ℕ) (v w : CallsView) (last end : ℕ) → Draws true v last (map (letter_about member) rules) serials w end
-    → Draws true v last (map (match_parcel member name) rules) serials w end
-draws_about member name [] [] v w last end d = d
-draws_about member name (rule ∷ rules) (serial ∷ serials) v w last end d = (
-  d.0,
-  draws_about member name rules serials (made_call true (expects (Ok (match_parcel member name rule))) v serial) w serial end
-      (subst (λ b. Draws true (made_call true b v serial) serial (map (letter_about member) rules) serials w end) (same_expected member name rule) d.1),
-)
-draws_about member name [] (serial ∷ serials) v w last end d = absurd d
-draws_about member name (rule ∷ rules) [] v w last end d = absurd d
-
-spends_about : (member : List ℕ) (name : Option (List ℕ)) (rules : List Rule) (v : CallsView) (last : ℕ) → Spends true v last (map (letter_about member) rules) → Spends true v last (map (match_parcel member name) rules)
-spends_about member name [] v last x = absurd x
-spends_about member name (rule ∷ rules) v last (inl all) = inl all
-spends_about member name (rule ∷ rules) v last (inr x) =
-    inr (
-      x.0,
-      x.1,
-      spends_about member name rules (made_call true (expects (Ok (match_parcel member name rule))) v x.0) x.0
-          (subst (λ b. Spends true (made_call true b v x.0) x.0 (map (letter_about member) rules)) (same_expected member name rule) x.2),
-    )
-
-long_by : (member : List ℕ) (name : Option (List ℕ)) (rule : Rule) (rules : List Rule) (serial : ℕ) (serials : List ℕ) (fits : Bool) → fits_string rule ≡ fits
-    → (list_all fits_string rules ≡ false → SomeLong (map (match_parcel member name) rules) serials) → (fits && list_all fits_string rules) ≡ false
-    → SomeLong (map (match_parcel member name) (rule ∷ rules)) (serial ∷ serials)
-long_by member name rule rules serial serials true e rest unfit = inr (rest unfit)
-long_by member name rule rules serial serials false e rest unfit = inl (inr (fits_one member name rule, long_message member name rule serial e))
-
-some_long : (member : List ℕ) (name : Option (List ℕ)) (rules : List Rule) (serials : List ℕ) (v w : CallsView) (last end : ℕ) → Draws true v last (map (letter_about member) rules) serials w end
-    → list_all fits_string rules ≡ false → SomeLong (map (match_parcel member name) rules) serials
-some_long member name [] serials v w last end d unfit = cc
-some_long member name (rule ∷ rules) [] v w last end d unfit = absurd d
-some_long member name (rule ∷ rules) (serial ∷ serials) v w last end d unfit =
-    long_by member name rule rules serial serials (fits_string rule) refl
-    (λ rest. some_long member name rules serials (made_call true (expects (Ok (letter_about member rule))) v serial) w serial end d.1 rest) unfit
+-- one of them has too long a text
+rules_long : (member : List ℕ) (name : Option (List ℕ)) (rules : List Rule) (serials : List ℕ) (v w : CallsView) (last end : ℕ) → Draws true v last (map (letter_about member) rules) serials w end
+    → list_all fits_string rules ≡ false → some_long (map (match_parcel member name) rules) serials ≡ true
+rules_long member name [] serials v w last end d unfit = absurd (true≢false unfit)
+rules_long member name (rule ∷ rules) [] v w last end d unfit = absurd d
+rules_long member name (rule ∷ rules) (serial ∷ serials) v w last end d unfit =
+    by (fits_string rule) refl unfit (λ rest. rules_long member name rules serials (made_call true (expects (Ok (letter_about member rule))) v serial) w serial end d.1 rest)
+  where
+    by : (fits : Bool) → fits_string rule ≡ fits → (fits && list_all fits_string rules) ≡ false → (list_all fits_string rules ≡ false → some_long (map (match_parcel member name) rules) serials ≡ true)
+        → (is_long (match_parcel member name rule) serial || some_long (map (match_parcel member name) rules) serials) ≡ true
+    by true e unfit rest = or_right (is_long (match_parcel member name rule) serial) _ (rest unfit)
+    by false e unfit rest = or_left _ (some_long (map (match_parcel member name) rules) serials) (rule_long member name rule serial e)
 
 -- ---- putting them
 
@@ -130,9 +109,9 @@ letters_sent member name (rule ∷ rules) e =
 puts_by : {A : Type 0} (items : A → List Issued) (member : List ℕ) (old new : View) (rules : List Rule) (fit : Bool) (r : Result A Error) → list_all fits_string rules ≡ fit
     → PutsOwn fit items old new (map (letter_about member) rules) r → PutsAll true items old new (map (match_parcel member old.name) rules) r
 puts_by items member old new rules true r e x = subst (λ ps. PutsAll true items old new ps r) (letters_sent member old.name rules e) x
-puts_by items member old new rules false (Err errors.SerialsSpent) e x = spends_about member old.name rules old.calls old.last x
+puts_by items member old new rules false (Err errors.SerialsSpent) e x = spends_like true _ _ old.calls old.last (sends_about member old.name rules) x
 puts_by items member old new rules false (Err errors.ExcessData) e x =
-    (x.0, draws_about member old.name rules x.0 old.calls new.calls old.last new.last x.1, some_long member old.name rules x.0 old.calls new.calls old.last new.last x.1 e)
+    (x.0, draws_like true _ _ x.0 old.calls new.calls old.last new.last (sends_about member old.name rules) x.1, rules_long member old.name rules x.0 old.calls new.calls old.last new.last x.1 e)
 puts_by items member old new rules false (Err errors.Memory) e x = tt
 puts_by items member old new rules false (Err other) e x = absurd x
 puts_by items member old new rules false (Ok issued) e x = absurd x

@@ -4,6 +4,9 @@ use Rattle.std.specs.List.{slice_get, list_any, AllByRecursion}
 use Rattle.std.specs.Option.{option_map}
 use Rattle.std.proofs.Math.Seq.{drop-length}
 use Rattle.std.proofs.lemmas.List.{map-append}
+use Rattle.std.proofs.lemmas.Bool.{or_left, or_right}
+use Rattle.peer_route.proofs.Plain.{map_each}
+use mathlib.Core.List.{map-map}
 use Rattle.wire_message.specs.Front.{Seen}
 use Rattle.rule_match.specs.Rule.{Rule}
 use Rattle.peer_route.specs.declared.queue.Subscription.{Subscription}
@@ -44,14 +47,6 @@ kept_same g h false (Some r) s p items e = ap (λ n. Some (with_limit r n s p it
 
 -- ---- a stream of a rule is opened
 
-or_here : (b c : Bool) → b ≡ true → (b || c) ≡ true
-or_here true c e = refl
-or_here false c e = cc
-
-or_there : (b c : Bool) → c ≡ true → (b || c) ≡ true
-or_there true c e = refl
-or_there false c e = e
-
 -- a stream of a rule that lives subscribes to it
 subscribed_here : (h : Past) (r : Rule) (s : Stream) → s.gone ≡ false → is_denied (phase h.read s) ≡ false → s.rule ≡ Some r → subscribes h.read r s ≡ true
 subscribed_here h r s open_ granted of =
@@ -80,9 +75,9 @@ opened_each : (g h : Past) (rule : Rule) (asked : Option ℕ) (ss : List Stream)
 opened_each g h rule asked [] e all = refl
 opened_each g h rule asked (s ∷ ss) e all =
     ap (λ q. q ∷ map (held_of g.capacities.rules g.read) ss)
-    (opened_one g h rule asked s e (λ r w. all r (or_here (subscribes h.read r s) (list_any (subscribes h.read r) ss) w)))
+    (opened_one g h rule asked s e (λ r w. all r (or_left (subscribes h.read r s) (list_any (subscribes h.read r) ss) w)))
     ∙ ap (λ qs. option_map (raise_held rule asked) (held_of h.capacities.rules h.read s) ∷ qs)
-    (opened_each g h rule asked ss e (λ r w. all r (or_there (subscribes h.read r s) (list_any (subscribes h.read r) ss) w)))
+    (opened_each g h rule asked ss e (λ r w. all r (or_right (subscribes h.read r s) (list_any (subscribes h.read r) ss) w)))
 
 -- the capacity that the open streams of a rule share is the rule's
 shared_by : (h : Past) (rule r : Rule) (qs : List (Option Held)) (b c : Bool) → is_same rule r ≡ b → shared rule qs ≡ (if c then Some (h.capacities.rules rule) else None)
@@ -107,7 +102,7 @@ shared_each h rule [] = refl
 shared_each h rule (s ∷ ss) =
     shared_kept h rule s.gone s.rule s (phase h.read s) (held h.read s) (map (held_of h.capacities.rules h.read) ss) (list_any (subscribes h.read rule) ss) (shared_each h rule ss)
 
-pub shared_limit : (v : List (Option Held)) (h : Past) (rule : Rule) → LeftStreams v h
+shared_limit : (v : List (Option Held)) (h : Past) (rule : Rule) → LeftStreams v h
     → shared rule v ≡ (if is_subscribed h.read h.streams rule then Some (h.capacities.rules rule) else None)
 unfolding is_subscribed
 shared_limit v h rule left = ap (shared rule) left.queues ∙ shared_each h rule h.streams
@@ -195,7 +190,7 @@ wants_none : (h : Past) (o : Option Stream) → runs_at h.read o ≡ false → w
 wants_none h None there = refl
 wants_none h (Some s) there = ap wants_of (kept_runs h s ∙ ap (λ b. if b then Some (held_by h.capacities.rules h.read s) else None) there)
 
-pub wants_left : (v : List (Option Held)) (h : Past) (k : ℕ) → is_open h k ≡ true → LeftStreams v h
+wants_left : (v : List (Option Held)) (h : Past) (k : ℕ) → is_open h k ≡ true → LeftStreams v h
     → wants_of (kept_at v k) ≡ option_map (subscription h.capacities.rules) (rule_of (slice_get h.streams k))
 unfolding is_open
 wants_left v h k there left = ap wants_of (kept_left v h k left) ∙ wants_there h (slice_get h.streams k) there
@@ -207,12 +202,6 @@ unfolding held_of held offered matched phase
 plain_one h k limit s none =
     sym (kept_same (after (Did k (Asked limit)) h) h s.gone s.rule s (phase h.read s) (held h.read s) (λ r. ap (λ o. rule_asks r o (h.capacities.rules r) limit) none))
 
-asked_plain : (h : Past) (k limit : ℕ) (ss : List Stream) → rule_of (slice_get h.streams k) ≡ None
-    → map (held_of h.capacities.rules h.read) ss ≡ map (held_of ((after (Did k (Asked limit)) h).capacities).rules ((after (Did k (Asked limit)) h).read)) ss
-asked_plain h k limit [] none = refl
-asked_plain h k limit (s ∷ ss) none =
-    ap (λ q. q ∷ map (held_of h.capacities.rules h.read) ss) (plain_one h k limit s none) ∙ ap (λ qs. held_of ((after (Did k (Asked limit)) h).capacities).rules ((after (Did k (Asked limit)) h).read) s ∷ qs) (asked_plain h k limit ss none)
-
 asked_one : (h : Past) (k limit : ℕ) (rule : Rule) (s : Stream) → rule_of (slice_get h.streams k) ≡ Some rule
     → option_map (raise_held rule (Some limit)) (held_of h.capacities.rules h.read s) ≡ held_of ((after (Did k (Asked limit)) h).capacities).rules ((after (Did k (Asked limit)) h).read) s
 unfolding held_of held offered matched phase
@@ -220,17 +209,11 @@ asked_one h k limit rule s of =
     sym (kept_raised (after (Did k (Asked limit)) h) h rule (Some limit) s.gone s.rule s (phase h.read s) (held h.read s)
     (λ r open_ granted own. ap (λ o. rule_asks r o (h.capacities.rules r) limit) of))
 
-asked_ruled : (h : Past) (k limit : ℕ) (rule : Rule) (ss : List Stream) → rule_of (slice_get h.streams k) ≡ Some rule
-    → raise_all rule (Some limit) (map (held_of h.capacities.rules h.read) ss) ≡ map (held_of ((after (Did k (Asked limit)) h).capacities).rules ((after (Did k (Asked limit)) h).read)) ss
-asked_ruled h k limit rule [] of = refl
-asked_ruled h k limit rule (s ∷ ss) of =
-    ap (λ q. q ∷ raise_all rule (Some limit) (map (held_of h.capacities.rules h.read) ss)) (asked_one h k limit rule s of)
-    ∙ ap (λ qs. held_of ((after (Did k (Asked limit)) h).capacities).rules ((after (Did k (Asked limit)) h).read) s ∷ qs) (asked_ruled h k limit rule ss of)
-
 asked_by : (h : Past) (k limit : ℕ) (o : Option Rule) (ss : List Stream) → rule_of (slice_get h.streams k) ≡ o
     → asked_for (option_map (subscription h.capacities.rules) o) limit (map (held_of h.capacities.rules h.read) ss) ≡ map (held_of ((after (Did k (Asked limit)) h).capacities).rules ((after (Did k (Asked limit)) h).read)) ss
-asked_by h k limit None ss e = asked_plain h k limit ss e
-asked_by h k limit (Some rule) ss e = asked_ruled h k limit rule ss e
+asked_by h k limit None ss e = map_each _ _ (λ s. plain_one h k limit s e) ss
+asked_by h k limit (Some rule) ss e =
+    map-map (λ q. option_map (raise_held rule (Some limit)) q) (held_of h.capacities.rules h.read) ss ∙ map_each _ _ (λ s. asked_one h k limit rule s e) ss
 
 pub streams_asked : (k limit : ℕ) (v : List (Option Held)) (h : Past) → is_open h k ≡ true → LeftStreams v h
     → LeftStreams (asked_for (wants_of (kept_at v k)) limit v) (after (Did k (Asked limit)) h)

@@ -128,19 +128,3 @@ asks_of_none xs k limit q at there live of = asks_plain xs k limit q q.wants at 
 pub has_rule : (w : Option Subscription) (o : Option Rule) → o ≡ option_map (λ (s : Subscription). s.rule) w → is_some o ≡ is_some w
 has_rule None o e = ap is_some e
 has_rule (Some s) o e = ap is_some e
-
--- a stream that isn't open has nothing to be raised
-idle_by : (o : Option Held) → is_some o ≡ false → wants_of o ≡ None
-idle_by None e = refl
-idle_by (Some q) e = cc
-
-pub asks_idle : (xs : List (Option Held)) (k limit : ℕ) → is_some (kept_at xs k) ≡ false → xs ≡ asked_for (wants_of (kept_at xs k)) limit xs
-asks_idle xs k limit e = ap (λ w. asked_for w limit xs) (sym (idle_by (kept_at xs k) e))
-
-pub wants_idle : (xs : List (Option Held)) (k : ℕ) → is_some (kept_at xs k) ≡ false → false ≡ is_some (wants_of (kept_at xs k))
-wants_idle xs k e = sym (ap is_some (idle_by (kept_at xs k) e))
-
--- one that is open is there
-pub there_so : (o : Option Held) → o ≡ None → is_some (option_and_then if_usable o) ≡ true → ⊥
-there_so None e live = cc
-there_so (Some q) e live = cc

@@ -1,310 +1,414 @@
--- What was put is what the answers say was sent.
-use Rattle.std.proofs.Common.{◌≡◌, ◌≢◌, inl, inr, ℕ, ◌+◌, refl, sym, ◌∙◌, ap, arith, Bool, true, false, List, [], ◌∷◌, ◌++◌, length, take, Option, Some, None, Ok, Err, append_assoc, append-nil, subst, length-append}
-use Rattle.std.proofs.Math.Seq.{take-append_seam}
+-- What was put is what the entries put, what was written is what they wrote; and what answers tell of it.
+use Rattle.std.proofs.Common.{◌≡◌, ◌≢◌, ℕ, zero, suc, ◌+◌, ◌-◌, ◌<◌, ◌≤◌, arith, refl, sym, ◌∙◌, ap, subst, ◌||◌, Bool, true, false, if◌then◌else◌, List, [], ◌∷◌, ◌++◌, length, take, append_assoc, length-append, inl, inr, is_none, map, option_map, option_and_then, Option, Some, None, Result, Ok, Err, ◌⊎◌}
+use Rattle.std.specs.List.{AllByRecursion}
+use Rattle.std.proofs.lemmas.List.{append-nil}
+use Rattle.std.proofs.Math.Seq.{take-length, take-append-add}
 use Rattle.wire_message.specs.Front.{Seen}
 use Rattle.wire_message.specs.declared.error.Error.{Error}
-use Rattle.peer_route.specs.declared.words.Words.TheVariants as words
-use Rattle.peer_route.specs.declared.answer.Answer.{Answer}
-use Rattle.peer_route.specs.declared.answer.Answer.TheVariants as answers
-use Rattle.peer_route.specs.declared.answer.Entry.{Entry}
-use Rattle.peer_route.specs.declared.writer.Writer.{Writer}
 use Rattle.peer_route.specs.declared.writer.Writer.TheVariants as writers
-use Rattle.peer_route.specs.History.{Event, Did, Gone, put, written, is_failed, writer, past}
-use Rattle.peer_route.specs.Streams.{leaving, gone_then}
-use Rattle.peer_route.specs.BusCall.{add_message, remove_message, some_rules}
-use Rattle.peer_route.proofs.Writers.{fine_unfailed, writer_stays, shut_writer}
-use Rattle.peer_route.specs.Parcel.{Setting, Parcel, Asked, message_of}
-use Rattle.peer_route.specs.Trail.{Trail, next_serial, or_zero, count}
+use Rattle.peer_route.specs.declared.words.Words.TheVariants as words
+use Rattle.peer_route.specs.declared.answer.Entry.{Entry}
+use Rattle.peer_route.specs.Parcel.{Setting, message_of, Parcel}
+use Rattle.peer_route.specs.History.{Event, Shut, Put, Purpose, Wrote, Fault, Outbox, Past, after, after_all}
+use Rattle.peer_route.specs.Issuing.{Posting, put_of, parcels, messages_of, puts, of_lane, drawn, next_serial, issued, issued_by, or_barred, limit_refusal, are_deep, refusal}
+use Rattle.peer_route.specs.Trail.{Trail}
+use Rattle.peer_route.specs.Plan.{Closes, plan, sent_answer, Plan, Says, Sends, Reads, Writes, Never}
+use Rattle.peer_route.specs.Entries.{IsMeant, IsEntry, IsQuiet, IsAtOnce, IsOfRun, Legal, trail, more, repeat, writes, deeds, postings, past_after, IsSending, IsRead, IsClose, write_fault, unsent, IsPut}
+use Rattle.peer_route.specs.StreamLaws.{IsPutOf, all_put, all_written}
+use Rattle.peer_route.proofs.Plans.{are_writes, repeat_all, by_plan, AreDeeds, gone_deeds}
+use Rattle.peer_route.proofs.Kept.{every, every_entry, at_start, Keeps, kept_by, puts_are, deeds_all, deed_outbox, is_live, deeds_are, of_run}
+use Rattle.peer_route.proofs.Refused.{quiet_past}
+use Rattle.peer_route.proofs.Writers.{fine_unfailed, writer_keeps, shut_writer, writer_stays}
+use Rattle.std.proofs.Math.Bool.{or-true, or-false}
+use Rattle.std.proofs.lemmas.Bool.{and_parts}
+use Rattle.wire_message.specs.Draft.{built}
+use Rattle.wire_message.specs.declared.error.Error.TheVariants as errors
+use Rattle.peer_route.specs.declared.words.Words.{Words}
+use Rattle.peer_route.specs.declared.answer.Answer.{Answer}
+use Rattle.peer_route.specs.CallMessage.{expects}
+use Rattle.peer_route.specs.BusCall.{asking_of, first_of, last_of, tellings_of}
+use Rattle.peer_route.specs.Laws.{told_serial}
+use Rattle.peer_route.proofs.NoneBefore.{is_tame, by_place, plan_tame}
+use Rattle.wire_signature.specs.declared.error.VariantError.TheVariants as faults
+use Rattle.peer_route.specs.declared.writer.Writer.{Writer}
 use Rattle.rule_match.specs.Rule.{Rule}
-use Rattle.peer_route.specs.Answers.{IsAnswer, IsClose, IsCalled, IsSendOf, tell_refusal, WentOut, IsToldBy, IsTold, Legal, sent_answer, IsAskOf, IsMeant}
-use Rattle.peer_route.specs.StreamLaws.{sent_of, asked_by, tellings, first_one, told_by, sent_in, all_sent, IsPutOf}
-use Rattle.peer_route.proofs.Written.{written_sent}
-use Rattle.peer_route.proofs.Tellings.{wrote_all_put, fault_all_put, first_all_put, wrote_all_failed, fault_all_failed, first_all_failed}
-use Rattle.peer_route.specs.Entries.{trail, send_events, read_events, removal, wrote_each, fault_each, wrote_first, leave_with, events_of, queue_set, bus_set, first_events, add_events, does, leave_events, more}
-use Rattle.peer_route.specs.Plan.{Adds, Closes, Leaves, Plan, Reads, Says, Sends, plan}
-use Rattle.peer_route.proofs.Plans.{IsFair, Unmoved, plan_fair, said_keeps}
+use Rattle.peer_route.specs.Streams.{leaving}
 
--- what was put, where its order alone is looked at: what was sent, and after a failed write a message behind it
-abbrev IsPutBy : Bool → List Seen → List Seen → Type 0
-IsPutBy false put sent = put ≡ sent
-IsPutBy true put sent = (m : Seen) × (more : List Seen) × (put ≡ sent ++ m ∷ more)
+-- ---- an entry's messages
 
--- what events that send nothing leave
-record SendsNone (g h : List Event) : Type 0 where
-  put_same : put g ≡ put h
-  failed_same : is_failed g ≡ is_failed h
+-- messages were issued and put
+abbrev HasPut : Past → Plan → Entry → Type 0
+HasPut h pl e = (serials : List ℕ) × (success : Answer) × (issued (after_all (deeds pl e) h) (postings pl) ≡ Ok serials) × IsPut (messages_of (parcels (postings pl)) serials) success e
 
-none_sent : (g h : List Event) (sent : List Seen) → SendsNone g h → IsPutBy (is_failed h) (put h) sent → IsPutBy (is_failed g) (put g) (sent ++ [])
-none_sent g h sent n p = rw (n.failed_same, n.put_same, append-nil sent) p
+pub quiet_or : (h : Past) (pl : Plan) (e : Entry) → IsMeant h pl e → IsQuiet e ⊎ HasPut h pl e
+quiet_or h (Says answer done) e is = inl is.2
+quiet_or h (Sends done ds sent) e is = by_result (issued (after_all done h) ds) refl is.1
+  where
+    by_result : (r : Result (List ℕ) Error) → issued (after_all done h) ds ≡ r → IsSending r ds sent e → IsQuiet e ⊎ HasPut h (Sends done ds sent) e
+    by_result (Ok serials) at put = inr (serials, sent serials, at, put)
+    by_result (Err error) at none = inl none.1
+quiet_or h Reads e is = inl is.1
+quiet_or h Closes e is = inl is.2
+quiet_or h (Writes fails) e is = inl is.2
+quiet_or h Never e is = absurd is
 
-unmoved_none : (g h : List Event) → Unmoved g h → SendsNone g h
-unmoved_none g h u = record { put_same = ap (λ o. o.put) u.outbox_same; failed_same = ap (λ o. o.failed) u.outbox_same }
+messages_none : (ps : List Parcel) → messages_of ps [] ≡ []
+messages_none [] = refl
+messages_none (p ∷ ps) = refl
 
-read_none : (a : Answer) (h : List Event) → SendsNone (read_events a ++ h) h
-read_none (answers.Got m) h = record { put_same = refl; failed_same = refl }
-read_none (answers.Closed error) h = record { put_same = refl; failed_same = refl }
-read_none a h = record { put_same = refl; failed_same = refl }
+pub puts_of : (h : Past) (pl : Plan) (e : Entry) → IsQuiet e ⊎ HasPut h pl e → (serials : List ℕ) × (e.put ≡ messages_of (parcels (postings pl)) serials)
+puts_of h pl e (inl quiet) = ([], quiet.put ∙ sym (messages_none (parcels (postings pl))))
+puts_of h pl e (inr has) = let is = has.3 in (has.0, is.put)
 
-close_none : (a : Answer) (h : List Event) → SendsNone (does h Closes a ++ h) h
-close_none (answers.Refused error) h = record { put_same = refl; failed_same = refl }
-close_none a h = record { put_same = refl; failed_same = refl }
+-- no more is written than was put, and less where a write failed
+pub within : (h : Past) (pl : Plan) (e : Entry) → IsQuiet e ⊎ HasPut h pl e → (e.written ≤ length e.put) × (e.failed ≡ true → e.written < length e.put)
+within h pl e (inl quiet) = let none = quiet.written in let fine = quiet.failed in (omega (arith, none), λ failed. cc)
+within h pl e (inr has) = let is = has.3 in (subst (λ ms. e.written ≤ length ms) (sym is.put) is.written, λ failed. subst (λ ms. e.written < length ms) (sym is.put) (is.cut failed))
 
--- streams that are closed alone
-gone_none : (k : ℕ) (j : Option ℕ) (h : List Event) → SendsNone (gone_then j (Did k Gone ∷ []) ++ h) h
-gone_none k None h = record { put_same = refl; failed_same = refl }
-gone_none k (Some j) h = record { put_same = refl; failed_same = refl }
+-- ---- what refuses messages
 
--- a message that went out
-put_sent_now : (h : List Event) (parcel : Parcel) (expects : Bool) (call serial : ℕ) (sent : List Seen) → is_failed h ≡ false → put h ≡ sent
-    → IsPutBy (is_failed (send_events h (Ok parcel) (sent_answer expects call serial) ++ h)) (put (send_events h (Ok parcel) (sent_answer expects call serial) ++ h))
-    (sent ++ sent_of (Ok parcel) (sent_answer expects call serial))
-put_sent_now h parcel true call serial sent f p = rw f (ap (λ ms. ms ++ message_of parcel serial ∷ []) p)
-put_sent_now h parcel false call serial sent f p = rw f (ap (λ ms. ms ++ message_of parcel serial ∷ []) p)
+deep_or : (deep : Bool) (ds : List Posting) (serials : Option (List ℕ)) → (if deep then Some (errors.Variant faults.Depth) else limit_refusal ds serials) ≡ None → (ss : List ℕ) × (serials ≡ Some ss)
+deep_or true ds serials e = cc
+deep_or false ds None e = cc
+deep_or false ds (Some serials) e = (serials, refl)
 
--- a message that was sent, failed or was refused, where there was one
-sent_parcel : (h : List Event) (parcel : Parcel) (r : Option Error) (w : Writer) (expects : Bool) (call serial : ℕ) (a : Answer) (sent : List Seen) → writer h ≡ w
-    → IsCalled r w (sent_answer expects call serial) a → IsPutBy (is_failed h) (put h) sent
-    → IsPutBy (is_failed (send_events h (Ok parcel) a ++ h)) (put (send_events h (Ok parcel) a ++ h)) (sent ++ sent_of (Ok parcel) a)
-sent_parcel h parcel (Some error) w expects call serial a sent f is p = rw is (rw (append-nil sent) p)
-sent_parcel h parcel None writers.Failed expects call serial a sent f is p = rw (is, f) (rw (append-nil sent) p)
-sent_parcel h parcel None writers.Closed expects call serial a sent f is p = rw (is, f) (rw (append-nil sent) p)
-sent_parcel h parcel None writers.Fine expects call serial a sent f (inl is) p =
-    let unfailed = fine_unfailed h f in
-    rw is (put_sent_now h parcel expects call serial sent unfailed (subst (λ b. IsPutBy b (put h) sent) unfailed p))
-sent_parcel h parcel None writers.Fine expects call serial a sent f (inr is) p =
-    let m = message_of parcel (or_zero (next_serial h)) in
-    let same : put h ≡ sent = subst (λ b. IsPutBy b (put h) sent) (fine_unfailed h f) p in
-    rw (is, f) (m, [], ap (λ ms. ms ++ m ∷ []) (same ∙ sym (append-nil sent)))
+-- where nothing refuses messages, and the peer writes, they are put with the serials that they draw
+pub put_where : (h : Past) (ds : List Posting) → refusal h ds ≡ None → h.outbox.writer ≡ writers.Fine → (serials : List ℕ) × (drawn h ds ≡ Some serials) × (issued h ds ≡ Ok serials)
+unfolding issued
+put_where h [] free fine = ([], refl, refl)
+put_where h (d ∷ ds) free fine =
+    let draws = deep_or (are_deep (d ∷ ds)) (d ∷ ds) (drawn h (d ∷ ds)) free in (draws.0, draws.1, ap (λ r. issued_by (or_barred h.outbox.writer r) (drawn h (d ∷ ds))) free ∙ ap (λ w. issued_by (or_barred w None) (drawn h (d ∷ ds))) fine ∙ ap (issued_by None) draws.1)
 
--- and where there was none
-sent_asked : (t : Trail) (lane : ℕ) (asked : Asked) (a : Answer) (sent : List Seen) → IsSendOf t lane asked a → IsPutBy (is_failed t.events) (put t.events) sent
-    → IsPutBy (is_failed (send_events t.events asked a ++ t.events)) (put (send_events t.events asked a ++ t.events)) (sent ++ sent_of asked a)
-sent_asked t lane (Ok parcel) a sent is p = sent_parcel t.events parcel _ (writer t.events) _ _ _ a sent refl is p
-sent_asked t lane (Err error) a sent is p = subst (λ ms. IsPutBy (is_failed t.events) (put t.events) ms) (sym (append-nil sent)) p
+issued_draws : (w : Writer) (met : Option Error) (drawn : Option (List ℕ)) (serials : List ℕ) → issued_by (or_barred w met) drawn ≡ Ok serials → (drawn ≡ Some serials) × (w ≡ writers.Fine)
+issued_draws w (Some error) drawn serials e = cc
+issued_draws writers.Failed None drawn serials e = cc
+issued_draws writers.Closed None drawn serials e = cc
+issued_draws writers.Fine None None serials e = cc
+issued_draws writers.Fine None (Some some) serials e = (cc, refl)
 
--- ---- a stream of a rule
+-- messages that are put drew their serials
+pub put_drew : (h : Past) (ds : List Posting) (serials : List ℕ) → issued h ds ≡ Ok serials → drawn h ds ≡ Some serials
+unfolding issued
+put_drew h [] serials e = cc
+put_drew h (d ∷ ds) serials e = (issued_draws h.outbox.writer (refusal h (d ∷ ds)) (drawn h (d ∷ ds)) serials e).0
 
--- an AddMatch that went out, failed or was refused
-asks_parcel : (h : List Event) (rule : Rule) (asked : Option ℕ) (r : Option Error) (w : Writer) (number serial : ℕ) (a : Answer) (sent : List Seen) → writer h ≡ w
-    → IsCalled r w (answers.Opening number serial) a → IsPutBy (is_failed h) (put h) sent
-    → IsPutBy (is_failed (add_events h rule asked a ++ h)) (put (add_events h rule asked a ++ h)) (sent ++ asked_by h rule a)
-asks_parcel h rule asked (Some error) w number serial a sent f is p = rw is (rw (append-nil sent) p)
-asks_parcel h rule asked None writers.Failed number serial a sent f is p = rw (is, f) (rw (append-nil sent) p)
-asks_parcel h rule asked None writers.Closed number serial a sent f is p = rw (is, f) (rw (append-nil sent) p)
-asks_parcel h rule asked None writers.Fine number serial a sent f (inl is) p =
-    let unfailed = fine_unfailed h f in
-    let same : put h ≡ sent = subst (λ b. IsPutBy b (put h) sent) unfailed p in
-    rw (is, unfailed) (ap (λ ms. ms ++ add_message (past h) rule serial ∷ []) same)
-asks_parcel h rule asked None writers.Fine number serial a sent f (inr is) p =
-    let m = add_message (past h) rule (or_zero (next_serial h)) in
-    let same : put h ≡ sent = subst (λ b. IsPutBy b (put h) sent) (fine_unfailed h f) p in
-    rw (is, f) (m, [], ap (λ ms. ms ++ m ∷ []) (same ∙ sym (append-nil sent)))
+-- and the peer writes, where there are any
+pub put_none : (h : Past) (ds : List Posting) (serials : List ℕ) → h.outbox.writer ≢ writers.Fine → issued h ds ≡ Ok serials → messages_of (parcels ds) serials ≡ []
+unfolding issued
+put_none h [] serials ne e = refl
+put_none h (d ∷ ds) serials ne e = absurd (ne (issued_draws h.outbox.writer (refusal h (d ∷ ds)) (drawn h (d ∷ ds)) serials e).1)
 
--- ---- streams that are closed
+-- once the writer is over nothing is put
+pub puts_none : (h : Past) (pl : Plan) (e : Entry) → h.outbox.writer ≢ writers.Fine → IsQuiet e ⊎ HasPut h pl e → e.put ≡ []
+puts_none h pl e ne (inl quiet) = quiet.put
+puts_none h pl e ne (inr has) = let is = has.3 in is.put ∙ put_none (after_all (deeds pl e) h) (postings pl) has.0 (λ q. ne (sym (writer_stays h (deeds pl e) ne) ∙ q)) has.2
 
--- messages that went out, after those before
-put_more : (failed now : Bool) (was is more sent : List Seen) → now ≡ failed → is ≡ was ++ more → failed ≡ false → IsPutBy failed was sent → IsPutBy now is (sent ++ more)
-put_more failed now was is more sent e s unfailed p =
-    let same : was ≡ sent = subst (λ b. IsPutBy b was sent) unfailed p in
-    rw (e, unfailed) (s ∙ ap (λ ms. ms ++ more) same)
+-- ---- what is answered where nothing refuses
 
--- and then one whose write failed
-put_fault : (failed now : Bool) (was is told before more sent : List Seen) (m : Seen) → now ≡ true → is ≡ was ++ (before ++ m ∷ more) → told ≡ before → failed ≡ false → IsPutBy failed was sent
-    → IsPutBy now is (sent ++ told)
-put_fault failed now was is told before more sent m e s t unfailed p =
-    let same : was ≡ sent = subst (λ b. IsPutBy b was sent) unfailed p in
-    rw (e, t) (m, more, s ∙ ap (λ ms. ms ++ (before ++ m ∷ more)) same ∙ sym (append_assoc sent before (m ∷ more)))
+abbrev SendDoes : Plan → Type 0
+SendDoes (Sends done ds sent) = AreDeeds done
+SendDoes other = Unit {0}
 
--- nothing was put
-put_none : (failed now : Bool) (was is told sent : List Seen) → now ≡ failed → is ≡ was → told ≡ [] → IsPutBy failed was sent → IsPutBy now is (sent ++ told)
-put_none failed now was is told sent e s t p = rw (e, s, t, append-nil sent) p
+send_does : (t : Trail) (lane : ℕ) (w : Words) → SendDoes (plan t lane w)
+send_does t lane =
+    by_plan (λ w pl. SendDoes pl) t lane (λ w answer done fair. tt) (λ w parcel from. tt) (λ asked text rule. tt) (λ n second k j open_. gone_deeds k j) (λ shut. tt) tt (λ line fails fine. tt) (λ line. tt)
 
-gone_writer : (k : ℕ) (j : Option ℕ) (h : List Event) → writer (gone_then j (Did k Gone ∷ h)) ≡ writer h
-gone_writer k None h = refl
-gone_writer k (Some j) h = refl
+pub said_as_meant : (setting : Setting) (older : List Entry) (e : Entry) (answer : Answer) (done : List Event) → Legal setting (e ∷ older)
+    → plan (trail setting older) e.lane e.words ≡ Says answer done → e.answer ≡ answer
+said_as_meant setting older e answer done legal means = (subst (λ p. IsMeant (trail setting older).past p e) means legal.0).1
 
--- what was put by the entry's answer
-abbrev LeavePuts : List Event → ℕ → Option ℕ → Answer → List Seen → Type 0
-LeavePuts h k j a sent =
-    IsPutBy (is_failed (leave_events h k j a ++ h)) (put (leave_events h k j a ++ h)) (sent ++ told_by h k j a)
+pub sent_or_fault : (setting : Setting) (older : List Entry) (e : Entry) (done : List Event) (ds : List Posting) (sent : List ℕ → Answer) → Legal setting (e ∷ older)
+    → plan (trail setting older) e.lane e.words ≡ Sends done ds sent → refusal (after_all done (trail setting older).past) ds ≡ None → (trail setting older).past.outbox.writer ≡ writers.Fine
+    → (serials : List ℕ) × (drawn (after_all done (trail setting older).past) ds ≡ Some serials) × (e.answer ≡ (if e.failed then write_fault else sent serials))
+sent_or_fault setting older e done ds sent legal means free fine =
+    let t = trail setting older in
+    let does : AreDeeds done = subst SendDoes means (send_does t e.lane e.words) in
+    let same = kept_by (λ h. h.outbox) done t.past (deeds_are (Keeps (λ h. h.outbox)) deed_outbox done does) in
+    let put = put_where (after_all done t.past) ds free (ap (λ (o : Outbox). o.writer) same ∙ fine) in
+    let is = (subst (λ p. IsMeant t.past p e) means legal.0).1 in
+    let sending = subst (λ r. IsSending r ds sent e) put.2 is in
+    (put.0, put.1, sending.answer)
 
-untold_put : (h : List Event) (k : ℕ) (j : Option ℕ) (error : Error) (a : Answer) (sent : List Seen) → a ≡ answers.Untold error → IsPutBy (is_failed h) (put h) sent → LeavePuts h k j a sent
-untold_put h k j error a sent is p = let n = gone_none k j h in subst (λ x. LeavePuts h k j x sent) (sym is) (none_sent _ h sent n p)
+-- ---- what is put
 
--- where there are rules, and the peer writes
-out_put : (h : List Event) (k : ℕ) (j : Option ℕ) (rule : Rule) (more : List Rule) (a : Answer) (sent : List Seen) → leaving (past h) k j ≡ rule ∷ more → writer h ≡ writers.Fine
-    → WentOut (gone_then j (Did k Gone ∷ h)) (rule ∷ more) a → IsPutBy (is_failed h) (put h) sent → LeavePuts h k j a sent
-out_put h k j rule more a sent e fine (inl is) p =
-    subst (λ x. LeavePuts h k j x sent) (sym is)
-    (put_more (is_failed h) (is_failed (leave_with wrote_each h k j ++ h)) (put h) (put (leave_with wrote_each h k j ++ h)) (tellings (gone_then j (Did k Gone ∷ h)) (leaving (past h) k j)) sent
-    (wrote_all_failed h k j) (wrote_all_put h k j) (fine_unfailed h fine) p)
-out_put h k j rule more a sent e fine (inr (inl is)) p =
-    let g = gone_then j (Did k Gone ∷ h) in
-    let m = remove_message (past g) rule (or_zero (next_serial g)) in
-    subst (λ x. LeavePuts h k j x sent) (sym is)
-    (put_fault (is_failed h) (is_failed (leave_with fault_each h k j ++ h)) (put h) (put (leave_with fault_each h k j ++ h)) [] [] (tellings (removal g rule ∷ g) more) sent m
-    (fault_all_failed h k j (ap some_rules e)) (fault_all_put h k j ∙ ap (λ rs. put h ++ tellings g rs) e) refl (fine_unfailed h fine) p)
-out_put h k j rule [] a sent e fine (inr (inr is)) p = let some : false ≡ true = is.0 in cc
-out_put h k j rule (second ∷ more) a sent e fine (inr (inr is)) p =
-    let g = gone_then j (Did k Gone ∷ h) in
-    let f = removal g rule ∷ g in
-    let first = remove_message (past g) rule (or_zero (next_serial g)) in
-    let m = remove_message (past f) second (or_zero (next_serial f)) in
-    subst (λ x. LeavePuts h k j x sent) (sym is.1)
-    (put_fault (is_failed h) (is_failed (leave_with wrote_first h k j ++ h)) (put h) (put (leave_with wrote_first h k j ++ h)) (first_one (tellings g (leaving (past h) k j))) (first ∷ [])
-    (tellings (removal f second ∷ f) more) sent m (first_all_failed h k j rule (second ∷ more) e refl)
-    (first_all_put h k j ∙ ap (λ rs. put h ++ tellings g rs) e) (ap (λ rs. first_one (tellings g rs)) e) (fine_unfailed h fine) p)
+puts_put : (ds : List Posting) (serials : List ℕ) (h : Past) → (after_all (puts ds (messages_of (parcels ds) serials)) h).outbox.put ≡ h.outbox.put ++ messages_of (parcels ds) serials
+puts_put [] serials h = sym (append-nil h.outbox.put)
+puts_put (d ∷ ds) [] h = sym (append-nil h.outbox.put)
+puts_put (d ∷ ds) (serial ∷ serials) h =
+    puts_put ds serials (after (put_of d serial) h) ∙ append_assoc h.outbox.put (message_of d.parcel serial ∷ []) (messages_of (parcels ds) serials)
 
-told_put_by : (h : List Event) (k : ℕ) (j : Option ℕ) (r : Option Error) (w : Writer) (rule : Rule) (more : List Rule) (a : Answer) (sent : List Seen) → leaving (past h) k j ≡ rule ∷ more → writer h ≡ w
-    → IsToldBy r w (gone_then j (Did k Gone ∷ h)) (rule ∷ more) a → IsPutBy (is_failed h) (put h) sent → LeavePuts h k j a sent
-told_put_by h k j (Some error) w rule more a sent e f is p = untold_put h k j error a sent is p
-told_put_by h k j None writers.Failed rule more a sent e f is p = untold_put h k j _ a sent is p
-told_put_by h k j None writers.Closed rule more a sent e f is p = untold_put h k j _ a sent is p
-told_put_by h k j None writers.Fine rule more a sent e f is p = out_put h k j rule more a sent e f is p
+pub put_more : (t : Trail) (e : Entry) → IsEntry t e → (more t e).past.outbox.put ≡ t.past.outbox.put ++ e.put
+put_more t e is =
+    let pl = plan t e.lane e.words in
+    let done = after_all (deeds pl e) t.past in
+    let ms = puts_of t.past pl e (quiet_or t.past pl e is) in
+    kept_by (λ h. h.outbox.put) (writes e) (after_all (puts (postings pl) e.put) done) (are_writes (Keeps (λ h. h.outbox.put)) e (λ h. refl) (λ h. refl))
+    ∙ subst (λ xs. (after_all (puts (postings pl) xs) done).outbox.put ≡ done.outbox.put ++ xs) (sym ms.1) (puts_put (postings pl) ms.0 done)
+    ∙ ap (λ xs. xs ++ e.put)
+    (kept_by (λ h. h.outbox.put) (deeds pl e) t.past
+    (deeds_all (Keeps (λ h. h.outbox.put)) (λ x is h. ap (λ (o : Outbox). o.put) (deed_outbox x is h)) (λ error h. refl) t e.lane e e.words (λ reads m h. refl) (λ line. (λ h. refl, λ h. refl))))
 
-told_put : (h : List Event) (k : ℕ) (j : Option ℕ) (rules : List Rule) (a : Answer) (sent : List Seen) → leaving (past h) k j ≡ rules → IsTold (gone_then j (Did k Gone ∷ h)) rules a
-    → IsPutBy (is_failed h) (put h) sent → LeavePuts h k j a sent
-told_put h k j [] a sent e is p =
-    let g = gone_then j (Did k Gone ∷ h) in
-    subst (λ x. LeavePuts h k j x sent) (sym is)
-    (put_none (is_failed h) (is_failed (leave_with wrote_each h k j ++ h)) (put h) (put (leave_with wrote_each h k j ++ h)) (tellings g (leaving (past h) k j)) sent
-    (wrote_all_failed h k j) (wrote_all_put h k j ∙ ap (λ rs. put h ++ tellings g rs) e ∙ append-nil (put h)) (ap (tellings g) e) p)
-told_put h k j (rule ∷ more) a sent e is p =
-    let g = gone_then j (Did k Gone ∷ h) in
-    told_put_by h k j (tell_refusal g (rule ∷ more)) (writer g) rule more a sent e (sym (gone_writer k j h)) is p
+pub put : (setting : Setting) (es : List Entry) → Legal setting es → (trail setting es).past.outbox.put ≡ all_put es
+put setting [] legal = at_start (λ h. h.outbox.put ≡ []) refl (λ limit h so. so) (λ h so. so) (λ name h so. so) setting
+put setting (e ∷ es) legal = put_more (trail setting es) e legal.0 ∙ ap (λ ms. ms ++ e.put) (put setting es legal.1)
 
--- ---- every entry
+-- ---- what is written
 
-plan_sent : (t : Trail) (lane : ℕ) (p : Plan) (a : Answer) (sent : List Seen) → IsFair p → IsMeant t lane p a → IsPutBy (is_failed t.events) (put t.events) sent
-    → IsPutBy (is_failed (does t.events p a ++ t.events)) (put (does t.events p a ++ t.events)) (sent ++ sent_in t.events p a)
-plan_sent t lane (Says answer deeds) a sent fair is b = none_sent _ t.events sent (unmoved_none _ t.events (said_keeps a deeds t.events fair.only)) b
-plan_sent t lane (Sends asked) a sent fair is b = sent_asked t lane asked a sent is b
-plan_sent t lane (Adds rule asked) a sent fair is b = asks_parcel t.events rule asked _ (writer t.events) _ _ a sent refl is b
-plan_sent t lane (Leaves k j) a sent fair is b = told_put t.events k j (leaving (past t.events) k j) a sent refl is b
-plan_sent t lane Reads a sent fair is b = none_sent _ t.events sent (read_none a t.events) b
-plan_sent t lane Closes a sent fair is b = none_sent _ t.events sent (close_none a t.events) b
+after_append : (xs ys : List Event) (h : Past) → after_all (xs ++ ys) h ≡ after_all ys (after_all xs h)
+after_append [] ys h = refl
+after_append (x ∷ xs) ys h = after_append xs ys (after x h)
 
--- entries keep what the peer was given at its start
-pub trail_setting : (setting : Setting) (es : List Entry) → (trail setting es).setting ≡ setting
-trail_setting setting [] = refl
-trail_setting setting (e ∷ es) = trail_setting setting es
+wrote : (n : ℕ) (h : Past) → (after_all (repeat n Wrote) h).outbox.written ≡ h.outbox.written + n
+wrote zero h = omega arith
+wrote (suc n) h = let rest : (after_all (repeat n Wrote) (after Wrote h)).outbox.written ≡ h.outbox.written + 1 + n = wrote n (after Wrote h) in omega arith
 
-sent_queue : (queue : Option ℕ) → IsPutBy (is_failed (queue_set queue)) (put (queue_set queue)) []
-sent_queue None = refl
-sent_queue (Some limit) = refl
+failing_keeps : (b : Bool) (k : ℕ) → AllByRecursion (Keeps (λ h. h.outbox.written)) (if b then repeat k Fault else [])
+failing_keeps true k = repeat_all (Keeps (λ h. h.outbox.written)) k Fault (λ h. refl)
+failing_keeps false k = tt
 
-sent_bus : (bus : Bool) (queue : Option ℕ) → IsPutBy (is_failed (bus_set bus (queue_set queue))) (put (bus_set bus (queue_set queue))) []
-sent_bus true queue = sent_queue queue
-sent_bus false queue = sent_queue queue
+failed_stays : (e : Event) (h : Past) → h.outbox.failed ≡ true → (after e h).outbox.failed ≡ true
+failed_stays Fault h so = refl
+failed_stays e h so = so
 
-sent_first : (bus : Bool) (name : Option (List ℕ)) (queue : Option ℕ) → IsPutBy (is_failed (first_events bus name queue)) (put (first_events bus name queue)) []
-sent_first bus None queue = sent_bus bus queue
-sent_first bus (Some name) queue = sent_bus bus queue
+failed_by : (b : Bool) (k : ℕ) (h : Past) → (b ≡ true → 0 < k) → (after_all (if b then repeat k Fault else []) h).outbox.failed ≡ (h.outbox.failed || b)
+failed_by true zero h cut = let none : 0 < 0 = cut refl in let no : ⊥ = omega (arith, none) in absurd no
+failed_by true (suc k) h cut = every (λ q. q.outbox.failed ≡ true) failed_stays (repeat k Fault) (after Fault h) refl ∙ sym (or-true h.outbox.failed)
+failed_by false k h cut = sym (or-false h.outbox.failed)
 
-put_by : (setting : Setting) (es : List Entry) → Legal setting es → IsPutBy (is_failed (trail setting es).events) (put (trail setting es).events) (all_sent setting es)
-put_by setting [] legal = sent_first setting.bus setting.name setting.queue
-put_by setting (e ∷ es) legal =
+-- what writing does
+pub written_by : (e : Entry) (p : Past) → (after_all (writes e) p).outbox.written ≡ p.outbox.written + e.written
+written_by e p =
+    let failing = if e.failed then repeat (length e.put - e.written) Fault else [] in
+    ap (λ (h : Past). h.outbox.written) (after_append (repeat e.written Wrote) failing p)
+    ∙ kept_by (λ h. h.outbox.written) failing (after_all (repeat e.written Wrote) p) (failing_keeps e.failed (length e.put - e.written))
+    ∙ wrote e.written p
+
+pub failed_with : (e : Entry) (p : Past) → (e.failed ≡ true → e.written < length e.put) → (after_all (writes e) p).outbox.failed ≡ (p.outbox.failed || e.failed)
+failed_with e p cut =
+    let left = length e.put - e.written in
+    let some : e.failed ≡ true → 0 < left = λ failed. let less = cut failed in omega (arith, less) in
+    ap (λ (h : Past). h.outbox.failed) (after_append (repeat e.written Wrote) (if e.failed then repeat left Fault else []) p)
+    ∙ failed_by e.failed left (after_all (repeat e.written Wrote) p) some
+    ∙ ap (λ b. b || e.failed) (kept_by (λ h. h.outbox.failed) (repeat e.written Wrote) p (repeat_all (Keeps (λ h. h.outbox.failed)) e.written Wrote (λ h. refl)))
+
+-- what an entry leaves, before its writes, of what neither the closing of a writer nor a message changes
+before_writes : {X : Type 0} (g : Outbox → X) (t : Trail) (e : Entry) → ((error : Error) → Keeps (λ h. g h.outbox) (Shut error)) → ((m : Seen) (purpose : Purpose) → Keeps (λ h. g h.outbox) (Put m purpose)) → is_live e.words ≡ false
+    → g (after_all (puts (postings (plan t e.lane e.words)) e.put) (after_all (deeds (plan t e.lane e.words) e) t.past)).outbox ≡ g t.past.outbox
+before_writes g t e shut put run =
+    let pl = plan t e.lane e.words in
+    kept_by (λ h. g h.outbox) (puts (postings pl) e.put) (after_all (deeds pl e) t.past) (puts_are (Keeps (λ h. g h.outbox)) put (postings pl) e.put)
+    ∙ kept_by (λ h. g h.outbox) (deeds pl e) t.past (deeds_all (Keeps (λ h. g h.outbox)) (λ x is h. ap g (deed_outbox x is h)) shut t e.lane e e.words (λ reads m h. refl) (λ line. cc))
+
+written_more : (t : Trail) (e : Entry) → is_live e.words ≡ false → (more t e).past.outbox.written ≡ t.past.outbox.written + e.written
+written_more t e run =
+    written_by e (after_all (puts (postings (plan t e.lane e.words)) e.put) (after_all (deeds (plan t e.lane e.words) e) t.past))
+    ∙ ap (λ n. n + e.written) (before_writes (λ o. o.written) t e (λ error h. refl) (λ m purpose h. refl) run)
+
+failed_more : (t : Trail) (e : Entry) → is_live e.words ≡ false → (e.failed ≡ true → e.written < length e.put) → (more t e).past.outbox.failed ≡ (t.past.outbox.failed || e.failed)
+failed_more t e run cut =
+    failed_with e (after_all (puts (postings (plan t e.lane e.words)) e.put) (after_all (deeds (plan t e.lane e.words) e) t.past)) cut
+    ∙ ap (λ b. b || e.failed) (before_writes (λ o. o.failed) t e (λ error h. refl) (λ m purpose h. refl) run)
+
+-- one entry more
+sent_step : (failed fails : Bool) (count n : ℕ) (put sent ms : List Seen) → (failed ≡ true → ms ≡ []) → n ≤ length ms → (fails ≡ true → n < length ms) → (fails ≡ false → n ≡ length ms) → IsPutOf failed count put sent
+    → IsPutOf (failed || fails) (count + n) (put ++ ms) (sent ++ take n ms)
+sent_step true fails count zero put sent [] none most cut all is = rw (append-nil put, append-nil sent) (let less = is.0 in omega (arith, less), is.1 ∙ ap (λ k. take k put) (omega arith))
+sent_step true fails count (suc n) put sent [] none most cut all is = let no : ⊥ = omega (arith, most) in absurd no
+sent_step true fails count n put sent (m ∷ ms) none most cut all is = let no = none refl in cc
+sent_step false false count n put sent ms none most cut all is =
+    let done = all refl in
+    let length_is = length-append put ms in
+    let before = is.0 in
+    (omega (arith, done, length_is, before), ap (λ xs. xs ++ take n ms) is.1 ∙ ap (λ k. put ++ take k ms) done ∙ ap (λ xs. put ++ xs) (take-length ms))
+sent_step false true count n put sent ms none most cut all is =
+    let less = cut refl in
+    let length_is = length-append put ms in
+    let before = is.0 in
+    (omega (arith, less, length_is, before), ap (λ xs. xs ++ take n ms) is.1 ∙ sym (take-append-add put ms n) ∙ ap (λ k. take (k + n) (put ++ ms)) (sym before))
+
+pub sent : (setting : Setting) (es : List Entry) → Legal setting es → AllByRecursion IsAtOnce es → AllByRecursion (λ (e : Entry). IsOfRun e.words) es
+    → IsPutOf (trail setting es).past.outbox.failed (trail setting es).past.outbox.written (trail setting es).past.outbox.put (all_written es)
+sent setting [] legal at_once run = at_start (λ h. IsPutOf h.outbox.failed h.outbox.written h.outbox.put []) (refl, refl) (λ limit h so. so) (λ h so. so) (λ name h so. so) setting
+sent setting (e ∷ es) legal at_once run =
     let t = trail setting es in
-    plan_sent t e.lane (plan t e.lane e.words) e.answer (all_sent setting es) (plan_fair t e.lane e.words) legal.0 (put_by setting es legal.1)
-
-counted : (failed : Bool) (count : ℕ) (put sent : List Seen) → count ≡ length sent → IsPutBy failed put sent → IsPutOf failed count put sent
-counted false count put sent c p = (c ∙ ap length (sym p), sym p)
-counted true count put sent c p =
-    let long : length put ≡ length sent + length (p.0 ∷ p.1) = ap length p.2 ∙ length-append sent (p.0 ∷ p.1) in
-    (omega (arith, c, long), sym (ap (λ n. take n put) c ∙ ap (take (length sent)) p.2 ∙ take-append_seam sent (p.0 ∷ p.1)))
-
-pub put_sent : (setting : Setting) (es : List Entry) → Legal setting es
-    → IsPutOf (is_failed (trail setting es).events) (written (trail setting es).events) (put (trail setting es).events) (all_sent setting es)
-put_sent setting es legal =
-    counted (is_failed (trail setting es).events) (written (trail setting es).events) (put (trail setting es).events) (all_sent setting es)
-    (written_sent setting es) (put_by setting es legal)
+    let pl = plan t e.lane e.words in
+    let has = quiet_or t.past pl e legal.0 in
+    let most = within t.past pl e has in
+    let live = of_run e.words run.0 in
+    let none : t.past.outbox.failed ≡ true → e.put ≡ [] = λ failed. puts_none t.past pl e (λ fine. let unfailed = fine_unfailed setting es fine in cc) has in
+    rw (failed_more t e live most.1, written_more t e live, put_more t e legal.0)
+    (sent_step t.past.outbox.failed e.failed t.past.outbox.written e.written t.past.outbox.put (all_written es) e.put none most.0 most.1 at_once.0 (sent setting es legal.1 at_once.1 run.1))
 
 -- ---- after closing
 
--- where the writer is over, a command that sends puts nothing
-stuck_send : (h : List Event) (parcel : Parcel) (r : Option Error) (w : Writer) (success a : Answer) → writer h ≡ w → w ≢ writers.Fine → IsCalled r w success a → send_events h (Ok parcel) a ≡ []
-stuck_send h parcel (Some error) w success a f ne is = rw is refl
-stuck_send h parcel None writers.Fine success a f ne is = absurd (ne refl)
-stuck_send h parcel None writers.Failed success a f ne is = rw (is, f) refl
-stuck_send h parcel None writers.Closed success a f ne is = rw (is, f) refl
+-- the writer is over
+abbrev IsStuck : Trail → Type 0
+IsStuck t = t.past.outbox.writer ≢ writers.Fine
 
-stuck_asked : (t : Trail) (lane : ℕ) (asked : Asked) (a : Answer) → writer t.events ≢ writers.Fine → IsSendOf t lane asked a → SendsNone (send_events t.events asked a ++ t.events) t.events
-stuck_asked t lane (Ok parcel) a ne is =
-    let none = stuck_send t.events parcel _ (writer t.events) _ a refl ne is in
-    record { put_same = ap (λ xs. put (xs ++ t.events)) none; failed_same = ap (λ xs. is_failed (xs ++ t.events)) none }
-stuck_asked t lane (Err error) a ne is = record { put_same = refl; failed_same = refl }
-
--- no AddMatch is put
-stuck_add : (h : List Event) (rule : Rule) (asked : Option ℕ) (r : Option Error) (w : Writer) (number serial : ℕ) (a : Answer) → writer h ≡ w → w ≢ writers.Fine
-    → IsCalled r w (answers.Opening number serial) a → add_events h rule asked a ≡ []
-stuck_add h rule asked (Some error) w number serial a f ne is = rw is refl
-stuck_add h rule asked None writers.Fine number serial a f ne is = absurd (ne refl)
-stuck_add h rule asked None writers.Failed number serial a f ne is = rw (is, f) refl
-stuck_add h rule asked None writers.Closed number serial a f ne is = rw (is, f) refl
-
-stuck_asks : (t : Trail) (lane : ℕ) (rule : Rule) (asked : Option ℕ) (a : Answer) → writer t.events ≢ writers.Fine → IsAskOf t lane rule a
-    → SendsNone (add_events t.events rule asked a ++ t.events) t.events
-stuck_asks t lane rule asked a ne is =
-    let none = stuck_add t.events rule asked _ (writer t.events) _ _ a refl ne is in
-    record { put_same = ap (λ xs. put (xs ++ t.events)) none; failed_same = ap (λ xs. is_failed (xs ++ t.events)) none }
-
--- and no RemoveMatch
-abbrev LeavesNone : List Event → ℕ → Option ℕ → Answer → Type 0
-LeavesNone h k j a = SendsNone (leave_events h k j a ++ h) h
-
-stuck_told_by : (h : List Event) (k : ℕ) (j : Option ℕ) (r : Option Error) (w : Writer) (rules : List Rule) (a : Answer) → w ≢ writers.Fine → IsToldBy r w (gone_then j (Did k Gone ∷ h)) rules a → LeavesNone h k j a
-stuck_told_by h k j (Some error) w rules a ne is = subst (LeavesNone h k j) (sym is) (gone_none k j h)
-stuck_told_by h k j None writers.Failed rules a ne is = subst (LeavesNone h k j) (sym is) (gone_none k j h)
-stuck_told_by h k j None writers.Closed rules a ne is = subst (LeavesNone h k j) (sym is) (gone_none k j h)
-stuck_told_by h k j None writers.Fine rules a ne is = absurd (ne refl)
-
-stuck_told : (h : List Event) (k : ℕ) (j : Option ℕ) (rules : List Rule) (a : Answer) → leaving (past h) k j ≡ rules → writer h ≢ writers.Fine → IsTold (gone_then j (Did k Gone ∷ h)) rules a → LeavesNone h k j a
-stuck_told h k j [] a e ne is =
-    subst (LeavesNone h k j) (sym is) (record {
-      put_same = wrote_all_put h k j ∙ ap (λ rs. put h ++ tellings (gone_then j (Did k Gone ∷ h)) rs) e ∙ append-nil (put h);
-      failed_same = wrote_all_failed h k j;
-    })
-stuck_told h k j (rule ∷ more) a e ne is =
-    let g = gone_then j (Did k Gone ∷ h) in
-    stuck_told_by h k j (tell_refusal g (rule ∷ more)) (writer g) (rule ∷ more) a (λ q. ne (sym (gone_writer k j h) ∙ q)) is
-
-stuck_plan : (t : Trail) (lane : ℕ) (p : Plan) (a : Answer) → writer t.events ≢ writers.Fine → IsFair p → IsMeant t lane p a → SendsNone (does t.events p a ++ t.events) t.events
-stuck_plan t lane (Says answer deeds) a ne fair is = unmoved_none _ t.events (said_keeps a deeds t.events fair.only)
-stuck_plan t lane (Sends asked) a ne fair is = stuck_asked t lane asked a ne is
-stuck_plan t lane (Adds rule asked) a ne fair is = stuck_asks t lane rule asked a ne is
-stuck_plan t lane (Leaves k j) a ne fair is = stuck_told t.events k j (leaving (past t.events) k j) a refl ne is
-stuck_plan t lane Reads a ne fair is = read_none a t.events
-stuck_plan t lane Closes a ne fair is = close_none a t.events
-
-shut_by : (h : List Event) (a : Answer) → IsClose a → writer (does h Closes a ++ h) ≢ writers.Fine
-shut_by h a (inl is) = rw is (shut_writer (writer h))
-shut_by h a (inr is) = rw is (shut_writer (writer h))
-
--- the writer is over, and all that was put was put before
-record IsStuck (setting : Setting) (older es : List Entry) : Type 0 where
-  over : writer (trail setting es).events ≢ writers.Fine
-  none : SendsNone (trail setting es).events (trail setting older).events
-
-close_is : (t : Trail) (e : Entry) → IsAnswer t e.lane e.words e.answer → e.words ≡ words.Close → IsClose e.answer
-close_is t e is w = subst (λ x. IsAnswer t e.lane x e.answer) w is
-
-stuck : (setting : Setting) (newer : List Entry) (e : Entry) (older : List Entry) → Legal setting (newer ++ e ∷ older) → e.words ≡ words.Close → IsStuck setting older (newer ++ e ∷ older)
-stuck setting [] e older legal w =
+stuck : (setting : Setting) (newer : List Entry) (e : Entry) (older : List Entry) → e.words ≡ words.Close → Legal setting (newer ++ e ∷ older) → IsStuck (trail setting (newer ++ e ∷ older))
+stuck setting [] e older w legal fine =
     let t = trail setting older in
-    let same : events_of t e.lane e.words e.answer ≡ does t.events Closes e.answer = ap (λ x. events_of t e.lane x e.answer) w in
-    let n = close_none e.answer t.events in record {
-      over = subst (λ xs. writer (xs ++ t.events) ≢ writers.Fine) (sym same) (shut_by t.events e.answer (close_is t e legal.0 w));
-      none = record { put_same = ap (λ xs. put (xs ++ t.events)) same ∙ n.put_same; failed_same = ap (λ xs. is_failed (xs ++ t.events)) same ∙ n.failed_same };
-    }
-stuck setting (x ∷ newer) e older legal w =
-    let s = stuck setting newer e older legal.1 w in
+    let closed = after_all (deeds Closes e) t.past in
+    let over : closed.outbox.writer ≢ writers.Fine = shut_writer t.past.outbox.writer in
+    let is = subst (λ x. IsMeant t.past (plan t e.lane x) e) w legal.0 in
+    over (sym (ap (λ x. (past_after (plan t e.lane x) e t.past).outbox.writer) w ∙ ap (λ (h : Past). h.outbox.writer) (quiet_past Closes e t.past is.2)) ∙ fine)
+stuck setting (x ∷ newer) e older w legal fine =
     let t = trail setting (newer ++ e ∷ older) in
-    let n = stuck_plan t x.lane (plan t x.lane x.words) x.answer s.over (plan_fair t x.lane x.words) legal.0 in record {
-      over = λ q. s.over (sym (writer_stays (events_of t x.lane x.words x.answer) t.events s.over) ∙ q);
-      none = record { put_same = n.put_same ∙ s.none.put_same; failed_same = n.failed_same ∙ s.none.failed_same };
-    }
+    let over = stuck setting newer e older w legal.1 in
+    over (sym (every_entry (λ h. h.outbox.writer ≡ t.past.outbox.writer) (writer_keeps t.past.outbox.writer over) (plan t x.lane x.words) x t.past refl) ∙ fine)
 
--- once a peer was closed nothing is put, and no write fails
-pub nothing_put : (setting : Setting) (newer : List Entry) (e : Entry) (older : List Entry) → Legal setting (newer ++ e ∷ older) → e.words ≡ words.Close
-    → (put (trail setting (newer ++ e ∷ older)).events ≡ put (trail setting older).events) × (is_failed (trail setting (newer ++ e ∷ older)).events ≡ is_failed (trail setting older).events)
-nothing_put setting newer e older legal w = let s = stuck setting newer e older legal w in (s.none.put_same, s.none.failed_same)
+stuck_put : (t : Trail) (e : Entry) → IsStuck t → IsEntry t e → e.put ≡ []
+stuck_put t e over is = puts_none t.past (plan t e.lane e.words) e over (quiet_or t.past (plan t e.lane e.words) e is)
+
+pub none_put : (setting : Setting) (newer : List Entry) (e : Entry) (older : List Entry) → Legal setting (newer ++ e ∷ older) → e.words ≡ words.Close → AllByRecursion (λ (f : Entry). f.put ≡ []) newer
+none_put setting [] e older legal w = tt
+none_put setting (x ∷ newer) e older legal w = (stuck_put (trail setting (newer ++ e ∷ older)) x (stuck setting newer e older w legal.1) legal.0, none_put setting newer e older legal.1 w)
+
+-- the entry that closes puts nothing either, and no write of it fails
+close_quiet : (t : Trail) (e : Entry) → IsEntry t e → e.words ≡ words.Close → IsQuiet e
+close_quiet t e is w = (subst (λ x. IsMeant t.past (plan t e.lane x) e) w is).2
+
+pub none_more : (setting : Setting) (newer : List Entry) (e : Entry) (older : List Entry) → Legal setting (newer ++ e ∷ older) → e.words ≡ words.Close
+    → (trail setting (newer ++ e ∷ older)).past.outbox.put ≡ (trail setting older).past.outbox.put
+none_more setting [] e older legal w =
+    let t = trail setting older in
+    let quiet = close_quiet t e legal.0 w in put_more t e legal.0 ∙ ap (λ ms. t.past.outbox.put ++ ms) quiet.put ∙ append-nil t.past.outbox.put
+none_more setting (x ∷ newer) e older legal w =
+    let t = trail setting (newer ++ e ∷ older) in
+    put_more t x legal.0 ∙ ap (λ ms. t.past.outbox.put ++ ms) (stuck_put t x (stuck setting newer e older w legal.1) legal.0) ∙ append-nil t.past.outbox.put ∙ none_more setting newer e older legal.1 w
+
+-- nothing is put, so that no write fails
+failed_same : (t : Trail) (e : Entry) → IsEntry t e → is_live e.words ≡ false → e.put ≡ [] → (more t e).past.outbox.failed ≡ t.past.outbox.failed
+failed_same t e is run none =
+    let most = within t.past (plan t e.lane e.words) e (quiet_or t.past (plan t e.lane e.words) e is) in
+    failed_more t e run most.1 ∙ by_fault e.failed (λ failed. subst (λ ms. e.written < length ms) none (most.1 failed))
+  where
+    by_fault : (b : Bool) → (b ≡ true → e.written < 0) → (t.past.outbox.failed || b) ≡ t.past.outbox.failed
+    by_fault true less = let most = less refl in let no : ⊥ = omega (arith, most) in absurd no
+    by_fault false less = or-false t.past.outbox.failed
+
+pub none_failed : (setting : Setting) (newer : List Entry) (e : Entry) (older : List Entry) → Legal setting (newer ++ e ∷ older) → e.words ≡ words.Close → AllByRecursion (λ (f : Entry). IsOfRun f.words) newer
+    → (trail setting (newer ++ e ∷ older)).past.outbox.failed ≡ (trail setting older).past.outbox.failed
+none_failed setting [] e older legal w run =
+    let t = trail setting older in let quiet = close_quiet t e legal.0 w in failed_same t e legal.0 (ap is_live w) quiet.put
+none_failed setting (x ∷ newer) e older legal w run =
+    let t = trail setting (newer ++ e ∷ older) in
+    failed_same t x legal.0 (of_run x.words run.0) (stuck_put t x (stuck setting newer e older w legal.1) legal.0) ∙ none_failed setting newer e older legal.1 w run.1
+
+-- ---- serials
+
+message_serial : (parcel : Parcel) (serial : ℕ) → (message_of parcel serial).serial ≡ serial
+unfolding message_of built
+message_serial parcel serial = refl
+
+-- the messages have the serials that they drew
+abbrev Bear : List Posting → List ℕ → Type 0
+Bear ds serials = map (λ (m : Seen). m.serial) (messages_of (parcels ds) serials) ≡ serials
+
+one_more : (d : Posting) (ds : List Posting) (serial : ℕ) (rest : Option (List ℕ)) (serials : List ℕ) → ((ss : List ℕ) → rest ≡ Some ss → Bear ds ss) → option_map (λ ss. serial ∷ ss) rest ≡ Some serials → Bear (d ∷ ds) serials
+one_more d ds serial None serials bear e = cc
+one_more d ds serial (Some ss) serials bear e =
+    let same : serial ∷ ss ≡ serials = cc in
+    subst (Bear (d ∷ ds)) same
+    (ap (λ n. n ∷ map (λ (m : Seen). m.serial) (messages_of (parcels ds) ss)) (message_serial d.parcel serial) ∙ ap (λ xs. serial ∷ xs) (bear ss refl))
+
+by_next : (d : Posting) (ds : List Posting) (h : Past) (n : Option ℕ) (serials : List ℕ) → ((serial : ℕ) (ss : List ℕ) → drawn (after (put_of d serial) h) ds ≡ Some ss → Bear ds ss)
+    → option_and_then (λ serial. option_map (λ ss. serial ∷ ss) (drawn (after (put_of d serial) h) ds)) n ≡ Some serials → Bear (d ∷ ds) serials
+by_next d ds h None serials bear e = cc
+by_next d ds h (Some serial) serials bear e = one_more d ds serial (drawn (after (put_of d serial) h) ds) serials (bear serial) e
+
+drew : (ds : List Posting) (h : Past) (serials : List ℕ) → drawn h ds ≡ Some serials → Bear ds serials
+drew [] h serials e = cc
+drew (d ∷ ds) h serials e = by_next d ds h (next_serial h) serials (λ serial ss at. drew ds (after (put_of d serial) h) ss at) e
+
+-- of one message the first serial is the last
+one_drew : (d : Posting) (h : Past) (serials : List ℕ) → drawn h (d ∷ []) ≡ Some serials → Some (first_of serials) ≡ last_of serials
+one_drew d h serials e = by_one (next_serial h) e
+  where
+    by_one : (n : Option ℕ) → option_and_then (λ serial. Some (serial ∷ [])) n ≡ Some serials → Some (first_of serials) ≡ last_of serials
+    by_one None q = cc
+    by_one (Some serial) q = let same : serial ∷ [] ≡ serials = cc in subst (λ xs. Some (first_of xs) ≡ last_of xs) same refl
+
+-- ---- answers
+
+-- where it tells a serial, no write failed, and it is that of the last message
+abbrev Tells : Entry → Type 0
+Tells e = (serial : ℕ) → told_serial e.answer ≡ Some serial → (e.failed ≡ false) × (last_of (map (λ (m : Seen). m.serial) e.put) ≡ Some serial)
+
+untold : (e : Entry) → told_serial e.answer ≡ None → Tells e
+untold e none serial told = cc
+
+unsent_untold : (error : Error) → told_serial (unsent error) ≡ None
+unsent_untold (errors.InputOutput kind) = refl
+unsent_untold error = refl
+
+sending_tells : (h : Past) (ds : List Posting) (sent : List ℕ → Answer) (e : Entry) (r : Result (List ℕ) Error) → ((serials : List ℕ) → drawn h ds ≡ Some serials → told_serial (sent serials) ≡ last_of serials)
+    → issued h ds ≡ r → IsSending r ds sent e → Tells e
+sending_tells h ds sent e (Err error) tells at is serial told = untold e (ap told_serial is.0 ∙ unsent_untold error) serial told
+sending_tells h ds sent e (Ok serials) tells at is serial told = by_fault e.failed refl is.answer
+  where
+    by_fault : (b : Bool) → e.failed ≡ b → e.answer ≡ (if b then write_fault else sent serials) → (e.failed ≡ false) × (last_of (map (λ (m : Seen). m.serial) e.put) ≡ Some serial)
+    by_fault true failed a = let none : told_serial e.answer ≡ None = ap told_serial a in cc
+    by_fault false fine a =
+        let drawn_so = put_drew h ds serials at in
+        (fine, ap (λ ms. last_of (map (λ (m : Seen). m.serial) ms)) is.put ∙ ap last_of (drew ds h serials drawn_so) ∙ sym (tells serials drawn_so) ∙ sym (ap told_serial a) ∙ told)
+
+sent_tells : (waits : Bool) (call serial : ℕ) → told_serial (sent_answer waits call serial) ≡ Some serial
+sent_tells true call serial = refl
+sent_tells false call serial = refl
+
+read_untold : (n : ℕ) (m : Option Seen) (a : Answer) → IsRead n m a → told_serial a ≡ None
+read_untold n (Some m) a is = ap told_serial is.0
+read_untold n None a is = ap told_serial is.1
+
+close_untold : (a : Answer) → IsClose a → told_serial a ≡ None
+close_untold a (inl is) = ap told_serial is
+close_untold a (inr is) = ap told_serial is
+
+none_told : (o : Option ℕ) → is_none o ≡ true → o ≡ None
+none_told None e = refl
+none_told (Some n) e = cc
+
+entry_tells : (t : Trail) (lane : ℕ) (e : Entry) (w : Words) → is_tame (by_place w) (is_live w) (plan t lane w) ≡ true → IsMeant t.past (plan t lane w) e → Tells e
+entry_tells t lane e =
+    by_plan (λ w pl. is_tame (by_place w) (is_live w) pl ≡ true → IsMeant t.past pl e → Tells e) t lane
+    (λ w answer done fair tame is. untold e (ap told_serial is.1 ∙ none_told (told_serial answer) (and_parts (is_none (told_serial answer)) _ tame).0))
+    (λ w parcel from tame is. sending_tells t.past _ _ e _ (λ serials drawn_so. sent_tells (expects (Ok parcel)) _ _ ∙ one_drew (of_lane parcel) t.past serials drawn_so) refl is.1)
+    (λ asked text rule tame is. sending_tells t.past _ _ e _ (λ serials drawn_so. one_drew (asking_of t.past rule asked) t.past serials drawn_so) refl is.1) (λ n second k j open_ tame is. sending_tells _ _ _ e _ (λ serials drawn_so. refl) refl is.1)
+    (λ shut tame is. untold e (read_untold _ e.read e.answer is.0)) (λ tame is. untold e (close_untold e.answer is.1)) (λ line fails fine tame is. untold e (ap told_serial is.1)) (λ line tame is. absurd is)
+
+pub serial : (setting : Setting) (older : List Entry) (e : Entry) (serial : ℕ) → Legal setting (e ∷ older) → told_serial e.answer ≡ Some serial → IsAtOnce e
+    → (last_of (map (λ (m : Seen). m.serial) e.put) ≡ Some serial) × (e.written ≡ length e.put)
+serial setting older e n legal told at_once =
+    let t = trail setting older in
+    let tells = entry_tells t e.lane e e.words (plan_tame t e.lane e.words) legal.0 n told in
+    (tells.1, at_once tells.0)
+
+-- ---- messages
+
+abbrev AreFrom : Option (List ℕ) → List Posting → Type 0
+AreFrom name ds = AllByRecursion (λ (d : Posting). d.parcel.draft.fields.sender ≡ name) ds
+
+plan_from : (t : Trail) (lane : ℕ) (w : Words) → AreFrom t.past.name (postings (plan t lane w))
+plan_from t lane =
+    by_plan (λ w pl. AreFrom t.past.name (postings pl)) t lane (λ w answer done fair. tt) (λ w parcel from. (from, tt)) (λ asked text rule. (refl, tt)) (λ n second k j open_. tellings (leaving t.past k j)) (λ shut. tt) tt
+    (λ line fails fine. tt) (λ line. tt)
+  where
+    tellings : (rules : List Rule) → AreFrom t.past.name (tellings_of t.past rules)
+    tellings [] = tt
+    tellings (rule ∷ rules) = (refl, tellings rules)
+
+message_sender : (parcel : Parcel) (serial : ℕ) → (message_of parcel serial).sender ≡ parcel.draft.fields.sender
+unfolding message_of built
+message_sender parcel serial = refl
+
+messages_from : (name : Option (List ℕ)) (ds : List Posting) (serials : List ℕ) → AreFrom name ds → AllByRecursion (λ (m : Seen). m.sender ≡ name) (messages_of (parcels ds) serials)
+messages_from name [] serials from = tt
+messages_from name (d ∷ ds) [] from = tt
+messages_from name (d ∷ ds) (serial ∷ serials) from = (message_sender d.parcel serial ∙ from.0, messages_from name ds serials from.1)
+
+pub bear_the_name : (setting : Setting) (older : List Entry) (e : Entry) → Legal setting (e ∷ older) → AllByRecursion (λ (m : Seen). m.sender ≡ (trail setting older).past.name) e.put
+bear_the_name setting older e legal =
+    let t = trail setting older in
+    let put = puts_of t.past (plan t e.lane e.words) e (quiet_or t.past (plan t e.lane e.words) e legal.0) in
+    subst (λ ms. AllByRecursion (λ (m : Seen). m.sender ≡ t.past.name) ms) (sym put.1) (messages_from t.past.name (postings (plan t e.lane e.words)) put.0 (plan_from t e.lane e.words))

@@ -5,13 +5,14 @@ use Rattle.std.specs.Option.{option_or}
 use Rattle.std.proofs.lemmas.List.{drop-append-le}
 use Rattle.std.proofs.lemmas.List.Folds.{find-append}
 use Rattle.std.proofs.lemmas.Bool.{cases_eq, or_parts, or_from, or_left, or_right, false≢true, eqb-true, eq-eqb, ne_eqb, eqb-false, both_ways, false_from_ne_true}
+use mathlib.Core.List.{map-map}
 use Rattle.wire_message.specs.Front.{Seen}
 use Rattle.peer_route.specs.declared.calls.Slot.{Slot}
 use Rattle.peer_route.specs.declared.calls.Slot.TheVariants as slots
 use Rattle.peer_route.specs.History.{Took, Call, bears, fail_at, edit, spend, Past, after}
 use Rattle.peer_route.specs.Calls.{found, is_gone, waits_with, is_awaited}
 use Rattle.peer_route.specs.Left.{reply_kept, slot_of, slot_by, is_waiting, is_inner_slot, takes, AreDistinct, Rising}
-use Rattle.peer_route.proofs.Plain.{list_any-along, After, After-at}
+use Rattle.peer_route.proofs.Plain.{map_along, list_any-along, After, After-at}
 use Rattle.peer_route.proofs.CallsMade.{Early, places}
 
 -- ---- a message comes
@@ -51,8 +52,7 @@ slot_took m h c le =
 
 -- each slot takes the message that its call waits for
 pub slots_took : (m : Seen) (h : Past) (cs : List Call) → Early (length h.read) cs → map (slot_of (after (Took m) h).read) cs ≡ map (arrived m) (map (slot_of h.read) cs)
-slots_took m h [] e = refl
-slots_took m h (c ∷ cs) e = let a = slot_took m h c e.0 in let b = slots_took m h cs e.1 in cc
+slots_took m h cs e = map_along _ (slot_of (after (Took m) h).read) _ (λ c le. slot_took m h c le) cs e ∙ sym (map-map (arrived m) (slot_of h.read) cs)
 
 pub arrived_nowhere : (m : Seen) → ((n : ℕ) → bears n m ≡ false) → (ss : List Slot) → map (arrived m) ss ≡ ss
 arrived_nowhere m none [] = refl
@@ -256,10 +256,6 @@ waits_by false false inner None n serial = refl
 pub waits-slot : (h : Past) (serial : ℕ) (c : Call) → waits_with h.read serial c ≡ is_waiting serial (slot_of h.read c)
 unfolding slot_of
 waits-slot h serial c = waits_by c.spent c.failed c.inner (found h.read c) c.serial serial
-
-reply_inner : (inner : Bool) (m : Seen) → is_inner_slot (reply_kept inner m) ≡ false
-reply_inner true m = refl
-reply_inner false m = refl
 
 own_by : (spent failed inner : Bool) (o : Option Seen) (n : ℕ)
     → (inner && (not (spent || failed) && is_none o)) ≡ is_inner_slot (if spent || failed then slots.Gone else slot_by inner n o)

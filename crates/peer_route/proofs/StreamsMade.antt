@@ -2,11 +2,12 @@
 use Rattle.std.proofs.Common.{◌≡◌, ℕ, ◌+◌, zero, suc, refl, sym, ◌∙◌, ap, arith, subst, Bool, true, false, not, cond, if◌then◌else◌, ◌&&◌, ◌||◌, ◌==◌, nat_lt, is_some, List, [], ◌∷◌, ◌++◌, length, drop, map, Option, Some, None, Ok, Err}
 use Rattle.std.specs.List.{slice_get, list_any, AllByRecursion}
 use Rattle.std.specs.Option.{option_map, option_flatten, option_and_then}
-use Rattle.std.proofs.Math.Seq.{drop-length}
+use Rattle.std.proofs.Math.Seq.{drop-length, drop-nil}
 use Rattle.std.proofs.lemmas.List.{map-append, append-nil, drop-append-le}
 use Rattle.std.proofs.lemmas.Option.{slice_get-map}
 use Rattle.std.proofs.lemmas.Bool.{ne_eqb}
 use Rattle.std.proofs.lemmas.Bool.Decides.{nat_tests}
+use mathlib.Core.List.{map-map}
 use Rattle.wire_message.specs.Front.{Seen}
 use Rattle.wire_message.specs.declared.error.Error.{Error}
 use Rattle.wire_message.specs.declared.error.Error.TheVariants as errors
@@ -14,9 +15,8 @@ use Rattle.peer_route.specs.History.{Took, Fault, Made, Did, Plain, Cloned, Gone
 use Rattle.peer_route.specs.Streams.{since_in, is_since, accepted, limit_of, matched, offered, held, is_full, runs, runs_at, is_open, is_over as nothing_comes, take_by, take_at, take_answer, first_position, next_at, next_position}
 use Rattle.rule_match.specs.Rule.{Rule}
 use Rattle.rule_match.specs.Accepting.{accepts}
-use Rattle.peer_route.specs.declared.queue.Subscription.{Subscription}
 use Rattle.peer_route.specs.Left.{Held, held_by, held_of, subscription, progress_by, wants_by, waits_by, is_running, is_usable, if_usable, empty_held, wants_it, limit_or, kept_by, any_at, kept_at, answered_by, with_one, arrived_at, lost_at, is_over, held_gives, next_held, ended_by, IsWithin, LeftStreams}
-use Rattle.peer_route.proofs.Plain.{list_any-map, list_any-along}
+use Rattle.peer_route.proofs.Plain.{map_along, map_each, list_any-map, list_any-along}
 use Rattle.peer_route.proofs.Edits.{map_edit_all}
 use Rattle.peer_route.proofs.Phases.{stepped, phase_took}
 use Rattle.peer_route.proofs.Matched.{arriving, held_matched, matched_took, all_within_took, within_at, within_fresh, within_push, accepted_nothing}
@@ -38,14 +38,15 @@ unfolding held_of held offered matched phase
 held_failed h n s = fail_by n (phase h.read s) s.gone (held_by h.capacities.rules h.read s) refl
 
 all_failed : (h : Past) (n : ℕ) (ss : List Stream) → map (lost_at n) (map (held_of h.capacities.rules h.read) ss) ≡ map (held_of (after Fault h).capacities.rules (after Fault h).read) (map (fail_stream h.read n) ss)
-all_failed h n [] = refl
-all_failed h n (s ∷ ss) = let a = held_failed h n s in let b = all_failed h n ss in cc
+all_failed h n ss =
+    map-map (lost_at n) (held_of h.capacities.rules h.read) ss ∙ map_each _ _ (λ s. sym (held_failed h n s)) ss
+    ∙ sym (map-map (held_of (after Fault h).capacities.rules (after Fault h).read) (fail_stream h.read n) ss)
 
 fail_within : (h : Past) (n : ℕ) (s : Stream) → IsWithin h.read s → IsWithin (after Fault h).read (fail_stream h.read n s)
 unfolding matched phase
 fail_within h n s w = record { start = w.start; passed = w.passed }
 
-all_fail_within : (h : Past) (n : ℕ) (ss : List Stream) → AllByRecursion (IsWithin h.read) ss → AllByRecursion (IsWithin (after Fault h).read) (map (fail_stream h.read n) ss)
+pub all_fail_within : (h : Past) (n : ℕ) (ss : List Stream) → AllByRecursion (IsWithin h.read) ss → AllByRecursion (IsWithin (after Fault h).read) (map (fail_stream h.read n) ss)
 all_fail_within h n [] w = tt
 all_fail_within h n (s ∷ ss) w = (fail_within h n s w.0, all_fail_within h n ss w.1)
 
@@ -102,24 +103,14 @@ held_took m h s within =
     ∙ ap (λ items. by_phase h s (stepped m (phase h.read s)) items) (held_more m h s within)
     ∙ one_held h s (phase h.read s) m (held h.read s))
 
-all_took : (m : Seen) (h : Past) (ss : List Stream) → AllByRecursion (IsWithin h.read) ss → map (arrived_at m) (map (held_of h.capacities.rules h.read) ss) ≡ map (held_of (after (Took m) h).capacities.rules (after (Took m) h).read) ss
-all_took m h [] w = refl
-all_took m h (s ∷ ss) w = let a = held_took m h s w.0 in let b = all_took m h ss w.1 in cc
-
 pub streams_took : (m : Seen) (v : List (Option Held)) (h : Past) → LeftStreams v h → LeftStreams (map (arrived_at m) v) (after (Took m) h)
 streams_took m v h left = record {
-  queues = ap (map (arrived_at m)) left.queues ∙ all_took m h h.streams left.within;
+  queues = ap (map (arrived_at m)) left.queues ∙ map-map (arrived_at m) (held_of h.capacities.rules h.read) h.streams
+      ∙ map_along (IsWithin h.read) _ (held_of (after (Took m) h).capacities.rules (after (Took m) h).read) (λ s w. sym (held_took m h s w)) h.streams left.within;
   within = all_within_took m h h.streams left.within;
 }
 
 -- ---- a stream is made
-
-abbrev no_messages : List Seen
-no_messages = []
-
-drop_nothing : (n : ℕ) → drop n no_messages ≡ no_messages
-drop_nothing zero = refl
-drop_nothing (suc n) = refl
 
 -- nothing that was read is a new stream's
 pub held_fresh : (h : Past) (rule : Option Rule) (told : Bool) → held h.read (fresh h rule told) ≡ []
@@ -131,7 +122,7 @@ pub phase_fresh : (h : Past) (rule : Option Rule) (told : Bool) → phase h.read
 unfolding phase
 phase_fresh h rule told = ap (λ ms. Since ms) (drop-length h.read)
 
-pub held_new : (h : Past) → held_of h.capacities.rules h.read (plain_stream h) ≡ Some (empty_held None (is_some h.closing))
+held_new : (h : Past) → held_of h.capacities.rules h.read (plain_stream h) ≡ Some (empty_held None (is_some h.closing))
 unfolding held_of
 held_new h =
     ap (λ p. Some (by_phase h (plain_stream h) p (held h.read (plain_stream h)))) (phase_fresh h None (is_some h.closing))
@@ -176,15 +167,11 @@ any_left v h k left = ap (λ qs. any_at qs k) left.queues ∙ ap option_flatten 
 pub kept_left : (v : List (Option Held)) (h : Past) (k : ℕ) → LeftStreams v h → kept_at v k ≡ kept_of h (slice_get h.streams k)
 kept_left v h k left = ap (option_and_then if_usable) (any_left v h k left)
 
--- the rule of a stream, with what its streams may hold
-abbrev pub wanted : Past → Stream → Option Subscription
-wanted h s = option_map (subscription h.capacities.rules) s.rule
-
 pub held_open : (h : Past) (s : Stream) → s.gone ≡ false → held_of h.capacities.rules h.read s ≡ Some (held_by h.capacities.rules h.read s)
 unfolding held_of
 held_open h s is = ap (λ b. kept_by b (held_by h.capacities.rules h.read s)) is
 
-pub held_gone : (h : Past) (s : Stream) → s.gone ≡ true → held_of h.capacities.rules h.read s ≡ None
+held_gone : (h : Past) (s : Stream) → s.gone ≡ true → held_of h.capacities.rules h.read s ≡ None
 unfolding held_of
 held_gone h s is = ap (λ b. kept_by b (held_by h.capacities.rules h.read s)) is
 
@@ -241,7 +228,7 @@ open_left v h k left = ap is_some (kept_left v h k left) ∙ there_at h (slice_g
 
 -- ---- a clone is made
 
-clone_within : (h : Past) (s : Stream) → IsWithin h.read s → IsWithin h.read (clone_of h (Some s))
+pub clone_within : (h : Past) (s : Stream) → IsWithin h.read s → IsWithin h.read (clone_of h (Some s))
 unfolding matched phase
 clone_within h s w = record { start = w.start; passed = let le = w.passed in omega arith }
 
@@ -365,8 +352,8 @@ over_phase h s (Denied m) items e = rw (e refl) (none_over h.capacities.main ∙
 -- a stream that doesn't run holds nothing
 nothing_by : (s : Stream) (p : Phase) → is_since p ≡ false → drop s.taken (drop s.skip (accepted s.rule (since_in p))) ≡ []
 nothing_by s (Since ms) e = cc
-nothing_by s (Asking add) e = ap (λ ms. drop s.taken (drop s.skip ms)) (accepted_nothing s.rule) ∙ ap (drop s.taken) (drop_nothing s.skip) ∙ drop_nothing s.taken
-nothing_by s (Denied m) e = ap (λ ms. drop s.taken (drop s.skip ms)) (accepted_nothing s.rule) ∙ ap (drop s.taken) (drop_nothing s.skip) ∙ drop_nothing s.taken
+nothing_by s (Asking add) e = ap (λ ms. drop s.taken (drop s.skip ms)) (accepted_nothing s.rule) ∙ ap (drop s.taken) (drop-nil s.skip) ∙ drop-nil s.taken
+nothing_by s (Denied m) e = ap (λ ms. drop s.taken (drop s.skip ms)) (accepted_nothing s.rule) ∙ ap (drop s.taken) (drop-nil s.skip) ∙ drop-nil s.taken
 
 pub held_nothing : (h : Past) (s : Stream) → is_since (phase h.read s) ≡ false → held h.read s ≡ []
 unfolding held offered matched

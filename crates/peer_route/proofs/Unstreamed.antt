@@ -1,276 +1,297 @@
 -- Closing streams, and telling the bus of it, leaves each other stream, each call and each capacity as it was.
-use Rattle.std.proofs.Common.{◌≡◌, ◌≢◌, ◌⊎◌, inl, inr, ℕ, ◌≤◌, ◌<◌, ◌+◌, zero, suc, refl, sym, ◌∙◌, ap, subst, arith, Bool, true, false, ◌||◌, is_some, List, [], ◌∷◌, ◌++◌, length, map, option_map, Option, Some, None, IfSome, append_assoc}
+use Rattle.std.proofs.Common.{◌≡◌, ℕ, ◌≤◌, ◌<◌, zero, suc, refl, arith, Bool, true, false, if◌then◌else◌, List, [], ◌∷◌, ◌++◌, length, map, drop, length-append, append_assoc, append-nil, ◌≢◌, ◌⊎◌, inl, inr, ◌-◌, sym, ◌∙◌, ap, subst, ◌||◌, option_map, Option, Some, None, IfSome}
 use Rattle.std.specs.Prelude.{⊤}
+use Rattle.std.proofs.lemmas.List.{map-append}
 use Rattle.std.specs.List.{AllByRecursion, slice_get}
-use Rattle.std.proofs.Math.Bool.{or-false}
 use Rattle.std.proofs.lemmas.Bool.{ne_eqb}
-use Rattle.std.proofs.lemmas.Option.{slice_get-map}
 use Rattle.wire_message.specs.Front.{Seen}
-use Rattle.wire_message.specs.declared.error.Error.{Error}
+use Rattle.peer_route.specs.History.{inner_call, Event, Made, Put, Adds, Removes, Did, Fault, Making, Plain, Ruled, Cloned, Deed, Gave, Gone, Call, bears, is_return, Start, Behind, OnReturn, Stream, Phase, Denied, Since, since_reply, phase_by, phase, asks_by, clone_of, new_stream, asking_stream, done_by, fail_stream, edit, Past, after, Wrote, fail_at, Capacities, after_all}
+use Rattle.peer_route.specs.declared.answer.Entry.{Entry}
+use Rattle.peer_route.specs.Parcel.{Setting}
+use Rattle.peer_route.specs.Entries.{IsMeant, trail, deeds, postings, repeat, writes, Legal}
+use Rattle.peer_route.proofs.Kept.{always}
+use Rattle.std.proofs.Math.Bool.{or-false}
+use Rattle.std.proofs.lemmas.Option.{slice_get-map}
 use Rattle.rule_match.specs.Rule.{Rule}
 use Rattle.peer_route.specs.declared.words.Words.TheVariants as words
-use Rattle.peer_route.specs.declared.answer.Answer.{Answer}
-use Rattle.peer_route.specs.declared.answer.Answer.TheVariants as answers
-use Rattle.peer_route.specs.declared.answer.Entry.{Entry}
-use Rattle.peer_route.specs.declared.writer.Writer.{Writer}
-use Rattle.peer_route.specs.declared.writer.Writer.TheVariants as writers
-use Rattle.peer_route.specs.Parcel.{Setting}
-use Rattle.peer_route.specs.History.{Event, Did, Gone, Put, Removes, Wrote, Fault, Call, fail_at, Stream, fail_stream, done_by, Past, after, past, put, done, written, is_failed, writer}
+use Rattle.peer_route.specs.declared.words.StreamOp.TheVariants as ops
 use Rattle.peer_route.specs.Left.{IsSound}
 use Rattle.peer_route.specs.Calls.{polled_at, poll_answer}
-use Rattle.peer_route.specs.Streams.{take_at, take_answer, leaving, gone_then, close_waits}
-use Rattle.peer_route.specs.Trail.{Trail, place, second_place}
-use Rattle.peer_route.specs.Plan.{ends, ends_now, are_open_at}
-use Rattle.peer_route.specs.Entries.{trail, does, events_of, leave_events, removal, removals, wrote_each, fault_each, wrote_first}
-use Rattle.peer_route.specs.Answers.{Legal, IsMeant, IsAnswer, IsTold, IsToldBy, tell_refusal}
-use Rattle.peer_route.specs.StreamLaws.{IsPutOf, all_sent}
-use Rattle.peer_route.proofs.Edits.{edit_other, get_append}
+use Rattle.peer_route.specs.Streams.{take_at, take_answer, are_open, close_waits, leaving, gone_events}
+use Rattle.peer_route.specs.BusCall.{tellings_of}
+use Rattle.peer_route.specs.Issuing.{puts}
+use Rattle.peer_route.specs.Trail.{Trail, place}
+use Rattle.peer_route.specs.Plan.{Plan, Says, Sends, Reads, Closes, Writes, Never, where_named, where_open, unless_waits, ends, second_place, on_stream, plan}
+use Rattle.peer_route.proofs.Edits.{edit_other, get_before}
 use Rattle.peer_route.proofs.CallsMade.{sound_first, sound_after}
-use Rattle.peer_route.proofs.Begins.{Begins, AllBegin, all_begin, asks_not, begins_more}
-use Rattle.peer_route.proofs.Writers.{fine_unfailed}
-use Rattle.peer_route.proofs.Tellings.{gone_before, leave_parts}
-use Rattle.peer_route.proofs.Sent.{put_sent}
+use Rattle.peer_route.proofs.Plans.{along, repeat_all, all_append}
 
-sound_past : (h : List Event) → IsSound (past h)
-sound_past [] = sound_first
-sound_past (e ∷ h) = sound_after e (past h) (sound_past h)
+-- ---- where streams begin: the AddMatch that one waits for was put before it was made
 
--- The past `q` is `p`, but for the outbox, for calls behind those of `p`, and for the streams that were closed; and what is to be
--- written stands behind all that was put.
-record Apart (shut : ℕ → Type 0) (p q : Past) : Type 0 where
+-- it begins behind a count of messages, or its AddMatch stands below this place of the outbox
+abbrev pub Begins : ℕ → Start → Type 0
+Begins n (Behind count) = ⊤
+Begins n (OnReturn add) = add.index < n
+
+abbrev pub AllBegin : ℕ → List Stream → Type 0
+AllBegin n ss = AllByRecursion (λ (s : Stream). Begins n s.start) ss
+
+-- ---- each event
+
+pub begins_more : (n m : ℕ) (b : Start) → n ≤ m → Begins n b → Begins m b
+begins_more n m (Behind count) le h = tt
+begins_more n m (OnReturn add) le h = omega (arith, h, le)
+
+all_more : (n m : ℕ) (ss : List Stream) → n ≤ m → AllBegin n ss → AllBegin m ss
+all_more n m [] le h = tt
+all_more n m (s ∷ ss) le h = (begins_more n m s.start le h.0, all_more n m ss le h.1)
+
+all_push : (n : ℕ) (ss : List Stream) (s : Stream) → Begins n s.start → AllBegin n ss → AllBegin n (ss ++ s ∷ [])
+all_push n [] s b h = (b, tt)
+all_push n (t ∷ ts) s b h = (h.0, all_push n ts s b h.1)
+
+done_start : (n : ℕ) (deed : Deed) (s : Stream) → Begins n s.start → Begins n (done_by deed s).start
+done_start n Gave s h = h
+done_start n deed s h = h
+
+all_edit : (n k : ℕ) (deed : Deed) (ss : List Stream) → AllBegin n ss → AllBegin n (edit k (done_by deed) ss)
+all_edit n k deed [] h = tt
+all_edit n zero deed (s ∷ ss) h = (done_start n deed s h.0, h.1)
+all_edit n (suc k) deed (s ∷ ss) h = (h.0, all_edit n k deed ss h.1)
+
+all_fail : (n i : ℕ) (ms : List Seen) (ss : List Stream) → AllBegin n ss → AllBegin n (map (fail_stream ms i) ss)
+all_fail n i ms [] h = tt
+all_fail n i ms (s ∷ ss) h = (h.0, all_fail n i ms ss h.1)
+
+clone_start : (n : ℕ) (p : Past) (k : ℕ) (ss : List Stream) → AllBegin n ss → Begins n (clone_of p (slice_get ss k)).start
+clone_start n p k [] h = tt
+clone_start n p zero (s ∷ ss) h = h.0
+clone_start n p (suc k) (s ∷ ss) h = clone_start n p k ss h.1
+
+made_start : (n : ℕ) (p : Past) (making : Making) (ss : List Stream) → AllBegin n ss → Begins n (new_stream p ss making).start
+made_start n p Plain ss h = tt
+made_start n p (Ruled rule asked) ss h = tt
+made_start n p (Cloned k) ss h = clone_start n p k ss h
+
+grown : (ms : List Seen) (m : Seen) (ss : List Stream) → AllBegin (length ms) ss → AllBegin (length (ms ++ m ∷ [])) ss
+grown ms m ss h = all_more (length ms) (length (ms ++ m ∷ [])) ss (omega (arith, length-append ms (m ∷ []))) h
+
+begin_after : (e : Event) (p : Past) → AllBegin (length p.outbox.put) p.streams → AllBegin (length (after e p).outbox.put) (after e p).streams
+begin_after (Made making) p h = all_push (length p.outbox.put) p.streams (new_stream p p.streams making) (made_start (length p.outbox.put) p making p.streams h) h
+begin_after (Put m (Adds rule asked)) p h =
+    all_push (length (p.outbox.put ++ m ∷ [])) p.streams (asking_stream p m rule) (omega (arith, length-append p.outbox.put (m ∷ []))) (grown p.outbox.put m p.streams h)
+begin_after (Put m why) p h = grown p.outbox.put m p.streams h
+begin_after (Did k deed) p h = all_edit (length p.outbox.put) k deed p.streams h
+begin_after Fault p h = all_fail (length p.outbox.put) p.outbox.done p.read p.streams h
+begin_after e p h = h
+
+pub all_begin : (setting : Setting) (es : List Entry) → AllBegin (length (trail setting es).past.outbox.put) (trail setting es).past.streams
+all_begin setting es = always (λ (p : Past). AllBegin (length p.outbox.put) p.streams) tt begin_after setting es
+
+-- ---- a write that fails further on
+
+step_asks : (index : ℕ) (b ret : Bool) (m : Seen) (ms : List Seen) (p : Phase) → asks_by index p ≡ false → asks_by index (if b then (if ret then Since ms else Denied m) else p) ≡ false
+step_asks index true true m ms p e = refl
+step_asks index true false m ms p e = refl
+step_asks index false ret m ms p e = e
+
+since_asks : (index : ℕ) (add : Call) (ms : List Seen) → add.index < index → asks_by index (since_reply add ms) ≡ false
+since_asks index add [] lt = ne_eqb add.index index (λ e. omega (arith, e, lt))
+since_asks index add (m ∷ ms) lt = step_asks index (bears add.serial m) (is_return m.kind) m ms (since_reply add ms) (since_asks index add ms lt)
+
+start_asks : (index : ℕ) (b : Start) (ms : List Seen) → Begins index b → asks_by index (phase_by b ms) ≡ false
+start_asks index (Behind count) ms h = refl
+start_asks index (OnReturn add) ms h = since_asks index add (drop add.from ms) h
+
+-- a stream that begins below doesn't wait for a message at this place
+pub asks_not : (index : ℕ) (ms : List Seen) (s : Stream) → Begins index s.start → asks_by index (phase ms s) ≡ false
+unfolding phase
+asks_not index ms s h = start_asks index s.start ms h
+
+-- The past `q` is `p`, but for the outbox, for calls behind those of `p`, and for the streams that were closed (of capacities nothing is
+-- said); and where a write failed, what is to be written stands behind all that was put.
+record Apart (shut : ℕ → Type 0) (failed : Bool) (p q : Past) : Type 0 where
   reads : q.read ≡ p.read
   closings : q.closing ≡ p.closing
-  limits : q.capacities ≡ p.capacities
-  later : p.outbox.writer ≡ writers.Fine → length p.outbox.put ≤ q.outbox.done
-  call : (k : ℕ) → k < length p.calls → slice_get q.calls k ≡ slice_get p.calls k
+  later : failed ≡ true → length p.outbox.put ≤ q.outbox.done
+  more : List Call
+  calls : q.calls ≡ p.calls ++ more
   stream : (k : ℕ) → (shut k → ⊥) → slice_get q.streams k ≡ slice_get p.streams k
-
-apart_first : (shut : ℕ → Type 0) (p : Past) → (p.outbox.writer ≡ writers.Fine → p.outbox.done ≡ length p.outbox.put) → Apart shut p p
-apart_first shut p all = record {
-  reads = refl;
-  closings = refl;
-  limits = refl;
-  later = λ f. let e = all f in omega (arith, e);
-  call = λ k le. refl;
-  stream = λ k still. refl;
-}
 
 -- ---- each event of closing streams
 
-apart_gone : (shut : ℕ → Type 0) (p q : Past) (j : ℕ) → shut j → Apart shut p q → Apart shut p (after (Did j Gone) q)
-apart_gone shut p q j s a = record {
-  reads = a.reads;
-  closings = a.closings;
-  limits = a.limits;
-  later = a.later;
-  call = a.call;
-  stream = λ k still. edit_other (done_by Gone) j k q.streams (λ e. still (subst shut e s)) ∙ a.stream k still;
-}
-
-there : {A : Type 0} (k : ℕ) (xs : List A) → k < length xs → is_some (slice_get xs k) ≡ true
-there k [] le = absurd (omega (arith, le))
-there zero (x ∷ xs) le = refl
-there (suc k) (x ∷ xs) le = there k xs (omega (arith, le))
-
-more_by : {A : Type 0} (k : ℕ) (ys zs : List A) (o : Option A) → is_some o ≡ true → slice_get ys k ≡ o → slice_get (ys ++ zs) k ≡ o
-more_by k ys zs None some same = cc
-more_by k ys zs (Some x) some same = get_append k ys zs x same
-
-apart_removed : (shut : ℕ → Type 0) (p q : Past) (m : Seen) → Apart shut p q → Apart shut p (after (Put m Removes) q)
-apart_removed shut p q m a = record {
-  reads = a.reads;
-  closings = a.closings;
-  limits = a.limits;
-  later = a.later;
-  call = λ k le. more_by k q.calls _ (slice_get p.calls k) (there k p.calls le) (a.call k le);
-  stream = a.stream;
-}
-
-apart_wrote : (shut : ℕ → Type 0) (p q : Past) → Apart shut p q → Apart shut p (after Wrote q)
-apart_wrote shut p q a = record {
-  reads = a.reads;
-  closings = a.closings;
-  limits = a.limits;
-  later = λ f. let l = a.later f in omega (arith, l);
-  call = a.call;
-  stream = a.stream;
-}
-
-below_at : (n index : ℕ) (cs : List Call) (k : ℕ) → n ≤ index → AllByRecursion (λ (i : ℕ). i < n) (map (λ (c : Call). c.index) cs) → IfSome (slice_get cs k) (λ c. c.index < index)
-below_at n index [] k le all = tt
-below_at n index (c ∷ cs) zero le all = let x : c.index < n = all.0 in omega (arith, x, le)
-below_at n index (c ∷ cs) (suc k) le all = below_at n index cs k le all.1
+calls_same : (n index : ℕ) (cs : List Call) → n ≤ index → AllByRecursion (λ (i : ℕ). i < n) (map (λ (c : Call). c.index) cs) → map (fail_at index) cs ≡ cs
+calls_same n index [] le all = refl
+calls_same n index (c ∷ cs) le all =
+    let x : c.index < n = all.0 in
+    ap (λ b. record c { failed = c.failed || b } ∷ map (fail_at index) cs) (ne_eqb c.index index (λ e. omega (arith, e, x, le))) ∙ ap (λ b. record c { failed = b } ∷ map (fail_at index) cs) (or-false c.failed)
+    ∙ ap (λ ds. c ∷ ds) (calls_same n index cs le all.1)
 
 begin_at : (n index : ℕ) (ss : List Stream) (k : ℕ) → n ≤ index → AllBegin n ss → IfSome (slice_get ss k) (λ s. Begins index s.start)
 begin_at n index [] k le all = tt
 begin_at n index (s ∷ ss) zero le all = begins_more n index s.start le all.0
 begin_at n index (s ∷ ss) (suc k) le all = begin_at n index ss k le all.1
 
-same_call : (index : ℕ) (o : Option Call) → IfSome o (λ c. c.index < index) → option_map (fail_at index) o ≡ o
-same_call index None b = refl
-same_call index (Some c) b =
-    ap (λ x. Some (record c { failed = c.failed || x })) (ne_eqb c.index index (λ e. omega (arith, e, b))) ∙ ap (λ x. Some (record c { failed = x })) (or-false c.failed)
-
 same_stream : (ms : List Seen) (index : ℕ) (o : Option Stream) → IfSome o (λ s. Begins index s.start) → option_map (fail_stream ms index) o ≡ o
 same_stream ms index None b = refl
 same_stream ms index (Some s) b =
     ap (λ x. Some (record s { gone = s.gone || x })) (asks_not index ms s b) ∙ ap (λ x. Some (record s { gone = x })) (or-false s.gone)
 
-apart_fault : (shut : ℕ → Type 0) (p q : Past) → p.outbox.writer ≡ writers.Fine → IsSound p → AllBegin (length p.outbox.put) p.streams → Apart shut p q → Apart shut p (after Fault q)
-apart_fault shut p q fine sound begin a =
-    let l = a.later fine in
+-- one of these is closed, or a RemoveMatch is put, and written or not
+abbrev IsClosing : (ℕ → Type 0) → Bool → Event → Type 0
+IsClosing shut failed (Did j Gone) = shut j
+IsClosing shut failed (Put m Removes) = Unit {0}
+IsClosing shut failed Wrote = Unit {0}
+IsClosing shut failed Fault = failed ≡ true
+IsClosing shut failed e = ⊥
+
+apart_after : (shut : ℕ → Type 0) (failed : Bool) (p : Past) → IsSound p → AllBegin (length p.outbox.put) p.streams → (e : Event) (q : Past) → IsClosing shut failed e → Apart shut failed p q
+    → Apart shut failed p (after e q)
+apart_after shut failed p sound begin (Did j Gone) q is a = record {
+  reads = a.reads;
+  closings = a.closings;
+  later = a.later;
+  more = a.more;
+  calls = a.calls;
+  stream = λ k still. edit_other (done_by Gone) j k q.streams (λ e. still (subst shut e is)) ∙ a.stream k still;
+}
+apart_after shut failed p sound begin (Put m Removes) q is a = record {
+  reads = a.reads;
+  closings = a.closings;
+  later = a.later;
+  more = a.more ++ inner_call q m ∷ [];
+  calls = ap (λ cs. cs ++ inner_call q m ∷ []) a.calls ∙ append_assoc p.calls a.more (inner_call q m ∷ []);
+  stream = a.stream;
+}
+apart_after shut failed p sound begin Wrote q is a =
+    record { reads = a.reads; closings = a.closings; later = λ f. let l = a.later f in omega (arith, l); more = a.more; calls = a.calls; stream = a.stream }
+apart_after shut failed p sound begin Fault q is a =
+    let index = q.outbox.done in
+    let l = a.later is in
     record {
       reads = a.reads;
       closings = a.closings;
-      limits = a.limits;
       later = λ f. omega (arith, l);
-      call = λ k le. slice_get-map (fail_at q.outbox.done) q.calls k ∙ ap (option_map (fail_at q.outbox.done)) (a.call k le)
-          ∙ same_call q.outbox.done (slice_get p.calls k) (below_at (length p.outbox.put) q.outbox.done p.calls k l sound.below);
-      stream = λ k still. slice_get-map (fail_stream q.read q.outbox.done) q.streams k ∙ ap (option_map (fail_stream q.read q.outbox.done)) (a.stream k still)
-          ∙ same_stream q.read q.outbox.done (slice_get p.streams k) (begin_at (length p.outbox.put) q.outbox.done p.streams k l begin);
+      more = map (fail_at index) a.more;
+      calls = ap (map (fail_at index)) a.calls ∙ map-append (fail_at index) p.calls a.more ∙ ap (λ cs. cs ++ map (fail_at index) a.more) (calls_same (length p.outbox.put) index p.calls l sound.below);
+      stream = λ k still. slice_get-map (fail_stream q.read index) q.streams k ∙ ap (option_map (fail_stream q.read index)) (a.stream k still)
+          ∙ same_stream q.read index (slice_get p.streams k) (begin_at (length p.outbox.put) index p.streams k l begin);
     }
+apart_after shut failed p sound begin e q is a = absurd is
 
--- ---- all that happens
+limits_after : (shut : ℕ → Type 0) (failed : Bool) (c : Capacities) (e : Event) (q : Past) → IsClosing shut failed e → q.capacities ≡ c → (after e q).capacities ≡ c
+limits_after shut failed c (Did j Gone) q is same = same
+limits_after shut failed c (Put m Removes) q is same = same
+limits_after shut failed c Wrote q is same = same
+limits_after shut failed c Fault q is same = same
+limits_after shut failed c e q is same = absurd is
 
-closed_apart : (shut : ℕ → Type 0) (h : List Event) (k : ℕ) (j : Option ℕ) → shut k → ((i : ℕ) → j ≡ Some i → shut i) → Apart shut (past h) (past h) → Apart shut (past h) (past (gone_then j (Did k Gone ∷ h)))
-closed_apart shut h k None s t a = apart_gone shut (past h) (past h) k s a
-closed_apart shut h k (Some i) s t a = apart_gone shut (past h) (past (Did k Gone ∷ h)) i (t i refl) (apart_gone shut (past h) (past h) k s a)
+-- ---- the events of such an entry
 
-removals_apart : (shut : ℕ → Type 0) (p : Past) (g : List Event) (rules : List Rule) → Apart shut p (past g) → Apart shut p (past (removals g rules ++ g))
-removals_apart shut p g [] a = a
-removals_apart shut p g (rule ∷ rules) a =
-    subst (λ xs. Apart shut p (past xs)) (sym (append_assoc (removals (removal g rule ∷ g) rules) (removal g rule ∷ []) g))
-    (removals_apart shut p (removal g rule ∷ g) rules (apart_removed shut p (past g) _ a))
+-- a plan by which streams are closed, or nothing is done
+abbrev Shuts : (ℕ → Type 0) → Plan → Type 0
+Shuts shut pl = (failed : Bool) (e : Entry) → AllByRecursion (IsClosing shut failed) (deeds pl e) × AllByRecursion (IsClosing shut failed) (puts (postings pl) e.put)
 
-wrote_apart : (shut : ℕ → Type 0) (p : Past) (rules : List Rule) (g : List Event) → Apart shut p (past g) → Apart shut p (past (wrote_each rules ++ g))
-wrote_apart shut p [] g a = a
-wrote_apart shut p (rule ∷ rules) g a = apart_wrote shut p (past (wrote_each rules ++ g)) (wrote_apart shut p rules g a)
+shuts_tellings : (shut : ℕ → Type 0) (failed : Bool) (h : Past) (rules : List Rule) (ms : List Seen) → AllByRecursion (IsClosing shut failed) (puts (tellings_of h rules) ms)
+shuts_tellings shut failed h [] ms = tt
+shuts_tellings shut failed h (rule ∷ rules) [] = tt
+shuts_tellings shut failed h (rule ∷ rules) (m ∷ ms) = (tt, shuts_tellings shut failed h rules ms)
 
-fault_apart : (shut : ℕ → Type 0) (p : Past) (rules : List Rule) (g : List Event) → p.outbox.writer ≡ writers.Fine → IsSound p → AllBegin (length p.outbox.put) p.streams → Apart shut p (past g)
-    → Apart shut p (past (fault_each rules ++ g))
-fault_apart shut p [] g fine sound begin a = a
-fault_apart shut p (rule ∷ rules) g fine sound begin a = apart_fault shut p (past (fault_each rules ++ g)) fine sound begin (fault_apart shut p rules g fine sound begin a)
+shuts_gone : (shut : ℕ → Type 0) (failed : Bool) (k : ℕ) (j : Option ℕ) → shut k → ((i : ℕ) → j ≡ Some i → shut i) → AllByRecursion (IsClosing shut failed) (gone_events k j)
+shuts_gone shut failed k None one other = (one, tt)
+shuts_gone shut failed k (Some j) one other = (one, (other j refl, tt))
 
-first_apart : (shut : ℕ → Type 0) (p : Past) (rules : List Rule) (g : List Event) → p.outbox.writer ≡ writers.Fine → IsSound p → AllBegin (length p.outbox.put) p.streams → Apart shut p (past g)
-    → Apart shut p (past (wrote_first rules ++ g))
-first_apart shut p [] g fine sound begin a = a
-first_apart shut p (rule ∷ rules) g fine sound begin a =
-    subst (λ xs. Apart shut p (past xs)) (sym (append_assoc (fault_each rules) (Wrote ∷ []) g))
-    (fault_apart shut p rules (Wrote ∷ g) fine sound begin (apart_wrote shut p (past g) a))
+shuts_open : (shut : ℕ → Type 0) (b : Bool) (pl : Plan) → Shuts shut pl → Shuts shut (where_open b pl)
+shuts_open shut true pl so = so
+shuts_open shut false pl so = λ failed e. (tt, tt)
 
--- the answer says that a write of a RemoveMatch failed
-abbrev IsBroken : Answer → Type 0
-IsBroken (answers.SendFailed error) = ⊤
-IsBroken (answers.SentFirst error) = ⊤
-IsBroken answer = ⊥
+shuts_waits : (shut : ℕ → Type 0) (b : Bool) (pl : Plan) → Shuts shut pl → Shuts shut (unless_waits b pl)
+shuts_waits shut true pl so = λ failed e. (tt, tt)
+shuts_waits shut false pl so = so
 
-told_by : (o : Option Error) (w : Writer) (g : List Event) (rules : List Rule) (a : Answer) → writer g ≡ w → IsToldBy o w g rules a → IsBroken a → writer g ≡ writers.Fine
-told_by (Some error) w g rules a met is b = absurd (subst IsBroken is b)
-told_by None writers.Failed g rules a met is b = absurd (subst IsBroken is b)
-told_by None writers.Closed g rules a met is b = absurd (subst IsBroken is b)
-told_by None writers.Fine g rules a met is b = met
+shuts_ends : (shut : ℕ → Type 0) (h : Past) (k : ℕ) (j : Option (Option ℕ)) → shut k → ((i : ℕ) → j ≡ Some (Some i) → shut i) → Shuts shut (ends h k j)
+shuts_ends shut h k None one other = λ failed e. (tt, tt)
+shuts_ends shut h k (Some j) one other =
+    shuts_open shut (are_open h k j) _ (shuts_waits shut (close_waits h k j) _ (λ failed e. (shuts_gone shut failed k j one (λ i q. other i (ap (λ x. Some x) q)), shuts_tellings shut failed h (leaving h k j) e.put)))
 
-told_fine : (g : List Event) (rules : List Rule) (a : Answer) → IsTold g rules a → IsBroken a → writer g ≡ writers.Fine
-told_fine g [] a is b = absurd (subst IsBroken is b)
-told_fine g (rule ∷ rules) a is b = told_by (tell_refusal g (rule ∷ rules)) (writer g) g (rule ∷ rules) a refl is b
+shuts_named : (shut : ℕ → Type 0) (t : Trail) (lane : ℕ) (second p : Option ℕ) → ((i : ℕ) → p ≡ Some i → shut i) → ((i : ℕ) → second_place t lane second ≡ Some (Some i) → shut i)
+    → Shuts shut (where_named (on_stream t lane (ops.Unstream second)) p)
+shuts_named shut t lane second None one other = λ failed e. (tt, tt)
+shuts_named shut t lane second (Some k) one other = shuts_ends shut t.past k (second_place t lane second) (one k refl) other
 
-closed_writer : (k : ℕ) (j : Option ℕ) (h : List Event) → writer (gone_then j (Did k Gone ∷ h)) ≡ writer h
-closed_writer k None h = refl
-closed_writer k (Some j) h = refl
-
-leave_apart : (shut : ℕ → Type 0) (h : List Event) (k : ℕ) (j : Option ℕ) (a : Answer) → Apart shut (past h) (past h) → Apart shut (past h) (past (gone_then j (Did k Gone ∷ h)))
-    → (IsBroken a → writer h ≡ writers.Fine) → Apart shut (past h) (past (leave_events h k j a ++ h))
-leave_apart shut h k j (answers.Gone last) same closed fine =
-    let g = gone_then j (Did k Gone ∷ h) in
-    let rules = leaving (past h) k j in
-    subst (λ xs. Apart shut (past h) (past xs)) (sym (leave_parts wrote_each h k j)) (wrote_apart shut (past h) rules (removals g rules ++ g) (removals_apart shut (past h) g rules closed))
-leave_apart shut h k j (answers.SendFailed error) same closed fine =
-    let g = gone_then j (Did k Gone ∷ h) in
-    let rules = leaving (past h) k j in
-    subst (λ xs. Apart shut (past h) (past xs)) (sym (leave_parts fault_each h k j))
-    (fault_apart shut (past h) rules (removals g rules ++ g) (fine tt) (sound_past h) (all_begin h) (removals_apart shut (past h) g rules closed))
-leave_apart shut h k j (answers.SentFirst error) same closed fine =
-    let g = gone_then j (Did k Gone ∷ h) in
-    let rules = leaving (past h) k j in
-    subst (λ xs. Apart shut (past h) (past xs)) (sym (leave_parts wrote_first h k j))
-    (first_apart shut (past h) rules (removals g rules ++ g) (fine tt) (sound_past h) (all_begin h) (removals_apart shut (past h) g rules closed))
-leave_apart shut h k j (answers.Untold error) same closed fine = subst (λ xs. Apart shut (past h) (past xs)) (sym (gone_before k j h)) closed
-leave_apart shut h k j a same closed fine = same
-
-now_apart : (shut : ℕ → Type 0) (t : Trail) (lane : ℕ) (waits : Bool) (k : ℕ) (j : Option ℕ) (a : Answer) → shut k → ((i : ℕ) → j ≡ Some i → shut i) → Apart shut (past t.events) (past t.events)
-    → IsMeant t lane (ends_now waits k j) a → Apart shut (past t.events) (past (does t.events (ends_now waits k j) a ++ t.events))
-now_apart shut t lane true k j (answers.Refused error) s u same is = same
-now_apart shut t lane true k j answers.Busy s u same is = same
-now_apart shut t lane true k j a s u same is = same
-now_apart shut t lane false k j a s u same is =
-    let h = t.events in
-    leave_apart shut h k j a same (closed_apart shut h k j s u same)
-    (λ b. sym (closed_writer k j h) ∙ told_fine (gone_then j (Did k Gone ∷ h)) (leaving (past h) k j) a is b)
-
-ends_apart : (shut : ℕ → Type 0) (t : Trail) (lane : ℕ) (b : Bool) (o j : Option ℕ) (a : Answer) → ((i : ℕ) → o ≡ Some i → shut i) → ((i : ℕ) → j ≡ Some i → shut i) → Apart shut (past t.events) (past t.events)
-    → IsMeant t lane (ends b t.events o j) a → Apart shut (past t.events) (past (does t.events (ends b t.events o j) a ++ t.events))
-ends_apart shut t lane true (Some k) j a s u same is = now_apart shut t lane (close_waits (past t.events) k j) k j a (s k refl) u same is
-ends_apart shut t lane true None j (answers.Refused error) s u same is = same
-ends_apart shut t lane true None j answers.Busy s u same is = same
-ends_apart shut t lane true None j a s u same is = same
-ends_apart shut t lane false o j (answers.Refused error) s u same is = same
-ends_apart shut t lane false o j answers.Busy s u same is = same
-ends_apart shut t lane false o j a s u same is = same
+shuts_writes : (shut : ℕ → Type 0) (n m : ℕ) (failed : Bool) → AllByRecursion (IsClosing shut failed) (repeat n Wrote ++ (if failed then repeat m Fault else []))
+shuts_writes shut n m true = all_append (IsClosing shut true) (repeat n Wrote) (repeat m Fault) (repeat_all (IsClosing shut true) n Wrote tt) (repeat_all (IsClosing shut true) m Fault refl)
+shuts_writes shut n m false = all_append (IsClosing shut false) (repeat n Wrote) [] (repeat_all (IsClosing shut false) n Wrote tt) tt
 
 -- ---- an entry
 
 -- one of the streams that the command closes
-abbrev Closes : Trail → ℕ → ℕ → Option ℕ → ℕ → Type 0
-Closes t lane number second k = (place 0 lane number t.streams ≡ Some k) ⊎ (second_place lane second t.streams ≡ Some k)
+abbrev Ends : Trail → ℕ → ℕ → Option ℕ → ℕ → Type 0
+Ends t lane number second k = (place 0 lane number t.streams ≡ Some k) ⊎ (second_place t lane second ≡ Some (Some k))
 
--- where no write failed, all that was done was written
-done_written : (h : List Event) → is_failed h ≡ false → done h ≡ written h
-done_written [] e = refl
-done_written (Fault ∷ h) e = cc
-done_written (Wrote ∷ h) e = ap (λ n. n + 1) (done_written h e)
-done_written (event ∷ h) e = done_written h e
+sound_past : (setting : Setting) (es : List Entry) → IsSound (trail setting es).past
+sound_past setting es = always IsSound sound_first sound_after setting es
 
-all_done : (setting : Setting) (es : List Entry) → Legal setting es → writer (trail setting es).events ≡ writers.Fine → done (trail setting es).events ≡ length (put (trail setting es).events)
-all_done setting es legal fine =
-    let h = (trail setting es).events in
-    let unfailed = fine_unfailed h fine in
-    done_written h unfailed ∙ (subst (λ b. IsPutOf b (written h) (put h) (all_sent setting es)) unfailed (put_sent setting es legal)).0
-
-unstream_apart : (setting : Setting) (older : List Entry) (e : Entry) (number : ℕ) (second : Option ℕ) → Legal setting (e ∷ older) → e.words ≡ words.Unstream number second
-    → Apart (Closes (trail setting older) e.lane number second) (past (trail setting older).events) (past (trail setting (e ∷ older)).events)
-unstream_apart setting older e number second legal w =
+-- what such events keep
+closing_along : (P : Past → Type 0) (setting : Setting) (older : List Entry) (e : Entry) (number : ℕ) (second : Option ℕ) → e.words ≡ words.OfStream number (ops.Unstream second)
+    → ((x : Event) (q : Past) → IsClosing (Ends (trail setting older) e.lane number second) e.failed x → P q → P (after x q)) → P (trail setting older).past → P (trail setting (e ∷ older)).past
+closing_along P setting older e number second w keeps so =
     let t = trail setting older in
-    let shut : ℕ → Type 0 = Closes t e.lane number second in
-    let there : IsAnswer t e.lane (words.Unstream number second) e.answer = subst (λ x. IsAnswer t e.lane x e.answer) w legal.0 in
-    subst (λ x. Apart shut (past t.events) (past (events_of t e.lane x e.answer ++ t.events))) (sym w)
-    (ends_apart shut t e.lane (are_open_at t.events e.lane t.streams number second) (place 0 e.lane number t.streams) (second_place e.lane second t.streams) e.answer
-    (λ i is. inl is) (λ i is. inr is) (apart_first shut (past t.events) (all_done setting older legal.1)) there)
+    let shut : ℕ → Type 0 = Ends t e.lane number second in
+    let Is : Event → Type 0 = IsClosing shut e.failed in
+    let pl = plan t e.lane e.words in
+    let shuts = subst (Shuts shut) (ap (plan t e.lane) (sym w)) (shuts_named shut t e.lane second (place 0 e.lane number t.streams) (λ i is. inl is) (λ i is. inr is)) e.failed e in
+    along P Is keeps (writes e) (after_all (puts (postings pl) e.put) (after_all (deeds pl e) t.past)) (shuts_writes shut e.written (length e.put - e.written) e.failed)
+    (along P Is keeps (puts (postings pl) e.put) (after_all (deeds pl e) t.past) shuts.1 (along P Is keeps (deeds pl e) t.past shuts.0 so))
 
-take_same : (shut : ℕ → Type 0) (p q : Past) (k : ℕ) → Apart shut p q → (shut k → ⊥) → take_answer q k ≡ take_answer p k
+-- where a write failed within the entry, nothing waited before it
+in_turn : (h : Past) (pl : Plan) (e : Entry) → IsMeant h pl e → e.failed ≡ true → h.outbox.done ≡ length h.outbox.put
+in_turn h (Says answer done) e is f = let q = is.2.failed in absurd (cc)
+in_turn h (Sends done ds sent) e is f = elim (is.2) as (λ _. h.outbox.done ≡ length h.outbox.put) [
+  | inl late ↦ let q = late.1 in absurd (cc)
+  | inr due ↦ due
+]
+in_turn h Reads e is f = let q = is.1.failed in absurd (cc)
+in_turn h Closes e is f = let q = is.2.failed in absurd (cc)
+in_turn h (Writes fails) e is f = let q = is.2.failed in absurd (cc)
+in_turn h Never e is f = absurd is
+
+unstream_apart : (setting : Setting) (older : List Entry) (e : Entry) (number : ℕ) (second : Option ℕ) → e.words ≡ words.OfStream number (ops.Unstream second)
+    → (e.failed ≡ true → (trail setting older).past.outbox.done ≡ length (trail setting older).past.outbox.put)
+    → Apart (Ends (trail setting older) e.lane number second) e.failed (trail setting older).past (trail setting (e ∷ older)).past
+unstream_apart setting older e number second w done =
+    let t = trail setting older in
+    let shut : ℕ → Type 0 = Ends t e.lane number second in
+    closing_along (Apart shut e.failed t.past) setting older e number second w (apart_after shut e.failed t.past (sound_past setting older) (all_begin setting older))
+    (record { reads = refl; closings = refl; later = λ f. let all = done f in omega (arith, all); more = []; calls = sym (append-nil (trail setting older).past.calls); stream = λ k still. refl })
+
+take_same : (shut : ℕ → Type 0) (failed : Bool) (p q : Past) (k : ℕ) → Apart shut failed p q → (shut k → ⊥) → take_answer q k ≡ take_answer p k
 unfolding take_answer
-take_same shut p q k a still =
+take_same shut failed p q k a still =
     ap (λ ms. take_at ms q.closing (slice_get q.streams k)) a.reads ∙ ap (λ o. take_at p.read o (slice_get q.streams k)) a.closings ∙ ap (take_at p.read p.closing) (a.stream k still)
 
-poll_same : (shut : ℕ → Type 0) (p q : Past) (k : ℕ) → Apart shut p q → k < length p.calls → poll_answer q k ≡ poll_answer p k
+poll_same : (shut : ℕ → Type 0) (failed : Bool) (p q : Past) (k : ℕ) → Apart shut failed p q → k < length p.calls → poll_answer q k ≡ poll_answer p k
 unfolding poll_answer
-poll_same shut p q k a le =
-    ap (λ ms. polled_at ms q.closing (slice_get q.calls k)) a.reads ∙ ap (λ o. polled_at p.read o (slice_get q.calls k)) a.closings ∙ ap (polled_at p.read p.closing) (a.call k le)
+poll_same shut failed p q k a le =
+    ap (λ ms. polled_at ms q.closing (slice_get q.calls k)) a.reads ∙ ap (λ o. polled_at p.read o (slice_get q.calls k)) a.closings ∙ ap (polled_at p.read p.closing) (ap (λ cs. slice_get cs k) a.calls ∙ get_before k p.calls a.more le)
 
-pub other_streams : (setting : Setting) (older : List Entry) (e : Entry) (number : ℕ) (second : Option ℕ) (k : ℕ) → Legal setting (e ∷ older) → e.words ≡ words.Unstream number second
-    → place 0 e.lane number (trail setting older).streams ≢ Some k → second_place e.lane second (trail setting older).streams ≢ Some k
-    → take_answer (past (trail setting (e ∷ older)).events) k ≡ take_answer (past (trail setting older).events) k
+pub other_streams : (setting : Setting) (older : List Entry) (e : Entry) (number : ℕ) (second : Option ℕ) (k : ℕ) → Legal setting (e ∷ older) → e.words ≡ words.OfStream number (ops.Unstream second)
+    → place 0 e.lane number (trail setting older).streams ≢ Some k → second_place (trail setting older) e.lane second ≢ Some (Some k)
+    → take_answer (trail setting (e ∷ older)).past k ≡ take_answer (trail setting older).past k
 other_streams setting older e number second k legal w one other =
-    take_same (Closes (trail setting older) e.lane number second) _ _ k (unstream_apart setting older e number second legal w) neither
+    take_same (Ends (trail setting older) e.lane number second) e.failed _ _ k (unstream_apart setting older e number second w (in_turn (trail setting older).past (plan (trail setting older) e.lane e.words) e legal.0)) neither
   where
-    neither : Closes (trail setting older) e.lane number second k → ⊥
+    neither : Ends (trail setting older) e.lane number second k → ⊥
     neither (inl is) = one is
     neither (inr is) = other is
 
-pub same_calls : (setting : Setting) (older : List Entry) (e : Entry) (number : ℕ) (second : Option ℕ) (k : ℕ) → Legal setting (e ∷ older) → e.words ≡ words.Unstream number second
-    → k < length (past (trail setting older).events).calls
-    → poll_answer (past (trail setting (e ∷ older)).events) k ≡ poll_answer (past (trail setting older).events) k
-same_calls setting older e number second k legal w le = poll_same (Closes (trail setting older) e.lane number second) _ _ k (unstream_apart setting older e number second legal w) le
+pub same_calls : (setting : Setting) (older : List Entry) (e : Entry) (number : ℕ) (second : Option ℕ) (k : ℕ) → Legal setting (e ∷ older) → e.words ≡ words.OfStream number (ops.Unstream second)
+    → k < length (trail setting older).past.calls → poll_answer (trail setting (e ∷ older)).past k ≡ poll_answer (trail setting older).past k
+same_calls setting older e number second k legal w le =
+    poll_same (Ends (trail setting older) e.lane number second) e.failed _ _ k (unstream_apart setting older e number second w (in_turn (trail setting older).past (plan (trail setting older) e.lane e.words) e legal.0)) le
 
-pub same_capacities : (setting : Setting) (older : List Entry) (e : Entry) (number : ℕ) (second : Option ℕ) → Legal setting (e ∷ older) → e.words ≡ words.Unstream number second
-    → (past (trail setting (e ∷ older)).events).capacities ≡ (past (trail setting older).events).capacities
-same_capacities setting older e number second legal w = (unstream_apart setting older e number second legal w).limits
+pub same_capacities : (setting : Setting) (older : List Entry) (e : Entry) (number : ℕ) (second : Option ℕ) → Legal setting (e ∷ older) → e.words ≡ words.OfStream number (ops.Unstream second)
+    → (trail setting (e ∷ older)).past.capacities ≡ (trail setting older).past.capacities
+same_capacities setting older e number second legal w =
+    let c = (trail setting older).past.capacities in
+    closing_along (λ (q : Past). q.capacities ≡ c) setting older e number second w (limits_after (Ends (trail setting older) e.lane number second) e.failed c) refl

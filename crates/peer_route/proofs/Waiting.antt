@@ -17,12 +17,12 @@ use Rattle.peer_route.proofs.Index.{open_none, pending_open, pending_shut}
 
 -- ---- counting what is taken
 
-pub among_same : (f g : ℕ → Bool) (n : ℕ) → ((k : ℕ) → f k ≡ g k) → taken_among f n ≡ taken_among g n
+among_same : (f g : ℕ → Bool) (n : ℕ) → ((k : ℕ) → f k ≡ g k) → taken_among f n ≡ taken_among g n
 unfolding taken_among
 among_same f g zero e = refl
 among_same f g (suc n) e = rw (among_same f g n e, e (suc n)) refl
 
-pub among_none : (f : ℕ → Bool) (n : ℕ) → ((k : ℕ) → f k ≡ false) → taken_among f n ≡ 0
+among_none : (f : ℕ → Bool) (n : ℕ) → ((k : ℕ) → f k ≡ false) → taken_among f n ≡ 0
 unfolding taken_among
 among_none f zero e = refl
 among_none f (suc n) e = rw (among_none f n e, e (suc n)) refl
@@ -117,7 +117,7 @@ entries_count ((s, v) ∷ es) sorted within =
     last n = omega arith
 
 -- as many serials are pending as the map has
-pub map_count : (m : BTreeMap ℕ ℕ) → IsOrdered nat_cmp m → ((q : ℕ) → IsSome (get nat_cmp m q) → (1 ≤ q) × (q ≤ 4294967295))
+map_count : (m : BTreeMap ℕ ℕ) → IsOrdered nat_cmp m → ((q : ℕ) → IsSome (get nat_cmp m q) → (1 ≤ q) × (q ≤ 4294967295))
     → taken_among (λ q. is_some (get nat_cmp m q)) 4294967295 ≡ btree_map_len m
 map_count m ordered within = entries_count m.entries ordered within
 

@@ -1,6 +1,6 @@
 -- What a peer asks of the bus for its streams, and what opening a stream of a rule gives (D-Bus Specification, "Message Bus
 -- Messages", `org.freedesktop.DBus.AddMatch` and `org.freedesktop.DBus.RemoveMatch`).
-use Rattle.std.specs.Prelude.{ℕ, ⊤, ◌≡◌, ◌+◌, nat_le, Bool, true, false, List, [], ◌∷◌, length, map, Option, Some, None, IsSome, Result, Ok, Err}
+use Rattle.std.specs.Prelude.{ℕ, ⊤, ◌≡◌, nat_le, Bool, true, false, List, [], ◌∷◌, length, map, Option, Some, None, IsSome, Result, Ok, Err}
 use Rattle.wire_tree.specs.Datum.{Datum, text, string}
 use Rattle.wire_message.specs.declared.error.Error.{Error}
 use Rattle.wire_message.specs.declared.error.Error.TheVariants as errors
@@ -15,21 +15,17 @@ use Rattle.peer_route.specs.declared.opening.Opened.TheVariants as opened
 use Rattle.peer_route.specs.declared.progress.OpenState.{OpenState}
 use Rattle.peer_route.specs.declared.progress.OpenState.TheVariants as states
 use Rattle.peer_route.specs.Parcel.{Parcel, message_of, sent_by}
-use Rattle.peer_route.specs.History.{Made, Ruled, Adds, Past, after}
+use Rattle.peer_route.specs.History.{Made, Ruled, Past, after}
 use Rattle.peer_route.specs.Calls.{in_flight}
 use Rattle.peer_route.specs.Streams.{asks_bus}
 use Rattle.peer_route.specs.declared.opening.Opening.{Opening}
 use Rattle.peer_route.specs.declared.opening.RuleCall.{RuleCall}
 use Rattle.peer_route.specs.declared.route.Issued.{Issued}
-use Rattle.peer_route.specs.BusCall.{bus_draft, add_parcel}
-use Rattle.peer_route.specs.Issuing.{IsShort, Posting, Issues}
+use Rattle.peer_route.specs.BusCall.{bus_draft, add_parcel, asking_of}
+use Rattle.peer_route.specs.Issuing.{is_long, Issues}
 use Rattle.peer_route.specs.Left.{View, with_asking, Left}
 use Rattle.peer_route.specs.Placing.{Draws, Spends, with_messages, PutsAll}
-use Rattle.peer_route.specs.Limits.{string_limit}
-
--- AddMatch of a rule, for whose stream this capacity is asked, if one is
-abbrev pub asking_of : Past → Rule → Option ℕ → Posting
-asking_of h rule asked = record { parcel = add_parcel h.name rule; purpose = Adds rule asked }
+use Rattle.wire_number.specs.Limits.{string_limit}
 
 -- a stream that is open at once
 abbrev pub OpensNow : View → View → Rule → Option ℕ → Past → Result Opens Error → Type 0
@@ -54,13 +50,6 @@ OpensRule old new rule asked h (Err (errors.InputOutput kinds.Closed)) = IsSome 
 OpensRule old new rule asked h (Err errors.Busy) = (h.closing ≡ None) × (in_flight h ≡ true) × (new ≡ old)
 OpensRule old new rule asked h (Err errors.Memory) = new ≡ old
 OpensRule old new rule asked h result = (h.closing ≡ None) × (in_flight h ≡ false) × OpensBy (asks_bus h rule) old new rule asked h result
-
--- The AddMatch waits at the end of the outbox; no write failed, nor was the peer closed.
-abbrev pub AsksNow : View → View → Result Opens Error → Type 0
-AsksNow old new (Ok (opens.Opening o)) =
-    (o.index ≡ length old.outbox) × (length new.outbox ≡ length old.outbox + 1) × (new.done ≡ old.done)
-    × (old.writer ≡ writers.Fine) × (new.writer ≡ writers.Fine)
-AsksNow old new other = Unit {0}
 
 -- what is shown of it: the stream, where it is open; the opening again; the error that denied it, or what closed the peer
 abbrev pub IsShownAs : Opening → OpenState → Opened → Type 0
@@ -119,7 +108,7 @@ pub record Asks (old new : View) (rule : Rule) (asked : Option ℕ) (o : Opening
   pub number : o.number ≡ length old.streams
   pub index : o.index ≡ length old.outbox
   pub drawn : Draws true old.calls old.last (add_parcel old.name rule ∷ []) (o.serial ∷ []) new.calls new.last
-  pub short : IsShort (add_parcel old.name rule) o.serial
+  pub short : is_long (add_parcel old.name rule) o.serial ≡ false
   pub fine : old.writer ≡ writers.Fine
   pub view : new ≡ record (with_messages old (message_of (add_parcel old.name rule) o.serial ∷ []) new.calls new.last) { streams = with_asking rule asked o.serial (length old.outbox) old.streams }
 

@@ -1,16 +1,16 @@
 -- The calls by which a peer asks the bus for what a rule accepts, and tells it that this isn't wanted any more (D-Bus
 -- Specification, "Message Bus Messages", `org.freedesktop.DBus.AddMatch` and `org.freedesktop.DBus.RemoveMatch`).
-use Rattle.std.specs.Prelude.{ℕ, Bool, true, false, List, [], ◌∷◌, Option, Some, None, codes}
+use Rattle.std.specs.Prelude.{ℕ, Bool, true, false, List, [], ◌∷◌, map, Option, Some, None, codes}
 use Rattle.wire_number.specs.declared.endian.Endian.TheVariants.{Little}
 use Rattle.wire_tree.specs.Datum.{text, string}
 use Rattle.wire_message.specs.Field.{no_fields}
-use Rattle.wire_message.specs.Front.{Seen}
 use Rattle.wire_message.specs.Draft.{Draft}
 use Rattle.wire_message.specs.declared.kind.MessageType.TheVariants as types
 use Rattle.rule_match.specs.Rule.{Rule}
 use Rattle.rule_match.specs.Text.{rule_text}
-use Rattle.peer_route.specs.Parcel.{Parcel, message_of}
-use Rattle.peer_route.specs.History.{Past}
+use Rattle.peer_route.specs.Parcel.{Parcel}
+use Rattle.peer_route.specs.History.{Adds, Removes, Past}
+use Rattle.peer_route.specs.Issuing.{Posting}
 
 abbrev pub bus_name : List ℕ
 bus_name = codes "org.freedesktop.DBus"
@@ -39,20 +39,26 @@ match_parcel member name rule = record { draft = bus_draft name member; values =
 abbrev pub add_parcel : Option (List ℕ) → Rule → Parcel
 add_parcel name rule = match_parcel (codes "AddMatch") name rule
 
--- the message of it with this serial
-abbrev pub add_message : Past → Rule → ℕ → Seen
-add_message h rule serial = message_of (add_parcel h.name rule) serial
+-- AddMatch of a rule, for whose stream this capacity is asked, if one is
+abbrev pub asking_of : Past → Rule → Option ℕ → Posting
+asking_of h rule asked = record { parcel = add_parcel h.name rule; purpose = Adds rule asked }
 
 -- The bus is told that what the rule accepts isn't wanted any more.
 abbrev pub remove_parcel : Option (List ℕ) → Rule → Parcel
 remove_parcel name rule = match_parcel (codes "RemoveMatch") name rule
 
--- the message of it with this serial
-abbrev pub remove_message : Past → Rule → ℕ → Seen
-remove_message h rule serial = message_of (remove_parcel h.name rule) serial
+-- RemoveMatch of each of these rules
+abbrev pub tellings_of : Past → List Rule → List Posting
+tellings_of h rules = map (λ rule. record { parcel = remove_parcel h.name rule; purpose = Removes }) rules
 
--- ---- several rules
+-- ---- serials
 
+-- the first of some serials
+abbrev pub first_of : List ℕ → ℕ
+first_of [] = 0
+first_of (serial ∷ serials) = serial
+
+-- and the last
 abbrev pub last_of : List ℕ → Option ℕ
 last_of [] = None
 last_of (serial ∷ []) = Some serial

@@ -18,6 +18,8 @@ use Rattle.wire_message.specs.declared.error.Error.{Error}
 use Rattle.wire_message.specs.declared.error.Error.TheVariants as errors
 use Rattle.peer_route.specs.declared.words.CallFlags.{CallFlags}
 use Rattle.peer_route.specs.declared.words.Outgoing.{Outgoing}
+use Rattle.peer_route.specs.declared.words.OutgoingKind.{OutgoingKind}
+use Rattle.peer_route.specs.declared.words.OutgoingKind.TheVariants as outgoing
 use Rattle.peer_route.specs.BodyWord.{body_values}
 use Rattle.peer_route.specs.Parcel.{Asked}
 
@@ -110,19 +112,14 @@ member_asked takes_fds words draft =
     asked_of (words_refusal draft) (values_in words.body) (are_misplaced draft.kind draft.flags)
     (words.flags.descriptor && not takes_fds) draft (fds_of words.flags.descriptor)
 
--- a method call, with the interface that is given
-abbrev pub call_draft : Option (List ℕ) → Outgoing → Draft
-call_draft name words = member_draft types.MethodCall name words words.interface
+-- A signal must have an interface: none is refused as the empty text, which is no interface.
+abbrev pub outgoing_draft : OutgoingKind → Option (List ℕ) → Outgoing → Draft
+outgoing_draft outgoing.Call name words = member_draft types.MethodCall name words words.interface
+outgoing_draft outgoing.Signal name words = member_draft types.Signal name words (Some (unwrap_or words.interface []))
 
-abbrev pub call_asked : Option (List ℕ) → Bool → Outgoing → Asked
-call_asked name takes_fds words = member_asked takes_fds words (call_draft name words)
-
--- A signal. It must have an interface: none is refused as the empty text, which is no interface.
-abbrev pub signal_draft : Option (List ℕ) → Outgoing → Draft
-signal_draft name words = member_draft types.Signal name words (Some (unwrap_or words.interface []))
-
-abbrev pub signal_asked : Option (List ℕ) → Bool → Outgoing → Asked
-signal_asked name takes_fds words = member_asked takes_fds words (signal_draft name words)
+-- A method call or a signal, where the sink takes descriptors or takes none.
+abbrev pub outgoing_asked : Option (List ℕ) → Bool → Outgoing → Asked
+outgoing_asked name takes_fds words = member_asked takes_fds words (outgoing_draft words.kind name words)
 
 -- ---- replies
 

@@ -1,5 +1,5 @@
--- A peer's history as a list of events, newest first, that never loses anything; and its past, one record whose parts are each a
--- short function of the events (D-Bus Specification, "Message Protocol", "Types of messages").
+-- What happens to a peer, event by event; and its past, which never loses anything: one record whose parts are each a short function of
+-- the events (D-Bus Specification, "Message Protocol", "Types of messages").
 use Rattle.std.specs.Prelude.{ℕ, ◌==◌, ◌+◌, max, Bool, true, false, ◌&&◌, ◌||◌, not, is_none, is_some, if◌then◌else◌, List, [], ◌∷◌, ◌++◌, length, map, drop, slice_get, Option, Some, None, zero, suc}
 use Rattle.std.specs.List.{list_any}
 use Rattle.wire_message.specs.Front.{Seen}
@@ -390,62 +390,7 @@ after e p = record {
   capacities = capacities_after p e p.capacities;
 }
 
--- the past once all these events, newest first, happened after it
+-- the past once all these events happened after it, in order
 abbrev pub after_all : List Event → Past → Past
 after_all [] p = p
-after_all (e ∷ es) p = after e (after_all es p)
-
--- what these events, newest first, leave
-abbrev pub past : List Event → Past
-past [] = no_past
-past (e ∷ h) = after e (past h)
-
--- ---- the parts, by the events
-
--- the messages that were read, oldest first
-abbrev pub read : List Event → List Seen
-read h = (past h).read
-
--- the first error that closed the peer
-abbrev pub closing : List Event → Option Error
-closing h = (past h).closing
-
--- the peer's unique name
-abbrev pub unique_name : List Event → Option (List ℕ)
-unique_name h = (past h).name
-
--- the messages that were put, oldest first
-abbrev pub put : List Event → List Seen
-put h = (past h).outbox.put
-
--- how many of them were written
-abbrev pub written : List Event → ℕ
-written h = (past h).outbox.written
-
--- how many were written or failed
-abbrev pub done : List Event → ℕ
-done h = (past h).outbox.done
-
--- whether a write failed
-abbrev pub is_failed : List Event → Bool
-is_failed h = (past h).outbox.failed
-
--- what became of the writer
-abbrev pub writer : List Event → Writer
-writer h = (past h).outbox.writer
-
--- the last serial that was drawn; 0 before the first
-abbrev pub last_serial : List Event → ℕ
-last_serial h = (past h).outbox.last
-
--- the calls that were issued, oldest first
-abbrev pub calls : List Event → List Call
-calls h = (past h).calls
-
--- the streams that were made, oldest first
-abbrev pub streams : List Event → List Stream
-streams h = (past h).streams
-
--- how many messages they may hold
-abbrev pub capacities : List Event → Capacities
-capacities h = (past h).capacities
+after_all (e ∷ es) p = after_all es (after e p)

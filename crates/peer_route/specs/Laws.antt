@@ -1,23 +1,32 @@
 -- What the laws of histories say, in words of their own.
-use Rattle.std.specs.Prelude.{ℕ, ⊤, ◌≡◌, ◌+◌, ◌||◌, ◌⊎◌, true, false, is_some, drop, find, slice_get, Some}
+use Rattle.std.specs.Prelude.{ℕ, ⊤, ◌≡◌, ◌+◌, ◌||◌, ◌⊎◌, true, false, is_some, drop, find, slice_get, Option, Some, None}
 use Rattle.std.specs.List.{AllByRecursion}
 use Rattle.wire_message.specs.Front.{Seen}
 use Rattle.wire_message.specs.declared.error.Error.{Error}
 use Rattle.wire_message.specs.declared.error.Error.TheVariants as errors
 use Rattle.peer_route.specs.declared.words.Words.{Words}
 use Rattle.peer_route.specs.declared.words.Words.TheVariants as words
+use Rattle.peer_route.specs.declared.words.CallOp.{CallOp}
+use Rattle.peer_route.specs.declared.words.CallOp.TheVariants as calls
+use Rattle.peer_route.specs.declared.words.StreamOp.TheVariants as ops
 use Rattle.peer_route.specs.declared.answer.Answer.{Answer}
 use Rattle.peer_route.specs.declared.answer.Answer.TheVariants as answers
 use Rattle.peer_route.specs.declared.answer.Entry.{Entry}
-use Rattle.peer_route.specs.History.{Call, read, closing, calls, bears, Past}
+use Rattle.peer_route.specs.History.{Call, bears, Past}
 use Rattle.peer_route.specs.Calls.{found, is_gone}
 use Rattle.peer_route.specs.Trail.{Trail, place}
 use Rattle.peer_route.specs.Shown.{reply_answer}
-use Rattle.peer_route.specs.Plan.{poll_of, before_of}
+use Rattle.peer_route.specs.Plan.{where_named, on_call}
+
+-- it asks for the call's answer, by position or not
+abbrev pub IsPollOp : CallOp → Type 0
+IsPollOp calls.Poll = ⊤
+IsPollOp (calls.Before before) = ⊤
+IsPollOp calls.Drop = ⊥
 
 -- the command asks for the answer of the lane's call with this number, by position or not
 abbrev pub IsPoll : ℕ → Words → Type 0
-IsPoll number w = (w ≡ words.Poll number) ⊎ ((before : ℕ) × (w ≡ words.Before number before))
+IsPoll number w = (op : CallOp) × (w ≡ words.OfCall number op) × IsPollOp op
 
 -- the answer is the call's last word: its reply, or the error that closed the peer
 abbrev pub IsFinal : Answer → Type 0
@@ -34,9 +43,9 @@ IsReplyAt q (answers.InvalidReply position) = position ≡ q
 IsReplyAt q (answers.MethodError m) = m.position ≡ q
 IsReplyAt q answer = ⊥
 
--- where the entry is this lane's poll or drop of this number, its answer is that no such call waits
+-- where the entry asks something of this lane's call of this number, its answer is that no such call waits
 abbrev pub IsUnknown : ℕ → ℕ → Entry → Type 0
-IsUnknown lane number e = e.lane ≡ lane → IsPoll number e.words ⊎ (e.words ≡ words.Drop number) → e.answer ≡ answers.Refused errors.UnknownHandle
+IsUnknown lane number e = e.lane ≡ lane → (op : CallOp) → e.words ≡ words.OfCall number op → e.answer ≡ answers.Refused errors.UnknownHandle
 
 -- The lane's number names a call, and the first message read after it was put that bears its serial is shown by the
 -- answer; that message was the q-th that was read, from 1 on, and its position says so.
@@ -46,12 +55,12 @@ pub record IsFirstReply (t : Trail) (lane number q : ℕ) (answer : Answer) : Ty
   pub message : Seen
   pub place_before : ℕ
   pub named : place 0 lane number t.names ≡ Some k
-  pub made : slice_get (calls t.events) k ≡ Some call
-  pub first : find (bears call.serial) (drop call.from (read t.events)) ≡ Some message
+  pub made : slice_get t.past.calls k ≡ Some call
+  pub first : find (bears call.serial) (drop call.from t.past.read) ≡ Some message
   pub shown : answer ≡ reply_answer message
   pub position : message.position ≡ q
   pub rank : q ≡ place_before + 1
-  pub stands : slice_get (read t.events) place_before ≡ Some message
+  pub stands : slice_get t.past.read place_before ≡ Some message
 
 -- The lane's number names a call, no message read after it was put bears its serial, and this was the first error that
 -- closed the peer.
@@ -59,24 +68,22 @@ pub record IsCutOff (t : Trail) (lane number : ℕ) (error : Error) : Type 0 whe
   pub k : ℕ
   pub call : Call
   pub named : place 0 lane number t.names ≡ Some k
-  pub made : slice_get (calls t.events) k ≡ Some call
-  pub unanswered : AllByRecursion (λ m. bears call.serial m ≡ false) (drop call.from (read t.events))
-  pub first : closing t.events ≡ Some error
+  pub made : slice_get t.past.calls k ≡ Some call
+  pub unanswered : AllByRecursion (λ m. bears call.serial m ≡ false) (drop call.from t.past.read)
+  pub first : t.past.closing ≡ Some error
 
 -- a message that comes now says nothing to this call: it bears another serial, or the call has its reply or is over
 abbrev pub IsPast : Past → Seen → Call → Type 0
 IsPast h m c = (bears c.serial m ≡ false) ⊎ ((is_gone c || is_some (found h.read c)) ≡ true)
 
--- What a poll of this number by this lane is answered is the same after these entries as after those, by position too.
-abbrev pub SamePoll : Trail → Trail → ℕ → ℕ → Type 0
-SamePoll new old lane number =
-    (poll_of new.events (place 0 lane number new.names) ≡ poll_of old.events (place 0 lane number old.names))
-    × (before_of new.events (place 0 lane number new.names) ≡ before_of old.events (place 0 lane number old.names))
+-- What a command that asks something of the lane's call with this number means is the same after these entries as after those.
+abbrev pub SameCall : Trail → Trail → ℕ → ℕ → Type 0
+SameCall new old lane number = (op : CallOp) → where_named (on_call new.past op) (place 0 lane number new.names) ≡ where_named (on_call old.past op) (place 0 lane number old.names)
 
 -- the command polls a call, or takes from a stream, by position
 abbrev pub IsByPosition : Words → Type 0
-IsByPosition (words.Before number before) = ⊤
-IsByPosition (words.TakeBefore number before) = ⊤
+IsByPosition (words.OfCall number (calls.Before before)) = ⊤
+IsByPosition (words.OfStream number (ops.TakeBefore before)) = ⊤
 IsByPosition w = ⊥
 
 -- the answer says that there is nothing yet
@@ -84,3 +91,13 @@ abbrev pub IsNothingYet : Answer → Type 0
 IsNothingYet answers.NotYet = ⊤
 IsNothingYet answers.Empty = ⊤
 IsNothingYet answer = ⊥
+
+-- ---- what was sent
+
+-- the serial by which an answer says that a message was sent, the last of several
+abbrev pub told_serial : Answer → Option ℕ
+told_serial (answers.Called call serial) = Some serial
+told_serial (answers.Sent serial) = Some serial
+told_serial (answers.Opening number serial) = Some serial
+told_serial (answers.Gone last) = last
+told_serial answer = None

@@ -1,42 +1,33 @@
 -- What closing streams asks of the bus, and gives (D-Bus Specification, "Message Bus Messages",
 -- `org.freedesktop.DBus.RemoveMatch`).
-use Rattle.std.specs.Prelude.{ℕ, ◌≡◌, ◌+◌, ◌⊎◌, ◌&&◌, ◌||◌, ◌==◌, not, is_none, is_some, if◌then◌else◌, Bool, true, false, List, [], ◌∷◌, ◌++◌, length, map, Option, Some, None, Result, Ok, Err, codes, option_map, option_to_list}
+use Rattle.std.specs.Prelude.{ℕ, ◌≡◌, ◌&&◌, ◌||◌, ◌==◌, not, is_none, is_some, if◌then◌else◌, Bool, true, false, List, [], ◌∷◌, ◌++◌, map, Option, Some, None, Result, Ok, Err, codes, option_map, option_to_list}
 use Rattle.std.specs.List.{list_all}
 use Rattle.wire_message.specs.declared.error.Error.{Error}
 use Rattle.wire_message.specs.declared.error.Error.TheVariants as errors
 use Rattle.rule_match.specs.Rule.{Rule}
-use Rattle.peer_route.specs.declared.writer.Writer.TheVariants as writers
 use Rattle.peer_route.specs.declared.queue.Subscription.{Subscription}
 use Rattle.peer_route.specs.declared.streams.MessageStream.{MessageStream}
 use Rattle.peer_route.specs.declared.leaving.Spent.{Spent}
 use Rattle.peer_route.specs.declared.leaving.Spent.TheVariants as spent
 use Rattle.peer_route.specs.declared.route.Issued.{Issued}
 use Rattle.peer_route.specs.Parcel.{Parcel}
-use Rattle.peer_route.specs.History.{Removes, Did, Gone, edit, Past, after}
-use Rattle.peer_route.specs.Streams.{are_open, close_waits, leaving, may_be_signal}
+use Rattle.peer_route.specs.History.{edit, Past, after_all}
+use Rattle.peer_route.specs.Streams.{are_open, close_waits, leaving, gone_events, may_be_signal}
 use Rattle.peer_route.specs.Left.{Held, View, Left, kept_at, wants_of, shared}
 use Rattle.peer_route.specs.declared.opening.RuleCall.{RuleCall}
 use Rattle.peer_route.specs.declared.opening.RuleCalls.{RuleCalls}
-use Rattle.peer_route.specs.BusCall.{remove_parcel, last_of, some_rules}
+use Rattle.peer_route.specs.BusCall.{remove_parcel, tellings_of, last_of, some_rules}
 use Rattle.peer_route.specs.Bus.{fits_string, letter_about, rule_call}
-use Rattle.peer_route.specs.Issuing.{Posting, Issues}
+use Rattle.peer_route.specs.Issuing.{Issues}
 use Rattle.peer_route.specs.Placing.{PutsAll}
 
--- RemoveMatch of each of these rules
-abbrev pub tellings_of : Past → List Rule → List Posting
-tellings_of h rules = map (λ rule. record { parcel = remove_parcel h.name rule; purpose = Removes }) rules
-
--- What telling the bus of these rules gives, after the streams were closed, which `h` has already: the last serial, if there are
--- any.
+-- What telling the bus of these rules gives, after the streams were closed, which `h` has already: the last serial, if there are any.
 abbrev pub TellsBus : View → Past → List Rule → Result (Option ℕ) Error → Type 0
-TellsBus new h [] (Ok last) = (last ≡ None) × Left new h
-TellsBus new h [] (Err error) = ⊥
 TellsBus new h rules result = Issues (λ last serials. last ≡ last_of serials) (Left new h) new (tellings_of h rules) h result
 
 -- the past once these streams were closed
 abbrev pub gone_both : ℕ → Option ℕ → Past → Past
-gone_both k None h = after (Did k Gone) h
-gone_both k (Some j) h = after (Did j Gone) (after (Did k Gone) h)
+gone_both k j h = after_all (gone_events k j) h
 
 -- The streams may be closed now: they are open, are two, and need not wait.
 abbrev pub MayClose : Past → ℕ → Option ℕ → Type 0
@@ -57,13 +48,6 @@ ClosesStreams old new k j h (spent.Back s t error) = ⊥
 ClosesStreams old new k j h (spent.Over errors.UnknownHandle) = (are_open h k j ≡ false) × (new ≡ old)
 ClosesStreams old new k j h (spent.Over errors.Memory) = ⊥
 ClosesStreams old new k j h (spent.Over error) = MayClose h k j × TellsBus new (gone_both k j h) (leaving h k j) (Err error)
-
--- One RemoveMatch waits at the end of the outbox, or two; no write failed, nor was the peer closed.
-abbrev pub TellsNow : View → View → Spent → Type 0
-TellsNow old new (spent.Gone (Some serial)) =
-    ((length new.outbox ≡ length old.outbox + 1) ⊎ (length new.outbox ≡ length old.outbox + 2)) × (new.done ≡ old.done)
-    × (old.writer ≡ writers.Fine) × (new.writer ≡ writers.Fine)
-TellsNow old new other = Unit {0}
 
 -- ---- on the way
 

@@ -24,7 +24,7 @@ use Rattle.peer_route.specs.Streams.{matched, held, is_open, take_by, first_posi
 use Rattle.peer_route.specs.declared.progress.OpenState.{OpenState}
 use Rattle.peer_route.specs.declared.progress.OpenState.TheVariants as states
 use Rattle.peer_route.specs.declared.polled.Polled.{Polled}
-use Rattle.peer_route.specs.Limits.{greatest_serial}
+use Rattle.wire_number.specs.Limits.{greatest_serial}
 
 -- what is kept of a reply: nothing where the call is one of the peer's own
 abbrev pub reply_kept : Bool → Seen → Slot

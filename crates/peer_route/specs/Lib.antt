@@ -1,4 +1,3 @@
-pub mod Limits
 pub mod Hex
 pub mod BodyWord
 pub mod BusCall
@@ -14,7 +13,7 @@ pub mod Trail
 pub mod Shown
 pub mod Plan
 pub mod Entries
-pub mod Answers
+pub mod Fitting
 pub mod Told
 pub mod Left
 pub mod Issuing

@@ -1,6 +1,7 @@
 -- How the messages of one command are put, step by step: their serials are drawn and their calls made, they are built, they are
 -- placed; what is refused is taken back (D-Bus Specification, "Message Format").
-use Rattle.std.specs.Prelude.{ℕ, ⊤, ◌≡◌, ◌+◌, ◌<◌, ◌^◌, ◌⊎◌, Bool, true, false, List, [], ◌∷◌, ◌++◌, length, take, Some, IsSome, Result, Ok, Err}
+use Rattle.std.specs.Prelude.{ℕ, ⊤, ◌≡◌, ◌+◌, ◌<◌, ◌^◌, ◌⊎◌, Bool, true, false, List, [], ◌∷◌, ◌++◌, length, take, unwrap_or, Some, IsSome, Result, Ok, Err}
+use Rattle.std.specs.List.{list_any}
 use Rattle.wire_message.specs.Circle.{IsNext, AllTaken}
 use Rattle.wire_message.specs.Front.{Seen}
 use Rattle.wire_message.specs.declared.error.Error.{Error}
@@ -11,9 +12,8 @@ use Rattle.peer_route.specs.declared.route.Issued.{Issued}
 use Rattle.peer_route.specs.declared.writer.Writer.TheVariants as writers
 use Rattle.peer_route.specs.Parcel.{Parcel, message_of}
 use Rattle.peer_route.specs.CallMessage.{expects, expects_reply}
-use Rattle.peer_route.specs.Trail.{or_zero}
 use Rattle.peer_route.specs.Left.{CallsView, with_call, waiting_serial, View}
-use Rattle.peer_route.specs.Issuing.{is_deep, IsShort, IsTooLong, AreShort, SomeLong, call_number}
+use Rattle.peer_route.specs.Issuing.{is_deep, is_long, some_long, messages_of, call_number}
 
 -- ---- serials
 
@@ -66,7 +66,7 @@ numbered_each (p ∷ ps) (serial ∷ serials) = numbered serial p ∷ numbered_e
 
 -- the serial that was set
 abbrev pub own : Parcel → ℕ
-own parcel = or_zero parcel.draft.serial
+own parcel = unwrap_or parcel.draft.serial 0
 
 abbrev pub own_message : Parcel → Seen
 own_message parcel = message_of parcel (own parcel)
@@ -77,17 +77,14 @@ pub record IsReady (parcel : Parcel) : Type 0 where
   pub shallow : is_deep parcel ≡ false
   pub few : length parcel.fds < 2 ^ 32
 
-abbrev pub IsOwnShort : Parcel → Type 0
-IsOwnShort parcel = IsShort parcel (own parcel)
-
-abbrev pub SomeOwnLong : List Parcel → Type 0
-SomeOwnLong [] = ⊥
-SomeOwnLong (p ∷ ps) = IsTooLong p (own p) ⊎ SomeOwnLong ps
+-- with the serial that was set it passes a limit
+abbrev pub is_own_long : Parcel → Bool
+is_own_long parcel = is_long parcel (own parcel)
 
 -- What building a message with this serial gives: it, within its limits; or a limit is passed.
 abbrev pub MakesAt : Parcel → ℕ → Result Seen Error → Type 0
-MakesAt parcel serial (Ok m) = (m ≡ message_of parcel serial) × IsShort parcel serial
-MakesAt parcel serial (Err errors.ExcessData) = IsTooLong parcel serial
+MakesAt parcel serial (Ok m) = (m ≡ message_of parcel serial) × (is_long parcel serial ≡ false)
+MakesAt parcel serial (Err errors.ExcessData) = is_long parcel serial ≡ true
 MakesAt parcel serial (Err errors.Memory) = ⊤
 MakesAt parcel serial (Err error) = ⊥
 
@@ -97,7 +94,7 @@ MakesOwn parcel r = MakesAt parcel (own parcel) r
 
 -- why some message isn't built
 abbrev pub NotMade : List Parcel → Error → Type 0
-NotMade ps errors.ExcessData = SomeOwnLong ps
+NotMade ps errors.ExcessData = list_any is_own_long ps ≡ true
 NotMade ps errors.Memory = ⊤
 NotMade ps error = ⊥
 
@@ -127,11 +124,6 @@ Grows {A} old new = (more : List A) × (new ≡ old ++ more)
 
 -- ---- all steps
 
-abbrev pub messages_of : List Parcel → List ℕ → List Seen
-messages_of [] serials = []
-messages_of (p ∷ ps) [] = []
-messages_of (p ∷ ps) (serial ∷ serials) = message_of p serial ∷ messages_of ps serials
-
 -- the core with these messages behind those of its outbox, and with these calls and this last serial
 abbrev pub with_messages : View → List Seen → CallsView → ℕ → View
 with_messages v ms calls last = record v {
@@ -144,16 +136,16 @@ with_messages v ms calls last = record v {
 -- What putting the messages of a command gives, by what is kept. None has a value that opens too many containers.
 abbrev pub PutsAll : {A : Type 0} → Bool → (A → List Issued) → View → View → List Parcel → Result A Error → Type 0
 PutsAll inner items old new ps (Ok issued) =
-    (serials : List ℕ) × Draws inner old.calls old.last ps serials new.calls new.last × AreShort ps serials × (old.writer ≡ writers.Fine)
+    (serials : List ℕ) × Draws inner old.calls old.last ps serials new.calls new.last × (some_long ps serials ≡ false) × (old.writer ≡ writers.Fine)
     × (items issued ≡ issued_from (length old.outbox) (length old.places) (messages_of ps serials))
     × (new ≡ with_messages old (messages_of ps serials) new.calls new.last)
 PutsAll inner items old new ps (Err errors.SerialsSpent) = Spends inner old.calls old.last ps
 PutsAll inner items old new ps (Err errors.ExcessData) =
-    (serials : List ℕ) × Draws inner old.calls old.last ps serials new.calls new.last × SomeLong ps serials
+    (serials : List ℕ) × Draws inner old.calls old.last ps serials new.calls new.last × (some_long ps serials ≡ true)
 PutsAll inner items old new ps (Err (errors.InputOutput kinds.WriteFault)) =
-    (serials : List ℕ) × Draws inner old.calls old.last ps serials new.calls new.last × AreShort ps serials × (old.writer ≡ writers.Failed)
+    (serials : List ℕ) × Draws inner old.calls old.last ps serials new.calls new.last × (some_long ps serials ≡ false) × (old.writer ≡ writers.Failed)
 PutsAll inner items old new ps (Err (errors.InputOutput kinds.Closed)) =
-    (serials : List ℕ) × Draws inner old.calls old.last ps serials new.calls new.last × AreShort ps serials × (old.writer ≡ writers.Closed)
+    (serials : List ℕ) × Draws inner old.calls old.last ps serials new.calls new.last × (some_long ps serials ≡ false) × (old.writer ≡ writers.Closed)
 PutsAll inner items old new ps (Err errors.Memory) = ⊤
 PutsAll inner items old new ps (Err error) = ⊥
 

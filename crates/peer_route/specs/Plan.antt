@@ -1,6 +1,7 @@
--- What each command means, by what the entries before it left: what it is answered and does by itself, or which messages it wants
--- sent, or that it reads or closes the peer. All else goes by these few kinds.
-use Rattle.std.specs.Prelude.{ℕ, ◌==◌, ◌&&◌, not, Bool, true, false, List, [], ◌∷◌, Option, Some, None, Result, Ok, Err}
+-- What each command means, by what the entries before it left: what it is answered and does by itself, and which messages it wants sent;
+-- or that it reads, or closes the peer. All else goes by these few kinds.
+use Rattle.std.specs.Prelude.{ℕ, ◌==◌, ◌&&◌, not, nat_lt, Bool, true, false, List, [], ◌∷◌, length, slice_get, Option, Some, None, option_map, Result, Ok, Err}
+use Rattle.wire_message.specs.Front.{Seen}
 use Rattle.wire_message.specs.declared.error.Error.{Error}
 use Rattle.wire_message.specs.declared.error.Error.TheVariants as errors
 use Rattle.wire_message.specs.declared.error.IoKind.TheVariants as kinds
@@ -8,163 +9,122 @@ use Rattle.rule_match.specs.Rule.{Rule}
 use Rattle.rule_match.specs.Bytes.{rule_in_bytes}
 use Rattle.peer_route.specs.declared.words.Words.{Words}
 use Rattle.peer_route.specs.declared.words.Words.TheVariants as words
+use Rattle.peer_route.specs.declared.words.CallOp.{CallOp}
+use Rattle.peer_route.specs.declared.words.CallOp.TheVariants as calls
+use Rattle.peer_route.specs.declared.words.StreamOp.{StreamOp}
+use Rattle.peer_route.specs.declared.words.StreamOp.TheVariants as ops
+use Rattle.peer_route.specs.declared.words.Live.{Live}
+use Rattle.peer_route.specs.declared.words.Live.TheVariants as live
 use Rattle.peer_route.specs.declared.answer.Answer.{Answer}
 use Rattle.peer_route.specs.declared.answer.Answer.TheVariants as answers
-use Rattle.peer_route.specs.Parcel as parcels
-use Rattle.peer_route.specs.CallMessage.{call_asked, signal_asked, reply_asked, error_asked}
-use Rattle.peer_route.specs.History.{Event, Made, Making, Plain, Ruled, Cloned, Did, Asked, Main, closing, unique_name, past}
+use Rattle.peer_route.specs.Parcel.{Asked}
+use Rattle.peer_route.specs.CallMessage.{expects, outgoing_asked, reply_asked, error_asked}
+use Rattle.peer_route.specs.History.{Event, Made, Making, Plain, Ruled, Cloned, Did, Main, Named, Stream, Past}
+use Rattle.peer_route.specs.History as events
 use Rattle.peer_route.specs.Calls.{in_flight, poll_answer, by_position, poll_events, drop_answer, drop_events}
-use Rattle.peer_route.specs.Streams.{busy, take_answer, take_events, is_open, asks_bus, close_waits, opening_answer, opening_events}
+use Rattle.peer_route.specs.Streams.{busy, gave_last, take_answer, take_events, is_open, are_open, asks_bus, close_waits, leaving, gone_events, opening_answer, opening_events}
+use Rattle.peer_route.specs.BusCall.{asking_of, tellings_of, first_of, last_of}
 use Rattle.peer_route.specs.Shown.{shown, shown_drop, shown_take, shown_opening}
-use Rattle.peer_route.specs.Trail.{Trail, Names, place, second_place, count, given}
+use Rattle.peer_route.specs.Issuing.{Posting, of_lane}
+use Rattle.peer_route.specs.Trail.{Trail, place, count}
 
 pub data Plan : Type 0 where
-  Says : (answer : Answer) (deeds : List Event) → Plan  -- it is answered so, and does these, newest first
-  Sends : (asked : parcels.Asked) → Plan  -- a message is to be sent
-  Adds : (rule : Rule) (asked : Option ℕ) → Plan  -- AddMatch is to be sent, and a stream of the rule made; the capacity that was asked for, if one was
-  Leaves : (k : ℕ) (j : Option ℕ) → Plan  -- the stream with this number is closed, then the second; RemoveMatch is to be sent for each rule that has none any more
+  Says : (answer : Answer) (deeds : List Event) → Plan  -- it is answered so, and does these, in order
+  Sends : (deeds : List Event) (ds : List Posting) (sent : List ℕ → Answer) → Plan  -- it does these, whatever becomes of its messages, which are to be sent; once they are, it is answered so, by their serials
   Reads : Plan  -- the next message is taken from the source
   Closes : Plan  -- the peer is closed
+  Writes : (fails : Bool) → Plan  -- the first message that waits is written, or its write fails
+  Never : Plan  -- no history has such an entry
 
 -- it is refused so, and does nothing
 abbrev pub refuses : Error → Plan
 refuses error = Says (answers.Refused error) []
 
--- ---- a call
+-- what is done with the call, or the stream, that a number names
+abbrev pub where_named : (ℕ → Plan) → Option ℕ → Plan
+where_named done None = refuses errors.UnknownHandle
+where_named done (Some k) = done k
 
--- the answer of the call that is named
-abbrev pub poll_of : List Event → Option ℕ → Answer
-poll_of h None = answers.Refused errors.UnknownHandle
-poll_of h (Some k) = shown (poll_answer (past h) k)
-
--- the same by position
-abbrev pub before_of : List Event → Option ℕ → Answer
-before_of h None = answers.Refused errors.UnknownHandle
-before_of h (Some k) = shown (by_position (poll_answer (past h) k))
-
--- what asking for it does
-abbrev pub poll_does : List Event → Option ℕ → List Event
-poll_does h None = []
-poll_does h (Some k) = poll_events k (poll_answer (past h) k)
-
--- its answer is asked for
-abbrev pub polls : List Event → Option ℕ → Plan
-polls h k = Says (poll_of h k) (poll_does h k)
-
--- the same by position
-abbrev pub polls_before : List Event → Option ℕ → Plan
-polls_before h k = Says (before_of h k) (poll_does h k)
-
--- its answer is waited for no more
-abbrev pub drop_of : List Event → Option ℕ → Answer
-drop_of h None = answers.Refused errors.UnknownHandle
-drop_of h (Some k) = shown_drop (drop_answer (past h) k)
-
--- what that does
-abbrev pub drop_does : List Event → Option ℕ → List Event
-drop_does h None = []
-drop_does h (Some k) = drop_events k (drop_answer (past h) k)
-
--- the call is dropped
-abbrev pub drops : List Event → Option ℕ → Plan
-drops h k = Says (drop_of h k) (drop_does h k)
-
--- ---- a stream
-
--- what the stream that is named gives
-abbrev pub take_of : List Event → Option ℕ → Answer
-take_of h None = answers.Refused errors.UnknownHandle
-take_of h (Some k) = shown_take (take_answer (past h) k)
-
--- the same by position
-abbrev pub take_before_of : List Event → Option ℕ → Answer
-take_before_of h None = answers.Refused errors.UnknownHandle
-take_before_of h (Some k) = shown_take (by_position (take_answer (past h) k))
-
--- what giving it does
-abbrev pub take_does : List Event → Option ℕ → List Event
-take_does h None = []
-take_does h (Some k) = take_events k (take_answer (past h) k)
-
--- its next item is taken
-abbrev pub takes_item : List Event → Option ℕ → Plan
-takes_item h k = Says (take_of h k) (take_does h k)
-
--- the same by position
-abbrev pub takes_item_before : List Event → Option ℕ → Plan
-takes_item_before h k = Says (take_before_of h k) (take_does h k)
-
--- whether the stream that is named, for which the bus was asked, is open
-abbrev pub opened_of : List Event → Option ℕ → Answer
-opened_of h None = answers.Refused errors.UnknownHandle
-opened_of h (Some k) = shown_opening (opening_answer (past h) k)
-
--- what being told so does
-abbrev pub opened_does : List Event → Option ℕ → List Event
-opened_does h None = []
-opened_does h (Some k) = opening_events k (opening_answer (past h) k)
-
--- whether it is open is asked
-abbrev pub asks_open : List Event → Option ℕ → Plan
-asks_open h k = Says (opened_of h k) (opened_does h k)
-
--- the lane's next stream is made so
-abbrev pub makes : ℕ → Names → Making → Plan
-makes lane streams making = Says (answers.Streaming (count lane streams)) (Made making ∷ [])
-
--- the stream that is named is open
-abbrev pub is_open_at : List Event → Option ℕ → Bool
-is_open_at h None = false
-is_open_at h (Some k) = is_open (past h) k
-
--- what is done with a stream that is named and open
+-- what is done with a stream that is open
 abbrev pub where_open : Bool → Plan → Plan
 where_open true done = done
 where_open false done = refuses errors.UnknownHandle
 
--- a clone of the stream that is named is made, where it is open
-abbrev pub clones : ℕ → Names → List Event → Option ℕ → Plan
-clones lane streams h None = refuses errors.UnknownHandle
-clones lane streams h (Some k) = where_open (is_open (past h) k) (makes lane streams (Cloned k))
+-- what is done where it need not wait for the reply to an AddMatch or a RemoveMatch
+abbrev pub unless_waits : Bool → Plan → Plan
+unless_waits true done = Says answers.Busy []
+unless_waits false done = done
 
--- it asks for this capacity, where it is open
-abbrev pub asks_more : ℕ → List Event → Option ℕ → Plan
-asks_more limit h None = refuses errors.UnknownHandle
-asks_more limit h (Some k) = where_open (is_open (past h) k) (Says answers.Set (Did k (Asked limit) ∷ []))
+-- ---- a message
+
+-- a message that was sent: its call's number in its lane and its serial; its serial alone where no reply is waited for
+abbrev pub sent_answer : Bool → ℕ → ℕ → Answer
+sent_answer true call serial = answers.Called call serial
+sent_answer false call serial = answers.Sent serial
+
+-- The message is to be sent, or is refused.
+abbrev pub sends : Trail → ℕ → Asked → Plan
+sends t lane (Err error) = refuses error
+sends t lane (Ok parcel) = Sends [] (of_lane parcel ∷ []) (λ serials. sent_answer (expects (Ok parcel)) (count lane t.names) (first_of serials))
+
+-- ---- a call
+
+abbrev pub on_call : Past → CallOp → ℕ → Plan
+on_call h calls.Poll k = Says (shown (poll_answer h k)) (poll_events k (poll_answer h k))
+on_call h (calls.Before before) k = Says (shown (by_position (poll_answer h k))) (poll_events k (poll_answer h k))
+on_call h calls.Drop k = Says (shown_drop (drop_answer h k)) (drop_events k (drop_answer h k))
+
+-- ---- a stream
+
+-- the lane's next stream is made so
+abbrev pub makes : Trail → ℕ → Making → Plan
+makes t lane making = Says (answers.Streaming (count lane t.streams)) (Made making ∷ [])
+
+-- The streams are closed; RemoveMatch is to be sent for each rule that has none any more.
+abbrev pub leaves : Past → ℕ → Option ℕ → Plan
+leaves h k j = Sends (gone_events k j) (tellings_of h (leaving h k j)) (λ serials. answers.Gone (last_of serials))
+
+-- Streams that are open are closed, where that need not wait; the second is named, or there is none.
+abbrev pub ends : Past → ℕ → Option (Option ℕ) → Plan
+ends h k None = refuses errors.UnknownHandle
+ends h k (Some j) = where_open (are_open h k j) (unless_waits (close_waits h k j) (leaves h k j))
+
+-- what a second number names, where one is given
+abbrev pub second_place : Trail → ℕ → Option ℕ → Option (Option ℕ)
+second_place t lane None = Some None
+second_place t lane (Some number) = option_map Some (place 0 lane number t.streams)
+
+abbrev pub given_by : Past → Option Stream → Option Seen
+given_by h None = None
+given_by h (Some s) = gave_last h.read s
+
+-- the message that the stream with this number gave last
+abbrev pub given_last : Past → ℕ → Option Seen
+given_last h k = given_by h (slice_get h.streams k)
+
+abbrev pub on_stream : Trail → ℕ → StreamOp → ℕ → Plan
+on_stream t lane (ops.Reply body) k = sends t lane (reply_asked t.past.name (given_last t.past k) body)
+on_stream t lane (ops.Error name body) k = sends t lane (error_asked t.past.name (given_last t.past k) name body)
+on_stream t lane ops.Take k = Says (shown_take (take_answer t.past k)) (take_events k (take_answer t.past k))
+on_stream t lane (ops.TakeBefore before) k = Says (shown_take (by_position (take_answer t.past k))) (take_events k (take_answer t.past k))
+on_stream t lane ops.Clone k = where_open (is_open t.past k) (makes t lane (Cloned k))
+on_stream t lane ops.Opened k = Says (shown_opening (opening_answer t.past k)) (opening_events k (opening_answer t.past k))
+on_stream t lane (ops.Queue limit) k = where_open (is_open t.past k) (Says answers.Set (Did k (events.Asked limit) ∷ []))
+on_stream t lane (ops.Unstream second) k = ends t.past k (second_place t lane second)
 
 -- ---- a stream of a rule
 
 -- The bus has to be asked, or else the stream is open at once.
 abbrev pub opens_new : Trail → ℕ → Rule → Option ℕ → Bool → Plan
-opens_new t lane rule asked true = Adds rule asked
-opens_new t lane rule asked false = makes lane t.streams (Ruled rule asked)
+opens_new t lane rule asked true = Sends [] (asking_of t.past rule asked ∷ []) (λ serials. answers.Opening (count lane t.streams) (first_of serials))
+opens_new t lane rule asked false = makes t lane (Ruled rule asked)
 
--- A closed peer has no new stream of a rule; and while an AddMatch or a RemoveMatch is on its way nothing is opened.
-abbrev pub opens_rule : Trail → ℕ → Rule → Option ℕ → Option Error → Bool → Plan
-opens_rule t lane rule asked (Some error) flies = refuses (errors.InputOutput kinds.Closed)
-opens_rule t lane rule asked None true = Says answers.Busy []
-opens_rule t lane rule asked None false = opens_new t lane rule asked (asks_bus (past t.events) rule)
-
--- A text that is no rule is refused by its fault.
-abbrev pub opens : Trail → ℕ → Result Rule Error → Option ℕ → Plan
-opens t lane (Err error) asked = refuses error
-opens t lane (Ok rule) asked = opens_rule t lane rule asked (closing t.events) (in_flight (past t.events))
-
--- Both are open, and they are two; or the one, where no second is named.
-abbrev pub are_open_at : List Event → ℕ → Names → ℕ → Option ℕ → Bool
-are_open_at h lane names number None = is_open_at h (place 0 lane number names)
-are_open_at h lane names number (Some second) =
-    is_open_at h (place 0 lane number names) && is_open_at h (place 0 lane second names) && not (number == second)
-
--- Streams are closed, unless that has to wait.
-abbrev pub ends_now : Bool → ℕ → Option ℕ → Plan
-ends_now true k j = Says answers.Busy []
-ends_now false k j = Leaves k j
-
--- They are open, or else that is refused.
-abbrev pub ends : Bool → List Event → Option ℕ → Option ℕ → Plan
-ends true h (Some k) j = ends_now (close_waits (past h) k j) k j
-ends there h k j = refuses errors.UnknownHandle
+-- A text that is no rule is refused by its fault. A closed peer has no new stream of a rule; and while an AddMatch or a RemoveMatch is on its
+-- way nothing is opened.
+abbrev pub opens : Trail → ℕ → Result Rule Error → Option ℕ → Option Error → Plan
+opens t lane (Err error) asked shut = refuses error
+opens t lane (Ok rule) asked (Some error) = refuses (errors.InputOutput kinds.Closed)
+opens t lane (Ok rule) asked None = unless_waits (in_flight t.past) (opens_new t lane rule asked (asks_bus t.past rule))
 
 -- ---- a read
 
@@ -174,25 +134,41 @@ reads_by (Some error) full = Says (answers.Closed error) []
 reads_by None true = Says answers.Busy []
 reads_by None false = Reads
 
+-- ---- lanes that run at once
+
+-- the lane of writes
+abbrev pub writer_lane : ℕ
+writer_lane = 4294967295
+
+-- it is the writer's, and of the first message that waits
+abbrev pub is_due : Past → ℕ → ℕ → Bool
+is_due h lane index = (lane == writer_lane) && ((index == h.outbox.done) && nat_lt index (length h.outbox.put))
+
+-- Writes take the messages in order; after a failed one all fail.
+abbrev pub writes_by : Bool → Bool → Plan
+writes_by true fails = Writes fails
+writes_by false fails = Never
+
+abbrev pub named_now : Option (List ℕ) → List ℕ → Plan
+named_now None name = Says (answers.Named true) (Named name ∷ [])
+named_now (Some earlier) name = Says (answers.Named false) []
+
+-- The other lines of such scripts stand in a history as the commands that they stand for.
+abbrev pub lives : Past → ℕ → Live → Plan
+lives h lane (live.Written index) = writes_by (is_due h lane index && not h.outbox.failed) false
+lives h lane (live.Fault index) = writes_by (is_due h lane index) true
+lives h lane (live.Unique name) = named_now h.name name
+lives h lane line = Never
+
 -- ---- every command
 
 abbrev pub plan : Trail → ℕ → Words → Plan
-plan t lane (words.Call w) = Sends (call_asked (unique_name t.events) t.setting.takes_fds w)
-plan t lane (words.Signal w) = Sends (signal_asked (unique_name t.events) t.setting.takes_fds w)
-plan t lane (words.Reply stream body) = Sends (reply_asked (unique_name t.events) (given t lane stream) body)
-plan t lane (words.Error stream text body) = Sends (error_asked (unique_name t.events) (given t lane stream) text body)
-plan t lane words.Read = reads_by (closing t.events) (busy (past t.events))
-plan t lane (words.Poll n) = polls t.events (place 0 lane n t.names)
-plan t lane (words.Before n before) = polls_before t.events (place 0 lane n t.names)
-plan t lane (words.Drop n) = drops t.events (place 0 lane n t.names)
-plan t lane words.Stream = makes lane t.streams Plain
-plan t lane (words.Open max_queued rule) = opens t lane (rule_in_bytes rule) max_queued
-plan t lane (words.Opened n) = asks_open t.events (place 0 lane n t.streams)
-plan t lane (words.Take n) = takes_item t.events (place 0 lane n t.streams)
-plan t lane (words.TakeBefore n before) = takes_item_before t.events (place 0 lane n t.streams)
-plan t lane (words.Clone n) = clones lane t.streams t.events (place 0 lane n t.streams)
-plan t lane (words.Unstream n second) =
-    ends (are_open_at t.events lane t.streams n second) t.events (place 0 lane n t.streams) (second_place lane second t.streams)
-plan t lane (words.Queue n limit) = asks_more limit t.events (place 0 lane n t.streams)
+plan t lane (words.Send out) = sends t lane (outgoing_asked t.past.name t.setting.takes_fds out)
+plan t lane words.Read = reads_by t.past.closing (busy t.past)
+plan t lane (words.OfCall n op) = where_named (on_call t.past op) (place 0 lane n t.names)
+plan t lane words.Stream = makes t lane Plain
+plan t lane (words.Open max_queued rule) = opens t lane (rule_in_bytes rule) max_queued t.past.closing
+plan t lane (words.OfStream n op) = where_named (on_stream t lane op) (place 0 lane n t.streams)
 plan t lane (words.MainQueue limit) = Says answers.Set (Main limit ∷ [])
 plan t lane words.Close = Closes
+plan t lane (words.Live line) = lives t.past lane line

@@ -1,30 +1,36 @@
 -- What the laws of streams, of busy reads and of what was sent say, in words of their own.
-use Rattle.std.specs.Prelude.{ℕ, ⊤, ◌≡◌, ◌==◌, ◌<◌, ◌&&◌, ◌||◌, ◌⊎◌, Bool, true, false, List, [], ◌∷◌, ◌++◌, if◌then◌else◌, length, map, drop, take, slice_get, Option, Some, None, Ok}
+use Rattle.std.specs.Prelude.{ℕ, ⊤, ◌≡◌, ◌==◌, ◌<◌, ◌&&◌, ◌||◌, ◌⊎◌, Bool, true, false, List, [], ◌∷◌, ◌++◌, if◌then◌else◌, length, map, drop, take, slice_get, Option, Some, None}
 use Rattle.wire_message.specs.Front.{Seen}
 use Rattle.wire_message.specs.declared.error.Error.{Error}
 use Rattle.wire_message.specs.declared.error.Error.TheVariants as errors
 use Rattle.rule_match.specs.Rule.{Rule}
 use Rattle.peer_route.specs.declared.words.Words.{Words}
 use Rattle.peer_route.specs.declared.words.Words.TheVariants as words
+use Rattle.peer_route.specs.declared.words.StreamOp.{StreamOp}
+use Rattle.peer_route.specs.declared.words.StreamOp.TheVariants as ops
 use Rattle.peer_route.specs.declared.answer.Answer.{Answer}
 use Rattle.peer_route.specs.declared.answer.Answer.TheVariants as answers
 use Rattle.peer_route.specs.declared.answer.Entry.{Entry}
-use Rattle.peer_route.specs.Parcel.{Setting, Asked, message_of}
-use Rattle.peer_route.specs.History.{Event, Did, Gone, read, closing, bears, Stream, streams, rule_of, is_return, capacities, past}
-use Rattle.peer_route.specs.Streams.{accepted, held, runs, limit_of, leaving, gone_then}
-use Rattle.peer_route.specs.BusCall.{add_message, remove_message}
-use Rattle.peer_route.specs.Trail.{Trail, place, next_serial, or_zero, count}
-use Rattle.peer_route.specs.Plan.{Plan, Sends, Adds, Leaves, plan}
-use Rattle.peer_route.specs.Entries.{trail, removal}
+use Rattle.peer_route.specs.Parcel.{Setting}
+use Rattle.peer_route.specs.History.{bears, Stream, rule_of, is_return, Past}
+use Rattle.peer_route.specs.Streams.{accepted, held, runs, limit_of}
+use Rattle.peer_route.specs.Trail.{Trail, place}
+use Rattle.peer_route.specs.Entries.{trail}
 
--- ---- streams
+-- ---- what streams give
 
 abbrev pub positions : List Seen → List ℕ
 positions ms = map (λ m. m.position) ms
 
+-- it asks for the stream's next item, by position or not
+abbrev pub is_take_op : StreamOp → Bool
+is_take_op ops.Take = true
+is_take_op (ops.TakeBefore before) = true
+is_take_op op = false
+
+-- the command takes from the lane's stream with this number
 abbrev pub is_take : ℕ → Words → Bool
-is_take number (words.Take n) = n == number
-is_take number (words.TakeBefore n before) = n == number
+is_take number (words.OfStream n op) = (n == number) && is_take_op op
 is_take number w = false
 
 abbrev pub item_by : Bool → Answer → List ℕ
@@ -36,16 +42,24 @@ abbrev pub items_given : ℕ → ℕ → List Entry → List ℕ
 items_given lane number [] = []
 items_given lane number (e ∷ es) = items_given lane number es ++ item_by ((e.lane == lane) && is_take number e.words) e.answer
 
--- The entry made the lane's stream with this number, of this rule or without one, which had `begun` to offer then. What it gave
--- since, and behind that what it didn't give, are the positions of those messages and of all that were read since and that the
--- rule accepts, in order.
-pub record Yields (setting : Setting) (newer : List Entry) (e : Entry) (older : List Entry) (number : ℕ) (rule : Option Rule) (begun : List Seen) : Type 0 where
+-- What the lane's stream with this number gave by these entries, and behind that what it doesn't have given after this trail, are the
+-- positions of these messages, in order.
+pub record Gives (t : Trail) (lane number : ℕ) (newer : List Entry) (all : List Seen) : Type 0 where
   pub k : ℕ
   pub stream : Stream
-  pub named : place 0 e.lane number (trail setting (newer ++ e ∷ older)).streams ≡ Some k
-  pub made : slice_get (streams (trail setting (newer ++ e ∷ older)).events) k ≡ Some stream
-  pub items : items_given e.lane number newer ++ positions (held (read (trail setting (newer ++ e ∷ older)).events) stream)
-      ≡ positions (begun ++ accepted rule (drop (length (read (trail setting older).events)) (read (trail setting (newer ++ e ∷ older)).events)))
+  pub named : place 0 lane number t.streams ≡ Some k
+  pub made : slice_get t.past.streams k ≡ Some stream
+  pub items : items_given lane number newer ++ positions (held t.past.read stream) ≡ positions all
+
+-- what was read since these entries
+abbrev pub read_since : Setting → List Entry → Past → List Seen
+read_since setting older h = drop (length (trail setting older).past.read) h.read
+
+-- The entry made the lane's stream with this number, of this rule or without one, which had `begun` to offer then. It gives that, and then
+-- all that was read since and that the rule accepts.
+abbrev pub Yields : Setting → List Entry → Entry → List Entry → ℕ → Option Rule → List Seen → Type 0
+Yields setting newer e older number rule begun =
+    let t = trail setting (newer ++ e ∷ older) in Gives t e.lane number newer (begun ++ accepted rule (read_since setting older t.past))
 
 -- The messages behind the return to this serial, which is the first of these that bears it; none where that is an error, or none
 -- does.
@@ -53,71 +67,59 @@ abbrev pub after_return : ℕ → List Seen → List Seen
 after_return serial [] = []
 after_return serial (m ∷ ms) = if bears serial m then (if is_return m.kind then ms else []) else after_return serial ms
 
--- The entry asked the bus for the lane's stream with this number, by an AddMatch of this serial. What it gave, and behind that what
--- it didn't give, are the positions of those messages that were read behind the return to that and that the rule accepts, in order.
-pub record YieldsAsked (setting : Setting) (newer : List Entry) (e : Entry) (older : List Entry) (number serial : ℕ) (rule : Rule) : Type 0 where
-  pub k : ℕ
-  pub stream : Stream
-  pub named : place 0 e.lane number (trail setting (newer ++ e ∷ older)).streams ≡ Some k
-  pub made : slice_get (streams (trail setting (newer ++ e ∷ older)).events) k ≡ Some stream
-  pub items : items_given e.lane number newer ++ positions (held (read (trail setting (newer ++ e ∷ older)).events) stream)
-      ≡ positions (accepted (Some rule) (after_return serial (drop (length (read (trail setting older).events)) (read (trail setting (newer ++ e ∷ older)).events))))
+-- The entry asked the bus for the lane's stream with this number, by an AddMatch of this serial. It gives all that was read behind the
+-- return to that and that the rule accepts.
+abbrev pub YieldsAsked : Setting → List Entry → Entry → List Entry → ℕ → ℕ → Rule → Type 0
+YieldsAsked setting newer e older number serial rule =
+    let t = trail setting (newer ++ e ∷ older) in Gives t e.lane number newer (accepted (Some rule) (after_return serial (read_since setting older t.past)))
 
-abbrev pub held_by : List Event → Option Stream → List Seen
+abbrev pub stream_at : Past → Option ℕ → Option Stream
+stream_at h None = None
+stream_at h (Some k) = slice_get h.streams k
+
+abbrev pub held_by : Past → Option Stream → List Seen
 held_by h None = []
-held_by h (Some s) = held (read h) s
-
-abbrev pub held_in : List Event → Option ℕ → List Seen
-held_in h None = []
-held_in h (Some k) = held_by h (slice_get (streams h) k)
+held_by h (Some s) = held h.read s
 
 -- what the lane's stream with this number holds
 abbrev pub holds : Trail → ℕ → ℕ → List Seen
-holds t lane number = held_in t.events (place 0 lane number t.streams)
-
-abbrev pub rule_in : List Event → Option ℕ → Option Rule
-rule_in h None = None
-rule_in h (Some k) = rule_of (slice_get (streams h) k)
+holds t lane number = held_by t.past (stream_at t.past (place 0 lane number t.streams))
 
 -- its rule, where it has one
 abbrev pub rule_at : Trail → ℕ → ℕ → Option Rule
-rule_at t lane number = rule_in t.events (place 0 lane number t.streams)
+rule_at t lane number = rule_of (stream_at t.past (place 0 lane number t.streams))
 
--- the command takes from the lane's stream with this number, by position or not
-abbrev pub IsTake : ℕ → Words → Type 0
-IsTake number w = (w ≡ words.Take number) ⊎ ((before : ℕ) × (w ≡ words.TakeBefore number before))
+-- ---- the end of streams
 
 -- where the entry is this lane's take of this number, its answer is that the stream is over, or was closed
 abbrev pub IsEnded : ℕ → ℕ → Entry → Type 0
 IsEnded lane number e =
-    e.lane ≡ lane → IsTake number e.words → (e.answer ≡ answers.Ended) ⊎ (e.answer ≡ answers.Refused errors.UnknownHandle)
+    e.lane ≡ lane → is_take number e.words ≡ true → (e.answer ≡ answers.Ended) ⊎ (e.answer ≡ answers.Refused errors.UnknownHandle)
 
--- the command asks for something of the lane's stream with this number
+-- it names this number as a second stream
+abbrev pub is_second : ℕ → StreamOp → Bool
+is_second number (ops.Unstream (Some second)) = second == number
+is_second number op = false
+
+-- the command asks something of the lane's stream with this number
 abbrev pub names_stream : ℕ → Words → Bool
-names_stream number (words.Take n) = n == number
-names_stream number (words.TakeBefore n before) = n == number
-names_stream number (words.Clone n) = n == number
-names_stream number (words.Unstream n None) = n == number
-names_stream number (words.Unstream n (Some second)) = (n == number) || (second == number)
-names_stream number (words.Queue n limit) = n == number
-names_stream number (words.Opened n) = n == number
-names_stream number (words.Reply n body) = n == number
-names_stream number (words.Error n name body) = n == number
+names_stream number (words.OfStream n op) = (n == number) || is_second number op
 names_stream number w = false
+
+-- the command closes streams
+abbrev pub is_unstream : Words → Bool
+is_unstream (words.OfStream n (ops.Unstream second)) = true
+is_unstream w = false
 
 -- the command closes the lane's stream with this number
 abbrev pub closes_stream : ℕ → Words → Bool
-closes_stream number (words.Unstream n None) = n == number
-closes_stream number (words.Unstream n (Some second)) = (n == number) || (second == number)
-closes_stream number w = false
+closes_stream number w = is_unstream w && names_stream number w
 
--- the answer says that the streams are closed, whether the bus was told or wasn't
-abbrev pub says_closed : Answer → Bool
-says_closed (answers.Gone last) = true
-says_closed (answers.SendFailed error) = true
-says_closed (answers.SentFirst error) = true
-says_closed (answers.Untold error) = true
-says_closed answer = false
+-- the streams that are to be closed aren't open, or have to wait
+abbrev pub stays_open : Answer → Bool
+stays_open (answers.Refused errors.UnknownHandle) = true
+stays_open answers.Busy = true
+stays_open answer = false
 
 -- the answer says that a stream for which the bus was asked will not be open
 abbrev pub says_denied : Answer → Bool
@@ -141,61 +143,33 @@ pub record IsDrained (t : Trail) (lane number : ℕ) (error : Error) : Type 0 wh
   pub k : ℕ
   pub stream : Stream
   pub named : place 0 lane number t.streams ≡ Some k
-  pub made : slice_get (streams t.events) k ≡ Some stream
-  pub still : runs (read t.events) stream ≡ true
-  pub nothing : held (read t.events) stream ≡ []
-  pub first : closing t.events ≡ Some error
+  pub made : slice_get t.past.streams k ≡ Some stream
+  pub still : runs t.past.read stream ≡ true
+  pub nothing : held t.past.read stream ≡ []
+  pub first : t.past.closing ≡ Some error
 
 -- the peer is open, and an open stream holds more than it may
-pub record HoldsTooMany (h : List Event) : Type 0 where
-  pub is_open : closing h ≡ None
+pub record HoldsTooMany (h : Past) : Type 0 where
+  pub is_open : h.closing ≡ None
   pub k : ℕ
   pub stream : Stream
-  pub made : slice_get (streams h) k ≡ Some stream
+  pub made : slice_get h.streams k ≡ Some stream
   pub still : stream.gone ≡ false
-  pub over : limit_of (capacities h) stream.rule < length (held (read h) stream)
+  pub over : limit_of h.capacities stream.rule < length (held h.read stream)
 
 -- ---- what was sent
 
--- the message that was asked to be sent, where the answer says that it was
-abbrev pub sent_of : Asked → Answer → List Seen
-sent_of (Ok parcel) (answers.Called call serial) = message_of parcel serial ∷ []
-sent_of (Ok parcel) (answers.Sent serial) = message_of parcel serial ∷ []
-sent_of asked answer = []
+-- the messages that these entries, newest first, put; oldest first
+abbrev pub all_put : List Entry → List Seen
+all_put [] = []
+all_put (e ∷ es) = all_put es ++ e.put
 
--- the AddMatch of an entry whose answer says that it was sent
-abbrev pub asked_by : List Event → Rule → Answer → List Seen
-asked_by h rule (answers.Opening number serial) = add_message (past h) rule serial ∷ []
-asked_by h rule answer = []
+-- those of them that were written within their entries
+abbrev pub all_written : List Entry → List Seen
+all_written [] = []
+all_written (e ∷ es) = all_written es ++ take e.written e.put
 
--- the RemoveMatch of each of these rules
-abbrev pub tellings : List Event → List Rule → List Seen
-tellings h [] = []
-tellings h (rule ∷ rules) = remove_message (past h) rule (or_zero (next_serial h)) ∷ tellings (removal h rule ∷ h) rules
-
-abbrev pub first_one : List Seen → List Seen
-first_one [] = []
-first_one (m ∷ ms) = m ∷ []
-
--- those of an entry whose answer says that they were sent
-abbrev pub told_by : List Event → ℕ → Option ℕ → Answer → List Seen
-told_by h k j (answers.Gone last) = tellings (gone_then j (Did k Gone ∷ h)) (leaving (past h) k j)
-told_by h k j (answers.SentFirst error) = first_one (tellings (gone_then j (Did k Gone ∷ h)) (leaving (past h) k j))
-told_by h k j answer = []
-
--- the messages of an entry whose answer says that they were sent, by what its command means
-abbrev pub sent_in : List Event → Plan → Answer → List Seen
-sent_in h (Sends asked) answer = sent_of asked answer
-sent_in h (Adds rule asked) answer = asked_by h rule answer
-sent_in h (Leaves k j) answer = told_by h k j answer
-sent_in h other answer = []
-
--- the messages that the entries of a peer of this setting say were sent, oldest first; the entries are newest first
-abbrev pub all_sent : Setting → List Entry → List Seen
-all_sent setting [] = []
-all_sent setting (e ∷ es) = all_sent setting es ++ sent_in (trail setting es).events (plan (trail setting es) e.lane e.words) e.answer
-
--- What was put, by whether a write failed and how many messages were written: those that were sent are just those that were
+-- Of what was put, by whether a write failed and how many messages were written: those that were sent are just those that were
 -- written, the first of what was put. Where no write failed that is all; where one failed it is that of the message behind them.
 abbrev pub IsPutOf : Bool → ℕ → List Seen → List Seen → Type 0
 IsPutOf false count put sent = (count ≡ length put) × (sent ≡ put)

@@ -192,19 +192,10 @@ abbrev pub are_open : Past → ℕ → Option ℕ → Bool
 are_open h k None = is_open h k
 are_open h k (Some j) = is_open h k && is_open h j && not (k == j)
 
--- What closing the stream with this number gives, or of two in one step. One that isn't open is unknown, and so are two that
--- are one.
-unfoldable pub close_answer : Past → ℕ → Option ℕ → Result (Unit {0}) Error
-close_answer h k j = known (are_open h k j)
-
-abbrev pub gone_then : Option ℕ → List Event → List Event
-gone_then None h = h
-gone_then (Some j) h = Did j Gone ∷ h
-
 -- what closing them is
-abbrev pub close_events : {A E : Type 0} → ℕ → Option ℕ → Result A E → List Event
-close_events k j (Ok done) = gone_then j (Did k Gone ∷ [])
-close_events k j (Err error) = []
+abbrev pub gone_events : ℕ → Option ℕ → List Event
+gone_events k None = Did k Gone ∷ []
+gone_events k (Some j) = Did k Gone ∷ Did j Gone ∷ []
 
 -- What asking for a capacity gives.
 unfoldable pub ask_answer : Past → ℕ → Result (Unit {0}) Error

@@ -13,7 +13,7 @@ use Rattle.peer_route.specs.declared.answer.Answer.{Answer}
 use Rattle.peer_route.specs.declared.answer.Answer.TheVariants as answers
 use Rattle.peer_route.specs.declared.answer.Entry.{Entry}
 use Rattle.peer_route.specs.Parcel.{Setting}
-use Rattle.peer_route.specs.History.{Event, read, put, written, is_failed}
+use Rattle.peer_route.specs.History.{Outbox, Past}
 use Rattle.peer_route.specs.Plan.{Plan, Reads, plan}
 use Rattle.peer_route.specs.Entries.{trail}
 
@@ -24,30 +24,29 @@ abbrev pub encodings : List Seen → List ℕ
 encodings ms = flat_map (λ m. m.bytes) ms
 
 -- the source's bytes without those of the messages read
-abbrev pub left_after : List ℕ → List Event → List ℕ
-left_after bytes h = drop (length (encodings (read h))) bytes
+abbrev pub left_after : List ℕ → Past → List ℕ
+left_after bytes h = drop (length (encodings h.read)) bytes
 
--- what a read is answered by its outcome
-abbrev pub answer_of : Result Seen Error → Answer
-answer_of (Ok m) = answers.Got m
-answer_of (Err error) = answers.Closed error
+-- what a read took and was answered, by its outcome
+abbrev pub IsOf : Result Seen Error → Entry → Type 0
+IsOf (Ok m) e = (e.read ≡ Some m) × (e.answer ≡ answers.Got)
+IsOf (Err error) e = (e.read ≡ None) × (e.answer ≡ answers.Closed error)
 
 -- Where it isn't told what comes after the bytes, a failing call may come at any time.
-abbrev pub IsOutcome : Option Bool → ℕ → List ℕ → Answer → Type 0
-IsOutcome (Some stop) count bytes answer = answer ≡ answer_of (outcome count bytes (ending_of stop))
-IsOutcome None count bytes answer =
-    (answer ≡ answer_of (outcome count bytes kinds.Ended)) ⊎ (answer ≡ answers.Closed (errors.InputOutput kinds.Fault))
+abbrev pub IsOutcome : Option Bool → ℕ → List ℕ → Entry → Type 0
+IsOutcome (Some stop) count bytes e = IsOf (outcome count bytes (ending_of stop)) e
+IsOutcome None count bytes e = IsOf (outcome count bytes kinds.Ended) e ⊎ IsOf (Err (errors.InputOutput kinds.Fault)) e
 
 -- a read of an open peer that isn't busy; a busy one takes nothing
-abbrev pub ReadTold : Option Bool → List ℕ → List Event → Plan → Answer → Type 0
-ReadTold stop bytes h Reads answer = IsOutcome stop (length (read h)) (left_after bytes h) answer
-ReadTold stop bytes h other answer = ⊤
+abbrev pub ReadTold : Option Bool → List ℕ → Past → Plan → Entry → Type 0
+ReadTold stop bytes h Reads e = IsOutcome stop (length h.read) (left_after bytes h) e
+ReadTold stop bytes h other e = ⊤
 
 -- Each read of an open peer that isn't busy is what stands at the front of the bytes that the reads before it left.
 abbrev pub ReadsTold : Setting → Option Bool → List ℕ → List Entry → Type 0
 ReadsTold setting stop bytes [] = ⊤
 ReadsTold setting stop bytes (e ∷ es) =
-    ReadTold stop bytes (trail setting es).events (plan (trail setting es) e.lane e.words) e.answer × ReadsTold setting stop bytes es
+    ReadTold stop bytes (trail setting es).past (plan (trail setting es) e.lane e.words) e × ReadsTold setting stop bytes es
 
 -- ---- the sink
 
@@ -68,25 +67,26 @@ IsSentBytes false count ms sent = (count ≡ length ms) × (sent ≡ encodings m
 IsSentBytes true count ms sent =
     (broken : Seen) × (n : ℕ) × (slice_get ms count ≡ Some broken) × (n < length broken.bytes) × (sent ≡ encodings (take count ms) ++ take n broken.bytes)
 
-abbrev pub IsSentOf : List Event → List ℕ → Type 0
-IsSentOf h sent = IsSentBytes (is_failed h) (written h) (put h) sent
+abbrev pub IsSentOf : Outbox → List ℕ → Type 0
+IsSentOf o sent = IsSentBytes o.failed o.written o.put sent
 
 -- How many of the messages, from the first on, end within so many bytes; one that ends exactly there does.
 abbrev pub fitting : ℕ → List Seen → ℕ
 fitting room [] = 0
 fitting room (m ∷ ms) = if nat_le (length m.bytes) room then fitting (room - length m.bytes) ms + 1 else 0
 
--- Where the sink says that no write fails, none failed. Where it has room for so many bytes, those of all messages that were put so
--- far were written that end within them, and a write failed exactly where some message ends past them: it is that of the first such.
-abbrev pub WriteTold : Option (Option ℕ) → List Event → Type 0
-WriteTold None h = ⊤
-WriteTold (Some None) h = is_failed h ≡ false
-WriteTold (Some (Some room)) h = (written h ≡ fitting room (put h)) × (is_failed h ≡ nat_lt room (length (encodings (put h))))
+-- Where the sink says that no write fails, none failed. Where it has room for so many bytes, those of the messages were written that end
+-- within them, and a write failed exactly where some message ends past them: it is that of the first such.
+abbrev pub AreWritten : Option (Option ℕ) → Bool → ℕ → List Seen → Type 0
+AreWritten None failed count ms = ⊤
+AreWritten (Some None) failed count ms = failed ≡ false
+AreWritten (Some (Some room)) failed count ms = (count ≡ fitting room ms) × (failed ≡ nat_lt room (length (encodings ms)))
 
--- So it is at each entry.
+-- So it is of all messages that were put so far, at each entry.
 abbrev pub WritesTold : Setting → Option (Option ℕ) → List Entry → Type 0
 WritesTold setting room [] = ⊤
-WritesTold setting room (e ∷ es) = WriteTold room (trail setting (e ∷ es)).events × WritesTold setting room es
+WritesTold setting room (e ∷ es) =
+    let o = (trail setting (e ∷ es)).past.outbox in AreWritten room o.failed o.written o.put × WritesTold setting room es
 
 -- After a failed write the sink holds just the bytes that it had room for.
 abbrev pub IsCutAt : Option (Option ℕ) → Bool → List ℕ → Type 0

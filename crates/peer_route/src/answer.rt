@@ -1,4 +1,5 @@
 use crate::words::Words;
+use std::marker::Model;
 use wire_message::{Error, Message};
 
 /// What a command was answered.
@@ -7,16 +8,12 @@ pub enum Answer {
     Called { call: u64, serial: u32 },
     /// The message was sent, with this serial; no reply is waited for.
     Sent(u32),
-    /// The command did nothing, for this reason.
+    /// The command did nothing, for this reason; or it closed streams of which the bus can't be told, for this reason.
     Refused(Error),
-    /// The message wasn't sent, or not whole; of several, the first.
+    /// The message, or one of several, wasn't sent, or not whole.
     SendFailed(Error),
-    /// The first of the command's messages was sent; the next wasn't, or not whole.
-    SentFirst(Error),
-    /// The stream, or both, are closed, but the bus isn't told: no message was put, for this reason.
-    Untold(Error),
-    /// The message that was read.
-    Got(Message),
+    /// A message was read, which the entry holds.
+    Got,
     /// The error that closed the peer.
     Closed(Error),
     /// The position of the method return that answers the call.
@@ -52,6 +49,10 @@ pub enum Answer {
     Set,
     /// The peer is closed.
     Shut,
+    /// Whether the peer was given that unique name: it had none.
+    Named(bool),
+    /// A write: nothing is answered.
+    Silent,
 }
 
 impl Drop for Answer {
@@ -61,9 +62,7 @@ impl Drop for Answer {
             Answer::Sent(_) => {}
             Answer::Refused(_) => {}
             Answer::SendFailed(_) => {}
-            Answer::SentFirst(_) => {}
-            Answer::Untold(_) => {}
-            Answer::Got(_) => {}
+            Answer::Got => {}
             Answer::Closed(_) => {}
             Answer::Reply(_) => {}
             Answer::MethodError(_) => {}
@@ -84,18 +83,47 @@ impl Drop for Answer {
             Answer::Gone(_) => {}
             Answer::Set => {}
             Answer::Shut => {}
+            Answer::Named(_) => {}
+            Answer::Silent => {}
         }
     }
 }
 
-/// One entry of a history: a lane's command and its answer.
+/// Messages that one command put in the outbox, in order.
+pub struct Posts(pub Vec<Message>);
+
+impl Drop for Posts {
+    fn drop(self) {
+        let Posts(_) = self;
+    }
+}
+
+impl Model for Posts {
+    ghost use Rattle.std.specs.Prelude.{List};
+    ghost use Rattle.wire_message.specs.Front.{Seen};
+
+    ghost Value = { List Seen };
+
+    ghost view = { λ p. p.0.items };
+}
+
+/// One entry of a history: a lane's command and its answer, the message that it read, the messages that it put, and what was
+/// written of them within it.
 pub struct Entry {
-    /// Whose command it was.
+    /// Whose command it was; of a write, 4,294,967,295.
     pub lane: u32,
     /// The command.
     pub words: Words,
     /// Its answer.
     pub answer: Answer,
+    /// The message that it read, if it did.
+    pub read: Option<Message>,
+    /// The messages that it put in the outbox, in order.
+    pub put: Posts,
+    /// How many of these were written, from the first on.
+    pub written: u64,
+    /// Whether the write of the next one failed; then none behind it was written.
+    pub failed: bool,
 }
 
 impl Drop for Entry {
@@ -104,6 +132,10 @@ impl Drop for Entry {
             lane: _,
             words: _,
             answer: _,
+            read: _,
+            put: _,
+            written: _,
+            failed: _,
         } = self;
     }
 }

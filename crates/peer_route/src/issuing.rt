@@ -4,10 +4,10 @@ ghost use Rattle.std.specs.List.{list_any, AllByRecursion};
 ghost use Rattle.wire_message.specs.Circle.{IsNext};
 ghost use Rattle.peer_route.specs.CallMessage.{expects, expects_reply};
 ghost use Rattle.peer_route.specs.History.{Past};
-ghost use Rattle.peer_route.specs.Issuing.{is_deep, IssuesAll, Waits};
+ghost use Rattle.peer_route.specs.Issuing.{is_deep, IssuesAll};
 ghost use Rattle.peer_route.specs.Left.{Left, waiting_serial};
 ghost use Rattle.peer_route.specs.Parcel.{sent_by};
-ghost use Rattle.peer_route.specs.Placing.{made_call, Draws, NotDrawn, NotDrawnOne, AreMade, numbered, numbered_each, own_message, IsReady, IsOwnShort, NotMade, place_of, places_of, issued_at, issued_from, Grows, PutsAll, IsMore, Marks, back_to};
+ghost use Rattle.peer_route.specs.Placing.{made_call, Draws, NotDrawn, NotDrawnOne, AreMade, numbered, numbered_each, own_message, IsReady, is_own_long, NotMade, place_of, places_of, issued_at, issued_from, Grows, PutsAll, IsMore, Marks, back_to};
 
 use crate::calls::PendingMethodCalls;
 use crate::letter::{Letter, expects_reply};
@@ -84,7 +84,7 @@ fn build_each<'a>(
 ) -> Result<Vec<Message>>
     requires { AllByRecursion IsReady list.items }
     ensures built { IfOk result (λ messages. (messages.items ≡ map own_message (map (sent_by name.now served) list.entry.items))
-        × AllByRecursion IsOwnShort (map (sent_by name.now served) list.entry.items)) }
+        × (list_any is_own_long (map (sent_by name.now served) list.entry.items) ≡ false)) }
     ensures refused { IfErr result (λ e. NotMade (map (sent_by name.now served) list.entry.items) e) }
 {
     let mut messages = Vec::new(alloc);
@@ -156,13 +156,15 @@ impl Route {
     /// 64 containers at once; SerialsSpent exactly where some message finds each of the 4,294,967,295 serials pending, once those
     /// before it have theirs; ExcessData exactly where the elements of an array would take more than 67,108,864 bytes, or a
     /// message more than 134,217,728; InputOutput(WriteFault) exactly where a write failed before the peer was closed,
-    /// InputOutput(Closed) exactly where it was closed before. An error changes nothing, and draws no serial.
+    /// InputOutput(Closed) exactly where it was closed before. An error changes nothing, and draws no serial. An empty list has none.
     pub fn issue(&mut self, list: Vec<Letter<'_>>, served: bool) -> Result<Vec<Issued>>
         requires { AllByRecursion (λ p. length p.fds < 2 ^ 32) list.items }
         ensures issues { (p : Past) → Left self.old p
             → IssuesAll (λ issued. issued.items) self.old self.new (map (sent_by self.old.name served) list.entry.items) p result }
-        ensures placed { IfOk result (λ issued. Waits self.old self.new (length list.entry.items) issued.items) }
     {
+        if list.is_empty() {
+            return Ok(Vec::new(self.alloc));
+        }
         if is_some_deep(list.as_slice()) {
             return Err(Error::Variant(VariantError::Depth));
         }

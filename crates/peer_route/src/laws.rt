@@ -1,10 +1,10 @@
 //! Laws of every history, each the contract of a function that does nothing.
-ghost use Rattle.std.specs.Prelude.{◌≡◌, ◌≢◌, ◌↔◌, ◌⊎◌, ◌+◌, ◌<◌, ℕ, max, length, List, Option, [], ◌∷◌, ◌++◌, IfSome, Some, None, Ok, true, false, slice_get};
+ghost use Rattle.std.specs.Prelude.{◌≡◌, ◌≢◌, ◌↔◌, ◌⊎◌, ◌+◌, ◌<◌, ℕ, max, length, map, List, Option, [], ◌∷◌, ◌++◌, IfSome, Some, None, true, false, slice_get, Ok, if◌then◌else◌};
 ghost use Rattle.std.specs.List.{AllByRecursion};
 ghost use Rattle.wire_message.specs.Front.{Seen};
 ghost use Rattle.wire_message.specs.declared.error.Error.{Error};
 ghost use Rattle.peer_route.specs.declared.answer.Entry.{Entry};
-ghost use Rattle.peer_route.specs.History.{Event, Took, Spent, Made, Making, Ruled, Did, Main, Deed, Asked, closing, is_failed, writer, is_serial, put, written, read, unique_name, Stream, is_subscribed, asked_or, raised, Past, after, past};
+ghost use Rattle.peer_route.specs.History.{Event, Took, Spent, Made, Making, Ruled, Did, Main, Deed, Asked, is_serial, Stream, is_subscribed, asked_or, raised, Past, after, after_all};
 ghost use Rattle.peer_route.specs.Calls.{pending, poll_answer};
 ghost use Rattle.peer_route.specs.Streams.{runs, limit_answer, take_answer};
 ghost use Rattle.rule_match.specs.Rule.{Rule};
@@ -12,18 +12,16 @@ ghost use Rattle.rule_match.specs.Bytes.{rule_in_bytes};
 ghost use Rattle.rule_match.specs.contracts.rule.MatchRulePartialEq.TheImpl.{ghosts as of_rules};
 ghost use Rattle.peer_route.specs.Rules.{is_same, usual};
 ghost use Rattle.peer_route.specs.Parcel.{Setting};
-ghost use Rattle.peer_route.specs.Parcel as parcels;
-ghost use Rattle.peer_route.specs.CallMessage.{expects};
-ghost use Rattle.peer_route.specs.BusCall.{add_parcel};
-ghost use Rattle.peer_route.specs.Plan.{Says, Sends, Adds, plan};
-ghost use Rattle.peer_route.specs.Trail.{place, second_place, count, next_serial, or_zero};
-ghost use Rattle.peer_route.specs.Entries.{trail};
-ghost use Rattle.peer_route.specs.Answers.{Legal, send_refusal, long_refusal, sent_answer, write_fault};
-ghost use Rattle.peer_route.specs.StreamLaws.{Yields, holds, rule_at, closes_stream, says_closed, says_denied, IsNoStream, IsTake, IsEnded, IsLast, IsDrained, HoldsTooMany, IsPutOf, all_sent, YieldsAsked};
-ghost use Rattle.peer_route.specs.Laws.{IsPoll, IsFinal, IsReplyAt, IsUnknown, IsFirstReply, IsCutOff, IsPast, SamePoll, IsByPosition, IsNothingYet};
+ghost use Rattle.peer_route.specs.BusCall.{last_of};
+ghost use Rattle.peer_route.specs.Issuing.{Posting, refusal, drawn};
+ghost use Rattle.peer_route.specs.Plan.{Says, Sends, plan, second_place};
+ghost use Rattle.peer_route.specs.Trail.{place};
+ghost use Rattle.peer_route.specs.Entries.{trail, Legal, IsAtOnce, IsOfRun, write_fault};
+ghost use Rattle.peer_route.specs.StreamLaws.{Yields, YieldsAsked, holds, rule_at, is_unstream, closes_stream, stays_open, says_denied, IsNoStream, is_take, IsEnded, IsLast, IsDrained, HoldsTooMany, IsPutOf, all_put, all_written};
+ghost use Rattle.peer_route.specs.Laws.{IsPoll, IsFinal, IsReplyAt, IsUnknown, IsFirstReply, IsCutOff, IsPast, SameCall, IsByPosition, IsNothingYet, told_serial};
 
 use crate::answer::Answer;
-use crate::words::Words;
+use crate::words::{CallOp, Live, StreamOp, Words};
 use crate::writer::Writer;
 
 /// A call is answered once. Once a lane's poll of a number, by position or not, gave a reply, valid or not, or the closing
@@ -35,7 +33,7 @@ pub fn answered_once()
 
 /// A dropped call is unknown from then on: each later poll or drop of that number by that lane is refused, whatever comes.
 pub fn dropped_for_good()
-    ensures { (setting : Setting) (newer older : List Entry) (e : Entry) (number : ℕ) → Legal setting (newer ++ e ∷ older) → e.words ≡ Words.Drop number → e.answer ≡ Answer.Dropped → AllByRecursion (IsUnknown e.lane number) newer }
+    ensures { (setting : Setting) (newer older : List Entry) (e : Entry) (number : ℕ) → Legal setting (newer ++ e ∷ older) → e.words ≡ Words.OfCall number CallOp.Drop → e.answer ≡ Answer.Dropped → AllByRecursion (IsUnknown e.lane number) newer }
 {}
 
 /// A reply answers the call whose serial it bears, and the first such reply does. Where a poll is answered with a position,
@@ -48,8 +46,8 @@ pub fn answered_by_the_first()
 /// Messages of one peer arrive in the order of their positions: the one that was read behind so many others has the position one
 /// above that number. So of two messages the one that arrived first has the lesser `Sequence`.
 pub fn arrival_order_is_the_order_of_positions()
-    ensures position { (setting : Setting) (es : List Entry) (i : ℕ) (m : Seen) → Legal setting es → slice_get (read (trail setting es).events) i ≡ Some m → m.position ≡ i + 1 }
-    ensures order { (setting : Setting) (es : List Entry) (i j : ℕ) (m n : Seen) → Legal setting es → i < j → slice_get (read (trail setting es).events) i ≡ Some m → slice_get (read (trail setting es).events) j ≡ Some n → m.position < n.position }
+    ensures position { (setting : Setting) (es : List Entry) (i : ℕ) (m : Seen) → Legal setting es → slice_get (trail setting es).past.read i ≡ Some m → m.position ≡ i + 1 }
+    ensures order { (setting : Setting) (es : List Entry) (i j : ℕ) (m n : Seen) → Legal setting es → i < j → slice_get (trail setting es).past.read i ≡ Some m → slice_get (trail setting es).past.read j ≡ Some n → m.position < n.position }
 {}
 
 /// A call is answered with the error that closed the peer only where no reply came: no message read after the call was put
@@ -65,10 +63,10 @@ pub fn reply_changes_no_other()
     ensures late { (p : Past) (m : Seen) (serial : ℕ) → p.closing ≡ None → is_serial m.reply_serial serial ≡ true → pending p serial ≡ false → (k : ℕ) → poll_answer (after (Took m) p) k ≡ poll_answer p k }
 {}
 
-/// A poll or a drop changes the answer of no other call: neither of another number of its lane, nor of another lane.
+/// A poll or a drop changes what is asked of no other call: neither of another number of its lane, nor of another lane.
 pub fn spent_changes_no_other()
     ensures event { (p : Past) (j k : ℕ) → j ≢ k → poll_answer (after (Spent j) p) k ≡ poll_answer p k }
-    ensures entry { (setting : Setting) (older : List Entry) (e : Entry) (number lane other : ℕ) → Legal setting (e ∷ older) → IsPoll number e.words ⊎ (e.words ≡ Words.Drop number) → (lane ≡ e.lane → other ≢ number) → SamePoll (trail setting (e ∷ older)) (trail setting older) lane other }
+    ensures entry { (setting : Setting) (older : List Entry) (e : Entry) (number lane other : ℕ) (op : CallOp) → Legal setting (e ∷ older) → e.words ≡ Words.OfCall number op → (lane ≡ e.lane → other ≢ number) → SameCall (trail setting (e ∷ older)) (trail setting older) lane other }
 {}
 
 /// A stream gives exactly what was read since it was made. Where a lane's command made a stream, the positions of the items
@@ -88,14 +86,14 @@ pub fn rule_stream_gives_what_it_accepts()
 /// A clone gives what its original held when it was made, and then exactly what was read since and what the original's rule
 /// accepts: nothing is missed, or given twice by it, whatever the original gives or whether it is closed.
 pub fn clone_goes_on_where_its_original_is()
-    ensures { (setting : Setting) (newer : List Entry) (e : Entry) (older : List Entry) (number original : ℕ) → Legal setting (newer ++ e ∷ older) → e.words ≡ Words.Clone original → e.answer ≡ Answer.Streaming number
+    ensures { (setting : Setting) (newer : List Entry) (e : Entry) (older : List Entry) (number original : ℕ) → Legal setting (newer ++ e ∷ older) → e.words ≡ Words.OfStream original StreamOp.Clone → e.answer ≡ Answer.Streaming number
         → Yields setting newer e older number (rule_at (trail setting older) e.lane original) (holds (trail setting older) e.lane original) }
 {}
 
 /// A stream that was closed is unknown from then on, whether the bus was told or couldn't be: each later command of that lane that
 /// names its number is refused, whatever comes.
 pub fn stream_closed_for_good()
-    ensures { (setting : Setting) (newer older : List Entry) (e : Entry) (number : ℕ) → Legal setting (newer ++ e ∷ older) → closes_stream number e.words ≡ true → says_closed e.answer ≡ true → AllByRecursion (IsNoStream e.lane number) newer }
+    ensures { (setting : Setting) (newer older : List Entry) (e : Entry) (number : ℕ) → Legal setting (newer ++ e ∷ older) → closes_stream number e.words ≡ true → stays_open e.answer ≡ false → AllByRecursion (IsNoStream e.lane number) newer }
 {}
 
 /// A stream for which the bus was asked gives exactly what was read behind the return to its AddMatch and what its rule accepts, in
@@ -109,7 +107,7 @@ pub fn asked_stream_gives_what_comes_behind_the_return()
 /// A stream that the bus denied, or that no reply came for before the peer was closed, is unknown once that was said: each later
 /// command of that lane that names its number is refused, whatever comes.
 pub fn stream_denied_for_good()
-    ensures { (setting : Setting) (newer older : List Entry) (e : Entry) (number : ℕ) → Legal setting (newer ++ e ∷ older) → e.words ≡ Words.Opened number → says_denied e.answer ≡ true → AllByRecursion (IsNoStream e.lane number) newer }
+    ensures { (setting : Setting) (newer older : List Entry) (e : Entry) (number : ℕ) → Legal setting (newer ++ e ∷ older) → e.words ≡ Words.OfStream number StreamOp.Opened → says_denied e.answer ≡ true → AllByRecursion (IsNoStream e.lane number) newer }
 {}
 
 /// What a stream does changes what no other gives: neither its items, nor its end, nor its closing, nor a capacity that it asks
@@ -155,31 +153,34 @@ pub fn rule_capacity()
 
 /// The first cause stays, whatever comes: the error that closed the peer, and what became of its writer.
 pub fn first_cause_stays()
-    ensures closing { (h newer : List Event) (error : Error) → closing h ≡ Some error → closing (newer ++ h) ≡ Some error }
-    ensures writer { (h newer : List Event) → writer h ≢ Writer.Fine → writer (newer ++ h) ≡ writer h }
+    ensures closing { (p : Past) (newer : List Event) (error : Error) → p.closing ≡ Some error → (after_all newer p).closing ≡ Some error }
+    ensures writer { (p : Past) (newer : List Event) → p.outbox.writer ≢ Writer.Fine → (after_all newer p).outbox.writer ≡ p.outbox.writer }
 {}
 
-/// Once a peer was closed nothing is put any more, and no write fails.
+/// Once a peer was closed nothing is put any more.
 pub fn nothing_is_put_after_closing()
-    ensures { (setting : Setting) (newer : List Entry) (e : Entry) (older : List Entry) → Legal setting (newer ++ e ∷ older) → e.words ≡ Words.Close
-        → (put (trail setting (newer ++ e ∷ older)).events ≡ put (trail setting older).events) × (is_failed (trail setting (newer ++ e ∷ older)).events ≡ is_failed (trail setting older).events) }
+    ensures entries { (setting : Setting) (newer : List Entry) (e : Entry) (older : List Entry) → Legal setting (newer ++ e ∷ older) → e.words ≡ Words.Close → AllByRecursion (λ (f : Entry). f.put ≡ []) newer }
+    ensures past { (setting : Setting) (newer : List Entry) (e : Entry) (older : List Entry) → Legal setting (newer ++ e ∷ older) → e.words ≡ Words.Close
+        → (trail setting (newer ++ e ∷ older)).past.outbox.put ≡ (trail setting older).past.outbox.put }
+    ensures failed { (setting : Setting) (newer : List Entry) (e : Entry) (older : List Entry) → Legal setting (newer ++ e ∷ older) → e.words ≡ Words.Close → AllByRecursion (λ (f : Entry). IsOfRun f.words) newer
+        → (trail setting (newer ++ e ∷ older)).past.outbox.failed ≡ (trail setting older).past.outbox.failed }
 {}
 
 /// A stream ends once and for good. Once a lane's take of a number gave the closing error, or said that the stream is over,
 /// each later take of that number by that lane says that it is over, or is refused once the stream was closed.
 pub fn stream_ends_once()
-    ensures { (setting : Setting) (newer older : List Entry) (e : Entry) (number : ℕ) → Legal setting (newer ++ e ∷ older) → IsTake number e.words → IsLast e.answer → AllByRecursion (IsEnded e.lane number) newer }
+    ensures { (setting : Setting) (newer older : List Entry) (e : Entry) (number : ℕ) → Legal setting (newer ++ e ∷ older) → is_take number e.words ≡ true → IsLast e.answer → AllByRecursion (IsEnded e.lane number) newer }
 {}
 
 /// A stream gives the closing error only where it holds nothing, and the error is the first that closed the peer.
 pub fn stream_gives_the_first_error()
-    ensures { (setting : Setting) (older : List Entry) (e : Entry) (number : ℕ) (error : Error) → Legal setting (e ∷ older) → IsTake number e.words → e.answer ≡ Answer.Closed error → IsDrained (trail setting older) e.lane number error }
+    ensures { (setting : Setting) (older : List Entry) (e : Entry) (number : ℕ) (error : Error) → Legal setting (e ∷ older) → is_take number e.words ≡ true → e.answer ≡ Answer.Closed error → IsDrained (trail setting older) e.lane number error }
 {}
 
 /// A stream that is made after the peer was closed is over from the start.
 pub fn stream_after_closing_is_over()
     ensures { (setting : Setting) (newer older : List Entry) (e : Entry) (number : ℕ) (error : Error) → Legal setting (newer ++ e ∷ older) → e.words ≡ Words.Stream → e.answer ≡ Answer.Streaming number
-        → closing (trail setting older).events ≡ Some error → AllByRecursion (IsEnded e.lane number) newer }
+        → (trail setting older).past.closing ≡ Some error → AllByRecursion (IsEnded e.lane number) newer }
 {}
 
 /// Only a poll or a take by position is answered that there is none before it, and it is never answered that there is nothing
@@ -191,48 +192,69 @@ pub fn none_before_is_by_position()
 
 /// A read is busy exactly where the peer is open and some open stream holds more than it may, and changes nothing then.
 pub fn busy_where_a_stream_is_full()
-    ensures only { (setting : Setting) (older : List Entry) (e : Entry) → Legal setting (e ∷ older) → e.words ≡ Words.Read → e.answer ≡ Answer.Busy → HoldsTooMany (trail setting older).events }
-    ensures there { (setting : Setting) (older : List Entry) (e : Entry) → Legal setting (e ∷ older) → e.words ≡ Words.Read → HoldsTooMany (trail setting older).events → e.answer ≡ Answer.Busy }
-    ensures same { (setting : Setting) (older : List Entry) (e : Entry) → e.words ≡ Words.Read → e.answer ≡ Answer.Busy → (trail setting (e ∷ older)).events ≡ (trail setting older).events }
+    ensures only { (setting : Setting) (older : List Entry) (e : Entry) → Legal setting (e ∷ older) → e.words ≡ Words.Read → e.answer ≡ Answer.Busy → HoldsTooMany (trail setting older).past }
+    ensures there { (setting : Setting) (older : List Entry) (e : Entry) → Legal setting (e ∷ older) → e.words ≡ Words.Read → HoldsTooMany (trail setting older).past → e.answer ≡ Answer.Busy }
+    ensures same { (setting : Setting) (older : List Entry) (e : Entry) → Legal setting (e ∷ older) → e.words ≡ Words.Read → e.answer ≡ Answer.Busy → trail setting (e ∷ older) ≡ trail setting older }
 {}
 
-/// What the answers say was sent is what was written: the messages of the commands that were answered with a serial are, in order,
-/// the first of what was put, as many as were written. Where no write failed that is all that was put; where one failed it is that
-/// of the message right behind them.
+/// What the answers say was sent is what was written. What was put is what the entries put, in order; an answer tells the serial of the
+/// last message that its entry put; and where each entry writes at once, the messages that the entries wrote are, in order, the first
+/// of what was put, as many as were written. Where no write failed that is all that was put; where one failed it is that of the message
+/// right behind them.
 pub fn put_is_what_was_sent()
-    ensures { (setting : Setting) (es : List Entry) → Legal setting es → IsPutOf (is_failed (trail setting es).events) (written (trail setting es).events) (put (trail setting es).events) (all_sent setting es) }
+    ensures put { (setting : Setting) (es : List Entry) → Legal setting es → (trail setting es).past.outbox.put ≡ all_put es }
+    ensures serial { (setting : Setting) (older : List Entry) (e : Entry) (serial : ℕ) → Legal setting (e ∷ older) → told_serial e.answer ≡ Some serial → IsAtOnce e → (last_of (map (λ (m : Seen). m.serial) e.put) ≡ Some serial) × (e.written ≡ length e.put) }
+    ensures sent { (setting : Setting) (es : List Entry) → Legal setting es → AllByRecursion IsAtOnce es → AllByRecursion (λ (e : Entry). IsOfRun e.words) es
+        → IsPutOf (trail setting es).past.outbox.failed (trail setting es).past.outbox.written (trail setting es).past.outbox.put (all_written es) }
 {}
 
-/// A peer keeps the name that it was given at its start, whatever comes; it is the sender of what it sends (D-Bus Specification,
-/// "Header Fields", `SENDER`).
+/// A peer keeps the name that it was given: at its start, or by the first entry that gives one where there was none. One that comes
+/// later changes nothing, and is told so.
 pub fn name_stays()
-    ensures { (setting : Setting) (es : List Entry) → unique_name (trail setting es).events ≡ setting.name }
+    ensures start { (setting : Setting) (es : List Entry) → AllByRecursion (λ (e : Entry). IsOfRun e.words) es → (trail setting es).past.name ≡ setting.name }
+    ensures kept { (setting : Setting) (newer older : List Entry) (name : List ℕ) → (trail setting older).past.name ≡ Some name → (trail setting (newer ++ older)).past.name ≡ Some name }
+    ensures given { (setting : Setting) (older : List Entry) (e : Entry) (name : List ℕ) → Legal setting (e ∷ older) → e.words ≡ Words.Live (Live.Unique name) → (trail setting older).past.name ≡ None
+        → (e.answer ≡ Answer.Named true) × ((trail setting (e ∷ older)).past.name ≡ Some name) }
+    ensures later { (setting : Setting) (older : List Entry) (e : Entry) (name earlier : List ℕ) → Legal setting (e ∷ older) → e.words ≡ Words.Live (Live.Unique name) → (trail setting older).past.name ≡ Some earlier
+        → (e.answer ≡ Answer.Named false) × (trail setting (e ∷ older) ≡ trail setting older) }
 {}
 
-/// A refused command leaves all as it was: what the entries leave is the same as before it.
+/// Each message that an entry puts has the peer's name as its sender, and none where the peer has none then (D-Bus Specification,
+/// "Header Fields", `SENDER`).
+pub fn messages_bear_the_name()
+    ensures { (setting : Setting) (older : List Entry) (e : Entry) → Legal setting (e ∷ older) → AllByRecursion (λ (m : Seen). m.sender ≡ (trail setting older).past.name) e.put }
+{}
+
+/// A refused command leaves all as it was: what the entries leave is the same as before it. So it is of one that closes streams where
+/// they aren't open; where the bus can't be told of their rules, they are closed.
 pub fn refused_changes_nothing()
-    ensures { (setting : Setting) (older : List Entry) (e : Entry) (error : Error) → e.answer ≡ Answer.Refused error → trail setting (e ∷ older) ≡ trail setting older }
+    ensures { (setting : Setting) (older : List Entry) (e : Entry) (error : Error) → Legal setting (e ∷ older) → e.answer ≡ Answer.Refused error → (is_unstream e.words ≡ true → error ≡ Error.UnknownHandle)
+        → trail setting (e ∷ older) ≡ trail setting older }
 {}
 
 /// So does one that is answered busy, a read as well as the opening of a stream: what the entries leave is the same as before it.
 pub fn busy_changes_nothing()
-    ensures { (setting : Setting) (older : List Entry) (e : Entry) → e.answer ≡ Answer.Busy → trail setting (e ∷ older) ≡ trail setting older }
+    ensures { (setting : Setting) (older : List Entry) (e : Entry) → Legal setting (e ∷ older) → e.answer ≡ Answer.Busy → trail setting (e ∷ older) ≡ trail setting older }
 {}
 
 /// Closing streams changes nothing else, the RemoveMatch that tells the bus of it included, whether that was written or not: each other
 /// stream gives the same, a poll of each call that was issued before gives the same, and each capacity is the same.
 pub fn unstream_changes_no_other()
-    ensures streams { (setting : Setting) (older : List Entry) (e : Entry) (number : ℕ) (second : Option ℕ) (k : ℕ) → Legal setting (e ∷ older) → e.words ≡ Words.Unstream number second → place 0 e.lane number (trail setting older).streams ≢ Some k → second_place e.lane second (trail setting older).streams ≢ Some k → take_answer (past (trail setting (e ∷ older)).events) k ≡ take_answer (past (trail setting older).events) k }
-    ensures calls { (setting : Setting) (older : List Entry) (e : Entry) (number : ℕ) (second : Option ℕ) (k : ℕ) → Legal setting (e ∷ older) → e.words ≡ Words.Unstream number second → k < length (past (trail setting older).events).calls → poll_answer (past (trail setting (e ∷ older)).events) k ≡ poll_answer (past (trail setting older).events) k }
-    ensures capacities { (setting : Setting) (older : List Entry) (e : Entry) (number : ℕ) (second : Option ℕ) → Legal setting (e ∷ older) → e.words ≡ Words.Unstream number second → (past (trail setting (e ∷ older)).events).capacities ≡ (past (trail setting older).events).capacities }
+    ensures streams { (setting : Setting) (older : List Entry) (e : Entry) (number : ℕ) (second : Option ℕ) (k : ℕ) → Legal setting (e ∷ older) → e.words ≡ Words.OfStream number (StreamOp.Unstream second)
+        → place 0 e.lane number (trail setting older).streams ≢ Some k → second_place (trail setting older) e.lane second ≢ Some (Some k)
+        → take_answer (trail setting (e ∷ older)).past k ≡ take_answer (trail setting older).past k }
+    ensures calls { (setting : Setting) (older : List Entry) (e : Entry) (number : ℕ) (second : Option ℕ) (k : ℕ) → Legal setting (e ∷ older) → e.words ≡ Words.OfStream number (StreamOp.Unstream second)
+        → k < length (trail setting older).past.calls → poll_answer (trail setting (e ∷ older)).past k ≡ poll_answer (trail setting older).past k }
+    ensures capacities { (setting : Setting) (older : List Entry) (e : Entry) (number : ℕ) (second : Option ℕ) → Legal setting (e ∷ older) → e.words ≡ Words.OfStream number (StreamOp.Unstream second)
+        → (trail setting (e ∷ older)).past.capacities ≡ (trail setting older).past.capacities }
 {}
 
-/// A command to which no refusal applies has its defined answer. One that asks or does by itself has what its plan says; a message
-/// that is to be sent, with a serial that is free and within its limit, while the writer is fine, is answered as a call with its
-/// number in the lane or as sent, with the next serial, or else by the fault of its own write; and so is the AddMatch of a stream that
-/// is to be opened.
+/// A command to which no refusal applies has its defined answer. One that asks or does by itself has what its plan says; where
+/// messages are to be sent that nothing refuses, while the writer is fine, it is answered by the serials that they draw, or else by the
+/// fault of a write.
 pub fn done_where_nothing_refuses()
     ensures says { (setting : Setting) (older : List Entry) (e : Entry) (answer : Answer) (deeds : List Event) → Legal setting (e ∷ older) → plan (trail setting older) e.lane e.words ≡ Says answer deeds → e.answer ≡ answer }
-    ensures sends { (setting : Setting) (older : List Entry) (e : Entry) (asked : parcels.Asked) → Legal setting (e ∷ older) → plan (trail setting older) e.lane e.words ≡ Sends asked → send_refusal (trail setting older).events asked ≡ None → writer (trail setting older).events ≡ Writer.Fine → (e.answer ≡ sent_answer (expects asked) (count e.lane (trail setting older).names) (or_zero (next_serial (trail setting older).events))) ⊎ (e.answer ≡ write_fault) }
-    ensures adds { (setting : Setting) (older : List Entry) (e : Entry) (rule : Rule) (asked : Option ℕ) → Legal setting (e ∷ older) → plan (trail setting older) e.lane e.words ≡ Adds rule asked → long_refusal (next_serial (trail setting older).events) (add_parcel (unique_name (trail setting older).events) rule) ≡ None → writer (trail setting older).events ≡ Writer.Fine → (e.answer ≡ Answer.Opening (count e.lane (trail setting older).streams) (or_zero (next_serial (trail setting older).events))) ⊎ (e.answer ≡ write_fault) }
+    ensures sends { (setting : Setting) (older : List Entry) (e : Entry) (deeds : List Event) (ds : List Posting) (sent : List ℕ → Answer) → Legal setting (e ∷ older) → plan (trail setting older) e.lane e.words ≡ Sends deeds ds sent
+        → refusal (after_all deeds (trail setting older).past) ds ≡ None → (trail setting older).past.outbox.writer ≡ Writer.Fine
+        → (serials : List ℕ) × (drawn (after_all deeds (trail setting older).past) ds ≡ Some serials) × (e.answer ≡ (if e.failed then write_fault else sent serials)) }
 {}

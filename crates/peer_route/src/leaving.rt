@@ -3,7 +3,7 @@ ghost use Rattle.std.specs.Prelude.{ℕ, ◌≡◌, ◌↔◌, IsTrue, ◌++◌,
 ghost use Rattle.std.specs.List.{list_all};
 ghost use Rattle.peer_route.specs.History.{Past};
 ghost use Rattle.peer_route.specs.Left.{Left, kept_at, is_flying};
-ghost use Rattle.peer_route.specs.Leaving.{must_tell, without_both, left_by, rule_kept, left_rules, number_of, have_rules, ended, MakesRemoval, MakesRemovals, second_left, Tells, last_issued, ClosesStreams, TellsNow};
+ghost use Rattle.peer_route.specs.Leaving.{must_tell, without_both, left_by, rule_kept, left_rules, number_of, have_rules, ended, MakesRemoval, MakesRemovals, second_left, Tells, last_issued, ClosesStreams};
 ghost use Rattle.peer_route.specs.Placing.{IsMore};
 
 use crate::opening::{RuleCall, RuleCalls, match_letter, may_be_signal};
@@ -177,7 +177,6 @@ impl Route {
     /// InputOutput(WriteFault) exactly where a write failed before. Of a closed peer's streams nothing is told.
     pub fn close_stream(&mut self, stream: MessageStream, second: Option<MessageStream>) -> Spent
         ensures closes { (p : Past) → Left self.old p → ClosesStreams self.old self.new stream.number (number_of second) p result }
-        ensures waits { TellsNow self.old self.new result }
     {
         let (number, other) = (stream.number, number_of(&second));
         if !self.are_open(number, other) {

@@ -20,7 +20,7 @@ mod streams;
 mod words;
 mod writer;
 
-pub use answer::{Answer, Entry};
+pub use answer::{Answer, Entry, Posts};
 pub use body_word::{body_words_are_read, read_body};
 pub use calls::PendingMethodCalls;
 pub use hex::{hex_byte, read_hex};
@@ -29,12 +29,13 @@ pub use laws::{
     arrival_order_is_the_order_of_positions, asked_stream_gives_what_comes_behind_the_return,
     busy_changes_nothing, busy_where_a_stream_is_full, capacity_throws_nothing_away,
     clone_goes_on_where_its_original_is, done_where_nothing_refuses, dropped_for_good,
-    first_cause_stays, main_capacity, name_stays, none_before_is_by_position,
-    nothing_is_put_after_closing, put_is_what_was_sent, refused_changes_nothing,
-    reply_changes_no_other, rule_capacity, rule_stream_gives_what_it_accepts,
-    rules_are_one_where_equal, spent_changes_no_other, stream_after_closing_is_over,
-    stream_changes_no_other, stream_closed_for_good, stream_denied_for_good, stream_ends_once,
-    stream_gives_all, stream_gives_the_first_error, unstream_changes_no_other,
+    first_cause_stays, main_capacity, messages_bear_the_name, name_stays,
+    none_before_is_by_position, nothing_is_put_after_closing, put_is_what_was_sent,
+    refused_changes_nothing, reply_changes_no_other, rule_capacity,
+    rule_stream_gives_what_it_accepts, rules_are_one_where_equal, spent_changes_no_other,
+    stream_after_closing_is_over, stream_changes_no_other, stream_closed_for_good,
+    stream_denied_for_good, stream_ends_once, stream_gives_all, stream_gives_the_first_error,
+    unstream_changes_no_other,
 };
 pub use leaving::Spent;
 pub use letter::Letter;
@@ -43,5 +44,5 @@ pub use polled::Polled;
 pub use progress::{OpenState, Progress};
 pub use route::{Issued, Route};
 pub use streams::MessageStream;
-pub use words::{CallFlags, Command, Outgoing, Words};
+pub use words::{CallFlags, CallOp, Command, Live, Outgoing, OutgoingKind, StreamOp, Words};
 pub use writer::Writer;

@@ -5,7 +5,7 @@ ghost use Rattle.peer_route.specs.Issuing.{is_deep};
 ghost use Rattle.wire_names.specs.Names.{is_member_name};
 ghost use Rattle.peer_route.specs.History.{OnBus, Past, after, after_all};
 ghost use Rattle.peer_route.specs.Streams.{opening_answer, opening_events, may_be_signal};
-ghost use Rattle.peer_route.specs.Bus.{OpensRule, AsksNow, IsShownAs, AsksFor, MakesBody, MakesLetter, PutsOwn};
+ghost use Rattle.peer_route.specs.Bus.{OpensRule, IsShownAs, AsksFor, MakesBody, MakesLetter, PutsOwn};
 ghost use Rattle.peer_route.specs.BusCall.{bus_draft, match_parcel};
 ghost use Rattle.peer_route.specs.Left.{Left, shared};
 ghost use Rattle.peer_route.specs.Placing.{IsMore, PutsAll};
@@ -248,7 +248,6 @@ impl Route {
     /// failed. Memory for want of memory. An error changes nothing.
     pub fn open_rule(&mut self, rule: OwnedMatchRule, max_queued: Option<u64>) -> Result<Opens>
         ensures opens { (p : Past) → Left self.old p → OpensRule self.old self.new rule max_queued p result }
-        ensures waits { AsksNow self.old self.new result }
     {
         if self.calls.closing().is_some() {
             return Err(Error::InputOutput(IoKind::Closed));

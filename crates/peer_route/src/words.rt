@@ -1,7 +1,7 @@
 ghost use Rattle.std.specs.Prelude.{◌≡◌, IfOk, option_map};
 
 use std::alloc::{AllocError, Global};
-use wire_names::Bytes;
+use wire_names::{Bytes, OwnedUniqueName};
 
 /// What a script's flag letters ask of a call's message.
 #[derive(Clone, Copy, PartialEq, Eq, Debug)]
@@ -18,8 +18,19 @@ pub struct CallFlags {
     pub descriptor: bool,
 }
 
+/// Whether a message of a member is a method call or a signal.
+#[derive(Clone, Copy, PartialEq, Eq, Debug)]
+pub enum OutgoingKind {
+    /// A method call.
+    Call,
+    /// A signal.
+    Signal,
+}
+
 /// The words of a method call or of a signal.
 pub struct Outgoing {
+    /// Which of the two it is.
+    pub kind: OutgoingKind,
     /// The connection that it is for, if one is named.
     pub destination: Option<Bytes>,
     /// The object that is called, or that the signal comes from.
@@ -37,6 +48,7 @@ pub struct Outgoing {
 impl Drop for Outgoing {
     fn drop(self) {
         let Outgoing {
+            kind: _,
             destination: _,
             path: _,
             interface: _,
@@ -47,41 +59,99 @@ impl Drop for Outgoing {
     }
 }
 
-/// What a command asks for. Texts are kept as they stand: one outside its grammar is refused when the command runs.
-pub enum Words {
-    /// A method call of a member at an object path.
-    Call(Outgoing),
-    /// A signal from an object path.
-    Signal(Outgoing),
-    /// A method return to the message that the lane's stream with this number gave last.
-    Reply {
-        /// The stream's number, from 0 on.
-        stream: u64,
-        /// The word of its body, if it has one.
-        body: Option<Bytes>,
-    },
-    /// An error to the message that the lane's stream with this number gave last.
+/// What a command asks of a call.
+#[derive(Clone, Copy, PartialEq, Eq, Debug)]
+pub enum CallOp {
+    /// Its answer.
+    Poll,
+    /// Its answer by position, which isn't looked at.
+    Before(u64),
+    /// That its answer is waited for no more.
+    Drop,
+}
+
+/// What a command asks of a stream.
+pub enum StreamOp {
+    /// A method return to the message that it gave last, with the body of that word, if it has one.
+    Reply(Option<Bytes>),
+    /// An error to that message.
     Error {
-        /// The stream's number, from 0 on.
-        stream: u64,
         /// The error's name.
         name: Bytes,
         /// The word of its body, if it has one.
         body: Option<Bytes>,
     },
+    /// Its next item.
+    Take,
+    /// Its next item by position, which isn't looked at.
+    TakeBefore(u64),
+    /// A stream that goes on where it is.
+    Clone,
+    /// Whether it is open, for which the bus was asked.
+    Opened,
+    /// That it may hold so many messages.
+    Queue(u64),
+    /// That it is closed, and perhaps another in the same step, which is closed after it.
+    Unstream(Option<u64>),
+}
+
+impl Drop for StreamOp {
+    fn drop(self) {
+        match self {
+            StreamOp::Reply(_) => {}
+            StreamOp::Error { name: _, body: _ } => {}
+            StreamOp::Take => {}
+            StreamOp::TakeBefore(_) => {}
+            StreamOp::Clone => {}
+            StreamOp::Opened => {}
+            StreamOp::Queue(_) => {}
+            StreamOp::Unstream(_) => {}
+        }
+    }
+}
+
+/// What stands in the history, or in the scripts, of a connection whose lanes run at once, and in no script of `run`.
+pub enum Live {
+    /// The message at this place of the outbox was written.
+    Written(u64),
+    /// Its write failed.
+    Fault(u64),
+    /// The peer is given its unique name.
+    Unique(OwnedUniqueName),
+    /// A line that waits for the answer of the lane's call with this number: it stands in the history as a `Poll`.
+    Await(u64),
+    /// A line that waits for the next item of the lane's stream with this number: it stands in the history as a `Take`.
+    Next(u64),
+    /// A line that serves until its stream ends: it stands in the history as one entry for each message.
+    Worker,
+}
+
+impl Drop for Live {
+    fn drop(self) {
+        match self {
+            Live::Written(_) => {}
+            Live::Fault(_) => {}
+            Live::Unique(_) => {}
+            Live::Await(_) => {}
+            Live::Next(_) => {}
+            Live::Worker => {}
+        }
+    }
+}
+
+/// What a command asks for. Texts are kept as they stand: one outside its grammar is refused when the command runs.
+pub enum Words {
+    /// Send a method call to an object path, or a signal from one.
+    Send(Outgoing),
     /// Take the next message from the source.
     Read,
-    /// Ask for the answer of the lane's call with this number, from 0 on.
-    Poll(u64),
-    /// Ask for it by position.
-    Before {
-        /// The call's number.
+    /// Ask something of a call of the lane.
+    OfCall {
+        /// The call's number in its lane, from 0 on.
         call: u64,
-        /// The position, which isn't looked at.
-        before: u64,
+        /// What is asked.
+        op: CallOp,
     },
-    /// Wait no more for the answer of the lane's call with this number.
-    Drop(u64),
     /// Open a stream of all messages that are read from now on.
     Stream,
     /// Open a stream of those messages that are read from now on and that a rule accepts.
@@ -91,76 +161,36 @@ pub enum Words {
         /// The rule's text.
         rule: Bytes,
     },
-    /// Ask whether the lane's stream with this number, from 0 on, for which the bus was asked, is open.
-    Opened(u64),
-    /// Take the next item of the lane's stream with this number, from 0 on.
-    Take(u64),
-    /// Take it by position.
-    TakeBefore {
-        /// The stream's number.
+    /// Ask something of a stream of the lane.
+    OfStream {
+        /// The stream's number in its lane, from 0 on.
         stream: u64,
-        /// The position, which isn't looked at.
-        before: u64,
-    },
-    /// Open a stream that goes on where the lane's stream with this number is.
-    Clone(u64),
-    /// Close the lane's stream with this number, and perhaps another in the same step.
-    Unstream {
-        /// The stream's number.
-        stream: u64,
-        /// The other's, which is closed after it.
-        second: Option<u64>,
-    },
-    /// Ask that the lane's stream with this number may hold so many messages.
-    Queue {
-        /// The stream's number.
-        stream: u64,
-        /// How many messages.
-        limit: u64,
+        /// What is asked.
+        op: StreamOp,
     },
     /// Set how many messages a stream without a rule may hold.
     MainQueue(u64),
     /// Close the peer.
     Close,
+    /// What no script of `run` has.
+    Live(Live),
 }
 
 impl Drop for Words {
     fn drop(self) {
         match self {
-            Words::Call(_) => {}
-            Words::Signal(_) => {}
-            Words::Reply { stream: _, body: _ } => {}
-            Words::Error {
-                stream: _,
-                name: _,
-                body: _,
-            } => {}
+            Words::Send(_) => {}
             Words::Read => {}
-            Words::Poll(_) => {}
-            Words::Before { call: _, before: _ } => {}
-            Words::Drop(_) => {}
+            Words::OfCall { call: _, op: _ } => {}
             Words::Stream => {}
             Words::Open {
                 max_queued: _,
                 rule: _,
             } => {}
-            Words::Opened(_) => {}
-            Words::Take(_) => {}
-            Words::TakeBefore {
-                stream: _,
-                before: _,
-            } => {}
-            Words::Clone(_) => {}
-            Words::Unstream {
-                stream: _,
-                second: _,
-            } => {}
-            Words::Queue {
-                stream: _,
-                limit: _,
-            } => {}
+            Words::OfStream { stream: _, op: _ } => {}
             Words::MainQueue(_) => {}
             Words::Close => {}
+            Words::Live(_) => {}
         }
     }
 }
@@ -181,6 +211,7 @@ impl Outgoing {
         ensures { IfOk result (λ words. words ≡ self.now) }
     {
         Ok(Outgoing {
+            kind: self.kind,
             destination: clone_text(&self.destination, alloc)?,
             path: self.path.try_clone(alloc)?,
             interface: clone_text(&self.interface, alloc)?,
@@ -191,52 +222,67 @@ impl Outgoing {
     }
 }
 
+impl StreamOp {
+    /// The same again.
+    pub fn try_clone(&self, alloc: Global) -> Result<StreamOp, AllocError>
+        ensures { IfOk result (λ op. op ≡ self.now) }
+    {
+        Ok(match self {
+            StreamOp::Reply(body) => StreamOp::Reply(clone_text(body, alloc)?),
+            StreamOp::Error { name, body } => StreamOp::Error {
+                name: name.try_clone(alloc)?,
+                body: clone_text(body, alloc)?,
+            },
+            StreamOp::Take => StreamOp::Take,
+            StreamOp::TakeBefore(before) => StreamOp::TakeBefore(*before),
+            StreamOp::Clone => StreamOp::Clone,
+            StreamOp::Opened => StreamOp::Opened,
+            StreamOp::Queue(limit) => StreamOp::Queue(*limit),
+            StreamOp::Unstream(second) => StreamOp::Unstream(*second),
+        })
+    }
+}
+
+impl Live {
+    /// The same again.
+    pub fn try_clone(&self, alloc: Global) -> Result<Live, AllocError>
+        ensures { IfOk result (λ live. live ≡ self.now) }
+    {
+        Ok(match self {
+            Live::Written(index) => Live::Written(*index),
+            Live::Fault(index) => Live::Fault(*index),
+            Live::Unique(name) => Live::Unique(name.try_clone(alloc)?),
+            Live::Await(call) => Live::Await(*call),
+            Live::Next(stream) => Live::Next(*stream),
+            Live::Worker => Live::Worker,
+        })
+    }
+}
+
 impl Words {
     /// The same words again.
     pub fn try_clone(&self, alloc: Global) -> Result<Words, AllocError>
         ensures { IfOk result (λ words. words ≡ self.now) }
     {
         Ok(match self {
-            Words::Call(words) => Words::Call(words.try_clone(alloc)?),
-            Words::Signal(words) => Words::Signal(words.try_clone(alloc)?),
-            Words::Reply { stream, body } => Words::Reply {
-                stream: *stream,
-                body: clone_text(body, alloc)?,
-            },
-            Words::Error { stream, name, body } => Words::Error {
-                stream: *stream,
-                name: name.try_clone(alloc)?,
-                body: clone_text(body, alloc)?,
-            },
+            Words::Send(outgoing) => Words::Send(outgoing.try_clone(alloc)?),
             Words::Read => Words::Read,
-            Words::Poll(number) => Words::Poll(*number),
-            Words::Before { call, before } => Words::Before {
+            Words::OfCall { call, op } => Words::OfCall {
                 call: *call,
-                before: *before,
+                op: *op,
             },
-            Words::Drop(number) => Words::Drop(*number),
             Words::Stream => Words::Stream,
             Words::Open { max_queued, rule } => Words::Open {
                 max_queued: *max_queued,
                 rule: rule.try_clone(alloc)?,
             },
-            Words::Opened(number) => Words::Opened(*number),
-            Words::Take(number) => Words::Take(*number),
-            Words::TakeBefore { stream, before } => Words::TakeBefore {
+            Words::OfStream { stream, op } => Words::OfStream {
                 stream: *stream,
-                before: *before,
-            },
-            Words::Clone(number) => Words::Clone(*number),
-            Words::Unstream { stream, second } => Words::Unstream {
-                stream: *stream,
-                second: *second,
-            },
-            Words::Queue { stream, limit } => Words::Queue {
-                stream: *stream,
-                limit: *limit,
+                op: op.try_clone(alloc)?,
             },
             Words::MainQueue(limit) => Words::MainQueue(*limit),
             Words::Close => Words::Close,
+            Words::Live(live) => Words::Live(live.try_clone(alloc)?),
         })
     }
 }

@@ -15,29 +15,32 @@ use Rattle.peer_script.specs.Transcript.{transcript_text}
 use Rattle.peer_script.proofs.Grammar.{text_of_reading}
 use Rattle.peer_script.proofs.Readings.{reading_of_text}
 use Rattle.peer_run.specs.Program.{Says, Said, SaidPart, SaidNot, Shows, Shown, ShownPart, Stops, Ends, Done, NoScript, InputFailed, Stopped, IsTranscript, IsRefusal, Prints, Refuses, IsRunText, IsWhole, IsRun, OfInput, Transcript, Refusal, InputFault, Printed, RunsOut, IsCutShort, IsDecided, within, status_of, input_fault, limit_text, line_text, memory_text, usage}
-use Rattle.peer_run.specs.Stands.{Inlet, Outlet, setting_by}
-use Rattle.peer_run.specs.Runs.{Runs}
+use Rattle.std.specs.List.{AllByRecursion}
+use Rattle.peer_route.specs.Entries.{IsOfRun}
+use Rattle.peer_run.specs.Sinks.{Inlet, Outlet}
+use Rattle.peer_run.specs.Runs.{Runs, setting_by}
 use Rattle.peer_run.proofs.Ends.{run_of}
 use Rattle.peer_run.proofs.Printing.{told_given, told_breaks, whole_of, map_out, map_cut, map_stops, part_cut, part_out, only_memory}
 
 -- the transcript of a run of a script's text
-transcript_of : (s : Script) (bytes text : List ℕ) → IsWithin bytes → script_of bytes ≡ Ok s → IsRunText s text → IsTranscript IsWhole bytes text
-transcript_of s bytes text within read run = record {
+transcript_of : (s : Script) (bytes text : List ℕ) → AllByRecursion (λ (c : Command). IsOfRun c.words) s.commands → IsWithin bytes → script_of bytes ≡ Ok s → IsRunText s text → IsTranscript IsWhole bytes text
+transcript_of s bytes text ours within read run = record {
   script = s;
   within = within;
   read = text_of_reading bytes s read;
   entries = run.entries;
   sent = run.sent;
   legal = run.run.legal;
+  once = run.run.once;
   each = run.run.each;
-  such = whole_of s run.entries run.sent run.run;
+  such = whole_of s run.entries run.sent ours run.run;
   is = run.is;
 }
 
-transcript_if : (s : Script) (input : Option (List ℕ)) (text : List ℕ) → IfSome input (λ bytes. IsWithin bytes × (script_of bytes ≡ Ok s)) → IsRunText s text
+transcript_if : (s : Script) (input : Option (List ℕ)) (text : List ℕ) → AllByRecursion (λ (c : Command). IsOfRun c.words) s.commands → IfSome input (λ bytes. IsWithin bytes × (script_of bytes ≡ Ok s)) → IsRunText s text
     → IfSome input (λ bytes. IsTranscript IsWhole bytes text)
-transcript_if s None text read run = tt
-transcript_if s (Some bytes) text read run = transcript_of s bytes text read.0 read.1 run
+transcript_if s None text ours read run = tt
+transcript_if s (Some bytes) text ours read run = transcript_of s bytes text ours read.0 read.1 run
 
 prints_if : (input before after : Option (List ℕ)) (text : List ℕ) → Appends before after text → IfSome input (λ bytes. IsTranscript IsWhole bytes text) → IfSome input (λ bytes. Prints IsWhole bytes before after)
 prints_if None before after text gained is = tt
@@ -57,11 +60,11 @@ line_if (Some bytes) stop n told read = inr (told, read.0, n, read.1, refl)
 
 module _ (input : Option (List ℕ)) (stop : Option Bool) (before after : Option (List ℕ)) (in_faults in_faults' faults faults' result : ℕ) where
   -- a script was read, run and shown
-  pub shown_done : (s : Script) → stop ≢ Some true → IfSome input (λ bytes. IsWithin bytes × (script_of bytes ≡ Ok s)) → Shows (IsRunText s) before after faults faults' result
+  pub shown_done : (s : Script) → AllByRecursion (λ (c : Command). IsOfRun c.words) s.commands → stop ≢ Some true → IfSome input (λ bytes. IsWithin bytes × (script_of bytes ≡ Ok s)) → Shows (IsRunText s) before after faults faults' result
       → Ends input stop before after in_faults in_faults' faults faults' result
-  shown_done s told read (Shown zero text run gained same) = Done zero told (prints_if input before after text gained (transcript_if s input text read run)) same
-  shown_done s told read (ShownPart stops) =
-      Stopped (map_stops (IsRunText s) (OfInput input stop in_faults in_faults') before after faults faults' result (λ text run. Transcript told (transcript_if s input text read run)) stops)
+  shown_done s ours told read (Shown zero text run gained same) = Done zero told (prints_if input before after text gained (transcript_if s input text ours read run)) same
+  shown_done s ours told read (ShownPart stops) =
+      Stopped (map_stops (IsRunText s) (OfInput input stop in_faults in_faults') before after faults faults' result (λ text run. Transcript told (transcript_if s input text ours read run)) stops)
 
   -- a refusal was told
   refused_ends : (text : List ℕ) → IfSome input (λ bytes. IsRefusal stop bytes text) → Says 3 text before after faults faults' result

@@ -1,5 +1,5 @@
 -- What the halves of a run keep from command to command.
-use Rattle.std.proofs.Common.{ℕ, ◌≡◌, ◌≢◌, ◌-◌, ◌^◌, ◌≤◌, ◌<◌, ◌⊎◌, inl, inr, refl, sym, ◌∙◌, ap, subst, arith, nat_le, if◌then◌else◌, Bool, true, false, List, [], ◌∷◌, length, take, drop, Option, Some, None, IfSome, IfOk, IfErr, Result, Ok, Err}
+use Rattle.std.proofs.Common.{ℕ, ◌≡◌, ◌≢◌, ◌-◌, ◌^◌, ◌≤◌, ◌<◌, ◌⊎◌, inl, inr, refl, sym, ◌∙◌, ap, subst, arith, nat_le, if◌then◌else◌, Bool, true, false, List, [], length, take, drop, Option, Some, None, IfSome, IfOk, IfErr, Result, Ok, Err}
 use Rattle.std.proofs.lemmas.List.{take_all, drop_all}
 use Rattle.std.proofs.lemmas.Bool.{cases_lt}
 use Rattle.std.proofs.lemmas.Bool.Decides.{nat_tests}
@@ -11,15 +11,7 @@ use Rattle.wire_message.specs.Outcome.{IsReadRefusal}
 use Rattle.wire_message.specs.declared.error.Error.{Error}
 use Rattle.wire_message.specs.declared.error.Error.TheVariants as errors
 use Rattle.wire_message.specs.declared.error.IoKind.TheVariants as kinds
-use Rattle.peer_route.proofs.Writers.{fine_before as writers_before}
-use Rattle.peer_route.specs.Parcel.{Setting}
-use Rattle.peer_route.specs.declared.words.Words.{Words}
-use Rattle.peer_route.specs.declared.answer.Answer.{Answer}
-use Rattle.peer_route.specs.declared.answer.Entry.{Entry}
-use Rattle.peer_route.specs.declared.writer.Writer.TheVariants as writers
-use Rattle.peer_route.specs.History as events
-use Rattle.peer_route.specs.Entries.{trail, events_of}
-use Rattle.peer_run.specs.Stands.{IsRest, lost, entry}
+use Rattle.peer_run.specs.Sinks.{IsRest, lost}
 
 -- ---- a read
 
@@ -130,10 +122,3 @@ rest_read seq (Err e) kept' None left' stop stop' faults faults' asked asked' so
 rest_read seq (Err e) kept' (Some bytes) left' stop stop' faults faults' asked asked' some within last spends takes error = λ never.
     rest_told seq e kept' bytes left' stop stop' faults faults' asked asked' some within never error.0
     (λ at. let x = last at in (x.0, x.1, let is : e ≡ errors.InputOutput kinds.Ended = cc (x.2) in is)) spends takes
-
--- ---- a send
-
--- where the writer is fine, it was fine an entry before
-pub fine_before : (setting : Setting) (es : List Entry) (lane : ℕ) (w : Words) (a : Answer)
-    → events.writer (trail setting (entry lane w a ∷ es)).events ≡ writers.Fine → events.writer (trail setting es).events ≡ writers.Fine
-fine_before setting es lane w a f = writers_before (events_of (trail setting es) lane w a) (trail setting es).events f

@@ -3,9 +3,8 @@ use Rattle.std.proofs.Common.{◌≡◌, ℕ, ◌+◌, refl, sym, ◌∙◌, ap,
 use Rattle.std.proofs.lemmas.List.{length-take-le, map-append, reverse-reverse, reverse-append}
 use Rattle.wire_message.specs.Front.{Seen}
 use Rattle.peer_route.specs.declared.answer.Entry.{Entry}
-use Rattle.peer_route.specs.Answers.{Legal}
-use Rattle.peer_route.specs.History as events
-use Rattle.peer_route.specs.Entries.{trail}
+use Rattle.std.specs.List.{AllByRecursion}
+use Rattle.peer_route.specs.Entries.{Legal, IsAtOnce, trail}
 use Rattle.peer_route.specs.Told.{IsSentBytes, IsCutAt, WritesTold, encodings}
 use Rattle.peer_script.specs.Script.{Script}
 use Rattle.peer_script.specs.Reading.{script_of}
@@ -13,10 +12,11 @@ use Rattle.peer_script.specs.Transcript.{transcript_text}
 use Rattle.peer_script.proofs.Readings.{reading_of_text}
 use Rattle.peer_script.specs.Again.{command_of}
 use Rattle.peer_run.specs.Program.{setting_of, source_bytes, source_breaks, IsTranscript, IsWhole}
-use Rattle.peer_run.proofs.Kept.{told_now}
+use Rattle.peer_route.specs.Parcel.{Setting}
+use Rattle.peer_route.proofs.Kept.{at_start}
 use Rattle.peer_run.proofs.Transcripts.{same_history}
 
-map_reverse : (es : List Entry) → map command_of (reverse es) ≡ reverse (map command_of es)
+pub map_reverse : (es : List Entry) → map command_of (reverse es) ≡ reverse (map command_of es)
 map_reverse [] = refl
 map_reverse (e ∷ es) =
     ap (map command_of) (reverse-append (e ∷ []) es) ∙ map-append command_of (reverse es) (e ∷ []) ∙ ap (λ cs. cs ++ command_of e ∷ []) (map_reverse es)
@@ -39,24 +39,26 @@ same_bytes (Some k) true count ms a b never (m, n, at, less, is) (m', n', at', l
 -- two runs of one script
 record Ran (s : Script) (entries : List Entry) (sent : List ℕ) : Type 0 where
   legal : Legal (setting_of s) (reverse entries)
+  once : AllByRecursion IsAtOnce (reverse entries)
   each : map command_of entries ≡ s.commands
   whole : IsWhole s (reverse entries) sent
 
 same_entries : (s : Script) (es fs : List Entry) (a b : List ℕ) → Ran s es a → Ran s fs b → es ≡ fs
 same_entries s es fs a b p q =
     let commands : map command_of (reverse es) ≡ map command_of (reverse fs) = map_reverse es ∙ ap reverse (p.each ∙ sym q.each) ∙ sym (map_reverse fs) in
-    let back = same_history (setting_of s) (reverse es) (reverse fs) (source_breaks s.given) (source_bytes s.given) s.outfault commands p.legal q.legal
+    let back = same_history (setting_of s) (reverse es) (reverse fs) (source_breaks s.given) (source_bytes s.given) s.outfault commands p.legal q.legal p.once q.once
     p.whole.reads q.whole.reads p.whole.sends.room q.whole.sends.room p.whole.sends.closes q.whole.sends.closes in
     sym (reverse-reverse es) ∙ ap reverse back ∙ reverse-reverse fs
 
-unfailed : (room : Option ℕ) (s : Script) (h : List Entry) → WritesTold (setting_of s) (Some room) h → room ≡ None → events.is_failed (trail (setting_of s) h).events ≡ false
-unfailed None s h told none = told_now (setting_of s) (Some None) h told
-unfailed (Some k) s h told none = cc
+unfailed : (setting : Setting) (room : Option ℕ) (h : List Entry) → WritesTold setting (Some room) h → room ≡ None → (trail setting h).past.outbox.failed ≡ false
+unfailed setting None [] told none = at_start (λ h. h.outbox.failed ≡ false) refl (λ limit h so. so) (λ h so. so) (λ name h so. so) setting
+unfailed setting None (e ∷ h) told none = told.0
+unfailed setting (Some k) h told none = cc
 
 same_sent : (s : Script) (es : List Entry) (a b : List ℕ) → Ran s es a → Ran s es b → a ≡ b
 same_sent s es a b p q =
-    let h = (trail (setting_of s) (reverse es)).events in
-    same_bytes s.outfault (events.is_failed h) (events.written h) (events.put h) a b (unfailed s.outfault s (reverse es) p.whole.sends.room)
+    let o = (trail (setting_of s) (reverse es)).past.outbox in
+    same_bytes s.outfault o.failed o.written o.put a b (unfailed (setting_of s) s.outfault (reverse es) p.whole.sends.room)
     p.whole.sends.bytes q.whole.sends.bytes p.whole.sends.cut q.whole.sends.cut
 
 same_text : (s : Script) (es fs : List Entry) (a b : List ℕ) → Ran s es a → Ran s fs b → transcript_text s.kind s.queue s.fds s.outfault s.given es a ≡ transcript_text s.kind s.queue s.fds s.outfault s.given fs b
@@ -76,7 +78,7 @@ shown_of : (input text : List ℕ) (p : IsTranscript IsWhole input text) → Sho
 shown_of input text p = record {
   entries = p.entries;
   sent = p.sent;
-  ran = record { legal = p.legal; each = p.each; whole = p.such };
+  ran = record { legal = p.legal; once = p.once; each = p.each; whole = p.such };
   is = p.is;
 }
 

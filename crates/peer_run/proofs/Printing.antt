@@ -1,23 +1,27 @@
 -- From what the parts of the program give to how it ends.
-use Rattle.std.proofs.Common.{◌≡◌, ℕ, refl, sym, ap, subst, List, [], ◌∷◌, ◌++◌, append-nil, length, reverse, take, Option, inl, inr}
+use Rattle.std.proofs.Common.{◌≡◌, ◌∙◌, ℕ, refl, sym, ap, subst, List, [], ◌∷◌, ◌++◌, append-nil, length, map, reverse, take, Option, inl, inr}
 use Rattle.std.specs.Io.KnownBytes.{Appends}
 use Rattle.std.proofs.KnownBytes.{Appends-nil, Appends-trans}
 use Rattle.std.proofs.Math.Seq.{take-length}
+use Rattle.std.proofs.lemmas.List.{reverse-append}
+use Rattle.peer_run.proofs.OneText.{map_reverse}
 use Rattle.wire_framing.specs.Source.{MayRise}
 use Rattle.wire_framing.specs.Send.{Part}
 use Rattle.wire_framing.specs.Memory.{told_bytes, told_stop}
 use Rattle.wire_framing.specs.declared.memory.Piece.{Piece}
 use Rattle.wire_framing.specs.declared.memory.Piece.TheVariants.{Bytes, Fault}
 use Rattle.peer_route.specs.declared.answer.Entry.{Entry}
-use Rattle.peer_route.specs.Answers.{Legal}
-use Rattle.peer_route.proofs.Once.{once, legal_from}
-use Rattle.peer_route.proofs.Read.{by_the_first, by_the_closing_error}
-use Rattle.peer_route.proofs.Yields.{yields, opened_yields, clone_yields}
-use Rattle.peer_route.proofs.YieldsAsked.{asked_yields}
+use Rattle.std.specs.List.{AllByRecursion}
+use Rattle.peer_route.specs.declared.words.Command.{Command}
+use Rattle.peer_route.specs.Entries.{Legal, IsOfRun}
+use Rattle.peer_route.proofs.Plans.{legal_from}
+use Rattle.peer_route.proofs.Read.{once, by_the_first, by_the_closing_error}
+use Rattle.peer_route.proofs.Yields.{yields, opened_yields, asked_yields, clone_yields}
 use Rattle.peer_route.proofs.ClosedStreams.{closed_for_good, denied_for_good}
 use Rattle.peer_route.proofs.Drained.{ended, busy_there}
-use Rattle.peer_route.proofs.Sent.{put_sent}
+use Rattle.peer_route.proofs.Sent.{sent}
 use Rattle.peer_script.specs.Script.{Script}
+use Rattle.peer_script.specs.Again.{command_of}
 use Rattle.peer_script.specs.Reading.{given}
 use Rattle.peer_run.specs.Program.{setting_of, Says, Said, SaidPart, SaidNot, Stops, IsRunOf, IsWhole, PollsAre, StreamsAre, source_bytes, source_breaks, memory_text, IsFront, RunsOut, IsCutShort}
 
@@ -55,12 +59,28 @@ streams_are s h sent legal = record {
   waits = λ newer older e is w many. busy_there (setting_of s) older e (legal_from (setting_of s) newer (e ∷ older) (subst (Legal (setting_of s)) is legal)) w many;
 }
 
-pub whole_of : (s : Script) (entries : List Entry) (sent : List ℕ) → IsRunOf s entries sent → IsWhole s (reverse entries) sent
-whole_of s entries sent r = record {
+all_append : {X : Type 0} (P : X → Type 0) (xs ys : List X) → AllByRecursion P xs → AllByRecursion P ys → AllByRecursion P (xs ++ ys)
+all_append P [] ys a b = b
+all_append P (x ∷ xs) ys a b = (a.0, all_append P xs ys a.1 b)
+
+all_reverse : {X : Type 0} (P : X → Type 0) (xs : List X) → AllByRecursion P xs → AllByRecursion P (reverse xs)
+all_reverse P [] all = tt
+all_reverse P (x ∷ xs) all = subst (AllByRecursion P) (sym (reverse-append (x ∷ []) xs)) (all_append P (reverse xs) (x ∷ []) (all_reverse P xs all.1) (all.0, tt))
+
+-- the entries' commands are those
+all_entries : (es : List Entry) (cs : List Command) → map command_of es ≡ cs → AllByRecursion (λ (c : Command). IsOfRun c.words) cs → AllByRecursion (λ (e : Entry). IsOfRun e.words) es
+all_entries [] cs e all = tt
+all_entries (x ∷ es) [] e all = cc
+all_entries (x ∷ es) (c ∷ cs) e all =
+    let front : command_of x ≡ c = cc in
+    (subst (λ (k : Command). IsOfRun k.words) (sym front) all.0, all_entries es cs (let rest : map command_of es ≡ cs = cc in rest) all.1)
+
+pub whole_of : (s : Script) (entries : List Entry) (held : List ℕ) → AllByRecursion (λ (c : Command). IsOfRun c.words) s.commands → IsRunOf s entries held → IsWhole s (reverse entries) held
+whole_of s entries held run r = record {
   reads = r.reads;
-  polls = polls_are s (reverse entries) sent r.legal;
-  streams = streams_are s (reverse entries) sent r.legal;
-  sends = record { bytes = r.bytes; room = r.room; cut = r.cut; closes = r.closes; put_is = put_sent (setting_of s) (reverse entries) r.legal };
+  polls = polls_are s (reverse entries) held r.legal;
+  streams = streams_are s (reverse entries) held r.legal;
+  sends = record { bytes = r.bytes; room = r.room; cut = r.cut; closes = r.closes; put_is = sent (setting_of s) (reverse entries) r.legal r.once (all_entries (reverse entries) (reverse s.commands) (map_reverse entries ∙ ap reverse r.each) (all_reverse (λ (c : Command). IsOfRun c.words) s.commands run)) };
 }
 
 -- ---- a front of what would have been printed

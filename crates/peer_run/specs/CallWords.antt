@@ -1,5 +1,5 @@
 -- What the words of a command make: a message to be sent, or why none is.
-use Rattle.std.specs.Prelude.{◌≡◌, ◌&&◌, not, Bool, if◌then◌else◌, List, Option, Some, None, Result, Ok, Err}
+use Rattle.std.specs.Prelude.{◌≡◌, ◌⊎◌, ◌&&◌, not, Bool, true, if◌then◌else◌, List, [], Some, None, Result, Ok, Err}
 use Rattle.wire_number.specs.declared.endian.Endian.TheVariants.{Little}
 use Rattle.wire_tree.specs.Datum.{Datum}
 use Rattle.wire_message.specs.Draft.{Draft, are_misplaced}
@@ -15,10 +15,9 @@ MakesParcel (Ok parcel) asked = asked ≡ Ok parcel
 MakesParcel (Err errors.Memory) asked = Unit {0}
 MakesParcel (Err error) asked = asked ≡ Err error
 
--- the same of a command that sends
-abbrev pub MakesAsked : Result Parcel Error → Option Asked → Type 0
-MakesAsked result None = ⊥
-MakesAsked result (Some asked) = MakesParcel result asked
+-- it has no descriptors, or the sink takes them
+abbrev pub IsCarried : Bool → Parcel → Type 0
+IsCarried takes parcel = (parcel.fds ≡ []) ⊎ (takes ≡ true)
 
 -- ---- on the way
 

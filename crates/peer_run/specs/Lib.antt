@@ -1,7 +1,6 @@
 pub mod CallWords
 pub mod Stands
+pub mod Sinks
 pub mod Runs
 pub mod Program
 pub mod Numbers
-pub mod OneLetter
-pub mod Tells

@@ -6,15 +6,14 @@ use Rattle.wire_message.specs.declared.error.Error.{Error}
 use Rattle.rule_match.specs.Rule.{Rule}
 use Rattle.rule_match.specs.Bytes.{rule_in_bytes}
 use Rattle.peer_route.specs.declared.words.Words.TheVariants as words
+use Rattle.peer_route.specs.declared.words.StreamOp.TheVariants as ops
 use Rattle.peer_route.specs.declared.answer.Answer.TheVariants as answers
 use Rattle.peer_route.specs.declared.answer.Entry.{Entry}
-use Rattle.peer_route.specs.History.{put, written, is_failed}
 use Rattle.peer_route.specs.Parcel.{Setting}
-use Rattle.peer_route.specs.Entries.{trail}
-use Rattle.peer_route.specs.Answers.{Legal}
+use Rattle.peer_route.specs.Entries.{trail, Legal, IsAtOnce}
 use Rattle.peer_route.specs.Told.{ReadsTold, ClosesTold, IsSentOf, WritesTold, IsCutAt}
 use Rattle.peer_route.specs.Laws.{IsPoll, IsFinal, IsReplyAt, IsFirstReply, IsCutOff, IsUnknown}
-use Rattle.peer_route.specs.StreamLaws.{Yields, YieldsAsked, holds, rule_at, closes_stream, says_closed, says_denied, IsNoStream, IsTake, IsEnded, IsLast, HoldsTooMany, IsPutOf, all_sent}
+use Rattle.peer_route.specs.StreamLaws.{Yields, YieldsAsked, holds, rule_at, closes_stream, stays_open, says_denied, IsNoStream, is_take, IsEnded, IsLast, HoldsTooMany, IsPutOf, all_written}
 use Rattle.peer_script.specs.Word.{same}
 use Rattle.peer_script.specs.Script.{Given, Gave, Broke, Script, ScriptText, is_bus, name_of, line_count}
 use Rattle.peer_script.specs.Reading.{IsWithin, script_of}
@@ -99,24 +98,24 @@ AskedYield setting h =
 -- what a clone's entries say, from the one that made it on
 abbrev pub ClonesYield : Setting → List Entry → Type 0
 ClonesYield setting h =
-    (newer older : List Entry) (e : Entry) (number original : ℕ) → h ≡ newer ++ e ∷ older → e.words ≡ words.Clone original → e.answer ≡ answers.Streaming number
+    (newer older : List Entry) (e : Entry) (number original : ℕ) → h ≡ newer ++ e ∷ older → e.words ≡ words.OfStream original ops.Clone → e.answer ≡ answers.Streaming number
     → Yields setting newer e older number (rule_at (trail setting older) e.lane original) (holds (trail setting older) e.lane original)
 
 abbrev pub StreamsClose : List Entry → Type 0
 StreamsClose h =
-    (newer older : List Entry) (e : Entry) (number : ℕ) → h ≡ newer ++ e ∷ older → closes_stream number e.words ≡ true → says_closed e.answer ≡ true
+    (newer older : List Entry) (e : Entry) (number : ℕ) → h ≡ newer ++ e ∷ older → closes_stream number e.words ≡ true → stays_open e.answer ≡ false
     → AllByRecursion (IsNoStream e.lane number) newer
 
 abbrev pub StreamsDenied : List Entry → Type 0
 StreamsDenied h =
-    (newer older : List Entry) (e : Entry) (number : ℕ) → h ≡ newer ++ e ∷ older → e.words ≡ words.Opened number → says_denied e.answer ≡ true
+    (newer older : List Entry) (e : Entry) (number : ℕ) → h ≡ newer ++ e ∷ older → e.words ≡ words.OfStream number ops.Opened → says_denied e.answer ≡ true
     → AllByRecursion (IsNoStream e.lane number) newer
 
 abbrev pub StreamsEnd : List Entry → Type 0
-StreamsEnd h = (newer older : List Entry) (e : Entry) (number : ℕ) → h ≡ newer ++ e ∷ older → IsTake number e.words → IsLast e.answer → AllByRecursion (IsEnded e.lane number) newer
+StreamsEnd h = (newer older : List Entry) (e : Entry) (number : ℕ) → h ≡ newer ++ e ∷ older → is_take number e.words ≡ true → IsLast e.answer → AllByRecursion (IsEnded e.lane number) newer
 
 abbrev pub FullStreamsWait : Setting → List Entry → Type 0
-FullStreamsWait setting h = (newer older : List Entry) (e : Entry) → h ≡ newer ++ e ∷ older → e.words ≡ words.Read → HoldsTooMany (trail setting older).events → e.answer ≡ answers.Busy
+FullStreamsWait setting h = (newer older : List Entry) (e : Entry) → h ≡ newer ++ e ∷ older → e.words ≡ words.Read → HoldsTooMany (trail setting older).past → e.answer ≡ answers.Busy
 
 -- Each stream gives exactly the messages that were read since it was made and that its rule accepts, in order, a clone before
 -- them what its original held; one for which the bus was asked, those behind the return to its AddMatch. It ends once; one that was
@@ -136,17 +135,17 @@ pub record StreamsAre (s : Script) (h : List Entry) (sent : List ℕ) : Type 0 w
 -- prefix. Where the sink has room for so many bytes, at each entry just those messages were written that end within them, and after a
 -- failed write the bytes sent are just so many; no closing of the peer fails; and what the answers say was sent is what was written.
 pub record SentIs (s : Script) (h : List Entry) (sent : List ℕ) : Type 0 where
-  pub bytes : IsSentOf (trail (setting_of s) h).events sent
+  pub bytes : IsSentOf (trail (setting_of s) h).past.outbox sent
   pub room : WritesTold (setting_of s) (Some s.outfault) h
-  pub cut : IsCutAt (Some s.outfault) (is_failed (trail (setting_of s) h).events) sent
+  pub cut : IsCutAt (Some s.outfault) (trail (setting_of s) h).past.outbox.failed sent
   pub closes : ClosesTold (Some s.outfault) h
-  pub put_is : IsPutOf (is_failed (trail (setting_of s) h).events) (written (trail (setting_of s) h).events) (put (trail (setting_of s) h).events) (all_sent (setting_of s) h)
+  pub put_is : let o = (trail (setting_of s) h).past.outbox in IsPutOf o.failed o.written o.put (all_written h)
 
 -- ---- what is printed
 
--- The text is the transcript of a history of the input, which is a script text within the limits: the answers are those of
--- the entries before them, the commands are the script's, each once and in order; and of the history, newest first, and the
--- bytes sent this holds.
+-- The text is the transcript of a history of the input, which is a script text within the limits: each entry is what its command
+-- means after the entries before it, and writes what it puts; the commands are the script's, each once and in order; and of the
+-- history, newest first, and the bytes sent this holds.
 pub record IsTranscript (Such : Script → List Entry → List ℕ → Type 0) (input text : List ℕ) : Type 0 where
   pub script : Script
   pub within : IsWithin input
@@ -154,6 +153,7 @@ pub record IsTranscript (Such : Script → List Entry → List ℕ → Type 0) (
   pub entries : List Entry
   pub sent : List ℕ
   pub legal : Legal (setting_of script) (reverse entries)
+  pub once : AllByRecursion IsAtOnce (reverse entries)
   pub each : map command_of entries ≡ script.commands
   pub such : Such script (reverse entries) sent
   pub is : text ≡ transcript_text script.kind script.queue script.fds script.outfault script.given entries sent
@@ -237,11 +237,12 @@ pub data Says (status : ℕ) (text : List ℕ) (before after : Option (List ℕ)
 -- the entries, oldest first, are a run of the script whose sink holds these bytes
 pub record IsRunOf (s : Script) (entries : List Entry) (sent : List ℕ) : Type 0 where
   pub legal : Legal (setting_of s) (reverse entries)
+  pub once : AllByRecursion IsAtOnce (reverse entries)
   pub each : map command_of entries ≡ s.commands
   pub reads : ReadsAre s (reverse entries) sent
-  pub bytes : IsSentOf (trail (setting_of s) (reverse entries)).events sent
+  pub bytes : IsSentOf (trail (setting_of s) (reverse entries)).past.outbox sent
   pub room : WritesTold (setting_of s) (Some s.outfault) (reverse entries)
-  pub cut : IsCutAt (Some s.outfault) (is_failed (trail (setting_of s) (reverse entries)).events) sent
+  pub cut : IsCutAt (Some s.outfault) (trail (setting_of s) (reverse entries)).past.outbox.failed sent
   pub closes : ClosesTold (Some s.outfault) (reverse entries)
 
 -- the transcript of such a run

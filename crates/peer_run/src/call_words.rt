@@ -6,11 +6,11 @@ ghost use Rattle.wire_names.specs.declared.error.NamesError.TheVariants as names
 ghost use Rattle.wire_message.specs.declared.error.Error.TheVariants as errors;
 ghost use Rattle.wire_message.specs.declared.kind.MessageType.TheVariants as types;
 ghost use Rattle.peer_route.specs.BodyWord.{ReadsBody};
-ghost use Rattle.peer_route.specs.CallMessage.{flags_number, order_of, fds_of, is_outside, values_in, call_draft, call_asked, signal_draft, signal_asked, reply_asked, error_asked};
-ghost use Rattle.peer_run.specs.CallWords.{MakesDraft, MakesParcel, lettered, letters_asked};
+ghost use Rattle.peer_route.specs.CallMessage.{flags_number, order_of, fds_of, is_outside, values_in, outgoing_draft, outgoing_asked, reply_asked, error_asked};
+ghost use Rattle.peer_run.specs.CallWords.{MakesDraft, MakesParcel, IsCarried, lettered, letters_asked};
 
 use bitflags::Flags as _;
-use peer_route::{CallFlags, Letter, Outgoing, read_body};
+use peer_route::{CallFlags, Letter, Outgoing, OutgoingKind, read_body};
 use std::alloc::{AllocError, Global};
 use wire_body::BodyValues;
 use wire_message::{Builder, Error, Flags, Message, Result};
@@ -170,7 +170,8 @@ fn with_body<'a>(
     takes_fds: bool,
 ) -> Result<Letter<'a>>
     requires none { builder.flags ≡ 0 }
-    ensures { MakesParcel result (letters_asked builder.entry body flags takes_fds) }
+    ensures makes { MakesParcel result (letters_asked builder.entry body flags takes_fds) }
+    ensures carried { IfOk result (λ letter. IsCarried takes_fds letter) }
 {
     let builder = with_letters(builder, flags)?;
     if flags.descriptor && !takes_fds {
@@ -183,7 +184,7 @@ fn with_body<'a>(
 /// The header of a call, before its letters are looked at. Refused exactly where a word is outside its grammar, for the
 /// first such word.
 fn call_builder<'a>(words: &'a Outgoing) -> Result<Builder<'a>>
-    ensures { MakesDraft result (call_draft None words.now) }
+    ensures { MakesDraft result (outgoing_draft OutgoingKind.Call None words.now) }
 {
     let destination = bus_name(&words.destination)?;
     let path: ObjectPath<'_> = name(&words.path)?;
@@ -196,7 +197,7 @@ fn call_builder<'a>(words: &'a Outgoing) -> Result<Builder<'a>>
 /// The header of a signal, before its letters are looked at. Refused exactly where a word is outside its grammar, for the
 /// first such word.
 fn signal_builder<'a>(words: &'a Outgoing) -> Result<Builder<'a>>
-    ensures { MakesDraft result (signal_draft None words.now) }
+    ensures { MakesDraft result (outgoing_draft OutgoingKind.Signal None words.now) }
 {
     let destination = bus_name(&words.destination)?;
     let path: ObjectPath<'_> = name(&words.path)?;
@@ -205,28 +206,19 @@ fn signal_builder<'a>(words: &'a Outgoing) -> Result<Builder<'a>>
     Ok(with_destination(Message::signal(&path, &interface, &member), &destination))
 }
 
-/// The method call of these words, to a sink that takes descriptors or none; its sender isn't set yet.
-pub(crate) fn call_letter<'a>(
+/// The message of these words, to a sink that takes descriptors or none; its sender isn't set yet.
+pub(crate) fn outgoing_letter<'a>(
     alloc: Global,
     words: &'a Outgoing,
     takes_fds: bool,
 ) -> Result<Letter<'a>>
-    ensures { MakesParcel result (call_asked None takes_fds words.now) }
+    ensures makes { MakesParcel result (outgoing_asked None takes_fds words.now) }
+    ensures carried { IfOk result (λ letter. IsCarried takes_fds letter) }
 {
-    let builder = call_builder(words)?;
-    let body = body_in(alloc, &words.body)?;
-    with_body(alloc, builder, body, words.flags, takes_fds)
-}
-
-/// The signal of these words, to a sink that takes descriptors or none; its sender isn't set yet.
-pub(crate) fn signal_letter<'a>(
-    alloc: Global,
-    words: &'a Outgoing,
-    takes_fds: bool,
-) -> Result<Letter<'a>>
-    ensures { MakesParcel result (signal_asked None takes_fds words.now) }
-{
-    let builder = signal_builder(words)?;
+    let builder = match words.kind {
+        OutgoingKind::Call => call_builder(words)?,
+        OutgoingKind::Signal => signal_builder(words)?,
+    };
     let body = body_in(alloc, &words.body)?;
     with_body(alloc, builder, body, words.flags, takes_fds)
 }
@@ -237,7 +229,8 @@ pub(crate) fn reply_letter<'a>(
     message: &'a Message,
     body: &Option<Bytes>,
 ) -> Result<Letter<'a>>
-    ensures { MakesParcel result (reply_asked None (Some message.now) body.now) }
+    ensures makes { MakesParcel result (reply_asked None (Some message.now) body.now) }
+    ensures carried { IfOk result (λ letter. letter.fds ≡ []) }
 {
     let body = body_in(alloc, body)?;
     let builder = Message::method_return(&message.header());
@@ -256,7 +249,8 @@ pub(crate) fn error_letter<'a>(
     error: &'a Bytes,
     body: &Option<Bytes>,
 ) -> Result<Letter<'a>>
-    ensures { MakesParcel result (error_asked None (Some message.now) error.now body.now) }
+    ensures makes { MakesParcel result (error_asked None (Some message.now) error.now body.now) }
+    ensures carried { IfOk result (λ letter. letter.fds ≡ []) }
 {
     let error: ErrorName<'_> = name(error)?;
     let body = body_in(alloc, body)?;

@@ -1,6 +1,6 @@
 ghost use Rattle.std.specs.Prelude.{◌≡◌, ℕ, [], ◌∷◌, ◌++◌, if◌then◌else◌, OnOk, OnErr};
 ghost use Rattle.peer_route.specs.Trail as trails;
-ghost use Rattle.peer_run.specs.Numbers.{is_of, places, kept_for};
+ghost use Rattle.peer_run.specs.Numbers.{is_of, nobodys, places, kept_for};
 
 use std::alloc::{AllocError, Global};
 use std::collections::BTreeMap;
@@ -97,5 +97,15 @@ impl Lanes {
             // There is room: it was made first.
             Err(_) => unreachable!(),
         }
+    }
+
+    /// So many more, that are nobody's.
+    pub(crate) fn push_nobodys(&mut self, count: u64) -> Result<(), AllocError>
+        ensures { OnOk result (self.new ≡ self.old ++ nobodys count) }
+    {
+        for _ in 0..count {
+            self.push(None)?;
+        }
+        Ok(())
     }
 }

@@ -1,16 +1,17 @@
 ghost use Rattle.std.specs.Prelude.{◌≡◌, ℕ, Bool, List, Option, map, Some};
 ghost use Rattle.peer_route.specs.declared.answer.Entry.{Entry};
+ghost use Rattle.std.specs.List.{AllByRecursion};
 ghost use Rattle.peer_route.specs.Parcel.{Setting};
-ghost use Rattle.peer_route.specs.Answers.{Legal};
+ghost use Rattle.peer_route.specs.Entries.{Legal, IsAtOnce};
 ghost use Rattle.peer_route.specs.Told.{ReadsTold, WritesTold, ClosesTold};
 ghost use Rattle.peer_script.specs.Again.{command_of};
 ghost use Rattle.peer_run.specs.Program.{IsTranscript, IsWhole};
 
-/// Where the source's bytes and ending and the sink's room are told, the answers of two legal histories of the same commands are the
-/// same, however the bytes are cut: the outside decides each answer, that of a failed write too.
+/// Where the source's bytes and ending and the sink's room are told, two legal histories of the same commands that write at once are the
+/// same, however the bytes are cut: the outside decides each answer, that of a failed write too, and what was read, put and written.
 #[tactic(auto, using(crate::proofs::Transcripts::same_history))]
 pub fn one_history()
-    ensures { (setting : Setting) (es fs : List Entry) (stop : Bool) (bytes : List ℕ) (room : Option ℕ) → map command_of es ≡ map command_of fs → Legal setting es → Legal setting fs
+    ensures { (setting : Setting) (es fs : List Entry) (stop : Bool) (bytes : List ℕ) (room : Option ℕ) → map command_of es ≡ map command_of fs → Legal setting es → Legal setting fs → AllByRecursion IsAtOnce es → AllByRecursion IsAtOnce fs
         → ReadsTold setting (Some stop) bytes es → ReadsTold setting (Some stop) bytes fs
         → WritesTold setting (Some room) es → WritesTold setting (Some room) fs → ClosesTold (Some room) es → ClosesTold (Some room) fs → es ≡ fs }
 {}

@@ -1,14 +1,14 @@
 //! A script's commands, run over a source and a sink; and the program around it.
 #![tactic(auto)]
 
+mod acting;
 mod call_words;
 mod lanes;
 mod laws;
-mod leaving;
 mod main_call;
-mod opening;
 mod peer;
 mod run;
+mod sending;
 mod showing;
 mod streaming;
 mod writing;
@@ -16,7 +16,9 @@ mod writing;
 pub use laws::{one_history, one_transcript};
 pub use main_call::peer_main;
 pub use peer::RunError;
-pub use peer_route::{Answer, CallFlags, Command, Entry, Outgoing, Words};
+pub use peer_route::{
+    Answer, CallFlags, CallOp, Command, Entry, Live, Outgoing, OutgoingKind, Posts, StreamOp, Words,
+};
 pub use peer_script::{
     PeerKind, ScriptError, Setup, Transcript, Word, read_script, write_transcript,
 };

@@ -1,5 +1,8 @@
 ghost use Rattle.std.specs.Prelude.{ℕ, ◌≡◌, ◌≢◌, ◌≤◌, ◌<◌, ◌⊎◌, true, List, [], map, string_bytes, Some, IfSome, is_some};
 ghost use Rattle.std.specs.Io.KnownBytes.{Appends};
+ghost use Rattle.std.specs.List.{AllByRecursion};
+ghost use Rattle.peer_route.specs.declared.words.Command.{Command};
+ghost use Rattle.peer_route.specs.Entries.{IsOfRun};
 ghost use Rattle.wire_framing.specs.Source.{MayRise};
 ghost use Rattle.peer_script.specs.Reading.{script_from};
 ghost use Rattle.peer_run.specs.Program.{IsRun, is_run, IsWhole, usage, input_fault, memory_text, line_text, Prints, Printed, ReadsAre, PollsAre, StreamsAre, SentIs, Refuses, RunsOut, IsCutShort, IsDecided, Says, IsRunText, Shows, Ends};
@@ -67,6 +70,7 @@ fn sink_of(alloc: Global, outfault: Option<u64>, takes_fds: bool) -> MemorySink
 
 /// Runs the commands over the setup's pieces and its sink, and prints the transcript.
 fn run_commands<O: Sink>(alloc: Global, setup: &Setup, commands: &[Command], output: &mut O) -> u8
+    requires { AllByRecursion (λ (c : Command). IsOfRun c.words) commands.now }
     ensures { Shows (IsRunText (script_from setup.now.kind setup.now.queue setup.now.fds setup.now.outfault setup.now.pieces.items commands.now)) (O.held output.old) (O.held output.new) (O.faults output.old) (O.faults output.new) result }
 {
     let mut source = MemorySource::new(&setup.pieces);

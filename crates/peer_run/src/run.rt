@@ -1,34 +1,103 @@
-ghost use Rattle.std.specs.Prelude.{ℕ, ◌≡◌, ◌≤◌, ◌-◌, ◌^◌, length, List, [], ◌∷◌, IfOk, option_map};
+ghost use Rattle.std.specs.Prelude.{ℕ, ◌≡◌, ◌≢◌, ◌≤◌, ◌-◌, ◌^◌, length, List, [], ◌∷◌, IfOk, option_map, Some};
+ghost use Rattle.std.specs.List.{AllByRecursion};
 ghost use Rattle.peer_route.specs.declared.answer.Entry.{Entry};
+ghost use Rattle.peer_route.specs.declared.words.Command.{Command};
+ghost use Rattle.peer_route.specs.Entries.{IsOfRun};
 ghost use Rattle.peer_route.specs.Parcel.{Setting};
 ghost use Rattle.peer_script.specs.Script.{is_bus, name_of};
-ghost use Rattle.peer_run.specs.Stands.{Inlet, Outlet, setting_by, entry};
-ghost use Rattle.peer_run.specs.Runs.{Stands, Runs};
+ghost use Rattle.peer_route.specs.Trail.{Trail};
+ghost use Rattle.peer_run.specs.Stands.{Stands};
+ghost use Rattle.peer_run.specs.Sinks.{Inlet, Outlet};
+ghost use Rattle.peer_run.specs.Runs as runs;
+ghost use Rattle.peer_run.specs.Runs.{Running, Runs, setting_by};
 ghost use Rattle.peer_script.specs.Again.{command_of};
 
-use crate::peer::{Peer, RunError};
-use peer_route::{Answer, Command, Entry, Words};
+use crate::acting::Acted;
+use crate::peer::{Peer, Reading, RunError};
+use peer_route::{Answer, Command, Entry, Posts, Words};
 use peer_script::{Setup, Transcript};
 use std::alloc::{AllocError, Global};
 use wire_framing::{ReadHalf, Sink, Source, WriteHalf};
+use wire_message::{Error, IoKind, Message};
 use wire_names::OwnedUniqueName;
 
-/// The answer of a command.
-fn answer_to<S: Source, W: Sink>(
+/// An entry of a command that put nothing.
+fn quiet(alloc: Global, lane: u32, words: Words, answer: Answer, read: Option<Message>) -> Entry
+    ensures { result ≡ runs.quiet lane words answer read }
+{
+    Entry {
+        lane,
+        words,
+        answer,
+        read,
+        put: Posts(Vec::new(alloc)),
+        written: 0,
+        failed: false,
+    }
+}
+
+/// The entry of a lane's command that is no read and no `close`: its messages are put, and written.
+fn perform<W: Sink>(
+    alloc: Global,
+    peer: &mut Peer,
+    writer: &mut WriteHalf<W>,
+    lane: u32,
+    words: Words,
+) -> Result<Entry, RunError>
+    requires runs { IsOfRun words }
+    requires unread { words ≢ Words.Read }
+    requires unclosed { words ≢ Words.Close }
+    requires written { peer.old.core.done ≡ length peer.old.core.outbox }
+    requires stands { (t : Trail) × Stands peer.old t × (t.setting.takes_fds ≡ W.takes writer.old.sink) × (t.past.closing ≢ Some Error.UnknownHandle) }
+    ensures command { IfOk result (λ e. command_of e ≡ record { lane = lane; words = words }) }
+    ensures running { IfOk result (λ e. (setting : Setting) (start_in now_in : Inlet) (start_out : Outlet) (es : List Entry)
+        → setting.takes_fds ≡ W.takes writer.old.sink
+        → Running setting start_in start_out peer.old now_in (record { held = W.held writer.old.sink; room = W.room writer.old.sink; faults = W.faults writer.old.sink; closes = W.closes writer.old.sink }) writer.old.writing es
+        → Running setting start_in start_out peer.new now_in (record { held = W.held writer.new.sink; room = W.room writer.new.sink; faults = W.faults writer.new.sink; closes = W.closes writer.new.sink }) writer.new.writing (e ∷ es)) }
+    ensures same_sink { W.lent writer.new.sink ≡ W.lent writer.old.sink }
+    ensures takes { W.takes writer.new.sink ≡ W.takes writer.old.sink }
+    ensures sink_grows { W.faults writer.old.sink ≤ W.faults writer.new.sink }
+{
+    let before = peer.route.outbox_len();
+    let Acted { answer, makes } = peer.act(alloc, writer.can_pass_unix_fd(), lane, &words)?;
+    let put = peer.put_since(alloc, before)?;
+    let flush = peer.write_each(writer)?;
+    peer.own(lane, flush.failed, makes)?;
+    let answer = if flush.failed {
+        Answer::SendFailed(Error::InputOutput(IoKind::WriteFault))
+    } else {
+        answer
+    };
+    Ok(Entry {
+        lane,
+        words,
+        answer,
+        read: None,
+        put,
+        written: flush.written,
+        failed: flush.failed,
+    })
+}
+
+/// One command's entry.
+fn step<S: Source, W: Sink>(
     alloc: Global,
     peer: &mut Peer,
     reader: &mut ReadHalf<S>,
     kept: &mut Vec<u8>,
     writer: &mut WriteHalf<W>,
     command: &Command,
-) -> Result<Answer, RunError>
+) -> Result<Entry, RunError>
+    requires runs { IsOfRun command.now.words }
     requires within { peer.old.core.read ≤ 2 ^ 64 - 2 }
     requires empty { kept.old.items ≡ [] }
     requires written { peer.old.core.done ≡ length peer.old.core.outbox }
-    ensures stands { IfOk result (λ answer. (setting : Setting) (start_in : Inlet) (start_out : Outlet) (es : List Entry)
+    requires stands { (t : Trail) × Stands peer.old t × (t.setting.takes_fds ≡ W.takes writer.old.sink) × (t.past.closing ≢ Some Error.UnknownHandle) }
+    ensures command { IfOk result (λ e. command_of e ≡ command.now) }
+    ensures running { IfOk result (λ e. (setting : Setting) (start_in : Inlet) (start_out : Outlet) (es : List Entry)
         → setting.takes_fds ≡ W.takes writer.old.sink
-        → Stands setting start_in start_out peer.old (record { left = S.left reader.old.source; stop = S.stop reader.old.source; faults = S.faults reader.old.source }) (record { held = W.held writer.old.sink; room = W.room writer.old.sink; faults = W.faults writer.old.sink; closes = W.closes writer.old.sink }) writer.old.writing es
-        → Stands setting start_in start_out peer.new (record { left = S.left reader.new.source; stop = S.stop reader.new.source; faults = S.faults reader.new.source }) (record { held = W.held writer.new.sink; room = W.room writer.new.sink; faults = W.faults writer.new.sink; closes = W.closes writer.new.sink }) writer.new.writing (entry command.now.lane command.now.words answer ∷ es)) }
+        → Running setting start_in start_out peer.old (record { left = S.left reader.old.source; stop = S.stop reader.old.source; faults = S.faults reader.old.source }) (record { held = W.held writer.old.sink; room = W.room writer.old.sink; faults = W.faults writer.old.sink; closes = W.closes writer.old.sink }) writer.old.writing es
+        → Running setting start_in start_out peer.new (record { left = S.left reader.new.source; stop = S.stop reader.new.source; faults = S.faults reader.new.source }) (record { held = W.held writer.new.sink; room = W.room writer.new.sink; faults = W.faults writer.new.sink; closes = W.closes writer.new.sink }) writer.new.writing (e ∷ es)) }
     ensures empty { IfOk result (λ x. kept.new.items ≡ []) }
     ensures same_source { S.lent reader.new.source ≡ S.lent reader.old.source }
     ensures same_sink { W.lent writer.new.sink ≡ W.lent writer.old.sink }
@@ -38,57 +107,16 @@ fn answer_to<S: Source, W: Sink>(
 {
     let lane = command.lane;
     match &command.words {
-        Words::Read => peer.read(alloc, reader, kept),
-        Words::Poll(number) => Ok(peer.poll(lane, *number)),
-        Words::Before { call, before } => Ok(peer.before(lane, *call, *before)),
-        Words::Drop(number) => Ok(peer.drop_call(lane, *number)),
-        Words::Stream => peer.stream(lane),
-        Words::Take(number) => Ok(peer.take(lane, *number)),
-        Words::TakeBefore { stream, before } => Ok(peer.take_before(lane, *stream, *before)),
-        Words::Clone(number) => peer.clone_stream(lane, *number),
-        Words::Unstream { stream, second } => peer.unstream(writer, lane, *stream, *second),
-        Words::Queue { stream, limit } => Ok(peer.queue(lane, *stream, *limit)),
-        Words::MainQueue(limit) => Ok(peer.main_queue(lane, *limit)),
-        Words::Open { max_queued, rule } => peer.open(alloc, writer, lane, *max_queued, rule),
-        Words::Opened(number) => Ok(peer.opened(lane, *number)),
-        Words::Close => Ok(peer.close(writer, lane)),
-        Words::Call(_) | Words::Signal(_) | Words::Reply { .. } | Words::Error { .. } => {
-            peer.send_words(alloc, writer, lane, &command.words)
+        Words::Read => {
+            let Reading { answer, message } = peer.read(alloc, reader, kept)?;
+            Ok(quiet(alloc, lane, Words::Read, answer, message))
+        }
+        Words::Close => Ok(quiet(alloc, lane, Words::Close, peer.close(writer), None)),
+        words => {
+            let words = words.try_clone(alloc)?;
+            perform(alloc, peer, writer, lane, words)
         }
     }
-}
-
-/// One command and its entry.
-fn step<S: Source, W: Sink>(
-    alloc: Global,
-    peer: &mut Peer,
-    reader: &mut ReadHalf<S>,
-    kept: &mut Vec<u8>,
-    writer: &mut WriteHalf<W>,
-    command: &Command,
-) -> Result<Entry, RunError>
-    requires within { peer.old.core.read ≤ 2 ^ 64 - 2 }
-    requires empty { kept.old.items ≡ [] }
-    requires written { peer.old.core.done ≡ length peer.old.core.outbox }
-    ensures command { IfOk result (λ e. command_of e ≡ command.now) }
-    ensures stands { IfOk result (λ e. (setting : Setting) (start_in : Inlet) (start_out : Outlet) (es : List Entry)
-        → setting.takes_fds ≡ W.takes writer.old.sink
-        → Stands setting start_in start_out peer.old (record { left = S.left reader.old.source; stop = S.stop reader.old.source; faults = S.faults reader.old.source }) (record { held = W.held writer.old.sink; room = W.room writer.old.sink; faults = W.faults writer.old.sink; closes = W.closes writer.old.sink }) writer.old.writing es
-        → Stands setting start_in start_out peer.new (record { left = S.left reader.new.source; stop = S.stop reader.new.source; faults = S.faults reader.new.source }) (record { held = W.held writer.new.sink; room = W.room writer.new.sink; faults = W.faults writer.new.sink; closes = W.closes writer.new.sink }) writer.new.writing (e ∷ es)) }
-    ensures empty { IfOk result (λ x. kept.new.items ≡ []) }
-    ensures same_source { S.lent reader.new.source ≡ S.lent reader.old.source }
-    ensures same_sink { W.lent writer.new.sink ≡ W.lent writer.old.sink }
-    ensures takes { W.takes writer.new.sink ≡ W.takes writer.old.sink }
-    ensures source_grows { S.faults reader.old.source ≤ S.faults reader.new.source }
-    ensures sink_grows { W.faults writer.old.sink ≤ W.faults writer.new.sink }
-{
-    let words = command.words.try_clone(alloc)?;
-    let answer = answer_to(alloc, peer, reader, kept, writer, command)?;
-    Ok(Entry {
-        lane: command.lane,
-        words,
-        answer,
-    })
 }
 
 /// A copy of a name, if there is one.
@@ -106,9 +134,12 @@ fn copied_name(
 
 /// Runs the commands over a source and a sink, as the peer of the setup's kind, and gives their entries: a legal history of
 /// the commands of a peer of that kind, that name and that capacity, whose sink takes file descriptors where it says so, each once and in order, whose
-/// reads are what stands at the front of the source's bytes and whose messages are what the sink got, up to its first fault.
+/// reads are what stands at the front of the source's bytes and whose messages are what the sink got, up to its first fault. Each
+/// entry's messages are written within it, up to that fault.
 /// All reads go through one half over the source, all sends through one over the sink. Fails only for want of memory; the
 /// source and the sink are then in any state.
+///
+/// The commands are those that a script may hold: none is one of `Live`, which only lanes have that run at once.
 pub fn run_peer<S: Source, W: Sink>(
     alloc: Global,
     setup: &Setup,
@@ -116,6 +147,7 @@ pub fn run_peer<S: Source, W: Sink>(
     sink: &mut W,
     commands: &[Command],
 ) -> Result<Transcript, RunError>
+    requires { AllByRecursion (λ (c : Command). IsOfRun c.words) commands.now }
     ensures run { IfOk result (λ t. Runs (setting_by (is_bus setup.now.kind) (name_of setup.now.kind) setup.now.queue (W.takes sink.old))
         (record { left = S.left source.old; stop = S.stop source.old; faults = S.faults source.old })
         (record { held = W.held sink.old; room = W.room sink.old; faults = W.faults sink.old; closes = W.closes sink.old })

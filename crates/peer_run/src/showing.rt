@@ -6,8 +6,9 @@ ghost use Rattle.peer_route.specs.declared.progress.OpenState.{OpenState};
 ghost use Rattle.peer_route.specs.declared.progress.OpenState.TheVariants as states;
 ghost use Rattle.peer_route.specs.Bus.{IsShownAs};
 ghost use Rattle.peer_route.specs.Shown as shows;
-ghost use Rattle.peer_run.specs.Stands.{NotIssued, IsRefusal, IsUnopened, IsKeptOpen, over_answer};
+ghost use Rattle.peer_run.specs.Stands.{IsRefusal, IsUndone, IsUnopened, over_answer};
 
+use crate::acting::{Acted, plainly};
 use crate::peer::RunError;
 use peer_route::{Answer, Opened, Polled};
 use wire_message::{Error, IoKind, Message, MessageType};
@@ -60,36 +61,35 @@ pub(crate) fn shown_drop(dropped: wire_message::Result<()>) -> Answer
     }
 }
 
-/// What is answered where a call wasn't issued.
-pub(crate) fn not_issued(error: Error) -> Result<Answer, RunError>
-    ensures { NotIssued error result }
-{
-    match &error {
-        Error::Memory => Err(RunError::Memory),
-        Error::InputOutput(_) => Ok(Answer::SendFailed(error)),
-        _ => Ok(Answer::Refused(error)),
-    }
-}
-
 /// What is answered where a command's words are refused.
-pub(crate) fn refused(error: Error) -> Result<Answer, RunError>
+pub(crate) fn refused(error: Error) -> Result<Acted, RunError>
     ensures { IsRefusal error result }
 {
     match &error {
         Error::Memory => Err(RunError::Memory),
-        _ => Ok(Answer::Refused(error)),
+        _ => Ok(plainly(Answer::Refused(error))),
     }
 }
 
-/// What is answered where a stream of a rule wasn't opened.
-pub(crate) fn unopened(error: Error) -> Result<Answer, RunError>
-    ensures { IsUnopened error result }
+/// What is answered where the core did nothing, or couldn't put a message.
+pub(crate) fn undone(error: Error) -> Result<Acted, RunError>
+    ensures { IsUndone error result }
 {
     match &error {
         Error::Memory => Err(RunError::Memory),
-        Error::Busy => Ok(Answer::Busy),
-        Error::InputOutput(IoKind::WriteFault) => Ok(Answer::SendFailed(error)),
-        _ => Ok(Answer::Refused(error)),
+        Error::Busy => Ok(plainly(Answer::Busy)),
+        Error::InputOutput(_) => Ok(plainly(Answer::SendFailed(error))),
+        _ => Ok(plainly(Answer::Refused(error))),
+    }
+}
+
+/// What is answered where it opened no stream of a rule.
+pub(crate) fn unopened(error: Error) -> Result<Acted, RunError>
+    ensures { IsUnopened error result }
+{
+    match &error {
+        Error::InputOutput(IoKind::Closed) => Ok(plainly(Answer::Refused(error))),
+        _ => undone(error),
     }
 }
 
@@ -114,16 +114,5 @@ fn shown_over(error: Error) -> Answer
     match &error {
         Error::UnknownHandle => Answer::Refused(error),
         _ => Answer::Closed(error),
-    }
-}
-
-/// What is answered where streams stay open: an AddMatch or a RemoveMatch is on its way, or want of memory.
-pub(crate) fn kept_open(error: Error) -> Result<Answer, RunError>
-    ensures { IsKeptOpen error result }
-{
-    match &error {
-        Error::Memory => Err(RunError::Memory),
-        Error::Busy => Ok(Answer::Busy),
-        _ => Ok(Answer::Refused(error)),
     }
 }

@@ -1,6 +1,6 @@
 -- A transcript's lines are read again.
-use Rattle.std.proofs.Common.{ℕ, ◌≡◌, ◌<◌, Bool, true, false, ◌&&◌, nat_eq, nat_le, List, [], ◌∷◌, ◌++◌, length, refl, ap, ◌∙◌, arith, append_assoc, append-nil}
-use Rattle.std.specs.List.{list_all, flat_map, slice_split, All}
+use Rattle.std.proofs.Common.{ℕ, ◌≡◌, ◌<◌, Bool, true, false, ◌&&◌, not, nat_eq, nat_le, List, [], ◌∷◌, ◌++◌, length, refl, ap, ◌∙◌, arith, append_assoc, append-nil}
+use Rattle.std.specs.List.{list_all, slice_split, All}
 use Rattle.std.specs.Char.{is_ascii_digit}
 use Rattle.std.proofs.lemmas.Bool.Decides.{nat_tests}
 use Rattle.std.proofs.lemmas.List.Elements.{All-head, All-tail, All-weaker}
@@ -9,6 +9,7 @@ use Rattle.std.proofs.lemmas.List.Folds.{list_all-append}
 use Rattle.std.proofs.lemmas.List.Splits.{slice_split_at, slice_split_none}
 use Rattle.peer_script.specs.Word.{same, words_of}
 use Rattle.peer_script.specs.Script.{before_answer, parts}
+use Rattle.peer_script.specs.Transcript.{spaced}
 
 -- ---- bytes of words and of lines
 
@@ -71,23 +72,37 @@ last_part word h = split_whole 32 word_byte no_space word h
 
 -- ---- words with spaces before them
 
-abbrev pub spaced : List ℕ → List ℕ
-spaced word = 32 ∷ word
-
 -- a word of a line, which isn't `=`
 pub record IsWord (word : List ℕ) : Type 0 where
   pub bytes : list_all word_byte word ≡ true
   pub some : 0 < length word
   pub other : same word (61 ∷ []) ≡ false
 
+is_not : (b : Bool) → not b ≡ true → b ≡ false
+is_not true h = cc
+is_not false h = refl
+
+some_bytes : (w : List ℕ) → nat_le 1 (length w) ≡ true → 0 < length w
+some_bytes [] h = cc
+some_bytes (b ∷ w) h = omega arith
+
+abbrev pub is_name : List ℕ → Bool
+is_name w = list_all word_byte w && (nat_le 1 (length w) && not (same w (61 ∷ [])))
+
+-- a name that stands in a text is a word
+pub named : (w : List ℕ) → is_name w ≡ true → IsWord w
+named w h =
+    let rest = second (list_all word_byte w) _ h in
+    record { bytes = first (list_all word_byte w) _ h; some = some_bytes w (first (nat_le 1 (length w)) _ rest); other = is_not _ (second (nat_le 1 (length w)) _ rest) }
+
 pub words_again : (word : List ℕ) (words : List (List ℕ)) (rest : List ℕ) → IsWord word → All IsWord words
-    → words_of (word ++ (flat_map spaced words ++ 32 ∷ rest)) ≡ word ∷ (words ++ words_of rest)
+    → words_of (word ++ (spaced words ++ 32 ∷ rest)) ≡ word ∷ (words ++ words_of rest)
 words_again word [] rest w ws = word_part word rest w.bytes
 words_again word (next ∷ words) rest w ws =
-    ap (λ l. words_of (word ++ 32 ∷ l)) (append_assoc next (flat_map spaced words) (32 ∷ rest)) ∙ word_part word _ w.bytes
+    ap (λ l. words_of (word ++ 32 ∷ l)) (append_assoc next (spaced words) (32 ∷ rest)) ∙ word_part word _ w.bytes
     ∙ ap (λ l. word ∷ l) (words_again next words rest (All-head IsWord next words ws) (All-tail IsWord next words ws))
 
-pub words_alone : (word : List ℕ) (words : List (List ℕ)) → IsWord word → All IsWord words → words_of (word ++ flat_map spaced words) ≡ word ∷ words
+pub words_alone : (word : List ℕ) (words : List (List ℕ)) → IsWord word → All IsWord words → words_of (word ++ spaced words) ≡ word ∷ words
 words_alone word [] w ws = ap words_of (append-nil word) ∙ last_part word w.bytes
 words_alone word (next ∷ words) w ws =
     word_part word _ w.bytes ∙ ap (λ l. word ∷ l) (words_alone next words (All-head IsWord next words ws) (All-tail IsWord next words ws))
@@ -127,10 +142,10 @@ space_before (b ∷ c ∷ word) rest w = no_answer b c (word ++ rest)
     (and_false (nat_eq b 61) (nat_eq c 32) (no_space c (first (word_byte c) (list_all word_byte word) (second (word_byte b) (word_byte c && list_all word_byte word) w.bytes))))
 
 pub before_again : (word : List ℕ) (words : List (List ℕ)) (answer : List ℕ) → IsWord word → All IsWord words
-    → before_answer (word ++ (flat_map spaced words ++ 32 ∷ 61 ∷ 32 ∷ answer)) ≡ word ++ flat_map spaced words
+    → before_answer (word ++ (spaced words ++ 32 ∷ 61 ∷ 32 ∷ answer)) ≡ word ++ spaced words
 before_again word [] answer w ws = word_before word (32 ∷ 61 ∷ 32 ∷ answer) w.bytes ∙ refl
 before_again word (next ∷ words) answer w ws =
     word_before word _ w.bytes
-    ∙ ap (λ l. word ++ before_answer (32 ∷ l)) (append_assoc next (flat_map spaced words) (32 ∷ 61 ∷ 32 ∷ answer))
+    ∙ ap (λ l. word ++ before_answer (32 ∷ l)) (append_assoc next (spaced words) (32 ∷ 61 ∷ 32 ∷ answer))
     ∙ ap (λ l. word ++ l) (space_before next _ (All-head IsWord next words ws))
     ∙ ap (λ l. word ++ 32 ∷ l) (before_again next words answer (All-head IsWord next words ws) (All-tail IsWord next words ws))

@@ -10,3 +10,4 @@ pub mod Again
 pub mod Calls
 pub mod Commands
 pub mod Reread
+pub mod OfRun

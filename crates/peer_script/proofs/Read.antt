@@ -7,7 +7,7 @@ use Rattle.peer_script.specs.declared.reading.Progress.{Progress}
 use Rattle.peer_script.specs.declared.kind.PeerKind.TheVariants as kinds
 use Rattle.peer_script.specs.declared.line.Line.{Line}
 use Rattle.peer_script.specs.declared.reading.Stage.{Stage}
-use Rattle.peer_script.specs.declared.reading.Stage.TheVariants.{Start, Head, Queued, Sink, Pieces, Commands, Over}
+use Rattle.peer_script.specs.declared.reading.Stage.TheVariants.{Start}
 use Rattle.peer_script.specs.Script.{Script, line_of, parts}
 use Rattle.peer_script.specs.Reading.{Step, take_line, may_end, end_of, then_read, read_lines, script_of, script_from, TakesLine}
 
@@ -21,8 +21,7 @@ some_part xs = omega (arith, length-slice_split (λ (b : ℕ). b == 10) xs)
 
 pub no_line : (stage : Stage) (s : Script) → take_line stage s None ≡ None
 unfolding take_line
-no_line Start s = refl
-no_line p s = refl
+no_line stage s = refl
 
 -- one line more
 pub step_to : (whole : Result Script ℕ) (stage : Stage) (s : Script) (n : ℕ) (line rest more : List ℕ) (o : Option Step)

@@ -1,184 +1,129 @@
 -- Each script's text is read.
-use Rattle.std.proofs.Common.{ℕ, ◌≡◌, ◌+◌, ◌≤◌, Bool, true, false, List, [], ◌∷◌, ◌++◌, length, map, Option, Some, None, Ok, refl, sym, ap, ◌∙◌, arith, append_assoc, append-nil, length-append}
+use Rattle.std.proofs.Common.{ℕ, ◌≡◌, ◌+◌, ◌≤◌, Bool, true, false, ◌&&◌, nat_le, List, [], ◌∷◌, ◌++◌, length, map, Option, Some, None, Ok, refl, sym, ap, ◌∙◌, subst, arith, append_assoc, append-nil, length-append}
+use Rattle.std.proofs.lemmas.Bool.Decides.{nat_tests}
 use Rattle.peer_route.specs.declared.words.Command.{Command}
 use Rattle.peer_script.specs.declared.kind.PeerKind.{PeerKind}
 use Rattle.peer_script.specs.declared.line.Line.{Line}
-use Rattle.peer_script.specs.declared.line.Line.TheVariants.{Peer, Capacity, Fds, OutFault, Do, Sent}
+use Rattle.peer_script.specs.declared.line.Line.TheVariants.{Peer, Capacity, Fds, OutFault, In, InFault, Do, Sent}
 use Rattle.peer_script.specs.declared.reading.Stage.{Stage}
-use Rattle.peer_script.specs.declared.reading.Stage.TheVariants.{Start, Head, Queued, Sink, Pieces, Commands, Over}
-use Rattle.peer_script.specs.Script.{Given, Gave, Broke, Script, ScriptText, line_of, parts, capacity_lines, fds_lines, outfault_lines, given_line, sent_lines, script_lines}
-use Rattle.peer_script.specs.Reading.{Step, begun, with_kind, with_queue, with_fds, with_outfault, more_given, more_command, take_line, then_read, read_lines, script_of}
+use Rattle.peer_script.specs.declared.reading.Stage.TheVariants.{Start, Head}
+use Rattle.peer_script.specs.Script.{Given, Gave, Broke, Script, ScriptText, line_of, capacity_lines, fds_lines, outfault_lines, given_line, sent_lines, script_lines}
+use Rattle.peer_script.specs.Reading.{Step, begun, rank, first_stage, last_stage, next_stage, with_line, take_line, then_read, read_lines, script_of}
 use Rattle.peer_script.proofs.Read.{lines_step}
-use Rattle.peer_script.proofs.Grammar.{body, Fits, joined, front, none_or}
+use Rattle.peer_script.proofs.Grammar.{and_then, steps}
+
+both_tests : (a k b : ℕ) → a ≤ k → k ≤ b → (nat_le a k && nat_le k b) ≡ true
+both_tests a k b h i = grind (arith, nat_tests)
+
+comes : (stage : Stage) (s : Script) (l : Line) → rank (first_stage l) ≤ rank stage → rank stage ≤ rank (last_stage l)
+    → take_line stage s (Some l) ≡ Some (record { stage = next_stage l; script = with_line l s })
+unfolding take_line
+comes stage s l a b = rw (both_tests (rank (first_stage l)) (rank stage) (rank (last_stage l)) a b) refl
+
+-- From each stage up to the one of a rank these lines lead on, up to that of another, and make of a script another.
+abbrev Leads : ℕ → ℕ → List Line → Script → Script → Type 0
+Leads from to ls s t = (p : Stage) → 1 ≤ rank p → rank p ≤ from → (q : Stage) × (steps (record { stage = p; script = s }) ls ≡ Some (record { stage = q; script = t })) × (1 ≤ rank q) × (rank q ≤ to)
+
+joined_by : (t : Option Step) (ls ms : List Line) (q : Step) → ((p : Step) → steps p ls ≡ Some q → steps p (ls ++ ms) ≡ steps q ms)
+    → and_then t (λ p. steps p ls) ≡ Some q → and_then t (λ p. steps p (ls ++ ms)) ≡ steps q ms
+joined_by None ls ms q more e = absurd (cc)
+joined_by (Some p) ls ms q more e = more p e
+
+joined_steps : (ls ms : List Line) (r q : Step) → steps r ls ≡ Some q → steps r (ls ++ ms) ≡ steps q ms
+joined_steps [] ms r q e = ap (λ x. and_then x (λ p. steps p ms)) e
+joined_steps (l ∷ ls) ms r q e = joined_by (take_line r.stage r.script (Some l)) ls ms q (λ p f. joined_steps ls ms p q f) e
+
+stays : (from to : ℕ) (s : Script) → from ≤ to → Leads from to [] s s
+stays from to s h p a b = (p, refl, a, omega arith)
+
+leads_one : (l : Line) (from to : ℕ) (s : Script) → rank (first_stage l) ≤ 1 → from ≤ rank (last_stage l) → rank (next_stage l) ≤ to → 1 ≤ rank (next_stage l)
+    → Leads from to (l ∷ []) s (with_line l s)
+leads_one l from to s a b c d p i j = (next_stage l, ap (λ x. and_then x (λ q. steps q [])) (comes p s l (omega arith) (omega arith)), d, c)
+
+on : (a b c : ℕ) (ls ms : List Line) (s t u : Script) → Leads a b ls s t → Leads b c ms t u → Leads a c (ls ++ ms) s u
+on a b c ls ms s t u h k p i j =
+    let x = h p i j in
+    let y = k x.0 x.2 x.3 in
+    (y.0, joined_steps ls ms (record { stage = p; script = s }) (record { stage = x.0; script = t }) x.1 ∙ y.1, y.2, y.3)
+
+leads_piece : (g : Given) (s : Script) → Leads 4 4 (given_line g ∷ []) s (record s { given = s.given ++ g ∷ [] })
+leads_piece (Gave piece) s = leads_one (In piece) 4 4 s (omega arith) (omega arith) (omega arith) (omega arith)
+leads_piece Broke s = leads_one InFault 4 4 s (omega arith) (omega arith) (omega arith) (omega arith)
+
+leads_given : (gs : List Given) (s : Script) → Leads 4 4 (map given_line gs) s (record s { given = s.given ++ gs })
+leads_given [] s = subst (Leads 4 4 [] s) (ap (λ l. record s { given = l }) (sym (append-nil s.given))) (stays 4 4 s (omega arith))
+leads_given (g ∷ gs) s =
+    subst (Leads 4 4 (map given_line (g ∷ gs)) s) (ap (λ l. record s { given = l }) (append_assoc s.given (g ∷ []) gs))
+    (on 4 4 4 (given_line g ∷ []) (map given_line gs) s (record s { given = s.given ++ g ∷ [] }) _ (leads_piece g s) (leads_given gs (record s { given = s.given ++ g ∷ [] })))
+
+leads_commands : (cs : List Command) (s : Script) → Leads 5 5 (map Do cs) s (record s { commands = s.commands ++ cs })
+leads_commands [] s = subst (Leads 5 5 [] s) (ap (λ l. record s { commands = l }) (sym (append-nil s.commands))) (stays 5 5 s (omega arith))
+leads_commands (c ∷ cs) s =
+    subst (Leads 5 5 (map Do (c ∷ cs)) s) (ap (λ l. record s { commands = l }) (append_assoc s.commands (c ∷ []) cs))
+    (on 5 5 5 (Do c ∷ []) (map Do cs) s (record s { commands = s.commands ++ c ∷ [] }) _ (leads_one (Do c) 5 5 s (omega arith) (omega arith) (omega arith) (omega arith)) (leads_commands cs (record s { commands = s.commands ++ c ∷ [] })))
+
+abbrev front : PeerKind → Option ℕ → Bool → Option ℕ → Script
+front kind queue fds out = record { kind = kind; queue = queue; fds = fds; outfault = out; given = []; commands = [] }
+
+leads_queue : (kind : PeerKind) (queue : Option ℕ) → Leads 1 2 (capacity_lines queue) (front kind None false None) (front kind queue false None)
+leads_queue kind None = stays 1 2 _ (omega arith)
+leads_queue kind (Some n) = leads_one (Capacity n) 1 2 _ (omega arith) (omega arith) (omega arith) (omega arith)
+
+leads_fds : (kind : PeerKind) (queue : Option ℕ) (fds : Bool) → Leads 2 3 (fds_lines fds) (front kind queue false None) (front kind queue fds None)
+leads_fds kind queue false = stays 2 3 _ (omega arith)
+leads_fds kind queue true = leads_one Fds 2 3 _ (omega arith) (omega arith) (omega arith) (omega arith)
+
+leads_out : (kind : PeerKind) (queue : Option ℕ) (fds : Bool) (out : Option ℕ) → Leads 3 4 (outfault_lines out) (front kind queue fds None) (front kind queue fds out)
+leads_out kind queue fds None = stays 3 4 _ (omega arith)
+leads_out kind queue fds (Some n) = leads_one (OutFault n) 3 4 _ (omega arith) (omega arith) (omega arith) (omega arith)
+
+leads_sent : (sent : Bool) (s : Script) → Leads 5 6 (sent_lines sent) s s
+leads_sent true s = leads_one Sent 5 6 s (omega arith) (omega arith) (omega arith) (omega arith)
+leads_sent false s = stays 5 6 s (omega arith)
+
+-- the lines behind `direct` or `bus`
+leads_all : (s : Script) (sent : Bool)
+    → Leads 1 6 (capacity_lines s.queue ++ fds_lines s.fds ++ outfault_lines s.outfault ++ map given_line s.given ++ map Do s.commands ++ sent_lines sent) (front s.kind None false None) s
+leads_all s sent =
+    let given = record (front s.kind s.queue s.fds s.outfault) { given = s.given } in
+    on 1 5 6 _ (sent_lines sent) (front s.kind None false None) s s
+    (on 1 4 5 _ (map Do s.commands) (front s.kind None false None) given s
+    (on 1 4 4 _ (map given_line s.given) (front s.kind None false None) (front s.kind s.queue s.fds s.outfault) given
+    (on 1 3 4 _ (outfault_lines s.outfault) (front s.kind None false None) (front s.kind s.queue s.fds None) (front s.kind s.queue s.fds s.outfault)
+    (on 1 2 3 (capacity_lines s.queue) (fds_lines s.fds) (front s.kind None false None) (front s.kind s.queue false None) (front s.kind s.queue s.fds None) (leads_queue s.kind s.queue) (leads_fds s.kind s.queue s.fds))
+    (leads_out s.kind s.queue s.fds s.outfault)) (leads_given s.given (front s.kind s.queue s.fds s.outfault))) (λ p i j. leads_commands s.commands given p i (omega arith)))
+    (leads_sent sent s)
+
+-- ---- lines of a text
+
+ends_at : (stage : Stage) (s : Script) (n : ℕ) → 1 ≤ rank stage → read_lines (record { stage = stage; script = s }) n ([] ∷ []) ≡ Ok s
+ends_at Start s n h = absurd (omega arith)
+ends_at p s n h = refl
 
 one_more : (lines : List (List ℕ)) → 1 ≤ length (lines ++ [] ∷ [])
 one_more lines = omega (arith, length-append lines ([] ∷ []))
 
-read_on : (stage : Stage) (s whole : Script) (n : ℕ) (line : List ℕ) (lines : List (List ℕ)) (r : Step) → take_line stage s (line_of line) ≡ Some r
-    → read_lines r (n + 1) (lines ++ [] ∷ []) ≡ Ok whole → read_lines (record { stage = stage; script = s }) n (line ∷ (lines ++ [] ∷ [])) ≡ Ok whole
-read_on stage s whole n line lines r e h =
-    lines_step (record { stage = stage; script = s }) n line (lines ++ [] ∷ []) (one_more lines)
-    ∙ ap (λ x. then_read x n (λ q. read_lines q (n + 1) (lines ++ [] ∷ []))) e ∙ h
+reads_by : (t : Option Step) (q : Step) (n : ℕ) (ls : List Line) (lines : List (List ℕ)) → ((p : Step) → steps p ls ≡ Some q → read_lines p (n + 1) (lines ++ [] ∷ []) ≡ Ok q.script)
+    → and_then t (λ p. steps p ls) ≡ Some q → then_read t n (λ p. read_lines p (n + 1) (lines ++ [] ∷ [])) ≡ Ok q.script
+reads_by None q n ls lines more e = absurd (cc)
+reads_by (Some p) q n ls lines more e = more p e
 
--- a stage at which `outfault` may come
-abbrev IsHead : Stage → Type 0
-IsHead Start = ⊥
-IsHead Head = Unit {0}
-IsHead Queued = Unit {0}
-IsHead Sink = Unit {0}
-IsHead Pieces = ⊥
-IsHead Commands = ⊥
-IsHead Over = ⊥
-
-head_fits : (stage : Stage) (gs : List Given) (cs : List Command) (b : Bool) → IsHead stage → Fits stage None gs cs b
-head_fits Start gs cs b h = absurd h
-head_fits Head gs cs b h = tt
-head_fits Queued gs cs b h = tt
-head_fits Sink gs cs b h = tt
-head_fits Pieces gs cs b h = absurd h
-head_fits Commands gs cs b h = absurd h
-head_fits Over gs cs b h = absurd h
-
-takes_out : (stage : Stage) (s : Script) (o : Option Line) (count : ℕ) → IsHead stage → o ≡ Some (OutFault count)
-    → take_line stage s o ≡ Some (record { stage = Pieces; script = with_outfault s count })
-unfolding take_line
-takes_out Start s o count h e = absurd h
-takes_out Head s o count h e = ap (take_line Head s) e
-takes_out Queued s o count h e = ap (take_line Queued s) e
-takes_out Sink s o count h e = ap (take_line Sink s) e
-takes_out Pieces s o count h e = absurd h
-takes_out Commands s o count h e = absurd h
-takes_out Over s o count h e = absurd h
-
-takes_given : (stage : Stage) (s : Script) (o : Option Line) (g : Given) (gs : List Given) (cs : List Command) (b : Bool) → Fits stage None (g ∷ gs) cs b → o ≡ Some (given_line g)
-    → take_line stage s o ≡ Some (record { stage = Pieces; script = more_given s g })
-unfolding take_line
-takes_given Start s o g gs cs b f e = absurd f
-takes_given Head s o (Gave piece) gs cs b f e = ap (take_line Head s) e
-takes_given Queued s o (Gave piece) gs cs b f e = ap (take_line Queued s) e
-takes_given Sink s o (Gave piece) gs cs b f e = ap (take_line Sink s) e
-takes_given Head s o Broke gs cs b f e = ap (take_line Head s) e
-takes_given Queued s o Broke gs cs b f e = ap (take_line Queued s) e
-takes_given Sink s o Broke gs cs b f e = ap (take_line Sink s) e
-takes_given Pieces s o (Gave piece) gs cs b f e = ap (take_line Pieces s) e
-takes_given Pieces s o Broke gs cs b f e = ap (take_line Pieces s) e
-takes_given Commands s o g gs cs b f e = absurd (cc (f.1))
-takes_given Over s o g gs cs b f e = absurd (cc (f.1))
-
-takes_do : (stage : Stage) (s : Script) (o : Option Line) (c : Command) (cs : List Command) (b : Bool) → Fits stage None [] (c ∷ cs) b → o ≡ Some (Do c)
-    → take_line stage s o ≡ Some (record { stage = Commands; script = more_command s c })
-unfolding take_line
-takes_do Start s o c cs b f e = absurd f
-takes_do Head s o c cs b f e = ap (take_line Head s) e
-takes_do Queued s o c cs b f e = ap (take_line Queued s) e
-takes_do Sink s o c cs b f e = ap (take_line Sink s) e
-takes_do Pieces s o c cs b f e = ap (take_line Pieces s) e
-takes_do Commands s o c cs b f e = ap (take_line Commands s) e
-takes_do Over s o c cs b f e = absurd (cc (f.2))
-
-takes_sent : (stage : Stage) (s : Script) (o : Option Line) → Fits stage None [] [] true → o ≡ Some Sent → take_line stage s o ≡ Some (record { stage = Over; script = s })
-unfolding take_line
-takes_sent Start s o f e = absurd f
-takes_sent Head s o f e = ap (take_line Head s) e
-takes_sent Queued s o f e = ap (take_line Queued s) e
-takes_sent Sink s o f e = ap (take_line Sink s) e
-takes_sent Pieces s o f e = ap (take_line Pieces s) e
-takes_sent Commands s o f e = ap (take_line Commands s) e
-takes_sent Over s o f e = absurd (cc (f.3))
-
-ends_here : (stage : Stage) (s : Script) (n : ℕ) (b : Bool) → Fits stage None [] [] b → read_lines (record { stage = stage; script = s }) n ([] ∷ []) ≡ Ok s
-ends_here Start s n b f = absurd f
-ends_here p s n b f = refl
-
-read_end : (stage : Stage) (b : Bool) (s : Script) (n : ℕ) (lines : List (List ℕ)) → Fits stage None [] [] b → map line_of lines ≡ map Some (body None [] [] b)
-    → read_lines (record { stage = stage; script = s }) n (lines ++ [] ∷ []) ≡ Ok s
-read_end stage false s n [] f e = ends_here stage s n false f
-read_end stage false s n (line ∷ lines) f e = absurd (cc)
-read_end stage true s n [] f e = absurd (cc)
-read_end stage true s n (line ∷ []) f e = read_on stage s s n line [] (record { stage = Over; script = s }) (takes_sent stage s (line_of line) f cc) refl
-read_end stage true s n (line ∷ next ∷ lines) f e = absurd (cc)
-
-read_commands : (cs : List Command) (stage : Stage) (b : Bool) (s : Script) (n : ℕ) (lines : List (List ℕ)) → Fits stage None [] cs b → map line_of lines ≡ map Some (body None [] cs b)
-    → read_lines (record { stage = stage; script = s }) n (lines ++ [] ∷ []) ≡ Ok (record s { commands = s.commands ++ cs })
-read_commands [] stage b s n lines f e = read_end stage b s n lines f e ∙ ap (λ l. Ok (record s { commands = l })) (sym (append-nil s.commands))
-read_commands (c ∷ cs) stage b s n [] f e = absurd (cc)
-read_commands (c ∷ cs) stage b s n (line ∷ lines) f e =
-    read_on stage s _ n line lines (record { stage = Commands; script = more_command s c }) (takes_do stage s (line_of line) c cs b f cc)
-    (read_commands cs Commands b (more_command s c) (n + 1) lines (refl, refl) (cc) ∙ ap (λ l. Ok (record s { commands = l })) (append_assoc s.commands (c ∷ []) cs))
-
-read_given : (gs : List Given) (stage : Stage) (cs : List Command) (b : Bool) (s : Script) (n : ℕ) (lines : List (List ℕ)) → Fits stage None gs cs b → map line_of lines ≡ map Some (body None gs cs b)
-    → read_lines (record { stage = stage; script = s }) n (lines ++ [] ∷ []) ≡ Ok (joined s None gs cs)
-read_given [] stage cs b s n lines f e =
-    read_commands cs stage b s n lines f e ∙ ap (λ l. Ok (record { kind = s.kind; queue = s.queue; fds = s.fds; outfault = s.outfault; given = l; commands = s.commands ++ cs })) (sym (append-nil s.given))
-read_given (g ∷ gs) stage cs b s n [] f e = absurd (cc)
-read_given (g ∷ gs) stage cs b s n (line ∷ lines) f e =
-    read_on stage s _ n line lines (record { stage = Pieces; script = more_given s g }) (takes_given stage s (line_of line) g gs cs b f cc)
-    (read_given gs Pieces cs b (more_given s g) (n + 1) lines refl (cc)
-    ∙ ap (λ l. Ok (record { kind = s.kind; queue = s.queue; fds = s.fds; outfault = s.outfault; given = l; commands = s.commands ++ cs })) (append_assoc s.given (g ∷ []) gs))
-
-read_head : (out : Option ℕ) (stage : Stage) (gs : List Given) (cs : List Command) (b : Bool) (s : Script) (n : ℕ) (lines : List (List ℕ)) → IsHead stage
-    → map line_of lines ≡ map Some (body out gs cs b) → read_lines (record { stage = stage; script = s }) n (lines ++ [] ∷ []) ≡ Ok (joined s out gs cs)
-read_head None stage gs cs b s n lines h e = read_given gs stage cs b s n lines (head_fits stage gs cs b h) e
-read_head (Some count) stage gs cs b s n [] h e = absurd (cc)
-read_head (Some count) stage gs cs b s n (line ∷ lines) h e =
-    read_on stage s _ n line lines (record { stage = Pieces; script = with_outfault s count }) (takes_out stage s (line_of line) count h cc)
-    (read_given gs Pieces cs b (with_outfault s count) (n + 1) lines refl (cc))
-
--- a stage at which `fds` may come
-abbrev IsFront : Stage → Type 0
-IsFront Start = ⊥
-IsFront Head = Unit {0}
-IsFront Queued = Unit {0}
-IsFront p = ⊥
-
-front_head : (stage : Stage) → IsFront stage → IsHead stage
-front_head Start h = absurd h
-front_head Head h = tt
-front_head Queued h = tt
-front_head p h = absurd h
-
-takes_fds : (stage : Stage) (s : Script) (o : Option Line) → IsFront stage → o ≡ Some Fds → take_line stage s o ≡ Some (record { stage = Sink; script = with_fds s })
-unfolding take_line
-takes_fds Start s o h e = absurd h
-takes_fds Head s o h e = ap (take_line Head s) e
-takes_fds Queued s o h e = ap (take_line Queued s) e
-takes_fds p s o h e = absurd h
-
-read_fds : (fds : Bool) (stage : Stage) (out : Option ℕ) (gs : List Given) (cs : List Command) (b : Bool) (kind : PeerKind) (queue : Option ℕ) (n : ℕ) (lines : List (List ℕ)) → IsFront stage
-    → map line_of lines ≡ map Some (fds_lines fds ++ outfault_lines out ++ map given_line gs ++ map Do cs ++ sent_lines b)
-    → read_lines (record { stage = stage; script = front kind queue false }) n (lines ++ [] ∷ []) ≡ Ok (record { kind = kind; queue = queue; fds = fds; outfault = out; given = gs; commands = cs })
-read_fds false stage out gs cs b kind queue n lines h e =
-    read_head out stage gs cs b (front kind queue false) n lines (front_head stage h) e ∙ ap (λ o. Ok (record { kind = kind; queue = queue; fds = false; outfault = o; given = gs; commands = cs })) (none_or out)
-read_fds true stage out gs cs b kind queue n [] h e = absurd (cc)
-read_fds true stage out gs cs b kind queue n (line ∷ lines) h e =
-    read_on stage (front kind queue false) _ n line lines (record { stage = Sink; script = front kind queue true }) (takes_fds stage (front kind queue false) (line_of line) h cc)
-    (read_head out Sink gs cs b (front kind queue true) (n + 1) lines tt (cc))
-    ∙ ap (λ o. Ok (record { kind = kind; queue = queue; fds = true; outfault = o; given = gs; commands = cs })) (none_or out)
-
-takes_queue : (s : Script) (o : Option Line) (limit : ℕ) → o ≡ Some (Capacity limit) → take_line Head s o ≡ Some (record { stage = Queued; script = with_queue s limit })
-unfolding take_line
-takes_queue s o limit e = ap (take_line Head s) e
-
-read_queue : (queue : Option ℕ) (fds : Bool) (out : Option ℕ) (gs : List Given) (cs : List Command) (b : Bool) (kind : PeerKind) (n : ℕ) (lines : List (List ℕ))
-    → map line_of lines ≡ map Some (capacity_lines queue ++ fds_lines fds ++ outfault_lines out ++ map given_line gs ++ map Do cs ++ sent_lines b)
-    → read_lines (record { stage = Head; script = front kind None false }) n (lines ++ [] ∷ []) ≡ Ok (record { kind = kind; queue = queue; fds = fds; outfault = out; given = gs; commands = cs })
-read_queue None fds out gs cs b kind n lines e = read_fds fds Head out gs cs b kind None n lines tt e
-read_queue (Some limit) fds out gs cs b kind n [] e = absurd (cc)
-read_queue (Some limit) fds out gs cs b kind n (line ∷ lines) e =
-    read_on Head (front kind None false) _ n line lines (record { stage = Queued; script = front kind (Some limit) false }) (takes_queue (front kind None false) (line_of line) limit cc)
-    (read_fds fds Queued out gs cs b kind (Some limit) (n + 1) lines tt (cc))
-
-takes_peer : (s : Script) (kind : PeerKind) (o : Option Line) → o ≡ Some (Peer kind) → take_line Start s o ≡ Some (record { stage = Head; script = with_kind s kind })
-unfolding take_line
-takes_peer s kind o e = ap (take_line Start s) e
-
-from_lines : (lines : List (List ℕ)) (bytes : List ℕ) (s : Script) (b : Bool) → parts bytes ≡ lines ++ [] ∷ [] → map line_of lines ≡ map Some (script_lines s b)
-    → read_lines begun 1 (parts bytes) ≡ Ok s
-from_lines [] bytes s b p e = absurd (cc)
-from_lines (line ∷ lines) bytes s b p e =
-    ap (read_lines begun 1) p ∙ read_on Start begun.script _ 1 line lines (record { stage = Head; script = with_kind begun.script s.kind }) (takes_peer begun.script s.kind (line_of line) cc)
-    (read_queue s.queue s.fds s.outfault s.given s.commands b s.kind (1 + 1) lines cc)
+-- lines that lead to a stage at which a text may end are read
+reads : (lines : List (List ℕ)) (ls : List Line) (r q : Step) (n : ℕ) → map line_of lines ≡ map Some ls → steps r ls ≡ Some q → 1 ≤ rank q.stage
+    → read_lines r n (lines ++ [] ∷ []) ≡ Ok q.script
+reads [] [] r q n e f h = let is : r ≡ q = cc in subst (λ x. read_lines x n ([] ∷ []) ≡ Ok q.script) (sym is) (ends_at q.stage q.script n h)
+reads [] (l ∷ ls) r q n e f h = absurd (cc)
+reads (x ∷ lines) [] r q n e f h = absurd (cc)
+reads (x ∷ lines) (l ∷ ls) r q n e f h =
+    let is : line_of x ≡ Some l = cc in
+    lines_step r n x (lines ++ [] ∷ []) (one_more lines) ∙ ap (λ o. then_read (take_line r.stage r.script o) n (λ p. read_lines p (n + 1) (lines ++ [] ∷ []))) is
+    ∙ reads_by (take_line r.stage r.script (Some l)) q n ls lines (λ p g. reads lines ls p q (n + 1) (cc) g h) f
 
 pub reading_of_text : (bytes : List ℕ) (s : Script) → ScriptText bytes s → script_of bytes ≡ Ok s
 unfolding script_of
-reading_of_text bytes s t = from_lines t.lines bytes s t.sent t.ended t.each
+reading_of_text bytes s t =
+    let x = leads_all s t.sent Head (omega arith) (omega arith) in
+    let rest = capacity_lines s.queue ++ fds_lines s.fds ++ outfault_lines s.outfault ++ map given_line s.given ++ map Do s.commands ++ sent_lines t.sent in
+    let first = comes Start begun.script (Peer s.kind) (omega arith) (omega arith) in
+    ap (read_lines begun 1) t.ended
+    ∙ reads t.lines (script_lines s t.sent) begun (record { stage = x.0; script = s }) 1 t.each (ap (λ o. and_then o (λ q. steps q rest)) first ∙ x.1) x.2

@@ -2,12 +2,19 @@
 use Rattle.std.specs.Prelude.{ℕ, ◌≡◌, ◌<◌, ◌≤◌, ◌^◌, Bool, false, List, length, map, Ok, Option, Some, None}
 use Rattle.std.specs.List.{All}
 use Rattle.peer_route.specs.declared.words.Outgoing.{Outgoing}
+use Rattle.peer_route.specs.declared.words.OutgoingKind.{OutgoingKind}
+use Rattle.peer_route.specs.declared.words.OutgoingKind.TheVariants as outgoing
+use Rattle.peer_route.specs.declared.words.CallOp.{CallOp}
+use Rattle.peer_route.specs.declared.words.CallOp.TheVariants as calls
+use Rattle.peer_route.specs.declared.words.StreamOp.{StreamOp}
+use Rattle.peer_route.specs.declared.words.StreamOp.TheVariants as ops
 use Rattle.peer_route.specs.declared.words.Words.{Words}
 use Rattle.peer_route.specs.declared.words.Words.TheVariants as words
 use Rattle.peer_route.specs.declared.words.Command.{Command}
 use Rattle.peer_route.specs.declared.answer.Answer.{Answer}
 use Rattle.peer_route.specs.declared.answer.Answer.TheVariants as answers
 use Rattle.peer_route.specs.declared.answer.Entry.{Entry}
+use Rattle.wire_message.specs.Front.{Seen}
 use Rattle.wire_message.specs.Texts.{message_line}
 use Rattle.wire_message.specs.declared.error.Error.{Error}
 use Rattle.wire_message.specs.declared.error.Error.TheVariants as errors
@@ -41,11 +48,16 @@ abbrev pub IsThere : Option (List ℕ) → Type 0
 IsThere None = ⊥
 IsThere (Some text) = SomeBytes text
 
--- the words of a call or of a signal; a signal has an interface
-pub record OutgoingText (named : Type 0) (o : Outgoing) : Type 0 where
+-- a signal has an interface
+abbrev pub IsInterface : OutgoingKind → Option (List ℕ) → Type 0
+IsInterface outgoing.Call name = IsOptional name
+IsInterface outgoing.Signal name = IsThere name
+
+-- the words of a call or of a signal
+pub record OutgoingText (o : Outgoing) : Type 0 where
   pub destination : IsOptional o.destination
   pub path : SomeBytes o.path
-  pub interface : named
+  pub interface : IsInterface o.kind o.interface
   pub member : SomeBytes o.member
   pub body : IsOptional o.body
 
@@ -54,63 +66,62 @@ abbrev pub IsCount : Option ℕ → Type 0
 IsCount None = Unit {0}
 IsCount (Some count) = count < 2 ^ 64
 
+abbrev pub HasCallText : CallOp → Type 0
+HasCallText (calls.Before before) = before < 2 ^ 64
+HasCallText op = Unit {0}
+
+abbrev pub HasStreamText : StreamOp → Type 0
+HasStreamText (ops.Reply body) = IsOptional body
+HasStreamText (ops.Error name body) = SomeBytes name × IsOptional body
+HasStreamText (ops.TakeBefore before) = before < 2 ^ 64
+HasStreamText (ops.Queue limit) = limit < 2 ^ 64
+HasStreamText (ops.Unstream second) = IsCount second
+HasStreamText op = Unit {0}
+
+-- words that a line of a script says
 abbrev pub HasText : Words → Type 0
-HasText (words.Call outgoing) = OutgoingText (IsOptional outgoing.interface) outgoing
-HasText (words.Signal outgoing) = OutgoingText (IsThere outgoing.interface) outgoing
-HasText (words.Reply stream body) = (stream < 2 ^ 64) × IsOptional body
-HasText (words.Error stream name body) = (stream < 2 ^ 64) × SomeBytes name × IsOptional body
+HasText (words.Send outgoing) = OutgoingText outgoing
 HasText words.Read = Unit {0}
-HasText (words.Poll number) = number < 2 ^ 64
-HasText (words.Before call before) = (call < 2 ^ 64) × (before < 2 ^ 64)
-HasText (words.Drop number) = number < 2 ^ 64
+HasText (words.OfCall call op) = (call < 2 ^ 64) × HasCallText op
 HasText words.Stream = Unit {0}
-HasText (words.Take number) = number < 2 ^ 64
-HasText (words.TakeBefore stream before) = (stream < 2 ^ 64) × (before < 2 ^ 64)
-HasText (words.Clone stream) = stream < 2 ^ 64
-HasText (words.Unstream stream second) = (stream < 2 ^ 64) × IsCount second
-HasText (words.Queue stream limit) = (stream < 2 ^ 64) × (limit < 2 ^ 64)
-HasText (words.MainQueue limit) = limit < 2 ^ 64
 HasText (words.Open max_queued rule) = IsCount max_queued × SomeBytes rule
-HasText (words.Opened number) = number < 2 ^ 64
+HasText (words.OfStream stream op) = (stream < 2 ^ 64) × HasStreamText op
+HasText (words.MainQueue limit) = limit < 2 ^ 64
 HasText words.Close = Unit {0}
+HasText (words.Live line) = ⊥
 
 -- the name of a missing parameter is of bytes
 abbrev pub HasBytes : Error → Type 0
 HasBytes (errors.MissingParameter name) = All (λ b. b < 256) name.now
 HasBytes error = Unit {0}
 
--- the numbers of an answer are below 2^64, and its texts are bytes
-abbrev pub HasNumbers : Answer → Type 0
-HasNumbers (answers.Called call serial) = (call < 2 ^ 64) × (serial < 2 ^ 64)
-HasNumbers (answers.Sent serial) = serial < 2 ^ 64
-HasNumbers (answers.MethodError m) = (m.position < 2 ^ 64) × All (λ b. b < 256) (or_empty m.error_name)
-HasNumbers (answers.Got m) = (m.position < 2 ^ 64) × (length m.bytes < 2 ^ 64) × All (λ b. b < 256) (message_line m)
-HasNumbers (answers.Reply position) = position < 2 ^ 64
-HasNumbers (answers.InvalidReply position) = position < 2 ^ 64
-HasNumbers (answers.Refused error) = HasBytes error
-HasNumbers (answers.SendFailed error) = HasBytes error
-HasNumbers (answers.SentFirst error) = HasBytes error
-HasNumbers (answers.Untold error) = HasBytes error
-HasNumbers (answers.Closed error) = HasBytes error
-HasNumbers answers.NotYet = Unit {0}
-HasNumbers answers.NoneBefore = Unit {0}
-HasNumbers answers.Busy = Unit {0}
-HasNumbers answers.Dropped = Unit {0}
-HasNumbers (answers.Streaming number) = number < 2 ^ 64
-HasNumbers (answers.Opening number serial) = (number < 2 ^ 64) × (serial < 2 ^ 64)
-HasNumbers answers.Opened = Unit {0}
-HasNumbers (answers.Item position) = position < 2 ^ 64
-HasNumbers answers.Empty = Unit {0}
-HasNumbers answers.Ended = Unit {0}
-HasNumbers (answers.Gone last) = IsCount last
-HasNumbers answers.Set = Unit {0}
-HasNumbers answers.Shut = Unit {0}
+-- the numbers of a message that was read are below 2^64, and its line is of bytes
+abbrev pub IsShown : Option Seen → Type 0
+IsShown None = Unit {0}
+IsShown (Some m) = (m.position < 2 ^ 64) × (length m.bytes < 2 ^ 64) × All (λ b. b < 256) (message_line m)
+
+-- the numbers of an answer are below 2^64, and its texts are bytes; `read` is the message that the entry read
+abbrev pub HasNumbers : Option Seen → Answer → Type 0
+HasNumbers read (answers.Called call serial) = (call < 2 ^ 64) × (serial < 2 ^ 64)
+HasNumbers read (answers.Sent serial) = serial < 2 ^ 64
+HasNumbers read (answers.MethodError m) = (m.position < 2 ^ 64) × All (λ b. b < 256) (or_empty m.error_name)
+HasNumbers read answers.Got = IsShown read
+HasNumbers read (answers.Reply position) = position < 2 ^ 64
+HasNumbers read (answers.InvalidReply position) = position < 2 ^ 64
+HasNumbers read (answers.Refused error) = HasBytes error
+HasNumbers read (answers.SendFailed error) = HasBytes error
+HasNumbers read (answers.Closed error) = HasBytes error
+HasNumbers read (answers.Streaming number) = number < 2 ^ 64
+HasNumbers read (answers.Opening number serial) = (number < 2 ^ 64) × (serial < 2 ^ 64)
+HasNumbers read (answers.Item position) = position < 2 ^ 64
+HasNumbers read (answers.Gone last) = IsCount last
+HasNumbers read other = Unit {0}
 
 -- an entry of a command that a script can hold
 pub record CanBeRead (e : Entry) : Type 0 where
   pub lane : e.lane ≤ 63
   pub text : HasText e.words
-  pub numbers : HasNumbers e.answer
+  pub numbers : HasNumbers e.read e.answer
 
 -- a piece that a script can hold: it has at least one byte
 abbrev pub IsGiven : Given → Type 0

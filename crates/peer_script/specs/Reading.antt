@@ -1,5 +1,5 @@
 -- Reading a script: line by line, with the first line outside the table or out of its order.
-use Rattle.std.specs.Prelude.{ℕ, ◌≡◌, ◌+◌, ◌<◌, ◌≤◌, ◌⊎◌, Bool, true, false, if◌then◌else◌, List, [], ◌∷◌, ◌++◌, length, map, ◌≢◌, Option, Some, None, IfSome, Result, Ok, Err}
+use Rattle.std.specs.Prelude.{ℕ, ◌≡◌, ◌+◌, ◌<◌, ◌≤◌, ◌⊎◌, Bool, true, false, ◌&&◌, nat_le, if◌then◌else◌, List, [], ◌∷◌, ◌++◌, length, map, ◌≢◌, Option, Some, None, IfSome, Result, Ok, Err}
 use Rattle.peer_route.specs.declared.words.Command.{Command}
 use Rattle.wire_framing.specs.declared.memory.Piece.{Piece}
 use Rattle.wire_framing.specs.declared.memory.Piece.TheVariants.{Bytes, Fault}
@@ -23,52 +23,61 @@ pub record Step : Type 0 where
 abbrev pub begun : Step
 begun = record { stage = Start; script = record { kind = kinds.Direct None; queue = None; fds = false; outfault = None; given = []; commands = [] } }
 
-abbrev pub with_kind : Script → PeerKind → Script
-with_kind s kind = record s { kind = kind }
+-- the stages, in their order
+abbrev pub rank : Stage → ℕ
+rank Start = 0
+rank Head = 1
+rank Queued = 2
+rank Sink = 3
+rank Pieces = 4
+rank Commands = 5
+rank Over = 6
 
-abbrev pub with_queue : Script → ℕ → Script
-with_queue s limit = record s { queue = Some limit }
+-- the first stage at which a line may come
+abbrev pub first_stage : Line → Stage
+first_stage (Peer kind) = Start
+first_stage other = Head
 
-abbrev pub with_fds : Script → Script
-with_fds s = record s { fds = true }
+-- the last one
+abbrev pub last_stage : Line → Stage
+last_stage (Peer kind) = Start
+last_stage (Capacity limit) = Head
+last_stage Fds = Queued
+last_stage (OutFault count) = Sink
+last_stage (In piece) = Pieces
+last_stage InFault = Pieces
+last_stage (Do command) = Commands
+last_stage Sent = Commands
 
-abbrev pub with_outfault : Script → ℕ → Script
-with_outfault s count = record s { outfault = Some count }
+-- the stage once it came
+abbrev pub next_stage : Line → Stage
+next_stage (Peer kind) = Head
+next_stage (Capacity limit) = Queued
+next_stage Fds = Sink
+next_stage (OutFault count) = Pieces
+next_stage (In piece) = Pieces
+next_stage InFault = Pieces
+next_stage (Do command) = Commands
+next_stage Sent = Over
 
-abbrev pub more_given : Script → Given → Script
-more_given s g = record s { given = s.given ++ g ∷ [] }
+abbrev pub may_come : Stage → Line → Bool
+may_come stage line = nat_le (rank (first_stage line)) (rank stage) && nat_le (rank stage) (rank (last_stage line))
 
-abbrev pub more_command : Script → Command → Script
-more_command s command = record s { commands = s.commands ++ command ∷ [] }
+-- what a line adds to what was read before it
+abbrev pub with_line : Line → Script → Script
+with_line (Peer kind) s = record s { kind = kind }
+with_line (Capacity limit) s = record s { queue = Some limit }
+with_line Fds s = record s { fds = true }
+with_line (OutFault count) s = record s { outfault = Some count }
+with_line (In piece) s = record s { given = s.given ++ Gave piece ∷ [] }
+with_line InFault s = record s { given = s.given ++ Broke ∷ [] }
+with_line (Do command) s = record s { commands = s.commands ++ command ∷ [] }
+with_line Sent s = s
 
 -- one line more, where it may come at this stage
 unfoldable pub take_line : Stage → Script → Option Line → Option Step
-take_line Start s (Some (Peer kind)) = Some (record { stage = Head; script = with_kind s kind })
-take_line Head s (Some (Capacity limit)) = Some (record { stage = Queued; script = with_queue s limit })
-take_line Head s (Some Fds) = Some (record { stage = Sink; script = with_fds s })
-take_line Head s (Some (OutFault count)) = Some (record { stage = Pieces; script = with_outfault s count })
-take_line Head s (Some (In piece)) = Some (record { stage = Pieces; script = more_given s (Gave piece) })
-take_line Pieces s (Some (In piece)) = Some (record { stage = Pieces; script = more_given s (Gave piece) })
-take_line Head s (Some InFault) = Some (record { stage = Pieces; script = more_given s Broke })
-take_line Pieces s (Some InFault) = Some (record { stage = Pieces; script = more_given s Broke })
-take_line Head s (Some (Do command)) = Some (record { stage = Commands; script = more_command s command })
-take_line Pieces s (Some (Do command)) = Some (record { stage = Commands; script = more_command s command })
-take_line Commands s (Some (Do command)) = Some (record { stage = Commands; script = more_command s command })
-take_line Head s (Some Sent) = Some (record { stage = Over; script = s })
-take_line Pieces s (Some Sent) = Some (record { stage = Over; script = s })
-take_line Commands s (Some Sent) = Some (record { stage = Over; script = s })
-take_line Queued s (Some Fds) = Some (record { stage = Sink; script = with_fds s })
-take_line Queued s (Some (OutFault count)) = Some (record { stage = Pieces; script = with_outfault s count })
-take_line Queued s (Some (In piece)) = Some (record { stage = Pieces; script = more_given s (Gave piece) })
-take_line Queued s (Some InFault) = Some (record { stage = Pieces; script = more_given s Broke })
-take_line Queued s (Some (Do command)) = Some (record { stage = Commands; script = more_command s command })
-take_line Queued s (Some Sent) = Some (record { stage = Over; script = s })
-take_line Sink s (Some (OutFault count)) = Some (record { stage = Pieces; script = with_outfault s count })
-take_line Sink s (Some (In piece)) = Some (record { stage = Pieces; script = more_given s (Gave piece) })
-take_line Sink s (Some InFault) = Some (record { stage = Pieces; script = more_given s Broke })
-take_line Sink s (Some (Do command)) = Some (record { stage = Commands; script = more_command s command })
-take_line Sink s (Some Sent) = Some (record { stage = Over; script = s })
-take_line stage s line = None
+take_line stage s None = None
+take_line stage s (Some line) = if may_come stage line then Some (record { stage = next_stage line; script = with_line line s }) else None
 
 -- a text may end at each stage but the first
 abbrev pub may_end : Stage → Bool

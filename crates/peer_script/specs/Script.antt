@@ -1,13 +1,18 @@
 -- Script text: a list of lines, each ended by one byte 0x0a: `direct`, perhaps with the peer's unique name, or `bus` with it, perhaps
 -- how many messages a stream may hold, perhaps the line that its sink takes descriptors, perhaps the bytes that the sink takes, what the
 -- source gives, the commands, and perhaps one `sent` line, which is passed over.
-use Rattle.std.specs.Prelude.{ℕ, ◌≡◌, ◌+◌, Bool, true, false, ◌&&◌, ◌||◌, ◌==◌, nat_le, if◌then◌else◌, List, [], ◌∷◌, ◌++◌, map, codes, Option, Some, None, is_some}
+use Rattle.std.specs.Prelude.{ℕ, ◌≡◌, ◌+◌, Bool, true, false, ◌&&◌, ◌||◌, ◌==◌, nat_le, if◌then◌else◌, List, [], ◌∷◌, ◌++◌, map, codes, Option, Some, None, is_some, option_map}
 use Rattle.std.specs.List.{slice_split, list_any}
 use Rattle.wire_names.specs.Names.{is_unique_name}
 use Rattle.peer_route.specs.declared.words.Words.{Words}
 use Rattle.peer_route.specs.declared.words.Words.TheVariants as words
 use Rattle.peer_route.specs.declared.words.CallFlags.{CallFlags}
-use Rattle.peer_route.specs.declared.words.Outgoing.{Outgoing}
+use Rattle.peer_route.specs.declared.words.OutgoingKind.{OutgoingKind}
+use Rattle.peer_route.specs.declared.words.OutgoingKind.TheVariants as outgoing
+use Rattle.peer_route.specs.declared.words.CallOp.{CallOp}
+use Rattle.peer_route.specs.declared.words.CallOp.TheVariants as calls
+use Rattle.peer_route.specs.declared.words.StreamOp.{StreamOp}
+use Rattle.peer_route.specs.declared.words.StreamOp.TheVariants as ops
 use Rattle.peer_route.specs.declared.words.Command.{Command}
 use Rattle.peer_script.specs.declared.line.Line.{Line}
 use Rattle.peer_script.specs.declared.kind.PeerKind.{PeerKind}
@@ -44,39 +49,12 @@ name_of (kinds.Bus name) = Some name
 
 -- ---- a line
 
-abbrev pub outgoing_of : Option (Option (List ℕ)) → Option (List ℕ) → Option (Option (List ℕ)) → Option (List ℕ) → Option CallFlags → Option (Option (List ℕ)) → Option Outgoing
-outgoing_of (Some destination) (Some path) (Some interface) (Some member) (Some flags) (Some body) =
-    Some (record { destination = destination; path = path; interface = interface; member = member; flags = flags; body = body })
-outgoing_of destination path interface member flags body = None
-
-abbrev pub sending : (Outgoing → Words) → Option Outgoing → Option Words
-sending command (Some outgoing) = Some (command outgoing)
-sending command None = None
-
-abbrev pub reply_of : Option ℕ → Option (Option (List ℕ)) → Option Words
-reply_of (Some stream) (Some body) = Some (words.Reply stream body)
-reply_of stream body = None
-
-abbrev pub error_of : Option ℕ → Option (List ℕ) → Option (Option (List ℕ)) → Option Words
-error_of (Some stream) (Some name) (Some body) = Some (words.Error stream name body)
-error_of stream name body = None
-
-abbrev pub numbered : (ℕ → Words) → Option ℕ → Option Words
-numbered command (Some number) = Some (command number)
-numbered command None = None
-
--- a command that names two numbers; the second may be a position
-abbrev pub positioned : (ℕ → ℕ → Words) → Option ℕ → Option ℕ → Option Words
-positioned command (Some number) (Some before) = Some (command number before)
-positioned command number before = None
-
 -- the word `-`, which stands for what is absent
 abbrev pub is_absent : List ℕ → Bool
 is_absent word = same word (45 ∷ [])
 
 abbrev pub present : {A : Type 0} → Option A → Option (Option A)
-present (Some x) = Some (Some x)
-present None = None
+present o = option_map Some o
 
 -- a text, or the word `-` where there is none
 abbrev pub optional_of : List ℕ → Option (Option (List ℕ))
@@ -85,10 +63,6 @@ optional_of word = if is_absent word then Some None else present (text_of word)
 -- a number, or the word `-` where there is none
 abbrev pub optional_number : List ℕ → Option (Option ℕ)
 optional_number word = if is_absent word then Some None else present (number_of word)
-
-abbrev pub open_of : Option (Option ℕ) → Option (List ℕ) → Option Words
-open_of (Some max_queued) (Some rule) = Some (words.Open max_queued rule)
-open_of max_queued rule = None
 
 abbrev pub has_letter : ℕ → List ℕ → Bool
 has_letter letter word = list_any (λ b. b == letter) word
@@ -108,49 +82,106 @@ named_flags word =
 abbrev pub flags_of : List ℕ → Option CallFlags
 flags_of word = if same word (flags_word (named_flags word)) then Some (named_flags word) else None
 
--- a command that closes two streams
-abbrev pub closing_two : ℕ → ℕ → Words
-closing_two stream second = words.Unstream stream (Some second)
+-- ---- the words of a command
 
--- The words of a command, without its lane: `read`, `stream`, `close`, `poll C`, `drop C`, `take S`, `opened S`, `clone S`,
--- `unstream S`, `mainqueue N`, `reply S B`, `before C Q`, `takebefore S Q`, `unstream S T`, `queue S N`, `open Q R`, `error S NAME B`,
--- `call D P I M F B`, `signal D P I M F B`. A signal has an interface, so that a `-` there is a text; so is a rule's.
-unfoldable pub command_words : List (List ℕ) → Option Words
-command_words (name ∷ []) =
+-- what is sent, by the command's name
+abbrev pub kind_of : List ℕ → Option OutgoingKind
+kind_of name =
+    if same name (codes "call") then Some outgoing.Call
+    else if same name (codes "signal") then Some outgoing.Signal
+    else None
+
+-- A signal has an interface, so that a `-` there is a text.
+abbrev pub interface_of : OutgoingKind → List ℕ → Option (Option (List ℕ))
+interface_of outgoing.Call word = optional_of word
+interface_of outgoing.Signal word = present (text_of word)
+
+abbrev pub outgoing_of : OutgoingKind → Option (Option (List ℕ)) → Option (List ℕ) → Option (Option (List ℕ)) → Option (List ℕ) → Option CallFlags → Option (Option (List ℕ)) → Option Words
+outgoing_of kind (Some destination) (Some path) (Some interface) (Some member) (Some flags) (Some body) =
+    Some (words.Send (record { kind = kind; destination = destination; path = path; interface = interface; member = member; flags = flags; body = body }))
+outgoing_of kind destination path interface member flags body = None
+
+-- `call D P I M F B` and `signal D P I M F B`, behind the name
+abbrev pub sending : OutgoingKind → List (List ℕ) → Option Words
+sending kind (destination ∷ path ∷ interface ∷ member ∷ flags ∷ body ∷ []) =
+    outgoing_of kind (optional_of destination) (text_of path) (interface_of kind interface) (text_of member) (flags_of flags) (optional_of body)
+sending kind others = None
+
+abbrev pub open_of : Option (Option ℕ) → Option (List ℕ) → Option Words
+open_of (Some max_queued) (Some rule) = Some (words.Open max_queued rule)
+open_of max_queued rule = None
+
+-- what asks nothing of a call or of a stream: `read`, `stream`, `close`, `mainqueue N`, `open Q R`; a rule may be the text `-`
+abbrev pub plain : List ℕ → List (List ℕ) → Option Words
+plain name [] =
     if same name (codes "read") then Some words.Read
     else if same name (codes "stream") then Some words.Stream
     else if same name (codes "close") then Some words.Close
     else None
-command_words (name ∷ number ∷ []) =
-    if same name (codes "poll") then numbered words.Poll (number_of number)
-    else if same name (codes "drop") then numbered words.Drop (number_of number)
-    else if same name (codes "take") then numbered words.Take (number_of number)
-    else if same name (codes "opened") then numbered words.Opened (number_of number)
-    else if same name (codes "clone") then numbered words.Clone (number_of number)
-    else if same name (codes "unstream") then numbered (λ stream. words.Unstream stream None) (number_of number)
-    else if same name (codes "mainqueue") then numbered words.MainQueue (number_of number)
+plain name (limit ∷ []) = if same name (codes "mainqueue") then option_map words.MainQueue (number_of limit) else None
+plain name (max_queued ∷ rule ∷ []) = if same name (codes "open") then open_of (optional_number max_queued) (text_of rule) else None
+plain name others = None
+
+-- what is asked of a call, by the name and what stands behind the number: `poll C`, `drop C`, `before C Q`
+abbrev pub call_op : List ℕ → List (List ℕ) → Option CallOp
+call_op name [] =
+    if same name (codes "poll") then Some calls.Poll
+    else if same name (codes "drop") then Some calls.Drop
     else None
-command_words (name ∷ first ∷ second ∷ []) =
-    if same name (codes "reply") then reply_of (number_of first) (optional_of second)
-    else if same name (codes "before") then positioned words.Before (number_of first) (number_of second)
-    else if same name (codes "takebefore") then positioned words.TakeBefore (number_of first) (number_of second)
-    else if same name (codes "unstream") then positioned closing_two (number_of first) (number_of second)
-    else if same name (codes "queue") then positioned words.Queue (number_of first) (number_of second)
-    else if same name (codes "open") then open_of (optional_number first) (text_of second)
+call_op name (word ∷ []) = if same name (codes "before") then option_map calls.Before (number_of word) else None
+call_op name others = None
+
+abbrev pub error_op : Option (List ℕ) → Option (Option (List ℕ)) → Option StreamOp
+error_op (Some name) (Some body) = Some (ops.Error name body)
+error_op name body = None
+
+-- what is asked of a stream with one more number
+abbrev pub numbered_op : List ℕ → Option ℕ → Option StreamOp
+numbered_op name number =
+    if same name (codes "takebefore") then option_map ops.TakeBefore number
+    else if same name (codes "queue") then option_map ops.Queue number
+    else if same name (codes "unstream") then option_map ops.Unstream (present number)
     else None
-command_words (name ∷ stream ∷ error ∷ body ∷ []) =
-    if same name (codes "error") then error_of (number_of stream) (text_of error) (optional_of body) else None
-command_words (name ∷ destination ∷ path ∷ interface ∷ member ∷ flags ∷ body ∷ []) =
-    if same name (codes "call")
-    then sending words.Call (outgoing_of (optional_of destination) (text_of path) (optional_of interface) (text_of member) (flags_of flags) (optional_of body))
-    else if same name (codes "signal")
-    then sending words.Signal (outgoing_of (optional_of destination) (text_of path) (present (text_of interface)) (text_of member) (flags_of flags) (optional_of body))
+
+-- what is asked of a stream: `take S`, `opened S`, `clone S`, `unstream S`, `takebefore S Q`, `queue S N`, `unstream S T`, `reply S B`,
+-- `error S NAME B`
+abbrev pub stream_op : List ℕ → List (List ℕ) → Option StreamOp
+stream_op name [] =
+    if same name (codes "take") then Some ops.Take
+    else if same name (codes "opened") then Some ops.Opened
+    else if same name (codes "clone") then Some ops.Clone
+    else if same name (codes "unstream") then Some (ops.Unstream None)
     else None
-command_words others = None
+stream_op name (word ∷ []) =
+    if same name (codes "reply") then option_map ops.Reply (optional_of word) else numbered_op name (number_of word)
+stream_op name (error ∷ body ∷ []) = if same name (codes "error") then error_op (text_of error) (optional_of body) else None
+stream_op name others = None
+
+-- the call, or the stream, with this number
+abbrev pub asking : Option ℕ → Option CallOp → Option StreamOp → Option Words
+asking (Some number) (Some op) other = Some (words.OfCall number op)
+asking (Some number) None (Some op) = Some (words.OfStream number op)
+asking number call stream = None
+
+abbrev pub asking_words : List ℕ → List (List ℕ) → Option Words
+asking_words name (number ∷ more) = asking (number_of number) (call_op name more) (stream_op name more)
+asking_words name [] = None
+
+abbrev pub or_else : {A : Type 0} → Option A → Option A → Option A
+or_else (Some x) other = Some x
+or_else None other = other
+
+abbrev pub named_words : Option OutgoingKind → List ℕ → List (List ℕ) → Option Words
+named_words (Some kind) name more = sending kind more
+named_words None name more = or_else (plain name more) (asking_words name more)
+
+-- the words of a command, without its lane; no name and count of words is in two of the groups
+unfoldable pub command_words : List (List ℕ) → Option Words
+command_words [] = None
+command_words (name ∷ more) = named_words (kind_of name) name more
 
 abbrev pub in_lane : ℕ → Option Words → Option Command
-in_lane lane (Some w) = Some (record { lane = lane; words = w })
-in_lane lane None = None
+in_lane lane o = option_map (λ w. record { lane = lane; words = w }) o
 
 abbrev pub with_lane : Option ℕ → List ℕ → List (List ℕ) → Option Command
 with_lane (Some lane) word rest = if nat_le lane 63 then in_lane lane (command_words rest) else None
@@ -176,32 +207,8 @@ abbrev pub unique_of : Option (List ℕ) → Option (List ℕ)
 unique_of (Some name) = if is_unique_name name then Some name else None
 unique_of None = None
 
-abbrev pub direct_line : Option (List ℕ) → Option Line
-direct_line (Some name) = Some (Peer (kinds.Direct (Some name)))
-direct_line None = None
-
-abbrev pub bus_line : Option (List ℕ) → Option Line
-bus_line (Some name) = Some (Peer (kinds.Bus name))
-bus_line None = None
-
-abbrev pub in_line : Option (List ℕ) → Option Line
-in_line (Some piece) = Some (In piece)
-in_line None = None
-
-abbrev pub outfault_line : Option ℕ → Option Line
-outfault_line (Some count) = Some (OutFault count)
-outfault_line None = None
-
-abbrev pub capacity_line : Option ℕ → Option Line
-capacity_line (Some limit) = Some (Capacity limit)
-capacity_line None = None
-
 abbrev pub sent_line : List ℕ → Option Line
 sent_line word = if is_absent word || is_some (bytes_of word) then Some Sent else None
-
-abbrev pub do_line : Option Command → Option Line
-do_line (Some command) = Some (Do command)
-do_line None = None
 
 -- the header lines and the `sent` line, by their words
 unfoldable pub head_line : List (List ℕ) → Option Line
@@ -211,22 +218,18 @@ head_line (name ∷ []) =
     else if same name (codes "infault") then Some InFault
     else None
 head_line (name ∷ word ∷ []) =
-    if same name (codes "direct") then direct_line (unique_of (text_of word))
-    else if same name (codes "bus") then bus_line (unique_of (text_of word))
-    else if same name (codes "in") then in_line (bytes_of word)
-    else if same name (codes "queue") then capacity_line (number_of word)
-    else if same name (codes "outfault") then outfault_line (number_of word)
+    if same name (codes "direct") then option_map (λ name. Peer (kinds.Direct (Some name))) (unique_of (text_of word))
+    else if same name (codes "bus") then option_map (λ name. Peer (kinds.Bus name)) (unique_of (text_of word))
+    else if same name (codes "in") then option_map In (bytes_of word)
+    else if same name (codes "queue") then option_map Capacity (number_of word)
+    else if same name (codes "outfault") then option_map OutFault (number_of word)
     else if same name (codes "sent") then sent_line word
     else None
 head_line others = None
 
-abbrev pub or_line : Option Line → Option Line → Option Line
-or_line (Some line) other = Some line
-or_line None other = other
-
 -- what a line is, where it is in the table; no line is both
 unfoldable pub line_of : List ℕ → Option Line
-line_of line = or_line (head_line (words_of line)) (do_line (command_line line))
+line_of line = or_else (head_line (words_of line)) (option_map Do (command_line line))
 
 -- ---- a text
 

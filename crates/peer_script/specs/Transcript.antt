@@ -2,12 +2,21 @@
 -- sent. Each line ends with 0x0a.
 use Rattle.std.specs.Prelude.{ℕ, Bool, true, false, not, ◌&&◌, ◌==◌, nat_le, if◌then◌else◌, List, [], ◌∷◌, ◌++◌, length, codes, decimal, Option, Some, None}
 use Rattle.std.specs.List.{flat_map}
+use Rattle.wire_message.specs.Front.{Seen}
 use Rattle.wire_message.specs.Texts.{message_line}
 use Rattle.wire_message.specs.declared.error.Error.{Error}
 use Rattle.wire_message.specs.declared.error.Error.TheVariants as errors
 use Rattle.wire_message.specs.declared.error.IoKind.{IoKind}
 use Rattle.wire_message.specs.declared.error.IoKind.TheVariants as kinds
 use Rattle.peer_route.specs.declared.words.Outgoing.{Outgoing}
+use Rattle.peer_route.specs.declared.words.OutgoingKind.{OutgoingKind}
+use Rattle.peer_route.specs.declared.words.OutgoingKind.TheVariants as outgoing
+use Rattle.peer_route.specs.declared.words.CallOp.{CallOp}
+use Rattle.peer_route.specs.declared.words.CallOp.TheVariants as calls
+use Rattle.peer_route.specs.declared.words.StreamOp.{StreamOp}
+use Rattle.peer_route.specs.declared.words.StreamOp.TheVariants as ops
+use Rattle.peer_route.specs.declared.words.Live.{Live}
+use Rattle.peer_route.specs.declared.words.Live.TheVariants as live
 use Rattle.peer_route.specs.declared.words.Words.{Words}
 use Rattle.peer_route.specs.declared.words.Words.TheVariants as words
 use Rattle.peer_route.specs.declared.answer.Answer.{Answer}
@@ -62,77 +71,105 @@ error_word errors.SerialsSpent = codes "SerialsSpent"
 error_word errors.UnknownHandle = codes "UnknownHandle"
 error_word errors.Busy = codes "Busy"
 
--- the words of a call or of a signal, behind its name
-unfoldable pub outgoing_text : Outgoing → List ℕ
-outgoing_text o =
-    optional_word o.destination ++ 32 ∷ [] ++ text_word o.path ++ 32 ∷ [] ++ optional_word o.interface ++ 32 ∷ [] ++ text_word o.member ++ 32 ∷ []
-    ++ flags_word o.flags ++ 32 ∷ [] ++ optional_word o.body
-
 -- a number, or the word `-` where there is none
 abbrev pub optional_decimal : Option ℕ → List ℕ
 optional_decimal None = 45 ∷ []
 optional_decimal (Some number) = decimal number
 
-unfoldable pub words_text : Words → List ℕ
-words_text (words.Call outgoing) = codes "call " ++ outgoing_text outgoing
-words_text (words.Signal outgoing) = codes "signal " ++ outgoing_text outgoing
-words_text (words.Reply stream body) = codes "reply " ++ decimal stream ++ 32 ∷ [] ++ optional_word body
-words_text (words.Error stream name body) = codes "error " ++ decimal stream ++ 32 ∷ [] ++ text_word name ++ 32 ∷ [] ++ optional_word body
-words_text words.Read = codes "read"
-words_text (words.Poll number) = codes "poll " ++ decimal number
-words_text (words.Before call before) = codes "before " ++ decimal call ++ 32 ∷ [] ++ decimal before
-words_text (words.Drop number) = codes "drop " ++ decimal number
-words_text words.Stream = codes "stream"
-words_text (words.Take number) = codes "take " ++ decimal number
-words_text (words.TakeBefore stream before) = codes "takebefore " ++ decimal stream ++ 32 ∷ [] ++ decimal before
-words_text (words.Clone stream) = codes "clone " ++ decimal stream
-words_text (words.Unstream stream None) = codes "unstream " ++ decimal stream
-words_text (words.Unstream stream (Some second)) = codes "unstream " ++ decimal stream ++ 32 ∷ [] ++ decimal second
-words_text (words.Queue stream limit) = codes "queue " ++ decimal stream ++ 32 ∷ [] ++ decimal limit
-words_text (words.MainQueue limit) = codes "mainqueue " ++ decimal limit
-words_text (words.Open max_queued rule) = codes "open " ++ optional_decimal max_queued ++ 32 ∷ [] ++ text_word rule
-words_text (words.Opened number) = codes "opened " ++ decimal number
-words_text words.Close = codes "close"
+-- ---- the words of a command
 
--- the bus can't be written to
-abbrev pub is_io : Error → Bool
-is_io (errors.InputOutput kind) = true
-is_io error = false
+abbrev pub kind_word : OutgoingKind → List ℕ
+kind_word outgoing.Call = codes "call"
+kind_word outgoing.Signal = codes "signal"
 
--- what stands before the error by which the bus can't be told: it can't be written to, or else there is no message
-abbrev pub untold_word : Bool → List ℕ
-untold_word true = codes "sendfailed "
-untold_word false = codes "refused "
+abbrev pub outgoing_words : Outgoing → List (List ℕ)
+outgoing_words o =
+    kind_word o.kind ∷ optional_word o.destination ∷ text_word o.path ∷ optional_word o.interface ∷ text_word o.member ∷ flags_word o.flags ∷ optional_word o.body ∷ []
 
-unfoldable pub answer_text : Answer → List ℕ
-answer_text (answers.Called call serial) = codes "call " ++ decimal call ++ codes " serial " ++ decimal serial
-answer_text (answers.Sent serial) = codes "sent " ++ decimal serial
-answer_text (answers.Refused error) = codes "refused " ++ error_word error
-answer_text (answers.SendFailed error) = codes "sendfailed " ++ error_word error
-answer_text (answers.SentFirst error) = codes "sendfailed " ++ error_word error
-answer_text (answers.Untold error) = untold_word (is_io error) ++ error_word error
-answer_text (answers.Got m) = codes "got " ++ decimal m.position ++ 32 ∷ [] ++ decimal (length m.bytes) ++ 32 ∷ [] ++ shown_text (message_line m)
-answer_text (answers.Closed error) = codes "closed " ++ error_word error
-answer_text (answers.Reply position) = codes "reply " ++ decimal position
-answer_text (answers.MethodError m) = codes "methoderror " ++ decimal m.position ++ 32 ∷ [] ++ text_word (or_empty m.error_name)
-answer_text (answers.InvalidReply position) = codes "invalidreply " ++ decimal position
-answer_text answers.NotYet = codes "notyet"
-answer_text answers.NoneBefore = codes "nonebefore"
-answer_text answers.Busy = codes "busy"
-answer_text answers.Dropped = codes "dropped"
-answer_text (answers.Streaming number) = codes "stream " ++ decimal number
-answer_text (answers.Opening number serial) = codes "opening " ++ decimal number ++ codes " serial " ++ decimal serial
-answer_text answers.Opened = codes "opened"
-answer_text (answers.Item position) = codes "item " ++ decimal position
-answer_text answers.Empty = codes "empty"
-answer_text answers.Ended = codes "ended"
-answer_text (answers.Gone None) = codes "gone"
-answer_text (answers.Gone (Some serial)) = codes "gone serial " ++ decimal serial
-answer_text answers.Set = codes "ok"
-answer_text answers.Shut = codes "closed"
+abbrev pub call_words : List ℕ → CallOp → List (List ℕ)
+call_words call calls.Poll = codes "poll" ∷ call ∷ []
+call_words call (calls.Before before) = codes "before" ∷ call ∷ decimal before ∷ []
+call_words call calls.Drop = codes "drop" ∷ call ∷ []
+
+abbrev pub stream_words : List ℕ → StreamOp → List (List ℕ)
+stream_words stream (ops.Reply body) = codes "reply" ∷ stream ∷ optional_word body ∷ []
+stream_words stream (ops.Error name body) = codes "error" ∷ stream ∷ text_word name ∷ optional_word body ∷ []
+stream_words stream ops.Take = codes "take" ∷ stream ∷ []
+stream_words stream (ops.TakeBefore before) = codes "takebefore" ∷ stream ∷ decimal before ∷ []
+stream_words stream ops.Clone = codes "clone" ∷ stream ∷ []
+stream_words stream ops.Opened = codes "opened" ∷ stream ∷ []
+stream_words stream (ops.Queue limit) = codes "queue" ∷ stream ∷ decimal limit ∷ []
+stream_words stream (ops.Unstream None) = codes "unstream" ∷ stream ∷ []
+stream_words stream (ops.Unstream (Some second)) = codes "unstream" ∷ stream ∷ decimal second ∷ []
+
+-- no line of a script is read as one of these
+abbrev pub live_words : Live → List (List ℕ)
+live_words (live.Written index) = codes "written" ∷ decimal index ∷ []
+live_words (live.Fault index) = codes "fault" ∷ decimal index ∷ []
+live_words (live.Unique name) = codes "unique" ∷ text_word name ∷ []
+live_words (live.Await call) = codes "await" ∷ decimal call ∷ []
+live_words (live.Next stream) = codes "next" ∷ decimal stream ∷ []
+live_words live.Worker = codes "worker" ∷ []
+
+abbrev pub entry_words : Words → List (List ℕ)
+entry_words (words.Send outgoing) = outgoing_words outgoing
+entry_words words.Read = codes "read" ∷ []
+entry_words (words.OfCall call op) = call_words (decimal call) op
+entry_words words.Stream = codes "stream" ∷ []
+entry_words (words.Open max_queued rule) = codes "open" ∷ optional_decimal max_queued ∷ text_word rule ∷ []
+entry_words (words.OfStream stream op) = stream_words (decimal stream) op
+entry_words (words.MainQueue limit) = codes "mainqueue" ∷ decimal limit ∷ []
+entry_words words.Close = codes "close" ∷ []
+entry_words (words.Live line) = live_words line
+
+-- words with a space before each
+abbrev pub spaced : List (List ℕ) → List ℕ
+spaced ws = flat_map (λ w. 32 ∷ w) ws
+
+-- ---- answers
+
+-- the message that was read: its position, its length and its line
+abbrev pub got_text : Option Seen → List ℕ
+got_text None = codes "got"
+got_text (Some m) = codes "got " ++ decimal m.position ++ 32 ∷ [] ++ decimal (length m.bytes) ++ 32 ∷ [] ++ shown_text (message_line m)
+
+abbrev pub named_text : Bool → List ℕ
+named_text true = codes "true"
+named_text false = codes "false"
+
+abbrev pub last_text : Option ℕ → List ℕ
+last_text None = []
+last_text (Some serial) = codes " serial " ++ decimal serial
+
+-- an answer's text; `read` is the message that the entry read
+unfoldable pub answer_text : Option Seen → Answer → List ℕ
+answer_text read (answers.Called call serial) = codes "call " ++ decimal call ++ codes " serial " ++ decimal serial
+answer_text read (answers.Sent serial) = codes "sent " ++ decimal serial
+answer_text read (answers.Refused error) = codes "refused " ++ error_word error
+answer_text read (answers.SendFailed error) = codes "sendfailed " ++ error_word error
+answer_text read answers.Got = got_text read
+answer_text read (answers.Closed error) = codes "closed " ++ error_word error
+answer_text read (answers.Reply position) = codes "reply " ++ decimal position
+answer_text read (answers.MethodError m) = codes "methoderror " ++ decimal m.position ++ 32 ∷ [] ++ text_word (or_empty m.error_name)
+answer_text read (answers.InvalidReply position) = codes "invalidreply " ++ decimal position
+answer_text read answers.NotYet = codes "notyet"
+answer_text read answers.NoneBefore = codes "nonebefore"
+answer_text read answers.Busy = codes "busy"
+answer_text read answers.Dropped = codes "dropped"
+answer_text read (answers.Streaming number) = codes "stream " ++ decimal number
+answer_text read (answers.Opening number serial) = codes "opening " ++ decimal number ++ codes " serial " ++ decimal serial
+answer_text read answers.Opened = codes "opened"
+answer_text read (answers.Item position) = codes "item " ++ decimal position
+answer_text read answers.Empty = codes "empty"
+answer_text read answers.Ended = codes "ended"
+answer_text read (answers.Gone last) = codes "gone" ++ last_text last
+answer_text read answers.Set = codes "ok"
+answer_text read answers.Shut = codes "closed"
+answer_text read (answers.Named given) = named_text given
+answer_text read answers.Silent = 45 ∷ []
 
 unfoldable pub entry_text : Entry → List ℕ
-entry_text e = decimal e.lane ++ 32 ∷ [] ++ words_text e.words ++ codes " = " ++ answer_text e.answer ++ 10 ∷ []
+entry_text e = decimal e.lane ++ spaced (entry_words e.words) ++ codes " = " ++ answer_text e.read e.answer ++ 10 ∷ []
 
 -- what the source gives: its bytes, or `infault`
 unfoldable pub given_text : Given → List ℕ

@@ -1,16 +1,17 @@
 //! Script text in, transcript text out.
 #![tactic(auto)]
 
+mod command;
 mod error;
 mod head;
 mod kind;
 mod laws;
 mod line;
-mod numbers;
 mod output;
 mod reading;
 mod script;
 mod text;
+mod told;
 mod transcript;
 mod word;
 

@@ -1,7 +1,6 @@
 //! A script is read line by line.
-ghost use Rattle.std.specs.Prelude.{ℕ, ◌≡◌, ◌+◌, ◌<◌, ◌≤◌, ◌^◌, length, take, drop, List, Some, None, Ok, Err};
-ghost use Rattle.peer_script.specs.Reading.{SplitsLine, TakesLine, TellsText, may_end, said, script_from};
-ghost use Rattle.peer_script.specs.declared.line.Line.TheVariants as lines;
+ghost use Rattle.std.specs.Prelude.{ℕ, ◌≡◌, ◌+◌, ◌<◌, ◌≤◌, ◌^◌, length, take, drop, List, OnOk, Some, None, Ok, Err};
+ghost use Rattle.peer_script.specs.Reading.{SplitsLine, TakesLine, TellsText, rank, first_stage, last_stage, next_stage, may_come, with_line, may_end, said, script_from};
 
 use crate::error::ScriptError;
 use crate::kind::PeerKind;
@@ -81,137 +80,95 @@ impl Progress {
     }
 }
 
-#[tactic(auto, using(crate::proofs::Pieces::pushed), unfolding(crate::specs::Reading::take_line))]
-fn take_peer(progress: &mut Progress, kind: PeerKind) -> Result<bool, AllocError>
-    ensures { TakesLine result progress.old progress.new (lines.Peer kind) }
+fn rank(stage: Stage) -> u8
+    ensures { result ≡ rank stage }
 {
-    match progress.stage {
-        Stage::Start => {
-            progress.kind = kind;
-            progress.stage = Stage::Head;
-            Ok(true)
-        }
-        Stage::Head | Stage::Queued | Stage::Sink | Stage::Pieces | Stage::Commands | Stage::Over =>
-            Ok(false),
+    match stage {
+        Stage::Start => 0,
+        Stage::Head => 1,
+        Stage::Queued => 2,
+        Stage::Sink => 3,
+        Stage::Pieces => 4,
+        Stage::Commands => 5,
+        Stage::Over => 6,
     }
 }
 
-#[tactic(auto, using(crate::proofs::Pieces::pushed), unfolding(crate::specs::Reading::take_line))]
-fn take_capacity(progress: &mut Progress, limit: u64) -> Result<bool, AllocError>
-    ensures { TakesLine result progress.old progress.new (lines.Capacity limit) }
+/// The first stage at which a line may come.
+fn first_stage(line: &Line) -> Stage
+    ensures { result ≡ first_stage line.now }
 {
-    match progress.stage {
-        Stage::Head => {
-            progress.queue = Some(limit);
-            progress.stage = Stage::Queued;
-            Ok(true)
-        }
-        Stage::Start
-        | Stage::Queued
-        | Stage::Sink
-        | Stage::Pieces
-        | Stage::Commands
-        | Stage::Over => Ok(false),
+    match line {
+        Line::Peer(_) => Stage::Start,
+        _ => Stage::Head,
     }
 }
 
-#[tactic(auto, using(crate::proofs::Pieces::pushed), unfolding(crate::specs::Reading::take_line))]
-fn take_fds(progress: &mut Progress) -> Result<bool, AllocError>
-    ensures { TakesLine result progress.old progress.new lines.Fds }
+/// The last stage at which a line may come.
+fn last_stage(line: &Line) -> Stage
+    ensures { result ≡ last_stage line.now }
 {
-    match progress.stage {
-        Stage::Head | Stage::Queued => {
-            progress.fds = true;
-            progress.stage = Stage::Sink;
-            Ok(true)
-        }
-        Stage::Start | Stage::Sink | Stage::Pieces | Stage::Commands | Stage::Over => Ok(false),
+    match line {
+        Line::Peer(_) => Stage::Start,
+        Line::Capacity(_) => Stage::Head,
+        Line::Fds => Stage::Queued,
+        Line::OutFault(_) => Stage::Sink,
+        Line::In(_) | Line::InFault => Stage::Pieces,
+        Line::Do(_) | Line::Sent => Stage::Commands,
     }
 }
 
-#[tactic(auto, using(crate::proofs::Pieces::pushed), unfolding(crate::specs::Reading::take_line))]
-fn take_outfault(progress: &mut Progress, count: u64) -> Result<bool, AllocError>
-    ensures { TakesLine result progress.old progress.new (lines.OutFault count) }
+/// The stage once a line came.
+fn next_stage(line: &Line) -> Stage
+    ensures { result ≡ next_stage line.now }
 {
-    match progress.stage {
-        Stage::Head | Stage::Queued | Stage::Sink => {
-            progress.outfault = Some(count);
-            progress.stage = Stage::Pieces;
-            Ok(true)
-        }
-        Stage::Start | Stage::Pieces | Stage::Commands | Stage::Over => Ok(false),
+    match line {
+        Line::Peer(_) => Stage::Head,
+        Line::Capacity(_) => Stage::Queued,
+        Line::Fds => Stage::Sink,
+        Line::OutFault(_) | Line::In(_) | Line::InFault => Stage::Pieces,
+        Line::Do(_) => Stage::Commands,
+        Line::Sent => Stage::Over,
     }
 }
 
-#[tactic(auto, using(crate::proofs::Pieces::pushed), unfolding(crate::specs::Reading::take_line))]
-fn take_piece(progress: &mut Progress, piece: Bytes) -> Result<bool, AllocError>
-    ensures { TakesLine result progress.old progress.new (lines.In piece) }
+fn may_come(stage: Stage, line: &Line) -> bool
+    ensures { result ≡ may_come stage line.now }
 {
-    match progress.stage {
-        Stage::Head | Stage::Queued | Stage::Sink | Stage::Pieces => {
-            progress.pieces.push(Piece::Bytes(piece.into_vec()))?;
-            progress.stage = Stage::Pieces;
-            Ok(true)
-        }
-        Stage::Start | Stage::Commands | Stage::Over => Ok(false),
-    }
+    rank(first_stage(line)) <= rank(stage) && rank(stage) <= rank(last_stage(line))
 }
 
-#[tactic(auto, using(crate::proofs::Pieces::pushed), unfolding(crate::specs::Reading::take_line))]
-fn take_infault(progress: &mut Progress) -> Result<bool, AllocError>
-    ensures { TakesLine result progress.old progress.new lines.InFault }
+/// Adds what a line says.
+#[tactic(auto, using(crate::proofs::Pieces::pushed))]
+fn add_line(progress: &mut Progress, line: Line) -> Result<(), AllocError>
+    ensures stage { progress.new.stage ≡ progress.old.stage }
+    ensures said { OnOk result (said progress.new ≡ with_line line (said progress.old)) }
 {
-    match progress.stage {
-        Stage::Head | Stage::Queued | Stage::Sink | Stage::Pieces => {
-            progress.pieces.push(Piece::Fault)?;
-            progress.stage = Stage::Pieces;
-            Ok(true)
-        }
-        Stage::Start | Stage::Commands | Stage::Over => Ok(false),
+    match line {
+        Line::Peer(kind) => progress.kind = kind,
+        Line::Capacity(limit) => progress.queue = Some(limit),
+        Line::Fds => progress.fds = true,
+        Line::OutFault(count) => progress.outfault = Some(count),
+        Line::In(piece) => progress.pieces.push(Piece::Bytes(piece.into_vec()))?,
+        Line::InFault => progress.pieces.push(Piece::Fault)?,
+        Line::Do(command) => progress.commands.push(command)?,
+        Line::Sent => {}
     }
-}
-
-#[tactic(auto, using(crate::proofs::Pieces::pushed), unfolding(crate::specs::Reading::take_line))]
-fn take_command(progress: &mut Progress, command: Command) -> Result<bool, AllocError>
-    ensures { TakesLine result progress.old progress.new (lines.Do command) }
-{
-    match progress.stage {
-        Stage::Head | Stage::Queued | Stage::Sink | Stage::Pieces | Stage::Commands => {
-            progress.commands.push(command)?;
-            progress.stage = Stage::Commands;
-            Ok(true)
-        }
-        Stage::Start | Stage::Over => Ok(false),
-    }
-}
-
-#[tactic(auto, using(crate::proofs::Pieces::pushed), unfolding(crate::specs::Reading::take_line))]
-fn take_sent(progress: &mut Progress) -> Result<bool, AllocError>
-    ensures { TakesLine result progress.old progress.new lines.Sent }
-{
-    match progress.stage {
-        Stage::Head | Stage::Queued | Stage::Sink | Stage::Pieces | Stage::Commands => {
-            progress.stage = Stage::Over;
-            Ok(true)
-        }
-        Stage::Start | Stage::Over => Ok(false),
-    }
+    Ok(())
 }
 
 /// Takes one line more. False: it may not come at this stage.
+#[tactic(auto, unfolding(crate::specs::Reading::take_line))]
 fn take_line(progress: &mut Progress, line: Line) -> Result<bool, AllocError>
     ensures { TakesLine result progress.old progress.new line }
 {
-    match line {
-        Line::Peer(kind) => take_peer(progress, kind),
-        Line::Capacity(limit) => take_capacity(progress, limit),
-        Line::Fds => take_fds(progress),
-        Line::OutFault(count) => take_outfault(progress, count),
-        Line::In(piece) => take_piece(progress, piece),
-        Line::InFault => take_infault(progress),
-        Line::Do(command) => take_command(progress, command),
-        Line::Sent => take_sent(progress),
+    if !may_come(progress.stage, &line) {
+        return Ok(false);
     }
+    let next = next_stage(&line);
+    add_line(progress, line)?;
+    progress.stage = next;
+    Ok(true)
 }
 
 /// The first line and what stands behind its end.

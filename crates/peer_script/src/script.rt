@@ -1,5 +1,8 @@
 //! Reading a script.
 ghost use Rattle.std.specs.Prelude.{ℕ, ◌≡◌, ◌≤◌, ◌<◌, length, List, IfSome, IfOk, false};
+ghost use Rattle.std.specs.List.{AllByRecursion};
+ghost use Rattle.peer_route.specs.declared.words.Command.{Command};
+ghost use Rattle.peer_route.specs.Entries.{IsOfRun};
 ghost use Rattle.peer_script.specs.Script.{line_count};
 ghost use Rattle.peer_script.specs.Reading.{script_from, TellsScript, FaultsTell, ReadsInput};
 
@@ -105,7 +108,8 @@ fn line_count(text: &[u8]) -> usize
 
 /// Reads a script. The first that holds: `InputFault`, where the input failed; `Limit`, where it has more than
 /// 1,073,741,824 bytes or more than 1,000,000 lines; `Line`, the first line outside the table or out of its order, from 1
-/// on, one past the last where a needed line is missing.
+/// on, one past the last where a needed line is missing. None of its commands is one that only lanes have which run at once.
+#[tactic(auto, using(crate::proofs::OfRun::told_runs))]
 pub fn read_script<I: Source>(
     alloc: Global,
     word: Word,
@@ -113,6 +117,7 @@ pub fn read_script<I: Source>(
 ) -> Result<(Setup, Vec<Command>), ScriptError>
     ensures told { IfSome (I.left input.old) (λ bytes. TellsScript (λ x. script_from x.0.kind x.0.queue x.0.fds x.0.outfault x.0.pieces.items x.1.items) bytes result) }
     ensures faults { FaultsTell result (I.stop input.old) (I.faults input.old) (I.faults input.new) }
+    ensures runs { IfOk result (λ x. AllByRecursion (λ (c : Command). IsOfRun c.words) x.1.items) }
 {
     let Word::Run = word;
     let bytes = read_input(alloc, input)?;

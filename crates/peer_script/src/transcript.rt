@@ -1,23 +1,21 @@
 //! The transcript's text.
-ghost use Rattle.std.specs.Prelude.{ℕ, ◌≡◌, ◌++◌, [], ◌∷◌, length, List, OnOk, false, ◌<◌, codes, decimal};
+ghost use Rattle.std.specs.Prelude.{ℕ, ◌≡◌, ◌++◌, [], ◌∷◌, length, List, OnOk, false, ◌<◌, codes, decimal, Some};
 ghost use Rattle.std.specs.List.{flat_map};
 ghost use Rattle.wire_message.specs.Texts.{message_line};
-ghost use Rattle.peer_script.specs.Word.{text_word, optional_word, flags_word};
-ghost use Rattle.peer_script.specs.Transcript.{or_empty, shown_byte, shown_text, io_word, error_word, outgoing_text, optional_decimal, words_text, answer_text, untold_word, is_io, entry_text, given_text, sent_word, transcript_text};
-ghost use Rattle.peer_route.specs.declared.answer.Answer.TheVariants as answers;
-ghost use Rattle.peer_route.specs.declared.words.Words.TheVariants as words;
+ghost use Rattle.peer_script.specs.Word.{text_word};
+ghost use Rattle.peer_script.specs.Transcript.{or_empty, shown_byte, shown_text, io_word, error_word, got_text, named_text, last_text, answer_text, entry_text, given_text, sent_word, transcript_text};
 ghost use Rattle.peer_script.specs.Reading.{given_of, given};
 ghost use Rattle.peer_script.specs.Output.{WritesAll};
 
 use crate::head::{put_capacity, put_fds, put_outfault, put_peer};
 use crate::output::write_all;
 use crate::script::Setup;
-use crate::text::{put, put_flags, put_hex, put_hex_byte, put_number, put_optional, put_text};
-use peer_route::{Answer, Entry, Outgoing, Words};
+use crate::text::{put, put_hex, put_hex_byte, put_number, put_text};
+use crate::told::put_words;
+use peer_route::{Answer, Entry};
 use std::alloc::{AllocError, Global};
 use wire_framing::{Piece, Refusal, Sink};
 use wire_message::{Error, IoKind, Message};
-use wire_names::Bytes;
 
 /// What commands were answered.
 #[derive(Drop)]
@@ -74,135 +72,10 @@ fn put_error(text: &mut Vec<u8>, error: &Error) -> Result<(), AllocError>
     }
 }
 
-#[tactic(auto, unfolding(crate::specs::Transcript::outgoing_text))]
-fn put_outgoing(text: &mut Vec<u8>, words: &Outgoing) -> Result<(), AllocError>
-    ensures { OnOk result (text.new.items ≡ text.old.items ++ outgoing_text words.now) }
+fn put_serial(alloc: Global, text: &mut Vec<u8>, what: &[u8], serial: u32) -> Result<(), AllocError>
+    ensures { OnOk result (text.new.items ≡ text.old.items ++ what.now ++ decimal serial) }
 {
-    put_optional(text, &words.destination)?;
-    put(text, b" ")?;
-    put_text(text, words.path.as_slice())?;
-    put(text, b" ")?;
-    put_optional(text, &words.interface)?;
-    put(text, b" ")?;
-    put_text(text, words.member.as_slice())?;
-    put(text, b" ")?;
-    put_flags(text, words.flags)?;
-    put(text, b" ")?;
-    put_optional(text, &words.body)
-}
-
-fn put_named(text: &mut Vec<u8>, name: &[u8], words: &Outgoing) -> Result<(), AllocError>
-    ensures { OnOk result (text.new.items ≡ text.old.items ++ name.now ++ outgoing_text words.now) }
-{
-    put(text, name)?;
-    put_outgoing(text, words)
-}
-
-#[tactic(auto, unfolding(crate::specs::Transcript::words_text))]
-fn put_reply(
-    alloc: Global,
-    text: &mut Vec<u8>,
-    stream: u64,
-    body: &Option<Bytes>,
-) -> Result<(), AllocError>
-    ensures { OnOk result (text.new.items ≡ text.old.items ++ words_text (words.Reply stream body.now)) }
-{
-    put_with_number(alloc, text, b"reply ", stream)?;
-    put(text, b" ")?;
-    put_optional(text, body)
-}
-
-#[tactic(auto, unfolding(crate::specs::Transcript::words_text))]
-fn put_error_reply(
-    alloc: Global,
-    text: &mut Vec<u8>,
-    stream: u64,
-    name: &Bytes,
-    body: &Option<Bytes>,
-) -> Result<(), AllocError>
-    ensures { OnOk result (text.new.items ≡ text.old.items ++ words_text (words.Error stream name.now body.now)) }
-{
-    put_with_number(alloc, text, b"error ", stream)?;
-    put(text, b" ")?;
-    put_text(text, name.as_slice())?;
-    put(text, b" ")?;
-    put_optional(text, body)
-}
-
-#[tactic(auto, unfolding(crate::specs::Transcript::words_text))]
-fn put_unstream(
-    alloc: Global,
-    text: &mut Vec<u8>,
-    stream: u64,
-    second: Option<u64>,
-) -> Result<(), AllocError>
-    ensures { OnOk result (text.new.items ≡ text.old.items ++ words_text (words.Unstream stream second)) }
-{
-    match second {
-        None => put_with_number(alloc, text, b"unstream ", stream),
-        Some(second) => put_with_numbers(alloc, text, b"unstream ", stream, second),
-    }
-}
-
-/// A number, or `-` where there is none.
-fn put_optional_number(
-    alloc: Global,
-    text: &mut Vec<u8>,
-    number: Option<u64>,
-) -> Result<(), AllocError>
-    ensures { OnOk result (text.new.items ≡ text.old.items ++ optional_decimal number) }
-{
-    match number {
-        None => put(text, b"-"),
-        Some(number) => put_number(alloc, text, number),
-    }
-}
-
-#[tactic(auto, unfolding(crate::specs::Transcript::words_text))]
-fn put_open(
-    alloc: Global,
-    text: &mut Vec<u8>,
-    max_queued: Option<u64>,
-    rule: &Bytes,
-) -> Result<(), AllocError>
-    ensures { OnOk result (text.new.items ≡ text.old.items ++ words_text (words.Open max_queued rule.now)) }
-{
-    put(text, b"open ")?;
-    put_optional_number(alloc, text, max_queued)?;
-    put(text, b" ")?;
-    put_text(text, rule.as_slice())
-}
-
-#[tactic(auto, unfolding(crate::specs::Transcript::words_text))]
-fn put_words(alloc: Global, text: &mut Vec<u8>, words: &Words) -> Result<(), AllocError>
-    ensures { OnOk result (text.new.items ≡ text.old.items ++ words_text words.now) }
-{
-    match words {
-        Words::Call(words) => put_named(text, b"call ", words),
-        Words::Signal(words) => put_named(text, b"signal ", words),
-        Words::Reply { stream, body } => put_reply(alloc, text, *stream, body),
-        Words::Error { stream, name, body } => put_error_reply(alloc, text, *stream, name, body),
-        Words::Read => put(text, b"read"),
-        Words::Poll(number) => put_with_number(alloc, text, b"poll ", *number),
-        Words::Before { call, before } => {
-            put_with_numbers(alloc, text, b"before ", *call, *before)
-        }
-        Words::Drop(number) => put_with_number(alloc, text, b"drop ", *number),
-        Words::Stream => put(text, b"stream"),
-        Words::Take(number) => put_with_number(alloc, text, b"take ", *number),
-        Words::TakeBefore { stream, before } => {
-            put_with_numbers(alloc, text, b"takebefore ", *stream, *before)
-        }
-        Words::Clone(stream) => put_with_number(alloc, text, b"clone ", *stream),
-        Words::Unstream { stream, second } => put_unstream(alloc, text, *stream, *second),
-        Words::Queue { stream, limit } => {
-            put_with_numbers(alloc, text, b"queue ", *stream, *limit)
-        }
-        Words::MainQueue(limit) => put_with_number(alloc, text, b"mainqueue ", *limit),
-        Words::Open { max_queued, rule } => put_open(alloc, text, *max_queued, rule),
-        Words::Opened(number) => put_with_number(alloc, text, b"opened ", *number),
-        Words::Close => put(text, b"close"),
-    }
+    put_with_number(alloc, text, what, u64::from(serial))
 }
 
 /// What was made, with its number and the serial of its message.
@@ -216,28 +89,30 @@ fn put_made(
     ensures { OnOk result (text.new.items ≡ text.old.items ++ what.now ++ decimal number ++ codes " serial " ++ decimal serial) }
 {
     put_with_number(alloc, text, what, number)?;
-    put_with_number(alloc, text, b" serial ", u64::from(serial))
+    put_serial(alloc, text, b" serial ", serial)
 }
 
-/// Streams are closed; the serial of the last message by which the bus was told, if one was sent.
-#[tactic(auto, unfolding(crate::specs::Transcript::answer_text))]
-fn put_gone(alloc: Global, text: &mut Vec<u8>, last: Option<u32>) -> Result<(), AllocError>
-    ensures { OnOk result (text.new.items ≡ text.old.items ++ answer_text (answers.Gone last)) }
+/// The serial of the last message by which the bus was told, if one was sent.
+fn put_last(alloc: Global, text: &mut Vec<u8>, last: Option<u32>) -> Result<(), AllocError>
+    ensures { OnOk result (text.new.items ≡ text.old.items ++ last_text last) }
 {
     match last {
-        None => put(text, b"gone"),
-        Some(serial) => put_with_number(alloc, text, b"gone serial ", u64::from(serial)),
+        None => Ok(()),
+        Some(serial) => put_serial(alloc, text, b" serial ", serial),
     }
 }
 
-/// What stands before the error by which the bus can't be told.
-fn untold_word(error: &Error) -> &'static [u8]
-    ensures { result.now ≡ untold_word (is_io error.now) }
+fn put_gone(alloc: Global, text: &mut Vec<u8>, last: Option<u32>) -> Result<(), AllocError>
+    ensures { OnOk result (text.new.items ≡ text.old.items ++ codes "gone" ++ last_text last) }
 {
-    match error {
-        Error::InputOutput(_) => b"sendfailed ",
-        _ => b"refused ",
-    }
+    put(text, b"gone")?;
+    put_last(alloc, text, last)
+}
+
+fn named_text(given: bool) -> &'static [u8]
+    ensures { result.now ≡ named_text given }
+{
+    if given { b"true" } else { b"false" }
 }
 
 fn put_shown_byte(text: &mut Vec<u8>, byte: u8) -> Result<(), AllocError>
@@ -260,8 +135,8 @@ fn put_shown(text: &mut Vec<u8>, bytes: &[u8]) -> Result<(), AllocError>
     Ok(())
 }
 
-fn put_got(alloc: Global, text: &mut Vec<u8>, message: &Message) -> Result<(), AllocError>
-    ensures { OnOk result (text.new.items ≡ text.old.items ++ codes "got " ++ decimal message.now.position ++ 32 ∷ [] ++ decimal (length message.now.bytes) ++ 32 ∷ [] ++ shown_text (message_line message.now)) }
+fn put_message(alloc: Global, text: &mut Vec<u8>, message: &Message) -> Result<(), AllocError>
+    ensures { OnOk result (text.new.items ≡ text.old.items ++ got_text (Some message.now)) }
 {
     put(text, b"got ")?;
     put_number(alloc, text, message.recv_position())?;
@@ -270,6 +145,15 @@ fn put_got(alloc: Global, text: &mut Vec<u8>, message: &Message) -> Result<(), A
     put(text, b" ")?;
     let display = message.to_string(alloc)?;
     put_shown(text, display.as_bytes())
+}
+
+fn put_got(alloc: Global, text: &mut Vec<u8>, read: &Option<Message>) -> Result<(), AllocError>
+    ensures { OnOk result (text.new.items ≡ text.old.items ++ got_text read.now) }
+{
+    match read {
+        Some(message) => put_message(alloc, text, message),
+        None => put(text, b"got"),
+    }
 }
 
 fn put_method_error(alloc: Global, text: &mut Vec<u8>, message: &Message) -> Result<(), AllocError>
@@ -303,32 +187,21 @@ pub(crate) fn put_with_number(
     put_number(alloc, text, number)
 }
 
-fn put_with_numbers(
+#[tactic(auto, unfolding(crate::specs::Transcript::answer_text))]
+fn put_answer(
     alloc: Global,
     text: &mut Vec<u8>,
-    what: &[u8],
-    number: u64,
-    second: u64,
+    read: &Option<Message>,
+    answer: &Answer,
 ) -> Result<(), AllocError>
-    ensures { OnOk result (text.new.items ≡ text.old.items ++ what.now ++ decimal number ++ 32 ∷ [] ++ decimal second) }
-{
-    put_with_number(alloc, text, what, number)?;
-    put(text, b" ")?;
-    put_number(alloc, text, second)
-}
-
-#[tactic(auto, unfolding(crate::specs::Transcript::answer_text))]
-fn put_answer(alloc: Global, text: &mut Vec<u8>, answer: &Answer) -> Result<(), AllocError>
-    ensures { OnOk result (text.new.items ≡ text.old.items ++ answer_text answer.now) }
+    ensures { OnOk result (text.new.items ≡ text.old.items ++ answer_text read.now answer.now) }
 {
     match answer {
         Answer::Called { call, serial } => put_made(alloc, text, b"call ", *call, *serial),
-        Answer::Sent(serial) => put_with_number(alloc, text, b"sent ", u64::from(*serial)),
+        Answer::Sent(serial) => put_serial(alloc, text, b"sent ", *serial),
         Answer::Refused(error) => put_with_error(text, b"refused ", error),
         Answer::SendFailed(error) => put_with_error(text, b"sendfailed ", error),
-        Answer::SentFirst(error) => put_with_error(text, b"sendfailed ", error),
-        Answer::Untold(error) => put_with_error(text, untold_word(error), error),
-        Answer::Got(message) => put_got(alloc, text, message),
+        Answer::Got => put_got(alloc, text, read),
         Answer::Closed(error) => put_with_error(text, b"closed ", error),
         Answer::Reply(position) => put_with_number(alloc, text, b"reply ", *position),
         Answer::MethodError(message) => put_method_error(alloc, text, message),
@@ -346,6 +219,8 @@ fn put_answer(alloc: Global, text: &mut Vec<u8>, answer: &Answer) -> Result<(), 
         Answer::Gone(last) => put_gone(alloc, text, *last),
         Answer::Set => put(text, b"ok"),
         Answer::Shut => put(text, b"closed"),
+        Answer::Named(given) => put(text, named_text(*given)),
+        Answer::Silent => put(text, b"-"),
     }
 }
 
@@ -354,10 +229,9 @@ fn put_entry(alloc: Global, text: &mut Vec<u8>, entry: &Entry) -> Result<(), All
     ensures { OnOk result (text.new.items ≡ text.old.items ++ entry_text entry.now) }
 {
     put_number(alloc, text, u64::from(entry.lane))?;
-    put(text, b" ")?;
     put_words(alloc, text, &entry.words)?;
     put(text, b" = ")?;
-    put_answer(alloc, text, &entry.answer)?;
+    put_answer(alloc, text, &entry.read, &entry.answer)?;
     put(text, b"\n")
 }
 

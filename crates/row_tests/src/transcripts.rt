@@ -1,5 +1,5 @@
-//! Answers that no script reaches, as a transcript writes them, and how many lines a script has at most.
-use peer_route::{Answer, Entry, Words};
+//! Entries that no script reaches, as a transcript writes them, and how many lines a script has at most.
+use peer_route::{Answer, Entry, Live, Posts, StreamOp, Words};
 use peer_script::{
     PeerKind, Setup, Transcript, Word, read_script, script_texts_are_read,
     transcripts_are_read_again, write_transcript,
@@ -20,26 +20,68 @@ fn setup(alloc: Global) -> Result<Setup, NamesError> {
     })
 }
 
-/// How the bus can't be told, and a serial that is hard to reach.
-fn answer(word: &str) -> Answer {
-    match word {
-        "gone" => Answer::Gone(Some(4_294_967_295)),
-        "untold" => Answer::Untold(Error::SerialsSpent),
-        "unwritten" => Answer::Untold(Error::InputOutput(IoKind::WriteFault)),
-        "sent-first" => Answer::SentFirst(Error::InputOutput(IoKind::WriteFault)),
-        "closed" => Answer::Closed(Error::InputOutput(IoKind::TimedOut)),
-        _ => Answer::Refused(Error::MissingParameter("a path")),
+/// The lane of writes.
+const WRITER: u32 = 4_294_967_295;
+
+/// An entry that put nothing.
+fn entry(alloc: Global, lane: u32, words: Words, answer: Answer) -> Entry {
+    Entry {
+        lane,
+        words,
+        answer,
+        read: None,
+        put: Posts(Vec::new(alloc)),
+        written: 0,
+        failed: false,
     }
 }
 
-/// The transcript of a command that was answered so.
-fn transcript_of(alloc: Global, answer: Answer) -> Result<Transcript, AllocError> {
+/// A stream that was asked whether it is open, and answered so.
+fn answered(alloc: Global, answer: Answer) -> Entry {
+    let words = Words::OfStream {
+        stream: 7,
+        op: StreamOp::Opened,
+    };
+    entry(alloc, 0, words, answer)
+}
+
+/// What only lanes have that run at once.
+fn live(alloc: Global, word: &str) -> Result<Entry, NamesError> {
+    Ok(match word {
+        "written" => entry(alloc, WRITER, Words::Live(Live::Written(3)), Answer::Silent),
+        "fault" => entry(alloc, WRITER, Words::Live(Live::Fault(3)), Answer::Silent),
+        "await" => entry(alloc, 2, Words::Live(Live::Await(1)), Answer::NotYet),
+        "next" => entry(alloc, 2, Words::Live(Live::Next(1)), Answer::Empty),
+        "worker" => entry(alloc, 2, Words::Live(Live::Worker), Answer::Ended),
+        _ => {
+            let name = OwnedUniqueName::try_from(alloc, ":1.7")?;
+            entry(
+                alloc,
+                2,
+                Words::Live(Live::Unique(name)),
+                Answer::Named(true),
+            )
+        }
+    })
+}
+
+/// How the bus can't be told, and a serial that is hard to reach.
+fn entry_of(alloc: Global, word: &str) -> Result<Entry, NamesError> {
+    let answer = match word {
+        "gone" => Answer::Gone(Some(4_294_967_295)),
+        "untold" => Answer::Refused(Error::SerialsSpent),
+        "unwritten" => Answer::SendFailed(Error::InputOutput(IoKind::WriteFault)),
+        "closed" => Answer::Closed(Error::InputOutput(IoKind::TimedOut)),
+        "refused" => Answer::Refused(Error::MissingParameter("a path")),
+        _ => return live(alloc, word),
+    };
+    Ok(answered(alloc, answer))
+}
+
+/// The transcript of one entry.
+fn transcript_of(alloc: Global, entry: Entry) -> Result<Transcript, AllocError> {
     let mut entries = Vec::new(alloc);
-    entries.push(Entry {
-        lane: 0,
-        words: Words::Opened(7),
-        answer,
-    })?;
+    entries.push(entry)?;
     Ok(Transcript { entries })
 }
 
@@ -52,11 +94,15 @@ fn written(alloc: Global, setup: &Setup, transcript: &Transcript) -> Result<Stri
     }
 }
 
-/// What is written of an answer.
+/// What is written of an entry.
 pub(crate) fn transcript(alloc: Global, word: &str) -> anyhow::Result<String> {
     transcripts_are_read_again();
     let setup = setup(alloc)?;
-    Ok(written(alloc, &setup, &transcript_of(alloc, answer(word))?)?)
+    Ok(written(
+        alloc,
+        &setup,
+        &transcript_of(alloc, entry_of(alloc, word)?)?,
+    )?)
 }
 
 /// As many empty lines, as one piece.

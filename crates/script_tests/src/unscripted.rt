@@ -1,7 +1,12 @@
 //! A peer that is run without script text, with nothing but the names of `peer_run`.
+ghost use Rattle.std.specs.Prelude.{IfOk};
+ghost use Rattle.std.specs.List.{AllByRecursion};
+ghost use Rattle.peer_route.specs.declared.words.Command.{Command};
+ghost use Rattle.peer_route.specs.Entries.{IsOfRun};
+
 use peer_run::{
-    Answer, Bytes, CallFlags, Command, Entry, MemorySink, MemorySource, Outgoing, PeerKind, Piece,
-    Setup, Words, run_peer,
+    Answer, Bytes, CallFlags, CallOp, Command, Entry, MemorySink, MemorySource, Outgoing,
+    OutgoingKind, PeerKind, Piece, Setup, Words, run_peer,
 };
 use std::alloc::{AllocError, Global};
 use std::io;
@@ -33,8 +38,11 @@ fn setup(alloc: Global) -> Result<Setup, AllocError> {
 }
 
 /// A call of `do` at `/`.
-fn call(alloc: Global) -> Result<Words, AllocError> {
-    Ok(Words::Call(Outgoing {
+fn call(alloc: Global) -> Result<Words, AllocError>
+    ensures { IfOk result (λ words. IsOfRun words) }
+{
+    Ok(Words::Send(Outgoing {
+        kind: OutgoingKind::Call,
         destination: None,
         path: Bytes::from_slice(alloc, b"/")?,
         interface: None,
@@ -45,7 +53,9 @@ fn call(alloc: Global) -> Result<Words, AllocError> {
 }
 
 /// A call, a read, and a poll of the call.
-fn commands(alloc: Global) -> Result<Vec<Command>, AllocError> {
+fn commands(alloc: Global) -> Result<Vec<Command>, AllocError>
+    ensures { IfOk result (λ commands. AllByRecursion (λ (c : Command). IsOfRun c.words) commands.items) }
+{
     let mut commands = Vec::new(alloc);
     commands.push(Command {
         lane: 0,
@@ -57,7 +67,10 @@ fn commands(alloc: Global) -> Result<Vec<Command>, AllocError> {
     })?;
     commands.push(Command {
         lane: 0,
-        words: Words::Poll(0),
+        words: Words::OfCall {
+            call: 0,
+            op: CallOp::Poll,
+        },
     })?;
     Ok(commands)
 }
@@ -67,7 +80,7 @@ fn is_answered(entries: &[Entry]) -> bool {
     match entries {
         [called, read, polled] => {
             matches!(&called.answer, Answer::Called { call: 0, serial: 1 })
-                && matches!(&read.answer, Answer::Got(_))
+                && matches!(&read.answer, Answer::Got)
                 && matches!(&polled.answer, Answer::Reply(1))
         }
         _ => false,
@@ -75,7 +88,9 @@ fn is_answered(entries: &[Entry]) -> bool {
 }
 
 /// Whether the call is answered, and how many bytes were sent; none where there was no memory to run it.
-fn run(alloc: Global, setup: &Setup, commands: &[Command]) -> Option<(bool, usize)> {
+fn run(alloc: Global, setup: &Setup, commands: &[Command]) -> Option<(bool, usize)>
+    requires { AllByRecursion (λ (c : Command). IsOfRun c.words) commands.now }
+{
     let mut source = MemorySource::new(setup.pieces.as_slice());
     let mut sink = MemorySink::new(alloc, setup.fds);
     let transcript = run_peer(alloc, setup, &mut source, &mut sink, commands).ok()?;

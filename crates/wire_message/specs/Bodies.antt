@@ -1,5 +1,6 @@
 -- Messages with bodies (D-Bus Specification, "Message Format", "Marshaling (Wire Format)").
 use Rattle.std.specs.Prelude.{◌≡◌, ◌<◌, ◌≤◌, ◌⊎◌, ℕ, Bool, List, [], length, map, Option, Result, Ok, Err}
+use Rattle.wire_number.specs.Limits.{message_limit}
 use Rattle.wire_number.specs.declared.endian.Endian.{Endian}
 use Rattle.wire_signature.specs.Shape.{IsSignature}
 use Rattle.wire_signature.specs.declared.error.VariantError.TheVariants as faults
@@ -23,7 +24,7 @@ HasSerial taken set last = (serial : ℕ) × IsSerial taken set last serial
 
 -- An array passes its limit, or else a text passes that of a message.
 abbrev pub IsExcess : Type 0 → List ℕ → Type 0
-IsExcess fits text = (fits → ⊥) ⊎ (fits × (134217728 < length text))
+IsExcess fits text = (fits → ⊥) ⊎ (fits × (message_limit < length text))
 
 -- ---- a body of these bytes: whether it is shallow, as no value opens more than 64 containers at once, and whether each
 -- array fits
@@ -32,7 +33,7 @@ IsExcess fits text = (fits → ⊥) ⊎ (fits × (134217728 < length text))
 -- else an array or the message passes its limit.
 abbrev pub MakesOf : Draft → ℕ → List ℕ → Type 0 → Type 0 → List ℕ → Result Seen Error → Type 0
 MakesOf draft serial text shallow fits fds (Ok m) =
-    shallow × fits × (bare m ≡ built draft serial text) × (length m.bytes ≤ 134217728) × (m.fds ≡ fds)
+    shallow × fits × (bare m ≡ built draft serial text) × (length m.bytes ≤ message_limit) × (m.fds ≡ fds)
 MakesOf draft serial text shallow fits fds (Err (errors.Variant faults.Depth)) = shallow → ⊥
 MakesOf draft serial text shallow fits fds (Err errors.ExcessData) = shallow × IsExcess fits (message_text draft serial text)
 MakesOf draft serial text shallow fits fds (Err errors.Memory) = Unit {0}

@@ -1,24 +1,25 @@
 -- Serials go round a circle (D-Bus Specification, "Message Format": a serial isn't 0).
 use Rattle.std.specs.Prelude.{ℕ, zero, suc, ◌≡◌, ◌+◌, ◌-◌, ◌%◌, ◌<◌, ◌≤◌, Bool, true, false, if◌then◌else◌, Option, Some, None, Result, Ok, Err}
+use Rattle.wire_number.specs.Limits.{greatest_serial}
 use Rattle.wire_message.specs.declared.error.Error.{Error}
 use Rattle.wire_message.specs.declared.error.Error.TheVariants as errors
 
 -- The k-th serial after the last one drawn, k from 1 on: after 4,294,967,295 comes 1. Nothing drawn is 0.
 abbrev pub serial_after : ℕ → ℕ → ℕ
-serial_after last k = (last + k - 1) % 4294967295 + 1
+serial_after last k = (last + k - 1) % greatest_serial + 1
 
 -- the first serial after the last one drawn that isn't taken
 pub record IsNext (taken : ℕ → Bool) (last : ℕ) (serial : ℕ) : Type 0 where
   pub place : ℕ
   pub one : 1 ≤ place
-  pub round : place ≤ 4294967295
+  pub round : place ≤ greatest_serial
   pub there : serial ≡ serial_after last place
   pub free : taken serial ≡ false
   pub first : (k : ℕ) → 1 ≤ k → k < place → taken (serial_after last k) ≡ true
 
 -- each serial is taken
 abbrev pub AllTaken : (ℕ → Bool) → Type 0
-AllTaken taken = (serial : ℕ) → 1 ≤ serial → serial ≤ 4294967295 → taken serial ≡ true
+AllTaken taken = (serial : ℕ) → 1 ≤ serial → serial ≤ greatest_serial → taken serial ≡ true
 
 -- What a draw gives: the next serial, or the refusal where each is taken; a refusal draws nothing.
 abbrev pub Draws : (ℕ → Bool) → ℕ → ℕ → Result ℕ Error → Type 0

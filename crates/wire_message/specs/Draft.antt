@@ -1,5 +1,6 @@
 -- A message as bytes, from what a builder holds (D-Bus Specification, "Message Format").
 use Rattle.std.specs.Prelude.{ℕ, ◌≡◌, ◌<◌, ◌≤◌, ◌==◌, if◌then◌else◌, Bool, false, nat_lt, List, ◌∷◌, ◌++◌, length, Option, Some, None, IfSome, ◌^◌, Result, Ok, Err}
+use Rattle.wire_number.specs.Limits.{message_limit}
 use Rattle.std.specs.Borrow.{Bor}
 use Rattle.std.specs.Int.{w32}
 use Rattle.std.specs.Int.RustNames.{bit_and, bit_or}
@@ -93,12 +94,12 @@ header_fields fields = read_by (λ t. t.now) fields
 -- a text that alone passes the limit of a message
 abbrev pub has_long_text : Option (List ℕ) → Bool
 has_long_text None = false
-has_long_text (Some text) = nat_lt 134217728 (length text)
+has_long_text (Some text) = nat_lt message_limit (length text)
 
 -- Bytes were written, or their length passes the limit of a message.
 abbrev pub Writes : {A : Type 0} → (A → List ℕ) → Result A Error → List ℕ → Type 0
 Writes items (Ok v) text = items v ≡ text
-Writes items (Err errors.ExcessData) text = 134217728 < length text
+Writes items (Err errors.ExcessData) text = message_limit < length text
 Writes items (Err errors.Memory) text = Unit {0}
 Writes items (Err error) text = ⊥
 
@@ -106,11 +107,11 @@ Writes items (Err error) text = ⊥
 -- where none was set and each is taken; else ExcessData where the message would pass 134,217,728 bytes.
 abbrev pub Builds : (ℕ → Bool) → Draft → List ℕ → ℕ → ℕ → Result Seen Error → Type 0
 Builds taken draft body old new (Ok m) =
-    IsSerial taken draft.serial old m.serial × (new ≡ last_after draft.serial old m.serial) × (length m.bytes ≤ 134217728)
+    IsSerial taken draft.serial old m.serial × (new ≡ last_after draft.serial old m.serial) × (length m.bytes ≤ message_limit)
     × (m ≡ built draft m.serial body)
 Builds taken draft body old new (Err errors.SerialsSpent) = NoSerial taken draft.serial × (new ≡ old)
 Builds taken draft body old new (Err errors.ExcessData) =
-    (serial : ℕ) × IsSerial taken draft.serial old serial × (134217728 < length (message_text draft serial body)) × (new ≡ old)
+    (serial : ℕ) × IsSerial taken draft.serial old serial × (message_limit < length (message_text draft serial body)) × (new ≡ old)
 Builds taken draft body old new (Err errors.Memory) = new ≡ old
 Builds taken draft body old new (Err error) = ⊥
 

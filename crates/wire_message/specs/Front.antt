@@ -1,5 +1,6 @@
 -- The header grammar: a message at the front of some bytes (D-Bus Specification, "Message Protocol", "Message Format").
 use Rattle.std.specs.Prelude.{ℕ, ◌≡◌, ◌+◌, ◌<◌, ◌≤◌, ◌==◌, if◌then◌else◌, List, [], length, take, drop, slice_index, Option}
+use Rattle.wire_number.specs.Limits.{message_limit}
 use Rattle.std.specs.List.{AllByRecursion}
 use Rattle.std.specs.Int.{w32}
 use Rattle.wire_number.specs.declared.endian.Endian.{Endian}
@@ -117,7 +118,7 @@ pub record Front (bytes : List ℕ) (m : Seen) (n : ℕ) : Type 0 where
   pub there : n ≤ length bytes
   pub head : 16 ≤ length bytes
   pub whole : n ≡ total bytes
-  pub limit : n ≤ 134217728
+  pub limit : n ≤ message_limit
   pub order : slice_index bytes 0 ≡ order_code m.order
   pub type : slice_index bytes 1 ≡ kind_code m.kind
   pub flags : slice_index bytes 2 ≡ m.flags

@@ -1,5 +1,6 @@
 -- A header as values of D-Bus: its signature is `yyyyuua(yv)` (D-Bus Specification, "Message Format").
 use Rattle.std.specs.Prelude.{◌≡◌, ℕ, ◌+◌, ◌≤◌, List, [], ◌∷◌, take, slice_index}
+use Rattle.wire_number.specs.Limits.{array_limit}
 use Rattle.std.specs.List.{AllByRecursion}
 use Rattle.wire_signature.specs.declared.basic.BasicType.TheVariants as basics
 use Rattle.wire_signature.specs.Shape.{Shape, basic, variant as any, array as array_of, struct as struct_of, no_shapes, shapes}
@@ -60,5 +61,5 @@ pub record IsHeader (bytes : List ℕ) (m : Seen) : Type 0 where
   pub says : fields_of m ≡ gathered no_fields list
   pub kind : type_of (header_of bytes m list) ≡ header_shape
   pub within : depth (header_of bytes m list) ≤ 64
-  pub fit : fields_len bytes ≤ 67108864 → ArraysFit m.order 0 (header_of bytes m list)
+  pub fit : fields_len bytes ≤ array_limit → ArraysFit m.order 0 (header_of bytes m list)
   pub text : take (16 + fields_len bytes) bytes ≡ spelling m.order 0 (header_of bytes m list)

@@ -1,5 +1,6 @@
 -- What a read takes from the bytes that are left (D-Bus Specification, "Message Protocol").
 use Rattle.std.specs.Prelude.{ℕ, ◌≡◌, ◌+◌, ◌^◌, ◌-◌, Bool, true, false, not, ◌||◌, ◌==◌, nat_lt, nat_le, is_none, if◌then◌else◌, List, length, take, slice_index, Option, Some, None, Result, Ok, Err}
+use Rattle.wire_number.specs.Limits.{message_limit}
 use Rattle.wire_message.specs.Field.{Fields}
 use Rattle.wire_message.specs.Front.{Seen, seen, order_at, word_at, total, field_bytes}
 use Rattle.wire_message.specs.Reading.{fields_in}
@@ -33,7 +34,7 @@ abbrev pub head_fault : List ℕ → Option Error
 head_fault bytes =
     if not (is_order (slice_index bytes 0)) then Some errors.IncorrectEndian
     else if is_refused bytes then Some (errors.Variant faults.Malformed)
-    else if nat_lt 134217728 (total bytes) then Some errors.ExcessData
+    else if nat_lt message_limit (total bytes) then Some errors.ExcessData
     else None
 
 -- what the bytes say of the header fields, if they are a field array

@@ -1,5 +1,6 @@
 //! Messages whose bodies are arguments, values, or bytes.
 ghost use Rattle.std.specs.Prelude.{◌≡◌, ◌+◌, ◌<◌, ◌≤◌, ◌^◌, IfErr, IfOk, IfSome, IsTrue, List, length, map, option_map};
+ghost use Rattle.wire_number.specs.Limits.{greatest_serial};
 ghost use Rattle.wire_signature.specs.Shape.{SignatureText};
 ghost use Rattle.wire_tree.specs.Datum.{Datum, type_of};
 ghost use Rattle.wire_body.specs.Arguments.{TellsTo};
@@ -80,7 +81,7 @@ impl<'a> Builder<'a> {
     ) -> Result<Message>
         ensures built { BuildsOf (T.is_taken taken.now) (signed self.entry signature.now) (content_text self.entry.order content.entry) (IsShallow content.entry) (ContentFits self.entry.order content.entry) fds.now serials.old serials.new result }
         ensures again { IfOk result ReadsAgain }
-        ensures cost { S.counted steps.new ≤ S.counted steps.old + taken_among (T.is_taken taken.now) 4294967295 + 2 }
+        ensures cost { S.counted steps.new ≤ S.counted steps.old + taken_among (T.is_taken taken.now) greatest_serial + 2 }
     {
         let text = signature.to_text(alloc)?;
         let builder = self.with_signature(signature, text.as_str());
@@ -99,7 +100,7 @@ impl<'a> Builder<'a> {
         ensures built { (values : List Datum) → TellsTo body (map type_of values) values → BuildsBody (T.is_taken taken.now) self.entry values serials.old serials.new result }
         ensures only { IfOk result (λ _. IfErr body (λ _. ⊥)) }
         ensures again { IfOk result ReadsAgain }
-        ensures cost { S.counted steps.new ≤ S.counted steps.old + taken_among (T.is_taken taken.now) 4294967295 + 2 }
+        ensures cost { S.counted steps.new ≤ S.counted steps.old + taken_among (T.is_taken taken.now) greatest_serial + 2 }
     {
         match body {
             Ok(body) => {
@@ -139,7 +140,7 @@ impl<'a> Builder<'a> {
         ensures built { BuildsBody (T.is_taken taken.now) self.entry (B.datums body) serials.old serials.new result }
         ensures round { IfOk result (λ _. B.read (B.datums body) ≡ body) }
         ensures again { IfOk result ReadsAgain }
-        ensures cost { steps.new ≤ steps.old + taken_among (T.is_taken taken.now) 4294967295 + 2 }
+        ensures cost { steps.new ≤ steps.old + taken_among (T.is_taken taken.now) greatest_serial + 2 }
     {
         self.build_to(alloc, serials, taken, to(alloc, body), steps)
     }
@@ -179,7 +180,7 @@ impl<'a> Builder<'a> {
         requires { length fds.now < 2 ^ 32 }
         ensures built { BuildsValues (T.is_taken taken.now) (counted self.entry fds.now) body.now fds.now serials.old serials.new result }
         ensures again { IfOk result ReadsAgain }
-        ensures cost { steps.new ≤ steps.old + taken_among (T.is_taken taken.now) 4294967295 + 2 }
+        ensures cost { steps.new ≤ steps.old + taken_among (T.is_taken taken.now) greatest_serial + 2 }
     {
         let content = Content::Values(body);
         let builder = self.with_count(fds);
@@ -220,7 +221,7 @@ impl<'a> Builder<'a> {
         requires { length fds.now < 2 ^ 32 }
         ensures built { BuildsWith (T.is_taken taken.now) (counted (signed self.entry signature.now) fds.now) body.now fds.now serials.old serials.new result }
         ensures again { IfOk result ReadsAgain }
-        ensures cost { steps.new ≤ steps.old + taken_among (T.is_taken taken.now) 4294967295 + 2 }
+        ensures cost { steps.new ≤ steps.old + taken_among (T.is_taken taken.now) greatest_serial + 2 }
     {
         let builder = self.with_count(fds);
         builder.build_signed(

@@ -1,4 +1,5 @@
 ghost use Rattle.std.specs.Prelude.{ℕ, ◌≡◌, ◌+◌, ◌<◌, ◌≤◌, ◌^◌, ◌++◌, ◌∷◌, [], List, length, Some, None, Ok, Err, IfOk, OnOk, IsTrue, IfSome};
+ghost use Rattle.wire_number.specs.Limits.{greatest_serial};
 ghost use Rattle.wire_number.specs.declared.endian.Endian.TheVariants.{Little};
 ghost use Rattle.wire_names.specs.BusName.{text_of};
 ghost use Rattle.wire_message.specs.Front.{order_code};
@@ -305,7 +306,7 @@ impl<'a> Builder<'a> {
     ) -> Result<u32>
         ensures numbers { Numbers (T.is_taken taken.now) self.now.serial serials.old serials.new result }
         ensures some { IfOk result (λ serial. 0 < serial) }
-        ensures cost { S.counted steps.new ≤ S.counted steps.old + taken_among (T.is_taken taken.now) 4294967295 + 2 }
+        ensures cost { S.counted steps.new ≤ S.counted steps.old + taken_among (T.is_taken taken.now) greatest_serial + 2 }
     {
         match self.serial {
             Some(serial) => Ok(serial),
@@ -325,7 +326,7 @@ impl<'a> Builder<'a> {
     ) -> Result<Message>
         ensures built { BuildsOf (T.is_taken taken.now) self.entry (content_text self.entry.order content.entry) (IsShallow content.entry) (ContentFits self.entry.order content.entry) fds.now serials.old serials.new result }
         ensures again { IfOk result ReadsAgain }
-        ensures cost { S.counted steps.new ≤ S.counted steps.old + taken_among (T.is_taken taken.now) 4294967295 + 2 }
+        ensures cost { S.counted steps.new ≤ S.counted steps.old + taken_among (T.is_taken taken.now) greatest_serial + 2 }
     {
         let mut drawn = Serials::after(serials.last());
         let serial = self.own_or_next(&mut drawn, taken, steps)?;
@@ -347,7 +348,7 @@ impl<'a> Builder<'a> {
     ) -> Result<Message>
         ensures built { Builds (T.is_taken taken.now) self.entry [] serials.old serials.new result }
         ensures again { IfOk result ReadsAgain }
-        ensures cost { steps.new ≤ steps.old + taken_among (T.is_taken taken.now) 4294967295 + 2 }
+        ensures cost { steps.new ≤ steps.old + taken_among (T.is_taken taken.now) greatest_serial + 2 }
     {
         self.build_of(alloc, serials, taken, Content::Bytes(&[]), &[], steps)
     }

@@ -1,5 +1,6 @@
 //! Errors as answers to calls (D-Bus Specification, "Types of messages", "Errors").
 ghost use Rattle.std.specs.Prelude.{◌≡◌, ◌+◌, ◌≤◌, IfOk, List, ℕ, Option, map, option_map};
+ghost use Rattle.wire_number.specs.Limits.{greatest_serial};
 ghost use Rattle.wire_tree.specs.Datum.{Datum, type_of};
 ghost use Rattle.wire_body.specs.Arguments.{TellsTo};
 ghost use Rattle.wire_message.specs.Bodies.{BuildsBody};
@@ -61,7 +62,7 @@ pub trait DBusError {
     ) -> Result<Message>
         ensures built { BuildsBody (T.is_taken taken.now) (error_draft call.now (named self.now)) (replied self.now) serials.old serials.new result }
         ensures again { IfOk result ReadsAgain }
-        ensures cost { steps.new ≤ steps.old + taken_among (T.is_taken taken.now) 4294967295 + 2 }
+        ensures cost { steps.new ≤ steps.old + taken_among (T.is_taken taken.now) greatest_serial + 2 }
     {
         let reply = self.reply(alloc);
         let name = self.name();

@@ -1,5 +1,6 @@
 //! Laws of the header grammar, of bodies and of errors.
 ghost use Rattle.std.specs.Prelude.{◌≡◌, ◌<◌, ◌≤◌, ◌^◌, ◌++◌, ℕ, Bool, List, Ok, Result, length, slice_index, ◌↔◌, IsTrue};
+ghost use Rattle.wire_number.specs.Limits.{message_limit};
 ghost use Rattle.std.specs.List.{AllByRecursion};
 ghost use Rattle.wire_number.specs.declared.endian.Endian.{Endian};
 ghost use Rattle.wire_number.specs.Number.{padding};
@@ -23,7 +24,7 @@ use wire_body::FromBody;
 /// Specification, "Message Format", "Header Fields").
 #[tactic(auto, unfolding(crate::specs::Draft::built))]
 pub fn built_messages_are_read_again()
-    ensures again { (draft : Draft) (serial : ℕ) (body : List ℕ) → IsDraft draft → 0 < serial → serial < 2 ^ 32 → length (message_text draft serial body) ≤ 134217728 → ReadsAgain (built draft serial body) }
+    ensures again { (draft : Draft) (serial : ℕ) (body : List ℕ) → IsDraft draft → 0 < serial → serial < 2 ^ 32 → length (message_text draft serial body) ≤ message_limit → ReadsAgain (built draft serial body) }
     ensures fields { (draft : Draft) (serial : ℕ) (body : List ℕ) → fields_of (built draft serial body) ≡ draft.fields }
     ensures bytes { (draft : Draft) (serial : ℕ) (body : List ℕ) → (built draft serial body).bytes ≡ message_text draft serial body }
 {}

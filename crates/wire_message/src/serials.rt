@@ -1,4 +1,5 @@
 ghost use Rattle.std.specs.Prelude.{ℕ, ◌≡◌, ◌+◌, ◌<◌, ◌≤◌, ◌%◌, Bool, IfSome, IfNone, false};
+ghost use Rattle.wire_number.specs.Limits.{greatest_serial};
 ghost use Rattle.wire_message.specs.Circle.{Draws, IsNext, AllTaken, taken_among};
 
 use crate::error::{Error, Result};
@@ -16,7 +17,7 @@ pub trait Taken {
 
     /// How many of the serials from 1 to 4,294,967,295 are pending.
     fn count(&self) -> u64
-        ensures { result ≡ taken_among (is_taken self.now) 4294967295 };
+        ensures { result ≡ taken_among (is_taken self.now) greatest_serial };
 }
 
 /// No serial is pending.
@@ -83,7 +84,7 @@ impl Serials {
     /// is a serial that is looked at; there are at most two more than serials that are pending.
     pub fn next<T: Taken, L: Ledger>(&mut self, taken: &T, steps: &mut Steps<L>) -> Result<u32>
         ensures drawn { Draws (T.is_taken taken.now) self.old self.new result }
-        ensures cost { steps.new ≤ steps.old + taken_among (T.is_taken taken.now) 4294967295 + 2 }
+        ensures cost { steps.new ≤ steps.old + taken_among (T.is_taken taken.now) greatest_serial + 2 }
     {
         self.draw(taken, steps)
     }
@@ -97,7 +98,7 @@ impl Serials {
 
     pub(crate) fn draw<T: Taken, S: Counts>(&mut self, taken: &T, steps: &mut S) -> Result<u32>
         ensures drawn { Draws (T.is_taken taken.now) self.old self.new result }
-        ensures cost { S.counted steps.new ≤ S.counted steps.old + taken_among (T.is_taken taken.now) 4294967295 + 2 }
+        ensures cost { S.counted steps.new ≤ S.counted steps.old + taken_among (T.is_taken taken.now) greatest_serial + 2 }
     {
         match next_after(self.last, taken, steps) {
             Some(serial) => {
@@ -111,7 +112,7 @@ impl Serials {
 
 /// The serial after this one in the circle; 1 after nothing, which is 0.
 fn after(serial: u32) -> u32
-    ensures { result ≡ serial % 4294967295 + 1 }
+    ensures { result ≡ serial % greatest_serial + 1 }
 {
     if serial == u32::MAX { 1 } else { serial + 1 }
 }
@@ -121,7 +122,7 @@ fn after(serial: u32) -> u32
 fn next_after<T: Taken, S: Counts>(last: u32, taken: &T, steps: &mut S) -> Option<u32>
     ensures next { IfSome result (IsNext (T.is_taken taken.now) last) }
     ensures none { IfNone result (AllTaken (T.is_taken taken.now)) }
-    ensures cost { S.counted steps.new ≤ S.counted steps.old + taken_among (T.is_taken taken.now) 4294967295 + 2 }
+    ensures cost { S.counted steps.new ≤ S.counted steps.old + taken_among (T.is_taken taken.now) greatest_serial + 2 }
 {
     let mut candidate = last;
     for _ in 0..u32::MAX {

@@ -1,6 +1,7 @@
 //! Bytes at the end of an output. `shift` is the place of the output's first byte. Only for want of memory a call fails, and
 //! then it may have appended a front of its bytes.
 ghost use Rattle.std.specs.Prelude.{◌≡◌, ◌+◌, ◌≤◌, ◌++◌, ◌∷◌, [], drop, length, take};
+ghost use Rattle.wire_number.specs.Limits.{string_limit};
 ghost use Rattle.std.specs.Int.{w8, w32};
 ghost use Rattle.wire_number.specs.Number.{counted_text, number_text, padding};
 ghost use Rattle.wire_number.specs.Appending.{Appended};
@@ -63,7 +64,7 @@ pub fn append_text(
     bytes: &[u8],
 ) -> Result<(), AllocError>
     requires shift { shift ≤ 16 }
-    requires short { length bytes.now ≤ 4294967295 }
+    requires short { length bytes.now ≤ string_limit }
     ensures { Appended result (padding (shift + length out.old.items) 4 ++ counted_text w32 order bytes.now) out.old.items out.new.items }
 {
     pad_to(out, shift, 4)?;

@@ -1,6 +1,7 @@
 -- Reading bytes from left to right: the value that stands at the front, and what stands behind it. The laws in
 -- proofs/Exact.antt tie it to the spellings of values.
 use Rattle.std.specs.Prelude.{ℕ, zero, suc, ◌&&◌, nat_le, nat_lt, if◌then◌else◌, Bool, List, [], ◌∷◌, length, Option, Some, None, is_some}
+use Rattle.wire_number.specs.Limits.{array_limit}
 use Rattle.std.specs.List.{list_all}
 use Rattle.std.specs.Int.{w8, w32}
 use Rattle.std.specs.Str.{is_utf8}
@@ -78,7 +79,7 @@ unfoldable pub elements_at : Endian → ℕ → Cursor → Option (Cursor × Cur
 elements_at order boundary c = do
   p ← align_at 4 c
   n ← number_at w32 order p
-  first ← if nat_le n.0 67108864 then align_at boundary n.1 else None
+  first ← if nat_le n.0 array_limit then align_at boundary n.1 else None
   x ← bytes_at n.0 first
   Some (record { place = first.place; rest = x.0 }, x.1)
 

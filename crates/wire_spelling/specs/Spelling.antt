@@ -1,5 +1,6 @@
 -- The bytes of a value (D-Bus Specification, "Marshaling (Wire Format)"). Places are counted from the message's first byte.
 use Rattle.std.specs.Prelude.{◌≡◌, ℕ, ◌+◌, ◌≤◌, max, List, [], ◌++◌, length}
+use Rattle.wire_number.specs.Limits.{array_limit}
 use Rattle.std.specs.Int.{Width, w8, w16, w32, w64}
 use Rattle.wire_number.specs.declared.endian.Endian.{Endian}
 use Rattle.wire_number.specs.Number.{number_text, pad, padding, counted_text}
@@ -77,9 +78,9 @@ unfoldable mutual
   ArraysFit order place (num n v) = Unit {0}
   ArraysFit order place (text t bytes) = Unit {0}
   ArraysFit order place (array t ds) =
-      (length (spellings order (first_place place (alignment t)) ds) ≤ 67108864) × AllFit order (first_place place (alignment t)) ds
+      (length (spellings order (first_place place (alignment t)) ds) ≤ array_limit) × AllFit order (first_place place (alignment t)) ds
   ArraysFit order place (dict k v es) =
-      (length (spellings order (first_place place 8) es) ≤ 67108864) × AllFit order (first_place place 8) es
+      (length (spellings order (first_place place 8) es) ≤ array_limit) × AllFit order (first_place place 8) es
   ArraysFit order place (struct ds) = AllFit order (aligned place 8) ds
   ArraysFit order place (variant d) = ArraysFit order (place + length (counted_text w8 order (type_text (type_of d)))) d
 

@@ -124,11 +124,15 @@ bound unix_fd = 4294967296
 abbrev pub HasNoZero : List ℕ → Type 0
 HasNoZero bytes = All (λ b. 0 < b) bytes
 
+-- how many bytes a string may take: its length has 32 bits (D-Bus Specification, "Marshaling (Wire Format)")
+abbrev pub string_limit : ℕ
+string_limit = 4294967295
+
 -- A text of the type: UTF-8 without a 0 byte; a path and a signature in their grammars; a length that 32 bits hold
 -- (D-Bus Specification, "String-like types", "Valid Object Paths", "Valid Signatures").
 abbrev pub IsTextOf : Txt → List ℕ → Type 0
-IsTextOf string bytes = IsUtf8 bytes × HasNoZero bytes × (length bytes ≤ 4294967295)
-IsTextOf object_path bytes = IsObjectPath bytes × (length bytes ≤ 4294967295)
+IsTextOf string bytes = IsUtf8 bytes × HasNoZero bytes × (length bytes ≤ string_limit)
+IsTextOf object_path bytes = IsObjectPath bytes × (length bytes ≤ string_limit)
 IsTextOf signature bytes = (ts : List Shape) × SignatureText ts bytes
 
 -- Each number is in its type's range, each text is one of its type, each element has its array's type, each entry that of

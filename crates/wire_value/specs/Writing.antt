@@ -1,5 +1,6 @@
 -- What writing does.
 use Rattle.std.specs.Prelude.{◌≡◌, ℕ, ◌<◌, ◌≤◌, List, ◌++◌, Result, Ok, Err}
+use Rattle.wire_number.specs.Limits.{array_limit}
 use Rattle.wire_number.specs.declared.endian.Endian.{Endian}
 use Rattle.wire_signature.specs.declared.error.VariantError.TheVariants as errors
 use Rattle.wire_tree.specs.Datum.{Datum, data_of, type_of}
@@ -58,7 +59,7 @@ EncodedAll bytes (Err e) order ds = AreNotEncoded e order ds
 
 -- The length of an array's elements was put where it belongs, unless they are too long.
 abbrev pub Closed : {A : Type 0} → Result A EncodeError → ℕ → List ℕ → List ℕ → List ℕ → Type 0
-Closed (Ok done) long expected old new = (new ≡ expected) × (long ≤ 67108864)
+Closed (Ok done) long expected old new = (new ≡ expected) × (long ≤ array_limit)
 Closed (Err (Variant e)) long expected old new = ⊥
-Closed (Err ExcessData) long expected old new = (67108864 < long) × (new ≡ old)
+Closed (Err ExcessData) long expected old new = (array_limit < long) × (new ≡ old)
 Closed (Err Memory) long expected old new = ⊥

@@ -1,4 +1,4 @@
-use Rattle.peer_route.proofs.Once.{once}
+use Rattle.peer_route.proofs.Read.{once}
 use Rattle.peer_route.proofs.laws.answered_once.Goals as goal
 
 pub returns : goal.returns

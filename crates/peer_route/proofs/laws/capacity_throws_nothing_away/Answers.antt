@@ -1,4 +1,4 @@
-use Rattle.peer_route.proofs.OtherStreams.{main_keeps, asked_keeps, opened_keeps}
+use Rattle.peer_route.proofs.Capacities.{main_keeps, asked_keeps, opened_keeps}
 use Rattle.peer_route.proofs.laws.capacity_throws_nothing_away.Goals as goal
 
 pub returns : goal.returns

@@ -1,5 +1,5 @@
-use Rattle.peer_route.proofs.Naming.{trail_name}
+use Rattle.peer_route.proofs.NoneBefore.{start, kept, given, later}
 use Rattle.peer_route.proofs.laws.name_stays.Goals as goal
 
 pub returns : goal.returns
-returns c = trail_name
+returns c = record { start = start; kept = kept; given = given; later = later }

@@ -1,5 +1,5 @@
-use Rattle.peer_route.proofs.Sent.{put_sent}
+use Rattle.peer_route.proofs.Sent.{put, serial, sent}
 use Rattle.peer_route.proofs.laws.put_is_what_was_sent.Goals as goal
 
 pub returns : goal.returns
-returns c = put_sent
+returns c = record { put = put; serial = serial; sent = sent }

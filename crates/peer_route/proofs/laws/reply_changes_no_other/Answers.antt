@@ -1,4 +1,4 @@
-use Rattle.peer_route.proofs.Others.{took_other, took_late}
+use Rattle.peer_route.proofs.Lanes.{took_other, took_late}
 use Rattle.peer_route.proofs.laws.reply_changes_no_other.Goals as goal
 
 pub returns : goal.returns

@@ -21,6 +21,6 @@ pub returns-in-Ok : goal.returns-in-Ok
 returns-in-Ok g c =
     let setup = c.in-Ok.setup in
     shown_done (g.I.Source.left c.args.input.now) (g.I.Source.stop c.args.input.now) _ _ _ _ _ _ _ (script_from setup.kind setup.queue setup.fds setup.outfault setup.pieces.items c.in-Ok.commands.items)
-    c.in-Ok.ensures.faults.0 c.in-Ok.ensures.told
+    c.in-Ok.ensures.runs c.in-Ok.ensures.faults.0 c.in-Ok.ensures.told
     (subst (λ commands. Shows (IsRunText (script_from setup.kind setup.queue setup.fds setup.outfault setup.pieces.items commands)) (g.O.Sink.held c.args.output.now) (g.O.Sink.held c.run_commands.new.output)
     (g.O.Sink.faults c.args.output.now) (g.O.Sink.faults c.run_commands.new.output) c.run_commands.result) c.as_slice.ensures.value c.run_commands.ensures)

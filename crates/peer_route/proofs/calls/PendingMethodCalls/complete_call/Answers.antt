@@ -1,20 +1,15 @@
 -- The call that waits for the message's reply serial takes it.
-use Rattle.std.proofs.Common.{◌≡◌, ℕ, Bool, true, false, length, refl, sym, ◌∙◌, ap, set, get_or, is_some, subst}
+use Rattle.std.proofs.Common.{◌≡◌, length, refl, sym, ◌∙◌, ap, set, get_or, is_some, subst}
 use Rattle.std.specs.List.{list_any}
 use Rattle.std.proofs.lemmas.Bool.{false≢true}
 use Rattle.std.proofs.lemmas.List.{get_or_read_under}
-use Rattle.wire_message.specs.Front.{Seen}
 use Rattle.peer_route.specs.History.{Took, after}
 use Rattle.peer_route.specs.Left.{CallsView, LeftCalls, is_waiting, is_inner_slot, reply_kept}
 use Rattle.peer_route.specs.declared.calls.Slot.TheVariants.{Gone}
 use Rattle.peer_route.proofs.Core.{took_by_none, took_past, took_first}
+use Rattle.peer_route.proofs.Slots.{reply_waits}
 use Rattle.peer_route.proofs.Index.{any_index, waits_within, index_removed, open_none, pending_open, answers_none, answers_serial, answers_shut}
 use Rattle.peer_route.proofs.calls.PendingMethodCalls.complete_call.Goals as goal
-
--- what is kept of a reply waits for none
-kept_idle : (q : ℕ) (inner : Bool) (m : Seen) → is_waiting q (reply_kept inner m) ≡ false
-kept_idle q true m = refl
-kept_idle q false m = refl
 
 -- ---- a closed peer
 
@@ -70,7 +65,7 @@ invariant_of-self-in-Some-remove c open_ =
     let i = c.self.invariant open_ in
     let was = i.there c.in-Some.serial c.in-Some-remove.place (sym c.remove.ensures.value ∙ c.in-Some-remove.is) in
     index_removed c.self.inside.waiting c.remove.new.self c.self.inside.slots.items c.in-Some.serial c.in-Some-remove.place c.reply_kept.result
-    (λ q. ap (is_waiting q) c.reply_kept.ensures ∙ kept_idle q c.is_inner-inner.result c.args.message) was c.remove.ensures.updates i
+    (λ q. ap (is_waiting q) c.reply_kept.ensures ∙ reply_waits c.is_inner-inner.result c.args.message q) was c.remove.ensures.updates i
 
 pub returns-in-Some-remove-clause-exact : goal.returns-in-Some-remove-clause-exact
 returns-in-Some-remove-clause-exact c =

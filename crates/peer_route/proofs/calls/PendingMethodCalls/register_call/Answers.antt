@@ -1,7 +1,8 @@
 -- The call is issued.
-use Rattle.std.proofs.Common.{OnOk, Result, Ok, Err, sym, ◌∙◌, ap, false}
+use Rattle.std.proofs.Common.{OnOk, Result, Ok, Err, sym, ◌∙◌, ap, refl, false, true}
+use Rattle.peer_route.specs.History.{Put, OfLane, after}
 use Rattle.peer_route.specs.Left.{waiting_serial, with_call}
-use Rattle.peer_route.proofs.Issues.{issued_calls}
+use Rattle.peer_route.proofs.Issues.{called}
 use Rattle.peer_route.proofs.calls.PendingMethodCalls.register_call.Goals as goal
 
 on-ok : {A E P Q : Type 0} (r : Result A E) → OnOk r P → (P → Q) → OnOk r Q
@@ -11,6 +12,6 @@ on-ok (Err e) p f = tt
 pub returns-clause-left : goal.returns-clause-left
 returns-clause-left c =
     on-ok c.register.result c.register.ensures.ok (λ is h m e left.
-    issued_calls m c.args.self.now _ h
-    (is ∙ ap (λ n. with_call false n c.args.self.now) (sym e))
+    called m false c.args.self.now _ (after (Put m (OfLane true)) h) h
+    (is ∙ ap (λ n. with_call false n c.args.self.now) (sym e)) refl refl refl
     (ap (waiting_serial c.args.self.now) e ∙ c.requires.free) left)

@@ -1,28 +1,21 @@
-use Rattle.std.proofs.Common.{refl, sym, ◌∙◌}
-use Rattle.peer_route.specs.Entries.{trail}
-use Rattle.peer_run.specs.Stands.{PeerView, Follows}
-use Rattle.std.proofs.lemmas.Result.{IfOk-weaker}
-use Rattle.peer_run.proofs.StreamStep.{clone_so, clone_unknown, clone_refused}
+use Rattle.std.proofs.Common.{sym, subst, refl}
+use Rattle.peer_route.specs.History.{Cloned, Made, after}
+use Rattle.peer_route.specs.Left.{Left}
+use Rattle.peer_route.specs.Plan.{where_open, makes}
+use Rattle.peer_run.specs.Stands.{Stands, IfDid}
+use Rattle.peer_run.proofs.Quietly.{makes_did, uncloned}
 use Rattle.peer_run.proofs.peer.Peer.clone_stream.Goals as goal
-use Rattle.peer_route.specs.History.{past}
 
-pub returns-in_ok-made-in-Ok : goal.returns-in_ok-made-in-Ok
-returns-in_ok-made-in-Ok c setting es f =
-    let p : PeerView = record { core = c.self.inside.route; names = c.self.inside.names; streams = c.self.inside.streams; given = c.self.inside.given.items } in
-    let g : Follows setting p es = rw (← c.self.view_is) at f in
-    let said = c.in-Ok.ensures (past (trail setting es).events) g.left in
-    rw (c.in_ok-made-in-Ok.ensures.answer, c.in_ok-made-in-Ok.ensures.made)
-    (clone_so setting p _ es c.args.lane c.args.number c.in-Some.original g (sym c.place.ensures ∙ c.in-Some.is) said.0 refl refl refl said.2)
+pub returns-in-Ok-clause-did : goal.returns-in-Ok-clause-did
+returns-in-Ok-clause-did c t s =
+    let before : Stands _ t = subst (λ v. Stands v t) (sym c.self.view_is) s in
+    let cloned = c.in-Ok.ensures t.past before.keeps.left in
+    subst (λ b. IfDid c.made.new.self t c.args.lane (where_open b (makes t c.args.lane (Cloned c.args.stream))) c.made.result) (sym cloned.0)
+    (makes_did _ c.made.new.self t c.args.lane (Cloned c.args.stream) c.made.result before
+    (subst (λ v. Left v (after (Made (Cloned c.args.stream)) t.past)) (sym c.made.ensures.rest.0) cloned.2) c.made.ensures.given c.made.ensures.answer)
 
-pub returns-in-Err : goal.returns-in-Err
-returns-in-Err c =
-    let p : PeerView = record { core = c.self.inside.route; names = c.self.inside.names; streams = c.self.inside.streams; given = c.self.inside.given.items } in
-    let q : PeerView = record { core = c.clone_stream.new.self; names = c.self.inside.names; streams = c.self.inside.streams; given = c.self.inside.given.items } in
-    IfOk-weaker c.refused.result _ _ (λ a step setting es f. step setting es (rw (← c.self.view_is) at f))
-    (clone_refused p q c.args.lane c.args.number c.in-Some.original c.in-Err.error c.refused.result (sym c.place.ensures ∙ c.in-Some.is) c.in-Err.ensures refl refl refl c.refused.ensures)
-
-pub returns-in_default : goal.returns-in_default
-returns-in_default c setting es f =
-    let p : PeerView = record { core = c.self.inside.route; names = c.self.inside.names; streams = c.self.inside.streams; given = c.self.inside.given.items } in
-    let g : Follows setting p es = rw (← c.self.view_is) at f in
-    rw (← c.self.view_is) (clone_unknown setting p es c.args.lane c.args.number g (sym c.place.ensures ∙ c.in_default.is))
+pub returns-in-Err-clause-did : goal.returns-in-Err-clause-did
+returns-in-Err-clause-did c t s =
+    let before : Stands _ t = subst (λ v. Stands v t) (sym c.self.view_is) s in
+    uncloned _ (record { core = c.clone_stream.new.self; names = c.self.inside.names; streams = c.self.inside.streams; given = c.self.inside.given.items }) t c.args.lane c.args.stream c.in-Err.error c.refused.result before refl
+    (c.in-Err.ensures t.past before.keeps.left) c.refused.ensures

@@ -1,49 +1,45 @@
--- The text is read as a rule, and the core opens its stream, or the bus is asked.
-use Rattle.std.proofs.Common.{◌≡◌, ◌∙◌, arith, refl, sym, subst, List, ℕ, length, Ok, Err}
-use Rattle.std.proofs.lemmas.Result.{IfOk-weaker}
-use Rattle.rule_match.specs.Building.{Gives}
+use Rattle.std.proofs.Common.{◌≡◌, sym, ap, subst, refl, ◌∙◌, Ok}
 use Rattle.rule_match.specs.Bytes.{rule_in_bytes}
-use Rattle.peer_route.specs.Entries.{trail}
-use Rattle.peer_run.specs.Stands.{PeerView, Follows}
-use Rattle.peer_run.proofs.OpenStep.{rule_given, opens_once, follows_open, text_refused, open_refused, asked_now}
+use Rattle.peer_route.specs.History.{Made, Ruled, after}
+use Rattle.peer_route.specs.Left.{Left}
+use Rattle.peer_route.specs.Bus.{OpensRule}
+use Rattle.peer_route.specs.Trail.{count}
+use Rattle.peer_route.specs.Plan.{opens}
+use Rattle.peer_route.specs.declared.answer.Answer.TheVariants as answers
+use Rattle.peer_run.specs.declared.acting.Acted.{Acted}
+use Rattle.peer_run.specs.declared.acting.Makes.TheVariants as makings
+use Rattle.peer_run.specs.Stands.{PeerView, Stands, Did, IfDid}
+use Rattle.peer_run.proofs.Quietly.{makes_did}
+use Rattle.peer_run.proofs.RuleStreams.{asking_did, opened_left, opened_plan, unopened_did, misread_did, rule_read}
 use Rattle.peer_run.proofs.peer.Peer.open.Goals as goal
-use Rattle.peer_route.specs.History.{past}
 
-pub returns-in-Err-clause-sent : goal.returns-in-Err-clause-sent
-returns-in-Err-clause-sent g c =
-    text_refused c.args.self.now c.args.lane c.args.max_queued c.args.text.now c.in-Err.error c.refused.result _ _
-    (subst (λ (t : List ℕ). Gives (Err c.in-Err.error) (rule_in_bytes t)) c.as_slice.ensures.value c.in-Err.ensures) c.refused.ensures
+pub returns-in-Err-clause-did : goal.returns-in-Err-clause-did
+returns-in-Err-clause-did c t s =
+    rw (c.as_slice.ensures.value) at (misread_did c.args.self.now t c.args.lane (rule_in_bytes c.as_slice.result.now) c.args.max_queued c.in-Err.error c.refused.result s c.in-Err.ensures c.refused.ensures)
 
-pub returns-in_ok-made-in-Ok-Open-clause-sent : goal.returns-in_ok-made-in-Ok-Open-clause-sent
-returns-in_ok-made-in-Ok-Open-clause-sent g c setting es f fine =
-    let p : PeerView = record { core = c.self.inside.route; names = c.self.inside.names; streams = c.self.inside.streams; given = c.self.inside.given.items } in
-    let k : Follows setting p es = rw (← c.self.view_is) at f in
-    let found = rule_given c.in-Ok.rule _ (subst (λ (t : List ℕ). Gives (Ok c.in-Ok.rule) (rule_in_bytes t)) c.as_slice.ensures.value c.in-Ok.ensures) in
-    let opened = rw c.in-Ok-Open.field-0-is at c.in-Ok-Open.ensures.opens in
-    let said = opened (past (trail setting es).events) k.left in
-    let once = opens_once _ _ _ _ _ _ _ said.2 in
-    rw (c.in_ok-made-in-Ok-Open.ensures.answer, c.in_ok-made-in-Ok-Open.ensures.made)
-    (follows_open setting p _ es c.args.lane c.args.max_queued c.args.text.now c.in-Ok.rule _ _ k found said.0 said.1 once.0 refl refl refl once.1 fine)
+pub returns-in-Ok-Open-clause-did : goal.returns-in-Ok-Open-clause-did
+returns-in-Ok-Open-clause-did c t s =
+    let before : Stands _ t = subst (λ v. Stands v t) (sym c.self.view_is) s in
+    let read : Ok c.in-Ok.rule ≡ rule_in_bytes c.args.text.now = rule_read c.in-Ok.rule (rule_in_bytes c.as_slice.result.now) c.in-Ok.ensures ∙ ap rule_in_bytes c.as_slice.ensures.value in
+    let is = opened_left c.self.inside.route c.open_rule.new.self t c.in-Ok.rule c.args.max_queued c.in-Ok-Open.field-0-0 (subst (λ o. OpensRule c.self.inside.route c.open_rule.new.self c.in-Ok.rule c.args.max_queued t.past (Ok o)) c.in-Ok-Open.field-0-is (c.in-Ok-Open.ensures.opens t.past before.keeps.left)) in
+    subst (λ x. IfDid c.made.new.self t c.args.lane (opens t c.args.lane x c.args.max_queued t.past.closing) c.made.result) read
+    (subst (λ p. IfDid c.made.new.self t c.args.lane p c.made.result) (sym (opened_plan t c.args.lane c.in-Ok.rule c.args.max_queued is.1 is.2 is.3))
+    (makes_did _ c.made.new.self t c.args.lane (Ruled c.in-Ok.rule c.args.max_queued) c.made.result before
+    (subst (λ v. Left v (after (Made (Ruled c.in-Ok.rule c.args.max_queued)) t.past)) (sym c.made.ensures.rest.0) is.0) c.made.ensures.given c.made.ensures.answer))
 
-pub ask-requires : goal.ask-requires
-ask-requires g c =
-    let waits = rw c.in-Ok-Opening.field-0-is at c.in-Ok-Opening.ensures.waits in
-    let written = subst (λ (v : PeerView). v.core.done ≡ length v.core.outbox) (sym c.self.view_is) c.requires.written in
-    record { there = omega (arith, waits.0, waits.1); due = waits.0 ∙ sym written ∙ sym waits.2; fine = waits.4 }
+pub returns-in_ok-push-in-Ok-Opening-clause-did : goal.returns-in_ok-push-in-Ok-Opening-clause-did
+returns-in_ok-push-in-Ok-Opening-clause-did c t s =
+    let before : Stands _ t = subst (λ v. Stands v t) (sym c.self.view_is) s in
+    let read : Ok c.in-Ok.rule ≡ rule_in_bytes c.args.text.now = rule_read c.in-Ok.rule (rule_in_bytes c.as_slice.result.now) c.in-Ok.ensures ∙ ap rule_in_bytes c.as_slice.ensures.value in
+    let now : PeerView = record { core = c.open_rule.new.self; names = c.self.inside.names; streams = c.self.inside.streams; given = c.push.new.self.items } in
+    let did : Acted = record { answer = answers.Opening (count c.args.lane c.self.inside.streams) c.in-Ok-Opening.opening.serial; makes = makings.Opening } in
+    rw (c.count.ensures) (subst (λ x. Did now t c.args.lane (opens t c.args.lane x c.args.max_queued t.past.closing) did) read
+    (asking_did _ now t c.args.lane c.in-Ok.rule c.args.max_queued c.in-Ok-Opening.opening before c.in_ok-push-in-Ok-Opening.ensures.items (subst (λ o. OpensRule c.self.inside.route c.open_rule.new.self c.in-Ok.rule c.args.max_queued t.past (Ok o)) c.in-Ok-Opening.field-0-is (c.in-Ok-Opening.ensures.opens t.past before.keeps.left))))
 
-pub returns-in-Ok-Opening-clause-sent : goal.returns-in-Ok-Opening-clause-sent
-returns-in-Ok-Opening-clause-sent g c =
-    let p : PeerView = record { core = c.self.inside.route; names = c.self.inside.names; streams = c.self.inside.streams; given = c.self.inside.given.items } in
-    let q : PeerView = record { core = c.open_rule.new.self; names = c.self.inside.names; streams = c.self.inside.streams; given = c.self.inside.given.items } in
-    let found = rule_given c.in-Ok.rule _ (subst (λ (t : List ℕ). Gives (Ok c.in-Ok.rule) (rule_in_bytes t)) c.as_slice.ensures.value c.in-Ok.ensures) in
-    let opening = rw c.in-Ok-Opening.field-0-is at c.in-Ok-Opening.ensures.opens in
-    IfOk-weaker c.ask.result _ _ (λ a step setting es f fine. step setting es (rw (← c.self.view_is) at f) fine)
-    (asked_now p q c.ask.new.self c.args.lane c.args.max_queued c.args.text.now c.in-Ok.rule c.in-Ok-Opening.opening _ _ _ _ _ c.ask.result found opening refl refl refl c.ask.ensures.asks)
-
-pub returns-in-Err-open_rule-clause-sent : goal.returns-in-Err-open_rule-clause-sent
-returns-in-Err-open_rule-clause-sent g c =
-    let p : PeerView = record { core = c.self.inside.route; names = c.self.inside.names; streams = c.self.inside.streams; given = c.self.inside.given.items } in
-    let q : PeerView = record { core = c.open_rule.new.self; names = c.self.inside.names; streams = c.self.inside.streams; given = c.self.inside.given.items } in
-    let found = rule_given c.in-Ok.rule _ (subst (λ (t : List ℕ). Gives (Ok c.in-Ok.rule) (rule_in_bytes t)) c.as_slice.ensures.value c.in-Ok.ensures) in
-    IfOk-weaker c.unopened.result _ _ (λ a step setting es f fine. step setting es (rw (← c.self.view_is) at f) fine)
-    (open_refused p q c.args.lane c.args.max_queued c.args.text.now c.in-Ok.rule c.in-Err-open_rule.error c.unopened.result _ _ found c.in-Err-open_rule.ensures.opens refl refl refl c.unopened.ensures)
+pub returns-in-Err-open_rule-clause-did : goal.returns-in-Err-open_rule-clause-did
+returns-in-Err-open_rule-clause-did c t s =
+    let before : Stands _ t = subst (λ v. Stands v t) (sym c.self.view_is) s in
+    let read : Ok c.in-Ok.rule ≡ rule_in_bytes c.args.text.now = rule_read c.in-Ok.rule (rule_in_bytes c.as_slice.result.now) c.in-Ok.ensures ∙ ap rule_in_bytes c.as_slice.ensures.value in
+    let now : PeerView = record { core = c.open_rule.new.self; names = c.self.inside.names; streams = c.self.inside.streams; given = c.self.inside.given.items } in
+    subst (λ x. IfDid now t c.args.lane (opens t c.args.lane x c.args.max_queued t.past.closing) c.unopened.result) read
+    (unopened_did _ now t c.args.lane c.in-Ok.rule c.args.max_queued c.in-Err-open_rule.error c.unopened.result before refl (c.in-Err-open_rule.ensures.opens t.past before.keeps.left) c.unopened.ensures)

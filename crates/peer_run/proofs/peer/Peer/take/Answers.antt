@@ -1,21 +1,11 @@
-use Rattle.std.proofs.Common.{refl, sym, ◌∙◌}
-use Rattle.peer_route.specs.Entries.{trail}
-use Rattle.peer_run.specs.Stands.{PeerView, Follows}
-use Rattle.peer_run.proofs.StreamStep.{take_so, take_unknown}
+use Rattle.std.proofs.Common.{sym, subst, refl}
+use Rattle.peer_run.specs.Stands.{Stands, given_after}
+use Rattle.peer_run.proofs.Quietly.{take_did}
 use Rattle.peer_run.proofs.peer.Peer.take.Goals as goal
-use Rattle.peer_route.specs.History.{past}
 
-pub returns-in-Some : goal.returns-in-Some
-returns-in-Some c setting es f =
-    let p : PeerView = record { core = c.self.inside.route; names = c.self.inside.names; streams = c.self.inside.streams; given = c.self.inside.given.items } in
-    let g : Follows setting p es = rw (← c.self.view_is) at f in
-    let kept = c.show_take.ensures.kept in
-    rw (c.show_take.ensures.answer, kept)
-    (take_so setting p _ es c.args.lane c.args.number c.in-Some.number c.take-polled.result g (sym c.place.ensures ∙ c.in-Some.is)
-    (c.take-polled.ensures.answer (past (trail setting es).events) g.left) refl refl refl (c.take-polled.ensures.left (past (trail setting es).events) g.left))
-
-pub returns-in-None : goal.returns-in-None
-returns-in-None c setting es f =
-    let p : PeerView = record { core = c.self.inside.route; names = c.self.inside.names; streams = c.self.inside.streams; given = c.self.inside.given.items } in
-    let g : Follows setting p es = rw (← c.self.view_is) at f in
-    rw (← c.self.view_is) (take_unknown setting p es c.args.lane c.args.number g (sym c.place.ensures ∙ c.in-None.is))
+pub returns-clause-did : goal.returns-clause-did
+returns-clause-did c t lane s =
+    let before : Stands _ t = subst (λ v. Stands v t) (sym c.self.view_is) s in
+    rw (c.show_take.ensures.kept, c.show_take.ensures.answer) (take_did _
+    (record { core = c.take-polled.new.self; names = c.self.inside.names; streams = c.self.inside.streams; given = given_after c.args.stream c.take-polled.result c.self.inside.given.items })
+    t lane c.args.stream c.take-polled.result before (c.take-polled.ensures.answer t.past before.keeps.left) (c.take-polled.ensures.left t.past before.keeps.left) refl)

@@ -1,0 +1,141 @@
+-- How messages that wait are written: one after another, up to one whose write fails.
+use Rattle.std.proofs.Common.{◌≡◌, ℕ, ◌+◌, ◌-◌, ◌≤◌, ◌<◌, ◌⊎◌, inl, inr, zero, suc, refl, sym, ◌∙◌, ap, subst, arith, IfSome, Bool, true, false, List, [], ◌∷◌, ◌++◌, length, drop, slice_get, get_or, Option, Some, None, Result, Ok, Err, append-nil}
+use Rattle.std.proofs.lemmas.Option.{slice_get_within, slice_get_cases}
+use Rattle.wire_message.specs.Front.{Seen}
+use Rattle.wire_message.specs.declared.error.Error.{Error}
+use Rattle.wire_message.specs.declared.error.Error.TheVariants as errors
+use Rattle.wire_message.specs.declared.error.IoKind.TheVariants as kinds
+use Rattle.wire_framing.specs.Source.{MayRise}
+use Rattle.wire_framing.specs.Writing.{Sends, is_unsupported}
+use Rattle.wire_framing.specs.declared.write_half.Writing.{Writing}
+use Rattle.peer_route.specs.declared.writer.Writer.TheVariants as writers
+use Rattle.peer_route.specs.History.{Past, Event, Wrote, Fault, worse, after, after_all}
+use Rattle.peer_route.specs.Left.{View, Left}
+use Rattle.peer_route.specs.Entries.{repeat, writes_of}
+use Rattle.peer_run.specs.Stands.{AreTaken}
+use Rattle.peer_run.specs.Sinks.{Outlet, Flushed, IsReady, WentOut}
+use Rattle.peer_run.proofs.Sinks.{sinks_wrote, sinks_failed, sinks_faults, never_fine}
+
+-- ---- a send never lowers the count of faults
+
+rises : (old new : ℕ) → MayRise old new → old ≤ new
+rises old new (inl more) = omega (arith, more)
+rises old new (inr most) = omega (arith, most.0, most.1)
+
+-- where nothing was wrong before
+tried_grows : {A : Type 0} (result : Result A Error) (writing : Writing) (bytes : List ℕ) (held held' : Option (List ℕ)) (room room' : Option (Option ℕ)) (faults faults' : ℕ)
+    → Sends result writing bytes held held' room room' faults faults' → faults ≤ faults'
+tried_grows (Ok done) writing bytes held held' room room' faults faults' s = let same : faults' ≡ faults = s.2 in omega (arith, same)
+tried_grows (Err (errors.InputOutput kinds.WriteFault)) writing bytes held held' room room' faults faults' s = rises faults faults' s.3
+tried_grows (Err errors.Memory) writing bytes held held' room room' faults faults' s = let same : faults' ≡ faults = s.3 in omega (arith, same)
+tried_grows (Err other) writing bytes held held' room room' faults faults' s = absurd s
+
+pub send_grows : {A H : Type 0} (faults : H → ℕ) (old new : H) (unsupported : Bool) (cause : Option Error) (result : Result A Error) (writing : Writing) (bytes : List ℕ)
+    (held held' : Option (List ℕ)) (room room' : Option (Option ℕ))
+    → (unsupported ≡ true → (result ≡ Err errors.Unsupported) × (new ≡ old))
+    → (unsupported ≡ false → IfSome cause (λ e. (result ≡ Err e) × (new ≡ old)))
+    → (unsupported ≡ false → cause ≡ None → Sends result writing bytes held held' room room' (faults old) (faults new))
+    → faults old ≤ faults new
+send_grows faults old new true cause result writing bytes held held' room room' refused over sends =
+    let same : faults new ≡ faults old = ap faults (refused refl).1 in omega (arith, same)
+send_grows faults old new false (Some e) result writing bytes held held' room room' refused over sends =
+    let same : faults new ≡ faults old = ap faults (over refl).1 in omega (arith, same)
+send_grows faults old new false None result writing bytes held held' room room' refused over sends =
+    tried_grows result writing bytes held held' room room' (faults old) (faults new) (sends refl refl)
+
+-- ---- the message that waits
+
+-- it is the first of the core's that isn't done
+pub record Waits (core : View) (m : Seen) : Type 0 where
+  pub there : slice_get core.outbox core.done ≡ Some m
+  pub within : core.done < length core.outbox
+
+pub waits_by : (inside core : View) (k : ℕ) (found : Option Seen) (m : Seen) → inside ≡ core → k ≡ inside.done → found ≡ slice_get inside.outbox k → found ≡ Some m → Waits core m
+waits_by inside core k found m same at is some =
+    let there = ap (λ (v : View). slice_get v.outbox v.done) (sym same) ∙ ap (slice_get inside.outbox) (sym at) ∙ sym is ∙ some in
+    record { there = there; within = slice_get_within core.outbox core.done m there }
+
+pub past_end : (ms : List Seen) (k : ℕ) → slice_get ms k ≡ None → length ms ≤ k
+past_end ms k none = by (slice_get_cases ms k).1
+  where
+    by : ((x : Seen) × (k < length ms) × (slice_get ms k ≡ Some x) × (get_or ms k x ≡ x)) ⊎ ((length ms ≤ k) × (slice_get ms k ≡ None)) → length ms ≤ k
+    by (inl there) = let is = sym none ∙ there.2 in absurd (cc)
+    by (inr past) = past.0
+
+taken_first : (takes : Bool) (ms : List Seen) (n : ℕ) (m : Seen) → slice_get ms n ≡ Some m → AreTaken takes ms → is_unsupported m.unix_fds takes ≡ false
+taken_first takes [] n m there all = absurd (cc)
+taken_first takes (x ∷ ms) zero m there all = let same : x ≡ m = cc in subst (λ (y : Seen). is_unsupported y.unix_fds takes ≡ false) same all.0
+taken_first takes (x ∷ ms) (suc n) m there all = taken_first takes ms n m there all.1
+
+-- the sink takes its descriptors
+taken_at : (takes : Bool) (ms : List Seen) (from n at : ℕ) (m : Seen) → at ≡ from + n → slice_get ms at ≡ Some m → AreTaken takes (drop from ms) → is_unsupported m.unix_fds takes ≡ false
+taken_at takes ms zero n at m is there all = taken_first takes ms at m there all
+taken_at takes [] (suc from) n at m is there all = absurd (cc)
+taken_at takes (x ∷ ms) (suc from) n zero m is there all = absurd (omega (arith, is))
+taken_at takes (x ∷ ms) (suc from) n (suc at) m is there all = taken_at takes ms from n at m (omega (arith, is)) there all
+
+-- writes change neither of these
+wrote_keeps : (n : ℕ) (p : Past) → ((after_all (repeat n Wrote) p).outbox.writer ≡ p.outbox.writer) × ((after_all (repeat n Wrote) p).outbox.failed ≡ p.outbox.failed)
+wrote_keeps zero p = (refl, refl)
+wrote_keeps (suc n) p = wrote_keeps n (after Wrote p)
+
+-- It is the first that isn't done, and may be written to this sink.
+pub record IsNext (q : Past) (m : Seen) (takes : Bool) : Type 0 where
+  pub fine : q.outbox.writer ≡ writers.Fine
+  pub unfailed : q.outbox.failed ≡ false
+  pub there : slice_get q.outbox.put q.outbox.done ≡ Some m
+  pub taken : is_unsupported m.unix_fds takes ≡ false
+
+pub is_next : (first core : View) (p : Past) (m : Seen) (at_first takes : Bool) → Left first p → Left core (after_all (repeat (core.done - first.done) Wrote) p) → first.done ≤ core.done → core.outbox ≡ first.outbox
+    → takes ≡ at_first → AreTaken at_first (drop first.done first.outbox) → Waits core m → IsReady p.outbox → IsNext (after_all (repeat (core.done - first.done) Wrote) p) m takes
+is_next first core p m at_first takes before left more outbox same taken waits (inl all) =
+    let long : length core.outbox ≡ length p.outbox.put = ap length (outbox ∙ before.outbox) in
+    absurd (omega (arith, waits.within, long, before.done, all, more))
+is_next first core p m at_first takes before left more outbox same taken waits (inr ready) =
+    let n = core.done - first.done in
+    record {
+      fine = (wrote_keeps n p).0 ∙ ready.0;
+      unfailed = (wrote_keeps n p).1 ∙ ready.1;
+      there = ap (slice_get (after_all (repeat n Wrote) p).outbox.put) (sym left.done) ∙ ap (λ ms. slice_get ms core.done) (sym left.outbox) ∙ waits.there;
+      taken = taken_at takes core.outbox first.done n core.done m (omega (arith, more)) waits.there
+          (subst (λ ms. AreTaken takes (drop first.done ms)) (sym outbox) (subst (λ b. AreTaken b (drop first.done first.outbox)) (sym same) taken));
+    }
+
+-- ---- it is written, or its write fails
+
+pub flush_wrote : (A E : Type 0) (start first now after_it : Outlet) (q : Past) (m : Seen) (r : Result A Error) (w : Result Bool E) (before writing : Writing) (takes : Bool) → IsNext q m takes
+    → w ≡ Ok true → WentOut r w → Sends r writing m.bytes now.held after_it.held now.room after_it.room now.faults after_it.faults
+    → Flushed start first now q.outbox false before → Flushed start first after_it (after Wrote q).outbox false writing
+flush_wrote A E start first now after_it q m (Ok done) w before writing takes is same went s f = record {
+  sinks = sinks_wrote start now after_it q.outbox (after Wrote q).outbox m is.there is.unfailed refl refl refl refl s.0 s.1 f.sinks;
+  faults = s.2 ∙ f.faults;
+  fine = λ e. s.3;
+}
+flush_wrote A E start first now after_it q m (Err errors.Memory) w before writing takes is same went s f = absurd (subst (WentOut {A = A} {E = E} (Err errors.Memory)) same went)
+flush_wrote A E start first now after_it q m (Err error) w before writing takes is same went s f = let is : true ≡ false = subst (WentOut {A = A} {E = E} (Err error)) same went in absurd (cc)
+
+pub flush_failed : (A E : Type 0) (start first now after_it : Outlet) (q : Past) (m : Seen) (r : Result A Error) (w : Result Bool E) (before writing : Writing) (takes : Bool) (n : ℕ) → IsNext q m takes
+    → w ≡ Ok false → WentOut r w → Sends r writing m.bytes now.held after_it.held now.room after_it.room now.faults after_it.faults
+    → Flushed start first now q.outbox false before → Flushed start first after_it (after_all (repeat (suc n) Fault) q).outbox true writing
+flush_failed A E start first now after_it q m (Ok done) w before writing takes n is same went s f = let is : true ≡ false = sym (subst (WentOut {A = A} {E = E} (Ok done)) same went) in absurd (cc)
+flush_failed A E start first now after_it q m (Err (errors.InputOutput kinds.WriteFault)) w before writing takes n is same went s f = record {
+  sinks = sinks_faults start after_it n (after Fault q) refl (sinks_failed start now after_it q.outbox (after Fault q).outbox m s.0 is.there is.unfailed refl refl refl s.1 s.2 f.sinks);
+  faults = subst (λ x. MayRise x after_it.faults) f.faults s.3;
+  fine = λ e. absurd (never_fine n (after Fault q) (λ x. let bad : writers.Failed ≡ writers.Fine = ap (λ w. worse w writers.Failed) (sym is.fine) ∙ x in absurd (cc)) e);
+}
+flush_failed A E start first now after_it q m (Err errors.Memory) w before writing takes n is same went s f = absurd (subst (WentOut {A = A} {E = E} (Err errors.Memory)) same went)
+flush_failed A E start first now after_it q m (Err error) w before writing takes n is same went s f = absurd s
+
+-- ---- all of them
+
+after_append : (xs ys : List Event) (p : Past) → after_all (xs ++ ys) p ≡ after_all ys (after_all xs p)
+after_append [] ys p = refl
+after_append (x ∷ xs) ys p = after_append xs ys (after x p)
+
+-- so many were written, and all others failed
+pub cut_short : (written count left : ℕ) (p : Past) → left ≡ count - written → after_all (writes_of written true count) p ≡ after_all (repeat left Fault) (after_all (repeat written Wrote) p)
+cut_short written count left p is = after_append (repeat written Wrote) (repeat (count - written) Fault) p ∙ ap (λ n. after_all (repeat n Fault) (after_all (repeat written Wrote) p)) (sym is)
+
+-- or none failed
+pub whole : (written count : ℕ) (p : Past) → after_all (writes_of written false count) p ≡ after_all (repeat written Wrote) p
+whole written count p = ap (λ es. after_all es p) (append-nil (repeat written Wrote))

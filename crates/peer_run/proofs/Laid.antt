@@ -1,0 +1,151 @@
+-- What a command did before anything of it is written, by the kind of its plan.
+use Rattle.std.proofs.Common.{◌≡◌, ℕ, ◌≤◌, ◌<◌, ◌⊎◌, inl, inr, refl, sym, ◌∙◌, ap, subst, arith, Bool, true, false, if◌then◌else◌, List, [], ◌∷◌, ◌++◌, length, None, Result, Ok, Err}
+use Rattle.std.proofs.lemmas.List.{append-nil}
+use Rattle.wire_message.specs.Front.{Seen}
+use Rattle.wire_message.specs.declared.error.Error.{Error}
+use Rattle.peer_route.specs.declared.words.Words.{Words}
+use Rattle.peer_route.specs.declared.writer.Writer.{Writer}
+use Rattle.peer_route.specs.declared.writer.Writer.TheVariants as writers
+use Rattle.peer_route.specs.declared.answer.Answer.{Answer}
+use Rattle.peer_route.specs.declared.answer.Entry.{Entry}
+use Rattle.peer_route.specs.History.{Event, Took, Shut, Outbox, Past, after, after_all}
+use Rattle.peer_route.specs.Issuing.{Posting, issued, parcels, messages_of, puts}
+use Rattle.peer_route.specs.Trail.{Trail, new_names, asked_names, made_names}
+use Rattle.peer_route.specs.Plan.{Plan, Says, Sends, plan}
+use Rattle.peer_route.specs.Entries.{IsMeant, IsQuiet, IsSending, deeds, postings, writes, past_after, write_fault, IsInTurn}
+use Rattle.peer_route.proofs.Plans.{by_plan, IsDeed, AreDeeds, gone_deeds}
+use Rattle.peer_route.proofs.Kept as kept
+use Rattle.peer_route.proofs.Kept.{kept_by, deeds_are, puts_are, deed_outbox}
+use Rattle.peer_route.proofs.Issues.{put_puts, put_outbox}
+use Rattle.peer_route.proofs.Sent.{put_none}
+use Rattle.peer_run.specs.declared.acting.Acted.{Acted}
+use Rattle.peer_run.specs.Stands.{PeerView, Keeps, Did, DidSend, AreTaken, call_owners, stream_owners}
+
+-- The messages were put, and wait; the past that the core keeps then; and what the entry will be.
+pub record Laid (t : Trail) (mid : PeerView) (lane : ℕ) (pl : Plan) (a : Acted) (q : Past) (ms : List Seen) : Type 0 where
+  pub keeps : Keeps mid q
+  pub leads : (e : Entry) → e.put ≡ ms → past_after pl e t.past ≡ after_all (writes e) q
+  pub put : q.outbox.put ≡ t.past.outbox.put ++ ms
+  pub written : q.outbox.written ≡ t.past.outbox.written
+  pub ended : q.outbox.done ≡ t.past.outbox.done
+  pub failed : q.outbox.failed ≡ t.past.outbox.failed
+  pub writer : q.outbox.writer ≡ t.past.outbox.writer
+  pub read : q.read ≡ t.past.read
+  pub closing : q.closing ≡ t.past.closing
+  pub taken : AreTaken t.setting.takes_fds ms
+  pub names : (failed : Bool) → call_owners lane failed a.makes ≡ new_names lane failed (postings pl) ms
+  pub streams : (failed : Bool) (e : Entry) → stream_owners lane failed a.makes ≡ made_names lane (deeds pl e) ++ asked_names lane failed (postings pl) ms
+  pub meant : (e : Entry) → e.read ≡ None → e.put ≡ ms → e.answer ≡ (if e.failed then write_fault else a.answer) → e.written ≤ length ms → (e.failed ≡ true → e.written < length ms) → IsInTurn t.past e → IsMeant t.past pl e
+  pub ready : (ms ≡ []) ⊎ (t.past.outbox.writer ≡ writers.Fine)
+
+-- ---- deeds
+
+deed_read : (e : Event) → IsDeed e → (h : Past) → (after e h).read ≡ h.read
+deed_read (Took m) is h = absurd is
+deed_read e is h = refl
+
+deed_closing : (e : Event) → IsDeed e → (h : Past) → (after e h).closing ≡ h.closing
+deed_closing (Shut error) is h = absurd is
+deed_closing e is h = refl
+
+-- what a plan does by itself is deeds
+abbrev Does : Plan → Type 0
+Does (Says answer done) = AreDeeds done
+Does (Sends done ds sent) = AreDeeds done
+Does other = Unit {0}
+
+pub plan_does : (t : Trail) (lane : ℕ) (w : Words) → Does (plan t lane w)
+plan_does t lane =
+    by_plan (λ w pl. Does pl) t lane (λ w answer done fair. fair.only) (λ w parcel from. tt) (λ asked text rule. tt) (λ n second k j open_. gone_deeds k j) (λ still. tt) tt (λ line fails fine. tt) (λ line. tt)
+
+-- ---- by the kind of plan
+
+puts_nothing : (ds : List Posting) → puts ds [] ≡ []
+puts_nothing [] = refl
+puts_nothing (d ∷ ds) = refl
+
+no_names : (lane : ℕ) (failed : Bool) (ds : List Posting) → (new_names lane failed ds [] ≡ []) × (asked_names lane failed ds [] ≡ [])
+no_names lane failed [] = (refl, refl)
+no_names lane failed (d ∷ ds) = (refl, refl)
+
+unfailed : (b : Bool) (n : ℕ) → (b ≡ true → n < 0) → b ≡ false
+unfailed true n cut = let less = cut refl in let no : ⊥ = omega (arith, less) in absurd no
+unfailed false n cut = refl
+
+quiet_of : (e : Entry) → e.put ≡ [] → e.written ≤ 0 → (e.failed ≡ true → e.written < 0) → IsQuiet e
+quiet_of e put most cut = record { put = put; written = omega (arith, most); failed = unfailed e.failed e.written cut }
+
+-- nothing was put
+laid_none : (t : Trail) (mid : PeerView) (lane : ℕ) (pl : Plan) (a : Acted) (done : List Event) → AreDeeds done → ((e : Entry) → deeds pl e ≡ done) → Keeps mid (after_all done t.past)
+    → ((failed : Bool) → (call_owners lane failed a.makes ≡ []) × (stream_owners lane failed a.makes ≡ made_names lane done ++ []))
+    → ((e : Entry) → e.read ≡ None → IsQuiet e → e.answer ≡ a.answer → IsMeant t.past pl e) → Laid t mid lane pl a (after_all done t.past) []
+laid_none t mid lane pl a done are does keeps owns meant =
+    let same = kept_by (λ h. h.outbox) done t.past (deeds_are (kept.Keeps (λ h. h.outbox)) deed_outbox done are) in
+    record {
+      keeps = keeps;
+      leads = λ e put. ap (λ ms. after_all (writes e) (after_all (puts (postings pl) ms) (after_all (deeds pl e) t.past))) put
+          ∙ ap (λ xs. after_all (writes e) (after_all xs (after_all (deeds pl e) t.past))) (puts_nothing (postings pl)) ∙ ap (λ xs. after_all (writes e) (after_all xs t.past)) (does e);
+      put = ap (λ (o : Outbox). o.put) same ∙ sym (append-nil t.past.outbox.put);
+      written = ap (λ (o : Outbox). o.written) same;
+      ended = ap (λ (o : Outbox). o.done) same;
+      failed = ap (λ (o : Outbox). o.failed) same;
+      writer = ap (λ (o : Outbox). o.writer) same;
+      read = kept_by (λ h. h.read) done t.past (deeds_are (kept.Keeps (λ h. h.read)) deed_read done are);
+      closing = kept_by (λ h. h.closing) done t.past (deeds_are (kept.Keeps (λ h. h.closing)) deed_closing done are);
+      taken = tt;
+      names = λ failed. (owns failed).0 ∙ sym (no_names lane failed (postings pl)).0;
+      streams = λ failed e. (owns failed).1 ∙ ap (λ es. made_names lane es ++ []) (sym (does e)) ∙ ap (λ ns. made_names lane (deeds pl e) ++ ns) (sym (no_names lane failed (postings pl)).1);
+      meant = λ e read put answer most cut turn. let quiet = quiet_of e put most cut in meant e read quiet (answer ∙ ap (λ b. if b then write_fault else a.answer) quiet.failed);
+      ready = inl refl;
+    }
+
+writes_or : (h : Past) (ds : List Posting) (serials : List ℕ) (w : Writer) → h.outbox.writer ≡ w → issued h ds ≡ Ok serials → (messages_of (parcels ds) serials ≡ []) ⊎ (h.outbox.writer ≡ writers.Fine)
+writes_or h ds serials writers.Fine is e = inr is
+writes_or h ds serials writers.Failed is e = inl (put_none h ds serials (λ fine. cc) e)
+writes_or h ds serials writers.Closed is e = inl (put_none h ds serials (λ fine. cc) e)
+
+abbrev pub LaidSome : Trail → PeerView → ℕ → Plan → Acted → Type 0
+LaidSome t mid lane pl a = (q : Past) × (ms : List Seen) × Laid t mid lane pl a q ms
+
+laid_sends : (t : Trail) (mid : PeerView) (lane : ℕ) (done : List Event) (ds : List Posting) (sent : List ℕ → Answer) (a : Acted) (r : Result (List ℕ) Error) → AreDeeds done → issued (after_all done t.past) ds ≡ r
+    → DidSend mid t lane done ds sent a r → LaidSome t mid lane (Sends done ds sent) a
+laid_sends t mid lane done ds sent a (Err error) are at did = (
+  after_all done t.past,
+  [],
+  laid_none t mid lane (Sends done ds sent) a done are (λ e. refl) did.1 did.2
+      (λ e read quiet answer. (read, subst (λ r. IsSending r ds sent e) (sym at) (answer ∙ did.0, quiet), inl (quiet.written, quiet.failed))),
+)
+laid_sends t mid lane done ds sent a (Ok serials) are at did =
+    let h = after_all done t.past in
+    let ms = messages_of (parcels ds) serials in
+    let q = after_all (puts ds ms) h in
+    let same = kept_by (λ h. h.outbox) done t.past (deeds_are (kept.Keeps (λ h. h.outbox)) deed_outbox done are) in (
+      q,
+      ms,
+      record {
+        keeps = subst (Keeps mid) (put_puts ds serials h) did.1;
+        leads = λ e put. ap (λ xs. after_all (writes e) (after_all (puts ds xs) h)) put;
+        put = ap (λ (p : Past). p.outbox.put) (sym (put_puts ds serials h)) ∙ put_outbox ds serials h ∙ ap (λ (o : Outbox). o.put ++ ms) same;
+        written = kept_by (λ h. h.outbox.written) (puts ds ms) h (puts_are (kept.Keeps (λ h. h.outbox.written)) (λ m purpose h. refl) ds ms) ∙ ap (λ (o : Outbox). o.written) same;
+        ended = kept_by (λ h. h.outbox.done) (puts ds ms) h (puts_are (kept.Keeps (λ h. h.outbox.done)) (λ m purpose h. refl) ds ms) ∙ ap (λ (o : Outbox). o.done) same;
+        failed = kept_by (λ h. h.outbox.failed) (puts ds ms) h (puts_are (kept.Keeps (λ h. h.outbox.failed)) (λ m purpose h. refl) ds ms) ∙ ap (λ (o : Outbox). o.failed) same;
+        writer = kept_by (λ h. h.outbox.writer) (puts ds ms) h (puts_are (kept.Keeps (λ h. h.outbox.writer)) (λ m purpose h. refl) ds ms) ∙ ap (λ (o : Outbox). o.writer) same;
+        read = kept_by (λ h. h.read) (puts ds ms) h (puts_are (kept.Keeps (λ h. h.read)) (λ m purpose h. refl) ds ms) ∙ kept_by (λ h. h.read) done t.past (deeds_are (kept.Keeps (λ h. h.read)) deed_read done are);
+        closing = kept_by (λ h. h.closing) (puts ds ms) h (puts_are (kept.Keeps (λ h. h.closing)) (λ m purpose h. refl) ds ms) ∙ kept_by (λ h. h.closing) done t.past (deeds_are (kept.Keeps (λ h. h.closing)) deed_closing done are);
+        taken = did.2;
+        names = λ failed. (did.3 failed).0;
+        streams = λ failed e. (did.3 failed).1;
+        meant = λ e read put answer most cut turn. (read, subst (λ r. IsSending r ds sent e) (sym at) (record { put = put; answer = answer ∙ ap (λ x. if e.failed then write_fault else x) did.0; written = most; cut = cut }), turn);
+        ready = by_writer (writes_or h ds serials h.outbox.writer refl at);
+      },
+    )
+  where
+    by_writer : (messages_of (parcels ds) serials ≡ []) ⊎ ((after_all done t.past).outbox.writer ≡ writers.Fine) → (messages_of (parcels ds) serials ≡ []) ⊎ (t.past.outbox.writer ≡ writers.Fine)
+    by_writer (inl none) = inl none
+    by_writer (inr fine) = inr (ap (λ (o : Outbox). o.writer) (sym (kept_by (λ h. h.outbox) done t.past (deeds_are (kept.Keeps (λ h. h.outbox)) deed_outbox done are))) ∙ fine)
+
+pub laid : (t : Trail) (mid : PeerView) (lane : ℕ) (pl : Plan) (a : Acted) → Does pl → Did mid t lane pl a → LaidSome t mid lane pl a
+laid t mid lane (Says answer done) a are did =
+    (after_all done t.past, [], laid_none t mid lane (Says answer done) a done are (λ e. refl) did.1 did.2 (λ e read quiet is. (read, is ∙ did.0, quiet)))
+laid t mid lane (Sends done ds sent) a are did = laid_sends t mid lane done ds sent a (issued (after_all done t.past) ds) are refl did
+laid t mid lane pl a are did = absurd did

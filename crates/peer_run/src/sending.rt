@@ -1,0 +1,136 @@
+//! Messages of a lane: calls, signals, and answers to what a stream gave.
+ghost use Rattle.std.specs.Prelude.{ℕ, ◌≡◌, ◌<◌, ◌^◌, [], ◌∷◌, length, false, slice_get, option_map, Ok};
+ghost use Rattle.std.specs.Option.{option_flatten};
+ghost use Rattle.peer_route.specs.Trail.{Trail};
+ghost use Rattle.peer_route.specs.Parcel.{sent_by};
+ghost use Rattle.peer_route.specs.History.{Past};
+ghost use Rattle.peer_route.specs.Streams.{all_given};
+ghost use Rattle.peer_route.specs.Left.{Left};
+ghost use Rattle.peer_route.specs.CallMessage.{outgoing_asked};
+ghost use Rattle.peer_route.specs.Issuing.{Issues, issued_each, of_lane};
+ghost use Rattle.peer_route.specs.Plan.{sends, on_stream};
+ghost use Rattle.peer_route.specs.declared.words.StreamOp.TheVariants as ops;
+ghost use Rattle.peer_run.specs.CallWords.{IsCarried};
+ghost use Rattle.peer_run.specs.Stands.{PeerView, Stands, IfDid};
+
+use crate::acting::{Acted, Makes, plainly};
+use crate::call_words::{error_letter, outgoing_letter, reply_letter};
+use crate::lanes::Lanes;
+use crate::peer::{Peer, RunError};
+use crate::showing::{refused, undone};
+use peer_route::{Answer, Issued, Letter, Outgoing, Route};
+use std::alloc::Global;
+use wire_message::{Error, Message};
+use wire_names::Bytes;
+
+/// Issues one message, sent by the peer; no call is served by it.
+fn issue_one(alloc: Global, route: &mut Route, letter: Letter<'_>) -> wire_message::Result<Issued>
+    requires { length letter.fds < 2 ^ 32 }
+    ensures { (p : Past) → Left route.old p → Issues (λ issued serials. issued ∷ [] ≡ issued_each p (of_lane (sent_by route.old.name false letter.entry) ∷ []) serials) (route.new ≡ route.old) route.new (of_lane (sent_by route.old.name false letter.entry) ∷ []) p result }
+{
+    let mut list = Vec::new(alloc);
+    list.push(letter)?;
+    let mut issued = route.issue(list, false)?;
+    match issued.pop() {
+        Some(issued) => Ok(issued),
+        // One letter is answered once.
+        None => Err(Error::Memory),
+    }
+}
+
+/// Puts a lane's message.
+fn put(
+    alloc: Global,
+    route: &mut Route,
+    names: &Lanes,
+    lane: u32,
+    letter: Letter<'_>,
+) -> Result<Acted, RunError>
+    requires { length letter.fds < 2 ^ 32 }
+    ensures { (t : Trail) (v : PeerView) → v.core ≡ route.new → Left route.old t.past → v.given ≡ all_given t.past → names.now ≡ t.names → IsCarried t.setting.takes_fds letter.entry
+        → IfDid v t lane (sends t lane (Ok (sent_by route.old.name false letter.entry))) result }
+{
+    match issue_one(alloc, route, letter) {
+        Ok(issued) => match issued.call {
+            Some(_) => Ok(Acted {
+                answer: Answer::Called {
+                    call: names.count(lane),
+                    serial: issued.serial,
+                },
+                makes: Makes::Call,
+            }),
+            None => Ok(plainly(Answer::Sent(issued.serial))),
+        },
+        Err(error) => undone(error),
+    }
+}
+
+/// The message that the stream with this number gave last.
+fn given_last(given: &[Option<Message>], stream: u64) -> Option<&Message>
+    ensures { option_map (λ m. m.now) result ≡ option_flatten (slice_get given.now stream) }
+{
+    match given.get(stream as usize)? {
+        Some(message) => Some(message),
+        None => None,
+    }
+}
+
+impl Peer {
+    /// Puts a method call or a signal.
+    pub(crate) fn send(
+        &mut self,
+        alloc: Global,
+        takes_fds: bool,
+        lane: u32,
+        words: &Outgoing,
+    ) -> Result<Acted, RunError>
+        ensures did { (t : Trail) → Stands self.old t → t.setting.takes_fds ≡ takes_fds → IfDid self.new t lane (sends t lane (outgoing_asked t.past.name takes_fds words.now)) result }
+        ensures rest { (self.new.names ≡ self.old.names) × (self.new.streams ≡ self.old.streams) }
+    {
+        match outgoing_letter(alloc, words, takes_fds) {
+            Ok(letter) => put(alloc, &mut self.route, &self.names, lane, letter),
+            Err(error) => refused(error),
+        }
+    }
+
+    /// Puts a method return to the message that the stream with this number gave last.
+    pub(crate) fn reply(
+        &mut self,
+        alloc: Global,
+        lane: u32,
+        stream: u64,
+        body: &Option<Bytes>,
+    ) -> Result<Acted, RunError>
+        ensures did { (t : Trail) → Stands self.old t → IfDid self.new t lane (on_stream t lane (ops.Reply body.now) stream) result }
+        ensures rest { (self.new.names ≡ self.old.names) × (self.new.streams ≡ self.old.streams) }
+    {
+        let Some(message) = given_last(self.given.as_slice(), stream) else {
+            return Ok(plainly(Answer::Refused(Error::UnknownHandle)));
+        };
+        match reply_letter(alloc, message, body) {
+            Ok(letter) => put(alloc, &mut self.route, &self.names, lane, letter),
+            Err(error) => refused(error),
+        }
+    }
+
+    /// Puts the error of that name to the message that the stream with this number gave last.
+    pub(crate) fn reply_error(
+        &mut self,
+        alloc: Global,
+        lane: u32,
+        stream: u64,
+        name: &Bytes,
+        body: &Option<Bytes>,
+    ) -> Result<Acted, RunError>
+        ensures did { (t : Trail) → Stands self.old t → IfDid self.new t lane (on_stream t lane (ops.Error name.now body.now) stream) result }
+        ensures rest { (self.new.names ≡ self.old.names) × (self.new.streams ≡ self.old.streams) }
+    {
+        let Some(message) = given_last(self.given.as_slice(), stream) else {
+            return Ok(plainly(Answer::Refused(Error::UnknownHandle)));
+        };
+        match error_letter(alloc, message, name, body) {
+            Ok(letter) => put(alloc, &mut self.route, &self.names, lane, letter),
+            Err(error) => refused(error),
+        }
+    }
+}
