@@ -60,11 +60,8 @@ pub(crate) fn registers(calls: &mut PendingMethodCalls, serial: u32, number: u64
 fn letter<'a>(alloc: Global, builder: Builder<'a>) -> Result<Letter<'a>>
     ensures few { IfOk result (λ letter. length letter.fds < 2 ^ 32) }
 {
-    Ok(Letter {
-        builder,
-        body: BodyValues::from_values(alloc, Vec::new(alloc))?,
-        fds: Vec::new(alloc),
-    })
+    let body = BodyValues::from_values(alloc, Vec::new(alloc))?;
+    Ok(Letter::new(builder, body, Vec::new(alloc)))
 }
 
 /// The method call of `do` at `/`.

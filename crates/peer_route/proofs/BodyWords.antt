@@ -1,28 +1,13 @@
 -- The values of a body's word are those of which it is the word.
-use Rattle.std.proofs.Common.{ℕ, ◌≡◌, ◌+◌, ◌<◌, ◌==◌, Bool, true, false, not, ◌&&◌, nat_lt, List, [], ◌∷◌, ◌++◌, length, take, drop, get_or, map, Option, Some, None, is_some, option_map, refl, sym, ap, ◌∙◌, subst, arith, append-nil, length-append}
+use Rattle.std.proofs.{Common.{ℕ, ◌≡◌, ◌+◌, ◌<◌, ◌==◌, Bool, true, false, not, nat_lt, List, [], ◌∷◌, ◌++◌, length, take, drop, map, Option, Some, None, is_some, option_map, refl, sym, ap, ◌∙◌, subst, arith, append-nil, length-append}, Math.Seq.{take-append_seam, drop-append-add}, lemmas.Bool.Decides.nat_tests, lemmas.List.{take-append-drop, take_all, drop_more}, lemmas.List.Elements.{All-head, All-tail}, lemmas.List.Folds.list_all-append, lemmas.List.Quantifiers.position-Some, lemmas.Bool.and_parts}
 use Rattle.std.specs.List.{list_all, position, position_or_len, All}
-use Rattle.std.proofs.Math.Seq.{take-append_seam, drop-append-add}
-use Rattle.std.proofs.lemmas.Bool.Decides.{nat_tests}
-use Rattle.std.proofs.lemmas.List.{take-append-drop, take_all, drop_more}
-use Rattle.std.proofs.lemmas.List.Elements.{All-head, All-tail}
-use Rattle.std.proofs.lemmas.List.Folds.{list_all-append}
-use Rattle.std.proofs.lemmas.List.Quantifiers.{position-Some}
-use Rattle.wire_number.specs.declared.endian.Endian.{Endian}
-use Rattle.wire_number.specs.declared.endian.Endian.TheVariants.{Little}
-use Rattle.wire_signature.specs.declared.basic.BasicType.{BasicType}
-use Rattle.wire_signature.specs.declared.basic.BasicType.TheVariants as basics
-use Rattle.wire_signature.specs.Shape.{Shape, basic, variant, array, dict, struct, Shapes, no_shapes, shapes, shapes_of, letter, type_text, types_text, IsSignature, SignatureText}
-use Rattle.wire_signature.specs.Parsing.{types_in}
+use Rattle.peer_route.specs.{Names.{Endian, Little, Shape, basic, Shapes, no_shapes, shapes, shapes_of, letter, type_text, types_text, IsSignature, SignatureText, types_in, Datum, type_of, SpellEach, Cursor, value_at, fields_at}, Hex.{hex_word, bytes_of}, BodyWord.{IsBodyWord, at_colon, with_nothing_behind, spelled_values, values_of, body_values}}
+use Rattle.wire_signature.specs.{declared.basic.BasicType.BasicType, Shape.{variant, array, dict, struct}}
 use Rattle.wire_signature.proofs.Exact.{types_in-takes, types_in-again}
-use Rattle.wire_tree.specs.Datum.{Datum, type_of}
-use Rattle.wire_spelling.specs.Each.{SpellEach}
-use Rattle.wire_number.specs.Reading.{Cursor, ◌>>=◌}
-use Rattle.wire_spelling.specs.Reading.{value_at, fields_at}
+use Rattle.wire_number.specs.Reading.{◌>>=◌}
 use Rattle.wire_number.proofs.Steps.{at, AreBytes, bind_some, map_some, some_is}
 use Rattle.wire_value.specs.Bodies.{HasNoBody, HasOnlyBody}
 use Rattle.rule_match.proofs.BodyArguments.{each_found, each_again}
-use Rattle.peer_route.specs.Hex.{hex_word, bytes_of}
-use Rattle.peer_route.specs.BodyWord.{IsBodyWord, at_colon, with_nothing_behind, spelled_values, values_of, body_values}
 use Rattle.peer_route.proofs.Spelled.{digits_are, bytes_again}
 
 -- ---- and nothing behind them
@@ -61,14 +46,10 @@ no_colon b = not (b == 58)
 abbrev is_colon : ℕ → Bool
 is_colon b = b == 58
 
-both : (a b : Bool) → (a && b) ≡ true → (a ≡ true) × (b ≡ true)
-both true b h = (refl, h)
-both false b h = absurd (cc)
-
 passed : (s h : List ℕ) → list_all no_colon s ≡ true → position_or_len is_colon (s ++ 58 ∷ h) ≡ length s
 passed [] h e = refl
 passed (b ∷ s) h e =
-    let k = both (no_colon b) (list_all no_colon s) e in
+    let k = and_parts (no_colon b) (list_all no_colon s) e in
     let i = passed s h k.1 in
     grind (arith, nat_tests, k.0, i)
 
@@ -83,22 +64,19 @@ colon_again s h e =
     ∙ ap (λ f. Some (f, drop (length s + 1) (s ++ 58 ∷ h))) (take-append_seam s (58 ∷ h))
     ∙ ap (λ r. Some (s, r)) (drop-append-add s (58 ∷ h) 1)
 
-is_58 : (b : ℕ) → is_colon b ≡ true → b ≡ 58
-is_58 b e = grind (arith, nat_tests)
-
 colon_found : (word : List ℕ) (x : List ℕ × List ℕ) → at_colon word ≡ Some x → word ≡ x.0 ++ 58 ∷ x.1
 colon_found word x e =
     let k = map_some (λ i. (take i word, drop (i + 1) word)) (position is_colon word) x e in
     let p = position-Some is_colon word k.0 58 k.1 in
     sym (take-append-drop k.0 word) ∙ ap (λ r. take k.0 word ++ r) (drop_more word k.0 58 p.0)
-    ∙ ap (λ b. take k.0 word ++ b ∷ drop (k.0 + 1) word) (is_58 (get_or word k.0 58) p.1)
+    ∙ ap (λ b. take k.0 word ++ b ∷ drop (k.0 + 1) word) (let is = p.1 in grind (arith, nat_tests, is))
     ∙ ap (λ y. y.0 ++ 58 ∷ y.1) k.2
 
 all_both : (xs ys : List ℕ) → list_all no_colon xs ≡ true → list_all no_colon ys ≡ true → list_all no_colon (xs ++ ys) ≡ true
 all_both xs ys e f = list_all-append no_colon xs ys ∙ rw (e, f) refl
 
 letter_no_colon : (b : BasicType) → no_colon (letter b) ≡ true
-letter_no_colon basics.Byte = refl
+letter_no_colon BasicType.Byte = refl
 letter_no_colon other = refl
 
 letter_alone : (b : BasicType) (rest : List ℕ) → list_all no_colon rest ≡ true → list_all no_colon (letter b ∷ rest) ≡ true

@@ -1,15 +1,9 @@
 -- What holds of each past: none of its calls was put before more messages were read than there are, their places in the outbox
 -- rise, and a writer that was closed is a closed peer's.
-use Rattle.std.proofs.Common.{◌≡◌, ℕ, ◌≤◌, zero, suc, refl, sym, ◌∙◌, ap, arith, subst, true, false, is_some, Option, Some, None, List, [], ◌∷◌, ◌++◌, length, map, length-append}
+use Rattle.peer_route.specs.{History.{call_by, Event, Shut, Put, OfLane, Fault, Spent, Adds, Removes, Call, edit, spend, fail_at, first_of, worse, Past, after, no_past}, Names.{Writer, Seen, Error}, Left.{Rising, IsSound}}
+use Rattle.std.proofs.{Common.{◌≡◌, ℕ, ◌≤◌, zero, suc, refl, sym, ◌∙◌, ap, arith, subst, true, false, is_some, Option, Some, None, List, [], ◌∷◌, ◌++◌, length, map, length-append, ◌<◌}, lemmas.List.map-append}
 use Rattle.std.specs.List.{AllByRecursion}
-use Rattle.std.proofs.lemmas.List.{map-append}
-use Rattle.wire_message.specs.Front.{Seen}
-use Rattle.wire_message.specs.declared.error.Error.{Error}
-use Rattle.peer_route.specs.declared.writer.Writer.{Writer}
-use Rattle.peer_route.specs.declared.writer.Writer.TheVariants as writers
-use Rattle.peer_route.specs.History.{Event, Shut, Put, OfLane, Fault, Spent, Adds, Removes, Call, new_call, inner_call, edit, spend, fail_at, first_of, worse, Past, after, no_past}
-use Rattle.peer_route.specs.Left.{Rising, IsSound}
-use Rattle.peer_route.proofs.Plain.{Below, Below-more, Below-push, Rising-push}
+use Rattle.peer_route.proofs.{Plain.{Below, Below-more, Rising-push}, Edits.all_push}
 
 abbrev pub places : List Call → List ℕ
 places cs = map (λ c. c.index) cs
@@ -28,23 +22,6 @@ places-fail n (c ∷ cs) = ap (λ ns. c.index ∷ ns) (places-fail n cs)
 abbrev pub Early : ℕ → List Call → Type 0
 Early n cs = AllByRecursion (λ (c : Call). c.from ≤ n) cs
 
-pub Early-more : (n m : ℕ) (cs : List Call) → n ≤ m → Early n cs → Early m cs
-Early-more n m [] le e = tt
-Early-more n m (c ∷ cs) le e = (let h : c.from ≤ n = e.0 in omega arith, Early-more n m cs le e.1)
-
-pub Early-push : (n : ℕ) (cs : List Call) (c : Call) → c.from ≤ n → Early n cs → Early n (cs ++ c ∷ [])
-Early-push n [] c le e = (le, tt)
-Early-push n (d ∷ ds) c le e = (e.0, Early-push n ds c le e.1)
-
-pub Early-edit : (n k : ℕ) (cs : List Call) → Early n cs → Early n (edit k spend cs)
-Early-edit n k [] e = tt
-Early-edit n zero (c ∷ cs) e = e
-Early-edit n (suc k) (c ∷ cs) e = (e.0, Early-edit n k cs e.1)
-
-pub Early-fail : (n i : ℕ) (cs : List Call) → Early n cs → Early n (map (fail_at i) cs)
-Early-fail n i [] e = tt
-Early-fail n i (c ∷ cs) e = (e.0, Early-fail n i cs e.1)
-
 -- ---- each event
 
 -- one message more, with a call that has its place
@@ -53,29 +30,29 @@ grown : (ms : List Seen) (m : Seen) (cs : List Call) (c : Call) → c.index ≡ 
 grown ms m cs c at b r =
     let P : List ℕ → Type 0 = λ ns. Below (length (ms ++ m ∷ [])) ns × Rising ns in
     subst P (ap (λ n. places cs ++ n ∷ []) (sym at) ∙ sym (map-append (λ (d : Call). d.index) cs (c ∷ [])))
-    (Below-push (length ms) (length (ms ++ m ∷ [])) (places cs) (omega (arith, length-append ms (m ∷ []))) b, Rising-push (length ms) (places cs) b r)
+    (all_push (λ x. x < length (ms ++ m ∷ [])) (places cs) (length ms) (omega (arith, length-append ms (m ∷ []))) (Below-more (length ms) (length (ms ++ m ∷ [])) (places cs) (omega (arith, length-append ms (m ∷ []))) b), Rising-push (length ms) (places cs) b r)
 
 first_there : (o : Option Error) (error : Error) → is_some (first_of o error) ≡ true
 first_there None error = refl
 first_there (Some earlier) error = refl
 
-worse_closed : (w : Writer) → worse w writers.Failed ≡ writers.Closed → w ≡ writers.Closed
-worse_closed writers.Fine e = absurd (cc)
-worse_closed writers.Failed e = absurd (cc)
-worse_closed writers.Closed e = refl
+worse_closed : (w : Writer) → worse w Writer.Failed ≡ Writer.Closed → w ≡ Writer.Closed
+worse_closed Writer.Fine e = absurd (cc)
+worse_closed Writer.Failed e = absurd (cc)
+worse_closed Writer.Closed e = refl
 
 pub sound_first : IsSound no_past
 sound_first = record { below = tt; rise = tt; shut = λ e. absurd (cc) }
 
 pub sound_after : (e : Event) (h : Past) → IsSound h → IsSound (after e h)
-sound_after (Put m (OfLane true)) h s = let g = grown h.outbox.put m h.calls (new_call h m) refl s.below s.rise in record { below = g.0; rise = g.1; shut = s.shut }
+sound_after (Put m (OfLane true)) h s = let g = grown h.outbox.put m h.calls (call_by h m false) refl s.below s.rise in record { below = g.0; rise = g.1; shut = s.shut }
 sound_after (Put m (OfLane false)) h s = record {
   below = Below-more (length h.outbox.put) (length (h.outbox.put ++ m ∷ [])) (places h.calls) (omega (arith, length-append h.outbox.put (m ∷ []))) s.below;
   rise = s.rise;
   shut = s.shut;
 }
-sound_after (Put m (Adds rule asked)) h s = let g = grown h.outbox.put m h.calls (inner_call h m) refl s.below s.rise in record { below = g.0; rise = g.1; shut = s.shut }
-sound_after (Put m Removes) h s = let g = grown h.outbox.put m h.calls (inner_call h m) refl s.below s.rise in record { below = g.0; rise = g.1; shut = s.shut }
+sound_after (Put m (Adds rule asked)) h s = let g = grown h.outbox.put m h.calls (call_by h m true) refl s.below s.rise in record { below = g.0; rise = g.1; shut = s.shut }
+sound_after (Put m Removes) h s = let g = grown h.outbox.put m h.calls (call_by h m true) refl s.below s.rise in record { below = g.0; rise = g.1; shut = s.shut }
 sound_after (Spent k) h s = record {
   below = subst (Below (length h.outbox.put)) (sym (places-edit k h.calls)) s.below;
   rise = subst Rising (sym (places-edit k h.calls)) s.rise;

@@ -1,14 +1,8 @@
 -- What a stream does, that one is opened, and what a capacity is, leave what each other stream gives; and what becomes of capacities.
-use Rattle.std.proofs.Common.{◌≡◌, ◌≢◌, ℕ, refl, ◌∙◌, ap, ◌<◌, length, [], ◌∷◌, Option, Some, None, max, sym, true, false, is_none, if◌then◌else◌, Ok, Err}
-use Rattle.std.proofs.lemmas.Bool.{false_from_ne_true}
+use Rattle.peer_route.specs.{History.{fresh, Made, Did, Main, Ruled, Deed, Asked, Stream, done_by, Past, after, is_subscribed, raised, rule_of, is_of}, Streams.{runs, take_at, take_answer, runs_at, is_open, limit_of, limit_answer}, Rules.{is_same, usual}, Names.{Rule, Error}}
+use Rattle.std.proofs.{Common.{◌≡◌, ◌≢◌, ℕ, refl, ◌∙◌, ap, ◌<◌, length, [], ◌∷◌, Option, Some, None, max, sym, true, false, is_none, is_some, ◌&&◌, if◌then◌else◌, Ok, Err, unwrap_or}, lemmas.Bool.false_from_ne_true}
 use Rattle.std.specs.List.{slice_get}
-use Rattle.rule_match.specs.Rule.{Rule}
-use Rattle.peer_route.specs.History.{Made, Did, Main, Ruled, Deed, Asked, Stream, done_by, rule_stream, Past, after, plain_asks, is_subscribed, asked_or, raised, limit_then, rule_of, is_of, rule_asks}
-use Rattle.peer_route.specs.Streams.{runs, take_at, take_answer, runs_at, is_open, limit_of, limit_answer}
-use Rattle.peer_route.proofs.Edits.{edit_other, edit_nothing, get_before}
-use Rattle.wire_message.specs.declared.error.Error.TheVariants as errors
-use Rattle.peer_route.specs.Rules.{is_same, usual}
-use Rattle.peer_route.proofs.SameRule.{same_self, same_one}
+use Rattle.peer_route.proofs.{Edits.{edit_other, edit-none, get_before}, SameRule.{same_self, same_one}}
 
 -- ---- other streams
 
@@ -22,20 +16,20 @@ main_keeps h limit k = refl
 
 pub asked_keeps : (h : Past) (limit j k : ℕ) → take_answer (after (Did j (Asked limit)) h) k ≡ take_answer h k
 unfolding take_answer
-asked_keeps h limit j k = ap (λ ss. take_at h.read h.closing (slice_get ss k)) (edit_nothing j h.streams)
+asked_keeps h limit j k = ap (λ ss. take_at h.read h.closing (slice_get ss k)) (edit-none (λ s. s) (λ s. refl) h.streams j)
 
 -- a stream that is opened comes behind those that were there
 pub opened_keeps : (h : Past) (rule : Rule) (asked : Option ℕ) (k : ℕ) → k < length h.streams → take_answer (after (Made (Ruled rule asked)) h) k ≡ take_answer h k
 unfolding take_answer
-opened_keeps h rule asked k le = ap (take_at h.read h.closing) (get_before k h.streams (rule_stream h rule ∷ []) le)
+opened_keeps h rule asked k le = ap (take_at h.read h.closing) (get_before k h.streams (fresh h (Some rule) false ∷ []) le)
 
 -- ---- the main one
 
 pub main_raised : (h : Past) (limit j : ℕ) (s : Stream) → slice_get h.streams j ≡ Some s → s.rule ≡ None → (after (Did j (Asked limit)) h).capacities.main ≡ max h.capacities.main limit
-main_raised h limit j s at plain = ap (λ o. plain_asks o h.capacities.main limit) at ∙ ap (λ r. if is_none r then max h.capacities.main limit else h.capacities.main) plain
+main_raised h limit j s at plain = ap (λ o. if is_some o && is_none (rule_of o) then max h.capacities.main limit else h.capacities.main) at ∙ ap (λ r. if is_none r then max h.capacities.main limit else h.capacities.main) plain
 
 pub main_kept : (h : Past) (limit j : ℕ) (s : Stream) (rule : Rule) → slice_get h.streams j ≡ Some s → s.rule ≡ Some rule → (after (Did j (Asked limit)) h).capacities.main ≡ h.capacities.main
-main_kept h limit j s rule at ruled = ap (λ o. plain_asks o h.capacities.main limit) at ∙ ap (λ r. if is_none r then max h.capacities.main limit else h.capacities.main) ruled
+main_kept h limit j s rule at ruled = ap (λ o. if is_some o && is_none (rule_of o) then max h.capacities.main limit else h.capacities.main) at ∙ ap (λ r. if is_none r then max h.capacities.main limit else h.capacities.main) ruled
 
 -- ---- a rule's
 
@@ -46,31 +40,31 @@ same_other rule another differ = false_from_ne_true (is_same rule another) (λ e
 limit_there : (h : Past) (k : ℕ) (s : Stream) → slice_get h.streams k ≡ Some s → runs h.read s ≡ true → limit_answer h k ≡ Ok (limit_of h.capacities s.rule)
 unfolding limit_answer is_open
 limit_there h k s at still =
-    ap (λ o. if runs_at h.read o then Ok (limit_of h.capacities (rule_of o)) else Err errors.UnknownHandle) at
-    ∙ ap (λ b. if b then Ok (limit_of h.capacities s.rule) else Err errors.UnknownHandle) still
+    ap (λ o. if runs_at h.read o then Ok (limit_of h.capacities (rule_of o)) else Err Error.UnknownHandle) at
+    ∙ ap (λ b. if b then Ok (limit_of h.capacities s.rule) else Err Error.UnknownHandle) still
 
 pub one_limit : (h : Past) (j k : ℕ) (s t : Stream) → slice_get h.streams j ≡ Some s → slice_get h.streams k ≡ Some t → runs h.read s ≡ true → runs h.read t ≡ true
     → s.rule ≡ t.rule → limit_answer h j ≡ limit_answer h k
 one_limit h j k s t at there still open_ same = limit_there h j s at still ∙ ap (λ r. Ok (limit_of h.capacities r)) same ∙ sym (limit_there h k t there open_)
 
-made_own : (h : Past) (rule : Rule) (asked : Option ℕ) → (after (Made (Ruled rule asked)) h).capacities.rules rule ≡ limit_then (is_subscribed h.read h.streams rule) rule asked (h.capacities.rules rule)
-made_own h rule asked = ap (λ b. if b then limit_then (is_subscribed h.read h.streams rule) rule asked (h.capacities.rules rule) else h.capacities.rules rule) (same_self rule)
+made_own : (h : Past) (rule : Rule) (asked : Option ℕ) → (after (Made (Ruled rule asked)) h).capacities.rules rule ≡ (if is_subscribed h.read h.streams rule then raised asked (h.capacities.rules rule) else unwrap_or asked (usual rule))
+made_own h rule asked = ap (λ b. if b then (if is_subscribed h.read h.streams rule then raised asked (h.capacities.rules rule) else unwrap_or asked (usual rule)) else h.capacities.rules rule) (same_self rule)
 
-pub first_limit : (h : Past) (rule : Rule) (asked : Option ℕ) → is_subscribed h.read h.streams rule ≡ false → (after (Made (Ruled rule asked)) h).capacities.rules rule ≡ asked_or asked (usual rule)
-first_limit h rule asked none = made_own h rule asked ∙ ap (λ b. limit_then b rule asked (h.capacities.rules rule)) none
+pub first_limit : (h : Past) (rule : Rule) (asked : Option ℕ) → is_subscribed h.read h.streams rule ≡ false → (after (Made (Ruled rule asked)) h).capacities.rules rule ≡ unwrap_or asked (usual rule)
+first_limit h rule asked none = made_own h rule asked ∙ ap (λ b. if b then raised asked (h.capacities.rules rule) else unwrap_or asked (usual rule)) none
 
 pub later_limit : (h : Past) (rule : Rule) (asked : Option ℕ) → is_subscribed h.read h.streams rule ≡ true → (after (Made (Ruled rule asked)) h).capacities.rules rule ≡ raised asked (h.capacities.rules rule)
-later_limit h rule asked some = made_own h rule asked ∙ ap (λ b. limit_then b rule asked (h.capacities.rules rule)) some
+later_limit h rule asked some = made_own h rule asked ∙ ap (λ b. if b then raised asked (h.capacities.rules rule) else unwrap_or asked (usual rule)) some
 
 pub asked_limit : (h : Past) (limit j : ℕ) (s : Stream) (rule : Rule) → slice_get h.streams j ≡ Some s → s.rule ≡ Some rule
     → (after (Did j (Asked limit)) h).capacities.rules rule ≡ max (h.capacities.rules rule) limit
 asked_limit h limit j s rule at ruled =
-    ap (λ o. rule_asks rule (rule_of o) (h.capacities.rules rule) limit) at ∙ ap (λ r. rule_asks rule r (h.capacities.rules rule) limit) ruled
+    ap (λ o. if is_of rule (rule_of o) then max (h.capacities.rules rule) limit else h.capacities.rules rule) at ∙ ap (λ r. if is_of rule r then max (h.capacities.rules rule) limit else h.capacities.rules rule) ruled
     ∙ ap (λ b. if b then max (h.capacities.rules rule) limit else h.capacities.rules rule) (same_self rule)
 
 pub other_limit : (h : Past) (rule another : Rule) (asked : Option ℕ) → rule ≢ another → (after (Made (Ruled another asked)) h).capacities.rules rule ≡ h.capacities.rules rule
 other_limit h rule another asked differ =
-    ap (λ b. if b then limit_then (is_subscribed h.read h.streams rule) rule asked (h.capacities.rules rule) else h.capacities.rules rule) (same_other rule another differ)
+    ap (λ b. if b then (if is_subscribed h.read h.streams rule then raised asked (h.capacities.rules rule) else unwrap_or asked (usual rule)) else h.capacities.rules rule) (same_other rule another differ)
 
 differs : (rule : Rule) (o : Option Rule) → o ≢ Some rule → is_of rule o ≡ false
 differs rule None ne = refl
@@ -79,4 +73,4 @@ differs rule (Some r) ne = same_other rule r (λ e. ne (ap Some (sym e)))
 -- a stream of another rule, or without one, asks for more
 pub asked_other : (h : Past) (limit j : ℕ) (s : Stream) (rule : Rule) → slice_get h.streams j ≡ Some s → s.rule ≢ Some rule → (after (Did j (Asked limit)) h).capacities.rules rule ≡ h.capacities.rules rule
 asked_other h limit j s rule at ne =
-    ap (λ o. rule_asks rule (rule_of o) (h.capacities.rules rule) limit) at ∙ ap (λ b. if b then max (h.capacities.rules rule) limit else h.capacities.rules rule) (differs rule s.rule ne)
+    ap (λ o. if is_of rule (rule_of o) then max (h.capacities.rules rule) limit else h.capacities.rules rule) at ∙ ap (λ b. if b then max (h.capacities.rules rule) limit else h.capacities.rules rule) (differs rule s.rule ne)

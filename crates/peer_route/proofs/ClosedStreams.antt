@@ -1,35 +1,8 @@
 -- A stream that was closed, or that the bus denied, is unknown for good.
-use Rattle.std.proofs.Common.{◌≡◌, ◌⊎◌, inl, inr, ℕ, ◌==◌, ◌&&◌, not, refl, sym, ◌∙◌, ap, subst, ◌||◌, Bool, true, false, if◌then◌else◌, List, [], ◌∷◌, ◌++◌, Option, Some, None, option_map, Ok, Err}
-use Rattle.std.specs.List.{slice_get, AllByRecursion}
-use Rattle.std.proofs.Math.Bool.{and-false}
-use Rattle.std.proofs.lemmas.Bool.{cases_eq, eq-eqb, eqb-true, and_parts, not-true}
-use Rattle.std.proofs.lemmas.Option.{slice_get-map}
-use Rattle.wire_message.specs.Front.{Seen}
-use Rattle.wire_message.specs.declared.error.Error.TheVariants as errors
-use Rattle.peer_route.specs.declared.progress.OpenState.{OpenState}
-use Rattle.peer_route.specs.declared.progress.OpenState.TheVariants as states
-use Rattle.peer_route.specs.declared.words.Words.{Words}
-use Rattle.peer_route.specs.declared.words.Words.TheVariants as words
-use Rattle.peer_route.specs.declared.words.StreamOp.{StreamOp}
-use Rattle.peer_route.specs.declared.words.StreamOp.TheVariants as ops
-use Rattle.peer_route.specs.declared.answer.Answer.TheVariants as answers
-use Rattle.peer_route.specs.declared.answer.Entry.{Entry}
-use Rattle.peer_route.specs.CallMessage.{reply_asked, error_asked}
-use Rattle.peer_route.specs.History.{Event, Fault, Made, Cloned, Did, Put, Adds, Deed, Gone, Asked, edit, Stream, phase, asks_by, new_stream, asking_stream, end_one, done_by, fail_stream, Past, after, after_all}
-use Rattle.peer_route.specs.Calls.{by_position}
-use Rattle.peer_route.specs.Streams.{is_since, runs, runs_at, is_open, are_open, close_waits, item_at, offered, gave_last, held, take_by, take_at, take_answer, take_events, gone_events, opening_by, opening_at, opening_answer, opening_events}
-use Rattle.peer_route.specs.Shown.{shown_take, shown_opening}
-use Rattle.peer_route.specs.Parcel.{Setting}
-use Rattle.peer_route.specs.Trail.{Trail, place}
-use Rattle.peer_route.specs.Plan.{Plan, Says, refuses, where_named, where_open, unless_waits, makes, sends, leaves, ends, second_place, given_by, given_last, on_stream, plan}
-use Rattle.peer_route.specs.Entries.{IsMeant, deeds, trail, more, Legal, postings, writes}
-use Rattle.peer_route.specs.StreamLaws.{is_second, names_stream, closes_stream, stays_open, says_denied, IsNoStream}
-use Rattle.peer_route.proofs.Edits.{edit_other, edit_here, get_append}
-use Rattle.peer_route.proofs.Plans.{legal_from}
-use Rattle.peer_route.proofs.Kept.{every}
-use Rattle.peer_route.proofs.Deeds.{open_stream, named_done, open_done, waits_done}
-use Rattle.peer_route.specs.Issuing.{puts}
-use Rattle.peer_route.proofs.Flowing.{named_on}
+use Rattle.peer_route.specs.{History.{Gone, done_by, Event, Fault, Made, Cloned, Did, Put, Adds, Deed, Asked, edit, Stream, phase, asks_by, new_stream, asking_stream, fail_stream, Past, after, after_all}, Names.{OpenState, Words, StreamOp, Entry, Seen, Error, Answer}, CallMessage.{reply_asked, error_asked}, Calls.by_position, Streams.{is_since, runs, runs_at, is_open, are_open, close_waits, item_at, offered, gave_last, held, take_by, take_at, take_answer, take_events, gone_events, opening_by, opening_at, opening_answer, opening_events}, Shown.{shown_take, shown_opening}, Parcel.Setting, Trail.{Trail, place}, Plan.{Plan, Says, refuses, where_named, where_open, unless_waits, makes, sends, leaves, ends, second_place, given_last, on_stream, plan}, Entries.{IsMeant, deeds, trail, more, Legal, postings, writes}, StreamLaws.{is_second, names_stream, closes_stream, stays_open, says_denied, IsNoStream}, Issuing.puts}
+use Rattle.std.proofs.{Common.{◌≡◌, ◌⊎◌, inl, inr, ℕ, ◌==◌, ◌&&◌, not, refl, sym, ◌∙◌, ap, subst, ◌||◌, Bool, true, false, if◌then◌else◌, List, [], ◌∷◌, ◌++◌, Option, Some, None, option_map, Ok, Err, option_and_then}, Math.Bool.and-false, lemmas.Bool.{cases_eq, eq-eqb, eqb-true, and_parts, not-true}, lemmas.Option.slice_get-map}
+use Rattle.std.specs.{List.{slice_get, AllByRecursion}, Option.option_and_then}
+use Rattle.peer_route.proofs.{Edits.{edit_other, edit_here, get_append}, Plans.legal_from, Kept.{every, later}, Deeds.{open_stream, named_done, open_done, waits_done, named_on}}
 
 -- ---- a stream that is gone
 
@@ -61,8 +34,8 @@ gone_after k Fault h g =
     record { stream = fails g.stream; made = slice_get-map fails h.streams k ∙ ap (option_map fails) g.made; gone = ap (λ b. b || asks_by h.outbox.done (phase h.read g.stream)) g.gone }
 gone_after k e h g = g
 
-gone_now : (ss : List Stream) (k : ℕ) → There ss k → GoneAt (edit k end_one ss) k
-gone_now ss k there = record { stream = end_one there.0; made = edit_here end_one k ss there.0 there.1; gone = refl }
+gone_now : (ss : List Stream) (k : ℕ) → There ss k → GoneAt (edit k (done_by Gone) ss) k
+gone_now ss k there = record { stream = done_by Gone there.0; made = edit_here (done_by Gone) k ss there.0 there.1; gone = refl }
 
 -- ---- what is asked of it
 
@@ -70,44 +43,44 @@ gone_runs : (ms : List Seen) (s : Stream) → s.gone ≡ true → runs ms s ≡ 
 unfolding runs
 gone_runs ms s e = ap (λ b. s.opened && (not b && is_since (phase ms s))) e ∙ and-false s.opened
 
-gone_take : (h : Past) (k : ℕ) → GoneAt h.streams k → take_answer h k ≡ Err errors.UnknownHandle
+gone_take : (h : Past) (k : ℕ) → GoneAt h.streams k → take_answer h k ≡ Err Error.UnknownHandle
 unfolding take_answer
-gone_take h k g = ap (take_at h.read h.closing) g.made ∙ ap (λ b. if b then Ok (take_by (held h.read g.stream) h.closing g.stream.told) else Err errors.UnknownHandle) (gone_runs h.read g.stream g.gone)
+gone_take h k g = ap (take_at h.read h.closing) g.made ∙ ap (λ b. if b then Ok (take_by (held h.read g.stream) h.closing g.stream.told) else Err Error.UnknownHandle) (gone_runs h.read g.stream g.gone)
 
 gone_open : (h : Past) (k : ℕ) → GoneAt h.streams k → is_open h k ≡ false
 unfolding is_open
 gone_open h k g = ap (runs_at h.read) g.made ∙ gone_runs h.read g.stream g.gone
 
-gone_opening : (h : Past) (k : ℕ) → GoneAt h.streams k → opening_answer h k ≡ states.Unknown
+gone_opening : (h : Past) (k : ℕ) → GoneAt h.streams k → opening_answer h k ≡ OpenState.Unknown
 unfolding opening_answer
-gone_opening h k g = ap (opening_at h.read h.closing) g.made ∙ ap (λ b. if b || g.stream.opened then states.Unknown else opening_by (phase h.read g.stream) h.closing) g.gone
+gone_opening h k g = ap (opening_at h.read h.closing) g.made ∙ ap (λ b. if b || g.stream.opened then OpenState.Unknown else opening_by (phase h.read g.stream) h.closing) g.gone
 
 gone_given : (h : Past) (k : ℕ) → GoneAt h.streams k → given_last h k ≡ None
 unfolding gave_last
-gone_given h k g = ap (given_by h) g.made ∙ ap (λ b. if b then None else item_at (offered h.read g.stream) g.stream.taken) g.gone
+gone_given h k g = ap (option_and_then (gave_last h.read)) g.made ∙ ap (λ b. if b then None else item_at (offered h.read g.stream) g.stream.taken) g.gone
 
 one_gone : (h : Past) (k : ℕ) (j : Option ℕ) → is_open h k ≡ false → are_open h k j ≡ false
 one_gone h k None e = e
 one_gone h k (Some j) e = ap (λ b. b && is_open h j && not (k == j)) e
 
-ends_unopened : (h : Past) (k : ℕ) (j : Option (Option ℕ)) → is_open h k ≡ false → ends h k j ≡ refuses errors.UnknownHandle
+ends_unopened : (h : Past) (k : ℕ) (j : Option (Option ℕ)) → is_open h k ≡ false → ends h k j ≡ refuses Error.UnknownHandle
 ends_unopened h k None e = refl
 ends_unopened h k (Some j) e = ap (λ b. where_open b (unless_waits (close_waits h k j) (leaves h k j))) (one_gone h k j e)
 
 -- whatever is asked of a stream that is gone
-gone_plan : (t : Trail) (lane : ℕ) (op : StreamOp) (k : ℕ) → GoneAt t.past.streams k → on_stream t lane op k ≡ refuses errors.UnknownHandle
-gone_plan t lane (ops.Reply body) k g = ap (λ m. sends t lane (reply_asked t.past.name m body)) (gone_given t.past k g)
-gone_plan t lane (ops.Error name body) k g = ap (λ m. sends t lane (error_asked t.past.name m name body)) (gone_given t.past k g)
-gone_plan t lane ops.Take k g = ap (λ r. Says (shown_take r) (take_events k r)) (gone_take t.past k g)
-gone_plan t lane (ops.TakeBefore before) k g = ap (λ r. Says (shown_take (by_position r)) (take_events k r)) (gone_take t.past k g)
-gone_plan t lane ops.Clone k g = ap (λ b. where_open b (makes t lane (Cloned k))) (gone_open t.past k g)
-gone_plan t lane ops.Opened k g = ap (λ r. Says (shown_opening r) (opening_events k r)) (gone_opening t.past k g)
-gone_plan t lane (ops.Queue limit) k g = ap (λ b. where_open b (Says answers.Set (Did k (Asked limit) ∷ []))) (gone_open t.past k g)
-gone_plan t lane (ops.Unstream second) k g = ends_unopened t.past k (second_place t lane second) (gone_open t.past k g)
+gone_plan : (t : Trail) (lane : ℕ) (op : StreamOp) (k : ℕ) → GoneAt t.past.streams k → on_stream t lane op k ≡ refuses Error.UnknownHandle
+gone_plan t lane (StreamOp.Reply body) k g = ap (λ m. sends t lane (reply_asked t.past.name m body)) (gone_given t.past k g)
+gone_plan t lane (StreamOp.Error name body) k g = ap (λ m. sends t lane (error_asked t.past.name m name body)) (gone_given t.past k g)
+gone_plan t lane StreamOp.Take k g = ap (λ r. Says (shown_take r) (take_events k r)) (gone_take t.past k g)
+gone_plan t lane (StreamOp.TakeBefore before) k g = ap (λ r. Says (shown_take (by_position r)) (take_events k r)) (gone_take t.past k g)
+gone_plan t lane StreamOp.Clone k g = ap (λ b. where_open b (makes t lane (Cloned k))) (gone_open t.past k g)
+gone_plan t lane StreamOp.Opened k g = ap (λ r. Says (shown_opening r) (opening_events k r)) (gone_opening t.past k g)
+gone_plan t lane (StreamOp.Queue limit) k g = ap (λ b. where_open b (Says Answer.Set (Did k (Asked limit) ∷ []))) (gone_open t.past k g)
+gone_plan t lane (StreamOp.Unstream second) k g = ends_unopened t.past k (second_place t lane second) (gone_open t.past k g)
 
 -- or where it is the second of two that are to be closed
 second_gone : (t : Trail) (lane k : ℕ) (first : Option ℕ) (second : ℕ) → place 0 lane second t.streams ≡ Some k → GoneAt t.past.streams k
-    → where_named (on_stream t lane (ops.Unstream (Some second))) first ≡ refuses errors.UnknownHandle
+    → where_named (on_stream t lane (StreamOp.Unstream (Some second))) first ≡ refuses Error.UnknownHandle
 second_gone t lane k None second named g = refl
 second_gone t lane k (Some i) second named g =
     ap (λ o. ends t.past i (option_map Some o)) named
@@ -124,16 +97,16 @@ record IsClosed (t : Trail) (lane number : ℕ) : Type 0 where
 
 -- a command names it as the first, or as the second
 refused_by : (t : Trail) (lane n number : ℕ) (op : StreamOp) → IsClosed t lane number → (is_first second : Bool) → (n == number) ≡ is_first → is_second number op ≡ second → (is_first || second) ≡ true
-    → plan t lane (words.OfStream n op) ≡ refuses errors.UnknownHandle
+    → plan t lane (Words.OfStream n op) ≡ refuses Error.UnknownHandle
 refused_by t lane n number op c true second first is e =
     ap (λ x. where_named (on_stream t lane op) (place 0 lane x t.streams)) (eqb-true n number first) ∙ ap (where_named (on_stream t lane op)) c.named ∙ gone_plan t lane op c.k c.closed
-refused_by t lane n number (ops.Unstream (Some second)) c false true first is e =
+refused_by t lane n number (StreamOp.Unstream (Some second)) c false true first is e =
     second_gone t lane c.k (place 0 lane n t.streams) second (ap (λ x. place 0 lane x t.streams) (eqb-true second number is) ∙ c.named) c.closed
 refused_by t lane n number op c false true first is e = cc
 refused_by t lane n number op c false false first is e = cc
 
-no_stream : (t : Trail) (lane : ℕ) (w : Words) (number : ℕ) → IsClosed t lane number → names_stream number w ≡ true → plan t lane w ≡ refuses errors.UnknownHandle
-no_stream t lane (words.OfStream n op) number c e = refused_by t lane n number op c (n == number) (is_second number op) refl refl e
+no_stream : (t : Trail) (lane : ℕ) (w : Words) (number : ℕ) → IsClosed t lane number → names_stream number w ≡ true → plan t lane w ≡ refuses Error.UnknownHandle
+no_stream t lane (Words.OfStream n op) number c e = refused_by t lane n number op c (n == number) (is_second number op) refl refl e
 no_stream t lane w number c e = cc
 
 unknown_entry : (t : Trail) (x : Entry) (lane number : ℕ) → IsMeant t.past (plan t x.lane x.words) x → IsClosed t lane number → IsNoStream lane number x
@@ -153,15 +126,10 @@ closed_entry t e lane number k named g =
       closed = every (λ (h : Past). GoneAt h.streams k) (gone_after k) (writes e) _ (every (λ (h : Past). GoneAt h.streams k) (gone_after k) (puts (postings pl) e.put) _ g);
     }
 
-closed_later : (setting : Setting) (newer older : List Entry) (e : Entry) (lane number : ℕ) → Legal setting (newer ++ e ∷ older) → IsClosed (trail setting (e ∷ older)) lane number
-    → IsClosed (trail setting (newer ++ e ∷ older)) lane number × AllByRecursion (IsNoStream lane number) newer
-closed_later setting [] older e lane number legal c = (c, tt)
-closed_later setting (x ∷ newer) older e lane number legal c =
-    let rest = closed_later setting newer older e lane number legal.1 c in
-    let t = trail setting (newer ++ e ∷ older) in
-    let o = rest.0 in
-    let ds = deeds (plan t x.lane x.words) x in
-    (closed_entry t x lane number o.k o.named (every (λ (h : Past). GoneAt h.streams o.k) (gone_after o.k) ds t.past o.closed), (unknown_entry t x lane number legal.0 o, rest.1))
+closed_later : (setting : Setting) (newer older : List Entry) (e : Entry) (lane number : ℕ) → Legal setting (newer ++ e ∷ older) → IsClosed (trail setting (e ∷ older)) lane number → AllByRecursion (IsNoStream lane number) newer
+closed_later setting newer older e lane number legal c =
+    (later setting (λ t. IsClosed t lane number) (IsNoStream lane number)
+    (λ t x is o. (closed_entry t x lane number o.k o.named (every (λ (h : Past). GoneAt h.streams o.k) (gone_after o.k) (deeds (plan t x.lane x.words) x) t.past o.closed), unknown_entry t x lane number is o)) newer (e ∷ older) legal c).1
 
 -- ---- what closes
 
@@ -177,23 +145,23 @@ open_there h k e = let o = open_stream h k e in (o.0, o.1)
 
 -- those that were open are gone
 gone_of : (h : Past) (k : ℕ) (j : Option ℕ) (i : ℕ) → are_open h k j ≡ true → (i ≡ k) ⊎ (j ≡ Some i) → GoneAt (after_all (gone_events k j) h).streams i
-gone_of h k None i opens (inl same) = subst (GoneAt (edit k end_one h.streams)) (sym same) (gone_now h.streams k (open_there h k opens))
+gone_of h k None i opens (inl same) = subst (GoneAt (edit k (done_by Gone) h.streams)) (sym same) (gone_now h.streams k (open_there h k opens))
 gone_of h k None i opens (inr same) = cc
 gone_of h k (Some j) i opens which =
     let both = and_parts (is_open h k) (is_open h j) (and_parts (is_open h k && is_open h j) (not (k == j)) opens).0 in
     let apart : (k == j) ≡ false = not-true (k == j) (and_parts (is_open h k && is_open h j) (not (k == j)) opens).1 in
     let there = open_there h j both.1 in
-    elim which as (λ _. GoneAt (edit j end_one (edit k end_one h.streams)) i) [
-      | inl same ↦ subst (GoneAt (edit j end_one (edit k end_one h.streams))) (sym same) (gone_edit Gone (edit k end_one h.streams) j k (gone_now h.streams k (open_there h k both.0)))
+    elim which as (λ _. GoneAt (edit j (done_by Gone) (edit k (done_by Gone) h.streams)) i) [
+      | inl same ↦ subst (GoneAt (edit j (done_by Gone) (edit k (done_by Gone) h.streams))) (sym same) (gone_edit Gone (edit k (done_by Gone) h.streams) j k (gone_now h.streams k (open_there h k both.0)))
       | inr same ↦
           let one : j ≡ i = cc in
-          subst (GoneAt (edit j end_one (edit k end_one h.streams))) one
-          (gone_now (edit k end_one h.streams) j (there.0, edit_other end_one k j h.streams (λ e. let x : (k == j) ≡ true = eq-eqb k j e in cc) ∙ there.1))
+          subst (GoneAt (edit j (done_by Gone) (edit k (done_by Gone) h.streams))) one
+          (gone_now (edit k (done_by Gone) h.streams) j (there.0, edit_other (done_by Gone) k j h.streams (λ e. let x : (k == j) ≡ true = eq-eqb k j e in cc) ∙ there.1))
     ]
 
 -- the number names one of them
 which_by : (t : Trail) (lane n number k : ℕ) (second j : Option ℕ) → place 0 lane n t.streams ≡ Some k → second_place t lane second ≡ Some j → (is_first other : Bool) → (n == number) ≡ is_first
-    → is_second number (ops.Unstream second) ≡ other → (is_first || other) ≡ true → (i : ℕ) × (place 0 lane number t.streams ≡ Some i) × ((i ≡ k) ⊎ (j ≡ Some i))
+    → is_second number (StreamOp.Unstream second) ≡ other → (is_first || other) ≡ true → (i : ℕ) × (place 0 lane number t.streams ≡ Some i) × ((i ≡ k) ⊎ (j ≡ Some i))
 which_by t lane n number k second j one two true other first q e = (k, ap (λ x. place 0 lane x t.streams) (sym (eqb-true n number first)) ∙ one, inl refl)
 which_by t lane n number k (Some x) j one two false true first q e = by_second (place 0 lane x t.streams) (ap (λ y. place 0 lane y t.streams) (sym (eqb-true x number q))) two
   where
@@ -204,11 +172,11 @@ which_by t lane n number k None j one two false true first q e = cc
 which_by t lane n number k second j one two false false first q e = cc
 
 closes_entry : (t : Trail) (e : Entry) (w : Words) (number : ℕ) → IsMeant t.past (plan t e.lane w) e → closes_stream number w ≡ true → stays_open e.answer ≡ false → Closes t e (plan t e.lane w) number
-closes_entry t e (words.OfStream n (ops.Unstream second)) number is closes not_ =
+closes_entry t e (Words.OfStream n (StreamOp.Unstream second)) number is closes not_ =
     let h = t.past in
-    let o = named_done h (on_stream t e.lane (ops.Unstream second)) (place 0 e.lane n t.streams) e is not_ in
+    let o = named_done h (on_stream t e.lane (StreamOp.Unstream second)) (place 0 e.lane n t.streams) e is not_ in
     let l = ends_done h o.0 (second_place t e.lane second) e (subst (λ pl. IsMeant h pl e) o.2 is) not_ in
-    let which = which_by t e.lane n number o.0 second l.0 o.1 l.1 (n == number) (is_second number (ops.Unstream second)) refl refl closes in
+    let which = which_by t e.lane n number o.0 second l.0 o.1 l.1 (n == number) (is_second number (StreamOp.Unstream second)) refl refl closes in
     (which.0, which.1, subst (λ pl. GoneAt (after_all (deeds pl e) h).streams which.0) (sym (o.2 ∙ l.3)) (gone_of h o.0 l.0 which.0 l.2 which.2))
 closes_entry t e w number is closes not_ = cc
 
@@ -217,13 +185,13 @@ pub closed_for_good : (setting : Setting) (newer older : List Entry) (e : Entry)
 closed_for_good setting newer older e number legal closes not_ =
     let t = trail setting older in
     let c = closes_entry t e e.words number (legal_from setting newer (e ∷ older) legal).0 closes not_ in
-    (closed_later setting newer older e e.lane number legal (closed_entry t e e.lane number c.0 c.1 c.2)).1
+    closed_later setting newer older e e.lane number legal (closed_entry t e e.lane number c.0 c.1 c.2)
 
 -- ---- what is denied
 
 denied_state : (h : Past) (k : ℕ) (state : OpenState) → There h.streams k → says_denied (shown_opening state) ≡ true → GoneAt (after_all (opening_events k state) h).streams k
-denied_state h k (states.Refused m) there said = gone_now h.streams k there
-denied_state h k (states.Over error) there said = gone_now h.streams k there
+denied_state h k (OpenState.Refused m) there said = gone_now h.streams k there
+denied_state h k (OpenState.Over error) there said = gone_now h.streams k there
 denied_state h k state there said = cc
 
 denied_at : (h : Past) (k : ℕ) (o : Option Stream) → slice_get h.streams k ≡ o → says_denied (shown_opening (opening_at h.read h.closing o)) ≡ true
@@ -235,16 +203,16 @@ denied_so : (h : Past) (k : ℕ) → says_denied (shown_opening (opening_answer 
 unfolding opening_answer
 denied_so h k said = denied_at h k (slice_get h.streams k) refl said
 
-denies : (t : Trail) (e : Entry) (number : ℕ) (p : Option ℕ) → place 0 e.lane number t.streams ≡ p → IsMeant t.past (where_named (on_stream t e.lane ops.Opened) p) e → says_denied e.answer ≡ true
-    → Closes t e (where_named (on_stream t e.lane ops.Opened) p) number
+denies : (t : Trail) (e : Entry) (number : ℕ) (p : Option ℕ) → place 0 e.lane number t.streams ≡ p → IsMeant t.past (where_named (on_stream t e.lane StreamOp.Opened) p) e → says_denied e.answer ≡ true
+    → Closes t e (where_named (on_stream t e.lane StreamOp.Opened) p) number
 denies t e number None named is said = let q : false ≡ true = ap says_denied (sym is.1) ∙ said in cc
 denies t e number (Some k) named is said = (k, named, denied_so t.past k (ap says_denied (sym is.1) ∙ said))
 
-pub denied_for_good : (setting : Setting) (newer older : List Entry) (e : Entry) (number : ℕ) → Legal setting (newer ++ e ∷ older) → e.words ≡ words.OfStream number ops.Opened
+pub denied_for_good : (setting : Setting) (newer older : List Entry) (e : Entry) (number : ℕ) → Legal setting (newer ++ e ∷ older) → e.words ≡ Words.OfStream number StreamOp.Opened
     → says_denied e.answer ≡ true → AllByRecursion (IsNoStream e.lane number) newer
 denied_for_good setting newer older e number legal w said =
     let t = trail setting older in
     let means = ap (plan t e.lane) w in
     let is = subst (λ pl. IsMeant t.past pl e) means (legal_from setting newer (e ∷ older) legal).0 in
     let c = denies t e number (place 0 e.lane number t.streams) refl is said in
-    (closed_later setting newer older e e.lane number legal (closed_entry t e e.lane number c.0 c.1 (subst (λ pl. GoneAt (after_all (deeds pl e) t.past).streams c.0) (sym means) c.2))).1
+    closed_later setting newer older e e.lane number legal (closed_entry t e e.lane number c.0 c.1 (subst (λ pl. GoneAt (after_all (deeds pl e) t.past).streams c.0) (sym means) c.2))

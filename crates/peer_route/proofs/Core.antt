@@ -1,30 +1,8 @@
 -- The core after each event.
-use Rattle.std.proofs.Common.{rules, arith, ◌≡◌, ℕ, ◌+◌, ◌<◌, ◌==◌, is_some, ◌&&◌, ◌||◌, is_none, if◌then◌else◌, refl, sym, ◌∙◌, ap, subst, Bool, true, false, not, List, [], ◌∷◌, ◌++◌, length, map, get_or, set, Option, Some, None, Result, Ok, Err, length-append}
-use Rattle.std.specs.List.{list_any, position, slice_get}
-use Rattle.std.specs.Option.{option_map}
-use Rattle.std.proofs.lemmas.List.{set-set, set-get_or}
-use Rattle.std.proofs.lemmas.Bool.{true≢false, false≢true}
-use Rattle.std.proofs.lemmas.List.Quantifiers.{position-Some}
-use Rattle.std.proofs.lemmas.Option.{slice_get-map, slice_get_read, none-some}
-use Rattle.wire_message.specs.Front.{Seen}
-use Rattle.wire_message.specs.declared.error.Error.{Error}
-use Rattle.wire_message.specs.declared.error.Error.TheVariants as errors
-use Rattle.rule_match.specs.Rule.{Rule}
-use Rattle.peer_route.specs.declared.writer.Writer.TheVariants as writers
-use Rattle.peer_route.specs.declared.polled.Polled.{Polled}
-use Rattle.peer_route.specs.declared.polled.Polled.TheVariants as polled
-use Rattle.peer_route.specs.declared.calls.Slot.{Slot}
-use Rattle.peer_route.specs.declared.calls.Slot.TheVariants as slots
-use Rattle.peer_route.specs.History.{Took, Shut, Wrote, Fault, Spent, Made, Making, Plain, Ruled, Cloned, Did, Main, Deed, Gave, Told, Gone, Asked, Call, edit, worse, shuts, is_reply, is_serial, bears, first_of, Past, after, after_all}
-use Rattle.peer_route.specs.Calls.{found, is_gone, pending, in_flight, is_awaited, waits_with, poll_answer, poll_events, polled_at, polled_by}
-use Rattle.peer_route.specs.Streams.{busy, is_open, is_over as nothing_comes, take_answer, take_events}
-use Rattle.peer_route.specs.Left.{Held, empty_held, lost_at, with_stream, wants_of, asked_for, main_asked, is_over, after_take, kept_at, held_gives, ended_by, LeftStreams, is_busy, is_empty_slot, is_inner_slot, reply_kept, slot_of, slot_by, is_flying, is_waiting, AreDistinct, CallsView, waiting_serial, is_number, LeftCalls, Rising, View, Left}
-use Rattle.peer_route.proofs.Plain.{list_any-map, list_any-along, position-None}
-use Rattle.peer_route.proofs.CallsMade.{places, places-edit, places-fail, Early-more, Early-edit, Early-fail, sound_after}
-use Rattle.peer_route.proofs.StreamsMade.{streams_fault, streams_made, streams_cloned, streams_ended, taken_gives, ended_left, open_left, over_any}
-use Rattle.peer_route.proofs.StreamsTaken.{streams_taken}
-use Rattle.peer_route.proofs.RuledStreams.{streams_ruled, streams_asked, main_left}
-use Rattle.peer_route.proofs.Slots.{arrived, slots_took, arrived_nowhere, arrived_past, arrived_first, arrived_distinct, gone_distinct, slots_spent, slots_kept, slots_lost, waits-slot, own-slot}
+use Rattle.std.proofs.{Common.{rules, arith, max, ◌≡◌, ℕ, ◌+◌, ◌<◌, ◌==◌, is_some, ◌&&◌, ◌||◌, is_none, if◌then◌else◌, refl, sym, ◌∙◌, ap, Bool, true, false, not, List, [], ◌∷◌, ◌++◌, length, map, get_or, set, Option, Some, None, Result, Ok, Err, length-append, ◌≤◌}, lemmas.List.{set-set, set-get_or, length-map}, lemmas.Bool.{true≢false, false≢true}, lemmas.List.Quantifiers.position-Some, lemmas.Option.{slice_get-map, slice_get_read}}
+use Rattle.std.specs.{List.{list_any, position, slice_get}, Option.option_map}
+use Rattle.peer_route.specs.{Names.{Seen, Error, Rule, Polled, Slot, MessageStream, OpenState, Writer}, History.{Took, Shut, Wrote, Fault, Spent, Made, Making, Cloned, Did, Main, Deed, Gave, Told, Gone, Asked, Call, worse, shuts, is_reply, is_serial, bears, first_of, Past, after, after_all, Opened, Stream, rule_of, spend, fail_at}, Calls.{found, is_gone, poll_answer, poll_events, polled_at, polled_by, by_position}, Streams.{busy, is_open, take_events, runs_at, has_rule, known, ask_answer, opening_events}, Left.{Held, is_over, LeftStreams, is_busy, is_empty_slot, is_inner_slot, reply_kept, slot_of, slot_by, is_waiting, CallsView, LeftCalls, Rising, View, Left, kept, ClonesBy, Clones}}
+use Rattle.peer_route.proofs.{Plain.{position-None}, CallsMade.{places, places-edit, places-fail, sound_after}, StreamsMade.{over_any}, Slots.{arrived, slots_took, arrived_nowhere, arrived_idly, arrived_first, slots_spent, slots_kept, slots_lost}, Edits.{all_weaker, all_edit, all_map}}
 
 -- ---- a message comes
 
@@ -35,8 +13,7 @@ took : (m : Seen) (v new : CallsView) (h : Past) → LeftCalls v h → new.closi
 took m v new h left same e = record {
   slots = e ∙ taken_slots m v h left;
   closing = same ∙ left.closing;
-  distinct = λ open_. subst AreDistinct (sym e) (arrived_distinct m v.slots (left.distinct (sym same ∙ open_)));
-  early = Early-more (length h.read) (length (h.read ++ m ∷ [])) h.calls (omega (arith, length-append h.read (m ∷ []))) left.early;
+  early = all_weaker (λ (c : Call). c.from ≤ length h.read) (λ (c : Call). c.from ≤ length (h.read ++ m ∷ [])) (λ c le. omega (arith, le, length-append h.read (m ∷ []))) h.calls left.early;
 }
 
 -- no call waits for it
@@ -44,27 +21,21 @@ pub took_by_none : (m : Seen) (v : CallsView) (h : Past) → ((n : ℕ) → bear
 took_by_none m v h none left = took m v v h left refl (sym (arrived_nowhere m none v.slots))
 
 pub took_past : (m : Seen) (s : ℕ) (v : CallsView) (h : Past) → ((n : ℕ) → bears n m ≡ (s == n)) → list_any (is_waiting s) v.slots ≡ false → LeftCalls v h → LeftCalls v (after (Took m) h)
-took_past m s v h same none left = took m v v h left refl (sym (arrived_past m s same v.slots none))
+took_past m s v h same none left = took m v v h left refl (sym (arrived_idly m s same v.slots none))
 
--- the call that waits for it takes it
-pub took_first : (m : Seen) (s k : ℕ) (v new : CallsView) (h : Past) → ((n : ℕ) → bears n m ≡ (s == n)) → is_waiting s (get_or v.slots k slots.Gone) ≡ true
-    → new.slots ≡ set v.slots k (reply_kept (is_inner_slot (get_or v.slots k slots.Gone)) m) → new.closing ≡ v.closing → LeftCalls v h → h.closing ≡ None → LeftCalls new (after (Took m) h)
-took_first m s k v new h same at e kept left open_ =
-    took m v new h left kept
-    (e ∙ sym (arrived_first m s same v.slots k at (left.distinct (left.closing ∙ open_))))
+-- the one call that waits for it takes it
+pub took_first : (m : Seen) (s k : ℕ) (v new : CallsView) (h : Past) → ((n : ℕ) → bears n m ≡ (s == n)) → is_waiting s (get_or v.slots k Slot.Gone) ≡ true
+    → ((j : ℕ) → is_waiting s (get_or v.slots j Slot.Gone) ≡ true → j ≡ k)
+    → new.slots ≡ set v.slots k (reply_kept (is_inner_slot (get_or v.slots k Slot.Gone)) m) → new.closing ≡ v.closing → LeftCalls v h → LeftCalls new (after (Took m) h)
+took_first m s k v new h same at only e kept left = took m v new h left kept (e ∙ sym (arrived_first m s same v.slots k at only))
 
 -- ---- the peer is shut
-
-shut_open : (o : Option Error) (error : Error) → first_of o error ≡ None → ⊥
-shut_open None error e = none-some error (sym e)
-shut_open (Some earlier) error e = none-some earlier (sym e)
 
 pub shut : (error : Error) (v new : CallsView) (h : Past) → new.slots ≡ v.slots → new.closing ≡ first_of v.closing error → LeftCalls v h → LeftCalls new (after (Shut error) h)
 unfolding slot_of found
 shut error v new h same e left = record {
   slots = same ∙ left.slots;
   closing = e ∙ ap (λ o. first_of o error) left.closing;
-  distinct = λ open_. absurd (shut_open v.closing error (sym e ∙ open_));
   early = left.early;
 }
 
@@ -72,13 +43,13 @@ shut error v new h same e left = record {
 
 -- what a slot gives a poll
 abbrev pub slot_gives : Option Slot → Option Error → Result (Polled Seen) Error
-slot_gives None error = Err errors.UnknownHandle
-slot_gives (Some slots.Gone) error = Err errors.UnknownHandle
-slot_gives (Some (slots.Replied m)) error = Ok (polled.Now m)
-slot_gives (Some (slots.Waiting n inner)) error = if inner then Err errors.UnknownHandle else polled_by None error
+slot_gives None error = Err Error.UnknownHandle
+slot_gives (Some Slot.Gone) error = Err Error.UnknownHandle
+slot_gives (Some (Slot.Replied m)) error = Ok (Polled.Now m)
+slot_gives (Some (Slot.Waiting n inner)) error = if inner then Err Error.UnknownHandle else polled_by None error
 
 slot_gives_by : (gone inner : Bool) (n : ℕ) (o : Option Seen) (error : Option Error)
-    → slot_gives (Some (if gone then slots.Gone else slot_by inner n o)) error ≡ (if gone || inner then Err errors.UnknownHandle else polled_by o error)
+    → slot_gives (Some (if gone then Slot.Gone else slot_by inner n o)) error ≡ (if gone || inner then Err Error.UnknownHandle else polled_by o error)
 slot_gives_by true inner n o error = refl
 slot_gives_by false true n (Some m) error = refl
 slot_gives_by false true n None error = refl
@@ -96,33 +67,22 @@ gives v h k left =
     rw left.slots (rw left.closing (rw (slice_get-map (slot_of h.read) h.calls k) (gives_at h (slice_get h.calls k))))
 
 -- a call's answer was given
-pub spent : (k : ℕ) (v new : CallsView) (h : Past) → new.slots ≡ set v.slots k slots.Gone → new.closing ≡ v.closing → LeftCalls v h → LeftCalls new (after (Spent k) h)
+pub spent : (k : ℕ) (v new : CallsView) (h : Past) → new.slots ≡ set v.slots k Slot.Gone → new.closing ≡ v.closing → LeftCalls v h → LeftCalls new (after (Spent k) h)
 unfolding slot_of found
 spent k v new h e same left = record {
-  slots = e ∙ ap (λ ss. set ss k slots.Gone) left.slots ∙ sym (slots_spent h h.calls k);
+  slots = e ∙ ap (λ ss. set ss k Slot.Gone) left.slots ∙ sym (slots_spent h h.calls k);
   closing = same ∙ left.closing;
-  distinct = λ open_. subst AreDistinct (sym e) (gone_distinct v.slots k (left.distinct (sym same ∙ open_)));
-  early = Early-edit (length h.read) k h.calls left.early;
+  early = all_edit (λ (c : Call). c.from ≤ length h.read) spend h.calls k (λ c is le. le) left.early;
 }
 
--- ---- which serials are pending
+-- by position the events are those of a poll or a take without one
+pub polls_so : (k : ℕ) (r : Result (Polled Seen) Error) → poll_events k (by_position r) ≡ poll_events k r
+polls_so k (Ok (Polled.Now m)) = refl
+polls_so k other = refl
 
-pub pending-left : (v : CallsView) (h : Past) → LeftCalls v h → (serial : ℕ) → pending h serial ≡ waiting_serial v serial
-unfolding pending waiting_serial
-pending-left v h left serial =
-    rw left.slots (rw left.closing
-    (ap (λ b. is_none h.closing && b)
-    (list_any-along (waits_with h.read serial) (λ c. is_waiting serial (slot_of h.read c)) (waits-slot h serial) h.calls
-    ∙ sym (list_any-map (is_waiting serial) (slot_of h.read) h.calls))))
-
--- one of the peer's own waits
-pub flying-left : (v : CallsView) (h : Past) → LeftCalls v h → is_flying v ≡ in_flight h
-unfolding is_flying in_flight
-flying-left v h left =
-    rw left.slots (rw left.closing
-    (ap (λ b. is_none h.closing && b)
-    (list_any-map is_inner_slot (slot_of h.read) h.calls
-    ∙ sym (list_any-along (is_awaited h.read) (λ c. is_inner_slot (slot_of h.read c)) (own-slot h) h.calls))))
+pub takes_so : (k : ℕ) (r : Result (Polled Seen) Error) → take_events k (by_position r) ≡ take_events k r
+takes_so k (Ok (Polled.Now m)) = refl
+takes_so k other = refl
 
 pub is_none_not : {A : Type 0} (o : Option A) (b : Bool) → is_some o ≡ not b → is_none o ≡ b
 is_none_not None true e = refl
@@ -130,20 +90,12 @@ is_none_not None false e = cc
 is_none_not (Some x) true e = cc
 is_none_not (Some x) false e = refl
 
-pub flying_open : (ss : List Slot) (error : Option Error) (v : CallsView) (b : Bool) → record { slots = ss; closing = error } ≡ v → is_none error ≡ true → b ≡ list_any is_inner_slot ss → b ≡ is_flying v
-unfolding is_flying
-flying_open ss error v b e open_ is = is ∙ ap (λ x. x && list_any is_inner_slot ss) (sym open_) ∙ ap (λ (w : CallsView). is_none w.closing && list_any is_inner_slot w.slots) e
-
-pub flying_shut : (ss : List Slot) (error : Option Error) (v : CallsView) (b : Bool) → record { slots = ss; closing = error } ≡ v → is_none error ≡ false → b ≡ false → b ≡ is_flying v
-unfolding is_flying
-flying_shut ss error v b e shut_ is = is ∙ ap (λ x. x && list_any is_inner_slot ss) (sym shut_) ∙ ap (λ (w : CallsView). is_none w.closing && list_any is_inner_slot w.slots) e
-
 -- what a poll gives of a slot that nothing is kept of
-pub slot_gives_empty : (s : Slot) (error : Option Error) → is_empty_slot s ≡ true → slot_gives (Some s) error ≡ Err errors.UnknownHandle
-slot_gives_empty slots.Gone error e = refl
-slot_gives_empty (slots.Waiting n true) error e = refl
-slot_gives_empty (slots.Waiting n false) error e = cc
-slot_gives_empty (slots.Replied m) error e = cc
+pub slot_gives_empty : (s : Slot) (error : Option Error) → is_empty_slot s ≡ true → slot_gives (Some s) error ≡ Err Error.UnknownHandle
+slot_gives_empty Slot.Gone error e = refl
+slot_gives_empty (Slot.Waiting n true) error e = refl
+slot_gives_empty (Slot.Waiting n false) error e = cc
+slot_gives_empty (Slot.Replied m) error e = cc
 
 -- ---- what the code reads of its slots
 
@@ -173,13 +125,9 @@ put_back ss k y x s at e = set-set ss k y s ∙ ap (set ss k) (e ∙ at) ∙ set
 
 -- ---- which serial a message answers
 
-same_number : (o : Option ℕ) (serial : ℕ) → is_serial o serial ≡ is_number o serial
-same_number None serial = refl
-same_number (Some n) serial = refl
-
-pub bears_reply : (serial : ℕ) (m : Seen) → is_reply m.kind ≡ true → bears serial m ≡ is_number m.reply_serial serial
+pub bears_reply : (serial : ℕ) (m : Seen) → is_reply m.kind ≡ true → bears serial m ≡ is_serial m.reply_serial serial
 unfolding bears
-bears_reply serial m e = ap (λ b. b && is_serial m.reply_serial serial) e ∙ same_number m.reply_serial serial
+bears_reply serial m e = ap (λ b. b && is_serial m.reply_serial serial) e
 
 pub bears_none : (serial : ℕ) (m : Seen) → is_reply m.kind ≡ false → bears serial m ≡ false
 unfolding bears
@@ -193,15 +141,14 @@ left_wrote v h left = search rules
 
 -- the write of a call failed
 pub lost : (n k : ℕ) (ps : List ℕ) (v new : CallsView) (h : Past) → n ≡ h.outbox.done → ps ≡ places h.calls → position (λ i. i == n) ps ≡ Some k
-    → new.slots ≡ set v.slots k slots.Gone → new.closing ≡ v.closing → Rising (places h.calls) → LeftCalls v h → LeftCalls new (after Fault h)
+    → new.slots ≡ set v.slots k Slot.Gone → new.closing ≡ v.closing → Rising (places h.calls) → LeftCalls v h → LeftCalls new (after Fault h)
 unfolding slot_of found
 lost n k ps v new h first same at e kept rise left =
     let there = position-Some (λ i. i == h.outbox.done) (places h.calls) k 0 (rw (← same, ← first) at) in
     record {
-      slots = e ∙ ap (λ ss. set ss k slots.Gone) left.slots ∙ sym (slots_lost h h.outbox.done h.calls k there.0 there.1 rise);
+      slots = e ∙ ap (λ ss. set ss k Slot.Gone) left.slots ∙ sym (slots_lost h h.outbox.done h.calls k there.0 there.1 rise);
       closing = kept ∙ left.closing;
-      distinct = λ open_. subst AreDistinct (sym e) (gone_distinct v.slots k (left.distinct (sym kept ∙ open_)));
-      early = Early-fail (length h.read) h.outbox.done h.calls left.early;
+      early = all_map (λ (c : Call). c.from ≤ length h.read) (λ (c : Call). c.from ≤ length h.read) (fail_at h.outbox.done) (λ c le. le) h.calls left.early;
     }
 
 -- the write of a message that no call waits for failed
@@ -213,14 +160,12 @@ lost_none n ps v h first same at left =
     record {
       slots = left.slots ∙ sym (slots_kept h h.outbox.done h.calls none);
       closing = left.closing;
-      distinct = left.distinct;
-      early = Early-fail (length h.read) h.outbox.done h.calls left.early;
+      early = all_map (λ (c : Call). c.from ≤ length h.read) (λ (c : Call). c.from ≤ length h.read) (fail_at h.outbox.done) (λ c le. le) h.calls left.early;
     }
 
-pub left_fault : (v : View) (n : ℕ) (cv : CallsView) (h : Past) → n ≡ v.done → Left v h → LeftCalls cv (after Fault h)
-    → Left (record v { calls = cv; streams = map (lost_at n) v.streams; done = v.done + 1; writer = worse v.writer writers.Failed }) (after Fault h)
-left_fault v n cv h e left after =
-    let kept = streams_fault n v.streams h (e ∙ left.done) left.streams in
+pub left_fault : (v : View) (cv : CallsView) (sv : List Held) (h : Past) → Left v h → LeftCalls cv (after Fault h) → LeftStreams sv (after Fault h)
+    → Left (record v { calls = cv; streams = sv; done = v.done + 1; writer = worse v.writer Writer.Failed }) (after Fault h)
+left_fault v cv sv h left after kept =
     let placed = left.places ∙ sym (places-fail h.outbox.done h.calls) in
     let sound = sound_after Fault h left.sound in search rules
 
@@ -234,13 +179,13 @@ left_same v cv h left after = search rules
 
 pub left_polled : (v : View) (cv : CallsView) (k : ℕ) (r : Result (Polled Seen) Error) (h : Past) → Left v h
     → LeftCalls cv (after_all (poll_events k r) h) → Left (record v { calls = cv }) (after_all (poll_events k r) h)
-left_polled v cv k (Ok (polled.Now m)) h left after = left_spent v cv k h left after
-left_polled v cv k (Ok (polled.Closed error)) h left after = left_spent v cv k h left after
+left_polled v cv k (Ok (Polled.Now m)) h left after = left_spent v cv k h left after
+left_polled v cv k (Ok (Polled.Closed error)) h left after = left_spent v cv k h left after
 left_polled v cv k other h left after = left_same v cv h left after
 
 -- ---- streams
 
-pub left_took : (v : View) (cv : CallsView) (sv : List (Option Held)) (m : Seen) (h : Past) → Left v h → LeftCalls cv (after (Took m) h) → LeftStreams sv (after (Took m) h)
+pub left_took : (v : View) (cv : CallsView) (sv : List Held) (m : Seen) (h : Past) → Left v h → LeftCalls cv (after (Took m) h) → LeftStreams sv (after (Took m) h)
     → Left (record v { calls = cv; streams = sv; read = v.read + 1 }) (after (Took m) h)
 left_took v cv sv m h left after streams_after =
     let one_more = ap (λ n. n + 1) left.read ∙ sym (length-append h.read (m ∷ [])) in search rules
@@ -249,58 +194,61 @@ pub left_shut : (v : View) (cv : CallsView) (error : Error) (h : Past) → Left 
 left_shut v cv error h left after =
     let sound = sound_after (Shut error) h left.sound in search rules
 
-left_made_so : (v : View) (sv : List (Option Held)) (making : Making) (h : Past) → Left v h → LeftStreams sv (after (Made making) h) → Left (record v { streams = sv }) (after (Made making) h)
-left_made_so v sv making h left after = search rules
-
-pub left_made : (v : View) (told : Bool) (h : Past) → told ≡ is_some v.calls.closing → Left v h
-    → Left (record v { streams = v.streams ++ Some (empty_held None told) ∷ [] }) (after (Made Plain) h)
-left_made v told h e left =
-    left_made_so v (v.streams ++ Some (empty_held None told) ∷ []) Plain h left
-    (streams_made told v.streams h (e ∙ ap is_some left.calls.closing) left.streams)
-
-pub left_ruled : (v : View) (rule : Rule) (asked : Option ℕ) (h : Past) → Left v h
-    → Left (record v { streams = with_stream rule asked v.streams }) (after (Made (Ruled rule asked)) h)
-left_ruled v rule asked h left =
-    left_made_so v (with_stream rule asked v.streams) (Ruled rule asked) h left (streams_ruled rule asked v.streams h left.streams)
-
-pub left_cloned : (v : View) (k : ℕ) (h : Past) → is_open h k ≡ true → Left v h → Left (record v { streams = v.streams ++ kept_at v.streams k ∷ [] }) (after (Made (Cloned k)) h)
-left_cloned v k h there left = left_made_so v (v.streams ++ kept_at v.streams k ∷ []) (Cloned k) h left (streams_cloned k v.streams h there left.streams)
+pub left_made : (v : View) (sv : List Held) (making : Making) (h : Past) → Left v h → LeftStreams sv (after (Made making) h) → Left (record v { streams = sv }) (after (Made making) h)
+left_made v sv making h left after = search rules
 
 -- the main capacity is set
 pub left_main : (v : View) (limit : ℕ) (h : Past) → Left v h → Left (record v { main = limit }) (after (Main limit) h)
 left_main v limit h left = search rules
 
 -- a stream did something
-pub left_did : (v : View) (sv : List (Option Held)) (limit k : ℕ) (deed : Deed) (h : Past) → Left v h → LeftStreams sv (after (Did k deed) h) → limit ≡ (after (Did k deed) h).capacities.main
+pub left_did : (v : View) (sv : List Held) (limit k : ℕ) (deed : Deed) (h : Past) → Left v h → LeftStreams sv (after (Did k deed) h) → limit ≡ (after (Did k deed) h).capacities.main
     → Left (record v { streams = sv; main = limit }) (after (Did k deed) h)
 left_did v sv limit k deed h left after capacity = search rules
 
-pub left_idle : (v : View) (sv : List (Option Held)) (h : Past) → Left v h → LeftStreams sv h → Left (record v { streams = sv }) h
+pub left_idle : (v : View) (sv : List Held) (h : Past) → Left v h → LeftStreams sv h → Left (record v { streams = sv }) h
 left_idle v sv h left after = search rules
 
-left_gave : (v : View) (sv : List (Option Held)) (k : ℕ) (r : Result (Polled Seen) Error) (h : Past) → Left v h
+pub left_taken : (v : View) (sv : List Held) (k : ℕ) (r : Result (Polled Seen) Error) (h : Past) → Left v h
     → LeftStreams sv (after_all (take_events k r) h) → Left (record v { streams = sv }) (after_all (take_events k r) h)
-left_gave v sv k (Ok (polled.Now m)) h left after = left_did v sv v.main k Gave h left after left.main
-left_gave v sv k (Ok (polled.Closed error)) h left after = left_did v sv v.main k Told h left after left.main
-left_gave v sv k other h left after = left_idle v sv h left after
+left_taken v sv k (Ok (Polled.Now m)) h left after = left_did v sv v.main k Gave h left after left.main
+left_taken v sv k (Ok (Polled.Closed error)) h left after = left_did v sv v.main k Told h left after left.main
+left_taken v sv k other h left after = left_idle v sv h left after
 
-pub left_taken : (v : View) (k : ℕ) (h : Past) → Left v h
-    → Left (record v { streams = edit k (option_map (after_take v.calls.closing)) v.streams }) (after_all (take_events k (take_answer h k)) h)
-left_taken v k h left =
-    let P : Option Error → Type 0 = λ o. Left (record v { streams = edit k (option_map (after_take o)) v.streams }) (after_all (take_events k (take_answer h k)) h) in
-    subst P (sym left.calls.closing)
-    (left_gave v (edit k (option_map (after_take h.closing)) v.streams) k (take_answer h k) h left (streams_taken k v.streams h left.streams))
+pub left_opened : (v : View) (sv : List Held) (k : ℕ) (state : OpenState) (h : Past) → Left v h
+    → LeftStreams sv (after_all (opening_events k state) h) → Left (record v { streams = sv }) (after_all (opening_events k state) h)
+left_opened v sv k OpenState.Open h left after = left_did v sv v.main k Opened h left after left.main
+left_opened v sv k (OpenState.Refused m) h left after = left_did v sv v.main k Gone h left after left.main
+left_opened v sv k (OpenState.Over error) h left after = left_did v sv v.main k Gone h left after left.main
+left_opened v sv k other h left after = left_idle v sv h left after
 
-pub take_gives : (v : View) (k : ℕ) (h : Past) → Left v h → held_gives (kept_at v.streams k) v.calls.closing ≡ take_answer h k
-take_gives v k h left = ap (held_gives (kept_at v.streams k)) left.calls.closing ∙ taken_gives v.streams h k left.streams
+pub left_cloned : (v : View) (sv : List Held) (k : ℕ) (r : Result MessageStream Error) (h : Past) → Left v h → ClonesBy LeftStreams v.streams sv k h r → Clones v (record v { streams = sv }) k h r
+left_cloned v sv k (Ok stream) h left c = (c.0, c.1, left_made v sv (Cloned k) h left c.2)
+left_cloned v sv k (Err Error.UnknownHandle) h left c = (c.0, ap (λ qs. record v { streams = qs }) c.1)
+left_cloned v sv k (Err Error.Memory) h left c = ap (λ qs. record v { streams = qs }) c
+left_cloned v sv k (Err other) h left c = absurd c
 
--- nothing comes exactly where a take says so
-pub ended_so : (v : View) (k : ℕ) (h : Past) → Left v h → ended_by (kept_at v.streams k) (is_some v.calls.closing) ≡ nothing_comes (take_answer h k)
-ended_so v k h left = ap (λ o. ended_by (kept_at v.streams k) (is_some o)) left.calls.closing ∙ ended_left v.streams h k left.streams
+pub ask_so : (h : Past) (k : ℕ) (b : Bool) → is_open h k ≡ b → ask_answer h k ≡ known b
+unfolding ask_answer
+ask_so h k b e = ap known e
 
--- a stream is open exactly where something is kept of it
-pub open_so : (v : View) (k : ℕ) (h : Past) → Left v h → is_some (kept_at v.streams k) ≡ is_open h k
-open_so v k h left = open_left v.streams h k left.streams
+-- a stream without a rule asks for more, and the main capacity is raised; or one with a rule, and it stays
+asked_main : (h : Past) (o : Option Stream) (limit n : ℕ) (b : Bool) → is_some (rule_of o) ≡ b → runs_at h.read o ≡ true → (if b then n else max n limit) ≡ (if is_some o && is_none (rule_of o) then max n limit else n)
+asked_main h None limit n b e there = cc
+asked_main h (Some s) limit n b e there = by s.rule b e
+  where
+    by : (o : Option Rule) (c : Bool) → is_some o ≡ c → (if c then n else max n limit) ≡ (if is_none o then max n limit else n)
+    by None true x = cc
+    by None false x = refl
+    by (Some rule) true x = refl
+    by (Some rule) false x = cc
+
+pub left_asked : (v : View) (sv : List Held) (k limit : ℕ) (b : Bool) (h : Past) → is_open h k ≡ true → b ≡ has_rule h k → Left v h → LeftStreams sv (after (Did k (Asked limit)) h)
+    → Left (record v { streams = sv; main = if b then v.main else max v.main limit }) (after (Did k (Asked limit)) h)
+unfolding is_open
+left_asked v sv k limit b h there e left after =
+    left_did v sv (if b then v.main else max v.main limit) k (Asked limit) h left after
+    (ap (λ n. if b then n else max n limit) left.main ∙ asked_main h (slice_get h.streams k) limit h.capacities.main b (sym e) there)
 
 pub busy_left : (v : View) (h : Past) → Left v h → is_busy v ≡ busy h
 unfolding is_busy busy
@@ -309,15 +257,5 @@ busy_left v h left =
     ∙ ap (λ n. is_none h.closing && list_any (is_over n) v.streams) left.main
     ∙ ap (λ b. is_none h.closing && b) (over_any v.streams h left.streams)
 
--- ---- closing streams, and their capacity
-
-pub left_ended : (v : View) (k : ℕ) (h : Past) → Left v h → Left (record v { streams = edit k (λ q. None) v.streams }) (after (Did k Gone) h)
-left_ended v k h left = left_did v (edit k (λ q. None) v.streams) v.main k Gone h left (streams_ended k v.streams h left.streams) left.main
-
--- a stream asks for more
-pub left_asked : (v : View) (k limit : ℕ) (h : Past) → is_open h k ≡ true → Left v h
-    → Left (record v { streams = asked_for (wants_of (kept_at v.streams k)) limit v.streams; main = main_asked (wants_of (kept_at v.streams k)) limit v.main }) (after (Did k (Asked limit)) h)
-left_asked v k limit h there left =
-    let w = wants_of (kept_at v.streams k) in
-    left_did v (asked_for w limit v.streams) (main_asked w limit v.main) k (Asked limit) h left (streams_asked k limit v.streams h there left.streams)
-    (ap (main_asked w limit) left.main ∙ main_left v.streams h k limit there left.streams)
+pub streams_len : (v : View) (h : Past) → Left v h → length v.streams ≡ length h.streams
+streams_len v h left = ap length left.streams.queues ∙ length-map h.streams (kept h.capacities.rules h.read)

@@ -1,46 +1,25 @@
--- What a lane's take is, by its answer; which entries give an item; and what an entry leaves of a stream that gives none.
-use Rattle.std.proofs.Common.{◌≡◌, ◌≢◌, inl, inr, ℕ, refl, sym, ◌∙◌, ap, subst, ◌||◌, ◌&&◌, ◌==◌, Bool, true, false, if◌then◌else◌, List, [], ◌∷◌, Option, Some, None, Ok, Err, Result, ◌⊎◌}
-use Rattle.std.specs.List.{slice_get, AllByRecursion}
-use Rattle.std.specs.Option.{option_map}
-use Rattle.std.proofs.lemmas.Option.{slice_get-map}
-use Rattle.std.proofs.lemmas.Bool.{cases_eq, eq-eqb, eqb-true, and_parts}
-use Rattle.std.proofs.Math.Bool.{and-true, and-false}
-use Rattle.wire_message.specs.Front.{Seen}
-use Rattle.wire_message.specs.declared.error.Error.{Error}
-use Rattle.wire_message.specs.declared.error.Error.TheVariants as errors
-use Rattle.peer_route.specs.declared.words.Words.{Words}
-use Rattle.peer_route.specs.declared.words.Words.TheVariants as words
-use Rattle.peer_route.specs.declared.words.StreamOp.{StreamOp}
-use Rattle.peer_route.specs.declared.words.StreamOp.TheVariants as ops
-use Rattle.peer_route.specs.declared.answer.Answer.{Answer}
-use Rattle.peer_route.specs.declared.answer.Answer.TheVariants as answers
-use Rattle.peer_route.specs.declared.answer.Entry.{Entry}
-use Rattle.peer_route.specs.declared.polled.Polled.{Polled}
-use Rattle.peer_route.specs.declared.polled.Polled.TheVariants as polled
-use Rattle.peer_route.specs.History.{Event, Purpose, Wrote, Fault, Made, Did, Put, Adds, Deed, Gave, Told, Gone, Asked, Opened, edit, Stream, phase, asks_by, new_stream, asking_stream, done_by, fail_stream, Past, after, after_all}
-use Rattle.peer_route.specs.Calls.{by_position}
-use Rattle.peer_route.specs.Streams.{gone_events, held, runs, take_by, take_at, take_answer, take_events, is_open, runs_at, is_since}
-use Rattle.peer_route.specs.Issuing.{puts}
-use Rattle.peer_route.specs.Trail.{Trail, place}
-use Rattle.peer_route.specs.Plan.{Plan, where_named, on_stream, plan, where_open, unless_waits}
-use Rattle.peer_route.specs.StreamLaws.{stays_open, is_take, is_take_op, item_by, IsLast}
-use Rattle.peer_route.proofs.StreamsMade.{runs_so}
-use Rattle.peer_route.specs.Entries.{IsMeant, read_events, deeds, postings, writes, past_after}
-use Rattle.peer_route.proofs.Edits.{edit_other, edit_here, get_append}
-use Rattle.peer_route.proofs.Plans.{takes, NoItem, by_plan, along, are_writes}
-use Rattle.peer_route.proofs.Kept.{puts_are}
-use Rattle.peer_route.specs.Shown.{shown_take}
+-- What a lane's take is, by its answer; which entries give an item, and what is left of a stream that gives none. Each stream that was made
+-- has its lane, none starts above what was read; and what a lane's stream gives, entry by entry.
+use Rattle.peer_route.specs.{History.{Gave, done_by, Event, Purpose, Wrote, Fault, Made, Did, Put, Adds, Deed, Told, Gone, Asked, Opened, edit, Stream, phase, asks_by, new_stream, asking_stream, fail_stream, Past, after, after_all, OfLane, Removes, Took, Making, Plain, Ruled, Cloned, clone_of}, Names.{Words, StreamOp, Answer, Entry, Polled, Seen, Error}, Calls.by_position, Streams.{held, runs, take_by, take_at, take_answer, take_events, is_open, runs_at, is_since, matched}, Issuing.{puts, Posting}, Trail.{Trail, place, Names, stream_names, asked_names, made_names, count}, Plan.{Plan, where_named, on_stream, plan, where_open, unless_waits, makes}, StreamLaws.{stays_open, is_take, is_take_op, item_by, IsLast, items_given}, Entries.{IsMeant, deeds, postings, writes, past_after, first_past, trail, Legal, more_by, more}, Shown.shown_take, Parcel.Setting, Left.IsWithin}
+use Rattle.std.proofs.{Common.{◌≡◌, ◌≢◌, inl, inr, ℕ, refl, sym, ◌∙◌, ap, subst, ◌||◌, ◌&&◌, ◌==◌, Bool, true, false, if◌then◌else◌, List, [], ◌∷◌, Option, Some, None, Ok, Err, Result, ◌⊎◌, ◌+◌, arith, ◌++◌, length, length-append, ◌≤◌, is_some, append-nil}, lemmas.Option.slice_get-map, lemmas.Bool.{cases_eq, eq-eqb, eqb-true, and_parts, false_from_ne_true}, Math.Bool.{and-true, and-false}, lemmas.List.length-map}
+use Rattle.std.specs.{List.{slice_get, AllByRecursion}, Option.option_map}
+use Rattle.peer_route.proofs.{StreamsMade.{runs_so, within_edit, fail_within, clone_within}, Edits.{edit_other, edit_here, get_append, edit-length, drop_next, all_weaker, all_at, all_more, all_map, all_edit}, Plans.{takes, along, are_writes, IsDeed, Gives, IsWrite}, Kept.{puts_are, deeds_by, deeds_all, at_start}, Matched.{held_matched, within_took, within_fresh, within_asking}, Places.{place_append, place_new, one_place}}
+
+-- no item is given
+abbrev pub NoItem : Event → Type 0
+NoItem (Did j Gave) = ⊥
+NoItem e = Unit {0}
 
 -- ---- a take
 
 -- a take of the stream that is named, by its answer, and what it does
 pub data TakeOf (h : Past) (p : Option ℕ) (a : Answer) (done : List Event) : Type 0 where
-  Quiet : done ≡ [] → item_by true a ≡ [] → (IsLast a → ⊥) → (a ≡ answers.Refused errors.UnknownHandle) ⊎ (h.closing ≡ None) → TakeOf h p a done
-  Item : (k : ℕ) (s : Stream) (m : Seen) (ms : List Seen) → p ≡ Some k → slice_get h.streams k ≡ Some s → held h.read s ≡ m ∷ ms → done ≡ Did k Gave ∷ [] → a ≡ answers.Item m.position → TakeOf h p a done
+  Quiet : done ≡ [] → item_by true a ≡ [] → (IsLast a → ⊥) → (a ≡ Answer.Refused Error.UnknownHandle) ⊎ (h.closing ≡ None) → TakeOf h p a done
+  Item : (k : ℕ) (s : Stream) (m : Seen) (ms : List Seen) → p ≡ Some k → slice_get h.streams k ≡ Some s → held h.read s ≡ m ∷ ms → done ≡ Did k Gave ∷ [] → a ≡ Answer.Item m.position → TakeOf h p a done
   Tells : (k : ℕ) (s : Stream) (error : Error) → p ≡ Some k → slice_get h.streams k ≡ Some s → runs h.read s ≡ true → held h.read s ≡ [] → h.closing ≡ Some error → s.told ≡ false
-      → done ≡ Did k Told ∷ [] → a ≡ answers.Closed error → TakeOf h p a done
+      → done ≡ Did k Told ∷ [] → a ≡ Answer.Closed error → TakeOf h p a done
   Ends : (k : ℕ) (s : Stream) (error : Error) → p ≡ Some k → slice_get h.streams k ≡ Some s → held h.read s ≡ [] → h.closing ≡ Some error → s.told ≡ true
-      → done ≡ [] → a ≡ answers.Ended → TakeOf h p a done
+      → done ≡ [] → a ≡ Answer.Ended → TakeOf h p a done
 
 abbrev TakeBy : Past → ℕ → Result (Polled Seen) Error → Type 0
 TakeBy h k r = TakeOf h (Some k) (shown_take r) (take_events k r)
@@ -52,7 +31,7 @@ kind_by h k s [] None told at still e c t = Quiet refl refl (λ l. l) (inr c)
 kind_by h k s [] (Some error) false at still e c t = Tells k s error refl at still e c t refl refl
 kind_by h k s [] (Some error) true at still e c t = Ends k s error refl at e c t refl refl
 
-kind_open : (h : Past) (k : ℕ) (s : Stream) (open_ : Bool) → slice_get h.streams k ≡ Some s → runs h.read s ≡ open_ → TakeBy h k (if open_ then Ok (take_by (held h.read s) h.closing s.told) else Err errors.UnknownHandle)
+kind_open : (h : Past) (k : ℕ) (s : Stream) (open_ : Bool) → slice_get h.streams k ≡ Some s → runs h.read s ≡ open_ → TakeBy h k (if open_ then Ok (take_by (held h.read s) h.closing s.told) else Err Error.UnknownHandle)
 kind_open h k s true at e = kind_by h k s (held h.read s) h.closing s.told at e refl refl refl
 kind_open h k s false at e = Quiet refl refl (λ l. l) (inl refl)
 
@@ -66,63 +45,44 @@ kind_of h k = kind_at h k (slice_get h.streams k) refl
 
 -- by position it is said that there is none before, in place of nothing yet
 kind_before : (h : Past) (k : ℕ) (r : Result (Polled Seen) Error) → TakeBy h k r → TakeOf h (Some k) (shown_take (by_position r)) (take_events k r)
-kind_before h k (Ok polled.NotYet) (Quiet none item last (inl is)) = cc
-kind_before h k (Ok polled.NotYet) (Quiet none item last (inr shut)) = Quiet refl refl (λ l. l) (inr shut)
-kind_before h k (Ok polled.NotYet) (Item j s m ms named at e does is) = cc
-kind_before h k (Ok polled.NotYet) (Tells j s error named at still e shut told does is) = cc
-kind_before h k (Ok polled.NotYet) (Ends j s error named at e shut told does is) = cc
+kind_before h k (Ok Polled.NotYet) (Quiet none item last (inl is)) = cc
+kind_before h k (Ok Polled.NotYet) (Quiet none item last (inr shut)) = Quiet refl refl (λ l. l) (inr shut)
+kind_before h k (Ok Polled.NotYet) (Item j s m ms named at e does is) = cc
+kind_before h k (Ok Polled.NotYet) (Tells j s error named at still e shut told does is) = cc
+kind_before h k (Ok Polled.NotYet) (Ends j s error named at e shut told does is) = cc
 kind_before h k r kind = kind
 
-take_named : (t : Trail) (lane : ℕ) (p : Option ℕ) (e : Entry) → IsMeant t.past (where_named (on_stream t lane ops.Take) p) e
-    → TakeOf t.past p e.answer (deeds (where_named (on_stream t lane ops.Take) p) e)
-take_named t lane None e is = Quiet refl (ap (item_by true) is.1) (λ l. subst IsLast is.1 l) (inl is.1)
-take_named t lane (Some k) e is = subst (λ a. TakeOf t.past (Some k) a (take_events k (take_answer t.past k))) (sym is.1) (kind_of t.past k)
-
-before_named : (t : Trail) (lane before : ℕ) (p : Option ℕ) (e : Entry) → IsMeant t.past (where_named (on_stream t lane (ops.TakeBefore before)) p) e
-    → TakeOf t.past p e.answer (deeds (where_named (on_stream t lane (ops.TakeBefore before)) p) e)
-before_named t lane before None e is = Quiet refl (ap (item_by true) is.1) (λ l. subst IsLast is.1 l) (inl is.1)
-before_named t lane before (Some k) e is =
+take_named : (t : Trail) (lane : ℕ) (op : StreamOp) (p : Option ℕ) (e : Entry) → is_take_op op ≡ true → IsMeant t.past (where_named (on_stream t lane op) p) e → TakeOf t.past p e.answer (deeds (where_named (on_stream t lane op) p) e)
+take_named t lane op None e takes_ is = Quiet refl (ap (item_by true) is.1) (λ l. subst IsLast is.1 l) (inl is.1)
+take_named t lane StreamOp.Take (Some k) e takes_ is = subst (λ a. TakeOf t.past (Some k) a (take_events k (take_answer t.past k))) (sym is.1) (kind_of t.past k)
+take_named t lane (StreamOp.TakeBefore before) (Some k) e takes_ is =
     subst (λ a. TakeOf t.past (Some k) a (take_events k (take_answer t.past k))) (sym is.1) (kind_before t.past k (take_answer t.past k) (kind_of t.past k))
+take_named t lane op (Some k) e takes_ is = cc
 
 -- a legal entry that takes from the lane's stream with this number, by position or not
 pub take_entry : (t : Trail) (lane : ℕ) (w : Words) (e : Entry) (number : ℕ) → IsMeant t.past (plan t lane w) e → is_take number w ≡ true
     → TakeOf t.past (place 0 lane number t.streams) e.answer (deeds (plan t lane w) e)
-take_entry t lane (words.OfStream n ops.Take) e number is q =
-    subst (λ x. TakeOf t.past (place 0 lane x t.streams) e.answer (deeds (plan t lane (words.OfStream n ops.Take)) e)) (eqb-true n number (and_parts (n == number) true q).0)
-    (take_named t lane (place 0 lane n t.streams) e is)
-take_entry t lane (words.OfStream n (ops.TakeBefore before)) e number is q =
-    subst (λ x. TakeOf t.past (place 0 lane x t.streams) e.answer (deeds (plan t lane (words.OfStream n (ops.TakeBefore before))) e)) (eqb-true n number (and_parts (n == number) true q).0)
-    (before_named t lane before (place 0 lane n t.streams) e is)
-take_entry t lane (words.OfStream n op) e number is q = let p = (and_parts (n == number) false q).1 in cc
+take_entry t lane (Words.OfStream n op) e number is q =
+    let both = and_parts (n == number) (is_take_op op) q in
+    subst (λ x. TakeOf t.past (place 0 lane x t.streams) e.answer (deeds (plan t lane (Words.OfStream n op)) e)) (eqb-true n number both.0) (take_named t lane op (place 0 lane n t.streams) e both.1 is)
 take_entry t lane w e number is q = cc
 
 -- ---- what gives no item
 
-silent_gone : (k : ℕ) (j : Option ℕ) → AllByRecursion NoItem (gone_events k j)
-silent_gone k None = (tt, tt)
-silent_gone k (Some j) = (tt, (tt, tt))
-
-silent_read : (m : Option Seen) (a : Answer) → AllByRecursion NoItem (read_events m a)
-silent_read (Some m) a = (tt, tt)
-silent_read None (answers.Closed error) = (tt, tt)
-silent_read None a = tt
-
-silent_write : (fails : Bool) → AllByRecursion NoItem ((if fails then Fault else Wrote) ∷ [])
-silent_write true = (tt, tt)
-silent_write false = (tt, tt)
+no_item : (w : Words) → takes w ≡ false → (e : Event) → IsDeed e → Gives w e → NoItem e
+no_item w q (Did j Gave) is gives = cc
+no_item w q e is gives = tt
 
 -- a command that takes nothing gives none
 silent : (t : Trail) (lane : ℕ) (e : Entry) (w : Words) → takes w ≡ false → AllByRecursion NoItem (deeds (plan t lane w) e)
-silent t lane e =
-    by_plan (λ w pl. takes w ≡ false → AllByRecursion NoItem (deeds pl e)) t lane (λ w a done fair. fair.quiet) (λ w parcel from q. tt) (λ asked text rule q. tt) (λ n second k j o q. silent_gone k j)
-    (λ o q. silent_read e.read e.answer) (λ q. (tt, tt)) (λ line fails fine q. silent_write fails) (λ line q. tt)
+silent t lane e w q = deeds_by NoItem t lane e w (no_item w q) (λ error. tt) (λ reads m. tt) (λ line. (tt, tt))
 
 -- ---- an entry gives no item, or just one
 
 pub data Items (t : Trail) (lane : ℕ) (w : Words) (e : Entry) : Type 0 where
   NoneGiven : AllByRecursion NoItem (deeds (plan t lane w) e) → ((i : ℕ) → is_take i w ≡ true → item_by true e.answer ≡ []) → Items t lane w e
   OneGiven : (n k : ℕ) (s : Stream) (m : Seen) (ms : List Seen) → ((i : ℕ) → is_take i w ≡ (n == i)) → place 0 lane n t.streams ≡ Some k → slice_get t.past.streams k ≡ Some s
-      → held t.past.read s ≡ m ∷ ms → deeds (plan t lane w) e ≡ Did k Gave ∷ [] → e.answer ≡ answers.Item m.position → Items t lane w e
+      → held t.past.read s ≡ m ∷ ms → deeds (plan t lane w) e ≡ Did k Gave ∷ [] → e.answer ≡ Answer.Item m.position → Items t lane w e
 
 items_taken : (t : Trail) (lane n : ℕ) (w : Words) (e : Entry) → ((i : ℕ) → is_take i w ≡ (n == i)) → TakeOf t.past (place 0 lane n t.streams) e.answer (deeds (plan t lane w) e) → Items t lane w e
 items_taken t lane n w e takes (Quiet none item last why) = NoneGiven (subst (AllByRecursion NoItem) (sym none) tt) (λ i q. item)
@@ -130,15 +90,15 @@ items_taken t lane n w e takes (Item k s m ms named made items does is) = OneGiv
 items_taken t lane n w e takes (Tells k s error named made still none shut told does is) = NoneGiven (subst (AllByRecursion NoItem) (sym does) (tt, tt)) (λ i q. ap (item_by true) is)
 items_taken t lane n w e takes (Ends k s error named made none shut told does is) = NoneGiven (subst (AllByRecursion NoItem) (sym does) tt) (λ i q. ap (item_by true) is)
 
-items_of : (t : Trail) (lane n : ℕ) (op : StreamOp) (e : Entry) (is_take_ : Bool) → is_take_op op ≡ is_take_ → IsMeant t.past (plan t lane (words.OfStream n op)) e → Items t lane (words.OfStream n op) e
+items_of : (t : Trail) (lane n : ℕ) (op : StreamOp) (e : Entry) (is_take_ : Bool) → is_take_op op ≡ is_take_ → IsMeant t.past (plan t lane (Words.OfStream n op)) e → Items t lane (Words.OfStream n op) e
 items_of t lane n op e true q is =
-    let one : (i : ℕ) → is_take i (words.OfStream n op) ≡ (n == i) = λ i. ap (λ b. (n == i) && b) q ∙ and-true (n == i) in
-    items_taken t lane n (words.OfStream n op) e one (take_entry t lane (words.OfStream n op) e n is (one n ∙ eq-eqb n n refl))
+    let one : (i : ℕ) → is_take i (Words.OfStream n op) ≡ (n == i) = λ i. ap (λ b. (n == i) && b) q ∙ and-true (n == i) in
+    items_taken t lane n (Words.OfStream n op) e one (take_entry t lane (Words.OfStream n op) e n is (one n ∙ eq-eqb n n refl))
 items_of t lane n op e false q is =
-    NoneGiven (silent t lane e (words.OfStream n op) q) (λ i is_one. let no_ : is_take i (words.OfStream n op) ≡ false = ap (λ b. (n == i) && b) q ∙ and-false (n == i) in cc)
+    NoneGiven (silent t lane e (Words.OfStream n op) q) (λ i is_one. let no_ : is_take i (Words.OfStream n op) ≡ false = ap (λ b. (n == i) && b) q ∙ and-false (n == i) in cc)
 
 pub items : (t : Trail) (lane : ℕ) (w : Words) (e : Entry) → IsMeant t.past (plan t lane w) e → Items t lane w e
-items t lane (words.OfStream n op) e is = items_of t lane n op e (is_take_op op) refl is
+items t lane (Words.OfStream n op) e is = items_of t lane n op e (is_take_op op) refl is
 items t lane w e is = NoneGiven (silent t lane e w refl) (λ i q. cc)
 
 -- ---- along an entry
@@ -150,10 +110,6 @@ along_messages P Is keeps put wrote fault pl e h so =
     let g = after_all (deeds pl e) h in
     along P Is keeps (writes e) (after_all (puts (postings pl) e.put) g) (are_writes Is e wrote fault)
     (along P Is keeps (puts (postings pl) e.put) g (puts_are Is put (postings pl) e.put) so)
-
-pub all_weaker : (P Q : Event → Type 0) → ((e : Event) → P e → Q e) → (es : List Event) → AllByRecursion P es → AllByRecursion Q es
-all_weaker P Q so [] all = tt
-all_weaker P Q so (e ∷ es) all = (so e all.0, all_weaker P Q so es all.1)
 
 -- ---- what is left of a stream that gives nothing
 
@@ -214,3 +170,216 @@ stream_runs h (Some s) e = (s, refl, (runs_so h s e).since)
 pub open_stream : (h : Past) (k : ℕ) → is_open h k ≡ true → (s : Stream) × (slice_get h.streams k ≡ Some s) × (is_since (phase h.read s) ≡ true)
 unfolding is_open
 open_stream h k e = stream_runs h (slice_get h.streams k) e
+
+-- ---- lanes
+
+abbrev NoPut : Event → Type 0
+NoPut (Put m why) = ⊥
+NoPut e = Unit {0}
+
+no_put : (e : Event) → IsDeed e → NoPut e
+no_put (Put m why) deed = deed
+no_put e deed = tt
+
+-- what is done by itself makes as many streams as are named
+made_length : (lane : ℕ) (es : List Event) (h : Past) → AllByRecursion NoPut es → length (after_all es h).streams ≡ length (made_names lane es) + length h.streams
+made_length lane [] h all = let none : length (made_names lane []) ≡ 0 = refl in omega (arith, none)
+made_length lane (Made making ∷ es) h all =
+    let rest = made_length lane es (after (Made making) h) all.1 in
+    let one = length-append h.streams (new_stream h h.streams making ∷ []) in
+    omega (arith, rest, one)
+made_length lane (Did k deed ∷ es) h all = made_length lane es (after (Did k deed) h) all.1 ∙ ap (λ n. length (made_names lane es) + n) (edit-length k (done_by deed) h.streams)
+made_length lane (Fault ∷ es) h all = made_length lane es (after Fault h) all.1 ∙ ap (λ n. length (made_names lane es) + n) (length-map h.streams (fail_stream h.read h.outbox.done))
+made_length lane (Put m why ∷ es) h all = absurd all.0
+made_length lane (e ∷ es) h all = made_length lane es (after e h) all.1
+
+-- and so do messages
+put_length : (lane : ℕ) (failed : Bool) (m : Seen) (why : Purpose) (h : Past) → length (after (Put m why) h).streams ≡ length (stream_names lane failed why) + length h.streams
+put_length lane failed m (OfLane waits) h = omega arith
+put_length lane failed m (Adds rule asked) h = let one = length-append h.streams (asking_stream h m rule ∷ []) in omega (arith, one)
+put_length lane failed m Removes h = omega arith
+
+puts_length : (lane : ℕ) (failed : Bool) (ds : List Posting) (ms : List Seen) (h : Past) → length (after_all (puts ds ms) h).streams ≡ length (asked_names lane failed ds ms) + length h.streams
+puts_length lane failed [] ms h = omega arith
+puts_length lane failed (d ∷ ds) [] h = omega arith
+puts_length lane failed (d ∷ ds) (m ∷ ms) h =
+    let rest = puts_length lane failed ds ms (after (Put m d.purpose) h) in
+    let one = put_length lane failed m d.purpose h in
+    let both = length-append (stream_names lane failed d.purpose) (asked_names lane failed ds ms) in
+    omega (arith, rest, one, both)
+
+write_length : (n : ℕ) (e : Event) (h : Past) → IsWrite e → length h.streams ≡ n → length (after e h).streams ≡ n
+write_length n Wrote h is same = same
+write_length n Fault h is same = length-map h.streams (fail_stream h.read h.outbox.done) ∙ same
+write_length n e h is same = absurd is
+
+-- a peer begins without a stream
+pub first_streams : (setting : Setting) → (first_past setting).streams ≡ []
+first_streams setting = at_start (λ (h : Past). h.streams ≡ []) refl (λ limit h same. same) (λ h same. same) (λ name h same. same) setting
+
+lanes_by : (lane : ℕ) (names : Names) (pl : Plan) (e : Entry) (h : Past) → AllByRecursion NoPut (deeds pl e) → length names ≡ length h.streams
+    → length (names ++ made_names lane (deeds pl e) ++ asked_names lane e.failed (postings pl) e.put) ≡ length (past_after pl e h).streams
+lanes_by lane names pl e h all before =
+    let done = after_all (deeds pl e) h in
+    let put = after_all (puts (postings pl) e.put) done in
+    let made = made_length lane (deeds pl e) h all in
+    let asked = puts_length lane e.failed (postings pl) e.put done in
+    let both = length-append names (made_names lane (deeds pl e)) in
+    let named : length (names ++ made_names lane (deeds pl e) ++ asked_names lane e.failed (postings pl) e.put) ≡ length put.streams =
+    length-append (names ++ made_names lane (deeds pl e)) (asked_names lane e.failed (postings pl) e.put) ∙ omega (arith, before, made, asked, both) in
+    named ∙ sym (along (λ (g : Past). length g.streams ≡ length put.streams) IsWrite (write_length (length put.streams)) (writes e) put (are_writes IsWrite e tt tt) refl)
+
+pub lanes : (setting : Setting) (es : List Entry) → length (trail setting es).streams ≡ length (trail setting es).past.streams
+lanes setting [] = ap length (sym (first_streams setting))
+lanes setting (e ∷ es) =
+    let t = trail setting es in
+    lanes_by e.lane t.streams (plan t e.lane e.words) e t.past (deeds_all NoPut no_put (λ error. tt) t e.lane e e.words (λ r m. tt) (λ l. (tt, tt))) (lanes setting es)
+
+-- ---- none passed more than was its own
+
+abbrev pub AllWithin : Past → Type 0
+AllWithin h = AllByRecursion (IsWithin h.read) h.streams
+
+within_clone : (h : Past) (k : ℕ) (o : Option Stream) → slice_get h.streams k ≡ o → AllWithin h → IsWithin h.read (clone_of h o)
+within_clone h k None at w = within_fresh h None (is_some h.closing)
+within_clone h k (Some s) at w = clone_within h s (all_at (IsWithin h.read) h.streams k s at w)
+
+within_new : (h : Past) (making : Making) → AllWithin h → IsWithin h.read (new_stream h h.streams making)
+within_new h Plain w = within_fresh h None (is_some h.closing)
+within_new h (Ruled rule asked) w = within_fresh h (Some rule) false
+within_new h (Cloned k) w = within_clone h k (slice_get h.streams k) refl w
+
+within_deed : (h : Past) (j : ℕ) (deed : Deed) (s : Stream) → NoItem (Did j deed) → IsWithin h.read s → IsWithin h.read (done_by deed s)
+unfolding matched phase
+within_deed h j Gave s n w = absurd n
+within_deed h j (Asked limit) s n w = w
+within_deed h j deed s n w = record { start = w.start; passed = w.passed }
+
+within_after : (e : Event) (h : Past) → NoItem e → AllWithin h → AllWithin (after e h)
+within_after (Took m) h n w = all_weaker (IsWithin h.read) (IsWithin (after (Took m) h).read) (within_took m h) h.streams w
+within_after (Made making) h n w = all_more (IsWithin h.read) h.streams (new_stream h h.streams making) w (within_new h making w)
+within_after (Put m (Adds rule asked)) h n w = all_more (IsWithin h.read) h.streams (asking_stream h m rule) w (within_asking h m rule)
+within_after (Did j deed) h n w = all_edit (IsWithin h.read) (done_by deed) h.streams j (λ s is one. within_deed h j deed s n one) w
+within_after Fault h n w = all_map (IsWithin h.read) (IsWithin h.read) (fail_stream h.read h.outbox.done) (fail_within h h.outbox.done) h.streams w
+within_after e h n w = w
+
+within_item : (h : Past) (k : ℕ) (s : Stream) (m : Seen) (ms : List Seen) → slice_get h.streams k ≡ Some s → held h.read s ≡ m ∷ ms → AllWithin h → AllWithin (after (Did k Gave) h)
+unfolding matched phase
+within_item h k s m ms at e w =
+    let one = all_at (IsWithin h.read) h.streams k s at w in
+    let le : s.skip + s.taken + 1 ≤ length (matched h.read s) = (drop_next (s.skip + s.taken) (matched h.read s) m ms (sym (held_matched h s) ∙ e)).1 in
+    within_edit h (done_by Gave) h.streams k s at (record { start = one.start; passed = omega arith }) w
+
+within_deeds : (t : Trail) (lane : ℕ) (w : Words) (e : Entry) → Items t lane w e → AllWithin t.past → AllWithin (after_all (deeds (plan t lane w) e) t.past)
+within_deeds t lane w e (NoneGiven none item) all = along AllWithin NoItem within_after (deeds (plan t lane w) e) t.past none all
+within_deeds t lane w e (OneGiven n k s m ms takes named made holds does is) all = subst (λ ds. AllWithin (after_all ds t.past)) (sym does) (within_item t.past k s m ms made holds all)
+
+pub all_within : (setting : Setting) (es : List Entry) → Legal setting es → AllWithin (trail setting es).past
+all_within setting [] legal = subst (AllByRecursion (IsWithin _)) (sym (first_streams setting)) tt
+all_within setting (e ∷ es) legal =
+    let t = trail setting es in
+    along_messages AllWithin NoItem within_after (λ m why. tt) tt tt (plan t e.lane e.words) e t.past
+    (within_deeds t e.lane e.words e (items t e.lane e.words e legal.0) (all_within setting es legal.1))
+
+-- ---- what a stream gives
+
+-- What is said so of a stream, and of the positions of the items that it gave, is so after each further event, whatever the stream told,
+-- and whether it is gone or open now; and an item is one position more.
+pub record Flowing (goes : Past → Stream → List ℕ → Type 0) : Type 0 where
+  pub along : (e : Event) (h : Past) (s : Stream) (given : List ℕ) → goes h s given → goes (after e h) s given
+  pub same : (h : Past) (s : Stream) (given : List ℕ) (a b c : Bool) → goes h s given → goes h (turned s a b c) given
+  pub item : (h : Past) (k : ℕ) (s : Stream) (given : List ℕ) (m : Seen) (ms : List Seen) → held h.read s ≡ m ∷ ms → goes h s given
+      → goes (after (Did k Gave) h) (done_by Gave s) (given ++ m.position ∷ [])
+
+-- So it is of the stream with this number, and these are the positions of what it gave.
+pub record FlowAt (goes : Past → Stream → List ℕ → Type 0) (k : ℕ) (given : List ℕ) (h : Past) : Type 0 where
+  pub stream : Stream
+  pub made : slice_get h.streams k ≡ Some stream
+  pub flows : goes h stream given
+
+-- And of the lane's.
+pub record Flow (goes : Past → Stream → List ℕ → Type 0) (t : Trail) (lane number : ℕ) (given : List ℕ) : Type 0 where
+  pub k : ℕ
+  pub named : place 0 lane number t.streams ≡ Some k
+  pub now : FlowAt goes k given t.past
+
+-- what a number names it names behind an entry, too
+pub named_on : (pl : Plan) (e : Entry) (t : Trail) (lane number k : ℕ) → place 0 lane number t.streams ≡ Some k → place 0 lane number (more_by pl e t).streams ≡ Some k
+named_on pl e t lane number k named =
+    let made = made_names e.lane (deeds pl e) in
+    place_append 0 lane number (t.streams ++ made) (asked_names e.lane e.failed (postings pl) e.put) k (place_append 0 lane number t.streams made k named)
+
+-- a stream that was made is the lane's next
+pub named_new : (t : Trail) (e : Entry) (number : ℕ) (making : Making) → IsMeant t.past (plan t e.lane e.words) e → plan t e.lane e.words ≡ makes t e.lane making → e.answer ≡ Answer.Streaming number
+    → place 0 e.lane number (more t e).streams ≡ Some (length t.streams)
+named_new t e number making is means a =
+    let answer : Answer.Streaming (count e.lane t.streams) ≡ Answer.Streaming number = sym (subst (λ pl. IsMeant t.past pl e) means is).1 ∙ a in
+    let n : count e.lane t.streams ≡ number = cc in
+    ap (λ pl. place 0 e.lane number (more_by pl e t).streams) means ∙ ap (λ ns. place 0 e.lane number ns) (append-nil (t.streams ++ Some e.lane ∷ []))
+    ∙ ap (λ x. place 0 e.lane x (t.streams ++ Some e.lane ∷ [])) (sym n) ∙ place_new 0 e.lane t.streams ∙ ap Some (omega arith)
+
+-- the entry gives no item of the lane's stream with this number
+none_by : (b c : Bool) (a : Answer) → (c ≡ true → item_by true a ≡ []) → item_by (b && c) a ≡ []
+none_by true true a item = item refl
+none_by true false a item = refl
+none_by false c a item = refl
+
+module _ (goes : Past → Stream → List ℕ → Type 0) (steps : Flowing goes) where
+  flow_after : (k : ℕ) (given : List ℕ) (e : Event) (h : Past) → Spares k e → FlowAt goes k given h → FlowAt goes k given (after e h)
+  flow_after k given e h spare f =
+      let r = stays e h k f.stream spare f.made in
+      record { stream = turned f.stream r.0 r.1 r.2; made = r.3; flows = steps.same (after e h) f.stream given r.0 r.1 r.2 (steps.along e h f.stream given f.flows) }
+
+  -- what is so once the deeds were is so behind the entry
+  pub flow_entry : (k : ℕ) (given : List ℕ) (pl : Plan) (e : Entry) (h : Past) → FlowAt goes k given (after_all (deeds pl e) h) → FlowAt goes k given (past_after pl e h)
+  flow_entry k given pl e h f = along_messages (FlowAt goes k given) (Spares k) (flow_after k given) (λ m why. tt) tt tt pl e h f
+
+  pub flow_writes : (k : ℕ) (given : List ℕ) (e : Entry) (h : Past) → FlowAt goes k given h → FlowAt goes k given (after_all (writes e) h)
+  flow_writes k given e h f = along (FlowAt goes k given) (Spares k) (flow_after k given) (writes e) h (are_writes (Spares k) e tt tt) f
+
+  -- deeds that are no item of the stream
+  kept : (k : ℕ) (given all : List ℕ) (es : List Event) (h : Past) → AllByRecursion (Spares k) es → all ≡ [] → FlowAt goes k given h → FlowAt goes k (given ++ all) (after_all es h)
+  kept k given all es h spare none f =
+      subst (λ ps. FlowAt goes k ps (after_all es h)) (sym (append-nil given) ∙ ap (λ ps. given ++ ps) (sym none)) (along (FlowAt goes k given) (Spares k) (flow_after k given) es h spare f)
+
+  gave : (k : ℕ) (given : List ℕ) (h : Past) (s : Stream) (m : Seen) (ms : List Seen) → slice_get h.streams k ≡ Some s → held h.read s ≡ m ∷ ms → FlowAt goes k given h
+      → FlowAt goes k (given ++ m.position ∷ []) (after (Did k Gave) h)
+  gave k given h s m ms at e f =
+      let one : s ≡ f.stream = (let q : Some s ≡ Some f.stream = sym at ∙ f.made in cc) in
+      record { stream = done_by Gave f.stream; made = edit_here (done_by Gave) k h.streams f.stream f.made; flows = steps.item h k f.stream given m ms (ap (held h.read) (sym one) ∙ e) f.flows }
+
+  flow_deeds : (t : Trail) (x : Entry) (lane number : ℕ) (given : List ℕ) → Items t x.lane x.words x → (f : Flow goes t lane number given)
+      → FlowAt goes f.k (given ++ item_by ((x.lane == lane) && is_take number x.words) x.answer) (after_all (deeds (plan t x.lane x.words) x) t.past)
+  flow_deeds t x lane number given (NoneGiven none item) f =
+      kept f.k given _ _ t.past (all_weaker NoItem (Spares f.k) (spares f.k) _ none) (none_by (x.lane == lane) (is_take number x.words) x.answer (item number)) f.now
+  flow_deeds t x lane number given (OneGiven n k s m ms takes named made holds does is) f =
+      let items_so : item_by ((x.lane == lane) && (n == number)) (Answer.Item m.position) ≡ item_by ((x.lane == lane) && is_take number x.words) x.answer =
+      ap (λ b. item_by ((x.lane == lane) && b) (Answer.Item m.position)) (sym (takes number)) ∙ ap (item_by ((x.lane == lane) && is_take number x.words)) (sym is) in
+      subst (λ ps. FlowAt goes f.k (given ++ ps) (after_all (deeds (plan t x.lane x.words) x) t.past)) items_so
+      (subst (λ ds. FlowAt goes f.k (given ++ item_by ((x.lane == lane) && (n == number)) (Answer.Item m.position)) (after_all ds t.past)) (sym does)
+      (elim (cases_eq k f.k) as (λ _. FlowAt goes f.k (given ++ item_by ((x.lane == lane) && (n == number)) (Answer.Item m.position)) (after (Did k Gave) t.past)) [
+        | inl same ↦
+            let one = one_place t.streams lane number x.lane n f.k f.named (named ∙ ap Some same) in
+            subst (λ j. FlowAt goes f.k (given ++ item_by ((x.lane == lane) && (n == number)) (Answer.Item m.position)) (after (Did j Gave) t.past)) (sym same)
+            (rw (eq-eqb x.lane lane one.0) (rw (eq-eqb n number one.1) (gave f.k given t.past s m ms (ap (slice_get t.past.streams) (sym same) ∙ made) holds f.now)))
+        | inr other ↦
+            let not_both : ((x.lane == lane) && (n == number)) ≡ false = false_from_ne_true ((x.lane == lane) && (n == number)) (λ both.
+            let eqs = and_parts (x.lane == lane) (n == number) both in
+            let q : Some k ≡ Some f.k = sym named ∙ ap (λ y. place 0 y n t.streams) (eqb-true x.lane lane eqs.0) ∙ ap (λ y. place 0 lane y t.streams) (eqb-true n number eqs.1) ∙ f.named in
+            other cc) in
+            kept f.k given _ (Did k Gave ∷ []) t.past (other, tt) (ap (λ b. item_by b (Answer.Item m.position)) not_both) f.now
+      ]))
+
+  -- from the entry that made the stream on
+  pub flow_all : (setting : Setting) (newer : List Entry) (e : Entry) (older : List Entry) (number : ℕ) → Legal setting (newer ++ e ∷ older)
+      → Flow goes (trail setting (e ∷ older)) e.lane number [] → Flow goes (trail setting (newer ++ e ∷ older)) e.lane number (items_given e.lane number newer)
+  flow_all setting [] e older number legal f = f
+  flow_all setting (x ∷ newer) e older number legal f =
+      let t = trail setting (newer ++ e ∷ older) in
+      let pl = plan t x.lane x.words in
+      let before = flow_all setting newer e older number legal.1 f in
+      record {
+        k = before.k;
+        named = named_on pl x t e.lane number before.k before.named;
+        now = flow_entry before.k _ pl x t.past (flow_deeds t x e.lane number (items_given e.lane number newer) (items t x.lane x.words x legal.0) before);
+      }

@@ -1,29 +1,9 @@
 -- A stream that gave all gives no more; when a read is busy.
-use Rattle.std.proofs.Common.{◌≡◌, ◌≢◌, ◌⊎◌, inl, inr, ℕ, ◌<◌, ◌&&◌, ◌||◌, zero, suc, not, refl, sym, ◌∙◌, ap, subst, Bool, true, false, is_some, is_none, nat_lt, List, [], ◌∷◌, ◌++◌, length, Option, Some, None}
+use Rattle.peer_route.specs.{History.{Told, done_by, Event, Took, Made, Plain, Stream, phase, plain_stream, Past, after, after_all}, Names.{Words, Answer, Entry, Seen, Error}, Streams.{matched, offered, held, limit_of, busy, is_full}, Parcel.Setting, Trail.{Trail, place, count}, Plan.{Reads, reads_by, plan}, Entries.{IsMeant, IsRead, deeds, past_after, trail, more, Legal}, StreamLaws.{is_take, IsEnded, IsLast, IsDrained, HoldsTooMany}}
+use Rattle.std.proofs.{Common.{◌≡◌, ◌≢◌, ◌⊎◌, inl, inr, ℕ, ◌&&◌, suc, not, refl, sym, ◌∙◌, ap, subst, Bool, true, false, is_some, is_none, nat_lt, List, [], ◌∷◌, ◌++◌, length, Option, Some, None}, lemmas.Bool.{cases_Bool, and_parts, not-true, lt-ltb}, lemmas.List.Folds.list_any_at, lemmas.Option.{slice_get_within, get_or_from_slice_get}}
 use Rattle.std.specs.List.{slice_get, list_any, AllByRecursion}
-use Rattle.std.proofs.lemmas.Bool.{cases_Bool, and_parts, not-true, lt-ltb}
+use Rattle.peer_route.proofs.{Edits.{edit_here, get_new, all_weaker}, Plans.{IsDeed, along, legal_from, IsFair, fair}, Deeds.{TakeOf, Quiet, Item, Tells, Ends, take_entry, Items, NoneGiven, OneGiven, items, Spares, spares, stays, turned, along_messages, NoItem, lanes, named_on, named_new}, Kept.{Keeps, deeds_all, entry_keeps, later}, StreamsMade.held_fresh, Writers.closing_keeps}
 use borrow.Author.Tests.{ltb-true}
-use Rattle.wire_message.specs.Front.{Seen}
-use Rattle.wire_message.specs.declared.error.Error.{Error}
-use Rattle.wire_message.specs.declared.error.Error.TheVariants as errors
-use Rattle.peer_route.specs.declared.words.Words.{Words}
-use Rattle.peer_route.specs.declared.words.Words.TheVariants as words
-use Rattle.peer_route.specs.declared.answer.Answer.{Answer}
-use Rattle.peer_route.specs.declared.answer.Answer.TheVariants as answers
-use Rattle.peer_route.specs.declared.answer.Entry.{Entry}
-use Rattle.peer_route.specs.History.{Event, Took, Shut, Made, Plain, first_of, closing_after, Stream, phase, plain_stream, tell, Past, after, after_all}
-use Rattle.peer_route.specs.Streams.{matched, offered, held, limit_of, busy, is_full}
-use Rattle.peer_route.specs.Parcel.{Setting}
-use Rattle.peer_route.specs.Trail.{Trail, place, count}
-use Rattle.peer_route.specs.Plan.{Reads, reads_by, plan}
-use Rattle.peer_route.specs.Entries.{IsMeant, IsRead, deeds, past_after, trail, more, Legal}
-use Rattle.peer_route.specs.StreamLaws.{is_take, IsEnded, IsLast, IsDrained, HoldsTooMany}
-use Rattle.peer_route.proofs.Edits.{edit_here, get_new}
-use Rattle.peer_route.proofs.Plans.{NoItem, IsDeed, by_plan, along, legal_from}
-use Rattle.peer_route.proofs.Deeds.{TakeOf, Quiet, Item, Tells, Ends, take_entry, Items, NoneGiven, OneGiven, items, all_weaker, Spares, spares, stays, turned, along_messages}
-use Rattle.peer_route.proofs.Kept.{Keeps, deeds_all, entry_keeps}
-use Rattle.peer_route.proofs.StreamsMade.{held_fresh}
-use Rattle.peer_route.proofs.Flowing.{lanes, named_on, named_new}
 
 -- ---- a stream that is over
 
@@ -42,23 +22,18 @@ record Over (t : Trail) (lane number : ℕ) : Type 0 where
   named : place 0 lane number t.streams ≡ Some k
   now : OverAt t.past.read k error t.past
 
-closing_kept : (e : Event) (o : Option Error) (error : Error) → o ≡ Some error → closing_after e o ≡ Some error
-closing_kept (Shut other) o error shut = ap (λ x. first_of x other) shut
-closing_kept e o error shut = shut
-
 over_after : (ms : List Seen) (k : ℕ) (error : Error) (e : Event) (h : Past) → Spares k e → OverAt ms k error h → OverAt ms k error (after e h)
 unfolding held offered matched phase
 over_after ms k error e h spare o =
     let r = stays e h k o.stream spare o.made in
-    record { stream = turned o.stream r.0 r.1 r.2; made = r.3; nothing = o.nothing; told = r.4 o.told; shut = closing_kept e h.closing error o.shut }
+    record { stream = turned o.stream r.0 r.1 r.2; made = r.3; nothing = o.nothing; told = r.4 o.told; shut = closing_keeps error e h o.shut }
 
 read_kept : (e : Event) → IsDeed e → Keeps (λ (h : Past). h.read) e
 read_kept (Took m) deed h = absurd deed
 read_kept e deed h = refl
 
 reads_open : (t : Trail) (lane : ℕ) (w : Words) → plan t lane w ≡ Reads → t.past.closing ≡ None
-reads_open t lane = by_plan (λ w pl. pl ≡ Reads → t.past.closing ≡ None) t lane (λ w a done fair e. cc) (λ w parcel from e. cc) (λ asked text rule e. cc) (λ n second k j o e. cc) (λ o e. o) (λ e. cc)
-    (λ line fails fine e. cc) (λ line e. cc)
+reads_open t lane w reads = subst (IsFair t w) reads (fair t lane w)
 
 -- a closed peer reads nothing more
 reads_none : (t : Trail) (lane : ℕ) (w : Words) (e : Entry) (error : Error) → t.past.closing ≡ Some error → (past_after (plan t lane w) e t.past).read ≡ t.past.read
@@ -107,7 +82,7 @@ over_step t e lane number is o =
 
 -- a take of it says so, or that it isn't open
 over_take : (t : Trail) (lane number : ℕ) (a : Answer) (done : List Event) → TakeOf t.past (place 0 lane number t.streams) a done → Over t lane number
-    → (a ≡ answers.Ended) ⊎ (a ≡ answers.Refused errors.UnknownHandle)
+    → (a ≡ Answer.Ended) ⊎ (a ≡ Answer.Refused Error.UnknownHandle)
 over_take t lane number a done (Quiet none item last (inl is)) o = inr is
 over_take t lane number a done (Quiet none item last (inr open_)) o = let q : None ≡ Some o.error = sym open_ ∙ o.now.shut in cc
 over_take t lane number a done (Item k s m ms named at holds does is) o =
@@ -120,13 +95,9 @@ ended_entry : (t : Trail) (x : Entry) (lane number : ℕ) → IsMeant t.past (pl
 ended_entry t x lane number is o same takes =
     over_take t lane number x.answer (deeds (plan t x.lane x.words) x) (subst (λ l. TakeOf t.past (place 0 l number t.streams) x.answer (deeds (plan t x.lane x.words) x)) same (take_entry t x.lane x.words x number is takes)) o
 
-over_later : (setting : Setting) (newer older : List Entry) (e : Entry) (lane number : ℕ) → Legal setting (newer ++ e ∷ older) → Over (trail setting (e ∷ older)) lane number
-    → Over (trail setting (newer ++ e ∷ older)) lane number × AllByRecursion (IsEnded lane number) newer
-over_later setting [] older e lane number legal o = (o, tt)
-over_later setting (x ∷ newer) older e lane number legal o =
-    let rest = over_later setting newer older e lane number legal.1 o in
-    let t = trail setting (newer ++ e ∷ older) in
-    (over_step t x lane number legal.0 rest.0, (ended_entry t x lane number legal.0 rest.0, rest.1))
+over_later : (setting : Setting) (newer older : List Entry) (e : Entry) (lane number : ℕ) → Legal setting (newer ++ e ∷ older) → Over (trail setting (e ∷ older)) lane number → AllByRecursion (IsEnded lane number) newer
+over_later setting newer older e lane number legal o =
+    (later setting (λ t. Over t lane number) (IsEnded lane number) (λ t x is over. (over_step t x lane number is over, ended_entry t x lane number is over)) newer (e ∷ older) legal o).1
 
 -- ---- how a stream comes to its end
 
@@ -137,7 +108,7 @@ over_last t e number (Quiet none item last why) is_last = absurd (last is_last)
 over_last t e number (Item k s m ms named at holds does is) is_last = absurd (subst IsLast is is_last)
 over_last t e number (Tells k s error named at still nothing shut told does is) is_last =
     over_entry t e e.lane number k error (named_on (plan t e.lane e.words) e t e.lane number k named) shut (subst (λ ds. OverAt t.past.read k error (after_all ds t.past)) (sym does)
-    (record { stream = tell s; made = edit_here tell k t.past.streams s at; nothing = nothing; told = refl; shut = shut }))
+    (record { stream = done_by Told s; made = edit_here (done_by Told) k t.past.streams s at; nothing = nothing; told = refl; shut = shut }))
 over_last t e number (Ends k s error named at nothing shut told does is) is_last =
     over_entry t e e.lane number k error (named_on (plan t e.lane e.words) e t e.lane number k named) shut (subst (λ ds. OverAt t.past.read k error (after_all ds t.past)) (sym does)
     (record { stream = s; made = at; nothing = nothing; told = told; shut = shut }))
@@ -146,17 +117,17 @@ pub ended : (setting : Setting) (newer older : List Entry) (e : Entry) (number :
 ended setting newer older e number legal w last =
     let t = trail setting older in
     let is = (legal_from setting newer (e ∷ older) legal).0 in
-    (over_later setting newer older e e.lane number legal (over_last t e number (take_entry t e.lane e.words e number is w) last)).1
+    over_later setting newer older e e.lane number legal (over_last t e number (take_entry t e.lane e.words e number is w) last)
 
-drained_by : (t : Trail) (lane number : ℕ) (a : Answer) (done : List Event) (error : Error) → TakeOf t.past (place 0 lane number t.streams) a done → a ≡ answers.Closed error → IsDrained t lane number error
+drained_by : (t : Trail) (lane number : ℕ) (a : Answer) (done : List Event) (error : Error) → TakeOf t.past (place 0 lane number t.streams) a done → a ≡ Answer.Closed error → IsDrained t lane number error
 drained_by t lane number a done error (Quiet none item last why) e = absurd (last (subst IsLast (sym e) tt))
-drained_by t lane number a done error (Item k s m ms named at holds does is) e = let q : answers.Item m.position ≡ answers.Closed error = sym is ∙ e in cc
+drained_by t lane number a done error (Item k s m ms named at holds does is) e = let q : Answer.Item m.position ≡ Answer.Closed error = sym is ∙ e in cc
 drained_by t lane number a done error (Tells k s other named at still nothing shut told does is) e =
-    let same : other ≡ error = (let q : answers.Closed other ≡ answers.Closed error = sym is ∙ e in cc) in
+    let same : other ≡ error = (let q : Answer.Closed other ≡ Answer.Closed error = sym is ∙ e in cc) in
     record { k = k; stream = s; named = named; made = at; still = still; nothing = nothing; first = shut ∙ ap (λ x. Some x) same }
-drained_by t lane number a done error (Ends k s other named at nothing shut told does is) e = let q : answers.Ended ≡ answers.Closed error = sym is ∙ e in cc
+drained_by t lane number a done error (Ends k s other named at nothing shut told does is) e = let q : Answer.Ended ≡ Answer.Closed error = sym is ∙ e in cc
 
-pub drained : (setting : Setting) (older : List Entry) (e : Entry) (number : ℕ) (error : Error) → Legal setting (e ∷ older) → is_take number e.words ≡ true → e.answer ≡ answers.Closed error
+pub drained : (setting : Setting) (older : List Entry) (e : Entry) (number : ℕ) (error : Error) → Legal setting (e ∷ older) → is_take number e.words ≡ true → e.answer ≡ Answer.Closed error
     → IsDrained (trail setting older) e.lane number error
 drained setting older e number error legal w a =
     let t = trail setting older in
@@ -164,7 +135,7 @@ drained setting older e number error legal w a =
 
 -- ---- a stream that is made after the peer was closed
 
-pub ended_from_start : (setting : Setting) (newer older : List Entry) (e : Entry) (number : ℕ) (error : Error) → Legal setting (newer ++ e ∷ older) → e.words ≡ words.Stream → e.answer ≡ answers.Streaming number
+pub ended_from_start : (setting : Setting) (newer older : List Entry) (e : Entry) (number : ℕ) (error : Error) → Legal setting (newer ++ e ∷ older) → e.words ≡ Words.Stream → e.answer ≡ Answer.Streaming number
     → (trail setting older).past.closing ≡ Some error → AllByRecursion (IsEnded e.lane number) newer
 ended_from_start setting newer older e number error legal w a shut =
     let t = trail setting older in
@@ -175,16 +146,16 @@ ended_from_start setting newer older e number error legal w a shut =
     let named = named_new t e number Plain (legal_from setting newer (e ∷ older) legal).0 means a in
     let made : slice_get (h.streams ++ s ∷ []) k ≡ Some s = ap (slice_get (h.streams ++ s ∷ [])) (lanes setting older) ∙ get_new h.streams s in
     let now : OverAt h.read k error (after (Made Plain) h) = record { stream = s; made = made; nothing = held_fresh h None (is_some h.closing); told = ap is_some shut; shut = shut } in
-    (over_later setting newer older e e.lane number legal (over_entry t e e.lane number k error named shut (subst (λ pl. OverAt h.read k error (after_all (deeds pl e) h)) (sym means) now))).1
+    over_later setting newer older e e.lane number legal (over_entry t e e.lane number k error named shut (subst (λ pl. OverAt h.read k error (after_all (deeds pl e) h)) (sym means) now))
 
 -- ---- a busy read
 
-read_busy : (count : ℕ) (o : Option Seen) (a : Answer) → IsRead count o a → a ≡ answers.Busy → ⊥
-read_busy count (Some m) a is e = let q : answers.Got ≡ answers.Busy = sym is.0 ∙ e in cc
-read_busy count None a is e = let q : answers.Closed is.0 ≡ answers.Busy = sym is.1 ∙ e in cc
+read_busy : (count : ℕ) (o : Option Seen) (a : Answer) → IsRead count o a → a ≡ Answer.Busy → ⊥
+read_busy count (Some m) a is e = let q : Answer.Got ≡ Answer.Busy = sym is.0 ∙ e in cc
+read_busy count None a is e = let q : Answer.Closed is.0 ≡ Answer.Busy = sym is.1 ∙ e in cc
 
-busy_by : (h : Past) (o : Option Error) (full : Bool) (e : Entry) → IsMeant h (reads_by o full) e → e.answer ≡ answers.Busy → (o ≡ None) × (full ≡ true)
-busy_by h (Some error) full e is a = let q : answers.Closed error ≡ answers.Busy = sym is.1 ∙ a in cc
+busy_by : (h : Past) (o : Option Error) (full : Bool) (e : Entry) → IsMeant h (reads_by o full) e → e.answer ≡ Answer.Busy → (o ≡ None) × (full ≡ true)
+busy_by h (Some error) full e is a = let q : Answer.Closed error ≡ Answer.Busy = sym is.1 ∙ a in cc
 busy_by h None true e is a = (refl, refl)
 busy_by h None false e is a = absurd (read_busy (length h.read) e.read e.answer is.0 a)
 
@@ -196,42 +167,28 @@ any_at {A} p (y ∷ ys) e =
       | inr other ↦ let rest = any_at p ys (rw other at e) in (suc rest.0, rest.1, rest.2, rest.3)
     ]
 
-any_from : {A : Type 0} (p : A → Bool) (xs : List A) (k : ℕ) (x : A) → slice_get xs k ≡ Some x → p x ≡ true → list_any p xs ≡ true
-any_from p [] k x at e = cc
-any_from p (y ∷ ys) zero x at e = let same : y ≡ x = cc in rw (same, e) refl
-any_from p (y ∷ ys) (suc k) x at e = let rest = any_from p ys k x at e in elim (p y) as (λ b. (b || list_any p ys) ≡ true) [ true ↦ refl | false ↦ rest ]
-
-full_over : (h : Past) (s : Stream) → is_full h.capacities h.read s ≡ true → (s.gone ≡ false) × (limit_of h.capacities s.rule < length (held h.read s))
-unfolding is_full
-full_over h s e =
-    let parts = and_parts (not s.gone) (nat_lt (limit_of h.capacities s.rule) (length (held h.read s))) e in
-    (not-true s.gone parts.0, ltb-true (limit_of h.capacities s.rule) (length (held h.read s)) parts.1)
-
-over_full : (h : Past) (s : Stream) → s.gone ≡ false → limit_of h.capacities s.rule < length (held h.read s) → is_full h.capacities h.read s ≡ true
-unfolding is_full
-over_full h s still e = ap (λ b. not b && nat_lt (limit_of h.capacities s.rule) (length (held h.read s))) still ∙ lt-ltb (limit_of h.capacities s.rule) (length (held h.read s)) e
-
-busy_read : (setting : Setting) (older : List Entry) (e : Entry) → Legal setting (e ∷ older) → e.words ≡ words.Read → e.answer ≡ answers.Busy
-    → ((trail setting older).past.closing ≡ None) × (busy (trail setting older).past ≡ true)
-busy_read setting older e legal w a =
-    let t = trail setting older in
-    busy_by t.past t.past.closing (busy t.past) e (subst (λ pl. IsMeant t.past pl e) (ap (plan t e.lane) w) legal.0) a
-
 too_many : (h : Past) → h.closing ≡ None → busy h ≡ true → HoldsTooMany h
-unfolding busy
+unfolding busy is_full
 too_many h open_ e =
     let at = any_at (is_full h.capacities h.read) h.streams (and_parts (is_none h.closing) (list_any (is_full h.capacities h.read) h.streams) e).1 in
-    let full = full_over h at.1 at.3 in
-    record { is_open = open_; k = at.0; stream = at.1; made = at.2; still = full.0; over = full.1 }
+    let s = at.1 in
+    let full = and_parts (not s.gone) (nat_lt (limit_of h.capacities s.rule) (length (held h.read s))) at.3 in
+    record { is_open = open_; k = at.0; stream = s; made = at.2; still = not-true s.gone full.0; over = ltb-true (limit_of h.capacities s.rule) (length (held h.read s)) full.1 }
 
-pub busy_only : (setting : Setting) (older : List Entry) (e : Entry) → Legal setting (e ∷ older) → e.words ≡ words.Read → e.answer ≡ answers.Busy → HoldsTooMany (trail setting older).past
-busy_only setting older e legal w a = let b = busy_read setting older e legal w a in too_many (trail setting older).past b.0 b.1
+pub busy_only : (setting : Setting) (older : List Entry) (e : Entry) → Legal setting (e ∷ older) → e.words ≡ Words.Read → e.answer ≡ Answer.Busy → HoldsTooMany (trail setting older).past
+busy_only setting older e legal w a =
+    let t = trail setting older in
+    let b = busy_by t.past t.past.closing (busy t.past) e (subst (λ pl. IsMeant t.past pl e) (ap (plan t e.lane) w) legal.0) a in too_many t.past b.0 b.1
 
 busy_of : (h : Past) → HoldsTooMany h → busy h ≡ true
-unfolding busy
-busy_of h many = rw many.is_open (any_from (is_full h.capacities h.read) h.streams many.k many.stream many.made (over_full h many.stream many.still many.over))
+unfolding busy is_full
+busy_of h many =
+    let s = many.stream in
+    let full : is_full h.capacities h.read s ≡ true =
+    ap (λ b. not b && nat_lt (limit_of h.capacities s.rule) (length (held h.read s))) many.still ∙ lt-ltb (limit_of h.capacities s.rule) (length (held h.read s)) many.over in
+    rw many.is_open (list_any_at (is_full h.capacities h.read) h.streams many.k s (slice_get_within h.streams many.k s many.made) (ap (is_full h.capacities h.read) (get_or_from_slice_get h.streams many.k s s many.made) ∙ full))
 
-pub busy_there : (setting : Setting) (older : List Entry) (e : Entry) → Legal setting (e ∷ older) → e.words ≡ words.Read → HoldsTooMany (trail setting older).past → e.answer ≡ answers.Busy
+pub busy_there : (setting : Setting) (older : List Entry) (e : Entry) → Legal setting (e ∷ older) → e.words ≡ Words.Read → HoldsTooMany (trail setting older).past → e.answer ≡ Answer.Busy
 busy_there setting older e legal w many =
     let t = trail setting older in
     (subst (λ pl. IsMeant t.past pl e) (ap (plan t e.lane) w ∙ ap (λ o. reads_by o (busy t.past)) many.is_open ∙ ap (reads_by None) (busy_of t.past many)) legal.0).1

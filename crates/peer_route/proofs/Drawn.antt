@@ -1,129 +1,143 @@
--- The serials of a command's messages are drawn one after another.
-use Rattle.std.proofs.Common.{◌≡◌, ℕ, refl, sym, ◌∙◌, ap, subst, inl, inr, Bool, true, false, List, [], ◌∷◌, ◌++◌, map, Option, Ok, append_assoc}
-use Rattle.std.specs.List.{list_any}
-use Rattle.std.proofs.lemmas.List.{append-nil}
-use mathlib.Core.List.{map-map}
-use Rattle.wire_message.specs.Circle.{IsNext, AllTaken}
-use Rattle.wire_message.specs.declared.error.Error.{Error}
-use Rattle.wire_message.specs.declared.error.Error.TheVariants as errors
-use Rattle.peer_route.specs.declared.calls.Slot.TheVariants as slots
-use Rattle.peer_route.specs.Parcel.{Parcel, sent_by}
-use Rattle.peer_route.specs.CallMessage.{expects}
-use Rattle.peer_route.specs.Left.{CallsView, waiting_serial}
-use Rattle.peer_route.specs.Issuing.{is_deep}
-use Rattle.peer_route.specs.Placing.{made_call, Draws, Spends, NotDrawn, NotDrawnOne, AreMade, numbered, numbered_each}
+-- The serials of a command's messages are drawn one after another, and their calls made.
+use Rattle.peer_route.proofs.{Edits.all_push, CallsMade.Early, Slots.pending-left, NextSerial.{next_serial-next, next_serial-none}}
+use Rattle.std.proofs.{Common.{◌≤◌, ◌≡◌, ℕ, suc, ◌+◌, get_or, drop, refl, sym, ◌∙◌, ap, subst, arith, Bool, true, false, List, [], ◌∷◌, ◌++◌, length, map, find, Option, None, Some, Ok, Err, ◌<◌, append_assoc, option_map}, Math.Seq.{drop-length, drop-cons}, lemmas.List.{append-nil, map-append}}
+use Rattle.peer_route.specs.{Names.{Seen, IsNext, AllTaken, Draws, Error, Slot}, Parcel.{Parcel, message_of, sent_by}, CallMessage.expects, History.{Call, Put, bears, call_by, Past, after}, Calls.{found, pending}, Issuing.{Posting, purpose_of, posted, put_of, put_each, next_serial, drawn}, Left.{slot_of, slot_by, CallsView, with_call, waiting_serial, LeftCalls}, Placing.{IsCounted, DrawsOne, posts, DrawsEach, AreMade}}
+use Rattle.wire_message.specs.Draft.{built}
 
--- it expects a reply
-abbrev pub sends : Parcel → Bool
-sends p = expects (Ok p)
+-- ---- a call is made
 
-module _ (inner : Bool) where
-  -- ---- one serial more
+slot_new : (h : Past) (m : Seen) (inner : Bool) → slot_of h.read (call_by h m inner) ≡ Slot.Waiting m.serial inner
+unfolding slot_of found
+slot_new h m inner = ap (λ ms. slot_by inner m.serial (find (bears m.serial) ms)) (drop-length h.read)
 
-  draws_more : (ps : List Parcel) (serials : List ℕ) (v w : CallsView) (last end serial : ℕ) (p : Parcel) → Draws inner v last ps serials w end → IsNext (waiting_serial w) end serial
-      → Draws inner v last (ps ++ p ∷ []) (serials ++ serial ∷ []) (made_call inner (expects (Ok p)) w serial) serial
-  draws_more [] [] v w last end serial p d next = (
-    subst (λ n. IsNext (waiting_serial v) n serial) d.1 (subst (λ u. IsNext (waiting_serial u) end serial) d.0 next),
-    (ap (λ u. made_call inner (expects (Ok p)) u serial) d.0, refl),
-  )
-  draws_more (q ∷ ps) (s ∷ serials) v w last end serial p d next = (d.0, draws_more ps serials (made_call inner (expects (Ok q)) v s) w s end serial p d.1 next)
-  draws_more [] (s ∷ serials) v w last end serial p d next = absurd d
-  draws_more (q ∷ ps) [] v w last end serial p d next = absurd d
+-- a call more, after an event that reads nothing, closes nothing, and makes one call
+pub called : (m : Seen) (inner : Bool) (v new : CallsView) (g h : Past) → new ≡ with_call inner m.serial v → g.read ≡ h.read → g.closing ≡ h.closing → g.calls ≡ h.calls ++ call_by h m inner ∷ []
+    → waiting_serial v m.serial ≡ false → LeftCalls v h → LeftCalls new g
+called m inner v new g h e reads shut_ made free left = record {
+  slots = ap (λ (w : CallsView). w.slots) e ∙ ap (λ ss. ss ++ Slot.Waiting m.serial inner ∷ []) left.slots
+      ∙ sym (map-append (slot_of h.read) h.calls (call_by h m inner ∷ []) ∙ ap (λ s. map (slot_of h.read) h.calls ++ s ∷ []) (slot_new h m inner))
+      ∙ ap (map (slot_of h.read)) (sym made) ∙ ap (λ (ms : List Seen). map (slot_of ms) g.calls) (sym reads);
+  closing = ap (λ (w : CallsView). w.closing) e ∙ left.closing ∙ sym shut_;
+  early =
+      let one : Early (length h.read) (h.calls ++ call_by h m inner ∷ []) = all_push (λ (c : Call). c.from ≤ length h.read) h.calls (call_by h m inner) (omega arith) left.early in
+      subst (λ (ms : List Seen). Early (length ms) g.calls) (sym reads) (subst (Early (length h.read)) (sym made) one);
+}
 
-  numbered_more : (ps : List Parcel) (serials : List ℕ) (v w : CallsView) (last end serial : ℕ) (p : Parcel) → Draws inner v last ps serials w end
-      → numbered_each (ps ++ p ∷ []) (serials ++ serial ∷ []) ≡ numbered_each ps serials ++ numbered serial p ∷ []
-  numbered_more [] [] v w last end serial p d = refl
-  numbered_more (q ∷ ps) (s ∷ serials) v w last end serial p d =
-      ap (λ xs. numbered s q ∷ xs) (numbered_more ps serials (made_call inner (expects (Ok q)) v s) w s end serial p d.1)
-  numbered_more [] (s ∷ serials) v w last end serial p d = absurd d
-  numbered_more (q ∷ ps) [] v w last end serial p d = absurd d
+-- ---- one serial
 
-  -- a message finds no serial
-  spends_after : (ps : List Parcel) (serials : List ℕ) (v w : CallsView) (last end : ℕ) (p : Parcel) (rest : List Parcel) → Draws inner v last ps serials w end → AllTaken (waiting_serial w)
-      → Spends inner v last (ps ++ p ∷ rest)
-  spends_after [] [] v w last end p rest d all = inl (subst (λ u. AllTaken (waiting_serial u)) d.0 all)
-  spends_after (q ∷ ps) (s ∷ serials) v w last end p rest d all = inr (s, d.0, spends_after ps serials (made_call inner (expects (Ok q)) v s) w s end p rest d.1 all)
-  spends_after [] (s ∷ serials) v w last end p rest d all = absurd d
-  spends_after (q ∷ ps) [] v w last end p rest d all = absurd d
+pub message_serial : (parcel : Parcel) (serial : ℕ) → (message_of parcel serial).serial ≡ serial
+unfolding message_of built
+message_serial parcel serial = refl
 
-  -- what was drawn so far, with the messages that got it
-  abbrev pub Drawing : CallsView → ℕ → List Parcel → List Parcel → CallsView → ℕ → Type 0
-  Drawing v last ps qs w end = (serials : List ℕ) × Draws inner v last ps serials w end × (qs ≡ numbered_each ps serials)
+IsNext-along : (f g : ℕ → Bool) (last serial : ℕ) → ((n : ℕ) → f n ≡ g n) → IsNext f last serial → IsNext g last serial
+IsNext-along f g last serial e x = record {
+  place = x.place;
+  one = x.one;
+  round = x.round;
+  there = x.there;
+  free = sym (e serial) ∙ x.free;
+  first = λ k a b. sym (e _) ∙ x.first k a b;
+}
 
-  -- what one draw gives
-  abbrev pub DrawsOne : CallsView → ℕ → Parcel → Parcel → CallsView → ℕ → Type 0
-  DrawsOne v last p q w end =
-      (serial : ℕ) × IsNext (waiting_serial v) last serial × (end ≡ serial) × (w ≡ made_call inner (expects (Ok p)) v serial) × (q ≡ numbered serial p)
+-- the serial that is drawn by the calls that are kept is the next
+pub next_so : (v : CallsView) (last serial : ℕ) (h : Past) → IsCounted v last h → IsNext (waiting_serial v) last serial → next_serial h ≡ Some serial
+next_so v last serial h left next =
+    next_serial-next h serial
+    (subst (λ n. IsNext (pending h) n serial) left.1 (IsNext-along (waiting_serial v) (pending h) last serial (λ n. sym (pending-left v h left.0 n)) next))
 
-  pub drawing_more : (v w u : CallsView) (last end then_last : ℕ) (ps qs : List Parcel) (p q : Parcel) → Drawing v last ps qs w end → DrawsOne w end p q u then_last
-      → Drawing v last (ps ++ p ∷ []) (qs ++ q ∷ []) u then_last
-  drawing_more v w u last end then_last ps qs p q d one = (
-    d.0 ++ one.0 ∷ [],
-    subst (λ n. Draws inner v last (ps ++ p ∷ []) (d.0 ++ one.0 ∷ []) u n) (sym one.2)
-        (subst (λ x. Draws inner v last (ps ++ p ∷ []) (d.0 ++ one.0 ∷ []) x one.0) (sym one.3) (draws_more ps d.0 v w last end one.0 p d.1 one.1)),
-    ap (λ x. qs ++ x ∷ []) one.4 ∙ ap (λ xs. xs ++ numbered one.0 p ∷ []) d.2 ∙ sym (numbered_more ps d.0 v w last end one.0 p d.1),
-  )
+pub none_so : (v : CallsView) (last : ℕ) (h : Past) → IsCounted v last h → AllTaken (waiting_serial v) → next_serial h ≡ None
+none_so v last h left all = next_serial-none h (λ serial a b. pending-left v h left.0 serial ∙ all serial a b)
 
-  pub not_drawn : (v w : CallsView) (last end : ℕ) (ps qs : List Parcel) (p : Parcel) (rest : List Parcel) (error : Error) → Drawing v last ps qs w end → NotDrawnOne w error
-      → NotDrawn inner v last (ps ++ p ∷ rest) error
-  not_drawn v w last end ps qs p rest errors.SerialsSpent d n = spends_after ps d.0 v w last end p rest d.1 n
-  not_drawn v w last end ps qs p rest errors.Memory d n = tt
-  not_drawn v w last end ps qs p rest other d n = absurd n
+pub drawn_not : (d : Posting) (v : CallsView) (last new : ℕ) (h : Past) (error : Error) → IsCounted v last h → Draws (waiting_serial v) last new (Err error) → DrawsOne d h v new (Err error)
+drawn_not d v last new h Error.SerialsSpent left x = none_so v last h left x.0
+drawn_not d v last new h Error.Memory left x = tt
+drawn_not d v last new h other left x = absurd x
 
-  -- ---- the calls that were made
+calls_put : (inner : Bool) (m : Seen) (v : CallsView) (h : Past) → waiting_serial v m.serial ≡ false → LeftCalls v h → LeftCalls (with_call inner m.serial v) (after (Put m (purpose_of inner true)) h)
+calls_put false m v h free left = called m false v (with_call false m.serial v) (after (Put m (purpose_of false true)) h) h refl refl refl refl free left
+calls_put true m v h free left = called m true v (with_call true m.serial v) (after (Put m (purpose_of true true)) h) h refl refl refl refl free left
 
-  made_step : (b : Bool) (v w : CallsView) (serial : ℕ) → AreMade (made_call inner b v serial) w → AreMade v w
-  made_step true v w serial m =
-      (slots.Waiting serial inner ∷ m.0, m.1 ∙ ap (λ xs. record { slots = xs; closing = v.closing }) (append_assoc v.slots (slots.Waiting serial inner ∷ []) m.0))
-  made_step false v w serial m = m
+calls_kept : (inner : Bool) (m : Seen) (v : CallsView) (h : Past) → LeftCalls v h → LeftCalls v (after (Put m (purpose_of inner false)) h)
+calls_kept false m v h left = left
+calls_kept true m v h left = left
 
-  made_all : (ps : List Parcel) (serials : List ℕ) (v w : CallsView) (last end : ℕ) → Draws inner v last ps serials w end → AreMade v w
-  made_all [] [] v w last end d = ([], d.0 ∙ sym (ap (λ xs. record { slots = xs; closing = v.closing }) (append-nil v.slots)))
-  made_all (p ∷ ps) (s ∷ serials) v w last end d =
-      made_step (expects (Ok p)) v w s (made_all ps serials (made_call inner (expects (Ok p)) v s) w s end d.1)
-  made_all [] (s ∷ serials) v w last end d = absurd d
-  made_all (p ∷ ps) [] v w last end d = absurd d
+-- a message that expects a reply, with its call
+pub counted_call : (inner : Bool) (parcel : Parcel) (serial last : ℕ) (v new : CallsView) (h : Past) → expects (Ok parcel) ≡ true → waiting_serial v serial ≡ false → new ≡ with_call inner serial v
+    → IsCounted v last h → IsCounted new serial (after (put_of (posted inner parcel) serial) h)
+counted_call inner parcel serial last v new h waits free made left =
+    let m = message_of parcel serial in
+    let own = message_serial parcel serial in
+    let whole = calls_put inner m v h (ap (waiting_serial v) own ∙ free) left.0 in (
+      rw (made, waits) (subst (λ n. LeftCalls (with_call inner n v) (after (Put m (purpose_of inner true)) h)) own whole),
+      sym own,
+    )
 
-  pub made_by : (v w : CallsView) (last end : ℕ) (ps qs : List Parcel) → Drawing v last ps qs w end → AreMade v w
-  made_by v w last end ps qs d = made_all ps d.0 v w last end d.1
+-- one that doesn't
+pub counted_quiet : (inner : Bool) (parcel : Parcel) (serial last : ℕ) (v : CallsView) (h : Past) → expects (Ok parcel) ≡ false
+    → IsCounted v last h → IsCounted v serial (after (put_of (posted inner parcel) serial) h)
+counted_quiet inner parcel serial last v h waits left = (rw waits (calls_kept inner (message_of parcel serial) v h left.0), sym (message_serial parcel serial))
 
-  -- ---- only whether they expect replies matters, and not whose name is on them
+-- ---- several
 
-  pub draws_like : (ps qs : List Parcel) (serials : List ℕ) (v w : CallsView) (last end : ℕ) → map sends ps ≡ map sends qs → Draws inner v last ps serials w end → Draws inner v last qs serials w end
-  draws_like [] [] serials v w last end e d = d
-  draws_like (p ∷ ps) (q ∷ qs) [] v w last end e d = absurd d
-  draws_like (p ∷ ps) (q ∷ qs) (s ∷ serials) v w last end e d =
-      let same : sends p ≡ sends q = cc in
-      (d.0, draws_like ps qs serials (made_call inner (sends q) v s) w s end (cc) (subst (λ b. Draws inner (made_call inner b v s) s ps serials w end) same d.1))
-  draws_like [] (q ∷ qs) serials v w last end e d = cc
-  draws_like (p ∷ ps) [] serials v w last end e d = cc
+abbrev pub behind : List ℕ → Option (List ℕ) → Option (List ℕ)
+behind serials rest = option_map (λ more. serials ++ more) rest
 
-  pub spends_like : (ps qs : List Parcel) (v : CallsView) (last : ℕ) → map sends ps ≡ map sends qs → Spends inner v last ps → Spends inner v last qs
-  spends_like [] [] v last e x = x
-  spends_like (p ∷ ps) (q ∷ qs) v last e (inl all) = inl all
-  spends_like (p ∷ ps) (q ∷ qs) v last e (inr x) =
-      let same : sends p ≡ sends q = cc in
-      inr (x.0, x.1, spends_like ps qs (made_call inner (sends q) v x.0) x.0 (cc) (subst (λ b. Spends inner (made_call inner b v x.0) x.0 ps) same x.2))
-  spends_like [] (q ∷ qs) v last e x = cc
-  spends_like (p ∷ ps) [] v last e x = cc
+-- Some messages have these serials, and the rest are left, by the past `now` that the first leave.
+pub record Drawing (ds : List Posting) (p : Past) (serials : List ℕ) (rest : List Posting) (v : CallsView) (last : ℕ) : Type 0 where
+  pub now : Past
+  pub counted : IsCounted v last now
+  pub due : drawn p ds ≡ behind serials (drawn now rest)
+  pub ends : (more : List ℕ) → put_each ds (serials ++ more) p ≡ put_each rest more now
 
-  numbered_sent : (name : Option (List ℕ)) (served : Bool) (ps : List Parcel) (serials : List ℕ)
-      → map (sent_by name served) (numbered_each ps serials) ≡ numbered_each (map (sent_by name served) ps) serials
-  numbered_sent name served [] serials = refl
-  numbered_sent name served (p ∷ ps) [] = refl
-  numbered_sent name served (p ∷ ps) (s ∷ serials) = ap (λ xs. numbered s (sent_by name served p) ∷ xs) (numbered_sent name served ps serials)
+behind_none : (o : Option (List ℕ)) → o ≡ behind [] o
+behind_none None = refl
+behind_none (Some serials) = refl
 
-  pub drawing_sent : (name : Option (List ℕ)) (served : Bool) (v w : CallsView) (last end : ℕ) (ps qs : List Parcel) → Drawing v last ps qs w end
-      → Drawing v last (map (sent_by name served) ps) (map (sent_by name served) qs) w end
-  drawing_sent name served v w last end ps qs d =
-      (d.0, draws_like ps (map (sent_by name served) ps) d.0 v w last end (sym (map-map sends (sent_by name served) ps)) d.1, ap (map (sent_by name served)) d.2 ∙ numbered_sent name served ps d.0)
+behind_more : (serials : List ℕ) (serial : ℕ) (o : Option (List ℕ)) → behind serials (option_map (λ more. serial ∷ more) o) ≡ behind (serials ++ serial ∷ []) o
+behind_more serials serial None = refl
+behind_more serials serial (Some more) = ap Some (sym (append_assoc serials (serial ∷ []) more))
 
-  pub not_drawn_sent : (name : Option (List ℕ)) (served : Bool) (ps : List Parcel) (v : CallsView) (last : ℕ) (error : Error) → NotDrawn inner v last ps error
-      → NotDrawn inner v last (map (sent_by name served) ps) error
-  not_drawn_sent name served ps v last errors.SerialsSpent n = spends_like ps (map (sent_by name served) ps) v last (sym (map-map sends (sent_by name served) ps)) n
-  not_drawn_sent name served ps v last errors.Memory n = tt
-  not_drawn_sent name served ps v last other n = absurd n
+pub drawing_start : (ds : List Posting) (p : Past) (v : CallsView) (last : ℕ) → IsCounted v last p → Drawing ds p [] ds v last
+drawing_start ds p v last counted = record { now = p; counted = counted; due = behind_none (drawn p ds); ends = λ more. refl }
 
-pub deep_sent : (name : Option (List ℕ)) (served : Bool) (ps : List Parcel) → list_any is_deep (map (sent_by name served) ps) ≡ list_any is_deep ps
-deep_sent name served [] = refl
-deep_sent name served (p ∷ ps) = rw (deep_sent name served ps) refl
+pub drawing_more : (ds : List Posting) (p : Past) (serials : List ℕ) (d : Posting) (rest : List Posting) (v w : CallsView) (last then_last serial : ℕ) (x : Drawing ds p serials (d ∷ rest) v last)
+    → next_serial x.now ≡ Some serial → IsCounted w then_last (after (put_of d serial) x.now) → Drawing ds p (serials ++ serial ∷ []) rest w then_last
+drawing_more ds p serials d rest v w last then_last serial x next counted =
+    let then_ = after (put_of d serial) x.now in
+    let due_ : drawn x.now (d ∷ rest) ≡ option_map (λ more. serial ∷ more) (drawn then_ rest) = rw next refl in
+    record {
+      now = then_;
+      counted = counted;
+      due = x.due ∙ ap (behind serials) due_ ∙ behind_more serials serial (drawn then_ rest);
+      ends = λ more. ap (λ ns. put_each ds ns p) (append_assoc serials (serial ∷ []) more) ∙ x.ends (serial ∷ more);
+    }
+
+drawing_spent : (ds : List Posting) (p : Past) (serials : List ℕ) (d : Posting) (rest : List Posting) (v : CallsView) (last : ℕ) (x : Drawing ds p serials (d ∷ rest) v last)
+    → next_serial x.now ≡ None → drawn p ds ≡ None
+drawing_spent ds p serials d rest v last x none = x.due ∙ ap (behind serials) (let e : drawn x.now (d ∷ rest) ≡ None = rw none refl in e)
+
+-- a message that isn't numbered refuses them all
+pub drawing_refused : {A : Type 0} (items : A → List ℕ) (ds : List Posting) (p : Past) (serials : List ℕ) (d : Posting) (rest : List Posting) (v w : CallsView) (last then_last : ℕ) (error : Error) (x : Drawing ds p serials (d ∷ rest) v last)
+    → DrawsOne d x.now w then_last (Err error) → DrawsEach items ds p w then_last (Err error)
+drawing_refused items ds p serials d rest v w last then_last Error.SerialsSpent x none = drawing_spent ds p serials d rest v last x none
+drawing_refused items ds p serials d rest v w last then_last Error.Memory x none = tt
+drawing_refused items ds p serials d rest v w last then_last other x none = absurd none
+
+pub drawing_done : (ds : List Posting) (p : Past) (serials : List ℕ) (v : CallsView) (last : ℕ) → Drawing ds p serials [] v last → (drawn p ds ≡ Some serials) × IsCounted v last (put_each ds serials p)
+drawing_done ds p serials v last x =
+    let all = append-nil serials in
+    (x.due ∙ ap Some all, subst (IsCounted v last) (sym (ap (λ ns. put_each ds ns p) (sym all) ∙ x.ends [])) x.counted)
+
+-- ---- the loop
+
+pub next_dropped : {A : Type 0} (xs : List A) (i : ℕ) (x : A) → i < length xs → x ≡ get_or xs i x → drop i xs ≡ x ∷ drop (i + 1) xs
+next_dropped xs i x less e = let n : suc i ≡ i + 1 = omega arith in drop-cons xs i x less ∙ ap (λ y. y ∷ drop (suc i) xs) (sym e) ∙ ap (λ k. x ∷ drop k xs) n
+
+pub made_more : (u v w : CallsView) → AreMade u v → AreMade v w → AreMade u w
+made_more u v w a b =
+    (a.0 ++ b.0, b.1 ∙ ap (λ (x : CallsView). record { slots = x.slots ++ b.0; closing = x.closing }) a.1 ∙ ap (λ ss. record { slots = ss; closing = u.closing }) (append_assoc u.slots a.0 b.0))
+
+-- the next of the messages that are left
+pub next_posted : (inner : Bool) (name : Option (List ℕ)) (served : Bool) (rest : List Parcel) (p : Parcel) (more : List Parcel) → rest ≡ p ∷ more
+    → posts inner name served rest ≡ posted inner (sent_by name served p) ∷ posts inner name served more
+next_posted inner name served rest p more e = ap (posts inner name served) e

@@ -1,26 +1,17 @@
 -- What dropping a call gives and leaves, and whether the peer takes a message now.
-use Rattle.std.proofs.Common.{◌≡◌, ℕ, is_some, ◌&&◌, ◌||◌, is_none, if◌then◌else◌, refl, sym, ◌∙◌, ap, Bool, true, false, not, List, Option, Some, None, Result, Ok, Err}
-use Rattle.std.specs.List.{list_any, slice_get}
-use Rattle.std.specs.Option.{option_map}
-use Rattle.std.proofs.lemmas.Option.{slice_get-map}
-use Rattle.wire_message.specs.Front.{Seen}
-use Rattle.wire_message.specs.declared.error.Error.{Error}
-use Rattle.wire_message.specs.declared.error.Error.TheVariants as errors
-use Rattle.peer_route.specs.declared.calls.Slot.{Slot}
-use Rattle.peer_route.specs.declared.calls.Slot.TheVariants as slots
-use Rattle.peer_route.specs.History.{Call, Past, after, after_all}
-use Rattle.peer_route.specs.Calls.{found, is_gone, drop_answer, drop_events, dropped_at}
-use Rattle.peer_route.specs.Left.{is_over, is_busy, is_empty_slot, slot_of, slot_by, CallsView, LeftCalls, View, Left}
+use Rattle.std.proofs.{Common.{◌≡◌, ℕ, is_some, ◌&&◌, ◌||◌, is_none, if◌then◌else◌, refl, sym, ◌∙◌, ap, Bool, true, false, not, List, Option, Some, None, Result, Ok, Err}, lemmas.Option.slice_get-map}
+use Rattle.std.specs.{List.{list_any, slice_get}, Option.option_map}
+use Rattle.peer_route.specs.{Names.{Seen, Error, Slot}, History.{Call, Past, after, after_all}, Calls.{found, is_gone, drop_answer, drop_events, dropped_at}, Left.{is_over, is_busy, is_empty_slot, slot_of, slot_by, CallsView, LeftCalls, View, Left}}
 use Rattle.peer_route.proofs.Core.{calls_of, left_spent, left_same}
 
 -- what a slot gives a drop
 abbrev slot_drops : Option Slot → Result (Unit {0}) Error
-slot_drops None = Err errors.UnknownHandle
-slot_drops (Some slots.Gone) = Err errors.UnknownHandle
-slot_drops (Some (slots.Replied m)) = Ok tt
-slot_drops (Some (slots.Waiting n inner)) = if inner then Err errors.UnknownHandle else Ok tt
+slot_drops None = Err Error.UnknownHandle
+slot_drops (Some Slot.Gone) = Err Error.UnknownHandle
+slot_drops (Some (Slot.Replied m)) = Ok tt
+slot_drops (Some (Slot.Waiting n inner)) = if inner then Err Error.UnknownHandle else Ok tt
 
-slot_drops_by : (gone inner : Bool) (n : ℕ) (o : Option Seen) → slot_drops (Some (if gone then slots.Gone else slot_by inner n o)) ≡ (if gone || inner then Err errors.UnknownHandle else Ok tt)
+slot_drops_by : (gone inner : Bool) (n : ℕ) (o : Option Seen) → slot_drops (Some (if gone then Slot.Gone else slot_by inner n o)) ≡ (if gone || inner then Err Error.UnknownHandle else Ok tt)
 slot_drops_by true inner n o = refl
 slot_drops_by false true n (Some m) = refl
 slot_drops_by false true n None = refl
@@ -57,14 +48,14 @@ pub busy_shut : (v : View) (b : Bool) → is_some v.calls.closing ≡ true → b
 unfolding is_busy
 busy_shut v b shut_ e = e ∙ ap (λ x. x && list_any (is_over v.main) v.streams) (sym (is_none_by v.calls.closing true shut_))
 
-pub slot_drops_gone : (s : Slot) → is_empty_slot s ≡ true → slot_drops (Some s) ≡ Err errors.UnknownHandle
-slot_drops_gone slots.Gone e = refl
-slot_drops_gone (slots.Waiting n true) e = refl
-slot_drops_gone (slots.Waiting n false) e = cc
-slot_drops_gone (slots.Replied m) e = cc
+pub slot_drops_gone : (s : Slot) → is_empty_slot s ≡ true → slot_drops (Some s) ≡ Err Error.UnknownHandle
+slot_drops_gone Slot.Gone e = refl
+slot_drops_gone (Slot.Waiting n true) e = refl
+slot_drops_gone (Slot.Waiting n false) e = cc
+slot_drops_gone (Slot.Replied m) e = cc
 
 pub slot_drops_there : (s : Slot) → is_empty_slot s ≡ false → slot_drops (Some s) ≡ Ok tt
-slot_drops_there slots.Gone e = cc
-slot_drops_there (slots.Waiting n true) e = cc
-slot_drops_there (slots.Waiting n false) e = refl
-slot_drops_there (slots.Replied m) e = refl
+slot_drops_there Slot.Gone e = cc
+slot_drops_there (Slot.Waiting n true) e = cc
+slot_drops_there (Slot.Waiting n false) e = refl
+slot_drops_there (Slot.Replied m) e = refl

@@ -1,6 +1,6 @@
 -- Lists of which one element is changed, or behind which one more is put.
-use Rattle.std.proofs.Common.{◌≡◌, ◌≢◌, ℕ, ◌+◌, ◌≤◌, ◌<◌, zero, suc, refl, sym, ◌∙◌, ap, arith, is_some, List, [], ◌∷◌, ◌++◌, length, take, drop, map, Some, None}
-use Rattle.std.specs.List.{slice_get, slice_set}
+use Rattle.std.proofs.Common.{◌≡◌, ◌≢◌, ℕ, ◌+◌, ◌≤◌, ◌<◌, zero, suc, refl, sym, ◌∙◌, ap, arith, List, [], ◌∷◌, ◌++◌, length, take, drop, map, Some, None, subst}
+use Rattle.std.specs.List.{slice_get, slice_set, AllByRecursion}
 use Rattle.peer_route.specs.History.{edit}
 
 -- ---- one element is changed
@@ -17,23 +17,10 @@ edit_here f k [] x at = cc
 edit_here f zero (y ∷ ys) x at = let same : y ≡ x = cc in ap (λ z. Some (f z)) same
 edit_here f (suc k) (y ∷ ys) x at = edit_here f k ys x at
 
-pub edit_there : {A : Type 0} (f : A → A) (j k : ℕ) (xs : List A) → is_some (slice_get (edit j f xs) k) ≡ is_some (slice_get xs k)
-edit_there f j k [] = refl
-edit_there f zero zero (x ∷ xs) = refl
-edit_there f zero (suc k) (x ∷ xs) = refl
-edit_there f (suc j) zero (x ∷ xs) = refl
-edit_there f (suc j) (suc k) (x ∷ xs) = edit_there f j k xs
-
 pub edit-length : {A : Type 0} (k : ℕ) (f : A → A) (xs : List A) → length (edit k f xs) ≡ length xs
 edit-length k f [] = refl
 edit-length zero f (x ∷ xs) = refl
 edit-length (suc k) f (x ∷ xs) = ap (λ n. suc n) (edit-length k f xs)
-
--- a change that changes no element
-pub edit_nothing : {A : Type 0} (k : ℕ) (xs : List A) → edit k (λ x. x) xs ≡ xs
-edit_nothing k [] = refl
-edit_nothing zero (x ∷ xs) = refl
-edit_nothing (suc k) (x ∷ xs) = ap (λ zs. x ∷ zs) (edit_nothing k xs)
 
 -- a change that changes nothing
 pub edit-same : {A : Type 0} (g : A → A) (xs : List A) (k : ℕ) (x : A) → slice_get xs k ≡ Some x → g x ≡ x → edit k g xs ≡ xs
@@ -106,3 +93,31 @@ drop_next (suc n) (x ∷ xs) y ys e =
     let rest = drop_next n xs y ys e in
     let more : suc n + 1 ≡ suc (n + 1) = omega arith in
     (rw more rest.0, omega (arith, rest.1))
+
+-- ---- what holds of each element
+
+pub all_weaker : {A : Type 0} (P Q : A → Type 0) → ((x : A) → P x → Q x) → (xs : List A) → AllByRecursion P xs → AllByRecursion Q xs
+all_weaker P Q so [] all = tt
+all_weaker P Q so (x ∷ xs) all = (so x all.0, all_weaker P Q so xs all.1)
+
+pub all_push : {A : Type 0} (P : A → Type 0) (xs : List A) (x : A) → P x → AllByRecursion P xs → AllByRecursion P (xs ++ x ∷ [])
+all_push P [] x one all = (one, tt)
+all_push P (y ∷ ys) x one all = (all.0, all_push P ys x one all.1)
+
+pub all_at : {A : Type 0} (P : A → Type 0) (xs : List A) (k : ℕ) (x : A) → slice_get xs k ≡ Some x → AllByRecursion P xs → P x
+all_at P [] k x at all = cc
+all_at P (y ∷ ys) zero x at all = let same : y ≡ x = cc in subst P same all.0
+all_at P (y ∷ ys) (suc k) x at all = all_at P ys k x at all.1
+
+pub all_more : {A : Type 0} (P : A → Type 0) (xs : List A) (x : A) → AllByRecursion P xs → P x → AllByRecursion P (xs ++ x ∷ [])
+all_more P [] x all one = (one, tt)
+all_more P (y ∷ ys) x all one = (all.0, all_more P ys x all.1 one)
+
+pub all_map : {A B : Type 0} (P : A → Type 0) (Q : B → Type 0) (f : A → B) → ((x : A) → P x → Q (f x)) → (xs : List A) → AllByRecursion P xs → AllByRecursion Q (map f xs)
+all_map P Q f so [] all = tt
+all_map P Q f so (x ∷ xs) all = (so x all.0, all_map P Q f so xs all.1)
+
+pub all_edit : {A : Type 0} (P : A → Type 0) (f : A → A) (xs : List A) (k : ℕ) → ((x : A) → slice_get xs k ≡ Some x → P x → P (f x)) → AllByRecursion P xs → AllByRecursion P (edit k f xs)
+all_edit P f [] k so all = tt
+all_edit P f (x ∷ xs) zero so all = (so x refl all.0, all.1)
+all_edit P f (x ∷ xs) (suc k) so all = (all.0, all_edit P f xs k so all.1)

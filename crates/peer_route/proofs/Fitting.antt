@@ -1,17 +1,8 @@
 -- Whether arrays are within their limit, and whether a message passes a limit.
-use Rattle.std.proofs.Common.{arith, ◌≡◌, ℕ, ◌+◌, ◌<◌, ◌≤◌, refl, inl, inr, ◌⊎◌, Bool, true, false, not, ◌||◌, length, nat_lt, nat_le}
-use Rattle.std.proofs.lemmas.Bool.{leb-true, le-leb, ltb-true, lt-ltb}
-use Rattle.std.specs.Int.{w8}
-use Rattle.std.specs.Bool.{Decides}
-use Rattle.std.proofs.lemmas.Bool.Decides.{Decides-and}
-use Rattle.wire_number.specs.declared.endian.Endian.{Endian}
-use Rattle.wire_number.specs.Number.{counted_text}
-use Rattle.wire_signature.specs.Shape.{alignment, type_text}
-use Rattle.wire_tree.specs.Datum.{Datum, num, text, array, dict, struct, variant, Data, no_data, items, type_of, data_of}
-use Rattle.wire_spelling.specs.Spelling.{aligned, first_place, spelling, spellings, ArraysFit, AllFit}
-use Rattle.peer_route.specs.Fitting.{fits, all_fit}
-use Rattle.peer_route.specs.Issuing.{is_long}
-use Rattle.peer_route.specs.Parcel.{Parcel, message_of}
+use Rattle.std.proofs.{Common.{arith, ◌≡◌, ℕ, ◌+◌, ◌<◌, ◌≤◌, refl, inl, inr, ◌⊎◌, Bool, true, false, not, ◌||◌, length, nat_lt, nat_le}, lemmas.Bool.{leb-true, le-leb, ltb-true, lt-ltb}, lemmas.Bool.Decides.Decides-and}
+use Rattle.std.specs.{Int.w8, Bool.Decides}
+use Rattle.peer_route.specs.{Names.{Endian, counted_text, alignment, type_text, Datum, num, text, array, dict, struct, variant, Data, no_data, items, type_of, data_of, aligned, first_place, spelling, spellings}, Fitting.{fits, all_fit}, Issuing.is_long, Parcel.{Parcel, message_of}}
+use Rattle.wire_spelling.specs.Spelling.{ArraysFit, AllFit}
 
 within : (n : ℕ) → Decides (nat_le n 67108864) (n ≤ 67108864)
 within n = (leb-true n 67108864, le-leb n 67108864)

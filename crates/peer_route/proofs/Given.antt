@@ -1,25 +1,9 @@
 -- The message that each stream gave last, after each event.
-use Rattle.std.proofs.Common.{◌≡◌, ℕ, ◌+◌, ◌≤◌, zero, suc, refl, sym, ◌∙◌, ap, arith, ◌||◌, Bool, true, false, if◌then◌else◌, List, [], ◌∷◌, ◌++◌, length, drop, map, Option, Some, None, Result, Ok, Err}
-use Rattle.std.specs.List.{slice_get, slice_set, AllByRecursion}
-use Rattle.std.specs.Option.{option_map, option_flatten}
-use Rattle.std.proofs.lemmas.List.{map-append, drop-append-le, length-drop}
-use Rattle.std.proofs.Math.Seq.{drop-nil}
-use Rattle.std.proofs.lemmas.Option.{slice_get-map}
+use Rattle.peer_route.specs.{History.{Gave, Gone, Opened, Told, done_by, Event, Took, Shut, Wrote, Fault, Spent, Made, Did, Main, OnBus, Named, Put, OfLane, Adds, Removes, Making, Plain, Ruled, Cloned, Asked, Stream, Phase, Asking, Denied, Since, asks_by, phase, edit, new_stream, clone_of, fail_stream, Past, after, after_all}, Names.{Polled, Seen, Error, Rule}, Streams.{since_in, accepted, matched, offered, held, item_at, gave_last, all_given, runs, take_by, take_at, take_answer, take_events}, Left.{IsWithin, View, Left}, Plan.given_last}
+use Rattle.std.proofs.{Common.{◌≡◌, ℕ, ◌+◌, ◌≤◌, zero, suc, refl, sym, ◌∙◌, ap, arith, ◌||◌, Bool, true, false, if◌then◌else◌, List, [], ◌∷◌, ◌++◌, length, drop, map, Option, Some, None, Result, Ok, Err, option_and_then}, lemmas.List.{map-append, drop-append-le, length-drop}, Math.Seq.drop-nil, lemmas.Option.slice_get-map}
+use Rattle.std.specs.{List.{slice_get, slice_set, AllByRecursion}, Option.{option_map, option_flatten, option_and_then}}
+use Rattle.peer_route.proofs.{Plain.{map_along, map_each}, Edits.{edit-none, map_edit, map_edit_all, set_edit, get_before, get_first}, Matched.{arriving, matched_took, accepted_nothing}, StreamsMade.runs_so}
 use mathlib.Core.List.{map-map}
-use Rattle.wire_message.specs.Front.{Seen}
-use Rattle.wire_message.specs.declared.error.Error.{Error}
-use Rattle.wire_message.specs.declared.error.Error.TheVariants as errors
-use Rattle.rule_match.specs.Rule.{Rule}
-use Rattle.peer_route.specs.declared.polled.Polled.{Polled}
-use Rattle.peer_route.specs.declared.polled.Polled.TheVariants as polled
-use Rattle.peer_route.specs.History.{Event, Took, Shut, Wrote, Fault, Spent, Made, Did, Main, OnBus, Named, Put, OfLane, Adds, Removes, Making, Plain, Ruled, Cloned, Gave, Told, Gone, Asked, Opened, Stream, Phase, Asking, Denied, Since, asks_by, phase, edit, new_stream, clone_of, fail_stream, give, tell, end_one, open_one, Past, after, after_all}
-use Rattle.peer_route.specs.Streams.{since_in, accepted, matched, offered, held, item_at, gave_last, all_given, runs, take_by, take_at, take_answer, take_events}
-use Rattle.peer_route.specs.Left.{IsWithin, View, Left}
-use Rattle.peer_route.specs.Plan.{given_by, given_last}
-use Rattle.peer_route.proofs.Plain.{map_along, map_each}
-use Rattle.peer_route.proofs.Edits.{edit_nothing, map_edit, map_edit_all, set_edit, get_before, get_first}
-use Rattle.peer_route.proofs.Matched.{arriving, matched_took, accepted_nothing}
-use Rattle.peer_route.proofs.StreamsMade.{runs_so}
 
 -- ---- a message comes
 
@@ -100,7 +84,7 @@ one_more h s e = map-append (gave_last h.read) h.streams (s ∷ []) ∙ ap (λ o
 
 -- a change of a stream after which it gave the same
 same_gave : (h : Past) (k : ℕ) (f : Stream → Stream) → ((s : Stream) → gave_last h.read (f s) ≡ gave_last h.read s) → map (gave_last h.read) (edit k f h.streams) ≡ all_given h
-same_gave h k f e = map_edit_all (gave_last h.read) f (λ o. o) h.streams k e ∙ edit_nothing k (all_given h)
+same_gave h k f e = map_edit_all (gave_last h.read) f (λ o. o) h.streams k e ∙ edit-none (λ o. o) (λ o. refl) (all_given h) k
 
 pub given_along : (e : Event) (h : Past) → GivesNone e → all_given (after e h) ≡ left_given e (all_given h)
 unfolding gave_last offered matched phase
@@ -115,10 +99,10 @@ given_along Fault h x =
 given_along (Spent k) h x = refl
 given_along (Made making) h x = one_more h (new_stream h h.streams making) (new_gave h making)
 given_along (Did k Gave) h x = absurd x
-given_along (Did k Told) h x = same_gave h k tell (λ s. refl)
-given_along (Did k Gone) h x = map_edit_all (gave_last h.read) end_one (λ o. None) h.streams k (λ s. refl) ∙ sym (set_edit (all_given h) k None)
+given_along (Did k Told) h x = same_gave h k (done_by Told) (λ s. refl)
+given_along (Did k Gone) h x = map_edit_all (gave_last h.read) (done_by Gone) (λ o. None) h.streams k (λ s. refl) ∙ sym (set_edit (all_given h) k None)
 given_along (Did k (Asked limit)) h x = same_gave h k (λ s. s) (λ s. refl)
-given_along (Did k Opened) h x = same_gave h k open_one (λ s. refl)
+given_along (Did k Opened) h x = same_gave h k (done_by Opened) (λ s. refl)
 given_along (Main limit) h x = refl
 given_along OnBus h x = refl
 given_along (Named name) h x = refl
@@ -132,10 +116,10 @@ given_all (e ∷ es) h a = given_all es (after e h) a.1 ∙ ap (all_left_given e
 
 -- for each stream the message that it gave last, after a take
 abbrev pub given_after : ℕ → Result (Polled Seen) Error → List (Option Seen) → List (Option Seen)
-given_after k (Ok (polled.Now m)) gs = slice_set gs k (Some m)
+given_after k (Ok (Polled.Now m)) gs = slice_set gs k (Some m)
 given_after k other gs = gs
 
-gave_now : (ms : List Seen) (s : Stream) (m : Seen) (rest : List Seen) → s.gone ≡ false → held ms s ≡ m ∷ rest → gave_last ms (give s) ≡ Some m
+gave_now : (ms : List Seen) (s : Stream) (m : Seen) (rest : List Seen) → s.gone ≡ false → held ms s ≡ m ∷ rest → gave_last ms (done_by Gave s) ≡ Some m
 unfolding gave_last held offered matched phase
 gave_now ms s m rest still e =
     ap (λ b. if b then None else item_at (offered ms s) (s.taken + 1)) still
@@ -144,14 +128,14 @@ gave_now ms s m rest still e =
 given_by_take : (h : Past) (k : ℕ) (s : Stream) (items : List Seen) (error : Option Error) (told : Bool) → slice_get h.streams k ≡ Some s → s.gone ≡ false → held h.read s ≡ items
     → all_given (after_all (take_events k (Ok (take_by items error told))) h) ≡ given_after k (Ok (take_by items error told)) (all_given h)
 given_by_take h k s (m ∷ ms) error told at still e =
-    map_edit (gave_last h.read) give (λ _. Some m) h.streams k s at (gave_now h.read s m ms still e) ∙ sym (set_edit (all_given h) k (Some m))
+    map_edit (gave_last h.read) (done_by Gave) (λ _. Some m) h.streams k s at (gave_now h.read s m ms still e) ∙ sym (set_edit (all_given h) k (Some m))
 given_by_take h k s [] None told at still e = refl
 given_by_take h k s [] (Some error) false at still e = given_along (Did k Told) h tt
 given_by_take h k s [] (Some error) true at still e = refl
 
 given_if : (h : Past) (k : ℕ) (s : Stream) (open_ : Bool) → slice_get h.streams k ≡ Some s → runs h.read s ≡ open_
-    → all_given (after_all (take_events k (if open_ then Ok (take_by (held h.read s) h.closing s.told) else Err errors.UnknownHandle)) h)
-    ≡ given_after k (if open_ then Ok (take_by (held h.read s) h.closing s.told) else Err errors.UnknownHandle) (all_given h)
+    → all_given (after_all (take_events k (if open_ then Ok (take_by (held h.read s) h.closing s.told) else Err Error.UnknownHandle)) h)
+    ≡ given_after k (if open_ then Ok (take_by (held h.read s) h.closing s.told) else Err Error.UnknownHandle) (all_given h)
 given_if h k s false at e = refl
 given_if h k s true at e = let is = runs_so h s e in given_by_take h k s (held h.read s) h.closing s.told at is.still refl
 
@@ -166,7 +150,7 @@ given_taken h k = given_take_at h k (slice_get h.streams k) refl
 
 -- ---- what a number names
 
-by_stream : (h : Past) (o : Option Stream) → option_flatten (option_map (gave_last h.read) o) ≡ given_by h o
+by_stream : (h : Past) (o : Option Stream) → option_flatten (option_map (gave_last h.read) o) ≡ option_and_then (gave_last h.read) o
 by_stream h None = refl
 by_stream h (Some s) = refl
 

@@ -1,26 +1,14 @@
 -- The map from each serial that is waited for to the place of its slot.
-use Rattle.std.proofs.Common.{inl, inr, ◌⊎◌, ◌≡◌, ℕ, ◌+◌, ◌<◌, ◌≤◌, ◌==◌, ◌||◌, zero, suc, refl, sym, ◌∙◌, ap, subst, Bool, true, false, ◌&&◌, is_none, is_some, List, [], ◌∷◌, ◌++◌, length, get_or, set, take, arith, Option, Some, None, IsSome}
-use Rattle.std.specs.List.{list_any}
-use Rattle.std.specs.Ordering.{nat_cmp, eq_by_cmp}
-use Rattle.std.specs.Cmp.{unsigned_tied}
-use Rattle.std.specs.BTreeMap.{BTreeMap, get, UpdatesBy}
-use Rattle.std.proofs.lemmas.Bool.{cases_eq, cases_lt, and_right, true≢false, false≢true, both_ways, eqb-true, eq-eqb, ne_eqb}
-use Rattle.std.proofs.lemmas.List.{take_all, length-set, take_more_set, take-set, take-take, get_or_default, get_or_past, get_or_append_left, get_or_push, get_or-set_same, get_or-set_other}
-use Rattle.std.proofs.lemmas.Option.{none-some}
-use Rattle.peer_route.specs.declared.calls.Slot.{Slot}
-use Rattle.peer_route.specs.declared.calls.Slot.TheVariants as slots
-use Rattle.wire_message.specs.Front.{Seen}
-use Rattle.wire_message.specs.declared.error.Error.{Error}
-use Rattle.peer_route.specs.History.{bears}
-use Rattle.peer_route.specs.Left.{CallsView, waiting_serial, answers_call, is_waiting, takes, IsIndex}
-use Rattle.peer_route.proofs.Slots.{waits_at, takes_nowhere, takes_at}
-use Rattle.peer_route.proofs.Core.{calls_of}
+use Rattle.std.proofs.{Common.{inl, inr, ◌⊎◌, ◌≡◌, ℕ, ◌+◌, ◌<◌, ◌≤◌, ◌==◌, ◌||◌, zero, suc, refl, sym, ◌∙◌, ap, subst, Bool, true, false, ◌&&◌, is_none, is_some, List, [], ◌∷◌, ◌++◌, length, get_or, set, take, arith, Option, Some, None, IsSome}, lemmas.Bool.{cases_eq, cases_lt, and_right, true≢false, false≢true, both_ways, eqb-true, eq-eqb, ne_eqb}, lemmas.List.{take_all, length-set, take_more_set, take-set, take-take, get_or_default, get_or_past, get_or_append_left, get_or_push, get_or-set_same, get_or-set_other}, lemmas.Option.none-some}
+use Rattle.std.specs.{List.list_any, Ordering.{nat_cmp, eq_by_cmp}, Cmp.unsigned_tied, BTreeMap.{BTreeMap, get, UpdatesBy}}
+use Rattle.peer_route.specs.{Names.{Slot, Seen, Error}, History.bears, Left.{CallsView, waiting_serial, answers_call, is_waiting, takes, IsIndex}}
+use Rattle.peer_route.proofs.{Slots.{waits_at, takes_nowhere, takes_at}, Core.calls_of}
 
 -- the slot with this place
 abbrev at : List Slot → ℕ → Slot
-at ss k = get_or ss k slots.Gone
+at ss k = get_or ss k Slot.Gone
 
-some_same : (a b : ℕ) → Some a ≡ Some b → a ≡ b
+pub some_same : (a b : ℕ) → Some a ≡ Some b → a ≡ b
 some_same a b e = ap (λ o. or_zero o) e
   where
     or_zero : Option ℕ → ℕ
@@ -31,14 +19,14 @@ some_same a b e = ap (λ o. or_zero o) e
 
 -- a slot waits for one serial
 waits_for_one : (p q : ℕ) (s : Slot) → is_waiting p s ≡ true → is_waiting q s ≡ true → p ≡ q
-waits_for_one p q slots.Gone a b = absurd (false≢true a)
-waits_for_one p q (slots.Waiting n i) a b = sym (eqb-true n p a) ∙ eqb-true n q b
-waits_for_one p q (slots.Replied m) a b = absurd (false≢true a)
+waits_for_one p q Slot.Gone a b = absurd (false≢true a)
+waits_for_one p q (Slot.Waiting n i) a b = sym (eqb-true n p a) ∙ eqb-true n q b
+waits_for_one p q (Slot.Replied m) a b = absurd (false≢true a)
 
 pub waits_within : (q k : ℕ) (ss : List Slot) → is_waiting q (at ss k) ≡ true → k < length ss
 waits_within q k ss w = elim (cases_lt k (length ss)) [
   | inl h ↦ h
-  | inr h ↦ absurd (false≢true (ap (is_waiting q) (sym (get_or_past ss k slots.Gone h)) ∙ w))
+  | inr h ↦ absurd (false≢true (ap (is_waiting q) (sym (get_or_past ss k Slot.Gone h)) ∙ w))
 ]
 
 any_by : (q : ℕ) (s : Slot) (ss : List Slot) (b : Bool) → is_waiting q s ≡ b → (list_any (is_waiting q) ss ≡ true → (k : ℕ) × (is_waiting q (at ss k) ≡ true))
@@ -95,16 +83,16 @@ module _ (m n : BTreeMap ℕ ℕ) (ss : List Slot) (s k : ℕ) (x : Slot) (idle 
   removed_there : (q j : ℕ) → get nat_cmp n q ≡ Some j → is_waiting q (at (set ss k x) j) ≡ true
   removed_there q j g =
       let w = i.there q j (earlier q j g) in
-      ap (is_waiting q) (get_or-set_other ss k j x slots.Gone (λ e. other q j g (waits_for_one s q (at ss k) was (ap (λ p. is_waiting q (at ss p)) (sym e) ∙ w)))) ∙ w
+      ap (is_waiting q) (get_or-set_other ss k j x Slot.Gone (λ e. other q j g (waits_for_one s q (at ss k) was (ap (λ p. is_waiting q (at ss p)) (sym e) ∙ w)))) ∙ w
 
   elsewhere : (q j : ℕ) → is_waiting q (at (set ss k x) j) ≡ true → j ≡ k → ⊥
   elsewhere q j w e =
       both_ways (is_waiting q x) (idle q)
-      (sym (ap (is_waiting q) (ap (at (set ss k x)) e ∙ get_or-set_same ss k x slots.Gone (waits_within s k ss was))) ∙ w)
+      (sym (ap (is_waiting q) (ap (at (set ss k x)) e ∙ get_or-set_same ss k x Slot.Gone (waits_within s k ss was))) ∙ w)
 
   removed_whole : (q j : ℕ) → is_waiting q (at (set ss k x) j) ≡ true → get nat_cmp n q ≡ Some j
   removed_whole q j w =
-      let v = ap (is_waiting q) (sym (get_or-set_other ss k j x slots.Gone (elsewhere q j w))) ∙ w in
+      let v = ap (is_waiting q) (sym (get_or-set_other ss k j x Slot.Gone (elsewhere q j w))) ∙ w in
       let g = i.whole q j v in
       gone.2 q (apart s q (λ e. elsewhere q j w (some_same j k (sym g ∙ ap (get nat_cmp m) (sym e) ∙ i.whole s k was)))) ∙ g
 
@@ -123,7 +111,7 @@ module _ (m n : BTreeMap ℕ ℕ) (ss : List Slot) (s k : ℕ) (x : Slot) (idle 
 
 -- ---- one slot more
 
-pushed_waits : (q j s : ℕ) (inner : Bool) (ss : List Slot) → is_waiting q (at (ss ++ slots.Waiting s inner ∷ []) j) ≡ true → ((j ≡ length ss) × (s ≡ q)) ⊎ (is_waiting q (at ss j) ≡ true)
+pushed_waits : (q j s : ℕ) (inner : Bool) (ss : List Slot) → is_waiting q (at (ss ++ Slot.Waiting s inner ∷ []) j) ≡ true → ((j ≡ length ss) × (s ≡ q)) ⊎ (is_waiting q (at ss j) ≡ true)
 pushed_waits q zero s inner [] w = inl (refl, eqb-true s q w)
 pushed_waits q (suc j) s inner [] w = absurd (false≢true w)
 pushed_waits q zero s inner (y ∷ ss) w = inr w
@@ -134,17 +122,17 @@ pushed_waits q (suc j) s inner (y ∷ ss) w = elim (pushed_waits q j s inner ss 
 
 module _ (m n : BTreeMap ℕ ℕ) (ss : List Slot) (s : ℕ) (inner : Bool) (low : 1 ≤ s) (high : s ≤ 4294967295) (free : list_any (is_waiting s) ss ≡ false)
     (new : UpdatesBy nat_cmp (nat_cmp s) m n (Some (length ss))) (i : IsIndex m ss) where
-  pushed_there : (q j : ℕ) → get nat_cmp n q ≡ Some j → is_waiting q (at (ss ++ slots.Waiting s inner ∷ []) j) ≡ true
+  pushed_there : (q j : ℕ) → get nat_cmp n q ≡ Some j → is_waiting q (at (ss ++ Slot.Waiting s inner ∷ []) j) ≡ true
   pushed_there q j g = elim (cases_eq s q) [
     | inl e ↦
         let last : length ss ≡ j = some_same (length ss) j (sym new.1 ∙ ap (get nat_cmp n) e ∙ g) in
-        ap (is_waiting q) (get_or_push ss (slots.Waiting s inner) slots.Gone j last) ∙ eq-eqb s q e
+        ap (is_waiting q) (get_or_push ss (Slot.Waiting s inner) Slot.Gone j last) ∙ eq-eqb s q e
     | inr ne ↦
         let w = i.there q j (sym (new.2 q (apart s q ne)) ∙ g) in
-        ap (is_waiting q) (get_or_append_left ss (slots.Waiting s inner ∷ []) slots.Gone j (waits_within q j ss w)) ∙ w
+        ap (is_waiting q) (get_or_append_left ss (Slot.Waiting s inner ∷ []) Slot.Gone j (waits_within q j ss w)) ∙ w
   ]
 
-  pushed_whole : (q j : ℕ) → is_waiting q (at (ss ++ slots.Waiting s inner ∷ []) j) ≡ true → get nat_cmp n q ≡ Some j
+  pushed_whole : (q j : ℕ) → is_waiting q (at (ss ++ Slot.Waiting s inner ∷ []) j) ≡ true → get nat_cmp n q ≡ Some j
   pushed_whole q j w = elim (pushed_waits q j s inner ss w) [
     | inl e ↦ ap (get nat_cmp n) (sym e.1) ∙ new.1 ∙ ap (λ k. Some k) (sym e.0)
     | inr v ↦
@@ -158,7 +146,7 @@ module _ (m n : BTreeMap ℕ ℕ) (ss : List Slot) (s : ℕ) (inner : Bool) (low
     | inr ne ↦ i.circle q (subst IsSome (new.2 q (apart s q ne)) g)
   ]
 
-  pub index_pushed : IsIndex n (ss ++ slots.Waiting s inner ∷ [])
+  pub index_pushed : IsIndex n (ss ++ Slot.Waiting s inner ∷ [])
   index_pushed = record { there = pushed_there; whole = pushed_whole; circle = pushed_circle }
 
 -- ---- what the code reads of its slots
@@ -170,7 +158,7 @@ index_idle m ss k x y idle was e = index_kept m ss k x (λ q. idle q ∙ sym (wa
 
 -- the slot at a place that was read
 pub at_read : (ss : List Slot) (k : ℕ) (x : Slot) → k < length ss → x ≡ get_or ss k x → x ≡ at ss k
-at_read ss k x h e = e ∙ get_or_default ss k x slots.Gone h
+at_read ss k x h e = e ∙ get_or_default ss k x Slot.Gone h
 
 -- ---- which serials are pending
 
@@ -199,7 +187,7 @@ free_slots ss v s e free = ap (λ (w : CallsView). is_none w.closing && list_any
 -- an open peer has one call more
 pub registered : (m n : BTreeMap ℕ ℕ) (ss : List Slot) (error : Option Error) (v : CallsView) (s : ℕ) (inner : Bool) → calls_of ss error ≡ v → error ≡ None
     → waiting_serial v s ≡ false → 1 ≤ s → s ≤ 4294967295 → UpdatesBy nat_cmp (nat_cmp s) m n (Some (length ss)) → (error ≡ None → IsIndex m ss)
-    → IsIndex n (ss ++ slots.Waiting s inner ∷ [])
+    → IsIndex n (ss ++ Slot.Waiting s inner ∷ [])
 registered m n ss error v s inner e none free low high new i =
     index_pushed m n ss s inner low high (free_slots ss v s (ap (calls_of ss) (sym none) ∙ e) free) new (i none)
 
@@ -222,13 +210,13 @@ answers_shut ss (Some error) v message e is_shut = ap (λ (w : CallsView). is_no
 
 -- ---- the last slot is taken back
 
-at_gone : (ss : List Slot) (k : ℕ) → at (ss ++ slots.Gone ∷ []) k ≡ at ss k
+at_gone : (ss : List Slot) (k : ℕ) → at (ss ++ Slot.Gone ∷ []) k ≡ at ss k
 at_gone [] zero = refl
 at_gone [] (suc k) = refl
 at_gone (s ∷ ss) zero = refl
 at_gone (s ∷ ss) (suc k) = at_gone ss k
 
-index_less : (m : BTreeMap ℕ ℕ) (ss : List Slot) → IsIndex m (ss ++ slots.Gone ∷ []) → IsIndex m ss
+index_less : (m : BTreeMap ℕ ℕ) (ss : List Slot) → IsIndex m (ss ++ Slot.Gone ∷ []) → IsIndex m ss
 index_less m ss i = record {
   there = λ serial place e. ap (is_waiting serial) (sym (at_gone ss place)) ∙ i.there serial place e;
   whole = λ serial place w. i.whole serial place (ap (is_waiting serial) (at_gone ss place) ∙ w);
@@ -236,11 +224,11 @@ index_less m ss i = record {
 }
 
 -- The last slot is emptied and taken away.
-pub taken_back : (m n : BTreeMap ℕ ℕ) (ss now popped : List Slot) (count last : ℕ) → last + 1 ≡ length ss → count ≤ last → now ≡ set ss last slots.Gone → popped ≡ take last now
+pub taken_back : (m n : BTreeMap ℕ ℕ) (ss now popped : List Slot) (count last : ℕ) → last + 1 ≡ length ss → count ≤ last → now ≡ set ss last Slot.Gone → popped ≡ take last now
     → (IsIndex m ss → IsIndex n now) → (take count popped ≡ take count ss) × (IsIndex m ss → IsIndex n popped)
 taken_back m n ss now popped count last e le is_now is_popped i =
-    let same : popped ≡ take last ss = is_popped ∙ ap (take last) is_now ∙ take-set ss last slots.Gone in
-    let whole : now ≡ popped ++ slots.Gone ∷ [] =
-    is_now ∙ sym (take_all (last + 1) (set ss last slots.Gone) (omega (arith, e, length-set ss last slots.Gone)))
-    ∙ take_more_set ss last slots.Gone (omega (arith, e)) ∙ ap (λ xs. xs ++ slots.Gone ∷ []) (sym same) in
+    let same : popped ≡ take last ss = is_popped ∙ ap (take last) is_now ∙ take-set ss last Slot.Gone in
+    let whole : now ≡ popped ++ Slot.Gone ∷ [] =
+    is_now ∙ sym (take_all (last + 1) (set ss last Slot.Gone) (omega (arith, e, length-set ss last Slot.Gone)))
+    ∙ take_more_set ss last Slot.Gone (omega (arith, e)) ∙ ap (λ xs. xs ++ Slot.Gone ∷ []) (sym same) in
     (ap (take count) same ∙ take-take count last ss le, λ j. index_less n popped (subst (IsIndex n) whole (i j)))

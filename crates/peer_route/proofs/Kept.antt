@@ -1,21 +1,9 @@
--- What events keep: each of them, those of an entry, and those of all entries.
-use Rattle.std.proofs.Common.{◌≡◌, ℕ, refl, ◌∙◌, Bool, true, false, if◌then◌else◌, List, [], ◌∷◌, Option, Some, None}
-use Rattle.std.specs.List.{AllByRecursion}
-use Rattle.wire_message.specs.Front.{Seen}
-use Rattle.wire_message.specs.declared.error.Error.{Error}
-use Rattle.peer_route.specs.declared.words.Words.{Words}
-use Rattle.peer_route.specs.declared.words.Words.TheVariants as words
-use Rattle.peer_route.specs.declared.answer.Answer.{Answer}
-use Rattle.peer_route.specs.declared.answer.Answer.TheVariants as answers
-use Rattle.peer_route.specs.declared.answer.Entry.{Entry}
-use Rattle.peer_route.specs.Parcel.{Setting}
-use Rattle.peer_route.specs.History.{Event, Took, Shut, Put, Wrote, Fault, Main, OnBus, Named, Purpose, no_past, Past, after, after_all}
-use Rattle.peer_route.specs.Streams.{gone_events}
-use Rattle.peer_route.specs.Issuing.{Posting, puts}
-use Rattle.peer_route.specs.Trail.{Trail}
-use Rattle.peer_route.specs.Plan.{Plan, Reads, plan}
-use Rattle.peer_route.specs.Entries.{trail, deeds, postings, writes, past_after, read_events, first_past, with_queue, with_bus, with_name, IsOfRun}
-use Rattle.peer_route.proofs.Plans.{by_plan, IsDeed, AreDeeds, gone_deeds, along, along_entry}
+-- What events keep: each of them, those of an entry, and those of all entries; what an entry leaves that puts nothing; and what refuses
+-- messages is no unknown handle.
+use Rattle.std.specs.{Prelude.option_to_list, List.AllByRecursion}
+use Rattle.std.proofs.{Common.{◌≡◌, ℕ, refl, ◌∙◌, Bool, true, false, if◌then◌else◌, List, [], ◌∷◌, Option, Some, None, ◌++◌, option_map, zero, suc, ap}, lemmas.List.append-nil}
+use Rattle.peer_route.specs.{Names.{Seen, Error, Words, Answer, Entry}, Parcel.Setting, History.{Event, Took, Shut, Put, Wrote, Fault, Main, OnBus, Named, Purpose, no_past, Past, after, after_all}, Issuing.{Posting, puts}, Trail.{Trail, new_names, asked_names, made_names}, Plan.{Plan, Reads, plan, Says, Sends, Closes, Writes, Never}, Entries.{trail, deeds, postings, writes, past_after, read_events, first_past, IsOfRun, IsEntry, Legal, more, IsQuiet, more_by, repeat}}
+use Rattle.peer_route.proofs.{Edits.all_weaker, Plans.{IsDeed, AreDeeds, along, along_entry, is_live, Gives, IsOwn, IsFair, fair}}
 
 -- ---- what every event keeps
 
@@ -30,15 +18,15 @@ every_entry P keeps pl e h so = every P keeps (writes e) _ (every P keeps (puts 
 pub at_start : (P : Past → Type 0) → P no_past → ((limit : ℕ) (h : Past) → P h → P (after (Main limit) h)) → ((h : Past) → P h → P (after OnBus h)) → ((name : List ℕ) (h : Past) → P h → P (after (Named name) h)) → (setting : Setting) → P (first_past setting)
 at_start P so main bus named setting = name_so setting.name _ (bus_so setting.bus _ (queue_so setting.queue))
   where
-    queue_so : (limit : Option ℕ) → P (with_queue limit no_past)
+    queue_so : (limit : Option ℕ) → P (after_all (option_to_list (option_map Main limit)) no_past)
     queue_so None = so
     queue_so (Some limit) = main limit no_past so
 
-    bus_so : (b : Bool) (h : Past) → P h → P (with_bus b h)
+    bus_so : (b : Bool) (h : Past) → P h → P (after_all (if b then OnBus ∷ [] else []) h)
     bus_so false h is = is
     bus_so true h is = bus h is
 
-    name_so : (given : Option (List ℕ)) (h : Past) → P h → P (with_name given h)
+    name_so : (given : Option (List ℕ)) (h : Past) → P h → P (after_all (option_to_list (option_map Named given)) h)
     name_so None h is = is
     name_so (Some given) h is = named given h is
 
@@ -46,6 +34,20 @@ at_start P so main bus named setting = name_so setting.name _ (bus_so setting.bu
 pub always : (P : Past → Type 0) → P no_past → ((e : Event) (h : Past) → P h → P (after e h)) → (setting : Setting) (es : List Entry) → P (trail setting es).past
 always P so keeps setting [] = at_start P so (λ limit. keeps (Main limit)) (keeps OnBus) (λ name. keeps (Named name)) setting
 always P so keeps setting (e ∷ es) = let t = trail setting es in every_entry P keeps (plan t e.lane e.words) e t.past (always P so keeps setting es)
+
+-- what every event keeps is so behind further entries
+pub since : (P : Past → Type 0) → ((e : Event) (h : Past) → P h → P (after e h)) → (setting : Setting) (newer older : List Entry) → P (trail setting older).past → P (trail setting (newer ++ older)).past
+since P keeps setting [] older so = so
+since P keeps setting (e ∷ newer) older so = let t = trail setting (newer ++ older) in every_entry P keeps (plan t e.lane e.words) e t.past (since P keeps setting newer older so)
+
+-- what legal entries keep is so behind all of them, and what follows from it is so of each
+pub later : (setting : Setting) (P : Trail → Type 0) (Q : Entry → Type 0) → ((t : Trail) (e : Entry) → IsEntry t e → P t → P (more t e) × Q e) → (newer older : List Entry) → Legal setting (newer ++ older)
+    → P (trail setting older) → P (trail setting (newer ++ older)) × AllByRecursion Q newer
+later setting P Q step [] older legal so = (so, tt)
+later setting P Q step (e ∷ newer) older legal so =
+    let rest = later setting P Q step newer older legal.1 so in
+    let now = step (trail setting (newer ++ older)) e legal.0 rest.0 in
+    (now.0, (now.1, rest.1))
 
 -- ---- what some events keep
 
@@ -57,8 +59,7 @@ pub kept_by : {X : Type 0} (f : Past → X) (es : List Event) (h : Past) → All
 kept_by f es h all = along (λ q. f q ≡ f h) (Keeps f) (λ e q keeps so. keeps q ∙ so) es h all refl
 
 pub deeds_are : (Is : Event → Type 0) → ((e : Event) → IsDeed e → Is e) → (es : List Event) → AreDeeds es → AllByRecursion Is es
-deeds_are Is deed [] all = tt
-deeds_are Is deed (e ∷ es) all = (deed e all.0, deeds_are Is deed es all.1)
+deeds_are Is deed = all_weaker IsDeed Is deed
 
 pub puts_are : (Is : Event → Type 0) → ((m : Seen) (purpose : Purpose) → Is (Put m purpose)) → (ds : List Posting) (ms : List Seen) → AllByRecursion Is (puts ds ms)
 puts_are Is put [] ms = tt
@@ -69,30 +70,35 @@ pub entry_keeps : {X : Type 0} (f : Past → X) (pl : Plan) (e : Entry) (h : Pas
 entry_keeps f pl e h done put wrote fault =
     along_entry (λ q. f q ≡ f h) (Keeps f) (λ x q keeps so. keeps q ∙ so) pl e h done (puts_are (Keeps f) put (postings pl) e.put) wrote fault refl
 
-abbrev pub is_live : Words → Bool
-is_live (words.Live line) = true
-is_live w = false
-
 pub of_run : (w : Words) → IsOfRun w → is_live w ≡ false
-of_run (words.Live line) is = absurd is
+of_run (Words.Live line) is = absurd is
 of_run w is = refl
 
-pub read_all : (Is : Event → Type 0) → ((m : Seen) → Is (Took m)) → ((error : Error) → Is (Shut error)) → (m : Option Seen) (a : Answer) → AllByRecursion Is (read_events m a)
-read_all Is took shut (Some m) a = (took m, tt)
-read_all Is took shut None (answers.Closed error) = (shut error, tt)
-read_all Is took shut None a = tt
-
-pub write_all : (Is : Event → Type 0) (fails : Bool) → Is Wrote × Is Fault → AllByRecursion Is ((if fails then Fault else Wrote) ∷ [])
-write_all Is true is = (is.1, tt)
-write_all Is false is = (is.0, tt)
-
 -- the deeds of a command: those that a plan says, what a read found, the closing, and a write
+pub deeds_by : (Is : Event → Type 0) (t : Trail) (lane : ℕ) (e : Entry) (w : Words) → ((x : Event) → IsDeed x → Gives w x → Is x) → ((error : Error) → Is (Shut error)) → (plan t lane w ≡ Reads → (m : Seen) → Is (Took m))
+    → (is_live w ≡ true → Is Wrote × Is Fault) → AllByRecursion Is (deeds (plan t lane w) e)
+deeds_by Is t lane e w deed shut took live = by (plan t lane w) refl (fair t lane w)
+  where
+    read_all : ((m : Seen) → Is (Took m)) → (m : Option Seen) (a : Answer) → AllByRecursion Is (read_events m a)
+    read_all took (Some m) a = (took m, tt)
+    read_all took None (Answer.Closed error) = (shut error, tt)
+    read_all took None a = tt
+
+    write_all : (fails : Bool) → Is Wrote × Is Fault → AllByRecursion Is ((if fails then Fault else Wrote) ∷ [])
+    write_all true is = (is.1, tt)
+    write_all false is = (is.0, tt)
+
+    by : (pl : Plan) → plan t lane w ≡ pl → IsFair t w pl → AllByRecursion Is (deeds pl e)
+    by (Says answer done) at f = all_weaker (IsOwn w) Is (λ x is. deed x is.0 is.1) done f.only
+    by (Sends done ds sent) at f = all_weaker (IsOwn w) Is (λ x is. deed x is.0 is.1) done f.only
+    by Reads at f = read_all (took at) e.read e.answer
+    by Closes at f = (shut _, tt)
+    by (Writes fails) at f = write_all fails (live f.0)
+    by Never at f = tt
+
 pub deeds_all : (Is : Event → Type 0) → ((e : Event) → IsDeed e → Is e) → ((error : Error) → Is (Shut error)) → (t : Trail) (lane : ℕ) (e : Entry) (w : Words) → (plan t lane w ≡ Reads → (m : Seen) → Is (Took m))
     → (is_live w ≡ true → Is Wrote × Is Fault) → AllByRecursion Is (deeds (plan t lane w) e)
-deeds_all Is deed shut t lane e =
-    by_plan (λ w pl. (pl ≡ Reads → (m : Seen) → Is (Took m)) → (is_live w ≡ true → Is Wrote × Is Fault) → AllByRecursion Is (deeds pl e)) t lane (λ w answer done fair took live. deeds_are Is deed done fair.only)
-    (λ w parcel from took live. tt) (λ asked text rule took live. tt) (λ n second k j open_ took live. deeds_are Is deed (gone_events k j) (gone_deeds k j))
-    (λ still took live. read_all Is (took refl) shut e.read e.answer) (λ took live. (shut _, tt)) (λ line fails fine took live. write_all Is fails (live refl)) (λ line took live. tt)
+deeds_all Is deed shut t lane e w took live = deeds_by Is t lane e w (λ x is gives. deed x is) shut took live
 
 pub deed_outbox : (e : Event) → IsDeed e → (h : Past) → (after e h).outbox ≡ h.outbox
 deed_outbox (Put m purpose) is h = absurd is
@@ -100,3 +106,44 @@ deed_outbox (Shut error) is h = absurd is
 deed_outbox Wrote is h = absurd is
 deed_outbox Fault is h = absurd is
 deed_outbox e is h = refl
+
+-- ---- where nothing is put or written
+
+-- what is left where no message is put
+no_messages : (ds : List Posting) (ms : List Seen) (lane : ℕ) (failed : Bool) → ms ≡ [] → (puts ds ms ≡ []) × (new_names lane failed ds ms ≡ []) × (asked_names lane failed ds ms ≡ [])
+no_messages [] ms lane failed e = (refl, refl, refl)
+no_messages (d ∷ ds) [] lane failed e = (refl, refl, refl)
+no_messages (d ∷ ds) (m ∷ ms) lane failed e = cc
+
+no_writes : (n k : ℕ) (failed : Bool) → n ≡ 0 → failed ≡ false → repeat n Wrote ++ (if failed then repeat k Fault else []) ≡ []
+no_writes zero k true w f = cc
+no_writes zero k false w f = refl
+no_writes (suc n) k failed w f = cc
+
+-- a quiet entry leaves the past as its deeds do
+pub quiet_past : (pl : Plan) (e : Entry) (h : Past) → IsQuiet e → past_after pl e h ≡ after_all (deeds pl e) h
+quiet_past pl e h q =
+    ap (λ es. after_all es (after_all (puts (postings pl) e.put) (after_all (deeds pl e) h))) (no_writes e.written _ e.failed q.written q.failed)
+    ∙ ap (λ es. after_all es (after_all (deeds pl e) h)) (no_messages (postings pl) e.put e.lane e.failed q.put).0
+
+-- and makes no call, and the streams that its deeds make
+pub quiet_more : (pl : Plan) (e : Entry) (t : Trail) → IsQuiet e
+    → more_by pl e t ≡ record { past = after_all (deeds pl e) t.past; names = t.names; streams = t.streams ++ made_names e.lane (deeds pl e); setting = t.setting }
+quiet_more pl e t q =
+    let streams = t.streams ++ made_names e.lane (deeds pl e) in
+    let none = no_messages (postings pl) e.put e.lane e.failed q.put in
+    ap (λ h. record { past = h; names = t.names ++ new_names e.lane e.failed (postings pl) e.put; streams = streams ++ asked_names e.lane e.failed (postings pl) e.put; setting = t.setting }) (quiet_past pl e t.past q)
+    ∙ ap (λ ns. record { past = after_all (deeds pl e) t.past; names = ns; streams = streams ++ asked_names e.lane e.failed (postings pl) e.put; setting = t.setting }) (ap (λ ns. t.names ++ ns) none.1 ∙ append-nil t.names)
+    ∙ ap (λ ns. record { past = after_all (deeds pl e) t.past; names = t.names; streams = ns; setting = t.setting }) (ap (λ ns. streams ++ ns) none.2 ∙ append-nil streams)
+
+-- it is quiet and does nothing
+abbrev pub Idles : Plan → Entry → Type 0
+Idles pl e = IsQuiet e × (deeds pl e ≡ [])
+
+-- then it leaves all as it was
+pub idle_more : (pl : Plan) (e : Entry) (t : Trail) → Idles pl e → more_by pl e t ≡ t
+idle_more pl e t q =
+    quiet_more pl e t q.0 ∙ ap (λ es. record { past = after_all es t.past; names = t.names; streams = t.streams ++ made_names e.lane es; setting = t.setting }) q.1
+    ∙ ap (λ ns. record { past = t.past; names = t.names; streams = ns; setting = t.setting }) (append-nil t.streams)
+
+-- ---- messages

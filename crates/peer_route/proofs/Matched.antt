@@ -1,16 +1,39 @@
--- The messages that are a stream's: how many of them it passed, that a message that comes is one more, and that it never passes
+-- How far a stream is opened once a message comes. The messages that are a stream's: how many of them it passed, that a message that comes is one more, and that it never passes
 -- more than there are.
-use Rattle.std.proofs.Common.{◌≡◌, ℕ, ◌+◌, ◌≤◌, zero, suc, refl, sym, ◌∙◌, ap, subst, arith, Bool, true, false, if◌then◌else◌, List, [], ◌∷◌, ◌++◌, length, drop, Option, Some, None, length-append}
-use Rattle.std.specs.List.{slice_get, AllByRecursion}
-use Rattle.std.proofs.lemmas.List.Elements.{filter-append}
-use Rattle.std.proofs.lemmas.List.{drop-drop, append-nil}
-use Rattle.wire_message.specs.Front.{Seen}
-use Rattle.peer_route.specs.History.{Took, Call, bears, Stream, Phase, Asking, Denied, Since, is_return, phase, fresh, asking_stream, Past, after}
-use Rattle.peer_route.specs.Streams.{since_in, accepted, matched, offered, held}
-use Rattle.rule_match.specs.Rule.{Rule}
-use Rattle.rule_match.specs.Accepting.{accepts}
-use Rattle.peer_route.specs.Left.{start_count, IsWithin}
-use Rattle.peer_route.proofs.Phases.{stepped, phase_took}
+use Rattle.std.proofs.{Common.{◌≡◌, ◌+◌, ◌≤◌, refl, sym, ◌∙◌, ap, subst, arith, Bool, true, false, if◌then◌else◌, List, [], ◌∷◌, ◌++◌, length, drop, Option, Some, None, length-append}, lemmas.List.Elements.filter-append, lemmas.List.{drop-drop, append-nil, drop-append-le}}
+use Rattle.peer_route.specs.{Names.{Seen, Rule, accepts}, History.{Took, Call, bears, Stream, Phase, Asking, Denied, Since, is_return, phase, fresh, asking_stream, Past, after, Start, Behind, OnReturn, since_reply, phase_by}, Streams.{since_in, accepted, matched, offered, held}, Left.{start_count, IsWithin}}
+
+-- ---- how far a stream is opened once a message comes
+
+-- a phase once the message came
+abbrev pub stepped : Seen → Phase → Phase
+stepped m (Since ms) = Since (ms ++ m ∷ [])
+stepped m (Denied r) = Denied r
+stepped m (Asking add) = since_reply add (m ∷ [])
+
+snoc_by : (m x : Seen) (ms : List Seen) (b r : Bool) (y z : Phase) → y ≡ stepped m z
+    → (if b then (if r then Since (ms ++ m ∷ []) else Denied x) else y) ≡ stepped m (if b then (if r then Since ms else Denied x) else z)
+snoc_by m x ms true true y z e = refl
+snoc_by m x ms true false y z e = refl
+snoc_by m x ms false r y z e = e
+
+since_snoc : (add : Call) (ms : List Seen) (m : Seen) → since_reply add (ms ++ m ∷ []) ≡ stepped m (since_reply add ms)
+since_snoc add [] m = refl
+since_snoc add (x ∷ ms) m = snoc_by m x ms (bears add.serial x) (is_return x.kind) (since_reply add (ms ++ m ∷ [])) (since_reply add ms) (since_snoc add ms m)
+
+step_by : (start : Start) (ms : List Seen) (m : Seen) → start_count start ≤ length ms → phase_by start (ms ++ m ∷ []) ≡ stepped m (phase_by start ms)
+step_by (Behind count) ms m le = ap (λ xs. Since xs) (drop-append-le count ms (m ∷ []) le)
+step_by (OnReturn add) ms m le = ap (since_reply add) (drop-append-le add.from ms (m ∷ []) le) ∙ since_snoc add (drop add.from ms) m
+
+pub phase_took : (m : Seen) (h : Past) (s : Stream) → start_count s.start ≤ length h.read → phase (after (Took m) h).read s ≡ stepped m (phase h.read s)
+unfolding phase
+phase_took m h s le = step_by s.start h.read m le
+
+pub phase_same : (g h : Past) (s : Stream) → g.read ≡ h.read → phase g.read s ≡ phase h.read s
+unfolding phase
+phase_same g h s e = ap (λ (ms : List Seen). phase ms s) e
+
+-- ---- which messages are a stream's
 
 -- What stands to a stream, by its count.
 pub held_matched : (h : Past) (s : Stream) → held h.read s ≡ drop (s.skip + s.taken) (matched h.read s)
@@ -46,10 +69,7 @@ pub matched_took : (m : Seen) (h : Past) (s : Stream) → start_count s.start �
 unfolding matched
 matched_took m h s le = ap (λ p. accepted s.rule (since_in p)) (phase_took m h s le) ∙ stepped_accepts (phase h.read s) s.rule m
 
--- what was read says what is a stream's
-pub matched_same : (g h : Past) (s : Stream) → g.read ≡ h.read → matched g.read s ≡ matched h.read s
-matched_same g h s e = ap (λ (ms : List Seen). matched ms s) e
-
+-- what was read says what a stream holds
 pub held_same : (g h : Past) (s : Stream) → g.read ≡ h.read → held g.read s ≡ held h.read s
 held_same g h s e = ap (λ (ms : List Seen). held ms s) e
 
@@ -64,21 +84,8 @@ within_took m h s w =
       passed = subst (λ (ms : List Seen). s.skip + s.taken ≤ length ms) (sym (matched_took m h s start)) (omega (arith, length-append (matched h.read s) (arriving (phase h.read s) s.rule m)));
     }
 
-pub all_within_took : (m : Seen) (h : Past) (ss : List Stream) → AllByRecursion (IsWithin h.read) ss → AllByRecursion (IsWithin (after (Took m) h).read) ss
-all_within_took m h [] w = tt
-all_within_took m h (s ∷ ss) w = (within_took m h s w.0, all_within_took m h ss w.1)
-
-pub within_at : (h : Past) (ss : List Stream) (k : ℕ) (s : Stream) → slice_get ss k ≡ Some s → AllByRecursion (IsWithin h.read) ss → IsWithin h.read s
-within_at h [] k s at w = cc
-within_at h (x ∷ ss) zero s at w = let same : x ≡ s = cc in subst (IsWithin h.read) same w.0
-within_at h (x ∷ ss) (suc k) s at w = within_at h ss k s at w.1
-
 pub within_fresh : (h : Past) (rule : Option Rule) (told : Bool) → IsWithin h.read (fresh h rule told)
 within_fresh h rule told = record { start = omega arith; passed = omega arith }
 
 pub within_asking : (h : Past) (m : Seen) (rule : Rule) → IsWithin h.read (asking_stream h m rule)
 within_asking h m rule = record { start = omega arith; passed = omega arith }
-
-pub within_push : (h : Past) (ss : List Stream) (s : Stream) → AllByRecursion (IsWithin h.read) ss → IsWithin h.read s → AllByRecursion (IsWithin h.read) (ss ++ s ∷ [])
-within_push h [] s w one = (one, tt)
-within_push h (x ∷ ss) s w one = (w.0, within_push h ss s w.1 one)

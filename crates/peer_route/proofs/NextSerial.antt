@@ -1,10 +1,6 @@
 -- The next serial, as a first one and as a function.
-use Rattle.std.proofs.Common.{◌≡◌, ℕ, zero, suc, ◌+◌, ◌-◌, ◌≤◌, ◌<◌, refl, sym, ◌∙◌, ap, arith, Bool, true, false, Some, None, inl, inr, lit<}
-use Rattle.std.proofs.Math.Nat.{eq-or-lt_of_le, mod-lt}
-use Rattle.wire_message.specs.Circle.{serial_after, IsNext, AllTaken}
-use Rattle.peer_route.specs.History.{Past}
-use Rattle.peer_route.specs.Calls.{pending}
-use Rattle.peer_route.specs.Issuing.{first_free, next_serial}
+use Rattle.std.proofs.{Common.{◌≡◌, ℕ, zero, suc, ◌+◌, ◌-◌, ◌≤◌, ◌<◌, refl, sym, ◌∙◌, ap, arith, Bool, true, false, Some, None, inl, inr, lit<}, Math.Nat.{eq-or-lt_of_le, mod-lt}}
+use Rattle.peer_route.specs.{Names.{serial_after, IsNext, AllTaken}, History.Past, Calls.pending, Issuing.{first_free, next_serial}}
 
 -- the first place from k on that is free is found
 found_from : (taken : ℕ → Bool) (last p k n : ℕ) → k ≤ p → p < k + n → taken (serial_after last p) ≡ false

@@ -1,7 +1,6 @@
 -- What a lane's numbers name, once more calls or streams were made.
-use Rattle.std.proofs.Common.{◌≡◌, ℕ, zero, suc, ◌+◌, ◌==◌, refl, sym, ◌∙◌, ap, arith, true, false, if◌then◌else◌, [], ◌∷◌, ◌++◌, length, take, Option, Some, None}
+use Rattle.std.proofs.{Common.{◌≡◌, ℕ, zero, suc, ◌+◌, ◌==◌, refl, sym, ◌∙◌, ap, arith, true, false, if◌then◌else◌, [], ◌∷◌, ◌++◌, length, take, Option, Some, None}, lemmas.Bool.{eq-eqb, eqb-true}}
 use Rattle.std.specs.List.{slice_get}
-use Rattle.std.proofs.lemmas.Bool.{eq-eqb, eqb-true}
 use Rattle.peer_route.specs.Trail.{Names, place, count}
 
 pub place_append : (at lane number : ℕ) (names more : Names) (k : ℕ) → place at lane number names ≡ Some k → place at lane number (names ++ more) ≡ Some k

@@ -1,11 +1,8 @@
 -- Plain facts about lists: the first place that passes a test, one element changed, numbers that rise.
-use Rattle.std.proofs.Common.{inl, inr, get_or, ◌≡◌, ℕ, ◌+◌, ◌<◌, ◌≤◌, zero, suc, refl, sym, ◌∙◌, ap, arith, Bool, true, false, not, ◌||◌, cond, ltb, is_some, List, [], ◌∷◌, ◌++◌, length, map, Some, None}
-use Rattle.std.specs.List.{list_any, position, position_or_len, AllByRecursion}
-use Rattle.std.specs.Iterator.{Yields}
-use Rattle.std.specs.Vec.Iter.{into_iter_items, into_iter_steps}
-use Rattle.std.specs.declared.vec.IntoIter.{IntoIter}
-use Rattle.std.proofs.lemmas.Bool.{cases_lt, lt-ltb, le-ltb}
+use Rattle.std.proofs.{Common.{inl, inr, get_or, ◌≡◌, ℕ, ◌+◌, ◌<◌, ◌≤◌, zero, suc, refl, sym, ◌∙◌, ap, arith, Bool, true, false, not, ◌||◌, cond, ltb, is_some, List, [], ◌∷◌, ◌++◌, length, map, Some, None}, lemmas.Bool.{cases_lt, lt-ltb, le-ltb}}
+use Rattle.std.specs.{List.{list_any, position, position_or_len, AllByRecursion}, Iterator.Yields, Vec.Iter.{into_iter_items, into_iter_steps}, declared.vec.IntoIter.IntoIter}
 use Rattle.peer_route.specs.Left.{Rising}
+use Rattle.peer_route.proofs.Edits.{all_push, all_weaker}
 
 -- maps that agree on each element of a list
 pub map_along : {X Y : Type 0} (P : X → Type 0) (f g : X → Y) → ((x : X) → P x → f x ≡ g x) → (xs : List X) → AllByRecursion P xs → map f xs ≡ map g xs
@@ -60,20 +57,11 @@ abbrev pub After : ℕ → List ℕ → Type 0
 After n xs = AllByRecursion (λ (x : ℕ). n < x) xs
 
 pub Below-more : (n m : ℕ) (xs : List ℕ) → n ≤ m → Below n xs → Below m xs
-Below-more n m [] le b = tt
-Below-more n m (x ∷ xs) le b = (let h : x < n = b.0 in omega arith, Below-more n m xs le b.1)
-
-pub Below-push : (n m : ℕ) (xs : List ℕ) → n < m → Below n xs → Below m (xs ++ n ∷ [])
-Below-push n m [] lt b = (lt, tt)
-Below-push n m (x ∷ xs) lt b = (let h : x < n = b.0 in omega arith, Below-push n m xs lt b.1)
-
-After-push : (x n : ℕ) (xs : List ℕ) → x < n → After x xs → After x (xs ++ n ∷ [])
-After-push x n [] lt a = (lt, tt)
-After-push x n (y ∷ ys) lt a = (a.0, After-push x n ys lt a.1)
+Below-more n m xs le = all_weaker (λ x. x < n) (λ x. x < m) (λ x h. omega arith) xs
 
 pub Rising-push : (n : ℕ) (xs : List ℕ) → Below n xs → Rising xs → Rising (xs ++ n ∷ [])
 Rising-push n [] b r = (tt, tt)
-Rising-push n (x ∷ xs) b r = (After-push x n xs b.0 r.0, Rising-push n xs b.1 r.1)
+Rising-push n (x ∷ xs) b r = (all_push (λ y. x < y) xs n b.0 r.0, Rising-push n xs b.1 r.1)
 
 -- what stands further on is greater
 pub After-at : (n : ℕ) (xs : List ℕ) (k : ℕ) → k < length xs → After n xs → n < get_or xs k 0

@@ -1,46 +1,9 @@
--- What holds of each kind of plan holds of every command's; what commands do beside their messages; and what holds along the events of an
--- entry.
-use Rattle.std.proofs.Common.{◌≡◌, ℕ, ◌-◌, zero, suc, refl, sym, subst, ◌&&◌, not, Bool, true, false, if◌then◌else◌, List, [], ◌∷◌, ◌++◌, length, Option, Some, None, Result, Ok, Err}
-use Rattle.std.specs.List.{AllByRecursion}
-use Rattle.wire_tree.specs.Datum.{Datum}
-use Rattle.wire_message.specs.Draft.{Draft, are_misplaced}
-use Rattle.wire_message.specs.Drafts.{reply_draft, error_draft}
-use Rattle.wire_message.specs.Primary.{head_of}
-use Rattle.wire_message.specs.Front.{Seen}
-use Rattle.wire_message.specs.declared.kind.MessageType.{MessageType}
-use Rattle.wire_message.specs.declared.kind.MessageType.TheVariants as types
-use Rattle.wire_message.specs.declared.error.Error.{Error}
-use Rattle.rule_match.specs.Rule.{Rule}
-use Rattle.rule_match.specs.Bytes.{rule_in_bytes}
-use Rattle.peer_route.specs.declared.polled.Polled.{Polled}
-use Rattle.peer_route.specs.declared.polled.Polled.TheVariants as polled
-use Rattle.peer_route.specs.declared.progress.OpenState.{OpenState}
-use Rattle.peer_route.specs.declared.progress.OpenState.TheVariants as states
-use Rattle.peer_route.specs.declared.words.Words.{Words}
-use Rattle.peer_route.specs.declared.words.Words.TheVariants as words
-use Rattle.peer_route.specs.declared.words.CallOp.{CallOp}
-use Rattle.peer_route.specs.declared.words.CallOp.TheVariants as calls
-use Rattle.peer_route.specs.declared.words.StreamOp.{StreamOp}
-use Rattle.peer_route.specs.declared.words.StreamOp.TheVariants as ops
-use Rattle.peer_route.specs.declared.words.Live.{Live}
-use Rattle.peer_route.specs.declared.words.Live.TheVariants as live
-use Rattle.peer_route.specs.declared.words.Outgoing.{Outgoing}
-use Rattle.peer_route.specs.declared.words.OutgoingKind.{OutgoingKind}
-use Rattle.peer_route.specs.declared.words.OutgoingKind.TheVariants as outgoing
-use Rattle.peer_route.specs.declared.answer.Answer.{Answer}
-use Rattle.peer_route.specs.declared.answer.Answer.TheVariants as answers
-use Rattle.peer_route.specs.declared.answer.Entry.{Entry}
-use Rattle.peer_route.specs.Parcel.{Setting, Parcel, Asked}
-use Rattle.peer_route.specs.CallMessage.{fds_of, words_refusal, name_refusal, values_in, asked_of, member_asked, outgoing_draft, outgoing_asked, sent_from, reply_asked, error_asked}
-use Rattle.peer_route.specs.History.{Event, Put, Wrote, Fault, Spent, Made, Did, Main, Named, Making, Gave, Gone, Past, after, after_all}
-use Rattle.peer_route.specs.Calls.{in_flight, poll_answer, by_position, poll_events, drop_answer, drop_events}
-use Rattle.peer_route.specs.Streams.{busy, take_answer, take_events, is_open, are_open, asks_bus, close_waits, gone_events, opening_answer, opening_events}
-use Rattle.peer_route.specs.Shown.{error_answer, reply_by, shown, shown_drop, shown_take, shown_opening}
-use Rattle.peer_route.specs.Issuing.{Posting, puts}
-use Rattle.peer_route.specs.Trail.{Trail, place}
-use Rattle.peer_route.specs.Plan.{Plan, Says, Reads, Closes, Writes, Never, refuses, where_named, where_open, unless_waits, sends, on_call, makes, leaves, ends, second_place, given_last, on_stream, opens_new, opens, reads_by, writes_by, named_now, is_due, lives, plan}
-use Rattle.peer_route.specs.StreamLaws.{is_take_op}
-use Rattle.peer_route.specs.Entries.{Legal, repeat, writes, deeds, postings, past_after}
+-- What is known of each command's plan: what is said at once, what is done beside messages, and what is told of these; and what holds along
+-- the events of an entry.
+use Rattle.std.proofs.Common.{◌≡◌, ℕ, ◌-◌, zero, suc, refl, subst, ◌&&◌, not, Bool, true, false, if◌then◌else◌, List, ◌∷◌, ◌++◌, length, Option, Some, None, Result, Ok, Err, ◌∙◌, ap, [], arith, ◌<◌, ◌^◌, sym}
+use Rattle.std.specs.{List.{AllByRecursion, slice_get}, Option.option_and_then}
+use Rattle.peer_route.specs.{Names.{Datum, Draft, are_misplaced, reply_draft, error_draft, head_of, Seen, MessageType, Error, Rule, rule_in_bytes, Polled, OpenState, Words, CallOp, StreamOp, Live, Outgoing, OutgoingKind, Answer, Entry}, Parcel.{Setting, Asked, Parcel}, CallMessage.{asked_of, outgoing_draft, outgoing_asked, sent_from, reply_asked, error_asked, expects, words_refusal, values_in, fds_of, name_refusal}, History.{Event, Wrote, Fault, Spent, Made, Did, Main, Named, Making, Gave, Gone, Past, after, after_all, Call, Stream, Plain, Ruled, Cloned}, Calls.{in_flight, poll_answer, by_position, poll_events, drop_answer, drop_events, found, is_nobodys, polled_by, polled_at}, Streams.{busy, take_answer, take_events, is_open, are_open, asks_bus, close_waits, gone_events, opening_answer, opening_events, held, runs, take_by, take_at, leaving}, Shown.{error_answer, reply_by, shown, shown_drop, shown_take, shown_opening}, Issuing.{Posting, puts, of_lane, drawn, next_serial}, Trail.{Trail, place, count}, Plan.{Plan, Says, Reads, Closes, Writes, Never, refuses, where_named, where_open, unless_waits, sends, on_call, makes, leaves, ends, second_place, given_last, on_stream, opens_new, opens, reads_by, named_now, is_due, lives, plan, Sends, sent_answer}, StreamLaws.{is_take_op, is_unstream}, Entries.{Legal, repeat, writes, deeds, postings, past_after}, BusCall.{first_of, last_of, asking_of, tellings_of}, Laws.{told_serial, is_by_position}}
+use Rattle.peer_route.proofs.Edits.{all_weaker}
 
 -- ---- deeds
 
@@ -56,206 +19,350 @@ IsDeed e = ⊥
 abbrev pub AreDeeds : List Event → Type 0
 AreDeeds es = AllByRecursion IsDeed es
 
--- the answer says that nothing is done
-abbrev pub is_idle : Answer → Bool
-is_idle (answers.Refused error) = true
-is_idle answers.Busy = true
-is_idle other = false
-
 -- the command takes from a stream
 abbrev pub takes : Words → Bool
-takes (words.OfStream n op) = is_take_op op
+takes (Words.OfStream n op) = is_take_op op
 takes w = false
 
--- no item is given
-abbrev pub NoItem : Event → Type 0
-NoItem (Did j Gave) = ⊥
-NoItem e = Unit {0}
+-- only lanes have it that run at once
+abbrev pub is_live : Words → Bool
+is_live (Words.Live line) = true
+is_live w = false
 
--- What is said goes with what is done: a refusal, or to have to wait, with nothing; and only a take with an item.
+-- only a take gives an item, and only a line of lanes that run at once gives the name
+abbrev pub Gives : Words → Event → Type 0
+Gives w (Did k Gave) = takes w ≡ true
+Gives w (Named name) = is_live w ≡ true
+Gives w e = Unit {0}
+
+-- what the command may do by itself
+abbrev pub IsOwn : Words → Event → Type 0
+IsOwn w e = IsDeed e × Gives w e
+
+pub are_deeds : (w : Words) (es : List Event) → AllByRecursion (IsOwn w) es → AreDeeds es
+are_deeds w = all_weaker (IsOwn w) IsDeed (λ e is. is.0)
+
+-- ---- answers
+
+-- the answer says that nothing is done
+abbrev pub is_idle : Answer → Bool
+is_idle (Answer.Refused error) = true
+is_idle Answer.Busy = true
+is_idle other = false
+
+-- where an answer fits a command by position alone, and where none by position alone
+abbrev pub place_of : Answer → Option Bool
+place_of Answer.NoneBefore = Some true
+place_of Answer.NotYet = Some false
+place_of Answer.Empty = Some false
+place_of other = None
+
+abbrev pub fits : Bool → Option Bool → Bool
+fits by None = true
+fits by (Some place) = if by then place else not place
+
+-- it says that something is done, tells no serial, and fits every command
+abbrev pub IsBland : Answer → Type 0
+IsBland a = (is_idle a ≡ false) × (told_serial a ≡ None) × (place_of a ≡ None)
+
+error_bland : (m : Seen) (name : Option (List ℕ)) → IsBland (error_answer m name)
+error_bland m (Some name) = (refl, refl, refl)
+error_bland m None = (refl, refl, refl)
+
+reply_bland : (m : Seen) (kind : MessageType) → IsBland (reply_by m kind)
+reply_bland m MessageType.Error = error_bland m m.error_name
+reply_bland m kind = (refl, refl, refl)
+
+sent_told : (waits : Bool) (call serial : ℕ) → (told_serial (sent_answer waits call serial) ≡ Some serial) × (is_idle (sent_answer waits call serial) ≡ false) × (place_of (sent_answer waits call serial) ≡ None)
+sent_told true call serial = (refl, refl, refl)
+sent_told false call serial = (refl, refl, refl)
+
+-- one message draws one serial
+pub one_drawn : (h : Past) (d : Posting) (serials : List ℕ) → drawn h (d ∷ []) ≡ Some serials → (n : ℕ) × (serials ≡ n ∷ [])
+one_drawn h d serials e = by (next_serial h) e
+  where
+    by : (o : Option ℕ) → option_and_then (λ n. Some (n ∷ [])) o ≡ Some serials → (n : ℕ) × (serials ≡ n ∷ [])
+    by None q = cc
+    by (Some n) q = (n, cc)
+
+-- so that the first is the last
+one_drew : (d : Posting) (h : Past) (serials : List ℕ) → drawn h (d ∷ []) ≡ Some serials → Some (first_of serials) ≡ last_of serials
+one_drew d h serials e = let one = one_drawn h d serials e in subst (λ xs. Some (first_of xs) ≡ last_of xs) (sym one.1) refl
+
+-- ---- what is known of a command's plan
+
+-- What is said at once goes with what is done: a refusal, or to have to wait, with nothing. It tells no serial, and that there is none
+-- before it is said by position alone.
 pub record Fair (w : Words) (answer : Answer) (done : List Event) : Type 0 where
-  pub only : AreDeeds done
+  pub only : AllByRecursion (IsOwn w) done
   pub idle : is_idle answer ≡ true → done ≡ []
-  pub quiet : takes w ≡ false → AllByRecursion NoItem done
+  pub untold : told_serial answer ≡ None
+  pub fit : fits (is_by_position w) (place_of answer) ≡ true
 
-pub none : (w : Words) (a : Answer) → Fair w a []
-none w a = record { only = tt; idle = λ e. refl; quiet = λ e. tt }
+-- the messages have this name as their sender
+abbrev pub AreFrom : Option (List ℕ) → List Posting → Type 0
+AreFrom name ds = AllByRecursion (λ (d : Posting). d.parcel.draft.fields.sender ≡ name) ds
 
-does : (w : Words) (a : Answer) (es : List Event) → AreDeeds es → is_idle a ≡ false → (takes w ≡ false → AllByRecursion NoItem es) → Fair w a es
-does w a es only not_idle quiet = record { only = only; idle = λ e. cc; quiet = quiet }
+-- Where messages are wanted, only a command that closes streams does anything beside them; they have the peer's name; and what is answered
+-- once they are sent tells the last serial that they draw.
+pub record FairSends (t : Trail) (w : Words) (done : List Event) (ds : List Posting) (sent : List ℕ → Answer) : Type 0 where
+  pub only : AllByRecursion (IsOwn w) done
+  pub idle : is_unstream w ≡ false → done ≡ []
+  pub from : AreFrom t.past.name ds
+  pub loud : (serials : List ℕ) → (is_idle (sent serials) ≡ false) × (place_of (sent serials) ≡ None)
+  pub told : (serials : List ℕ) → drawn (after_all done t.past) ds ≡ Some serials → told_serial (sent serials) ≡ last_of serials
 
-error_does : (m : Seen) (name : Option (List ℕ)) → is_idle (error_answer m name) ≡ false
-error_does m (Some name) = refl
-error_does m None = refl
+-- what is known of each kind of plan that a command has
+abbrev pub IsFair : Trail → Words → Plan → Type 0
+IsFair t w (Says answer done) = Fair w answer done
+IsFair t w (Sends done ds sent) = FairSends t w done ds sent
+IsFair t w Reads = t.past.closing ≡ None
+IsFair t w Closes = w ≡ Words.Close
+IsFair t w (Writes fails) = (is_live w ≡ true) × (fails ≡ false → t.past.outbox.failed ≡ false)
+IsFair t w Never = Unit {0}
 
-reply_does : (m : Seen) (kind : MessageType) → is_idle (reply_by m kind) ≡ false
-reply_does m types.Error = error_does m m.error_name
-reply_does m kind = refl
+-- ---- what is said at once
 
-poll_fair : (w : Words) (k : ℕ) (r : Result (Polled Seen) Error) → Fair w (shown r) (poll_events k r)
-poll_fair w k (Ok (polled.Now m)) = does w _ (Spent k ∷ []) (tt, tt) (reply_does m m.kind) (λ e. (tt, tt))
-poll_fair w k (Ok (polled.Closed error)) = does w _ (Spent k ∷ []) (tt, tt) refl (λ e. (tt, tt))
-poll_fair w k r = none w (shown r)
+none : (w : Words) (a : Answer) → told_serial a ≡ None → fits (is_by_position w) (place_of a) ≡ true → Fair w a []
+none w a untold fit = record { only = tt; idle = λ e. refl; untold = untold; fit = fit }
 
-before_fair : (w : Words) (k : ℕ) (r : Result (Polled Seen) Error) → Fair w (shown (by_position r)) (poll_events k r)
-before_fair w k (Ok (polled.Now m)) = does w _ (Spent k ∷ []) (tt, tt) (reply_does m m.kind) (λ e. (tt, tt))
-before_fair w k (Ok (polled.Closed error)) = does w _ (Spent k ∷ []) (tt, tt) refl (λ e. (tt, tt))
-before_fair w k r = none w (shown (by_position r))
+does : (w : Words) (a : Answer) (es : List Event) → AllByRecursion (IsOwn w) es → IsBland a → Fair w a es
+does w a es only is = let loud = is.0 in record { only = only; idle = λ e. cc; untold = is.1; fit = ap (fits (is_by_position w)) is.2 }
 
-drop_fair : (w : Words) (k : ℕ) (r : Result (Unit {0}) Error) → Fair w (shown_drop r) (drop_events k r)
-drop_fair w k (Ok done) = does w _ (Spent k ∷ []) (tt, tt) refl (λ e. (tt, tt))
-drop_fair w k (Err error) = none w (answers.Refused error)
+-- neither a poll nor a take says by itself that there is none before a position
+not_before : (b : Bool) (f : Option Seen) (o : Option Error) → (if b then Err Error.UnknownHandle else polled_by f o) ≡ Ok Polled.NoneBefore → ⊥
+not_before true f o e = cc
+not_before false (Some m) o e = cc
+not_before false None (Some error) e = cc
+not_before false None None e = cc
 
-take_fair : (n k : ℕ) (r : Result (Polled Seen) Error) → Fair (words.OfStream n ops.Take) (shown_take r) (take_events k r)
-take_fair n k (Ok (polled.Now m)) = does _ _ (take_events k (Ok (polled.Now m))) (tt, tt) refl (λ e. cc)
-take_fair n k (Ok (polled.Closed error)) = does _ _ (take_events k (Ok (polled.Closed error))) (tt, tt) refl (λ e. (tt, tt))
-take_fair n k r = none _ (shown_take r)
+poll_at : (ms : List Seen) (closing : Option Error) (c : Option Call) → polled_at ms closing c ≡ Ok Polled.NoneBefore → ⊥
+poll_at ms closing None e = cc
+poll_at ms closing (Some c) e = not_before (is_nobodys c) (found ms c) closing e
 
-take_before_fair : (n before k : ℕ) (r : Result (Polled Seen) Error) → Fair (words.OfStream n (ops.TakeBefore before)) (shown_take (by_position r)) (take_events k r)
-take_before_fair n before k (Ok (polled.Now m)) = does _ _ (take_events k (Ok (polled.Now m))) (tt, tt) refl (λ e. cc)
-take_before_fair n before k (Ok (polled.Closed error)) = does _ _ (take_events k (Ok (polled.Closed error))) (tt, tt) refl (λ e. (tt, tt))
-take_before_fair n before k r = none _ (shown_take (by_position r))
+take_not_before : (b : Bool) (ms : List Seen) (o : Option Error) (told : Bool) → (if b then Ok (take_by ms o told) else Err Error.UnknownHandle) ≡ Ok Polled.NoneBefore → ⊥
+take_not_before false ms o told e = cc
+take_not_before true (m ∷ ms) o told e = cc
+take_not_before true [] None told e = cc
+take_not_before true [] (Some error) false e = cc
+take_not_before true [] (Some error) true e = cc
 
-opening_fair : (w : Words) (k : ℕ) (state : OpenState) → Fair w (shown_opening state) (opening_events k state)
-opening_fair w k states.Open = does w _ (opening_events k states.Open) (tt, tt) refl (λ e. (tt, tt))
-opening_fair w k (states.Refused m) = does w _ (Did k Gone ∷ []) (tt, tt) (error_does m m.error_name) (λ e. (tt, tt))
-opening_fair w k (states.Over error) = does w _ (Did k Gone ∷ []) (tt, tt) refl (λ e. (tt, tt))
-opening_fair w k state = none w (shown_opening state)
+taken_at : (ms : List Seen) (closing : Option Error) (s : Option Stream) → take_at ms closing s ≡ Ok Polled.NoneBefore → ⊥
+taken_at ms closing None e = cc
+taken_at ms closing (Some s) e = take_not_before (runs ms s) (held ms s) closing s.told e
 
-pub gone_deeds : (k : ℕ) (j : Option ℕ) → AreDeeds (gone_events k j)
-gone_deeds k None = (tt, tt)
-gone_deeds k (Some j) = (tt, (tt, tt))
+poll_fair : (n k : ℕ) (r : Result (Polled Seen) Error) → (r ≡ Ok Polled.NoneBefore → ⊥) → Fair (Words.OfCall n CallOp.Poll) (shown r) (poll_events k r)
+poll_fair n k (Ok (Polled.Now m)) other = does _ _ (Spent k ∷ []) ((tt, tt), tt) (reply_bland m m.kind)
+poll_fair n k (Ok (Polled.Closed error)) other = does _ _ (Spent k ∷ []) ((tt, tt), tt) (refl, refl, refl)
+poll_fair n k (Ok Polled.NoneBefore) other = absurd (other refl)
+poll_fair n k r other = none _ (shown r) refl refl
+
+before_fair : (n before k : ℕ) (r : Result (Polled Seen) Error) → Fair (Words.OfCall n (CallOp.Before before)) (shown (by_position r)) (poll_events k r)
+before_fair n before k (Ok (Polled.Now m)) = does _ _ (Spent k ∷ []) ((tt, tt), tt) (reply_bland m m.kind)
+before_fair n before k (Ok (Polled.Closed error)) = does _ _ (Spent k ∷ []) ((tt, tt), tt) (refl, refl, refl)
+before_fair n before k r = none _ (shown (by_position r)) refl refl
+
+drop_fair : (n k : ℕ) (r : Result (Unit {0}) Error) → Fair (Words.OfCall n CallOp.Drop) (shown_drop r) (drop_events k r)
+drop_fair n k (Ok done) = does _ _ (Spent k ∷ []) ((tt, tt), tt) (refl, refl, refl)
+drop_fair n k (Err error) = none _ (Answer.Refused error) refl refl
+
+take_fair : (n k : ℕ) (r : Result (Polled Seen) Error) → (r ≡ Ok Polled.NoneBefore → ⊥) → Fair (Words.OfStream n StreamOp.Take) (shown_take r) (take_events k r)
+take_fair n k (Ok (Polled.Now m)) other = does _ _ (take_events k (Ok (Polled.Now m))) ((tt, refl), tt) (refl, refl, refl)
+take_fair n k (Ok (Polled.Closed error)) other = does _ _ (take_events k (Ok (Polled.Closed error))) ((tt, tt), tt) (refl, refl, refl)
+take_fair n k (Ok Polled.NoneBefore) other = absurd (other refl)
+take_fair n k r other = none _ (shown_take r) refl refl
+
+take_before_fair : (n before k : ℕ) (r : Result (Polled Seen) Error) → Fair (Words.OfStream n (StreamOp.TakeBefore before)) (shown_take (by_position r)) (take_events k r)
+take_before_fair n before k (Ok (Polled.Now m)) = does _ _ (take_events k (Ok (Polled.Now m))) ((tt, refl), tt) (refl, refl, refl)
+take_before_fair n before k (Ok (Polled.Closed error)) = does _ _ (take_events k (Ok (Polled.Closed error))) ((tt, tt), tt) (refl, refl, refl)
+take_before_fair n before k r = none _ (shown_take (by_position r)) refl refl
+
+opening_fair : (n k : ℕ) (state : OpenState) → Fair (Words.OfStream n StreamOp.Opened) (shown_opening state) (opening_events k state)
+opening_fair n k OpenState.Open = does _ _ (opening_events k OpenState.Open) ((tt, tt), tt) (refl, refl, refl)
+opening_fair n k (OpenState.Refused m) = does _ _ (Did k Gone ∷ []) ((tt, tt), tt) (error_bland m m.error_name)
+opening_fair n k (OpenState.Over error) = does _ _ (Did k Gone ∷ []) ((tt, tt), tt) (refl, refl, refl)
+opening_fair n k state = none _ (shown_opening state) refl refl
 
 -- ---- whose name a message bears
 
-abbrev pub IsFrom : Option (List ℕ) → Asked → Type 0
+abbrev IsFrom : Option (List ℕ) → Asked → Type 0
 IsFrom name (Ok parcel) = parcel.draft.fields.sender ≡ name
 IsFrom name (Err error) = Unit {0}
 
+-- what is asked to be sent is refused, or is this draft with some values, where the sink takes the descriptors
+asked_so : (P : Asked → Type 0) (refusal : Option Error) (values : Option (List Datum)) (misplaced unsupported : Bool) (draft : Draft) (fds : List ℕ) → ((error : Error) → P (Err error))
+    → ((ds : List Datum) → unsupported ≡ false → P (Ok (record { draft = draft; values = ds; fds = fds }))) → P (asked_of refusal values misplaced unsupported draft fds)
+asked_so P (Some error) values misplaced unsupported draft fds refused goes_so = refused error
+asked_so P None None misplaced unsupported draft fds refused goes_so = refused _
+asked_so P None (Some ds) true unsupported draft fds refused goes_so = refused _
+asked_so P None (Some ds) false true draft fds refused goes_so = refused _
+asked_so P None (Some ds) false false draft fds refused goes_so = goes_so ds refl
+
 asked_from : (name : Option (List ℕ)) (refusal : Option Error) (values : Option (List Datum)) (misplaced unsupported : Bool) (draft : Draft) (fds : List ℕ) → draft.fields.sender ≡ name
     → IsFrom name (asked_of refusal values misplaced unsupported draft fds)
-asked_from name (Some error) values misplaced unsupported draft fds e = tt
-asked_from name None None misplaced unsupported draft fds e = tt
-asked_from name None (Some values) true unsupported draft fds e = tt
-asked_from name None (Some values) false true draft fds e = tt
-asked_from name None (Some values) false false draft fds e = e
+asked_from name refusal values misplaced unsupported draft fds e = asked_so (IsFrom name) refusal values misplaced unsupported draft fds (λ error. tt) (λ ds fine. e)
 
-outgoing_from : (name : Option (List ℕ)) (takes_fds : Bool) (kind : OutgoingKind) (out : Outgoing) → out.kind ≡ kind → IsFrom name (outgoing_asked name takes_fds out)
-outgoing_from name takes_fds outgoing.Call out e =
-    let draft = outgoing_draft outgoing.Call name out in
-    subst (λ k. IsFrom name (member_asked takes_fds out (outgoing_draft k name out))) (sym e)
-    (asked_from name (words_refusal draft) (values_in out.body) (are_misplaced draft.kind draft.flags) (out.flags.descriptor && not takes_fds) draft (fds_of out.flags.descriptor) refl)
-outgoing_from name takes_fds outgoing.Signal out e =
-    let draft = outgoing_draft outgoing.Signal name out in
-    subst (λ k. IsFrom name (member_asked takes_fds out (outgoing_draft k name out))) (sym e)
-    (asked_from name (words_refusal draft) (values_in out.body) (are_misplaced draft.kind draft.flags) (out.flags.descriptor && not takes_fds) draft (fds_of out.flags.descriptor) refl)
+outgoing_from : (name : Option (List ℕ)) (takes_fds : Bool) (out : Outgoing) → IsFrom name (outgoing_asked name takes_fds out)
+outgoing_from name takes_fds out =
+    let draft = outgoing_draft out.kind name out in
+    asked_from name (words_refusal draft) (values_in out.body) (are_misplaced draft.kind draft.flags) (out.flags.descriptor && not takes_fds) draft (fds_of out.flags.descriptor) (drafted out.kind)
+  where
+    drafted : (kind : OutgoingKind) → (outgoing_draft kind name out).fields.sender ≡ name
+    drafted OutgoingKind.Call = refl
+    drafted OutgoingKind.Signal = refl
 
 reply_from : (name : Option (List ℕ)) (m : Option Seen) (body : Option (List ℕ)) → IsFrom name (reply_asked name m body)
 reply_from name None body = tt
-reply_from name (Some m) body = asked_from name None (values_in body) false false (sent_from name (reply_draft types.MethodReturn (head_of m))) [] refl
+reply_from name (Some m) body = asked_from name None (values_in body) false false (sent_from name (reply_draft MessageType.MethodReturn (head_of m))) [] refl
 
 error_from : (name : Option (List ℕ)) (m : Option Seen) (text : List ℕ) (body : Option (List ℕ)) → IsFrom name (error_asked name m text body)
 error_from name None text body = tt
 error_from name (Some m) text body = asked_from name (name_refusal text) (values_in body) false false (sent_from name (error_draft (head_of m) text)) [] refl
 
+-- ---- and which descriptors it carries: at most one, and none to a sink that takes none
+
+-- there are descriptors, and the sink takes none
+abbrev pub are_refused : List ℕ → Bool → Bool
+are_refused [] takes = false
+are_refused (fd ∷ fds) takes = not takes
+
+pub record CanGo (takes_fds : Bool) (parcel : Parcel) : Type 0 where
+  pub taken : are_refused parcel.fds takes_fds ≡ false
+  pub few : length parcel.fds < 2 ^ 32
+
+goes : (takes_fds asks_one : Bool) (refusal : Option Error) (values : Option (List Datum)) (misplaced : Bool) (draft : Draft) (parcel : Parcel)
+    → asked_of refusal values misplaced (asks_one && not takes_fds) draft (fds_of asks_one) ≡ Ok parcel → CanGo takes_fds parcel
+goes takes_fds asks_one refusal values misplaced draft parcel =
+    asked_so (λ a. a ≡ Ok parcel → CanGo takes_fds parcel) refusal values misplaced (asks_one && not takes_fds) draft (fds_of asks_one) (λ error e. cc) (λ ds fine e. by asks_one takes_fds ds fine (cc))
+  where
+    by : (asks takes : Bool) (ds : List Datum) → (asks && not takes) ≡ false → record { draft = draft; values = ds; fds = fds_of asks } ≡ parcel → CanGo takes parcel
+    by true false ds fine is = cc
+    by true true ds fine is = subst (CanGo true) is (record { taken = refl; few = omega arith })
+    by false takes ds fine is = subst (CanGo takes) is (record { taken = refl; few = omega arith })
+
+pub outgoing_goes : (name : Option (List ℕ)) (takes_fds : Bool) (out : Outgoing) (parcel : Parcel) → outgoing_asked name takes_fds out ≡ Ok parcel → CanGo takes_fds parcel
+outgoing_goes name takes_fds out parcel e =
+    let draft = outgoing_draft out.kind name out in
+    goes takes_fds out.flags.descriptor (words_refusal draft) (values_in out.body) (are_misplaced draft.kind draft.flags) draft parcel e
+
+pub reply_goes : (name : Option (List ℕ)) (takes_fds : Bool) (m : Option Seen) (word : Option (List ℕ)) (parcel : Parcel) → reply_asked name m word ≡ Ok parcel → CanGo takes_fds parcel
+reply_goes name takes_fds None word parcel e = cc
+reply_goes name takes_fds (Some m) word parcel e = goes takes_fds false None (values_in word) false (sent_from name (reply_draft MessageType.MethodReturn (head_of m))) parcel e
+
+pub error_goes : (name : Option (List ℕ)) (takes_fds : Bool) (m : Option Seen) (text : List ℕ) (word : Option (List ℕ)) (parcel : Parcel) → error_asked name m text word ≡ Ok parcel → CanGo takes_fds parcel
+error_goes name takes_fds None text word parcel e = cc
+error_goes name takes_fds (Some m) text word parcel e = goes takes_fds false (name_refusal text) (values_in word) false (sent_from name (error_draft (head_of m) text)) parcel e
+
 -- ---- every command
 
--- the plan of a lane's message
-abbrev pub sends_one : Trail → ℕ → Parcel → Plan
-sends_one t lane parcel = sends t lane (Ok parcel)
+tellings_from : (h : Past) (rules : List Rule) → AreFrom h.name (tellings_of h rules)
+tellings_from h [] = tt
+tellings_from h (rule ∷ rules) = (refl, tellings_from h rules)
 
--- what holds of each kind of plan, and of the commands that it is of, holds of every command's
-module _ (P : Words → Plan → Type 0) (t : Trail) (lane : ℕ) (says : (w : Words) (answer : Answer) (done : List Event) → Fair w answer done → P w (Says answer done))
-    (one : (w : Words) (parcel : Parcel) → parcel.draft.fields.sender ≡ t.past.name → P w (sends_one t lane parcel))
-    (asks : (asked : Option ℕ) (text : List ℕ) (rule : Rule) → P (words.Open asked text) (opens_new t lane rule asked true))
-    (leave : (n : ℕ) (second : Option ℕ) (k : ℕ) (j : Option ℕ) → are_open t.past k j ≡ true → P (words.OfStream n (ops.Unstream second)) (leaves t.past k j))
-    (reads : t.past.closing ≡ None → P words.Read Reads) (closes : P words.Close Closes)
-    (writes_so : (line : Live) (fails : Bool) → (fails ≡ false → t.past.outbox.failed ≡ false) → P (words.Live line) (Writes fails)) (never : (line : Live) → P (words.Live line) Never) where
-  refuses_so : (w : Words) (error : Error) → P w (refuses error)
-  refuses_so w error = says w (answers.Refused error) [] (none w (answers.Refused error))
+gone_own : (w : Words) (k : ℕ) (j : Option ℕ) → AllByRecursion (IsOwn w) (gone_events k j)
+gone_own w k None = ((tt, tt), tt)
+gone_own w k (Some j) = ((tt, tt), ((tt, tt), tt))
 
-  pub named_so : (w : Words) (done : ℕ → Plan) (k : Option ℕ) → ((n : ℕ) → P w (done n)) → P w (where_named done k)
-  named_so w done None so = refuses_so w _
-  named_so w done (Some k) so = so k
+module _ (t : Trail) (lane : ℕ) where
+  fair_refuses : (w : Words) (error : Error) → IsFair t w (refuses error)
+  fair_refuses w error = none w (Answer.Refused error) refl refl
 
-  open_so : (w : Words) (b : Bool) (p : Plan) → (b ≡ true → P w p) → P w (where_open b p)
-  open_so w true p so = so refl
-  open_so w false p so = refuses_so w _
+  fair_named : (w : Words) (done : ℕ → Plan) (k : Option ℕ) → ((n : ℕ) → IsFair t w (done n)) → IsFair t w (where_named done k)
+  fair_named w done None so = fair_refuses w Error.UnknownHandle
+  fair_named w done (Some k) so = so k
 
-  waits_so : (w : Words) (b : Bool) (p : Plan) → P w p → P w (unless_waits b p)
-  waits_so w true p so = says w answers.Busy [] (none w answers.Busy)
-  waits_so w false p so = so
+  fair_open : (w : Words) (b : Bool) (p : Plan) → IsFair t w p → IsFair t w (where_open b p)
+  fair_open w true p so = so
+  fair_open w false p so = fair_refuses w Error.UnknownHandle
 
-  makes_so : (w : Words) (making : Making) → P w (makes t lane making)
-  makes_so w making = says w _ (Made making ∷ []) (does w _ (Made making ∷ []) (tt, tt) refl (λ e. (tt, tt)))
+  fair_waits : (w : Words) (b : Bool) (p : Plan) → IsFair t w p → IsFair t w (unless_waits b p)
+  fair_waits w true p so = none w Answer.Busy refl refl
+  fair_waits w false p so = so
 
-  sends_so : (w : Words) (asked : Asked) → IsFrom t.past.name asked → P w (sends t lane asked)
-  sends_so w (Err error) from = refuses_so w error
-  sends_so w (Ok parcel) from = one w parcel from
+  fair_makes : (w : Words) (making : Making) → IsFair t w (makes t lane making)
+  fair_makes w making = does w _ (Made making ∷ []) ((tt, tt), tt) (refl, refl, refl)
 
-  call_so : (n : ℕ) (op : CallOp) (k : ℕ) → P (words.OfCall n op) (on_call t.past op k)
-  call_so n calls.Poll k = says _ _ _ (poll_fair _ k (poll_answer t.past k))
-  call_so n (calls.Before before) k = says _ _ _ (before_fair _ k (poll_answer t.past k))
-  call_so n calls.Drop k = says _ _ _ (drop_fair _ k (drop_answer t.past k))
+  fair_sends : (w : Words) (asked : Asked) → IsFrom t.past.name asked → IsFair t w (sends t lane asked)
+  fair_sends w (Err error) from = fair_refuses w error
+  fair_sends w (Ok parcel) from = record {
+    only = tt;
+    idle = λ e. refl;
+    from = (from, tt);
+    loud = λ serials. let is = sent_told (expects (Ok parcel)) (count lane t.names) (first_of serials) in (is.1, is.2);
+    told = λ serials drew. (sent_told (expects (Ok parcel)) (count lane t.names) (first_of serials)).0 ∙ one_drew (of_lane parcel) t.past serials drew;
+  }
 
-  ends_so : (n : ℕ) (second : Option ℕ) (k : ℕ) (j : Option (Option ℕ)) → P (words.OfStream n (ops.Unstream second)) (ends t.past k j)
-  ends_so n second k None = refuses_so _ _
-  ends_so n second k (Some j) = open_so _ (are_open t.past k j) _ (λ o. waits_so _ (close_waits t.past k j) _ (leave n second k j o))
+  fair_call : (n : ℕ) (op : CallOp) (k : ℕ) → IsFair t (Words.OfCall n op) (on_call t.past op k)
+  unfolding poll_answer
+  fair_call n CallOp.Poll k = poll_fair n k (poll_answer t.past k) (poll_at t.past.read t.past.closing (slice_get t.past.calls k))
+  fair_call n (CallOp.Before before) k = before_fair n before k (poll_answer t.past k)
+  fair_call n CallOp.Drop k = drop_fair n k (drop_answer t.past k)
 
-  stream_so : (n : ℕ) (op : StreamOp) (k : ℕ) → P (words.OfStream n op) (on_stream t lane op k)
-  stream_so n (ops.Reply body) k = sends_so _ _ (reply_from t.past.name (given_last t.past k) body)
-  stream_so n (ops.Error name body) k = sends_so _ _ (error_from t.past.name (given_last t.past k) name body)
-  stream_so n ops.Take k = says _ _ _ (take_fair n k (take_answer t.past k))
-  stream_so n (ops.TakeBefore before) k = says _ _ _ (take_before_fair n before k (take_answer t.past k))
-  stream_so n ops.Clone k = open_so _ (is_open t.past k) _ (λ o. makes_so _ _)
-  stream_so n ops.Opened k = says _ _ _ (opening_fair _ k (opening_answer t.past k))
-  stream_so n (ops.Queue limit) k = open_so _ (is_open t.past k) _ (λ o. says _ answers.Set _ (does _ answers.Set _ (tt, tt) refl (λ e. (tt, tt))))
-  stream_so n (ops.Unstream second) k = ends_so n second k (second_place t lane second)
+  fair_ends : (n : ℕ) (second : Option ℕ) (k : ℕ) (j : Option (Option ℕ)) → IsFair t (Words.OfStream n (StreamOp.Unstream second)) (ends t.past k j)
+  fair_ends n second k None = fair_refuses _ Error.UnknownHandle
+  fair_ends n second k (Some j) = fair_open _ (are_open t.past k j) _ (fair_waits _ (close_waits t.past k j) (leaves t.past k j) (record {
+    only = gone_own (Words.OfStream n (StreamOp.Unstream second)) k j;
+    idle = λ e. cc;
+    from = tellings_from t.past (leaving t.past k j);
+    loud = λ serials. (refl, refl);
+    told = λ serials drew. refl;
+  }))
 
-  new_so : (asked : Option ℕ) (text : List ℕ) (rule : Rule) (b : Bool) → P (words.Open asked text) (opens_new t lane rule asked b)
-  new_so asked text rule true = asks asked text rule
-  new_so asked text rule false = makes_so _ _
+  fair_stream : (n : ℕ) (op : StreamOp) (k : ℕ) → IsFair t (Words.OfStream n op) (on_stream t lane op k)
+  unfolding take_answer
+  fair_stream n (StreamOp.Reply body) k = fair_sends _ _ (reply_from t.past.name (given_last t.past k) body)
+  fair_stream n (StreamOp.Error name body) k = fair_sends _ _ (error_from t.past.name (given_last t.past k) name body)
+  fair_stream n StreamOp.Take k = take_fair n k (take_answer t.past k) (taken_at t.past.read t.past.closing (slice_get t.past.streams k))
+  fair_stream n (StreamOp.TakeBefore before) k = take_before_fair n before k (take_answer t.past k)
+  fair_stream n StreamOp.Clone k = fair_open _ (is_open t.past k) _ (fair_makes _ (Cloned k))
+  fair_stream n StreamOp.Opened k = opening_fair n k (opening_answer t.past k)
+  fair_stream n (StreamOp.Queue limit) k = fair_open _ (is_open t.past k) _ (does _ Answer.Set _ ((tt, tt), tt) (refl, refl, refl))
+  fair_stream n (StreamOp.Unstream second) k = fair_ends n second k (second_place t lane second)
 
-  opens_so : (asked : Option ℕ) (text : List ℕ) (found : Result Rule Error) (shut : Option Error) → P (words.Open asked text) (opens t lane found asked shut)
-  opens_so asked text (Err error) shut = refuses_so _ error
-  opens_so asked text (Ok rule) (Some error) = refuses_so _ _
-  opens_so asked text (Ok rule) None = waits_so _ (in_flight t.past) _ (new_so asked text rule (asks_bus t.past rule))
+  fair_new : (asked : Option ℕ) (text : List ℕ) (rule : Rule) (b : Bool) → IsFair t (Words.Open asked text) (opens_new t lane rule asked b)
+  fair_new asked text rule true =
+      record { only = tt; idle = λ e. refl; from = (refl, tt); loud = λ serials. (refl, refl); told = λ serials drew. one_drew (asking_of t.past rule asked) t.past serials drew }
+  fair_new asked text rule false = fair_makes _ (Ruled rule asked)
 
-  reads_so : (shut : Option Error) (full : Bool) → (shut ≡ None → P words.Read Reads) → P words.Read (reads_by shut full)
-  reads_so (Some error) full open_ = says _ (answers.Closed error) [] (none _ (answers.Closed error))
-  reads_so None true open_ = says _ answers.Busy [] (none _ answers.Busy)
-  reads_so None false open_ = open_ refl
+  fair_opens : (asked : Option ℕ) (text : List ℕ) (found : Result Rule Error) (shut : Option Error) → IsFair t (Words.Open asked text) (opens t lane found asked shut)
+  fair_opens asked text (Err error) shut = fair_refuses _ error
+  fair_opens asked text (Ok rule) (Some error) = fair_refuses _ _
+  fair_opens asked text (Ok rule) None = fair_waits _ (in_flight t.past) _ (fair_new asked text rule (asks_bus t.past rule))
 
-  name_so : (line : Live) (given : Option (List ℕ)) (name : List ℕ) → P (words.Live line) (named_now given name)
-  name_so line None name = says _ (answers.Named true) _ (does _ (answers.Named true) _ (tt, tt) refl (λ e. (tt, tt)))
-  name_so line (Some earlier) name = says _ (answers.Named false) [] (none _ (answers.Named false))
+  fair_reads : (shut : Option Error) (full : Bool) → t.past.closing ≡ shut → IsFair t Words.Read (reads_by shut full)
+  fair_reads (Some error) full at = none _ (Answer.Closed error) refl refl
+  fair_reads None true at = none _ Answer.Busy refl refl
+  fair_reads None false at = at
 
-  writes_where : (line : Live) (due fails : Bool) → (due ≡ true → fails ≡ false → t.past.outbox.failed ≡ false) → P (words.Live line) (writes_by due fails)
-  writes_where line true fails fine = writes_so line fails (fine refl)
-  writes_where line false fails fine = never line
+  fair_name : (line : Live) (given : Option (List ℕ)) (name : List ℕ) → IsFair t (Words.Live line) (named_now given name)
+  fair_name line None name = does _ (Answer.Named true) _ ((tt, refl), tt) (refl, refl, refl)
+  fair_name line (Some earlier) name = none _ (Answer.Named false) refl refl
+
+  fair_writes : (line : Live) (due fails : Bool) → (due ≡ true → fails ≡ false → t.past.outbox.failed ≡ false) → IsFair t (Words.Live line) (if due then Writes fails else Never)
+  fair_writes line true fails fine = (refl, fine refl)
+  fair_writes line false fails fine = tt
 
   and_right : (a b : Bool) → (a && not b) ≡ true → b ≡ false
   and_right true false e = refl
   and_right true true e = cc
   and_right false b e = cc
 
-  lives_so : (line : Live) → P (words.Live line) (lives t.past lane line)
-  lives_so (live.Written index) =
-      writes_where _ (is_due t.past lane index && not t.past.outbox.failed) false (λ e f. and_right (is_due t.past lane index) t.past.outbox.failed e)
-  lives_so (live.Fault index) = writes_where _ (is_due t.past lane index) true (λ e f. cc)
-  lives_so (live.Unique name) = name_so _ t.past.name name
-  lives_so line = never line
+  fair_lives : (line : Live) → IsFair t (Words.Live line) (lives t.past lane line)
+  fair_lives (Live.Written index) = fair_writes _ (is_due t.past lane index && not t.past.outbox.failed) false (λ e f. and_right (is_due t.past lane index) t.past.outbox.failed e)
+  fair_lives (Live.Fault index) = fair_writes _ (is_due t.past lane index) true (λ e f. cc)
+  fair_lives (Live.Unique name) = fair_name _ t.past.name name
+  fair_lives line = tt
 
-  pub by_plan : (w : Words) → P w (plan t lane w)
-  by_plan (words.Send out) = sends_so _ _ (outgoing_from t.past.name t.setting.takes_fds out.kind out refl)
-  by_plan words.Read = reads_so t.past.closing (busy t.past) reads
-  by_plan (words.OfCall n op) = named_so _ (on_call t.past op) (place 0 lane n t.names) (call_so n op)
-  by_plan words.Stream = makes_so _ _
-  by_plan (words.Open asked text) = opens_so asked text (rule_in_bytes text) t.past.closing
-  by_plan (words.OfStream n op) = named_so _ (on_stream t lane op) (place 0 lane n t.streams) (stream_so n op)
-  by_plan (words.MainQueue limit) = says _ answers.Set _ (does _ answers.Set _ (tt, tt) refl (λ e. (tt, tt)))
-  by_plan words.Close = closes
-  by_plan (words.Live line) = lives_so line
+  pub fair : (w : Words) → IsFair t w (plan t lane w)
+  fair (Words.Send out) = fair_sends _ _ (outgoing_from t.past.name t.setting.takes_fds out)
+  fair Words.Read = fair_reads t.past.closing (busy t.past) refl
+  fair (Words.OfCall n op) = fair_named _ (on_call t.past op) (place 0 lane n t.names) (fair_call n op)
+  fair Words.Stream = fair_makes _ Plain
+  fair (Words.Open asked text) = fair_opens asked text (rule_in_bytes text) t.past.closing
+  fair (Words.OfStream n op) = fair_named _ (on_stream t lane op) (place 0 lane n t.streams) (fair_stream n op)
+  fair (Words.MainQueue limit) = does _ Answer.Set _ ((tt, tt), tt) (refl, refl, refl)
+  fair Words.Close = refl
+  fair (Words.Live line) = fair_lives line
 
 -- ---- along events
 
@@ -284,11 +391,6 @@ are_writes Is e wrote fault = all_append Is (repeat e.written Wrote) _ (repeat_a
     faults : (b : Bool) → AllByRecursion Is (if b then repeat (length e.put - e.written) Fault else [])
     faults true = repeat_all Is (length e.put - e.written) Fault fault
     faults false = tt
-
-pub are_puts : (Is : Event → Type 0) (Of : Posting → Type 0) → ((d : Posting) (m : Seen) → Of d → Is (Put m d.purpose)) → (ds : List Posting) (ms : List Seen) → AllByRecursion Of ds → AllByRecursion Is (puts ds ms)
-are_puts Is Of put [] ms all = tt
-are_puts Is Of put (d ∷ ds) [] all = tt
-are_puts Is Of put (d ∷ ds) (m ∷ ms) all = (put d m all.0, are_puts Is Of put ds ms all.1)
 
 -- what the events of an entry keep
 pub along_entry : (P : Past → Type 0) (Is : Event → Type 0) → ((e : Event) (h : Past) → Is e → P h → P (after e h)) → (pl : Plan) (e : Entry) (h : Past) → AllByRecursion Is (deeds pl e)

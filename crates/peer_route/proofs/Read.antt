@@ -1,34 +1,9 @@
--- What answers a call, where that stands among the messages read, and that the call is over for good then.
-use Rattle.std.proofs.Common.{inl, inr, ◌≡◌, ◌⊎◌, ℕ, zero, suc, ◌+◌, ◌<◌, cond, if◌then◌else◌, arith, refl, sym, ◌∙◌, subst, Bool, true, false, List, [], ◌∷◌, ◌++◌, length, drop, Option, Some, None, Result, Ok, Err, ◌||◌, ◌==◌, ap, option_map}
-use Rattle.std.specs.List.{slice_get, find, AllByRecursion}
-use Rattle.wire_message.specs.Front.{Seen}
-use Rattle.wire_message.specs.declared.kind.MessageType.{MessageType}
-use Rattle.wire_message.specs.declared.kind.MessageType.TheVariants as types
-use Rattle.wire_message.specs.declared.error.Error.{Error}
-use Rattle.wire_message.specs.declared.error.Error.TheVariants as errors
-use Rattle.peer_route.specs.declared.polled.Polled.{Polled}
-use Rattle.peer_route.specs.declared.polled.Polled.TheVariants as polled
-use Rattle.peer_route.specs.declared.words.Words.{Words}
-use Rattle.peer_route.specs.declared.words.CallOp.{CallOp}
-use Rattle.peer_route.specs.declared.words.CallOp.TheVariants as calls
-use Rattle.peer_route.specs.declared.answer.Answer.{Answer}
-use Rattle.peer_route.specs.declared.answer.Answer.TheVariants as answers
-use Rattle.peer_route.specs.declared.answer.Entry.{Entry}
-use Rattle.peer_route.specs.Parcel.{Setting}
-use Rattle.peer_route.specs.History.{Event, Took, Call, bears, Past, after, after_all, Put, OfLane, Adds, Removes, Fault, Spent, edit, spend, fail_at}
-use Rattle.peer_route.specs.Calls.{found, is_nobodys, polled_by, polled_at, poll_answer, by_position, is_gone, dropped_at, drop_answer, drop_events, poll_events}
-use Rattle.peer_route.specs.Shown.{error_answer, reply_by, shown, reply_answer, shown_drop}
-use Rattle.peer_route.specs.Trail.{Trail, place}
-use Rattle.peer_route.specs.Plan.{Plan, Reads, where_named, on_call, plan, refuses}
-use Rattle.peer_route.specs.Entries.{IsMeant, IsRead, Legal, trail, shut_by, read_events, deeds, past_after, IsEntry, IsQuiet, more}
-use Rattle.peer_route.specs.Laws.{IsPollOp, IsPoll, IsReplyAt, IsFirstReply, IsCutOff, IsFinal, IsUnknown}
-use Rattle.peer_route.proofs.Plans.{IsDeed, legal_from}
-use Rattle.peer_route.proofs.Kept.{at_start, Keeps, entry_keeps, deeds_all, every_entry}
-use Rattle.peer_route.proofs.Refused.{quiet_past}
-use Rattle.std.proofs.lemmas.Option.{slice_get-map}
-use Rattle.peer_route.specs.declared.words.Words.TheVariants as words
-use Rattle.peer_route.proofs.Places.{place_append}
-use Rattle.peer_route.proofs.Edits.{edit_here, get_append}
+-- What answers a call, where that stands among the messages read, and that the call is over for good then; and that a message that isn't
+-- for it, and a poll or a drop of another, leave its answer as it was.
+use Rattle.std.proofs.{Common.{inl, inr, ◌≡◌, ◌⊎◌, ℕ, zero, suc, ◌+◌, ◌<◌, cond, if◌then◌else◌, arith, refl, sym, ◌∙◌, subst, Bool, true, false, List, [], ◌∷◌, ◌++◌, length, drop, Option, Some, None, Result, Ok, Err, ◌||◌, ◌==◌, ap, option_map, length-append, append_assoc, ◌≢◌, ◌&&◌, not, is_some, is_none, IfSome}, lemmas.Option.slice_get-map, lemmas.List.{drop-drop, append-nil}, Math.Seq.{drop-append_seam, drop-nil}, lemmas.Bool.{eqb-true, cases_Bool, eq-eqb, or_parts, and_parts}}
+use Rattle.std.specs.List.{slice_get, find, AllByRecursion, list_any}
+use Rattle.peer_route.specs.{Names.{Seen, MessageType, Error, Polled, Words, CallOp, Answer, Entry}, Parcel.Setting, History.{Event, Took, Call, bears, Past, after, after_all, Put, OfLane, Adds, Removes, Fault, Spent, edit, spend, fail_at, is_reply, is_serial}, Calls.{found, is_nobodys, polled_by, polled_at, poll_answer, by_position, is_gone, dropped_at, drop_answer, drop_events, poll_events, waits_with, pending}, Shown.{error_answer, reply_by, shown, reply_answer, shown_drop}, Trail.{Trail, place, Names}, Plan.{Plan, Reads, where_named, on_call, plan, refuses, Says}, Entries.{IsMeant, IsRead, Legal, trail, read_events, deeds, past_after, IsEntry, IsQuiet, more, more_by}, Laws.{IsPollOp, IsPoll, IsReplyAt, IsFirstReply, IsCutOff, IsFinal, IsUnknown, SameCall, IsPast}, Told.{encodings, left_after}}
+use Rattle.peer_route.proofs.{Plans.{IsDeed, legal_from}, Kept.{at_start, Keeps, entry_keeps, deeds_all, every_entry, later, quiet_past, quiet_more}, Places.{place_append, one_place}, Edits.{edit_here, get_append, edit_other}}
 
 -- ---- positions
 
@@ -45,11 +20,8 @@ ranked_push (y ∷ ms) n (suc i) m x r e at =
 
 ranked_read : (h : Past) (m : Option Seen) (a : Answer) → IsRead (length h.read) m a → Ranked h.read → Ranked (after_all (read_events m a) h).read
 ranked_read h (Some m) a is r = λ i x at. ranked_push h.read 0 i m x (λ j y q. r j y q ∙ omega arith) (is.2 ∙ omega arith) at ∙ omega arith
-ranked_read h None a is r = shut_ranked a
-  where
-    shut_ranked : (a : Answer) → Ranked (after_all (shut_by a) h).read
-    shut_ranked (answers.Closed error) = r
-    shut_ranked a = r
+ranked_read h None (Answer.Closed error) is r = r
+ranked_read h None a is r = r
 
 -- all but a read leave the messages that were read
 ranked_more : (t : Trail) (lane : ℕ) (w : Words) (pl : Plan) (e : Entry) → plan t lane w ≡ pl → IsMeant t.past pl e → Ranked t.past.read → Ranked (past_after pl e t.past).read
@@ -77,6 +49,20 @@ in_order setting es i j m n legal less at at₂ =
     let q = at_place setting es j n legal at₂ in
     omega (arith, less, p, q)
 
+-- ---- what is left of the source's bytes after one message more
+
+encodings-append : (xs : List Seen) (m : Seen) → encodings (xs ++ m ∷ []) ≡ encodings xs ++ m.bytes
+encodings-append [] m = append-nil m.bytes
+encodings-append (x ∷ xs) m = ap (λ ys. x.bytes ++ ys) (encodings-append xs m) ∙ sym (append_assoc x.bytes (encodings xs) m.bytes)
+
+pub left_after-took : (bytes left : List ℕ) (h : Past) (m : Seen) → left_after bytes h ≡ m.bytes ++ left → left_after bytes (after (Took m) h) ≡ left
+left_after-took bytes left h m e =
+    ap (λ ys. drop (length ys) bytes) (encodings-append h.read m)
+    ∙ ap (λ n. drop n bytes) (length-append (encodings h.read) m.bytes)
+    ∙ sym (drop-drop (length m.bytes) (length (encodings h.read)) bytes)
+    ∙ ap (λ ys. drop (length m.bytes) ys) e
+    ∙ drop-append_seam m.bytes left
+
 -- ---- what a search finds
 
 stands_by : {A : Type 0} (p : A → Bool) (xs : List A) (m : A) → find p xs ≡ Some m → (i : ℕ) × (slice_get xs i ≡ Some m)
@@ -102,115 +88,75 @@ none_passes p (x ∷ xs) e =
 
 -- ---- what a poll shows
 
-error_position : (m : Seen) (name : Option (List ℕ)) (q : ℕ) → IsReplyAt q (error_answer m name) → m.position ≡ q
-error_position m (Some name) q is = is
-error_position m None q is = is
+-- what shows a reply says its position, and isn't the closing error
+error_shows : (m : Seen) (name : Option (List ℕ)) → ((q : ℕ) → IsReplyAt q (error_answer m name) → m.position ≡ q) × ((error : Error) → error_answer m name ≡ Answer.Closed error → ⊥)
+error_shows m (Some name) = (λ q is. is, λ error e. cc)
+error_shows m None = (λ q is. is, λ error e. cc)
 
-reply_position : (m : Seen) (kind : MessageType) (q : ℕ) → IsReplyAt q (reply_by m kind) → m.position ≡ q
-reply_position m types.Error q is = error_position m m.error_name q is
-reply_position m kind q is = is
+reply_shows : (m : Seen) (kind : MessageType) → ((q : ℕ) → IsReplyAt q (reply_by m kind) → m.position ≡ q) × ((error : Error) → reply_by m kind ≡ Answer.Closed error → ⊥)
+reply_shows m MessageType.Error = error_shows m m.error_name
+reply_shows m kind = (λ q is. is, λ error e. cc)
 
-error_not_closed : (m : Seen) (name : Option (List ℕ)) (error : Error) → error_answer m name ≡ answers.Closed error → ⊥
-error_not_closed m (Some name) error e = cc
-error_not_closed m None error e = cc
+-- what a poll of the lane's call with this number is answered: neither a reply nor the closing error; or what the call's state says
+data Polls (t : Trail) (lane number : ℕ) (a : Answer) : Type 0 where
+  Dull : ((q : ℕ) → IsReplyAt q a → ⊥) → ((error : Error) → a ≡ Answer.Closed error → ⊥) → Polls t lane number a
+  Replied : (k : ℕ) (c : Call) (m : Seen) → place 0 lane number t.names ≡ Some k → slice_get t.past.calls k ≡ Some c → found t.past.read c ≡ Some m → a ≡ reply_answer m → Polls t lane number a
+  Cut : (k : ℕ) (c : Call) (error : Error) → place 0 lane number t.names ≡ Some k → slice_get t.past.calls k ≡ Some c → found t.past.read c ≡ None → t.past.closing ≡ Some error → a ≡ Answer.Closed error
+      → Polls t lane number a
 
-not_closed : (m : Seen) (kind : MessageType) (error : Error) → reply_by m kind ≡ answers.Closed error → ⊥
-not_closed m types.Error error e = error_not_closed m m.error_name error e
-not_closed m kind error e = cc
+polls_by : (t : Trail) (lane number k : ℕ) (c : Call) (b : Bool) (f : Option Seen) (o : Option Error) → place 0 lane number t.names ≡ Some k → slice_get t.past.calls k ≡ Some c → found t.past.read c ≡ f → t.past.closing ≡ o
+    → Polls t lane number (shown (if b then Err Error.UnknownHandle else polled_by f o))
+polls_by t lane number k c true f o named made at shut = Dull (λ q is. is) (λ error e. cc)
+polls_by t lane number k c false (Some m) o named made at shut = Replied k c m named made at refl
+polls_by t lane number k c false None (Some error) named made at shut = Cut k c error named made at shut refl
+polls_by t lane number k c false None None named made at shut = Dull (λ q is. is) (λ error e. cc)
 
-reply_found : (b : Bool) (f : Option Seen) (o : Option Error) (q : ℕ) → IsReplyAt q (shown (if b then Err errors.UnknownHandle else polled_by f o))
-    → (m : Seen) × (f ≡ Some m) × (m.position ≡ q) × (shown (if b then Err errors.UnknownHandle else polled_by f o) ≡ reply_answer m)
-reply_found true f o q is = absurd is
-reply_found false (Some m) o q is = (m, refl, reply_position m m.kind q is, refl)
-reply_found false None (Some error) q is = absurd is
-reply_found false None None q is = absurd is
+polls_at : (t : Trail) (lane number k : ℕ) (o : Option Call) → place 0 lane number t.names ≡ Some k → slice_get t.past.calls k ≡ o → Polls t lane number (shown (polled_at t.past.read t.past.closing o))
+polls_at t lane number k None named made = Dull (λ q is. is) (λ error e. cc)
+polls_at t lane number k (Some c) named made = polls_by t lane number k c (is_nobodys c) (found t.past.read c) t.past.closing named made refl refl
 
-none_found : (b : Bool) (f : Option Seen) (o : Option Error) (error : Error) → shown (if b then Err errors.UnknownHandle else polled_by f o) ≡ answers.Closed error → (f ≡ None) × (o ≡ Some error)
-none_found true f o error e = cc
-none_found false (Some m) o error e = absurd (not_closed m m.kind error e)
-none_found false None (Some other) error e = (refl, cc)
-none_found false None None error e = cc
+-- by position it is the same, or that there is none before it
+polls_before : (t : Trail) (lane number : ℕ) (r : Result (Polled Seen) Error) → Polls t lane number (shown r) → Polls t lane number (shown (by_position r))
+polls_before t lane number (Ok Polled.NotYet) p = Dull (λ q is. is) (λ error e. cc)
+polls_before t lane number r p = p
 
-reply_call : (h : Past) (o : Option Call) (q : ℕ) → IsReplyAt q (shown (polled_at h.read h.closing o))
-    → (c : Call) × (o ≡ Some c) × (m : Seen) × (found h.read c ≡ Some m) × (m.position ≡ q) × (shown (polled_at h.read h.closing o) ≡ reply_answer m)
-reply_call h None q is = absurd is
-reply_call h (Some c) q is = let f = reply_found (is_nobodys c) (found h.read c) h.closing q is in (c, refl, f.0, f.1, f.2, f.3)
+polls_named : (t : Trail) (lane number : ℕ) (op : CallOp) (p : Option ℕ) (e : Entry) → place 0 lane number t.names ≡ p → IsPollOp op → IsMeant t.past (where_named (on_call t.past op) p) e → Polls t lane number e.answer
+unfolding poll_answer
+polls_named t lane number op None e named poll is = subst (Polls t lane number) (sym is.1) (Dull (λ q r. r) (λ error a. cc))
+polls_named t lane number CallOp.Poll (Some k) e named poll is = subst (Polls t lane number) (sym is.1) (polls_at t lane number k (slice_get t.past.calls k) named refl)
+polls_named t lane number (CallOp.Before before) (Some k) e named poll is =
+    subst (Polls t lane number) (sym is.1) (polls_before t lane number (poll_answer t.past k) (polls_at t lane number k (slice_get t.past.calls k) named refl))
+polls_named t lane number CallOp.Drop (Some k) e named poll is = absurd poll
 
-closed_call : (h : Past) (o : Option Call) (error : Error) → shown (polled_at h.read h.closing o) ≡ answers.Closed error → (c : Call) × (o ≡ Some c) × (found h.read c ≡ None) × (h.closing ≡ Some error)
-closed_call h None error e = cc
-closed_call h (Some c) error e = let f = none_found (is_nobodys c) (found h.read c) h.closing error e in (c, refl, f.0, f.1)
+polls : (t : Trail) (e : Entry) (number : ℕ) → IsMeant t.past (plan t e.lane e.words) e → IsPoll number e.words → Polls t e.lane number e.answer
+polls t e number is poll = polls_named t e.lane number poll.0 (place 0 e.lane number t.names) e refl poll.2 (subst (λ w. IsMeant t.past (plan t e.lane w) e) poll.1 is)
 
--- ---- a poll's answer
-
--- what a poll of the call with this number, if there is one, says without a position
-abbrev said_of : Past → Option ℕ → Answer
-said_of h None = answers.Refused errors.UnknownHandle
-said_of h (Some k) = shown (poll_answer h k)
-
-before_is : (a : Answer) (r : Result (Polled Seen) Error) → a ≡ shown (by_position r) → (a ≡ shown r) ⊎ (a ≡ answers.NoneBefore)
-before_is a (Ok polled.NotYet) is = inr is
-before_is a r is = inl is
-
--- by position it says the same, or that there is none before it
-polled_is : (h : Past) (op : CallOp) (p : Option ℕ) (e : Entry) → IsPollOp op → IsMeant h (where_named (on_call h op) p) e → (e.answer ≡ said_of h p) ⊎ (e.answer ≡ answers.NoneBefore)
-polled_is h op None e poll is = inl is.1
-polled_is h calls.Poll (Some k) e poll is = inl is.1
-polled_is h (calls.Before before) (Some k) e poll is = before_is e.answer (poll_answer h k) is.1
-polled_is h calls.Drop (Some k) e poll is = absurd poll
-
-entry_polled : (t : Trail) (e : Entry) (number : ℕ) → IsMeant t.past (plan t e.lane e.words) e → IsPoll number e.words
-    → (e.answer ≡ said_of t.past (place 0 e.lane number t.names)) ⊎ (e.answer ≡ answers.NoneBefore)
-entry_polled t e number is poll = polled_is t.past poll.0 (place 0 e.lane number t.names) e poll.2 (subst (λ w. IsMeant t.past (plan t e.lane w) e) poll.1 is)
-
--- ---- the first reply
-
-first_by : (t : Trail) (lane number q : ℕ) (a : Answer) (p : Option ℕ) → Ranked t.past.read → place 0 lane number t.names ≡ p → (a ≡ said_of t.past p) ⊎ (a ≡ answers.NoneBefore) → IsReplyAt q a → IsFirstReply t lane number q a
-unfolding poll_answer found
-first_by t lane number q a p r named (inr e) is = absurd (subst (IsReplyAt q) e is)
-first_by t lane number q a None r named (inl e) is = absurd (subst (IsReplyAt q) e is)
-first_by t lane number q a (Some k) r named (inl e) is =
-    let c = reply_call t.past (slice_get t.past.calls k) q (subst (IsReplyAt q) e is) in
-    let at = stands (bears c.0.serial) c.0.from t.past.read c.2 c.3 in
-    let rank : c.2.position ≡ at.0 + 1 = r at.0 c.2 at.1 in
-    let position : c.2.position ≡ q = c.4 in
-    record {
-      k = k;
-      call = c.0;
-      message = c.2;
-      place_before = at.0;
-      named = named;
-      made = c.1;
-      first = c.3;
-      shown = e ∙ c.5;
-      position = c.4;
-      rank = omega arith;
-      stands = at.1;
-    }
+-- the first reply
+first_by : (t : Trail) (lane number q : ℕ) (a : Answer) → Ranked t.past.read → Polls t lane number a → IsReplyAt q a → IsFirstReply t lane number q a
+unfolding found
+first_by t lane number q a r (Dull neither other) is = absurd (neither q is)
+first_by t lane number q a r (Cut k c error named made none shut e) is = absurd (subst (IsReplyAt q) e is)
+first_by t lane number q a r (Replied k c m named made first e) is =
+    let at = stands (bears c.serial) c.from t.past.read m first in
+    let position : m.position ≡ q = (reply_shows m m.kind).0 q (subst (IsReplyAt q) e is) in
+    let rank : m.position ≡ at.0 + 1 = r at.0 m at.1 in
+    record { k = k; call = c; message = m; place_before = at.0; named = named; made = made; first = first; shown = e; position = position; rank = omega arith; stands = at.1 }
 
 pub by_the_first : (setting : Setting) (older : List Entry) (e : Entry) (number q : ℕ) → Legal setting (e ∷ older) → IsPoll number e.words → IsReplyAt q e.answer → IsFirstReply (trail setting older) e.lane number q e.answer
 by_the_first setting older e number q legal poll is =
-    let t = trail setting older in first_by t e.lane number q e.answer (place 0 e.lane number t.names) (ranked setting older legal.1) refl (entry_polled t e number legal.0 poll) is
+    let t = trail setting older in first_by t e.lane number q e.answer (ranked setting older legal.1) (polls t e number legal.0 poll) is
 
--- ---- the closing error
+-- the closing error
+cut_by : (t : Trail) (lane number : ℕ) (error : Error) (a : Answer) → Polls t lane number a → a ≡ Answer.Closed error → IsCutOff t lane number error
+unfolding found
+cut_by t lane number error a (Dull other neither) is = absurd (neither error is)
+cut_by t lane number error a (Replied k c m named made first e) is = absurd ((reply_shows m m.kind).1 error (sym e ∙ is))
+cut_by t lane number error a (Cut k c cause named made none shut e) is =
+    let same : cause ≡ error = (let q : Answer.Closed cause ≡ Answer.Closed error = sym e ∙ is in cc) in
+    record { k = k; call = c; named = named; made = made; unanswered = none_passes (bears c.serial) (drop c.from t.past.read) none; first = shut ∙ ap (λ x. Some x) same }
 
-cut_by : (t : Trail) (lane number : ℕ) (error : Error) (a : Answer) (p : Option ℕ) → place 0 lane number t.names ≡ p → (a ≡ said_of t.past p) ⊎ (a ≡ answers.NoneBefore) → a ≡ answers.Closed error → IsCutOff t lane number error
-unfolding poll_answer found
-cut_by t lane number error a p named (inr e) is = let q : answers.NoneBefore ≡ answers.Closed error = sym e ∙ is in cc
-cut_by t lane number error a None named (inl e) is = let q : answers.Refused errors.UnknownHandle ≡ answers.Closed error = sym e ∙ is in cc
-cut_by t lane number error a (Some k) named (inl e) is =
-    let c = closed_call t.past (slice_get t.past.calls k) error (sym e ∙ is) in
-    record {
-      k = k;
-      call = c.0;
-      named = named;
-      made = c.1;
-      unanswered = none_passes (bears c.0.serial) (drop c.0.from t.past.read) c.2;
-      first = c.3;
-    }
-
-pub by_the_closing_error : (setting : Setting) (older : List Entry) (e : Entry) (number : ℕ) (error : Error) → Legal setting (e ∷ older) → IsPoll number e.words → e.answer ≡ answers.Closed error → IsCutOff (trail setting older) e.lane number error
-by_the_closing_error setting older e number error legal poll is =
-    let t = trail setting older in cut_by t e.lane number error e.answer (place 0 e.lane number t.names) refl (entry_polled t e number legal.0 poll) is
+pub by_the_closing_error : (setting : Setting) (older : List Entry) (e : Entry) (number : ℕ) (error : Error) → Legal setting (e ∷ older) → IsPoll number e.words → e.answer ≡ Answer.Closed error → IsCutOff (trail setting older) e.lane number error
+by_the_closing_error setting older e number error legal poll is = cut_by (trail setting older) e.lane number error e.answer (polls (trail setting older) e number legal.0 poll) is
 
 -- ---- a call that is over
 
@@ -241,26 +187,26 @@ gone_event k (Spent j) h gone = gone_edit j k h.calls gone
 gone_event k e h gone = gone
 
 -- what is asked of a call that was made ends it
-gone_spent : {A : Type 0} (asked : Option Call → Result A Error) (cs : List Call) (k : ℕ) (o : Option Call) (x : A) → asked None ≡ Err errors.UnknownHandle → slice_get cs k ≡ o → asked o ≡ Ok x → IsGone (edit k spend cs) k
+gone_spent : {A : Type 0} (asked : Option Call → Result A Error) (cs : List Call) (k : ℕ) (o : Option Call) (x : A) → asked None ≡ Err Error.UnknownHandle → slice_get cs k ≡ o → asked o ≡ Ok x → IsGone (edit k spend cs) k
 gone_spent asked cs k None x none at e = cc
 gone_spent asked cs k (Some c) x none at e = (spend c, edit_here spend k cs c at, refl)
 
 -- and of one that is over is refused
-gone_plan : (h : Past) (op : CallOp) (k : ℕ) → IsGone h.calls k → on_call h op k ≡ refuses errors.UnknownHandle
+gone_plan : (h : Past) (op : CallOp) (k : ℕ) → IsGone h.calls k → on_call h op k ≡ refuses Error.UnknownHandle
 unfolding poll_answer drop_answer
-gone_plan h calls.Poll k gone = rw (gone.1, gone.2) refl
-gone_plan h (calls.Before before) k gone = rw (gone.1, gone.2) refl
-gone_plan h calls.Drop k gone = rw (gone.1, gone.2) refl
+gone_plan h CallOp.Poll k gone = rw (gone.1, gone.2) refl
+gone_plan h (CallOp.Before before) k gone = rw (gone.1, gone.2) refl
+gone_plan h CallOp.Drop k gone = rw (gone.1, gone.2) refl
 
 -- ---- the entry that ends it
 
 -- the answer ends the call: its last word, or that it is dropped
 abbrev pub Ends : CallOp → Answer → Type 0
-Ends calls.Drop a = a ≡ answers.Dropped
+Ends CallOp.Drop a = a ≡ Answer.Dropped
 Ends op a = IsFinal a
 
 before_final : (r : Result (Polled Seen) Error) → IsFinal (shown (by_position r)) → IsFinal (shown r)
-before_final (Ok polled.NotYet) f = absurd f
+before_final (Ok Polled.NotYet) f = absurd f
 before_final r f = f
 
 -- what it does, and that the call was made
@@ -273,26 +219,26 @@ EndsOr h k op a es = ((es ≡ []) × (Ends op a → ⊥)) ⊎ Spends h k es
 
 poll_spends : (h : Past) (k : ℕ) (op : CallOp) (a : Answer) (r : Result (Polled Seen) Error) → poll_answer h k ≡ r → (Ends op a → IsFinal (shown r)) → EndsOr h k op a (poll_events k r)
 unfolding poll_answer
-poll_spends h k op a (Ok (polled.Now m)) at so = inr (refl, gone_spent (polled_at h.read h.closing) h.calls k (slice_get h.calls k) (polled.Now m) refl refl at)
-poll_spends h k op a (Ok (polled.Closed error)) at so = inr (refl, gone_spent (polled_at h.read h.closing) h.calls k (slice_get h.calls k) (polled.Closed error) refl refl at)
+poll_spends h k op a (Ok (Polled.Now m)) at so = inr (refl, gone_spent (polled_at h.read h.closing) h.calls k (slice_get h.calls k) (Polled.Now m) refl refl at)
+poll_spends h k op a (Ok (Polled.Closed error)) at so = inr (refl, gone_spent (polled_at h.read h.closing) h.calls k (slice_get h.calls k) (Polled.Closed error) refl refl at)
 poll_spends h k op a r at so = inl (refl, so)
 
-drop_spends : (h : Past) (k : ℕ) (a : Answer) (r : Result (Unit {0}) Error) → drop_answer h k ≡ r → a ≡ shown_drop r → EndsOr h k calls.Drop a (drop_events k r)
+drop_spends : (h : Past) (k : ℕ) (a : Answer) (r : Result (Unit {0}) Error) → drop_answer h k ≡ r → a ≡ shown_drop r → EndsOr h k CallOp.Drop a (drop_events k r)
 unfolding drop_answer
 drop_spends h k a (Ok done) at is = inr (refl, gone_spent dropped_at h.calls k (slice_get h.calls k) done refl refl at)
 drop_spends h k a (Err error) at is = inl (refl, λ f. cc)
 
 pub ending : (h : Past) (op : CallOp) (k : ℕ) (e : Entry) → IsMeant h (on_call h op k) e → IsQuiet e × EndsOr h k op e.answer (deeds (on_call h op k) e)
-ending h calls.Poll k e is = (is.2, poll_spends h k calls.Poll e.answer (poll_answer h k) refl (λ f. subst IsFinal is.1 f))
-ending h (calls.Before before) k e is = (is.2, poll_spends h k (calls.Before before) e.answer (poll_answer h k) refl (λ f. before_final (poll_answer h k) (subst IsFinal is.1 f)))
-ending h calls.Drop k e is = (is.2, drop_spends h k e.answer (drop_answer h k) refl is.1)
+ending h CallOp.Poll k e is = (is.2, poll_spends h k CallOp.Poll e.answer (poll_answer h k) refl (λ f. subst IsFinal is.1 f))
+ending h (CallOp.Before before) k e is = (is.2, poll_spends h k (CallOp.Before before) e.answer (poll_answer h k) refl (λ f. before_final (poll_answer h k) (subst IsFinal is.1 f)))
+ending h CallOp.Drop k e is = (is.2, drop_spends h k e.answer (drop_answer h k) refl is.1)
 
 spends_now : (h : Past) (k : ℕ) (op : CallOp) (a : Answer) (es : List Event) → EndsOr h k op a es → Ends op a → IsGone (after_all es h).calls k
 spends_now h k op a es (inl none) f = absurd (none.1 f)
 spends_now h k op a es (inr spends) f = subst (λ xs. IsGone (after_all xs h).calls k) (sym spends.0) spends.1
 
-no_end : (op : CallOp) (error : Error) → Ends op (answers.Refused error) → ⊥
-no_end calls.Drop error f = cc
+no_end : (op : CallOp) (error : Error) → Ends op (Answer.Refused error) → ⊥
+no_end CallOp.Drop error f = cc
 no_end op error f = f
 
 -- the number names a call, and the call is over
@@ -306,7 +252,7 @@ over_now h op (Some k) e is f =
     let ends = ending h op k e is in
     (k, refl, subst (λ (q : Past). IsGone q.calls k) (sym (quiet_past (on_call h op k) e h ends.0)) (spends_now h k op e.answer (deeds (on_call h op k) e) ends.1 f))
 
-over_after : (t : Trail) (e : Entry) (number : ℕ) (op : CallOp) → IsEntry t e → e.words ≡ words.OfCall number op → Ends op e.answer → IsOver (more t e) e.lane number
+over_after : (t : Trail) (e : Entry) (number : ℕ) (op : CallOp) → IsEntry t e → e.words ≡ Words.OfCall number op → Ends op e.answer → IsOver (more t e) e.lane number
 over_after t e number op is w f =
     let meant = subst (λ x. IsMeant t.past (plan t e.lane x) e) w is in
     let now = over_now t.past op (place 0 e.lane number t.names) e meant f in
@@ -320,29 +266,141 @@ over_more t e lane number over =
 
 unknown_entry : (t : Trail) (e : Entry) (lane number : ℕ) → IsOver t lane number → IsEntry t e → IsUnknown lane number e
 unknown_entry t e lane number over is same op w =
-    let means : plan t e.lane e.words ≡ refuses errors.UnknownHandle =
+    let means : plan t e.lane e.words ≡ refuses Error.UnknownHandle =
     ap (plan t e.lane) w ∙ ap (λ l. where_named (on_call t.past op) (place 0 l number t.names)) same ∙ ap (where_named (on_call t.past op)) over.1 ∙ gone_plan t.past op over.0 over.2 in
     (subst (λ pl. IsMeant t.past pl e) means is).1
 
-unknown_later : (setting : Setting) (newer older : List Entry) (e : Entry) (number : ℕ) → Legal setting (newer ++ e ∷ older) → IsOver (trail setting (e ∷ older)) e.lane number
-    → IsOver (trail setting (newer ++ e ∷ older)) e.lane number × AllByRecursion (IsUnknown e.lane number) newer
-unknown_later setting [] older e number legal over = (over, tt)
-unknown_later setting (x ∷ newer) older e number legal over =
-    let rest = unknown_later setting newer older e number legal.1 over in
-    let t = trail setting (newer ++ e ∷ older) in
-    (over_more t x e.lane number rest.0, (unknown_entry t x e.lane number rest.0 legal.0, rest.1))
-
-ended : (setting : Setting) (newer older : List Entry) (e : Entry) (number : ℕ) (op : CallOp) → Legal setting (newer ++ e ∷ older) → e.words ≡ words.OfCall number op → Ends op e.answer
+ended : (setting : Setting) (newer older : List Entry) (e : Entry) (number : ℕ) (op : CallOp) → Legal setting (newer ++ e ∷ older) → e.words ≡ Words.OfCall number op → Ends op e.answer
     → AllByRecursion (IsUnknown e.lane number) newer
 ended setting newer older e number op legal w f =
-    (unknown_later setting newer older e number legal (over_after (trail setting older) e number op (legal_from setting newer (e ∷ older) legal).0 w f)).1
+    (later setting (λ t. IsOver t e.lane number) (IsUnknown e.lane number) (λ t x is over. (over_more t x e.lane number over, unknown_entry t x e.lane number over is)) newer (e ∷ older) legal
+    (over_after (trail setting older) e number op (legal_from setting newer (e ∷ older) legal).0 w f)).1
 
 poll_ends : (op : CallOp) (a : Answer) → IsPollOp op → IsFinal a → Ends op a
-poll_ends calls.Drop a poll f = absurd poll
+poll_ends CallOp.Drop a poll f = absurd poll
 poll_ends op a poll f = f
 
 pub once : (setting : Setting) (newer older : List Entry) (e : Entry) (number : ℕ) → Legal setting (newer ++ e ∷ older) → IsPoll number e.words → IsFinal e.answer → AllByRecursion (IsUnknown e.lane number) newer
 once setting newer older e number legal poll f = ended setting newer older e number poll.0 legal poll.1 (poll_ends poll.0 e.answer poll.2 f)
 
-pub dropped : (setting : Setting) (newer older : List Entry) (e : Entry) (number : ℕ) → Legal setting (newer ++ e ∷ older) → e.words ≡ words.OfCall number calls.Drop → e.answer ≡ answers.Dropped → AllByRecursion (IsUnknown e.lane number) newer
-dropped setting newer older e number legal w f = ended setting newer older e number calls.Drop legal w f
+pub dropped : (setting : Setting) (newer older : List Entry) (e : Entry) (number : ℕ) → Legal setting (newer ++ e ∷ older) → e.words ≡ Words.OfCall number CallOp.Drop → e.answer ≡ Answer.Dropped → AllByRecursion (IsUnknown e.lane number) newer
+dropped setting newer older e number legal w f = ended setting newer older e number CallOp.Drop legal w f
+
+-- ---- a message comes
+
+-- one more that doesn't pass, or comes behind one that does, changes nothing
+find_more : {A : Type 0} (p : A → Bool) (n : ℕ) (xs : List A) (x : A) → (p x ≡ false) ⊎ (is_some (find p (drop n xs)) ≡ true) → find p (drop n (xs ++ x ∷ [])) ≡ find p (drop n xs)
+find_more p zero [] x (inl other) = rw other refl
+find_more p zero [] x (inr some) = cc
+find_more {A} p zero (y ∷ ys) x so =
+    elim (p y) as (λ b. (p x ≡ false) ⊎ (is_some (cond b (Some y) (find p ys)) ≡ true) → cond b (Some y) (find p (ys ++ x ∷ [])) ≡ cond b (Some y) (find p ys)) [
+      | true ↦ λ q. refl
+      | false ↦ λ q. find_more p zero ys x q
+    ] so
+find_more p (suc n) [] x so = ap (find p) (drop-nil n)
+find_more p (suc n) (y ∷ ys) x so = find_more p n ys x so
+
+-- a call that isn't over
+past_by : (gone inner : Bool) (f g : Option Seen) (o : Option Error) → (gone ≡ false → g ≡ f) → (if gone || inner then Err Error.UnknownHandle else polled_by g o) ≡ (if gone || inner then Err Error.UnknownHandle else polled_by f o)
+past_by true inner f g o same = refl
+past_by false inner f g o same = ap (λ x. if inner then Err Error.UnknownHandle else polled_by x o) (same refl)
+
+or_some : (gone some : Bool) → gone ≡ false → (gone || some) ≡ true → some ≡ true
+or_some true some none e = cc
+or_some false some none e = e
+
+past_call : (h : Past) (m : Seen) (c : Call) → IsPast h m c → polled_at (after (Took m) h).read (after (Took m) h).closing (Some c) ≡ polled_at h.read h.closing (Some c)
+unfolding found
+past_call h m c (inl other) = past_by (is_gone c) c.inner (found h.read c) (found (after (Took m) h).read c) h.closing (λ open_. find_more (bears c.serial) c.from h.read m (inl other))
+past_call h m c (inr over) =
+    past_by (is_gone c) c.inner (found h.read c) (found (after (Took m) h).read c) h.closing (λ open_. find_more (bears c.serial) c.from h.read m (inr (or_some (is_gone c) (is_some (found h.read c)) open_ over)))
+
+past_at : (h : Past) (m : Seen) (o : Option Call) → IfSome o (IsPast h m) → polled_at (after (Took m) h).read (after (Took m) h).closing o ≡ polled_at h.read h.closing o
+past_at h m None past = refl
+past_at h m (Some c) past = past_call h m c past
+
+pub took_other : (h : Past) (m : Seen) (k : ℕ) → IfSome (slice_get h.calls k) (IsPast h m) → poll_answer (after (Took m) h) k ≡ poll_answer h k
+unfolding poll_answer
+took_other h m k past = past_at h m (slice_get h.calls k) past
+
+-- ---- a message that comes late
+
+fails_at : (p : Call → Bool) (cs : List Call) (k : ℕ) → list_any p cs ≡ false → IfSome (slice_get cs k) (λ c. p c ≡ false)
+fails_at p [] k e = tt
+fails_at p (c ∷ cs) zero e = (or_parts (p c) (list_any p cs) e).0
+fails_at p (c ∷ cs) (suc k) e = fails_at p cs k (or_parts (p c) (list_any p cs) e).1
+
+over_by : (gone : Bool) (f : Option Seen) (same : Bool) → same ≡ true → (not gone && is_none f && same) ≡ false → (gone || is_some f) ≡ true
+over_by true f same s e = refl
+over_by false None same s e = cc
+over_by false (Some r) same s e = refl
+
+serial_one : (o : Option ℕ) (a b : ℕ) → is_serial o a ≡ true → is_serial o b ≡ true → a ≡ b
+serial_one None a b p q = cc
+serial_one (Some n) a b p q = sym (eqb-true n a p) ∙ eqb-true n b q
+
+late_call : (h : Past) (m : Seen) (serial : ℕ) (c : Call) → is_serial m.reply_serial serial ≡ true → waits_with h.read serial c ≡ false → IsPast h m c
+unfolding bears
+late_call h m serial c is waits = elim (cases_Bool (bears c.serial m)) [
+  | inl bears_it ↦ inr (over_by (is_gone c) (found h.read c) (c.serial == serial) (eq-eqb c.serial serial (serial_one m.reply_serial c.serial serial (and_parts (is_reply m.kind) (is_serial m.reply_serial c.serial) bears_it).1 is)) waits)
+  | inr other ↦ inl other
+]
+
+late_at : (h : Past) (m : Seen) (serial : ℕ) (o : Option Call) → is_serial m.reply_serial serial ≡ true → IfSome o (λ c. waits_with h.read serial c ≡ false) → IfSome o (IsPast h m)
+late_at h m serial None is waits = tt
+late_at h m serial (Some c) is waits = late_call h m serial c is waits
+
+none_waits : (h : Past) (serial : ℕ) → h.closing ≡ None → pending h serial ≡ false → list_any (waits_with h.read serial) h.calls ≡ false
+unfolding pending
+none_waits h serial open_ e = rw open_ at e
+
+pub took_late : (h : Past) (m : Seen) (serial : ℕ) → h.closing ≡ None → is_serial m.reply_serial serial ≡ true → pending h serial ≡ false → (k : ℕ) → poll_answer (after (Took m) h) k ≡ poll_answer h k
+took_late h m serial open_ is e k =
+    took_other h m k (late_at h m serial (slice_get h.calls k) is (fails_at (waits_with h.read serial) h.calls k (none_waits h serial open_ e)))
+
+-- ---- a poll
+
+pub spent_other : (h : Past) (j k : ℕ) → j ≢ k → poll_answer (after (Spent j) h) k ≡ poll_answer h k
+unfolding poll_answer
+spent_other h j k ne = ap (polled_at h.read h.closing) (edit_other spend j k h.calls ne)
+
+pub dropped_other : (h : Past) (j k : ℕ) → j ≢ k → drop_answer (after (Spent j) h) k ≡ drop_answer h k
+unfolding drop_answer
+dropped_other h j k ne = ap dropped_at (edit_other spend j k h.calls ne)
+
+-- ---- a number names one call
+
+pub apart : (names : Names) (lane number lane₂ number₂ j k : ℕ) → place 0 lane number names ≡ Some j → place 0 lane₂ number₂ names ≡ Some k → (lane₂ ≡ lane → number₂ ≢ number) → j ≢ k
+apart names lane number lane₂ number₂ j k p q differ same = let one = one_place names lane number lane₂ number₂ k (p ∙ ap Some same) q in differ one.0 one.1
+
+-- ---- what a poll or a drop leaves
+
+-- what is asked of another call is the same
+same_after : (h : Past) (j k : ℕ) (op : CallOp) (es : List Event) → j ≢ k → (es ≡ []) ⊎ (es ≡ Spent j ∷ []) → on_call (after_all es h) op k ≡ on_call h op k
+same_after h j k op es ne (inl e) = ap (λ xs. on_call (after_all xs h) op k) e
+same_after h j k CallOp.Poll es ne (inr e) = ap (λ xs. on_call (after_all xs h) CallOp.Poll k) e ∙ ap (λ r. Says (shown r) (poll_events k r)) (spent_other h j k ne)
+same_after h j k (CallOp.Before before) es ne (inr e) =
+    ap (λ xs. on_call (after_all xs h) (CallOp.Before before) k) e ∙ ap (λ r. Says (shown (by_position r)) (poll_events k r)) (spent_other h j k ne)
+same_after h j k CallOp.Drop es ne (inr e) = ap (λ xs. on_call (after_all xs h) CallOp.Drop k) e ∙ ap (λ r. Says (shown_drop r) (drop_events k r)) (dropped_other h j k ne)
+
+same_named : (h : Past) (j : ℕ) (op done : CallOp) (a : Answer) (es : List Event) (q : Option ℕ) → ((k : ℕ) → q ≡ Some k → j ≢ k) → EndsOr h j done a es → where_named (on_call (after_all es h) op) q ≡ where_named (on_call h op) q
+same_named h j op done a es None ne ends = refl
+same_named h j op done a es (Some k) ne (inl none) = same_after h j k op es (ne k refl) (inl none.0)
+same_named h j op done a es (Some k) ne (inr spends) = same_after h j k op es (ne k refl) (inr spends.0)
+
+-- a poll or a drop of another number
+other_call : (t : Trail) (e : Entry) (number lane other : ℕ) (op : CallOp) (p : Option ℕ) → place 0 e.lane number t.names ≡ p → IsMeant t.past (where_named (on_call t.past op) p) e → (lane ≡ e.lane → other ≢ number)
+    → SameCall (more_by (where_named (on_call t.past op) p) e t) t lane other
+other_call t e number lane other op None at is differ asked =
+    ap (λ (u : Trail). where_named (on_call u.past asked) (place 0 lane other u.names)) (quiet_more (where_named (on_call t.past op) None) e t is.2)
+other_call t e number lane other op (Some j) at is differ asked =
+    let done = ending t.past op j e is in
+    ap (λ (u : Trail). where_named (on_call u.past asked) (place 0 lane other u.names)) (quiet_more (on_call t.past op j) e t done.0)
+    ∙ same_named t.past j asked op e.answer (deeds (on_call t.past op j) e) (place 0 lane other t.names) (λ k q. apart t.names e.lane number lane other j k at q differ) done.1
+
+pub poll_other : (setting : Setting) (older : List Entry) (e : Entry) (number lane other : ℕ) (op : CallOp) → Legal setting (e ∷ older) → e.words ≡ Words.OfCall number op → (lane ≡ e.lane → other ≢ number)
+    → SameCall (trail setting (e ∷ older)) (trail setting older) lane other
+poll_other setting older e number lane other op legal w differ =
+    let t = trail setting older in
+    let meant = subst (λ x. IsMeant t.past (plan t e.lane x) e) w legal.0 in
+    subst (λ x. SameCall (more_by (plan t e.lane x) e t) t lane other) (sym w) (other_call t e number lane other op (place 0 e.lane number t.names) refl meant differ)

@@ -1,276 +1,221 @@
--- What streams hold after one of a rule is opened, or after one asks for more.
-use Rattle.std.proofs.Common.{subst, ◌≡◌, ℕ, refl, sym, ◌∙◌, ap, max, Bool, true, false, not, if◌then◌else◌, ◌&&◌, ◌||◌, is_none, is_some, List, [], ◌∷◌, ◌++◌, length, map, Option, Some, None}
-use Rattle.std.specs.List.{slice_get, list_any, AllByRecursion}
-use Rattle.std.specs.Option.{option_map}
-use Rattle.std.proofs.Math.Seq.{drop-length}
-use Rattle.std.proofs.lemmas.List.{map-append}
-use Rattle.std.proofs.lemmas.Bool.{or_left, or_right}
-use Rattle.peer_route.proofs.Plain.{map_each}
-use mathlib.Core.List.{map-map}
-use Rattle.wire_message.specs.Front.{Seen}
-use Rattle.rule_match.specs.Rule.{Rule}
-use Rattle.peer_route.specs.declared.queue.Subscription.{Subscription}
-use Rattle.peer_route.specs.Rules.{is_same}
-use Rattle.peer_route.specs.History.{Made, Did, Put, Adds, Ruled, Asked, inner_call, edit, Stream, Phase, Asking, Denied, Since, is_denied, since_reply, phase, rule_stream, asking_stream, done_by, rule_of, plain_asks, is_of, subscribes, is_subscribed, raised, limit_then, asked_limit, rule_asks, Past, after}
-use Rattle.peer_route.specs.Streams.{is_since, limit_of, runs, runs_at, is_open, matched, offered, held, rule_answer}
-use Rattle.peer_route.specs.Left.{Held, held_by, held_of, kept_by, kept_at, subscription, wants_by, progress_by, empty_held, asking_held, raise_held, raise_all, or_else, shared, limit_or, limit_now, with_stream, with_asking, wants_of, asked_for, main_asked, IsWithin, LeftStreams}
-use Rattle.peer_route.proofs.SameRule.{same_self, same_one}
-use Rattle.peer_route.proofs.Edits.{edit-none}
-use Rattle.peer_route.proofs.Phases.{phase_same}
-use Rattle.peer_route.proofs.Matched.{held_same, within_fresh, within_asking, within_push}
-use Rattle.peer_route.proofs.StreamsMade.{kept_of, kept_left, kept_runs, runs_so, held_fresh, phase_fresh, held_nothing, limit_by, some_by}
+-- What is kept of streams after one of a rule is opened, or after one asks for more; and whether a rule has a stream.
+use Rattle.peer_route.specs.{History.{Gone, call_by, done_by, fresh, Did, Asked, edit, Stream, Phase, Asking, Denied, Since, is_denied, since_reply, phase, asking_stream, rule_of, is_of, subscribes, is_subscribed, raised, asked_limit, Past, after, is_serial}, Names.{Subscription, Progress, Seen, Rule}, Rules.{is_same, usual}, Streams.{gone_if}, Left.{Held, kept_by, subscription, raise_held, limit_or, LeftStreams, kept, new_held, raise, raise_own, AreStreams, IsNew}}
+use Rattle.std.proofs.{Common.{subst, ◌≡◌, ℕ, refl, sym, ◌∙◌, ap, max, Bool, true, false, not, if◌then◌else◌, ◌&&◌, ◌||◌, List, [], ◌∷◌, ◌++◌, length, map, Option, Some, None, unwrap_or, inl, inr, zero, suc, ◌<◌, ◌≤◌, ◌==◌, arith, set, get_or, drop, drop_of_length-le}, Math.Seq.drop-length, lemmas.List.{length-map, map-id}, lemmas.Bool.{or_left, or_right, cases_eq, eq-eqb, ne_eqb}}
+use Rattle.std.specs.{List.{slice_get, list_any}, Option.option_map}
+use Rattle.peer_route.proofs.{SameRule.{same_self, same_one}, Edits.{edit-none, edit_here, edit_other, edit-length}, Matched.{within_fresh, within_asking}, StreamsMade.{kept_fresh, rule_kept, rule_by, at_read, streams_more}, Queues.{put_changed, put_same}}
 
--- what is kept of a stream, by its rule, its phase and what it holds
-abbrev shown : Past → Option Rule → Stream → Phase → List Seen → Held
-shown h o s p items = record { wants = wants_by p (option_map (subscription h.capacities.rules) o); progress = progress_by p; items = items; told = s.told; opened = s.opened }
+-- ---- whether a rule has a stream
 
-abbrev with_limit : Rule → ℕ → Stream → Phase → List Seen → Held
-with_limit r n s p items = record { wants = wants_by p (Some (record { rule = r; limit = n })); progress = progress_by p; items = items; told = s.told; opened = s.opened }
+-- what is kept of a stream has the rule exactly where it lives and is of it
+kept_of : (limits : Rule → ℕ) (rule : Rule) (s : Stream) (gone : Bool) (p : Phase) → is_of rule (rule_kept (kept_by limits s gone p).wants) ≡ ((not gone && not (is_denied p)) && is_of rule s.rule)
+kept_of limits rule s true p = refl
+kept_of limits rule s false (Denied m) = refl
+kept_of limits rule s false (Since ms) = ap (is_of rule) (rule_by limits s.rule)
+kept_of limits rule s false (Asking add) = ap (is_of rule) (rule_by limits s.rule)
 
--- ---- the other streams of a rule are raised
+pub subscribes_kept : (limits : Rule → ℕ) (rule : Rule) (ms : List Seen) (s : Stream) → is_of rule (rule_kept (kept limits ms s).wants) ≡ subscribes ms rule s
+unfolding kept
+subscribes_kept limits rule ms s = kept_of limits rule s s.gone (phase ms s)
 
-kept_raised : (g h : Past) (rule : Rule) (asked : Option ℕ) (gone : Bool) (o : Option Rule) (s : Stream) (p : Phase) (items : List Seen)
-    → ((r : Rule) → gone ≡ false → is_denied p ≡ false → o ≡ Some r → g.capacities.rules r ≡ (if is_same r rule then raised asked (h.capacities.rules r) else h.capacities.rules r))
-    → kept_by gone (shown g o s p items) ≡ option_map (raise_held rule asked) (kept_by gone (shown h o s p items))
-kept_raised g h rule asked true o s p items e = refl
-kept_raised g h rule asked false None s (Since ms) items e = refl
-kept_raised g h rule asked false None s (Asking add) items e = refl
-kept_raised g h rule asked false o s (Denied m) items e = refl
-kept_raised g h rule asked false (Some r) s (Since ms) items e = ap (λ n. Some (with_limit r n s (Since ms) items)) (e r refl refl refl)
-kept_raised g h rule asked false (Some r) s (Asking add) items e = ap (λ n. Some (with_limit r n s (Asking add) items)) (e r refl refl refl)
+-- and its capacity then
+limit_own : (limits : Rule → ℕ) (rule : Rule) (n : ℕ) (o : Option Rule) → is_of rule o ≡ true → limit_or n (option_map (subscription limits) o) ≡ limits rule
+limit_own limits rule n None e = cc
+limit_own limits rule n (Some r) e = ap limits (sym (same_one rule r e))
 
-kept_same : (g h : Past) (gone : Bool) (o : Option Rule) (s : Stream) (p : Phase) (items : List Seen) → ((r : Rule) → g.capacities.rules r ≡ h.capacities.rules r)
-    → kept_by gone (shown g o s p items) ≡ kept_by gone (shown h o s p items)
-kept_same g h true o s p items e = refl
-kept_same g h false None s p items e = refl
-kept_same g h false (Some r) s p items e = ap (λ n. Some (with_limit r n s p items)) (e r)
+limit_of_kept : (limits : Rule → ℕ) (rule : Rule) (n : ℕ) (s : Stream) (gone : Bool) (p : Phase) → is_of rule (rule_kept (kept_by limits s gone p).wants) ≡ true
+    → limit_or n (kept_by limits s gone p).wants ≡ limits rule
+limit_of_kept limits rule n s true p e = cc
+limit_of_kept limits rule n s false (Denied m) e = cc
+limit_of_kept limits rule n s false (Since ms) e = limit_own limits rule n s.rule (sym (ap (is_of rule) (rule_by limits s.rule)) ∙ e)
+limit_of_kept limits rule n s false (Asking add) e = limit_own limits rule n s.rule (sym (ap (is_of rule) (rule_by limits s.rule)) ∙ e)
+
+pub limit_kept : (limits : Rule → ℕ) (rule : Rule) (n : ℕ) (ms : List Seen) (s : Stream) → is_of rule (rule_kept (kept limits ms s).wants) ≡ true → limit_or n (kept limits ms s).wants ≡ limits rule
+unfolding kept
+limit_kept limits rule n ms s e = limit_of_kept limits rule n s s.gone (phase ms s) e
+
+-- where one was closed
+gone_at : (o : Option ℕ) (h : Past) (i : ℕ) (s : Stream) → slice_get h.streams i ≡ Some s → slice_get (gone_if o h).streams i ≡ Some (if is_serial o i then done_by Gone s else s)
+gone_at None h i s at = at
+gone_at (Some k) h i s at = elim (cases_eq k i) as (λ _. slice_get (edit k (done_by Gone) h.streams) i ≡ Some (if k == i then done_by Gone s else s)) [
+  | inl same ↦ rw (eq-eqb k i same) (ap (λ j. slice_get (edit j (done_by Gone) h.streams) i) same ∙ edit_here (done_by Gone) i h.streams s at)
+  | inr other ↦ rw (ne_eqb k i other) (edit_other (done_by Gone) k i h.streams other ∙ at)
+]
+
+abbrev gone_two : Option ℕ → Option ℕ → ℕ → Stream → Stream
+gone_two one before i s = if is_serial one i then done_by Gone (if is_serial before i then done_by Gone s else s) else (if is_serial before i then done_by Gone s else s)
+
+two_at : (one before : Option ℕ) (h : Past) (i : ℕ) (s : Stream) → slice_get h.streams i ≡ Some s → slice_get (gone_if one (gone_if before h)).streams i ≡ Some (gone_two one before i s)
+two_at one before h i s at = gone_at one (gone_if before h) i (if is_serial before i then done_by Gone s else s) (gone_at before h i s at)
+
+any_drop : {A : Type 0} (q : A → Bool) (xs : List A) (i : ℕ) (x : A) → slice_get xs i ≡ Some x → list_any q (drop i xs) ≡ (q x || list_any q (drop (suc i) xs))
+any_drop q [] i x at = cc
+any_drop q (y ∷ ys) zero x at = let same : y ≡ x = cc in ap (λ z. q z || list_any q ys) same
+any_drop q (y ∷ ys) (suc i) x at = any_drop q ys i x at
+
+-- one of those at these places isn't looked at
+abbrev pub others : Past → Rule → Option ℕ → Option ℕ → ℕ → Bool
+others h rule one before i = list_any (subscribes h.read rule) (drop i (gone_if one (gone_if before h)).streams)
+
+here_by : (h : Past) (rule : Rule) (one before : Option ℕ) (i : ℕ) (s : Stream) → slice_get h.streams i ≡ Some s
+    → others h rule one before i ≡ (subscribes h.read rule (gone_two one before i s) || others h rule one before (suc i))
+here_by h rule one before i s at = any_drop (subscribes h.read rule) (gone_if one (gone_if before h)).streams i (gone_two one before i s) (two_at one before h i s at)
+
+gone_by : (h : Past) (rule : Rule) (a b : Bool) (s : Stream) → (a || b) ≡ true → subscribes h.read rule (if a then done_by Gone (if b then done_by Gone s else s) else (if b then done_by Gone s else s)) ≡ false
+gone_by h rule true b s e = refl
+gone_by h rule false true s e = refl
+gone_by h rule false false s e = cc
+
+stays_by : (a b : Bool) (s : Stream) → (a || b) ≡ false → (if a then done_by Gone (if b then done_by Gone s else s) else (if b then done_by Gone s else s)) ≡ s
+stays_by true b s e = cc
+stays_by false true s e = cc
+stays_by false false s e = refl
+
+pub passes_gone : (v : List Held) (h : Past) (rule : Rule) (one before : Option ℕ) (i : ℕ) → LeftStreams v h → i < length v → (is_serial one i || is_serial before i) ≡ true
+    → others h rule one before i ≡ others h rule one before (suc i)
+passes_gone v h rule one before i left lt gone =
+    let len : length v ≡ length h.streams = ap length left.queues ∙ length-map h.streams (kept h.capacities.rules h.read) in
+    let at = slice_get-there h.streams i (omega (arith, len, lt)) in
+    here_by h rule one before i at.0 at.1 ∙ ap (λ b. b || others h rule one before (suc i)) (gone_by h rule (is_serial one i) (is_serial before i) at.0 gone)
+  where
+    slice_get-there : (xs : List Stream) (k : ℕ) → k < length xs → (x : Stream) × (slice_get xs k ≡ Some x)
+    slice_get-there [] k le = absurd (omega arith)
+    slice_get-there (y ∷ ys) zero le = (y, refl)
+    slice_get-there (y ∷ ys) (suc k) le = slice_get-there ys k (omega arith)
+
+-- one that stays is looked at
+pub looks_at : (v : List Held) (h : Past) (rule : Rule) (one before : Option ℕ) (i : ℕ) (x : Held) (b : Bool) → LeftStreams v h → i < length v → x ≡ get_or v i x → (is_serial one i || is_serial before i) ≡ false
+    → is_of rule (rule_kept x.wants) ≡ b → others h rule one before i ≡ (b || others h rule one before (suc i))
+looks_at v h rule one before i x b left lt is stays of =
+    let at = at_read v h (length v) i x left refl lt is in
+    here_by h rule one before i at.0 at.1 ∙ ap (λ s. subscribes h.read rule s || others h rule one before (suc i)) (stays_by (is_serial one i) (is_serial before i) at.0 stays)
+    ∙ ap (λ c. c || others h rule one before (suc i)) (sym (subscribes_kept h.capacities.rules rule h.read at.0) ∙ ap (λ (q : Held). is_of rule (rule_kept q.wants)) (sym at.2) ∙ of)
+
+pub found_here : (v : List Held) (h : Past) (rule : Rule) (one before : Option ℕ) (i : ℕ) (x : Held) → LeftStreams v h → i < length v → x ≡ get_or v i x → (is_serial one i || is_serial before i) ≡ false
+    → is_of rule (rule_kept x.wants) ≡ true → others h rule one before 0 ≡ others h rule one before i
+    → Some (limit_or 0 x.wants) ≡ (if is_subscribed h.read (gone_if one (gone_if before h)).streams rule then Some (h.capacities.rules rule) else None)
+unfolding is_subscribed
+found_here v h rule one before i x left lt is stays of past =
+    let at = at_read v h (length v) i x left refl lt is in
+    let there : others h rule one before 0 ≡ true = past ∙ looks_at v h rule one before i x true left lt is stays of in
+    ap (λ (q : Held). Some (limit_or 0 q.wants)) at.2
+    ∙ ap Some (limit_kept h.capacities.rules rule 0 h.read at.0 (ap (λ (q : Held). is_of rule (rule_kept q.wants)) (sym at.2) ∙ of))
+    ∙ sym (ap (λ b. if b then Some (h.capacities.rules rule) else None) there)
+
+gone_length : (o : Option ℕ) (h : Past) → length (gone_if o h).streams ≡ length h.streams
+gone_length None h = refl
+gone_length (Some k) h = edit-length k (done_by Gone) h.streams
+
+pub none_there : (v : List Held) (h : Past) (rule : Rule) (one before : Option ℕ) (i : ℕ) → LeftStreams v h → length v ≤ i → others h rule one before 0 ≡ others h rule one before i
+    → None ≡ (if is_subscribed h.read (gone_if one (gone_if before h)).streams rule then Some (h.capacities.rules rule) else None)
+unfolding is_subscribed
+none_there v h rule one before i left le past =
+    let len : length v ≡ length h.streams = ap length left.queues ∙ length-map h.streams (kept h.capacities.rules h.read) in
+    let none : others h rule one before 0 ≡ false =
+    past ∙ ap (list_any (subscribes h.read rule)) (drop_of_length-le (gone_if one (gone_if before h)).streams (omega (arith, gone_length one (gone_if before h), gone_length before h, len, le))) in
+    sym (ap (λ b. if b then Some (h.capacities.rules rule) else None) none)
+
+-- ---- the streams of a rule are raised
+
+own_changed : (limits new : Rule → ℕ) (u : Option Subscription → Option Subscription) (o : Option Rule) → u None ≡ None → ((r : Rule) → o ≡ Some r → Some (subscription new r) ≡ u (Some (subscription limits r)))
+    → option_map (subscription new) o ≡ u (option_map (subscription limits) o)
+own_changed limits new u None none e = sym none
+own_changed limits new u (Some r) none e = e r refl
+
+changed_by : (limits new : Rule → ℕ) (u : Option Subscription → Option Subscription) (s : Stream) (gone : Bool) (p : Phase) → u None ≡ None
+    → ((r : Rule) → (not gone && not (is_denied p)) ≡ true → s.rule ≡ Some r → Some (subscription new r) ≡ u (Some (subscription limits r)))
+    → kept_by new s gone p ≡ record (kept_by limits s gone p) { wants = u (kept_by limits s gone p).wants }
+changed_by limits new u s true p none e = ap (λ w. record (kept_by limits s true p) { wants = w }) (sym none)
+changed_by limits new u s false (Denied m) none e = ap (λ w. record (kept_by limits s false (Denied m)) { wants = w }) (sym none)
+changed_by limits new u s false (Since ms) none e = ap (λ w. record (kept_by limits s false (Since ms)) { wants = w }) (own_changed limits new u s.rule none (λ r of. e r refl of))
+changed_by limits new u s false (Asking add) none e = ap (λ w. record (kept_by limits s false (Asking add)) { wants = w }) (own_changed limits new u s.rule none (λ r of. e r refl of))
+
+-- where the capacities of rules that have a stream are changed so, all streams are
+changed_all : (limits new : Rule → ℕ) (u : Option Subscription → Option Subscription) (ms : List Seen) (ss : List Stream) → u None ≡ None
+    → ((r : Rule) → list_any (subscribes ms r) ss ≡ true → Some (subscription new r) ≡ u (Some (subscription limits r)))
+    → map (λ (q : Held). record q { wants = u q.wants }) (map (kept limits ms) ss) ≡ map (kept new ms) ss
+unfolding kept
+changed_all limits new u ms [] none e = refl
+changed_all limits new u ms (s ∷ ss) none e =
+    let one = changed_by limits new u s s.gone (phase ms s) none (λ r lives of. e r (or_left (subscribes ms r s) (list_any (subscribes ms r) ss) (ap (λ b. b && is_of r s.rule) lives ∙ ap (is_of r) of ∙ same_self r))) in
+    let more = changed_all limits new u ms ss none (λ r there. e r (or_right (subscribes ms r s) (list_any (subscribes ms r) ss) there)) in
+    ap (λ q. q ∷ map (λ (q : Held). record q { wants = u q.wants }) (map (kept limits ms) ss)) (sym one) ∙ ap (λ qs. kept new ms s ∷ qs) more
+
+raised_all : (limits new : Rule → ℕ) (rule : Rule) (asked : Option ℕ) (ms : List Seen) (ss : List Stream)
+    → ((r : Rule) → list_any (subscribes ms r) ss ≡ true → new r ≡ (if is_same r rule then raised asked (limits r) else limits r))
+    → map (raise_held rule asked) (map (kept limits ms) ss) ≡ map (kept new ms) ss
+raised_all limits new rule asked ms ss e = changed_all limits new (option_map (raise rule asked)) ms ss refl (λ r there. ap (λ n. Some (record { rule = r; limit = n })) (e r there))
 
 -- ---- a stream of a rule is opened
 
--- a stream of a rule that lives subscribes to it
-subscribed_here : (h : Past) (r : Rule) (s : Stream) → s.gone ≡ false → is_denied (phase h.read s) ≡ false → s.rule ≡ Some r → subscribes h.read r s ≡ true
-subscribed_here h r s open_ granted of =
-    ap (λ b. (not b && not (is_denied (phase h.read s))) && is_of r s.rule) open_ ∙ ap (λ b. not b && is_of r s.rule) granted ∙ ap (is_of r) of ∙ same_self r
+asked_own : (h : Past) (rule : Rule) (asked : Option ℕ) → asked_limit h rule rule asked (h.capacities.rules rule) ≡ (if is_subscribed h.read h.streams rule then raised asked (h.capacities.rules rule) else unwrap_or asked (usual rule))
+asked_own h rule asked = ap (λ b. if b then (if is_subscribed h.read h.streams rule then raised asked (h.capacities.rules rule) else unwrap_or asked (usual rule)) else h.capacities.rules rule) (same_self rule)
 
--- an event after which all has been read as before, and a stream of the rule asks for more
-record Raises (g h : Past) (rule : Rule) (asked : Option ℕ) : Type 0 where
-  reads : g.read ≡ h.read
-  limits : (r : Rule) → g.capacities.rules r ≡ asked_limit h r rule asked (h.capacities.rules r)
-
-raised_limit : (g h : Past) (r rule : Rule) (asked : Option ℕ) → Raises g h rule asked → is_subscribed h.read h.streams r ≡ true
-    → g.capacities.rules r ≡ (if is_same r rule then raised asked (h.capacities.rules r) else h.capacities.rules r)
-raised_limit g h r rule asked e there = e.limits r ∙ ap (λ b. if is_same r rule then limit_then b r asked (h.capacities.rules r) else h.capacities.rules r) there
-
-opened_one : (g h : Past) (rule : Rule) (asked : Option ℕ) (s : Stream) → Raises g h rule asked → ((r : Rule) → subscribes h.read r s ≡ true → is_subscribed h.read h.streams r ≡ true)
-    → held_of g.capacities.rules g.read s ≡ option_map (raise_held rule asked) (held_of h.capacities.rules h.read s)
-unfolding held_of
-opened_one g h rule asked s e all =
-    ap (λ p. kept_by s.gone (shown g s.rule s p (held g.read s))) (phase_same g h s e.reads)
-    ∙ ap (λ items. kept_by s.gone (shown g s.rule s (phase h.read s) items)) (held_same g h s e.reads)
-    ∙ kept_raised g h rule asked s.gone s.rule s (phase h.read s) (held h.read s)
-    (λ r open_ granted of. raised_limit g h r rule asked e (all r (subscribed_here h r s open_ granted of)))
-
-opened_each : (g h : Past) (rule : Rule) (asked : Option ℕ) (ss : List Stream) → Raises g h rule asked → ((r : Rule) → list_any (subscribes h.read r) ss ≡ true → is_subscribed h.read h.streams r ≡ true)
-    → map (held_of g.capacities.rules g.read) ss ≡ raise_all rule asked (map (held_of h.capacities.rules h.read) ss)
-opened_each g h rule asked [] e all = refl
-opened_each g h rule asked (s ∷ ss) e all =
-    ap (λ q. q ∷ map (held_of g.capacities.rules g.read) ss)
-    (opened_one g h rule asked s e (λ r w. all r (or_left (subscribes h.read r s) (list_any (subscribes h.read r) ss) w)))
-    ∙ ap (λ qs. option_map (raise_held rule asked) (held_of h.capacities.rules h.read s) ∷ qs)
-    (opened_each g h rule asked ss e (λ r w. all r (or_right (subscribes h.read r s) (list_any (subscribes h.read r) ss) w)))
-
--- the capacity that the open streams of a rule share is the rule's
-shared_by : (h : Past) (rule r : Rule) (qs : List (Option Held)) (b c : Bool) → is_same rule r ≡ b → shared rule qs ≡ (if c then Some (h.capacities.rules rule) else None)
-    → or_else (if is_same rule r then Some (h.capacities.rules r) else None) (shared rule qs) ≡ (if b || c then Some (h.capacities.rules rule) else None)
-shared_by h rule r qs true c same e = rw same (ap (λ (x : Rule). Some (h.capacities.rules x)) (sym (same_one rule r same)))
-shared_by h rule r qs false c same e = rw same e
-
-shared_kept : (h : Past) (rule : Rule) (gone : Bool) (o : Option Rule) (s : Stream) (p : Phase) (items : List Seen) (qs : List (Option Held)) (c : Bool)
-    → shared rule qs ≡ (if c then Some (h.capacities.rules rule) else None)
-    → shared rule (kept_by gone (shown h o s p items) ∷ qs) ≡ (if ((not gone && not (is_denied p)) && is_of rule o) || c then Some (h.capacities.rules rule) else None)
-shared_kept h rule true o s p items qs c e = e
-shared_kept h rule false o s (Denied m) items qs c e = e
-shared_kept h rule false None s (Since ms) items qs c e = e
-shared_kept h rule false None s (Asking add) items qs c e = e
-shared_kept h rule false (Some r) s (Since ms) items qs c e = shared_by h rule r qs (is_same rule r) c refl e
-shared_kept h rule false (Some r) s (Asking add) items qs c e = shared_by h rule r qs (is_same rule r) c refl e
-
-shared_each : (h : Past) (rule : Rule) (ss : List Stream)
-    → shared rule (map (held_of h.capacities.rules h.read) ss) ≡ (if list_any (subscribes h.read rule) ss then Some (h.capacities.rules rule) else None)
-unfolding held_of
-shared_each h rule [] = refl
-shared_each h rule (s ∷ ss) =
-    shared_kept h rule s.gone s.rule s (phase h.read s) (held h.read s) (map (held_of h.capacities.rules h.read) ss) (list_any (subscribes h.read rule) ss) (shared_each h rule ss)
-
-shared_limit : (v : List (Option Held)) (h : Past) (rule : Rule) → LeftStreams v h
-    → shared rule v ≡ (if is_subscribed h.read h.streams rule then Some (h.capacities.rules rule) else None)
+pub streams_ruled : (v : List Held) (h : Past) (rule : Rule) (asked : Option ℕ) (progress : Progress) (limit : ℕ) (s : Stream) → LeftStreams v h → IsNew h.read rule progress s
+    → limit ≡ (if is_subscribed h.read h.streams rule then raised asked (h.capacities.rules rule) else unwrap_or asked (usual rule))
+    → AreStreams (map (raise_held rule asked) v ++ new_held (Some (record { rule = rule; limit = limit })) progress false ∷ []) (λ r. asked_limit h r rule asked (h.capacities.rules r)) h.read (h.streams ++ s ∷ [])
 unfolding is_subscribed
-shared_limit v h rule left = ap (shared rule) left.queues ∙ shared_each h rule h.streams
+streams_ruled v h rule asked progress limit s left is e =
+    let new : Rule → ℕ = λ r. asked_limit h r rule asked (h.capacities.rules r) in
+    streams_more (map (raise_held rule asked) v) new h s _
+    (is.holds new ∙ ap (λ n. new_held (Some (record { rule = rule; limit = n })) progress false) (asked_own h rule asked ∙ sym e)) is.within
+    (record {
+      queues = ap (map (raise_held rule asked)) left.queues
+          ∙ raised_all h.capacities.rules new rule asked h.read h.streams (λ r there. ap (λ b. if is_same r rule then (if b then raised asked (h.capacities.rules r) else unwrap_or asked (usual r)) else h.capacities.rules r) there);
+      within = left.within;
+    })
 
-limit_kept : (rule : Rule) (asked : Option ℕ) (limit : ℕ) (b : Bool) → limit_now rule asked (if b then Some limit else None) ≡ limit_then b rule asked limit
-limit_kept rule asked limit true = refl
-limit_kept rule asked limit false = refl
-
--- the core has a capacity of a rule exactly where a stream of it is open, or being opened
-pub subscribed_left : (v : List (Option Held)) (h : Past) (rule : Rule) → LeftStreams v h → is_some (shared rule v) ≡ is_subscribed h.read h.streams rule
-subscribed_left v h rule left = ap is_some (shared_limit v h rule left) ∙ some_by (is_subscribed h.read h.streams rule) (h.capacities.rules rule)
-
-new_limit : (v : List (Option Held)) (g h : Past) (rule : Rule) (asked : Option ℕ) → Raises g h rule asked → LeftStreams v h
-    → limit_now rule asked (shared rule v) ≡ g.capacities.rules rule
-new_limit v g h rule asked e left =
-    ap (limit_now rule asked) (shared_limit v h rule left)
-    ∙ limit_kept rule asked (h.capacities.rules rule) (is_subscribed h.read h.streams rule)
-    ∙ sym (ap (λ b. if b then limit_then (is_subscribed h.read h.streams rule) rule asked (h.capacities.rules rule) else h.capacities.rules rule) (same_self rule))
-    ∙ sym (e.limits rule)
-
--- the streams of a history once a stream more was made that raises the others
-opened_all : (v : List (Option Held)) (g h : Past) (rule : Rule) (asked : Option ℕ) (q : Option Held) (s : Stream) → Raises g h rule asked → q ≡ held_of g.capacities.rules g.read s → IsWithin h.read s
-    → g.streams ≡ h.streams ++ s ∷ [] → LeftStreams v h → LeftStreams (raise_all rule asked v ++ q ∷ []) g
-unfolding is_subscribed
-opened_all v g h rule asked q s e is within made left = record {
-  queues = ap (λ x. raise_all rule asked v ++ x ∷ []) is
-      ∙ ap (λ qs. raise_all rule asked qs ++ held_of g.capacities.rules g.read s ∷ []) left.queues
-      ∙ ap (λ qs. qs ++ held_of g.capacities.rules g.read s ∷ []) (sym (opened_each g h rule asked h.streams e (λ r w. w)))
-      ∙ sym (map-append (held_of g.capacities.rules g.read) h.streams (s ∷ []))
-      ∙ ap (map (held_of g.capacities.rules g.read)) (sym made);
-  within = rw made (subst (λ (ms : List Seen). AllByRecursion (IsWithin ms) (h.streams ++ s ∷ [])) (sym e.reads) (within_push h h.streams s left.within within));
-}
-
-opened_new : (v : List (Option Held)) (h : Past) (rule : Rule) (asked : Option ℕ) → LeftStreams v h
-    → Some (empty_held (Some (record { rule = rule; limit = limit_now rule asked (shared rule v) })) false) ≡ held_of ((after (Made (Ruled rule asked)) h).capacities).rules ((after (Made (Ruled rule asked)) h).read) (rule_stream h rule)
-unfolding held_of
-opened_new v h rule asked left =
-    let g : Past = after (Made (Ruled rule asked)) h in
-    let s = rule_stream h rule in
-    ap (λ n. Some (with_limit rule n s (Since []) [])) (new_limit v g h rule asked (record { reads = refl; limits = λ r. refl }) left)
-    ∙ ap (λ items. Some (shown g (Some rule) s (Since []) items)) (sym (held_same g h s refl ∙ held_fresh h (Some rule) false))
-    ∙ ap (λ p. Some (shown g (Some rule) s p (held g.read s))) (sym (phase_same g h s refl ∙ phase_fresh h (Some rule) false))
-
-pub streams_ruled : (rule : Rule) (asked : Option ℕ) (v : List (Option Held)) (h : Past) → LeftStreams v h
-    → LeftStreams (with_stream rule asked v) (after (Made (Ruled rule asked)) h)
-streams_ruled rule asked v h left =
-    opened_all v (after (Made (Ruled rule asked)) h) h rule asked _ (rule_stream h rule) (record { reads = refl; limits = λ r. refl })
-    (opened_new v h rule asked left) (within_fresh h (Some rule) false) refl left
+pub new_ruled : (h : Past) (rule : Rule) → IsNew h.read rule Progress.Runs (fresh h (Some rule) false)
+new_ruled h rule = record { holds = λ limits. kept_fresh limits h (Some rule) false; within = within_fresh h (Some rule) false }
 
 -- nothing that was read answers an AddMatch that is put now
-phase_asking : (h : Past) (m : Seen) (rule : Rule) → phase h.read (asking_stream h m rule) ≡ Asking (inner_call h m)
-unfolding phase
-phase_asking h m rule = ap (since_reply (inner_call h m)) (drop-length h.read)
-
-asking_new : (v : List (Option Held)) (h : Past) (m : Seen) (rule : Rule) (asked : Option ℕ) → LeftStreams v h
-    → Some (asking_held (record { rule = rule; limit = limit_now rule asked (shared rule v) }) m.serial (length h.outbox.put)) ≡ held_of (after (Put m (Adds rule asked)) h).capacities.rules (after (Put m (Adds rule asked)) h).read (asking_stream h m rule)
-unfolding held_of
-asking_new v h m rule asked left =
-    let g : Past = after (Put m (Adds rule asked)) h in
-    let s = asking_stream h m rule in
-    ap (λ n. Some (with_limit rule n s (Asking (inner_call h m)) [])) (new_limit v g h rule asked (record { reads = refl; limits = λ r. refl }) left)
-    ∙ ap (λ items. Some (shown g (Some rule) s (Asking (inner_call h m)) items)) (sym (held_same g h s refl ∙ held_nothing h s (ap is_since (phase_asking h m rule))))
-    ∙ ap (λ p. Some (shown g (Some rule) s p (held g.read s))) (sym (phase_same g h s refl ∙ phase_asking h m rule))
-
-pub streams_asking : (m : Seen) (rule : Rule) (asked : Option ℕ) (v : List (Option Held)) (h : Past) → LeftStreams v h
-    → LeftStreams (with_asking rule asked m.serial (length h.outbox.put) v) (after (Put m (Adds rule asked)) h)
-streams_asking m rule asked v h left =
-    opened_all v (after (Put m (Adds rule asked)) h) h rule asked _ (asking_stream h m rule) (record { reads = refl; limits = λ r. refl })
-    (asking_new v h m rule asked left) (within_asking h m rule) refl left
-
--- ---- what an open stream wants
-
-wants_since : (p : Phase) (wants : Option Subscription) → is_since p ≡ true → wants_by p wants ≡ wants
-wants_since (Since ms) wants e = refl
-wants_since (Asking add) wants e = cc
-wants_since (Denied m) wants e = cc
-
-wants_there : (h : Past) (o : Option Stream) → runs_at h.read o ≡ true → wants_of (kept_of h o) ≡ option_map (subscription h.capacities.rules) (rule_of o)
-wants_there h None there = cc
-wants_there h (Some s) there =
-    ap wants_of (kept_runs h s ∙ ap (λ b. if b then Some (held_by h.capacities.rules h.read s) else None) there)
-    ∙ wants_since (phase h.read s) (option_map (subscription h.capacities.rules) s.rule) (runs_so h s there).since
-
-wants_none : (h : Past) (o : Option Stream) → runs_at h.read o ≡ false → wants_of (kept_of h o) ≡ None
-wants_none h None there = refl
-wants_none h (Some s) there = ap wants_of (kept_runs h s ∙ ap (λ b. if b then Some (held_by h.capacities.rules h.read s) else None) there)
-
-wants_left : (v : List (Option Held)) (h : Past) (k : ℕ) → is_open h k ≡ true → LeftStreams v h
-    → wants_of (kept_at v k) ≡ option_map (subscription h.capacities.rules) (rule_of (slice_get h.streams k))
-unfolding is_open
-wants_left v h k there left = ap wants_of (kept_left v h k left) ∙ wants_there h (slice_get h.streams k) there
+pub new_asking : (h : Past) (m : Seen) (rule : Rule) → IsNew h.read rule (Progress.Waits m.serial (length h.outbox.put)) (asking_stream h m rule)
+unfolding kept phase
+new_asking h m rule = record {
+  holds = λ limits. ap (λ ms. kept_by limits (asking_stream h m rule) false (since_reply (call_by h m true) ms)) (drop-length h.read);
+  within = within_asking h m rule;
+}
 
 -- ---- more is asked for
 
-plain_one : (h : Past) (k limit : ℕ) (s : Stream) → rule_of (slice_get h.streams k) ≡ None → held_of h.capacities.rules h.read s ≡ held_of ((after (Did k (Asked limit)) h).capacities).rules ((after (Did k (Asked limit)) h).read) s
-unfolding held_of held offered matched phase
-plain_one h k limit s none =
-    sym (kept_same (after (Did k (Asked limit)) h) h s.gone s.rule s (phase h.read s) (held h.read s) (λ r. ap (λ o. rule_asks r o (h.capacities.rules r) limit) none))
+asked_plain : (h : Past) (k limit : ℕ) → rule_of (slice_get h.streams k) ≡ None → map (kept h.capacities.rules h.read) h.streams ≡ map (kept (after (Did k (Asked limit)) h).capacities.rules h.read) h.streams
+asked_plain h k limit none =
+    sym (map-id (map (kept h.capacities.rules h.read) h.streams))
+    ∙ changed_all h.capacities.rules (after (Did k (Asked limit)) h).capacities.rules (λ w. w) h.read h.streams refl
+    (λ r there. ap (λ o. Some (record { rule = r; limit = if is_of r o then max (h.capacities.rules r) limit else h.capacities.rules r })) none)
 
-asked_one : (h : Past) (k limit : ℕ) (rule : Rule) (s : Stream) → rule_of (slice_get h.streams k) ≡ Some rule
-    → option_map (raise_held rule (Some limit)) (held_of h.capacities.rules h.read s) ≡ held_of ((after (Did k (Asked limit)) h).capacities).rules ((after (Did k (Asked limit)) h).read) s
-unfolding held_of held offered matched phase
-asked_one h k limit rule s of =
-    sym (kept_raised (after (Did k (Asked limit)) h) h rule (Some limit) s.gone s.rule s (phase h.read s) (held h.read s)
-    (λ r open_ granted own. ap (λ o. rule_asks r o (h.capacities.rules r) limit) of))
+asked_ruled : (h : Past) (k limit : ℕ) (rule : Rule) → rule_of (slice_get h.streams k) ≡ Some rule
+    → map (raise_held rule (Some limit)) (map (kept h.capacities.rules h.read) h.streams) ≡ map (kept (after (Did k (Asked limit)) h).capacities.rules h.read) h.streams
+asked_ruled h k limit rule of =
+    raised_all h.capacities.rules (after (Did k (Asked limit)) h).capacities.rules rule (Some limit) h.read h.streams (λ r there. ap (λ o. (if is_of r o then max (h.capacities.rules r) limit else h.capacities.rules r)) of)
 
-asked_by : (h : Past) (k limit : ℕ) (o : Option Rule) (ss : List Stream) → rule_of (slice_get h.streams k) ≡ o
-    → asked_for (option_map (subscription h.capacities.rules) o) limit (map (held_of h.capacities.rules h.read) ss) ≡ map (held_of ((after (Did k (Asked limit)) h).capacities).rules ((after (Did k (Asked limit)) h).read)) ss
-asked_by h k limit None ss e = map_each _ _ (λ s. plain_one h k limit s e) ss
-asked_by h k limit (Some rule) ss e =
-    map-map (λ q. option_map (raise_held rule (Some limit)) q) (held_of h.capacities.rules h.read) ss ∙ map_each _ _ (λ s. asked_one h k limit rule s e) ss
+-- what was kept with these capacities is kept so of the streams of that past
+asked_left : (v new : List Held) (h : Past) (k limit : ℕ) → LeftStreams v h → new ≡ map (kept (after (Did k (Asked limit)) h).capacities.rules h.read) h.streams → LeftStreams new (after (Did k (Asked limit)) h)
+asked_left v new h k limit left e =
+    subst (AreStreams new (after (Did k (Asked limit)) h).capacities.rules h.read) (sym (edit-none (done_by (Asked limit)) (λ s. refl) h.streams k)) (record { queues = e; within = left.within })
 
-pub streams_asked : (k limit : ℕ) (v : List (Option Held)) (h : Past) → is_open h k ≡ true → LeftStreams v h
-    → LeftStreams (asked_for (wants_of (kept_at v k)) limit v) (after (Did k (Asked limit)) h)
-streams_asked k limit v h there left =
-    let g : Past = after (Did k (Asked limit)) h in
-    let same : edit k (done_by (Asked limit)) h.streams ≡ h.streams = edit-none (done_by (Asked limit)) (λ s. refl) h.streams k in record {
-      queues = ap (λ w. asked_for w limit v) (wants_left v h k there left)
-          ∙ ap (asked_for (option_map (subscription h.capacities.rules) (rule_of (slice_get h.streams k))) limit) left.queues
-          ∙ asked_by h k limit (rule_of (slice_get h.streams k)) h.streams refl
-          ∙ ap (map (held_of g.capacities.rules g.read)) (sym same);
-      within = rw same (left.within);
-    }
+-- a stream raises itself as its rule does
+own_by : (q : Held) (w : Option Subscription) (rule : Rule) (limit : ℕ) → q.wants ≡ w → Some rule ≡ rule_kept w → raise_own limit q ≡ raise_held rule (Some limit) q
+own_by q None rule limit e of = cc
+own_by q (Some s) rule limit e of =
+    let same : rule ≡ s.rule = cc in
+    rw same (sym (ap (λ (w : Option Subscription). record q { wants = w })
+    (ap (option_map (raise s.rule (Some limit))) e
+    ∙ ap (λ b. Some (record { rule = s.rule; limit = if b then max s.limit limit else s.limit })) (same_self s.rule)
+    ∙ ap (option_map (λ (t : Subscription). record t { limit = max t.limit limit })) (sym e))))
 
--- the capacity of streams without a rule
-main_by : (h : Past) (o : Option Rule) (limit n : ℕ) → main_asked (option_map (subscription h.capacities.rules) o) limit n ≡ (if is_none o then max n limit else n)
-main_by h None limit n = refl
-main_by h (Some rule) limit n = refl
+own_none : (q : Held) (w : Option Subscription) (limit : ℕ) → q.wants ≡ w → None ≡ rule_kept w → raise_own limit q ≡ q
+own_none q None limit e of = ap (λ (w : Option Subscription). record q { wants = w }) (ap (option_map (λ (t : Subscription). record t { limit = max t.limit limit })) e ∙ sym e)
+own_none q (Some s) limit e of = cc
 
-main_at : (h : Past) (o : Option Stream) (limit n : ℕ) → runs_at h.read o ≡ true → main_asked (option_map (subscription h.capacities.rules) (rule_of o)) limit n ≡ plain_asks o n limit
-main_at h None limit n there = cc
-main_at h (Some s) limit n there = main_by h s.rule limit n
+-- the stream was set aside, the others of its rule were raised, and it was put back
+pub streams_asked : (v : List Held) (h : Past) (k limit : ℕ) (q away : Held) (rule : Rule) → LeftStreams v h → q ≡ get_or v k q → Some rule ≡ rule_kept q.wants → rule_of (slice_get h.streams k) ≡ Some rule
+    → LeftStreams (set (map (raise_held rule (Some limit)) (set v k away)) k (raise_own limit q)) (after (Did k (Asked limit)) h)
+streams_asked v h k limit q away rule left at of is =
+    asked_left v _ h k limit left
+    (ap (set (map (raise_held rule (Some limit)) (set v k away)) k) (own_by q q.wants rule limit refl of) ∙ put_changed (raise_held rule (Some limit)) v k away q at
+    ∙ ap (map (raise_held rule (Some limit))) left.queues ∙ asked_ruled h k limit rule is)
 
-pub main_left : (v : List (Option Held)) (h : Past) (k limit : ℕ) → is_open h k ≡ true → LeftStreams v h
-    → main_asked (wants_of (kept_at v k)) limit h.capacities.main ≡ (after (Did k (Asked limit)) h).capacities.main
-unfolding is_open
-main_left v h k limit there left = ap (λ w. main_asked w limit h.capacities.main) (wants_left v h k there left) ∙ main_at h (slice_get h.streams k) limit h.capacities.main there
-
--- ---- look-ups
-
-rule_by : (h : Past) (o : Option Rule) → option_map (λ (s : Subscription). s.rule) (option_map (subscription h.capacities.rules) o) ≡ o
-rule_by h None = refl
-rule_by h (Some rule) = refl
-
-rule_at : (h : Past) (o : Option Stream) (b : Bool) → runs_at h.read o ≡ b
-    → option_map (λ (s : Subscription). s.rule) (wants_of (kept_of h o)) ≡ (if b then rule_of o else None)
-rule_at h o true e = ap (option_map (λ (s : Subscription). s.rule)) (wants_there h o e) ∙ rule_by h (rule_of o)
-rule_at h o false e = ap (option_map (λ (s : Subscription). s.rule)) (wants_none h o e)
-
-pub rule_left : (v : List (Option Held)) (h : Past) (k : ℕ) → LeftStreams v h
-    → option_map (λ (s : Subscription). s.rule) (wants_of (kept_at v k)) ≡ rule_answer h k
-unfolding rule_answer is_open
-rule_left v h k left =
-    ap (λ q. option_map (λ (s : Subscription). s.rule) (wants_of q)) (kept_left v h k left)
-    ∙ rule_at h (slice_get h.streams k) (runs_at h.read (slice_get h.streams k)) refl
-
-limit_use : (h : Past) (s : Stream) (b : Bool) (p : Phase) (items : List Seen) → (b ≡ true → is_since p ≡ true)
-    → option_map (λ (q : Held). limit_or h.capacities.main q.wants) (if b then Some (shown h s.rule s p items) else None) ≡ (if b then Some (limit_of h.capacities s.rule) else None)
-limit_use h s false p items e = refl
-limit_use h s true p items e = ap (λ w. Some (limit_or h.capacities.main w)) (wants_since p (option_map (subscription h.capacities.rules) s.rule) (e refl)) ∙ ap (λ n. Some n) (limit_by h s.rule)
-
-limit_at : (h : Past) (o : Option Stream) → option_map (λ (q : Held). limit_or h.capacities.main q.wants) (kept_of h o) ≡ (if runs_at h.read o then Some (limit_of h.capacities (rule_of o)) else None)
-limit_at h None = refl
-limit_at h (Some s) =
-    ap (option_map (λ (q : Held). limit_or h.capacities.main q.wants)) (kept_runs h s)
-    ∙ limit_use h s (runs h.read s) (phase h.read s) (held h.read s) (λ e. (runs_so h s e).since)
-
-pub limit_left : (v : List (Option Held)) (h : Past) (k : ℕ) → LeftStreams v h
-    → option_map (λ (q : Held). limit_or h.capacities.main q.wants) (kept_at v k) ≡ (if is_open h k then Some (limit_of h.capacities (rule_of (slice_get h.streams k))) else None)
-unfolding is_open
-limit_left v h k left = ap (option_map (λ (q : Held). limit_or h.capacities.main q.wants)) (kept_left v h k left) ∙ limit_at h (slice_get h.streams k)
+pub streams_kept : (v : List Held) (h : Past) (k limit : ℕ) (q away : Held) → LeftStreams v h → q ≡ get_or v k q → None ≡ rule_kept q.wants → rule_of (slice_get h.streams k) ≡ None
+    → LeftStreams (set (set v k away) k (raise_own limit q)) (after (Did k (Asked limit)) h)
+streams_kept v h k limit q away left at of is =
+    asked_left v _ h k limit left (ap (set (set v k away) k) (own_none q q.wants limit refl of) ∙ put_same v k away q at ∙ left.queues ∙ asked_plain h k limit is)

@@ -1,38 +1,9 @@
 -- What was put is what the entries put, what was written is what they wrote; and what answers tell of it.
-use Rattle.std.proofs.Common.{◌≡◌, ◌≢◌, ℕ, zero, suc, ◌+◌, ◌-◌, ◌<◌, ◌≤◌, arith, refl, sym, ◌∙◌, ap, subst, ◌||◌, Bool, true, false, if◌then◌else◌, List, [], ◌∷◌, ◌++◌, length, take, append_assoc, length-append, inl, inr, is_none, map, option_map, option_and_then, Option, Some, None, Result, Ok, Err, ◌⊎◌}
+use Rattle.std.proofs.{Common.{◌≡◌, ◌≢◌, ℕ, zero, suc, ◌+◌, ◌-◌, ◌<◌, ◌≤◌, arith, refl, sym, ◌∙◌, ap, subst, ◌||◌, Bool, true, false, if◌then◌else◌, List, [], ◌∷◌, ◌++◌, length, take, append_assoc, length-append, inl, inr, map, option_map, option_and_then, Option, Some, None, Result, Ok, Err, ◌⊎◌}, lemmas.List.append-nil, Math.Seq.{take-length, take-append-add}, Math.Bool.{or-true, or-false}}
 use Rattle.std.specs.List.{AllByRecursion}
-use Rattle.std.proofs.lemmas.List.{append-nil}
-use Rattle.std.proofs.Math.Seq.{take-length, take-append-add}
-use Rattle.wire_message.specs.Front.{Seen}
-use Rattle.wire_message.specs.declared.error.Error.{Error}
-use Rattle.peer_route.specs.declared.writer.Writer.TheVariants as writers
-use Rattle.peer_route.specs.declared.words.Words.TheVariants as words
-use Rattle.peer_route.specs.declared.answer.Entry.{Entry}
-use Rattle.peer_route.specs.Parcel.{Setting, message_of, Parcel}
-use Rattle.peer_route.specs.History.{Event, Shut, Put, Purpose, Wrote, Fault, Outbox, Past, after, after_all}
-use Rattle.peer_route.specs.Issuing.{Posting, put_of, parcels, messages_of, puts, of_lane, drawn, next_serial, issued, issued_by, or_barred, limit_refusal, are_deep, refusal}
-use Rattle.peer_route.specs.Trail.{Trail}
-use Rattle.peer_route.specs.Plan.{Closes, plan, sent_answer, Plan, Says, Sends, Reads, Writes, Never}
-use Rattle.peer_route.specs.Entries.{IsMeant, IsEntry, IsQuiet, IsAtOnce, IsOfRun, Legal, trail, more, repeat, writes, deeds, postings, past_after, IsSending, IsRead, IsClose, write_fault, unsent, IsPut}
-use Rattle.peer_route.specs.StreamLaws.{IsPutOf, all_put, all_written}
-use Rattle.peer_route.proofs.Plans.{are_writes, repeat_all, by_plan, AreDeeds, gone_deeds}
-use Rattle.peer_route.proofs.Kept.{every, every_entry, at_start, Keeps, kept_by, puts_are, deeds_all, deed_outbox, is_live, deeds_are, of_run}
-use Rattle.peer_route.proofs.Refused.{quiet_past}
-use Rattle.peer_route.proofs.Writers.{fine_unfailed, writer_keeps, shut_writer, writer_stays}
-use Rattle.std.proofs.Math.Bool.{or-true, or-false}
-use Rattle.std.proofs.lemmas.Bool.{and_parts}
+use Rattle.peer_route.specs.{Names.{Seen, Error, Entry, Words, Answer, Writer, VariantError}, Parcel.{Setting, message_of, Parcel}, History.{Event, Shut, Put, Purpose, Wrote, Fault, Outbox, Past, after, after_all}, Issuing.{Posting, put_of, parcels, messages_of, puts, drawn, next_serial, issued, issued_by, or_barred, limit_refusal, are_deep, refusal}, Trail.Trail, Plan.{Closes, plan, Plan, Says, Sends, Reads, Writes, Never}, Entries.{IsMeant, IsEntry, IsQuiet, IsAtOnce, IsOfRun, Legal, trail, more, repeat, writes, deeds, postings, past_after, IsSending, write_fault, IsPut}, StreamLaws.{IsPutOf, all_put, all_written}}
+use Rattle.peer_route.proofs.{Plans.{are_writes, repeat_all, IsFair, fair, AreFrom, are_deeds, legal_from, is_live}, Kept.{every, every_entry, at_start, Keeps, kept_by, puts_are, deeds_all, deed_outbox, deeds_are, of_run, later, quiet_past}, Writers.{fine_unfailed, writer_keeps, shut_writer, writer_stays}}
 use Rattle.wire_message.specs.Draft.{built}
-use Rattle.wire_message.specs.declared.error.Error.TheVariants as errors
-use Rattle.peer_route.specs.declared.words.Words.{Words}
-use Rattle.peer_route.specs.declared.answer.Answer.{Answer}
-use Rattle.peer_route.specs.CallMessage.{expects}
-use Rattle.peer_route.specs.BusCall.{asking_of, first_of, last_of, tellings_of}
-use Rattle.peer_route.specs.Laws.{told_serial}
-use Rattle.peer_route.proofs.NoneBefore.{is_tame, by_place, plan_tame}
-use Rattle.wire_signature.specs.declared.error.VariantError.TheVariants as faults
-use Rattle.peer_route.specs.declared.writer.Writer.{Writer}
-use Rattle.rule_match.specs.Rule.{Rule}
-use Rattle.peer_route.specs.Streams.{leaving}
 
 -- ---- an entry's messages
 
@@ -67,24 +38,24 @@ within h pl e (inr has) = let is = has.3 in (subst (λ ms. e.written ≤ length 
 
 -- ---- what refuses messages
 
-deep_or : (deep : Bool) (ds : List Posting) (serials : Option (List ℕ)) → (if deep then Some (errors.Variant faults.Depth) else limit_refusal ds serials) ≡ None → (ss : List ℕ) × (serials ≡ Some ss)
+deep_or : (deep : Bool) (ds : List Posting) (serials : Option (List ℕ)) → (if deep then Some (Error.Variant VariantError.Depth) else limit_refusal ds serials) ≡ None → (ss : List ℕ) × (serials ≡ Some ss)
 deep_or true ds serials e = cc
 deep_or false ds None e = cc
 deep_or false ds (Some serials) e = (serials, refl)
 
 -- where nothing refuses messages, and the peer writes, they are put with the serials that they draw
-pub put_where : (h : Past) (ds : List Posting) → refusal h ds ≡ None → h.outbox.writer ≡ writers.Fine → (serials : List ℕ) × (drawn h ds ≡ Some serials) × (issued h ds ≡ Ok serials)
+pub put_where : (h : Past) (ds : List Posting) → refusal h ds ≡ None → h.outbox.writer ≡ Writer.Fine → (serials : List ℕ) × (drawn h ds ≡ Some serials) × (issued h ds ≡ Ok serials)
 unfolding issued
 put_where h [] free fine = ([], refl, refl)
 put_where h (d ∷ ds) free fine =
     let draws = deep_or (are_deep (d ∷ ds)) (d ∷ ds) (drawn h (d ∷ ds)) free in (draws.0, draws.1, ap (λ r. issued_by (or_barred h.outbox.writer r) (drawn h (d ∷ ds))) free ∙ ap (λ w. issued_by (or_barred w None) (drawn h (d ∷ ds))) fine ∙ ap (issued_by None) draws.1)
 
-issued_draws : (w : Writer) (met : Option Error) (drawn : Option (List ℕ)) (serials : List ℕ) → issued_by (or_barred w met) drawn ≡ Ok serials → (drawn ≡ Some serials) × (w ≡ writers.Fine)
+issued_draws : (w : Writer) (met : Option Error) (drawn : Option (List ℕ)) (serials : List ℕ) → issued_by (or_barred w met) drawn ≡ Ok serials → (drawn ≡ Some serials) × (w ≡ Writer.Fine)
 issued_draws w (Some error) drawn serials e = cc
-issued_draws writers.Failed None drawn serials e = cc
-issued_draws writers.Closed None drawn serials e = cc
-issued_draws writers.Fine None None serials e = cc
-issued_draws writers.Fine None (Some some) serials e = (cc, refl)
+issued_draws Writer.Failed None drawn serials e = cc
+issued_draws Writer.Closed None drawn serials e = cc
+issued_draws Writer.Fine None None serials e = cc
+issued_draws Writer.Fine None (Some some) serials e = (cc, refl)
 
 -- messages that are put drew their serials
 pub put_drew : (h : Past) (ds : List Posting) (serials : List ℕ) → issued h ds ≡ Ok serials → drawn h ds ≡ Some serials
@@ -93,37 +64,29 @@ put_drew h [] serials e = cc
 put_drew h (d ∷ ds) serials e = (issued_draws h.outbox.writer (refusal h (d ∷ ds)) (drawn h (d ∷ ds)) serials e).0
 
 -- and the peer writes, where there are any
-pub put_none : (h : Past) (ds : List Posting) (serials : List ℕ) → h.outbox.writer ≢ writers.Fine → issued h ds ≡ Ok serials → messages_of (parcels ds) serials ≡ []
+pub put_none : (h : Past) (ds : List Posting) (serials : List ℕ) → h.outbox.writer ≢ Writer.Fine → issued h ds ≡ Ok serials → messages_of (parcels ds) serials ≡ []
 unfolding issued
 put_none h [] serials ne e = refl
 put_none h (d ∷ ds) serials ne e = absurd (ne (issued_draws h.outbox.writer (refusal h (d ∷ ds)) (drawn h (d ∷ ds)) serials e).1)
 
 -- once the writer is over nothing is put
-pub puts_none : (h : Past) (pl : Plan) (e : Entry) → h.outbox.writer ≢ writers.Fine → IsQuiet e ⊎ HasPut h pl e → e.put ≡ []
+pub puts_none : (h : Past) (pl : Plan) (e : Entry) → h.outbox.writer ≢ Writer.Fine → IsQuiet e ⊎ HasPut h pl e → e.put ≡ []
 puts_none h pl e ne (inl quiet) = quiet.put
 puts_none h pl e ne (inr has) = let is = has.3 in is.put ∙ put_none (after_all (deeds pl e) h) (postings pl) has.0 (λ q. ne (sym (writer_stays h (deeds pl e) ne) ∙ q)) has.2
 
 -- ---- what is answered where nothing refuses
-
-abbrev SendDoes : Plan → Type 0
-SendDoes (Sends done ds sent) = AreDeeds done
-SendDoes other = Unit {0}
-
-send_does : (t : Trail) (lane : ℕ) (w : Words) → SendDoes (plan t lane w)
-send_does t lane =
-    by_plan (λ w pl. SendDoes pl) t lane (λ w answer done fair. tt) (λ w parcel from. tt) (λ asked text rule. tt) (λ n second k j open_. gone_deeds k j) (λ shut. tt) tt (λ line fails fine. tt) (λ line. tt)
 
 pub said_as_meant : (setting : Setting) (older : List Entry) (e : Entry) (answer : Answer) (done : List Event) → Legal setting (e ∷ older)
     → plan (trail setting older) e.lane e.words ≡ Says answer done → e.answer ≡ answer
 said_as_meant setting older e answer done legal means = (subst (λ p. IsMeant (trail setting older).past p e) means legal.0).1
 
 pub sent_or_fault : (setting : Setting) (older : List Entry) (e : Entry) (done : List Event) (ds : List Posting) (sent : List ℕ → Answer) → Legal setting (e ∷ older)
-    → plan (trail setting older) e.lane e.words ≡ Sends done ds sent → refusal (after_all done (trail setting older).past) ds ≡ None → (trail setting older).past.outbox.writer ≡ writers.Fine
+    → plan (trail setting older) e.lane e.words ≡ Sends done ds sent → refusal (after_all done (trail setting older).past) ds ≡ None → (trail setting older).past.outbox.writer ≡ Writer.Fine
     → (serials : List ℕ) × (drawn (after_all done (trail setting older).past) ds ≡ Some serials) × (e.answer ≡ (if e.failed then write_fault else sent serials))
 sent_or_fault setting older e done ds sent legal means free fine =
     let t = trail setting older in
-    let does : AreDeeds done = subst SendDoes means (send_does t e.lane e.words) in
-    let same = kept_by (λ h. h.outbox) done t.past (deeds_are (Keeps (λ h. h.outbox)) deed_outbox done does) in
+    let does = (subst (IsFair t e.words) means (fair t e.lane e.words)).only in
+    let same = kept_by (λ h. h.outbox) done t.past (deeds_are (Keeps (λ h. h.outbox)) deed_outbox done (are_deeds e.words done does)) in
     let put = put_where (after_all done t.past) ds free (ap (λ (o : Outbox). o.writer) same ∙ fine) in
     let is = (subst (λ p. IsMeant t.past p e) means legal.0).1 in
     let sending = subst (λ r. IsSending r ds sent e) put.2 is in
@@ -243,39 +206,43 @@ sent setting (e ∷ es) legal at_once run =
 
 -- the writer is over
 abbrev IsStuck : Trail → Type 0
-IsStuck t = t.past.outbox.writer ≢ writers.Fine
+IsStuck t = t.past.outbox.writer ≢ Writer.Fine
 
-stuck : (setting : Setting) (newer : List Entry) (e : Entry) (older : List Entry) → e.words ≡ words.Close → Legal setting (newer ++ e ∷ older) → IsStuck (trail setting (newer ++ e ∷ older))
-stuck setting [] e older w legal fine =
-    let t = trail setting older in
-    let closed = after_all (deeds Closes e) t.past in
-    let over : closed.outbox.writer ≢ writers.Fine = shut_writer t.past.outbox.writer in
-    let is = subst (λ x. IsMeant t.past (plan t e.lane x) e) w legal.0 in
-    over (sym (ap (λ x. (past_after (plan t e.lane x) e t.past).outbox.writer) w ∙ ap (λ (h : Past). h.outbox.writer) (quiet_past Closes e t.past is.2)) ∙ fine)
-stuck setting (x ∷ newer) e older w legal fine =
-    let t = trail setting (newer ++ e ∷ older) in
-    let over = stuck setting newer e older w legal.1 in
-    over (sym (every_entry (λ h. h.outbox.writer ≡ t.past.outbox.writer) (writer_keeps t.past.outbox.writer over) (plan t x.lane x.words) x t.past refl) ∙ fine)
+-- an entry that puts nothing leaves what was put
+same_put : (t : Trail) (e : Entry) → IsEntry t e → e.put ≡ [] → (more t e).past.outbox.put ≡ t.past.outbox.put
+same_put t e is none = put_more t e is ∙ ap (λ ms. t.past.outbox.put ++ ms) none ∙ append-nil t.past.outbox.put
+
+-- the entry that closes puts nothing, no write of it fails, and the writer is over behind it
+close_quiet : (t : Trail) (e : Entry) → IsEntry t e → e.words ≡ Words.Close → IsQuiet e
+close_quiet t e is w = (subst (λ x. IsMeant t.past (plan t e.lane x) e) w is).2
+
+close_stuck : (t : Trail) (e : Entry) → IsEntry t e → e.words ≡ Words.Close → IsStuck (more t e)
+close_stuck t e is w fine =
+    shut_writer t.past.outbox.writer
+    (sym (ap (λ x. (past_after (plan t e.lane x) e t.past).outbox.writer) w ∙ ap (λ (h : Past). h.outbox.writer) (quiet_past Closes e t.past (close_quiet t e is w))) ∙ fine)
+
+stuck_more : (t : Trail) (e : Entry) → IsStuck t → IsStuck (more t e)
+stuck_more t e over fine = over (sym (every_entry (λ h. h.outbox.writer ≡ t.past.outbox.writer) (writer_keeps t.past.outbox.writer over) (plan t e.lane e.words) e t.past refl) ∙ fine)
 
 stuck_put : (t : Trail) (e : Entry) → IsStuck t → IsEntry t e → e.put ≡ []
 stuck_put t e over is = puts_none t.past (plan t e.lane e.words) e over (quiet_or t.past (plan t e.lane e.words) e is)
 
-pub none_put : (setting : Setting) (newer : List Entry) (e : Entry) (older : List Entry) → Legal setting (newer ++ e ∷ older) → e.words ≡ words.Close → AllByRecursion (λ (f : Entry). f.put ≡ []) newer
-none_put setting [] e older legal w = tt
-none_put setting (x ∷ newer) e older legal w = (stuck_put (trail setting (newer ++ e ∷ older)) x (stuck setting newer e older w legal.1) legal.0, none_put setting newer e older legal.1 w)
-
--- the entry that closes puts nothing either, and no write of it fails
-close_quiet : (t : Trail) (e : Entry) → IsEntry t e → e.words ≡ words.Close → IsQuiet e
-close_quiet t e is w = (subst (λ x. IsMeant t.past (plan t e.lane x) e) w is).2
-
-pub none_more : (setting : Setting) (newer : List Entry) (e : Entry) (older : List Entry) → Legal setting (newer ++ e ∷ older) → e.words ≡ words.Close
-    → (trail setting (newer ++ e ∷ older)).past.outbox.put ≡ (trail setting older).past.outbox.put
-none_more setting [] e older legal w =
+-- from an entry that closes on
+closed : (setting : Setting) (newer : List Entry) (e : Entry) (older : List Entry) → Legal setting (newer ++ e ∷ older) → e.words ≡ Words.Close
+    → (IsStuck (trail setting (newer ++ e ∷ older)) × ((trail setting (newer ++ e ∷ older)).past.outbox.put ≡ (trail setting older).past.outbox.put)) × AllByRecursion (λ (f : Entry). f.put ≡ []) newer
+closed setting newer e older legal w =
     let t = trail setting older in
-    let quiet = close_quiet t e legal.0 w in put_more t e legal.0 ∙ ap (λ ms. t.past.outbox.put ++ ms) quiet.put ∙ append-nil t.past.outbox.put
-none_more setting (x ∷ newer) e older legal w =
-    let t = trail setting (newer ++ e ∷ older) in
-    put_more t x legal.0 ∙ ap (λ ms. t.past.outbox.put ++ ms) (stuck_put t x (stuck setting newer e older w legal.1) legal.0) ∙ append-nil t.past.outbox.put ∙ none_more setting newer e older legal.1 w
+    let is = (legal_from setting newer (e ∷ older) legal).0 in
+    let quiet = close_quiet t e is w in
+    later setting (λ u. IsStuck u × (u.past.outbox.put ≡ t.past.outbox.put)) (λ f. f.put ≡ [])
+    (λ u f meant so. let none = stuck_put u f so.0 meant in ((stuck_more u f so.0, same_put u f meant none ∙ so.1), none)) newer (e ∷ older) legal (close_stuck t e is w, same_put t e is quiet.put)
+
+pub none_put : (setting : Setting) (newer : List Entry) (e : Entry) (older : List Entry) → Legal setting (newer ++ e ∷ older) → e.words ≡ Words.Close → AllByRecursion (λ (f : Entry). f.put ≡ []) newer
+none_put setting newer e older legal w = (closed setting newer e older legal w).1
+
+pub none_more : (setting : Setting) (newer : List Entry) (e : Entry) (older : List Entry) → Legal setting (newer ++ e ∷ older) → e.words ≡ Words.Close
+    → (trail setting (newer ++ e ∷ older)).past.outbox.put ≡ (trail setting older).past.outbox.put
+none_more setting newer e older legal w = (closed setting newer e older legal w).0.1
 
 -- nothing is put, so that no write fails
 failed_same : (t : Trail) (e : Entry) → IsEntry t e → is_live e.words ≡ false → e.put ≡ [] → (more t e).past.outbox.failed ≡ t.past.outbox.failed
@@ -287,17 +254,17 @@ failed_same t e is run none =
     by_fault true less = let most = less refl in let no : ⊥ = omega (arith, most) in absurd no
     by_fault false less = or-false t.past.outbox.failed
 
-pub none_failed : (setting : Setting) (newer : List Entry) (e : Entry) (older : List Entry) → Legal setting (newer ++ e ∷ older) → e.words ≡ words.Close → AllByRecursion (λ (f : Entry). IsOfRun f.words) newer
+pub none_failed : (setting : Setting) (newer : List Entry) (e : Entry) (older : List Entry) → Legal setting (newer ++ e ∷ older) → e.words ≡ Words.Close → AllByRecursion (λ (f : Entry). IsOfRun f.words) newer
     → (trail setting (newer ++ e ∷ older)).past.outbox.failed ≡ (trail setting older).past.outbox.failed
 none_failed setting [] e older legal w run =
     let t = trail setting older in let quiet = close_quiet t e legal.0 w in failed_same t e legal.0 (ap is_live w) quiet.put
 none_failed setting (x ∷ newer) e older legal w run =
     let t = trail setting (newer ++ e ∷ older) in
-    failed_same t x legal.0 (of_run x.words run.0) (stuck_put t x (stuck setting newer e older w legal.1) legal.0) ∙ none_failed setting newer e older legal.1 w run.1
+    failed_same t x legal.0 (of_run x.words run.0) (stuck_put t x (closed setting newer e older legal.1 w).0.0 legal.0) ∙ none_failed setting newer e older legal.1 w run.1
 
 -- ---- serials
 
-message_serial : (parcel : Parcel) (serial : ℕ) → (message_of parcel serial).serial ≡ serial
+pub message_serial : (parcel : Parcel) (serial : ℕ) → (message_of parcel serial).serial ≡ serial
 unfolding message_of built
 message_serial parcel serial = refl
 
@@ -317,86 +284,15 @@ by_next : (d : Posting) (ds : List Posting) (h : Past) (n : Option ℕ) (serials
 by_next d ds h None serials bear e = cc
 by_next d ds h (Some serial) serials bear e = one_more d ds serial (drawn (after (put_of d serial) h) ds) serials (bear serial) e
 
-drew : (ds : List Posting) (h : Past) (serials : List ℕ) → drawn h ds ≡ Some serials → Bear ds serials
+pub drew : (ds : List Posting) (h : Past) (serials : List ℕ) → drawn h ds ≡ Some serials → Bear ds serials
 drew [] h serials e = cc
 drew (d ∷ ds) h serials e = by_next d ds h (next_serial h) serials (λ serial ss at. drew ds (after (put_of d serial) h) ss at) e
 
--- of one message the first serial is the last
-one_drew : (d : Posting) (h : Past) (serials : List ℕ) → drawn h (d ∷ []) ≡ Some serials → Some (first_of serials) ≡ last_of serials
-one_drew d h serials e = by_one (next_serial h) e
-  where
-    by_one : (n : Option ℕ) → option_and_then (λ serial. Some (serial ∷ [])) n ≡ Some serials → Some (first_of serials) ≡ last_of serials
-    by_one None q = cc
-    by_one (Some serial) q = let same : serial ∷ [] ≡ serials = cc in subst (λ xs. Some (first_of xs) ≡ last_of xs) same refl
-
--- ---- answers
-
--- where it tells a serial, no write failed, and it is that of the last message
-abbrev Tells : Entry → Type 0
-Tells e = (serial : ℕ) → told_serial e.answer ≡ Some serial → (e.failed ≡ false) × (last_of (map (λ (m : Seen). m.serial) e.put) ≡ Some serial)
-
-untold : (e : Entry) → told_serial e.answer ≡ None → Tells e
-untold e none serial told = cc
-
-unsent_untold : (error : Error) → told_serial (unsent error) ≡ None
-unsent_untold (errors.InputOutput kind) = refl
-unsent_untold error = refl
-
-sending_tells : (h : Past) (ds : List Posting) (sent : List ℕ → Answer) (e : Entry) (r : Result (List ℕ) Error) → ((serials : List ℕ) → drawn h ds ≡ Some serials → told_serial (sent serials) ≡ last_of serials)
-    → issued h ds ≡ r → IsSending r ds sent e → Tells e
-sending_tells h ds sent e (Err error) tells at is serial told = untold e (ap told_serial is.0 ∙ unsent_untold error) serial told
-sending_tells h ds sent e (Ok serials) tells at is serial told = by_fault e.failed refl is.answer
-  where
-    by_fault : (b : Bool) → e.failed ≡ b → e.answer ≡ (if b then write_fault else sent serials) → (e.failed ≡ false) × (last_of (map (λ (m : Seen). m.serial) e.put) ≡ Some serial)
-    by_fault true failed a = let none : told_serial e.answer ≡ None = ap told_serial a in cc
-    by_fault false fine a =
-        let drawn_so = put_drew h ds serials at in
-        (fine, ap (λ ms. last_of (map (λ (m : Seen). m.serial) ms)) is.put ∙ ap last_of (drew ds h serials drawn_so) ∙ sym (tells serials drawn_so) ∙ sym (ap told_serial a) ∙ told)
-
-sent_tells : (waits : Bool) (call serial : ℕ) → told_serial (sent_answer waits call serial) ≡ Some serial
-sent_tells true call serial = refl
-sent_tells false call serial = refl
-
-read_untold : (n : ℕ) (m : Option Seen) (a : Answer) → IsRead n m a → told_serial a ≡ None
-read_untold n (Some m) a is = ap told_serial is.0
-read_untold n None a is = ap told_serial is.1
-
-close_untold : (a : Answer) → IsClose a → told_serial a ≡ None
-close_untold a (inl is) = ap told_serial is
-close_untold a (inr is) = ap told_serial is
-
-none_told : (o : Option ℕ) → is_none o ≡ true → o ≡ None
-none_told None e = refl
-none_told (Some n) e = cc
-
-entry_tells : (t : Trail) (lane : ℕ) (e : Entry) (w : Words) → is_tame (by_place w) (is_live w) (plan t lane w) ≡ true → IsMeant t.past (plan t lane w) e → Tells e
-entry_tells t lane e =
-    by_plan (λ w pl. is_tame (by_place w) (is_live w) pl ≡ true → IsMeant t.past pl e → Tells e) t lane
-    (λ w answer done fair tame is. untold e (ap told_serial is.1 ∙ none_told (told_serial answer) (and_parts (is_none (told_serial answer)) _ tame).0))
-    (λ w parcel from tame is. sending_tells t.past _ _ e _ (λ serials drawn_so. sent_tells (expects (Ok parcel)) _ _ ∙ one_drew (of_lane parcel) t.past serials drawn_so) refl is.1)
-    (λ asked text rule tame is. sending_tells t.past _ _ e _ (λ serials drawn_so. one_drew (asking_of t.past rule asked) t.past serials drawn_so) refl is.1) (λ n second k j open_ tame is. sending_tells _ _ _ e _ (λ serials drawn_so. refl) refl is.1)
-    (λ shut tame is. untold e (read_untold _ e.read e.answer is.0)) (λ tame is. untold e (close_untold e.answer is.1)) (λ line fails fine tame is. untold e (ap told_serial is.1)) (λ line tame is. absurd is)
-
-pub serial : (setting : Setting) (older : List Entry) (e : Entry) (serial : ℕ) → Legal setting (e ∷ older) → told_serial e.answer ≡ Some serial → IsAtOnce e
-    → (last_of (map (λ (m : Seen). m.serial) e.put) ≡ Some serial) × (e.written ≡ length e.put)
-serial setting older e n legal told at_once =
-    let t = trail setting older in
-    let tells = entry_tells t e.lane e e.words (plan_tame t e.lane e.words) legal.0 n told in
-    (tells.1, at_once tells.0)
-
 -- ---- messages
 
-abbrev AreFrom : Option (List ℕ) → List Posting → Type 0
-AreFrom name ds = AllByRecursion (λ (d : Posting). d.parcel.draft.fields.sender ≡ name) ds
-
-plan_from : (t : Trail) (lane : ℕ) (w : Words) → AreFrom t.past.name (postings (plan t lane w))
-plan_from t lane =
-    by_plan (λ w pl. AreFrom t.past.name (postings pl)) t lane (λ w answer done fair. tt) (λ w parcel from. (from, tt)) (λ asked text rule. (refl, tt)) (λ n second k j open_. tellings (leaving t.past k j)) (λ shut. tt) tt
-    (λ line fails fine. tt) (λ line. tt)
-  where
-    tellings : (rules : List Rule) → AreFrom t.past.name (tellings_of t.past rules)
-    tellings [] = tt
-    tellings (rule ∷ rules) = (refl, tellings rules)
+plan_from : (t : Trail) (w : Words) (pl : Plan) → IsFair t w pl → AreFrom t.past.name (postings pl)
+plan_from t w (Sends done ds sent) f = f.from
+plan_from t w pl f = tt
 
 message_sender : (parcel : Parcel) (serial : ℕ) → (message_of parcel serial).sender ≡ parcel.draft.fields.sender
 unfolding message_of built
@@ -411,4 +307,4 @@ pub bear_the_name : (setting : Setting) (older : List Entry) (e : Entry) → Leg
 bear_the_name setting older e legal =
     let t = trail setting older in
     let put = puts_of t.past (plan t e.lane e.words) e (quiet_or t.past (plan t e.lane e.words) e legal.0) in
-    subst (λ ms. AllByRecursion (λ (m : Seen). m.sender ≡ t.past.name) ms) (sym put.1) (messages_from t.past.name (postings (plan t e.lane e.words)) put.0 (plan_from t e.lane e.words))
+    subst (λ ms. AllByRecursion (λ (m : Seen). m.sender ≡ t.past.name) ms) (sym put.1) (messages_from t.past.name (postings (plan t e.lane e.words)) put.0 (plan_from t e.words (plan t e.lane e.words) (fair t e.lane e.words)))

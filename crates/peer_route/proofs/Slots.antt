@@ -1,29 +1,19 @@
 -- What the events do to the slots that a history leaves.
-use Rattle.std.proofs.Common.{inl, inr, ◌≡◌, ℕ, ◌<◌, ◌≤◌, ◌==◌, ◌||◌, ◌&&◌, not, is_none, eqb, cond, if◌then◌else◌, zero, suc, refl, sym, ◌∙◌, ap, arith, subst, Bool, true, false, List, [], ◌∷◌, ◌++◌, length, map, drop, find, get_or, set, Option, Some, None}
-use Rattle.std.specs.List.{list_any}
-use Rattle.std.specs.Option.{option_or}
-use Rattle.std.proofs.lemmas.List.{drop-append-le}
-use Rattle.std.proofs.lemmas.List.Folds.{find-append}
-use Rattle.std.proofs.lemmas.Bool.{cases_eq, or_parts, or_from, or_left, or_right, false≢true, eqb-true, eq-eqb, ne_eqb, eqb-false, both_ways, false_from_ne_true}
+use Rattle.std.proofs.{Common.{inl, inr, ◌≡◌, ℕ, ◌<◌, ◌≤◌, ◌==◌, ◌||◌, ◌&&◌, not, is_none, eqb, cond, if◌then◌else◌, zero, suc, refl, sym, ◌∙◌, ap, arith, subst, Bool, true, false, List, [], ◌∷◌, ◌++◌, length, map, drop, find, get_or, set, Option, Some, None}, lemmas.List.drop-append-le, lemmas.List.Folds.find-append, lemmas.Bool.{cases_eq, or_parts, or_from, or_left, or_right, false≢true, eqb-true, eq-eqb, ne_eqb, eqb-false, both_ways, false_from_ne_true}}
+use Rattle.std.specs.{List.list_any, Option.option_or}
+use Rattle.peer_route.specs.{Names.{Seen, Error, Slot}, History.{Took, Call, bears, fail_at, edit, spend, Past, after}, Calls.{found, is_gone, waits_with, is_awaited, pending, in_flight}, Left.{reply_kept, slot_of, slot_by, is_waiting, is_inner_slot, takes, Rising, CallsView, waiting_serial, LeftCalls}}
+use Rattle.peer_route.proofs.{Plain.{map_along, list_any-along, After, After-at, list_any-map}, CallsMade.{Early, places}}
 use mathlib.Core.List.{map-map}
-use Rattle.wire_message.specs.Front.{Seen}
-use Rattle.peer_route.specs.declared.calls.Slot.{Slot}
-use Rattle.peer_route.specs.declared.calls.Slot.TheVariants as slots
-use Rattle.peer_route.specs.History.{Took, Call, bears, fail_at, edit, spend, Past, after}
-use Rattle.peer_route.specs.Calls.{found, is_gone, waits_with, is_awaited}
-use Rattle.peer_route.specs.Left.{reply_kept, slot_of, slot_by, is_waiting, is_inner_slot, takes, AreDistinct, Rising}
-use Rattle.peer_route.proofs.Plain.{map_along, list_any-along, After, After-at}
-use Rattle.peer_route.proofs.CallsMade.{Early, places}
 
 -- ---- a message comes
 
 -- what a slot is after the message
 abbrev pub arrived : Seen → Slot → Slot
-arrived m slots.Gone = slots.Gone
-arrived m (slots.Waiting n inner) = if bears n m then reply_kept inner m else slots.Waiting n inner
-arrived m (slots.Replied r) = slots.Replied r
+arrived m Slot.Gone = Slot.Gone
+arrived m (Slot.Waiting n inner) = if bears n m then reply_kept inner m else Slot.Waiting n inner
+arrived m (Slot.Replied r) = Slot.Replied r
 
-slot_found : (b inner : Bool) (serial : ℕ) (m : Seen) → slot_by inner serial (cond b (Some m) None) ≡ (if b then reply_kept inner m else slots.Waiting serial inner)
+slot_found : (b inner : Bool) (serial : ℕ) (m : Seen) → slot_by inner serial (cond b (Some m) None) ≡ (if b then reply_kept inner m else Slot.Waiting serial inner)
 slot_found true inner serial m = refl
 slot_found false inner serial m = refl
 
@@ -33,7 +23,7 @@ reply_arrived true r m = refl
 reply_arrived false r m = refl
 
 slot_took_by : (gone inner : Bool) (serial : ℕ) (o : Option Seen) (m : Seen)
-    → (if gone then slots.Gone else slot_by inner serial (option_or o (find (bears serial) (m ∷ [])))) ≡ arrived m (if gone then slots.Gone else slot_by inner serial o)
+    → (if gone then Slot.Gone else slot_by inner serial (option_or o (find (bears serial) (m ∷ [])))) ≡ arrived m (if gone then Slot.Gone else slot_by inner serial o)
 slot_took_by true inner serial o m = refl
 slot_took_by false inner serial (Some r) m = reply_arrived inner r m
 slot_took_by false inner serial None m = slot_found (bears serial m) inner serial m
@@ -47,7 +37,7 @@ found_took m h c le =
 slot_took : (m : Seen) (h : Past) (c : Call) → c.from ≤ length h.read → slot_of (after (Took m) h).read c ≡ arrived m (slot_of h.read c)
 unfolding slot_of found
 slot_took m h c le =
-    ap (λ o. if is_gone c then slots.Gone else slot_by c.inner c.serial o) (found_took m h c le)
+    ap (λ o. if is_gone c then Slot.Gone else slot_by c.inner c.serial o) (found_took m h c le)
     ∙ slot_took_by (is_gone c) c.inner c.serial (find (bears c.serial) (drop c.from h.read)) m
 
 -- each slot takes the message that its call waits for
@@ -56,9 +46,9 @@ slots_took m h cs e = map_along _ (slot_of (after (Took m) h).read) _ (λ c le. 
 
 pub arrived_nowhere : (m : Seen) → ((n : ℕ) → bears n m ≡ false) → (ss : List Slot) → map (arrived m) ss ≡ ss
 arrived_nowhere m none [] = refl
-arrived_nowhere m none (slots.Gone ∷ ss) = ap (λ xs. slots.Gone ∷ xs) (arrived_nowhere m none ss)
-arrived_nowhere m none (slots.Waiting n i ∷ ss) = rw (none n) (ap (λ xs. slots.Waiting n i ∷ xs) (arrived_nowhere m none ss))
-arrived_nowhere m none (slots.Replied r ∷ ss) = ap (λ xs. slots.Replied r ∷ xs) (arrived_nowhere m none ss)
+arrived_nowhere m none (Slot.Gone ∷ ss) = ap (λ xs. Slot.Gone ∷ xs) (arrived_nowhere m none ss)
+arrived_nowhere m none (Slot.Waiting n i ∷ ss) = rw (none n) (ap (λ xs. Slot.Waiting n i ∷ xs) (arrived_nowhere m none ss))
+arrived_nowhere m none (Slot.Replied r ∷ ss) = ap (λ xs. Slot.Replied r ∷ xs) (arrived_nowhere m none ss)
 
 eqb-flip : (a b : ℕ) → eqb a b ≡ false → eqb b a ≡ false
 eqb-flip a b e = ne_eqb b a (λ q. eqb-false a b e (sym q))
@@ -72,132 +62,90 @@ eqb-comm a b = elim (cases_eq a b) as (λ _. eqb a b ≡ eqb b a) [
 -- no slot takes a message that answers nothing
 pub takes_nowhere : (m : Seen) → ((n : ℕ) → bears n m ≡ false) → (ss : List Slot) → list_any (takes m) ss ≡ false
 takes_nowhere m none [] = refl
-takes_nowhere m none (slots.Gone ∷ ss) = takes_nowhere m none ss
-takes_nowhere m none (slots.Waiting n i ∷ ss) = or_from (bears n m) (list_any (takes m) ss) (none n) (takes_nowhere m none ss)
-takes_nowhere m none (slots.Replied r ∷ ss) = takes_nowhere m none ss
+takes_nowhere m none (Slot.Gone ∷ ss) = takes_nowhere m none ss
+takes_nowhere m none (Slot.Waiting n i ∷ ss) = or_from (bears n m) (list_any (takes m) ss) (none n) (takes_nowhere m none ss)
+takes_nowhere m none (Slot.Replied r ∷ ss) = takes_nowhere m none ss
 
 takes_same : (m : Seen) (s : ℕ) → ((n : ℕ) → bears n m ≡ (s == n)) → (x : Slot) → takes m x ≡ is_waiting s x
-takes_same m s same slots.Gone = refl
-takes_same m s same (slots.Waiting n i) = same n ∙ eqb-comm s n
-takes_same m s same (slots.Replied r) = refl
+takes_same m s same Slot.Gone = refl
+takes_same m s same (Slot.Waiting n i) = same n ∙ eqb-comm s n
+takes_same m s same (Slot.Replied r) = refl
 
 -- a slot takes it exactly where one waits for its serial
 pub takes_at : (m : Seen) (s : ℕ) (ss : List Slot) → ((n : ℕ) → bears n m ≡ (s == n)) → list_any (is_waiting s) ss ≡ list_any (takes m) ss
 takes_at m s ss same = sym (list_any-along (takes m) (is_waiting s) (takes_same m s same) ss)
 
+-- a slot that doesn't wait for its serial stays, and one that does has the reply
+idle_arrived : (m : Seen) (s : ℕ) → ((n : ℕ) → bears n m ≡ (s == n)) → (x : Slot) → is_waiting s x ≡ false → arrived m x ≡ x
+idle_arrived m s same Slot.Gone e = refl
+idle_arrived m s same (Slot.Waiting n i) e = rw (same n ∙ eqb-flip n s e) refl
+idle_arrived m s same (Slot.Replied r) e = refl
+
+woken_arrived : (m : Seen) (s : ℕ) → ((n : ℕ) → bears n m ≡ (s == n)) → (x : Slot) → is_waiting s x ≡ true → arrived m x ≡ reply_kept (is_inner_slot x) m
+woken_arrived m s same Slot.Gone e = absurd (false≢true e)
+woken_arrived m s same (Slot.Waiting n i) e = rw (same n ∙ eq-eqb s n (sym (eqb-true n s e))) refl
+woken_arrived m s same (Slot.Replied r) e = absurd (false≢true e)
+
 -- where no slot waits for its serial, nothing changes
-pub arrived_past : (m : Seen) (s : ℕ) → ((n : ℕ) → bears n m ≡ (s == n)) → (ss : List Slot) → list_any (is_waiting s) ss ≡ false → map (arrived m) ss ≡ ss
+arrived_past : (m : Seen) (s : ℕ) → ((n : ℕ) → bears n m ≡ (s == n)) → (ss : List Slot) → ((j : ℕ) → is_waiting s (get_or ss j Slot.Gone) ≡ false) → map (arrived m) ss ≡ ss
 arrived_past m s same [] none = refl
-arrived_past m s same (slots.Gone ∷ ss) none = ap (λ xs. slots.Gone ∷ xs) (arrived_past m s same ss none)
-arrived_past m s same (slots.Waiting n i ∷ ss) none =
-    let parts = or_parts (n == s) (list_any (is_waiting s) ss) none in
-    rw (same n ∙ eqb-flip n s parts.0) (ap (λ xs. slots.Waiting n i ∷ xs) (arrived_past m s same ss parts.1))
-arrived_past m s same (slots.Replied r ∷ ss) none = ap (λ xs. slots.Replied r ∷ xs) (arrived_past m s same ss none)
+arrived_past m s same (x ∷ ss) none = let a = idle_arrived m s same x (none 0) in let b = arrived_past m s same ss (λ j. none (suc j)) in cc
 
 -- a slot waits, so that some slot does
-pub waits_at : (s : ℕ) (ss : List Slot) (k : ℕ) → is_waiting s (get_or ss k slots.Gone) ≡ true → list_any (is_waiting s) ss ≡ true
+pub waits_at : (s : ℕ) (ss : List Slot) (k : ℕ) → is_waiting s (get_or ss k Slot.Gone) ≡ true → list_any (is_waiting s) ss ≡ true
 waits_at s [] k at = at
 waits_at s (x ∷ ss) zero at = or_left (is_waiting s x) (list_any (is_waiting s) ss) at
 waits_at s (x ∷ ss) (suc k) at = or_right (is_waiting s x) (list_any (is_waiting s) ss) (waits_at s ss k at)
 
-waits_once : (n s : ℕ) (ss : List Slot) (k : ℕ) → is_waiting s (get_or ss k slots.Gone) ≡ true → list_any (is_waiting n) ss ≡ false → n ≡ s → ⊥
-waits_once n s ss k at none e = both_ways (list_any (is_waiting s) ss) (subst (λ i. list_any (is_waiting i) ss ≡ false) e none) (waits_at s ss k at)
+pub arrived_idly : (m : Seen) (s : ℕ) → ((n : ℕ) → bears n m ≡ (s == n)) → (ss : List Slot) → list_any (is_waiting s) ss ≡ false → map (arrived m) ss ≡ ss
+arrived_idly m s same ss none =
+    arrived_past m s same ss (λ j. false_from_ne_true (is_waiting s (get_or ss j Slot.Gone)) (λ w. both_ways (list_any (is_waiting s) ss) none (waits_at s ss j w)))
 
--- the first slot that waits for its serial is the only one that changes
-pub arrived_first : (m : Seen) (s : ℕ) → ((n : ℕ) → bears n m ≡ (s == n)) → (ss : List Slot) (k : ℕ)
-    → is_waiting s (get_or ss k slots.Gone) ≡ true → AreDistinct ss → map (arrived m) ss ≡ set ss k (reply_kept (is_inner_slot (get_or ss k slots.Gone)) m)
-arrived_first m s same [] k at d = refl
-arrived_first m s same (slots.Gone ∷ ss) zero at d = absurd (false≢true at)
-arrived_first m s same (slots.Gone ∷ ss) (suc k) at d = ap (λ xs. slots.Gone ∷ xs) (arrived_first m s same ss k at d)
-arrived_first m s same (slots.Replied r ∷ ss) zero at d = absurd (false≢true at)
-arrived_first m s same (slots.Replied r ∷ ss) (suc k) at d = ap (λ xs. slots.Replied r ∷ xs) (arrived_first m s same ss k at d)
-arrived_first m s same (slots.Waiting n i ∷ ss) zero at d =
-    let e = eqb-true n s at in
-    let rest : list_any (is_waiting s) ss ≡ false = subst (λ j. list_any (is_waiting j) ss ≡ false) e d.0 in
-    rw (same n ∙ eq-eqb s n (sym e)) (ap (λ xs. reply_kept i m ∷ xs) (arrived_past m s same ss rest))
-arrived_first m s same (slots.Waiting n i ∷ ss) (suc k) at d =
-    let other : eqb n s ≡ false = false_from_ne_true (n == s) (λ q. waits_once n s ss k at d.0 (eqb-true n s q)) in
-    rw (same n ∙ eqb-flip n s other) (ap (λ xs. slots.Waiting n i ∷ xs) (arrived_first m s same ss k at d.1))
+-- the one slot that waits for its serial is the only one that changes
+pub arrived_first : (m : Seen) (s : ℕ) → ((n : ℕ) → bears n m ≡ (s == n)) → (ss : List Slot) (k : ℕ) → is_waiting s (get_or ss k Slot.Gone) ≡ true
+    → ((j : ℕ) → is_waiting s (get_or ss j Slot.Gone) ≡ true → j ≡ k) → map (arrived m) ss ≡ set ss k (reply_kept (is_inner_slot (get_or ss k Slot.Gone)) m)
+arrived_first m s same [] k at only = refl
+arrived_first m s same (x ∷ ss) zero at only =
+    let a = woken_arrived m s same x at in
+    let b = arrived_past m s same ss (λ j. false_from_ne_true (is_waiting s (get_or ss j Slot.Gone)) (λ w. omega (arith, only (suc j) w))) in cc
+arrived_first m s same (x ∷ ss) (suc k) at only =
+    let a = idle_arrived m s same x (false_from_ne_true (is_waiting s x) (λ w. omega (arith, only 0 w))) in
+    let b = arrived_first m s same ss k at (λ j w. let e : suc j ≡ suc k = only (suc j) w in omega arith) in cc
 
 -- a reply that is kept doesn't wait
 pub reply_waits : (inner : Bool) (m : Seen) (n : ℕ) → is_waiting n (reply_kept inner m) ≡ false
 reply_waits true m n = refl
 reply_waits false m n = refl
 
-arrived_waits_by : (b inner : Bool) (m : Seen) (n k : ℕ) (more : Bool) → ((k == n) || more) ≡ false → (is_waiting n (if b then reply_kept inner m else slots.Waiting k inner) || more) ≡ false
-arrived_waits_by true inner m n k more e = or_from (is_waiting n (reply_kept inner m)) more (reply_waits inner m n) (or_parts (k == n) more e).1
-arrived_waits_by false inner m n k more e = e
-
-arrived_waits : (m : Seen) (n : ℕ) (ss : List Slot) → list_any (is_waiting n) ss ≡ false → list_any (is_waiting n) (map (arrived m) ss) ≡ false
-arrived_waits m n [] none = refl
-arrived_waits m n (slots.Gone ∷ ss) none = arrived_waits m n ss none
-arrived_waits m n (slots.Waiting k i ∷ ss) none =
-    let parts = or_parts (k == n) (list_any (is_waiting n) ss) none in
-    arrived_waits_by (bears k m) i m n k (list_any (is_waiting n) (map (arrived m) ss))
-    (or_from (k == n) (list_any (is_waiting n) (map (arrived m) ss)) parts.0 (arrived_waits m n ss parts.1))
-arrived_waits m n (slots.Replied r ∷ ss) none = arrived_waits m n ss none
-
-reply_distinct : (inner : Bool) (m : Seen) (ss : List Slot) → AreDistinct ss → AreDistinct (reply_kept inner m ∷ ss)
-reply_distinct true m ss d = d
-reply_distinct false m ss d = d
-
-arrived_distinct_by : (b inner : Bool) (m : Seen) (k : ℕ) (ss : List Slot) → list_any (is_waiting k) ss ≡ false → AreDistinct ss
-    → AreDistinct ((if b then reply_kept inner m else slots.Waiting k inner) ∷ ss)
-arrived_distinct_by true inner m k ss none d = reply_distinct inner m ss d
-arrived_distinct_by false inner m k ss none d = (none, d)
-
-pub arrived_distinct : (m : Seen) (ss : List Slot) → AreDistinct ss → AreDistinct (map (arrived m) ss)
-arrived_distinct m [] d = tt
-arrived_distinct m (slots.Gone ∷ ss) d = arrived_distinct m ss d
-arrived_distinct m (slots.Waiting k i ∷ ss) d =
-    arrived_distinct_by (bears k m) i m k (map (arrived m) ss) (arrived_waits m k ss d.0) (arrived_distinct m ss d.1)
-arrived_distinct m (slots.Replied r ∷ ss) d = arrived_distinct m ss d
-
 -- ---- a call goes
 
-gone_waits : (n : ℕ) (ss : List Slot) (k : ℕ) → list_any (is_waiting n) ss ≡ false → list_any (is_waiting n) (set ss k slots.Gone) ≡ false
-gone_waits n [] k none = none
-gone_waits n (s ∷ ss) zero none = (or_parts (is_waiting n s) (list_any (is_waiting n) ss) none).1
-gone_waits n (s ∷ ss) (suc k) none =
-    let parts = or_parts (is_waiting n s) (list_any (is_waiting n) ss) none in
-    or_from (is_waiting n s) (list_any (is_waiting n) (set ss k slots.Gone)) parts.0 (gone_waits n ss k parts.1)
-
-pub gone_distinct : (ss : List Slot) (k : ℕ) → AreDistinct ss → AreDistinct (set ss k slots.Gone)
-gone_distinct [] k d = d
-gone_distinct (slots.Gone ∷ ss) zero d = d
-gone_distinct (slots.Waiting n i ∷ ss) zero d = d.1
-gone_distinct (slots.Replied r ∷ ss) zero d = d
-gone_distinct (slots.Gone ∷ ss) (suc k) d = gone_distinct ss k d
-gone_distinct (slots.Waiting n i ∷ ss) (suc k) d = (gone_waits n ss k d.0, gone_distinct ss k d.1)
-gone_distinct (slots.Replied r ∷ ss) (suc k) d = gone_distinct ss k d
-
 -- a call whose answer was given
-pub slots_spent : (h : Past) (cs : List Call) (k : ℕ) → map (slot_of h.read) (edit k spend cs) ≡ set (map (slot_of h.read) cs) k slots.Gone
+pub slots_spent : (h : Past) (cs : List Call) (k : ℕ) → map (slot_of h.read) (edit k spend cs) ≡ set (map (slot_of h.read) cs) k Slot.Gone
 unfolding slot_of
 slots_spent h [] k = refl
 slots_spent h (c ∷ cs) zero = refl
 slots_spent h (c ∷ cs) (suc k) = ap (λ xs. slot_of h.read c ∷ xs) (slots_spent h cs k)
 
-lost_by : (spent failed : Bool) (x : Slot) → (if spent || (failed || true) then slots.Gone else x) ≡ slots.Gone
+lost_by : (spent failed : Bool) (x : Slot) → (if spent || (failed || true) then Slot.Gone else x) ≡ Slot.Gone
 lost_by true failed x = refl
 lost_by false true x = refl
 lost_by false false x = refl
 
-kept_by : (spent failed : Bool) (x : Slot) → (if spent || (failed || false) then slots.Gone else x) ≡ (if spent || failed then slots.Gone else x)
+kept_by : (spent failed : Bool) (x : Slot) → (if spent || (failed || false) then Slot.Gone else x) ≡ (if spent || failed then Slot.Gone else x)
 kept_by true failed x = refl
 kept_by false true x = refl
 kept_by false false x = refl
 
-slot_lost : (h : Past) (n : ℕ) (c : Call) → (c.index == n) ≡ true → slot_of h.read (fail_at n c) ≡ slots.Gone
+slot_lost : (h : Past) (n : ℕ) (c : Call) → (c.index == n) ≡ true → slot_of h.read (fail_at n c) ≡ Slot.Gone
 unfolding slot_of found
 slot_lost h n c e =
-    ap (λ b. if c.spent || (c.failed || b) then slots.Gone else slot_by c.inner c.serial (find (bears c.serial) (drop c.from h.read))) e
+    ap (λ b. if c.spent || (c.failed || b) then Slot.Gone else slot_by c.inner c.serial (find (bears c.serial) (drop c.from h.read))) e
     ∙ lost_by c.spent c.failed (slot_by c.inner c.serial (find (bears c.serial) (drop c.from h.read)))
 
 slot_kept : (h : Past) (n : ℕ) (c : Call) → (c.index == n) ≡ false → slot_of h.read (fail_at n c) ≡ slot_of h.read c
 unfolding slot_of found
 slot_kept h n c e =
-    ap (λ b. if c.spent || (c.failed || b) then slots.Gone else slot_by c.inner c.serial (find (bears c.serial) (drop c.from h.read))) e
+    ap (λ b. if c.spent || (c.failed || b) then Slot.Gone else slot_by c.inner c.serial (find (bears c.serial) (drop c.from h.read))) e
     ∙ kept_by c.spent c.failed (slot_by c.inner c.serial (find (bears c.serial) (drop c.from h.read)))
 
 -- no call's message stands at the place
@@ -214,7 +162,7 @@ past_none n (x ∷ xs) a =
 
 -- the one call whose message stands at the place
 pub slots_lost : (h : Past) (n : ℕ) (cs : List Call) (k : ℕ) → k < length (places cs) → (get_or (places cs) k 0 == n) ≡ true → Rising (places cs)
-    → map (slot_of h.read) (map (fail_at n) cs) ≡ set (map (slot_of h.read) cs) k slots.Gone
+    → map (slot_of h.read) (map (fail_at n) cs) ≡ set (map (slot_of h.read) cs) k Slot.Gone
 slots_lost h n [] k lt at r = refl
 slots_lost h n (c ∷ cs) zero lt at r =
     let e : c.index ≡ n = eqb-true c.index n at in
@@ -227,26 +175,10 @@ slots_lost h n (c ∷ cs) (suc k) lt at r =
     let a = slot_kept h n c (ne_eqb c.index n (λ q. omega arith)) in
     let b = slots_lost h n cs k further at r.1 in cc
 
--- ---- a call is made
-
-waits_push : (n s : ℕ) (inner : Bool) (ss : List Slot) → list_any (is_waiting n) ss ≡ false → (s == n) ≡ false → list_any (is_waiting n) (ss ++ slots.Waiting s inner ∷ []) ≡ false
-waits_push n s inner [] none e = or_from (s == n) false e refl
-waits_push n s inner (x ∷ ss) none e =
-    let parts = or_parts (is_waiting n x) (list_any (is_waiting n) ss) none in
-    or_from (is_waiting n x) (list_any (is_waiting n) (ss ++ slots.Waiting s inner ∷ [])) parts.0 (waits_push n s inner ss parts.1 e)
-
-pub distinct_push : (s : ℕ) (inner : Bool) (ss : List Slot) → list_any (is_waiting s) ss ≡ false → AreDistinct ss → AreDistinct (ss ++ slots.Waiting s inner ∷ [])
-distinct_push s inner [] none d = (refl, tt)
-distinct_push s inner (slots.Gone ∷ ss) none d = distinct_push s inner ss none d
-distinct_push s inner (slots.Waiting n i ∷ ss) none d =
-    let parts = or_parts (n == s) (list_any (is_waiting s) ss) none in
-    (waits_push n s inner ss d.0 (eqb-flip n s parts.0), distinct_push s inner ss parts.1 d.1)
-distinct_push s inner (slots.Replied r ∷ ss) none d = distinct_push s inner ss none d
-
 -- ---- which serials are pending
 
 waits_by : (spent failed inner : Bool) (o : Option Seen) (n serial : ℕ)
-    → (not (spent || failed) && is_none o && (n == serial)) ≡ is_waiting serial (if spent || failed then slots.Gone else slot_by inner n o)
+    → (not (spent || failed) && is_none o && (n == serial)) ≡ is_waiting serial (if spent || failed then Slot.Gone else slot_by inner n o)
 waits_by true failed inner o n serial = refl
 waits_by false true inner o n serial = refl
 waits_by false false inner (Some m) n serial = sym (reply_waits inner m serial)
@@ -258,7 +190,7 @@ unfolding slot_of
 waits-slot h serial c = waits_by c.spent c.failed c.inner (found h.read c) c.serial serial
 
 own_by : (spent failed inner : Bool) (o : Option Seen) (n : ℕ)
-    → (inner && (not (spent || failed) && is_none o)) ≡ is_inner_slot (if spent || failed then slots.Gone else slot_by inner n o)
+    → (inner && (not (spent || failed) && is_none o)) ≡ is_inner_slot (if spent || failed then Slot.Gone else slot_by inner n o)
 own_by true failed true o n = refl
 own_by true failed false o n = refl
 own_by false true true o n = refl
@@ -272,3 +204,23 @@ own_by false false false None n = refl
 pub own-slot : (h : Past) (c : Call) → is_awaited h.read c ≡ is_inner_slot (slot_of h.read c)
 unfolding slot_of
 own-slot h c = own_by c.spent c.failed c.inner (found h.read c) c.serial
+
+-- ---- as the past says it
+
+pub pending-left : (v : CallsView) (h : Past) → LeftCalls v h → (serial : ℕ) → pending h serial ≡ waiting_serial v serial
+unfolding pending waiting_serial
+pending-left v h left serial =
+    rw left.slots (rw left.closing
+    (ap (λ b. is_none h.closing && b)
+    (list_any-along (waits_with h.read serial) (λ c. is_waiting serial (slot_of h.read c)) (waits-slot h serial) h.calls
+    ∙ sym (list_any-map (is_waiting serial) (slot_of h.read) h.calls))))
+
+-- one of the peer's own waits, and the peer is open
+pub flying-left : (ss : List Slot) (error : Option Error) (h : Past) (b : Bool) → LeftCalls (record { slots = ss; closing = error }) h → b ≡ (is_none error && list_any is_inner_slot ss) → b ≡ in_flight h
+unfolding in_flight
+flying-left ss error h b left e =
+    e
+    ∙ rw left.slots (rw left.closing
+    (ap (λ x. is_none h.closing && x)
+    (list_any-map is_inner_slot (slot_of h.read) h.calls
+    ∙ sym (list_any-along (is_awaited h.read) (λ c. is_inner_slot (slot_of h.read c)) (own-slot h) h.calls))))

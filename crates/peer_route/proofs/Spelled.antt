@@ -1,9 +1,6 @@
 -- Bytes in hexadecimal: what is written is read again, and what is read was written so.
-use Rattle.std.proofs.Common.{ℕ, ◌≡◌, ◌+◌, ◌*◌, ◌/◌, ◌%◌, ◌<◌, List, [], ◌∷◌, ◌++◌, length, Option, Some, None, refl, sym, ap, ◌∙◌, arith, append_assoc, subst}
-use Rattle.std.specs.List.{All}
-use Rattle.std.specs.Io.KnownBytes.{prepend_known}
-use Rattle.std.proofs.lemmas.Bool.Decides.{nat_tests}
-use Rattle.std.proofs.lemmas.List.Elements.{All-head, All-tail, All-cons, All-from_recursion}
+use Rattle.std.proofs.{Common.{ℕ, ◌≡◌, ◌+◌, ◌*◌, ◌/◌, ◌%◌, ◌<◌, List, [], ◌∷◌, ◌++◌, length, Option, Some, None, refl, sym, ap, ◌∙◌, arith, append_assoc, subst}, lemmas.Bool.Decides.nat_tests, lemmas.List.Elements.{All-head, All-tail, All-cons, All-from_recursion}}
+use Rattle.std.specs.{List.All, Io.KnownBytes.prepend_known}
 use Rattle.peer_route.specs.Hex.{hex_value, hex_byte, onto, hex_pairs, bytes_of, hex_digit, hex_two, hex_word}
 
 prepend_push : (xs : List ℕ) (b : ℕ) (o : Option (List ℕ)) → prepend_known (xs ++ b ∷ []) o ≡ prepend_known xs (onto (Some b) o)

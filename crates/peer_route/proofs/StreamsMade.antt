@@ -1,114 +1,328 @@
--- What streams hold after each event.
-use Rattle.std.proofs.Common.{◌≡◌, ℕ, ◌+◌, zero, suc, refl, sym, ◌∙◌, ap, arith, subst, Bool, true, false, not, cond, if◌then◌else◌, ◌&&◌, ◌||◌, ◌==◌, nat_lt, is_some, List, [], ◌∷◌, ◌++◌, length, drop, map, Option, Some, None, Ok, Err}
-use Rattle.std.specs.List.{slice_get, list_any, AllByRecursion}
-use Rattle.std.specs.Option.{option_map, option_flatten, option_and_then}
-use Rattle.std.proofs.Math.Seq.{drop-length, drop-nil}
-use Rattle.std.proofs.lemmas.List.{map-append, append-nil, drop-append-le}
-use Rattle.std.proofs.lemmas.Option.{slice_get-map}
-use Rattle.std.proofs.lemmas.Bool.{ne_eqb}
-use Rattle.std.proofs.lemmas.Bool.Decides.{nat_tests}
+-- What is kept of streams, and what it is after each event.
+use Rattle.peer_route.specs.{History.{Gone, done_by, Took, Fault, Made, Did, Plain, Cloned, bears, edit, Call, Stream, Phase, Asking, Denied, Since, is_return, asks_by, phase, fresh, plain_stream, fail_stream, clone_of, rule_of, Past, after}, Streams.{since_in, is_since, accepted, limit_of, matched, offered, held, is_full, runs, runs_at, is_open, is_over as nothing_comes, take_by, take_at, take_answer, first_position, next_at, next_position, limit_answer, rule_answer}, Names.{Subscription, Seen, Error, Rule, accepts, Progress}, Left.{Held, kept_by, kept, kept_open, subscription, is_usable, new_held, keeps_by, pushed, settled_by, ended, lost_by, limit_or, is_over, IsWithin, AreStreams, LeftStreams}}
+use Rattle.std.proofs.{Common.{◌≡◌, ℕ, ◌+◌, ◌<◌, ◌≤◌, suc, refl, sym, ◌∙◌, ap, arith, subst, Bool, true, false, not, cond, if◌then◌else◌, ◌&&◌, ◌||◌, ◌==◌, nat_lt, is_some, List, [], ◌∷◌, ◌++◌, length, drop, map, get_or, Option, Some, None, Result, Ok, Err, OnOk}, Math.Seq.{drop-length, drop-nil}, lemmas.List.{map-append, append-nil, drop-append-le, drop-drop}, lemmas.Option.{slice_get-map, slice_get_past, slice_get_read}, lemmas.Bool.ne_eqb, lemmas.Bool.Decides.nat_tests}
+use Rattle.std.specs.{List.{slice_get, list_any, AllByRecursion}, Option.{option_map, option_and_then}}
+use Rattle.peer_route.proofs.{Plain.{map_along, map_each, list_any-map, list_any-along}, Edits.{map_edit_all, map_edit, edit-past, all_weaker, all_at, all_more, all_map, all_edit}, Matched.{stepped, phase_took, within_fresh, accepted_nothing, accepted-append, within_took}}
 use mathlib.Core.List.{map-map}
-use Rattle.wire_message.specs.Front.{Seen}
-use Rattle.wire_message.specs.declared.error.Error.{Error}
-use Rattle.wire_message.specs.declared.error.Error.TheVariants as errors
-use Rattle.peer_route.specs.History.{Took, Fault, Made, Did, Plain, Cloned, Gone, Call, bears, edit, Stream, Phase, Asking, Denied, Since, is_return, asks_by, phase, fresh, plain_stream, fail_stream, clone_of, end_one, Past, after}
-use Rattle.peer_route.specs.Streams.{since_in, is_since, accepted, limit_of, matched, offered, held, is_full, runs, runs_at, is_open, is_over as nothing_comes, take_by, take_at, take_answer, first_position, next_at, next_position}
-use Rattle.rule_match.specs.Rule.{Rule}
-use Rattle.rule_match.specs.Accepting.{accepts}
-use Rattle.peer_route.specs.Left.{Held, held_by, held_of, subscription, progress_by, wants_by, waits_by, is_running, is_usable, if_usable, empty_held, wants_it, limit_or, kept_by, any_at, kept_at, answered_by, with_one, arrived_at, lost_at, is_over, held_gives, next_held, ended_by, IsWithin, LeftStreams}
-use Rattle.peer_route.proofs.Plain.{map_along, map_each, list_any-map, list_any-along}
-use Rattle.peer_route.proofs.Edits.{map_edit_all}
-use Rattle.peer_route.proofs.Phases.{stepped, phase_took}
-use Rattle.peer_route.proofs.Matched.{arriving, held_matched, matched_took, all_within_took, within_at, within_fresh, within_push, accepted_nothing}
 
--- ---- a write fails
+-- ---- what is kept of a stream that is open
 
-fail_by : (n : ℕ) (p : Phase) (gone : Bool) (q : Held) → q.progress ≡ progress_by p → kept_by (gone || asks_by n p) q ≡ lost_at n (kept_by gone q)
-fail_by n p true q e = refl
-fail_by n (Since ms) false q e = ap (λ x. if waits_by n x then None else Some q) (sym e)
-fail_by n (Denied m) false q e = ap (λ x. if waits_by n x then None else Some q) (sym e)
-fail_by n (Asking add) false q e = kept_if (add.index == n) q ∙ ap (λ x. if waits_by n x then None else Some q) (sym e)
+-- what is known of it
+pub record Runs (ms : List Seen) (s : Stream) : Type 0 where
+  pub still : s.gone ≡ false
+  pub since : is_since (phase ms s) ≡ true
+
+runs_by : (opened gone since : Bool) → (opened && (not gone && since)) ≡ true → (gone ≡ false) × (since ≡ true)
+runs_by true true since e = cc
+runs_by true false since e = (refl, e)
+runs_by false gone since e = cc
+
+pub runs_so : (h : Past) (s : Stream) → runs h.read s ≡ true → Runs h.read s
+unfolding runs
+runs_so h s e = let t = runs_by s.opened s.gone (is_since (phase h.read s)) e in record { still = t.0; since = t.1 }
+
+-- by its rule and what it holds
+abbrev pub open_held : (Rule → ℕ) → List Seen → Stream → Held
+open_held limits ms s = record { wants = option_map (subscription limits) s.rule; progress = Progress.Runs; items = held ms s; told = s.told; opened = s.opened }
+
+since_by : (limits : Rule → ℕ) (s : Stream) (gone : Bool) (p : Phase) → gone ≡ false → is_since p ≡ true
+    → kept_by limits s gone p ≡ record { wants = option_map (subscription limits) s.rule; progress = Progress.Runs; items = drop s.taken (drop s.skip (accepted s.rule (since_in p))); told = s.told; opened = s.opened }
+since_by limits s false (Since ms) still since = refl
+since_by limits s false (Asking add) still since = cc
+since_by limits s false (Denied m) still since = cc
+since_by limits s true p still since = cc
+
+pub kept_runs : (limits : Rule → ℕ) (h : Past) (s : Stream) → runs h.read s ≡ true → kept limits h.read s ≡ open_held limits h.read s
+unfolding kept held offered matched
+kept_runs limits h s e = let is = runs_so h s e in since_by limits s s.gone (phase h.read s) is.still is.since
+
+usable_by : (limits : Rule → ℕ) (s : Stream) (gone : Bool) (p : Phase) → is_usable (kept_by limits s gone p) ≡ (s.opened && (not gone && is_since p))
+usable_by limits s true p = refl
+usable_by limits s false (Since ms) = refl
+usable_by limits s false (Asking add) = refl
+usable_by limits s false (Denied m) = refl
+
+-- it can be used exactly where the stream is open
+pub usable_runs : (limits : Rule → ℕ) (ms : List Seen) (s : Stream) → is_usable (kept limits ms s) ≡ runs ms s
+unfolding kept runs
+usable_runs limits ms s = usable_by limits s s.gone (phase ms s)
+
+-- ---- what stands at a place
+
+at_by : {A B : Type 0} (f : A → B) (o : Option A) (y : B) → option_map f o ≡ Some y → (x : A) × (o ≡ Some x) × (y ≡ f x)
+at_by f None y e = cc
+at_by f (Some x) y e = (x, refl, cc)
+
+none_by : {A B : Type 0} (f : A → B) (o : Option A) → option_map f o ≡ None → o ≡ None
+none_by f None e = refl
+none_by f (Some x) e = cc
+
+-- what is read at a place is kept of the stream with that number
+pub at_read : (v : List Held) (h : Past) (len k : ℕ) (q : Held) → LeftStreams v h → len ≡ length v → k < len → q ≡ get_or v k q
+    → (s : Stream) × (slice_get h.streams k ≡ Some s) × (q ≡ kept h.capacities.rules h.read s)
+at_read v h len k q left all lt at =
+    let K = kept h.capacities.rules h.read in
+    at_by K (slice_get h.streams k) q (sym (slice_get-map K h.streams k) ∙ ap (λ qs. slice_get qs k) (sym left.queues) ∙ slice_get_read v len k q all lt at)
+
+pub past_read : (v : List Held) (h : Past) (len k : ℕ) → LeftStreams v h → len ≡ length v → len ≤ k → slice_get h.streams k ≡ None
+past_read v h len k left all le =
+    let K = kept h.capacities.rules h.read in
+    none_by K (slice_get h.streams k) (sym (slice_get-map K h.streams k) ∙ ap (λ qs. slice_get qs k) (sym left.queues) ∙ slice_get_past v k (omega (arith, all, le)))
+
+abbrev pub if_usable : Held → Option Held
+if_usable q = if is_usable q then Some q else None
+
+found_at : (h : Past) (o : Option Stream) → option_and_then if_usable (option_map (kept h.capacities.rules h.read) o) ≡ kept_open h.capacities.rules h.read o
+found_at h None = refl
+found_at h (Some s) = ap (λ b. if b then Some (kept h.capacities.rules h.read s) else None) (usable_runs h.capacities.rules h.read s)
+
+-- what is found at a place is what is kept of the stream there, where that is open
+pub found_left : (v : List Held) (h : Past) (k : ℕ) (o : Option Held) → LeftStreams v h → slice_get v k ≡ o → option_and_then if_usable o ≡ kept_open h.capacities.rules h.read (slice_get h.streams k)
+found_left v h k o left at =
+    let K = kept h.capacities.rules h.read in
+    ap (option_and_then if_usable) (sym at ∙ ap (λ qs. slice_get qs k) left.queues ∙ slice_get-map K h.streams k) ∙ found_at h (slice_get h.streams k)
+
+-- ---- look-ups
+
+-- what is read of it
+abbrev pub read_of : {X : Type 0} → X → (Held → X) → Option Held → X
+read_of none f None = none
+read_of none f (Some q) = f q
+
+read_by : {X : Type 0} (none : X) (f : Held → X) (h : Past) (s : Stream) (b : Bool) → runs h.read s ≡ b
+    → read_of none f (if b then Some (kept h.capacities.rules h.read s) else None) ≡ (if b then f (open_held h.capacities.rules h.read s) else none)
+read_by none f h s true e = ap f (kept_runs h.capacities.rules h s e)
+read_by none f h s false e = refl
+
+there_of : (h : Past) (o : Option Stream) → read_of false (λ _. true) (kept_open h.capacities.rules h.read o) ≡ runs_at h.read o
+there_of h None = refl
+there_of h (Some s) = read_by false (λ q. true) h s (runs h.read s) refl ∙ by (runs h.read s)
   where
-    kept_if : (b : Bool) (k : Held) → kept_by b k ≡ (if b then None else Some k)
-    kept_if true k = refl
-    kept_if false k = refl
+    by : (b : Bool) → (if b then true else false) ≡ b
+    by true = refl
+    by false = refl
 
-held_failed : (h : Past) (n : ℕ) (s : Stream) → held_of (after Fault h).capacities.rules (after Fault h).read (fail_stream h.read n s) ≡ lost_at n (held_of h.capacities.rules h.read s)
-unfolding held_of held offered matched phase
-held_failed h n s = fail_by n (phase h.read s) s.gone (held_by h.capacities.rules h.read s) refl
+pub there_so : (h : Past) (k : ℕ) (r : Option Held) → r ≡ kept_open h.capacities.rules h.read (slice_get h.streams k) → read_of false (λ _. true) r ≡ is_open h k
+unfolding is_open
+there_so h k r e = ap (read_of false (λ _. true)) e ∙ there_of h (slice_get h.streams k)
 
-all_failed : (h : Past) (n : ℕ) (ss : List Stream) → map (lost_at n) (map (held_of h.capacities.rules h.read) ss) ≡ map (held_of (after Fault h).capacities.rules (after Fault h).read) (map (fail_stream h.read n) ss)
-all_failed h n ss =
-    map-map (lost_at n) (held_of h.capacities.rules h.read) ss ∙ map_each _ _ (λ s. sym (held_failed h n s)) ss
-    ∙ sym (map-map (held_of (after Fault h).capacities.rules (after Fault h).read) (fail_stream h.read n) ss)
+next_of : (h : Past) (o : Option Stream) → read_of None (λ q. first_position q.items) (kept_open h.capacities.rules h.read o) ≡ next_at h.read o
+next_of h None = refl
+next_of h (Some s) = read_by None (λ q. first_position q.items) h s (runs h.read s) refl
 
-fail_within : (h : Past) (n : ℕ) (s : Stream) → IsWithin h.read s → IsWithin (after Fault h).read (fail_stream h.read n s)
-unfolding matched phase
-fail_within h n s w = record { start = w.start; passed = w.passed }
+pub next_so : (h : Past) (k : ℕ) (r : Option Held) → r ≡ kept_open h.capacities.rules h.read (slice_get h.streams k) → read_of None (λ q. first_position q.items) r ≡ next_position h k
+unfolding next_position
+next_so h k r e = ap (read_of None (λ q. first_position q.items)) e ∙ next_of h (slice_get h.streams k)
 
-pub all_fail_within : (h : Past) (n : ℕ) (ss : List Stream) → AllByRecursion (IsWithin h.read) ss → AllByRecursion (IsWithin (after Fault h).read) (map (fail_stream h.read n) ss)
-all_fail_within h n [] w = tt
-all_fail_within h n (s ∷ ss) w = (fail_within h n s w.0, all_fail_within h n ss w.1)
+-- the rule of what is kept
+abbrev pub rule_kept : Option Subscription → Option Rule
+rule_kept w = option_map (λ (s : Subscription). s.rule) w
 
-pub streams_fault : (n : ℕ) (v : List (Option Held)) (h : Past) → n ≡ h.outbox.done → LeftStreams v h → LeftStreams (map (lost_at n) v) (after Fault h)
-streams_fault n v h e left = record {
-  queues = ap (map (lost_at n)) left.queues ∙ all_failed h n h.streams ∙ ap (λ i. map (held_of (after Fault h).capacities.rules (after Fault h).read) (map (fail_stream h.read i) h.streams)) e;
-  within = subst (λ i. AllByRecursion (IsWithin (after Fault h).read) (map (fail_stream h.read i) h.streams)) e (all_fail_within h n h.streams left.within);
-}
+pub rule_by : (limits : Rule → ℕ) (o : Option Rule) → rule_kept (option_map (subscription limits) o) ≡ o
+rule_by limits None = refl
+rule_by limits (Some rule) = refl
+
+rule_of_open : (h : Past) (o : Option Stream) → read_of None (λ q. rule_kept q.wants) (kept_open h.capacities.rules h.read o) ≡ (if runs_at h.read o then rule_of o else None)
+rule_of_open h None = refl
+rule_of_open h (Some s) =
+    read_by None (λ q. rule_kept q.wants) h s (runs h.read s) refl ∙ ap (λ o. if runs h.read s then o else None) (rule_by h.capacities.rules s.rule)
+
+pub rule_so : (h : Past) (k : ℕ) (r : Option Held) → r ≡ kept_open h.capacities.rules h.read (slice_get h.streams k) → read_of None (λ q. rule_kept q.wants) r ≡ rule_answer h k
+unfolding rule_answer is_open
+rule_so h k r e = ap (read_of None (λ q. rule_kept q.wants)) e ∙ rule_of_open h (slice_get h.streams k)
+
+pub limit_by : (h : Past) (rule : Option Rule) → limit_or h.capacities.main (option_map (subscription h.capacities.rules) rule) ≡ limit_of h.capacities rule
+limit_by h None = refl
+limit_by h (Some rule) = refl
+
+abbrev pub limit_shown : ℕ → Option Held → Result ℕ Error
+limit_shown main r = read_of (Err Error.UnknownHandle) (λ q. Ok (limit_or main q.wants)) r
+
+limit_of_open : (h : Past) (o : Option Stream) → limit_shown h.capacities.main (kept_open h.capacities.rules h.read o) ≡ (if runs_at h.read o then Ok (limit_of h.capacities (rule_of o)) else Err Error.UnknownHandle)
+limit_of_open h None = refl
+limit_of_open h (Some s) =
+    read_by (Err Error.UnknownHandle) (λ q. Ok (limit_or h.capacities.main q.wants)) h s (runs h.read s) refl
+    ∙ ap (λ n. if runs h.read s then Ok n else Err Error.UnknownHandle) (limit_by h s.rule)
+
+pub limit_so : (h : Past) (k main : ℕ) (r : Option Held) → r ≡ kept_open h.capacities.rules h.read (slice_get h.streams k) → main ≡ h.capacities.main → limit_shown main r ≡ limit_answer h k
+unfolding limit_answer is_open
+limit_so h k main r e is = ap (limit_shown main) e ∙ ap (λ n. limit_shown n (kept_open h.capacities.rules h.read (slice_get h.streams k))) is ∙ limit_of_open h (slice_get h.streams k)
+
+ended_items : (items : List Seen) (told : Bool) (o : Option Error) → (is_some o && told && (length items == 0)) ≡ nothing_comes (Ok (take_by items o told))
+ended_items (m ∷ ms) told None = refl
+ended_items (m ∷ ms) true (Some error) = ne_eqb (suc (length ms)) 0 (λ w. omega (arith, w))
+ended_items (m ∷ ms) false (Some error) = refl
+ended_items [] told None = refl
+ended_items [] true (Some error) = refl
+ended_items [] false (Some error) = refl
+
+-- nothing comes, on a peer that is closed or isn't
+abbrev pub is_ended : Bool → Option Held → Bool
+is_ended closed r = read_of true (λ q. closed && q.told && (length q.items == 0)) r
+
+ended_of : (h : Past) (o : Option Stream) → is_ended (is_some h.closing) (kept_open h.capacities.rules h.read o) ≡ nothing_comes (take_at h.read h.closing o)
+ended_of h None = refl
+ended_of h (Some s) = read_by true (λ q. is_some h.closing && q.told && (length q.items == 0)) h s (runs h.read s) refl ∙ by (runs h.read s)
+  where
+    by : (b : Bool) → (if b then is_some h.closing && s.told && (length (held h.read s) == 0) else true) ≡ nothing_comes (if b then Ok (take_by (held h.read s) h.closing s.told) else Err Error.UnknownHandle)
+    by true = ended_items (held h.read s) s.told h.closing
+    by false = refl
+
+-- exactly where a take says so
+pub ended_so : (h : Past) (k : ℕ) (closed : Bool) (r : Option Held) → r ≡ kept_open h.capacities.rules h.read (slice_get h.streams k) → closed ≡ is_some h.closing → is_ended closed r ≡ nothing_comes (take_answer h k)
+unfolding take_answer
+ended_so h k closed r e is = ap (is_ended closed) e ∙ ap (λ b. is_ended b (kept_open h.capacities.rules h.read (slice_get h.streams k))) is ∙ ended_of h (slice_get h.streams k)
+
+take_of : (h : Past) (o : Option Stream) → read_of (Err Error.UnknownHandle) (λ q. Ok (take_by q.items h.closing q.told)) (kept_open h.capacities.rules h.read o) ≡ take_at h.read h.closing o
+take_of h None = refl
+take_of h (Some s) = read_by (Err Error.UnknownHandle) (λ q. Ok (take_by q.items h.closing q.told)) h s (runs h.read s) refl
+
+-- what a take gives
+pub take_so : (h : Past) (k : ℕ) (closing : Option Error) (r : Option Held) → r ≡ kept_open h.capacities.rules h.read (slice_get h.streams k) → closing ≡ h.closing
+    → read_of (Err Error.UnknownHandle) (λ q. Ok (take_by q.items closing q.told)) r ≡ take_answer h k
+unfolding take_answer
+take_so h k closing r e is =
+    ap (λ (c : Option Error). read_of (Err Error.UnknownHandle) (λ q. Ok (take_by q.items c q.told)) r) is
+    ∙ ap (read_of (Err Error.UnknownHandle) (λ q. Ok (take_by q.items h.closing q.told))) e ∙ take_of h (slice_get h.streams k)
+
+pub some_of : {A : Type 0} (f : A → Held) (o : Option A) → is_some o ≡ read_of false (λ _. true) (option_map f o)
+some_of f None = refl
+some_of f (Some x) = refl
+
+-- an open stream's rule is kept
+pub open_rule_of : (h : Past) (k : ℕ) (s : Stream) (q : Held) → slice_get h.streams k ≡ Some s → q ≡ kept h.capacities.rules h.read s → is_open h k ≡ true → rule_kept q.wants ≡ rule_of (slice_get h.streams k)
+unfolding is_open
+open_rule_of h k s q at is there =
+    let opens : runs h.read s ≡ true = sym (ap (runs_at h.read) at) ∙ there in
+    ap (λ (x : Held). rule_kept x.wants) (is ∙ kept_runs h.capacities.rules h s opens) ∙ rule_by h.capacities.rules s.rule ∙ ap rule_of (sym at)
+
+pub not_past : (h : Past) (k : ℕ) → slice_get h.streams k ≡ None → is_open h k ≡ false
+unfolding is_open
+not_past h k at = ap (runs_at h.read) at
+
+-- where one that can be used was found, the stream is open
+pub found_so : (h : Past) (o : Option Stream) (q : Held) → Some q ≡ kept_open h.capacities.rules h.read o → (s : Stream) × (o ≡ Some s) × (runs h.read s ≡ true) × (q ≡ kept h.capacities.rules h.read s)
+found_so h None q e = cc
+found_so h (Some s) q e = let x = by (runs h.read s) refl e in (s, refl, x.0, x.1)
+  where
+    by : (b : Bool) → runs h.read s ≡ b → Some q ≡ (if b then Some (kept h.capacities.rules h.read s) else None) → (runs h.read s ≡ true) × (q ≡ kept h.capacities.rules h.read s)
+    by true is x = (is, cc)
+    by false is x = cc
+
+-- ---- full streams
+
+-- what holds nothing isn't over
+none_over : (n : ℕ) → nat_lt n 0 ≡ false
+none_over n = grind (arith, nat_tests)
+
+nothing_held : (s : Stream) → drop s.taken (drop s.skip (accepted s.rule [])) ≡ []
+nothing_held s = ap (λ ms. drop s.taken (drop s.skip ms)) (accepted_nothing s.rule) ∙ ap (drop s.taken) (drop-nil s.skip) ∙ drop-nil s.taken
+
+over_none : (h : Past) (s : Stream) → false ≡ nat_lt (limit_of h.capacities s.rule) (length (drop s.taken (drop s.skip (accepted s.rule []))))
+over_none h s = sym (ap (λ (ms : List Seen). nat_lt (limit_of h.capacities s.rule) (length ms)) (nothing_held s) ∙ none_over (limit_of h.capacities s.rule))
+
+over_by : (h : Past) (s : Stream) (gone : Bool) (p : Phase)
+    → is_over h.capacities.main (kept_by h.capacities.rules s gone p) ≡ (not gone && nat_lt (limit_of h.capacities s.rule) (length (drop s.taken (drop s.skip (accepted s.rule (since_in p))))))
+over_by h s true p = refl
+over_by h s false (Since ms) = ap (λ n. nat_lt n (length (drop s.taken (drop s.skip (accepted s.rule ms))))) (limit_by h s.rule)
+over_by h s false (Asking add) = over_none h s
+over_by h s false (Denied m) = over_none h s
+
+over_full : (h : Past) (s : Stream) → is_over h.capacities.main (kept h.capacities.rules h.read s) ≡ is_full h.capacities h.read s
+unfolding kept is_full held offered matched
+over_full h s = over_by h s s.gone (phase h.read s)
+
+pub over_any : (v : List Held) (h : Past) → LeftStreams v h → list_any (is_over h.capacities.main) v ≡ list_any (is_full h.capacities h.read) h.streams
+over_any v h left =
+    ap (list_any (is_over h.capacities.main)) left.queues ∙ list_any-map (is_over h.capacities.main) (kept h.capacities.rules h.read) h.streams
+    ∙ list_any-along (λ s. is_over h.capacities.main (kept h.capacities.rules h.read s)) (is_full h.capacities h.read) (over_full h) h.streams
 
 -- ---- a message comes
 
-one_by : (b : Bool) (items : List Seen) (m : Seen) → items ++ cond b (m ∷ []) [] ≡ (if b then items ++ m ∷ [] else items)
-one_by true items m = refl
-one_by false items m = append-nil items
+items_more : (s : Stream) (ms : List Seen) (m : Seen) → s.skip + s.taken ≤ length (accepted s.rule ms)
+    → drop s.taken (drop s.skip (accepted s.rule (ms ++ m ∷ []))) ≡ drop s.taken (drop s.skip (accepted s.rule ms)) ++ accepted s.rule (m ∷ [])
+items_more s ms m le =
+    drop-drop s.taken s.skip (accepted s.rule (ms ++ m ∷ [])) ∙ ap (drop (s.skip + s.taken)) (accepted-append s.rule ms (m ∷ []))
+    ∙ drop-append-le (s.skip + s.taken) (accepted s.rule ms) (accepted s.rule (m ∷ [])) le
+    ∙ ap (λ xs. xs ++ accepted s.rule (m ∷ [])) (sym (drop-drop s.taken s.skip (accepted s.rule ms)))
 
-one_more : (rule : Option Rule) (h : Past) (m : Seen) (items : List Seen)
-    → items ++ accepted rule (m ∷ []) ≡ (if wants_it (option_map (subscription h.capacities.rules) rule) m then items ++ m ∷ [] else items)
-one_more None h m items = refl
-one_more (Some rule) h m items = one_by (accepts rule m) items m
+accepted_one : (limits : Rule → ℕ) (o : Option Rule) (m : Seen) → accepted o (m ∷ []) ≡ (if keeps_by Progress.Runs (option_map (subscription limits) o) m then m ∷ [] else [])
+accepted_one limits None m = refl
+accepted_one limits (Some rule) m = by (accepts rule m)
+  where
+    by : (b : Bool) → cond b (m ∷ []) [] ≡ (if b then m ∷ [] else [])
+    by true = refl
+    by false = refl
 
--- each stream that runs holds one message more, if it is one of its own
-held_more : (m : Seen) (h : Past) (s : Stream) → IsWithin h.read s → held (after (Took m) h).read s ≡ held h.read s ++ arriving (phase h.read s) s.rule m
-held_more m h s within =
-    held_matched (after (Took m) h) s ∙ ap (drop (s.skip + s.taken)) (matched_took m h s within.start)
-    ∙ drop-append-le (s.skip + s.taken) (matched h.read s) (arriving (phase h.read s) s.rule m) within.passed
-    ∙ ap (λ ms. ms ++ arriving (phase h.read s) s.rule m) (sym (held_matched h s))
+-- a stream once the message came: it is pushed, and then settled
+abbrev pub arrived_at : Seen → Held → Held
+arrived_at m q = settled_by (pushed m q).progress m (pushed m q)
 
--- what is kept of a stream, by its phase and what it holds
-abbrev pub by_phase : Past → Stream → Phase → List Seen → Held
-by_phase h s p items = record { wants = wants_by p (option_map (subscription h.capacities.rules) s.rule); progress = progress_by p; items = items; told = s.told; opened = s.opened }
+took_since : (limits : Rule → ℕ) (s : Stream) (m : Seen) (ms : List Seen) (b : Bool) → keeps_by Progress.Runs (option_map (subscription limits) s.rule) m ≡ b → s.skip + s.taken ≤ length (accepted s.rule ms)
+    → kept_by limits s false (Since (ms ++ m ∷ [])) ≡ arrived_at m (kept_by limits s false (Since ms))
+took_since limits s m ms true e le =
+    rw e (ap (λ xs. record (kept_by limits s false (Since ms)) { items = xs })
+    (items_more s ms m le ∙ ap (λ xs. drop s.taken (drop s.skip (accepted s.rule ms)) ++ xs) (accepted_one limits s.rule m ∙ ap (λ b. if b then m ∷ [] else []) e)))
+took_since limits s m ms false e le =
+    rw e (ap (λ xs. record (kept_by limits s false (Since ms)) { items = xs })
+    (items_more s ms m le ∙ ap (λ xs. drop s.taken (drop s.skip (accepted s.rule ms)) ++ xs) (accepted_one limits s.rule m ∙ ap (λ b. if b then m ∷ [] else []) e)
+    ∙ append-nil (drop s.taken (drop s.skip (accepted s.rule ms)))))
 
-answered_one : (b r : Bool) (h : Past) (s : Stream) (add : Call) (m : Seen) (items : List Seen)
-    → by_phase h s (if b then (if r then Since [] else Denied m) else Asking add) items ≡ (if b then answered_by r m (by_phase h s (Asking add) items) else by_phase h s (Asking add) items)
-answered_one true true h s add m items = refl
-answered_one true false h s add m items = refl
-answered_one false r h s add m items = refl
+took_asking : (limits : Rule → ℕ) (s : Stream) (m : Seen) (add : Call) (b r : Bool) → bears add.serial m ≡ b → is_return m.kind ≡ r
+    → kept_by limits s false (stepped m (Asking add)) ≡ arrived_at m (kept_by limits s false (Asking add))
+took_asking limits s m add true true e f = rw (e, f, e, f) (ap (λ xs. record (kept_by limits s false (Since [])) { items = xs }) (nothing_held s))
+took_asking limits s m add true false e f = rw (e, f, e, f) refl
+took_asking limits s m add false r e f = rw (e, e) refl
 
-one_held : (h : Past) (s : Stream) (p : Phase) (m : Seen) (items : List Seen) → by_phase h s (stepped m p) (items ++ arriving p s.rule m) ≡ with_one m (by_phase h s p items)
-one_held h s (Since ms) m items = ap (λ xs. by_phase h s (Since ms) xs) (one_more s.rule h m items)
-one_held h s (Denied r) m items = ap (λ xs. by_phase h s (Denied r) xs) (append-nil items)
-one_held h s (Asking add) m items =
-    ap (λ xs. by_phase h s (stepped m (Asking add)) xs) (append-nil items)
-    ∙ answered_one (bears add.serial m) (is_return m.kind) h s add m items
+took_by : (limits : Rule → ℕ) (s : Stream) (m : Seen) (gone : Bool) (p : Phase) → s.skip + s.taken ≤ length (accepted s.rule (since_in p))
+    → kept_by limits s gone (stepped m p) ≡ arrived_at m (kept_by limits s gone p)
+took_by limits s m true p le = refl
+took_by limits s m false (Since ms) le = took_since limits s m ms (keeps_by Progress.Runs (option_map (subscription limits) s.rule) m) refl le
+took_by limits s m false (Asking add) le = took_asking limits s m add (bears add.serial m) (is_return m.kind) refl refl
+took_by limits s m false (Denied r) le = refl
 
-kept_one : (gone : Bool) (k q : Held) (m : Seen) → k ≡ with_one m q → kept_by gone k ≡ arrived_at m (kept_by gone q)
-kept_one true k q m e = refl
-kept_one false k q m e = ap (λ x. Some x) e
+kept_took : (m : Seen) (h : Past) (s : Stream) → IsWithin h.read s → kept h.capacities.rules (after (Took m) h).read s ≡ arrived_at m (kept h.capacities.rules h.read s)
+unfolding kept matched
+kept_took m h s within =
+    ap (kept_by h.capacities.rules s s.gone) (phase_took m h s within.start) ∙ took_by h.capacities.rules s m s.gone (phase h.read s) within.passed
 
-held_took : (m : Seen) (h : Past) (s : Stream) → IsWithin h.read s → held_of (after (Took m) h).capacities.rules (after (Took m) h).read s ≡ arrived_at m (held_of h.capacities.rules h.read s)
-unfolding held_of
-held_took m h s within =
-    kept_one s.gone (held_by (after (Took m) h).capacities.rules (after (Took m) h).read s) (held_by h.capacities.rules h.read s) m
-    (ap (λ p. by_phase h s p (held (after (Took m) h).read s)) (phase_took m h s within.start)
-    ∙ ap (λ items. by_phase h s (stepped m (phase h.read s)) items) (held_more m h s within)
-    ∙ one_held h s (phase h.read s) m (held h.read s))
-
-pub streams_took : (m : Seen) (v : List (Option Held)) (h : Past) → LeftStreams v h → LeftStreams (map (arrived_at m) v) (after (Took m) h)
+pub streams_took : (m : Seen) (v : List Held) (h : Past) → LeftStreams v h → LeftStreams (map (λ q. settled_by q.progress m q) (map (pushed m) v)) (after (Took m) h)
 streams_took m v h left = record {
-  queues = ap (map (arrived_at m)) left.queues ∙ map-map (arrived_at m) (held_of h.capacities.rules h.read) h.streams
-      ∙ map_along (IsWithin h.read) _ (held_of (after (Took m) h).capacities.rules (after (Took m) h).read) (λ s w. sym (held_took m h s w)) h.streams left.within;
-  within = all_within_took m h h.streams left.within;
+  queues = map-map (λ q. settled_by q.progress m q) (pushed m) v ∙ ap (map (arrived_at m)) left.queues ∙ map-map (arrived_at m) (kept h.capacities.rules h.read) h.streams
+      ∙ map_along (IsWithin h.read) _ (kept h.capacities.rules (after (Took m) h).read) (λ s w. sym (kept_took m h s w)) h.streams left.within;
+  within = all_weaker (IsWithin h.read) (IsWithin (after (Took m) h).read) (within_took m h) h.streams left.within;
 }
+
+-- ---- a write fails
+
+lost_asking : (limits : Rule → ℕ) (s : Stream) (add : Call) (b : Bool) → kept_by limits s b (Asking add) ≡ (if b then ended (kept_by limits s false (Asking add)) else kept_by limits s false (Asking add))
+lost_asking limits s add true = refl
+lost_asking limits s add false = refl
+
+lost_of : (limits : Rule → ℕ) (s : Stream) (n : ℕ) (gone : Bool) (p : Phase)
+    → kept_by limits s (gone || asks_by n p) p ≡ lost_by (kept_by limits s gone p).progress n (kept_by limits s gone p)
+lost_of limits s n true p = refl
+lost_of limits s n false (Since ms) = refl
+lost_of limits s n false (Denied m) = refl
+lost_of limits s n false (Asking add) = lost_asking limits s add (add.index == n)
+
+kept_failed : (limits : Rule → ℕ) (ms : List Seen) (n : ℕ) (s : Stream) → kept limits ms (fail_stream ms n s) ≡ lost_by (kept limits ms s).progress n (kept limits ms s)
+unfolding kept phase
+kept_failed limits ms n s = lost_of limits s n s.gone (phase ms s)
+
+pub fail_within : (h : Past) (n : ℕ) (s : Stream) → IsWithin h.read s → IsWithin (after Fault h).read (fail_stream h.read n s)
+unfolding matched phase
+fail_within h n s w = record { start = w.start; passed = w.passed }
+
+pub streams_fault : (v : List Held) (h : Past) → LeftStreams v h → LeftStreams (map (λ q. lost_by q.progress h.outbox.done q) v) (after Fault h)
+streams_fault v h left =
+    let K = kept h.capacities.rules h.read in
+    let n = h.outbox.done in record {
+      queues = ap (map (λ (q : Held). lost_by q.progress n q)) left.queues ∙ map-map (λ (q : Held). lost_by q.progress n q) K h.streams
+          ∙ map_each _ (λ s. K (fail_stream h.read n s)) (λ s. sym (kept_failed h.capacities.rules h.read n s)) h.streams
+          ∙ sym (map-map K (fail_stream h.read n) h.streams);
+      within = all_map (IsWithin h.read) (IsWithin h.read) (fail_stream h.read n) (fail_within h n) h.streams left.within;
+    }
 
 -- ---- a stream is made
 
@@ -117,114 +331,22 @@ pub held_fresh : (h : Past) (rule : Option Rule) (told : Bool) → held h.read (
 unfolding held offered matched phase
 held_fresh h rule told = ap (accepted rule) (drop-length h.read) ∙ accepted_nothing rule
 
--- a new stream runs
-pub phase_fresh : (h : Past) (rule : Option Rule) (told : Bool) → phase h.read (fresh h rule told) ≡ Since []
-unfolding phase
-phase_fresh h rule told = ap (λ ms. Since ms) (drop-length h.read)
+pub kept_fresh : (limits : Rule → ℕ) (h : Past) (rule : Option Rule) (told : Bool) → kept limits h.read (fresh h rule told) ≡ new_held (option_map (subscription limits) rule) Progress.Runs told
+unfolding kept phase
+kept_fresh limits h rule told =
+    ap (λ (xs : List Seen). record (new_held (option_map (subscription limits) rule) Progress.Runs told) { items = xs }) (ap (accepted rule) (drop-length h.read) ∙ accepted_nothing rule)
 
-held_new : (h : Past) → held_of h.capacities.rules h.read (plain_stream h) ≡ Some (empty_held None (is_some h.closing))
-unfolding held_of
-held_new h =
-    ap (λ p. Some (by_phase h (plain_stream h) p (held h.read (plain_stream h)))) (phase_fresh h None (is_some h.closing))
-    ∙ ap (λ items. Some (by_phase h (plain_stream h) (Since []) items)) (held_fresh h None (is_some h.closing))
-
-pub streams_made : (told : Bool) (v : List (Option Held)) (h : Past) → told ≡ is_some h.closing → LeftStreams v h
-    → LeftStreams (v ++ Some (empty_held None told) ∷ []) (after (Made Plain) h)
-unfolding held_of held offered matched phase
-streams_made told v h e left = record {
-  queues = ap (λ qs. qs ++ Some (empty_held None told) ∷ []) left.queues
-      ∙ ap (λ b. map (held_of h.capacities.rules h.read) h.streams ++ Some (empty_held None b) ∷ []) e
-      ∙ ap (λ q. map (held_of h.capacities.rules h.read) h.streams ++ q ∷ []) (sym (held_new h))
-      ∙ sym (map-append (held_of h.capacities.rules h.read) h.streams (plain_stream h ∷ []));
-  within = (within_push h h.streams (plain_stream h) left.within (within_fresh h None (is_some h.closing)));
+-- one stream more
+pub streams_more : (v : List Held) (limits : Rule → ℕ) (h : Past) (s : Stream) (q : Held) → kept limits h.read s ≡ q → IsWithin h.read s → AreStreams v limits h.read h.streams
+    → AreStreams (v ++ q ∷ []) limits h.read (h.streams ++ s ∷ [])
+streams_more v limits h s q is within left = record {
+  queues = ap (λ qs. qs ++ q ∷ []) left.queues ∙ ap (λ x. map (kept limits h.read) h.streams ++ x ∷ []) (sym is) ∙ sym (map-append (kept limits h.read) h.streams (s ∷ []));
+  within = all_more (IsWithin h.read) h.streams s left.within within;
 }
 
--- ---- one stream changes
-
-pub within_edit : (h : Past) (f : Stream → Stream) (ss : List Stream) (k : ℕ) (s : Stream) → slice_get ss k ≡ Some s → IsWithin h.read (f s) → AllByRecursion (IsWithin h.read) ss → AllByRecursion (IsWithin h.read) (edit k f ss)
-within_edit h f [] k s at one w = w
-within_edit h f (x ∷ ss) zero s at one w = let same : x ≡ s = cc in (rw same one, w.1)
-within_edit h f (x ∷ ss) (suc k) s at one w = (w.0, within_edit h f ss k s at one w.1)
-
-pub within_each : (h : Past) (f : Stream → Stream) → ((s : Stream) → IsWithin h.read s → IsWithin h.read (f s)) → (ss : List Stream) (k : ℕ) → AllByRecursion (IsWithin h.read) ss → AllByRecursion (IsWithin h.read) (edit k f ss)
-within_each h f each [] k w = w
-within_each h f each (x ∷ ss) zero w = (each x w.0, w.1)
-within_each h f each (x ∷ ss) (suc k) w = (w.0, within_each h f each ss k w.1)
-
--- ---- what is kept of one stream
-
--- what is kept of a stream that may be there
-abbrev pub any_of : Past → Option Stream → Option Held
-any_of h o = option_flatten (option_map (held_of h.capacities.rules h.read) o)
-
--- the same, where it is open
-abbrev pub kept_of : Past → Option Stream → Option Held
-kept_of h o = option_and_then if_usable (any_of h o)
-
-pub any_left : (v : List (Option Held)) (h : Past) (k : ℕ) → LeftStreams v h → any_at v k ≡ any_of h (slice_get h.streams k)
-any_left v h k left = ap (λ qs. any_at qs k) left.queues ∙ ap option_flatten (slice_get-map (held_of h.capacities.rules h.read) h.streams k)
-
-pub kept_left : (v : List (Option Held)) (h : Past) (k : ℕ) → LeftStreams v h → kept_at v k ≡ kept_of h (slice_get h.streams k)
-kept_left v h k left = ap (option_and_then if_usable) (any_left v h k left)
-
-pub held_open : (h : Past) (s : Stream) → s.gone ≡ false → held_of h.capacities.rules h.read s ≡ Some (held_by h.capacities.rules h.read s)
-unfolding held_of
-held_open h s is = ap (λ b. kept_by b (held_by h.capacities.rules h.read s)) is
-
-held_gone : (h : Past) (s : Stream) → s.gone ≡ true → held_of h.capacities.rules h.read s ≡ None
-unfolding held_of
-held_gone h s is = ap (λ b. kept_by b (held_by h.capacities.rules h.read s)) is
-
--- a stream runs exactly where its phase says so
-pub running_since : (p : Phase) → is_running (progress_by p) ≡ is_since p
-running_since (Since ms) = refl
-running_since (Asking add) = refl
-running_since (Denied m) = refl
-
--- what is known of a stream that is open
-pub record Runs (h : Past) (s : Stream) : Type 0 where
-  pub still : s.gone ≡ false
-  pub usable : is_usable (held_by h.capacities.rules h.read s) ≡ true
-  pub since : is_since (phase h.read s) ≡ true
-
-three : (a b c d : Bool) → d ≡ c → (a && (not b && c)) ≡ true → (b ≡ false) × ((a && d) ≡ true) × (c ≡ true)
-three true false true d same e = (refl, same, refl)
-three true false false d same e = cc
-three true true c d same e = cc
-three false b c d same e = cc
-
-pub runs_so : (h : Past) (s : Stream) → runs h.read s ≡ true → Runs h s
-unfolding runs
-runs_so h s e =
-    let t = three s.opened s.gone (is_since (phase h.read s)) (is_running (progress_by (phase h.read s))) (running_since (phase h.read s)) e in
-    record { still = t.0; usable = t.1; since = t.2 }
-
-kept_by_use : (opened gone since : Bool) (q : Held) → is_usable q ≡ (opened && since)
-    → option_and_then if_usable (kept_by gone q) ≡ (if opened && (not gone && since) then Some q else None)
-kept_by_use opened true since q e = sym (none_by opened q)
-  where
-    none_by : (b : Bool) (k : Held) → (if b && false then Some k else None) ≡ None
-    none_by true k = refl
-    none_by false k = refl
-kept_by_use opened false since q e = ap (λ b. if b then Some q else None) e
-
--- of a stream something is kept that can be used exactly where it runs
-pub kept_runs : (h : Past) (s : Stream) → kept_of h (Some s) ≡ (if runs h.read s then Some (held_by h.capacities.rules h.read s) else None)
-unfolding held_of runs
-kept_runs h s = kept_by_use s.opened s.gone (is_since (phase h.read s)) (held_by h.capacities.rules h.read s) (ap (λ b. s.opened && b) (running_since (phase h.read s)))
-
-pub some_by : {A : Type 0} (b : Bool) (x : A) → is_some (if b then Some x else None) ≡ b
-some_by true x = refl
-some_by false x = refl
-
-there_at : (h : Past) (o : Option Stream) → is_some (kept_of h o) ≡ runs_at h.read o
-there_at h None = refl
-there_at h (Some s) = ap is_some (kept_runs h s) ∙ some_by (runs h.read s) (held_by h.capacities.rules h.read s)
-
--- a stream is open exactly where something is kept of it
-pub open_left : (v : List (Option Held)) (h : Past) (k : ℕ) → LeftStreams v h → is_some (kept_at v k) ≡ is_open h k
-unfolding is_open
-open_left v h k left = ap is_some (kept_left v h k left) ∙ there_at h (slice_get h.streams k)
+pub streams_made : (v : List Held) (h : Past) → LeftStreams v h → LeftStreams (v ++ new_held None Progress.Runs (is_some h.closing) ∷ []) (after (Made Plain) h)
+streams_made v h left =
+    streams_more v h.capacities.rules h (plain_stream h) _ (kept_fresh h.capacities.rules h None (is_some h.closing)) (within_fresh h None (is_some h.closing)) left
 
 -- ---- a clone is made
 
@@ -232,143 +354,62 @@ pub clone_within : (h : Past) (s : Stream) → IsWithin h.read s → IsWithin h.
 unfolding matched phase
 clone_within h s w = record { start = w.start; passed = let le = w.passed in omega arith }
 
-clone_items : (h : Past) (s : Stream) → held h.read (clone_of h (Some s)) ≡ held h.read s
-unfolding matched phase
-clone_items h s =
-    let c = clone_of h (Some s) in
-    let none : s.skip + s.taken + 0 ≡ s.skip + s.taken = omega arith in
-    held_matched h c ∙ ap (λ n. drop n (matched h.read s)) none ∙ sym (held_matched h s)
+clone_by : (limits : Rule → ℕ) (s : Stream) (gone : Bool) (p : Phase) → gone ≡ false → is_since p ≡ true → kept_by limits (record s { skip = s.skip + s.taken; taken = 0; gone = false }) false p ≡ kept_by limits s gone p
+clone_by limits s false (Since ms) still since = ap (λ xs. record (kept_by limits s false (Since ms)) { items = xs }) (sym (drop-drop s.taken s.skip (accepted s.rule ms)))
+clone_by limits s false (Asking add) still since = cc
+clone_by limits s false (Denied m) still since = cc
+clone_by limits s true p still since = cc
 
-clone_holds : (h : Past) (s : Stream) → s.gone ≡ false → held_of h.capacities.rules h.read (clone_of h (Some s)) ≡ Some (held_by h.capacities.rules h.read s)
-unfolding phase
-clone_holds h s is =
-    held_open h (clone_of h (Some s)) refl
-    ∙ ap (λ items. Some (by_phase h s (phase h.read s) items)) (clone_items h s)
-
-cloned_by : (h : Past) (k : ℕ) (v : List (Option Held)) (o : Option Stream) → slice_get h.streams k ≡ o → runs_at h.read o ≡ true → LeftStreams v h
-    → LeftStreams (v ++ kept_of h o ∷ []) (after (Made (Cloned k)) h)
-unfolding held_of held offered matched phase
-cloned_by h k v None at there left = cc
-cloned_by h k v (Some s) at there left =
-    let is = runs_so h s there in
-    let kept : kept_of h (Some s) ≡ Some (held_by h.capacities.rules h.read s) = kept_runs h s ∙ ap (λ b. if b then Some (held_by h.capacities.rules h.read s) else None) there in
-    let c = clone_of h (Some s) in
-    let made : (after (Made (Cloned k)) h).streams ≡ h.streams ++ c ∷ [] = ap (λ o. h.streams ++ clone_of h o ∷ []) at in record {
-      queues = ap (λ qs. qs ++ kept_of h (Some s) ∷ []) left.queues
-          ∙ ap (λ q. map (held_of h.capacities.rules h.read) h.streams ++ q ∷ []) (kept ∙ sym (clone_holds h s is.still))
-          ∙ sym (map-append (held_of h.capacities.rules h.read) h.streams (c ∷ []))
-          ∙ ap (map (held_of h.capacities.rules h.read)) (sym made);
-      within = rw made ((within_push h h.streams c left.within (clone_within h s (within_at h h.streams k s at left.within))));
-    }
+kept_clone : (limits : Rule → ℕ) (h : Past) (s : Stream) → runs h.read s ≡ true → kept limits h.read (clone_of h (Some s)) ≡ kept limits h.read s
+unfolding kept phase
+kept_clone limits h s e = let is = runs_so h s e in clone_by limits s s.gone (phase h.read s) is.still is.since
 
 -- a stream more that holds what an open one holds
-pub streams_cloned : (k : ℕ) (v : List (Option Held)) (h : Past) → is_open h k ≡ true → LeftStreams v h → LeftStreams (v ++ kept_at v k ∷ []) (after (Made (Cloned k)) h)
-unfolding is_open
-streams_cloned k v h there left = rw (kept_left v h k left) (cloned_by h k v (slice_get h.streams k) refl there left)
+pub streams_cloned : (k : ℕ) (v : List Held) (h : Past) (s : Stream) → slice_get h.streams k ≡ Some s → runs h.read s ≡ true → LeftStreams v h
+    → LeftStreams (v ++ kept h.capacities.rules h.read s ∷ []) (after (Made (Cloned k)) h)
+streams_cloned k v h s at e left =
+    subst (λ o. AreStreams (v ++ kept h.capacities.rules h.read s ∷ []) h.capacities.rules h.read (h.streams ++ clone_of h o ∷ [])) (sym at)
+    (streams_more v h.capacities.rules h (clone_of h (Some s)) _ (kept_clone h.capacities.rules h s e) (clone_within h s (all_at (IsWithin h.read) h.streams k s at left.within)) left)
 
--- ---- a stream is closed
+-- ---- one stream changes
 
-end_within : (h : Past) (s : Stream) → IsWithin h.read s → IsWithin h.read (end_one s)
+pub within_edit : (h : Past) (f : Stream → Stream) (ss : List Stream) (k : ℕ) (s : Stream) → slice_get ss k ≡ Some s → IsWithin h.read (f s) → AllByRecursion (IsWithin h.read) ss → AllByRecursion (IsWithin h.read) (edit k f ss)
+within_edit h f ss k s at one w = all_edit (IsWithin h.read) f ss k (λ x is _. let q : Some s ≡ Some x = sym at ∙ is in let same : s ≡ x = cc in subst (λ y. IsWithin h.read (f y)) same one) w
+
+-- what is kept of it changes so
+pub edited : (v : List Held) (h : Past) (k : ℕ) (s : Stream) (f : Stream → Stream) (u : Held → Held) → slice_get h.streams k ≡ Some s
+    → kept h.capacities.rules h.read (f s) ≡ u (kept h.capacities.rules h.read s) → IsWithin h.read (f s) → LeftStreams v h
+    → AreStreams (edit k u v) h.capacities.rules h.read (edit k f h.streams)
+edited v h k s f u at one within left = record {
+  queues = ap (edit k u) left.queues ∙ sym (map_edit (kept h.capacities.rules h.read) f u h.streams k s at one);
+  within = within_edit h f h.streams k s at within left.within;
+}
+
+-- the stream is closed
+pub kept_ended : (limits : Rule → ℕ) (ms : List Seen) (s : Stream) → kept limits ms (done_by Gone s) ≡ ended (kept limits ms s)
+unfolding kept phase
+kept_ended limits ms s = by s.gone (phase ms s)
+  where
+    by : (gone : Bool) (p : Phase) → kept_by limits s true p ≡ ended (kept_by limits s gone p)
+    by true p = refl
+    by false (Since xs) = refl
+    by false (Asking add) = refl
+    by false (Denied m) = refl
+
+end_within : (h : Past) (s : Stream) → IsWithin h.read s → IsWithin h.read (done_by Gone s)
 unfolding matched phase
 end_within h s w = record { start = w.start; passed = w.passed }
 
-end_holds : (h : Past) (s : Stream) → held_of h.capacities.rules h.read (end_one s) ≡ None
-end_holds h s = held_gone h (end_one s) refl
-
-pub streams_ended : (k : ℕ) (v : List (Option Held)) (h : Past) → LeftStreams v h → LeftStreams (edit k (λ q. None) v) (after (Did k Gone) h)
-unfolding held_of held offered matched phase
+pub streams_ended : (k : ℕ) (v : List Held) (h : Past) → LeftStreams v h → LeftStreams (edit k ended v) (after (Did k Gone) h)
 streams_ended k v h left = record {
-  queues = ap (edit k (λ q. None)) left.queues ∙ sym (map_edit_all (held_of h.capacities.rules h.read) end_one (λ q. None) h.streams k (end_holds h));
-  within = (within_each h end_one (end_within h) h.streams k left.within);
+  queues = ap (edit k ended) left.queues ∙ sym (map_edit_all (kept h.capacities.rules h.read) (done_by Gone) ended h.streams k (kept_ended h.capacities.rules h.read));
+  within = all_edit (IsWithin h.read) (done_by Gone) h.streams k (λ s is w. end_within h s w) left.within;
 }
 
--- ---- takes
+-- a number past the last closes nothing
+pub ended_past : (k : ℕ) (v : List Held) (h : Past) → slice_get h.streams k ≡ None → LeftStreams v h → LeftStreams v (after (Did k Gone) h)
+ended_past k v h at left = subst (AreStreams v h.capacities.rules h.read) (sym (edit-past (done_by Gone) h.streams k at)) left
 
-gives_by : (b : Bool) (q : Held) (o : Option Error) → held_gives (if b then Some q else None) o ≡ (if b then Ok (take_by q.items o q.told) else Err errors.UnknownHandle)
-gives_by true q o = refl
-gives_by false q o = refl
-
-gives_at : (h : Past) (o : Option Stream) → held_gives (kept_of h o) h.closing ≡ take_at h.read h.closing o
-gives_at h None = refl
-gives_at h (Some s) = ap (λ q. held_gives q h.closing) (kept_runs h s) ∙ gives_by (runs h.read s) (held_by h.capacities.rules h.read s) h.closing
-
-pub taken_gives : (v : List (Option Held)) (h : Past) (k : ℕ) → LeftStreams v h → held_gives (kept_at v k) h.closing ≡ take_answer h k
-unfolding take_answer
-taken_gives v h k left = ap (λ q. held_gives q h.closing) (kept_left v h k left) ∙ gives_at h (slice_get h.streams k)
-
-next_by : (b : Bool) (q : Held) → next_held (if b then Some q else None) ≡ (if b then first_position q.items else None)
-next_by true q = refl
-next_by false q = refl
-
-next_at_held : (h : Past) (o : Option Stream) → next_held (kept_of h o) ≡ next_at h.read o
-next_at_held h None = refl
-next_at_held h (Some s) = ap next_held (kept_runs h s) ∙ next_by (runs h.read s) (held_by h.capacities.rules h.read s)
-
-pub held_next : (v : List (Option Held)) (h : Past) (k : ℕ) → LeftStreams v h → next_held (kept_at v k) ≡ next_position h k
-unfolding next_position
-held_next v h k left = ap next_held (kept_left v h k left) ∙ next_at_held h (slice_get h.streams k)
-
-ended_items : (q : Held) (items : List Seen) (told : Bool) (o : Option Error) → q.items ≡ items → q.told ≡ told → ended_by (Some q) (is_some o) ≡ nothing_comes (Ok (take_by items o told))
-ended_items q items told o e t = ap (λ x. is_some o && x && (length q.items == 0)) t ∙ ap (λ xs. is_some o && told && (length xs == 0)) e ∙ by items told o
-  where
-    by : (xs : List Seen) (b : Bool) (p : Option Error) → (is_some p && b && (length xs == 0)) ≡ nothing_comes (Ok (take_by xs p b))
-    by (m ∷ ms) b None = refl
-    by (m ∷ ms) true (Some error) = ne_eqb (suc (length ms)) 0 (λ w. omega (arith, w))
-    by (m ∷ ms) false (Some error) = refl
-    by [] b None = refl
-    by [] true (Some error) = refl
-    by [] false (Some error) = refl
-
-ended_use : (b : Bool) (q : Held) (o : Option Error)
-    → ended_by (if b then Some q else None) (is_some o) ≡ nothing_comes (if b then Ok (take_by q.items o q.told) else Err errors.UnknownHandle)
-ended_use true q o = ended_items q q.items q.told o refl refl
-ended_use false q o = refl
-
-ended_at : (h : Past) (o : Option Stream) → ended_by (kept_of h o) (is_some h.closing) ≡ nothing_comes (take_at h.read h.closing o)
-ended_at h None = refl
-ended_at h (Some s) = ap (λ q. ended_by q (is_some h.closing)) (kept_runs h s) ∙ ended_use (runs h.read s) (held_by h.capacities.rules h.read s) h.closing
-
--- nothing comes exactly where a take says so
-pub ended_left : (v : List (Option Held)) (h : Past) (k : ℕ) → LeftStreams v h → ended_by (kept_at v k) (is_some h.closing) ≡ nothing_comes (take_answer h k)
-unfolding take_answer
-ended_left v h k left = ap (λ q. ended_by q (is_some h.closing)) (kept_left v h k left) ∙ ended_at h (slice_get h.streams k)
-
--- ---- full streams
-
-pub limit_by : (h : Past) (rule : Option Rule) → limit_or h.capacities.main (option_map (subscription h.capacities.rules) rule) ≡ limit_of h.capacities rule
-limit_by h None = refl
-limit_by h (Some rule) = refl
-
--- what holds nothing isn't over
-none_over : (n : ℕ) → nat_lt n 0 ≡ false
-none_over n = grind (arith, nat_tests)
-
-over_phase : (h : Past) (s : Stream) (p : Phase) (items : List Seen) → (is_since p ≡ false → items ≡ [])
-    → nat_lt (limit_or h.capacities.main (by_phase h s p items).wants) (length items) ≡ nat_lt (limit_of h.capacities s.rule) (length items)
-over_phase h s (Since ms) items e = ap (λ n. nat_lt n (length items)) (limit_by h s.rule)
-over_phase h s (Asking add) items e = ap (λ n. nat_lt n (length items)) (limit_by h s.rule)
-over_phase h s (Denied m) items e = rw (e refl) (none_over h.capacities.main ∙ sym (none_over (limit_of h.capacities s.rule)))
-
--- a stream that doesn't run holds nothing
-nothing_by : (s : Stream) (p : Phase) → is_since p ≡ false → drop s.taken (drop s.skip (accepted s.rule (since_in p))) ≡ []
-nothing_by s (Since ms) e = cc
-nothing_by s (Asking add) e = ap (λ ms. drop s.taken (drop s.skip ms)) (accepted_nothing s.rule) ∙ ap (drop s.taken) (drop-nil s.skip) ∙ drop-nil s.taken
-nothing_by s (Denied m) e = ap (λ ms. drop s.taken (drop s.skip ms)) (accepted_nothing s.rule) ∙ ap (drop s.taken) (drop-nil s.skip) ∙ drop-nil s.taken
-
-pub held_nothing : (h : Past) (s : Stream) → is_since (phase h.read s) ≡ false → held h.read s ≡ []
-unfolding held offered matched
-held_nothing h s e = nothing_by s (phase h.read s) e
-
-over_by : (gone : Bool) (capacity limit : ℕ) (q : Held) → nat_lt (limit_or capacity q.wants) (length q.items) ≡ nat_lt limit (length q.items)
-    → is_over capacity (kept_by gone q) ≡ (not gone && nat_lt limit (length q.items))
-over_by true capacity limit q e = refl
-over_by false capacity limit q e = e
-
-over_full : (h : Past) (s : Stream) → is_over h.capacities.main (held_of h.capacities.rules h.read s) ≡ is_full h.capacities h.read s
-unfolding held_of is_full
-over_full h s = over_by s.gone h.capacities.main (limit_of h.capacities s.rule) (held_by h.capacities.rules h.read s) (over_phase h s (phase h.read s) (held h.read s) (held_nothing h s))
-
-pub over_any : (v : List (Option Held)) (h : Past) → LeftStreams v h → list_any (is_over h.capacities.main) v ≡ list_any (is_full h.capacities h.read) h.streams
-over_any v h left =
-    ap (list_any (is_over h.capacities.main)) left.queues ∙ list_any-map (is_over h.capacities.main) (held_of h.capacities.rules h.read) h.streams
-    ∙ list_any-along (λ s. is_over h.capacities.main (held_of h.capacities.rules h.read s)) (is_full h.capacities h.read) (over_full h) h.streams
+pub on_ok : {A E : Type 0} (r : Result A E) (P Q : Type 0) → (P → Q) → OnOk r P → OnOk r Q
+on_ok (Ok x) P Q f p = f p
+on_ok (Err e) P Q f p = p

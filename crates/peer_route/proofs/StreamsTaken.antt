@@ -1,104 +1,106 @@
--- What streams hold after a take.
-use Rattle.std.proofs.Common.{◌≡◌, ℕ, ◌+◌, refl, sym, ◌∙◌, ap, arith, Bool, true, false, not, if◌then◌else◌, ◌&&◌, List, [], ◌∷◌, drop, Option, Some, None, Ok, Err}
+-- What is kept of streams after a take, and after one that is being opened was asked.
+use Rattle.peer_route.specs.{History.{Gave, Opened, Told, done_by, Did, edit, Stream, Phase, Asking, Denied, Since, phase, Past, after, after_all}, Names.{OpenState, Seen, Error, Rule}, Streams.{matched, held, runs, take_by, take_events, opening_by, opening_at, opening_answer, opening_events}, Left.{Held, kept_by, kept, after_by, asked_by, after_ask, LeftStreams, IsWithin}}
+use Rattle.std.proofs.Common.{◌≡◌, ℕ, ◌+◌, refl, sym, ◌∙◌, ap, arith, Bool, true, false, ◌||◌, if◌then◌else◌, List, [], ◌∷◌, drop, Option, Some, None, Ok}
 use Rattle.std.specs.List.{slice_get}
-use Rattle.std.specs.Option.{option_map}
-use Rattle.std.proofs.lemmas.Option.{slice_get-map}
-use Rattle.wire_message.specs.Front.{Seen}
-use Rattle.wire_message.specs.declared.error.Error.{Error}
-use Rattle.wire_message.specs.declared.error.Error.TheVariants as errors
-use Rattle.peer_route.specs.History.{Did, Gave, Told, edit, Stream, phase, give, tell, Past, after, after_all}
-use Rattle.peer_route.specs.Streams.{is_since, matched, offered, held, runs, take_by, take_at, take_answer, take_events}
-use Rattle.peer_route.specs.Left.{Held, held_by, held_of, is_usable, kept_by, after_by, after_take, IsWithin, LeftStreams}
-use Rattle.peer_route.proofs.Edits.{map_edit, edit-same, edit-past, drop_next}
-use Rattle.peer_route.proofs.Matched.{held_matched, within_at}
-use Rattle.peer_route.proofs.StreamsMade.{Runs, runs_so, running_since, by_phase, held_open, within_edit}
+use Rattle.peer_route.proofs.{Edits.{edit-same, drop_next, edit-none, all_at}, Matched.held_matched, StreamsMade.{open_held, kept_runs, edited, streams_ended}}
 
--- a stream that is open, after a take
-after_open : (h : Past) (s : Stream) (o : Option Error) → Runs h s → option_map (after_take o) (held_of h.capacities.rules h.read s) ≡ Some (after_by (held_by h.capacities.rules h.read s) (held h.read s) o)
-after_open h s o is =
-    ap (option_map (after_take o)) (held_open h s is.still) ∙ ap (λ b. Some (if b then after_by (held_by h.capacities.rules h.read s) (held h.read s) o else held_by h.capacities.rules h.read s)) is.usable
+-- ---- takes
 
 -- an item
-gave : (h : Past) (k : ℕ) (v : List (Option Held)) (s : Stream) (m : Seen) (ms : List Seen) (o : Option Error) → slice_get h.streams k ≡ Some s → Runs h s → held h.read s ≡ m ∷ ms
-    → LeftStreams v h → LeftStreams (edit k (option_map (after_take o)) v) (after (Did k Gave) h)
-unfolding held_of held offered matched phase
-gave h k v s m ms o at is e left =
+gave : (v : List Held) (h : Past) (k : ℕ) (s : Stream) (m : Seen) (ms : List Seen) → slice_get h.streams k ≡ Some s → runs h.read s ≡ true → held h.read s ≡ m ∷ ms
+    → LeftStreams v h → LeftStreams (edit k (λ q. record q { items = ms }) v) (after (Did k Gave) h)
+unfolding matched runs phase
+gave v h k s m ms at is e left =
+    let limits = h.capacities.rules in
     let next = drop_next (s.skip + s.taken) (matched h.read s) m ms (sym (held_matched h s) ∙ e) in
-    let before = within_at h h.streams k s at left.within in
+    let before = all_at (IsWithin h.read) h.streams k s at left.within in
     let one_more : s.skip + (s.taken + 1) ≡ s.skip + s.taken + 1 = omega arith in
-    let items : held h.read (give s) ≡ ms = held_matched h (give s) ∙ ap (λ n. drop n (matched h.read s)) one_more ∙ next.0 in
-    let one : held_of h.capacities.rules h.read (give s) ≡ option_map (after_take o) (held_of h.capacities.rules h.read s) =
-    held_open h (give s) is.still
-    ∙ ap (λ xs. Some (by_phase h s (phase h.read s) xs)) items
-    ∙ ap (λ xs. Some (after_by (held_by h.capacities.rules h.read s) xs o)) (sym e)
-    ∙ sym (after_open h s o is) in
-    let within : IsWithin h.read (give s) = record { start = before.start; passed = rw one_more next.1 } in
-    record {
-      queues = ap (edit k (option_map (after_take o))) left.queues ∙ sym (map_edit (held_of h.capacities.rules h.read) give (option_map (after_take o)) h.streams k s at one);
-      within = (within_edit h give h.streams k s at within left.within);
-    }
+    let items : held h.read (done_by Gave s) ≡ ms = held_matched h (done_by Gave s) ∙ ap (λ n. drop n (matched h.read s)) one_more ∙ next.0 in
+    let one : kept limits h.read (done_by Gave s) ≡ record (kept limits h.read s) { items = ms } =
+    kept_runs limits h (done_by Gave s) is ∙ ap (λ xs. record (open_held limits h.read s) { items = xs }) items ∙ ap (λ (q : Held). record q { items = ms }) (sym (kept_runs limits h s is)) in
+    edited v h k s (done_by Gave) (λ q. record q { items = ms }) at one (record { start = before.start; passed = rw one_more next.1 }) left
 
 -- the closing error
-told_error : (h : Past) (k : ℕ) (v : List (Option Held)) (s : Stream) (error : Error) → slice_get h.streams k ≡ Some s → Runs h s → held h.read s ≡ []
-    → LeftStreams v h → LeftStreams (edit k (option_map (after_take (Some error))) v) (after (Did k Told) h)
-unfolding held_of held offered matched phase
-told_error h k v s error at is e left =
-    let before = within_at h h.streams k s at left.within in
-    let one : held_of h.capacities.rules h.read (tell s) ≡ option_map (after_take (Some error)) (held_of h.capacities.rules h.read s) =
-    held_open h (tell s) is.still
-    ∙ ap (λ xs. Some (after_by (held_by h.capacities.rules h.read s) xs (Some error))) (sym e)
-    ∙ sym (after_open h s (Some error) is) in
-    let within : IsWithin h.read (tell s) = record { start = before.start; passed = before.passed } in
-    record {
-      queues = ap (edit k (option_map (after_take (Some error)))) left.queues ∙ sym (map_edit (held_of h.capacities.rules h.read) tell (option_map (after_take (Some error))) h.streams k s at one);
-      within = (within_edit h tell h.streams k s at within left.within);
-    }
+told_error : (v : List Held) (h : Past) (k : ℕ) (s : Stream) → slice_get h.streams k ≡ Some s → LeftStreams v h → LeftStreams (edit k (λ q. record q { told = true }) v) (after (Did k Told) h)
+unfolding kept matched phase
+told_error v h k s at left =
+    let before = all_at (IsWithin h.read) h.streams k s at left.within in
+    edited v h k s (done_by Told) (λ q. record q { told = true }) at (by s.gone (phase h.read s)) (record { start = before.start; passed = before.passed }) left
+  where
+    by : (gone : Bool) (p : Phase) → kept_by h.capacities.rules (done_by Told s) gone p ≡ record (kept_by h.capacities.rules s gone p) { told = true }
+    by true p = refl
+    by false (Since xs) = refl
+    by false (Asking add) = refl
+    by false (Denied m) = refl
 
--- nothing
-gave_nothing : (h : Past) (k : ℕ) (v : List (Option Held)) (s : Stream) (o : Option Error) → slice_get h.streams k ≡ Some s → option_map (after_take o) (held_of h.capacities.rules h.read s) ≡ held_of h.capacities.rules h.read s
-    → LeftStreams v h → LeftStreams (edit k (option_map (after_take o)) v) h
-gave_nothing h k v s o at e left = record {
-  queues = edit-same (option_map (after_take o)) v k (held_of h.capacities.rules h.read s) (ap (λ qs. slice_get qs k) left.queues ∙ slice_get-map (held_of h.capacities.rules h.read) h.streams k ∙ ap (option_map (held_of h.capacities.rules h.read)) at) e ∙ left.queues;
+taken_by : (v : List Held) (h : Past) (k : ℕ) (s : Stream) (q : Held) (items : List Seen) (told : Bool) (o : Option Error) → slice_get h.streams k ≡ Some s → slice_get v k ≡ Some q → q.told ≡ told
+    → runs h.read s ≡ true → held h.read s ≡ items → LeftStreams v h
+    → LeftStreams (edit k (after_by items o) v) (after_all (take_events k (Ok (take_by items o told))) h)
+taken_by v h k s q (m ∷ ms) told o at there t is e left = gave v h k s m ms at is e left
+taken_by v h k s q [] told None at there t is e left = subst_same (edit-none (λ q. q) (λ q. refl) v k)
+  where
+    subst_same : edit k (λ x. x) v ≡ v → LeftStreams (edit k (λ x. x) v) h
+    subst_same same = record { queues = same ∙ left.queues; within = left.within }
+taken_by v h k s q [] false (Some error) at there t is e left = told_error v h k s at left
+taken_by v h k s q [] true (Some error) at there t is e left = record {
+  queues = edit-same (λ (x : Held). record x { told = true }) v k q there (ap (λ b. record q { told = b }) (sym t)) ∙ left.queues;
   within = left.within;
 }
 
--- nothing is taken from one that isn't open
-idle_by : (opened gone since : Bool) (q : Held) (o : Option Error) → is_usable q ≡ (opened && since) → (opened && (not gone && since)) ≡ false
-    → option_map (after_take o) (kept_by gone q) ≡ kept_by gone q
-idle_by opened true since q o e idle = refl
-idle_by opened false since q o e idle = ap (λ b. Some (if b then after_by q q.items o else q)) (e ∙ idle)
+-- what is left once an open stream was asked
+pub streams_taken : (v : List Held) (h : Past) (k : ℕ) (s : Stream) (q : Held) (o : Option Error) → slice_get h.streams k ≡ Some s → slice_get v k ≡ Some q → q ≡ kept h.capacities.rules h.read s
+    → runs h.read s ≡ true → LeftStreams v h → LeftStreams (edit k (after_by q.items o) v) (after_all (take_events k (Ok (take_by q.items o q.told))) h)
+streams_taken v h k s q o at there kept_is is left =
+    taken_by v h k s q q.items q.told o at there refl is (sym (ap (λ (x : Held). x.items) (kept_is ∙ kept_runs h.capacities.rules h s is))) left
 
-quiet_idle : (h : Past) (s : Stream) (o : Option Error) → runs h.read s ≡ false → option_map (after_take o) (held_of h.capacities.rules h.read s) ≡ held_of h.capacities.rules h.read s
-unfolding held_of runs
-quiet_idle h s o is = idle_by s.opened s.gone (is_since (phase h.read s)) (held_by h.capacities.rules h.read s) o (ap (λ b. s.opened && b) (running_since (phase h.read s))) is
+-- ---- opening
 
--- an open stream that holds nothing
-quiet_open : (h : Past) (s : Stream) → Runs h s → held h.read s ≡ [] → option_map (after_take None) (held_of h.capacities.rules h.read s) ≡ held_of h.capacities.rules h.read s
-quiet_open h s is e = after_open h s None is ∙ ap (λ xs. Some (after_by (held_by h.capacities.rules h.read s) xs None)) e ∙ sym (held_open h s is.still)
+asking_by : (limits : Rule → ℕ) (s : Stream) (gone opened : Bool) (p : Phase) (closing : Option Error)
+    → asked_by opened (kept_by limits s gone p).progress (kept_by limits s gone p).items closing ≡ (if gone || opened then OpenState.Unknown else opening_by p closing)
+asking_by limits s true true p closing = refl
+asking_by limits s true false p closing = refl
+asking_by limits s false true p closing = refl
+asking_by limits s false false (Since ms) closing = refl
+asking_by limits s false false (Asking add) None = refl
+asking_by limits s false false (Asking add) (Some error) = refl
+asking_by limits s false false (Denied m) closing = refl
 
-quiet_ended : (h : Past) (s : Stream) (error : Error) → Runs h s → held h.read s ≡ [] → s.told ≡ true → option_map (after_take (Some error)) (held_of h.capacities.rules h.read s) ≡ held_of h.capacities.rules h.read s
-quiet_ended h s error is e told =
-    after_open h s (Some error) is ∙ ap (λ xs. Some (after_by (held_by h.capacities.rules h.read s) xs (Some error))) e
-    ∙ ap (λ b. Some (record (held_by h.capacities.rules h.read s) { told = b })) (sym told)
-    ∙ sym (held_open h s is.still)
+opened_by : (limits : Rule → ℕ) (s : Stream) (gone : Bool) (p : Phase) → (kept_by limits s gone p).opened ≡ s.opened
+opened_by limits s true p = refl
+opened_by limits s false (Since ms) = refl
+opened_by limits s false (Asking add) = refl
+opened_by limits s false (Denied m) = refl
 
-taken_by : (h : Past) (k : ℕ) (v : List (Option Held)) (s : Stream) (open_ : Bool) (items : List Seen) (o : Option Error) (told : Bool) → slice_get h.streams k ≡ Some s
-    → runs h.read s ≡ open_ → held h.read s ≡ items → s.told ≡ told → LeftStreams v h
-    → LeftStreams (edit k (option_map (after_take o)) v) (after_all (take_events k (if open_ then Ok (take_by items o told) else Err errors.UnknownHandle)) h)
-taken_by h k v s false items o told at is e t left = gave_nothing h k v s o at (quiet_idle h s o is) left
-taken_by h k v s true (m ∷ ms) o told at is e t left = gave h k v s m ms o at (runs_so h s is) e left
-taken_by h k v s true [] None told at is e t left = gave_nothing h k v s None at (quiet_open h s (runs_so h s is) e) left
-taken_by h k v s true [] (Some error) false at is e t left = told_error h k v s error at (runs_so h s is) e left
-taken_by h k v s true [] (Some error) true at is e t left = gave_nothing h k v s (Some error) at (quiet_ended h s error (runs_so h s is) e t) left
+asking_so : (limits : Rule → ℕ) (ms : List Seen) (s : Stream) (q : Held) (closing : Option Error) → q ≡ kept limits ms s → asked_by q.opened q.progress q.items closing ≡ opening_at ms closing (Some s)
+unfolding kept
+asking_so limits ms s q closing e =
+    ap (λ (x : Held). asked_by x.opened x.progress x.items closing) e
+    ∙ ap (λ b. asked_by b (kept limits ms s).progress (kept limits ms s).items closing) (opened_by limits s s.gone (phase ms s)) ∙ asking_by limits s s.gone s.opened (phase ms s) closing
 
-taken_at : (h : Past) (k : ℕ) (v : List (Option Held)) (o : Option Stream) → slice_get h.streams k ≡ o → LeftStreams v h
-    → LeftStreams (edit k (option_map (after_take h.closing)) v) (after_all (take_events k (take_at h.read h.closing o)) h)
-taken_at h k v None at left = record {
-  queues = edit-past (option_map (after_take h.closing)) v k (ap (λ qs. slice_get qs k) left.queues ∙ slice_get-map (held_of h.capacities.rules h.read) h.streams k ∙ ap (option_map (held_of h.capacities.rules h.read)) at) ∙ left.queues;
-  within = left.within;
-}
-taken_at h k v (Some s) at left = taken_by h k v s (runs h.read s) (held h.read s) h.closing s.told at refl refl refl left
+pub asked_so : (h : Past) (k : ℕ) (s : Stream) (q : Held) (closing : Option Error) → slice_get h.streams k ≡ Some s → q ≡ kept h.capacities.rules h.read s → closing ≡ h.closing
+    → asked_by q.opened q.progress q.items closing ≡ opening_answer h k
+unfolding opening_answer
+asked_so h k s q closing at is same =
+    asking_so h.capacities.rules h.read s q closing is ∙ ap (λ (c : Option Error). opening_at h.read c (Some s)) same ∙ ap (opening_at h.read h.closing) (sym at)
 
-pub streams_taken : (k : ℕ) (v : List (Option Held)) (h : Past) → LeftStreams v h → LeftStreams (edit k (option_map (after_take h.closing)) v) (after_all (take_events k (take_answer h k)) h)
-unfolding take_answer
-streams_taken k v h left = taken_at h k v (slice_get h.streams k) refl left
+pub asked_past : (h : Past) (k : ℕ) → slice_get h.streams k ≡ None → OpenState.Unknown ≡ opening_answer h k
+unfolding opening_answer
+asked_past h k at = ap (opening_at h.read h.closing) (sym at)
+
+-- and what is left
+pub streams_opened : (v : List Held) (h : Past) (k : ℕ) (s : Stream) (state : OpenState) → slice_get h.streams k ≡ Some s → LeftStreams v h
+    → LeftStreams (edit k (after_ask state) v) (after_all (opening_events k state) h)
+unfolding kept matched phase
+streams_opened v h k s OpenState.Open at left =
+    let before = all_at (IsWithin h.read) h.streams k s at left.within in
+    edited v h k s (done_by Opened) (λ q. record q { opened = true }) at (by s.gone (phase h.read s)) (record { start = before.start; passed = before.passed }) left
+  where
+    by : (gone : Bool) (p : Phase) → kept_by h.capacities.rules (done_by Opened s) gone p ≡ record (kept_by h.capacities.rules s gone p) { opened = true }
+    by true p = refl
+    by false (Since xs) = refl
+    by false (Asking add) = refl
+    by false (Denied m) = refl
+streams_opened v h k s (OpenState.Refused m) at left = streams_ended k v h left
+streams_opened v h k s (OpenState.Over error) at left = streams_ended k v h left
+streams_opened v h k s OpenState.Unknown at left = record { queues = edit-none (λ q. q) (λ q. refl) v k ∙ left.queues; within = left.within }
+streams_opened v h k s OpenState.NotYet at left = record { queues = edit-none (λ q. q) (λ q. refl) v k ∙ left.queues; within = left.within }

@@ -1,30 +1,8 @@
 -- Closing streams, and telling the bus of it, leaves each other stream, each call and each capacity as it was.
-use Rattle.std.proofs.Common.{◌≡◌, ℕ, ◌≤◌, ◌<◌, zero, suc, refl, arith, Bool, true, false, if◌then◌else◌, List, [], ◌∷◌, ◌++◌, length, map, drop, length-append, append_assoc, append-nil, ◌≢◌, ◌⊎◌, inl, inr, ◌-◌, sym, ◌∙◌, ap, subst, ◌||◌, option_map, Option, Some, None, IfSome}
-use Rattle.std.specs.Prelude.{⊤}
-use Rattle.std.proofs.lemmas.List.{map-append}
-use Rattle.std.specs.List.{AllByRecursion, slice_get}
-use Rattle.std.proofs.lemmas.Bool.{ne_eqb}
-use Rattle.wire_message.specs.Front.{Seen}
-use Rattle.peer_route.specs.History.{inner_call, Event, Made, Put, Adds, Removes, Did, Fault, Making, Plain, Ruled, Cloned, Deed, Gave, Gone, Call, bears, is_return, Start, Behind, OnReturn, Stream, Phase, Denied, Since, since_reply, phase_by, phase, asks_by, clone_of, new_stream, asking_stream, done_by, fail_stream, edit, Past, after, Wrote, fail_at, Capacities, after_all}
-use Rattle.peer_route.specs.declared.answer.Entry.{Entry}
-use Rattle.peer_route.specs.Parcel.{Setting}
-use Rattle.peer_route.specs.Entries.{IsMeant, trail, deeds, postings, repeat, writes, Legal}
-use Rattle.peer_route.proofs.Kept.{always}
-use Rattle.std.proofs.Math.Bool.{or-false}
-use Rattle.std.proofs.lemmas.Option.{slice_get-map}
-use Rattle.rule_match.specs.Rule.{Rule}
-use Rattle.peer_route.specs.declared.words.Words.TheVariants as words
-use Rattle.peer_route.specs.declared.words.StreamOp.TheVariants as ops
-use Rattle.peer_route.specs.Left.{IsSound}
-use Rattle.peer_route.specs.Calls.{polled_at, poll_answer}
-use Rattle.peer_route.specs.Streams.{take_at, take_answer, are_open, close_waits, leaving, gone_events}
-use Rattle.peer_route.specs.BusCall.{tellings_of}
-use Rattle.peer_route.specs.Issuing.{puts}
-use Rattle.peer_route.specs.Trail.{Trail, place}
-use Rattle.peer_route.specs.Plan.{Plan, Says, Sends, Reads, Closes, Writes, Never, where_named, where_open, unless_waits, ends, second_place, on_stream, plan}
-use Rattle.peer_route.proofs.Edits.{edit_other, get_before}
-use Rattle.peer_route.proofs.CallsMade.{sound_first, sound_after}
-use Rattle.peer_route.proofs.Plans.{along, repeat_all, all_append}
+use Rattle.peer_route.specs.{History.{call_by, Event, Made, Put, Adds, Removes, Did, Fault, Making, Plain, Ruled, Cloned, Deed, Gave, Gone, Call, bears, is_return, Start, Behind, OnReturn, Stream, Phase, Denied, Since, since_reply, phase_by, phase, asks_by, clone_of, new_stream, asking_stream, done_by, fail_stream, Past, after, Wrote, fail_at, Capacities, after_all}, Names.{Entry, Seen, Rule, Words, StreamOp}, Parcel.Setting, Entries.{IsMeant, trail, deeds, postings, repeat, writes, Legal}, Left.IsSound, Calls.{polled_at, poll_answer}, Streams.{take_at, take_answer, are_open, close_waits, leaving, gone_events}, BusCall.tellings_of, Issuing.puts, Trail.{Trail, place}, Plan.{Plan, Says, Sends, Reads, Closes, Writes, Never, where_named, where_open, unless_waits, ends, second_place, on_stream, plan}}
+use Rattle.std.proofs.{Common.{◌≡◌, ℕ, ◌≤◌, ◌<◌, zero, suc, refl, arith, Bool, true, false, if◌then◌else◌, List, [], ◌∷◌, ◌++◌, length, map, drop, length-append, append_assoc, append-nil, ◌≢◌, ◌⊎◌, inl, inr, ◌-◌, sym, ◌∙◌, ap, subst, ◌||◌, option_map, Option, Some, None, IfSome}, lemmas.List.map-append, lemmas.Bool.ne_eqb, Math.Bool.or-false, lemmas.Option.slice_get-map}
+use Rattle.std.specs.{Prelude.⊤, List.{AllByRecursion, slice_get}}
+use Rattle.peer_route.proofs.{Kept.always, Edits.{edit_other, get_before, all_weaker, all_more, all_map, all_edit}, CallsMade.{sound_first, sound_after}, Plans.{along, repeat_all, all_append}}
 
 -- ---- where streams begin: the AddMatch that one waits for was put before it was made
 
@@ -33,8 +11,11 @@ abbrev pub Begins : ℕ → Start → Type 0
 Begins n (Behind count) = ⊤
 Begins n (OnReturn add) = add.index < n
 
+abbrev pub BeginsBelow : ℕ → Stream → Type 0
+BeginsBelow n s = Begins n s.start
+
 abbrev pub AllBegin : ℕ → List Stream → Type 0
-AllBegin n ss = AllByRecursion (λ (s : Stream). Begins n s.start) ss
+AllBegin n ss = AllByRecursion (BeginsBelow n) ss
 
 -- ---- each event
 
@@ -42,26 +23,9 @@ pub begins_more : (n m : ℕ) (b : Start) → n ≤ m → Begins n b → Begins 
 begins_more n m (Behind count) le h = tt
 begins_more n m (OnReturn add) le h = omega (arith, h, le)
 
-all_more : (n m : ℕ) (ss : List Stream) → n ≤ m → AllBegin n ss → AllBegin m ss
-all_more n m [] le h = tt
-all_more n m (s ∷ ss) le h = (begins_more n m s.start le h.0, all_more n m ss le h.1)
-
-all_push : (n : ℕ) (ss : List Stream) (s : Stream) → Begins n s.start → AllBegin n ss → AllBegin n (ss ++ s ∷ [])
-all_push n [] s b h = (b, tt)
-all_push n (t ∷ ts) s b h = (h.0, all_push n ts s b h.1)
-
 done_start : (n : ℕ) (deed : Deed) (s : Stream) → Begins n s.start → Begins n (done_by deed s).start
 done_start n Gave s h = h
 done_start n deed s h = h
-
-all_edit : (n k : ℕ) (deed : Deed) (ss : List Stream) → AllBegin n ss → AllBegin n (edit k (done_by deed) ss)
-all_edit n k deed [] h = tt
-all_edit n zero deed (s ∷ ss) h = (done_start n deed s h.0, h.1)
-all_edit n (suc k) deed (s ∷ ss) h = (h.0, all_edit n k deed ss h.1)
-
-all_fail : (n i : ℕ) (ms : List Seen) (ss : List Stream) → AllBegin n ss → AllBegin n (map (fail_stream ms i) ss)
-all_fail n i ms [] h = tt
-all_fail n i ms (s ∷ ss) h = (h.0, all_fail n i ms ss h.1)
 
 clone_start : (n : ℕ) (p : Past) (k : ℕ) (ss : List Stream) → AllBegin n ss → Begins n (clone_of p (slice_get ss k)).start
 clone_start n p k [] h = tt
@@ -74,15 +38,15 @@ made_start n p (Ruled rule asked) ss h = tt
 made_start n p (Cloned k) ss h = clone_start n p k ss h
 
 grown : (ms : List Seen) (m : Seen) (ss : List Stream) → AllBegin (length ms) ss → AllBegin (length (ms ++ m ∷ [])) ss
-grown ms m ss h = all_more (length ms) (length (ms ++ m ∷ [])) ss (omega (arith, length-append ms (m ∷ []))) h
+grown ms m ss h = all_weaker (BeginsBelow (length ms)) (BeginsBelow (length (ms ++ m ∷ []))) (λ s b. begins_more (length ms) (length (ms ++ m ∷ [])) s.start (omega (arith, length-append ms (m ∷ []))) b) ss h
 
 begin_after : (e : Event) (p : Past) → AllBegin (length p.outbox.put) p.streams → AllBegin (length (after e p).outbox.put) (after e p).streams
-begin_after (Made making) p h = all_push (length p.outbox.put) p.streams (new_stream p p.streams making) (made_start (length p.outbox.put) p making p.streams h) h
+begin_after (Made making) p h = all_more (BeginsBelow (length p.outbox.put)) p.streams (new_stream p p.streams making) h (made_start (length p.outbox.put) p making p.streams h)
 begin_after (Put m (Adds rule asked)) p h =
-    all_push (length (p.outbox.put ++ m ∷ [])) p.streams (asking_stream p m rule) (omega (arith, length-append p.outbox.put (m ∷ []))) (grown p.outbox.put m p.streams h)
+    all_more (BeginsBelow (length (p.outbox.put ++ m ∷ []))) p.streams (asking_stream p m rule) (grown p.outbox.put m p.streams h) (omega (arith, length-append p.outbox.put (m ∷ [])))
 begin_after (Put m why) p h = grown p.outbox.put m p.streams h
-begin_after (Did k deed) p h = all_edit (length p.outbox.put) k deed p.streams h
-begin_after Fault p h = all_fail (length p.outbox.put) p.outbox.done p.read p.streams h
+begin_after (Did k deed) p h = all_edit (BeginsBelow (length p.outbox.put)) (done_by deed) p.streams k (λ s is b. done_start (length p.outbox.put) deed s b) h
+begin_after Fault p h = all_map (BeginsBelow (length p.outbox.put)) (BeginsBelow (length p.outbox.put)) (fail_stream p.read p.outbox.done) (λ s b. b) p.streams h
 begin_after e p h = h
 
 pub all_begin : (setting : Setting) (es : List Entry) → AllBegin (length (trail setting es).past.outbox.put) (trail setting es).past.streams
@@ -159,8 +123,8 @@ apart_after shut failed p sound begin (Put m Removes) q is a = record {
   reads = a.reads;
   closings = a.closings;
   later = a.later;
-  more = a.more ++ inner_call q m ∷ [];
-  calls = ap (λ cs. cs ++ inner_call q m ∷ []) a.calls ∙ append_assoc p.calls a.more (inner_call q m ∷ []);
+  more = a.more ++ call_by q m true ∷ [];
+  calls = ap (λ cs. cs ++ call_by q m true ∷ []) a.calls ∙ append_assoc p.calls a.more (call_by q m true ∷ []);
   stream = a.stream;
 }
 apart_after shut failed p sound begin Wrote q is a =
@@ -215,7 +179,7 @@ shuts_ends shut h k (Some j) one other =
     shuts_open shut (are_open h k j) _ (shuts_waits shut (close_waits h k j) _ (λ failed e. (shuts_gone shut failed k j one (λ i q. other i (ap (λ x. Some x) q)), shuts_tellings shut failed h (leaving h k j) e.put)))
 
 shuts_named : (shut : ℕ → Type 0) (t : Trail) (lane : ℕ) (second p : Option ℕ) → ((i : ℕ) → p ≡ Some i → shut i) → ((i : ℕ) → second_place t lane second ≡ Some (Some i) → shut i)
-    → Shuts shut (where_named (on_stream t lane (ops.Unstream second)) p)
+    → Shuts shut (where_named (on_stream t lane (StreamOp.Unstream second)) p)
 shuts_named shut t lane second None one other = λ failed e. (tt, tt)
 shuts_named shut t lane second (Some k) one other = shuts_ends shut t.past k (second_place t lane second) (one k refl) other
 
@@ -233,7 +197,7 @@ sound_past : (setting : Setting) (es : List Entry) → IsSound (trail setting es
 sound_past setting es = always IsSound sound_first sound_after setting es
 
 -- what such events keep
-closing_along : (P : Past → Type 0) (setting : Setting) (older : List Entry) (e : Entry) (number : ℕ) (second : Option ℕ) → e.words ≡ words.OfStream number (ops.Unstream second)
+closing_along : (P : Past → Type 0) (setting : Setting) (older : List Entry) (e : Entry) (number : ℕ) (second : Option ℕ) → e.words ≡ Words.OfStream number (StreamOp.Unstream second)
     → ((x : Event) (q : Past) → IsClosing (Ends (trail setting older) e.lane number second) e.failed x → P q → P (after x q)) → P (trail setting older).past → P (trail setting (e ∷ older)).past
 closing_along P setting older e number second w keeps so =
     let t = trail setting older in
@@ -256,7 +220,7 @@ in_turn h Closes e is f = let q = is.2.failed in absurd (cc)
 in_turn h (Writes fails) e is f = let q = is.2.failed in absurd (cc)
 in_turn h Never e is f = absurd is
 
-unstream_apart : (setting : Setting) (older : List Entry) (e : Entry) (number : ℕ) (second : Option ℕ) → e.words ≡ words.OfStream number (ops.Unstream second)
+unstream_apart : (setting : Setting) (older : List Entry) (e : Entry) (number : ℕ) (second : Option ℕ) → e.words ≡ Words.OfStream number (StreamOp.Unstream second)
     → (e.failed ≡ true → (trail setting older).past.outbox.done ≡ length (trail setting older).past.outbox.put)
     → Apart (Ends (trail setting older) e.lane number second) e.failed (trail setting older).past (trail setting (e ∷ older)).past
 unstream_apart setting older e number second w done =
@@ -275,7 +239,7 @@ unfolding poll_answer
 poll_same shut failed p q k a le =
     ap (λ ms. polled_at ms q.closing (slice_get q.calls k)) a.reads ∙ ap (λ o. polled_at p.read o (slice_get q.calls k)) a.closings ∙ ap (polled_at p.read p.closing) (ap (λ cs. slice_get cs k) a.calls ∙ get_before k p.calls a.more le)
 
-pub other_streams : (setting : Setting) (older : List Entry) (e : Entry) (number : ℕ) (second : Option ℕ) (k : ℕ) → Legal setting (e ∷ older) → e.words ≡ words.OfStream number (ops.Unstream second)
+pub other_streams : (setting : Setting) (older : List Entry) (e : Entry) (number : ℕ) (second : Option ℕ) (k : ℕ) → Legal setting (e ∷ older) → e.words ≡ Words.OfStream number (StreamOp.Unstream second)
     → place 0 e.lane number (trail setting older).streams ≢ Some k → second_place (trail setting older) e.lane second ≢ Some (Some k)
     → take_answer (trail setting (e ∷ older)).past k ≡ take_answer (trail setting older).past k
 other_streams setting older e number second k legal w one other =
@@ -285,12 +249,12 @@ other_streams setting older e number second k legal w one other =
     neither (inl is) = one is
     neither (inr is) = other is
 
-pub same_calls : (setting : Setting) (older : List Entry) (e : Entry) (number : ℕ) (second : Option ℕ) (k : ℕ) → Legal setting (e ∷ older) → e.words ≡ words.OfStream number (ops.Unstream second)
+pub same_calls : (setting : Setting) (older : List Entry) (e : Entry) (number : ℕ) (second : Option ℕ) (k : ℕ) → Legal setting (e ∷ older) → e.words ≡ Words.OfStream number (StreamOp.Unstream second)
     → k < length (trail setting older).past.calls → poll_answer (trail setting (e ∷ older)).past k ≡ poll_answer (trail setting older).past k
 same_calls setting older e number second k legal w le =
     poll_same (Ends (trail setting older) e.lane number second) e.failed _ _ k (unstream_apart setting older e number second w (in_turn (trail setting older).past (plan (trail setting older) e.lane e.words) e legal.0)) le
 
-pub same_capacities : (setting : Setting) (older : List Entry) (e : Entry) (number : ℕ) (second : Option ℕ) → Legal setting (e ∷ older) → e.words ≡ words.OfStream number (ops.Unstream second)
+pub same_capacities : (setting : Setting) (older : List Entry) (e : Entry) (number : ℕ) (second : Option ℕ) → Legal setting (e ∷ older) → e.words ≡ Words.OfStream number (StreamOp.Unstream second)
     → (trail setting (e ∷ older)).past.capacities ≡ (trail setting older).past.capacities
 same_capacities setting older e number second legal w =
     let c = (trail setting older).past.capacities in

@@ -1,19 +1,9 @@
 -- How many serials are pending: as many as the map has.
-use Rattle.std.proofs.Common.{◌≡◌, ℕ, zero, suc, ◌+◌, ◌<◌, ◌≤◌, ◌==◌, if◌then◌else◌, refl, sym, ◌∙◌, ap, arith, Bool, true, false, ◌||◌, cond, is_some, List, [], ◌∷◌, length, Option, Some, None, IsSome}
-use Rattle.std.specs.Ordering.{nat_cmp}
-use Rattle.std.specs.declared.cmp.Ordering.TheVariants.{Less}
-use Rattle.std.specs.Cmp.{unsigned_tied}
-use Rattle.std.specs.List.{AllByRecursion}
-use Rattle.std.specs.List.Sorted.{IsStrictlySortedBy}
-use Rattle.std.specs.Map.{keys_of, lookup}
-use Rattle.std.specs.BTreeMap.{BTreeMap, get, is_at, btree_map_len, IsOrdered}
-use Rattle.std.proofs.lemmas.Bool.Decides.{nat_tests}
+use Rattle.std.proofs.{Common.{◌≡◌, ℕ, zero, suc, ◌+◌, ◌<◌, ◌≤◌, ◌==◌, if◌then◌else◌, refl, sym, ◌∙◌, ap, arith, Bool, true, false, ◌||◌, cond, is_some, List, [], ◌∷◌, length, Option, Some, None, IsSome}, lemmas.Bool.Decides.nat_tests}
+use Rattle.std.specs.{Ordering.nat_cmp, declared.cmp.Ordering.TheVariants.Less, Cmp.unsigned_tied, List.AllByRecursion, List.Sorted.IsStrictlySortedBy, Map.{keys_of, lookup}, BTreeMap.{BTreeMap, get, is_at, btree_map_len, IsOrdered}}
+use Rattle.peer_route.specs.{Names.{Error, Slot}, Left.{CallsView, waiting_serial, IsIndex}}
 use Rattle.wire_message.specs.Circle.{taken_among}
-use Rattle.wire_message.specs.declared.error.Error.{Error}
-use Rattle.peer_route.specs.declared.calls.Slot.{Slot}
-use Rattle.peer_route.specs.Left.{CallsView, waiting_serial, IsIndex}
-use Rattle.peer_route.proofs.Core.{calls_of}
-use Rattle.peer_route.proofs.Index.{open_none, pending_open, pending_shut}
+use Rattle.peer_route.proofs.{Core.calls_of, Index.{open_none, pending_open, pending_shut}}
 
 -- ---- counting what is taken
 

@@ -1,17 +1,6 @@
 -- The word of a body: the text of its signature, a colon, and its values in hexadecimal.
-use Rattle.std.specs.Prelude.{ℕ, ◌≡◌, ◌+◌, ◌<◌, ◌==◌, List, [], ◌∷◌, ◌++◌, length, take, drop, Option, Some, None, option_map, option_and_then, Result, Ok, Err}
-use Rattle.std.specs.List.{position, All}
-use Rattle.wire_number.specs.declared.endian.Endian.TheVariants.{Little}
-use Rattle.wire_signature.specs.Shape.{Shape, shapes_of, SignatureText}
-use Rattle.wire_signature.specs.Parsing.{types_in}
-use Rattle.wire_signature.specs.declared.error.VariantError.TheVariants as faults
-use Rattle.wire_tree.specs.Datum.{Datum}
-use Rattle.wire_spelling.specs.Each.{SpellEach}
-use Rattle.wire_number.specs.Reading.{Cursor}
-use Rattle.wire_spelling.specs.Reading.{value_at, fields_at}
-use Rattle.wire_message.specs.declared.error.Error.{Error}
-use Rattle.wire_message.specs.declared.error.Error.TheVariants as errors
-use Rattle.peer_route.specs.Hex.{hex_word, bytes_of}
+use Rattle.std.specs.{Prelude.{ℕ, ◌≡◌, ◌+◌, ◌<◌, ◌==◌, List, [], ◌∷◌, ◌++◌, length, take, drop, Option, Some, None, option_map, option_and_then, Result, Ok, Err}, List.{position, All}}
+use Rattle.peer_route.specs.{Names.{Little, Shape, shapes_of, SignatureText, types_in, Datum, SpellEach, Cursor, value_at, fields_at, Error, VariantError}, Hex.{hex_word, bytes_of}}
 
 -- The word of a body with these values: the signature of their types, a colon, and two digits for each byte of their
 -- spellings in little order, of which there is at least one (D-Bus Specification, "Message Format", "Marshaling (Wire
@@ -52,6 +41,6 @@ body_values word = option_and_then (λ parts. values_of (types_in parts.0) (byte
 -- tells nothing.
 abbrev pub ReadsBody : Result (List Datum) Error → Option (List Datum) → Type 0
 ReadsBody (Ok body) found = found ≡ Some body
-ReadsBody (Err (errors.Variant faults.Malformed)) found = found ≡ None
-ReadsBody (Err errors.Memory) found = Unit {0}
+ReadsBody (Err (Error.Variant VariantError.Malformed)) found = found ≡ None
+ReadsBody (Err Error.Memory) found = Unit {0}
 ReadsBody (Err error) found = ⊥

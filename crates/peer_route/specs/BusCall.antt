@@ -1,16 +1,8 @@
 -- The calls by which a peer asks the bus for what a rule accepts, and tells it that this isn't wanted any more (D-Bus
 -- Specification, "Message Bus Messages", `org.freedesktop.DBus.AddMatch` and `org.freedesktop.DBus.RemoveMatch`).
 use Rattle.std.specs.Prelude.{ℕ, Bool, true, false, List, [], ◌∷◌, map, Option, Some, None, codes}
-use Rattle.wire_number.specs.declared.endian.Endian.TheVariants.{Little}
-use Rattle.wire_tree.specs.Datum.{text, string}
-use Rattle.wire_message.specs.Field.{no_fields}
-use Rattle.wire_message.specs.Draft.{Draft}
-use Rattle.wire_message.specs.declared.kind.MessageType.TheVariants as types
-use Rattle.rule_match.specs.Rule.{Rule}
+use Rattle.peer_route.specs.{Names.{Little, text, string, no_fields, Draft, Rule, MessageType}, Parcel.Parcel, History.{Adds, Removes, Past}, Issuing.Posting}
 use Rattle.rule_match.specs.Text.{rule_text}
-use Rattle.peer_route.specs.Parcel.{Parcel}
-use Rattle.peer_route.specs.History.{Adds, Removes, Past}
-use Rattle.peer_route.specs.Issuing.{Posting}
 
 abbrev pub bus_name : List ℕ
 bus_name = codes "org.freedesktop.DBus"
@@ -18,7 +10,7 @@ bus_name = codes "org.freedesktop.DBus"
 -- the call of a method of the bus, by the peer of this name
 abbrev pub bus_draft : Option (List ℕ) → List ℕ → Draft
 bus_draft name member = record {
-  kind = types.MethodCall;
+  kind = MessageType.MethodCall;
   order = Little;
   flags = 0;
   serial = None;

@@ -1,27 +1,7 @@
 -- What the commands that send a message ask for (D-Bus Specification, "Types of messages").
-use Rattle.std.specs.Prelude.{ℕ, ◌+◌, ◌==◌, ◌&&◌, Bool, true, false, not, if◌then◌else◌, List, [], ◌∷◌, Option, Some, None, unwrap_or, Ok, Err}
-use Rattle.std.specs.Int.RustNames.{bit_and}
-use Rattle.wire_number.specs.declared.endian.Endian.{Endian}
-use Rattle.wire_number.specs.declared.endian.Endian.TheVariants.{Little, Big}
-use Rattle.wire_names.specs.Names.{is_bus_name, is_object_path, is_interface_name, is_member_name, is_error_name}
-use Rattle.wire_names.specs.declared.error.NamesError.TheVariants as names
-use Rattle.wire_signature.specs.declared.error.VariantError.TheVariants as faults
-use Rattle.wire_tree.specs.Datum.{Datum}
-use Rattle.wire_message.specs.Field.{no_fields}
-use Rattle.wire_message.specs.Front.{Seen}
-use Rattle.wire_message.specs.Primary.{head_of}
-use Rattle.wire_message.specs.Draft.{Draft, are_misplaced}
-use Rattle.wire_message.specs.Drafts.{reply_draft, error_draft}
-use Rattle.wire_message.specs.declared.kind.MessageType.{MessageType}
-use Rattle.wire_message.specs.declared.kind.MessageType.TheVariants as types
-use Rattle.wire_message.specs.declared.error.Error.{Error}
-use Rattle.wire_message.specs.declared.error.Error.TheVariants as errors
-use Rattle.peer_route.specs.declared.words.CallFlags.{CallFlags}
-use Rattle.peer_route.specs.declared.words.Outgoing.{Outgoing}
-use Rattle.peer_route.specs.declared.words.OutgoingKind.{OutgoingKind}
-use Rattle.peer_route.specs.declared.words.OutgoingKind.TheVariants as outgoing
-use Rattle.peer_route.specs.BodyWord.{body_values}
-use Rattle.peer_route.specs.Parcel.{Asked}
+use Rattle.std.specs.{Prelude.{ℕ, ◌+◌, ◌==◌, ◌&&◌, Bool, true, false, not, if◌then◌else◌, List, [], ◌∷◌, Option, Some, None, unwrap_or, Ok, Err}, Int.RustNames.bit_and}
+use Rattle.peer_route.specs.{Names.{Endian, Little, Big, is_bus_name, is_object_path, is_interface_name, is_member_name, is_error_name, Datum, no_fields, Seen, head_of, Draft, are_misplaced, reply_draft, error_draft, MessageType, Error, Outgoing, OutgoingKind, VariantError}, declared.words.CallFlags.CallFlags, BodyWord.body_values, Parcel.Asked}
+use Rattle.wire_names.specs.declared.error.NamesError.{NamesError}
 
 -- ---- flags
 
@@ -36,7 +16,7 @@ flags_number flags = bit 1 flags.no_reply_expected + bit 2 flags.no_auto_start +
 
 -- A message of this type and these flags is answered: it is a method call, and NoReplyExpected isn't among its flags.
 unfoldable pub expects_reply : MessageType → ℕ → Bool
-expects_reply types.MethodCall flags = not (bit_and flags 1 == 1)
+expects_reply MessageType.MethodCall flags = not (bit_and flags 1 == 1)
 expects_reply kind flags = false
 
 -- what is asked to be sent is a call that waits for a reply
@@ -63,15 +43,15 @@ is_outside grammar (Some text) = not (grammar text)
 -- the first of a message's words that is outside its grammar: its destination, its path, its interface, its member
 unfoldable pub words_refusal : Draft → Option Error
 words_refusal draft =
-    if is_outside is_bus_name draft.fields.destination then Some (errors.Names names.Bus)
-    else if is_outside is_object_path draft.fields.path then Some (errors.Names names.Path)
-    else if is_outside is_interface_name draft.fields.interface then Some (errors.Names names.Interface)
-    else if is_outside is_member_name draft.fields.member then Some (errors.Names names.Member)
+    if is_outside is_bus_name draft.fields.destination then Some (Error.Names NamesError.Bus)
+    else if is_outside is_object_path draft.fields.path then Some (Error.Names NamesError.Path)
+    else if is_outside is_interface_name draft.fields.interface then Some (Error.Names NamesError.Interface)
+    else if is_outside is_member_name draft.fields.member then Some (Error.Names NamesError.Member)
     else None
 
 -- the same of an error's name
 unfoldable pub name_refusal : List ℕ → Option Error
-name_refusal text = if is_error_name text then None else Some (errors.Names names.Error)
+name_refusal text = if is_error_name text then None else Some (Error.Names NamesError.Error)
 
 -- the values of a body's word; without a word there are none
 abbrev pub values_in : Option (List ℕ) → Option (List Datum)
@@ -82,9 +62,9 @@ values_in (Some word) = body_values word
 -- the flags can't stand on a message of this type; there are descriptors, and the sink takes none.
 abbrev pub asked_of : Option Error → Option (List Datum) → Bool → Bool → Draft → List ℕ → Asked
 asked_of (Some error) values misplaced unsupported draft fds = Err error
-asked_of None None misplaced unsupported draft fds = Err (errors.Variant faults.Malformed)
-asked_of None (Some values) true unsupported draft fds = Err errors.InvalidField
-asked_of None (Some values) false true draft fds = Err errors.Unsupported
+asked_of None None misplaced unsupported draft fds = Err (Error.Variant VariantError.Malformed)
+asked_of None (Some values) true unsupported draft fds = Err Error.InvalidField
+asked_of None (Some values) false true draft fds = Err Error.Unsupported
 asked_of None (Some values) false false draft fds = Ok (record { draft = draft; values = values; fds = fds })
 
 -- ---- calls and signals
@@ -114,8 +94,8 @@ member_asked takes_fds words draft =
 
 -- A signal must have an interface: none is refused as the empty text, which is no interface.
 abbrev pub outgoing_draft : OutgoingKind → Option (List ℕ) → Outgoing → Draft
-outgoing_draft outgoing.Call name words = member_draft types.MethodCall name words words.interface
-outgoing_draft outgoing.Signal name words = member_draft types.Signal name words (Some (unwrap_or words.interface []))
+outgoing_draft OutgoingKind.Call name words = member_draft MessageType.MethodCall name words words.interface
+outgoing_draft OutgoingKind.Signal name words = member_draft MessageType.Signal name words (Some (unwrap_or words.interface []))
 
 -- A method call or a signal, where the sink takes descriptors or takes none.
 abbrev pub outgoing_asked : Option (List ℕ) → Bool → Outgoing → Asked
@@ -130,12 +110,12 @@ sent_from name draft = record draft { fields = record draft.fields { sender = na
 -- The method return to a message, of whatever type, by the peer of this name: in the message's byte order, with its serial as the
 -- reply serial, and its sender as the destination. Without a message there is nothing to answer.
 abbrev pub reply_asked : Option (List ℕ) → Option Seen → Option (List ℕ) → Asked
-reply_asked name None word = Err errors.UnknownHandle
+reply_asked name None word = Err Error.UnknownHandle
 reply_asked name (Some m) word =
-    asked_of None (values_in word) false false (sent_from name (reply_draft types.MethodReturn (head_of m))) []
+    asked_of None (values_in word) false false (sent_from name (reply_draft MessageType.MethodReturn (head_of m))) []
 
 -- the same by the error of that text
 abbrev pub error_asked : Option (List ℕ) → Option Seen → List ℕ → Option (List ℕ) → Asked
-error_asked name None text word = Err errors.UnknownHandle
+error_asked name None text word = Err Error.UnknownHandle
 error_asked name (Some m) text word =
     asked_of (name_refusal text) (values_in word) false false (sent_from name (error_draft (head_of m) text)) []

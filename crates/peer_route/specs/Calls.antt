@@ -1,12 +1,6 @@
 -- What is asked of the calls of a past: their answers, which are first-such, and which of them wait.
-use Rattle.std.specs.Prelude.{ℕ, ◌==◌, Bool, ◌&&◌, ◌||◌, not, is_none, if◌then◌else◌, List, [], ◌∷◌, drop, find, slice_get, Option, Some, None, Result, Ok, Err}
-use Rattle.std.specs.List.{list_any}
-use Rattle.wire_message.specs.Front.{Seen}
-use Rattle.wire_message.specs.declared.error.Error.{Error}
-use Rattle.wire_message.specs.declared.error.Error.TheVariants as errors
-use Rattle.peer_route.specs.declared.polled.Polled.{Polled}
-use Rattle.peer_route.specs.declared.polled.Polled.TheVariants as polled
-use Rattle.peer_route.specs.History.{Event, Spent, Call, bears, Past}
+use Rattle.std.specs.{Prelude.{ℕ, ◌==◌, Bool, ◌&&◌, ◌||◌, not, is_none, if◌then◌else◌, List, [], ◌∷◌, drop, find, slice_get, Option, Some, None, Result, Ok, Err}, List.list_any}
+use Rattle.peer_route.specs.{Names.{Seen, Error, Polled}, History.{Event, Spent, Call, bears, Past}}
 
 -- the first message read after the call was put that bears its serial
 unfoldable pub found : List Seen → Call → Option Seen
@@ -21,13 +15,13 @@ abbrev pub is_nobodys : Call → Bool
 is_nobodys c = is_gone c || c.inner
 
 abbrev pub polled_by : Option Seen → Option Error → Result (Polled Seen) Error
-polled_by (Some m) error = Ok (polled.Now m)
-polled_by None (Some error) = Ok (polled.Closed error)
-polled_by None None = Ok polled.NotYet
+polled_by (Some m) error = Ok (Polled.Now m)
+polled_by None (Some error) = Ok (Polled.Closed error)
+polled_by None None = Ok Polled.NotYet
 
 abbrev pub polled_at : List Seen → Option Error → Option Call → Result (Polled Seen) Error
-polled_at ms closed None = Err errors.UnknownHandle
-polled_at ms closed (Some c) = if is_nobodys c then Err errors.UnknownHandle else polled_by (found ms c) closed
+polled_at ms closed None = Err Error.UnknownHandle
+polled_at ms closed (Some c) = if is_nobodys c then Err Error.UnknownHandle else polled_by (found ms c) closed
 
 -- What a poll of the call with this number gives: its reply, which is the first message read after it that bears its
 -- serial; else the closing error; else nothing yet. A call that wasn't made, or whose answer was given, or that was dropped,
@@ -38,17 +32,13 @@ poll_answer h k = polled_at h.read h.closing (slice_get h.calls k)
 -- What a poll or a take gives where it names a position, which isn't looked at: that there is none before it, in place of
 -- nothing yet; else the same.
 abbrev pub by_position : Result (Polled Seen) Error → Result (Polled Seen) Error
-by_position (Ok polled.NotYet) = Ok polled.NoneBefore
-by_position (Ok (polled.Now m)) = Ok (polled.Now m)
-by_position (Ok polled.NoneBefore) = Ok polled.NoneBefore
-by_position (Ok (polled.Closed error)) = Ok (polled.Closed error)
-by_position (Ok polled.Ended) = Ok polled.Ended
-by_position (Err error) = Err error
+by_position (Ok Polled.NotYet) = Ok Polled.NoneBefore
+by_position r = r
 
 -- what a poll is, by its answer
 abbrev pub poll_events : ℕ → Result (Polled Seen) Error → List Event
-poll_events k (Ok (polled.Now m)) = Spent k ∷ []
-poll_events k (Ok (polled.Closed error)) = Spent k ∷ []
+poll_events k (Ok (Polled.Now m)) = Spent k ∷ []
+poll_events k (Ok (Polled.Closed error)) = Spent k ∷ []
 poll_events k other = []
 
 -- the call waits for a reply, and bears this serial
@@ -71,8 +61,8 @@ in_flight h = is_none h.closing && list_any (is_awaited h.read) h.calls
 -- What dropping the call with this number gives: a call that still waits for its answer, or has one, is dropped. One that
 -- wasn't made, or is over, is unknown.
 abbrev pub dropped_at : Option Call → Result (Unit {0}) Error
-dropped_at None = Err errors.UnknownHandle
-dropped_at (Some c) = if is_nobodys c then Err errors.UnknownHandle else Ok tt
+dropped_at None = Err Error.UnknownHandle
+dropped_at (Some c) = if is_nobodys c then Err Error.UnknownHandle else Ok tt
 
 unfoldable pub drop_answer : Past → ℕ → Result (Unit {0}) Error
 drop_answer h k = dropped_at (slice_get h.calls k)

@@ -1,20 +1,6 @@
 -- What an entry holds, by what its command means; what entries leave; and the histories whose entries are these.
-use Rattle.std.specs.Prelude.{ℕ, zero, suc, ⊤, ◌≡◌, ◌+◌, ◌-◌, ◌^◌, ◌<◌, ◌≤◌, ◌⊎◌, Bool, true, false, if◌then◌else◌, List, [], ◌∷◌, ◌++◌, length, Option, Some, None, Result, Ok, Err}
-use Rattle.wire_message.specs.Front.{Front, Seen}
-use Rattle.wire_message.specs.Outcome.{IsReadError}
-use Rattle.wire_message.specs.declared.error.Error.{Error}
-use Rattle.wire_message.specs.declared.error.Error.TheVariants as errors
-use Rattle.wire_message.specs.declared.error.IoKind.TheVariants as kinds
-use Rattle.peer_route.specs.declared.words.Words.{Words}
-use Rattle.peer_route.specs.declared.words.Words.TheVariants as words
-use Rattle.peer_route.specs.declared.answer.Answer.{Answer}
-use Rattle.peer_route.specs.declared.answer.Answer.TheVariants as answers
-use Rattle.peer_route.specs.declared.answer.Entry.{Entry}
-use Rattle.peer_route.specs.Parcel.{Setting}
-use Rattle.peer_route.specs.History.{Event, Took, Shut, Wrote, Fault, Main, OnBus, Named, Past, no_past, after, after_all}
-use Rattle.peer_route.specs.Issuing.{Posting, issued, parcels, messages_of, puts}
-use Rattle.peer_route.specs.Trail.{Trail, new_names, asked_names, made_names}
-use Rattle.peer_route.specs.Plan.{Plan, Says, Sends, Reads, Closes, Writes, Never, plan}
+use Rattle.std.specs.Prelude.{ℕ, zero, suc, ⊤, ◌≡◌, ◌+◌, ◌-◌, ◌^◌, ◌<◌, ◌≤◌, ◌⊎◌, Bool, true, false, if◌then◌else◌, List, [], ◌∷◌, ◌++◌, length, Option, Some, None, Result, Ok, Err, option_map, option_to_list}
+use Rattle.peer_route.specs.{Names.{Front, Seen, IsReadError, Error, Words, Answer, Entry, IoKind}, Parcel.Setting, History.{Event, Took, Shut, Wrote, Fault, Main, OnBus, Named, Past, no_past, after_all}, Issuing.{Posting, issued, parcels, messages_of, puts}, Trail.{Trail, new_names, asked_names, made_names}, Plan.{Plan, Says, Sends, Reads, Closes, Writes, Never, plan}}
 
 -- ---- an entry
 
@@ -27,16 +13,16 @@ pub record IsQuiet (e : Entry) : Type 0 where
 -- What a read took: the next message, which stands on its own bytes, one position above those before it (no position passes 2^64 - 2); or
 -- why there is none.
 abbrev pub IsRead : ℕ → Option Seen → Answer → Type 0
-IsRead count (Some m) answer = (answer ≡ answers.Got) × Front m.bytes m (length m.bytes) × (m.position ≡ count + 1) × (count < 2 ^ 64 - 2)
-IsRead count None answer = (error : Error) × (answer ≡ answers.Closed error) × IsReadError error
+IsRead count (Some m) answer = (answer ≡ Answer.Got) × Front m.bytes m (length m.bytes) × (m.position ≡ count + 1) × (count < 2 ^ 64 - 2)
+IsRead count None answer = (error : Error) × (answer ≡ Answer.Closed error) × IsReadError error
 
 abbrev pub write_fault : Answer
-write_fault = answers.SendFailed (errors.InputOutput kinds.WriteFault)
+write_fault = Answer.SendFailed (Error.InputOutput IoKind.WriteFault)
 
 -- what is answered where messages can't be put: nothing goes out after a failed write, or once the peer was closed
 abbrev pub unsent : Error → Answer
-unsent (errors.InputOutput kind) = answers.SendFailed (errors.InputOutput kind)
-unsent error = answers.Refused error
+unsent (Error.InputOutput kind) = Answer.SendFailed (Error.InputOutput kind)
+unsent error = Answer.Refused error
 
 -- Writes at once: all that an entry puts is written within it, unless a write failed.
 abbrev pub IsAtOnce : Entry → Type 0
@@ -64,7 +50,7 @@ IsSending (Err error) ds sent e = (e.answer ≡ unsent error) × IsQuiet e
 
 -- The peer is closed, or the sink's `close` failed; then it is closed as well.
 abbrev pub IsClose : Answer → Type 0
-IsClose answer = (answer ≡ answers.Shut) ⊎ (answer ≡ write_fault)
+IsClose answer = (answer ≡ Answer.Shut) ⊎ (answer ≡ write_fault)
 
 -- What an entry is, by the past before it and what its command means.
 abbrev pub IsMeant : Past → Plan → Entry → Type 0
@@ -72,7 +58,7 @@ IsMeant h (Says answer deeds) e = (e.read ≡ None) × (e.answer ≡ answer) × 
 IsMeant h (Sends deeds ds sent) e = (e.read ≡ None) × IsSending (issued (after_all deeds h) ds) ds sent e × IsInTurn h e
 IsMeant h Reads e = IsRead (length h.read) e.read e.answer × IsQuiet e
 IsMeant h Closes e = (e.read ≡ None) × IsClose e.answer × IsQuiet e
-IsMeant h (Writes fails) e = (e.read ≡ None) × (e.answer ≡ answers.Silent) × IsQuiet e
+IsMeant h (Writes fails) e = (e.read ≡ None) × (e.answer ≡ Answer.Silent) × IsQuiet e
 IsMeant h Never e = ⊥
 
 -- The entry is what its command means, after this trail.
@@ -81,21 +67,18 @@ IsEntry t e = IsMeant t.past (plan t e.lane e.words) e
 
 -- ---- what an entry leaves
 
--- what a read that found no message does: it closes the peer
-abbrev pub shut_by : Answer → List Event
-shut_by (answers.Closed error) = Shut error ∷ []
-shut_by answer = []
-
+-- a read takes a message, or closes the peer where it found none
 abbrev pub read_events : Option Seen → Answer → List Event
 read_events (Some m) answer = Took m ∷ []
-read_events None answer = shut_by answer
+read_events None (Answer.Closed error) = Shut error ∷ []
+read_events None answer = []
 
 -- what an entry does beside its messages; a peer is closed whatever the sink's `close` answers
 abbrev pub deeds : Plan → Entry → List Event
 deeds (Says answer done) e = done
 deeds (Sends done ds sent) e = done
 deeds Reads e = read_events e.read e.answer
-deeds Closes e = Shut (errors.InputOutput kinds.Closed) ∷ []
+deeds Closes e = Shut (Error.InputOutput IoKind.Closed) ∷ []
 deeds (Writes fails) e = (if fails then Fault else Wrote) ∷ []
 deeds Never e = []
 
@@ -132,23 +115,12 @@ more t e = more_by (plan t e.lane e.words) e t
 
 -- ---- a history
 
--- before the first entry the capacity is set, if it is given
-abbrev pub with_queue : Option ℕ → Past → Past
-with_queue None h = h
-with_queue (Some limit) h = after (Main limit) h
-
--- then the peer is put on a message bus, if it is one's
-abbrev pub with_bus : Bool → Past → Past
-with_bus false h = h
-with_bus true h = after OnBus h
-
--- and gets its unique name, if it has one
-abbrev pub with_name : Option (List ℕ) → Past → Past
-with_name None h = h
-with_name (Some name) h = after (Named name) h
-
+-- before the first entry the capacity is set, if it is given; the peer is put on a message bus, if it is one's; and it gets its
+-- unique name, if it has one
 abbrev pub first_past : Setting → Past
-first_past setting = with_name setting.name (with_bus setting.bus (with_queue setting.queue no_past))
+first_past setting =
+    after_all (option_to_list (option_map Named setting.name))
+    (after_all (if setting.bus then OnBus ∷ [] else []) (after_all (option_to_list (option_map Main setting.queue)) no_past))
 
 -- what the entries, newest first, of a peer of this setting leave
 abbrev pub trail : Setting → List Entry → Trail
@@ -162,5 +134,5 @@ Legal setting (e ∷ es) = IsEntry (trail setting es) e × Legal setting es
 
 -- no command that only lanes have which run at once
 abbrev pub IsOfRun : Words → Type 0
-IsOfRun (words.Live line) = ⊥
+IsOfRun (Words.Live line) = ⊥
 IsOfRun w = ⊤

@@ -1,12 +1,6 @@
 -- Whether the arrays of values are within their limit (D-Bus Specification, "Marshaling", `ARRAY`).
-use Rattle.std.specs.Prelude.{ℕ, ◌+◌, ◌&&◌, nat_le, Bool, true, length}
-use Rattle.std.specs.Int.{w8}
-use Rattle.wire_number.specs.declared.endian.Endian.{Endian}
-use Rattle.wire_number.specs.Number.{counted_text}
-use Rattle.wire_signature.specs.Shape.{alignment, type_text}
-use Rattle.wire_tree.specs.Datum.{Datum, num, text, array, dict, struct, variant, Data, no_data, items, type_of}
-use Rattle.wire_spelling.specs.Spelling.{aligned, first_place, spelling, spellings}
-use Rattle.wire_number.specs.Limits.{array_limit}
+use Rattle.std.specs.{Prelude.{ℕ, ◌+◌, ◌&&◌, nat_le, Bool, true, length}, Int.w8}
+use Rattle.peer_route.specs.Names.{Endian, counted_text, alignment, type_text, Datum, num, text, array, dict, struct, variant, Data, no_data, items, type_of, aligned, first_place, spelling, spellings, array_limit}
 
 -- The elements of each array of a value that begins at this place take at most so many bytes.
 unfoldable mutual

@@ -1,18 +1,7 @@
 -- What happens to a peer, event by event; and its past, which never loses anything: one record whose parts are each a short function of
 -- the events (D-Bus Specification, "Message Protocol", "Types of messages").
-use Rattle.std.specs.Prelude.{ℕ, ◌==◌, ◌+◌, max, Bool, true, false, ◌&&◌, ◌||◌, not, is_none, is_some, if◌then◌else◌, List, [], ◌∷◌, ◌++◌, length, map, drop, slice_get, Option, Some, None, zero, suc}
-use Rattle.std.specs.List.{list_any}
-use Rattle.wire_message.specs.Front.{Seen}
-use Rattle.wire_message.specs.declared.kind.MessageType.{MessageType}
-use Rattle.wire_message.specs.declared.kind.MessageType.TheVariants as types
-use Rattle.wire_message.specs.declared.error.Error.{Error}
-use Rattle.wire_message.specs.declared.error.Error.TheVariants as errors
-use Rattle.wire_message.specs.declared.error.IoKind.{IoKind}
-use Rattle.wire_message.specs.declared.error.IoKind.TheVariants as kinds
-use Rattle.rule_match.specs.Rule.{Rule}
-use Rattle.peer_route.specs.Rules.{is_same, usual}
-use Rattle.peer_route.specs.declared.writer.Writer.{Writer}
-use Rattle.peer_route.specs.declared.writer.Writer.TheVariants as writers
+use Rattle.std.specs.{Prelude.{ℕ, ◌==◌, ◌+◌, max, Bool, true, false, ◌&&◌, ◌||◌, not, is_none, is_some, if◌then◌else◌, List, [], ◌∷◌, ◌++◌, length, map, drop, slice_get, Option, Some, None, unwrap_or, zero, suc}, List.list_any}
+use Rattle.peer_route.specs.{Names.{Seen, MessageType, Error, IoKind, Rule, Writer}, Rules.{is_same, usual}}
 
 -- ---- events
 
@@ -64,10 +53,11 @@ pub record Call : Type 0 where
 
 -- a method return or an error
 abbrev pub is_reply : MessageType → Bool
-is_reply types.MethodReturn = true
-is_reply types.Error = true
+is_reply MessageType.MethodReturn = true
+is_reply MessageType.Error = true
 is_reply other = false
 
+-- the number is there and is this
 abbrev pub is_serial : Option ℕ → ℕ → Bool
 is_serial None serial = false
 is_serial (Some n) serial = n == serial
@@ -101,7 +91,7 @@ pub data Phase : Type 0 where
   Since : (ms : List Seen) → Phase
 
 abbrev pub is_return : MessageType → Bool
-is_return types.MethodReturn = true
+is_return MessageType.MethodReturn = true
 is_return other = false
 
 -- by the messages that were read since the AddMatch was put: its reply is the first of them that bears its serial
@@ -141,71 +131,28 @@ pub record Past : Type 0 where
   pub streams : List Stream
   pub capacities : Capacities
 
--- ---- what was read, and what closed the peer
+-- the first stays
+abbrev pub first_of : {A : Type 0} → Option A → A → Option A
+first_of None x = Some x
+first_of (Some earlier) x = Some earlier
 
--- the messages that were read, with the one that a read took
-abbrev pub read_after : Event → List Seen → List Seen
-read_after (Took m) ms = ms ++ m ∷ []
-read_after e ms = ms
-
-abbrev pub first_of : Option Error → Error → Option Error
-first_of None error = Some error
-first_of (Some earlier) error = Some earlier
-
--- the first closing error, once the event happened: the first time that the peer is shut gives it
-abbrev pub closing_after : Event → Option Error → Option Error
-closing_after (Shut error) closing = first_of closing error
-closing_after e closing = closing
-
--- whether the peer stands on a message bus: from the event that says so on
-abbrev pub bus_after : Event → Bool → Bool
-bus_after OnBus bus = true
-bus_after e bus = bus
-
-abbrev pub first_name : Option (List ℕ) → List ℕ → Option (List ℕ)
-first_name None name = Some name
-first_name (Some earlier) name = Some earlier
-
--- the peer's unique name: the first that it is given
-abbrev pub name_after : Event → Option (List ℕ) → Option (List ℕ)
-name_after (Named name) given = first_name given name
-name_after e given = given
-
--- ---- the outbox
+-- ---- what became of the writer
 
 -- the earlier cause stays
 abbrev pub worse : Writer → Writer → Writer
-worse writers.Fine cause = cause
-worse writers.Failed cause = writers.Failed
-worse writers.Closed cause = writers.Closed
-
-abbrev pub shuts_by : IoKind → Writer
-shuts_by kinds.Closed = writers.Closed
-shuts_by other = writers.Fine
+worse Writer.Fine cause = cause
+worse w cause = w
 
 -- Closing a peer closes its writer; a read that ends its messages doesn't.
 abbrev pub shuts : Error → Writer
-shuts (errors.InputOutput kind) = shuts_by kind
-shuts error = writers.Fine
-
--- the outbox once the event happened: a message stands at its end, the first that wasn't done is written or fails, or the peer is shut
-abbrev pub outbox_after : Event → Outbox → Outbox
-outbox_after (Put m purpose) o = record o { put = o.put ++ m ∷ []; last = m.serial }
-outbox_after Wrote o = record o { written = o.written + 1; done = o.done + 1 }
-outbox_after Fault o = record o { done = o.done + 1; failed = true; writer = worse o.writer writers.Failed }
-outbox_after (Shut error) o = record o { writer = worse o.writer (shuts error) }
-outbox_after e o = o
+shuts (Error.InputOutput IoKind.Closed) = Writer.Closed
+shuts error = Writer.Fine
 
 -- ---- calls
 
+-- the call of a message that is put now, a lane's or the peer's own
 abbrev pub call_by : Past → Seen → Bool → Call
 call_by p m inner = record { index = length p.outbox.put; serial = m.serial; from = length p.read; spent = false; failed = false; inner = inner }
-
-abbrev pub new_call : Past → Seen → Call
-new_call p m = call_by p m false
-
-abbrev pub inner_call : Past → Seen → Call
-inner_call p m = call_by p m true
 
 -- the element at a place is changed
 abbrev pub edit : {A : Type 0} → ℕ → (A → A) → List A → List A
@@ -221,8 +168,8 @@ fail_at index c = record c { failed = c.failed || (c.index == index) }
 
 -- a message's call, where it makes one: a lane's that waits, or the peer's own
 abbrev pub calls_put : Past → Seen → Purpose → List Call → List Call
-calls_put p m (OfLane waits) cs = if waits then cs ++ new_call p m ∷ [] else cs
-calls_put p m purpose cs = cs ++ inner_call p m ∷ []
+calls_put p m (OfLane waits) cs = if waits then cs ++ call_by p m false ∷ [] else cs
+calls_put p m purpose cs = cs ++ call_by p m true ∷ []
 
 -- the calls once the event happened: one more, one that is over, or those that failed with the message of a failed write
 abbrev pub calls_after : Past → Event → List Call → List Call
@@ -252,14 +199,11 @@ fresh p rule told = record { rule = rule; start = Behind (length p.read); skip =
 
 -- a stream that waits for the return to this AddMatch
 abbrev pub asking_stream : Past → Seen → Rule → Stream
-asking_stream p m rule = record { rule = Some rule; start = OnReturn (inner_call p m); skip = 0; taken = 0; told = false; gone = false; opened = false }
+asking_stream p m rule = record { rule = Some rule; start = OnReturn (call_by p m true); skip = 0; taken = 0; told = false; gone = false; opened = false }
 
 -- A stream without a rule that is made after the peer was closed has nothing to tell any more.
 abbrev pub plain_stream : Past → Stream
 plain_stream p = fresh p None (is_some p.closing)
-
-abbrev pub rule_stream : Past → Rule → Stream
-rule_stream p rule = fresh p (Some rule) false
 
 -- A clone begins where its original is: it has its rule, passes over what that gave, and has given nothing itself.
 abbrev pub clone_of : Past → Option Stream → Stream
@@ -269,27 +213,16 @@ clone_of p (Some s) = record s { skip = s.skip + s.taken; taken = 0; gone = fals
 -- a new stream, by those that were made before it
 abbrev pub new_stream : Past → List Stream → Making → Stream
 new_stream p ss Plain = plain_stream p
-new_stream p ss (Ruled rule asked) = rule_stream p rule
+new_stream p ss (Ruled rule asked) = fresh p (Some rule) false
 new_stream p ss (Cloned t) = clone_of p (slice_get ss t)
 
-abbrev pub give : Stream → Stream
-give s = record s { taken = s.taken + 1 }
-
-abbrev pub tell : Stream → Stream
-tell s = record s { told = true }
-
-abbrev pub end_one : Stream → Stream
-end_one s = record s { gone = true }
-
-abbrev pub open_one : Stream → Stream
-open_one s = record s { opened = true }
-
+-- a stream once it did something
 abbrev pub done_by : Deed → Stream → Stream
-done_by Gave s = give s
-done_by Told s = tell s
-done_by Gone s = end_one s
+done_by Gave s = record s { taken = s.taken + 1 }
+done_by Told s = record s { told = true }
+done_by Gone s = record s { gone = true }
 done_by (Asked limit) s = s
-done_by Opened s = open_one s
+done_by Opened s = record s { opened = true }
 
 -- a stream that waits for the return to its AddMatch is gone where that one's write fails
 abbrev pub fail_stream : List Seen → ℕ → Stream → Stream
@@ -309,11 +242,6 @@ abbrev pub rule_of : Option Stream → Option Rule
 rule_of None = None
 rule_of (Some s) = s.rule
 
--- a stream asks for more
-abbrev pub plain_asks : Option Stream → ℕ → ℕ → ℕ
-plain_asks None limit n = limit
-plain_asks (Some s) limit n = if is_none s.rule then max limit n else limit
-
 abbrev pub is_of : Rule → Option Rule → Bool
 is_of rule None = false
 is_of rule (Some r) = is_same rule r
@@ -330,36 +258,29 @@ subscribes ms rule s = lives ms s && is_of rule s.rule
 unfoldable pub is_subscribed : List Seen → List Stream → Rule → Bool
 is_subscribed ms ss rule = list_any (subscribes ms rule) ss
 
-abbrev pub asked_or : Option ℕ → ℕ → ℕ
-asked_or None n = n
-asked_or (Some m) n = m
-
 abbrev pub raised : Option ℕ → ℕ → ℕ
 raised None limit = limit
 raised (Some n) limit = max limit n
 
--- the rule's first stream gives it the capacity that was asked for, or the usual one; a later one that asks for more raises it
-abbrev pub limit_then : Bool → Rule → Option ℕ → ℕ → ℕ
-limit_then false rule asked limit = asked_or asked (usual rule)
-limit_then true rule asked limit = raised asked limit
-
--- a stream of the rule `r` is made, and asks for a capacity or for none
+-- A stream of the rule `r` is made, and asks for a capacity or for none: the rule's first stream gives it the capacity that was asked for,
+-- or the usual one; a later one that asks for more raises it.
 abbrev pub asked_limit : Past → Rule → Rule → Option ℕ → ℕ → ℕ
-asked_limit p rule r asked limit = if is_same rule r then limit_then (is_subscribed p.read p.streams rule) rule asked limit else limit
+asked_limit p rule r asked limit = if is_same rule r then (if is_subscribed p.read p.streams rule then raised asked limit else unwrap_or asked (usual rule)) else limit
 
+-- a stream is made so
 abbrev pub made_limit : Past → Rule → Making → ℕ → ℕ
 made_limit p rule (Ruled r asked) limit = asked_limit p rule r asked limit
 made_limit p rule other limit = limit
-
-abbrev pub rule_asks : Rule → Option Rule → ℕ → ℕ → ℕ
-rule_asks rule of limit n = if is_of rule of then max limit n else limit
 
 -- A rule's capacity is forgotten with its last stream.
 abbrev pub capacities_after : Past → Event → Capacities → Capacities
 capacities_after p (Main limit) c = record c { main = limit }
 capacities_after p (Made making) c = record c { rules = λ rule. made_limit p rule making (c.rules rule) }
 capacities_after p (Put m (Adds r asked)) c = record c { rules = λ rule. asked_limit p rule r asked (c.rules rule) }
-capacities_after p (Did t (Asked n)) c = record { main = plain_asks (slice_get p.streams t) c.main n; rules = λ rule. rule_asks rule (rule_of (slice_get p.streams t)) (c.rules rule) n }
+capacities_after p (Did t (Asked n)) c = record {
+  main = if is_some (slice_get p.streams t) && is_none (rule_of (slice_get p.streams t)) then max c.main n else c.main;
+  rules = λ rule. if is_of rule (rule_of (slice_get p.streams t)) then max (c.rules rule) n else c.rules rule;
+}
 capacities_after p e c = c
 
 -- ---- the past
@@ -371,11 +292,36 @@ no_past = record {
   name = None;
   read = [];
   closing = None;
-  outbox = record { put = []; written = 0; done = 0; failed = false; writer = writers.Fine; last = 0 };
+  outbox = record { put = []; written = 0; done = 0; failed = false; writer = Writer.Fine; last = 0 };
   calls = [];
   streams = [];
   capacities = record { main = 64; rules = usual };
 }
+
+-- what was read, what closed the peer first, whether it stands on a bus, and the name that it was given first, once the event happened
+abbrev pub read_after : Event → List Seen → List Seen
+read_after (Took m) ms = ms ++ m ∷ []
+read_after e ms = ms
+
+abbrev pub closing_after : Event → Option Error → Option Error
+closing_after (Shut error) closing = first_of closing error
+closing_after e closing = closing
+
+abbrev pub bus_after : Event → Bool → Bool
+bus_after OnBus bus = true
+bus_after e bus = bus
+
+abbrev pub name_after : Event → Option (List ℕ) → Option (List ℕ)
+name_after (Named name) given = first_of given name
+name_after e given = given
+
+-- the outbox: a message stands at its end, the first that wasn't done is written or fails, or the peer is shut
+abbrev pub outbox_after : Event → Outbox → Outbox
+outbox_after (Put m purpose) o = record o { put = o.put ++ m ∷ []; last = m.serial }
+outbox_after Wrote o = record o { written = o.written + 1; done = o.done + 1 }
+outbox_after Fault o = record o { done = o.done + 1; failed = true; writer = worse o.writer Writer.Failed }
+outbox_after (Shut error) o = record o { writer = worse o.writer (shuts error) }
+outbox_after e o = o
 
 -- the past once the event happened: each part by itself
 abbrev pub after : Event → Past → Past

@@ -1,25 +1,7 @@
 -- What putting messages gives: all of them are put in the outbox, in order, or none (D-Bus Specification, "Message Format",
 -- "Message Protocol").
-use Rattle.std.specs.Prelude.{ℕ, zero, suc, ◌≡◌, ◌+◌, ◌||◌, not, nat_lt, Bool, true, false, if◌then◌else◌, List, [], ◌∷◌, length, map, option_map, option_and_then, Option, Some, None, Result, Ok, Err}
-use Rattle.std.specs.List.{list_any}
-use Rattle.wire_tree.specs.Datum.{data_of}
-use Rattle.wire_spelling.specs.Spelling.{depths}
-use Rattle.wire_signature.specs.declared.error.VariantError.TheVariants as faults
-use Rattle.wire_message.specs.Circle.{serial_after}
-use Rattle.wire_message.specs.Front.{Seen}
-use Rattle.wire_message.specs.declared.error.Error.{Error}
-use Rattle.wire_message.specs.declared.error.Error.TheVariants as errors
-use Rattle.wire_message.specs.declared.error.IoKind.TheVariants as kinds
-use Rattle.peer_route.specs.declared.route.Issued.{Issued}
-use Rattle.peer_route.specs.declared.writer.Writer.{Writer}
-use Rattle.peer_route.specs.declared.writer.Writer.TheVariants as writers
-use Rattle.peer_route.specs.Parcel.{Parcel, message_of}
-use Rattle.peer_route.specs.CallMessage.{expects}
-use Rattle.peer_route.specs.History.{Event, Purpose, Put, OfLane, Past, after}
-use Rattle.peer_route.specs.Calls.{pending}
-use Rattle.peer_route.specs.Fitting.{all_fit}
-use Rattle.peer_route.specs.Left.{View, Left}
-use Rattle.wire_number.specs.Limits.{message_limit, greatest_serial}
+use Rattle.std.specs.{Prelude.{ℕ, zero, suc, ◌≡◌, ◌+◌, ◌||◌, not, nat_lt, Bool, true, false, if◌then◌else◌, List, [], ◌∷◌, length, map, option_map, option_and_then, Option, Some, None, Result, Ok, Err}, List.list_any}
+use Rattle.peer_route.specs.{Names.{data_of, depths, serial_after, Seen, Error, Issued, Writer, message_limit, greatest_serial, VariantError, IoKind}, Parcel.{Parcel, message_of}, CallMessage.expects, History.{Event, Purpose, Put, OfLane, Removes, Past, after}, Calls.pending, Fitting.all_fit, Left.{View, Left}}
 
 -- ---- serials
 
@@ -50,6 +32,16 @@ pub record Posting : Type 0 where
 -- for a lane, whose call waits where a reply is expected
 abbrev pub of_lane : Parcel → Posting
 of_lane parcel = record { parcel = parcel; purpose = OfLane (expects (Ok parcel)) }
+
+-- why a message is put that makes no stream: a lane's, or the peer's own; whether a call waits for its reply
+abbrev pub purpose_of : Bool → Bool → Purpose
+purpose_of false waits = OfLane waits
+purpose_of true true = Removes
+purpose_of true false = OfLane false
+
+-- for a lane, or as the peer's own
+abbrev pub posted : Bool → Parcel → Posting
+posted inner parcel = record { parcel = parcel; purpose = purpose_of inner (expects (Ok parcel)) }
 
 -- it is put with this serial
 abbrev pub put_of : Posting → ℕ → Event
@@ -86,19 +78,19 @@ abbrev pub parcels : List Posting → List Parcel
 parcels ds = map (λ d. d.parcel) ds
 
 abbrev pub limit_refusal : List Posting → Option (List ℕ) → Option Error
-limit_refusal ds None = Some errors.SerialsSpent
-limit_refusal ds (Some serials) = if some_long (parcels ds) serials then Some errors.ExcessData else None
+limit_refusal ds None = Some Error.SerialsSpent
+limit_refusal ds (Some serials) = if some_long (parcels ds) serials then Some Error.ExcessData else None
 
 -- Why messages are refused, the first that holds, each asked of all of them before the next is: a value opens too many containers; a
 -- message finds each serial pending; an array or a message passes its limit.
 abbrev pub refusal : Past → List Posting → Option Error
-refusal h ds = if are_deep ds then Some (errors.Variant faults.Depth) else limit_refusal ds (drawn h ds)
+refusal h ds = if are_deep ds then Some (Error.Variant VariantError.Depth) else limit_refusal ds (drawn h ds)
 
 -- after a failed write, or once the peer was closed, nothing is put
 abbrev pub barred : Writer → Option Error
-barred writers.Fine = None
-barred writers.Failed = Some (errors.InputOutput kinds.WriteFault)
-barred writers.Closed = Some (errors.InputOutput kinds.Closed)
+barred Writer.Fine = None
+barred Writer.Failed = Some (Error.InputOutput IoKind.WriteFault)
+barred Writer.Closed = Some (Error.InputOutput IoKind.Closed)
 
 abbrev pub or_barred : Writer → Option Error → Option Error
 or_barred met (Some error) = Some error
@@ -106,7 +98,7 @@ or_barred met None = barred met
 
 abbrev pub issued_by : Option Error → Option (List ℕ) → Result (List ℕ) Error
 issued_by (Some error) serials = Err error
-issued_by None None = Err errors.SerialsSpent
+issued_by None None = Err Error.SerialsSpent
 issued_by None (Some serials) = Ok serials
 
 -- What putting messages gives: the serial of each, or why none is put. Where there are none, nothing refuses it.
@@ -135,11 +127,14 @@ issued_each h (d ∷ ds) (serial ∷ serials) = issued_of h d serial ∷ issued_
 issued_each h ds serials = []
 
 -- What putting messages gives, by the past before it: all are put, in order, and the answer tells their serials; or none, for the reason
--- that is due, or for want of memory; `stays` is what an error leaves.
+-- that is due, or for want of memory. `stays` is what an error leaves, `leaves` what the past leaves once they were put.
+abbrev pub IssuesBy : {A : Type 0} → (A → List ℕ → Type 0) → Type 0 → (Past → Type 0) → List Posting → Past → Result A Error → Type 0
+IssuesBy tells stays leaves ds h (Ok answer) = (serials : List ℕ) × (issued h ds ≡ Ok serials) × tells answer serials × leaves (put_each ds serials h)
+IssuesBy tells stays leaves ds h (Err Error.Memory) = stays
+IssuesBy tells stays leaves ds h (Err error) = (issued h ds ≡ Err error) × stays
+
 abbrev pub Issues : {A : Type 0} → (A → List ℕ → Type 0) → Type 0 → View → List Posting → Past → Result A Error → Type 0
-Issues tells stays new ds h (Ok answer) = (serials : List ℕ) × (issued h ds ≡ Ok serials) × tells answer serials × Left new (put_each ds serials h)
-Issues tells stays new ds h (Err errors.Memory) = stays
-Issues tells stays new ds h (Err error) = (issued h ds ≡ Err error) × stays
+Issues tells stays new ds h result = IssuesBy tells stays (Left new) ds h result
 
 -- What issuing the messages of a lane's command gives: for each its place, its serial and its call. An error changes nothing.
 abbrev pub IssuesAll : {A : Type 0} → (A → List Issued) → View → View → List Parcel → Past → Result A Error → Type 0

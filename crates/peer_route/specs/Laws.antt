@@ -1,51 +1,35 @@
 -- What the laws of histories say, in words of their own.
-use Rattle.std.specs.Prelude.{ℕ, ⊤, ◌≡◌, ◌+◌, ◌||◌, ◌⊎◌, true, false, is_some, drop, find, slice_get, Option, Some, None}
-use Rattle.std.specs.List.{AllByRecursion}
-use Rattle.wire_message.specs.Front.{Seen}
-use Rattle.wire_message.specs.declared.error.Error.{Error}
-use Rattle.wire_message.specs.declared.error.Error.TheVariants as errors
-use Rattle.peer_route.specs.declared.words.Words.{Words}
-use Rattle.peer_route.specs.declared.words.Words.TheVariants as words
-use Rattle.peer_route.specs.declared.words.CallOp.{CallOp}
-use Rattle.peer_route.specs.declared.words.CallOp.TheVariants as calls
-use Rattle.peer_route.specs.declared.words.StreamOp.TheVariants as ops
-use Rattle.peer_route.specs.declared.answer.Answer.{Answer}
-use Rattle.peer_route.specs.declared.answer.Answer.TheVariants as answers
-use Rattle.peer_route.specs.declared.answer.Entry.{Entry}
-use Rattle.peer_route.specs.History.{Call, bears, Past}
-use Rattle.peer_route.specs.Calls.{found, is_gone}
-use Rattle.peer_route.specs.Trail.{Trail, place}
-use Rattle.peer_route.specs.Shown.{reply_answer}
-use Rattle.peer_route.specs.Plan.{where_named, on_call}
+use Rattle.std.specs.{Prelude.{ℕ, ⊤, ◌≡◌, ◌+◌, ◌||◌, ◌⊎◌, true, false, is_some, drop, find, slice_get, Option, Some, None, Bool}, List.AllByRecursion}
+use Rattle.peer_route.specs.{Names.{Seen, Error, Words, CallOp, Answer, Entry, StreamOp}, History.{Call, bears, Past}, Calls.{found, is_gone}, Trail.{Trail, place}, Shown.reply_answer, Plan.{where_named, on_call}}
 
 -- it asks for the call's answer, by position or not
 abbrev pub IsPollOp : CallOp → Type 0
-IsPollOp calls.Poll = ⊤
-IsPollOp (calls.Before before) = ⊤
-IsPollOp calls.Drop = ⊥
+IsPollOp CallOp.Poll = ⊤
+IsPollOp (CallOp.Before before) = ⊤
+IsPollOp CallOp.Drop = ⊥
 
 -- the command asks for the answer of the lane's call with this number, by position or not
 abbrev pub IsPoll : ℕ → Words → Type 0
-IsPoll number w = (op : CallOp) × (w ≡ words.OfCall number op) × IsPollOp op
+IsPoll number w = (op : CallOp) × (w ≡ Words.OfCall number op) × IsPollOp op
 
 -- the answer is the call's last word: its reply, or the error that closed the peer
 abbrev pub IsFinal : Answer → Type 0
-IsFinal (answers.Reply position) = ⊤
-IsFinal (answers.InvalidReply position) = ⊤
-IsFinal (answers.MethodError m) = ⊤
-IsFinal (answers.Closed error) = ⊤
+IsFinal (Answer.Reply position) = ⊤
+IsFinal (Answer.InvalidReply position) = ⊤
+IsFinal (Answer.MethodError m) = ⊤
+IsFinal (Answer.Closed error) = ⊤
 IsFinal answer = ⊥
 
 -- the answer is a reply, valid or not, that stood at this position
 abbrev pub IsReplyAt : ℕ → Answer → Type 0
-IsReplyAt q (answers.Reply position) = position ≡ q
-IsReplyAt q (answers.InvalidReply position) = position ≡ q
-IsReplyAt q (answers.MethodError m) = m.position ≡ q
+IsReplyAt q (Answer.Reply position) = position ≡ q
+IsReplyAt q (Answer.InvalidReply position) = position ≡ q
+IsReplyAt q (Answer.MethodError m) = m.position ≡ q
 IsReplyAt q answer = ⊥
 
 -- where the entry asks something of this lane's call of this number, its answer is that no such call waits
 abbrev pub IsUnknown : ℕ → ℕ → Entry → Type 0
-IsUnknown lane number e = e.lane ≡ lane → (op : CallOp) → e.words ≡ words.OfCall number op → e.answer ≡ answers.Refused errors.UnknownHandle
+IsUnknown lane number e = e.lane ≡ lane → (op : CallOp) → e.words ≡ Words.OfCall number op → e.answer ≡ Answer.Refused Error.UnknownHandle
 
 -- The lane's number names a call, and the first message read after it was put that bears its serial is shown by the
 -- answer; that message was the q-th that was read, from 1 on, and its position says so.
@@ -81,23 +65,23 @@ abbrev pub SameCall : Trail → Trail → ℕ → ℕ → Type 0
 SameCall new old lane number = (op : CallOp) → where_named (on_call new.past op) (place 0 lane number new.names) ≡ where_named (on_call old.past op) (place 0 lane number old.names)
 
 -- the command polls a call, or takes from a stream, by position
-abbrev pub IsByPosition : Words → Type 0
-IsByPosition (words.OfCall number (calls.Before before)) = ⊤
-IsByPosition (words.OfStream number (ops.TakeBefore before)) = ⊤
-IsByPosition w = ⊥
+abbrev pub is_by_position : Words → Bool
+is_by_position (Words.OfCall number (CallOp.Before before)) = true
+is_by_position (Words.OfStream number (StreamOp.TakeBefore before)) = true
+is_by_position w = false
 
 -- the answer says that there is nothing yet
 abbrev pub IsNothingYet : Answer → Type 0
-IsNothingYet answers.NotYet = ⊤
-IsNothingYet answers.Empty = ⊤
+IsNothingYet Answer.NotYet = ⊤
+IsNothingYet Answer.Empty = ⊤
 IsNothingYet answer = ⊥
 
 -- ---- what was sent
 
 -- the serial by which an answer says that a message was sent, the last of several
 abbrev pub told_serial : Answer → Option ℕ
-told_serial (answers.Called call serial) = Some serial
-told_serial (answers.Sent serial) = Some serial
-told_serial (answers.Opening number serial) = Some serial
-told_serial (answers.Gone last) = last
+told_serial (Answer.Called call serial) = Some serial
+told_serial (Answer.Sent serial) = Some serial
+told_serial (Answer.Opening number serial) = Some serial
+told_serial (Answer.Gone last) = last
 told_serial answer = None

@@ -1,7 +1,6 @@
 -- What is lent to be changed.
 use Rattle.std.specs.Borrow.{Lends, MutBor, Fml}
-use Rattle.peer_route.specs.Left.{CallsView, View}
-use Rattle.peer_route.specs.contracts.route.Route.{the_row}
+use Rattle.peer_route.specs.{Left.{CallsView, View}, contracts.route.Route.the_row}
 use Rattle.peer_route.specs.contracts.calls.PendingMethodCalls.{the_row as calls_row}
 
 -- The core ends with the last value behind the reference as its calls.

@@ -1,3 +1,4 @@
+pub mod Names
 pub mod Hex
 pub mod BodyWord
 pub mod BusCall
@@ -18,7 +19,6 @@ pub mod Told
 pub mod Left
 pub mod Issuing
 pub mod Placing
-pub mod ParcelCode
 pub mod Laws
 pub mod StreamLaws
 pub mod Lending

@@ -1,13 +1,7 @@
 -- What a command asks to be sent, and the message that this makes (D-Bus Specification, "Message Format").
-use Rattle.std.specs.Prelude.{ℕ, Bool, false, if◌then◌else◌, List, map, Option, None, Result}
-use Rattle.wire_tree.specs.Datum.{Datum, type_of}
-use Rattle.wire_message.specs.Draft.{Draft, built}
-use Rattle.wire_message.specs.Bodies.{body_text}
-use Rattle.wire_message.specs.Signed.{signed, counted}
-use Rattle.wire_message.specs.Front.{Seen}
-use Rattle.wire_message.specs.declared.kind.MessageType.{MessageType}
-use Rattle.wire_message.specs.declared.kind.MessageType.TheVariants as types
-use Rattle.wire_message.specs.declared.error.Error.{Error}
+use Rattle.std.specs.{Prelude.{ℕ, Bool, false, if◌then◌else◌, List, [], ◌∷◌, map, Option, None, Result, refl}, Coded.{Coded, code_by, coded×, coded_list, coded_ℕ}}
+use Rattle.peer_route.specs.{Names.{Datum, text, string, type_of, Draft, built, body_text, signed, counted, Seen, MessageType, Error}, declared.letter_body.LetterBody.LetterBody}
+use Rattle.wire_tree.specs.DatumCode.{datum_code}
 
 -- What a peer is given at its start: whether it stands on a message bus; its unique name, if it has one; whether its sink takes file
 -- descriptors; and how many messages a stream may hold, if that is set.
@@ -22,6 +16,17 @@ pub record Parcel : Type 0 where
   pub draft : Draft
   pub values : List Datum
   pub fds : List ℕ
+
+-- the code of it, by which a proof tells its values apart: it is stored as its parts
+abbrev pub parcel_code : Coded Draft → Coded Parcel
+parcel_code draft =
+    code_by (Draft × (List Datum × List ℕ)) (coded× draft (coded× (coded_list datum_code) (coded_list coded_ℕ)))
+    (λ p. (p.draft, (p.values, p.fds))) (λ t. record { draft = t.0; values = t.1.0; fds = t.1.1 }) (λ _. refl)
+
+-- the values of a body that is to be sent: one text, where it is too long for a string
+abbrev pub values_of : LetterBody → List Datum
+values_of (LetterBody.Values values) = values
+values_of (LetterBody.Long bytes) = text string bytes ∷ []
 
 -- what a command asks to be sent, or why it is refused
 abbrev pub Asked : Type 0
@@ -38,7 +43,7 @@ message_of parcel serial =
 
 -- a message of this type names no sender: an error that serves a call
 abbrev pub is_unsigned : Bool → MessageType → Bool
-is_unsigned served types.Error = served
+is_unsigned served MessageType.Error = served
 is_unsigned served other = false
 
 -- Who sends a message: the peer of this name, if it has one; of an error that serves a call nobody is named (D-Bus Specification,

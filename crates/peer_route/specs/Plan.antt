@@ -1,32 +1,7 @@
 -- What each command means, by what the entries before it left: what it is answered and does by itself, and which messages it wants sent;
 -- or that it reads, or closes the peer. All else goes by these few kinds.
-use Rattle.std.specs.Prelude.{ℕ, ◌==◌, ◌&&◌, not, nat_lt, Bool, true, false, List, [], ◌∷◌, length, slice_get, Option, Some, None, option_map, Result, Ok, Err}
-use Rattle.wire_message.specs.Front.{Seen}
-use Rattle.wire_message.specs.declared.error.Error.{Error}
-use Rattle.wire_message.specs.declared.error.Error.TheVariants as errors
-use Rattle.wire_message.specs.declared.error.IoKind.TheVariants as kinds
-use Rattle.rule_match.specs.Rule.{Rule}
-use Rattle.rule_match.specs.Bytes.{rule_in_bytes}
-use Rattle.peer_route.specs.declared.words.Words.{Words}
-use Rattle.peer_route.specs.declared.words.Words.TheVariants as words
-use Rattle.peer_route.specs.declared.words.CallOp.{CallOp}
-use Rattle.peer_route.specs.declared.words.CallOp.TheVariants as calls
-use Rattle.peer_route.specs.declared.words.StreamOp.{StreamOp}
-use Rattle.peer_route.specs.declared.words.StreamOp.TheVariants as ops
-use Rattle.peer_route.specs.declared.words.Live.{Live}
-use Rattle.peer_route.specs.declared.words.Live.TheVariants as live
-use Rattle.peer_route.specs.declared.answer.Answer.{Answer}
-use Rattle.peer_route.specs.declared.answer.Answer.TheVariants as answers
-use Rattle.peer_route.specs.Parcel.{Asked}
-use Rattle.peer_route.specs.CallMessage.{expects, outgoing_asked, reply_asked, error_asked}
-use Rattle.peer_route.specs.History.{Event, Made, Making, Plain, Ruled, Cloned, Did, Main, Named, Stream, Past}
-use Rattle.peer_route.specs.History as events
-use Rattle.peer_route.specs.Calls.{in_flight, poll_answer, by_position, poll_events, drop_answer, drop_events}
-use Rattle.peer_route.specs.Streams.{busy, gave_last, take_answer, take_events, is_open, are_open, asks_bus, close_waits, leaving, gone_events, opening_answer, opening_events}
-use Rattle.peer_route.specs.BusCall.{asking_of, tellings_of, first_of, last_of}
-use Rattle.peer_route.specs.Shown.{shown, shown_drop, shown_take, shown_opening}
-use Rattle.peer_route.specs.Issuing.{Posting, of_lane}
-use Rattle.peer_route.specs.Trail.{Trail, place, count}
+use Rattle.std.specs.Prelude.{ℕ, ◌==◌, ◌&&◌, not, nat_lt, Bool, true, false, List, [], ◌∷◌, length, slice_get, Option, Some, None, option_map, Result, Ok, Err, option_and_then, if◌then◌else◌}
+use Rattle.peer_route.specs.{Names.{Seen, Error, Rule, rule_in_bytes, Words, CallOp, StreamOp, Live, Answer, IoKind}, Parcel.Asked, CallMessage.{expects, outgoing_asked, reply_asked, error_asked}, History.{Event, Deed, Made, Making, Plain, Ruled, Cloned, Did, Main, Named, Past}, Calls.{in_flight, poll_answer, by_position, poll_events, drop_answer, drop_events}, Streams.{busy, gave_last, take_answer, take_events, is_open, are_open, asks_bus, close_waits, leaving, gone_events, opening_answer, opening_events}, BusCall.{asking_of, tellings_of, first_of, last_of}, Shown.{shown, shown_drop, shown_take, shown_opening}, Issuing.{Posting, of_lane}, Trail.{Trail, place, count}}
 
 pub data Plan : Type 0 where
   Says : (answer : Answer) (deeds : List Event) → Plan  -- it is answered so, and does these, in order
@@ -38,29 +13,29 @@ pub data Plan : Type 0 where
 
 -- it is refused so, and does nothing
 abbrev pub refuses : Error → Plan
-refuses error = Says (answers.Refused error) []
+refuses error = Says (Answer.Refused error) []
 
 -- what is done with the call, or the stream, that a number names
 abbrev pub where_named : (ℕ → Plan) → Option ℕ → Plan
-where_named done None = refuses errors.UnknownHandle
+where_named done None = refuses Error.UnknownHandle
 where_named done (Some k) = done k
 
 -- what is done with a stream that is open
 abbrev pub where_open : Bool → Plan → Plan
 where_open true done = done
-where_open false done = refuses errors.UnknownHandle
+where_open false done = refuses Error.UnknownHandle
 
 -- what is done where it need not wait for the reply to an AddMatch or a RemoveMatch
 abbrev pub unless_waits : Bool → Plan → Plan
-unless_waits true done = Says answers.Busy []
+unless_waits true done = Says Answer.Busy []
 unless_waits false done = done
 
 -- ---- a message
 
 -- a message that was sent: its call's number in its lane and its serial; its serial alone where no reply is waited for
 abbrev pub sent_answer : Bool → ℕ → ℕ → Answer
-sent_answer true call serial = answers.Called call serial
-sent_answer false call serial = answers.Sent serial
+sent_answer true call serial = Answer.Called call serial
+sent_answer false call serial = Answer.Sent serial
 
 -- The message is to be sent, or is refused.
 abbrev pub sends : Trail → ℕ → Asked → Plan
@@ -70,23 +45,23 @@ sends t lane (Ok parcel) = Sends [] (of_lane parcel ∷ []) (λ serials. sent_an
 -- ---- a call
 
 abbrev pub on_call : Past → CallOp → ℕ → Plan
-on_call h calls.Poll k = Says (shown (poll_answer h k)) (poll_events k (poll_answer h k))
-on_call h (calls.Before before) k = Says (shown (by_position (poll_answer h k))) (poll_events k (poll_answer h k))
-on_call h calls.Drop k = Says (shown_drop (drop_answer h k)) (drop_events k (drop_answer h k))
+on_call h CallOp.Poll k = Says (shown (poll_answer h k)) (poll_events k (poll_answer h k))
+on_call h (CallOp.Before before) k = Says (shown (by_position (poll_answer h k))) (poll_events k (poll_answer h k))
+on_call h CallOp.Drop k = Says (shown_drop (drop_answer h k)) (drop_events k (drop_answer h k))
 
 -- ---- a stream
 
 -- the lane's next stream is made so
 abbrev pub makes : Trail → ℕ → Making → Plan
-makes t lane making = Says (answers.Streaming (count lane t.streams)) (Made making ∷ [])
+makes t lane making = Says (Answer.Streaming (count lane t.streams)) (Made making ∷ [])
 
 -- The streams are closed; RemoveMatch is to be sent for each rule that has none any more.
 abbrev pub leaves : Past → ℕ → Option ℕ → Plan
-leaves h k j = Sends (gone_events k j) (tellings_of h (leaving h k j)) (λ serials. answers.Gone (last_of serials))
+leaves h k j = Sends (gone_events k j) (tellings_of h (leaving h k j)) (λ serials. Answer.Gone (last_of serials))
 
 -- Streams that are open are closed, where that need not wait; the second is named, or there is none.
 abbrev pub ends : Past → ℕ → Option (Option ℕ) → Plan
-ends h k None = refuses errors.UnknownHandle
+ends h k None = refuses Error.UnknownHandle
 ends h k (Some j) = where_open (are_open h k j) (unless_waits (close_waits h k j) (leaves h k j))
 
 -- what a second number names, where one is given
@@ -94,44 +69,40 @@ abbrev pub second_place : Trail → ℕ → Option ℕ → Option (Option ℕ)
 second_place t lane None = Some None
 second_place t lane (Some number) = option_map Some (place 0 lane number t.streams)
 
-abbrev pub given_by : Past → Option Stream → Option Seen
-given_by h None = None
-given_by h (Some s) = gave_last h.read s
-
 -- the message that the stream with this number gave last
 abbrev pub given_last : Past → ℕ → Option Seen
-given_last h k = given_by h (slice_get h.streams k)
+given_last h k = option_and_then (gave_last h.read) (slice_get h.streams k)
 
 abbrev pub on_stream : Trail → ℕ → StreamOp → ℕ → Plan
-on_stream t lane (ops.Reply body) k = sends t lane (reply_asked t.past.name (given_last t.past k) body)
-on_stream t lane (ops.Error name body) k = sends t lane (error_asked t.past.name (given_last t.past k) name body)
-on_stream t lane ops.Take k = Says (shown_take (take_answer t.past k)) (take_events k (take_answer t.past k))
-on_stream t lane (ops.TakeBefore before) k = Says (shown_take (by_position (take_answer t.past k))) (take_events k (take_answer t.past k))
-on_stream t lane ops.Clone k = where_open (is_open t.past k) (makes t lane (Cloned k))
-on_stream t lane ops.Opened k = Says (shown_opening (opening_answer t.past k)) (opening_events k (opening_answer t.past k))
-on_stream t lane (ops.Queue limit) k = where_open (is_open t.past k) (Says answers.Set (Did k (events.Asked limit) ∷ []))
-on_stream t lane (ops.Unstream second) k = ends t.past k (second_place t lane second)
+on_stream t lane (StreamOp.Reply body) k = sends t lane (reply_asked t.past.name (given_last t.past k) body)
+on_stream t lane (StreamOp.Error name body) k = sends t lane (error_asked t.past.name (given_last t.past k) name body)
+on_stream t lane StreamOp.Take k = Says (shown_take (take_answer t.past k)) (take_events k (take_answer t.past k))
+on_stream t lane (StreamOp.TakeBefore before) k = Says (shown_take (by_position (take_answer t.past k))) (take_events k (take_answer t.past k))
+on_stream t lane StreamOp.Clone k = where_open (is_open t.past k) (makes t lane (Cloned k))
+on_stream t lane StreamOp.Opened k = Says (shown_opening (opening_answer t.past k)) (opening_events k (opening_answer t.past k))
+on_stream t lane (StreamOp.Queue limit) k = where_open (is_open t.past k) (Says Answer.Set (Did k (Deed.Asked limit) ∷ []))
+on_stream t lane (StreamOp.Unstream second) k = ends t.past k (second_place t lane second)
 
 -- ---- a stream of a rule
 
 -- The bus has to be asked, or else the stream is open at once.
 abbrev pub opens_new : Trail → ℕ → Rule → Option ℕ → Bool → Plan
-opens_new t lane rule asked true = Sends [] (asking_of t.past rule asked ∷ []) (λ serials. answers.Opening (count lane t.streams) (first_of serials))
+opens_new t lane rule asked true = Sends [] (asking_of t.past rule asked ∷ []) (λ serials. Answer.Opening (count lane t.streams) (first_of serials))
 opens_new t lane rule asked false = makes t lane (Ruled rule asked)
 
 -- A text that is no rule is refused by its fault. A closed peer has no new stream of a rule; and while an AddMatch or a RemoveMatch is on its
 -- way nothing is opened.
 abbrev pub opens : Trail → ℕ → Result Rule Error → Option ℕ → Option Error → Plan
 opens t lane (Err error) asked shut = refuses error
-opens t lane (Ok rule) asked (Some error) = refuses (errors.InputOutput kinds.Closed)
+opens t lane (Ok rule) asked (Some error) = refuses (Error.InputOutput IoKind.Closed)
 opens t lane (Ok rule) asked None = unless_waits (in_flight t.past) (opens_new t lane rule asked (asks_bus t.past rule))
 
 -- ---- a read
 
 -- The first closing error is given again and again. Else the read is busy exactly where a stream is full.
 abbrev pub reads_by : Option Error → Bool → Plan
-reads_by (Some error) full = Says (answers.Closed error) []
-reads_by None true = Says answers.Busy []
+reads_by (Some error) full = Says (Answer.Closed error) []
+reads_by None true = Says Answer.Busy []
 reads_by None false = Reads
 
 -- ---- lanes that run at once
@@ -144,31 +115,27 @@ writer_lane = 4294967295
 abbrev pub is_due : Past → ℕ → ℕ → Bool
 is_due h lane index = (lane == writer_lane) && ((index == h.outbox.done) && nat_lt index (length h.outbox.put))
 
--- Writes take the messages in order; after a failed one all fail.
-abbrev pub writes_by : Bool → Bool → Plan
-writes_by true fails = Writes fails
-writes_by false fails = Never
-
 abbrev pub named_now : Option (List ℕ) → List ℕ → Plan
-named_now None name = Says (answers.Named true) (Named name ∷ [])
-named_now (Some earlier) name = Says (answers.Named false) []
+named_now None name = Says (Answer.Named true) (Named name ∷ [])
+named_now (Some earlier) name = Says (Answer.Named false) []
 
--- The other lines of such scripts stand in a history as the commands that they stand for.
+-- Writes take the messages in order; after a failed one all fail. The other lines of such scripts stand in a history as the commands that
+-- they stand for.
 abbrev pub lives : Past → ℕ → Live → Plan
-lives h lane (live.Written index) = writes_by (is_due h lane index && not h.outbox.failed) false
-lives h lane (live.Fault index) = writes_by (is_due h lane index) true
-lives h lane (live.Unique name) = named_now h.name name
+lives h lane (Live.Written index) = if is_due h lane index && not h.outbox.failed then Writes false else Never
+lives h lane (Live.Fault index) = if is_due h lane index then Writes true else Never
+lives h lane (Live.Unique name) = named_now h.name name
 lives h lane line = Never
 
 -- ---- every command
 
 abbrev pub plan : Trail → ℕ → Words → Plan
-plan t lane (words.Send out) = sends t lane (outgoing_asked t.past.name t.setting.takes_fds out)
-plan t lane words.Read = reads_by t.past.closing (busy t.past)
-plan t lane (words.OfCall n op) = where_named (on_call t.past op) (place 0 lane n t.names)
-plan t lane words.Stream = makes t lane Plain
-plan t lane (words.Open max_queued rule) = opens t lane (rule_in_bytes rule) max_queued t.past.closing
-plan t lane (words.OfStream n op) = where_named (on_stream t lane op) (place 0 lane n t.streams)
-plan t lane (words.MainQueue limit) = Says answers.Set (Main limit ∷ [])
-plan t lane words.Close = Closes
-plan t lane (words.Live line) = lives t.past lane line
+plan t lane (Words.Send out) = sends t lane (outgoing_asked t.past.name t.setting.takes_fds out)
+plan t lane Words.Read = reads_by t.past.closing (busy t.past)
+plan t lane (Words.OfCall n op) = where_named (on_call t.past op) (place 0 lane n t.names)
+plan t lane Words.Stream = makes t lane Plain
+plan t lane (Words.Open max_queued rule) = opens t lane (rule_in_bytes rule) max_queued t.past.closing
+plan t lane (Words.OfStream n op) = where_named (on_stream t lane op) (place 0 lane n t.streams)
+plan t lane (Words.MainQueue limit) = Says Answer.Set (Main limit ∷ [])
+plan t lane Words.Close = Closes
+plan t lane (Words.Live line) = lives t.past lane line

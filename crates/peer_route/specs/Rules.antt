@@ -1,19 +1,8 @@
 -- Rules as subscriptions: when two are one, and how many messages a rule's streams may hold where nothing else is asked for
 -- (D-Bus Specification, "Match Rules").
-use Rattle.std.specs.Prelude.{ℕ, Bool, true, false, ◌&&◌, ◌==◌, is_none, if◌then◌else◌, List, [], ◌∷◌, Option, Some, None, codes}
-use Rattle.std.specs.Cmp.Lexicographic.{pointwise}
-use Rattle.std.specs.Option.{option_eq}
-use Rattle.wire_names.specs.declared.bus.OwnedBusName.{OwnedBusName}
-use Rattle.wire_names.specs.declared.bus.OwnedBusName.TheVariants.{Unique, WellKnown}
-use Rattle.wire_message.specs.Front.{kind_code}
-use Rattle.wire_message.specs.declared.kind.MessageType.{MessageType}
-use Rattle.wire_message.specs.declared.kind.MessageType.TheVariants as types
-use Rattle.rule_arguments.specs.declared.arguments.Argument.{Argument}
-use Rattle.rule_arguments.specs.Passing.{same}
-use Rattle.rule_arguments.specs.SameArgument.{same_argument}
-use Rattle.rule_match.specs.declared.place.PathSpec.{PathSpec}
-use Rattle.rule_match.specs.declared.place.PathSpec.TheVariants.{Path, PathNamespace}
-use Rattle.rule_match.specs.Rule.{Rule}
+use Rattle.std.specs.{Prelude.{ℕ, Bool, false, ◌&&◌, ◌==◌, if◌then◌else◌, List, [], ◌∷◌, Some, codes}, Cmp.Lexicographic.pointwise, Option.option_eq}
+use Rattle.peer_route.specs.Names.{OwnedBusName, Unique, WellKnown, kind_code, MessageType, PathSpec, Path, PathNamespace, Rule, bus_signal}
+use Rattle.rule_arguments.specs.{declared.arguments.Argument.Argument, Passing.same, SameArgument.same_argument}
 
 -- ---- when two rules are one
 
@@ -48,42 +37,18 @@ is_same r s =
 
 -- ---- a rule's usual capacity
 
-abbrev pub is_signal : Option MessageType → Bool
-is_signal (Some types.Signal) = true
-is_signal kind = false
-
--- the text is there and is this one
-abbrev pub is_this : List ℕ → Option (List ℕ) → Bool
-is_this wanted None = false
-is_this wanted (Some text) = same text wanted
-
-abbrev pub is_unique : List ℕ → Option OwnedBusName → Bool
-is_unique wanted (Some (Unique name)) = same name wanted
-is_unique wanted name = false
-
-abbrev pub is_at : List ℕ → Option PathSpec → Bool
-is_at wanted (Some (Path path)) = same path wanted
-is_at wanted place = false
-
 -- one argument is wanted, the first
 abbrev pub is_first_alone : List Argument → Bool
 is_first_alone (a ∷ []) = a.index == 0
 is_first_alone others = false
 
-abbrev pub are_none : List Argument → Bool
-are_none [] = true
-are_none (a ∷ others) = false
+-- the bus's signal NameOwnerChanged, of any name
+abbrev pub owner_changes : Rule
+owner_changes = record (bus_signal (codes "NameOwnerChanged")) { path = Some (Path (codes "/org/freedesktop/DBus")) }
 
--- The rule is one of an owner's changes: the bus's own signals NameOwnerChanged, at its path, of one name, and it has no other
--- part.
+-- The rule is one of an owner's changes: it is that one, of one name, and has no other part.
 unfoldable pub is_owner_rule : Rule → Bool
-is_owner_rule r =
-    is_signal r.kind
-    && (is_unique (codes "org.freedesktop.DBus") r.sender
-    && (is_this (codes "org.freedesktop.DBus") r.interface
-    && (is_this (codes "NameOwnerChanged") r.member
-    && (is_at (codes "/org/freedesktop/DBus") r.path
-    && (is_none r.destination && (is_first_alone r.args && (are_none r.arg_paths && is_none r.arg0ns)))))))
+is_owner_rule r = is_first_alone r.args && is_same (record r { args = [] }) owner_changes
 
 -- how many messages a rule's streams may hold where nothing else is asked for
 unfoldable pub usual : Rule → ℕ

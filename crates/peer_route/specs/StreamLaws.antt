@@ -1,21 +1,6 @@
 -- What the laws of streams, of busy reads and of what was sent say, in words of their own.
-use Rattle.std.specs.Prelude.{ℕ, ⊤, ◌≡◌, ◌==◌, ◌<◌, ◌&&◌, ◌||◌, ◌⊎◌, Bool, true, false, List, [], ◌∷◌, ◌++◌, if◌then◌else◌, length, map, drop, take, slice_get, Option, Some, None}
-use Rattle.wire_message.specs.Front.{Seen}
-use Rattle.wire_message.specs.declared.error.Error.{Error}
-use Rattle.wire_message.specs.declared.error.Error.TheVariants as errors
-use Rattle.rule_match.specs.Rule.{Rule}
-use Rattle.peer_route.specs.declared.words.Words.{Words}
-use Rattle.peer_route.specs.declared.words.Words.TheVariants as words
-use Rattle.peer_route.specs.declared.words.StreamOp.{StreamOp}
-use Rattle.peer_route.specs.declared.words.StreamOp.TheVariants as ops
-use Rattle.peer_route.specs.declared.answer.Answer.{Answer}
-use Rattle.peer_route.specs.declared.answer.Answer.TheVariants as answers
-use Rattle.peer_route.specs.declared.answer.Entry.{Entry}
-use Rattle.peer_route.specs.Parcel.{Setting}
-use Rattle.peer_route.specs.History.{bears, Stream, rule_of, is_return, Past}
-use Rattle.peer_route.specs.Streams.{accepted, held, runs, limit_of}
-use Rattle.peer_route.specs.Trail.{Trail, place}
-use Rattle.peer_route.specs.Entries.{trail}
+use Rattle.std.specs.Prelude.{ℕ, ⊤, ◌≡◌, ◌==◌, ◌<◌, ◌&&◌, ◌||◌, ◌⊎◌, Bool, true, false, List, [], ◌∷◌, ◌++◌, if◌then◌else◌, length, map, drop, take, slice_get, Option, Some, None, option_and_then, option_map, unwrap_or}
+use Rattle.peer_route.specs.{Names.{Seen, Error, Rule, Words, StreamOp, Answer, Entry}, Parcel.Setting, History.{bears, Stream, rule_of, is_return, Past}, Streams.{accepted, held, runs, limit_of}, Trail.{Trail, place}, Entries.trail}
 
 -- ---- what streams give
 
@@ -24,17 +9,17 @@ positions ms = map (λ m. m.position) ms
 
 -- it asks for the stream's next item, by position or not
 abbrev pub is_take_op : StreamOp → Bool
-is_take_op ops.Take = true
-is_take_op (ops.TakeBefore before) = true
+is_take_op StreamOp.Take = true
+is_take_op (StreamOp.TakeBefore before) = true
 is_take_op op = false
 
 -- the command takes from the lane's stream with this number
 abbrev pub is_take : ℕ → Words → Bool
-is_take number (words.OfStream n op) = (n == number) && is_take_op op
+is_take number (Words.OfStream n op) = (n == number) && is_take_op op
 is_take number w = false
 
 abbrev pub item_by : Bool → Answer → List ℕ
-item_by true (answers.Item position) = position ∷ []
+item_by true (Answer.Item position) = position ∷ []
 item_by b answer = []
 
 -- the positions of the items that the lane's stream with this number gave, oldest first; the entries are newest first
@@ -73,42 +58,38 @@ abbrev pub YieldsAsked : Setting → List Entry → Entry → List Entry → ℕ
 YieldsAsked setting newer e older number serial rule =
     let t = trail setting (newer ++ e ∷ older) in Gives t e.lane number newer (accepted (Some rule) (after_return serial (read_since setting older t.past)))
 
-abbrev pub stream_at : Past → Option ℕ → Option Stream
-stream_at h None = None
-stream_at h (Some k) = slice_get h.streams k
+-- the lane's stream with this number
+abbrev pub stream_of : Trail → ℕ → ℕ → Option Stream
+stream_of t lane number = option_and_then (slice_get t.past.streams) (place 0 lane number t.streams)
 
-abbrev pub held_by : Past → Option Stream → List Seen
-held_by h None = []
-held_by h (Some s) = held h.read s
-
--- what the lane's stream with this number holds
+-- what it holds
 abbrev pub holds : Trail → ℕ → ℕ → List Seen
-holds t lane number = held_by t.past (stream_at t.past (place 0 lane number t.streams))
+holds t lane number = unwrap_or (option_map (held t.past.read) (stream_of t lane number)) []
 
 -- its rule, where it has one
 abbrev pub rule_at : Trail → ℕ → ℕ → Option Rule
-rule_at t lane number = rule_of (stream_at t.past (place 0 lane number t.streams))
+rule_at t lane number = rule_of (stream_of t lane number)
 
 -- ---- the end of streams
 
 -- where the entry is this lane's take of this number, its answer is that the stream is over, or was closed
 abbrev pub IsEnded : ℕ → ℕ → Entry → Type 0
 IsEnded lane number e =
-    e.lane ≡ lane → is_take number e.words ≡ true → (e.answer ≡ answers.Ended) ⊎ (e.answer ≡ answers.Refused errors.UnknownHandle)
+    e.lane ≡ lane → is_take number e.words ≡ true → (e.answer ≡ Answer.Ended) ⊎ (e.answer ≡ Answer.Refused Error.UnknownHandle)
 
 -- it names this number as a second stream
 abbrev pub is_second : ℕ → StreamOp → Bool
-is_second number (ops.Unstream (Some second)) = second == number
+is_second number (StreamOp.Unstream (Some second)) = second == number
 is_second number op = false
 
 -- the command asks something of the lane's stream with this number
 abbrev pub names_stream : ℕ → Words → Bool
-names_stream number (words.OfStream n op) = (n == number) || is_second number op
+names_stream number (Words.OfStream n op) = (n == number) || is_second number op
 names_stream number w = false
 
 -- the command closes streams
 abbrev pub is_unstream : Words → Bool
-is_unstream (words.OfStream n (ops.Unstream second)) = true
+is_unstream (Words.OfStream n (StreamOp.Unstream second)) = true
 is_unstream w = false
 
 -- the command closes the lane's stream with this number
@@ -117,25 +98,25 @@ closes_stream number w = is_unstream w && names_stream number w
 
 -- the streams that are to be closed aren't open, or have to wait
 abbrev pub stays_open : Answer → Bool
-stays_open (answers.Refused errors.UnknownHandle) = true
-stays_open answers.Busy = true
+stays_open (Answer.Refused Error.UnknownHandle) = true
+stays_open Answer.Busy = true
 stays_open answer = false
 
 -- the answer says that a stream for which the bus was asked will not be open
 abbrev pub says_denied : Answer → Bool
-says_denied (answers.MethodError m) = true
-says_denied (answers.InvalidReply position) = true
-says_denied (answers.Closed error) = true
+says_denied (Answer.MethodError m) = true
+says_denied (Answer.InvalidReply position) = true
+says_denied (Answer.Closed error) = true
 says_denied answer = false
 
 -- where the entry's command names this lane's stream of this number, it is refused, as one that was never made
 abbrev pub IsNoStream : ℕ → ℕ → Entry → Type 0
-IsNoStream lane number e = e.lane ≡ lane → names_stream number e.words ≡ true → e.answer ≡ answers.Refused errors.UnknownHandle
+IsNoStream lane number e = e.lane ≡ lane → names_stream number e.words ≡ true → e.answer ≡ Answer.Refused Error.UnknownHandle
 
 -- the answer says that the stream gave all
 abbrev pub IsLast : Answer → Type 0
-IsLast (answers.Closed error) = ⊤
-IsLast answers.Ended = ⊤
+IsLast (Answer.Closed error) = ⊤
+IsLast Answer.Ended = ⊤
 IsLast answer = ⊥
 
 -- The lane's number names a stream that holds nothing and is open, and this was the first error that closed the peer.

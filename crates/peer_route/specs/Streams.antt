@@ -1,19 +1,6 @@
 -- The streams of a past: the messages that each matches, those that it holds still, and what it gives next.
-use Rattle.std.specs.Prelude.{ℕ, zero, suc, ◌==◌, Bool, true, false, not, ◌&&◌, ◌||◌, if◌then◌else◌, nat_lt, is_none, is_some, List, [], ◌∷◌, ◌++◌, length, drop, filter, map, slice_get, Option, Some, None, Result, Ok, Err}
-use Rattle.std.specs.List.{list_any}
-use Rattle.wire_message.specs.Front.{Seen}
-use Rattle.wire_message.specs.declared.error.Error.{Error}
-use Rattle.wire_message.specs.declared.error.Error.TheVariants as errors
-use Rattle.rule_match.specs.Rule.{Rule}
-use Rattle.rule_match.specs.Accepting.{accepts}
-use Rattle.peer_route.specs.declared.polled.Polled.{Polled}
-use Rattle.peer_route.specs.declared.polled.Polled.TheVariants as polled
-use Rattle.peer_route.specs.declared.progress.OpenState.{OpenState}
-use Rattle.peer_route.specs.declared.progress.OpenState.TheVariants as states
-use Rattle.wire_message.specs.declared.kind.MessageType.{MessageType}
-use Rattle.wire_message.specs.declared.kind.MessageType.TheVariants as types
-use Rattle.peer_route.specs.History.{Event, Gave, Told, Gone, Asked, Opened, Did, Stream, Phase, Asking, Denied, Since, Capacities, phase, rule_of, is_subscribed, Past, after}
-use Rattle.peer_route.specs.Calls.{in_flight}
+use Rattle.std.specs.{Prelude.{ℕ, zero, suc, ◌==◌, Bool, true, false, not, ◌&&◌, ◌||◌, if◌then◌else◌, nat_lt, is_none, is_some, List, [], ◌∷◌, ◌++◌, length, drop, filter, map, slice_get, Option, Some, None, Result, Ok, Err}, List.list_any}
+use Rattle.peer_route.specs.{Names.{Seen, Error, Rule, accepts, Polled, OpenState, MessageType}, History.{Event, Gave, Told, Gone, Asked, Opened, Did, Stream, Phase, Asking, Denied, Since, Capacities, phase, rule_of, is_subscribed, Past, after}, Calls.in_flight}
 
 -- the messages that were read since the stream began
 abbrev pub since_in : Phase → List Seen
@@ -81,14 +68,14 @@ busy h = is_none h.closing && list_any (is_full h.capacities h.read) h.streams
 
 -- The first item; else nothing yet where the peer is open; else the closing error once; from then on the end.
 abbrev pub take_by : List Seen → Option Error → Bool → Polled Seen
-take_by (m ∷ ms) error told = polled.Now m
-take_by [] None told = polled.NotYet
-take_by [] (Some error) false = polled.Closed error
-take_by [] (Some error) true = polled.Ended
+take_by (m ∷ ms) error told = Polled.Now m
+take_by [] None told = Polled.NotYet
+take_by [] (Some error) false = Polled.Closed error
+take_by [] (Some error) true = Polled.Ended
 
 abbrev pub take_at : List Seen → Option Error → Option Stream → Result (Polled Seen) Error
-take_at ms closed None = Err errors.UnknownHandle
-take_at ms closed (Some s) = if runs ms s then Ok (take_by (held ms s) closed s.told) else Err errors.UnknownHandle
+take_at ms closed None = Err Error.UnknownHandle
+take_at ms closed (Some s) = if runs ms s then Ok (take_by (held ms s) closed s.told) else Err Error.UnknownHandle
 
 -- What taking from the stream with this number gives. A stream that wasn't made, isn't open yet, or was closed, is unknown.
 unfoldable pub take_answer : Past → ℕ → Result (Polled Seen) Error
@@ -109,13 +96,13 @@ next_position h k = next_at h.read (slice_get h.streams k)
 
 -- what a take is, by its answer
 abbrev pub take_events : ℕ → Result (Polled Seen) Error → List Event
-take_events k (Ok (polled.Now m)) = Did k Gave ∷ []
-take_events k (Ok (polled.Closed error)) = Did k Told ∷ []
+take_events k (Ok (Polled.Now m)) = Did k Gave ∷ []
+take_events k (Ok (Polled.Closed error)) = Did k Told ∷ []
 take_events k other = []
 
 -- nothing comes any more: the stream gave all and the closing error, or is closed
 abbrev pub is_over : Result (Polled Seen) Error → Bool
-is_over (Ok polled.Ended) = true
+is_over (Ok Polled.Ended) = true
 is_over (Err error) = true
 is_over other = false
 
@@ -124,7 +111,7 @@ is_over other = false
 -- The bus sends signals to who asks for them, and nothing else that a rule accepts.
 abbrev pub may_be_signal : Option MessageType → Bool
 may_be_signal None = true
-may_be_signal (Some types.Signal) = true
+may_be_signal (Some MessageType.Signal) = true
 may_be_signal other = false
 
 -- A stream of this rule that is opened now is the rule's first, and the bus has to be asked for what it accepts.
@@ -160,14 +147,14 @@ close_waits h k j = in_flight h && (has_rule h k || has_rule_at h j)
 
 -- what asking whether a stream is open gives, by how far it is opened and what closed the peer
 abbrev pub opening_by : Phase → Option Error → OpenState
-opening_by (Asking add) None = states.NotYet
-opening_by (Asking add) (Some error) = states.Over error
-opening_by (Denied m) error = states.Refused m
-opening_by (Since ms) error = states.Open
+opening_by (Asking add) None = OpenState.NotYet
+opening_by (Asking add) (Some error) = OpenState.Over error
+opening_by (Denied m) error = OpenState.Refused m
+opening_by (Since ms) error = OpenState.Open
 
 abbrev pub opening_at : List Seen → Option Error → Option Stream → OpenState
-opening_at ms closed None = states.Unknown
-opening_at ms closed (Some s) = if s.gone || s.opened then states.Unknown else opening_by (phase ms s) closed
+opening_at ms closed None = OpenState.Unknown
+opening_at ms closed (Some s) = if s.gone || s.opened then OpenState.Unknown else opening_by (phase ms s) closed
 
 -- What asking gives whether the stream with this number, which was made with an AddMatch, is open: it is from the read of that
 -- one's return on. One that wasn't made so, was told so before, or was closed is unknown.
@@ -176,16 +163,16 @@ opening_answer h k = opening_at h.read h.closing (slice_get h.streams k)
 
 -- what asking is: a stream that is open is told so; one that will not be is gone
 abbrev pub opening_events : ℕ → OpenState → List Event
-opening_events k states.Open = Did k Opened ∷ []
-opening_events k (states.Refused m) = Did k Gone ∷ []
-opening_events k (states.Over error) = Did k Gone ∷ []
+opening_events k OpenState.Open = Did k Opened ∷ []
+opening_events k (OpenState.Refused m) = Did k Gone ∷ []
+opening_events k (OpenState.Over error) = Did k Gone ∷ []
 opening_events k other = []
 
 -- ---- closing streams, and their capacity
 
 abbrev pub known : Bool → Result (Unit {0}) Error
 known true = Ok tt
-known false = Err errors.UnknownHandle
+known false = Err Error.UnknownHandle
 
 -- both are open, and they are two
 abbrev pub are_open : Past → ℕ → Option ℕ → Bool
@@ -207,8 +194,17 @@ ask_events k limit (Err error) = []
 
 -- How many messages the stream with this number may hold.
 unfoldable pub limit_answer : Past → ℕ → Result ℕ Error
-limit_answer h k = if is_open h k then Ok (limit_of h.capacities (rule_of (slice_get h.streams k))) else Err errors.UnknownHandle
+limit_answer h k = if is_open h k then Ok (limit_of h.capacities (rule_of (slice_get h.streams k))) else Err Error.UnknownHandle
 
 -- The rule of the stream with this number; none where it has none, or isn't open.
 unfoldable pub rule_answer : Past → ℕ → Option Rule
 rule_answer h k = if is_open h k then rule_of (slice_get h.streams k) else None
+
+-- the past once this stream was closed, if there is one
+abbrev pub gone_if : Option ℕ → Past → Past
+gone_if None h = h
+gone_if (Some k) h = after (Did k Gone) h
+
+-- the past once this stream was closed, behind the one that goes before it, if one does
+abbrev pub gone_behind : Option ℕ → ℕ → Past → Past
+gone_behind before k h = after (Did k Gone) (gone_if before h)

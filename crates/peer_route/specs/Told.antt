@@ -1,21 +1,7 @@
 -- What the outside told: the reads are what stands in the source's bytes, and a send fails where the sink's room ends. It
 -- stands apart from `Legal`, over the same history.
-use Rattle.std.specs.Prelude.{ℕ, ⊤, ◌≡◌, ◌+◌, ◌-◌, ◌<◌, ◌⊎◌, nat_le, nat_lt, if◌then◌else◌, Bool, true, false, List, [], ◌∷◌, ◌++◌, length, drop, take, slice_get, Option, Some, None, Result, Ok, Err}
-use Rattle.std.specs.List.{flat_map}
-use Rattle.wire_message.specs.Front.{Seen}
-use Rattle.wire_message.specs.Outcome.{outcome, ending_of}
-use Rattle.wire_message.specs.declared.error.Error.{Error}
-use Rattle.wire_message.specs.declared.error.Error.TheVariants as errors
-use Rattle.wire_message.specs.declared.error.IoKind.TheVariants as kinds
-use Rattle.peer_route.specs.declared.words.Words.{Words}
-use Rattle.peer_route.specs.declared.words.Words.TheVariants as words
-use Rattle.peer_route.specs.declared.answer.Answer.{Answer}
-use Rattle.peer_route.specs.declared.answer.Answer.TheVariants as answers
-use Rattle.peer_route.specs.declared.answer.Entry.{Entry}
-use Rattle.peer_route.specs.Parcel.{Setting}
-use Rattle.peer_route.specs.History.{Outbox, Past}
-use Rattle.peer_route.specs.Plan.{Plan, Reads, plan}
-use Rattle.peer_route.specs.Entries.{trail}
+use Rattle.std.specs.{Prelude.{ℕ, ⊤, ◌≡◌, ◌+◌, ◌-◌, ◌<◌, ◌⊎◌, nat_le, nat_lt, if◌then◌else◌, Bool, true, false, List, [], ◌∷◌, ◌++◌, length, drop, take, slice_get, Option, Some, None, Result, Ok, Err}, List.flat_map}
+use Rattle.peer_route.specs.{Names.{Seen, outcome, ending_of, Error, Words, Answer, Entry, IoKind}, Parcel.Setting, History.{Outbox, Past}, Plan.{Plan, Reads, plan}, Entries.trail}
 
 -- ---- the source
 
@@ -29,13 +15,13 @@ left_after bytes h = drop (length (encodings h.read)) bytes
 
 -- what a read took and was answered, by its outcome
 abbrev pub IsOf : Result Seen Error → Entry → Type 0
-IsOf (Ok m) e = (e.read ≡ Some m) × (e.answer ≡ answers.Got)
-IsOf (Err error) e = (e.read ≡ None) × (e.answer ≡ answers.Closed error)
+IsOf (Ok m) e = (e.read ≡ Some m) × (e.answer ≡ Answer.Got)
+IsOf (Err error) e = (e.read ≡ None) × (e.answer ≡ Answer.Closed error)
 
 -- Where it isn't told what comes after the bytes, a failing call may come at any time.
 abbrev pub IsOutcome : Option Bool → ℕ → List ℕ → Entry → Type 0
 IsOutcome (Some stop) count bytes e = IsOf (outcome count bytes (ending_of stop)) e
-IsOutcome None count bytes e = IsOf (outcome count bytes kinds.Ended) e ⊎ IsOf (Err (errors.InputOutput kinds.Fault)) e
+IsOutcome None count bytes e = IsOf (outcome count bytes IoKind.Ended) e ⊎ IsOf (Err (Error.InputOutput IoKind.Fault)) e
 
 -- a read of an open peer that isn't busy; a busy one takes nothing
 abbrev pub ReadTold : Option Bool → List ℕ → Past → Plan → Entry → Type 0
@@ -52,7 +38,7 @@ ReadsTold setting stop bytes (e ∷ es) =
 
 -- A sink that says where its room ends, or that no write fails, never fails to close.
 abbrev pub CloseTold : Option (Option ℕ) → Words → Answer → Type 0
-CloseTold (Some room) words.Close answer = answer ≡ answers.Shut
+CloseTold (Some room) Words.Close answer = answer ≡ Answer.Shut
 CloseTold other w answer = ⊤
 
 abbrev pub ClosesTold : Option (Option ℕ) → List Entry → Type 0

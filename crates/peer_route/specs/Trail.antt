@@ -1,9 +1,6 @@
 -- Whose the calls and the streams of a peer are: each lane numbers its own; and what its entries leave of it.
 use Rattle.std.specs.Prelude.{ℕ, zero, suc, ◌+◌, ◌==◌, Bool, true, false, if◌then◌else◌, List, [], ◌∷◌, ◌++◌, Option, Some, None}
-use Rattle.wire_message.specs.Front.{Seen}
-use Rattle.peer_route.specs.Parcel.{Setting}
-use Rattle.peer_route.specs.History.{Event, OfLane, Adds, Purpose, Made, Past}
-use Rattle.peer_route.specs.Issuing.{Posting}
+use Rattle.peer_route.specs.{Names.Seen, Parcel.Setting, History.{Event, OfLane, Adds, Purpose, Made, Past}, Issuing.Posting}
 
 -- For each call, or each stream, by its number among all, the lane that it belongs to; none where its message failed, or where the
 -- call is the peer's own.

@@ -35,6 +35,7 @@ fn split_colon(word: &[u8]) -> Option<(&[u8], &[u8])>
 }
 
 /// The signature that a text spells, if it spells one.
+#[tactic(auto, using(crate::proofs::BodyWords::no_types, wire_spelling::proofs::Ascii::no_signature))]
 fn signature_of(alloc: Global, text: &[u8]) -> std::result::Result<Option<Signature>, AllocError>
     ensures { IfOk result (λ signature. signature ≡ types_in text.now) }
 {

@@ -1,9 +1,9 @@
 ghost use Rattle.std.specs.Prelude.{Bool, ℕ, ◌≡◌, ◌+◌, ◌<◌, ◌++◌, ◌∷◌, [], List, length, IfSome, IfNone, OnOk, OnErr, IfOk, None, is_none, slice_set, take, true, false};
 ghost use Rattle.std.specs.List.{list_any};
-ghost use Rattle.peer_route.specs.History.{Took, Shut, Put, OfLane, bears, Past, after, after_all, no_past};
+ghost use Rattle.peer_route.specs.History.{Took, Shut, Put, OfLane, bears, is_serial, Past, after, after_all, no_past};
 ghost use Rattle.peer_route.specs.Calls.{poll_answer, poll_events, drop_answer, drop_events, in_flight};
 ghost use Rattle.peer_route.specs.Calls as answers;
-ghost use Rattle.peer_route.specs.Left.{CallsView, LeftCalls, is_empty_slot, is_inner_slot, reply_kept, with_call, is_flying, is_number, answers_call, waiting_serial, IsIndex};
+ghost use Rattle.peer_route.specs.Left.{CallsView, LeftCalls, is_empty_slot, is_inner_slot, reply_kept, with_call, answers_call, waiting_serial, IsIndex};
 ghost use Rattle.wire_message.specs.Front.{Seen};
 ghost use Rattle.wire_message.specs.Closing.{closes};
 
@@ -61,7 +61,7 @@ impl Model for PendingMethodCalls {
 
 /// The serial that a return or an error answers.
 fn answered(message: &Message) -> Option<u32>
-    ensures { (serial : ℕ) → bears serial message.now ≡ is_number result serial }
+    ensures { (serial : ℕ) → bears serial message.now ≡ is_serial result serial }
 {
     match message.message_type() {
         MessageType::MethodReturn | MessageType::Error => message.reply_serial(),
@@ -241,7 +241,6 @@ impl PendingMethodCalls {
 
     /// Whether an AddMatch or a RemoveMatch is on its way, on an open peer.
     pub(crate) fn is_flying(&self) -> bool
-        ensures view { result ≡ is_flying self.now }
         ensures flying { (p : Past) → LeftCalls self.now p → result ≡ in_flight p }
     {
         self.closing.is_none() && is_some_inner(&self.slots)

@@ -1,31 +1,28 @@
 //! The messages of one command are put in the outbox all or none.
-ghost use Rattle.std.specs.Prelude.{ℕ, ◌≡◌, ◌<◌, ◌++◌, ◌∷◌, ◌^◌, [], List, length, map, true, false, IfOk, IfErr, OnOk, OnErr, Ok};
+ghost use Rattle.std.specs.Prelude.{ℕ, ◌≡◌, ◌<◌, ◌^◌, ◌∷◌, [], Bool, List, length, map, Option, false, IfOk, OnOk, OnErr};
 ghost use Rattle.std.specs.List.{list_any, AllByRecursion};
-ghost use Rattle.wire_message.specs.Circle.{IsNext};
-ghost use Rattle.peer_route.specs.CallMessage.{expects, expects_reply};
 ghost use Rattle.peer_route.specs.History.{Past};
-ghost use Rattle.peer_route.specs.Issuing.{is_deep, IssuesAll};
-ghost use Rattle.peer_route.specs.Left.{Left, waiting_serial};
+ghost use Rattle.peer_route.specs.Issuing.{is_deep, posted, IssuesAll};
+ghost use Rattle.peer_route.specs.Left.{View, Left};
 ghost use Rattle.peer_route.specs.Parcel.{sent_by};
-ghost use Rattle.peer_route.specs.Placing.{made_call, Draws, NotDrawn, NotDrawnOne, AreMade, numbered, numbered_each, own_message, IsReady, is_own_long, NotMade, place_of, places_of, issued_at, issued_from, Grows, PutsAll, IsMore, Marks, back_to};
+ghost use Rattle.peer_route.specs.Placing.{IsCounted, IsPlaced, posts, DrawsOne, DrawsEach, Places, PutsAll, LeftPosts, AreMade, Grows, IsMore, Marks};
 
 use crate::calls::PendingMethodCalls;
-use crate::letter::{Letter, expects_reply};
+use crate::letter::Letter;
 use crate::route::{Issued, Route};
-use crate::writer::Writer;
-use std::alloc::{AllocError, Global};
-use wire_message::{Error, IoKind, Message, Result, Serials};
+use std::alloc::Global;
+use wire_message::{Error, Message, Result, Serials};
 use wire_names::OwnedUniqueName;
 use wire_signature::VariantError;
 
 /// How much was made, drawn and placed before a command's messages: what a refusal goes back to.
 #[derive(Clone, Copy)]
 pub(crate) struct Mark {
-    calls: usize,
-    // the last that was drawn
-    serials: u32,
-    outbox: usize,
-    places: usize,
+    pub(crate) calls: usize,
+    /// The last that was drawn.
+    pub(crate) serials: u32,
+    pub(crate) outbox: usize,
+    pub(crate) places: usize,
 }
 
 /// Whether a value of some message opens more than 64 containers at once.
@@ -36,35 +33,36 @@ fn is_some_deep(list: &[Letter<'_>]) -> bool
 }
 
 /// Draws the message's serial, and makes the call that waits for its reply, if it expects one.
-fn draw<'a>(
+fn draw(
     calls: &mut PendingMethodCalls,
     serials: &mut Serials,
-    letter: Letter<'a>,
+    letter: &Letter<'_>,
     inner: bool,
-) -> Result<Letter<'a>>
-    ensures drawn { IfOk result (λ drawn. (serial : ℕ) × IsNext (waiting_serial calls.old) serials.old serial × (serials.new ≡ serial)
-        × (calls.new ≡ made_call inner (expects (Ok letter.entry)) calls.old serial) × (drawn ≡ numbered serial letter.entry)) }
-    ensures refused { IfErr result (λ e. NotDrawnOne calls.old e) }
-    ensures same { OnErr result (calls.new ≡ calls.old) }
+) -> Result<u32>
+    ensures drawn { (p : Past) (name : Option (List ℕ)) (served : Bool) → IsCounted calls.old serials.old p
+        → DrawsOne (posted inner (sent_by name served letter.now)) p calls.new serials.new result }
+    ensures some { IfOk result (λ serial. 0 < serial) }
+    ensures made { AreMade calls.old calls.new }
 {
     let serial = serials.next_uncounted(calls)?;
     if letter.expects_reply() {
         calls.register(serial, inner)?;
     }
-    Ok(letter.numbered(serial))
+    Ok(serial)
 }
 
 /// Draws the serials of messages, one after another: each sees the calls of those before it.
-fn draw_each<'a>(
+fn draw_each(
     alloc: Global,
     calls: &mut PendingMethodCalls,
     serials: &mut Serials,
-    list: Vec<Letter<'a>>,
+    list: &[Letter<'_>],
     inner: bool,
-) -> Result<Vec<Letter<'a>>>
-    ensures drawn { IfOk result (λ drawn. (numbers : List ℕ) × Draws inner calls.old serials.old list.entry.items numbers calls.new serials.new
-        × (drawn.items ≡ numbered_each list.entry.items numbers)) }
-    ensures refused { IfErr result (λ e. NotDrawn inner calls.old serials.old list.entry.items e) }
+) -> Result<Vec<u32>>
+    ensures drawn { (p : Past) (name : Option (List ℕ)) (served : Bool) → IsCounted calls.old serials.old p
+        → DrawsEach (λ drawn. drawn.items) (posts inner name served list.now) p calls.new serials.new result }
+    ensures some { IfOk result (λ drawn. AllByRecursion (λ serial. 0 < serial) drawn.items) }
+    ensures count { IfOk result (λ drawn. length drawn.items ≡ length list.now) }
     ensures made { AreMade calls.old calls.new }
 {
     let mut drawn = Vec::new(alloc);
@@ -74,41 +72,29 @@ fn draw_each<'a>(
     Ok(drawn)
 }
 
-/// The messages of these letters, sent by the peer of that name; each has its serial.
-fn build_each<'a>(
+/// Builds the message of a letter with that serial, sent by the peer of that name, and puts it at the end of the outbox; where it
+/// expects a reply, its call is the next, and is at that place.
+fn post<'a>(
     alloc: Global,
-    calls: &PendingMethodCalls,
-    name: &'a Option<OwnedUniqueName>,
-    served: bool,
-    list: Vec<Letter<'a>>,
-) -> Result<Vec<Message>>
-    requires { AllByRecursion IsReady list.items }
-    ensures built { IfOk result (λ messages. (messages.items ≡ map own_message (map (sent_by name.now served) list.entry.items))
-        × (list_any is_own_long (map (sent_by name.now served) list.entry.items) ≡ false)) }
-    ensures refused { IfErr result (λ e. NotMade (map (sent_by name.now served) list.entry.items) e) }
-{
-    let mut messages = Vec::new(alloc);
-    for letter in list {
-        messages.push(letter.build(alloc, calls, name, served)?)?;
-    }
-    Ok(messages)
-}
-
-/// Puts a message at the end of the outbox; where it expects a reply, its call is the next, and is at that place.
-fn place(
     outbox: &mut Vec<Message>,
     places: &mut Vec<u64>,
-    message: Message,
-) -> std::result::Result<Issued, AllocError>
-    ensures issued { IfOk result (λ issued. issued ≡ issued_at (length outbox.old.items) (length places.old.items) message) }
-    ensures outbox { OnOk result (outbox.new.items ≡ outbox.old.items ++ message ∷ []) }
-    ensures places { OnOk result (places.new.items ≡ places.old.items ++ place_of (length outbox.old.items) (expects_reply message.kind message.flags)) }
-    ensures no_more { OnErr result (outbox.new.items ≡ outbox.old.items) }
+    name: &'a Option<OwnedUniqueName>,
+    served: bool,
+    letter: Letter<'a>,
+    serial: u32,
+) -> Result<Issued>
+    requires some { 0 < serial }
+    requires shallow { is_deep letter ≡ false }
+    requires few { length letter.fds < 2 ^ 32 }
+    ensures placed { (p : Past) (inner : Bool) → IsPlaced outbox.old.items places.old.items p
+        → Places (λ issued. issued ∷ []) (posts inner name.now served (letter.entry ∷ [])) (serial ∷ []) p outbox.new.items places.new.items result }
+    ensures more { Grows outbox.old.items outbox.new.items }
     ensures grown { Grows places.old.items places.new.items }
 {
+    let waits = letter.expects_reply();
+    let message = letter.build(alloc, name, served, serial)?;
     let index = outbox.len() as u64;
-    let serial = message.serial_num();
-    let call = if expects_reply(message.message_type(), message.header().flags()) {
+    let call = if waits {
         let call = places.len() as u64;
         places.push(index)?;
         Some(call)
@@ -123,22 +109,29 @@ fn place(
     })
 }
 
-/// Puts messages at the end of the outbox, in order, and what is answered of each.
-fn place_each(
+/// Builds and puts the messages of these letters, each with its serial, in order; and what is answered of each.
+fn post_each<'a>(
     alloc: Global,
     outbox: &mut Vec<Message>,
     places: &mut Vec<u64>,
-    messages: Vec<Message>,
-) -> std::result::Result<Vec<Issued>, AllocError>
-    ensures issued { IfOk result (λ issued. issued.items ≡ issued_from (length outbox.old.items) (length places.old.items) messages.items) }
-    ensures outbox { OnOk result (outbox.new.items ≡ outbox.old.items ++ messages.items) }
-    ensures places { OnOk result (places.new.items ≡ places.old.items ++ places_of (length outbox.old.items) messages.items) }
+    name: &'a Option<OwnedUniqueName>,
+    served: bool,
+    list: Vec<Letter<'a>>,
+    serials: &[u32],
+) -> Result<Vec<Issued>>
+    requires some { AllByRecursion (λ serial. 0 < serial) serials.now }
+    requires count { length serials.now ≡ length list.items }
+    requires shallow { list_any is_deep list.items ≡ false }
+    requires few { AllByRecursion (λ p. length p.fds < 2 ^ 32) list.items }
+    ensures placed { (p : Past) (inner : Bool) → IsPlaced outbox.old.items places.old.items p
+        → Places (λ issued. issued.items) (posts inner name.now served list.entry.items) serials.now p outbox.new.items places.new.items result }
     ensures more { Grows outbox.old.items outbox.new.items }
     ensures grown { Grows places.old.items places.new.items }
 {
     let mut issued = Vec::new(alloc);
-    for message in messages {
-        issued.push(place(outbox, places, message)?)?;
+    for letter in list {
+        let serial = serials[issued.len()];
+        issued.push(post(alloc, outbox, places, name, served, letter, serial)?)?;
     }
     Ok(issued)
 }
@@ -162,25 +155,12 @@ impl Route {
         ensures issues { (p : Past) → Left self.old p
             → IssuesAll (λ issued. issued.items) self.old self.new (map (sent_by self.old.name served) list.entry.items) p result }
     {
-        if list.is_empty() {
-            return Ok(Vec::new(self.alloc));
-        }
-        if is_some_deep(list.as_slice()) {
-            return Err(Error::Variant(VariantError::Depth));
-        }
-        let mark = self.mark();
-        match self.put_all(list, served, false) {
-            Ok(issued) => Ok(issued),
-            Err(error) => {
-                self.take_back(mark);
-                Err(error)
-            }
-        }
+        self.put(list, served, false)
     }
 
     /// How much is there now.
     pub(crate) fn mark(&self) -> Mark
-        ensures { Marks self.now result.calls result.serials result.outbox result.places }
+        ensures { Marks self.now result }
     {
         Mark {
             calls: self.calls.len(),
@@ -190,45 +170,72 @@ impl Route {
         }
     }
 
-    /// Puts messages as `issue` does; where it is refused, some of it may have been done.
+    /// Puts messages as `issue` does, a lane's or the peer's own.
+    pub(crate) fn put(
+        &mut self,
+        list: Vec<Letter<'_>>,
+        served: bool,
+        inner: bool,
+    ) -> Result<Vec<Issued>>
+        requires { AllByRecursion (λ p. length p.fds < 2 ^ 32) list.items }
+        ensures puts { (p : Past) → LeftPosts self.old p
+            → PutsAll (λ issued. issued.items) self.new (posts inner self.old.name served list.entry.items) p result }
+        ensures more { OnOk result (IsMore self.old self.new) }
+        ensures same { OnErr result (self.new ≡ self.old) }
+    {
+        let mark = self.mark();
+        match self.put_all(list, served, inner) {
+            Ok(issued) => Ok(issued),
+            Err(error) => {
+                self.take_back(mark);
+                Err(error)
+            }
+        }
+    }
+
+    /// Puts messages as `put` does; where it is refused, some of it may have been done.
     pub(crate) fn put_all(
         &mut self,
         list: Vec<Letter<'_>>,
         served: bool,
         inner: bool,
     ) -> Result<Vec<Issued>>
-        requires few { AllByRecursion (λ p. length p.fds < 2 ^ 32) list.items }
-        requires shallow { list_any is_deep list.items ≡ false }
-        ensures puts { PutsAll inner (λ issued. issued.items) self.old self.new (map (sent_by self.old.name served) list.entry.items) result }
+        requires { AllByRecursion (λ p. length p.fds < 2 ^ 32) list.items }
+        ensures puts { (p : Past) → LeftPosts self.old p
+            → PutsAll (λ issued. issued.items) self.new (posts inner self.old.name served list.entry.items) p result }
         ensures more { IsMore self.old self.new }
     {
-        let drawn = draw_each(self.alloc, &mut self.calls, &mut self.serials, list, inner)?;
-        let messages = build_each(self.alloc, &self.calls, &self.name, served, drawn)?;
-        match self.writer {
-            Writer::Fine => Ok(place_each(
-                self.alloc,
-                &mut self.outbox,
-                &mut self.places,
-                messages,
-            )?),
-            Writer::Failed => Err(Error::InputOutput(IoKind::WriteFault)),
-            Writer::Closed => Err(Error::InputOutput(IoKind::Closed)),
+        if list.is_empty() {
+            return Ok(Vec::new(self.alloc));
         }
-    }
-
-    /// Draws the serials of calls of the peer's own, and makes the calls that wait for their replies; they aren't put.
-    pub(crate) fn draw_own(&mut self, list: Vec<Letter<'_>>) -> Result<()>
-        ensures drawn { OnOk result ((serials : List ℕ) × Draws true self.old.calls self.old.last list.entry.items serials self.new.calls self.new.last) }
-        ensures refused { IfErr result (λ e. NotDrawn true self.old.calls self.old.last list.entry.items e) }
-        ensures more { IsMore self.old self.new }
-    {
-        let _ = draw_each(self.alloc, &mut self.calls, &mut self.serials, list, true)?;
-        Ok(())
+        if is_some_deep(list.as_slice()) {
+            return Err(Error::Variant(VariantError::Depth));
+        }
+        let serials = draw_each(
+            self.alloc,
+            &mut self.calls,
+            &mut self.serials,
+            list.as_slice(),
+            inner,
+        )?;
+        let issued = post_each(
+            self.alloc,
+            &mut self.outbox,
+            &mut self.places,
+            &self.name,
+            served,
+            list,
+            serials.as_slice(),
+        )?;
+        match self.writer.bars() {
+            None => Ok(issued),
+            Some(error) => Err(error),
+        }
     }
 
     /// Takes back what was made, drawn and placed since the mark.
     pub(crate) fn take_back(&mut self, mark: Mark)
-        ensures { self.new ≡ back_to self.old mark.calls mark.serials mark.outbox mark.places }
+        ensures { (v : View) → Marks v mark → IsMore v self.old → self.new ≡ v }
     {
         self.calls.take_back(mark.calls);
         self.serials = Serials::after(mark.serials);

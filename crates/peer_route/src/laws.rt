@@ -1,10 +1,10 @@
 //! Laws of every history, each the contract of a function that does nothing.
-ghost use Rattle.std.specs.Prelude.{◌≡◌, ◌≢◌, ◌↔◌, ◌⊎◌, ◌+◌, ◌<◌, ℕ, max, length, map, List, Option, [], ◌∷◌, ◌++◌, IfSome, Some, None, true, false, slice_get, Ok, if◌then◌else◌};
+ghost use Rattle.std.specs.Prelude.{◌≡◌, ◌≢◌, ◌↔◌, ◌⊎◌, ◌+◌, ◌<◌, ℕ, max, length, map, List, Option, [], ◌∷◌, ◌++◌, IfSome, Some, None, true, false, slice_get, Ok, unwrap_or, if◌then◌else◌};
 ghost use Rattle.std.specs.List.{AllByRecursion};
 ghost use Rattle.wire_message.specs.Front.{Seen};
 ghost use Rattle.wire_message.specs.declared.error.Error.{Error};
 ghost use Rattle.peer_route.specs.declared.answer.Entry.{Entry};
-ghost use Rattle.peer_route.specs.History.{Event, Took, Spent, Made, Making, Ruled, Did, Main, Deed, Asked, is_serial, Stream, is_subscribed, asked_or, raised, Past, after, after_all};
+ghost use Rattle.peer_route.specs.History.{Event, Took, Spent, Made, Making, Ruled, Did, Main, Deed, Asked, is_serial, Stream, is_subscribed, raised, Past, after, after_all};
 ghost use Rattle.peer_route.specs.Calls.{pending, poll_answer};
 ghost use Rattle.peer_route.specs.Streams.{runs, limit_answer, take_answer};
 ghost use Rattle.rule_match.specs.Rule.{Rule};
@@ -18,7 +18,7 @@ ghost use Rattle.peer_route.specs.Plan.{Says, Sends, plan, second_place};
 ghost use Rattle.peer_route.specs.Trail.{place};
 ghost use Rattle.peer_route.specs.Entries.{trail, Legal, IsAtOnce, IsOfRun, write_fault};
 ghost use Rattle.peer_route.specs.StreamLaws.{Yields, YieldsAsked, holds, rule_at, is_unstream, closes_stream, stays_open, says_denied, IsNoStream, is_take, IsEnded, IsLast, IsDrained, HoldsTooMany, IsPutOf, all_put, all_written};
-ghost use Rattle.peer_route.specs.Laws.{IsPoll, IsFinal, IsReplyAt, IsUnknown, IsFirstReply, IsCutOff, IsPast, SameCall, IsByPosition, IsNothingYet, told_serial};
+ghost use Rattle.peer_route.specs.Laws.{IsPoll, IsFinal, IsReplyAt, IsUnknown, IsFirstReply, IsCutOff, IsPast, SameCall, is_by_position, IsNothingYet, told_serial};
 
 use crate::answer::Answer;
 use crate::words::{CallOp, Live, StreamOp, Words};
@@ -39,12 +39,14 @@ pub fn dropped_for_good()
 /// A reply answers the call whose serial it bears, and the first such reply does. Where a poll is answered with a position,
 /// the lane's number names a call, the first message read after it was put that bears its serial has this position, and
 /// the position is its place among the messages read, from 1 on (D-Bus Specification, "Message Format", `REPLY_SERIAL`).
+#[tactic(auto, using(crate::proofs::Read::by_the_first))]
 pub fn answered_by_the_first()
     ensures { (setting : Setting) (older : List Entry) (e : Entry) (number q : ℕ) → Legal setting (e ∷ older) → IsPoll number e.words → IsReplyAt q e.answer → IsFirstReply (trail setting older) e.lane number q e.answer }
 {}
 
 /// Messages of one peer arrive in the order of their positions: the one that was read behind so many others has the position one
 /// above that number. So of two messages the one that arrived first has the lesser `Sequence`.
+#[tactic(auto, using(crate::proofs::Read::at_place, crate::proofs::Read::in_order))]
 pub fn arrival_order_is_the_order_of_positions()
     ensures position { (setting : Setting) (es : List Entry) (i : ℕ) (m : Seen) → Legal setting es → slice_get (trail setting es).past.read i ≡ Some m → m.position ≡ i + 1 }
     ensures order { (setting : Setting) (es : List Entry) (i j : ℕ) (m n : Seen) → Legal setting es → i < j → slice_get (trail setting es).past.read i ≡ Some m → slice_get (trail setting es).past.read j ≡ Some n → m.position < n.position }
@@ -52,12 +54,14 @@ pub fn arrival_order_is_the_order_of_positions()
 
 /// A call is answered with the error that closed the peer only where no reply came: no message read after the call was put
 /// bears its serial, and the error is the first that closed the peer.
+#[tactic(auto, using(crate::proofs::Read::by_the_closing_error))]
 pub fn answered_by_the_closing_error()
     ensures { (setting : Setting) (older : List Entry) (e : Entry) (number : ℕ) (error : Error) → Legal setting (e ∷ older) → IsPoll number e.words → e.answer ≡ Answer.Closed error → IsCutOff (trail setting older) e.lane number error }
 {}
 
 /// A message that is read changes the answer of no call that it isn't for: none whose serial it doesn't bear, and none that
 /// has its reply or is over. One that bears a serial that isn't pending changes the answer of no call at all.
+#[tactic(auto, using(crate::proofs::Read::took_other, crate::proofs::Read::took_late))]
 pub fn reply_changes_no_other()
     ensures other { (p : Past) (m : Seen) (k : ℕ) → IfSome (slice_get p.calls k) (IsPast p m) → poll_answer (after (Took m) p) k ≡ poll_answer p k }
     ensures late { (p : Past) (m : Seen) (serial : ℕ) → p.closing ≡ None → is_serial m.reply_serial serial ≡ true → pending p serial ≡ false → (k : ℕ) → poll_answer (after (Took m) p) k ≡ poll_answer p k }
@@ -72,12 +76,14 @@ pub fn spent_changes_no_other()
 /// A stream gives exactly what was read since it was made. Where a lane's command made a stream, the positions of the items
 /// that the lane's takes of its number gave since, and behind them those of the messages that it holds, are the positions of
 /// all messages that were read since, in order: none is missed, given twice, or taken from before it was made.
+#[tactic(auto, using(crate::proofs::Yields::yields))]
 pub fn stream_gives_all()
     ensures { (setting : Setting) (newer : List Entry) (e : Entry) (older : List Entry) (number : ℕ) → Legal setting (newer ++ e ∷ older) → e.words ≡ Words.Stream → e.answer ≡ Answer.Streaming number → Yields setting newer e older number None [] }
 {}
 
 /// A stream of a rule gives exactly what was read since it was made and what its rule accepts, in order: no such message is
 /// missed, given twice, or taken from before it was made, and no other is given (D-Bus Specification, "Match Rules").
+#[tactic(auto, using(crate::proofs::Yields::opened_yields))]
 pub fn rule_stream_gives_what_it_accepts()
     ensures { (setting : Setting) (newer : List Entry) (e : Entry) (older : List Entry) (number : ℕ) (asked : Option ℕ) (text : List ℕ) (rule : Rule) → Legal setting (newer ++ e ∷ older) → e.words ≡ Words.Open asked text
         → rule_in_bytes text ≡ Ok rule → e.answer ≡ Answer.Streaming number → Yields setting newer e older number (Some rule) [] }
@@ -85,6 +91,7 @@ pub fn rule_stream_gives_what_it_accepts()
 
 /// A clone gives what its original held when it was made, and then exactly what was read since and what the original's rule
 /// accepts: nothing is missed, or given twice by it, whatever the original gives or whether it is closed.
+#[tactic(auto, using(crate::proofs::Yields::clone_yields))]
 pub fn clone_goes_on_where_its_original_is()
     ensures { (setting : Setting) (newer : List Entry) (e : Entry) (older : List Entry) (number original : ℕ) → Legal setting (newer ++ e ∷ older) → e.words ≡ Words.OfStream original StreamOp.Clone → e.answer ≡ Answer.Streaming number
         → Yields setting newer e older number (rule_at (trail setting older) e.lane original) (holds (trail setting older) e.lane original) }
@@ -99,6 +106,7 @@ pub fn stream_closed_for_good()
 /// A stream for which the bus was asked gives exactly what was read behind the return to its AddMatch and what its rule accepts, in
 /// order: nothing from before it, and where the bus denied it, or no reply came, nothing (D-Bus Specification, "Message Bus
 /// Messages", `org.freedesktop.DBus.AddMatch`).
+#[tactic(auto, using(crate::proofs::Yields::asked_yields))]
 pub fn asked_stream_gives_what_comes_behind_the_return()
     ensures { (setting : Setting) (newer : List Entry) (e : Entry) (older : List Entry) (number serial : ℕ) (asked : Option ℕ) (text : List ℕ) (rule : Rule) → Legal setting (newer ++ e ∷ older) → e.words ≡ Words.Open asked text
         → rule_in_bytes text ≡ Ok rule → e.answer ≡ Answer.Opening number serial → YieldsAsked setting newer e older number serial rule }
@@ -112,11 +120,13 @@ pub fn stream_denied_for_good()
 
 /// What a stream does changes what no other gives: neither its items, nor its end, nor its closing, nor a capacity that it asks
 /// for.
+#[tactic(auto, using(crate::proofs::Capacities::did_other))]
 pub fn stream_changes_no_other()
     ensures { (p : Past) (j k : ℕ) (deed : Deed) → j ≢ k → take_answer (after (Did j deed) p) k ≡ take_answer p k }
 {}
 
 /// A capacity that is set, or asked for, throws nothing away: each stream gives what it gave.
+#[tactic(auto, using(crate::proofs::Capacities::main_keeps, crate::proofs::Capacities::asked_keeps, crate::proofs::Capacities::opened_keeps))]
 pub fn capacity_throws_nothing_away()
     ensures set { (p : Past) (limit k : ℕ) → take_answer (after (Main limit) p) k ≡ take_answer p k }
     ensures asked { (p : Past) (limit j k : ℕ) → take_answer (after (Did j (Asked limit)) p) k ≡ take_answer p k }
@@ -125,6 +135,7 @@ pub fn capacity_throws_nothing_away()
 
 /// The main capacity, which streams without a rule share, is just what it is set to. One of them that asks for more raises it; a
 /// smaller request is passed over, and one of a stream with a rule.
+#[tactic(auto, using(crate::proofs::Capacities::main_raised, crate::proofs::Capacities::main_kept))]
 pub fn main_capacity()
     ensures exact { (p : Past) (limit : ℕ) → (after (Main limit) p).capacities.main ≡ limit }
     ensures raised { (p : Past) (limit j : ℕ) (s : Stream) → slice_get p.streams j ≡ Some s → s.rule ≡ None → (after (Did j (Asked limit)) p).capacities.main ≡ max p.capacities.main limit }
@@ -133,6 +144,7 @@ pub fn main_capacity()
 {}
 
 /// Two rules are one exactly where each part of them is the same, and that is what `==` decides.
+#[tactic(auto, using(crate::proofs::SameRule::one_where_same, crate::proofs::SameRule::code_same))]
 pub fn rules_are_one_where_equal()
     ensures equal { (r s : Rule) → is_same r s ≡ true ↔ (r ≡ s) }
     ensures code { (r s : Rule) → of_rules.eq r s ≡ is_same r s }
@@ -141,9 +153,10 @@ pub fn rules_are_one_where_equal()
 /// All open streams of one rule share one capacity. The rule's first stream gives it the one that is asked for, or 8 for the
 /// rule of an owner's changes, else 64; a later one of the rule that asks for more raises it, and a smaller request is passed
 /// over. What is asked for by another rule's stream, or is set for streams without a rule, changes nothing of it.
+#[tactic(auto, using(crate::proofs::Capacities::one_limit, crate::proofs::Capacities::first_limit, crate::proofs::Capacities::later_limit, crate::proofs::Capacities::asked_limit, crate::proofs::Capacities::other_limit, crate::proofs::Capacities::asked_other))]
 pub fn rule_capacity()
     ensures one { (p : Past) (j k : ℕ) (s t : Stream) → slice_get p.streams j ≡ Some s → slice_get p.streams k ≡ Some t → runs p.read s ≡ true → runs p.read t ≡ true → s.rule ≡ t.rule → limit_answer p j ≡ limit_answer p k }
-    ensures first { (p : Past) (rule : Rule) (asked : Option ℕ) → is_subscribed p.read p.streams rule ≡ false → (after (Made (Ruled rule asked)) p).capacities.rules rule ≡ asked_or asked (usual rule) }
+    ensures first { (p : Past) (rule : Rule) (asked : Option ℕ) → is_subscribed p.read p.streams rule ≡ false → (after (Made (Ruled rule asked)) p).capacities.rules rule ≡ unwrap_or asked (usual rule) }
     ensures later { (p : Past) (rule : Rule) (asked : Option ℕ) → is_subscribed p.read p.streams rule ≡ true → (after (Made (Ruled rule asked)) p).capacities.rules rule ≡ raised asked (p.capacities.rules rule) }
     ensures asked { (p : Past) (limit j : ℕ) (s : Stream) (rule : Rule) → slice_get p.streams j ≡ Some s → s.rule ≡ Some rule → (after (Did j (Asked limit)) p).capacities.rules rule ≡ max (p.capacities.rules rule) limit }
     ensures other { (p : Past) (rule another : Rule) (asked : Option ℕ) → rule ≢ another → (after (Made (Ruled another asked)) p).capacities.rules rule ≡ p.capacities.rules rule }
@@ -158,6 +171,7 @@ pub fn first_cause_stays()
 {}
 
 /// Once a peer was closed nothing is put any more.
+#[tactic(auto, using(crate::proofs::Sent::none_put, crate::proofs::Sent::none_more, crate::proofs::Sent::none_failed))]
 pub fn nothing_is_put_after_closing()
     ensures entries { (setting : Setting) (newer : List Entry) (e : Entry) (older : List Entry) → Legal setting (newer ++ e ∷ older) → e.words ≡ Words.Close → AllByRecursion (λ (f : Entry). f.put ≡ []) newer }
     ensures past { (setting : Setting) (newer : List Entry) (e : Entry) (older : List Entry) → Legal setting (newer ++ e ∷ older) → e.words ≡ Words.Close
@@ -173,11 +187,13 @@ pub fn stream_ends_once()
 {}
 
 /// A stream gives the closing error only where it holds nothing, and the error is the first that closed the peer.
+#[tactic(auto, using(crate::proofs::Drained::drained))]
 pub fn stream_gives_the_first_error()
     ensures { (setting : Setting) (older : List Entry) (e : Entry) (number : ℕ) (error : Error) → Legal setting (e ∷ older) → is_take number e.words ≡ true → e.answer ≡ Answer.Closed error → IsDrained (trail setting older) e.lane number error }
 {}
 
 /// A stream that is made after the peer was closed is over from the start.
+#[tactic(auto, using(crate::proofs::Drained::ended_from_start))]
 pub fn stream_after_closing_is_over()
     ensures { (setting : Setting) (newer older : List Entry) (e : Entry) (number : ℕ) (error : Error) → Legal setting (newer ++ e ∷ older) → e.words ≡ Words.Stream → e.answer ≡ Answer.Streaming number
         → (trail setting older).past.closing ≡ Some error → AllByRecursion (IsEnded e.lane number) newer }
@@ -185,12 +201,14 @@ pub fn stream_after_closing_is_over()
 
 /// Only a poll or a take by position is answered that there is none before it, and it is never answered that there is nothing
 /// yet.
+#[tactic(auto, using(crate::proofs::Spoken::only, crate::proofs::Spoken::never))]
 pub fn none_before_is_by_position()
-    ensures only { (setting : Setting) (older : List Entry) (e : Entry) → Legal setting (e ∷ older) → e.answer ≡ Answer.NoneBefore → IsByPosition e.words }
-    ensures never { (setting : Setting) (older : List Entry) (e : Entry) → Legal setting (e ∷ older) → IsByPosition e.words → IsNothingYet e.answer → ⊥ }
+    ensures only { (setting : Setting) (older : List Entry) (e : Entry) → Legal setting (e ∷ older) → e.answer ≡ Answer.NoneBefore → is_by_position e.words ≡ true }
+    ensures never { (setting : Setting) (older : List Entry) (e : Entry) → Legal setting (e ∷ older) → is_by_position e.words ≡ true → IsNothingYet e.answer → ⊥ }
 {}
 
 /// A read is busy exactly where the peer is open and some open stream holds more than it may, and changes nothing then.
+#[tactic(auto, using(crate::proofs::Drained::busy_only, crate::proofs::Drained::busy_there, crate::proofs::Spoken::busy_changes_nothing))]
 pub fn busy_where_a_stream_is_full()
     ensures only { (setting : Setting) (older : List Entry) (e : Entry) → Legal setting (e ∷ older) → e.words ≡ Words.Read → e.answer ≡ Answer.Busy → HoldsTooMany (trail setting older).past }
     ensures there { (setting : Setting) (older : List Entry) (e : Entry) → Legal setting (e ∷ older) → e.words ≡ Words.Read → HoldsTooMany (trail setting older).past → e.answer ≡ Answer.Busy }
@@ -210,6 +228,7 @@ pub fn put_is_what_was_sent()
 
 /// A peer keeps the name that it was given: at its start, or by the first entry that gives one where there was none. One that comes
 /// later changes nothing, and is told so.
+#[tactic(auto, using(crate::proofs::Spoken::start, crate::proofs::Spoken::kept, crate::proofs::Spoken::given, crate::proofs::Spoken::later))]
 pub fn name_stays()
     ensures start { (setting : Setting) (es : List Entry) → AllByRecursion (λ (e : Entry). IsOfRun e.words) es → (trail setting es).past.name ≡ setting.name }
     ensures kept { (setting : Setting) (newer older : List Entry) (name : List ℕ) → (trail setting older).past.name ≡ Some name → (trail setting (newer ++ older)).past.name ≡ Some name }
@@ -221,24 +240,28 @@ pub fn name_stays()
 
 /// Each message that an entry puts has the peer's name as its sender, and none where the peer has none then (D-Bus Specification,
 /// "Header Fields", `SENDER`).
+#[tactic(auto, using(crate::proofs::Sent::bear_the_name))]
 pub fn messages_bear_the_name()
     ensures { (setting : Setting) (older : List Entry) (e : Entry) → Legal setting (e ∷ older) → AllByRecursion (λ (m : Seen). m.sender ≡ (trail setting older).past.name) e.put }
 {}
 
 /// A refused command leaves all as it was: what the entries leave is the same as before it. So it is of one that closes streams where
 /// they aren't open; where the bus can't be told of their rules, they are closed.
+#[tactic(auto, using(crate::proofs::Spoken::refused_changes_nothing))]
 pub fn refused_changes_nothing()
     ensures { (setting : Setting) (older : List Entry) (e : Entry) (error : Error) → Legal setting (e ∷ older) → e.answer ≡ Answer.Refused error → (is_unstream e.words ≡ true → error ≡ Error.UnknownHandle)
         → trail setting (e ∷ older) ≡ trail setting older }
 {}
 
 /// So does one that is answered busy, a read as well as the opening of a stream: what the entries leave is the same as before it.
+#[tactic(auto, using(crate::proofs::Spoken::busy_changes_nothing))]
 pub fn busy_changes_nothing()
     ensures { (setting : Setting) (older : List Entry) (e : Entry) → Legal setting (e ∷ older) → e.answer ≡ Answer.Busy → trail setting (e ∷ older) ≡ trail setting older }
 {}
 
 /// Closing streams changes nothing else, the RemoveMatch that tells the bus of it included, whether that was written or not: each other
 /// stream gives the same, a poll of each call that was issued before gives the same, and each capacity is the same.
+#[tactic(auto, using(crate::proofs::Unstreamed::other_streams, crate::proofs::Unstreamed::same_calls, crate::proofs::Unstreamed::same_capacities))]
 pub fn unstream_changes_no_other()
     ensures streams { (setting : Setting) (older : List Entry) (e : Entry) (number : ℕ) (second : Option ℕ) (k : ℕ) → Legal setting (e ∷ older) → e.words ≡ Words.OfStream number (StreamOp.Unstream second)
         → place 0 e.lane number (trail setting older).streams ≢ Some k → second_place (trail setting older) e.lane second ≢ Some (Some k)
@@ -252,6 +275,7 @@ pub fn unstream_changes_no_other()
 /// A command to which no refusal applies has its defined answer. One that asks or does by itself has what its plan says; where
 /// messages are to be sent that nothing refuses, while the writer is fine, it is answered by the serials that they draw, or else by the
 /// fault of a write.
+#[tactic(auto, using(crate::proofs::Sent::said_as_meant, crate::proofs::Sent::sent_or_fault))]
 pub fn done_where_nothing_refuses()
     ensures says { (setting : Setting) (older : List Entry) (e : Entry) (answer : Answer) (deeds : List Event) → Legal setting (e ∷ older) → plan (trail setting older) e.lane e.words ≡ Says answer deeds → e.answer ≡ answer }
     ensures sends { (setting : Setting) (older : List Entry) (e : Entry) (deeds : List Event) (ds : List Posting) (sent : List ℕ → Answer) → Legal setting (e ∷ older) → plan (trail setting older) e.lane e.words ≡ Sends deeds ds sent

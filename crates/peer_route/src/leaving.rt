@@ -1,16 +1,17 @@
 //! Closing streams, and telling the bus which rules have none any more (D-Bus Specification, "Match Rules").
-ghost use Rattle.std.specs.Prelude.{ℕ, ◌≡◌, ◌↔◌, IsTrue, ◌++◌, ◌&&◌, ◌||◌, is_some, true, List, map, IfOk, IfErr, option_to_list};
-ghost use Rattle.std.specs.List.{list_all};
+ghost use Rattle.std.specs.Prelude.{ℕ, ◌≡◌, ◌↔◌, ◌<◌, ◌^◌, ◌||◌, [], List, length, IsTrue, Some, true, if◌then◌else◌, ◌∷◌, IfOk, OnOk, OnErr};
+ghost use Rattle.std.specs.List.{AllByRecursion};
 ghost use Rattle.peer_route.specs.History.{Past};
-ghost use Rattle.peer_route.specs.Left.{Left, kept_at, is_flying};
-ghost use Rattle.peer_route.specs.Leaving.{must_tell, without_both, left_by, rule_kept, left_rules, number_of, have_rules, ended, MakesRemoval, MakesRemovals, second_left, Tells, last_issued, ClosesStreams};
+ghost use Rattle.peer_route.specs.Streams.{is_open, are_open, has_rule, has_rule_at, close_waits, leaves, leaves_by, leaving, gone_behind};
+ghost use Rattle.peer_route.specs.Left.{Left, LeftStreams};
+ghost use Rattle.peer_route.specs.Leaving.{gone_both, number_of, MakesRemovals, TellsPosts, ClosesStreams};
 ghost use Rattle.peer_route.specs.Placing.{IsMore};
 
-use crate::opening::{RuleCall, RuleCalls, match_letter, may_be_signal};
-use crate::route::{Issued, Route};
+use crate::letter::Letter;
+use crate::opening::{match_letter, may_be_signal};
+use crate::route::Route;
 use crate::streams::MessageStream;
 use rule_match::OwnedMatchRule;
-use std::alloc::{AllocError, Global};
 use wire_message::{Error, Result};
 
 /// What closing streams gives.
@@ -41,45 +42,10 @@ fn is_memory(error: &Error) -> bool
     matches!(error, Error::Memory)
 }
 
-/// The serial of the last of them.
-fn last_issued(mut issued: Vec<Issued>) -> Option<u32>
-    ensures { result ≡ last_issued issued.items }
-{
-    match issued.pop() {
-        Some(last) => Some(last.serial),
-        None => None,
-    }
-}
-
-/// Those that there are, in order.
-fn listed(
-    alloc: Global,
-    first: Option<RuleCall>,
-    second: Option<RuleCall>,
-) -> std::result::Result<RuleCalls, AllocError>
-    ensures list { IfOk result (λ calls. calls.letters.items ≡ map (λ c. c.letter) (option_to_list first ++ option_to_list second)) }
-    ensures fit { IfOk result (λ calls. calls.fit ≡ list_all (λ c. c.fits) (option_to_list first ++ option_to_list second)) }
-    ensures some { IfErr result (λ e. is_some first || is_some second ≡ true) }
-{
-    let mut letters = Vec::new(alloc);
-    let mut fit = true;
-    if let Some(call) = first {
-        let RuleCall { letter, fits } = call;
-        letters.push(letter)?;
-        fit = fits;
-    }
-    if let Some(call) = second {
-        let RuleCall { letter, fits } = call;
-        letters.push(letter)?;
-        fit = fit && fits;
-    }
-    Ok(RuleCalls { letters, fit })
-}
-
 impl Route {
     /// Whether the bus has to be told of the rule once this stream is closed, and the one that goes before it.
     fn must_tell(&self, rule: &OwnedMatchRule, stream: u64, before: Option<u64>) -> bool
-        ensures { result ≡ must_tell self.now rule.now (without_both stream before self.now.streams) }
+        ensures { (p : Past) → Left self.now p → leaves_by (gone_behind before stream p) (Some rule.now) ≡ (if result then rule.now ∷ [] else []) }
     {
         self.bus
             && self.calls.closing().is_none()
@@ -87,56 +53,60 @@ impl Route {
             && !self.streams.stays(rule, stream, before)
     }
 
-    /// The message by which the bus is told of the stream's rule, where it has to be.
-    fn removal(&self, stream: u64, before: Option<u64>) -> Result<Option<RuleCall>>
-        ensures { MakesRemoval (left_by self.now (without_both stream before self.now.streams) (rule_kept (kept_at self.now.streams stream))) result }
+    /// Adds the message by which the bus is told of the stream's rule, where it has to be once the stream is closed, and the one that
+    /// goes before it.
+    fn add_removal(
+        &self,
+        letters: &mut Vec<Letter<'static>>,
+        stream: u64,
+        before: Option<u64>,
+    ) -> Result<()>
+        ensures made { (p : Past) → Left self.now p → is_open p stream ≡ true
+            → MakesRemovals (λ done. letters.new.items) letters.old.items (leaves (gone_behind before stream p) stream) result }
+        ensures few { AllByRecursion (λ p. length p.fds < 2 ^ 32) letters.old.items → AllByRecursion (λ p. length p.fds < 2 ^ 32) letters.new.items }
     {
         match self.streams.rule(stream) {
-            Some(rule) if self.must_tell(rule, stream, before) => Ok(Some(match_letter(
-                self.alloc,
-                "RemoveMatch",
-                rule.inner(),
-            )?)),
-            _ => Ok(None),
-        }
-    }
-
-    /// The same of the second stream, where there is one.
-    fn second_removal(&self, stream: u64, second: Option<u64>) -> Result<Option<RuleCall>>
-        ensures { MakesRemoval (second_left self.now stream second) result }
-    {
-        match second {
-            Some(second) => self.removal(second, Some(stream)),
-            None => Ok(None),
+            Some(rule) if self.must_tell(rule, stream, before) => {
+                letters.push(match_letter(self.alloc, "RemoveMatch", rule.inner())?)?;
+                Ok(())
+            }
+            _ => Ok(()),
         }
     }
 
     /// The messages by which the bus is told once these streams are closed.
-    fn removals(&self, stream: u64, second: Option<u64>) -> Result<RuleCalls>
-        ensures { MakesRemovals (left_rules self.now stream second) result }
+    fn removals(&self, stream: u64, second: Option<u64>) -> Result<Vec<Letter<'static>>>
+        ensures made { (p : Past) → Left self.now p → are_open p stream second ≡ true
+            → MakesRemovals (λ letters. letters.items) [] (leaving p stream second) result }
+        ensures few { IfOk result (λ letters. AllByRecursion (λ p. length p.fds < 2 ^ 32) letters.items) }
     {
-        let first = self.removal(stream, None)?;
-        let second = self.second_removal(stream, second)?;
-        Ok(listed(self.alloc, first, second)?)
+        let mut letters: Vec<Letter<'static>> = Vec::new(self.alloc);
+        self.add_removal(&mut letters, stream, None)?;
+        match second {
+            Some(second) => self.add_removal(&mut letters, second, Some(stream))?,
+            None => {}
+        }
+        Ok(letters)
     }
 
-    /// Tells the bus which rules have no stream any more once these are closed, and gives the serial of the last message. Where it is
-    /// refused, some of it may have been done.
+    /// Tells the bus which rules have no stream any more once these are closed, and gives the serial of the last message.
     fn tell(&mut self, stream: u64, second: Option<u64>) -> Result<Option<u32>>
-        ensures tells { Tells self.old self.new (left_rules self.old stream second) result }
-        ensures more { IsMore self.old self.new }
+        ensures tells { (p : Past) → Left self.old p → are_open p stream second ≡ true
+            → TellsPosts self.new (gone_both stream second p) (leaving p stream second) result }
+        ensures more { OnOk result (IsMore self.old self.new) }
+        ensures same { OnErr result (self.new ≡ self.old) }
     {
-        let calls = self.removals(stream, second)?;
-        if calls.letters.is_empty() {
+        let letters = self.removals(stream, second)?;
+        if letters.is_empty() {
             return Ok(None);
         }
-        let issued = self.put_own(calls)?;
-        Ok(last_issued(issued))
+        let _ = self.put(letters, false, true)?;
+        Ok(Some(self.serials.last()))
     }
 
     /// Whether one of these streams has a rule.
     fn has_rules(&self, stream: u64, second: Option<u64>) -> bool
-        ensures { result ≡ have_rules self.now stream second }
+        ensures { (p : Past) → Left self.now p → are_open p stream second ≡ true → result ≡ (has_rule p stream || has_rule_at p second) }
     {
         if self.streams.rule(stream).is_some() {
             return true;
@@ -148,15 +118,17 @@ impl Route {
     }
 
     /// Whether closing these streams has to wait: one of them has a rule, and an AddMatch or a RemoveMatch is on its way.
+    #[tactic(auto, unfolding(crate::specs::Streams::close_waits))]
     fn close_waits(&self, stream: u64, second: Option<u64>) -> bool
-        ensures { result ≡ (is_flying self.now.calls && have_rules self.now stream second) }
+        ensures { (p : Past) → Left self.now p → are_open p stream second ≡ true → result ≡ close_waits p stream second }
     {
         self.calls.is_flying() && self.has_rules(stream, second)
     }
 
     /// Nothing is kept of these streams any more.
     fn end_both(&mut self, stream: u64, second: Option<u64>)
-        ensures { self.new ≡ record self.old { streams = ended stream second self.old.streams } }
+        ensures streams { (p : Past) → LeftStreams self.old.streams p → LeftStreams self.new.streams (gone_both stream second p) }
+        ensures same { self.new ≡ record self.old { streams = self.new.streams } }
     {
         self.streams.end(stream);
         if let Some(second) = second {
@@ -185,14 +157,12 @@ impl Route {
         if self.close_waits(number, other) {
             return Spent::Back(stream, second, Error::Busy);
         }
-        let mark = self.mark();
         match self.tell(number, other) {
             Ok(last) => {
                 self.end_both(number, other);
                 Spent::Gone(last)
             }
             Err(error) => {
-                self.take_back(mark);
                 if is_memory(&error) {
                     return Spent::Back(stream, second, error);
                 }

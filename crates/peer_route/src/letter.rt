@@ -1,25 +1,24 @@
 //! Messages to be sent.
-ghost use Rattle.std.specs.Prelude.{ℕ, ◌≡◌, ◌<◌, ◌^◌, length, Ok, Some};
+ghost use Rattle.std.specs.Prelude.{ℕ, ◌≡◌, ◌<◌, ◌^◌, length, Ok, Some, false};
 ghost use Rattle.peer_route.specs.CallMessage.{expects, expects_reply};
 ghost use Rattle.peer_route.specs.Parcel.{sender_of, sent_by};
 ghost use Rattle.peer_route.specs.Issuing.{is_deep};
-ghost use Rattle.peer_route.specs.Placing.{numbered, IsReady, MakesOwn};
+ghost use Rattle.peer_route.specs.Placing.{MakesAt};
 
-use crate::calls::PendingMethodCalls;
+use crate::letter_body::LetterBody;
 use bitflags::Flags as _;
 use std::alloc::Global;
 use std::marker::Model;
 use wire_body::BodyValues;
-use wire_message::{Builder, Flags, Message, MessageType, Result, Serials};
+use wire_message::{Builder, Error, Flags, Message, MessageType, NonePending, Result, Serials};
 use wire_names::OwnedUniqueName;
 use wire_value::is_shallow;
 
-/// A message to be sent (D-Bus Specification, "Message Format"): its header, the values of its body, and the file descriptors
-/// that go with it.
+/// A message to be sent (D-Bus Specification, "Message Format"): its header, its body, and the file descriptors that go with it.
 pub struct Letter<'a> {
-    pub builder: Builder<'a>,
-    pub body: BodyValues,
-    pub fds: Vec<u32>,
+    pub(crate) builder: Builder<'a>,
+    pub(crate) body: LetterBody,
+    pub(crate) fds: Vec<u32>,
 }
 
 impl<'a> Drop for Letter<'a> {
@@ -33,21 +32,21 @@ impl<'a> Drop for Letter<'a> {
 }
 
 impl<'a> Model for Letter<'a> {
-    ghost use Rattle.wire_number.specs.contracts.endian.Endian as orders;
-    ghost use Rattle.wire_message.specs.contracts.kind.MessageType as kinds;
-    ghost use Rattle.peer_route.specs.Parcel.{Parcel};
-    ghost use Rattle.peer_route.specs.ParcelCode.{parcel_code};
+    ghost use Rattle.std.specs.Prelude.{[]};
+    ghost use mir.Syntax.{static};
+    ghost use Rattle.wire_message.specs.contracts.builder.Builder as builders;
+    ghost use Rattle.peer_route.specs.Parcel.{Parcel, values_of, parcel_code};
 
     ghost Value = { Parcel };
 
-    ghost coded = { parcel_code kinds.the_row.coded orders.the_row.coded };
+    ghost coded = { parcel_code (builders.the_row (record { mir = static; lft = [] })).coded };
 
-    ghost view = { λ l. record { draft = l.builder; values = l.body; fds = l.fds.items } };
+    ghost view = { λ l. record { draft = l.builder; values = values_of l.body; fds = l.fds.items } };
 }
 
 /// Whether a message of this type and these flags waits for a reply: it is a method call whose flags leave NoReplyExpected out.
 #[tactic(auto, unfolding(crate::specs::CallMessage::expects_reply))]
-pub(crate) fn expects_reply(kind: MessageType, flags: Flags) -> bool
+fn expects_reply(kind: MessageType, flags: Flags) -> bool
     ensures { result ≡ expects_reply kind flags.0 }
 {
     match kind {
@@ -78,11 +77,25 @@ fn from_peer<'a>(
 }
 
 impl<'a> Letter<'a> {
+    /// A message with that header, these values as its body, and these file descriptors.
+    pub fn new(builder: Builder<'a>, body: BodyValues, fds: Vec<u32>) -> Letter<'a>
+        ensures { result ≡ record { draft = builder.entry; values = body; fds = fds.items } }
+    {
+        Letter {
+            builder,
+            body: LetterBody::Values(body),
+            fds,
+        }
+    }
+
     /// Whether a value opens more than 64 containers at once.
     pub(crate) fn is_deep(&self) -> bool
         ensures { result ≡ is_deep self.now }
     {
-        !is_shallow(&self.body)
+        match &self.body {
+            LetterBody::Values(values) => !is_shallow(values),
+            LetterBody::Long(_) => false,
+        }
     }
 
     /// Whether it waits for a reply.
@@ -92,35 +105,38 @@ impl<'a> Letter<'a> {
         expects_reply(self.builder.message_type(), self.builder.flags())
     }
 
-    /// With that serial, whatever serial it had.
-    pub(crate) fn numbered(self, serial: u32) -> Letter<'a>
-        requires { 0 < serial }
-        ensures { result ≡ numbered serial self.entry }
-    {
-        let Letter { builder, body, fds } = self;
-        Letter {
-            builder: builder.serial(serial),
-            body,
-            fds,
-        }
-    }
-
-    /// Its message, sent by the peer of that name, with the serial that was set. Refused as ExcessData exactly where an array or
-    /// the message passes its limit.
+    /// Its message, sent by the peer of that name, with that serial, whatever serial it had. Refused as ExcessData exactly where an
+    /// array, a text or the message passes its limit.
     pub(crate) fn build(
         self,
         alloc: Global,
-        calls: &PendingMethodCalls,
         name: &'a Option<OwnedUniqueName>,
         served: bool,
+        serial: u32,
     ) -> Result<Message>
-        requires { IsReady self }
-        ensures { MakesOwn (sent_by name.now served self.entry) result }
+        requires some { 0 < serial }
+        requires shallow { is_deep self ≡ false }
+        requires few { length self.fds < 2 ^ 32 }
+        ensures { MakesAt (sent_by name.now served self.entry) serial result }
     {
         let Letter { builder, body, fds } = self;
-        let builder = from_peer(builder, name, served);
-        // its serial is set, so that none is drawn
-        let mut serials = Serials::new();
-        builder.build_body_uncounted(alloc, &mut serials, calls, &body, fds.as_slice())
+        match &body {
+            LetterBody::Values(values) => {
+                let builder = from_peer(builder, name, served).serial(serial);
+                // its serial is set, so that none is drawn
+                let mut serials = Serials::new();
+                builder.build_body_uncounted(
+                    alloc,
+                    &mut serials,
+                    &NonePending,
+                    values,
+                    fds.as_slice(),
+                )
+            }
+            LetterBody::Long(text) => {
+                text.is_long();
+                Err(Error::ExcessData)
+            }
+        }
     }
 }

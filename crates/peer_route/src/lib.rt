@@ -9,6 +9,7 @@ mod issuing;
 mod laws;
 mod leaving;
 mod letter;
+mod letter_body;
 mod opening;
 mod owner_rule;
 mod polled;

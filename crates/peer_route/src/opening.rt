@@ -1,22 +1,25 @@
 //! Streams of rules: those that are open at once, and those for which the bus is asked (D-Bus Specification, "Match Rules").
-ghost use Rattle.std.specs.Prelude.{◌≡◌, ◌<◌, ◌^◌, ◌&&◌, ◌++◌, ◌∷◌, [], not, is_some, length, List, IfOk, IfErr, Some, None, true, false};
-ghost use Rattle.std.specs.List.{list_any, AllByRecursion};
-ghost use Rattle.peer_route.specs.Issuing.{is_deep};
+ghost use Rattle.std.specs.Prelude.{⊤, ◌≡◌, ◌∷◌, [], IfOk, IfErr, None, true};
 ghost use Rattle.wire_names.specs.Names.{is_member_name};
+ghost use Rattle.wire_tree.specs.Datum.{text, string};
+ghost use Rattle.rule_match.specs.Text.{rule_text};
 ghost use Rattle.peer_route.specs.History.{OnBus, Past, after, after_all};
-ghost use Rattle.peer_route.specs.Streams.{opening_answer, opening_events, may_be_signal};
-ghost use Rattle.peer_route.specs.Bus.{OpensRule, IsShownAs, AsksFor, MakesBody, MakesLetter, PutsOwn};
-ghost use Rattle.peer_route.specs.BusCall.{bus_draft, match_parcel};
-ghost use Rattle.peer_route.specs.Left.{Left, shared};
-ghost use Rattle.peer_route.specs.Placing.{IsMore, PutsAll};
+ghost use Rattle.peer_route.specs.Streams.{asks_bus, opening_answer, opening_events, may_be_signal};
+ghost use Rattle.peer_route.specs.Issuing.{Issues};
+ghost use Rattle.peer_route.specs.Bus.{IsOpening, OpensRule, IsShownAs};
+ghost use Rattle.peer_route.specs.BusCall.{bus_draft, match_parcel, asking_of};
+ghost use Rattle.peer_route.specs.Left.{Left};
+ghost use Rattle.peer_route.specs.Parcel.{values_of};
+ghost use Rattle.peer_route.specs.Placing.{IsMore};
 
 use crate::letter::Letter;
+use crate::letter_body::{LetterBody, LongText};
 use crate::progress::OpenState;
-use crate::route::{Issued, Route};
+use crate::route::Route;
 use crate::streams::MessageStream;
 use rule_match::{MatchRule, OwnedMatchRule, rules_hold_their_grammar};
 use std::alloc::Global;
-use wire_body::{BodyValues, to};
+use wire_body::to;
 use wire_message::{Builder, Error, IoKind, Message, MessageType, Result};
 use wire_names::{BusName, InterfaceName, MemberName, ObjectPath, Text};
 use wire_signature::VariantError;
@@ -91,76 +94,42 @@ fn bus_call(member: &'static str) -> Builder<'static>
         .destination(&destination)
 }
 
-/// The call of a method of the bus about a rule; its sender isn't set yet.
-#[derive(Drop)]
-pub(crate) struct RuleCall {
-    /// With the rule's text, if it fits.
-    pub(crate) letter: Letter<'static>,
-    /// Whether a string may be as long as the rule's text.
-    pub(crate) fits: bool,
-}
-
-/// Such calls, in order.
-#[derive(Drop)]
-pub(crate) struct RuleCalls {
-    pub(crate) letters: Vec<Letter<'static>>,
-    /// Whether each has its rule's text.
-    pub(crate) fit: bool,
-}
-
-/// The body with a rule's text; None exactly where no string may be as long, which is above 4,294,967,295 bytes.
-fn rule_body(alloc: Global, rule: &MatchRule) -> Result<Option<BodyValues>>
-    ensures { MakesBody result rule.now }
-{
-    rules_hold_their_grammar(rule);
-    let text = Text::from_string(rule.to_string(alloc)?);
-    match to(alloc, (text,)) {
-        Ok(body) => Ok(Some(body)),
-        Err(VariantError::Malformed) => Ok(None),
-        Err(error) => {
-            // One string is a signature, so that nothing but memory was wanting.
-            prove!(matches!(&error, VariantError::Memory));
-            Err(Error::Memory)
-        }
-    }
-}
-
-/// The body without values.
-fn no_body(alloc: Global) -> Result<BodyValues>
-    ensures value { IfOk result (λ body. body ≡ []) }
+/// The body with a rule's text.
+fn rule_body(alloc: Global, rule: &MatchRule) -> Result<LetterBody>
+    ensures body { IfOk result (λ body. values_of body ≡ text string (rule_text rule.now) ∷ []) }
     ensures error { IfErr result (λ e. e ≡ Error.Memory) }
 {
-    match BodyValues::from_values(alloc, Vec::new(alloc)) {
-        Ok(body) => Ok(body),
-        Err(error) => {
-            // No types are a signature, so that nothing but memory was wanting.
-            prove!(matches!(&error, VariantError::Memory));
-            Err(Error::Memory)
-        }
+    rules_hold_their_grammar(rule);
+    match LongText::of(Text::from_string(rule.to_string(alloc)?)) {
+        Ok(long) => Ok(LetterBody::Long(long)),
+        Err(short) => match to(alloc, (short,)) {
+            Ok(values) => Ok(LetterBody::Values(values)),
+            // A rule's text is UTF-8, has no 0 byte, and is short enough.
+            Err(VariantError::Malformed) => unreachable!(),
+            Err(error) => {
+                // One string is a signature, so that nothing but memory was wanting.
+                prove!(matches!(&error, VariantError::Memory));
+                Err(Error::Memory)
+            }
+        },
     }
 }
 
-/// The call of a method of the bus about a rule.
+/// The call of a method of the bus about a rule; its sender isn't set yet.
 pub(crate) fn match_letter(
     alloc: Global,
     member: &'static str,
     rule: &MatchRule,
-) -> Result<RuleCall>
+) -> Result<Letter<'static>>
     requires { is_member_name member.now ≡ true }
-    ensures { MakesLetter result member.now rule.now }
+    ensures letter { IfOk result (λ letter. letter ≡ match_parcel member.now None rule.now) }
+    ensures error { IfErr result (λ e. e ≡ Error.Memory) }
 {
-    let body = rule_body(alloc, rule)?;
-    let fits = body.is_some();
-    let body = match body {
-        Some(body) => body,
-        None => no_body(alloc)?,
-    };
-    let letter = Letter {
+    Ok(Letter {
         builder: bus_call(member),
-        body,
+        body: rule_body(alloc, rule)?,
         fds: Vec::new(alloc),
-    };
-    Ok(RuleCall { letter, fits })
+    })
 }
 
 impl Route {
@@ -179,53 +148,25 @@ impl Route {
     }
 
     /// Whether the bus has to be asked for what the rule accepts: no stream of it is open, or being opened.
+    #[tactic(auto, unfolding(crate::specs::Streams::asks_bus))]
     fn asks_bus(&self, rule: &OwnedMatchRule) -> bool
-        ensures { result ≡ (self.now.bus && (may_be_signal rule.now.kind && not (is_some (shared rule.now self.now.streams)))) }
+        ensures { (p : Past) → Left self.now p → result ≡ asks_bus p rule.now }
     {
         self.bus && may_be_signal(rule.inner()) && !self.streams.has_rule(rule)
-    }
-
-    /// Puts calls of the bus, the peer's own, all or none. Where one is without its rule's text, they are refused as too long, once each has
-    /// a serial. Where they are refused, some of it may have been done.
-    pub(crate) fn put_own(&mut self, calls: RuleCalls) -> Result<Vec<Issued>>
-        requires few { AllByRecursion (λ p. length p.fds < 2 ^ 32) calls.letters.items }
-        requires shallow { list_any is_deep calls.letters.items ≡ false }
-        ensures puts { PutsOwn calls.fit (λ issued. issued.items) self.old self.new calls.letters.items result }
-        ensures more { IsMore self.old self.new }
-    {
-        let RuleCalls { letters, fit } = calls;
-        if fit {
-            return self.put_all(letters, false, true);
-        }
-        self.draw_own(letters)?;
-        Err(Error::ExcessData)
-    }
-
-    /// Puts the call of a method of the bus with a rule's text, one of the peer's own. Where it is refused, some of it may have been
-    /// done.
-    fn put_match(&mut self, member: &'static str, rule: &OwnedMatchRule) -> Result<Issued>
-        requires { is_member_name member.now ≡ true }
-        ensures puts { PutsAll true (λ (i : Issued). i ∷ []) self.old self.new (match_parcel member.now self.old.name rule.now ∷ []) result }
-        ensures more { IsMore self.old self.new }
-    {
-        let RuleCall { letter, fits } = match_letter(self.alloc, member, rule.inner())?;
-        let mut letters = Vec::new(self.alloc);
-        letters.push(letter)?;
-        let mut issued = self.put_own(RuleCalls { letters, fit: fits })?;
-        match issued.pop() {
-            Some(issued) => Ok(issued),
-            None => unreachable!(),
-        }
     }
 
     /// Puts the AddMatch of a rule, and makes the stream that waits for its return. Where it is refused, some of it may have been
     /// done.
     fn put_asking(&mut self, rule: OwnedMatchRule, asked: Option<u64>) -> Result<Opening>
-        ensures asks { AsksFor self.old self.new rule asked result }
+        ensures asks { (p : Past) → Left self.old p
+            → Issues (λ opening serials. IsOpening p (Opens.Opening opening) serials) ⊤ self.new (asking_of p rule asked ∷ []) p result }
         ensures more { IfErr result (λ e. IsMore self.old self.new) }
     {
-        let issued = self.put_match("AddMatch", &rule)?;
-        let (index, serial) = (issued.index, issued.serial);
+        let mut letters = Vec::new(self.alloc);
+        letters.push(match_letter(self.alloc, "AddMatch", rule.inner())?)?;
+        let index = self.outbox.len() as u64;
+        let _ = self.put_all(letters, false, true)?;
+        let serial = self.serials.last();
         let number = self.streams.open_asking(rule, asked, serial, index)?;
         Ok(Opening {
             number,

@@ -1,23 +1,28 @@
 //! How many messages the streams of a rule may hold where nothing is asked for.
-ghost use Rattle.std.specs.Prelude.{◌≡◌, codes, option_map};
+ghost use Rattle.std.specs.Prelude.{◌≡◌, [], option_map};
+ghost use Rattle.std.specs.Cmp.Lexicographic.{pointwise};
+ghost use Rattle.std.specs.Option.{option_eq};
+ghost use Rattle.rule_arguments.specs.SameArgument.{same_argument};
 ghost use Rattle.rule_arguments.specs.Passing.{same};
-ghost use Rattle.peer_route.specs.Rules.{is_signal, is_unique, is_this, is_at, is_first_alone, are_none, is_owner_rule, usual};
+ghost use Rattle.peer_route.specs.Rules.{same_kind, same_name, same_place, is_first_alone, owner_changes, is_owner_rule, usual};
 
 use rule_match::{Argument, MatchRule, PathSpec};
 use wire_message::MessageType;
-use wire_names::{OwnedBusName, OwnedInterfaceName, OwnedMemberName};
+use wire_names::{OwnedBusName, OwnedInterfaceName, OwnedMemberName, OwnedUniqueName, Text};
 
 /// The bus's name, which is its interface's name too (D-Bus Specification, "Message Bus Messages").
 const BUS: &str = "org.freedesktop.DBus";
 
+#[tactic(auto, unfolding(rule_match::specs::Rule::bus_signal))]
 fn is_signal(kind: Option<MessageType>) -> bool
-    ensures { result ≡ is_signal kind }
+    ensures { result ≡ option_eq same_kind kind owner_changes.kind }
 {
     matches!(kind, Some(MessageType::Signal))
 }
 
+#[tactic(auto, unfolding(rule_match::specs::Rule::bus_signal))]
 fn is_bus(name: Option<&OwnedBusName>) -> bool
-    ensures { result ≡ is_unique (codes "org.freedesktop.DBus") (option_map (λ n. n.now) name.entry) }
+    ensures { result ≡ option_eq same_name (option_map (λ n. n.now) name.entry) owner_changes.sender }
 {
     match name {
         Some(OwnedBusName::Unique(name)) => name.as_str() == BUS,
@@ -25,8 +30,9 @@ fn is_bus(name: Option<&OwnedBusName>) -> bool
     }
 }
 
+#[tactic(auto, unfolding(rule_match::specs::Rule::bus_signal))]
 fn is_bus_interface(name: Option<&OwnedInterfaceName>) -> bool
-    ensures { result ≡ is_this (codes "org.freedesktop.DBus") (option_map (λ n. n.now) name.entry) }
+    ensures { result ≡ option_eq same (option_map (λ n. n.now) name.entry) owner_changes.interface }
 {
     match name {
         Some(name) => name.as_str() == BUS,
@@ -34,8 +40,9 @@ fn is_bus_interface(name: Option<&OwnedInterfaceName>) -> bool
     }
 }
 
+#[tactic(auto, unfolding(rule_match::specs::Rule::bus_signal))]
 fn is_owner_changed(name: Option<&OwnedMemberName>) -> bool
-    ensures { result ≡ is_this (codes "NameOwnerChanged") (option_map (λ n. n.now) name.entry) }
+    ensures { result ≡ option_eq same (option_map (λ n. n.now) name.entry) owner_changes.member }
 {
     match name {
         Some(name) => name.as_str() == "NameOwnerChanged",
@@ -43,8 +50,9 @@ fn is_owner_changed(name: Option<&OwnedMemberName>) -> bool
     }
 }
 
+#[tactic(auto, unfolding(rule_match::specs::Rule::bus_signal))]
 fn is_bus_path(place: Option<&PathSpec>) -> bool
-    ensures { result ≡ is_at (codes "/org/freedesktop/DBus") (option_map (λ p. p.now) place.entry) }
+    ensures { result ≡ option_eq same_place (option_map (λ p. p.now) place.entry) owner_changes.path }
 {
     match place {
         Some(PathSpec::Path(path)) => path.as_str() == "/org/freedesktop/DBus",
@@ -63,26 +71,40 @@ fn is_first_alone(args: &[Argument]) -> bool
 }
 
 fn are_none(args: &[Argument]) -> bool
-    ensures { result ≡ are_none args.now }
+    ensures { result ≡ pointwise same_argument args.now [] }
 {
     args.is_empty()
 }
 
+#[tactic(auto, unfolding(rule_match::specs::Rule::bus_signal))]
+fn is_for_all(destination: Option<&OwnedUniqueName>) -> bool
+    ensures { result ≡ option_eq same (option_map (λ n. n.now) destination.entry) owner_changes.destination }
+{
+    destination.is_none()
+}
+
+#[tactic(auto, unfolding(rule_match::specs::Rule::bus_signal))]
+fn is_in_no_namespace(namespace: Option<&Text>) -> bool
+    ensures { result ≡ option_eq same (option_map (λ n. n.now) namespace.entry) owner_changes.arg0ns }
+{
+    namespace.is_none()
+}
+
 /// Whether the rule is one of an owner's changes: the bus's own signals NameOwnerChanged, at its path, of one name, and it
 /// has no other part.
-#[tactic(auto, unfolding(crate::specs::Rules::is_owner_rule))]
+#[tactic(auto, unfolding(crate::specs::Rules::is_owner_rule, crate::specs::Rules::is_same, rule_match::specs::Rule::bus_signal))]
 fn is_owner_rule(rule: &MatchRule) -> bool
     ensures { result ≡ is_owner_rule rule.now }
 {
-    is_signal(rule.msg_type())
+    is_first_alone(rule.args())
+        && is_signal(rule.msg_type())
         && is_bus(rule.sender())
         && is_bus_interface(rule.interface())
         && is_owner_changed(rule.member())
         && is_bus_path(rule.path_spec())
-        && rule.destination().is_none()
-        && is_first_alone(rule.args())
+        && is_for_all(rule.destination())
         && are_none(rule.arg_paths())
-        && rule.arg0ns().is_none()
+        && is_in_no_namespace(rule.arg0ns())
 }
 
 /// How many messages the streams of this rule may hold where nothing else is asked for: 8 where the rule is one of an owner's

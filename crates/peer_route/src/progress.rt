@@ -1,13 +1,11 @@
 //! How far streams are opened.
-ghost use Rattle.std.specs.Prelude.{◌≡◌, IfOk};
+ghost use Rattle.std.specs.Prelude.{◌≡◌};
 ghost use Rattle.peer_route.specs.History.{bears, is_return};
-ghost use Rattle.peer_route.specs.Left.{is_end};
 
-use std::alloc::AllocError;
 use wire_message::{Error, Message, MessageType};
 
 /// How far a stream is opened.
-#[derive(Drop)]
+#[derive(Clone, Copy)]
 pub enum Progress {
     /// It waits for the return to its AddMatch.
     Waits {
@@ -16,26 +14,12 @@ pub enum Progress {
         /// Its place in the outbox.
         index: u64,
     },
-    /// It was denied, by this error.
-    Denied(Message),
+    /// It was denied, by an error.
+    Denied,
     /// It takes messages.
     Runs,
-}
-
-impl Progress {
-    /// The same again.
-    pub(crate) fn try_clone(&self) -> Result<Progress, AllocError>
-        ensures { IfOk result (λ copy. copy ≡ self.now) }
-    {
-        Ok(match self {
-            Progress::Waits { serial, index } => Progress::Waits {
-                serial: *serial,
-                index: *index,
-            },
-            Progress::Denied(message) => Progress::Denied(message.clone()?),
-            Progress::Runs => Progress::Runs,
-        })
-    }
+    /// It was closed, or its AddMatch could not be written.
+    Gone,
 }
 
 /// What becomes of a stream that waits for the return to its AddMatch.
@@ -51,18 +35,6 @@ pub enum OpenState {
     Refused(Message),
     /// The peer was closed before a reply came.
     Over(Error),
-}
-
-impl OpenState {
-    /// Whether the stream will not be open.
-    pub(crate) fn is_end(&self) -> bool
-        ensures { result ≡ is_end self.now }
-    {
-        match self {
-            OpenState::Refused(_) | OpenState::Over(_) => true,
-            OpenState::Unknown | OpenState::NotYet | OpenState::Open => false,
-        }
-    }
 }
 
 /// Whether the message is a method return.

@@ -41,8 +41,7 @@ impl Route {
     pub fn clone_stream(&mut self, stream: &MessageStream) -> Result<MessageStream>
         ensures { (p : Past) → Left self.old p → Clones self.old self.new stream.now.number p result }
     {
-        let number = self.streams.open_clone(stream.number)?;
-        Ok(MessageStream { number })
+        self.streams.open_clone(stream.number)
     }
 
     /// Whether the stream with this number is open, and the second, where there is one, and they are two.
@@ -63,10 +62,9 @@ impl Route {
     pub fn max_queued(&self, stream: &MessageStream) -> Result<u64>
         ensures { (p : Past) → Left self.now p → result ≡ limit_answer p stream.now.number }
     {
-        match self.streams.limit(stream.number, self.main) {
-            Some(limit) => Ok(limit),
-            None => Err(Error::UnknownHandle),
-        }
+        self.streams
+            .limit(stream.number, self.main)
+            .ok_or(Error::UnknownHandle)
     }
 
     /// Asks that the stream may hold so many messages. A larger number raises how many each open stream of its rule may hold, or,

@@ -1,16 +1,15 @@
-ghost use Rattle.std.specs.Prelude.{ℕ, ◌≡◌, ◌+◌, ◌<◌, ◌≤◌, ◌++◌, ◌∷◌, ◌&&◌, ◌==◌, not, [], List, length, Option, Some, None, OnOk, OnErr, IfOk, map, option_map, is_some};
+ghost use Rattle.std.specs.Prelude.{ℕ, ◌≡◌, ◌≤◌, ◌||◌, ◌∷◌, ◌++◌, [], List, length, Option, Some, None, OnOk, OnErr, IfOk, map, option_map, slice_get, Bool, if◌then◌else◌, is_some, true, ok_or, unwrap_or};
 ghost use Rattle.std.specs.List.{list_any};
-ghost use Rattle.peer_route.specs.History.{edit};
-ghost use Rattle.peer_route.specs.Left.{Held, empty_held, queued, queued_first, denied_count, repeated, settled_at, arrived_at, lost_at, with_asking, any_at, held_opening, opened_held, is_over, limit_or, raise_all, shared, limit_now, with_stream, wants_of, asked_for, after_take, kept_at, held_gives, next_held, ended_by, ClonesHeld};
-ghost use Rattle.peer_route.specs.Leaving.{without_both, is_without};
+ghost use Rattle.peer_route.specs.History.{is_serial, raised, Past, Stream, Made, Plain, Ruled, Put, Adds, Fault, Took, Did, Gone, Asked, after, after_all, asked_limit, is_subscribed};
+ghost use Rattle.peer_route.specs.Rules.{usual};
+ghost use Rattle.peer_route.specs.Streams.{is_open, are_open, has_rule, is_over as nothing_comes, gone_if, gone_behind, opening_answer, opening_events, take_answer, take_events, next_position, limit_answer, rule_answer};
+ghost use Rattle.wire_message.specs.Front.{Seen};
+ghost use Rattle.peer_route.specs.Left.{Held, pushed, settled_by, lost_by, raise_held, each_first, is_over, kept_open, LeftStreams, AreStreams, IsNew, ClonesBy};
 
 use crate::owner_rule::usual;
 use crate::polled::Polled;
-use crate::progress::OpenState;
-use crate::queue::{
-    Queue, Subscription, ask_in, close, denies, is_full, limit_in, lose_in, push_to, raise_in,
-    raised, settle_in, take_back_from, take_from,
-};
+use crate::progress::{OpenState, Progress};
+use crate::queue::{Queue, Subscription, raised};
 use rule_match::OwnedMatchRule;
 use std::alloc::{AllocError, Global};
 use std::marker::Model;
@@ -25,13 +24,13 @@ pub struct MessageStream {
 }
 
 /// Gives a message to one stream after another, and how many got it: fewer than all for want of memory.
-fn push_each(queues: &mut Vec<Option<Queue>>, message: &Message) -> usize
-    ensures items { queues.new.items ≡ queued_first result message.now queues.old.items }
+fn push_each(queues: &mut Vec<Queue>, message: &Message) -> usize
+    ensures items { queues.new.items ≡ each_first (pushed message.now) result queues.old.items }
     ensures count { result ≤ length queues.old.items }
 {
     let mut count = 0;
     while count < queues.len() {
-        if push_to(&mut queues[count], message).is_err() {
+        if queues[count].push(message).is_err() {
             return count;
         }
         count += 1;
@@ -40,115 +39,84 @@ fn push_each(queues: &mut Vec<Option<Queue>>, message: &Message) -> usize
 }
 
 /// Takes the message that was pushed last back from the first `count` streams.
-fn take_back_each(queues: &mut Vec<Option<Queue>>, count: usize, message: &Message)
+fn take_back_each(queues: &mut Vec<Queue>, count: usize, message: &Message)
     requires { count ≤ length queues.old.items }
-    ensures { (qs : List (Option Held)) → queues.old.items ≡ queued_first count message.now qs → queues.new.items ≡ qs }
+    ensures { (qs : List Held) → queues.old.items ≡ each_first (pushed message.now) count qs → queues.new.items ≡ qs }
 {
     let mut left = count;
     while left > 0 {
         left -= 1;
-        take_back_from(&mut queues[left], message);
+        queues[left].take_back(message);
     }
 }
 
-/// How many streams the message denies.
-fn count_denied(queues: &[Option<Queue>], message: &Message) -> usize
-    ensures { result ≡ denied_count message.now queues.now }
-{
-    let mut count = 0;
-    for queue in queues {
-        if denies(queue, message) {
-            count += 1;
-        }
-    }
-    count
-}
-
-/// So many copies of a message, which share its bytes.
-fn copies_of(alloc: Global, message: &Message, count: usize) -> Result<Vec<Message>, AllocError>
-    ensures { IfOk result (λ copies. copies.items ≡ repeated count message.now) }
-{
-    let mut copies = Vec::new(alloc);
-    let mut made = 0;
-    while made < count {
-        copies.push(message.clone()?)?;
-        made += 1;
-    }
-    Ok(copies)
-}
-
-/// The message may be the reply to the AddMatch of each stream that waits. For each that it denies there is a copy.
-fn settle_each(queues: &mut Vec<Option<Queue>>, message: &Message, mut copies: Vec<Message>)
-    requires { copies.items ≡ repeated (denied_count message.now queues.old.items) message.now }
-    ensures { queues.new.items ≡ map (settled_at message.now) queues.old.items }
+/// The message, which was pushed to each, may be the reply to the AddMatch of each stream that waits.
+fn settle_each(queues: &mut Vec<Queue>, message: &Message)
+    ensures { queues.new.items ≡ map (λ q. settled_by q.progress message.now q) queues.old.items }
 {
     for queue in queues.iter_mut() {
-        let copy = if denies(queue, message) {
-            copies.pop()
-        } else {
-            None
-        };
-        settle_in(queue, message, copy);
+        queue.settle(message);
     }
 }
 
 /// Each stream that waits for the return to an AddMatch with this place in the outbox is gone.
-fn lose_each(queues: &mut Vec<Option<Queue>>, index: u64)
-    ensures { queues.new.items ≡ map (lost_at index) queues.old.items }
+fn lose_each(queues: &mut Vec<Queue>, index: u64)
+    ensures { queues.new.items ≡ map (λ q. lost_by q.progress index q) queues.old.items }
 {
     for queue in queues.iter_mut() {
-        lose_in(queue, index);
+        queue.lose(index);
     }
 }
 
-/// A stream of this rule asks for more: each open one of the rule may hold it.
-fn raise_each(queues: &mut Vec<Option<Queue>>, rule: &OwnedMatchRule, asked: Option<u64>)
-    ensures { queues.new.items ≡ raise_all rule.now asked queues.old.items }
+/// A stream of this rule asks for more: each one of the rule may hold it.
+fn raise_each(queues: &mut Vec<Queue>, rule: &OwnedMatchRule, asked: Option<u64>)
+    ensures { queues.new.items ≡ map (raise_held rule.now asked) queues.old.items }
 {
     for queue in queues.iter_mut() {
-        raise_in(queue, rule, asked);
+        queue.raise(rule, asked);
     }
 }
 
-/// The capacity that the open streams of this rule share; None where none is open.
-fn shared(queues: &[Option<Queue>], rule: &OwnedMatchRule) -> Option<u64>
-    ensures { result ≡ shared rule.now queues.now }
+/// Whether the number is this one, if it is there.
+fn is_number(number: Option<u64>, place: u64) -> bool
+    ensures { result ≡ is_serial number place }
 {
-    for queue in queues {
-        if let Some(limit) = limit_in(queue, rule) {
-            return Some(limit);
+    match number {
+        Some(number) => number == place,
+        None => false,
+    }
+}
+
+/// Whether the place is one of these.
+fn is_one(one: Option<u64>, before: Option<u64>, place: u64) -> bool
+    ensures { result ≡ (is_serial one place || is_serial before place) }
+{
+    is_number(one, place) || is_number(before, place)
+}
+
+/// The capacity that the streams of this rule share, but for those at these places; None where no other is open, or being opened.
+fn shared(
+    queues: &[Queue],
+    rule: &OwnedMatchRule,
+    one: Option<u64>,
+    before: Option<u64>,
+) -> Option<u64>
+    ensures { (p : Past) → LeftStreams queues.now p → result ≡ (if is_subscribed p.read (gone_if one (gone_if before p)).streams rule.now then Some (p.capacities.rules rule.now) else None) }
+{
+    let mut place = 0;
+    while place < queues.len() {
+        let queue = &queues[place];
+        if !is_one(one, before, place as u64) && queue.is_of(rule) {
+            return Some(queue.limit(0));
         }
+        place += 1;
     }
     None
 }
 
-/// Whether a stream is of this rule, but those at these places.
-fn stays(queues: &[Option<Queue>], rule: &OwnedMatchRule, one: u64, before: Option<u64>) -> bool
-    ensures { result ≡ is_some (shared rule.now (without_both one before queues.now)) }
-{
-    let mut place = 0;
-    while place < queues.len() {
-        if !is_without(one, before, place as u64) && limit_in(&queues[place], rule).is_some() {
-            return true;
-        }
-        place += 1;
-    }
-    false
-}
-
-/// Whether the stream at this place is one of those.
-fn is_without(one: u64, before: Option<u64>, place: u64) -> bool
-    ensures { result ≡ is_without one before place }
-{
-    match before {
-        Some(before) => place == one || place == before,
-        None => place == one,
-    }
-}
-
 /// What a new stream of this rule may hold: the rule's first has what is asked for, or what is usual.
 fn limit_now(rule: &OwnedMatchRule, asked: Option<u64>, shared: Option<u64>) -> u64
-    ensures { result ≡ limit_now rule.now asked shared }
+    ensures { (there : Bool) (limit : ℕ) → shared ≡ (if there then Some limit else None) → result ≡ (if there then raised asked limit else unwrap_or asked (usual rule.now)) }
 {
     match shared {
         Some(limit) => raised(asked, limit),
@@ -159,10 +127,10 @@ fn limit_now(rule: &OwnedMatchRule, asked: Option<u64>, shared: Option<u64>) -> 
     }
 }
 
-/// The streams of a peer, in the order in which they were made; nothing is kept of one that was closed.
+/// The streams of a peer, in the order in which they were made.
 pub(crate) struct Streams {
     alloc: Global,
-    queues: Vec<Option<Queue>>,
+    queues: Vec<Queue>,
 }
 
 impl Drop for Streams {
@@ -175,10 +143,10 @@ impl Drop for Streams {
 }
 
 impl Model for Streams {
-    ghost use Rattle.std.specs.Prelude.{List, Option};
+    ghost use Rattle.std.specs.Prelude.{List};
     ghost use Rattle.peer_route.specs.Left.{Held};
 
-    ghost Value = { List (Option Held) };
+    ghost Value = { List Held };
 
     ghost view = { λ s. s.queues.items };
 }
@@ -198,15 +166,42 @@ impl Streams {
     pub(crate) fn open(&mut self, told: bool) -> Result<u64, AllocError>
         ensures err { OnErr result (self.new ≡ self.old) }
         ensures number { IfOk result (λ k. k ≡ length self.old) }
-        ensures ok { OnOk result (self.new ≡ self.old ++ Some (empty_held None told) ∷ []) }
+        ensures ok { OnOk result ((p : Past) → LeftStreams self.old p → told ≡ is_some p.closing → LeftStreams self.new (after (Made Plain) p)) }
     {
         let number = self.queues.len() as u64;
-        self.queues.push(Some(Queue::new(self.alloc, None, told)))?;
+        let queue = Queue::new(self.alloc, None, Progress::Runs, told);
+        self.queues.push(queue)?;
         Ok(number)
     }
 
-    /// A new stream of this rule that holds nothing, and its number. Where it asks for more than the rule's open streams may
-    /// hold, they may hold it too.
+    /// A new stream of this rule that is so far opened and holds nothing, and its number. Where it asks for more than the rule's
+    /// streams may hold, they may hold it too.
+    fn add(
+        &mut self,
+        rule: OwnedMatchRule,
+        asked: Option<u64>,
+        progress: Progress,
+    ) -> Result<u64, AllocError>
+        ensures err { OnErr result (self.new ≡ self.old) }
+        ensures number { IfOk result (λ k. k ≡ length self.old) }
+        ensures ok { OnOk result ((p : Past) (s : Stream) → LeftStreams self.old p → IsNew p.read rule progress s → AreStreams self.new (λ r. asked_limit p r rule asked (p.capacities.rules r)) p.read (p.streams ++ s ∷ [])) }
+    {
+        let place = self.queues.len();
+        let limit = limit_now(
+            &rule,
+            asked,
+            shared(self.queues.as_slice(), &rule, None, None),
+        );
+        // its place is made first: want of memory changes nothing
+        self.queues
+            .push(Queue::new(self.alloc, None, Progress::Gone, false))?;
+        raise_each(&mut self.queues, &rule, asked);
+        let wants = Subscription { rule, limit };
+        self.queues[place] = Queue::new(self.alloc, Some(wants), progress, false);
+        Ok(place as u64)
+    }
+
+    /// A new stream of this rule that is open, and its number.
     pub(crate) fn open_rule(
         &mut self,
         rule: OwnedMatchRule,
@@ -214,20 +209,13 @@ impl Streams {
     ) -> Result<u64, AllocError>
         ensures err { OnErr result (self.new ≡ self.old) }
         ensures number { IfOk result (λ k. k ≡ length self.old) }
-        ensures ok { OnOk result (self.new ≡ with_stream rule asked self.old) }
+        ensures ok { OnOk result ((p : Past) → LeftStreams self.old p → LeftStreams self.new (after (Made (Ruled rule asked)) p)) }
     {
-        let place = self.queues.len();
-        let limit = limit_now(&rule, asked, shared(self.queues.as_slice(), &rule));
-        // its place is made first: want of memory changes nothing
-        self.queues.push(None)?;
-        raise_each(&mut self.queues, &rule, asked);
-        let wants = Subscription { rule, limit };
-        self.queues[place] = Some(Queue::new(self.alloc, Some(wants), false));
-        Ok(place as u64)
+        self.add(rule, asked, Progress::Runs)
     }
 
     /// A new stream of this rule that waits for the return to its AddMatch, which has this serial and this place in the outbox; and
-    /// its number. Where it asks for more than the rule's streams may hold, they may hold it too.
+    /// its number.
     pub(crate) fn open_asking(
         &mut self,
         rule: OwnedMatchRule,
@@ -237,93 +225,86 @@ impl Streams {
     ) -> Result<u64, AllocError>
         ensures err { OnErr result (self.new ≡ self.old) }
         ensures number { IfOk result (λ k. k ≡ length self.old) }
-        ensures ok { OnOk result (self.new ≡ with_asking rule asked serial index self.old) }
+        ensures ok { OnOk result ((p : Past) (m : Seen) → LeftStreams self.old p → serial ≡ m.serial → index ≡ length p.outbox.put → LeftStreams self.new (after (Put m (Adds rule asked)) p)) }
     {
-        let place = self.queues.len();
-        let limit = limit_now(&rule, asked, shared(self.queues.as_slice(), &rule));
-        // its place is made first: want of memory changes nothing
-        self.queues.push(None)?;
-        raise_each(&mut self.queues, &rule, asked);
-        let wants = Subscription { rule, limit };
-        self.queues[place] = Some(Queue::asking(self.alloc, wants, serial, index));
-        Ok(place as u64)
+        self.add(rule, asked, Progress::Waits { serial, index })
     }
 
     /// Whether the stream with this number is open, as who asked for it is told now; one that will not be is gone. `closing` is
     /// what closed the peer.
     pub(crate) fn ask_open(&mut self, stream: u64, closing: Option<Error>) -> OpenState
-        ensures told { result ≡ held_opening (any_at self.old stream) closing }
-        ensures left { self.new ≡ edit stream (opened_held (held_opening (any_at self.old stream) closing)) self.old }
+        ensures told { (p : Past) → LeftStreams self.old p → closing ≡ p.closing → result ≡ opening_answer p stream }
+        ensures left { (p : Past) → LeftStreams self.old p → closing ≡ p.closing → LeftStreams self.new (after_all (opening_events stream (opening_answer p stream)) p) }
     {
         if stream >= self.queues.len() as u64 {
             return OpenState::Unknown;
         }
-        ask_in(&mut self.queues[stream as usize], closing)
+        self.queues[stream as usize].ask(closing)
     }
 
     /// Each stream that waits for the return to an AddMatch with this place in the outbox is gone.
     pub(crate) fn lose(&mut self, index: u64)
-        ensures { self.new ≡ map (lost_at index) self.old }
+        ensures { (p : Past) → LeftStreams self.old p → index ≡ p.outbox.done → LeftStreams self.new (after Fault p) }
     {
         lose_each(&mut self.queues, index);
     }
 
     /// What is kept of the stream with this number; None where it isn't open.
     fn queue(&self, stream: u64) -> Option<&Queue>
-        ensures { option_map (λ q. q.now) result ≡ kept_at self.now stream }
+        ensures { (p : Past) → LeftStreams self.now p → option_map (λ q. q.now) result ≡ kept_open p.capacities.rules p.read (slice_get p.streams stream) }
     {
-        let queue = self.queues.get(stream as usize)?.as_ref()?;
+        let queue = self.queues.get(stream as usize)?;
         if queue.is_usable() { Some(queue) } else { None }
     }
 
     /// Whether a stream of this rule is open, or being opened.
     pub(crate) fn has_rule(&self, rule: &OwnedMatchRule) -> bool
-        ensures { result ≡ is_some (shared rule.now self.now) }
+        ensures { (p : Past) → LeftStreams self.now p → result ≡ is_subscribed p.read p.streams rule.now }
     {
-        shared(self.queues.as_slice(), rule).is_some()
+        shared(self.queues.as_slice(), rule, None, None).is_some()
     }
 
     /// Whether a stream of this rule is open, or being opened, but for these.
     pub(crate) fn stays(&self, rule: &OwnedMatchRule, stream: u64, before: Option<u64>) -> bool
-        ensures { result ≡ is_some (shared rule.now (without_both stream before self.now)) }
+        ensures { (p : Past) → LeftStreams self.now p → result ≡ is_subscribed p.read (gone_behind before stream p).streams rule.now }
     {
-        stays(self.queues.as_slice(), rule, stream, before)
+        shared(self.queues.as_slice(), rule, Some(stream), before).is_some()
     }
 
     /// Whether the stream with this number is open.
     pub(crate) fn is_open(&self, stream: u64) -> bool
-        ensures { result ≡ is_some (kept_at self.now stream) }
+        ensures { (p : Past) → LeftStreams self.now p → result ≡ is_open p stream }
     {
         self.queue(stream).is_some()
     }
 
     /// Whether the streams with these numbers are open, and are two.
     pub(crate) fn are_two(&self, stream: u64, other: u64) -> bool
-        ensures { result ≡ (is_some (kept_at self.now stream) && is_some (kept_at self.now other) && not (stream == other)) }
+        ensures { (p : Past) → LeftStreams self.now p → result ≡ are_open p stream (Some other) }
     {
         self.is_open(stream) && self.is_open(other) && stream != other
     }
 
     /// A new stream that holds what the stream with this number holds, and its number; UnknownHandle exactly where that isn't
     /// open. An error changes nothing.
-    pub(crate) fn open_clone(&mut self, stream: u64) -> Result<u64, Error>
-        ensures cloned { ClonesHeld self.old self.new stream result }
+    pub(crate) fn open_clone(&mut self, stream: u64) -> Result<MessageStream, Error>
+        ensures { (p : Past) → LeftStreams self.old p → ClonesBy LeftStreams self.old self.new stream p result }
     {
         let Some(queue) = self.queue(stream) else {
             return Err(Error::UnknownHandle);
         };
         let copy = queue.try_clone(self.alloc)?;
         let number = self.queues.len() as u64;
-        self.queues.push(Some(copy))?;
-        Ok(number)
+        self.queues.push(copy)?;
+        Ok(MessageStream { number })
     }
 
     /// Closes the stream with this number.
     pub(crate) fn end(&mut self, stream: u64)
-        ensures { self.new ≡ edit stream (λ q. None) self.old }
+        ensures { (p : Past) → LeftStreams self.old p → LeftStreams self.new (after (Did stream Gone) p) }
     {
         if stream < self.queues.len() as u64 {
-            close(&mut self.queues[stream as usize]);
+            self.queues[stream as usize].end();
         }
     }
 
@@ -331,16 +312,14 @@ impl Streams {
     /// nothing.
     pub(crate) fn arrive(&mut self, message: &Message) -> Result<(), AllocError>
         ensures err { OnErr result (self.new ≡ self.old) }
-        ensures ok { OnOk result (self.new ≡ map (arrived_at message.now) self.old) }
+        ensures ok { OnOk result ((p : Past) → LeftStreams self.old p → LeftStreams self.new (after (Took message.now) p)) }
     {
-        let denied = count_denied(self.queues.as_slice(), message);
-        let copies = copies_of(self.alloc, message, denied)?;
         let count = push_each(&mut self.queues, message);
         if count < self.queues.len() {
             take_back_each(&mut self.queues, count, message);
             return Err(AllocError);
         }
-        settle_each(&mut self.queues, message, copies);
+        settle_each(&mut self.queues, message);
         Ok(())
     }
 
@@ -348,13 +327,13 @@ impl Streams {
     pub(crate) fn is_over(&self, main: u64) -> bool
         ensures { result ≡ list_any (is_over main) self.now }
     {
-        self.queues.iter().any(|queue| is_full(queue, main))
+        self.queues.iter().any(|queue| queue.is_over(main))
     }
 
     /// How many messages the stream with this number may hold, where one without a rule may hold so many; None where it isn't
     /// open.
     pub(crate) fn limit(&self, stream: u64, main: u64) -> Option<u64>
-        ensures { result ≡ option_map (λ (q : Held). limit_or main q.wants) (kept_at self.now stream) }
+        ensures { (p : Past) → LeftStreams self.now p → main ≡ p.capacities.main → ok_or result Error.UnknownHandle ≡ limit_answer p stream }
     {
         let queue = self.queue(stream)?;
         Some(queue.limit(main))
@@ -362,25 +341,27 @@ impl Streams {
 
     /// The rule of the stream with this number; None where it has none, or isn't open.
     pub(crate) fn rule(&self, stream: u64) -> Option<&OwnedMatchRule>
-        ensures { option_map (λ r. r.now) result ≡ option_map (λ (s : Subscription). s.rule) (wants_of (kept_at self.now stream)) }
+        ensures { (p : Past) → LeftStreams self.now p → option_map (λ r. r.now) result ≡ rule_answer p stream }
     {
-        self.queue(stream)?.rule()
+        match self.queue(stream) {
+            Some(queue) => queue.rule(),
+            None => None,
+        }
     }
 
     /// The stream with this number asks for more, and each open stream of its rule may hold it then. Whether it has a rule;
     /// nothing changes where it has none.
     pub(crate) fn ask(&mut self, stream: u64, limit: u64) -> bool
-        ensures has { result ≡ is_some (wants_of (kept_at self.old stream)) }
-        ensures raised { self.new ≡ asked_for (wants_of (kept_at self.old stream)) limit self.old }
+        ensures has { (p : Past) → LeftStreams self.old p → is_open p stream ≡ true → result ≡ has_rule p stream }
+        ensures raised { (p : Past) → LeftStreams self.old p → is_open p stream ≡ true → LeftStreams self.new (after (Did stream (Asked limit)) p) }
     {
         if stream >= self.queues.len() as u64 || !self.is_open(stream) {
             return false;
         }
         let place = stream as usize;
         // the stream is set aside while its rule raises the others
-        let Some(mut queue) = mem::replace(&mut self.queues[place], None) else {
-            return false;
-        };
+        let away = Queue::new(self.alloc, None, Progress::Gone, false);
+        let mut queue = mem::replace(&mut self.queues[place], away);
         let has_rule = match queue.rule() {
             Some(rule) => {
                 raise_each(&mut self.queues, rule, Some(limit));
@@ -389,20 +370,20 @@ impl Streams {
             None => false,
         };
         queue.raise_own(limit);
-        self.queues[place] = Some(queue);
+        self.queues[place] = queue;
         has_rule
     }
 
     /// The position of the first message that the stream with this number holds.
     pub(crate) fn next_position(&self, stream: u64) -> Option<u64>
-        ensures { result ≡ next_held (kept_at self.now stream) }
+        ensures { (p : Past) → LeftStreams self.now p → result ≡ next_position p stream }
     {
         self.queue(stream)?.next_position()
     }
 
     /// Whether nothing comes from the stream with this number any more, on a peer that is closed or isn't.
     pub(crate) fn is_terminated(&self, stream: u64, closed: bool) -> bool
-        ensures { result ≡ ended_by (kept_at self.now stream) closed }
+        ensures { (p : Past) → LeftStreams self.now p → closed ≡ is_some p.closing → result ≡ nothing_comes (take_answer p stream) }
     {
         match self.queue(stream) {
             Some(queue) => queue.is_terminated(closed),
@@ -416,12 +397,16 @@ impl Streams {
         stream: u64,
         closing: Option<Error>,
     ) -> Result<Polled<Message>, Error>
-        ensures gives { result ≡ held_gives (kept_at self.old stream) closing }
-        ensures left { self.new ≡ edit stream (option_map (after_take closing)) self.old }
+        ensures gives { (p : Past) → LeftStreams self.old p → closing ≡ p.closing → result ≡ take_answer p stream }
+        ensures left { (p : Past) → LeftStreams self.old p → LeftStreams self.new (after_all (take_events stream result) p) }
     {
         if stream >= self.queues.len() as u64 {
             return Err(Error::UnknownHandle);
         }
-        take_from(&mut self.queues[stream as usize], closing)
+        let queue = &mut self.queues[stream as usize];
+        if !queue.is_usable() {
+            return Err(Error::UnknownHandle);
+        }
+        Ok(queue.take(closing))
     }
 }

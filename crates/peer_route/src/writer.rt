@@ -1,5 +1,6 @@
 ghost use Rattle.std.specs.Prelude.{◌≡◌, true, false};
 ghost use Rattle.peer_route.specs.History.{worse, shuts};
+ghost use Rattle.peer_route.specs.Issuing.{barred};
 
 use wire_message::{Error, IoKind};
 
@@ -20,6 +21,17 @@ impl Writer {
         ensures fine { result ≡ true → self ≡ Writer.Fine }
     {
         matches!(self, Writer::Fine)
+    }
+
+    /// Why nothing is put any more, if so.
+    pub(crate) fn bars(self) -> Option<Error>
+        ensures { result ≡ barred self }
+    {
+        match self {
+            Writer::Fine => None,
+            Writer::Failed => Some(Error::InputOutput(IoKind::WriteFault)),
+            Writer::Closed => Some(Error::InputOutput(IoKind::Closed)),
+        }
     }
 
     /// What it has met, by a cause that comes now: the earlier one stays.

@@ -1,24 +1,12 @@
 -- How messages that wait are written: one after another, up to one whose write fails.
-use Rattle.std.proofs.Common.{◌≡◌, ℕ, ◌+◌, ◌-◌, ◌≤◌, ◌<◌, ◌⊎◌, inl, inr, zero, suc, refl, sym, ◌∙◌, ap, subst, arith, IfSome, Bool, true, false, List, [], ◌∷◌, ◌++◌, length, drop, slice_get, get_or, Option, Some, None, Result, Ok, Err, append-nil}
-use Rattle.std.proofs.lemmas.Option.{slice_get_within, slice_get_cases}
-use Rattle.wire_message.specs.Front.{Seen}
-use Rattle.wire_message.specs.declared.error.Error.{Error}
-use Rattle.wire_message.specs.declared.error.Error.TheVariants as errors
-use Rattle.wire_message.specs.declared.error.IoKind.TheVariants as kinds
-use Rattle.wire_framing.specs.Source.{MayRise}
-use Rattle.wire_framing.specs.Writing.{Sends, is_unsupported}
-use Rattle.wire_framing.specs.declared.write_half.Writing.{Writing}
-use Rattle.peer_route.specs.declared.writer.Writer.TheVariants as writers
-use Rattle.peer_route.specs.History.{Past, Event, Wrote, Fault, worse, after, after_all}
-use Rattle.peer_route.specs.Left.{View, Left}
-use Rattle.peer_route.specs.Entries.{repeat, writes_of}
-use Rattle.peer_run.specs.Stands.{AreTaken}
-use Rattle.peer_run.specs.Sinks.{Outlet, Flushed, IsReady, WentOut}
-use Rattle.peer_run.proofs.Sinks.{sinks_wrote, sinks_failed, sinks_faults, never_fine}
+use Rattle.std.proofs.{Common.{◌≡◌, ◌≢◌, ℕ, ◌+◌, ◌-◌, ◌≤◌, ◌<◌, ◌⊎◌, inl, inr, zero, suc, refl, sym, ◌∙◌, ap, subst, arith, IfSome, Bool, true, false, List, [], ◌∷◌, ◌++◌, length, drop, slice_get, get_or, Option, Some, None, Result, Ok, Err, is_ok, append-nil}, lemmas.Option.{slice_get_within, slice_get_cases}}
+use Rattle.peer_run.specs.{Names.{Seen, Error, MayRise, Sends, is_unsupported, Writing, IoKind, Writer}, Stands.AreTaken, Runs.{Outlet, Flushed, IsReady}}
+use Rattle.peer_route.specs.{History.{Past, Event, Wrote, Fault, worse, after, after_all}, Left.{View, Left}, Entries.{repeat, writes_of}}
+use Rattle.peer_run.proofs.Sinks.{sinks_wrote, sinks_failed, faults_leave}
 
 -- ---- a send never lowers the count of faults
 
-rises : (old new : ℕ) → MayRise old new → old ≤ new
+pub rises : (old new : ℕ) → MayRise old new → old ≤ new
 rises old new (inl more) = omega (arith, more)
 rises old new (inr most) = omega (arith, most.0, most.1)
 
@@ -26,13 +14,13 @@ rises old new (inr most) = omega (arith, most.0, most.1)
 tried_grows : {A : Type 0} (result : Result A Error) (writing : Writing) (bytes : List ℕ) (held held' : Option (List ℕ)) (room room' : Option (Option ℕ)) (faults faults' : ℕ)
     → Sends result writing bytes held held' room room' faults faults' → faults ≤ faults'
 tried_grows (Ok done) writing bytes held held' room room' faults faults' s = let same : faults' ≡ faults = s.2 in omega (arith, same)
-tried_grows (Err (errors.InputOutput kinds.WriteFault)) writing bytes held held' room room' faults faults' s = rises faults faults' s.3
-tried_grows (Err errors.Memory) writing bytes held held' room room' faults faults' s = let same : faults' ≡ faults = s.3 in omega (arith, same)
+tried_grows (Err (Error.InputOutput IoKind.WriteFault)) writing bytes held held' room room' faults faults' s = rises faults faults' s.3
+tried_grows (Err Error.Memory) writing bytes held held' room room' faults faults' s = let same : faults' ≡ faults = s.3 in omega (arith, same)
 tried_grows (Err other) writing bytes held held' room room' faults faults' s = absurd s
 
 pub send_grows : {A H : Type 0} (faults : H → ℕ) (old new : H) (unsupported : Bool) (cause : Option Error) (result : Result A Error) (writing : Writing) (bytes : List ℕ)
     (held held' : Option (List ℕ)) (room room' : Option (Option ℕ))
-    → (unsupported ≡ true → (result ≡ Err errors.Unsupported) × (new ≡ old))
+    → (unsupported ≡ true → (result ≡ Err Error.Unsupported) × (new ≡ old))
     → (unsupported ≡ false → IfSome cause (λ e. (result ≡ Err e) × (new ≡ old)))
     → (unsupported ≡ false → cause ≡ None → Sends result writing bytes held held' room room' (faults old) (faults new))
     → faults old ≤ faults new
@@ -81,7 +69,7 @@ wrote_keeps (suc n) p = wrote_keeps n (after Wrote p)
 
 -- It is the first that isn't done, and may be written to this sink.
 pub record IsNext (q : Past) (m : Seen) (takes : Bool) : Type 0 where
-  pub fine : q.outbox.writer ≡ writers.Fine
+  pub fine : q.outbox.writer ≡ Writer.Fine
   pub unfailed : q.outbox.failed ≡ false
   pub there : slice_get q.outbox.put q.outbox.done ≡ Some m
   pub taken : is_unsupported m.unix_fds takes ≡ false
@@ -103,28 +91,32 @@ is_next first core p m at_first takes before left more outbox same taken waits (
 
 -- ---- it is written, or its write fails
 
-pub flush_wrote : (A E : Type 0) (start first now after_it : Outlet) (q : Past) (m : Seen) (r : Result A Error) (w : Result Bool E) (before writing : Writing) (takes : Bool) → IsNext q m takes
-    → w ≡ Ok true → WentOut r w → Sends r writing m.bytes now.held after_it.held now.room after_it.room now.faults after_it.faults
+pub flush_wrote : (A : Type 0) (start first now after_it : Outlet) (q : Past) (m : Seen) (r : Result A Error) (before writing : Writing) (takes : Bool) → IsNext q m takes
+    → true ≡ is_ok r → Sends r writing m.bytes now.held after_it.held now.room after_it.room now.faults after_it.faults
     → Flushed start first now q.outbox false before → Flushed start first after_it (after Wrote q).outbox false writing
-flush_wrote A E start first now after_it q m (Ok done) w before writing takes is same went s f = record {
-  sinks = sinks_wrote start now after_it q.outbox (after Wrote q).outbox m is.there is.unfailed refl refl refl refl s.0 s.1 f.sinks;
+flush_wrote A start first now after_it q m (Ok done) before writing takes is went s f = record {
+  sinks = sinks_wrote start now after_it q.outbox m is.there is.unfailed s.0 s.1 f.sinks;
   faults = s.2 ∙ f.faults;
   fine = λ e. s.3;
 }
-flush_wrote A E start first now after_it q m (Err errors.Memory) w before writing takes is same went s f = absurd (subst (WentOut {A = A} {E = E} (Err errors.Memory)) same went)
-flush_wrote A E start first now after_it q m (Err error) w before writing takes is same went s f = let is : true ≡ false = subst (WentOut {A = A} {E = E} (Err error)) same went in absurd (cc)
+flush_wrote A start first now after_it q m (Err error) before writing takes is went s f = absurd (cc)
 
-pub flush_failed : (A E : Type 0) (start first now after_it : Outlet) (q : Past) (m : Seen) (r : Result A Error) (w : Result Bool E) (before writing : Writing) (takes : Bool) (n : ℕ) → IsNext q m takes
-    → w ≡ Ok false → WentOut r w → Sends r writing m.bytes now.held after_it.held now.room after_it.room now.faults after_it.faults
+pub flush_failed : (A : Type 0) (start first now after_it : Outlet) (q : Past) (m : Seen) (r : Result A Error) (before writing : Writing) (takes : Bool) (n : ℕ) → IsNext q m takes → q.outbox.done + suc n ≤ length q.outbox.put
+    → false ≡ is_ok r → r ≢ Err Error.Memory → Sends r writing m.bytes now.held after_it.held now.room after_it.room now.faults after_it.faults
     → Flushed start first now q.outbox false before → Flushed start first after_it (after_all (repeat (suc n) Fault) q).outbox true writing
-flush_failed A E start first now after_it q m (Ok done) w before writing takes n is same went s f = let is : true ≡ false = sym (subst (WentOut {A = A} {E = E} (Ok done)) same went) in absurd (cc)
-flush_failed A E start first now after_it q m (Err (errors.InputOutput kinds.WriteFault)) w before writing takes n is same went s f = record {
-  sinks = sinks_faults start after_it n (after Fault q) refl (sinks_failed start now after_it q.outbox (after Fault q).outbox m s.0 is.there is.unfailed refl refl refl s.1 s.2 f.sinks);
-  faults = subst (λ x. MayRise x after_it.faults) f.faults s.3;
-  fine = λ e. absurd (never_fine n (after Fault q) (λ x. let bad : writers.Failed ≡ writers.Fine = ap (λ w. worse w writers.Failed) (sym is.fine) ∙ x in absurd (cc)) e);
-}
-flush_failed A E start first now after_it q m (Err errors.Memory) w before writing takes n is same went s f = absurd (subst (WentOut {A = A} {E = E} (Err errors.Memory)) same went)
-flush_failed A E start first now after_it q m (Err error) w before writing takes n is same went s f = absurd s
+flush_failed A start first now after_it q m (Ok done) before writing takes n is within went never s f = absurd (cc)
+flush_failed A start first now after_it q m (Err (Error.InputOutput IoKind.WriteFault)) before writing takes n is within went never s f =
+    let p = after_all (repeat (suc n) Fault) q in
+    let left = faults_leave n (after Fault q) in
+    let more : p.outbox.done ≡ q.outbox.done + suc n = left.2 ∙ omega arith in
+    let bad : (after Fault q).outbox.writer ≢ Writer.Fine = λ x. let no : Writer.Failed ≡ Writer.Fine = ap (λ w. worse w Writer.Failed) (sym is.fine) ∙ x in absurd (cc) in
+    record {
+      sinks = sinks_failed start now after_it q.outbox p.outbox m s.0 is.there is.unfailed left.0 left.1 (left.3 refl) (omega (arith, more)) (omega (arith, more, within)) s.1 s.2 f.sinks;
+      faults = subst (λ x. MayRise x after_it.faults) f.faults s.3;
+      fine = λ e. absurd (left.4 bad e);
+    }
+flush_failed A start first now after_it q m (Err Error.Memory) before writing takes n is within went never s f = absurd (never refl)
+flush_failed A start first now after_it q m (Err error) before writing takes n is within went never s f = absurd s
 
 -- ---- all of them
 

@@ -1,19 +1,9 @@
 -- A peer and a source follow one entry more, by its plan.
-use Rattle.std.proofs.Common.{◌≡◌, ℕ, ◌-◌, ◌^◌, ◌≤◌, refl, sym, ◌∙◌, ap, subst, arith, List, [], ◌∷◌, ◌++◌, length, Option, Some, None, IfSome}
-use Rattle.std.proofs.lemmas.List.{append-nil}
-use Rattle.peer_route.specs.Parcel.{Setting}
-use Rattle.peer_route.specs.declared.answer.Answer.{Answer}
-use Rattle.peer_route.specs.declared.answer.Entry.{Entry}
-use Rattle.peer_route.specs.declared.words.Words.{Words}
-use Rattle.peer_route.specs.Streams.{all_given}
-use Rattle.peer_route.specs.Left.{Left}
-use Rattle.peer_route.specs.Plan.{Plan, Says, plan}
-use Rattle.peer_route.specs.Entries.{IsMeant, IsAtOnce, trail, first_past, past_after, more_by}
-use Rattle.peer_route.specs.Told.{ReadTold, ReadsTold}
+use Rattle.std.proofs.{Common.{◌≡◌, ℕ, ◌-◌, ◌^◌, ◌≤◌, refl, sym, ◌∙◌, ap, subst, arith, List, [], ◌∷◌, ◌++◌, length, Option, Some, None, IfSome, Bool, map, reverse}, lemmas.List.append-nil}
+use Rattle.peer_route.specs.{Parcel.Setting, Streams.all_given, Left.Left, Plan.{Plan, Says, plan}, Entries.{IsMeant, IsAtOnce, trail, first_past, past_after, more_by}, Told.{ReadTold, ReadsTold}, History.no_past}
+use Rattle.peer_run.specs.{Names.{Answer, Entry, Words, Command, Writing, Fine, command_of}, Stands.{PeerView, Stands}, Runs.{Inlet, Reads, IsLeft, Follows, quiet, Outlet, Sinks, Running, Runs}}
 use Rattle.peer_route.proofs.Kept.{at_start}
-use Rattle.peer_run.specs.Stands.{PeerView, Stands}
-use Rattle.peer_run.specs.Sinks.{Inlet, Reads, IsLeft}
-use Rattle.peer_run.specs.Runs.{Follows, quiet}
+use Rattle.peer_run.proofs.Sinks.{got_all, sinks_start}
 
 -- before the first entry
 pub follows_first : (setting : Setting) (p : PeerView) → Left p.core (first_past setting) → p.names ≡ [] → p.streams ≡ [] → p.given ≡ [] → Follows setting p []
@@ -66,3 +56,52 @@ reads_by setting start now then es e pl means step r =
 pub reads_still : (setting : Setting) (start now : Inlet) (es : List Entry) (lane : ℕ) (w : Words) (answer : Answer) → plan (trail setting es) lane w ≡ Says answer []
     → Reads setting start now es → Reads setting start now (quiet lane w answer None ∷ es)
 reads_still setting start now es lane w answer means r = reads_by setting start now now es (quiet lane w answer None) (Says answer []) means (λ bytes rest. (tt, rest)) r
+
+-- ---- from what a run keeps to what it gives
+
+told_nothing : (setting : Setting) (left : Option (List ℕ)) (stop : Option Bool) → IfSome left (λ bytes. ReadsTold setting stop bytes [])
+told_nothing setting None stop = tt
+told_nothing setting (Some bytes) stop = tt
+
+rest_none : (setting : Setting) (left : Option (List ℕ)) (stop : Option Bool) → IfSome left (λ bytes. IsLeft bytes stop (trail setting []).past left stop)
+rest_none setting None stop = tt
+rest_none setting (Some bytes) stop = at_start (λ h. IsLeft bytes stop h (Some bytes) stop) (refl, refl) (λ limit h so. so) (λ h so. so) (λ name h so. so) setting
+
+-- before the first command nothing was read
+start_reads : (setting : Setting) (start : Inlet) → Reads setting start start []
+start_reads setting start = record { told = told_nothing setting start.left start.stop; rest = rest_none setting start.left start.stop }
+
+pub start_running : (setting : Setting) (start_in : Inlet) (start : Outlet) (p : PeerView) (writing : Writing) → Follows setting p [] → writing ≡ Fine → Running setting start_in start p start_in start writing []
+start_running setting start_in start p writing follows fine = record {
+  follows = follows;
+  reads = start_reads setting start_in;
+  sinks = subst (Sinks start start) (sym (at_start (λ h. h.outbox ≡ no_past.outbox) refl (λ limit h so. so) (λ h so. so) (λ name h so. so) setting)) (sinks_start start);
+  told = tt;
+  closes = tt;
+  source = refl;
+  faults = refl;
+  asked = refl;
+  fine = λ e. fine;
+}
+
+-- nothing waits
+pub all_done : (setting : Setting) (p : PeerView) (es : List Entry) → Follows setting p es → let o = (trail setting es).past.outbox in o.done ≡ length o.put
+all_done setting p es f = let left = f.stands.keeps.left in sym left.done ∙ f.written ∙ ap length left.outbox
+
+-- what stands to a history is a run of its commands
+pub runs_of : (setting : Setting) (start_in : Inlet) (start_out : Outlet) (p : PeerView) (end_in : Inlet) (end_out : Outlet) (writing : Writing) (commands : List Command) (entries : List Entry)
+    → Running setting start_in start_out p end_in end_out writing (reverse entries) → map command_of entries ≡ commands
+    → Runs setting start_in start_out end_in end_out commands entries
+runs_of setting start_in start_out p end_in end_out writing commands entries s e = record {
+  legal = s.follows.legal;
+  once = s.follows.once;
+  each = e;
+  reads = s.reads.told;
+  rest = s.reads.rest;
+  writes = (got_all start_out end_out (trail setting (reverse entries)).past.outbox s.sinks (all_done setting p (reverse entries) s.follows)).held;
+  room = s.told;
+  closes = s.closes;
+  asked = s.asked;
+  source = s.source;
+  sink = s.faults;
+}

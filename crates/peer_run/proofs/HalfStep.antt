@@ -1,17 +1,8 @@
 -- What the halves of a run keep from command to command.
-use Rattle.std.proofs.Common.{ℕ, ◌≡◌, ◌≢◌, ◌-◌, ◌^◌, ◌≤◌, ◌<◌, ◌⊎◌, inl, inr, refl, sym, ◌∙◌, ap, subst, arith, nat_le, if◌then◌else◌, Bool, true, false, List, [], length, take, drop, Option, Some, None, IfSome, IfOk, IfErr, Result, Ok, Err}
-use Rattle.std.proofs.lemmas.List.{take_all, drop_all}
-use Rattle.std.proofs.lemmas.Bool.{cases_lt}
-use Rattle.std.proofs.lemmas.Bool.Decides.{nat_tests}
+use Rattle.std.proofs.{Common.{ℕ, ◌≡◌, ◌≢◌, ◌-◌, ◌^◌, ◌≤◌, ◌<◌, ◌⊎◌, inl, inr, refl, sym, ◌∙◌, ap, subst, arith, nat_le, if◌then◌else◌, Bool, true, false, List, [], length, take, drop, Option, Some, None, IfSome, IfOk, IfErr, Result, Ok, Err}, lemmas.List.{take_all, drop_all}, lemmas.Bool.cases_lt, lemmas.Bool.Decides.nat_tests}
 use Rattle.std.specs.Io.KnownBytes.{Consumes}
-use Rattle.wire_framing.specs.Receive.{Takes, HasCause, Spends, spent}
+use Rattle.peer_run.specs.{Names.{Takes, HasCause, Spends, spent, Seen, Front, IsReadRefusal, Error, IoKind}, Runs.{IsRest, lost}}
 use Rattle.wire_framing.specs.Kept.{TakesKept, rest_of}
-use Rattle.wire_message.specs.Front.{Seen, Front}
-use Rattle.wire_message.specs.Outcome.{IsReadRefusal}
-use Rattle.wire_message.specs.declared.error.Error.{Error}
-use Rattle.wire_message.specs.declared.error.Error.TheVariants as errors
-use Rattle.wire_message.specs.declared.error.IoKind.TheVariants as kinds
-use Rattle.peer_run.specs.Sinks.{IsRest, lost}
 
 -- ---- a read
 
@@ -22,7 +13,7 @@ all_own got own (inr fits) is = sym (is ∙ take_all (spent got) got fits)
 
 -- a message's bytes, and no more, are gone from the source
 pub takes_own : (seq : ℕ) (result : Result Seen Error) (kept' : List ℕ) (left left' : Option (List ℕ)) (stop stop' : Option Bool) (faults faults' : ℕ) (asked asked' : Option ℕ)
-    → seq ≤ 2 ^ 64 - 1 → (seq ≡ 2 ^ 64 - 1 → result ≡ Err (errors.InputOutput kinds.Ended))
+    → seq ≤ 2 ^ 64 - 1 → (seq ≡ 2 ^ 64 - 1 → result ≡ Err (Error.InputOutput IoKind.Ended))
     → (seq < 2 ^ 64 - 1 → TakesKept result [] kept' left left' stop stop' faults faults' asked asked')
     → IfOk result (λ m. Front m.bytes m (length m.bytes) × (m.position ≡ seq))
     → IfErr result (λ e. IsReadRefusal e × HasCause e faults faults')
@@ -37,14 +28,14 @@ none_behind : (got : List ℕ) → (got ≡ []) ⊎ (length got ≤ spent got) �
 none_behind got (inl none) = drop_all (spent got) got (rw none (omega arith))
 none_behind got (inr fits) = drop_all (spent got) got fits
 
-rest_is : (result : Result Seen Error) (all : List ℕ) → result ≢ Err errors.Memory → rest_of result all ≡ drop (spent all) all
+rest_is : (result : Result Seen Error) (all : List ℕ) → result ≢ Err Error.Memory → rest_of result all ≡ drop (spent all) all
 rest_is (Ok m) all never = refl
-rest_is (Err errors.Memory) all never = absurd (never refl)
+rest_is (Err Error.Memory) all never = absurd (never refl)
 rest_is (Err e) all never = refl
 
 -- nothing is kept again, but for want of memory
-keeps_none : (seq : ℕ) (result : Result Seen Error) (kept' : List ℕ) (left left' : Option (List ℕ)) (stop stop' : Option Bool) (faults faults' : ℕ) (asked asked' : Option ℕ)
-    → result ≢ Err errors.Memory → seq ≤ 2 ^ 64 - 1 → (seq ≡ 2 ^ 64 - 1 → kept' ≡ [])
+pub keeps_none : (seq : ℕ) (result : Result Seen Error) (kept' : List ℕ) (left left' : Option (List ℕ)) (stop stop' : Option Bool) (faults faults' : ℕ) (asked asked' : Option ℕ)
+    → result ≢ Err Error.Memory → seq ≤ 2 ^ 64 - 1 → (seq ≡ 2 ^ 64 - 1 → kept' ≡ [])
     → (seq < 2 ^ 64 - 1 → TakesKept result [] kept' left left' stop stop' faults faults' asked asked')
     → kept' ≡ []
 keeps_none seq result kept' left left' stop stop' faults faults' asked asked' never within last takes =
@@ -52,22 +43,6 @@ keeps_none seq result kept' left left' stop stop' faults faults' asked asked' ne
       | inl below ↦ let t = takes below in t.behind ∙ rest_is result t.got never ∙ none_behind t.got t.own
       | inr above ↦ last (omega (arith, above, within))
     ]
-
-pub keeps_ok : (seq : ℕ) (result : Result Seen Error) (kept' : List ℕ) (left left' : Option (List ℕ)) (stop stop' : Option Bool) (faults faults' : ℕ) (asked asked' : Option ℕ)
-    → seq ≤ 2 ^ 64 - 1 → (seq ≡ 2 ^ 64 - 1 → kept' ≡ [])
-    → (seq < 2 ^ 64 - 1 → TakesKept result [] kept' left left' stop stop' faults faults' asked asked')
-    → IfOk result (λ m. kept' ≡ [])
-keeps_ok seq (Ok m) kept' left left' stop stop' faults faults' asked asked' within last takes =
-    keeps_none seq (Ok m) kept' left left' stop stop' faults faults' asked asked' (λ e. cc) within last takes
-keeps_ok seq (Err e) kept' left left' stop stop' faults faults' asked asked' within last takes = tt
-
-pub keeps_err : (seq : ℕ) (result : Result Seen Error) (kept' : List ℕ) (left left' : Option (List ℕ)) (stop stop' : Option Bool) (faults faults' : ℕ) (asked asked' : Option ℕ)
-    → seq ≤ 2 ^ 64 - 1 → (seq ≡ 2 ^ 64 - 1 → kept' ≡ [])
-    → (seq < 2 ^ 64 - 1 → TakesKept result [] kept' left left' stop stop' faults faults' asked asked')
-    → IfErr result (λ e. e ≢ errors.Memory → kept' ≡ [])
-keeps_err seq (Ok m) kept' left left' stop stop' faults faults' asked asked' within last takes = tt
-keeps_err seq (Err e) kept' left left' stop stop' faults faults' asked asked' within last takes =
-    λ never. keeps_none seq (Err e) kept' left left' stop stop' faults faults' asked asked' (λ same. never (let is : e ≡ errors.Memory = cc in is)) within last takes
 
 -- ---- what is left
 
@@ -84,23 +59,23 @@ behind_it seq bytes left' some below e = e ∙ ap (λ n. Some (drop n bytes)) (s
 
 -- what a read that found no message took
 rest_below : (seq : ℕ) (e : Error) (kept' bytes : List ℕ) (left' : Option (List ℕ)) (stop stop' : Option Bool) (faults faults' : ℕ) (asked asked' : Option ℕ) → 0 < seq → seq < 2 ^ 64 - 1
-    → e ≢ errors.Memory → IsReadRefusal e → Spends {A = Seen} (Err e) (Some bytes) left' → TakesKept (Err e) [] kept' (Some bytes) left' stop stop' faults faults' asked asked'
+    → e ≢ Error.Memory → IsReadRefusal e → Spends {A = Seen} (Err e) (Some bytes) left' → TakesKept (Err e) [] kept' (Some bytes) left' stop stop' faults faults' asked asked'
     → IsRest (Some e) (seq - 1) bytes stop left' stop'
-rest_below seq (errors.InputOutput kinds.Fault) kept' bytes left' stop stop' faults faults' asked asked' some below never refusal spends takes = tt
-rest_below seq (errors.InputOutput kinds.Ended) kept' bytes left' stop stop' faults faults' asked asked' some below never refusal spends takes =
+rest_below seq (Error.InputOutput IoKind.Fault) kept' bytes left' stop stop' faults faults' asked asked' some below never refusal spends takes = tt
+rest_below seq (Error.InputOutput IoKind.Ended) kept' bytes left' stop stop' faults faults' asked asked' some below never refusal spends takes =
     (behind_it seq bytes left' some below spends, takes.came.2)
-rest_below seq (errors.InputOutput kind) kept' bytes left' stop stop' faults faults' asked asked' some below never refusal spends takes = absurd refusal
-rest_below seq errors.Memory kept' bytes left' stop stop' faults faults' asked asked' some below never refusal spends takes = absurd (never refl)
+rest_below seq (Error.InputOutput kind) kept' bytes left' stop stop' faults faults' asked asked' some below never refusal spends takes = absurd refusal
+rest_below seq Error.Memory kept' bytes left' stop stop' faults faults' asked asked' some below never refusal spends takes = absurd (never refl)
 rest_below seq e kept' bytes left' stop stop' faults faults' asked asked' some below never refusal spends takes =
     (behind_it seq bytes left' some below spends, takes.came.1)
 
 -- where no position is left, it takes nothing
 rest_last : (seq : ℕ) (bytes : List ℕ) (left' : Option (List ℕ)) (stop stop' : Option Bool) → seq ≡ 2 ^ 64 - 1 → left' ≡ Some bytes → stop' ≡ stop
-    → IsRest (Some (errors.InputOutput kinds.Ended)) (seq - 1) bytes stop left' stop'
+    → IsRest (Some (Error.InputOutput IoKind.Ended)) (seq - 1) bytes stop left' stop'
 rest_last seq bytes left' stop stop' last still stays = (still ∙ ap (λ n. Some (drop n bytes)) (sym (lost_none seq bytes last)), stays)
 
 rest_told : (seq : ℕ) (e : Error) (kept' bytes : List ℕ) (left' : Option (List ℕ)) (stop stop' : Option Bool) (faults faults' : ℕ) (asked asked' : Option ℕ) → 0 < seq → seq ≤ 2 ^ 64 - 1
-    → e ≢ errors.Memory → IsReadRefusal e → (seq ≡ 2 ^ 64 - 1 → (left' ≡ Some bytes) × (stop' ≡ stop) × (e ≡ errors.InputOutput kinds.Ended))
+    → e ≢ Error.Memory → IsReadRefusal e → (seq ≡ 2 ^ 64 - 1 → (left' ≡ Some bytes) × (stop' ≡ stop) × (e ≡ Error.InputOutput IoKind.Ended))
     → (seq < 2 ^ 64 - 1 → Spends {A = Seen} (Err e) (Some bytes) left') → (seq < 2 ^ 64 - 1 → TakesKept (Err e) [] kept' (Some bytes) left' stop stop' faults faults' asked asked')
     → IsRest (Some e) (seq - 1) bytes stop left' stop'
 rest_told seq e kept' bytes left' stop stop' faults faults' asked asked' some within never refusal last spends takes =
@@ -113,12 +88,12 @@ rest_told seq e kept' bytes left' stop stop' faults faults' asked asked' some wi
     ]
 
 pub rest_read : (seq : ℕ) (result : Result Seen Error) (kept' : List ℕ) (left left' : Option (List ℕ)) (stop stop' : Option Bool) (faults faults' : ℕ) (asked asked' : Option ℕ)
-    → 0 < seq → seq ≤ 2 ^ 64 - 1 → (seq ≡ 2 ^ 64 - 1 → (left' ≡ left) × (stop' ≡ stop) × (result ≡ Err (errors.InputOutput kinds.Ended)))
+    → 0 < seq → seq ≤ 2 ^ 64 - 1 → (seq ≡ 2 ^ 64 - 1 → (left' ≡ left) × (stop' ≡ stop) × (result ≡ Err (Error.InputOutput IoKind.Ended)))
     → (seq < 2 ^ 64 - 1 → Spends result left left') → (seq < 2 ^ 64 - 1 → TakesKept result [] kept' left left' stop stop' faults faults' asked asked')
     → IfErr result (λ e. IsReadRefusal e × HasCause e faults faults')
-    → IfErr result (λ e. e ≢ errors.Memory → IfSome left (λ bytes. IsRest (Some e) (seq - 1) bytes stop left' stop'))
+    → IfErr result (λ e. e ≢ Error.Memory → IfSome left (λ bytes. IsRest (Some e) (seq - 1) bytes stop left' stop'))
 rest_read seq (Ok m) kept' left left' stop stop' faults faults' asked asked' some within last spends takes error = tt
 rest_read seq (Err e) kept' None left' stop stop' faults faults' asked asked' some within last spends takes error = λ never. tt
 rest_read seq (Err e) kept' (Some bytes) left' stop stop' faults faults' asked asked' some within last spends takes error = λ never.
     rest_told seq e kept' bytes left' stop stop' faults faults' asked asked' some within never error.0
-    (λ at. let x = last at in (x.0, x.1, let is : e ≡ errors.InputOutput kinds.Ended = cc (x.2) in is)) spends takes
+    (λ at. let x = last at in (x.0, x.1, let is : e ≡ Error.InputOutput IoKind.Ended = cc (x.2) in is)) spends takes

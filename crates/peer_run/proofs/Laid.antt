@@ -1,42 +1,22 @@
 -- What a command did before anything of it is written, by the kind of its plan.
-use Rattle.std.proofs.Common.{◌≡◌, ℕ, ◌≤◌, ◌<◌, ◌⊎◌, inl, inr, refl, sym, ◌∙◌, ap, subst, arith, Bool, true, false, if◌then◌else◌, List, [], ◌∷◌, ◌++◌, length, None, Result, Ok, Err}
-use Rattle.std.proofs.lemmas.List.{append-nil}
-use Rattle.wire_message.specs.Front.{Seen}
-use Rattle.wire_message.specs.declared.error.Error.{Error}
-use Rattle.peer_route.specs.declared.words.Words.{Words}
-use Rattle.peer_route.specs.declared.writer.Writer.{Writer}
-use Rattle.peer_route.specs.declared.writer.Writer.TheVariants as writers
-use Rattle.peer_route.specs.declared.answer.Answer.{Answer}
-use Rattle.peer_route.specs.declared.answer.Entry.{Entry}
-use Rattle.peer_route.specs.History.{Event, Took, Shut, Outbox, Past, after, after_all}
-use Rattle.peer_route.specs.Issuing.{Posting, issued, parcels, messages_of, puts}
-use Rattle.peer_route.specs.Trail.{Trail, new_names, asked_names, made_names}
-use Rattle.peer_route.specs.Plan.{Plan, Says, Sends, plan}
-use Rattle.peer_route.specs.Entries.{IsMeant, IsQuiet, IsSending, deeds, postings, writes, past_after, write_fault, IsInTurn}
-use Rattle.peer_route.proofs.Plans.{by_plan, IsDeed, AreDeeds, gone_deeds}
+use Rattle.std.proofs.{Common.{◌≡◌, ℕ, ◌≤◌, ◌<◌, ◌⊎◌, inl, inr, refl, sym, ◌∙◌, ap, subst, arith, Bool, true, false, if◌then◌else◌, List, [], ◌∷◌, ◌++◌, length, None, Result, Ok, Err, append_assoc}, lemmas.List.append-nil}
+use Rattle.peer_run.specs.{Names.{Seen, Error, Words, Writer, Answer, Entry, Acted}, Stands.{PeerView, Keeps, Did, DidSend, AreTaken, call_owners, stream_owners}}
+use Rattle.peer_route.specs.{History.{Event, Took, Shut, Outbox, Past, after, after_all}, Issuing.{Posting, issued, parcels, messages_of, put_of, puts}, Parcel.message_of, Trail.{Trail, new_names, asked_names, made_names}, Plan.{Plan, Says, Sends, plan}, Entries.{IsMeant, IsQuiet, IsSending, deeds, postings, writes, past_after, write_fault, IsInTurn}}
+use Rattle.peer_route.proofs.{Plans.{IsDeed, AreDeeds, IsFair, fair, are_deeds}, Kept.{kept_by, deeds_are, puts_are, deed_outbox}, Issues.put_puts, Sent.put_none}
 use Rattle.peer_route.proofs.Kept as kept
-use Rattle.peer_route.proofs.Kept.{kept_by, deeds_are, puts_are, deed_outbox}
-use Rattle.peer_route.proofs.Issues.{put_puts, put_outbox}
-use Rattle.peer_route.proofs.Sent.{put_none}
-use Rattle.peer_run.specs.declared.acting.Acted.{Acted}
-use Rattle.peer_run.specs.Stands.{PeerView, Keeps, Did, DidSend, AreTaken, call_owners, stream_owners}
 
 -- The messages were put, and wait; the past that the core keeps then; and what the entry will be.
 pub record Laid (t : Trail) (mid : PeerView) (lane : ℕ) (pl : Plan) (a : Acted) (q : Past) (ms : List Seen) : Type 0 where
   pub keeps : Keeps mid q
   pub leads : (e : Entry) → e.put ≡ ms → past_after pl e t.past ≡ after_all (writes e) q
-  pub put : q.outbox.put ≡ t.past.outbox.put ++ ms
-  pub written : q.outbox.written ≡ t.past.outbox.written
-  pub ended : q.outbox.done ≡ t.past.outbox.done
-  pub failed : q.outbox.failed ≡ t.past.outbox.failed
-  pub writer : q.outbox.writer ≡ t.past.outbox.writer
+  pub outbox : (last : ℕ) × (q.outbox ≡ record t.past.outbox { put = t.past.outbox.put ++ ms; last = last })
   pub read : q.read ≡ t.past.read
   pub closing : q.closing ≡ t.past.closing
   pub taken : AreTaken t.setting.takes_fds ms
   pub names : (failed : Bool) → call_owners lane failed a.makes ≡ new_names lane failed (postings pl) ms
   pub streams : (failed : Bool) (e : Entry) → stream_owners lane failed a.makes ≡ made_names lane (deeds pl e) ++ asked_names lane failed (postings pl) ms
   pub meant : (e : Entry) → e.read ≡ None → e.put ≡ ms → e.answer ≡ (if e.failed then write_fault else a.answer) → e.written ≤ length ms → (e.failed ≡ true → e.written < length ms) → IsInTurn t.past e → IsMeant t.past pl e
-  pub ready : (ms ≡ []) ⊎ (t.past.outbox.writer ≡ writers.Fine)
+  pub ready : (ms ≡ []) ⊎ (t.past.outbox.writer ≡ Writer.Fine)
 
 -- ---- deeds
 
@@ -54,9 +34,13 @@ Does (Says answer done) = AreDeeds done
 Does (Sends done ds sent) = AreDeeds done
 Does other = Unit {0}
 
+fair_does : (t : Trail) (w : Words) (pl : Plan) → IsFair t w pl → Does pl
+fair_does t w (Says answer done) f = are_deeds w done f.only
+fair_does t w (Sends done ds sent) f = are_deeds w done f.only
+fair_does t w pl f = tt
+
 pub plan_does : (t : Trail) (lane : ℕ) (w : Words) → Does (plan t lane w)
-plan_does t lane =
-    by_plan (λ w pl. Does pl) t lane (λ w answer done fair. fair.only) (λ w parcel from. tt) (λ asked text rule. tt) (λ n second k j open_. gone_deeds k j) (λ still. tt) tt (λ line fails fine. tt) (λ line. tt)
+plan_does t lane w = fair_does t w (plan t lane w) (fair t lane w)
 
 -- ---- by the kind of plan
 
@@ -85,11 +69,7 @@ laid_none t mid lane pl a done are does keeps owns meant =
       keeps = keeps;
       leads = λ e put. ap (λ ms. after_all (writes e) (after_all (puts (postings pl) ms) (after_all (deeds pl e) t.past))) put
           ∙ ap (λ xs. after_all (writes e) (after_all xs (after_all (deeds pl e) t.past))) (puts_nothing (postings pl)) ∙ ap (λ xs. after_all (writes e) (after_all xs t.past)) (does e);
-      put = ap (λ (o : Outbox). o.put) same ∙ sym (append-nil t.past.outbox.put);
-      written = ap (λ (o : Outbox). o.written) same;
-      ended = ap (λ (o : Outbox). o.done) same;
-      failed = ap (λ (o : Outbox). o.failed) same;
-      writer = ap (λ (o : Outbox). o.writer) same;
+      outbox = (t.past.outbox.last, same ∙ ap (λ ms. record t.past.outbox { put = ms }) (sym (append-nil t.past.outbox.put)));
       read = kept_by (λ h. h.read) done t.past (deeds_are (kept.Keeps (λ h. h.read)) deed_read done are);
       closing = kept_by (λ h. h.closing) done t.past (deeds_are (kept.Keeps (λ h. h.closing)) deed_closing done are);
       taken = tt;
@@ -99,10 +79,19 @@ laid_none t mid lane pl a done are does keeps owns meant =
       ready = inl refl;
     }
 
-writes_or : (h : Past) (ds : List Posting) (serials : List ℕ) (w : Writer) → h.outbox.writer ≡ w → issued h ds ≡ Ok serials → (messages_of (parcels ds) serials ≡ []) ⊎ (h.outbox.writer ≡ writers.Fine)
-writes_or h ds serials writers.Fine is e = inr is
-writes_or h ds serials writers.Failed is e = inl (put_none h ds serials (λ fine. cc) e)
-writes_or h ds serials writers.Closed is e = inl (put_none h ds serials (λ fine. cc) e)
+writes_or : (h : Past) (ds : List Posting) (serials : List ℕ) (w : Writer) → h.outbox.writer ≡ w → issued h ds ≡ Ok serials → (messages_of (parcels ds) serials ≡ []) ⊎ (h.outbox.writer ≡ Writer.Fine)
+writes_or h ds serials Writer.Fine is e = inr is
+writes_or h ds serials Writer.Failed is e = inl (put_none h ds serials (λ fine. cc) e)
+writes_or h ds serials Writer.Closed is e = inl (put_none h ds serials (λ fine. cc) e)
+
+-- messages are put behind those of the outbox
+outbox_puts : (ds : List Posting) (serials : List ℕ) (h : Past) → let ms = messages_of (parcels ds) serials in
+    (last : ℕ) × ((after_all (puts ds ms) h).outbox ≡ record h.outbox { put = h.outbox.put ++ ms; last = last })
+outbox_puts [] serials h = (h.outbox.last, ap (λ ms. record h.outbox { put = ms }) (sym (append-nil h.outbox.put)))
+outbox_puts (d ∷ ds) [] h = (h.outbox.last, ap (λ ms. record h.outbox { put = ms }) (sym (append-nil h.outbox.put)))
+outbox_puts (d ∷ ds) (serial ∷ serials) h =
+    let more = outbox_puts ds serials (after (put_of d serial) h) in
+    (more.0, more.1 ∙ ap (λ ms. record h.outbox { put = ms; last = more.0 }) (append_assoc h.outbox.put (message_of d.parcel serial ∷ []) (messages_of (parcels ds) serials)))
 
 abbrev pub LaidSome : Trail → PeerView → ℕ → Plan → Acted → Type 0
 LaidSome t mid lane pl a = (q : Past) × (ms : List Seen) × Laid t mid lane pl a q ms
@@ -119,17 +108,14 @@ laid_sends t mid lane done ds sent a (Ok serials) are at did =
     let h = after_all done t.past in
     let ms = messages_of (parcels ds) serials in
     let q = after_all (puts ds ms) h in
+    let behind = outbox_puts ds serials h in
     let same = kept_by (λ h. h.outbox) done t.past (deeds_are (kept.Keeps (λ h. h.outbox)) deed_outbox done are) in (
       q,
       ms,
       record {
         keeps = subst (Keeps mid) (put_puts ds serials h) did.1;
         leads = λ e put. ap (λ xs. after_all (writes e) (after_all (puts ds xs) h)) put;
-        put = ap (λ (p : Past). p.outbox.put) (sym (put_puts ds serials h)) ∙ put_outbox ds serials h ∙ ap (λ (o : Outbox). o.put ++ ms) same;
-        written = kept_by (λ h. h.outbox.written) (puts ds ms) h (puts_are (kept.Keeps (λ h. h.outbox.written)) (λ m purpose h. refl) ds ms) ∙ ap (λ (o : Outbox). o.written) same;
-        ended = kept_by (λ h. h.outbox.done) (puts ds ms) h (puts_are (kept.Keeps (λ h. h.outbox.done)) (λ m purpose h. refl) ds ms) ∙ ap (λ (o : Outbox). o.done) same;
-        failed = kept_by (λ h. h.outbox.failed) (puts ds ms) h (puts_are (kept.Keeps (λ h. h.outbox.failed)) (λ m purpose h. refl) ds ms) ∙ ap (λ (o : Outbox). o.failed) same;
-        writer = kept_by (λ h. h.outbox.writer) (puts ds ms) h (puts_are (kept.Keeps (λ h. h.outbox.writer)) (λ m purpose h. refl) ds ms) ∙ ap (λ (o : Outbox). o.writer) same;
+        outbox = (behind.0, behind.1 ∙ ap (λ (o : Outbox). record o { put = o.put ++ ms; last = behind.0 }) same);
         read = kept_by (λ h. h.read) (puts ds ms) h (puts_are (kept.Keeps (λ h. h.read)) (λ m purpose h. refl) ds ms) ∙ kept_by (λ h. h.read) done t.past (deeds_are (kept.Keeps (λ h. h.read)) deed_read done are);
         closing = kept_by (λ h. h.closing) (puts ds ms) h (puts_are (kept.Keeps (λ h. h.closing)) (λ m purpose h. refl) ds ms) ∙ kept_by (λ h. h.closing) done t.past (deeds_are (kept.Keeps (λ h. h.closing)) deed_closing done are);
         taken = did.2;
@@ -140,7 +126,7 @@ laid_sends t mid lane done ds sent a (Ok serials) are at did =
       },
     )
   where
-    by_writer : (messages_of (parcels ds) serials ≡ []) ⊎ ((after_all done t.past).outbox.writer ≡ writers.Fine) → (messages_of (parcels ds) serials ≡ []) ⊎ (t.past.outbox.writer ≡ writers.Fine)
+    by_writer : (messages_of (parcels ds) serials ≡ []) ⊎ ((after_all done t.past).outbox.writer ≡ Writer.Fine) → (messages_of (parcels ds) serials ≡ []) ⊎ (t.past.outbox.writer ≡ Writer.Fine)
     by_writer (inl none) = inl none
     by_writer (inr fine) = inr (ap (λ (o : Outbox). o.writer) (sym (kept_by (λ h. h.outbox) done t.past (deeds_are (kept.Keeps (λ h. h.outbox)) deed_outbox done are))) ∙ fine)
 

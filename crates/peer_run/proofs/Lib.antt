@@ -1,12 +1,9 @@
-pub mod Flags
 pub mod Letters
 pub mod HalfStep
 pub mod ReadStep
 pub mod Numbers
 pub mod Transcripts
 pub mod OneText
-pub mod Printing
-pub mod Ends
 pub mod Closing
 pub mod Sinks
 pub mod Following
@@ -17,5 +14,4 @@ pub mod Laid
 pub mod Performing
 pub mod RuleStreams
 pub mod Stepping
-pub mod Starting
 pub mod KnownEnd

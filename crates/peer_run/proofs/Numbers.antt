@@ -1,11 +1,8 @@
 -- What is kept for each lane is what its numbers name.
 use Rattle.std.proofs.Common.{◌≡◌, ℕ, zero, suc, ◌+◌, ◌==◌, refl, sym, ◌∙◌, ap, arith, Bool, true, false, List, [], ◌∷◌, ◌++◌, append_assoc, append-nil, length, Option, Some, None, if◌then◌else◌, slice_get}
-use Rattle.std.specs.Option.{option_map_or}
-use Rattle.std.specs.Ordering.{nat_cmp}
-use Rattle.std.specs.BTreeMap.{BTreeMap, get}
-use Rattle.std.specs.Global.{Vec}
+use Rattle.std.specs.{Option.option_map_or, Ordering.nat_cmp, BTreeMap.{BTreeMap, get}, Global.Vec}
 use Rattle.peer_route.specs.Trail.{Names, count, place}
-use Rattle.peer_run.specs.Numbers.{is_of, nobodys, places, kept_for}
+use Rattle.peer_run.specs.Numbers.{is_of, places, kept_for}
 
 -- the lane has as many as are counted
 pub count-places : (at lane : ℕ) (owners : Names) → count lane owners ≡ length (places at lane owners)
@@ -58,13 +55,3 @@ pub kept-push : (lanes next : BTreeMap ℕ (Vec ℕ)) (owners : Names) (owner : 
 kept-push lanes next owners owner at lane h e k =
     let there : at ≡ 0 + length owners = omega (arith, h) in
     e ∙ ap (λ ps. ps ++ (if is_of owner lane then at ∷ [] else [])) k ∙ ap (λ n. places 0 lane owners ++ (if is_of owner lane then n ∷ [] else [])) there ∙ sym (places-push 0 lane owners owner)
-
--- ---- what is nobody's
-
--- one more of them
-pub nobodys-more : (n : ℕ) → nobodys (n + 1) ≡ nobodys n ++ None ∷ []
-nobodys-more n = ap nobodys (let e : n + 1 ≡ suc n = omega arith in e) ∙ at_end n
-  where
-    at_end : (n : ℕ) → None ∷ nobodys n ≡ nobodys n ++ None ∷ []
-    at_end zero = refl
-    at_end (suc n) = ap (λ ns. None ∷ ns) (at_end n)

@@ -1,50 +1,24 @@
 -- A command that is no read and no `close` is one entry more.
-use Rattle.std.proofs.Common.{◌≡◌, ◌≢◌, ℕ, ◌+◌, ◌-◌, ◌^◌, ◌≤◌, ◌<◌, ◌⊎◌, inl, inr, refl, sym, ◌∙◌, ap, subst, arith, ◌||◌, ◌&&◌, Bool, true, false, if◌then◌else◌, List, [], ◌∷◌, ◌++◌, length, drop, Option, Some, None, append_assoc, length-append}
-use Rattle.std.proofs.Math.Bool.{or-false}
-use Rattle.wire_message.specs.Front.{Seen}
-use Rattle.wire_message.specs.declared.error.Error.{Error}
-use Rattle.wire_framing.specs.declared.write_half.Writing.{Writing}
-use Rattle.wire_framing.specs.Sink.{asked_again}
-use Rattle.peer_route.specs.Parcel.{Setting}
-use Rattle.peer_route.specs.declared.words.Words.{Words}
-use Rattle.peer_route.specs.declared.words.Words.TheVariants as words
-use Rattle.peer_route.specs.declared.writer.Writer.TheVariants as writers
-use Rattle.peer_route.specs.declared.answer.Answer.{Answer}
-use Rattle.peer_route.specs.declared.answer.Entry.{Entry}
-use Rattle.peer_route.specs.History.{Fault, Past, after_all}
-use Rattle.peer_route.specs.Streams.{all_given}
-use Rattle.peer_route.specs.Left.{Left}
-use Rattle.peer_route.specs.Trail.{Trail, new_names, asked_names, made_names}
-use Rattle.peer_route.specs.Plan.{Plan, Says, Sends, plan}
-use Rattle.peer_route.specs.Entries.{trail, writes, writes_of, postings, deeds, past_after, write_fault}
-use Rattle.peer_route.specs.Told.{ReadTold, CloseTold, encodings}
-use Rattle.peer_route.proofs.Plans.{are_writes}
+use Rattle.std.proofs.{Common.{◌≡◌, ◌≢◌, ℕ, ◌+◌, ◌-◌, ◌^◌, ◌≤◌, ◌<◌, ◌⊎◌, inl, inr, refl, sym, ◌∙◌, ap, subst, arith, ◌||◌, ◌&&◌, Bool, true, false, if◌then◌else◌, List, [], ◌∷◌, ◌++◌, length, drop, Option, Some, None, append_assoc, length-append}, Math.Bool.or-false, Math.Seq.drop-append_seam}
+use Rattle.peer_run.specs.{Names.{Seen, Error, Writing, asked_again, Words, Answer, Entry, Acted, Writer}, Stands.{PeerView, Stands, Did, AreTaken, call_owners, stream_owners}, Runs.{Inlet, Outlet, Sinks, IsReady, IsFine, IsRest, IsLeft, Flushed, Moves, SourceMoves, is_close, is_failed_write, asked_by, Follows, Running}}
+use Rattle.peer_route.specs.{Parcel.Setting, History.{Outbox, Fault, Past, after_all}, Streams.all_given, Left.Left, Trail.{Trail, new_names, asked_names, made_names}, Plan.{Plan, Says, Sends, plan}, Entries.{trail, writes, writes_of, postings, deeds, past_after, write_fault}, Told.{ReadTold, CloseTold, encodings}}
+use Rattle.peer_route.proofs.{Plans.are_writes, Kept.kept_by, Given.given_along, Writers.fine_unfailed}
+use Rattle.peer_run.proofs.{Sinks.{sinks_put, got_all}, Following.{follows_by, reads_by, all_done}, Laid.{Laid, laid, plan_does}}
 use Rattle.peer_route.proofs.Kept as kept
-use Rattle.peer_route.proofs.Kept.{kept_by}
-use Rattle.peer_route.proofs.Given.{given_along}
-use Rattle.peer_route.proofs.Writers.{fine_unfailed}
-use Rattle.peer_run.specs.declared.acting.Acted.{Acted}
-use Rattle.peer_run.specs.Stands.{PeerView, Stands, Did, AreTaken, call_owners, stream_owners}
-use Rattle.peer_run.specs.Sinks.{Inlet, Outlet, Sinks, IsReady, IsFine, IsRest, IsLeft, Flushed, Moves, SourceMoves, is_close, is_failed_write, asked_by}
-use Rattle.peer_run.specs.Runs.{Follows, Running}
-use Rattle.peer_run.proofs.Sinks.{sinks_put, told_all}
-use Rattle.peer_run.proofs.Following.{follows_by, reads_by}
-use Rattle.peer_run.proofs.Laid.{Laid, laid, plan_does}
-use Rattle.peer_run.proofs.Ends.{all_written}
 
 -- ---- other commands
 
-not_close : (w : Words) → w ≢ words.Close → is_close w ≡ false
-not_close words.Close ne = absurd (ne refl)
+not_close : (w : Words) → w ≢ Words.Close → is_close w ≡ false
+not_close Words.Close ne = absurd (ne refl)
 not_close w ne = refl
 
-moves_none : (w : Words) (closed : Option Error) (answer : Answer) (faults : ℕ) → w ≢ words.Read → SourceMoves w closed answer faults faults
-moves_none words.Read closed answer faults ne = absurd (ne refl)
+moves_none : (w : Words) (closed : Option Error) (answer : Answer) (faults : ℕ) → w ≢ Words.Read → SourceMoves w closed answer faults faults
+moves_none Words.Read closed answer faults ne = absurd (ne refl)
 moves_none w closed answer faults ne = refl
 
-close_untold : (room : Option (Option ℕ)) (w : Words) (answer : Answer) → w ≢ words.Close → CloseTold room w answer
+close_untold : (room : Option (Option ℕ)) (w : Words) (answer : Answer) → w ≢ Words.Close → CloseTold room w answer
 close_untold None w answer ne = tt
-close_untold (Some room) words.Close answer ne = absurd (ne refl)
+close_untold (Some room) Words.Close answer ne = absurd (ne refl)
 close_untold (Some room) w answer ne = tt
 
 read_untold : (stop : Option Bool) (bytes : List ℕ) (t : Trail) (mid : PeerView) (lane : ℕ) (pl : Plan) (a : Acted) (e : Entry) → Did mid t lane pl a → ReadTold stop bytes t.past pl e
@@ -56,10 +30,6 @@ pub trail_setting : (setting : Setting) (es : List Entry) → (trail setting es)
 trail_setting setting [] = refl
 trail_setting setting (e ∷ es) = trail_setting setting es
 
-drop_front : (xs ys : List Seen) → drop (length xs) (xs ++ ys) ≡ ys
-drop_front [] ys = refl
-drop_front (x ∷ xs) ys = drop_front xs ys
-
 -- where the same was read, and closed the peer, the same is left
 still_left : (bytes : List ℕ) (stop : Option Bool) (g h : Past) (now : Inlet) → h.closing ≡ g.closing → h.read ≡ g.read → IsLeft bytes stop g now.left now.stop → IsLeft bytes stop h now.left now.stop
 still_left bytes stop g h now closing read rest =
@@ -70,17 +40,17 @@ still_left bytes stop g h now closing read rest =
 
 -- nothing waits, or the writer is fine
 ready_by : (setting : Setting) (es : List Entry) (old mid : PeerView) (lane : ℕ) (pl : Plan) (a : Acted) (q : Past) (ms : List Seen) → Follows setting old es → Laid (trail setting es) mid lane pl a q ms → IsReady q.outbox
-ready_by setting es old mid lane pl a q ms f l = by l.ready
+ready_by setting es old mid lane pl a q ms f l = subst IsReady (sym l.outbox.1) (by l.ready)
   where
-    by : (ms ≡ []) ⊎ ((trail setting es).past.outbox.writer ≡ writers.Fine) → IsReady q.outbox
+    by : (ms ≡ []) ⊎ ((trail setting es).past.outbox.writer ≡ Writer.Fine) → let o = (trail setting es).past.outbox in IsReady (record o { put = o.put ++ ms; last = l.outbox.0 })
     by (inl none) =
         let was = f.stands.keeps.left in
         let front = (trail setting es).past.outbox.put in
         let long : length (front ++ ms) ≡ length front + length ms = length-append front ms in
         let empty : length ms ≡ 0 = ap length none in
         let all : (trail setting es).past.outbox.done ≡ length front = sym was.done ∙ f.written ∙ ap length was.outbox in
-        inl (l.ended ∙ (let same : (trail setting es).past.outbox.done ≡ length (front ++ ms) = omega (arith, long, empty, all) in same) ∙ sym (ap length l.put))
-    by (inr fine) = inr (l.writer ∙ fine, l.failed ∙ fine_unfailed setting es fine)
+        inl (omega (arith, long, empty, all))
+    by (inr fine) = inr (fine, fine_unfailed setting es fine)
 
 given_writes : (e : Entry) (q : Past) → all_given (after_all (writes e) q) ≡ all_given q
 given_writes e q = kept_by all_given (writes e) q (are_writes (kept.Keeps all_given) e (λ h. refl) (λ h. given_along Fault h tt))
@@ -104,7 +74,7 @@ at_most true n k all cut = let less = cut refl in omega (arith, less)
 at_most false n k all cut = let same = all refl in omega (arith, same)
 
 module _ (setting : Setting) (start_in now_in : Inlet) (start now end : Outlet) (old mid new : PeerView) (writing writing' : Writing) (es : List Entry) (lane : ℕ) (w : Words) (a : Acted) (n : ℕ) (failed : Bool)
-    (unread : w ≢ words.Read) (unclosed : w ≢ words.Close) (r : Running setting start_in start old now_in now writing es) (did : Did mid (trail setting es) lane (plan (trail setting es) lane w) a)
+    (unread : w ≢ Words.Read) (unclosed : w ≢ Words.Close) (r : Running setting start_in start old now_in now writing es) (did : Did mid (trail setting es) lane (plan (trail setting es) lane w) a)
     (wrote : Written start now end mid new setting.takes_fds writing writing' n failed)
     (names : new.names ≡ old.names ++ call_owners lane failed a.makes) (streams : new.streams ≡ old.streams ++ stream_owners lane failed a.makes) where
   with_laid : (q : Past) (ms : List Seen) → Laid (trail setting es) mid lane (plan (trail setting es) lane w) a q ms
@@ -115,10 +85,10 @@ module _ (setting : Setting) (start_in now_in : Inlet) (start now end : Outlet) 
       let f = r.follows in
       let was = f.stands.keeps.left in
       let lies = l.keeps.left in
-      let put : mid.core.outbox ≡ old.core.outbox ++ ms = lies.outbox ∙ l.put ∙ ap (λ xs. xs ++ ms) (sym was.outbox) in
-      let ended : mid.core.done ≡ length old.core.outbox = lies.done ∙ l.ended ∙ sym was.done ∙ f.written in
+      let put : mid.core.outbox ≡ old.core.outbox ++ ms = lies.outbox ∙ ap (λ (o : Outbox). o.put) l.outbox.1 ∙ ap (λ xs. xs ++ ms) (sym was.outbox) in
+      let ended : mid.core.done ≡ length old.core.outbox = lies.done ∙ ap (λ (o : Outbox). o.done) l.outbox.1 ∙ sym was.done ∙ f.written in
       let e = entry_of lane w a (drop (length old.core.outbox) mid.core.outbox) n failed in
-      let behind : e.put ≡ ms = ap (drop (length old.core.outbox)) put ∙ drop_front old.core.outbox ms in
+      let behind : e.put ≡ ms = ap (drop (length old.core.outbox)) put ∙ drop-append_seam old.core.outbox ms in
       let long : length mid.core.outbox ≡ length old.core.outbox + length ms = ap length put ∙ length-append old.core.outbox ms in
       let waits : length mid.core.outbox - mid.core.done ≡ length ms = omega (arith, long, ended) in
       let count : length mid.core.outbox - mid.core.done ≡ length e.put = waits ∙ sym (ap length behind) in
@@ -129,7 +99,7 @@ module _ (setting : Setting) (start_in now_in : Inlet) (start now end : Outlet) 
       let taken : AreTaken setting.takes_fds (drop mid.core.done mid.core.outbox) =
       subst (AreTaken setting.takes_fds) (sym (ap (λ k. drop k mid.core.outbox) ended ∙ behind)) (subst (λ (s : Setting). AreTaken s.takes_fds ms) (trail_setting setting es) l.taken) in
       let flushed = subst (λ k. Flushed start now end (after_all (writes_of n failed k) q).outbox failed writing') count
-      (wrote.flushed q lies (ready_by setting es old mid lane pl a q ms f l) taken (λ fine. r.fine (sym l.writer ∙ fine)) (sinks_put start now t.past.outbox q.outbox ms l.put l.written l.ended l.failed r.sinks)) in
+      (wrote.flushed q lies (ready_by setting es old mid lane pl a q ms f l) taken (λ fine. r.fine (sym (ap (λ (o : Outbox). o.writer) l.outbox.1) ∙ fine)) (subst (Sinks start now) (sym l.outbox.1) (sinks_put start now t.past.outbox ms l.outbox.0 r.sinks))) in
       let gone : Flushed start now end (trail setting (e ∷ es)).past.outbox failed writing' = subst (λ (h : Past). Flushed start now end h.outbox failed writing') (sym leads) flushed in
       let read : (past_after pl e t.past).read ≡ t.past.read = ap (λ (h : Past). h.read) leads ∙ kept_by (λ h. h.read) (writes e) q (are_writes (kept.Keeps (λ h. h.read)) e (λ h. refl) (λ h. refl)) ∙ l.read in
       let closing : (past_after pl e t.past).closing ≡ t.past.closing = ap (λ (h : Past). h.closing) leads ∙ kept_by (λ h. h.closing) (writes e) q (are_writes (kept.Keeps (λ h. h.closing)) e (λ h. refl) (λ h. refl)) ∙ l.closing in
@@ -151,7 +121,7 @@ module _ (setting : Setting) (start_in now_in : Inlet) (start now end : Outlet) 
               still_left bytes start_in.stop t.past (past_after pl e t.past) now_in closing read rest,
             )) r.reads;
         sinks = gone.sinks;
-        told = (told_all start end (trail setting (e ∷ es)).past.outbox gone.sinks (all_written setting new start end (e ∷ es) follows gone.sinks), r.told);
+        told = ((got_all start end (trail setting (e ∷ es)).past.outbox gone.sinks (all_done setting new (e ∷ es) follows)).told, r.told);
         closes = (close_untold start.room w e.answer unclosed, r.closes);
         source = (now_in.faults, r.source, moves_none w t.past.closing e.answer now_in.faults unread);
         faults = (now.faults, r.faults, subst (λ b. Moves b now.faults end.faults) (sym (ap (λ b. failed || (b && is_failed_write e.answer)) (not_close w unclosed) ∙ or-false failed)) gone.faults);
@@ -169,6 +139,6 @@ fits t old mid lane w a s full did =
     let l = some.2 in
     let was = s.keeps.left in
     let lies = l.keeps.left in
-    let ended : mid.core.done ≡ length old.core.outbox = lies.done ∙ l.ended ∙ sym was.done ∙ full in
-    let long : length mid.core.outbox ≡ length old.core.outbox + length some.1 = ap length (lies.outbox ∙ l.put ∙ ap (λ xs. xs ++ some.1) (sym was.outbox)) ∙ length-append old.core.outbox some.1 in
+    let ended : mid.core.done ≡ length old.core.outbox = lies.done ∙ ap (λ (o : Outbox). o.done) l.outbox.1 ∙ sym was.done ∙ full in
+    let long : length mid.core.outbox ≡ length old.core.outbox + length some.1 = ap length (lies.outbox ∙ ap (λ (o : Outbox). o.put) l.outbox.1 ∙ ap (λ xs. xs ++ some.1) (sym was.outbox)) ∙ length-append old.core.outbox some.1 in
     omega (arith, ended, long)

@@ -1,24 +1,9 @@
 -- Two histories of the same commands, of which the outside told the same, are the same.
-use Rattle.std.proofs.Common.{◌≡◌, ℕ, ◌+◌, ◌<◌, refl, sym, ◌∙◌, ap, subst, arith, Bool, true, false, if◌then◌else◌, List, [], ◌∷◌, length, map, ◌||◌, Option, Some, None, Result, Ok, Err}
+use Rattle.std.proofs.{Common.{◌≡◌, ℕ, ◌+◌, ◌<◌, refl, sym, ◌∙◌, ap, subst, arith, Bool, true, false, if◌then◌else◌, List, [], ◌∷◌, length, map, ◌||◌, Option, Some, None, Result, Ok, Err}, Math.Bool.or-true}
 use Rattle.std.specs.List.{AllByRecursion}
-use Rattle.std.proofs.Math.Bool.{or-true}
-use Rattle.wire_message.specs.Front.{Seen}
-use Rattle.wire_message.specs.declared.error.Error.{Error}
-use Rattle.peer_route.specs.Parcel.{Setting}
-use Rattle.peer_route.specs.declared.words.Words.{Words}
-use Rattle.peer_route.specs.declared.words.Command.{Command}
-use Rattle.peer_route.specs.declared.answer.Answer.{Answer}
-use Rattle.peer_route.specs.declared.answer.Entry.{Entry}
-use Rattle.peer_route.specs.History.{Event, Past, after_all}
-use Rattle.peer_route.specs.Issuing.{Posting, issued, parcels, messages_of, puts}
-use Rattle.peer_route.specs.Trail.{Trail}
-use Rattle.peer_route.specs.Plan.{Plan, Says, Sends, Reads, Closes, Writes, Never, plan}
-use Rattle.peer_route.specs.Entries.{IsMeant, IsQuiet, IsPut, IsSending, IsAtOnce, Legal, trail, writes, past_after, write_fault}
-use Rattle.peer_route.specs.Told.{ReadsTold, ReadTold, IsOf, CloseTold, ClosesTold, WritesTold, AreWritten, fitting}
-use Rattle.peer_route.proofs.Kept.{Keeps, kept_by}
-use Rattle.peer_route.proofs.Plans.{by_plan, are_writes}
-use Rattle.peer_route.proofs.Sent.{written_by, failed_with}
-use Rattle.peer_script.specs.Again.{command_of}
+use Rattle.peer_run.specs.Names.{Seen, Error, Words, Command, Answer, Entry, command_of}
+use Rattle.peer_route.specs.{Parcel.Setting, History.{Event, Past, after_all}, Issuing.{Posting, issued, parcels, messages_of, puts}, Trail.Trail, Plan.{Plan, Says, Sends, Reads, Closes, Writes, Never, plan}, Entries.{IsMeant, IsQuiet, IsPut, IsSending, IsAtOnce, Legal, trail, writes, past_after, write_fault}, Told.{ReadsTold, ReadTold, IsOf, CloseTold, ClosesTold, WritesTold, AreWritten, fitting}}
+use Rattle.peer_route.proofs.{Kept.{Keeps, kept_by}, Plans.{are_writes, IsFair, fair}, Sent.{written_by, failed_with}}
 
 -- the same was read, answered, put and written
 record Same (e f : Entry) : Type 0 where
@@ -99,13 +84,10 @@ same_by room stop bytes h (Writes fails) e f closes p q = same_quiet e f (p.is.1
 same_by room stop bytes h Never e f closes p q = absurd p.is
 
 -- only `close` closes
-abbrev Shut : Option ℕ → Words → Plan → Type 0
-Shut room w pl = (a b : Answer) → pl ≡ Closes → CloseTold (Some room) w a → CloseTold (Some room) w b → a ≡ b
-
-same_close : (room : Option ℕ) (t : Trail) (lane : ℕ) (w : Words) → Shut room w (plan t lane w)
-same_close room t lane =
-    by_plan (Shut room) t lane (λ w answer done fair a b e x y. cc) (λ w parcel from a b e x y. cc) (λ asked text rule a b e x y. cc) (λ n second k j open_ a b e x y. cc) (λ still a b e x y. cc)
-    (λ a b e x y. x ∙ sym y) (λ line fails fine a b e x y. cc) (λ line a b e x y. cc)
+same_close : (room : Option ℕ) (t : Trail) (lane : ℕ) (w : Words) (a b : Answer) → plan t lane w ≡ Closes → CloseTold (Some room) w a → CloseTold (Some room) w b → a ≡ b
+same_close room t lane w a b shut x y =
+    let closes : w ≡ Words.Close = subst (IsFair t w) shut (fair t lane w) in
+    subst (λ v. CloseTold (Some room) v a) closes x ∙ sym (subst (λ v. CloseTold (Some room) v b) closes y)
 
 -- ---- every entry
 

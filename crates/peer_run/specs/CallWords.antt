@@ -1,19 +1,19 @@
 -- What the words of a command make: a message to be sent, or why none is.
-use Rattle.std.specs.Prelude.{◌≡◌, ◌⊎◌, ◌&&◌, not, Bool, true, if◌then◌else◌, List, [], Some, None, Result, Ok, Err}
+use Rattle.std.specs.Prelude.{ℕ, ◌≡◌, ◌⊎◌, ◌&&◌, not, Bool, true, List, [], Option, Some, None, Result, Ok, Err, false}
+use Rattle.peer_run.specs.Names.{Datum, Draft, are_misplaced, Error, CallFlags}
 use Rattle.wire_number.specs.declared.endian.Endian.TheVariants.{Little}
-use Rattle.wire_tree.specs.Datum.{Datum}
-use Rattle.wire_message.specs.Draft.{Draft, are_misplaced}
-use Rattle.wire_message.specs.declared.error.Error.{Error}
-use Rattle.wire_message.specs.declared.error.Error.TheVariants as errors
-use Rattle.peer_route.specs.declared.words.CallFlags.{CallFlags}
-use Rattle.peer_route.specs.Parcel.{Parcel, Asked}
-use Rattle.peer_route.specs.CallMessage.{flags_number, order_of, fds_of, words_refusal, asked_of}
+use Rattle.peer_route.specs.{Parcel.{Parcel, Asked, sent_by}, CallMessage.{flags_number, order_of, fds_of, words_refusal, asked_of}}
 
 -- What is made is what is asked to be sent, and a refusal is the one that is due. Want of memory tells nothing.
 abbrev pub MakesParcel : Result Parcel Error → Asked → Type 0
 MakesParcel (Ok parcel) asked = asked ≡ Ok parcel
-MakesParcel (Err errors.Memory) asked = Unit {0}
+MakesParcel (Err Error.Memory) asked = Unit {0}
 MakesParcel (Err error) asked = asked ≡ Err error
+
+-- what is asked for, sent by the peer of that name
+abbrev pub named_asked : Option (List ℕ) → Asked → Asked
+named_asked name (Ok parcel) = Ok (sent_by name false parcel)
+named_asked name (Err error) = Err error
 
 -- it has no descriptors, or the sink takes them
 abbrev pub IsCarried : Bool → Parcel → Type 0
@@ -29,12 +29,6 @@ unflagged draft = record draft { order = Little; flags = 0 }
 abbrev pub MakesDraft : Result Draft Error → Draft → Type 0
 MakesDraft (Ok made) draft = (made ≡ unflagged draft) × (words_refusal draft ≡ None)
 MakesDraft (Err error) draft = words_refusal draft ≡ Some error
-
--- the header with those flags and in that byte order, where its type can have them
-abbrev pub lettered : Draft → CallFlags → Result Draft Error
-lettered draft flags =
-    if are_misplaced draft.kind (flags_number flags) then Err errors.InvalidField
-    else Ok (record draft { order = order_of flags.big; flags = flags_number flags })
 
 -- what is asked for once the words and the body are read
 abbrev pub letters_asked : Draft → List Datum → CallFlags → Bool → Asked

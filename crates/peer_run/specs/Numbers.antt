@@ -1,9 +1,5 @@
 -- What a lane's numbers name, where it is kept for each lane.
-use Rattle.std.specs.Prelude.{ℕ, zero, suc, ◌+◌, ◌==◌, Bool, false, if◌then◌else◌, List, [], ◌∷◌, ◌++◌, Option, Some, None}
-use Rattle.std.specs.Option.{option_map_or}
-use Rattle.std.specs.Ordering.{nat_cmp}
-use Rattle.std.specs.BTreeMap.{BTreeMap, get}
-use Rattle.std.specs.Global.{Vec}
+use Rattle.std.specs.{Prelude.{ℕ, ◌+◌, ◌==◌, Bool, false, if◌then◌else◌, List, [], ◌∷◌, ◌++◌, Option, Some, None}, Option.option_map_or, Ordering.nat_cmp, BTreeMap.{BTreeMap, get}, Global.Vec}
 use Rattle.peer_route.specs.Trail.{Names}
 
 -- whether what has this owner belongs to the lane
@@ -19,8 +15,3 @@ places at lane (owner ∷ owners) = (if is_of owner lane then at ∷ [] else [])
 -- what is kept for a lane: nothing, where the map lacks it
 abbrev pub kept_for : BTreeMap ℕ (Vec ℕ) → ℕ → List ℕ
 kept_for lanes lane = option_map_or (λ v. v.items) (get nat_cmp lanes lane) []
-
--- so many that are nobody's
-abbrev pub nobodys : ℕ → Names
-nobodys zero = []
-nobodys (suc n) = None ∷ nobodys n

@@ -1,30 +1,138 @@
 -- What a run gives: a legal history of its commands, whose reads and writes are what the outside told.
-use Rattle.std.specs.Prelude.{ℕ, ◌≡◌, ◌^◌, ◌-◌, ◌≤◌, Bool, false, List, [], length, map, reverse, Option, None, IfSome}
-use Rattle.std.specs.List.{AllByRecursion}
-use Rattle.wire_framing.specs.declared.write_half.Writing.{Writing}
-use Rattle.wire_message.specs.Front.{Seen}
-use Rattle.peer_route.specs.declared.words.Words.{Words}
-use Rattle.peer_route.specs.declared.words.Words.TheVariants as words
-use Rattle.peer_route.specs.declared.words.Command.{Command}
-use Rattle.peer_route.specs.declared.answer.Answer.{Answer}
-use Rattle.peer_route.specs.declared.answer.Entry.{Entry}
-use Rattle.peer_route.specs.Parcel.{Setting}
-use Rattle.peer_route.specs.Entries.{trail, Legal, IsAtOnce}
-use Rattle.peer_route.specs.Told.{ReadsTold, ClosesTold, WritesTold}
-use Rattle.peer_script.specs.Again.{command_of}
-use Rattle.peer_run.specs.declared.peer.Reading.{Reading}
-use Rattle.peer_run.specs.Stands.{PeerView, Stands}
-use Rattle.peer_run.specs.Sinks.{Inlet, Outlet, Reads, IsLeft, SourceFaults, SinkFaults, Sinks, HoldsThen, IsFine, asked_by}
+use Rattle.std.specs.{Prelude.{ℕ, ◌≡◌, ◌^◌, ◌-◌, ◌≤◌, false, List, [], length, map, reverse, Option, None, IfSome, ⊤, ◌⊎◌, ◌&&◌, ◌||◌, nat_le, if◌then◌else◌, Bool, true, ◌∷◌, ◌++◌, drop, take, Some, IsSome}, List.AllByRecursion, Io.KnownBytes.Keeps}
+use Rattle.peer_run.specs.{Names.{Writing, MayRise, RoomFalls, RoomStays, asked_again, spent, Fine, Seen, Error, Words, Command, Answer, Entry, Writer, command_of, IoKind}, Stands.{PeerView, Stands}}
+use Rattle.peer_route.specs.{Parcel.Setting, Entries.{trail, Legal, IsAtOnce}, Told.{ReadsTold, ClosesTold, WritesTold, AreWritten, IsSentBytes, IsCutAt, encodings, left_after}, History.{Outbox, Past}}
+
+-- ---- what a source and a sink tell, entry by entry: the sink holds what was written of what was put
+
+-- what a source tells of itself
+pub record Inlet : Type 0 where
+  pub left : Option (List ℕ)
+  pub stop : Option Bool
+  pub faults : ℕ
+
+-- what a sink tells of itself
+pub record Outlet : Type 0 where
+  pub held : Option (List ℕ)
+  pub room : Option (Option ℕ)
+  pub faults : ℕ
+  pub closes : Option ℕ
+
+-- a count rose, or stayed
+abbrev pub Moves : Bool → ℕ → ℕ → Type 0
+Moves true before now = MayRise before now
+Moves false before now = now ≡ before
+
+-- ---- the source
+
+-- how many of the bytes that are left a read takes that finds no message in them: none, where no position is left for one
+abbrev pub lost : ℕ → List ℕ → ℕ
+lost count bytes = if nat_le (2 ^ 64 - 2) count then 0 else spent bytes
+
+-- What is left in the source, by what closed the peer; `rest` are the bytes that the messages left which were read, `count` of them. It
+-- is these where nothing closed the peer, or a command did; where a read found no message, those behind the bytes that it took. After a
+-- fault nothing is told.
+abbrev pub IsRest : Option Error → ℕ → List ℕ → Option Bool → Option (List ℕ) → Option Bool → Type 0
+IsRest None count rest before left stop = (left ≡ Some rest) × (stop ≡ before)
+IsRest (Some (Error.InputOutput IoKind.Closed)) count rest before left stop = (left ≡ Some rest) × (stop ≡ before)
+IsRest (Some (Error.InputOutput IoKind.Fault)) count rest before left stop = ⊤
+IsRest (Some error) count rest before left stop = (left ≡ Some (drop (lost count rest) rest)) × (stop ≡ before)
+
+-- what the past leaves in a source that had these bytes
+abbrev pub IsLeft : List ℕ → Option Bool → Past → Option (List ℕ) → Option Bool → Type 0
+IsLeft bytes before h left stop = IsRest h.closing (length h.read) (left_after bytes h) before left stop
+
+-- What the source told at the start, and tells now, is what the history's reads say.
+pub record Reads (setting : Setting) (start now : Inlet) (es : List Entry) : Type 0 where
+  pub told : IfSome start.left (λ bytes. ReadsTold setting start.stop bytes es)
+  pub rest : IfSome start.left (λ bytes. IsLeft bytes start.stop (trail setting es).past now.left now.stop)
+
+-- What an entry did to the source's count of faults, by what had closed the peer: nothing, but where it is a read of an open one; there it
+-- rose where that is answered as a fault, and a busy peer leaves it.
+abbrev pub SourceMoves : Words → Option Error → Answer → ℕ → ℕ → Type 0
+SourceMoves Words.Read None (Answer.Closed (Error.InputOutput IoKind.Fault)) before now = MayRise before now
+SourceMoves Words.Read None Answer.Busy before now = now ≡ before
+SourceMoves Words.Read None answer before now = before ≤ now
+SourceMoves w closed answer before now = now ≡ before
+
+-- The source's count of faults, entry by entry, newest first.
+abbrev pub SourceFaults : Setting → ℕ → List Entry → ℕ → Type 0
+SourceFaults setting start [] now = now ≡ start
+SourceFaults setting start (e ∷ es) now =
+    (before : ℕ) × SourceFaults setting start es before × SourceMoves e.words (trail setting es).past.closing e.answer before now
+
+-- ---- the sink
+
+-- the command closes the peer
+abbrev pub is_close : Words → Bool
+is_close Words.Close = true
+is_close w = false
+
+-- how often a sink was asked to close, where it tells that, after these entries, newest first: each `close` asks it once more
+abbrev pub asked_by : Option ℕ → List Entry → Option ℕ
+asked_by asked [] = asked
+asked_by asked (e ∷ es) = if is_close e.words then asked_again (asked_by asked es) else asked_by asked es
+
+abbrev pub is_failed_write : Answer → Bool
+is_failed_write (Answer.SendFailed (Error.InputOutput IoKind.WriteFault)) = true
+is_failed_write answer = false
+
+-- A write of the entry failed, or it is a `close` whose sink's `close` did.
+abbrev pub breaks : Entry → Bool
+breaks e = e.failed || (is_close e.words && is_failed_write e.answer)
+
+-- The sink's count of faults, entry by entry, newest first: it rose in the entry whose write failed, which is the first that is answered
+-- so, and in each `close` that did; in every other entry it stayed.
+abbrev pub SinkFaults : ℕ → List Entry → ℕ → Type 0
+SinkFaults start [] now = now ≡ start
+SinkFaults start (e ∷ es) now = (before : ℕ) × SinkFaults start es before × Moves (breaks e) before now
+
+-- what the sink holds: behind what it held before, what was sent of these messages, of which so many were written, all but where a write
+-- failed
+abbrev pub Holds : Option (Option ℕ) → List ℕ → Option (List ℕ) → Bool → ℕ → List Seen → Type 0
+Holds room before after failed count ms = (sent : List ℕ) × (after ≡ Some (before ++ sent)) × IsSentBytes failed count ms sent × IsCutAt room failed sent
+
+-- What closing the peer did to the sink: nothing, but that it was asked to close; and the count of faults rose where that failed, which it
+-- doesn't where the sink tells its room.
+pub record Shuts (answer : Answer) (now after : Outlet) : Type 0 where
+  pub held : Keeps now.held after.held
+  pub room : RoomStays now.room after.room
+  pub told : IsSome now.room → answer ≡ Answer.Shut
+  pub faults : Moves (is_failed_write answer) now.faults after.faults
+  pub asked : after.closes ≡ asked_again now.closes
+
+-- ---- on the way
+
+-- What the sink got of these messages and has room for; it tells its room still.
+pub record Got (start now : Outlet) (failed : Bool) (count : ℕ) (ms : List Seen) : Type 0 where
+  pub held : IfSome start.held (λ before. Holds start.room before now.held failed count ms)
+  pub told : AreWritten start.room failed count ms
+  pub room : failed ≡ false → RoomFalls start.room now.room (length (encodings ms))
+  pub tells : IsSome start.room → IsSome now.room
+
+-- That of the messages of the outbox that don't wait.
+pub record Sinks (start now : Outlet) (o : Outbox) : Type 0 where
+  pub got : Got start now o.failed o.written (take o.done o.put)
+  pub few : o.done ≤ length o.put
+  pub step : o.failed ≡ false → o.written ≡ o.done
+
+-- the half that writes met nothing, where no write failed and the peer wasn't closed
+abbrev pub IsFine : Writer → Writing → Type 0
+IsFine met writing = met ≡ Writer.Fine → writing ≡ Fine
+
+-- Nothing waits, or what waits may be written.
+abbrev pub IsReady : Outbox → Type 0
+IsReady o = (o.done ≡ length o.put) ⊎ ((o.writer ≡ Writer.Fine) × (o.failed ≡ false))
+
+-- What writing all that waits did, by the outbox behind it.
+pub record Flushed (start now after : Outlet) (o : Outbox) (failed : Bool) (writing : Writing) : Type 0 where
+  pub sinks : Sinks start after o
+  pub faults : Moves failed now.faults after.faults
+  pub fine : IsFine o.writer writing
 
 -- a lane's command that puts nothing, its answer, and what it read
 abbrev pub quiet : ℕ → Words → Answer → Option Seen → Entry
 quiet lane w answer read = record { lane = lane; words = w; answer = answer; read = read; put = []; written = 0; failed = false }
-
-abbrev pub read_entry : ℕ → Reading → Entry
-read_entry lane r = quiet lane words.Read r.answer r.message
-
-abbrev pub close_entry : ℕ → Answer → Entry
-close_entry lane answer = quiet lane words.Close answer None
 
 -- The peer is what the history leaves, newest first, which is legal and writes at once.
 pub record Follows (setting : Setting) (p : PeerView) (es : List Entry) : Type 0 where
@@ -46,11 +154,6 @@ pub record Running (setting : Setting) (start_in : Inlet) (start_out : Outlet) (
   pub asked : now_out.closes ≡ asked_by start_out.closes es
   pub fine : IsFine (trail setting es).past.outbox.writer writing
 
--- a peer on a message bus or on none, of this name, whose streams may hold so many messages, and whose sink takes file descriptors
--- or takes none
-abbrev pub setting_by : Bool → Option (List ℕ) → Option ℕ → Bool → Setting
-setting_by bus name queue takes = record { bus = bus; name = name; takes_fds = takes; queue = queue }
-
 -- The entries, oldest first, are a run of these commands by a peer of this setting over a source and a sink that told this before it and after it.
 pub record Runs (setting : Setting) (start_in : Inlet) (start_out : Outlet) (end_in : Inlet) (end_out : Outlet) (commands : List Command) (entries : List Entry) : Type 0 where
   -- each entry is what its command means after the entries before it
@@ -64,7 +167,7 @@ pub record Runs (setting : Setting) (start_in : Inlet) (start_out : Outlet) (end
   -- what is left in the source is what they didn't take
   pub rest : IfSome start_in.left (λ bytes. IsLeft bytes start_in.stop (trail setting (reverse entries)).past end_in.left end_in.stop)
   -- the sink holds the encodings of what was put, up to its first fault
-  pub writes : IfSome start_out.held (λ before. HoldsThen start_out.room before end_out.held (trail setting (reverse entries)).past.outbox)
+  pub writes : let o = (trail setting (reverse entries)).past.outbox in IfSome start_out.held (λ before. Holds start_out.room before end_out.held o.failed o.written o.put)
   -- where the sink tells its room, at each entry just those messages were written that end within it, and the next one's write failed
   pub room : WritesTold setting start_out.room (reverse entries)
   -- where it does, no closing fails

@@ -1,26 +1,7 @@
 -- How a peer stands to what its entries leave, and what a command does to it before anything of it is written.
-use Rattle.std.specs.Prelude.{ℕ, ◌≡◌, Bool, true, false, List, [], ◌∷◌, ◌++◌, slice_set, Option, Some, None, Result, Ok, Err}
-use Rattle.std.specs.List.{AllByRecursion}
-use Rattle.wire_message.specs.Front.{Seen}
-use Rattle.wire_message.specs.declared.error.Error.{Error}
-use Rattle.wire_message.specs.declared.error.Error.TheVariants as errors
-use Rattle.wire_message.specs.declared.error.IoKind.TheVariants as kinds
-use Rattle.wire_framing.specs.Writing.{is_unsupported}
-use Rattle.peer_route.specs.declared.polled.Polled.{Polled}
-use Rattle.peer_route.specs.declared.polled.Polled.TheVariants as polled
-use Rattle.peer_route.specs.declared.answer.Answer.{Answer}
-use Rattle.peer_route.specs.declared.answer.Answer.TheVariants as answers
-use Rattle.peer_route.specs.History.{Event, Past, after_all}
-use Rattle.peer_route.specs.Streams.{all_given}
-use Rattle.peer_route.specs.Left.{View, Left}
-use Rattle.peer_route.specs.Issuing.{Posting, issued, parcels, messages_of, put_each}
-use Rattle.peer_route.specs.Trail.{Trail, Names, owner, new_names, asked_names, made_names}
-use Rattle.peer_route.specs.Plan.{Plan, Says, Sends}
-use Rattle.peer_route.specs.Entries.{unsent}
-use Rattle.peer_run.specs.Numbers.{nobodys}
-use Rattle.peer_run.specs.declared.acting.Acted.{Acted}
-use Rattle.peer_run.specs.declared.acting.Makes.{Makes}
-use Rattle.peer_run.specs.declared.acting.Makes.TheVariants as makes
+use Rattle.std.specs.{Prelude.{ℕ, ◌≡◌, Bool, false, List, [], ◌∷◌, ◌++◌, replicate, slice_set, Option, Some, None, Result, Ok, Err}, List.AllByRecursion}
+use Rattle.peer_run.specs.Names.{Seen, Error, is_unsupported, Polled, Answer, Acted, Makes, IoKind}
+use Rattle.peer_route.specs.{History.{Event, Past, after_all}, Streams.all_given, Left.{View, Left}, Issuing.{Posting, issued, parcels, messages_of, put_each}, Trail.{Trail, Names, owner, new_names, asked_names, made_names}, Plan.{Plan, Says, Sends}, Entries.unsent}
 
 -- what contracts see of a peer: its core, whose its calls and its streams are, and for each stream the message that it gave last
 pub record PeerView : Type 0 where
@@ -44,15 +25,15 @@ pub record Stands (v : PeerView) (t : Trail) : Type 0 where
 
 -- whose the calls are that it made, by whether the write of a message failed
 abbrev pub call_owners : ℕ → Bool → Makes → Names
-call_owners lane failed makes.Call = owner lane failed ∷ []
-call_owners lane failed makes.Opening = None ∷ []
-call_owners lane failed (makes.Own count) = nobodys count
+call_owners lane failed Makes.Call = owner lane failed ∷ []
+call_owners lane failed Makes.Opening = None ∷ []
+call_owners lane failed (Makes.Own count) = replicate count None
 call_owners lane failed other = []
 
 -- and whose the streams are
 abbrev pub stream_owners : ℕ → Bool → Makes → Names
-stream_owners lane failed makes.Stream = Some lane ∷ []
-stream_owners lane failed makes.Opening = owner lane failed ∷ []
+stream_owners lane failed Makes.Stream = Some lane ∷ []
+stream_owners lane failed Makes.Opening = owner lane failed ∷ []
 stream_owners lane failed other = []
 
 -- That is what its plan says of them.
@@ -79,50 +60,34 @@ Did v t lane (Says answer done) a = (a.answer ≡ answer) × Keeps v (after_all 
 Did v t lane (Sends done ds sent) a = DidSend v t lane done ds sent a (issued (after_all done t.past) ds)
 Did v t lane other a = ⊥
 
--- the same where there may be no memory for it
-abbrev pub IfDid : {E : Type 0} → PeerView → Trail → ℕ → Plan → Result Acted E → Type 0
-IfDid v t lane pl (Ok a) = Did v t lane pl a
-IfDid v t lane pl (Err e) = Unit {0}
-
 -- a command that made nothing, and has this answer
 abbrev pub plain : Answer → Acted
-plain answer = record { answer = answer; makes = makes.Nothing }
+plain answer = record { answer = answer; makes = Makes.Nothing }
 
--- what is answered where words are refused; not want of memory
-abbrev pub IsRefusal : {E : Type 0} → Error → Result Acted E → Type 0
-IsRefusal errors.Memory (Ok a) = ⊥
-IsRefusal error (Ok a) = a ≡ plain (answers.Refused error)
-IsRefusal error (Err e) = error ≡ errors.Memory
+-- a command that made nothing is answered so by this error, or there was no memory, which is no answer
+abbrev pub Answers : {E : Type 0} → (Error → Answer) → Error → Result Acted E → Type 0
+Answers answer Error.Memory (Ok a) = ⊥
+Answers answer error (Ok a) = a ≡ plain (answer error)
+Answers answer error (Err e) = error ≡ Error.Memory
 
--- what is answered where the core did nothing, or couldn't put a message; not want of memory
-abbrev pub IsUndone : {E : Type 0} → Error → Result Acted E → Type 0
-IsUndone errors.Memory (Ok a) = ⊥
-IsUndone errors.Busy (Ok a) = a ≡ plain answers.Busy
-IsUndone error (Ok a) = a ≡ plain (unsent error)
-IsUndone error (Err e) = error ≡ errors.Memory
+-- what is answered where the core did nothing, or couldn't put a message
+abbrev pub undone_answer : Error → Answer
+undone_answer Error.Busy = Answer.Busy
+undone_answer error = unsent error
 
 -- the same where it opened no stream of a rule: a closed peer opens none
-abbrev pub IsUnopened : {E : Type 0} → Error → Result Acted E → Type 0
-IsUnopened (errors.InputOutput kinds.Closed) (Ok a) = a ≡ plain (answers.Refused (errors.InputOutput kinds.Closed))
-IsUnopened error result = IsUndone error result
-
--- what is shown where a stream will not be open, by its error
-abbrev pub over_answer : Error → Answer
-over_answer errors.UnknownHandle = answers.Refused errors.UnknownHandle
-over_answer error = answers.Closed error
+abbrev pub unopened_answer : Error → Answer
+unopened_answer (Error.InputOutput IoKind.Closed) = Answer.Refused (Error.InputOutput IoKind.Closed)
+unopened_answer error = undone_answer error
 
 -- ---- what streams gave last
 
 -- after a take
 abbrev pub given_after : ℕ → Result (Polled Seen) Error → List (Option Seen) → List (Option Seen)
-given_after k (Ok (polled.Now m)) gs = slice_set gs k (Some m)
+given_after k (Ok (Polled.Now m)) gs = slice_set gs k (Some m)
 given_after k other gs = gs
 
 -- once these are closed
 abbrev pub forgotten : ℕ → Option ℕ → List (Option Seen) → List (Option Seen)
 forgotten k None gs = slice_set gs k None
 forgotten k (Some j) gs = slice_set (slice_set gs k None) j None
-
-abbrev pub is_unknown : Error → Bool
-is_unknown errors.UnknownHandle = true
-is_unknown error = false

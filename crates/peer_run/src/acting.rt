@@ -4,7 +4,7 @@ ghost use Rattle.wire_message.specs.declared.error.Error.TheVariants as errors;
 ghost use Rattle.peer_route.specs.Trail.{Trail};
 ghost use Rattle.peer_route.specs.Entries.{IsOfRun};
 ghost use Rattle.peer_route.specs.Plan.{plan};
-ghost use Rattle.peer_run.specs.Stands.{Stands, IfDid, call_owners, stream_owners};
+ghost use Rattle.peer_run.specs.Stands.{Stands, Did, call_owners, stream_owners};
 
 use crate::peer::{Peer, RunError};
 use peer_route::{Answer, Posts, Words};
@@ -54,7 +54,7 @@ impl Peer {
         requires runs { IsOfRun words.now }
         requires unread { words.now ≢ Words.Read }
         requires unclosed { words.now ≢ Words.Close }
-        ensures did { (t : Trail) → Stands self.old t → t.setting.takes_fds ≡ takes_fds → t.past.closing ≢ Some errors.UnknownHandle → IfDid self.new t lane (plan t lane words.now) result }
+        ensures did { (t : Trail) → Stands self.old t → t.setting.takes_fds ≡ takes_fds → t.past.closing ≢ Some errors.UnknownHandle → IfOk result (Did self.new t lane (plan t lane words.now)) }
         ensures rest { OnOk result ((self.new.names ≡ self.old.names) × (self.new.streams ≡ self.old.streams)) }
     {
         match words {

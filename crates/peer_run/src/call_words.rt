@@ -1,13 +1,14 @@
 //! The messages that the words of commands ask for.
-ghost use Rattle.std.specs.Prelude.{◌≡◌, IfOk, IfErr, true, false, Some, None, Ok, Err, option_map, unwrap_or, if◌then◌else◌, []};
+ghost use Rattle.std.specs.Prelude.{Bool, ◌≡◌, ◌<◌, ◌^◌, length, IfOk, IfErr, true, false, Some, None, Ok, Err, option_map, unwrap_or, if◌then◌else◌, []};
 ghost use Rattle.wire_names.specs.Names.{is_bus_name, is_interface_name};
 ghost use Rattle.wire_names.specs.BusName.{text_of};
 ghost use Rattle.wire_names.specs.declared.error.NamesError.TheVariants as names;
 ghost use Rattle.wire_message.specs.declared.error.Error.TheVariants as errors;
 ghost use Rattle.wire_message.specs.declared.kind.MessageType.TheVariants as types;
+ghost use Rattle.wire_message.specs.Draft.{are_misplaced};
 ghost use Rattle.peer_route.specs.BodyWord.{ReadsBody};
 ghost use Rattle.peer_route.specs.CallMessage.{flags_number, order_of, fds_of, is_outside, values_in, outgoing_draft, outgoing_asked, reply_asked, error_asked};
-ghost use Rattle.peer_run.specs.CallWords.{MakesDraft, MakesParcel, IsCarried, lettered, letters_asked};
+ghost use Rattle.peer_run.specs.CallWords.{MakesDraft, MakesParcel, IsCarried, letters_asked};
 
 use bitflags::Flags as _;
 use peer_route::{CallFlags, Letter, Outgoing, OutgoingKind, read_body};
@@ -124,7 +125,7 @@ fn flag_if(asked: bool, flag: Flags) -> Flags
 }
 
 /// The flags of a script's letters.
-#[tactic(auto, using(crate::proofs::Flags::or_flags))]
+#[tactic(auto, using(crate::proofs::Letters::or_flags))]
 fn flags_of(flags: CallFlags) -> Flags
     ensures { result.0 ≡ flags_number flags }
 {
@@ -142,7 +143,7 @@ fn order_of(big: bool) -> Endian
 /// With those flags, and in that byte order, where its type can have them.
 fn with_letters<'a>(builder: Builder<'a>, flags: CallFlags) -> Result<Builder<'a>>
     requires none { builder.flags ≡ 0 }
-    ensures { result ≡ lettered builder.entry flags }
+    ensures { result ≡ (if are_misplaced builder.entry.kind (flags_number flags) then Err errors.InvalidField else Ok (record builder.entry { order = order_of flags.big; flags = flags_number flags })) }
 {
     builder
         .endian(order_of(flags.big))
@@ -151,7 +152,8 @@ fn with_letters<'a>(builder: Builder<'a>, flags: CallFlags) -> Result<Builder<'a
 
 /// The list of descriptors: the one number 0 where it is asked for.
 fn fds_of(alloc: Global, descriptor: bool) -> std::result::Result<Vec<u32>, AllocError>
-    ensures { IfOk result (λ fds. fds.items ≡ fds_of descriptor) }
+    ensures value { IfOk result (λ fds. fds.items ≡ fds_of descriptor) }
+    ensures few { IfOk result (λ fds. length fds.items < 2 ^ 32) }
 {
     let mut fds = Vec::new(alloc);
     if descriptor {
@@ -172,13 +174,14 @@ fn with_body<'a>(
     requires none { builder.flags ≡ 0 }
     ensures makes { MakesParcel result (letters_asked builder.entry body flags takes_fds) }
     ensures carried { IfOk result (λ letter. IsCarried takes_fds letter) }
+    ensures few { IfOk result (λ letter. length letter.fds < 2 ^ 32) }
 {
     let builder = with_letters(builder, flags)?;
     if flags.descriptor && !takes_fds {
         return Err(Error::Unsupported);
     }
     let fds = fds_of(alloc, flags.descriptor)?;
-    Ok(Letter { builder, body, fds })
+    Ok(Letter::new(builder, body, fds))
 }
 
 /// The header of a call, before its letters are looked at. Refused exactly where a word is outside its grammar, for the
@@ -214,6 +217,7 @@ pub(crate) fn outgoing_letter<'a>(
 ) -> Result<Letter<'a>>
     ensures makes { MakesParcel result (outgoing_asked None takes_fds words.now) }
     ensures carried { IfOk result (λ letter. IsCarried takes_fds letter) }
+    ensures few { IfOk result (λ letter. length letter.fds < 2 ^ 32) }
 {
     let builder = match words.kind {
         OutgoingKind::Call => call_builder(words)?,
@@ -230,15 +234,12 @@ pub(crate) fn reply_letter<'a>(
     body: &Option<Bytes>,
 ) -> Result<Letter<'a>>
     ensures makes { MakesParcel result (reply_asked None (Some message.now) body.now) }
-    ensures carried { IfOk result (λ letter. letter.fds ≡ []) }
+    ensures carried { (takes : Bool) → IfOk result (λ letter. IsCarried takes letter) }
+    ensures few { IfOk result (λ letter. length letter.fds < 2 ^ 32) }
 {
     let body = body_in(alloc, body)?;
     let builder = Message::method_return(&message.header());
-    Ok(Letter {
-        builder,
-        body,
-        fds: Vec::new(alloc),
-    })
+    Ok(Letter::new(builder, body, Vec::new(alloc)))
 }
 
 /// The error of that name to a message, with the body of that word; its sender isn't set yet.
@@ -250,14 +251,11 @@ pub(crate) fn error_letter<'a>(
     body: &Option<Bytes>,
 ) -> Result<Letter<'a>>
     ensures makes { MakesParcel result (error_asked None (Some message.now) error.now body.now) }
-    ensures carried { IfOk result (λ letter. letter.fds ≡ []) }
+    ensures carried { (takes : Bool) → IfOk result (λ letter. IsCarried takes letter) }
+    ensures few { IfOk result (λ letter. length letter.fds < 2 ^ 32) }
 {
     let error: ErrorName<'_> = name(error)?;
     let body = body_in(alloc, body)?;
     let builder = Message::error(&message.header(), &error);
-    Ok(Letter {
-        builder,
-        body,
-        fds: Vec::new(alloc),
-    })
+    Ok(Letter::new(builder, body, Vec::new(alloc)))
 }

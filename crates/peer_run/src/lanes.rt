@@ -1,6 +1,6 @@
-ghost use Rattle.std.specs.Prelude.{◌≡◌, ℕ, [], ◌∷◌, ◌++◌, if◌then◌else◌, OnOk, OnErr};
+ghost use Rattle.std.specs.Prelude.{◌≡◌, ℕ, [], ◌∷◌, ◌++◌, if◌then◌else◌, replicate, None, OnOk, OnErr};
 ghost use Rattle.peer_route.specs.Trail as trails;
-ghost use Rattle.peer_run.specs.Numbers.{is_of, nobodys, places, kept_for};
+ghost use Rattle.peer_run.specs.Numbers.{is_of, places, kept_for};
 
 use std::alloc::{AllocError, Global};
 use std::collections::BTreeMap;
@@ -101,7 +101,7 @@ impl Lanes {
 
     /// So many more, that are nobody's.
     pub(crate) fn push_nobodys(&mut self, count: u64) -> Result<(), AllocError>
-        ensures { OnOk result (self.new ≡ self.old ++ nobodys count) }
+        ensures { OnOk result (self.new ≡ self.old ++ replicate count None) }
     {
         for _ in 0..count {
             self.push(None)?;

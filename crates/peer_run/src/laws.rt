@@ -5,7 +5,7 @@ ghost use Rattle.peer_route.specs.Parcel.{Setting};
 ghost use Rattle.peer_route.specs.Entries.{Legal, IsAtOnce};
 ghost use Rattle.peer_route.specs.Told.{ReadsTold, WritesTold, ClosesTold};
 ghost use Rattle.peer_script.specs.Again.{command_of};
-ghost use Rattle.peer_run.specs.Program.{IsTranscript, IsWhole};
+ghost use Rattle.peer_run.specs.Program.{IsTranscript};
 
 /// Where the source's bytes and ending and the sink's room are told, two legal histories of the same commands that write at once are the
 /// same, however the bytes are cut: the outside decides each answer, that of a failed write too, and what was read, put and written.
@@ -19,5 +19,5 @@ pub fn one_history()
 /// Two transcripts of one input are the same: what the program prints of a script is decided by the script.
 #[tactic(auto, using(crate::proofs::OneText::one_text))]
 pub fn one_transcript()
-    ensures { (input text other : List ℕ) → IsTranscript IsWhole input text → IsTranscript IsWhole input other → text ≡ other }
+    ensures { (input text other : List ℕ) → IsTranscript input text → IsTranscript input other → text ≡ other }
 {}

@@ -1,16 +1,17 @@
-ghost use Rattle.std.specs.Prelude.{ℕ, ◌≡◌, ◌≢◌, ◌≤◌, ◌<◌, ◌⊎◌, true, List, [], map, string_bytes, Some, IfSome, is_some};
-ghost use Rattle.std.specs.Io.KnownBytes.{Appends};
+ghost use Rattle.std.specs.Prelude.{ℕ, ◌≡◌, ◌≢◌, ◌<◌, ◌≤◌, ◌⊎◌, Bool, true, List, [], map, string_bytes, Option, Some, Ok, IfOk, IfSome, is_some};
 ghost use Rattle.std.specs.List.{AllByRecursion};
+ghost use Rattle.std.specs.Io.KnownBytes.{Appends};
 ghost use Rattle.peer_route.specs.declared.words.Command.{Command};
 ghost use Rattle.peer_route.specs.Entries.{IsOfRun};
 ghost use Rattle.wire_framing.specs.Source.{MayRise};
-ghost use Rattle.peer_script.specs.Reading.{script_from};
-ghost use Rattle.peer_run.specs.Program.{IsRun, is_run, IsWhole, usage, input_fault, memory_text, line_text, Prints, Printed, ReadsAre, PollsAre, StreamsAre, SentIs, Refuses, RunsOut, IsCutShort, IsDecided, Says, IsRunText, Shows, Ends};
+ghost use Rattle.peer_script.specs.Reading.{IsWithin, script_of, script_from, given};
+ghost use Rattle.peer_script.specs.Transcript.{transcript_text};
+ghost use Rattle.peer_run.specs.Program.{IsRun, is_run, usage, input_fault, memory_text, line_text, Tells, IsTranscript, IsRefusal, Prints, decided, IsCutShort, RunsOut, Ends, Says};
 
 use crate::peer::RunError;
 use crate::run::run_peer;
 use peer_route::Command;
-use peer_script::{ScriptError, Setup, Word, read_script, write_all, write_transcript};
+use peer_script::{ScriptError, Setup, Transcript, Word, read_script, write_all, write_transcript};
 use std::alloc::Global;
 use wire_framing::{MemorySink, MemorySource, Refusal, Sink, Source};
 
@@ -68,19 +69,37 @@ fn sink_of(alloc: Global, outfault: Option<u64>, takes_fds: bool) -> MemorySink
     }
 }
 
-/// Runs the commands over the setup's pieces and its sink, and prints the transcript.
-fn run_commands<O: Sink>(alloc: Global, setup: &Setup, commands: &[Command], output: &mut O) -> u8
+/// Runs the commands over the setup's pieces and a sink of its kind.
+fn run_in_memory(
+    alloc: Global,
+    setup: &Setup,
+    commands: &[Command],
+) -> Result<(Transcript, MemorySink), RunError>
     requires { AllByRecursion (λ (c : Command). IsOfRun c.words) commands.now }
-    ensures { Shows (IsRunText (script_from setup.now.kind setup.now.queue setup.now.fds setup.now.outfault setup.now.pieces.items commands.now)) (O.held output.old) (O.held output.new) (O.faults output.old) (O.faults output.new) result }
+    ensures { IfOk result (λ x. (sent : List ℕ) → sent ≡ x.1.bytes.items → Tells (script_from setup.now.kind setup.now.queue setup.now.fds setup.now.outfault setup.now.pieces.items commands.now)
+        (transcript_text setup.now.kind setup.now.queue setup.now.fds setup.now.outfault (given setup.now.pieces.items) x.0.entries.items sent)) }
 {
     let mut source = MemorySource::new(&setup.pieces);
     let mut sink = sink_of(alloc, setup.outfault, setup.fds);
-    match run_peer(alloc, setup, &mut source, &mut sink, commands) {
-        Ok(transcript) => match write_transcript(alloc, setup, &transcript, sink.bytes(), output) {
-            Ok(()) => DONE,
-            Err(Refusal::Failed) => OUTPUT,
-            Err(Refusal::Memory) => say_memory(output),
-        },
+    let transcript = run_peer(alloc, setup, &mut source, &mut sink, commands)?;
+    Ok((transcript, sink))
+}
+
+/// Runs the commands, which were read of this input, and prints the transcript.
+fn run_commands<O: Sink>(alloc: Global, setup: &Setup, commands: &[Command], output: &mut O) -> u8
+    requires { AllByRecursion (λ (c : Command). IsOfRun c.words) commands.now }
+    ensures { (words : List (List ℕ)) (input : Option (List ℕ)) (stop : Option Bool) (faults faults' : ℕ) → IsRun words → stop ≢ Some true
+        → IfSome input (λ bytes. IsWithin bytes × (script_of bytes ≡ Ok (script_from setup.now.kind setup.now.queue setup.now.fds setup.now.outfault setup.now.pieces.items commands.now)))
+        → Ends (Prints words input stop faults faults') (O.held output.old) (O.held output.new) (O.faults output.old) (O.faults output.new) result }
+{
+    match run_in_memory(alloc, setup, commands) {
+        Ok((transcript, sink)) => {
+            match write_transcript(alloc, setup, &transcript, sink.bytes(), output) {
+                Ok(()) => DONE,
+                Err(Refusal::Failed) => OUTPUT,
+                Err(Refusal::Memory) => say_memory(output),
+            }
+        }
         Err(RunError::Memory) => say_memory(output),
     }
 }
@@ -98,7 +117,8 @@ fn say_line<O: Sink>(alloc: Global, output: &mut O, line: u64) -> u8
 
 /// Reads a script to its end and runs it.
 fn run_script<I: Source, O: Sink>(alloc: Global, input: &mut I, output: &mut O) -> u8
-    ensures { Ends (I.left input.old) (I.stop input.old) (O.held output.old) (O.held output.new) (I.faults input.old) (I.faults input.new) (O.faults output.old) (O.faults output.new) result }
+    ensures { (words : List (List ℕ)) → IsRun words → Ends (Prints words (I.left input.old) (I.stop input.old) (I.faults input.old) (I.faults input.new))
+        (O.held output.old) (O.held output.new) (O.faults output.old) (O.faults output.new) result }
 {
     match read_script(alloc, Word::Run, input) {
         Ok((setup, commands)) => run_commands(alloc, &setup, commands.as_slice(), output),
@@ -106,6 +126,23 @@ fn run_script<I: Source, O: Sink>(alloc: Global, input: &mut I, output: &mut O) 
         Err(ScriptError::InputFault) => say(output, b"input fault\n", INPUT),
         Err(ScriptError::Limit) => say(output, b"script: limit\n", SCRIPT),
         Err(ScriptError::Line(line)) => say_line(alloc, output, line),
+    }
+}
+
+/// Prints what the words ask for.
+fn print<I: Source, O: Sink>(alloc: Global, words: &[String], input: &mut I, output: &mut O) -> u8
+    ensures ends { Ends (Prints (map (λ word. string_bytes word) words.now) (I.left input.old) (I.stop input.old) (I.faults input.old) (I.faults input.new))
+        (O.held output.old) (O.held output.new) (O.faults output.old) (O.faults output.new) result }
+    ensures script { IsRun (map (λ word. string_bytes word) words.now) → ¬ MayRise (I.faults input.old) (I.faults input.new)
+        → ¬ MayRise (O.faults output.old) (O.faults output.new) → IfSome (I.left input.old) (λ bytes. (result ≡ decided bytes) ⊎ (result ≡ 1)) }
+{
+    match word_of(words) {
+        Some(Word::Run) => run_script(alloc, input, output),
+        None => say(
+            output,
+            b"usage: run, live, talk ADDR, serve ADDR, gen N\n",
+            USAGE,
+        ),
     }
 }
 
@@ -120,49 +157,34 @@ pub fn peer_main<R, I: Source, O: Sink>(
     input: &mut I,
     output: &mut O,
 ) -> u8
+    // one of the texts of `Prints` was printed, and nothing else, under its status; or a proper part of one, under 5 or 1
+    ensures ends { Ends (Prints (map (λ word. string_bytes word) words.now) (I.left input.old) (I.stop input.old) (I.faults input.old) (I.faults input.new))
+        (O.held output.old) (O.held output.new) (O.faults output.old) (O.faults output.new) result }
     // 0: the input isn't told to fail behind its bytes; the transcript of a legal history of the script, and nothing else, was printed;
-    // and of that history hold:
+    // and all that `IsWhole` says holds of that history, of its reads, polls and streams and of what was sent
     ensures told { result ≡ 0 → I.stop input.old ≢ Some true }
-    // reads take the messages that stand in the source's bytes, in order, however these are cut
-    ensures reads { result ≡ 0 → IsRun (map (λ word. string_bytes word) words.now)
-        × IfSome (I.left input.old) (λ bytes. Prints ReadsAre bytes (O.held output.old) (O.held output.new)) }
-    // a polled call is answered at most once, by the first later reply that bears its serial, else by the closing error
-    ensures polls { result ≡ 0 → IfSome (I.left input.old) (λ bytes. Prints PollsAre bytes (O.held output.old) (O.held output.new)) }
-    // each stream gives exactly the messages that were read since it was made, a clone before them what its original held, one for
-    // which the bus was asked those behind the return to its AddMatch, then the end; a closed one, or a denied one, is unknown; a
-    // full one makes reads wait
-    ensures streams { result ≡ 0 → IfSome (I.left input.old) (λ bytes. Prints StreamsAre bytes (O.held output.old) (O.held output.new)) }
-    // the bytes sent, printed behind the entries, are the encodings of what was put, up to the sink's fault
-    ensures sends { result ≡ 0 → IfSome (I.left input.old) (λ bytes. Prints SentIs bytes (O.held output.old) (O.held output.new)) }
-    // and the four hold of one history
-    ensures whole { result ≡ 0 → IfSome (I.left input.old) (λ bytes. Prints IsWhole bytes (O.held output.old) (O.held output.new)) }
+    ensures whole { result ≡ 0 → IsRun (map (λ word. string_bytes word) words.now)
+        × IfSome (I.left input.old) (λ bytes. (text : List ℕ) × IsTranscript bytes text × Appends (O.held output.old) (O.held output.new) text) }
     // 2: exactly where the words are no row of the program's table, memory and the output's faults aside
     ensures usage { result ≡ 2 → (¬ IsRun (map (λ word. string_bytes word) words.now)) × Appends (O.held output.old) (O.held output.new) usage }
     ensures no_row { ¬ IsRun (map (λ word. string_bytes word) words.now) → (result ≡ 2) ⊎ (result ≡ 1) ⊎ (result ≡ 5) }
     // 3: exactly where the input passes a limit or is no script text, and the printed line says where; with a line only where the input
     // isn't told to fail behind its bytes
     ensures refused { result ≡ 3 → IsRun (map (λ word. string_bytes word) words.now)
-        × IfSome (I.left input.old) (λ bytes. Refuses (I.stop input.old) bytes (O.held output.old) (O.held output.new)) }
+        × IfSome (I.left input.old) (λ bytes. (text : List ℕ) × IsRefusal (I.stop input.old) bytes text × Appends (O.held output.old) (O.held output.new) text) }
     // 4, 5: only where the count of the input's, the output's faults rose; 5 exactly there, in place of any other
     ensures input_fault { result ≡ 4 → IsRun (map (λ word. string_bytes word) words.now)
         × MayRise (I.faults input.old) (I.faults input.new) × Appends (O.held output.old) (O.held output.new) input_fault }
     ensures output_fault { result ≡ 5 → MayRise (O.faults output.old) (O.faults output.new) }
     // and then a proper part was printed of what would have been, and nothing else
-    ensures cut_short { result ≡ 5 → IsCutShort (Printed (map (λ word. string_bytes word) words.now) (I.left input.old) (I.stop input.old) (I.faults input.old) (I.faults input.new)) (O.held output.old) (O.held output.new) }
+    ensures cut_short { result ≡ 5 → IsCutShort (Prints (map (λ word. string_bytes word) words.now) (I.left input.old) (I.stop input.old) (I.faults input.old) (I.faults input.new)) (O.held output.old) (O.held output.new) }
     // 1: a proper front of what would have been printed, and behind it a front of the line that says so, and nothing else
-    ensures memory { result ≡ 1 → RunsOut (Printed (map (λ word. string_bytes word) words.now) (I.left input.old) (I.stop input.old) (I.faults input.old) (I.faults input.new)) (O.held output.old) (O.held output.new) }
+    ensures memory { result ≡ 1 → RunsOut (Prints (map (λ word. string_bytes word) words.now) (I.left input.old) (I.stop input.old) (I.faults input.old) (I.faults input.new)) (O.held output.old) (O.held output.new) }
     ensures output_first { O.faults output.old < O.faults output.new → result ≡ 5 }
     ensures statuses { result ≤ 5 }
     // a script text gives 0, another input 3, where no count rose and there is memory
     ensures script { IsRun (map (λ word. string_bytes word) words.now) → ¬ MayRise (I.faults input.old) (I.faults input.new)
-        → ¬ MayRise (O.faults output.old) (O.faults output.new) → IfSome (I.left input.old) (λ bytes. IsDecided bytes result) }
+        → ¬ MayRise (O.faults output.old) (O.faults output.new) → IfSome (I.left input.old) (λ bytes. (result ≡ decided bytes) ⊎ (result ≡ 1)) }
 {
-    match word_of(words) {
-        Some(Word::Run) => run_script(alloc, input, output),
-        None => say(
-            output,
-            b"usage: run, live, talk ADDR, serve ADDR, gen N\n",
-            USAGE,
-        ),
-    }
+    print(alloc, words, input, output)
 }

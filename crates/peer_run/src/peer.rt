@@ -2,8 +2,8 @@ ghost use Rattle.std.specs.Prelude.{ℕ, ◌≡◌, ◌≢◌, ◌≤◌, ◌<�
 ghost use Rattle.peer_route.specs.declared.answer.Entry.{Entry};
 ghost use Rattle.peer_route.specs.declared.words.Words.TheVariants as words;
 ghost use Rattle.peer_route.specs.Parcel.{Setting};
-ghost use Rattle.peer_run.specs.Sinks.{Inlet, Outlet, Reads, SourceMoves, IsRest, Shuts};
-ghost use Rattle.peer_run.specs.Runs.{Follows, read_entry, close_entry};
+ghost use Rattle.peer_run.specs.Runs.{Inlet, Outlet, Reads, SourceMoves, IsRest, Shuts};
+ghost use Rattle.peer_run.specs.Runs.{Follows, quiet};
 ghost use Rattle.wire_framing.specs.Writing.{closed};
 ghost use Rattle.wire_framing.specs.Receive.{Receives, Takes};
 ghost use Rattle.wire_message.specs.declared.error.IoKind.TheVariants.{Ended};
@@ -79,8 +79,7 @@ fn receive<S: Source>(
     ensures takes { Takes seq result (S.left half.old.source) (S.left half.new.source) (S.stop half.old.source) (S.stop half.new.source) (S.faults half.old.source) (S.faults half.new.source) }
     ensures last { seq ≡ 2 ^ 64 - 1 → result ≡ Err (Error.InputOutput Ended) }
     ensures rest { IfErr result (λ e. e ≢ Error.Memory → IfSome (S.left half.old.source) (λ bytes. IsRest (Some e) (seq - 1) bytes (S.stop half.old.source) (S.left half.new.source) (S.stop half.new.source))) }
-    ensures took { IfOk result (λ m. kept.new.items ≡ []) }
-    ensures ended { IfErr result (λ e. e ≢ Error.Memory → kept.new.items ≡ []) }
+    ensures ended { result ≢ Err Error.Memory → kept.new.items ≡ [] }
     ensures same { S.lent half.new.source ≡ S.lent half.old.source }
 {
     half.receive_message(alloc, seq, kept)
@@ -143,10 +142,10 @@ impl Peer {
         requires within { self.old.core.read ≤ 2 ^ 64 - 2 }
         requires empty { kept.old.items ≡ [] }
         ensures follows { IfOk result (λ r. (setting : Setting) (es : List Entry) (lane : ℕ) → Follows setting self.old es
-            → Follows setting self.new (read_entry lane r ∷ es)) }
+            → Follows setting self.new (quiet lane words.Read r.answer r.message ∷ es)) }
         ensures reads { IfOk result (λ r. (setting : Setting) (start : Inlet) (es : List Entry) (lane : ℕ) → Follows setting self.old es
             → Reads setting start (record { left = S.left half.old.source; stop = S.stop half.old.source; faults = S.faults half.old.source }) es
-            → Reads setting start (record { left = S.left half.new.source; stop = S.stop half.new.source; faults = S.faults half.new.source }) (read_entry lane r ∷ es)) }
+            → Reads setting start (record { left = S.left half.new.source; stop = S.stop half.new.source; faults = S.faults half.new.source }) (quiet lane words.Read r.answer r.message ∷ es)) }
         ensures moves { IfOk result (λ r. SourceMoves words.Read self.old.core.calls.closing r.answer (S.faults half.old.source) (S.faults half.new.source)) }
         ensures grows { S.faults half.old.source ≤ S.faults half.new.source }
         ensures empty { IfOk result (λ r. kept.new.items ≡ []) }
@@ -179,7 +178,7 @@ impl Peer {
 
     /// Closes the peer; it is closed also where the sink's `close` fails.
     pub(crate) fn close<W: Sink>(&mut self, half: &mut WriteHalf<W>) -> Answer
-        ensures follows { (setting : Setting) (es : List Entry) (lane : ℕ) → Follows setting self.old es → Follows setting self.new (close_entry lane result ∷ es) }
+        ensures follows { (setting : Setting) (es : List Entry) (lane : ℕ) → Follows setting self.old es → Follows setting self.new (quiet lane words.Close result None ∷ es) }
         ensures fine { half.new.writing ≡ closed half.old.writing }
         ensures closed { Shuts result (record { held = W.held half.old.sink; room = W.room half.old.sink; faults = W.faults half.old.sink; closes = W.closes half.old.sink })
             (record { held = W.held half.new.sink; room = W.room half.new.sink; faults = W.faults half.new.sink; closes = W.closes half.new.sink }) }

@@ -7,9 +7,9 @@ ghost use Rattle.peer_route.specs.Parcel.{Setting};
 ghost use Rattle.peer_script.specs.Script.{is_bus, name_of};
 ghost use Rattle.peer_route.specs.Trail.{Trail};
 ghost use Rattle.peer_run.specs.Stands.{Stands};
-ghost use Rattle.peer_run.specs.Sinks.{Inlet, Outlet};
+ghost use Rattle.peer_run.specs.Runs.{Inlet, Outlet};
 ghost use Rattle.peer_run.specs.Runs as runs;
-ghost use Rattle.peer_run.specs.Runs.{Running, Runs, setting_by};
+ghost use Rattle.peer_run.specs.Runs.{Running, Runs};
 ghost use Rattle.peer_script.specs.Again.{command_of};
 
 use crate::acting::Acted;
@@ -148,7 +148,7 @@ pub fn run_peer<S: Source, W: Sink>(
     commands: &[Command],
 ) -> Result<Transcript, RunError>
     requires { AllByRecursion (λ (c : Command). IsOfRun c.words) commands.now }
-    ensures run { IfOk result (λ t. Runs (setting_by (is_bus setup.now.kind) (name_of setup.now.kind) setup.now.queue (W.takes sink.old))
+    ensures run { IfOk result (λ t. Runs (record { bus = is_bus setup.now.kind; name = name_of setup.now.kind; takes_fds = W.takes sink.old; queue = setup.now.queue })
         (record { left = S.left source.old; stop = S.stop source.old; faults = S.faults source.old })
         (record { held = W.held sink.old; room = W.room sink.old; faults = W.faults sink.old; closes = W.closes sink.old })
         (record { left = S.left source.new; stop = S.stop source.new; faults = S.faults source.new })

@@ -1,8 +1,8 @@
 //! Messages of a lane: calls, signals, and answers to what a stream gave.
-ghost use Rattle.std.specs.Prelude.{ℕ, ◌≡◌, ◌<◌, ◌^◌, [], ◌∷◌, length, false, slice_get, option_map, Ok};
+ghost use Rattle.std.specs.Prelude.{ℕ, ◌≡◌, ◌<◌, ◌^◌, [], ◌∷◌, length, false, slice_get, option_map, IfOk};
 ghost use Rattle.std.specs.Option.{option_flatten};
 ghost use Rattle.peer_route.specs.Trail.{Trail};
-ghost use Rattle.peer_route.specs.Parcel.{sent_by};
+ghost use Rattle.peer_route.specs.Parcel.{Asked, sent_by};
 ghost use Rattle.peer_route.specs.History.{Past};
 ghost use Rattle.peer_route.specs.Streams.{all_given};
 ghost use Rattle.peer_route.specs.Left.{Left};
@@ -10,14 +10,14 @@ ghost use Rattle.peer_route.specs.CallMessage.{outgoing_asked};
 ghost use Rattle.peer_route.specs.Issuing.{Issues, issued_each, of_lane};
 ghost use Rattle.peer_route.specs.Plan.{sends, on_stream};
 ghost use Rattle.peer_route.specs.declared.words.StreamOp.TheVariants as ops;
-ghost use Rattle.peer_run.specs.CallWords.{IsCarried};
-ghost use Rattle.peer_run.specs.Stands.{PeerView, Stands, IfDid};
+ghost use Rattle.peer_run.specs.CallWords.{MakesParcel, named_asked, IsCarried};
+ghost use Rattle.peer_run.specs.Stands.{PeerView, Stands, Did};
 
 use crate::acting::{Acted, Makes, plainly};
 use crate::call_words::{error_letter, outgoing_letter, reply_letter};
 use crate::lanes::Lanes;
 use crate::peer::{Peer, RunError};
-use crate::showing::{refused, undone};
+use crate::showing::{refused, unsent};
 use peer_route::{Answer, Issued, Letter, Outgoing, Route};
 use std::alloc::Global;
 use wire_message::{Error, Message};
@@ -38,18 +38,22 @@ fn issue_one(alloc: Global, route: &mut Route, letter: Letter<'_>) -> wire_messa
     }
 }
 
-/// Puts a lane's message.
+/// Puts a lane's message, or refuses it by why there is none.
 fn put(
     alloc: Global,
     route: &mut Route,
     names: &Lanes,
     lane: u32,
-    letter: Letter<'_>,
+    letter: wire_message::Result<Letter<'_>>,
 ) -> Result<Acted, RunError>
-    requires { length letter.fds < 2 ^ 32 }
-    ensures { (t : Trail) (v : PeerView) → v.core ≡ route.new → Left route.old t.past → v.given ≡ all_given t.past → names.now ≡ t.names → IsCarried t.setting.takes_fds letter.entry
-        → IfDid v t lane (sends t lane (Ok (sent_by route.old.name false letter.entry))) result }
+    requires { IfOk letter (λ letter. length letter.fds < 2 ^ 32) }
+    ensures { (t : Trail) (v : PeerView) (asked : Asked) → v.core ≡ route.new → Left route.old t.past → v.given ≡ all_given t.past → names.now ≡ t.names
+        → MakesParcel letter.entry asked → IfOk letter.entry (λ letter. IsCarried t.setting.takes_fds letter) → IfOk result (Did v t lane (sends t lane (named_asked t.past.name asked))) }
 {
+    let letter = match letter {
+        Ok(letter) => letter,
+        Err(error) => return refused(error),
+    };
     match issue_one(alloc, route, letter) {
         Ok(issued) => match issued.call {
             Some(_) => Ok(Acted {
@@ -61,7 +65,7 @@ fn put(
             }),
             None => Ok(plainly(Answer::Sent(issued.serial))),
         },
-        Err(error) => undone(error),
+        Err(error) => unsent(error),
     }
 }
 
@@ -84,13 +88,11 @@ impl Peer {
         lane: u32,
         words: &Outgoing,
     ) -> Result<Acted, RunError>
-        ensures did { (t : Trail) → Stands self.old t → t.setting.takes_fds ≡ takes_fds → IfDid self.new t lane (sends t lane (outgoing_asked t.past.name takes_fds words.now)) result }
+        ensures did { (t : Trail) → Stands self.old t → t.setting.takes_fds ≡ takes_fds → IfOk result (Did self.new t lane (sends t lane (outgoing_asked t.past.name takes_fds words.now))) }
         ensures rest { (self.new.names ≡ self.old.names) × (self.new.streams ≡ self.old.streams) }
     {
-        match outgoing_letter(alloc, words, takes_fds) {
-            Ok(letter) => put(alloc, &mut self.route, &self.names, lane, letter),
-            Err(error) => refused(error),
-        }
+        let letter = outgoing_letter(alloc, words, takes_fds);
+        put(alloc, &mut self.route, &self.names, lane, letter)
     }
 
     /// Puts a method return to the message that the stream with this number gave last.
@@ -101,16 +103,14 @@ impl Peer {
         stream: u64,
         body: &Option<Bytes>,
     ) -> Result<Acted, RunError>
-        ensures did { (t : Trail) → Stands self.old t → IfDid self.new t lane (on_stream t lane (ops.Reply body.now) stream) result }
+        ensures did { (t : Trail) → Stands self.old t → IfOk result (Did self.new t lane (on_stream t lane (ops.Reply body.now) stream)) }
         ensures rest { (self.new.names ≡ self.old.names) × (self.new.streams ≡ self.old.streams) }
     {
         let Some(message) = given_last(self.given.as_slice(), stream) else {
             return Ok(plainly(Answer::Refused(Error::UnknownHandle)));
         };
-        match reply_letter(alloc, message, body) {
-            Ok(letter) => put(alloc, &mut self.route, &self.names, lane, letter),
-            Err(error) => refused(error),
-        }
+        let letter = reply_letter(alloc, message, body);
+        put(alloc, &mut self.route, &self.names, lane, letter)
     }
 
     /// Puts the error of that name to the message that the stream with this number gave last.
@@ -122,15 +122,13 @@ impl Peer {
         name: &Bytes,
         body: &Option<Bytes>,
     ) -> Result<Acted, RunError>
-        ensures did { (t : Trail) → Stands self.old t → IfDid self.new t lane (on_stream t lane (ops.Error name.now body.now) stream) result }
+        ensures did { (t : Trail) → Stands self.old t → IfOk result (Did self.new t lane (on_stream t lane (ops.Error name.now body.now) stream)) }
         ensures rest { (self.new.names ≡ self.old.names) × (self.new.streams ≡ self.old.streams) }
     {
         let Some(message) = given_last(self.given.as_slice(), stream) else {
             return Ok(plainly(Answer::Refused(Error::UnknownHandle)));
         };
-        match error_letter(alloc, message, name, body) {
-            Ok(letter) => put(alloc, &mut self.route, &self.names, lane, letter),
-            Err(error) => refused(error),
-        }
+        let letter = error_letter(alloc, message, name, body);
+        put(alloc, &mut self.route, &self.names, lane, letter)
     }
 }

@@ -5,8 +5,9 @@ ghost use Rattle.peer_route.specs.declared.opening.Opening.{Opening};
 ghost use Rattle.peer_route.specs.declared.progress.OpenState.{OpenState};
 ghost use Rattle.peer_route.specs.declared.progress.OpenState.TheVariants as states;
 ghost use Rattle.peer_route.specs.Bus.{IsShownAs};
+ghost use Rattle.peer_route.specs.Entries.{unsent};
 ghost use Rattle.peer_route.specs.Shown as shows;
-ghost use Rattle.peer_run.specs.Stands.{IsRefusal, IsUndone, IsUnopened, over_answer};
+ghost use Rattle.peer_run.specs.Stands.{Answers, undone_answer, unopened_answer};
 
 use crate::acting::{Acted, plainly};
 use crate::peer::RunError;
@@ -63,29 +64,38 @@ pub(crate) fn shown_drop(dropped: wire_message::Result<()>) -> Answer
 
 /// What is answered where a command's words are refused.
 pub(crate) fn refused(error: Error) -> Result<Acted, RunError>
-    ensures { IsRefusal error result }
+    ensures { Answers Answer.Refused error result }
 {
     match &error {
         Error::Memory => Err(RunError::Memory),
+        _ => Ok(plainly(Answer::Refused(error))),
+    }
+}
+
+/// What is answered where messages can't be put.
+pub(crate) fn unsent(error: Error) -> Result<Acted, RunError>
+    ensures { Answers unsent error result }
+{
+    match &error {
+        Error::Memory => Err(RunError::Memory),
+        Error::InputOutput(_) => Ok(plainly(Answer::SendFailed(error))),
         _ => Ok(plainly(Answer::Refused(error))),
     }
 }
 
 /// What is answered where the core did nothing, or couldn't put a message.
 pub(crate) fn undone(error: Error) -> Result<Acted, RunError>
-    ensures { IsUndone error result }
+    ensures { Answers undone_answer error result }
 {
     match &error {
-        Error::Memory => Err(RunError::Memory),
         Error::Busy => Ok(plainly(Answer::Busy)),
-        Error::InputOutput(_) => Ok(plainly(Answer::SendFailed(error))),
-        _ => Ok(plainly(Answer::Refused(error))),
+        _ => unsent(error),
     }
 }
 
 /// What is answered where it opened no stream of a rule.
 pub(crate) fn unopened(error: Error) -> Result<Acted, RunError>
-    ensures { IsUnopened error result }
+    ensures { Answers unopened_answer error result }
 {
     match &error {
         Error::InputOutput(IoKind::Closed) => Ok(plainly(Answer::Refused(error))),
@@ -109,7 +119,7 @@ pub(crate) fn shown_opening(opened: Opened) -> Answer
 
 /// What is shown where a stream will not be open, or isn't one for which the bus was asked.
 fn shown_over(error: Error) -> Answer
-    ensures { result ≡ over_answer error }
+    ensures { (o : Opening) (state : OpenState) → IsShownAs o state (Opened.Over error) → state ≢ states.Over errors.UnknownHandle → result ≡ shows.shown_opening state }
 {
     match &error {
         Error::UnknownHandle => Answer::Refused(error),

@@ -1,5 +1,5 @@
 //! What commands ask of calls and of streams, and the streams that they open.
-ghost use Rattle.std.specs.Prelude.{ℕ, ◌≡◌, ◌≢◌, [], ◌∷◌, ◌++◌, OnOk, IfOk, Some, None};
+ghost use Rattle.std.specs.Prelude.{ℕ, ◌≡◌, ◌≢◌, [], ◌∷◌, ◌++◌, true, false, OnOk, IfOk, Some, None};
 ghost use Rattle.peer_route.specs.declared.words.StreamOp.TheVariants as ops;
 ghost use Rattle.rule_match.specs.Bytes.{rule_in_bytes};
 ghost use Rattle.peer_route.specs.History.{Plain, Main, Past, after};
@@ -7,11 +7,11 @@ ghost use Rattle.peer_route.specs.Trail as trails;
 ghost use Rattle.peer_route.specs.Trail.{Trail, place};
 ghost use Rattle.peer_route.specs.Shown as shows;
 ghost use Rattle.peer_route.specs.Plan.{where_named, on_call, on_stream, makes, ends, opens};
-ghost use Rattle.peer_run.specs.Stands.{Keeps, Stands, Did, IfDid, plain, is_unknown, given_after, forgotten};
+ghost use Rattle.peer_run.specs.Stands.{Keeps, Stands, Did, plain, given_after, forgotten};
 
 use crate::acting::{Acted, Makes, plainly};
 use crate::peer::{Peer, RunError};
-use crate::showing::{refused, shown, shown_drop, shown_opening, undone, unopened};
+use crate::showing::{refused, shown, shown_drop, shown_opening, undone, unopened, unsent};
 use peer_route::{Answer, CallOp, MessageStream, Opening, Opens, Polled, Spent, StreamOp};
 use rule_match::OwnedMatchRule;
 use std::alloc::Global;
@@ -20,7 +20,8 @@ use wire_names::Bytes;
 
 /// Whether it is that something wasn't made, or isn't open.
 fn is_unknown(error: &Error) -> bool
-    ensures { result ≡ is_unknown error.now }
+    ensures yes { result ≡ true → error.now ≡ Error.UnknownHandle }
+    ensures no { result ≡ false → error.now ≢ Error.UnknownHandle }
 {
     matches!(error, Error::UnknownHandle)
 }
@@ -49,7 +50,7 @@ impl Peer {
         number: u64,
         op: &StreamOp,
     ) -> Result<Acted, RunError>
-        ensures did { (t : Trail) → Stands self.old t → t.past.closing ≢ Some Error.UnknownHandle → IfDid self.new t lane (where_named (on_stream t lane op.now) (place 0 lane number t.streams)) result }
+        ensures did { (t : Trail) → Stands self.old t → t.past.closing ≢ Some Error.UnknownHandle → IfOk result (Did self.new t lane (where_named (on_stream t lane op.now) (place 0 lane number t.streams))) }
         ensures rest { (self.new.names ≡ self.old.names) × (self.new.streams ≡ self.old.streams) }
     {
         let Some(stream) = self.streams.place(lane, number) else {
@@ -92,7 +93,7 @@ impl Peer {
 
     /// Opens a stream for the lane.
     pub(crate) fn stream(&mut self, lane: u32) -> Result<Acted, RunError>
-        ensures did { (t : Trail) → Stands self.old t → IfDid self.new t lane (makes t lane Plain) result }
+        ensures did { (t : Trail) → Stands self.old t → IfOk result (Did self.new t lane (makes t lane Plain)) }
         ensures rest { (self.new.names ≡ self.old.names) × (self.new.streams ≡ self.old.streams) }
     {
         let _ = self.route.open()?;
@@ -101,7 +102,7 @@ impl Peer {
 
     /// Opens a stream for the lane that goes on where the one with this number is.
     fn clone_stream(&mut self, lane: u32, stream: u64) -> Result<Acted, RunError>
-        ensures did { (t : Trail) → Stands self.old t → IfDid self.new t lane (on_stream t lane ops.Clone stream) result }
+        ensures did { (t : Trail) → Stands self.old t → IfOk result (Did self.new t lane (on_stream t lane ops.Clone stream)) }
         ensures rest { (self.new.names ≡ self.old.names) × (self.new.streams ≡ self.old.streams) }
     {
         match self.route.clone_stream(&MessageStream { number: stream }) {
@@ -118,7 +119,7 @@ impl Peer {
         max_queued: Option<u64>,
         text: &Bytes,
     ) -> Result<Acted, RunError>
-        ensures did { (t : Trail) → Stands self.old t → IfDid self.new t lane (opens t lane (rule_in_bytes text.now) max_queued t.past.closing) result }
+        ensures did { (t : Trail) → Stands self.old t → IfOk result (Did self.new t lane (opens t lane (rule_in_bytes text.now) max_queued t.past.closing)) }
         ensures rest { (self.new.names ≡ self.old.names) × (self.new.streams ≡ self.old.streams) }
     {
         let rule = match OwnedMatchRule::try_from_bytes(alloc, text.as_slice()) {
@@ -226,7 +227,7 @@ impl Peer {
 
     /// Closes the stream, and then the second, where one is there; RemoveMatch is put for each rule that has none any more.
     fn end(&mut self, stream: u64, second: Option<u64>) -> Result<Acted, RunError>
-        ensures did { (t : Trail) (lane : ℕ) → Stands self.old t → IfDid self.new t lane (ends t.past stream (Some second)) result }
+        ensures did { (t : Trail) (lane : ℕ) → Stands self.old t → IfOk result (Did self.new t lane (ends t.past stream (Some second))) }
         ensures rest { (self.new.names ≡ self.old.names) × (self.new.streams ≡ self.old.streams) }
     {
         let other = match second {
@@ -251,14 +252,14 @@ impl Peer {
                 if !is_unknown(&error) {
                     self.forget(stream, second);
                 }
-                undone(error)
+                unsent(error)
             }
         }
     }
 
     /// Closes the stream with this place, and then the one that the lane's second number names.
     fn unstream(&mut self, lane: u32, stream: u64, second: Option<u64>) -> Result<Acted, RunError>
-        ensures did { (t : Trail) → Stands self.old t → IfDid self.new t lane (on_stream t lane (ops.Unstream second) stream) result }
+        ensures did { (t : Trail) → Stands self.old t → IfOk result (Did self.new t lane (on_stream t lane (ops.Unstream second) stream)) }
         ensures rest { (self.new.names ≡ self.old.names) × (self.new.streams ≡ self.old.streams) }
     {
         let Some(number) = second else {

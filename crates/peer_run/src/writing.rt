@@ -1,10 +1,10 @@
 //! Writing what a peer's core put in its outbox.
-ghost use Rattle.std.specs.Prelude.{ℕ, ◌≡◌, ◌≤◌, ◌<◌, ◌-◌, drop, true, false, length, IfOk, OnOk};
+ghost use Rattle.std.specs.Prelude.{ℕ, ◌≡◌, ◌≤◌, ◌<◌, ◌-◌, ◌≢◌, drop, true, false, length, Err, is_ok, IfOk, OnOk};
 ghost use Rattle.peer_route.specs.History.{Past, Fault, after_all};
 ghost use Rattle.peer_route.specs.Left.{Left};
 ghost use Rattle.peer_route.specs.Entries.{repeat, writes_of};
 ghost use Rattle.peer_run.specs.Stands.{AreTaken};
-ghost use Rattle.peer_run.specs.Sinks.{Outlet, Sinks, Flushed, IsReady, IsFine, WentOut};
+ghost use Rattle.peer_run.specs.Runs.{Outlet, Sinks, Flushed, IsReady, IsFine};
 
 use crate::peer::{Peer, RunError};
 use wire_framing::{Sink, WriteHalf};
@@ -19,7 +19,7 @@ pub(crate) struct Flush {
 
 /// Whether a message was written, or its write failed.
 fn went_out(sent: wire_message::Result<()>) -> Result<bool, RunError>
-    ensures { WentOut sent result }
+    ensures { IfOk result (λ went. (went ≡ is_ok sent) × (sent ≢ Err Error.Memory)) }
 {
     match &sent {
         Ok(()) => Ok(true),

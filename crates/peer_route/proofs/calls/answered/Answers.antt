@@ -1,7 +1,6 @@
 -- Only a return or an error bears a reply serial.
 use Rattle.std.proofs.Common.{◌≡◌, sym, ◌∙◌, ap, inl, inr, true, false}
-use Rattle.peer_route.specs.History.{is_reply}
-use Rattle.peer_route.specs.Left.{is_number}
+use Rattle.peer_route.specs.History.{is_reply, is_serial}
 use Rattle.peer_route.proofs.Core.{bears_reply, bears_none}
 use Rattle.peer_route.proofs.calls.answered.Goals as goal
 
@@ -9,7 +8,7 @@ pub returns-in-MethodReturn : goal.returns-in-MethodReturn
 returns-in-MethodReturn c serial =
     let kind : is_reply c.args.message.now.kind ≡ true =
     elim c.in-MethodReturn.is [ inl e ↦ ap is_reply (sym c.message_type.ensures ∙ e) | inr e ↦ ap is_reply (sym c.message_type.ensures ∙ e) ] in
-    bears_reply serial c.args.message.now kind ∙ ap (λ o. is_number o serial) (sym c.reply_serial.ensures)
+    bears_reply serial c.args.message.now kind ∙ ap (λ o. is_serial o serial) (sym c.reply_serial.ensures)
 
 pub returns-in-MethodCall : goal.returns-in-MethodCall
 returns-in-MethodCall c serial =

@@ -1,9 +1,7 @@
 -- A slot that waited leaves the map with its serial.
-use Rattle.std.proofs.Common.{refl, sym, ◌∙◌, ap, inl, inr}
-use Rattle.std.proofs.lemmas.Bool.{eq-eqb}
+use Rattle.std.proofs.{Common.{refl, sym, ◌∙◌, ap, inl, inr}, lemmas.Bool.eq-eqb}
 use Rattle.peer_route.specs.Left.{is_waiting}
-use Rattle.peer_route.proofs.Index.{at_read, index_idle, index_removed}
-use Rattle.peer_route.proofs.calls.forget.Goals.{in-Waiting, in-Gone}
+use Rattle.peer_route.proofs.{Index.{at_read, index_idle, index_removed}, calls.forget.Goals.{in-Waiting, in-Gone}}
 use Rattle.peer_route.proofs.calls.forget.Goals as goal
 
 pub returns-clause-waiting : goal.returns-clause-waiting

@@ -1,9 +1,7 @@
 -- The last slot is emptied and taken away.
-use Rattle.std.proofs.Common.{◌≡◌, ◌-◌, length, set, arith, ap, sym, subst, ◌∙◌, take}
+use Rattle.std.proofs.{Common.{◌≡◌, ◌-◌, length, set, arith, ap, sym, subst, ◌∙◌, take}, lemmas.List.{length-set, with_items_is}}
 use Rattle.std.specs.Vec.{with_items}
-use Rattle.std.proofs.lemmas.List.{length-set, with_items_is}
-use Rattle.peer_route.specs.Left.{IsIndex}
-use Rattle.peer_route.specs.declared.calls.Slot.TheVariants as slots
+use Rattle.peer_route.specs.{Left.IsIndex, Names.Slot}
 use Rattle.peer_route.proofs.Index.{taken_back}
 use Rattle.peer_route.proofs.calls.take_back_to.Goals as goal
 
@@ -11,8 +9,8 @@ pub loop-slots-preserved-in-loop-slots-2 : goal.loop-slots-preserved-in-loop-slo
 loop-slots-preserved-in-loop-slots-2 c =
     let ss = c.loop-slots.slots.items in
     let last = c.len-last.result - 1 in
-    let now_is : c.forget.new.slots ≡ set ss last slots.Gone = c.forget.ensures.slots ∙ ap (λ xs. set xs last slots.Gone) c.as_mut_slice.ensures.value in
-    let whole : length c.forget.new.slots ≡ c.loop-slots.slots.len = omega (arith, ap length now_is, length-set ss last slots.Gone, c.loop-slots.slots.ok.0) in
+    let now_is : c.forget.new.slots ≡ set ss last Slot.Gone = c.forget.ensures.slots ∙ ap (λ xs. set xs last Slot.Gone) c.as_mut_slice.ensures.value in
+    let whole : length c.forget.new.slots ≡ c.loop-slots.slots.len = omega (arith, ap length now_is, length-set ss last Slot.Gone, c.loop-slots.slots.ok.0) in
     let step = taken_back c.loop-slots.waiting c.forget.new.waiting ss c.forget.new.slots c.pop.new.self.items c.args.count last
     (omega (arith, c.loop-slots-test.true, c.len.ensures, c.len-last.ensures, c.loop-slots.slots.ok.0))
     (omega (arith, c.loop-slots-test.true, c.len.ensures, c.len-last.ensures))

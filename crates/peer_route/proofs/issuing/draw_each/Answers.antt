@@ -1,37 +1,32 @@
 -- One message more has its serial, or none is left for it.
-use Rattle.std.proofs.Common.{◌≡◌, ◌++◌, ◌∷◌, sym, ◌∙◌, ap, subst}
-use Rattle.std.proofs.lemmas.Result.{err_from_is_err_and}
-use Rattle.std.specs.Vec.Iter.{into_iter_items}
-use Rattle.peer_route.specs.Placing.{NotDrawn}
-use Rattle.peer_route.proofs.Plain.{taken_front}
-use Rattle.peer_route.proofs.Drawn.{drawing_more, not_drawn, made_by}
+use Rattle.peer_route.proofs.{Edits.{all_push}, Drawn.{Drawing, drawing_more, drawing_refused, drawing_done, next_dropped, next_posted, made_more}}
+use Rattle.std.proofs.{Common.{arith, ◌≡◌, [], ◌<◌, ◌+◌, ℕ, Vec, Global, drop, length, sym, ◌∙◌, ap, subst, drop_of_length-le}, lemmas.Result.err_from_is_err_and, lemmas.List.length_push}
+use Rattle.std.specs.List.{AllByRecursion}
+use Rattle.peer_route.specs.Placing.{posts}
 use Rattle.peer_route.proofs.issuing.draw_each.Goals as goal
 
-pub returns-in_err-draw-clause-refused : goal.returns-in_err-draw-clause-refused
-returns-in_err-draw-clause-refused c =
-    let p = err_from_is_err_and c.from_residual.result c.from_residual.ensures.1 in
-    let rest = into_iter_items c.next.new.self in
-    let all : c.args.list.items ≡ c.loop-letter.yielded ++ c.in-Some.letter ∷ rest =
-    sym c.into_iter-letter-iterator.ensures.into_iter_gives.0
-    ∙ taken_front c.into_iter-letter-iterator.result c.loop-letter.yielded c.loop-letter.letter-iterator c.loop-letter.yielded_by
-    ∙ ap (λ ys. c.loop-letter.yielded ++ ys) c.in-Some.ensures.steps.0 in
-    rw (p.1, p.2)
-    (subst (λ ps. NotDrawn c.args.inner c.args.calls.now c.args.serials.now ps c.in_err-draw.field-0.0) (sym all)
-    (not_drawn c.args.inner _ _ _ _ _ _ c.in-Some.letter rest _ c.loop-letter.invariant c.in_err-draw.ensures.refused))
-
-pub returns-in_err-draw-clause-made : goal.returns-in_err-draw-clause-made
-returns-in_err-draw-clause-made c =
-    let m = made_by c.args.inner _ _ _ _ _ _ c.loop-letter.invariant in
-    (m.0, c.in_err-draw.ensures.same ∙ m.1)
+pub returns-in_err-draw-clause-drawn : goal.returns-in_err-draw-clause-drawn
+returns-in_err-draw-clause-drawn c h name served left =
+    let q = err_from_is_err_and c.from_residual.result c.from_residual.ensures.1 in
+    let rest = next_posted c.args.inner name served _ _ _ (next_dropped c.args.list.now c.loop-letter.letter-index c.letter-item.result c.loop-letter-test.true c.letter-item.is) in
+    let x = subst (λ ds. Drawing (posts c.args.inner name served c.args.list.now) h c.loop-letter.drawn.items ds c.loop-letter.calls c.loop-letter.serials) rest (c.loop-letter.invariant.0 h name served left) in
+    rw (q.1, q.2) (drawing_refused (λ (v : Vec ℕ Global). v.items) _ h _ _ _ _ c.draw.new.calls _ c.draw.new.serials c.in_err-draw.field-0.0 x (c.in_err-draw.ensures.drawn x.now name served x.counted))
 
 pub loop-letter-preserved : goal.loop-letter-preserved
-loop-letter-preserved c =
-    let d = drawing_more c.args.inner _ _ _ _ _ _ _ _ _ _ c.loop-letter.invariant c.in_ok-draw.ensures.drawn in
-    (d.0, d.1, c.in_ok-push.ensures.items ∙ d.2)
+loop-letter-preserved c = (
+  λ h name served left.
+      let rest = next_posted c.args.inner name served _ _ _ (next_dropped c.args.list.now c.loop-letter.letter-index c.letter-item.result c.loop-letter-test.true c.letter-item.is) in
+      let x = subst (λ ds. Drawing (posts c.args.inner name served c.args.list.now) h c.loop-letter.drawn.items ds c.loop-letter.calls c.loop-letter.serials) rest (c.loop-letter.invariant.0 h name served left) in
+      let one = c.in_ok-draw.ensures.drawn x.now name served x.counted in
+      subst (λ ns. Drawing (posts c.args.inner name served c.args.list.now) h ns (posts c.args.inner name served (drop (c.loop-letter.letter-index + 1) c.args.list.now)) c.draw.new.calls c.draw.new.serials)
+      (sym c.in_ok-push.ensures.items) (drawing_more _ h _ _ _ _ c.draw.new.calls _ c.draw.new.serials c.in_ok-draw.field-0 x one.0 one.1),
+  subst (AllByRecursion (λ serial. 0 < serial)) (sym c.in_ok-push.ensures.items) (all_push (λ serial. 0 < serial) c.loop-letter.drawn.items c.in_ok-draw.field-0 c.in_ok-draw.ensures.some c.loop-letter.invariant.1),
+  ap length c.in_ok-push.ensures.items ∙ length_push c.loop-letter.drawn.items c.in_ok-draw.field-0 ∙ ap (λ n. n + 1) c.loop-letter.invariant.2,
+  made_more _ _ _ c.loop-letter.invariant.3 c.in_ok-draw.ensures.made,
+)
 
-pub returns-in_err-push-clause-made : goal.returns-in_err-push-clause-made
-returns-in_err-push-clause-made c =
-    made_by c.args.inner _ _ _ _ _ _ (drawing_more c.args.inner _ _ _ _ _ _ _ _ c.in-Some.letter c.in_ok-draw.field-0 c.loop-letter.invariant c.in_ok-draw.ensures.drawn)
-
-pub returns-clause-made : goal.returns-clause-made
-returns-clause-made c = made_by c.args.inner _ _ _ _ _ _ c.loop-letter.invariant
+pub returns-clause-drawn : goal.returns-clause-drawn
+returns-clause-drawn c h name served left =
+    let none : drop c.loop-letter.letter-index c.args.list.now ≡ [] = drop_of_length-le c.args.list.now (omega (arith, c.loop-letter-test.false)) in
+    drawing_done (posts c.args.inner name served c.args.list.now) h c.loop-letter.drawn.items c.loop-letter.calls c.loop-letter.serials
+    (subst (λ rest. Drawing (posts c.args.inner name served c.args.list.now) h c.loop-letter.drawn.items (posts c.args.inner name served rest) c.loop-letter.calls c.loop-letter.serials) none (c.loop-letter.invariant.0 h name served left))

@@ -1,4 +1,4 @@
-use Rattle.peer_route.proofs.Lanes.{spent_other, poll_other}
+use Rattle.peer_route.proofs.Read.{spent_other, poll_other}
 use Rattle.peer_route.proofs.laws.spent_changes_no_other.Goals as goal
 
 pub returns : goal.returns

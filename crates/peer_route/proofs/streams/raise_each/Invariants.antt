@@ -1,9 +1,7 @@
 -- The streams that were passed are raised.
 use Rattle.std.proofs.Common.{◌≡◌}
-use Rattle.std.specs.Option.{option_map}
-use Rattle.peer_route.specs.Left.{raise_held}
-use Rattle.peer_route.proofs.Queues.{each_first}
+use Rattle.peer_route.specs.Left.{raise_held, each_first}
 use Rattle.peer_route.proofs.streams.raise_each.Given as goal
 
 abbrev pub invariant-loop-queue : goal.invariant-loop-queue
-invariant-loop-queue l = l.queue-items ≡ each_first (option_map (raise_held l.rule l.asked)) l.queue-index l.fn.queues.items
+invariant-loop-queue l = l.queue-items ≡ each_first (raise_held l.rule l.asked) l.queue-index l.fn.queues.items

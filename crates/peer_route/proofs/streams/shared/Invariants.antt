@@ -1,7 +1,11 @@
--- None of the streams that were passed is of the rule.
-use Rattle.std.proofs.Common.{◌≡◌, drop}
-use Rattle.peer_route.specs.Left.{shared}
+-- None of the streams that were passed stays and is of the rule.
+use Rattle.std.proofs.Common.{◌≡◌, ◌-◌, length}
+use Rattle.peer_route.specs.{History.Past, Left.LeftStreams}
+use Rattle.peer_route.proofs.RuledStreams.{others}
 use Rattle.peer_route.proofs.streams.shared.Given as goal
 
-abbrev pub invariant-loop-queue : goal.invariant-loop-queue
-invariant-loop-queue l = shared l.rule l.queues ≡ shared l.rule (drop l.queue-index l.queues)
+abbrev pub invariant-loop-place : goal.invariant-loop-place
+invariant-loop-place l = (p : Past) → LeftStreams l.queues p → others p l.rule l.one l.before 0 ≡ others p l.rule l.one l.before l.place
+
+abbrev pub decreases-loop-place : goal.decreases-loop-place
+decreases-loop-place l = length l.queues - l.place

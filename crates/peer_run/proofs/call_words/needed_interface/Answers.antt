@@ -1,5 +1,5 @@
 use Rattle.std.proofs.Common.{refl, ap, ◌∙◌, [], unwrap_or}
-use Rattle.wire_names.specs.Names.{is_interface_name}
+use Rattle.peer_run.specs.Names.{is_interface_name}
 use Rattle.peer_run.proofs.Letters.{no_interface}
 use Rattle.peer_run.proofs.call_words.needed_interface.Goals as goal
 

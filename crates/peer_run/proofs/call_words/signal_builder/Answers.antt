@@ -1,5 +1,4 @@
-use Rattle.std.proofs.Common.{refl, ap, not}
-use Rattle.std.proofs.lemmas.Result.{err_from_is_err_and}
+use Rattle.std.proofs.{Common.{refl, ap, not}, lemmas.Result.err_from_is_err_and}
 use Rattle.peer_run.proofs.Letters.{bad_destination, bad_path, bad_interface, bad_member, good_words, there}
 use Rattle.peer_run.proofs.call_words.signal_builder.Goals as goal
 

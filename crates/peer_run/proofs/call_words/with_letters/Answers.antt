@@ -1,5 +1,5 @@
 use Rattle.std.proofs.Common.{◌∙◌, ap}
-use Rattle.wire_message.specs.Draft.{flagged}
+use Rattle.peer_run.specs.Names.{flagged}
 use Rattle.peer_run.proofs.Letters.{flagged_is}
 use Rattle.peer_run.proofs.call_words.with_letters.Goals as goal
 

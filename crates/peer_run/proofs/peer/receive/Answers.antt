@@ -1,5 +1,5 @@
 use Rattle.std.proofs.Common.{◌∙◌, ap, arith}
-use Rattle.peer_run.proofs.HalfStep.{takes_own, keeps_ok, keeps_err, rest_read}
+use Rattle.peer_run.proofs.HalfStep.{takes_own, keeps_none, rest_read}
 use Rattle.peer_run.proofs.peer.receive.Goals as goal
 
 pub returns-clause-takes : goal.returns-clause-takes
@@ -7,14 +7,9 @@ returns-clause-takes g c =
     takes_own c.args.seq c.receive_message.result _ _ _ _ _ _ _ _ _ (omega (arith, c.ranges.seq.fits)) (λ e. (c.receive_message.ensures.last e).2)
     (rw (c.requires.empty) at c.receive_message.ensures.takes) c.receive_message.ensures.message c.receive_message.ensures.error
 
-pub returns-clause-took : goal.returns-clause-took
-returns-clause-took g c =
-    keeps_ok c.args.seq c.receive_message.result _ _ _ _ _ _ _ _ _ (omega (arith, c.ranges.seq.fits)) (λ e. (c.receive_message.ensures.last e).1 ∙ c.requires.empty)
-    (rw (c.requires.empty) at c.receive_message.ensures.takes)
-
 pub returns-clause-ended : goal.returns-clause-ended
-returns-clause-ended g c =
-    keeps_err c.args.seq c.receive_message.result _ _ _ _ _ _ _ _ _ (omega (arith, c.ranges.seq.fits)) (λ e. (c.receive_message.ensures.last e).1 ∙ c.requires.empty)
+returns-clause-ended g c = λ never.
+    keeps_none c.args.seq c.receive_message.result _ _ _ _ _ _ _ _ _ never (omega (arith, c.ranges.seq.fits)) (λ e. (c.receive_message.ensures.last e).1 ∙ c.requires.empty)
     (rw (c.requires.empty) at c.receive_message.ensures.takes)
 
 pub returns-clause-rest : goal.returns-clause-rest

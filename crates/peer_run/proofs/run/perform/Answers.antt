@@ -1,12 +1,8 @@
 use Rattle.std.proofs.Common.{◌≡◌, ◌∙◌, refl, ◌++◌, ◌-◌, sym, ap, subst, length, drop, if◌then◌else◌}
-use Rattle.peer_route.specs.Entries.{trail, writes_of, write_fault}
-use Rattle.peer_route.specs.History.{after_all}
-use Rattle.peer_route.specs.Left.{View, Left}
+use Rattle.peer_route.specs.{Entries.{trail, writes_of, write_fault}, History.after_all, Left.{View, Left}}
 use Rattle.peer_run.specs.Stands.{PeerView, AreTaken, call_owners, stream_owners}
-use Rattle.peer_run.proofs.Performing.{performed, fits, trail_setting}
-use Rattle.peer_run.proofs.KnownEnd.{closed_known}
+use Rattle.peer_run.proofs.{Performing.{performed, fits, trail_setting}, KnownEnd.closed_known, run.perform.Goals.{then-flush, else-flush}}
 use Rattle.peer_run.proofs.run.perform.Goals as goal
-use Rattle.peer_run.proofs.run.perform.Goals.{then-flush, else-flush}
 
 pub write_each-requires : goal.write_each-requires
 write_each-requires g c =

@@ -1,18 +1,12 @@
-use Rattle.std.proofs.Common.{rules, [], ◌∷◌, ◌++◌, map, take, reverse, sym, ◌∙◌, ap, arith, refl}
-use Rattle.std.proofs.lemmas.List.{take_all, take_more, reverse-append, map_push}
-use Rattle.peer_script.specs.Script.{is_bus, name_of}
-use Rattle.peer_script.specs.Again.{command_of}
-use Rattle.peer_run.specs.Runs.{setting_by}
-use Rattle.peer_run.proofs.Performing.{trail_setting}
-use Rattle.peer_run.proofs.Starting.{start_running}
-use Rattle.peer_run.proofs.Ends.{runs_of}
-use Rattle.peer_route.specs.Entries.{trail}
-use Rattle.peer_run.proofs.KnownEnd.{closed_known}
+use Rattle.std.proofs.{Common.{rules, [], ◌∷◌, ◌++◌, map, take, reverse, sym, ◌∙◌, ap, arith, refl}, lemmas.List.{take_all, take_more, reverse-append, map_push}}
+use Rattle.peer_run.specs.Names.{is_bus, name_of, command_of}
+use Rattle.peer_route.specs.{Parcel.Setting, Entries.trail}
+use Rattle.peer_run.proofs.{Performing.trail_setting, Following.{start_running, runs_of}, KnownEnd.closed_known}
 use Rattle.peer_run.proofs.run.run_peer.Goals as goal
 
 pub loop-command-init : goal.loop-command-init
 loop-command-init g c =
-    let setting = setting_by (is_bus c.args.setup.now.kind) (name_of c.args.setup.now.kind) c.args.setup.now.queue (g.W.Sink.takes c.args.sink.now) in
+    let setting : Setting = record { bus = is_bus c.args.setup.now.kind; name = name_of c.args.setup.now.kind; takes_fds = g.W.Sink.takes c.args.sink.now; queue = c.args.setup.now.queue } in
     rw (c.new-entries.ensures.items) (record {
       stands = rw (c.new-reader.ensures, c.new-writer.ensures.sink)
           (start_running setting _ _ _ _ (c.new-peer.ensures setting (sym c.is_bus.ensures) (sym (c.in_ok-name.ensures ∙ c.name.ensures)) refl) c.new-writer.ensures.fine);
@@ -28,7 +22,7 @@ loop-command-init g c =
 pub step-requires-clause-stands : goal.step-requires-clause-stands
 step-requires-clause-stands g c =
     let inv = c.loop-command.invariant in
-    let setting = setting_by (is_bus c.args.setup.now.kind) (name_of c.args.setup.now.kind) c.args.setup.now.queue (g.W.Sink.takes c.args.sink.now) in
+    let setting : Setting = record { bus = is_bus c.args.setup.now.kind; name = name_of c.args.setup.now.kind; takes_fds = g.W.Sink.takes c.args.sink.now; queue = c.args.setup.now.queue } in
     let es = reverse c.loop-command.entries.items in
     (trail setting es, inv.stands.follows.stands, ap (λ s. s.takes_fds) (trail_setting setting es) ∙ sym inv.takes, closed_known setting es inv.stands.follows.legal)
 
@@ -38,7 +32,7 @@ loop-command-preserved g c =
     let item = c.in_ok-entry.ensures.command ∙ c.command-item.is in
     record {
       stands = rw (c.in_ok-push.ensures.items, reverse-append c.loop-command.entries.items (c.in_ok-entry.entry ∷ []))
-          (c.in_ok-entry.ensures.running (setting_by (is_bus c.args.setup.now.kind) (name_of c.args.setup.now.kind) c.args.setup.now.queue (g.W.Sink.takes c.args.sink.now)) _ _ _ (sym inv.takes) inv.stands);
+          (c.in_ok-entry.ensures.running (record { bus = is_bus c.args.setup.now.kind; name = name_of c.args.setup.now.kind; takes_fds = g.W.Sink.takes c.args.sink.now; queue = c.args.setup.now.queue }) _ _ _ (sym inv.takes) inv.stands);
       commands = ap (map command_of) (c.in_ok-push.ensures.items) ∙ map_push command_of c.loop-command.entries.items c.in_ok-entry.entry
           ∙ ap (λ xs. xs ++ command_of c.in_ok-entry.entry ∷ []) inv.commands
           ∙ ap (λ x. take c.loop-command.command-index c.args.commands.now ++ x ∷ []) item

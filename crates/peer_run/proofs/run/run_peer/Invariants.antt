@@ -1,12 +1,10 @@
 use Rattle.std.proofs.Common.{◌≡◌, ◌≤◌, [], map, reverse, take}
-use Rattle.peer_script.specs.Script.{is_bus, name_of}
-use Rattle.peer_script.specs.Again.{command_of}
-use Rattle.peer_run.specs.Runs.{Running, setting_by}
+use Rattle.peer_run.specs.{Names.{is_bus, name_of, command_of}, Runs.Running}
 use Rattle.peer_run.proofs.run.run_peer.Given as goal
 
 abbrev pub invariant-loop-command : goal.invariant-loop-command
 invariant-loop-command g l = record {
-  stands : Running (setting_by (is_bus l.fn.setup.kind) (name_of l.fn.setup.kind) l.fn.setup.queue (g.W.Sink.takes l.fn.sink))
+  stands : Running (record { bus = is_bus l.fn.setup.kind; name = name_of l.fn.setup.kind; takes_fds = g.W.Sink.takes l.fn.sink; queue = l.fn.setup.queue })
       (record { left = g.S.Source.left l.fn.source; stop = g.S.Source.stop l.fn.source; faults = g.S.Source.faults l.fn.source })
       (record { held = g.W.Sink.held l.fn.sink; room = g.W.Sink.room l.fn.sink; faults = g.W.Sink.faults l.fn.sink; closes = g.W.Sink.closes l.fn.sink })
       l.peer

@@ -1,6 +1,6 @@
-use Rattle.std.proofs.Common.{◌≡◌, subst, IfOk}
-use Rattle.peer_script.specs.Again.{command_of}
-use Rattle.peer_run.proofs.Stepping.{running_read, running_close, map_ok}
+use Rattle.std.proofs.{Common.{◌≡◌, subst, IfOk}, lemmas.Result.IfOk-weaker}
+use Rattle.peer_run.specs.Names.{command_of}
+use Rattle.peer_run.proofs.Stepping.{running_read, running_close}
 use Rattle.peer_run.proofs.run.step.Goals as goal
 
 pub returns-in_ok-answer-in-Read-clause-running : goal.returns-in_ok-answer-in-Read-clause-running
@@ -12,7 +12,7 @@ returns-in_ok-answer-in-Read-clause-running g c setting start_in start_out es ta
 
 pub returns-in_ok-words-in_default-clause-running : goal.returns-in_ok-words-in_default-clause-running
 returns-in_ok-words-in_default-clause-running g c =
-    map_ok c.perform.result _ _ (λ e so setting start_in start_out es takes r. so setting start_in _ start_out es takes r) c.perform.ensures.running
+    IfOk-weaker c.perform.result _ _ (λ e so setting start_in start_out es takes r. so setting start_in _ start_out es takes r) c.perform.ensures.running
 
 pub returns-in_ok-words-in_default-clause-command : goal.returns-in_ok-words-in_default-clause-command
 returns-in_ok-words-in_default-clause-command g c =

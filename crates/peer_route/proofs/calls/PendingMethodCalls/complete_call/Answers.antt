@@ -1,14 +1,8 @@
 -- The call that waits for the message's reply serial takes it.
-use Rattle.std.proofs.Common.{◌≡◌, length, refl, sym, ◌∙◌, ap, set, get_or, is_some, subst}
+use Rattle.std.proofs.{Common.{◌≡◌, ℕ, length, refl, sym, ◌∙◌, ap, set, get_or, is_some, true, subst}, lemmas.Bool.false≢true, lemmas.List.get_or_read_under}
 use Rattle.std.specs.List.{list_any}
-use Rattle.std.proofs.lemmas.Bool.{false≢true}
-use Rattle.std.proofs.lemmas.List.{get_or_read_under}
-use Rattle.peer_route.specs.History.{Took, after}
-use Rattle.peer_route.specs.Left.{CallsView, LeftCalls, is_waiting, is_inner_slot, reply_kept}
-use Rattle.peer_route.specs.declared.calls.Slot.TheVariants.{Gone}
-use Rattle.peer_route.proofs.Core.{took_by_none, took_past, took_first}
-use Rattle.peer_route.proofs.Slots.{reply_waits}
-use Rattle.peer_route.proofs.Index.{any_index, waits_within, index_removed, open_none, pending_open, answers_none, answers_serial, answers_shut}
+use Rattle.peer_route.specs.{History.{Took, after}, Left.{CallsView, LeftCalls, is_waiting, is_inner_slot, reply_kept}, Names.Gone}
+use Rattle.peer_route.proofs.{Core.{took_by_none, took_past, took_first}, Slots.reply_waits, Index.{any_index, waits_within, index_removed, some_same, open_none, pending_open, answers_none, answers_serial, answers_shut}}
 use Rattle.peer_route.proofs.calls.PendingMethodCalls.complete_call.Goals as goal
 
 -- ---- a closed peer
@@ -80,12 +74,15 @@ returns-in-Some-remove-clause-none c h left =
     let m = c.args.message in
     let k = c.in-Some-remove.place in
     let items = c.self.inside.slots.items in
-    let was = (c.self.invariant none).there c.in-Some.serial k (sym c.remove.ensures.value ∙ c.in-Some-remove.is) in
+    let index = c.self.invariant none in
+    let was = index.there c.in-Some.serial k (sym c.remove.ensures.value ∙ c.in-Some-remove.is) in
+    let only : (j : ℕ) → is_waiting c.in-Some.serial (get_or items j Gone) ≡ true → j ≡ k =
+    λ j w. some_same j k (sym (index.whole c.in-Some.serial j w) ∙ index.whole c.in-Some.serial k was) in
     let slot : c.index.result.now ≡ get_or items k Gone =
     get_or_read_under items k (length items) c.index.result.now Gone c.index.ensures (waits_within c.in-Some.serial k items was) refl in
     took_first m c.in-Some.serial k c.args.self.now _ h c.in-Some.ensures
     (ap (λ (v : CallsView). is_waiting c.in-Some.serial (get_or v.slots k Gone)) (sym c.self.view_is) ∙ was)
+    (subst (λ (v : CallsView). (j : ℕ) → is_waiting c.in-Some.serial (get_or v.slots j Gone) ≡ true → j ≡ k) c.self.view_is only)
     (ap (set items k) (c.reply_kept.ensures ∙ ap (λ b. reply_kept b m) (c.is_inner-inner.ensures ∙ ap is_inner_slot slot))
     ∙ ap (λ (v : CallsView). set v.slots k (reply_kept (is_inner_slot (get_or v.slots k Gone)) m)) c.self.view_is)
     (ap (λ (v : CallsView). v.closing) c.self.view_is) left
-    (sym left.closing ∙ ap (λ (v : CallsView). v.closing) (sym c.self.view_is) ∙ none)

@@ -1,9 +1,7 @@
 -- A slot that is over is unknown; another is over from now on.
-use Rattle.std.proofs.Common.{sym, ◌∙◌, ap, Some, None}
-use Rattle.std.proofs.lemmas.Option.{slice_get_past, slice_get_read}
+use Rattle.std.proofs.{Common.{sym, ◌∙◌, ap, Some, None}, lemmas.Option.{slice_get_past, slice_get_read}}
 use Rattle.peer_route.specs.Left.{CallsView}
-use Rattle.peer_route.proofs.Core.{spent}
-use Rattle.peer_route.proofs.Drops.{drops_slot, slot_drops_gone, slot_drops_there}
+use Rattle.peer_route.proofs.{Core.spent, Drops.{drops_slot, slot_drops_gone, slot_drops_there}}
 use Rattle.peer_route.proofs.calls.PendingMethodCalls.drop_call.Goals as goal
 
 pub returns-then-call-len-clause-answer : goal.returns-then-call-len-clause-answer

@@ -1,7 +1,6 @@
 -- The first closing error stays.
 use Rattle.std.proofs.Common.{refl, sym, ◌∙◌, ap, is_some}
-use Rattle.peer_route.specs.History.{first_of}
-use Rattle.peer_route.specs.Left.{CallsView}
+use Rattle.peer_route.specs.{History.first_of, Left.CallsView}
 use Rattle.peer_route.proofs.Core.{shut, first_none, first_some}
 use Rattle.peer_route.proofs.calls.PendingMethodCalls.fail_all.Goals as goal
 

@@ -1,13 +1,7 @@
 -- A poll gives what the call's slot holds, once.
-use Rattle.std.proofs.Common.{◌≡◌, ℕ, ◌<◌, Bool, false, List, length, get_or, arith, refl, sym, ◌∙◌, ap, subst, Some, None, set}
-use Rattle.std.proofs.lemmas.List.{get_or_read_under}
-use Rattle.std.proofs.lemmas.Option.{slice_get_past}
-use Rattle.peer_route.specs.Calls.{polled_by}
-use Rattle.peer_route.specs.Left.{CallsView, LeftCalls, is_waiting, is_empty_slot}
-use Rattle.peer_route.specs.declared.calls.Slot.{Slot}
-use Rattle.peer_route.specs.declared.calls.Slot.TheVariants.{Gone, Waiting, Replied}
-use Rattle.peer_route.proofs.Core.{slot_gives, gives_slot, slot_gives_empty, at_slot, spent, put_back, calls_of}
-use Rattle.peer_route.proofs.Index.{index_idle, at_read}
+use Rattle.std.proofs.{Common.{◌≡◌, ℕ, ◌<◌, Bool, false, List, length, get_or, arith, refl, sym, ◌∙◌, ap, subst, Some, None, set}, lemmas.List.get_or_read_under, lemmas.Option.slice_get_past}
+use Rattle.peer_route.specs.{Calls.polled_by, Left.{CallsView, LeftCalls, is_waiting, is_empty_slot}, Names.{Slot, Gone, Waiting, Replied}}
+use Rattle.peer_route.proofs.{Core.{slot_gives, gives_slot, slot_gives_empty, at_slot, spent, put_back, calls_of}, Index.{index_idle, at_read}}
 use Rattle.peer_route.proofs.calls.PendingMethodCalls.poll.Goals as goal
 
 -- a slot that waits, and of which something may be given, is no inner call's

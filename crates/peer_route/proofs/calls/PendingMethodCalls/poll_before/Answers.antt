@@ -1,10 +1,8 @@
 -- A poll by position is the same event as one without.
 use Rattle.std.proofs.Common.{◌∙◌, ap, subst, sym}
-use Rattle.peer_route.specs.Calls.{by_position, poll_events}
-use Rattle.peer_route.specs.Left.{LeftCalls}
-use Rattle.peer_route.proofs.ByPosition.{polls_so}
+use Rattle.peer_route.specs.{Calls.{by_position, poll_events}, Left.LeftCalls, History.after_all}
+use Rattle.peer_route.proofs.Core.{polls_so}
 use Rattle.peer_route.proofs.calls.PendingMethodCalls.poll_before.Goals as goal
-use Rattle.peer_route.specs.History.{after_all}
 
 pub returns-clause-answer : goal.returns-clause-answer
 returns-clause-answer c h left = c.by_position.ensures ∙ ap by_position (c.poll.ensures.answer h left)

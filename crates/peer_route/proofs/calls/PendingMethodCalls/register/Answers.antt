@@ -1,11 +1,8 @@
 -- While the peer is open, the map has the new call's serial.
-use Rattle.std.proofs.Common.{rules, arith, ◌≡◌, sym, ◌∙◌, ap, ◌++◌, ◌∷◌, [], Some, length, subst, is_some}
-use Rattle.std.proofs.lemmas.Bool.{true≢false}
-use Rattle.std.specs.Ordering.{nat_cmp}
-use Rattle.std.specs.BTreeMap.{UpdatesBy}
-use Rattle.peer_route.specs.declared.calls.Slot.TheVariants.{Waiting}
-use Rattle.peer_route.proofs.Index.{registered}
-use Rattle.peer_route.proofs.calls.PendingMethodCalls.register.Goals.{then-is_open+in_ok-insert, else-is_open}
+use Rattle.std.proofs.{Common.{rules, arith, ◌≡◌, sym, ◌∙◌, ap, ◌++◌, ◌∷◌, [], Some, length, subst, is_some}, lemmas.Bool.true≢false}
+use Rattle.std.specs.{Ordering.nat_cmp, BTreeMap.UpdatesBy}
+use Rattle.peer_route.specs.Names.{Waiting}
+use Rattle.peer_route.proofs.{Index.registered, calls.PendingMethodCalls.register.Goals.{then-is_open+in_ok-insert, else-is_open}}
 use Rattle.peer_route.proofs.calls.PendingMethodCalls.register.Goals as goal
 
 pub invariant_of-self-2 : goal.invariant_of-self-2

@@ -1,9 +1,8 @@
 -- The message went to the call that waits for it, and to each stream.
-use Rattle.std.proofs.Common.{rules, sym, ◌+◌, ◌∙◌, subst, ◌≡◌, Option, Some, None, map, IfSome, IfNone}
-use Rattle.peer_route.specs.History.{Took, Past, after}
-use Rattle.peer_route.specs.Left.{View, Left, LeftCalls, arrived_at}
+use Rattle.std.proofs.Common.{sym, ◌∙◌, subst, ◌≡◌, false, OnOk, Option, Some, None, IfSome, IfNone, Result, Ok, Err}
+use Rattle.std.specs.Result.{is_err}
+use Rattle.peer_route.specs.{History.{Took, Past, after}, Left.{View, Left, LeftCalls, LeftStreams}}
 use Rattle.peer_route.proofs.Core.{left_took}
-use Rattle.peer_route.proofs.StreamsMade.{streams_took}
 use Rattle.peer_route.proofs.route.Route.arrive.Goals as goal
 
 -- whether a call took the message or not
@@ -11,19 +10,19 @@ either : {A : Type 0} (o : Option A) (P Q R : Type 0) → IfNone o P → IfSome 
 either None P Q R none some p q = p none
 either (Some m) P Q R none some p q = q some
 
+-- what an Ok says
+fine : {A E : Type 0} (r : Result A E) (P : Type 0) → is_err r ≡ false → OnOk r P → P
+fine (Ok x) P e p = p
+fine (Err x) P e p = cc
+
 pub returns-clause-left : goal.returns-clause-left
 returns-clause-left c h left =
-    let P : View → Type 0 = λ v. LeftCalls v.calls h in
-    let Q : View → Type 0 = λ v. Left (record v { calls = c.complete_call.new.self; streams = map (arrived_at c.args.message) v.streams; read = v.read + 1 }) (after (Took c.args.message) h) in
-    let was = subst P (sym c.self.view_is) left.calls in
+    let was = subst (λ (v : View). Left v h) (sym c.self.view_is) left in
     let open_ : h.closing ≡ None = sym left.calls.closing ∙ c.requires.is_open in
     let calls : LeftCalls c.complete_call.new.self (after (Took c.args.message) h) =
     either c.complete_call.result ((h : Past) → LeftCalls c.self.inside.calls h → LeftCalls c.complete_call.new.self (after (Took c.args.message) h))
     ((h : Past) → LeftCalls c.self.inside.calls h → h.closing ≡ None → LeftCalls c.complete_call.new.self (after (Took c.args.message) h))
     (LeftCalls c.complete_call.new.self (after (Took c.args.message) h))
-    c.complete_call.ensures.none c.complete_call.ensures.left (λ took. took h was) (λ back. back h was open_) in
-    let all : c.arrive.new.self ≡ map (arrived_at c.args.message) c.self.inside.streams = search rules in
-    rw all
-    (subst Q (sym c.self.view_is)
-    (left_took c.args.self.now c.complete_call.new.self (map (arrived_at c.args.message) c.args.self.now.streams) c.args.message h left calls
-    (streams_took c.args.message c.args.self.now.streams h left.streams)))
+    c.complete_call.ensures.none c.complete_call.ensures.left (λ took. took h was.calls) (λ back. back h was.calls open_) in
+    left_took _ c.complete_call.new.self c.arrive.new.self c.args.message h was calls
+    (fine c.arrive.result ((p : Past) → LeftStreams c.self.inside.streams p → LeftStreams c.arrive.new.self (after (Took c.args.message) p)) (sym c.is_err.ensures.value ∙ c.if-is_err.false) c.arrive.ensures.ok h was.streams)

@@ -2,8 +2,7 @@
 use Rattle.std.proofs.Common.{sym, ◌∙◌, ap, is_some}
 use Rattle.std.specs.List.{list_any}
 use Rattle.peer_route.specs.Left.{View, is_over}
-use Rattle.peer_route.proofs.Core.{busy_left}
-use Rattle.peer_route.proofs.Drops.{busy_open, busy_shut}
+use Rattle.peer_route.proofs.{Core.busy_left, Drops.{busy_open, busy_shut}}
 use Rattle.peer_route.proofs.route.Route.busy.Goals as goal
 
 pub returns-then-is_none-clause-view : goal.returns-then-is_none-clause-view

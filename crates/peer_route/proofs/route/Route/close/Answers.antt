@@ -1,6 +1,5 @@
 use Rattle.std.proofs.Common.{sym, subst}
-use Rattle.peer_route.specs.History.{Shut, worse, shuts, after}
-use Rattle.peer_route.specs.Left.{View, Left, LeftCalls}
+use Rattle.peer_route.specs.{History.{Shut, worse, shuts, after}, Left.{View, Left, LeftCalls}}
 use Rattle.peer_route.proofs.Core.{left_shut}
 use Rattle.peer_route.proofs.route.Route.close.Goals as goal
 

@@ -1,56 +1,35 @@
--- The streams are closed, or handed back, or they are spent.
-use Rattle.std.proofs.Common.{◌≡◌, sym, ◌∙◌, ap, subst, ℕ, Option}
-use Rattle.std.proofs.lemmas.Bool.{true≢false}
-use Rattle.wire_message.specs.declared.error.Error.TheVariants as errors
-use Rattle.peer_route.specs.Left.{View}
-use Rattle.peer_route.specs.Leaving.{number_of, ended, ClosesStreams}
-use Rattle.peer_route.specs.declared.leaving.Spent.TheVariants as spent
-use Rattle.peer_route.proofs.Placed.{back_same}
-use Rattle.peer_route.proofs.Leavings.{may_so, closes_gone, closes_over, closes_busy, closes_back}
+-- The streams are closed, and the bus is told, or can't be.
+use Rattle.std.proofs.{Common.{◌≡◌, sym, ◌∙◌, ap, subst, ℕ, Option}, lemmas.Bool.true≢false}
+use Rattle.peer_route.specs.{Left.{View, LeftStreams}, Leaving.{MayClose, ClosesStreams}, Names.{Error, Spent}}
+use Rattle.peer_route.proofs.Leavings.{closes_gone, closes_over}
 use Rattle.peer_route.proofs.route.Route.close_stream.Goals as goal
 
-pub returns-then-close_waits : goal.returns-then-close_waits
-returns-then-close_waits c = record {
+pub returns-in-Ok : goal.returns-in-Ok
+returns-in-Ok c = record {
   closes = λ h left.
-      closes_busy c.args.self.now h c.args.stream c.args.second c.number_of-other.result c.number_of-other.ensures left (sym (c.are_open.ensures h left) ∙ c.if-not-are_open.false)
-      (sym c.close_waits.ensures ∙ c.if-close_waits.true);
+      let v = c.args.self.now in
+      let k = c.args.stream.number in
+      let o = c.number_of-other.result in
+      let there = sym (c.are_open.ensures h left) ∙ c.if-not-are_open.false in
+      let may : MayClose h k o = (there, sym (c.close_waits.ensures h left there) ∙ c.if-close_waits.false) in
+      let same : c.tell.new.self.streams ≡ v.streams = ap (λ (u : View). u.streams) c.in-Ok.ensures.more.same in
+      subst (λ (j : Option ℕ). ClosesStreams v c.end_both.new.self k j h (Spent.Gone c.in-Ok.last)) c.number_of-other.ensures
+      (closes_gone v c.tell.new.self c.end_both.new.self h k o c.in-Ok.last left may c.in-Ok.ensures.more c.end_both.ensures.same
+      (c.end_both.ensures.streams h (subst (λ qs. LeftStreams qs h) (sym same) left.streams)) (c.in-Ok.ensures.tells h left there));
 }
 
-pub returns-in-Ok : goal.returns-in-Ok
-returns-in-Ok c =
-    let v = c.args.self.now in
-    let k = c.args.stream.number in
-    let o = c.number_of-other.result in
-    record {
-      closes = λ h left.
-          let may = may_so v h k o _ _ left (c.are_open.ensures h left) c.if-not-are_open.false c.close_waits.ensures c.if-close_waits.false in
-          rw (c.end_both.ensures, ← c.number_of-other.ensures) (closes_gone v c.tell.new.self h k o c.in-Ok.last left may c.in-Ok.ensures.tells c.in-Ok.ensures.more);
-    }
-
-pub returns-then-is_memory : goal.returns-then-is_memory
-returns-then-is_memory c =
-    let v = c.args.self.now in
-    let o = c.number_of-other.result in
-    let same = c.take_back.ensures ∙ back_same v c.tell.new.self _ _ _ _ c.mark-mark.ensures c.in-Err.ensures.more in
-    record {
-      closes = λ h left.
-          let may = may_so v h c.args.stream.number o _ _ left (c.are_open.ensures h left) c.if-not-are_open.false c.close_waits.ensures c.if-close_waits.false in
-          closes_back v c.tell.new.self c.take_back.new.self h c.args.stream c.args.second o c.in-Err.error c.number_of-other.ensures left may c.in-Err.ensures.tells
-          (c.is_memory.ensures.0 c.if-is_memory.true) same;
-    }
-
 pub returns-else-is_memory : goal.returns-else-is_memory
-returns-else-is_memory c =
-    let v = c.args.self.now in
-    let k = c.args.stream.number in
-    let o = c.number_of-other.result in
-    let some : c.in-Err.error ≡ errors.Memory → ⊥ = λ e. true≢false (sym (c.is_memory.ensures.1 e) ∙ c.if-is_memory.false) in
-    let same = c.take_back.ensures ∙ back_same v c.tell.new.self _ _ _ _ c.mark-mark.ensures c.in-Err.ensures.more in
-    let new : c.end_both-in-Err.new.self ≡ record v { streams = ended k o v.streams } = c.end_both-in-Err.ensures ∙ ap (λ (u : View). record u { streams = ended k o u.streams }) same in
-    record {
-      closes = λ h left.
-          let may = may_so v h k o _ _ left (c.are_open.ensures h left) c.if-not-are_open.false c.close_waits.ensures c.if-close_waits.false in
-          subst (λ (u : View). ClosesStreams v u k (number_of c.args.second) h (spent.Over c.in-Err.error)) (sym new)
-          (subst (λ (j : Option ℕ). ClosesStreams v (record v { streams = ended k o v.streams }) k j h (spent.Over c.in-Err.error)) c.number_of-other.ensures
-          (closes_over v c.tell.new.self h k o c.in-Err.error left may c.in-Err.ensures.tells some));
-    }
+returns-else-is_memory c = record {
+  closes = λ h left.
+      let v = c.args.self.now in
+      let k = c.args.stream.number in
+      let o = c.number_of-other.result in
+      let there = sym (c.are_open.ensures h left) ∙ c.if-not-are_open.false in
+      let may : MayClose h k o = (there, sym (c.close_waits.ensures h left there) ∙ c.if-close_waits.false) in
+      let some : c.in-Err.error ≡ Error.Memory → ⊥ = λ e. true≢false (sym (c.is_memory.ensures.1 e) ∙ c.if-is_memory.false) in
+      let streams = ap (λ (u : View). u.streams) c.in-Err.ensures.same in
+      let same = c.end_both-in-Err.ensures.same ∙ ap (λ (u : View). record u { streams = c.end_both-in-Err.new.self.streams }) c.in-Err.ensures.same in
+      subst (λ (j : Option ℕ). ClosesStreams v c.end_both-in-Err.new.self k j h (Spent.Over c.in-Err.error)) c.number_of-other.ensures
+      (closes_over v c.tell.new.self c.end_both-in-Err.new.self h k o c.in-Err.error left may same (c.end_both-in-Err.ensures.streams h (subst (λ qs. LeftStreams qs h) (sym streams) left.streams)) some
+      (c.in-Err.ensures.tells h left there));
+}

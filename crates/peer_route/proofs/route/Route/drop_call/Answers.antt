@@ -1,9 +1,7 @@
 use Rattle.std.proofs.Common.{sym, subst}
-use Rattle.peer_route.specs.Calls.{drop_events}
-use Rattle.peer_route.specs.Left.{View, Left, LeftCalls}
+use Rattle.peer_route.specs.{Calls.drop_events, Left.{View, Left, LeftCalls}, History.after_all}
 use Rattle.peer_route.proofs.Drops.{left_dropped}
 use Rattle.peer_route.proofs.route.Route.drop_call.Goals as goal
-use Rattle.peer_route.specs.History.{after_all}
 
 pub returns-clause-left : goal.returns-clause-left
 returns-clause-left c h left =

@@ -1,68 +1,76 @@
 -- All messages are put, or it is said why not.
-use Rattle.std.proofs.Common.{refl, sym, subst, map, List, Vec, Global, Ok, Err}
-use Rattle.std.specs.List.{AllByRecursion}
-use Rattle.std.proofs.lemmas.Result.{err_from_is_err_and}
-use Rattle.wire_message.specs.declared.error.Error.TheVariants as errors
-use Rattle.wire_message.specs.declared.error.IoKind.TheVariants as kinds
-use Rattle.peer_route.specs.declared.route.Issued.{Issued}
-use Rattle.peer_route.specs.contracts.route.Route.{the_view}
-use Rattle.peer_route.specs.Parcel.{sent_by}
-use Rattle.peer_route.specs.Left.{View}
-use Rattle.peer_route.specs.Placing.{IsReady, PutsAll}
-use Rattle.peer_route.proofs.Drawn.{drawing_sent}
-use Rattle.peer_route.proofs.Built.{ready_each}
-use Rattle.peer_route.proofs.Placed.{puts_not_drawn, puts_not_made, puts_failed, puts_closed, puts_placed}
+use Rattle.std.proofs.{Common.{◌≡◌, ◌==◌, ℕ, [], refl, sym, ◌∙◌, ap, subst, length, List, Vec, Global, Ok, Err}, lemmas.Bool.{true≢false, eqb-true}, lemmas.Result.err_from_is_err_and}
+use Rattle.std.specs.List.{list_any}
+use Rattle.peer_route.specs.{Names.Issued, contracts.route.Route.the_view, Issuing.is_deep, Left.View, Placing.{posts, DrawsEach, Places, PutsAll, LeftPosts}}
+use Rattle.peer_route.proofs.{Placed.none_left, Issues.{issued_deep, puts_none, puts_not_drawn, puts_not_placed, puts_barred, puts_placed}}
 use Rattle.peer_route.proofs.route.Route.put_all.Goals as goal
 
 abbrev items : Vec Issued Global → List Issued
 items v = v.items
 
-pub returns-in_err-drawn-clause-puts : goal.returns-in_err-drawn-clause-puts
-returns-in_err-drawn-clause-puts c =
-    let p = err_from_is_err_and c.from_residual.result c.from_residual.ensures.1 in
-    let old : View = the_view c.self.inside in
-    let new : View = record old { calls = c.draw_each.new.calls; last = c.draw_each.new.serials } in
-    rw (p.1, p.2)
-    (subst (λ (v : View). PutsAll c.args.inner items v new (map (sent_by v.name c.args.served) c.args.list.items) (Err c.in_err-drawn.field-0.0)) c.self.view_is
-    (puts_not_drawn c.args.inner items old new old.name c.args.served c.args.list.items c.in_err-drawn.field-0.0 c.in_err-drawn.ensures.refused))
+abbrev numbers : Vec ℕ Global → List ℕ
+numbers v = v.items
 
-pub build_each-requires : goal.build_each-requires
-build_each-requires c =
-    let d = c.in_ok-drawn.ensures.drawn in
-    subst (AllByRecursion IsReady) (sym d.2) (ready_each c.args.list.items d.0 c.requires.few c.requires.shallow)
+pub returns-then-is_empty-clause-puts : goal.returns-then-is_empty-clause-puts
+returns-then-is_empty-clause-puts c h left =
+    let none : length c.args.list.items ≡ 0 = sym c.args.list.ok.0 ∙ eqb-true _ 0 (sym c.is_empty.ensures ∙ c.if-is_empty.true) in
+    puts_none items c.args.self.now h c.args.list.items c.args.inner c.args.self.now.name c.args.served c.new.result (none_left c.args.list.items none) c.new.ensures.items left
 
-pub returns-in_err-messages-clause-puts : goal.returns-in_err-messages-clause-puts
-returns-in_err-messages-clause-puts c =
-    let p = err_from_is_err_and c.from_residual-in_err-messages.result c.from_residual-in_err-messages.ensures.1 in
-    let old : View = the_view c.self.inside in
-    let new : View = record old { calls = c.draw_each.new.calls; last = c.draw_each.new.serials } in
-    let drawn = drawing_sent c.args.inner old.name c.args.served old.calls new.calls old.last new.last _ _ c.in_ok-drawn.ensures.drawn in
-    rw (p.1, p.2)
-    (subst (λ (v : View). PutsAll c.args.inner items v new (map (sent_by v.name c.args.served) c.args.list.items) (Err c.in_err-messages.field-0.0)) c.self.view_is
-    (puts_not_made c.args.inner items old new _ _ c.in_err-messages.field-0.0 drawn c.in_err-messages.ensures.refused))
+pub returns-then-is_some_deep-clause-puts : goal.returns-then-is_some_deep-clause-puts
+returns-then-is_some_deep-clause-puts c h left =
+    let some : c.args.list.items ≡ [] → ⊥ = λ e. absurd (true≢false (sym (ap (λ n. n == 0) (c.args.list.ok.0 ∙ ap length e)) ∙ sym c.is_empty.ensures ∙ c.if-is_empty.false)) in
+    let deep = ap (list_any is_deep) (sym c.as_slice.ensures.value) ∙ sym c.is_some_deep.ensures ∙ c.if-is_some_deep.true in
+    (issued_deep h c.args.inner c.args.self.now.name c.args.served c.args.list.items some deep, tt)
 
-pub returns-in_ok-place_each-in-Fine-clause-puts : goal.returns-in_ok-place_each-in-Fine-clause-puts
-returns-in_ok-place_each-in-Fine-clause-puts c =
-    let e = c.in_ok-place_each-in-Fine.ensures in
-    let b = c.in_ok-messages.ensures.built in
-    let old : View = the_view c.self.inside in
-    let new : View = record old { calls = c.draw_each.new.calls; last = c.draw_each.new.serials; outbox = c.place_each.new.outbox.items; places = c.place_each.new.places.items } in
-    let drawn = drawing_sent c.args.inner old.name c.args.served old.calls new.calls old.last new.last _ _ c.in_ok-drawn.ensures.drawn in
-    subst (λ (v : View). PutsAll c.args.inner items v new (map (sent_by v.name c.args.served) c.args.list.items) (Ok c.in_ok-place_each-in-Fine.field-0)) c.self.view_is
-    (puts_placed c.args.inner items old new _ _ c.in_ok-messages.messages.items c.in_ok-place_each-in-Fine.field-0 drawn b.0 b.1 c.in-Fine.is e.issued e.outbox e.places refl)
+pub returns-in_err-serials-clause-puts : goal.returns-in_err-serials-clause-puts
+returns-in_err-serials-clause-puts c h left =
+    let q = err_from_is_err_and c.from_residual.result c.from_residual.ensures.1 in
+    let old = subst (λ (v : View). LeftPosts v h) (sym c.self.view_is) left in
+    let name = c.args.self.now.name in
+    let shallow = ap (list_any is_deep) (sym c.as_slice.ensures.value) ∙ sym c.is_some_deep.ensures ∙ c.if-is_some_deep.false in
+    rw (q.1, q.2)
+    (puts_not_drawn items (record (the_view c.self.inside) { calls = c.draw_each.new.calls; last = c.draw_each.new.serials }) h c.args.inner name c.args.served c.args.list.items shallow numbers c.draw_each.new.calls c.draw_each.new.serials c.in_err-serials.field-0.0
+    (subst (λ ps. DrawsEach numbers (posts c.args.inner name c.args.served ps) h c.draw_each.new.calls c.draw_each.new.serials (Err c.in_err-serials.field-0.0)) c.as_slice-2.ensures.value
+    (c.in_err-serials.ensures.drawn h name c.args.served old.counted)))
 
-pub returns-in-Failed-clause-puts : goal.returns-in-Failed-clause-puts
-returns-in-Failed-clause-puts c =
-    let old : View = the_view c.self.inside in
-    let new : View = record old { calls = c.draw_each.new.calls; last = c.draw_each.new.serials } in
-    let drawn = drawing_sent c.args.inner old.name c.args.served old.calls new.calls old.last new.last _ _ c.in_ok-drawn.ensures.drawn in
-    subst (λ (v : View). PutsAll c.args.inner items v new (map (sent_by v.name c.args.served) c.args.list.items) (Err (errors.InputOutput kinds.WriteFault))) c.self.view_is
-    (puts_failed c.args.inner items old new _ _ drawn c.in_ok-messages.ensures.built.1 c.in-Failed.is)
+pub returns-in_err-issued-clause-puts : goal.returns-in_err-issued-clause-puts
+returns-in_err-issued-clause-puts c h left =
+    let q = err_from_is_err_and c.from_residual-in_err-issued.result c.from_residual-in_err-issued.ensures.1 in
+    let old = subst (λ (v : View). LeftPosts v h) (sym c.self.view_is) left in
+    let name = (the_view c.self.inside).name in
+    let serials = c.in_ok-serials.serials in
+    let shallow = ap (list_any is_deep) (sym c.as_slice.ensures.value) ∙ sym c.is_some_deep.ensures ∙ c.if-is_some_deep.false in
+    let draws = subst (λ ps. DrawsEach numbers (posts c.args.inner name c.args.served ps) h c.draw_each.new.calls c.draw_each.new.serials (Ok serials)) c.as_slice-2.ensures.value (c.in_ok-serials.ensures.drawn h name c.args.served old.counted) in
+    let new : View = record (the_view c.self.inside) { calls = c.draw_each.new.calls; last = c.draw_each.new.serials; outbox = c.post_each.new.outbox.items; places = c.post_each.new.places.items } in
+    rw (q.1, q.2)
+    (subst (λ (v : View). PutsAll items new (posts c.args.inner v.name c.args.served c.args.list.items) h (Err c.in_err-issued.field-0.0)) c.self.view_is
+    (puts_not_placed items new h c.args.inner name c.args.served c.args.list.items shallow items serials.items h c.post_each.new.outbox.items c.post_each.new.places.items c.in_err-issued.field-0.0 draws.0
+    (subst (λ ns. Places items (posts c.args.inner name c.args.served c.args.list.items) ns h c.post_each.new.outbox.items c.post_each.new.places.items (Err c.in_err-issued.field-0.0)) c.as_slice-3.ensures.value
+    (c.in_err-issued.ensures.placed h c.args.inner old.placed))))
 
-pub returns-in-Closed-clause-puts : goal.returns-in-Closed-clause-puts
-returns-in-Closed-clause-puts c =
-    let old : View = the_view c.self.inside in
-    let new : View = record old { calls = c.draw_each.new.calls; last = c.draw_each.new.serials } in
-    let drawn = drawing_sent c.args.inner old.name c.args.served old.calls new.calls old.last new.last _ _ c.in_ok-drawn.ensures.drawn in
-    subst (λ (v : View). PutsAll c.args.inner items v new (map (sent_by v.name c.args.served) c.args.list.items) (Err (errors.InputOutput kinds.Closed))) c.self.view_is
-    (puts_closed c.args.inner items old new _ _ drawn c.in_ok-messages.ensures.built.1 c.in-Closed.is)
+pub returns-in-None-clause-puts : goal.returns-in-None-clause-puts
+returns-in-None-clause-puts c h left =
+    let old = subst (λ (v : View). LeftPosts v h) (sym c.self.view_is) left in
+    let name = (the_view c.self.inside).name in
+    let serials = c.in_ok-serials.serials in
+    let issued = c.in_ok-issued.issued in
+    let some : c.args.list.items ≡ [] → ⊥ = λ e. absurd (true≢false (sym (ap (λ n. n == 0) (c.args.list.ok.0 ∙ ap length e)) ∙ sym c.is_empty.ensures ∙ c.if-is_empty.false)) in
+    let shallow = ap (list_any is_deep) (sym c.as_slice.ensures.value) ∙ sym c.is_some_deep.ensures ∙ c.if-is_some_deep.false in
+    let draws = subst (λ ps. DrawsEach numbers (posts c.args.inner name c.args.served ps) h c.draw_each.new.calls c.draw_each.new.serials (Ok serials)) c.as_slice-2.ensures.value (c.in_ok-serials.ensures.drawn h name c.args.served old.counted) in
+    let places = subst (λ ns. Places items (posts c.args.inner name c.args.served c.args.list.items) ns h c.post_each.new.outbox.items c.post_each.new.places.items (Ok issued)) c.as_slice-3.ensures.value (c.in_ok-issued.ensures.placed h c.args.inner old.placed) in
+    let new : View = record (the_view c.self.inside) { calls = c.draw_each.new.calls; last = c.draw_each.new.serials; outbox = c.post_each.new.outbox.items; places = c.post_each.new.places.items } in
+    subst (λ (v : View). PutsAll items new (posts c.args.inner v.name c.args.served c.args.list.items) h (Ok issued)) c.self.view_is
+    (puts_placed items new h c.args.inner name c.args.served c.args.list.items shallow serials.items some draws.0 (the_view c.self.inside) old issued draws.1 places (sym c.bars.ensures ∙ c.in-None.is) refl refl)
+
+pub returns-clause-puts : goal.returns-clause-puts
+returns-clause-puts c h left =
+    let old = subst (λ (v : View). LeftPosts v h) (sym c.self.view_is) left in
+    let name = (the_view c.self.inside).name in
+    let serials = c.in_ok-serials.serials in
+    let some : c.args.list.items ≡ [] → ⊥ = λ e. absurd (true≢false (sym (ap (λ n. n == 0) (c.args.list.ok.0 ∙ ap length e)) ∙ sym c.is_empty.ensures ∙ c.if-is_empty.false)) in
+    let shallow = ap (list_any is_deep) (sym c.as_slice.ensures.value) ∙ sym c.is_some_deep.ensures ∙ c.if-is_some_deep.false in
+    let draws = subst (λ ps. DrawsEach numbers (posts c.args.inner name c.args.served ps) h c.draw_each.new.calls c.draw_each.new.serials (Ok serials)) c.as_slice-2.ensures.value (c.in_ok-serials.ensures.drawn h name c.args.served old.counted) in
+    let places = subst (λ ns. Places items (posts c.args.inner name c.args.served c.args.list.items) ns h c.post_each.new.outbox.items c.post_each.new.places.items (Ok c.in_ok-issued.issued)) c.as_slice-3.ensures.value (c.in_ok-issued.ensures.placed h c.args.inner old.placed) in
+    let new : View = record (the_view c.self.inside) { calls = c.draw_each.new.calls; last = c.draw_each.new.serials; outbox = c.post_each.new.outbox.items; places = c.post_each.new.places.items } in
+    subst (λ (v : View). PutsAll items new (posts c.args.inner v.name c.args.served c.args.list.items) h (Err c.in-Some.error)) c.self.view_is
+    (puts_barred items new h c.args.inner name c.args.served c.args.list.items shallow serials.items some draws.0 (the_view c.self.inside) old c.in-Some.error places.0 (sym c.bars.ensures ∙ c.in-Some.is))

@@ -1,20 +1,32 @@
 -- AddMatch is put, and a stream waits for its return.
-use Rattle.std.proofs.Common.{sym, ◌∙◌, ap, subst, length}
-use Rattle.peer_route.specs.Left.{View, with_asking}
-use Rattle.peer_route.specs.Bus.{Asks}
-use Rattle.peer_route.proofs.BusMessages.{add_is}
-use Rattle.peer_route.proofs.Openings.{asks_put}
+use Rattle.std.proofs.{Common.{◌∙◌, sym, ap, subst, codes, length, true, false, List, [], ◌∷◌, ◌++◌, None, Ok, Vec, Global}, lemmas.Result.err_from_is_err_and}
+use Rattle.peer_route.specs.{Names.Issued, contracts.route.Route.the_view, Parcel.Parcel, BusCall.match_parcel, Left.View, Placing.{posts, PutsAll, IsMore}}
+use Rattle.peer_route.proofs.{BusMessages.add_is, Issues.left_posts, Openings.{asking_refused, asking_put}}
 use Rattle.peer_route.proofs.route.Route.put_asking.Goals as goal
 
-pub put_match-requires : goal.put_match-requires
-put_match-requires c = add_is
+abbrev items : Vec Issued Global → List Issued
+items v = v.items
+
+pub match_letter-requires : goal.match_letter-requires
+match_letter-requires c = add_is
+
+pub returns-in_err-put_all-clause-asks : goal.returns-in_err-put_all-clause-asks
+returns-in_err-put_all-clause-asks c h left =
+    let q = err_from_is_err_and c.from_residual-in_err-put_all.result c.from_residual-in_err-put_all.ensures.1 in
+    let letter = c.in_ok-match_letter.ensures.letter ∙ ap (match_parcel (codes "AddMatch") None) c.inner.ensures in
+    let list = c.in_ok-push.ensures.items ∙ ap (λ (xs : List Parcel). xs ++ c.in_ok-match_letter.field-0 ∷ []) c.new-letters.ensures.items ∙ ap (λ (l : Parcel). l ∷ []) letter in
+    rw (q.1, q.2)
+    (asking_refused items c.put_all.new.self c.put_all.new.self c.args.self.now.name c.push.new.self.items c.args.rule c.args.asked h c.in_err-put_all.field-0.0 left.name list
+    (c.in_err-put_all.ensures.puts h (left_posts c.args.self.now h left)))
 
 pub returns-clause-asks : goal.returns-clause-asks
-returns-clause-asks c =
-    let i = c.in_ok-issued.issued in
-    let Q : View → Type 0 = λ w. Asks c.args.self.now (record w { streams = with_asking c.args.rule c.args.asked i.serial i.index w.streams }) c.args.rule c.args.asked
-    (record { number = c.in_ok-number.number; index = i.index; serial = i.serial }) in
-    rw c.in_ok-number.ensures.ok
-    (subst Q (sym c.self.view_is)
-    (asks_put c.args.self.now c.put_match.new.self c.args.rule c.args.asked i c.in_ok-number.number c.in_ok-issued.ensures.puts
-    (c.in_ok-number.ensures.number ∙ ap (λ (w : View). length w.streams) c.self.view_is)))
+returns-clause-asks c h left =
+    let letter = c.in_ok-match_letter.ensures.letter ∙ ap (match_parcel (codes "AddMatch") None) c.inner.ensures in
+    let list = c.in_ok-push.ensures.items ∙ ap (λ (xs : List Parcel). xs ++ c.in_ok-match_letter.field-0 ∷ []) c.new-letters.ensures.items ∙ ap (λ (l : Parcel). l ∷ []) letter in
+    let more = subst (λ (v : View). IsMore c.args.self.now v) (sym c.self-2.view_is) c.in_ok-put_all.ensures.more in
+    let puts = subst (λ (v : View). PutsAll items v (posts true c.args.self.now.name false c.push.new.self.items) h (Ok c.in_ok-put_all.field-0)) (sym c.self-2.view_is)
+    (c.in_ok-put_all.ensures.puts h (left_posts c.args.self.now h left)) in
+    asking_put items c.in_ok-put_all.field-0 c.args.self.now (the_view c.self-2.inside) c.open_asking.new.self c.push.new.self.items c.args.rule c.args.asked h
+    (record { number = c.in_ok-number.number; index = c.len-index.result; serial = c.last-serial.result }) left more list puts
+    (c.len-index.ensures ∙ c.self.inside.outbox.ok.0 ∙ ap (λ (v : View). length v.outbox) c.self.view_is) c.last-serial.ensures c.in_ok-number.ensures.number
+    (λ m kept serial place. c.in_ok-number.ensures.ok h m kept serial place)

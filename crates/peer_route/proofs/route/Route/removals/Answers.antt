@@ -1,29 +1,38 @@
--- A message isn't made, or there is no memory for the list.
-use Rattle.std.proofs.Common.{None}
-use Rattle.std.proofs.lemmas.Result.{err_from_is_err_and}
-use Rattle.peer_route.specs.Left.{kept_at}
-use Rattle.peer_route.specs.Leaving.{without_both, left_by, rule_kept, second_left}
-use Rattle.peer_route.proofs.Leavings.{made_both, unmade_second, some_listed}
+-- The message of the first stream, and of the second, if there is one.
+use Rattle.std.proofs.{Common.{◌≡◌, ◌∙◌, sym, ap, subst, map, true, List, [], ◌++◌, None, Err, Vec, Global}, lemmas.Result.err_from_is_err_and}
+use Rattle.peer_route.specs.{declared.letter.Letter.Letter, Parcel.Parcel, BusCall.remove_parcel, Streams.{are_open, leaves, leaving, gone_behind}, Leaving.MakesRemovals}
+use Rattle.peer_route.proofs.{Leavings.{first_open, two_open, unmade_first, unmade_second, made_one, made_two}, route.Route.removals.Goals.{in-Some+in_ok-add_removal-in-Some, in-None}}
 use Rattle.peer_route.proofs.route.Route.removals.Goals as goal
 
-pub returns-in_err-second : goal.returns-in_err-second
-returns-in_err-second c =
-    let v = c.args.self.now in
-    let p = err_from_is_err_and c.from_residual-in_err-second.result c.from_residual-in_err-second.ensures.1 in
-    rw (p.1, p.2)
-    (unmade_second (left_by v (without_both c.args.stream None v.streams) (rule_kept (kept_at v.streams c.args.stream))) (second_left v c.args.stream c.args.second)
-    c.in_err-second.field-0.0 c.in_err-second.ensures)
+abbrev items : Vec Letter Global → List Parcel
+items v = v.items
 
-pub returns-in_err-listed : goal.returns-in_err-listed
-returns-in_err-listed c =
-    let v = c.args.self.now in
-    let p = err_from_is_err_and c.from_residual-in_err-listed.result c.from_residual-in_err-listed.ensures.1 in
-    rw (p.1, p.2)
-    (some_listed c.in_ok-first.first c.in_ok-second.second (left_by v (without_both c.args.stream None v.streams) (rule_kept (kept_at v.streams c.args.stream))) (second_left v c.args.stream c.args.second)
-    c.in_ok-first.ensures c.in_ok-second.ensures c.in_err-listed.ensures.some)
+pub returns-in_err-add_removal-clause-made : goal.returns-in_err-add_removal-clause-made
+returns-in_err-add_removal-clause-made c h left there =
+    let q = err_from_is_err_and c.from_residual.result c.from_residual.ensures.1 in
+    rw (q.1, q.2)
+    (unmade_first (λ (done : Unit {0}). c.add_removal.new.letters.items) items c.new-letters.result.items h c.args.stream c.args.second c.in_err-add_removal.field-0.0
+    (c.in_err-add_removal.ensures.made h left (first_open h c.args.stream c.args.second there)))
 
-pub returns : goal.returns
-returns c =
-    let v = c.args.self.now in
-    made_both c.in_ok-first.first c.in_ok-second.second (left_by v (without_both c.args.stream None v.streams) (rule_kept (kept_at v.streams c.args.stream))) (second_left v c.args.stream c.args.second)
-    c.in_ok-listed.field-0 c.in_ok-listed.ensures.list c.in_ok-listed.ensures.fit c.in_ok-first.ensures c.in_ok-second.ensures
+pub returns-in_err-add_removal-in-Some-clause-made : goal.returns-in_err-add_removal-in-Some-clause-made
+returns-in_err-add_removal-in-Some-clause-made c h left there =
+    let q = err_from_is_err_and c.from_residual-in_err-add_removal-in-Some.result c.from_residual-in_err-add_removal-in-Some.ensures.1 in
+    let both = two_open h c.args.stream c.in-Some.second (subst (λ o. are_open h c.args.stream o ≡ true) c.in-Some.is there) in
+    rw (q.1, q.2)
+    (subst (λ o. MakesRemovals items [] (leaving h c.args.stream o) (Err c.in_err-add_removal-in-Some.field-0.0)) (sym c.in-Some.is)
+    (unmade_second (λ (done : Unit {0}). c.add_removal-in-Some.new.letters.items) items c.add_removal.new.letters.items h c.args.stream c.in-Some.second c.in_err-add_removal-in-Some.field-0.0
+    (c.in_err-add_removal-in-Some.ensures.made h left both.1)))
+
+pub returns-clause-made : goal.returns-clause-made
+returns-clause-made c h left there =
+    let first = c.in_ok-add_removal.ensures.made h left (first_open h c.args.stream c.args.second there)
+    ∙ ap (λ xs. xs ++ map (remove_parcel None) (leaves (gone_behind None c.args.stream h) c.args.stream)) c.new-letters.ensures.items in
+    elim c.match-second.branch [
+      | in-Some+in_ok-add_removal-in-Some w ↦
+          let both = two_open h c.args.stream w.in-Some.second (subst (λ o. are_open h c.args.stream o ≡ true) w.in-Some.is there) in
+          ap items w.letters-is
+          ∙ made_two h c.args.stream w.in-Some.second c.add_removal.new.letters.items _ first (w.in_ok-add_removal-in-Some.ensures.made h left both.1)
+          ∙ ap (λ o. map (remove_parcel None) (leaving h c.args.stream o)) (sym w.in-Some.is)
+      | in-None w ↦
+          ap items w.letters-is ∙ made_one h c.args.stream c.add_removal.new.letters.items first ∙ ap (λ o. map (remove_parcel None) (leaving h c.args.stream o)) (sym w.in-None.is)
+    ]

@@ -1,7 +1,6 @@
 -- The peer stands on a bus.
 use Rattle.std.proofs.Common.{sym, subst, true}
-use Rattle.peer_route.specs.History.{OnBus, after}
-use Rattle.peer_route.specs.Left.{View, Left}
+use Rattle.peer_route.specs.{History.{OnBus, after}, Left.{View, Left}}
 use Rattle.peer_route.proofs.Openings.{left_bus}
 use Rattle.peer_route.proofs.route.Route.set_bus.Goals as goal
 

@@ -1,7 +1,6 @@
 -- The main capacity is set.
 use Rattle.std.proofs.Common.{sym, subst}
-use Rattle.peer_route.specs.History.{Main, after}
-use Rattle.peer_route.specs.Left.{View, Left}
+use Rattle.peer_route.specs.{History.{Main, after}, Left.{View, Left}}
 use Rattle.peer_route.proofs.Core.{left_main}
 use Rattle.peer_route.proofs.route.Route.set_main_max_queued.Goals as goal
 

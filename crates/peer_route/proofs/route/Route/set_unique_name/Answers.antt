@@ -1,8 +1,6 @@
 -- The peer that had no name has this.
-use Rattle.std.proofs.Common.{◌≡◌, sym, ap, ◌∙◌, subst, refl, Option, None, Some, is_some, false}
-use Rattle.std.proofs.lemmas.Bool.{true≢false}
-use Rattle.peer_route.specs.History.{Named, after}
-use Rattle.peer_route.specs.Left.{View, Left}
+use Rattle.std.proofs.{Common.{◌≡◌, sym, ap, ◌∙◌, subst, refl, Option, None, Some, is_some, false}, lemmas.Bool.true≢false}
+use Rattle.peer_route.specs.{History.{Named, after}, Left.{View, Left}}
 use Rattle.peer_route.proofs.Openings.{left_named}
 use Rattle.peer_route.proofs.route.Route.set_unique_name.Goals as goal
 

@@ -1,38 +1,35 @@
 -- The messages are made and put.
-use Rattle.std.proofs.Common.{◌≡◌, sym, ◌∙◌, ap, codes, length, ◌==◌, List, [], Vec, Global}
-use Rattle.std.specs.List.{list_any}
-use Rattle.std.proofs.lemmas.Bool.{true≢false}
-use Rattle.std.proofs.lemmas.Result.{err_from_is_err_and}
-use Rattle.peer_route.specs.declared.route.Issued.{Issued}
-use Rattle.peer_route.specs.Issuing.{is_deep}
-use Rattle.peer_route.specs.Leaving.{left_rules}
-use Rattle.peer_route.proofs.RuleCalls.{letters_shallow}
-use Rattle.peer_route.proofs.Leavings.{tells_unmade, tells_unput, tells_put}
+use Rattle.std.proofs.{Common.{◌≡◌, sym, ◌∙◌, ap, length, ◌==◌, List, [], Vec, Global}, lemmas.Bool.{true≢false, eqb-true}, lemmas.Result.err_from_is_err_and}
+use Rattle.peer_route.specs.{Names.Issued, Left.View, Streams.leaving, Leaving.gone_both}
+use Rattle.peer_route.proofs.{Issues.left_posts, Placed.none_left, Leavings.{gone_posts, tells_none, tells_put, tells_not}}
 use Rattle.peer_route.proofs.route.Route.tell.Goals as goal
 
-abbrev issued_of : Vec Issued Global → List Issued
-issued_of v = v.items
+abbrev items : Vec Issued Global → List Issued
+items v = v.items
 
-pub returns-in_err-calls-clause-tells : goal.returns-in_err-calls-clause-tells
-returns-in_err-calls-clause-tells c =
-    let p = err_from_is_err_and c.from_residual.result c.from_residual.ensures.1 in
-    rw (p.1, p.2) (tells_unmade c.args.self.now (left_rules c.args.self.now c.args.stream c.args.second) c.in_err-calls.field-0.0 c.in_err-calls.ensures)
+pub returns-then-is_empty-clause-tells : goal.returns-then-is_empty-clause-tells
+returns-then-is_empty-clause-tells c h left there =
+    let letters = c.in_ok-letters.letters in
+    let none = none_left letters.items (sym letters.ok.0 ∙ eqb-true _ 0 (sym c.is_empty.ensures ∙ c.if-is_empty.true)) in
+    tells_none c.args.self.now (gone_both c.args.stream c.args.second h) (leaving h c.args.stream c.args.second) (sym (c.in_ok-letters.ensures.made h left there) ∙ none)
+    (gone_posts c.args.self.now h c.args.stream c.args.second (left_posts c.args.self.now h left))
 
-pub put_own-requires-clause-shallow : goal.put_own-requires-clause-shallow
-put_own-requires-clause-shallow c = ap (list_any is_deep) c.in_ok-calls.ensures.0 ∙ letters_shallow (codes "RemoveMatch") (left_rules c.args.self.now c.args.stream c.args.second)
-
-pub returns-in_err-issued-clause-tells : goal.returns-in_err-issued-clause-tells
-returns-in_err-issued-clause-tells c =
-    let p = err_from_is_err_and c.from_residual-in_err-issued.result c.from_residual-in_err-issued.ensures.1 in
-    let some : c.in_ok-calls.calls.letters.items ≡ [] → ⊥ = λ e.
-    absurd (true≢false (sym (ap (λ n. n == 0) (c.in_ok-calls.calls.letters.ok.0 ∙ ap length e)) ∙ sym c.is_empty.ensures ∙ c.if-is_empty.false)) in
-    rw (p.1, p.2)
-    (tells_unput issued_of c.args.self.now c.put_own.new.self (left_rules c.args.self.now c.args.stream c.args.second) c.in_ok-calls.calls c.in_err-issued.field-0.0 c.in_ok-calls.ensures some
-    c.in_err-issued.ensures.puts)
+pub returns-in_err-put-clause-tells : goal.returns-in_err-put-clause-tells
+returns-in_err-put-clause-tells c h left there =
+    let q = err_from_is_err_and c.from_residual-in_err-put.result c.from_residual-in_err-put.ensures.1 in
+    let letters = c.in_ok-letters.letters in
+    let some : letters.items ≡ [] → ⊥ = λ e. absurd (true≢false (sym (ap (λ n. n == 0) (letters.ok.0 ∙ ap length e)) ∙ sym c.is_empty.ensures ∙ c.if-is_empty.false)) in
+    let g = gone_both c.args.stream c.args.second h in
+    let old = gone_posts c.args.self.now h c.args.stream c.args.second (left_posts c.args.self.now h left) in
+    rw (q.1, q.2)
+    (tells_not items c.put.new.self c.put.new.self c.args.self.now.name g (leaving h c.args.stream c.args.second) letters.items c.in_err-put.field-0.0 (c.in_ok-letters.ensures.made h left there) some old.name
+    (c.in_err-put.ensures.puts g old))
 
 pub returns-clause-tells : goal.returns-clause-tells
-returns-clause-tells c =
-    let some : c.in_ok-calls.calls.letters.items ≡ [] → ⊥ = λ e.
-    absurd (true≢false (sym (ap (λ n. n == 0) (c.in_ok-calls.calls.letters.ok.0 ∙ ap length e)) ∙ sym c.is_empty.ensures ∙ c.if-is_empty.false)) in
-    tells_put issued_of c.args.self.now c.put_own.new.self (left_rules c.args.self.now c.args.stream c.args.second) c.in_ok-calls.calls c.in_ok-issued.issued c.last_issued.result c.in_ok-calls.ensures some
-    c.in_ok-issued.ensures.puts c.last_issued.ensures
+returns-clause-tells c h left there =
+    let letters = c.in_ok-letters.letters in
+    let some : letters.items ≡ [] → ⊥ = λ e. absurd (true≢false (sym (ap (λ n. n == 0) (letters.ok.0 ∙ ap length e)) ∙ sym c.is_empty.ensures ∙ c.if-is_empty.false)) in
+    let g = gone_both c.args.stream c.args.second h in
+    let old = gone_posts c.args.self.now h c.args.stream c.args.second (left_posts c.args.self.now h left) in
+    tells_put items c.in_ok-put.field-0 c.put.new.self c.args.self.now.name g (leaving h c.args.stream c.args.second) letters.items c.last.result (c.in_ok-letters.ensures.made h left there) some old.name
+    (c.last.ensures ∙ ap (λ (v : View). v.last) c.self.view_is) (c.in_ok-put.ensures.puts g old)

@@ -1,6 +1,5 @@
 use Rattle.std.proofs.Common.{sym, subst, ◌+◌}
-use Rattle.peer_route.specs.History.{Wrote, after}
-use Rattle.peer_route.specs.Left.{View, Left}
+use Rattle.peer_route.specs.{History.{Wrote, after}, Left.{View, Left}}
 use Rattle.peer_route.proofs.Core.{left_wrote}
 use Rattle.peer_route.proofs.route.Route.wrote.Goals as goal
 

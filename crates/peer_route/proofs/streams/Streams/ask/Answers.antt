@@ -1,58 +1,47 @@
 -- The stream is set aside, the others of its rule are raised, and it is put back with what it asks for.
-use Rattle.std.proofs.Common.{◌≡◌, sym, ◌∙◌, ap, is_some, get_or, true, Some, None}
-use Rattle.std.specs.List.{slice_get}
-use Rattle.std.specs.Option.{option_map, option_and_then, option_flatten}
-use Rattle.std.proofs.lemmas.Bool.{false≢true}
-use Rattle.std.proofs.lemmas.Option.{slice_get_read}
-use Rattle.peer_route.specs.declared.queue.Subscription.{Subscription}
-use Rattle.peer_route.specs.Left.{kept_at, if_usable, wants_of, asked_for}
-use Rattle.peer_route.proofs.SameRule.{wants_read, asks_of_rule, asks_of_none, has_rule}
+use Rattle.std.proofs.{Common.{◌≡◌, sym, ◌∙◌, ap, subst, is_some, get_or}, lemmas.Bool.false≢true}
+use Rattle.peer_route.specs.Left.{LeftStreams}
+use Rattle.peer_route.proofs.{StreamsMade.{at_read, past_read, rule_kept, open_rule_of, not_past}, RuledStreams.{streams_asked, streams_kept}, streams.Streams.ask.Goals.{in-Some, in-None, then-stream-len-via-then-stream-len, then-stream-len-via-else-stream-len+then-not-is_open}}
 use Rattle.peer_route.proofs.streams.Streams.ask.Goals as goal
-use Rattle.peer_route.proofs.streams.Streams.ask.Goals.{in-Some-rule, in-None}
 
-pub returns-in_default-clause-raised : goal.returns-in_default-clause-raised
-returns-in_default-clause-raised c =
-    let xs = c.self.inside.queues.items in
-    let k = c.args.stream in
-    let at = c.index_mut.ensures.value in
-    let there : slice_get xs k ≡ Some c.index_mut.result.now = slice_get_read xs c.len.result k c.index_mut.result.now (c.len.ensures ∙ c.self.inside.queues.ok.0) c.if-stream-len.false at in
-    let live : is_some (kept_at xs k) ≡ true = ap (λ qs. is_some (kept_at qs k)) c.self.view_is ∙ sym c.if-not-is_open.ensures in
-    absurd (false≢true (ap (λ o. is_some (option_and_then if_usable (option_flatten o))) (sym (there ∙ ap (λ o. Some o) (sym c.replace.ensures.value ∙ c.in_default.is))) ∙ live))
+pub returns-then-stream-len-clause-raised : goal.returns-then-stream-len-clause-raised
+returns-then-stream-len-clause-raised c p left there =
+    let was = subst (λ v. LeftStreams v p) (sym c.self.view_is) left in
+    elim c.then-stream-len.branch [
+      | then-stream-len-via-then-stream-len w ↦
+          absurd (false≢true (sym (not_past p c.args.stream (past_read c.self.inside.queues.items p c.len.result c.args.stream was (c.len.ensures ∙ c.self.inside.queues.ok.0) w.if-stream-len.true)) ∙ there))
+      | then-stream-len-via-else-stream-len+then-not-is_open w ↦ absurd (false≢true (sym w.if-not-is_open.true ∙ w.is_open.ensures p left ∙ there))
+    ]
 
 pub returns-clause-has : goal.returns-clause-has
-returns-clause-has c =
+returns-clause-has c p left there =
+    let was = subst (λ v. LeftStreams v p) (sym c.self.view_is) left in
     let xs = c.self.inside.queues.items in
     let k = c.args.stream in
-    let q = c.in-Some.queue in
-    let there : slice_get xs k ≡ Some c.index_mut.result.now = slice_get_read xs c.len.result k c.index_mut.result.now (c.len.ensures ∙ c.self.inside.queues.ok.0) c.if-stream-len.false c.index_mut.ensures.value in
-    let was : c.index_mut.result.now ≡ Some q = sym c.replace.ensures.value ∙ c.in-Some.is in
-    let live : is_some (kept_at xs k) ≡ true = ap (λ qs. is_some (kept_at qs k)) c.self.view_is ∙ sym c.if-not-is_open.ensures in
-    let kept = ap is_some (wants_read xs k (Some q) (there ∙ ap (λ o. Some o) was) live) ∙ ap (λ qs. is_some (wants_of (kept_at qs k))) c.self.view_is in
+    let q = c.index_mut.result.now in
+    let at = at_read xs p c.len.result k q was (c.len.ensures ∙ c.self.inside.queues.ok.0) c.if-stream-len.false c.index_mut.ensures.value in
+    let of = open_rule_of p k at.0 q at.1 at.2 there in
+    let kept_rule = ap (λ w. is_some (rule_kept w.wants)) c.replace-queue.ensures.value in
     elim c.match-rule.branch [
-      | in-Some-rule w ↦
-          let of : Some w.in-Some-rule.rule.now ≡ option_map (λ (s : Subscription). s.rule) q.wants = rw w.in-Some-rule.is at c.rule.ensures in
-          w.has_rule-is ∙ has_rule q.wants (Some w.in-Some-rule.rule.now) of ∙ kept
-      | in-None w ↦
-          let of : None ≡ option_map (λ (s : Subscription). s.rule) q.wants = rw w.in-None.is at c.rule.ensures in
-          w.has_rule-is ∙ has_rule q.wants None of ∙ kept
+      | in-Some w ↦ w.has_rule-is ∙ ap is_some (rw w.in-Some.is at c.rule.ensures) ∙ kept_rule ∙ ap is_some of
+      | in-None w ↦ w.has_rule-is ∙ ap is_some (rw w.in-None.is at c.rule.ensures) ∙ kept_rule ∙ ap is_some of
     ]
 
 pub returns-clause-raised : goal.returns-clause-raised
-returns-clause-raised c =
+returns-clause-raised c p left there =
+    let was = subst (λ v. LeftStreams v p) (sym c.self.view_is) left in
     let xs = c.self.inside.queues.items in
     let k = c.args.stream in
-    let q = c.in-Some.queue in
-    let there : slice_get xs k ≡ Some c.index_mut.result.now = slice_get_read xs c.len.result k c.index_mut.result.now (c.len.ensures ∙ c.self.inside.queues.ok.0) c.if-stream-len.false c.index_mut.ensures.value in
-    let was : c.index_mut.result.now ≡ Some q = sym c.replace.ensures.value ∙ c.in-Some.is in
-    let at : Some q ≡ get_or xs k (Some q) = sym was ∙ c.index_mut.ensures.value ∙ ap (get_or xs k) was in
-    let live : is_some (kept_at xs k) ≡ true = ap (λ qs. is_some (kept_at qs k)) c.self.view_is ∙ sym c.if-not-is_open.ensures in
-    let read_ = there ∙ ap (λ o. Some o) was in
-    let new = ap (λ qs. asked_for (wants_of (kept_at qs k)) c.args.limit qs) c.self.view_is in
+    let q = c.replace-queue.result in
+    let one : q ≡ c.index_mut.result.now = c.replace-queue.ensures.value in
+    let is : q ≡ get_or xs k q = one ∙ c.index_mut.ensures.value ∙ ap (get_or xs k) (sym one) in
+    let at = at_read xs p c.len.result k q was (c.len.ensures ∙ c.self.inside.queues.ok.0) c.if-stream-len.false is in
+    let of = open_rule_of p k at.0 q at.1 at.2 there in
     elim c.match-rule.branch [
-      | in-Some-rule w ↦
-          let of : Some w.in-Some-rule.rule.now ≡ option_map (λ (s : Subscription). s.rule) q.wants = rw w.in-Some-rule.is at c.rule.ensures in
-          rw (w.self-inside-is, w.raise_each.ensures, c.replace.ensures.after, c.raise_own.ensures) (asks_of_rule xs k c.args.limit q w.in-Some-rule.rule.now at read_ live of ∙ new)
+      | in-Some w ↦
+          let rule = rw w.in-Some.is at c.rule.ensures in
+          rw (w.self-inside-is, w.raise_each.ensures, c.replace-queue.ensures.after, c.raise_own.ensures) (streams_asked xs p k c.args.limit q c.new-away.result w.in-Some.rule.now was is rule (sym of ∙ sym rule))
       | in-None w ↦
-          let of : None ≡ option_map (λ (s : Subscription). s.rule) q.wants = rw w.in-None.is at c.rule.ensures in
-          rw (w.self-inside-is, c.replace.ensures.after, c.raise_own.ensures) (asks_of_none xs k c.args.limit q at read_ live of ∙ new)
+          let rule = rw w.in-None.is at c.rule.ensures in
+          rw (w.self-inside-is, c.replace-queue.ensures.after, c.raise_own.ensures) (streams_kept xs p k c.args.limit q c.new-away.result was is rule (sym of ∙ sym rule))
     ]

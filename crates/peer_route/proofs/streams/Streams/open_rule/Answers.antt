@@ -1,14 +1,8 @@
--- The others of the rule are raised, and the new one is put at its place.
-use Rattle.std.proofs.Common.{◌≡◌, ◌∙◌, ap, ◌++◌, ◌∷◌, [], None}
-use Rattle.std.specs.Option.{option_map}
-use Rattle.peer_route.specs.Left.{raise_held, with_stream}
-use Rattle.peer_route.proofs.Queues.{put_last}
+-- The new stream is open.
+use Rattle.std.proofs.Common.{Some, false}
+use Rattle.peer_route.specs.History.{fresh}
+use Rattle.peer_route.proofs.{StreamsMade.on_ok, RuledStreams.new_ruled}
 use Rattle.peer_route.proofs.streams.Streams.open_rule.Goals as goal
 
 pub returns-clause-ok : goal.returns-clause-ok
-returns-clause-ok c =
-    let xs = c.self.inside.queues.items in
-    let pushed : c.push.new.self.items ≡ xs ++ None ∷ [] = c.in_ok-push.ensures.items in
-    rw (c.raise_each.ensures, pushed, c.new.ensures, c.limit_now-limit.ensures, c.shared.ensures, c.as_slice.ensures.value)
-    (put_last (option_map (raise_held c.args.rule c.args.asked)) xs None _ c.len-place.result (c.len-place.ensures ∙ c.self.inside.queues.ok.0)
-    ∙ ap (with_stream c.args.rule c.args.asked) c.self.view_is)
+returns-clause-ok c = on_ok c.add.result _ _ (λ so p left. so p (fresh p (Some c.args.rule) false) left (new_ruled p c.args.rule)) c.add.ensures.ok

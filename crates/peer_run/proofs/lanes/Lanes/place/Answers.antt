@@ -1,6 +1,4 @@
-use Rattle.std.proofs.Common.{◌≡◌, arith, slice_get, sym, ◌∙◌, ap}
-use Rattle.std.proofs.lemmas.Grind.{common_steps}
-use Rattle.std.proofs.lemmas.Option.{gets}
+use Rattle.std.proofs.{Common.{◌≡◌, arith, slice_get, sym, ◌∙◌, ap}, lemmas.Grind.common_steps, lemmas.Option.gets}
 use Rattle.peer_run.proofs.Numbers.{place-places}
 use Rattle.peer_run.proofs.lanes.Lanes.place.Goals as goal
 

@@ -1,10 +1,8 @@
-use Rattle.std.proofs.Common.{◌≡◌, ◌-◌, true, false, sym, ap, subst, refl, ◌∙◌, length}
-use Rattle.peer_route.specs.declared.leaving.Spent.TheVariants as spent
-use Rattle.peer_route.specs.Leaving.{ClosesStreams, number_of}
-use Rattle.peer_run.specs.Stands.{PeerView, Stands, is_unknown, forgotten}
-use Rattle.peer_run.proofs.RuleStreams.{gone_did, over_did, unopen_did}
+use Rattle.std.proofs.Common.{◌≡◌, ◌-◌, sym, ap, subst, refl, ◌∙◌, length, Some}
+use Rattle.peer_route.specs.{Entries.unsent, Plan.ends, Leaving.{ClosesStreams, number_of}}
+use Rattle.peer_run.specs.{Stands.{PeerView, Stands, forgotten}, Names.Spent}
+use Rattle.peer_run.proofs.{Quietly.answers_did, RuleStreams.{gone_did, over_did, unopen_did}, peer.Peer.end.Goals.{in-Some, in-None, then-not-is_unknown, else-not-is_unknown}}
 use Rattle.peer_run.proofs.peer.Peer.end.Goals as goal
-use Rattle.peer_run.proofs.peer.Peer.end.Goals.{in-Some, in-None, then-not-is_unknown, else-not-is_unknown}
 
 pub returns-in-Gone-clause-did : goal.returns-in-Gone-clause-did
 returns-in-Gone-clause-did c t lane s =
@@ -17,7 +15,7 @@ returns-in-Gone-clause-did c t lane s =
       | in-Some w ↦ w.second-is ∙ sym w.in-Some.is
       | in-None w ↦ w.second-is
     ] in
-    let closes = subst (λ j. ClosesStreams c.self.inside.route c.close_stream.new.self c.args.stream j t.past (spent.Gone c.in-Gone.last)) other (c.in-Gone.ensures.closes t.past before.keeps.left) in
+    let closes = subst (λ j. ClosesStreams c.self.inside.route c.close_stream.new.self c.args.stream j t.past (Spent.Gone c.in-Gone.last)) other (c.in-Gone.ensures.closes t.past before.keeps.left) in
     let now : PeerView = record { core = c.close_stream.new.self; names = c.self.inside.names; streams = c.self.inside.streams; given = forgotten c.args.stream c.args.second c.self.inside.given.items } in
     let own : c.saturating_sub.result ≡ length now.core.outbox - length c.self.inside.route.outbox =
     c.saturating_sub.ensures ∙ ap (λ n. n - c.outbox_len-before.result) (c.outbox_len.ensures ∙ ap (λ (v : PeerView). length v.core.outbox) (c.self-in-Gone.view_is ∙ c.forget.ensures))
@@ -35,10 +33,10 @@ returns-after-not-is_unknown-clause-did c t lane s =
       | in-Some w ↦ w.second-is ∙ sym w.in-Some.is
       | in-None w ↦ w.second-is
     ] in
-    let closes = subst (λ j. ClosesStreams c.self.inside.route c.close_stream.new.self c.args.stream j t.past (spent.Over c.in-Over.error)) other (c.in-Over.ensures.closes t.past before.keeps.left) in
+    let closes = subst (λ j. ClosesStreams c.self.inside.route c.close_stream.new.self c.args.stream j t.past (Spent.Over c.in-Over.error)) other (c.in-Over.ensures.closes t.past before.keeps.left) in
     let over : PeerView = record { core = c.close_stream.new.self; names = c.self.inside.names; streams = c.self.inside.streams; given = forgotten c.args.stream c.args.second c.self.inside.given.items } in
     let unopen : PeerView = record { core = c.close_stream.new.self; names = c.self.inside.names; streams = c.self.inside.streams; given = c.self.inside.given.items } in
     elim c.if-not-is_unknown.branch [
-      | then-not-is_unknown w ↦ let known : is_unknown c.in-Over.error ≡ false = sym c.is_unknown.ensures ∙ w.if-not-is_unknown.true in rw (w.self-is, w.forget-then-not-is_unknown.ensures, same) (over_did _ over t lane c.args.stream c.args.second c.in-Over.error c.undone-in-Over.result before known refl closes c.undone-in-Over.ensures)
-      | else-not-is_unknown w ↦ let unknown : is_unknown c.in-Over.error ≡ true = sym c.is_unknown.ensures ∙ w.if-not-is_unknown.false in rw (w.self-is) (unopen_did _ unopen t lane c.args.stream c.args.second c.in-Over.error c.undone-in-Over.result before unknown refl closes c.undone-in-Over.ensures)
+      | then-not-is_unknown w ↦ let known = c.is_unknown.ensures.no w.if-not-is_unknown.true in rw (w.self-is, w.forget-then-not-is_unknown.ensures, same) (answers_did unsent over t lane (ends t.past c.args.stream (Some c.args.second)) c.in-Over.error c.unsent.result c.unsent.ensures (λ never. over_did _ over t lane c.args.stream c.args.second c.in-Over.error before known refl closes))
+      | else-not-is_unknown w ↦ let unknown = c.is_unknown.ensures.yes w.if-not-is_unknown.false in rw (w.self-is) (answers_did unsent unopen t lane (ends t.past c.args.stream (Some c.args.second)) c.in-Over.error c.unsent.result c.unsent.ensures (λ never. unopen_did _ unopen t lane c.args.stream c.args.second c.in-Over.error before unknown refl closes))
     ]

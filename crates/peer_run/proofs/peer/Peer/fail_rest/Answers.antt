@@ -1,9 +1,6 @@
 use Rattle.std.proofs.Common.{◌≡◌, ◌≤◌, ◌-◌, ◌⊎◌, ℕ, inl, inr, List, length, ap, sym, ◌∙◌, subst, arith}
-use Rattle.wire_message.specs.Front.{Seen}
-use Rattle.peer_route.specs.History.{Fault, after_all}
-use Rattle.peer_route.specs.Left.{View, Left}
-use Rattle.peer_route.specs.Entries.{repeat}
-use Rattle.peer_run.specs.Stands.{PeerView}
+use Rattle.peer_run.specs.{Names.Seen, Stands.PeerView}
+use Rattle.peer_route.specs.{History.{Fault, after_all}, Left.{View, Left}, Entries.repeat}
 use Rattle.peer_run.proofs.Sinks.{once_more}
 use Rattle.peer_run.proofs.peer.Peer.fail_rest.Goals as goal
 

@@ -1,16 +1,7 @@
-use Rattle.std.proofs.Common.{◌≡◌, sym, ap, subst, refl, ◌∙◌, Ok}
-use Rattle.rule_match.specs.Bytes.{rule_in_bytes}
-use Rattle.peer_route.specs.History.{Made, Ruled, after}
-use Rattle.peer_route.specs.Left.{Left}
-use Rattle.peer_route.specs.Bus.{OpensRule}
-use Rattle.peer_route.specs.Trail.{count}
-use Rattle.peer_route.specs.Plan.{opens}
-use Rattle.peer_route.specs.declared.answer.Answer.TheVariants as answers
-use Rattle.peer_run.specs.declared.acting.Acted.{Acted}
-use Rattle.peer_run.specs.declared.acting.Makes.TheVariants as makings
-use Rattle.peer_run.specs.Stands.{PeerView, Stands, Did, IfDid}
-use Rattle.peer_run.proofs.Quietly.{makes_did}
-use Rattle.peer_run.proofs.RuleStreams.{asking_did, opened_left, opened_plan, unopened_did, misread_did, rule_read}
+use Rattle.std.proofs.Common.{◌≡◌, sym, ap, subst, refl, ◌∙◌, Ok, IfOk}
+use Rattle.peer_run.specs.{Names.{rule_in_bytes, Acted, Answer, Makes}, Stands.{PeerView, Stands, Did, unopened_answer}}
+use Rattle.peer_route.specs.{History.{Made, Ruled, after}, Left.Left, Bus.OpensRule, Trail.count, Plan.opens}
+use Rattle.peer_run.proofs.{Quietly.{makes_did, answers_did}, RuleStreams.{asking_did, opened_left, opened_plan, unopened_did, misread_did, rule_read}}
 use Rattle.peer_run.proofs.peer.Peer.open.Goals as goal
 
 pub returns-in-Err-clause-did : goal.returns-in-Err-clause-did
@@ -22,8 +13,8 @@ returns-in-Ok-Open-clause-did c t s =
     let before : Stands _ t = subst (λ v. Stands v t) (sym c.self.view_is) s in
     let read : Ok c.in-Ok.rule ≡ rule_in_bytes c.args.text.now = rule_read c.in-Ok.rule (rule_in_bytes c.as_slice.result.now) c.in-Ok.ensures ∙ ap rule_in_bytes c.as_slice.ensures.value in
     let is = opened_left c.self.inside.route c.open_rule.new.self t c.in-Ok.rule c.args.max_queued c.in-Ok-Open.field-0-0 (subst (λ o. OpensRule c.self.inside.route c.open_rule.new.self c.in-Ok.rule c.args.max_queued t.past (Ok o)) c.in-Ok-Open.field-0-is (c.in-Ok-Open.ensures.opens t.past before.keeps.left)) in
-    subst (λ x. IfDid c.made.new.self t c.args.lane (opens t c.args.lane x c.args.max_queued t.past.closing) c.made.result) read
-    (subst (λ p. IfDid c.made.new.self t c.args.lane p c.made.result) (sym (opened_plan t c.args.lane c.in-Ok.rule c.args.max_queued is.1 is.2 is.3))
+    subst (λ x. IfOk c.made.result (Did c.made.new.self t c.args.lane (opens t c.args.lane x c.args.max_queued t.past.closing))) read
+    (subst (λ p. IfOk c.made.result (Did c.made.new.self t c.args.lane p)) (sym (opened_plan t c.args.lane c.in-Ok.rule c.args.max_queued is.1 is.2 is.3))
     (makes_did _ c.made.new.self t c.args.lane (Ruled c.in-Ok.rule c.args.max_queued) c.made.result before
     (subst (λ v. Left v (after (Made (Ruled c.in-Ok.rule c.args.max_queued)) t.past)) (sym c.made.ensures.rest.0) is.0) c.made.ensures.given c.made.ensures.answer))
 
@@ -32,7 +23,7 @@ returns-in_ok-push-in-Ok-Opening-clause-did c t s =
     let before : Stands _ t = subst (λ v. Stands v t) (sym c.self.view_is) s in
     let read : Ok c.in-Ok.rule ≡ rule_in_bytes c.args.text.now = rule_read c.in-Ok.rule (rule_in_bytes c.as_slice.result.now) c.in-Ok.ensures ∙ ap rule_in_bytes c.as_slice.ensures.value in
     let now : PeerView = record { core = c.open_rule.new.self; names = c.self.inside.names; streams = c.self.inside.streams; given = c.push.new.self.items } in
-    let did : Acted = record { answer = answers.Opening (count c.args.lane c.self.inside.streams) c.in-Ok-Opening.opening.serial; makes = makings.Opening } in
+    let did : Acted = record { answer = Answer.Opening (count c.args.lane c.self.inside.streams) c.in-Ok-Opening.opening.serial; makes = Makes.Opening } in
     rw (c.count.ensures) (subst (λ x. Did now t c.args.lane (opens t c.args.lane x c.args.max_queued t.past.closing) did) read
     (asking_did _ now t c.args.lane c.in-Ok.rule c.args.max_queued c.in-Ok-Opening.opening before c.in_ok-push-in-Ok-Opening.ensures.items (subst (λ o. OpensRule c.self.inside.route c.open_rule.new.self c.in-Ok.rule c.args.max_queued t.past (Ok o)) c.in-Ok-Opening.field-0-is (c.in-Ok-Opening.ensures.opens t.past before.keeps.left))))
 
@@ -41,5 +32,6 @@ returns-in-Err-open_rule-clause-did c t s =
     let before : Stands _ t = subst (λ v. Stands v t) (sym c.self.view_is) s in
     let read : Ok c.in-Ok.rule ≡ rule_in_bytes c.args.text.now = rule_read c.in-Ok.rule (rule_in_bytes c.as_slice.result.now) c.in-Ok.ensures ∙ ap rule_in_bytes c.as_slice.ensures.value in
     let now : PeerView = record { core = c.open_rule.new.self; names = c.self.inside.names; streams = c.self.inside.streams; given = c.self.inside.given.items } in
-    subst (λ x. IfDid now t c.args.lane (opens t c.args.lane x c.args.max_queued t.past.closing) c.unopened.result) read
-    (unopened_did _ now t c.args.lane c.in-Ok.rule c.args.max_queued c.in-Err-open_rule.error c.unopened.result before refl (c.in-Err-open_rule.ensures.opens t.past before.keeps.left) c.unopened.ensures)
+    subst (λ x. IfOk c.unopened.result (Did now t c.args.lane (opens t c.args.lane x c.args.max_queued t.past.closing))) read
+    (answers_did unopened_answer now t c.args.lane (opens t c.args.lane (Ok c.in-Ok.rule) c.args.max_queued t.past.closing) c.in-Err-open_rule.error c.unopened.result c.unopened.ensures
+    (unopened_did _ now t c.args.lane c.in-Ok.rule c.args.max_queued c.in-Err-open_rule.error before refl (c.in-Err-open_rule.ensures.opens t.past before.keeps.left)))

@@ -1,5 +1,4 @@
-use Rattle.std.proofs.Common.{◌≡◌, ◌∙◌, ap, sym, arith, slice_get, Some, ◌++◌, [], ◌∷◌}
-use Rattle.std.proofs.lemmas.Grind.{common_steps}
+use Rattle.std.proofs.{Common.{◌≡◌, ◌∙◌, ap, sym, arith, slice_get, Some, ◌++◌, [], ◌∷◌}, lemmas.Grind.common_steps}
 use Rattle.peer_run.proofs.Posted.{put_next}
 use Rattle.peer_run.proofs.peer.Peer.put_since.Goals as goal
 

@@ -1,8 +1,7 @@
 use Rattle.std.proofs.Common.{sym, subst, refl}
 use Rattle.peer_run.specs.Stands.{Stands}
-use Rattle.peer_run.proofs.Quietly.{queue_did}
+use Rattle.peer_run.proofs.{Quietly.queue_did, peer.Peer.queue.Goals.{in-Ok, in-Err}}
 use Rattle.peer_run.proofs.peer.Peer.queue.Goals as goal
-use Rattle.peer_run.proofs.peer.Peer.queue.Goals.{in-Ok, in-Err}
 
 pub returns-clause-did : goal.returns-clause-did
 returns-clause-did c t lane s =

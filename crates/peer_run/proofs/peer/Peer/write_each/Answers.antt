@@ -1,21 +1,10 @@
-use Rattle.std.proofs.Common.{◌≡◌, ◌≤◌, ◌-◌, ◌+◌, Ok, length, ap, sym, ◌∙◌, subst, arith, true, false, suc}
+use Rattle.std.proofs.{Common.{◌≡◌, ◌≤◌, ◌-◌, ◌+◌, length, ap, sym, ◌∙◌, subst, arith, true, false, suc}, lemmas.Option.slice_get_within}
 use Rattle.std.specs.Option.{option_copied}
-use Rattle.std.proofs.lemmas.Option.{slice_get_within}
+use Rattle.peer_run.specs.{Names.{cause, Writer}, declared.peer.Peer.TheInside.Inside, Stands.PeerView, Runs.{Outlet, Flushed}}
 use Rattle.wire_framing.specs.declared.write_half.WriteHalf.{WriteHalf}
-use Rattle.wire_framing.specs.Writing.{cause}
-use Rattle.peer_run.specs.declared.peer.RunError.{RunError}
-use Rattle.peer_run.specs.declared.peer.Peer.TheInside.{Inside}
-use Rattle.peer_route.specs.declared.writer.Writer.TheVariants as writers
-use Rattle.peer_route.specs.History.{Past, Wrote, Fault, after_all, after}
-use Rattle.peer_route.specs.Left.{View, Left}
-use Rattle.peer_route.specs.Entries.{repeat, writes_of}
-use Rattle.peer_run.specs.Stands.{PeerView}
-use Rattle.peer_run.specs.Sinks.{Outlet, Flushed}
-use Rattle.peer_run.proofs.Sinks.{once_more}
-use Rattle.peer_run.proofs.Flushing.{send_grows, past_end, waits_by, is_next, flush_wrote, flush_failed, cut_short}
-use Rattle.peer_run.proofs.peer.Peer.write_each.Given.{Over}
+use Rattle.peer_route.specs.{History.{Past, Wrote, Fault, after_all, after}, Left.{View, Left}, Entries.{repeat, writes_of}}
+use Rattle.peer_run.proofs.{Sinks.once_more, Flushing.{send_grows, past_end, waits_by, is_next, flush_wrote, flush_failed, cut_short}, peer.Peer.write_each.Given.Over, peer.Peer.write_each.Goals.{then-is_failed-via-then-is_failed, then-is_failed-via-else-is_failed+in_ok-went_out+then-not-branch}}
 use Rattle.peer_run.proofs.peer.Peer.write_each.Goals as goal
-use Rattle.peer_run.proofs.peer.Peer.write_each.Goals.{then-is_failed-via-then-is_failed, then-is_failed-via-else-is_failed+in_ok-went_out+then-not-branch}
 
 -- another core with the same rest
 same_rest : (core : View) (p now q : PeerView) → p ≡ now → now ≡ record q { core = now.core } → record p { core = core } ≡ record q { core = core }
@@ -59,17 +48,20 @@ returns-then-is_failed-clause-flushed g c = λ start p left ready taken fine sin
     let q = after_all (repeat n Wrote) p in
     let k = length c.loop-message.self.core.outbox - c.loop-message.self.core.done - 1 in
     let f = inv.flushed start p left ready taken fine sinks in
-    let next = is_next c.args.self.now.core c.loop-message.self.core p c.in-Some.message.now (g.W.Sink.takes c.args.half.now.sink) (g.W.Sink.takes c.loop-message.half.sink) left (inv.left p left) inv.more inv.outbox inv.takes taken waits ready in
+    let here = inv.left p left in
+    let put : length c.loop-message.self.core.outbox ≡ length q.outbox.put = ap length here.outbox in
+    let within : q.outbox.done + suc k ≤ length q.outbox.put = omega (arith, waits.within, put, here.done) in
+    let next = is_next c.args.self.now.core c.loop-message.self.core p c.in-Some.message.now (g.W.Sink.takes c.args.half.now.sink) (g.W.Sink.takes c.loop-message.half.sink) left here inv.more inv.outbox inv.takes taken waits ready in
     let cut : after_all (writes_of (c.outbox_done-then-is_failed.result - c.outbox_done-before.result) true (length c.args.self.now.core.outbox - c.args.self.now.core.done)) p ≡ after_all (repeat (suc k) Fault) q
     = ap (λ w. after_all (writes_of w true (length c.args.self.now.core.outbox - c.args.self.now.core.done)) p) (written_is g c)
     ∙ cut_short n (length c.args.self.now.core.outbox - c.args.self.now.core.done) (suc k) p (omega (arith, long, waits.within, inv.more)) in
     elim c.then-is_failed.branch [
-      | then-is_failed-via-then-is_failed w ↦ let bad : writers.Failed ≡ writers.Fine = sym (c.is_failed.ensures.0 w.if-is_failed.true) ∙ ap (λ (v : View). v.writer) core ∙ (inv.left p left).writer ∙ next.fine in absurd (cc)
+      | then-is_failed-via-then-is_failed w ↦ let bad : Writer.Failed ≡ Writer.Fine = sym (c.is_failed.ensures.0 w.if-is_failed.true) ∙ ap (λ (v : View). v.writer) core ∙ here.writer ∙ next.fine in absurd (cc)
       | then-is_failed-via-else-is_failed+in_ok-went_out+then-not-branch w ↦
           subst (λ h. Flushed start (outlet c.args.half.now) (outlet h) (after_all (writes_of (c.outbox_done-then-is_failed.result - c.outbox_done-before.result) true (length c.args.self.now.core.outbox - c.args.self.now.core.done)) p).outbox true h.writing) (sym w.half-is)
           (subst (λ x. Flushed start (outlet c.args.half.now) (outlet w.send_message.new.self) x true w.send_message.new.self.writing) (ap (λ (x : Past). x.outbox) (sym cut))
-          (flush_failed Unit RunError start (outlet c.args.half.now) (outlet c.loop-message.half) (outlet w.send_message.new.self) q c.in-Some.message.now w.send_message.result w.went_out.result c.loop-message.half.writing w.send_message.new.self.writing (g.W.Sink.takes c.loop-message.half.sink) k next
-          (w.in_ok-went_out.was ∙ ap Ok w.if-not-branch.true) w.went_out.ensures (w.send_message.ensures.sends next.taken (ap cause (f.fine next.fine))) f))
+          (flush_failed Unit start (outlet c.args.half.now) (outlet c.loop-message.half) (outlet w.send_message.new.self) q c.in-Some.message.now w.send_message.result c.loop-message.half.writing w.send_message.new.self.writing (g.W.Sink.takes c.loop-message.half.sink) k next within
+          (sym w.if-not-branch.true ∙ w.in_ok-went_out.ensures.0) w.in_ok-went_out.ensures.1 (w.send_message.ensures.sends next.taken (ap cause (f.fine next.fine))) f))
     ]
 
 pub returns-then-is_failed-clause-grows : goal.returns-then-is_failed-clause-grows
@@ -115,8 +107,8 @@ loop-message-preserved g c =
           let f = inv.flushed start p left ready taken fine sinks in
           let next = is_next c.args.self.now.core c.loop-message.self.core p c.in-Some.message.now (g.W.Sink.takes c.args.half.now.sink) (g.W.Sink.takes c.loop-message.half.sink) left (inv.left p left) inv.more inv.outbox inv.takes taken waits ready in
           subst (λ x. Flushed start (outlet c.args.half.now) (outlet c.send_message.new.self) x false c.send_message.new.self.writing) (ap (λ (x : Past). x.outbox) (sym (once p)))
-          (flush_wrote Unit RunError start (outlet c.args.half.now) (outlet c.loop-message.half) (outlet c.send_message.new.self) q c.in-Some.message.now c.send_message.result c.went_out.result c.loop-message.half.writing c.send_message.new.self.writing (g.W.Sink.takes c.loop-message.half.sink) next
-          (c.in_ok-went_out.was ∙ ap Ok c.if-not-branch.false) c.went_out.ensures (c.send_message.ensures.sends next.taken (ap cause (f.fine next.fine))) f);
+          (flush_wrote Unit start (outlet c.args.half.now) (outlet c.loop-message.half) (outlet c.send_message.new.self) q c.in-Some.message.now c.send_message.result c.loop-message.half.writing c.send_message.new.self.writing (g.W.Sink.takes c.loop-message.half.sink) next
+          (sym c.if-not-branch.false ∙ c.in_ok-went_out.ensures.0) (c.send_message.ensures.sends next.taken (ap cause (f.fine next.fine))) f);
       more = omega (arith, step, inv.more);
       within = omega (arith, step, waits.within, long);
       outbox = outbox ∙ inv.outbox;

@@ -1,0 +1,174 @@
+-- What entries are answered goes with what they do: a serial that is told is that of the last message, that there is none before is said by
+-- position alone, and a refusal or a wait leaves all as it was. And the peer's name stays.
+use Rattle.std.proofs.Common.{inl, inr, ◌≡◌, ℕ, refl, sym, ◌∙◌, ap, subst, Bool, true, false, if◌then◌else◌, List, [], ◌∷◌, Option, Some, None, Result, Ok, Err, ◌++◌, length, map}
+use Rattle.std.specs.List.{AllByRecursion}
+use Rattle.peer_route.specs.{Names.{Seen, Error, Words, Answer, Entry, Live}, Parcel.Setting, History.{Event, Named, Past, first_of, after, after_all}, BusCall.last_of, Issuing.{Posting, issued}, Trail.Trail, Plan.{Plan, Says, Sends, Reads, Closes, Writes, Never, named_now, plan}, Entries.{IsMeant, IsSending, IsRead, IsClose, IsAtOnce, Legal, trail, write_fault, unsent, IsOfRun, deeds, past_after, first_past}, Laws.{IsNothingYet, told_serial, is_by_position}, StreamLaws.{is_unstream, stays_open}}
+use Rattle.peer_route.proofs.{Plans.{IsDeed, Gives, is_live, is_idle, place_of, fits, IsBland, FairSends, IsFair, fair}, Kept.{since, Keeps, entry_keeps, deeds_by, of_run, Idles, quiet_past, idle_more}, Issues.refusal_known, Sent.{put_drew, drew}}
+
+-- ---- answers
+
+-- where it tells a serial, no write failed, and it is that of the last message
+abbrev Tells : Entry → Type 0
+Tells e = (serial : ℕ) → told_serial e.answer ≡ Some serial → (e.failed ≡ false) × (last_of (map (λ (m : Seen). m.serial) e.put) ≡ Some serial)
+
+-- how an entry's answer goes with what it does
+record Speaks (w : Words) (pl : Plan) (e : Entry) : Type 0 where
+  fit : fits (is_by_position w) (place_of e.answer) ≡ true
+  tells : Tells e
+  idle : is_idle e.answer ≡ true → (is_unstream w ≡ true → stays_open e.answer ≡ true) → Idles pl e
+
+untold : (e : Entry) → told_serial e.answer ≡ None → Tells e
+untold e none serial told = cc
+
+bland : (w : Words) (pl : Plan) (e : Entry) (a : Answer) → IsBland a → e.answer ≡ a → Speaks w pl e
+bland w pl e a is at = record {
+  fit = ap (λ x. fits (is_by_position w) (place_of x)) at ∙ ap (fits (is_by_position w)) is.2;
+  tells = untold e (ap told_serial at ∙ is.1);
+  idle = λ idle. let loud : is_idle e.answer ≡ false = ap is_idle at ∙ is.0 in cc;
+}
+
+-- what is answered where messages can't be put
+unsent_said : (error : Error) → (told_serial (unsent error) ≡ None) × (place_of (unsent error) ≡ None)
+unsent_said (Error.InputOutput kind) = (refl, refl)
+unsent_said error = (refl, refl)
+
+-- streams that are closed neither stay open nor wait
+not_open : (error : Error) → (error ≡ Error.UnknownHandle → ⊥) → stays_open (unsent error) ≡ true → ⊥
+not_open Error.UnknownHandle known e = known refl
+not_open (Error.InputOutput kind) known e = cc
+not_open error known e = cc
+
+sending : (t : Trail) (w : Words) (done : List Event) (ds : List Posting) (sent : List ℕ → Answer) (e : Entry) (r : Result (List ℕ) Error) → FairSends t w done ds sent → issued (after_all done t.past) ds ≡ r → IsSending r ds sent e
+    → Speaks w (Sends done ds sent) e
+sending t w done ds sent e (Err error) f at is = record {
+  fit = ap (λ x. fits (is_by_position w) (place_of x)) is.0 ∙ ap (fits (is_by_position w)) (unsent_said error).1;
+  tells = untold e (ap told_serial is.0 ∙ (unsent_said error).0);
+  idle = λ idle open_. (is.1, by (is_unstream w) refl open_);
+}
+  where
+    by : (b : Bool) → is_unstream w ≡ b → (is_unstream w ≡ true → stays_open e.answer ≡ true) → done ≡ []
+    by false q open_ = f.idle q
+    by true q open_ = absurd (not_open error (λ unknown. refusal_known (after_all done t.past) ds Error.UnknownHandle (at ∙ ap Err unknown)) (sym (ap stays_open is.0) ∙ open_ q))
+sending t w done ds sent e (Ok serials) f at is = by_fault e.failed refl is.answer
+  where
+    by_fault : (b : Bool) → e.failed ≡ b → e.answer ≡ (if b then write_fault else sent serials) → Speaks w (Sends done ds sent) e
+    by_fault true failed a = bland w _ e write_fault (refl, refl, refl) a
+    by_fault false fine a =
+        let loud : is_idle e.answer ≡ false = ap is_idle a ∙ (f.loud serials).0 in
+        let drawn_so = put_drew (after_all done t.past) ds serials at in
+        record {
+          fit = ap (λ x. fits (is_by_position w) (place_of x)) a ∙ ap (fits (is_by_position w)) (f.loud serials).1;
+          tells = λ n told. (fine, ap (λ ms. last_of (map (λ (m : Seen). m.serial) ms)) is.put ∙ ap last_of (drew ds (after_all done t.past) serials drawn_so) ∙ sym (f.told serials drawn_so) ∙ sym (ap told_serial a) ∙ told);
+          idle = λ idle. cc;
+        }
+
+speaks : (t : Trail) (w : Words) (pl : Plan) (e : Entry) → IsFair t w pl → IsMeant t.past pl e → Speaks w pl e
+speaks t w (Says answer done) e f is = record {
+  fit = ap (λ x. fits (is_by_position w) (place_of x)) is.1 ∙ f.fit;
+  tells = untold e (ap told_serial is.1 ∙ f.untold);
+  idle = λ idle open_. (is.2, f.idle (ap is_idle (sym is.1) ∙ idle));
+}
+speaks t w (Sends done ds sent) e f is = sending t w done ds sent e _ f refl is.1
+speaks t w Reads e f is = by_read e.read is.0
+  where
+    by_read : (m : Option Seen) → IsRead (length t.past.read) m e.answer → Speaks w Reads e
+    by_read (Some m) is = bland w Reads e _ (refl, refl, refl) is.0
+    by_read None is = bland w Reads e _ (refl, refl, refl) is.1
+speaks t w Closes e f is = by_close is.1
+  where
+    by_close : IsClose e.answer → Speaks w Closes e
+    by_close (inl shut) = bland w Closes e _ (refl, refl, refl) shut
+    by_close (inr fault) = bland w Closes e _ (refl, refl, refl) fault
+speaks t w (Writes fails) e f is = bland w _ e _ (refl, refl, refl) is.1
+speaks t w Never e f is = absurd is
+
+-- so it is of each entry
+says : (setting : Setting) (older : List Entry) (e : Entry) → Legal setting (e ∷ older) → Speaks e.words (plan (trail setting older) e.lane e.words) e
+says setting older e legal = let t = trail setting older in speaks t e.words (plan t e.lane e.words) e (fair t e.lane e.words) legal.0
+
+pub serial : (setting : Setting) (older : List Entry) (e : Entry) (serial : ℕ) → Legal setting (e ∷ older) → told_serial e.answer ≡ Some serial → IsAtOnce e
+    → (last_of (map (λ (m : Seen). m.serial) e.put) ≡ Some serial) × (e.written ≡ length e.put)
+serial setting older e n legal told at_once = let tells = (says setting older e legal).tells n told in (tells.1, at_once tells.0)
+
+-- ---- a refusal, and a wait
+
+pub refused_changes_nothing : (setting : Setting) (older : List Entry) (e : Entry) (error : Error) → Legal setting (e ∷ older) → e.answer ≡ Answer.Refused error → (is_unstream e.words ≡ true → error ≡ Error.UnknownHandle)
+    → trail setting (e ∷ older) ≡ trail setting older
+refused_changes_nothing setting older e error legal a known =
+    let t = trail setting older in idle_more (plan t e.lane e.words) e t ((says setting older e legal).idle (ap is_idle a) (λ u. ap stays_open (a ∙ ap Answer.Refused (known u))))
+
+pub busy_changes_nothing : (setting : Setting) (older : List Entry) (e : Entry) → Legal setting (e ∷ older) → e.answer ≡ Answer.Busy → trail setting (e ∷ older) ≡ trail setting older
+busy_changes_nothing setting older e legal a = let t = trail setting older in idle_more (plan t e.lane e.words) e t ((says setting older e legal).idle (ap is_idle a) (λ u. ap stays_open a))
+
+-- ---- by position
+
+only_by : (by : Bool) → fits by (Some true) ≡ true → by ≡ true
+only_by true e = refl
+only_by false e = cc
+
+pub only : (setting : Setting) (older : List Entry) (e : Entry) → Legal setting (e ∷ older) → e.answer ≡ Answer.NoneBefore → is_by_position e.words ≡ true
+only setting older e legal a = only_by (is_by_position e.words) (ap (fits (is_by_position e.words)) (sym (ap place_of a)) ∙ (says setting older e legal).fit)
+
+nothing_yet : (a : Answer) → IsNothingYet a → place_of a ≡ Some false
+nothing_yet Answer.NotYet n = refl
+nothing_yet Answer.Empty n = refl
+nothing_yet a n = absurd n
+
+pub never : (setting : Setting) (older : List Entry) (e : Entry) → Legal setting (e ∷ older) → is_by_position e.words ≡ true → IsNothingYet e.answer → ⊥
+never setting older e legal by n =
+    let fit : fits true (Some false) ≡ true = ap (λ b. fits b (Some false)) (sym by) ∙ ap (fits (is_by_position e.words)) (sym (nothing_yet e.answer n)) ∙ (says setting older e legal).fit in cc
+
+-- ---- the name stays
+
+-- it leaves the name as it was
+abbrev Unnames : Event → Type 0
+Unnames e = Keeps (λ h. h.name) e
+
+-- as all do but lines of lanes that run at once
+unnames : (w : Words) → is_live w ≡ false → (e : Event) → IsDeed e → Gives w e → Unnames e
+unnames w run (Named name) is gives = cc
+unnames w run e is gives = λ h. refl
+
+pub start : (setting : Setting) (es : List Entry) → AllByRecursion (λ (e : Entry). IsOfRun e.words) es → (trail setting es).past.name ≡ setting.name
+start setting [] all = first setting.bus setting.name setting.queue
+  where
+    first : (bus : Bool) (name : Option (List ℕ)) (queue : Option ℕ) → (first_past (record { bus = bus; name = name; takes_fds = false; queue = queue })).name ≡ name
+    first true None None = refl
+    first true None (Some limit) = refl
+    first true (Some name) None = refl
+    first true (Some name) (Some limit) = refl
+    first false None None = refl
+    first false None (Some limit) = refl
+    first false (Some name) None = refl
+    first false (Some name) (Some limit) = refl
+start setting (e ∷ es) all =
+    let t = trail setting es in
+    let done = deeds_by Unnames t e.lane e e.words (unnames e.words (of_run e.words all.0)) (λ error h. refl) (λ reads m h. refl) (λ line. (λ h. refl, λ h. refl)) in
+    entry_keeps (λ h. h.name) (plan t e.lane e.words) e t.past done (λ m purpose h. refl) (λ h. refl) (λ h. refl) ∙ start setting es all.1
+
+name_keeps : (name : List ℕ) (e : Event) (h : Past) → h.name ≡ Some name → (after e h).name ≡ Some name
+name_keeps name (Named later) h is = ap (λ o. first_of o later) is
+name_keeps name e h is = is
+
+pub kept : (setting : Setting) (newer older : List Entry) (name : List ℕ) → (trail setting older).past.name ≡ Some name → (trail setting (newer ++ older)).past.name ≡ Some name
+kept setting newer older name is = since (λ q. q.name ≡ Some name) (name_keeps name) setting newer older is
+
+-- the line that gives a name
+names : (t : Trail) (e : Entry) (name : List ℕ) (given : Option (List ℕ)) → e.words ≡ Words.Live (Live.Unique name) → t.past.name ≡ given → plan t e.lane e.words ≡ named_now given name
+names t e name given w is = ap (plan t e.lane) w ∙ ap (λ o. named_now o name) is
+
+pub given : (setting : Setting) (older : List Entry) (e : Entry) (name : List ℕ) → Legal setting (e ∷ older) → e.words ≡ Words.Live (Live.Unique name) → (trail setting older).past.name ≡ None
+    → (e.answer ≡ Answer.Named true) × ((trail setting (e ∷ older)).past.name ≡ Some name)
+given setting older e name legal w is =
+    let t = trail setting older in
+    let means = names t e name None w is in
+    let meant = subst (λ pl. IsMeant t.past pl e) means legal.0 in
+    (meant.1, ap (λ pl. (past_after pl e t.past).name) means ∙ ap (λ (q : Past). q.name) (quiet_past (named_now None name) e t.past meant.2) ∙ ap (λ o. first_of o name) is)
+
+pub later : (setting : Setting) (older : List Entry) (e : Entry) (name earlier : List ℕ) → Legal setting (e ∷ older) → e.words ≡ Words.Live (Live.Unique name) → (trail setting older).past.name ≡ Some earlier
+    → (e.answer ≡ Answer.Named false) × (trail setting (e ∷ older) ≡ trail setting older)
+later setting older e name earlier legal w is =
+    let t = trail setting older in
+    let means = names t e name (Some earlier) w is in
+    let meant = subst (λ pl. IsMeant t.past pl e) means legal.0 in
+    (meant.1, idle_more (plan t e.lane e.words) e t (meant.2, ap (λ pl. deeds pl e) means))

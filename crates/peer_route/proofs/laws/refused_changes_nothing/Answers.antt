@@ -1,5 +1,0 @@
-use Rattle.peer_route.proofs.Refused.{refused_changes_nothing}
-use Rattle.peer_route.proofs.laws.refused_changes_nothing.Goals as goal
-
-pub returns : goal.returns
-returns c = refused_changes_nothing
