@@ -1,7 +1,7 @@
 -- The values of a body's word are those of which it is the word.
-use Rattle.std.proofs.{Common.{ℕ, ◌≡◌, ◌+◌, ◌<◌, ◌==◌, Bool, true, false, not, nat_lt, List, [], ◌∷◌, ◌++◌, length, take, drop, map, Option, Some, None, is_some, option_map, refl, sym, ap, ◌∙◌, subst, arith, append-nil, length-append}, Math.Seq.{take-append_seam, drop-append-add}, lemmas.Bool.Decides.nat_tests, lemmas.List.{take-append-drop, take_all, drop_more}, lemmas.List.Elements.{All-head, All-tail}, lemmas.List.Folds.list_all-append, lemmas.List.Quantifiers.position-Some, lemmas.Bool.and_parts}
+use Rattle.std.proofs.{Common.{ℕ, ◌≡◌, ◌+◌, ◌<◌, ◌==◌, Bool, true, false, not, nat_lt, List, [], ◌∷◌, ◌++◌, length, take, drop, map, Option, Some, None, is_some, option_and_then, option_map, refl, sym, ap, ◌∙◌, subst, arith, append-nil, length-append}, Math.Seq.{take-append_seam, drop-append-add}, lemmas.Bool.Decides.nat_tests, lemmas.List.{take-append-drop, take_all, drop_more}, lemmas.List.Elements.{All-head, All-tail}, lemmas.List.Folds.list_all-append, lemmas.List.Quantifiers.position-Some, lemmas.Bool.and_parts}
 use Rattle.std.specs.List.{list_all, position, position_or_len, All}
-use Rattle.peer_route.specs.{Names.{Endian, Little, Shape, basic, Shapes, no_shapes, shapes, shapes_of, letter, type_text, types_text, IsSignature, SignatureText, types_in, Datum, type_of, SpellEach, Cursor, value_at, fields_at}, Hex.{hex_word, bytes_of}, BodyWord.{IsBodyWord, at_colon, with_nothing_behind, spelled_values, values_of, body_values}}
+use Rattle.peer_route.specs.{Names.{Endian, Little, Shape, basic, Shapes, no_shapes, shapes, shapes_of, letter, type_text, types_text, IsSignature, SignatureText, types_in, Datum, type_of, SpellEach, Cursor, value_at, fields_at}, Hex.{hex_word, bytes_of}, BodyWord.{IsBodyWord, at_colon, with_nothing_behind, spelled_values, body_values}}
 use Rattle.wire_signature.specs.{declared.basic.BasicType.BasicType, Shape.{variant, array, dict, struct}}
 use Rattle.wire_signature.proofs.Exact.{types_in-takes, types_in-again}
 use Rattle.wire_number.specs.Reading.{◌>>=◌}
@@ -99,6 +99,9 @@ mutual
 are_bytes : (xs : List ℕ) → All (λ b. b < 256) xs → AreBytes xs
 are_bytes [] h = tt
 are_bytes (x ∷ xs) h = (All-head (λ b. b < 256) x xs h, are_bytes xs (All-tail (λ b. b < 256) x xs h))
+
+abbrev values_of : Option (List Shape) → Option (List ℕ) → Option (List Datum)
+values_of types bytes = option_and_then (λ ts. option_and_then (spelled_values ts) bytes) types
 
 values_by : (o : Option (List Shape)) (r : Option (List ℕ)) (values : List Datum) → values_of o r ≡ Some values
     → (types : List Shape) × (bytes : List ℕ) × (o ≡ Some types) × (r ≡ Some bytes) × (spelled_values types bytes ≡ Some values)

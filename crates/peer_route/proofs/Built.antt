@@ -1,7 +1,7 @@
 -- The message of a letter is built with the serial that it drew.
 use Rattle.std.proofs.Common.{◌≡◌, ℕ, ◌<◌, ◌≤◌, refl, sym, ◌∙◌, ap, subst, arith, inl, inr, Bool, true, false, List, [], ◌∷◌, ◌++◌, length, length-append, map, Option, Some, Result, Ok, Err}
 use Rattle.std.specs.Int.{w32}
-use Rattle.peer_route.specs.{Names.{Endian, number_text, padding, counted_text, basic_alignment, Datum, text, string, text_type, type_of, data_of, Seen, bare, Draft, signed, counted, body_text, BuildsValues, Error, VariantError}, Parcel.{Parcel, whole_draft, message_of, sender_of, sent_by}, Issuing.{is_deep, is_long}, Placing.MakesAt}
+use Rattle.peer_route.specs.{Names.{Endian, number_text, padding, counted_text, basic_alignment, Datum, text, string, text_type, type_of, data_of, Seen, bare, Draft, signed, counted, body_text, BuildsValues, Error, VariantError}, Parcel.{Parcel, message_of, sender_of, sent_by}, Issuing.{is_deep, is_long}, Placing.MakesAt}
 use Rattle.wire_spelling.specs.Spelling.{AllFit, spelling, spellings}
 use Rattle.wire_message.specs.Draft.{built, header_text, message_text}
 use Rattle.peer_route.proofs.Fitting.{short_so, long_so}
@@ -77,7 +77,7 @@ long_with header body long = omega (arith, long, length-append header body)
 long_message : (parcel : Parcel) (serial : ℕ) → 4294967295 < length (body_text parcel.draft.order parcel.values) → 134217728 < length (message_of parcel serial).bytes
 unfolding message_of built message_text
 long_message parcel serial long =
-    long_with (header_text (whole_draft parcel) (length (body_text parcel.draft.order parcel.values)) serial) (body_text parcel.draft.order parcel.values) long
+    long_with (header_text (signed (counted parcel.draft parcel.fds) (map type_of parcel.values)) (length (body_text parcel.draft.order parcel.values)) serial) (body_text parcel.draft.order parcel.values) long
 
 fits_one : (order : Endian) (bytes : List ℕ) → AllFit order 0 (data_of (text string bytes ∷ []))
 unfolding AllFit

@@ -1,6 +1,6 @@
 -- The messages by which a peer asks the bus, to be sent.
 use Rattle.std.proofs.Common.{◌≡◌, ℕ, refl, codes, true, false, List, Option, None}
-use Rattle.peer_route.specs.{Names.{IsBusName, IsInterfaceName, IsObjectPath, Rule}, CallMessage.expects_reply, Parcel.sent_by, History.Removes, Issuing.posted, BusCall.match_parcel}
+use Rattle.peer_route.specs.{Names.{IsBusName, IsInterfaceName, IsObjectPath, Rule}, CallMessage.expects_reply, Parcel.{Parcel, sent_by}, History.Removes, Issuing.posted, BusCall.match_parcel}
 use Rattle.wire_names.specs.Names.{is_element, is_dotted, is_unique_name, is_bus_name, is_interface_name, is_member_name, is_object_path}
 
 -- the names of what is asked
@@ -23,6 +23,13 @@ add_is = refl
 pub remove_is : is_member_name (codes "RemoveMatch") ≡ true
 unfolding is_member_name is_element
 remove_is = refl
+
+-- the call that asks the bus for what the rule accepts, and the one that tells it that this isn't wanted any more
+abbrev pub add_parcel : Option (List ℕ) → Rule → Parcel
+add_parcel name rule = match_parcel (codes "AddMatch") name rule
+
+abbrev pub remove_parcel : Option (List ℕ) → Rule → Parcel
+remove_parcel name rule = match_parcel (codes "RemoveMatch") name rule
 
 -- such a call, put as the peer's own
 pub match_posted : (member : List ℕ) (name : Option (List ℕ)) (rule : Rule) → posted true (sent_by name false (match_parcel member None rule)) ≡ record { parcel = match_parcel member name rule; purpose = Removes }

@@ -1,6 +1,6 @@
 -- What holds of each past: none of its calls was put before more messages were read than there are, their places in the outbox
 -- rise, and a writer that was closed is a closed peer's.
-use Rattle.peer_route.specs.{History.{call_by, Event, Shut, Put, OfLane, Fault, Spent, Adds, Removes, Call, edit, spend, fail_at, first_of, worse, Past, after, no_past}, Names.{Writer, Seen, Error}, Left.{Rising, IsSound}}
+use Rattle.peer_route.specs.{History.{call_by, Event, Shut, Put, OfLane, Fault, Spent, Adds, Removes, Call, edit, spend, fail_at, first_of, worse, Past, after, no_past}, Names.{Writer, Seen, Error}, Left.{Rising, AreSound}}
 use Rattle.std.proofs.{Common.{◌≡◌, ℕ, ◌≤◌, zero, suc, refl, sym, ◌∙◌, ap, arith, subst, true, false, is_some, Option, Some, None, List, [], ◌∷◌, ◌++◌, length, map, length-append, ◌<◌}, lemmas.List.map-append}
 use Rattle.std.specs.List.{AllByRecursion}
 use Rattle.peer_route.proofs.{Plain.{Below, Below-more, Rising-push}, Edits.all_push}
@@ -40,6 +40,9 @@ worse_closed : (w : Writer) → worse w Writer.Failed ≡ Writer.Closed → w �
 worse_closed Writer.Fine e = absurd (cc)
 worse_closed Writer.Failed e = absurd (cc)
 worse_closed Writer.Closed e = refl
+
+abbrev pub IsSound : Past → Type 0
+IsSound h = AreSound h.outbox.put h.outbox.writer h.closing h.calls
 
 pub sound_first : IsSound no_past
 sound_first = record { below = tt; rise = tt; shut = λ e. absurd (cc) }

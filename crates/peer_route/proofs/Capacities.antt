@@ -1,8 +1,8 @@
 -- What a stream does, that one is opened, and what a capacity is, leave what each other stream gives; and what becomes of capacities.
-use Rattle.peer_route.specs.{History.{fresh, Made, Did, Main, Ruled, Deed, Asked, Stream, done_by, Past, after, is_subscribed, raised, rule_of, is_of}, Streams.{runs, take_at, take_answer, runs_at, is_open, limit_of, limit_answer}, Rules.{is_same, usual}, Names.{Rule, Error}}
+use Rattle.peer_route.specs.{History.{fresh, Made, Did, Main, Ruled, Deed, Asked, Stream, done_by, Past, after, is_subscribed, raised, rule_of, is_of}, Streams.{runs, take_answer, is_open, limit_of, limit_answer}, Rules.{is_same, usual}, Names.{Rule, Error}}
 use Rattle.std.proofs.{Common.{◌≡◌, ◌≢◌, ℕ, refl, ◌∙◌, ap, ◌<◌, length, [], ◌∷◌, Option, Some, None, max, sym, true, false, is_none, is_some, ◌&&◌, if◌then◌else◌, Ok, Err, unwrap_or}, lemmas.Bool.false_from_ne_true}
 use Rattle.std.specs.List.{slice_get}
-use Rattle.peer_route.proofs.{Edits.{edit_other, edit-none, get_before}, SameRule.{same_self, same_one}}
+use Rattle.peer_route.proofs.{Edits.{edit_other, edit-none, get_before}, SameRule.{same_self, same_one}, Looks.{runs_at, take_at}}
 
 -- ---- other streams
 

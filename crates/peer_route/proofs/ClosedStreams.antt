@@ -1,8 +1,8 @@
 -- A stream that was closed, or that the bus denied, is unknown for good.
-use Rattle.peer_route.specs.{History.{Gone, done_by, Event, Fault, Made, Cloned, Did, Put, Adds, Deed, Asked, edit, Stream, phase, asks_by, new_stream, asking_stream, fail_stream, Past, after, after_all}, Names.{OpenState, Words, StreamOp, Entry, Seen, Error, Answer}, CallMessage.{reply_asked, error_asked}, Calls.by_position, Streams.{is_since, runs, runs_at, is_open, are_open, close_waits, item_at, offered, gave_last, held, take_by, take_at, take_answer, take_events, gone_events, opening_by, opening_at, opening_answer, opening_events}, Shown.{shown_take, shown_opening}, Parcel.Setting, Trail.{Trail, place}, Plan.{Plan, Says, refuses, where_named, where_open, unless_waits, makes, sends, leaves, ends, second_place, given_last, on_stream, plan}, Entries.{IsMeant, deeds, trail, more, Legal, postings, writes}, StreamLaws.{is_second, names_stream, closes_stream, stays_open, says_denied, IsNoStream}, Issuing.puts}
+use Rattle.peer_route.specs.{History.{Gone, done_by, Event, Fault, Made, Cloned, Did, Put, Adds, Deed, Asked, edit, Stream, phase, asks_by, new_stream, asking_stream, fail_stream, Past, after, after_all}, Names.{OpenState, Words, StreamOp, Entry, Seen, Error, Answer}, CallMessage.{reply_asked, error_asked}, Calls.by_position, Streams.{is_since, runs, is_open, are_open, close_waits, item_at, offered, gave_last, held, take_by, take_answer, take_events, gone_events, opening_by, opening_at, opening_answer, opening_events}, Shown.{shown_take, shown_opening}, Parcel.Setting, Trail.{Trail, place}, Plan.{Plan, Says, refuses, where_named, where_open, unless_waits, makes, sends, leaves, ends, second_place, given_last, on_stream, plan}, Entries.{IsMeant, deeds, trail, more, Legal, postings, writes}, StreamLaws.{is_second, names_stream, closes_stream, stays_open, says_denied, IsNoStream}, Issuing.puts}
 use Rattle.std.proofs.{Common.{◌≡◌, ◌⊎◌, inl, inr, ℕ, ◌==◌, ◌&&◌, not, refl, sym, ◌∙◌, ap, subst, ◌||◌, Bool, true, false, if◌then◌else◌, List, [], ◌∷◌, ◌++◌, Option, Some, None, option_map, Ok, Err, option_and_then}, Math.Bool.and-false, lemmas.Bool.{cases_eq, eq-eqb, eqb-true, and_parts, not-true}, lemmas.Option.slice_get-map}
 use Rattle.std.specs.{List.{slice_get, AllByRecursion}, Option.option_and_then}
-use Rattle.peer_route.proofs.{Edits.{edit_other, edit_here, get_append}, Plans.legal_from, Kept.{every, later}, Deeds.{open_stream, named_done, open_done, waits_done, named_on}}
+use Rattle.peer_route.proofs.{Edits.{edit_other, edit_here, get_append}, Plans.legal_from, Kept.{every, later}, Deeds.{open_stream, named_done, open_done, waits_done, named_on}, Looks.{runs_at, take_at}}
 
 -- ---- a stream that is gone
 

@@ -1,8 +1,8 @@
 -- The core after each event.
 use Rattle.std.proofs.{Common.{rules, arith, max, ◌≡◌, ℕ, ◌+◌, ◌<◌, ◌==◌, is_some, ◌&&◌, ◌||◌, is_none, if◌then◌else◌, refl, sym, ◌∙◌, ap, Bool, true, false, not, List, [], ◌∷◌, ◌++◌, length, map, get_or, set, Option, Some, None, Result, Ok, Err, length-append, ◌≤◌}, lemmas.List.{set-set, set-get_or, length-map}, lemmas.Bool.{true≢false, false≢true}, lemmas.List.Quantifiers.position-Some, lemmas.Option.{slice_get-map, slice_get_read}}
 use Rattle.std.specs.{List.{list_any, position, slice_get}, Option.option_map}
-use Rattle.peer_route.specs.{Names.{Seen, Error, Rule, Polled, Slot, MessageStream, OpenState, Writer}, History.{Took, Shut, Wrote, Fault, Spent, Made, Making, Cloned, Did, Main, Deed, Gave, Told, Gone, Asked, Call, worse, shuts, is_reply, is_serial, bears, first_of, Past, after, after_all, Opened, Stream, rule_of, spend, fail_at}, Calls.{found, is_gone, poll_answer, poll_events, polled_at, polled_by, by_position}, Streams.{busy, is_open, take_events, runs_at, has_rule, known, ask_answer, opening_events}, Left.{Held, is_over, LeftStreams, is_busy, is_empty_slot, is_inner_slot, reply_kept, slot_of, slot_by, is_waiting, CallsView, LeftCalls, Rising, View, Left, kept, ClonesBy, Clones}}
-use Rattle.peer_route.proofs.{Plain.{position-None}, CallsMade.{places, places-edit, places-fail, sound_after}, StreamsMade.{over_any}, Slots.{arrived, slots_took, arrived_nowhere, arrived_idly, arrived_first, slots_spent, slots_kept, slots_lost}, Edits.{all_weaker, all_edit, all_map}}
+use Rattle.peer_route.proofs.{Looks.{polled_at, runs_at}, Plain.position-None, CallsMade.{places, places-edit, places-fail, sound_after}, StreamsMade.over_any, Slots.{reply_kept, arrived, slots_took, arrived_nowhere, arrived_idly, arrived_first, slots_spent, slots_kept, slots_lost}, Edits.{all_weaker, all_edit, all_map}}
+use Rattle.peer_route.specs.{Names.{Seen, Error, Rule, Polled, Slot, MessageStream, OpenState, Writer}, History.{Took, Shut, Wrote, Fault, Spent, Made, Making, Cloned, Did, Main, Deed, Gave, Told, Gone, Asked, Call, worse, shuts, is_reply, is_serial, bears, first_of, Past, after, after_all, Opened, Stream, rule_of, spend, fail_at}, Calls.{found, is_gone, poll_answer, poll_events, polled_by, by_position}, Streams.{busy, is_open, take_events, has_rule, ask_answer, opening_events}, Left.{Held, is_over, LeftStreams, is_busy, is_empty_slot, is_inner_slot, slot_of, slot_by, is_waiting, CallsView, LeftCalls, Rising, View, Left, kept, ClonesBy}}
 
 -- ---- a message comes
 
@@ -222,15 +222,15 @@ left_opened v sv k (OpenState.Refused m) h left after = left_did v sv v.main k G
 left_opened v sv k (OpenState.Over error) h left after = left_did v sv v.main k Gone h left after left.main
 left_opened v sv k other h left after = left_idle v sv h left after
 
-pub left_cloned : (v : View) (sv : List Held) (k : ℕ) (r : Result MessageStream Error) (h : Past) → Left v h → ClonesBy LeftStreams v.streams sv k h r → Clones v (record v { streams = sv }) k h r
+pub left_cloned : (v : View) (sv : List Held) (k : ℕ) (r : Result MessageStream Error) (h : Past) → Left v h → ClonesBy LeftStreams v.streams sv k h r → ClonesBy Left v (record v { streams = sv }) k h r
 left_cloned v sv k (Ok stream) h left c = (c.0, c.1, left_made v sv (Cloned k) h left c.2)
 left_cloned v sv k (Err Error.UnknownHandle) h left c = (c.0, ap (λ qs. record v { streams = qs }) c.1)
 left_cloned v sv k (Err Error.Memory) h left c = ap (λ qs. record v { streams = qs }) c
 left_cloned v sv k (Err other) h left c = absurd c
 
-pub ask_so : (h : Past) (k : ℕ) (b : Bool) → is_open h k ≡ b → ask_answer h k ≡ known b
+pub ask_so : (h : Past) (k : ℕ) (b : Bool) → is_open h k ≡ b → ask_answer h k ≡ (if b then Ok tt else Err Error.UnknownHandle)
 unfolding ask_answer
-ask_so h k b e = ap known e
+ask_so h k b e = ap (λ x. if x then Ok tt else Err Error.UnknownHandle) e
 
 -- a stream without a rule asks for more, and the main capacity is raised; or one with a rule, and it stays
 asked_main : (h : Past) (o : Option Stream) (limit n : ℕ) (b : Bool) → is_some (rule_of o) ≡ b → runs_at h.read o ≡ true → (if b then n else max n limit) ≡ (if is_some o && is_none (rule_of o) then max n limit else n)

@@ -1,9 +1,9 @@
 -- What a lane's take is, by its answer; which entries give an item, and what is left of a stream that gives none. Each stream that was made
 -- has its lane, none starts above what was read; and what a lane's stream gives, entry by entry.
-use Rattle.peer_route.specs.{History.{Gave, done_by, Event, Purpose, Wrote, Fault, Made, Did, Put, Adds, Deed, Told, Gone, Asked, Opened, edit, Stream, phase, asks_by, new_stream, asking_stream, fail_stream, Past, after, after_all, OfLane, Removes, Took, Making, Plain, Ruled, Cloned, clone_of}, Names.{Words, StreamOp, Answer, Entry, Polled, Seen, Error}, Calls.by_position, Streams.{held, runs, take_by, take_at, take_answer, take_events, is_open, runs_at, is_since, matched}, Issuing.{puts, Posting}, Trail.{Trail, place, Names, stream_names, asked_names, made_names, count}, Plan.{Plan, where_named, on_stream, plan, where_open, unless_waits, makes}, StreamLaws.{stays_open, is_take, is_take_op, item_by, IsLast, items_given}, Entries.{IsMeant, deeds, postings, writes, past_after, first_past, trail, Legal, more_by, more}, Shown.shown_take, Parcel.Setting, Left.IsWithin}
+use Rattle.peer_route.specs.{History.{Gave, done_by, Event, Purpose, Wrote, Fault, Made, Did, Put, Adds, Deed, Told, Gone, Asked, Opened, edit, Stream, phase, asks_by, new_stream, asking_stream, fail_stream, Past, after, after_all, OfLane, Removes, Took, Making, Plain, Ruled, Cloned, clone_of}, Names.{Words, StreamOp, Answer, Entry, Polled, Seen, Error}, Calls.by_position, Streams.{held, runs, take_by, take_answer, take_events, is_open, is_since, matched}, Issuing.{puts, Posting}, Trail.{Trail, place, Names, stream_names, asked_names, made_names, count}, Plan.{Plan, where_named, on_stream, plan, where_open, unless_waits, makes}, StreamLaws.{stays_open, is_take, is_take_op, item_by, IsLast, items_given}, Entries.{IsMeant, deeds, postings, writes, past_after, first_past, trail, Legal, more_by, more}, Shown.shown_take, Parcel.Setting, Left.IsWithin}
 use Rattle.std.proofs.{Common.{◌≡◌, ◌≢◌, inl, inr, ℕ, refl, sym, ◌∙◌, ap, subst, ◌||◌, ◌&&◌, ◌==◌, Bool, true, false, if◌then◌else◌, List, [], ◌∷◌, Option, Some, None, Ok, Err, Result, ◌⊎◌, ◌+◌, arith, ◌++◌, length, length-append, ◌≤◌, is_some, append-nil}, lemmas.Option.slice_get-map, lemmas.Bool.{cases_eq, eq-eqb, eqb-true, and_parts, false_from_ne_true}, Math.Bool.{and-true, and-false}, lemmas.List.length-map}
 use Rattle.std.specs.{List.{slice_get, AllByRecursion}, Option.option_map}
-use Rattle.peer_route.proofs.{StreamsMade.{runs_so, within_edit, fail_within, clone_within}, Edits.{edit_other, edit_here, get_append, edit-length, drop_next, all_weaker, all_at, all_more, all_map, all_edit}, Plans.{takes, along, are_writes, IsDeed, Gives, IsWrite}, Kept.{puts_are, deeds_by, deeds_all, at_start}, Matched.{held_matched, within_took, within_fresh, within_asking}, Places.{place_append, place_new, one_place}}
+use Rattle.peer_route.proofs.{StreamsMade.{runs_so, within_edit, fail_within, clone_within}, Edits.{edit_other, edit_here, get_append, edit-length, drop_next, all_weaker, all_at, all_more, all_map, all_edit}, Plans.{takes, along, are_writes, IsDeed, Gives, IsWrite}, Kept.{puts_are, deeds_by, deeds_all, at_start}, Matched.{held_matched, within_took, within_fresh, within_asking}, Places.{place_append, place_new, one_place}, Looks.{runs_at, take_at}}
 
 -- no item is given
 abbrev pub NoItem : Event → Type 0

@@ -1,6 +1,6 @@
 -- A stream that gave all gives no more; when a read is busy.
 use Rattle.peer_route.specs.{History.{Told, done_by, Event, Took, Made, Plain, Stream, phase, plain_stream, Past, after, after_all}, Names.{Words, Answer, Entry, Seen, Error}, Streams.{matched, offered, held, limit_of, busy, is_full}, Parcel.Setting, Trail.{Trail, place, count}, Plan.{Reads, reads_by, plan}, Entries.{IsMeant, IsRead, deeds, past_after, trail, more, Legal}, StreamLaws.{is_take, IsEnded, IsLast, IsDrained, HoldsTooMany}}
-use Rattle.std.proofs.{Common.{◌≡◌, ◌≢◌, ◌⊎◌, inl, inr, ℕ, ◌&&◌, suc, not, refl, sym, ◌∙◌, ap, subst, Bool, true, false, is_some, is_none, nat_lt, List, [], ◌∷◌, ◌++◌, length, Option, Some, None}, lemmas.Bool.{cases_Bool, and_parts, not-true, lt-ltb}, lemmas.List.Folds.list_any_at, lemmas.Option.{slice_get_within, get_or_from_slice_get}}
+use Rattle.std.proofs.{Common.{◌≡◌, ◌≢◌, ◌⊎◌, inl, inr, ℕ, ◌&&◌, suc, not, refl, sym, ◌∙◌, ap, subst, Bool, true, false, is_some, is_none, nat_lt, List, [], ◌∷◌, ◌++◌, length, Option, Some, None, option_and_then}, lemmas.Bool.{cases_Bool, and_parts, not-true, lt-ltb}, lemmas.List.Folds.list_any_at, lemmas.Option.{slice_get_within, get_or_from_slice_get}}
 use Rattle.std.specs.List.{slice_get, list_any, AllByRecursion}
 use Rattle.peer_route.proofs.{Edits.{edit_here, get_new, all_weaker}, Plans.{IsDeed, along, legal_from, IsFair, fair}, Deeds.{TakeOf, Quiet, Item, Tells, Ends, take_entry, Items, NoneGiven, OneGiven, items, Spares, spares, stays, turned, along_messages, NoItem, lanes, named_on, named_new}, Kept.{Keeps, deeds_all, entry_keeps, later}, StreamsMade.held_fresh, Writers.closing_keeps}
 use borrow.Author.Tests.{ltb-true}
@@ -124,7 +124,7 @@ drained_by t lane number a done error (Quiet none item last why) e = absurd (las
 drained_by t lane number a done error (Item k s m ms named at holds does is) e = let q : Answer.Item m.position ≡ Answer.Closed error = sym is ∙ e in cc
 drained_by t lane number a done error (Tells k s other named at still nothing shut told does is) e =
     let same : other ≡ error = (let q : Answer.Closed other ≡ Answer.Closed error = sym is ∙ e in cc) in
-    record { k = k; stream = s; named = named; made = at; still = still; nothing = nothing; first = shut ∙ ap (λ x. Some x) same }
+    record { stream = s; named = ap (option_and_then (slice_get t.past.streams)) named ∙ at; still = still; nothing = nothing; first = shut ∙ ap (λ x. Some x) same }
 drained_by t lane number a done error (Ends k s other named at nothing shut told does is) e = let q : Answer.Ended ≡ Answer.Closed error = sym is ∙ e in cc
 
 pub drained : (setting : Setting) (older : List Entry) (e : Entry) (number : ℕ) (error : Error) → Legal setting (e ∷ older) → is_take number e.words ≡ true → e.answer ≡ Answer.Closed error

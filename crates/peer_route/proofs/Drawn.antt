@@ -1,7 +1,7 @@
 -- The serials of a command's messages are drawn one after another, and their calls made.
 use Rattle.peer_route.proofs.{Edits.all_push, CallsMade.Early, Slots.pending-left, NextSerial.{next_serial-next, next_serial-none}}
-use Rattle.std.proofs.{Common.{◌≤◌, ◌≡◌, ℕ, suc, ◌+◌, get_or, drop, refl, sym, ◌∙◌, ap, subst, arith, Bool, true, false, List, [], ◌∷◌, ◌++◌, length, map, find, Option, None, Some, Ok, Err, ◌<◌, append_assoc, option_map}, Math.Seq.{drop-length, drop-cons}, lemmas.List.{append-nil, map-append}}
-use Rattle.peer_route.specs.{Names.{Seen, IsNext, AllTaken, Draws, Error, Slot}, Parcel.{Parcel, message_of, sent_by}, CallMessage.expects, History.{Call, Put, bears, call_by, Past, after}, Calls.{found, pending}, Issuing.{Posting, purpose_of, posted, put_of, put_each, next_serial, drawn}, Left.{slot_of, slot_by, CallsView, with_call, waiting_serial, LeftCalls}, Placing.{IsCounted, DrawsOne, posts, DrawsEach, AreMade}}
+use Rattle.std.proofs.{Common.{◌≤◌, ◌≡◌, ℕ, suc, ◌+◌, get_or, drop, refl, sym, ◌∙◌, ap, subst, arith, Bool, true, false, List, [], ◌∷◌, ◌++◌, length, map, find, Option, None, Some, Ok, Err, ◌<◌, append_assoc, option_map, ◌&&◌, if◌then◌else◌, Result}, Math.Seq.{drop-length, drop-cons}, lemmas.List.{append-nil, map-append}}
+use Rattle.peer_route.specs.{Names.{Seen, IsNext, AllTaken, Draws, Error, Slot}, Parcel.{Parcel, message_of, sent_by}, CallMessage.expects, History.{Call, Put, bears, call_by, Past, after, Purpose, Removes, OfLane}, Calls.{found, pending}, Issuing.{Posting, posted, put_of, put_each, next_serial, drawn}, Left.{slot_of, slot_by, CallsView, waiting_serial, LeftCalls}, Placing.{IsCounted, posts, AreMade, Draws as Draws_}}
 use Rattle.wire_message.specs.Draft.{built}
 
 -- ---- a call is made
@@ -9,6 +9,10 @@ use Rattle.wire_message.specs.Draft.{built}
 slot_new : (h : Past) (m : Seen) (inner : Bool) → slot_of h.read (call_by h m inner) ≡ Slot.Waiting m.serial inner
 unfolding slot_of found
 slot_new h m inner = ap (λ ms. slot_by inner m.serial (find (bears m.serial) ms)) (drop-length h.read)
+
+-- one call more, which waits for a reply to this serial
+abbrev pub with_call : Bool → ℕ → CallsView → CallsView
+with_call inner serial v = record v { slots = v.slots ++ Slot.Waiting serial inner ∷ [] }
 
 -- a call more, after an event that reads nothing, closes nothing, and makes one call
 pub called : (m : Seen) (inner : Bool) (v new : CallsView) (g h : Past) → new ≡ with_call inner m.serial v → g.read ≡ h.read → g.closing ≡ h.closing → g.calls ≡ h.calls ++ call_by h m inner ∷ []
@@ -22,6 +26,10 @@ called m inner v new g h e reads shut_ made free left = record {
       let one : Early (length h.read) (h.calls ++ call_by h m inner ∷ []) = all_push (λ (c : Call). c.from ≤ length h.read) h.calls (call_by h m inner) (omega arith) left.early in
       subst (λ (ms : List Seen). Early (length ms) g.calls) (sym reads) (subst (Early (length h.read)) (sym made) one);
 }
+
+-- why a message is put that makes no stream
+abbrev pub purpose_of : Bool → Bool → Purpose
+purpose_of inner waits = if inner && waits then Removes else OfLane waits
 
 -- ---- one serial
 
@@ -48,7 +56,7 @@ next_so v last serial h left next =
 pub none_so : (v : CallsView) (last : ℕ) (h : Past) → IsCounted v last h → AllTaken (waiting_serial v) → next_serial h ≡ None
 none_so v last h left all = next_serial-none h (λ serial a b. pending-left v h left.0 serial ∙ all serial a b)
 
-pub drawn_not : (d : Posting) (v : CallsView) (last new : ℕ) (h : Past) (error : Error) → IsCounted v last h → Draws (waiting_serial v) last new (Err error) → DrawsOne d h v new (Err error)
+pub drawn_not : (d : Posting) (v : CallsView) (last new : ℕ) (h : Past) (error : Error) → IsCounted v last h → Draws (waiting_serial v) last new (Err error) → Draws_ (λ serial. serial) (next_serial h) (λ serial. after (put_of d serial) h) v new (Err error)
 drawn_not d v last new h Error.SerialsSpent left x = none_so v last h left x.0
 drawn_not d v last new h Error.Memory left x = tt
 drawn_not d v last new h other left x = absurd x
@@ -78,6 +86,10 @@ pub counted_quiet : (inner : Bool) (parcel : Parcel) (serial last : ℕ) (v : Ca
 counted_quiet inner parcel serial last v h waits left = (rw waits (calls_kept inner (message_of parcel serial) v h left.0), sym (message_serial parcel serial))
 
 -- ---- several
+
+-- what drawing the serials of several messages gives
+abbrev pub DrawsEach : {A : Type 0} → (A → List ℕ) → List Posting → Past → CallsView → ℕ → Result A Error → Type 0
+DrawsEach read ds p calls last result = Draws_ read (drawn p ds) (λ serials. put_each ds serials p) calls last result
 
 abbrev pub behind : List ℕ → Option (List ℕ) → Option (List ℕ)
 behind serials rest = option_map (λ more. serials ++ more) rest
@@ -118,7 +130,8 @@ drawing_spent ds p serials d rest v last x none = x.due ∙ ap (behind serials) 
 
 -- a message that isn't numbered refuses them all
 pub drawing_refused : {A : Type 0} (items : A → List ℕ) (ds : List Posting) (p : Past) (serials : List ℕ) (d : Posting) (rest : List Posting) (v w : CallsView) (last then_last : ℕ) (error : Error) (x : Drawing ds p serials (d ∷ rest) v last)
-    → DrawsOne d x.now w then_last (Err error) → DrawsEach items ds p w then_last (Err error)
+    → Draws_ (λ serial. serial) (next_serial x.now) (λ serial. after (put_of d serial) x.now) w then_last (Err error)
+    → DrawsEach items ds p w then_last (Err error)
 drawing_refused items ds p serials d rest v w last then_last Error.SerialsSpent x none = drawing_spent ds p serials d rest v last x none
 drawing_refused items ds p serials d rest v w last then_last Error.Memory x none = tt
 drawing_refused items ds p serials d rest v w last then_last other x none = absurd none

@@ -1,8 +1,8 @@
 -- What dropping a call gives and leaves, and whether the peer takes a message now.
 use Rattle.std.proofs.{Common.{◌≡◌, ℕ, is_some, ◌&&◌, ◌||◌, is_none, if◌then◌else◌, refl, sym, ◌∙◌, ap, Bool, true, false, not, List, Option, Some, None, Result, Ok, Err}, lemmas.Option.slice_get-map}
 use Rattle.std.specs.{List.{list_any, slice_get}, Option.option_map}
-use Rattle.peer_route.specs.{Names.{Seen, Error, Slot}, History.{Call, Past, after, after_all}, Calls.{found, is_gone, drop_answer, drop_events, dropped_at}, Left.{is_over, is_busy, is_empty_slot, slot_of, slot_by, CallsView, LeftCalls, View, Left}}
-use Rattle.peer_route.proofs.Core.{calls_of, left_spent, left_same}
+use Rattle.peer_route.specs.{Names.{Seen, Error, Slot}, History.{Call, Past, after, after_all}, Calls.{found, is_gone, drop_answer, drop_events}, Left.{is_over, is_busy, is_empty_slot, slot_of, slot_by, CallsView, LeftCalls, View, Left}}
+use Rattle.peer_route.proofs.{Core.{calls_of, left_spent, left_same}, Looks.dropped_at}
 
 -- what a slot gives a drop
 abbrev slot_drops : Option Slot → Result (Unit {0}) Error

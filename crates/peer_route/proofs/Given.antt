@@ -1,8 +1,8 @@
 -- The message that each stream gave last, after each event.
-use Rattle.peer_route.specs.{History.{Gave, Gone, Opened, Told, done_by, Event, Took, Shut, Wrote, Fault, Spent, Made, Did, Main, OnBus, Named, Put, OfLane, Adds, Removes, Making, Plain, Ruled, Cloned, Asked, Stream, Phase, Asking, Denied, Since, asks_by, phase, edit, new_stream, clone_of, fail_stream, Past, after, after_all}, Names.{Polled, Seen, Error, Rule}, Streams.{since_in, accepted, matched, offered, held, item_at, gave_last, all_given, runs, take_by, take_at, take_answer, take_events}, Left.{IsWithin, View, Left}, Plan.given_last}
+use Rattle.peer_route.specs.{History.{Gave, Gone, Opened, Told, done_by, Event, Took, Shut, Wrote, Fault, Spent, Made, Did, Main, OnBus, Named, Put, OfLane, Adds, Removes, Making, Plain, Ruled, Cloned, Asked, Stream, Phase, Asking, Denied, Since, asks_by, phase, edit, new_stream, clone_of, fail_stream, Past, after, after_all}, Names.{Polled, Seen, Error, Rule}, Streams.{since_in, accepted, matched, offered, held, item_at, gave_last, all_given, runs, take_by, take_answer, take_events}, Left.{IsWithin, View, Left}, Plan.given_last}
 use Rattle.std.proofs.{Common.{◌≡◌, ℕ, ◌+◌, ◌≤◌, zero, suc, refl, sym, ◌∙◌, ap, arith, ◌||◌, Bool, true, false, if◌then◌else◌, List, [], ◌∷◌, ◌++◌, length, drop, map, Option, Some, None, Result, Ok, Err, option_and_then}, lemmas.List.{map-append, drop-append-le, length-drop}, Math.Seq.drop-nil, lemmas.Option.slice_get-map}
 use Rattle.std.specs.{List.{slice_get, slice_set, AllByRecursion}, Option.{option_map, option_flatten, option_and_then}}
-use Rattle.peer_route.proofs.{Plain.{map_along, map_each}, Edits.{edit-none, map_edit, map_edit_all, set_edit, get_before, get_first}, Matched.{arriving, matched_took, accepted_nothing}, StreamsMade.runs_so}
+use Rattle.peer_route.proofs.{Plain.{map_along, map_each}, Edits.{edit-none, map_edit, map_edit_all, set_edit, get_before, get_first}, Matched.{arriving, matched_took, accepted_nothing}, StreamsMade.runs_so, Looks.take_at}
 use mathlib.Core.List.{map-map}
 
 -- ---- a message comes

@@ -1,8 +1,8 @@
 -- The map from each serial that is waited for to the place of its slot.
-use Rattle.std.proofs.{Common.{inl, inr, ◌⊎◌, ◌≡◌, ℕ, ◌+◌, ◌<◌, ◌≤◌, ◌==◌, ◌||◌, zero, suc, refl, sym, ◌∙◌, ap, subst, Bool, true, false, ◌&&◌, is_none, is_some, List, [], ◌∷◌, ◌++◌, length, get_or, set, take, arith, Option, Some, None, IsSome}, lemmas.Bool.{cases_eq, cases_lt, and_right, true≢false, false≢true, both_ways, eqb-true, eq-eqb, ne_eqb}, lemmas.List.{take_all, length-set, take_more_set, take-set, take-take, get_or_default, get_or_past, get_or_append_left, get_or_push, get_or-set_same, get_or-set_other}, lemmas.Option.none-some}
+use Rattle.std.proofs.{Common.{inl, inr, ◌⊎◌, ◌≡◌, ℕ, ◌+◌, ◌<◌, ◌≤◌, ◌==◌, ◌||◌, zero, suc, refl, sym, ◌∙◌, ap, subst, Bool, true, false, ◌&&◌, is_none, is_some, List, [], ◌∷◌, ◌++◌, length, get_or, set, take, arith, Option, Some, None, IsSome, option_map, unwrap_or}, lemmas.Bool.{cases_eq, cases_lt, true≢false, false≢true, both_ways, eqb-true, eq-eqb, ne_eqb}, lemmas.List.{take_all, length-set, take_more_set, take-set, take-take, get_or_default, get_or_past, get_or_append_left, get_or_push, get_or-set_same, get_or-set_other}, lemmas.Option.none-some}
 use Rattle.std.specs.{List.list_any, Ordering.{nat_cmp, eq_by_cmp}, Cmp.unsigned_tied, BTreeMap.{BTreeMap, get, UpdatesBy}}
-use Rattle.peer_route.specs.{Names.{Slot, Seen, Error}, History.bears, Left.{CallsView, waiting_serial, answers_call, is_waiting, takes, IsIndex}}
-use Rattle.peer_route.proofs.{Slots.{waits_at, takes_nowhere, takes_at}, Core.calls_of}
+use Rattle.peer_route.specs.{Names.{Slot, Seen, Error}, History.{bears, is_reply, is_serial}, Left.{CallsView, waiting_serial, is_waiting, IsIndex}}
+use Rattle.peer_route.proofs.{Slots.waits_at, Core.calls_of}
 
 -- the slot with this place
 abbrev at : List Slot → ℕ → Slot
@@ -193,20 +193,44 @@ registered m n ss error v s inner e none free low high new i =
 
 -- ---- which call a message answers
 
+-- the message answers a call that waits
+abbrev pub answers_call : CallsView → Seen → Bool
+answers_call v m = is_reply m.kind && unwrap_or (option_map (waiting_serial v) m.reply_serial) false
+
+-- by whether it is a reply, and what it answers
+none_by : (f : ℕ → Bool) (reply : Bool) (o : Option ℕ) → ((n : ℕ) → (reply && is_serial o n) ≡ false) → false ≡ (reply && unwrap_or (option_map f o) false)
+none_by f false o none = refl
+none_by f true None none = refl
+none_by f true (Some n) none = absurd (false≢true (sym (none n) ∙ eq-eqb n n refl))
+
+serial_by : (f : ℕ → Bool) (s : ℕ) (reply : Bool) (o : Option ℕ) → ((n : ℕ) → (reply && is_serial o n) ≡ (s == n)) → f s ≡ (reply && unwrap_or (option_map f o) false)
+serial_by f s false o same = absurd (false≢true (same s ∙ eq-eqb s s refl))
+serial_by f s true None same = absurd (false≢true (same s ∙ eq-eqb s s refl))
+serial_by f s true (Some n) same = ap f (eqb-true s n (sym (same n) ∙ eq-eqb n n refl))
+
+shut_by : (f : ℕ → Bool) (reply : Bool) (o : Option ℕ) → ((n : ℕ) → f n ≡ false) → false ≡ (reply && unwrap_or (option_map f o) false)
+shut_by f false o none = refl
+shut_by f true None none = refl
+shut_by f true (Some n) none = sym (none n)
+
 pub answers_none : (v : CallsView) (message : Seen) → ((n : ℕ) → bears n message ≡ false) → false ≡ answers_call v message
-unfolding answers_call
-answers_none v message none = sym (and_right (is_none v.closing) (list_any (takes message) v.slots) (takes_nowhere message none v.slots))
+unfolding bears
+answers_none v message none = none_by (waiting_serial v) (is_reply message.kind) message.reply_serial none
 
 -- a message that bears a serial answers a call exactly where the serial is pending
 pub answers_serial : (v : CallsView) (message : Seen) (s : ℕ) → ((n : ℕ) → bears n message ≡ (s == n)) → waiting_serial v s ≡ answers_call v message
-unfolding waiting_serial answers_call
-answers_serial v message s same = ap (λ b. is_none v.closing && b) (takes_at message s v.slots same)
+unfolding bears
+answers_serial v message s same = serial_by (waiting_serial v) s (is_reply message.kind) message.reply_serial same
+
+shut_waits : (error : Option Error) (v : CallsView) (n : ℕ) → error ≡ v.closing → is_some error ≡ true → waiting_serial v n ≡ false
+unfolding waiting_serial
+shut_waits None v n e is_shut = absurd (false≢true is_shut)
+shut_waits (Some error) v n e is_shut = ap (λ (o : Option Error). is_none o && list_any (is_waiting n) v.slots) (sym e)
 
 pub answers_shut : (ss : List Slot) (error : Option Error) (v : CallsView) (message : Seen) → calls_of ss error ≡ v → is_some error ≡ true
     → false ≡ answers_call v message
-unfolding answers_call
-answers_shut ss None v message e is_shut = absurd (false≢true is_shut)
-answers_shut ss (Some error) v message e is_shut = ap (λ (w : CallsView). is_none w.closing && list_any (takes message) w.slots) e
+answers_shut ss error v message e is_shut =
+    shut_by (waiting_serial v) (is_reply message.kind) message.reply_serial (λ n. shut_waits error v n (ap (λ (w : CallsView). w.closing) e) is_shut)
 
 -- ---- the last slot is taken back
 

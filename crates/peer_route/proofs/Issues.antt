@@ -1,8 +1,8 @@
 -- Messages are issued: what the core is then, and why they may be refused.
-use Rattle.std.proofs.{Common.{arith, ◌≡◌, ℕ, suc, if◌then◌else◌, refl, sym, ◌∙◌, ap, subst, Bool, true, false, ◌||◌, List, [], ◌∷◌, ◌++◌, length, map, Option, None, Some, Result, Ok, Err, append_assoc, option_map, option_and_then}, lemmas.List.append-nil, lemmas.Bool.false≢true}
-use Rattle.std.specs.List.{list_any}
-use Rattle.peer_route.specs.{Names.{Seen, Error, Writer, Issued, IoKind, VariantError}, Parcel.{Parcel, message_of, sent_by}, CallMessage.expects, History.{Put, Capacities, Past, after, after_all}, Issuing.{next_serial, drawn, is_deep, are_deep, Posting, purpose_of, posted, parcels, put_of, puts, put_each, some_long, messages_of, barred, or_barred, limit_refusal, refusal, issued, issued_by, IssuesAll}, Left.{CallsView, View, Left, AreStreams, IsSound}, Placing.{posts, IsCounted, Places, DrawsEach, LeftPosts, PutsAll, IsMore}, BusCall.last_of}
-use Rattle.peer_route.proofs.{CallsMade.sound_after, Drawn.message_serial}
+use Rattle.std.specs.{List.list_any, Option.option_or}
+use Rattle.std.proofs.{Common.{arith, ◌≡◌, ℕ, suc, if◌then◌else◌, refl, sym, ◌∙◌, ap, subst, Bool, true, false, ◌||◌, List, [], ◌∷◌, ◌++◌, length, map, Option, None, Some, Result, Ok, Err, append_assoc, option_map, option_and_then, unwrap_or, ok_or}, lemmas.List.append-nil, lemmas.Bool.false≢true}
+use Rattle.peer_route.specs.{Names.{Seen, Error, Writer, Issued, IoKind, VariantError}, Parcel.{Parcel, message_of, sent_by}, CallMessage.expects, History.{Put, Capacities, Past, after, after_all}, Issuing.{next_serial, drawn, is_deep, Posting, posted, parcels, put_of, puts, put_each, some_long, messages_of, barred, refusal, issued, IssuesAll}, Left.{CallsView, View, Left, AreStreams}, Placing.{posts, IsCounted, Places, LeftPosts, PutsAll, IsMore, Draws}, BusCall.last_of}
+use Rattle.peer_route.proofs.{CallsMade.{IsSound, sound_after}, Drawn.{message_serial, purpose_of}}
 
 -- ---- serials are drawn
 
@@ -46,6 +46,21 @@ put_last d (e ∷ ds) (serial ∷ []) h f = absurd (omega (arith, f))
 put_last d (e ∷ ds) (serial ∷ s ∷ serials) h f = put_last e ds (s ∷ serials) (after (put_of d serial) h) (omega (arith, f))
 
 -- ---- what putting gives
+
+-- which limit refuses messages, with the serials that they draw
+abbrev pub limit_refusal : List Posting → Option (List ℕ) → Option Error
+limit_refusal ds drew = unwrap_or (option_map (λ serials. if some_long (parcels ds) serials then Some Error.ExcessData else None) drew) (Some Error.SerialsSpent)
+
+-- what refuses them first, or the writer
+abbrev pub or_barred : Writer → Option Error → Option Error
+or_barred w met = option_or met (barred w)
+
+abbrev pub issued_by : Option Error → Option (List ℕ) → Result (List ℕ) Error
+issued_by refused drew = unwrap_or (option_map Err refused) (ok_or drew Error.SerialsSpent)
+
+-- a value of some message opens too many containers at once
+abbrev pub are_deep : List Posting → Bool
+are_deep ds = list_any (λ d. is_deep d.parcel) ds
 
 deep_posts : (inner : Bool) (name : Option (List ℕ)) (served : Bool) (ps : List Parcel) → are_deep (posts inner name served ps) ≡ list_any is_deep ps
 deep_posts inner name served [] = refl
@@ -158,7 +173,7 @@ module _ {A : Type 0} (items : A → List Issued) (new : View) (h : Past) (inner
   are_shallow : are_deep (posts inner name served ps) ≡ false
   are_shallow = deep_posts inner name served ps ∙ shallow
 
-  pub puts_not_drawn : {B : Type 0} (read : B → List ℕ) (calls : CallsView) (last : ℕ) (error : Error) → DrawsEach read (posts inner name served ps) h calls last (Err error) → PutsAll items new (posts inner name served ps) h (Err error)
+  pub puts_not_drawn : {B : Type 0} (read : B → List ℕ) (calls : CallsView) (last : ℕ) (error : Error) → Draws read (drawn h (posts inner name served ps)) (λ ns. put_each (posts inner name served ps) ns h) calls last (Err error) → PutsAll items new (posts inner name served ps) h (Err error)
   puts_not_drawn read calls last Error.SerialsSpent x = (issued_spent h (posts inner name served ps) are_shallow x, tt)
   puts_not_drawn read calls last Error.Memory x = tt
   puts_not_drawn read calls last other x = absurd x

@@ -1,10 +1,18 @@
 -- The bus is told which rules have no stream any more, and the streams are closed.
-use Rattle.peer_route.specs.{History.{Gone, done_by, Removes, edit, Stream, rule_of, Past}, Names.{Issued, Error, Rule, Spent}, Parcel.Parcel, Streams.{is_open, are_open, has_rule, leaves, leaves_by, leaving, gone_behind, rule_answer}, Left.{Held, LeftStreams, View, Left}, Issuing.{Posting, put_each, issued}, Placing.{posts, LeftPosts, PutsAll, IsMore}, BusCall.{remove_parcel, tellings_of, some_rules}, Leaving.{MakesRemovals, TellsPosts, gone_both, MayClose, ClosesStreams}}
-use Rattle.std.proofs.{Common.{rules, ◌≡◌, ℕ, zero, suc, refl, sym, ◌∙◌, ap, subst, codes, Bool, true, false, not, ◌&&◌, ◌==◌, if◌then◌else◌, is_some, List, [], ◌∷◌, ◌++◌, map, Option, Some, None, Ok, Err, option_map}, lemmas.List.map-append}
+use Rattle.peer_route.specs.{History.{Gone, done_by, Removes, edit, Stream, rule_of, Past, after_all}, Names.{Issued, Error, Rule, Spent}, Parcel.Parcel, Streams.{is_open, are_open, has_rule, leaves, asks_bus, leaving, gone_if, rule_answer, gone_events}, Left.{Held, LeftStreams, View, Left}, Issuing.{Posting, put_each, issued, IssuesBy}, Placing.{posts, LeftPosts, PutsAll, IsMore}, BusCall.{tellings_of, last_of}, Leaving.{MakesRemovals, MayClose, ClosesStreams}}
+use Rattle.std.proofs.{Common.{rules, filter, is_none, option_to_list, ◌≡◌, ℕ, zero, suc, refl, sym, ◌∙◌, ap, subst, codes, Bool, true, false, not, ◌&&◌, ◌==◌, if◌then◌else◌, is_some, List, [], ◌∷◌, ◌++◌, map, Option, Some, None, Ok, Err, option_map, Result, ◌<◌, length, arith}, lemmas.List.map-append}
 use Rattle.std.specs.List.{slice_get}
-use Rattle.peer_route.proofs.{Issues.{drawn_length, put_last, issued_drawn, refusal_known, left_puts}, BusMessages.match_posted}
+use Rattle.peer_route.proofs.{Issues.{drawn_length, put_last, issued_drawn, refusal_known, left_puts}, BusMessages.{match_posted, remove_parcel}}
 
 -- ---- which rules
+
+-- those of one rule, where there is one
+abbrev pub leaves_by : Past → Option Rule → List Rule
+leaves_by h o = filter (λ rule. is_none h.closing && asks_bus h rule) (option_to_list o)
+
+-- the past once this stream was closed, behind the one that goes before it, if one does
+abbrev pub gone_behind : Option ℕ → ℕ → Past → Past
+gone_behind before k h = gone_if (Some k) (gone_if before h)
 
 rule_edit : (k j : ℕ) (xs : List Stream) → rule_of (slice_get (edit k (done_by Gone) xs) j) ≡ rule_of (slice_get xs j)
 rule_edit k j [] = refl
@@ -54,13 +62,13 @@ has_so {A} f h k o b e r there = e ∙ by o ∙ ap is_some (rule_so h k (option_
 abbrev removals : List Rule → List Parcel
 removals rules = map (remove_parcel None) rules
 
-some_behind : (rs qs : List Rule) → some_rules qs ≡ true → some_rules (rs ++ qs) ≡ true
+some_behind : (rs qs : List Rule) → 0 < length qs → 0 < length (rs ++ qs)
 some_behind [] qs x = x
-some_behind (rule ∷ rs) qs x = refl
+some_behind (rule ∷ rs) qs x = omega arith
 
-some_before : (rs qs : List Rule) → some_rules rs ≡ true → some_rules (rs ++ qs) ≡ true
-some_before [] qs x = cc
-some_before (rule ∷ rs) qs x = refl
+some_before : (rs qs : List Rule) → 0 < length rs → 0 < length (rs ++ qs)
+some_before [] qs x = absurd (omega (arith, x))
+some_before (rule ∷ rs) qs x = omega arith
 
 -- of the first stream, where there is a second
 pub unmade_first : {A B : Type 0} (letters : A → List Parcel) (others : B → List Parcel) (before : List Parcel) (h : Past) (k : ℕ) (second : Option ℕ) (error : Error) → MakesRemovals letters before (leaves (gone_behind None k h) k) (Err error)
@@ -95,6 +103,14 @@ told_posts h name (rule ∷ rules) e =
 
 -- ---- telling
 
+-- what telling the bus of these rules gives, whatever streams there are
+abbrev pub TellsPosts : View → Past → List Rule → Result (Option ℕ) Error → Type 0
+TellsPosts new h rules result = IssuesBy (λ last serials. last ≡ last_of serials) (0 < length rules) (LeftPosts new) (tellings_of h rules) h result
+
+-- the past once these streams were closed
+abbrev pub gone_both : ℕ → Option ℕ → Past → Past
+gone_both k j h = after_all (gone_events k j) h
+
 pub gone_posts : (v : View) (h : Past) (k : ℕ) (o : Option ℕ) → LeftPosts v h → LeftPosts v (gone_both k o h)
 gone_posts v h k None left = record { counted = left.counted; placed = left.placed; name = left.name; writer = left.writer }
 gone_posts v h k (Some j) left = record { counted = left.counted; placed = left.placed; name = left.name; writer = left.writer }
@@ -118,9 +134,9 @@ tells_put items answer new name g (rule ∷ rules) ps last e some n f x =
 pub tells_not : {A : Type 0} (items : A → List Issued) (mid new : View) (name : Option (List ℕ)) (g : Past) (rules : List Rule) (ps : List Parcel) (error : Error) → ps ≡ removals rules → (ps ≡ [] → ⊥) → name ≡ g.name
     → PutsAll items mid (posts true name false ps) g (Err error) → TellsPosts new g rules (Err error)
 tells_not items mid new name g [] ps error e some n x = absurd (some e)
-tells_not items mid new name g (rule ∷ rules) ps Error.Memory e some n x = refl
+tells_not items mid new name g (rule ∷ rules) ps Error.Memory e some n x = omega arith
 tells_not items mid new name g (rule ∷ rules) ps other e some n x =
-    let same = ap (posts true name false) e ∙ told_posts g name (rule ∷ rules) n in (ap (issued g) (sym same) ∙ x.0, refl)
+    let same = ap (posts true name false) e ∙ told_posts g name (rule ∷ rules) n in (ap (issued g) (sym same) ∙ x.0, omega arith)
 
 pub tells_unmade : {A : Type 0} (letters : A → List Parcel) (new : View) (g : Past) (rules : List Rule) (error : Error) → MakesRemovals letters [] rules (Err error) → TellsPosts new g rules (Err error)
 tells_unmade letters new g rules Error.Memory x = x

@@ -35,5 +35,6 @@ pub mod Index
 pub mod Waiting
 pub mod Writers
 pub mod Kept
+pub mod Looks
 pub mod Spoken
 pub mod Unstreamed

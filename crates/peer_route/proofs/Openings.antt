@@ -1,7 +1,7 @@
 -- The bus and the peer's name; a stream for which the bus is asked: what the core is then.
 use Rattle.std.proofs.{Common.{rules, arith, ◌≡◌, ℕ, codes, refl, sym, ◌∙◌, ap, subst, Bool, true, false, is_some, List, [], ◌∷◌, length, Option, Some, None, Ok, Err}, lemmas.Bool.false≢true}
-use Rattle.peer_route.specs.{Names.{Seen, Error, Rule, Issued, Opening, IoKind, Opens}, History.{OnBus, Put, Adds, Removes, Named, first_of as first_given, Past, after}, Calls.in_flight, Streams.{asks_bus}, Left.{Held, LeftStreams, View, Left}, BusCall.{add_parcel, asking_of, match_parcel, last_of}, Bus.{IsOpening, OpensBy, OpensRule}, Parcel.{message_of, Parcel}, Issuing.{Posting, put_each, issued, Issues}, Placing.{PutsAll, posts, IsMore}}
-use Rattle.peer_route.proofs.{Core.{streams_len}, Issues.{drawn_length, put_last, issued_drawn, refusal_known, left_puts}, BusMessages.match_posted, Drawn.message_serial}
+use Rattle.peer_route.specs.{Names.{Seen, Error, Rule, Issued, Opening, IoKind, Opens}, History.{OnBus, Put, Adds, Removes, Named, first_of as first_given, Past, after}, Calls.in_flight, Streams.asks_bus, Left.{Held, LeftStreams, View, Left}, BusCall.{asking_of, match_parcel, last_of}, Bus.{IsOpening, OpensBy, OpensRule}, Parcel.{message_of, Parcel}, Issuing.{Posting, put_each, issued, IssuesBy}, Placing.{PutsAll, posts, IsMore}}
+use Rattle.peer_route.proofs.{Core.streams_len, Issues.{drawn_length, put_last, issued_drawn, refusal_known, left_puts}, BusMessages.{match_posted, add_parcel}, Drawn.message_serial}
 
 -- ---- the bus, and the name
 
@@ -41,7 +41,7 @@ abbrev Tells : Past → Opening → List ℕ → Type 0
 Tells h o serials = IsOpening h (Opens.Opening o) serials
 
 pub asking_refused : {A : Type 0} (items : A → List Issued) (mid new : View) (name : Option (List ℕ)) (ps : List Parcel) (rule : Rule) (asked : Option ℕ) (h : Past) (error : Error) → name ≡ h.name
-    → ps ≡ match_parcel (codes "AddMatch") None rule ∷ [] → PutsAll items mid (posts true name false ps) h (Err error) → Issues (Tells h) (Unit {0}) new (asking_of h rule asked ∷ []) h (Err error)
+    → ps ≡ match_parcel (codes "AddMatch") None rule ∷ [] → PutsAll items mid (posts true name false ps) h (Err error) → IssuesBy (Tells h) (Unit {0}) (Left new) (asking_of h rule asked ∷ []) h (Err error)
 asking_refused items mid new name ps rule asked h Error.Memory n e x = tt
 asking_refused items mid new name ps rule asked h other n e x = (sym (issued_plain h rule asked) ∙ ap (issued h) (sym (posted_plain h name rule ps n e)) ∙ x.0, tt)
 
@@ -54,7 +54,7 @@ pub asking_put : {A : Type 0} (items : A → List Issued) (answer : A) (old mid 
     → ps ≡ match_parcel (codes "AddMatch") None rule ∷ [] → PutsAll items mid (posts true old.name false ps) h (Ok answer)
     → o.index ≡ length old.outbox → o.serial ≡ mid.last → o.number ≡ length mid.streams
     → ((m : Seen) → LeftStreams mid.streams h → o.serial ≡ m.serial → o.index ≡ length h.outbox.put → LeftStreams sv (after (Put m (Adds rule asked)) h))
-    → Issues (Tells h) (Unit {0}) (record mid { streams = sv }) (asking_of h rule asked ∷ []) h (Ok o)
+    → IssuesBy (Tells h) (Unit {0}) (Left (record mid { streams = sv })) (asking_of h rule asked ∷ []) h (Ok o)
 asking_put items answer old mid sv ps rule asked h o left more e x index serial number made =
     let ds = posted_plain h old.name rule ps left.name e in
     let draws : issued h (plain h rule ∷ []) ≡ Ok x.0 = ap (issued h) (sym ds) ∙ x.1 in
@@ -79,13 +79,13 @@ abbrev pub IsIdle : Past → Type 0
 IsIdle h = (h.closing ≡ None) × (in_flight h ≡ false)
 
 pub opens_asking : (old new : View) (rule : Rule) (asked : Option ℕ) (o : Opening) (h : Past) → IsIdle h → asks_bus h rule ≡ true
-    → Issues (Tells h) (Unit {0}) new (asking_of h rule asked ∷ []) h (Ok o) → OpensRule old new rule asked h (Ok (Opens.Opening o))
+    → IssuesBy (Tells h) (Unit {0}) (Left new) (asking_of h rule asked ∷ []) h (Ok o) → OpensRule old new rule asked h (Ok (Opens.Opening o))
 opens_asking old new rule asked o h idle asks x =
     let R : Bool → Type 0 = λ b. OpensBy b old new rule asked h (Ok (Opens.Opening o)) in
     (idle.0, idle.1, subst R (sym asks) x)
 
 pub opens_not : (old mid new : View) (rule : Rule) (asked : Option ℕ) (error : Error) (h : Past) → IsIdle h → asks_bus h rule ≡ true → new ≡ old → Left old h
-    → Issues (Tells h) (Unit {0}) mid (asking_of h rule asked ∷ []) h (Err error) → OpensRule old new rule asked h (Err error)
+    → IssuesBy (Tells h) (Unit {0}) (Left mid) (asking_of h rule asked ∷ []) h (Err error) → OpensRule old new rule asked h (Err error)
 opens_not old mid new rule asked (Error.InputOutput IoKind.Closed) h idle asks same left x =
     let shut_ : is_some h.closing ≡ true = left.sound.shut (refusal_known h (asking_of h rule asked ∷ []) (Error.InputOutput IoKind.Closed) x.0) in
     absurd (false≢true (sym (ap is_some idle.0) ∙ shut_))

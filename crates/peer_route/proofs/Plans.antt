@@ -1,9 +1,9 @@
 -- What is known of each command's plan: what is said at once, what is done beside messages, and what is told of these; and what holds along
 -- the events of an entry.
-use Rattle.std.proofs.Common.{◌≡◌, ℕ, ◌-◌, zero, suc, refl, subst, ◌&&◌, not, Bool, true, false, if◌then◌else◌, List, ◌∷◌, ◌++◌, length, Option, Some, None, Result, Ok, Err, ◌∙◌, ap, [], arith, ◌<◌, ◌^◌, sym}
+use Rattle.std.proofs.Common.{◌≡◌, is_none, ℕ, ◌-◌, zero, suc, refl, subst, ◌&&◌, not, Bool, true, false, if◌then◌else◌, List, ◌∷◌, ◌++◌, length, Option, Some, None, Result, Ok, Err, ◌∙◌, ap, [], arith, ◌<◌, ◌^◌, sym}
 use Rattle.std.specs.{List.{AllByRecursion, slice_get}, Option.option_and_then}
-use Rattle.peer_route.specs.{Names.{Datum, Draft, are_misplaced, reply_draft, error_draft, head_of, Seen, MessageType, Error, Rule, rule_in_bytes, Polled, OpenState, Words, CallOp, StreamOp, Live, Outgoing, OutgoingKind, Answer, Entry}, Parcel.{Setting, Asked, Parcel}, CallMessage.{asked_of, outgoing_draft, outgoing_asked, sent_from, reply_asked, error_asked, expects, words_refusal, values_in, fds_of, name_refusal}, History.{Event, Wrote, Fault, Spent, Made, Did, Main, Named, Making, Gave, Gone, Past, after, after_all, Call, Stream, Plain, Ruled, Cloned}, Calls.{in_flight, poll_answer, by_position, poll_events, drop_answer, drop_events, found, is_nobodys, polled_by, polled_at}, Streams.{busy, take_answer, take_events, is_open, are_open, asks_bus, close_waits, gone_events, opening_answer, opening_events, held, runs, take_by, take_at, leaving}, Shown.{error_answer, reply_by, shown, shown_drop, shown_take, shown_opening}, Issuing.{Posting, puts, of_lane, drawn, next_serial}, Trail.{Trail, place, count}, Plan.{Plan, Says, Reads, Closes, Writes, Never, refuses, where_named, where_open, unless_waits, sends, on_call, makes, leaves, ends, second_place, given_last, on_stream, opens_new, opens, reads_by, named_now, is_due, lives, plan, Sends, sent_answer}, StreamLaws.{is_take_op, is_unstream}, Entries.{Legal, repeat, writes, deeds, postings, past_after}, BusCall.{first_of, last_of, asking_of, tellings_of}, Laws.{told_serial, is_by_position}}
-use Rattle.peer_route.proofs.Edits.{all_weaker}
+use Rattle.peer_route.specs.{Names.{Datum, Draft, are_misplaced, reply_draft, error_draft, head_of, Seen, MessageType, Error, Rule, rule_in_bytes, Polled, OpenState, Words, CallOp, StreamOp, Live, Outgoing, OutgoingKind, Answer, Entry}, Parcel.{Setting, Asked, Parcel}, CallMessage.{asked_of, outgoing_draft, outgoing_asked, sent_from, reply_asked, error_asked, expects, words_refusal, values_in, name_refusal}, History.{Event, Wrote, Fault, Spent, Made, Did, Main, Named, Making, Gave, Gone, Past, after, after_all, Call, Stream, Plain, Ruled, Cloned}, Calls.{in_flight, poll_answer, by_position, poll_events, drop_answer, drop_events, found, is_nobodys, polled_by}, Streams.{busy, take_answer, take_events, is_open, are_open, asks_bus, close_waits, gone_events, opening_answer, opening_events, held, runs, take_by, leaving}, Shown.{error_answer, reply_by, shown, shown_drop, shown_take, shown_opening}, Issuing.{Posting, puts, drawn, next_serial, posted}, Trail.{Trail, place, count}, Plan.{Plan, Says, Reads, Closes, Writes, Never, refuses, where_named, where_open, unless_waits, sends, on_call, makes, leaves, ends, second_place, given_last, on_stream, opens_new, opens, reads_by, is_due, lives, plan, Sends, sent_answer}, StreamLaws.{is_take_op, is_unstream}, Entries.{Legal, repeat, writes, deeds, postings, past_after}, BusCall.{first_of, last_of, asking_of, tellings_of}, Laws.{told_serial, is_by_position}}
+use Rattle.peer_route.proofs.{Edits.all_weaker, Looks.{polled_at, take_at}}
 
 -- ---- deeds
 
@@ -205,7 +205,7 @@ asked_from name refusal values misplaced unsupported draft fds e = asked_so (IsF
 outgoing_from : (name : Option (List ℕ)) (takes_fds : Bool) (out : Outgoing) → IsFrom name (outgoing_asked name takes_fds out)
 outgoing_from name takes_fds out =
     let draft = outgoing_draft out.kind name out in
-    asked_from name (words_refusal draft) (values_in out.body) (are_misplaced draft.kind draft.flags) (out.flags.descriptor && not takes_fds) draft (fds_of out.flags.descriptor) (drafted out.kind)
+    asked_from name (words_refusal draft) (values_in out.body) (are_misplaced draft.kind draft.flags) (out.flags.descriptor && not takes_fds) draft (if out.flags.descriptor then 0 ∷ [] else []) (drafted out.kind)
   where
     drafted : (kind : OutgoingKind) → (outgoing_draft kind name out).fields.sender ≡ name
     drafted OutgoingKind.Call = refl
@@ -229,6 +229,10 @@ are_refused (fd ∷ fds) takes = not takes
 pub record CanGo (takes_fds : Bool) (parcel : Parcel) : Type 0 where
   pub taken : are_refused parcel.fds takes_fds ≡ false
   pub few : length parcel.fds < 2 ^ 32
+
+-- the descriptors that are asked for
+abbrev pub fds_of : Bool → List ℕ
+fds_of asks_one = if asks_one then 0 ∷ [] else []
 
 goes : (takes_fds asks_one : Bool) (refusal : Option Error) (values : Option (List Datum)) (misplaced : Bool) (draft : Draft) (parcel : Parcel)
     → asked_of refusal values misplaced (asks_one && not takes_fds) draft (fds_of asks_one) ≡ Ok parcel → CanGo takes_fds parcel
@@ -289,7 +293,7 @@ module _ (t : Trail) (lane : ℕ) where
     idle = λ e. refl;
     from = (from, tt);
     loud = λ serials. let is = sent_told (expects (Ok parcel)) (count lane t.names) (first_of serials) in (is.1, is.2);
-    told = λ serials drew. (sent_told (expects (Ok parcel)) (count lane t.names) (first_of serials)).0 ∙ one_drew (of_lane parcel) t.past serials drew;
+    told = λ serials drew. (sent_told (expects (Ok parcel)) (count lane t.names) (first_of serials)).0 ∙ one_drew (posted false parcel) t.past serials drew;
   }
 
   fair_call : (n : ℕ) (op : CallOp) (k : ℕ) → IsFair t (Words.OfCall n op) (on_call t.past op k)
@@ -334,7 +338,7 @@ module _ (t : Trail) (lane : ℕ) where
   fair_reads None true at = none _ Answer.Busy refl refl
   fair_reads None false at = at
 
-  fair_name : (line : Live) (given : Option (List ℕ)) (name : List ℕ) → IsFair t (Words.Live line) (named_now given name)
+  fair_name : (line : Live) (given : Option (List ℕ)) (name : List ℕ) → IsFair t (Words.Live line) (Says (Answer.Named (is_none given)) (if is_none given then Named name ∷ [] else []))
   fair_name line None name = does _ (Answer.Named true) _ ((tt, refl), tt) (refl, refl, refl)
   fair_name line (Some earlier) name = none _ (Answer.Named false) refl refl
 

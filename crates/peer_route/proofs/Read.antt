@@ -2,8 +2,8 @@
 -- for it, and a poll or a drop of another, leave its answer as it was.
 use Rattle.std.proofs.{Common.{inl, inr, ◌≡◌, ◌⊎◌, ℕ, zero, suc, ◌+◌, ◌<◌, cond, if◌then◌else◌, arith, refl, sym, ◌∙◌, subst, Bool, true, false, List, [], ◌∷◌, ◌++◌, length, drop, Option, Some, None, Result, Ok, Err, ◌||◌, ◌==◌, ap, option_map, length-append, append_assoc, ◌≢◌, ◌&&◌, not, is_some, is_none, IfSome}, lemmas.Option.slice_get-map, lemmas.List.{drop-drop, append-nil}, Math.Seq.{drop-append_seam, drop-nil}, lemmas.Bool.{eqb-true, cases_Bool, eq-eqb, or_parts, and_parts}}
 use Rattle.std.specs.List.{slice_get, find, AllByRecursion, list_any}
-use Rattle.peer_route.specs.{Names.{Seen, MessageType, Error, Polled, Words, CallOp, Answer, Entry}, Parcel.Setting, History.{Event, Took, Call, bears, Past, after, after_all, Put, OfLane, Adds, Removes, Fault, Spent, edit, spend, fail_at, is_reply, is_serial}, Calls.{found, is_nobodys, polled_by, polled_at, poll_answer, by_position, is_gone, dropped_at, drop_answer, drop_events, poll_events, waits_with, pending}, Shown.{error_answer, reply_by, shown, reply_answer, shown_drop}, Trail.{Trail, place, Names}, Plan.{Plan, Reads, where_named, on_call, plan, refuses, Says}, Entries.{IsMeant, IsRead, Legal, trail, read_events, deeds, past_after, IsEntry, IsQuiet, more, more_by}, Laws.{IsPollOp, IsPoll, IsReplyAt, IsFirstReply, IsCutOff, IsFinal, IsUnknown, SameCall, IsPast}, Told.{encodings, left_after}}
-use Rattle.peer_route.proofs.{Plans.{IsDeed, legal_from}, Kept.{at_start, Keeps, entry_keeps, deeds_all, every_entry, later, quiet_past, quiet_more}, Places.{place_append, one_place}, Edits.{edit_here, get_append, edit_other}}
+use Rattle.peer_route.specs.{Names.{Seen, MessageType, Error, Polled, Words, CallOp, Answer, Entry}, Parcel.Setting, History.{Event, Took, Call, bears, Past, after, after_all, Put, OfLane, Adds, Removes, Fault, Spent, edit, spend, fail_at, is_reply, is_serial}, Calls.{found, is_nobodys, polled_by, poll_answer, by_position, is_gone, drop_answer, drop_events, poll_events, is_awaited, pending}, Shown.{error_answer, reply_by, shown, reply_answer, shown_drop}, Trail.{Trail, place, Names}, Plan.{Plan, Reads, where_named, on_call, plan, refuses, Says}, Entries.{IsMeant, IsRead, Legal, trail, read_events, deeds, past_after, IsEntry, IsQuiet, more, more_by}, Laws.{IsPoll, IsReplyAt, IsFirstReply, IsCutOff, IsFinal, IsUnknown, SameCall, IsPast}, Told.{encodings, left_after}}
+use Rattle.peer_route.proofs.{Plans.{IsDeed, legal_from}, Kept.{at_start, Keeps, entry_keeps, deeds_all, every_entry, later, quiet_past, quiet_more}, Places.{place_append, one_place}, Edits.{edit_here, get_append, edit_other}, Looks.{dropped_at, polled_at}}
 
 -- ---- positions
 
@@ -120,13 +120,13 @@ polls_before : (t : Trail) (lane number : ℕ) (r : Result (Polled Seen) Error) 
 polls_before t lane number (Ok Polled.NotYet) p = Dull (λ q is. is) (λ error e. cc)
 polls_before t lane number r p = p
 
-polls_named : (t : Trail) (lane number : ℕ) (op : CallOp) (p : Option ℕ) (e : Entry) → place 0 lane number t.names ≡ p → IsPollOp op → IsMeant t.past (where_named (on_call t.past op) p) e → Polls t lane number e.answer
+polls_named : (t : Trail) (lane number : ℕ) (op : CallOp) (p : Option ℕ) (e : Entry) → place 0 lane number t.names ≡ p → op ≢ CallOp.Drop → IsMeant t.past (where_named (on_call t.past op) p) e → Polls t lane number e.answer
 unfolding poll_answer
 polls_named t lane number op None e named poll is = subst (Polls t lane number) (sym is.1) (Dull (λ q r. r) (λ error a. cc))
 polls_named t lane number CallOp.Poll (Some k) e named poll is = subst (Polls t lane number) (sym is.1) (polls_at t lane number k (slice_get t.past.calls k) named refl)
 polls_named t lane number (CallOp.Before before) (Some k) e named poll is =
     subst (Polls t lane number) (sym is.1) (polls_before t lane number (poll_answer t.past k) (polls_at t lane number k (slice_get t.past.calls k) named refl))
-polls_named t lane number CallOp.Drop (Some k) e named poll is = absurd poll
+polls_named t lane number CallOp.Drop (Some k) e named poll is = absurd (poll refl)
 
 polls : (t : Trail) (e : Entry) (number : ℕ) → IsMeant t.past (plan t e.lane e.words) e → IsPoll number e.words → Polls t e.lane number e.answer
 polls t e number is poll = polls_named t e.lane number poll.0 (place 0 e.lane number t.names) e refl poll.2 (subst (λ w. IsMeant t.past (plan t e.lane w) e) poll.1 is)
@@ -276,8 +276,8 @@ ended setting newer older e number op legal w f =
     (later setting (λ t. IsOver t e.lane number) (IsUnknown e.lane number) (λ t x is over. (over_more t x e.lane number over, unknown_entry t x e.lane number over is)) newer (e ∷ older) legal
     (over_after (trail setting older) e number op (legal_from setting newer (e ∷ older) legal).0 w f)).1
 
-poll_ends : (op : CallOp) (a : Answer) → IsPollOp op → IsFinal a → Ends op a
-poll_ends CallOp.Drop a poll f = absurd poll
+poll_ends : (op : CallOp) (a : Answer) → op ≢ CallOp.Drop → IsFinal a → Ends op a
+poll_ends CallOp.Drop a poll f = absurd (poll refl)
 poll_ends op a poll f = f
 
 pub once : (setting : Setting) (newer older : List Entry) (e : Entry) (number : ℕ) → Legal setting (newer ++ e ∷ older) → IsPoll number e.words → IsFinal e.answer → AllByRecursion (IsUnknown e.lane number) newer
@@ -339,24 +339,24 @@ serial_one : (o : Option ℕ) (a b : ℕ) → is_serial o a ≡ true → is_seri
 serial_one None a b p q = cc
 serial_one (Some n) a b p q = sym (eqb-true n a p) ∙ eqb-true n b q
 
-late_call : (h : Past) (m : Seen) (serial : ℕ) (c : Call) → is_serial m.reply_serial serial ≡ true → waits_with h.read serial c ≡ false → IsPast h m c
+late_call : (h : Past) (m : Seen) (serial : ℕ) (c : Call) → is_serial m.reply_serial serial ≡ true → (is_awaited h.read c && (c.serial == serial)) ≡ false → IsPast h m c
 unfolding bears
 late_call h m serial c is waits = elim (cases_Bool (bears c.serial m)) [
   | inl bears_it ↦ inr (over_by (is_gone c) (found h.read c) (c.serial == serial) (eq-eqb c.serial serial (serial_one m.reply_serial c.serial serial (and_parts (is_reply m.kind) (is_serial m.reply_serial c.serial) bears_it).1 is)) waits)
   | inr other ↦ inl other
 ]
 
-late_at : (h : Past) (m : Seen) (serial : ℕ) (o : Option Call) → is_serial m.reply_serial serial ≡ true → IfSome o (λ c. waits_with h.read serial c ≡ false) → IfSome o (IsPast h m)
+late_at : (h : Past) (m : Seen) (serial : ℕ) (o : Option Call) → is_serial m.reply_serial serial ≡ true → IfSome o (λ c. (is_awaited h.read c && (c.serial == serial)) ≡ false) → IfSome o (IsPast h m)
 late_at h m serial None is waits = tt
 late_at h m serial (Some c) is waits = late_call h m serial c is waits
 
-none_waits : (h : Past) (serial : ℕ) → h.closing ≡ None → pending h serial ≡ false → list_any (waits_with h.read serial) h.calls ≡ false
+none_waits : (h : Past) (serial : ℕ) → h.closing ≡ None → pending h serial ≡ false → list_any (λ c. is_awaited h.read c && (c.serial == serial)) h.calls ≡ false
 unfolding pending
 none_waits h serial open_ e = rw open_ at e
 
 pub took_late : (h : Past) (m : Seen) (serial : ℕ) → h.closing ≡ None → is_serial m.reply_serial serial ≡ true → pending h serial ≡ false → (k : ℕ) → poll_answer (after (Took m) h) k ≡ poll_answer h k
 took_late h m serial open_ is e k =
-    took_other h m k (late_at h m serial (slice_get h.calls k) is (fails_at (waits_with h.read serial) h.calls k (none_waits h serial open_ e)))
+    took_other h m k (late_at h m serial (slice_get h.calls k) is (fails_at (λ c. is_awaited h.read c && (c.serial == serial)) h.calls k (none_waits h serial open_ e)))
 
 -- ---- a poll
 

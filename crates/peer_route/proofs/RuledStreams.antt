@@ -1,8 +1,8 @@
 -- What is kept of streams after one of a rule is opened, or after one asks for more; and whether a rule has a stream.
-use Rattle.peer_route.specs.{History.{Gone, call_by, done_by, fresh, Did, Asked, edit, Stream, Phase, Asking, Denied, Since, is_denied, since_reply, phase, asking_stream, rule_of, is_of, subscribes, is_subscribed, raised, asked_limit, Past, after, is_serial}, Names.{Subscription, Progress, Seen, Rule}, Rules.{is_same, usual}, Streams.{gone_if}, Left.{Held, kept_by, subscription, raise_held, limit_or, LeftStreams, kept, new_held, raise, raise_own, AreStreams, IsNew}}
+use Rattle.peer_route.specs.{History.{Gone, call_by, done_by, fresh, Did, Asked, edit, Stream, Phase, Asking, Denied, Since, is_denied, since_reply, phase, asking_stream, rule_of, is_of, subscribes, is_subscribed, raised, asked_limit, Past, after, is_serial}, Names.{Subscription, Progress, Seen, Rule}, Rules.{is_same, usual}, Streams.gone_if, Left.{Held, kept_by, subscription, LeftStreams, kept, raise, AreStreams, IsWithin}}
 use Rattle.std.proofs.{Common.{subst, ◌≡◌, ℕ, refl, sym, ◌∙◌, ap, max, Bool, true, false, not, if◌then◌else◌, ◌&&◌, ◌||◌, List, [], ◌∷◌, ◌++◌, length, map, Option, Some, None, unwrap_or, inl, inr, zero, suc, ◌<◌, ◌≤◌, ◌==◌, arith, set, get_or, drop, drop_of_length-le}, Math.Seq.drop-length, lemmas.List.{length-map, map-id}, lemmas.Bool.{or_left, or_right, cases_eq, eq-eqb, ne_eqb}}
 use Rattle.std.specs.{List.{slice_get, list_any}, Option.option_map}
-use Rattle.peer_route.proofs.{SameRule.{same_self, same_one}, Edits.{edit-none, edit_here, edit_other, edit-length}, Matched.{within_fresh, within_asking}, StreamsMade.{kept_fresh, rule_kept, rule_by, at_read, streams_more}, Queues.{put_changed, put_same}}
+use Rattle.peer_route.proofs.{SameRule.{same_self, same_one}, Edits.{edit-none, edit_here, edit_other, edit-length}, Matched.{within_fresh, within_asking}, StreamsMade.{kept_fresh, limit_or, new_held, rule_kept, rule_by, at_read, streams_more}, Queues.{put_changed, put_same}}
 
 -- ---- whether a rule has a stream
 
@@ -116,6 +116,13 @@ none_there v h rule one before i left le past =
 
 -- ---- the streams of a rule are raised
 
+-- what is kept of a stream, where one of the rule asks for more, and where it does itself
+abbrev pub raise_held : Rule → Option ℕ → Held → Held
+raise_held rule asked q = record q { wants = option_map (raise rule asked) q.wants }
+
+abbrev pub raise_own : ℕ → Held → Held
+raise_own limit q = record q { wants = option_map (λ (s : Subscription). record s { limit = max s.limit limit }) q.wants }
+
 own_changed : (limits new : Rule → ℕ) (u : Option Subscription → Option Subscription) (o : Option Rule) → u None ≡ None → ((r : Rule) → o ≡ Some r → Some (subscription new r) ≡ u (Some (subscription limits r)))
     → option_map (subscription new) o ≡ u (option_map (subscription limits) o)
 own_changed limits new u None none e = sym none
@@ -149,6 +156,11 @@ raised_all limits new rule asked ms ss e = changed_all limits new (option_map (r
 
 asked_own : (h : Past) (rule : Rule) (asked : Option ℕ) → asked_limit h rule rule asked (h.capacities.rules rule) ≡ (if is_subscribed h.read h.streams rule then raised asked (h.capacities.rules rule) else unwrap_or asked (usual rule))
 asked_own h rule asked = ap (λ b. if b then (if is_subscribed h.read h.streams rule then raised asked (h.capacities.rules rule) else unwrap_or asked (usual rule)) else h.capacities.rules rule) (same_self rule)
+
+-- a stream of the rule, so far opened, that holds nothing yet
+pub record IsNew (ms : List Seen) (rule : Rule) (progress : Progress) (s : Stream) : Type 0 where
+  pub holds : (limits : Rule → ℕ) → kept limits ms s ≡ new_held (Some (subscription limits rule)) progress false
+  pub within : IsWithin ms s
 
 pub streams_ruled : (v : List Held) (h : Past) (rule : Rule) (asked : Option ℕ) (progress : Progress) (limit : ℕ) (s : Stream) → LeftStreams v h → IsNew h.read rule progress s
     → limit ≡ (if is_subscribed h.read h.streams rule then raised asked (h.capacities.rules rule) else unwrap_or asked (usual rule))

@@ -1,8 +1,8 @@
 -- What was put is what the entries put, what was written is what they wrote; and what answers tell of it.
 use Rattle.std.proofs.{Common.{◌≡◌, ◌≢◌, ℕ, zero, suc, ◌+◌, ◌-◌, ◌<◌, ◌≤◌, arith, refl, sym, ◌∙◌, ap, subst, ◌||◌, Bool, true, false, if◌then◌else◌, List, [], ◌∷◌, ◌++◌, length, take, append_assoc, length-append, inl, inr, map, option_map, option_and_then, Option, Some, None, Result, Ok, Err, ◌⊎◌}, lemmas.List.append-nil, Math.Seq.{take-length, take-append-add}, Math.Bool.{or-true, or-false}}
 use Rattle.std.specs.List.{AllByRecursion}
-use Rattle.peer_route.specs.{Names.{Seen, Error, Entry, Words, Answer, Writer, VariantError}, Parcel.{Setting, message_of, Parcel}, History.{Event, Shut, Put, Purpose, Wrote, Fault, Outbox, Past, after, after_all}, Issuing.{Posting, put_of, parcels, messages_of, puts, drawn, next_serial, issued, issued_by, or_barred, limit_refusal, are_deep, refusal}, Trail.Trail, Plan.{Closes, plan, Plan, Says, Sends, Reads, Writes, Never}, Entries.{IsMeant, IsEntry, IsQuiet, IsAtOnce, IsOfRun, Legal, trail, more, repeat, writes, deeds, postings, past_after, IsSending, write_fault, IsPut}, StreamLaws.{IsPutOf, all_put, all_written}}
-use Rattle.peer_route.proofs.{Plans.{are_writes, repeat_all, IsFair, fair, AreFrom, are_deeds, legal_from, is_live}, Kept.{every, every_entry, at_start, Keeps, kept_by, puts_are, deeds_all, deed_outbox, deeds_are, of_run, later, quiet_past}, Writers.{fine_unfailed, writer_keeps, shut_writer, writer_stays}}
+use Rattle.peer_route.proofs.{Issues.{are_deep, limit_refusal, or_barred, issued_by}, Plans.{are_writes, repeat_all, IsFair, fair, AreFrom, are_deeds, legal_from, is_live}, Kept.{every, every_entry, at_start, Keeps, kept_by, puts_are, deeds_all, deed_outbox, deeds_are, of_run, later, quiet_past}, Writers.{fine_unfailed, writer_keeps, shut_writer, writer_stays}}
+use Rattle.peer_route.specs.{Names.{Seen, Error, Entry, Words, Answer, Writer, VariantError}, Parcel.{Setting, message_of, Parcel}, History.{Event, Shut, Put, Purpose, Wrote, Fault, Outbox, Past, after, after_all}, Issuing.{Posting, put_of, parcels, messages_of, puts, drawn, next_serial, issued, refusal}, Trail.Trail, Plan.{Closes, plan, Plan, Says, Sends, Reads, Writes, Never}, Entries.{IsMeant, IsEntry, IsQuiet, IsAtOnce, IsOfRun, Legal, trail, more, repeat, writes, deeds, postings, past_after, IsSending, write_fault, IsPut}, StreamLaws.{IsPutOf, all_put, all_written}}
 use Rattle.wire_message.specs.Draft.{built}
 
 -- ---- an entry's messages

@@ -1,11 +1,15 @@
 -- What the events do to the slots that a history leaves.
 use Rattle.std.proofs.{Common.{inl, inr, ◌≡◌, ℕ, ◌<◌, ◌≤◌, ◌==◌, ◌||◌, ◌&&◌, not, is_none, eqb, cond, if◌then◌else◌, zero, suc, refl, sym, ◌∙◌, ap, arith, subst, Bool, true, false, List, [], ◌∷◌, ◌++◌, length, map, drop, find, get_or, set, Option, Some, None}, lemmas.List.drop-append-le, lemmas.List.Folds.find-append, lemmas.Bool.{cases_eq, or_parts, or_from, or_left, or_right, false≢true, eqb-true, eq-eqb, ne_eqb, eqb-false, both_ways, false_from_ne_true}}
 use Rattle.std.specs.{List.list_any, Option.option_or}
-use Rattle.peer_route.specs.{Names.{Seen, Error, Slot}, History.{Took, Call, bears, fail_at, edit, spend, Past, after}, Calls.{found, is_gone, waits_with, is_awaited, pending, in_flight}, Left.{reply_kept, slot_of, slot_by, is_waiting, is_inner_slot, takes, Rising, CallsView, waiting_serial, LeftCalls}}
+use Rattle.peer_route.specs.{Names.{Seen, Error, Slot}, History.{Took, Call, bears, fail_at, edit, spend, Past, after}, Calls.{found, is_gone, is_awaited, pending, in_flight}, Left.{slot_of, slot_by, is_waiting, is_inner_slot, Rising, CallsView, waiting_serial, LeftCalls}}
 use Rattle.peer_route.proofs.{Plain.{map_along, list_any-along, After, After-at, list_any-map}, CallsMade.{Early, places}}
 use mathlib.Core.List.{map-map}
 
 -- ---- a message comes
+
+-- what is kept of a reply: nothing where the call is one of the peer's own
+abbrev pub reply_kept : Bool → Seen → Slot
+reply_kept inner m = if inner then Slot.Gone else Slot.Replied m
 
 -- what a slot is after the message
 abbrev pub arrived : Seen → Slot → Slot
@@ -58,22 +62,6 @@ eqb-comm a b = elim (cases_eq a b) as (λ _. eqb a b ≡ eqb b a) [
   | inl e ↦ eq-eqb a b e ∙ sym (eq-eqb b a (sym e))
   | inr ne ↦ ne_eqb a b ne ∙ sym (ne_eqb b a (λ e. ne (sym e)))
 ]
-
--- no slot takes a message that answers nothing
-pub takes_nowhere : (m : Seen) → ((n : ℕ) → bears n m ≡ false) → (ss : List Slot) → list_any (takes m) ss ≡ false
-takes_nowhere m none [] = refl
-takes_nowhere m none (Slot.Gone ∷ ss) = takes_nowhere m none ss
-takes_nowhere m none (Slot.Waiting n i ∷ ss) = or_from (bears n m) (list_any (takes m) ss) (none n) (takes_nowhere m none ss)
-takes_nowhere m none (Slot.Replied r ∷ ss) = takes_nowhere m none ss
-
-takes_same : (m : Seen) (s : ℕ) → ((n : ℕ) → bears n m ≡ (s == n)) → (x : Slot) → takes m x ≡ is_waiting s x
-takes_same m s same Slot.Gone = refl
-takes_same m s same (Slot.Waiting n i) = same n ∙ eqb-comm s n
-takes_same m s same (Slot.Replied r) = refl
-
--- a slot takes it exactly where one waits for its serial
-pub takes_at : (m : Seen) (s : ℕ) (ss : List Slot) → ((n : ℕ) → bears n m ≡ (s == n)) → list_any (is_waiting s) ss ≡ list_any (takes m) ss
-takes_at m s ss same = sym (list_any-along (takes m) (is_waiting s) (takes_same m s same) ss)
 
 -- a slot that doesn't wait for its serial stays, and one that does has the reply
 idle_arrived : (m : Seen) (s : ℕ) → ((n : ℕ) → bears n m ≡ (s == n)) → (x : Slot) → is_waiting s x ≡ false → arrived m x ≡ x
@@ -185,7 +173,7 @@ waits_by false false inner (Some m) n serial = sym (reply_waits inner m serial)
 waits_by false false inner None n serial = refl
 
 -- a call waits with a serial exactly where its slot does
-pub waits-slot : (h : Past) (serial : ℕ) (c : Call) → waits_with h.read serial c ≡ is_waiting serial (slot_of h.read c)
+pub waits-slot : (h : Past) (serial : ℕ) (c : Call) → (is_awaited h.read c && (c.serial == serial)) ≡ is_waiting serial (slot_of h.read c)
 unfolding slot_of
 waits-slot h serial c = waits_by c.spent c.failed c.inner (found h.read c) c.serial serial
 
@@ -201,7 +189,7 @@ own_by false false true None n = refl
 own_by false false false None n = refl
 
 -- one of the peer's own waits exactly where its slot does
-pub own-slot : (h : Past) (c : Call) → is_awaited h.read c ≡ is_inner_slot (slot_of h.read c)
+pub own-slot : (h : Past) (c : Call) → (c.inner && is_awaited h.read c) ≡ is_inner_slot (slot_of h.read c)
 unfolding slot_of
 own-slot h c = own_by c.spent c.failed c.inner (found h.read c) c.serial
 
@@ -212,7 +200,7 @@ unfolding pending waiting_serial
 pending-left v h left serial =
     rw left.slots (rw left.closing
     (ap (λ b. is_none h.closing && b)
-    (list_any-along (waits_with h.read serial) (λ c. is_waiting serial (slot_of h.read c)) (waits-slot h serial) h.calls
+    (list_any-along (λ c. is_awaited h.read c && (c.serial == serial)) (λ c. is_waiting serial (slot_of h.read c)) (waits-slot h serial) h.calls
     ∙ sym (list_any-map (is_waiting serial) (slot_of h.read) h.calls))))
 
 -- one of the peer's own waits, and the peer is open
@@ -223,4 +211,4 @@ flying-left ss error h b left e =
     ∙ rw left.slots (rw left.closing
     (ap (λ x. is_none h.closing && x)
     (list_any-map is_inner_slot (slot_of h.read) h.calls
-    ∙ sym (list_any-along (is_awaited h.read) (λ c. is_inner_slot (slot_of h.read c)) (own-slot h) h.calls))))
+    ∙ sym (list_any-along (λ c. c.inner && is_awaited h.read c) (λ c. is_inner_slot (slot_of h.read c)) (own-slot h) h.calls))))

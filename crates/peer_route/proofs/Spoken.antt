@@ -1,8 +1,8 @@
 -- What entries are answered goes with what they do: a serial that is told is that of the last message, that there is none before is said by
 -- position alone, and a refusal or a wait leaves all as it was. And the peer's name stays.
-use Rattle.std.proofs.Common.{inl, inr, ◌≡◌, ℕ, refl, sym, ◌∙◌, ap, subst, Bool, true, false, if◌then◌else◌, List, [], ◌∷◌, Option, Some, None, Result, Ok, Err, ◌++◌, length, map}
+use Rattle.std.proofs.Common.{is_none, inl, inr, ◌≡◌, ℕ, refl, sym, ◌∙◌, ap, subst, Bool, true, false, if◌then◌else◌, List, [], ◌∷◌, Option, Some, None, Result, Ok, Err, ◌++◌, length, map}
 use Rattle.std.specs.List.{AllByRecursion}
-use Rattle.peer_route.specs.{Names.{Seen, Error, Words, Answer, Entry, Live}, Parcel.Setting, History.{Event, Named, Past, first_of, after, after_all}, BusCall.last_of, Issuing.{Posting, issued}, Trail.Trail, Plan.{Plan, Says, Sends, Reads, Closes, Writes, Never, named_now, plan}, Entries.{IsMeant, IsSending, IsRead, IsClose, IsAtOnce, Legal, trail, write_fault, unsent, IsOfRun, deeds, past_after, first_past}, Laws.{IsNothingYet, told_serial, is_by_position}, StreamLaws.{is_unstream, stays_open}}
+use Rattle.peer_route.specs.{Names.{Seen, Error, Words, Answer, Entry, Live}, Parcel.Setting, History.{Event, Named, Past, first_of, after, after_all}, BusCall.last_of, Issuing.{Posting, issued}, Trail.Trail, Plan.{Plan, Says, Sends, Reads, Closes, Writes, Never, plan}, Entries.{IsMeant, IsSending, IsRead, IsClose, IsAtOnce, Legal, trail, write_fault, unsent, IsOfRun, deeds, past_after, first_past}, Laws.{IsNothingYet, told_serial, is_by_position}, StreamLaws.{is_unstream, stays_open}}
 use Rattle.peer_route.proofs.{Plans.{IsDeed, Gives, is_live, is_idle, place_of, fits, IsBland, FairSends, IsFair, fair}, Kept.{since, Keeps, entry_keeps, deeds_by, of_run, Idles, quiet_past, idle_more}, Issues.refusal_known, Sent.{put_drew, drew}}
 
 -- ---- answers
@@ -154,8 +154,8 @@ pub kept : (setting : Setting) (newer older : List Entry) (name : List ℕ) → 
 kept setting newer older name is = since (λ q. q.name ≡ Some name) (name_keeps name) setting newer older is
 
 -- the line that gives a name
-names : (t : Trail) (e : Entry) (name : List ℕ) (given : Option (List ℕ)) → e.words ≡ Words.Live (Live.Unique name) → t.past.name ≡ given → plan t e.lane e.words ≡ named_now given name
-names t e name given w is = ap (plan t e.lane) w ∙ ap (λ o. named_now o name) is
+names : (t : Trail) (e : Entry) (name : List ℕ) (given : Option (List ℕ)) → e.words ≡ Words.Live (Live.Unique name) → t.past.name ≡ given → plan t e.lane e.words ≡ Says (Answer.Named (is_none given)) (if is_none given then Named name ∷ [] else [])
+names t e name given w is = ap (plan t e.lane) w ∙ ap (λ o. Says (Answer.Named (is_none o)) (if is_none o then Named name ∷ [] else [])) is
 
 pub given : (setting : Setting) (older : List Entry) (e : Entry) (name : List ℕ) → Legal setting (e ∷ older) → e.words ≡ Words.Live (Live.Unique name) → (trail setting older).past.name ≡ None
     → (e.answer ≡ Answer.Named true) × ((trail setting (e ∷ older)).past.name ≡ Some name)
@@ -163,7 +163,7 @@ given setting older e name legal w is =
     let t = trail setting older in
     let means = names t e name None w is in
     let meant = subst (λ pl. IsMeant t.past pl e) means legal.0 in
-    (meant.1, ap (λ pl. (past_after pl e t.past).name) means ∙ ap (λ (q : Past). q.name) (quiet_past (named_now None name) e t.past meant.2) ∙ ap (λ o. first_of o name) is)
+    (meant.1, ap (λ pl. (past_after pl e t.past).name) means ∙ ap (λ (q : Past). q.name) (quiet_past (Says (Answer.Named true) (Named name ∷ [])) e t.past meant.2) ∙ ap (λ o. first_of o name) is)
 
 pub later : (setting : Setting) (older : List Entry) (e : Entry) (name earlier : List ℕ) → Legal setting (e ∷ older) → e.words ≡ Words.Live (Live.Unique name) → (trail setting older).past.name ≡ Some earlier
     → (e.answer ≡ Answer.Named false) × (trail setting (e ∷ older) ≡ trail setting older)

@@ -1,8 +1,8 @@
 -- What is kept of streams, and what it is after each event.
-use Rattle.peer_route.specs.{History.{Gone, done_by, Took, Fault, Made, Did, Plain, Cloned, bears, edit, Call, Stream, Phase, Asking, Denied, Since, is_return, asks_by, phase, fresh, plain_stream, fail_stream, clone_of, rule_of, Past, after}, Streams.{since_in, is_since, accepted, limit_of, matched, offered, held, is_full, runs, runs_at, is_open, is_over as nothing_comes, take_by, take_at, take_answer, first_position, next_at, next_position, limit_answer, rule_answer}, Names.{Subscription, Seen, Error, Rule, accepts, Progress}, Left.{Held, kept_by, kept, kept_open, subscription, is_usable, new_held, keeps_by, pushed, settled_by, ended, lost_by, limit_or, is_over, IsWithin, AreStreams, LeftStreams}}
+use Rattle.peer_route.specs.{History.{Gone, done_by, Took, Fault, Made, Did, Plain, Cloned, bears, edit, Call, Stream, Phase, Asking, Denied, Since, is_return, asks_by, phase, fresh, plain_stream, fail_stream, clone_of, rule_of, Past, after}, Streams.{since_in, is_since, accepted, limit_of, matched, offered, held, is_full, runs, is_open, is_over as nothing_comes, take_by, take_answer, first_position, next_position, limit_answer, rule_answer}, Names.{Subscription, Seen, Error, Rule, accepts, Progress}, Left.{Held, kept_by, kept, subscription, is_running, keeps_by, pushed, settled_by, ended, lost_by, is_over, IsWithin, AreStreams, LeftStreams}}
 use Rattle.std.proofs.{Common.{◌≡◌, ℕ, ◌+◌, ◌<◌, ◌≤◌, suc, refl, sym, ◌∙◌, ap, arith, subst, Bool, true, false, not, cond, if◌then◌else◌, ◌&&◌, ◌||◌, ◌==◌, nat_lt, is_some, List, [], ◌∷◌, ◌++◌, length, drop, map, get_or, Option, Some, None, Result, Ok, Err, OnOk}, Math.Seq.{drop-length, drop-nil}, lemmas.List.{map-append, append-nil, drop-append-le, drop-drop}, lemmas.Option.{slice_get-map, slice_get_past, slice_get_read}, lemmas.Bool.ne_eqb, lemmas.Bool.Decides.nat_tests}
-use Rattle.std.specs.{List.{slice_get, list_any, AllByRecursion}, Option.{option_map, option_and_then}}
-use Rattle.peer_route.proofs.{Plain.{map_along, map_each, list_any-map, list_any-along}, Edits.{map_edit_all, map_edit, edit-past, all_weaker, all_at, all_more, all_map, all_edit}, Matched.{stepped, phase_took, within_fresh, accepted_nothing, accepted-append, within_took}}
+use Rattle.std.specs.{List.{slice_get, list_any, AllByRecursion}, Option.{option_map, option_and_then, unwrap_or}}
+use Rattle.peer_route.proofs.{Plain.{map_along, map_each, list_any-map, list_any-along}, Edits.{map_edit_all, map_edit, edit-past, all_weaker, all_at, all_more, all_map, all_edit}, Matched.{stepped, phase_took, within_fresh, accepted_nothing, accepted-append, within_took}, Looks.{runs_at, take_at}}
 use mathlib.Core.List.{map-map}
 
 -- ---- what is kept of a stream that is open
@@ -36,6 +36,10 @@ pub kept_runs : (limits : Rule → ℕ) (h : Past) (s : Stream) → runs h.read 
 unfolding kept held offered matched
 kept_runs limits h s e = let is = runs_so h s e in since_by limits s s.gone (phase h.read s) is.still is.since
 
+-- it is open
+abbrev pub is_usable : Held → Bool
+is_usable q = q.opened && is_running q.progress
+
 usable_by : (limits : Rule → ℕ) (s : Stream) (gone : Bool) (p : Phase) → is_usable (kept_by limits s gone p) ≡ (s.opened && (not gone && is_since p))
 usable_by limits s true p = refl
 usable_by limits s false (Since ms) = refl
@@ -68,6 +72,10 @@ pub past_read : (v : List Held) (h : Past) (len k : ℕ) → LeftStreams v h →
 past_read v h len k left all le =
     let K = kept h.capacities.rules h.read in
     none_by K (slice_get h.streams k) (sym (slice_get-map K h.streams k) ∙ ap (λ qs. slice_get qs k) (sym left.queues) ∙ slice_get_past v k (omega (arith, all, le)))
+
+-- what is kept of a stream that may be there, where it is open
+abbrev pub kept_open : (Rule → ℕ) → List Seen → Option Stream → Option Held
+kept_open limits ms o = option_and_then (λ s. if runs ms s then Some (kept limits ms s) else None) o
 
 abbrev pub if_usable : Held → Option Held
 if_usable q = if is_usable q then Some q else None
@@ -106,7 +114,7 @@ pub there_so : (h : Past) (k : ℕ) (r : Option Held) → r ≡ kept_open h.capa
 unfolding is_open
 there_so h k r e = ap (read_of false (λ _. true)) e ∙ there_of h (slice_get h.streams k)
 
-next_of : (h : Past) (o : Option Stream) → read_of None (λ q. first_position q.items) (kept_open h.capacities.rules h.read o) ≡ next_at h.read o
+next_of : (h : Past) (o : Option Stream) → read_of None (λ q. first_position q.items) (kept_open h.capacities.rules h.read o) ≡ option_and_then (λ s. if runs h.read s then first_position (held h.read s) else None) o
 next_of h None = refl
 next_of h (Some s) = read_by None (λ q. first_position q.items) h s (runs h.read s) refl
 
@@ -130,6 +138,10 @@ rule_of_open h (Some s) =
 pub rule_so : (h : Past) (k : ℕ) (r : Option Held) → r ≡ kept_open h.capacities.rules h.read (slice_get h.streams k) → read_of None (λ q. rule_kept q.wants) r ≡ rule_answer h k
 unfolding rule_answer is_open
 rule_so h k r e = ap (read_of None (λ q. rule_kept q.wants)) e ∙ rule_of_open h (slice_get h.streams k)
+
+-- how many messages a stream may hold: as many as its rule's may, or without a rule so many
+abbrev pub limit_or : ℕ → Option Subscription → ℕ
+limit_or main w = unwrap_or (option_map (λ (s : Subscription). s.limit) w) main
 
 pub limit_by : (h : Past) (rule : Option Rule) → limit_or h.capacities.main (option_map (subscription h.capacities.rules) rule) ≡ limit_of h.capacities rule
 limit_by h None = refl
@@ -330,6 +342,10 @@ streams_fault v h left =
 pub held_fresh : (h : Past) (rule : Option Rule) (told : Bool) → held h.read (fresh h rule told) ≡ []
 unfolding held offered matched phase
 held_fresh h rule told = ap (accepted rule) (drop-length h.read) ∙ accepted_nothing rule
+
+-- what a new stream is kept by; one that runs is open
+abbrev pub new_held : Option Subscription → Progress → Bool → Held
+new_held wants progress told = record { wants = wants; progress = progress; items = []; told = told; opened = is_running progress }
 
 pub kept_fresh : (limits : Rule → ℕ) (h : Past) (rule : Option Rule) (told : Bool) → kept limits h.read (fresh h rule told) ≡ new_held (option_map (subscription limits) rule) Progress.Runs told
 unfolding kept phase

@@ -1,8 +1,8 @@
 -- Closing streams, and telling the bus of it, leaves each other stream, each call and each capacity as it was.
-use Rattle.peer_route.specs.{History.{call_by, Event, Made, Put, Adds, Removes, Did, Fault, Making, Plain, Ruled, Cloned, Deed, Gave, Gone, Call, bears, is_return, Start, Behind, OnReturn, Stream, Phase, Denied, Since, since_reply, phase_by, phase, asks_by, clone_of, new_stream, asking_stream, done_by, fail_stream, Past, after, Wrote, fail_at, Capacities, after_all}, Names.{Entry, Seen, Rule, Words, StreamOp}, Parcel.Setting, Entries.{IsMeant, trail, deeds, postings, repeat, writes, Legal}, Left.IsSound, Calls.{polled_at, poll_answer}, Streams.{take_at, take_answer, are_open, close_waits, leaving, gone_events}, BusCall.tellings_of, Issuing.puts, Trail.{Trail, place}, Plan.{Plan, Says, Sends, Reads, Closes, Writes, Never, where_named, where_open, unless_waits, ends, second_place, on_stream, plan}}
+use Rattle.peer_route.proofs.{Looks.{polled_at, take_at}, Kept.always, Edits.{edit_other, get_before, all_weaker, all_more, all_map, all_edit}, CallsMade.{IsSound, sound_first, sound_after}, Plans.{along, repeat_all, all_append}}
+use Rattle.peer_route.specs.{History.{call_by, Event, Made, Put, Adds, Removes, Did, Fault, Making, Plain, Ruled, Cloned, Deed, Gave, Gone, Call, bears, is_return, Start, Behind, OnReturn, Stream, Phase, Denied, Since, since_reply, phase_by, phase, asks_by, clone_of, new_stream, asking_stream, done_by, fail_stream, Past, after, Wrote, fail_at, Capacities, after_all}, Names.{Entry, Seen, Rule, Words, StreamOp}, Parcel.Setting, Entries.{IsMeant, trail, deeds, postings, repeat, writes, Legal}, Calls.poll_answer, Streams.{take_answer, are_open, close_waits, leaving, gone_events}, BusCall.tellings_of, Issuing.puts, Trail.{Trail, place}, Plan.{Plan, Says, Sends, Reads, Closes, Writes, Never, where_named, where_open, unless_waits, ends, second_place, on_stream, plan}}
 use Rattle.std.proofs.{Common.{◌≡◌, ℕ, ◌≤◌, ◌<◌, zero, suc, refl, arith, Bool, true, false, if◌then◌else◌, List, [], ◌∷◌, ◌++◌, length, map, drop, length-append, append_assoc, append-nil, ◌≢◌, ◌⊎◌, inl, inr, ◌-◌, sym, ◌∙◌, ap, subst, ◌||◌, option_map, Option, Some, None, IfSome}, lemmas.List.map-append, lemmas.Bool.ne_eqb, Math.Bool.or-false, lemmas.Option.slice_get-map}
 use Rattle.std.specs.{Prelude.⊤, List.{AllByRecursion, slice_get}}
-use Rattle.peer_route.proofs.{Kept.always, Edits.{edit_other, get_before, all_weaker, all_more, all_map, all_edit}, CallsMade.{sound_first, sound_after}, Plans.{along, repeat_all, all_append}}
 
 -- ---- where streams begin: the AddMatch that one waits for was put before it was made
 

@@ -1,8 +1,8 @@
 -- What streams give, entry by entry; and how it is known that one was made, or that the bus was asked for it.
-use Rattle.peer_route.specs.{History.{Gave, call_by, done_by, fresh, Made, Ruled, Past, Event, Took, Did, Making, Plain, Cloned, Stream, Denied, Since, phase, plain_stream, clone_of, new_stream, rule_of, after, Put, Adds, Call, bears, OnReturn, is_return, since_reply, phase_by, asking_stream, after_all, Start, Behind, Phase}, Names.{Answer, Entry, Error, Seen, Rule, rule_in_bytes, Words, StreamOp}, Calls.in_flight, Streams.{asks_bus, is_since, is_open, accepted, matched, offered, held, since_in}, BusCall.{asking_of, first_of, add_parcel}, Issuing.{Posting, issued, parcels, messages_of, puts}, Trail.{Trail, count, place, asked_names}, Plan.{Plan, unless_waits, makes, opens_new, opens, plan, on_stream}, Entries.{IsMeant, IsSending, unsent, write_fault, past_after, trail, more, Legal, more_by}, Left.{start_count, IsWithin}, Parcel.{Setting, message_of}, StreamLaws.{positions, Yields, holds, rule_at, items_given, after_return, YieldsAsked, Gives, stays_open, stream_of}}
+use Rattle.peer_route.specs.{History.{Gave, call_by, done_by, fresh, Made, Ruled, Past, Event, Took, Did, Making, Plain, Cloned, Stream, Denied, Since, phase, plain_stream, clone_of, new_stream, rule_of, after, Put, Adds, Call, bears, OnReturn, is_return, since_reply, phase_by, asking_stream, after_all, Start, Behind, Phase}, Names.{Answer, Entry, Error, Seen, Rule, rule_in_bytes, Words, StreamOp}, Calls.in_flight, Streams.{asks_bus, is_since, is_open, accepted, matched, offered, held, since_in}, BusCall.{asking_of, first_of}, Issuing.{Posting, issued, parcels, messages_of, puts}, Trail.{Trail, count, place, asked_names}, Plan.{Plan, unless_waits, makes, opens_new, opens, plan, on_stream}, Entries.{IsMeant, IsSending, unsent, write_fault, past_after, trail, more, Legal, more_by}, Left.{start_count, IsWithin}, Parcel.{Setting, message_of}, StreamLaws.{positions, Yields, holds, rule_at, items_given, after_return, YieldsAsked, Gives, stays_open, stream_of}}
 use Rattle.std.proofs.{Common.{◌≡◌, ℕ, refl, sym, ◌∙◌, ap, subst, Bool, true, false, if◌then◌else◌, List, [], ◌∷◌, Option, Some, None, Result, Ok, Err, ◌+◌, ◌≤◌, arith, is_some, ◌++◌, length, take, drop, append_assoc, append-nil, ◌⊎◌, inl, inr, unwrap_or, option_and_then, option_map}, Math.Seq.drop-append_seam, lemmas.List.{map-append, take-append-drop, drop-append-le, take-append-le, length-drop, drop-drop}}
 use Rattle.std.specs.List.{slice_get}
-use Rattle.peer_route.proofs.{Edits.{get_new, take_one, drop_next, all_at}, Matched.{held_matched, accepted-append, arriving, matched_took, within_took, within_fresh, within_asking}, Plans.{is_idle, legal_from, one_drawn}, Deeds.{all_within, lanes, Flowing, FlowAt, Flow, named_new, flow_all, flow_entry, flow_writes, turned, named_done, open_done, open_stream}, Places.place_new, Sent.{put_drew, message_serial}, Kept.{every_entry, since}, StreamsMade.clone_within}
+use Rattle.peer_route.proofs.{BusMessages.add_parcel, Edits.{get_new, take_one, drop_next, all_at}, Matched.{held_matched, accepted-append, arriving, matched_took, within_took, within_fresh, within_asking}, Plans.{is_idle, legal_from, one_drawn}, Deeds.{all_within, lanes, Flowing, FlowAt, Flow, named_new, flow_all, flow_entry, flow_writes, turned, named_done, open_done, open_stream}, Places.place_new, Sent.{put_drew, message_serial}, Kept.{every_entry, since}, StreamsMade.clone_within}
 
 -- ---- messages went out
 
@@ -137,10 +137,8 @@ gives_from setting newer e older number rule start skip all legal begun is =
     let s = f.now.stream in
     let own = drop s.skip (matched h.read s) in
     record {
-      k = f.k;
       stream = s;
-      named = f.named;
-      made = f.now.made;
+      named = ap (option_and_then (slice_get h.streams)) f.named ∙ f.now.made;
       items = ap (λ ps. ps ++ positions (held h.read s)) f.now.flows.given_is ∙ sym (map-append (λ (m : Seen). m.position) (take s.taken own) (held h.read s))
           ∙ ap positions (take-append-drop s.taken own ∙ own_offers rule start skip h s (items_given e.lane number newer) f.now.flows ∙ is);
     }

@@ -29,13 +29,10 @@ unfoldable pub spelled_values : List Shape → List ℕ → Option (List Datum)
 spelled_values types bytes =
     option_and_then (λ found. with_nothing_behind found found.1.rest) (fields_at (value_at 64 Little) (shapes_of types) (record { place = 0; rest = bytes }))
 
-abbrev pub values_of : Option (List Shape) → Option (List ℕ) → Option (List Datum)
-values_of (Some types) (Some bytes) = spelled_values types bytes
-values_of types bytes = None
-
 -- The values of a body's word; None where a word is none of a body. The law beside `read_body` says which they are.
 unfoldable pub body_values : List ℕ → Option (List Datum)
-body_values word = option_and_then (λ parts. values_of (types_in parts.0) (bytes_of parts.1)) (at_colon word)
+body_values word =
+    option_and_then (λ parts. option_and_then (λ types. option_and_then (spelled_values types) (bytes_of parts.1)) (types_in parts.0)) (at_colon word)
 
 -- What reading a body's word promises: the values of the word; Malformed exactly where it is none of a body. Want of memory
 -- tells nothing.

@@ -1,13 +1,7 @@
 -- What a peer asks of the bus for its streams, and what opening a stream of a rule gives (D-Bus Specification, "Message Bus
 -- Messages", `org.freedesktop.DBus.AddMatch` and `org.freedesktop.DBus.RemoveMatch`).
 use Rattle.std.specs.Prelude.{ℕ, ◌≡◌, Bool, true, false, List, [], ◌∷◌, length, Option, None, IsSome, Result, Ok, Err}
-use Rattle.peer_route.specs.{Names.{Error, Rule, Opens, Opened, Opening, OpenState, IoKind}, History.{Made, Ruled, Past, after}, Calls.in_flight, Streams.asks_bus, BusCall.asking_of, Issuing.Issues, Left.{View, Left}}
-
--- a stream that is open at once
-abbrev pub OpensNow : View → View → Rule → Option ℕ → Past → Result Opens Error → Type 0
-OpensNow old new rule asked h (Ok (Opens.Open stream)) = (stream.number ≡ length h.streams) × Left new (after (Made (Ruled rule asked)) h)
-OpensNow old new rule asked h (Err Error.Memory) = new ≡ old
-OpensNow old new rule asked h result = ⊥
+use Rattle.peer_route.specs.{Names.{Error, Rule, Opens, Opened, Opening, OpenState, IoKind}, History.{Made, Ruled, Past, after}, Calls.in_flight, Streams.asks_bus, BusCall.asking_of, Issuing.IssuesBy, Left.{View, Left}}
 
 -- what is told of a stream for which AddMatch was put: its number among the streams, and the message's place and serial
 abbrev pub IsOpening : Past → Opens → List ℕ → Type 0
@@ -16,8 +10,9 @@ IsOpening h (Opens.Open stream) serials = ⊥
 
 -- The bus has to be asked, by an AddMatch for whose return the stream waits; or the stream is open at once.
 abbrev pub OpensBy : Bool → View → View → Rule → Option ℕ → Past → Result Opens Error → Type 0
-OpensBy true old new rule asked h result = Issues (IsOpening h) (new ≡ old) new (asking_of h rule asked ∷ []) h result
-OpensBy false old new rule asked h result = OpensNow old new rule asked h result
+OpensBy true old new rule asked h result = IssuesBy (IsOpening h) (new ≡ old) (Left new) (asking_of h rule asked ∷ []) h result
+OpensBy false old new rule asked h (Ok (Opens.Open stream)) = (stream.number ≡ length h.streams) × Left new (after (Made (Ruled rule asked)) h)
+OpensBy false old new rule asked h result = ⊥
 
 -- What opening a stream of this rule gives: a closed peer opens none, and while an AddMatch or a RemoveMatch of the peer is on its
 -- way it is busy. An error changes nothing.

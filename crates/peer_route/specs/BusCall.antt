@@ -1,6 +1,6 @@
 -- The calls by which a peer asks the bus for what a rule accepts, and tells it that this isn't wanted any more (D-Bus
 -- Specification, "Message Bus Messages", `org.freedesktop.DBus.AddMatch` and `org.freedesktop.DBus.RemoveMatch`).
-use Rattle.std.specs.Prelude.{ℕ, Bool, true, false, List, [], ◌∷◌, map, Option, Some, None, codes}
+use Rattle.std.specs.Prelude.{ℕ, List, [], ◌∷◌, map, Option, Some, None, codes}
 use Rattle.peer_route.specs.{Names.{Little, text, string, no_fields, Draft, Rule, MessageType}, Parcel.Parcel, History.{Adds, Removes, Past}, Issuing.Posting}
 use Rattle.rule_match.specs.Text.{rule_text}
 
@@ -27,21 +27,13 @@ bus_draft name member = record {
 abbrev pub match_parcel : List ℕ → Option (List ℕ) → Rule → Parcel
 match_parcel member name rule = record { draft = bus_draft name member; values = text string (rule_text rule) ∷ []; fds = [] }
 
--- The bus is asked for what the rule accepts.
-abbrev pub add_parcel : Option (List ℕ) → Rule → Parcel
-add_parcel name rule = match_parcel (codes "AddMatch") name rule
-
--- AddMatch of a rule, for whose stream this capacity is asked, if one is
+-- AddMatch of a rule, by which the bus is asked for what it accepts, for whose stream this capacity is asked, if one is
 abbrev pub asking_of : Past → Rule → Option ℕ → Posting
-asking_of h rule asked = record { parcel = add_parcel h.name rule; purpose = Adds rule asked }
+asking_of h rule asked = record { parcel = match_parcel (codes "AddMatch") h.name rule; purpose = Adds rule asked }
 
--- The bus is told that what the rule accepts isn't wanted any more.
-abbrev pub remove_parcel : Option (List ℕ) → Rule → Parcel
-remove_parcel name rule = match_parcel (codes "RemoveMatch") name rule
-
--- RemoveMatch of each of these rules
+-- RemoveMatch of each of these rules, by which the bus is told that what they accept isn't wanted any more
 abbrev pub tellings_of : Past → List Rule → List Posting
-tellings_of h rules = map (λ rule. record { parcel = remove_parcel h.name rule; purpose = Removes }) rules
+tellings_of h rules = map (λ rule. record { parcel = match_parcel (codes "RemoveMatch") h.name rule; purpose = Removes }) rules
 
 -- ---- serials
 
@@ -55,7 +47,3 @@ abbrev pub last_of : List ℕ → Option ℕ
 last_of [] = None
 last_of (serial ∷ []) = Some serial
 last_of (serial ∷ more ∷ serials) = last_of (more ∷ serials)
-
-abbrev pub some_rules : List Rule → Bool
-some_rules [] = false
-some_rules (rule ∷ rules) = true

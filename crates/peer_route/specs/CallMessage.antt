@@ -1,18 +1,15 @@
 -- What the commands that send a message ask for (D-Bus Specification, "Types of messages").
 use Rattle.std.specs.{Prelude.{ℕ, ◌+◌, ◌==◌, ◌&&◌, Bool, true, false, not, if◌then◌else◌, List, [], ◌∷◌, Option, Some, None, unwrap_or, Ok, Err}, Int.RustNames.bit_and}
-use Rattle.peer_route.specs.{Names.{Endian, Little, Big, is_bus_name, is_object_path, is_interface_name, is_member_name, is_error_name, Datum, no_fields, Seen, head_of, Draft, are_misplaced, reply_draft, error_draft, MessageType, Error, Outgoing, OutgoingKind, VariantError}, declared.words.CallFlags.CallFlags, BodyWord.body_values, Parcel.Asked}
+use Rattle.peer_route.specs.{Names.{Little, Big, is_bus_name, is_object_path, is_interface_name, is_member_name, is_error_name, Datum, no_fields, Seen, head_of, Draft, are_misplaced, reply_draft, error_draft, MessageType, Error, Outgoing, OutgoingKind, VariantError}, declared.words.CallFlags.CallFlags, BodyWord.body_values, Parcel.Asked}
 use Rattle.wire_names.specs.declared.error.NamesError.{NamesError}
 
 -- ---- flags
 
-abbrev pub bit : ℕ → Bool → ℕ
-bit n true = n
-bit n false = 0
-
 -- The flags as a number: NoReplyExpected is 0x1, NoAutoStart is 0x2, AllowInteractiveAuth is 0x4 (D-Bus Specification,
 -- "Message Format").
 unfoldable pub flags_number : CallFlags → ℕ
-flags_number flags = bit 1 flags.no_reply_expected + bit 2 flags.no_auto_start + bit 4 flags.allow_interactive_auth
+flags_number flags =
+    (if flags.no_reply_expected then 1 else 0) + (if flags.no_auto_start then 2 else 0) + (if flags.allow_interactive_auth then 4 else 0)
 
 -- A message of this type and these flags is answered: it is a method call, and NoReplyExpected isn't among its flags.
 unfoldable pub expects_reply : MessageType → ℕ → Bool
@@ -23,15 +20,6 @@ expects_reply kind flags = false
 abbrev pub expects : Asked → Bool
 expects (Ok parcel) = expects_reply parcel.draft.kind parcel.draft.flags
 expects (Err error) = false
-
-abbrev pub order_of : Bool → Endian
-order_of true = Big
-order_of false = Little
-
--- the list of descriptors: the one number 0 where it is asked for
-abbrev pub fds_of : Bool → List ℕ
-fds_of true = 0 ∷ []
-fds_of false = []
 
 -- ---- refusals
 
@@ -74,7 +62,7 @@ asked_of None (Some values) false false draft fds = Ok (record { draft = draft; 
 abbrev pub member_draft : MessageType → Option (List ℕ) → Outgoing → Option (List ℕ) → Draft
 member_draft kind name words interface = record {
   kind = kind;
-  order = order_of words.flags.big;
+  order = if words.flags.big then Big else Little;
   flags = flags_number words.flags;
   serial = None;
   fields = record no_fields {
@@ -86,11 +74,11 @@ member_draft kind name words interface = record {
   };
 }
 
--- where the sink takes descriptors, or takes none
+-- where the sink takes descriptors, or takes none: the one number 0 stands for a descriptor that is asked for
 abbrev pub member_asked : Bool → Outgoing → Draft → Asked
 member_asked takes_fds words draft =
     asked_of (words_refusal draft) (values_in words.body) (are_misplaced draft.kind draft.flags)
-    (words.flags.descriptor && not takes_fds) draft (fds_of words.flags.descriptor)
+    (words.flags.descriptor && not takes_fds) draft (if words.flags.descriptor then 0 ∷ [] else [])
 
 -- A signal must have an interface: none is refused as the empty text, which is no interface.
 abbrev pub outgoing_draft : OutgoingKind → Option (List ℕ) → Outgoing → Draft

@@ -1,6 +1,6 @@
 -- What happens to a peer, event by event; and its past, which never loses anything: one record whose parts are each a short function of
 -- the events (D-Bus Specification, "Message Protocol", "Types of messages").
-use Rattle.std.specs.{Prelude.{ℕ, ◌==◌, ◌+◌, max, Bool, true, false, ◌&&◌, ◌||◌, not, is_none, is_some, if◌then◌else◌, List, [], ◌∷◌, ◌++◌, length, map, drop, slice_get, Option, Some, None, unwrap_or, zero, suc}, List.list_any}
+use Rattle.std.specs.{Prelude.{ℕ, ◌==◌, ◌+◌, max, Bool, true, false, ◌&&◌, ◌||◌, not, is_none, is_some, if◌then◌else◌, List, [], ◌∷◌, ◌++◌, length, map, drop, slice_get, Option, Some, None, option_and_then, option_map, unwrap_or, zero, suc}, List.list_any}
 use Rattle.peer_route.specs.{Names.{Seen, MessageType, Error, IoKind, Rule, Writer}, Rules.{is_same, usual}}
 
 -- ---- events
@@ -59,8 +59,7 @@ is_reply other = false
 
 -- the number is there and is this
 abbrev pub is_serial : Option ℕ → ℕ → Bool
-is_serial None serial = false
-is_serial (Some n) serial = n == serial
+is_serial o serial = unwrap_or (option_map (λ n. n == serial) o) false
 
 -- the message is a return or an error with this reply serial
 unfoldable pub bears : ℕ → Seen → Bool
@@ -133,8 +132,7 @@ pub record Past : Type 0 where
 
 -- the first stays
 abbrev pub first_of : {A : Type 0} → Option A → A → Option A
-first_of None x = Some x
-first_of (Some earlier) x = Some earlier
+first_of o x = Some (unwrap_or o x)
 
 -- ---- what became of the writer
 
@@ -166,14 +164,11 @@ spend c = record c { spent = true }
 abbrev pub fail_at : ℕ → Call → Call
 fail_at index c = record c { failed = c.failed || (c.index == index) }
 
--- a message's call, where it makes one: a lane's that waits, or the peer's own
-abbrev pub calls_put : Past → Seen → Purpose → List Call → List Call
-calls_put p m (OfLane waits) cs = if waits then cs ++ call_by p m false ∷ [] else cs
-calls_put p m purpose cs = cs ++ call_by p m true ∷ []
-
--- the calls once the event happened: one more, one that is over, or those that failed with the message of a failed write
+-- the calls once the event happened: one more, where the message is a lane's that waits, or the peer's own; one that is over; or those
+-- that failed with the message of a failed write
 abbrev pub calls_after : Past → Event → List Call → List Call
-calls_after p (Put m purpose) cs = calls_put p m purpose cs
+calls_after p (Put m (OfLane waits)) cs = if waits then cs ++ call_by p m false ∷ [] else cs
+calls_after p (Put m purpose) cs = cs ++ call_by p m true ∷ []
 calls_after p (Spent k) cs = edit k spend cs
 calls_after p Fault cs = map (fail_at p.outbox.done) cs
 calls_after p e cs = cs
@@ -207,8 +202,7 @@ plain_stream p = fresh p None (is_some p.closing)
 
 -- A clone begins where its original is: it has its rule, passes over what that gave, and has given nothing itself.
 abbrev pub clone_of : Past → Option Stream → Stream
-clone_of p None = plain_stream p
-clone_of p (Some s) = record s { skip = s.skip + s.taken; taken = 0; gone = false }
+clone_of p o = unwrap_or (option_map (λ (s : Stream). record s { skip = s.skip + s.taken; taken = 0; gone = false }) o) (plain_stream p)
 
 -- a new stream, by those that were made before it
 abbrev pub new_stream : Past → List Stream → Making → Stream
@@ -239,43 +233,31 @@ streams_after p e ss = ss
 -- ---- capacities
 
 abbrev pub rule_of : Option Stream → Option Rule
-rule_of None = None
-rule_of (Some s) = s.rule
+rule_of o = option_and_then (λ (s : Stream). s.rule) o
 
 abbrev pub is_of : Rule → Option Rule → Bool
-is_of rule None = false
-is_of rule (Some r) = is_same rule r
+is_of rule o = unwrap_or (option_map (is_same rule) o) false
 
--- the stream wasn't closed, nor was its AddMatch denied
-abbrev pub lives : List Seen → Stream → Bool
-lives ms s = not s.gone && not (is_denied (phase ms s))
-
--- the stream is open, or is being opened, and has this rule
+-- the stream is open, or is being opened, so that it wasn't closed, nor its AddMatch denied; and it has this rule
 abbrev pub subscribes : List Seen → Rule → Stream → Bool
-subscribes ms rule s = lives ms s && is_of rule s.rule
+subscribes ms rule s = not s.gone && not (is_denied (phase ms s)) && is_of rule s.rule
 
 -- Some stream that is open, or is being opened, has this rule.
 unfoldable pub is_subscribed : List Seen → List Stream → Rule → Bool
 is_subscribed ms ss rule = list_any (subscribes ms rule) ss
 
 abbrev pub raised : Option ℕ → ℕ → ℕ
-raised None limit = limit
-raised (Some n) limit = max limit n
+raised o limit = unwrap_or (option_map (max limit) o) limit
 
 -- A stream of the rule `r` is made, and asks for a capacity or for none: the rule's first stream gives it the capacity that was asked for,
 -- or the usual one; a later one that asks for more raises it.
 abbrev pub asked_limit : Past → Rule → Rule → Option ℕ → ℕ → ℕ
 asked_limit p rule r asked limit = if is_same rule r then (if is_subscribed p.read p.streams rule then raised asked limit else unwrap_or asked (usual rule)) else limit
 
--- a stream is made so
-abbrev pub made_limit : Past → Rule → Making → ℕ → ℕ
-made_limit p rule (Ruled r asked) limit = asked_limit p rule r asked limit
-made_limit p rule other limit = limit
-
 -- A rule's capacity is forgotten with its last stream.
 abbrev pub capacities_after : Past → Event → Capacities → Capacities
 capacities_after p (Main limit) c = record c { main = limit }
-capacities_after p (Made making) c = record c { rules = λ rule. made_limit p rule making (c.rules rule) }
+capacities_after p (Made (Ruled r asked)) c = record c { rules = λ rule. asked_limit p rule r asked (c.rules rule) }
 capacities_after p (Put m (Adds r asked)) c = record c { rules = λ rule. asked_limit p rule r asked (c.rules rule) }
 capacities_after p (Did t (Asked n)) c = record {
   main = if is_some (slice_get p.streams t) && is_none (rule_of (slice_get p.streams t)) then max c.main n else c.main;

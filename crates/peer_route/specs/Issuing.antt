@@ -1,6 +1,6 @@
 -- What putting messages gives: all of them are put in the outbox, in order, or none (D-Bus Specification, "Message Format",
 -- "Message Protocol").
-use Rattle.std.specs.{Prelude.{ℕ, zero, suc, ◌≡◌, ◌+◌, ◌||◌, not, nat_lt, Bool, true, false, if◌then◌else◌, List, [], ◌∷◌, length, map, option_map, option_and_then, Option, Some, None, Result, Ok, Err}, List.list_any}
+use Rattle.std.specs.{Prelude.{ℕ, zero, suc, ◌≡◌, ◌+◌, ◌||◌, ◌&&◌, not, nat_lt, Bool, false, if◌then◌else◌, List, [], ◌∷◌, length, map, unwrap_or, ok_or, option_map, option_and_then, Option, Some, None, Result, Ok, Err}, List.list_any, Option.option_or}
 use Rattle.peer_route.specs.{Names.{data_of, depths, serial_after, Seen, Error, Issued, Writer, message_limit, greatest_serial, VariantError, IoKind}, Parcel.{Parcel, message_of}, CallMessage.expects, History.{Event, Purpose, Put, OfLane, Removes, Past, after}, Calls.pending, Fitting.all_fit, Left.{View, Left}}
 
 -- ---- serials
@@ -29,32 +29,17 @@ pub record Posting : Type 0 where
   pub parcel : Parcel
   pub purpose : Purpose
 
--- for a lane, whose call waits where a reply is expected
-abbrev pub of_lane : Parcel → Posting
-of_lane parcel = record { parcel = parcel; purpose = OfLane (expects (Ok parcel)) }
-
--- why a message is put that makes no stream: a lane's, or the peer's own; whether a call waits for its reply
-abbrev pub purpose_of : Bool → Bool → Purpose
-purpose_of false waits = OfLane waits
-purpose_of true true = Removes
-purpose_of true false = OfLane false
-
--- for a lane, or as the peer's own
+-- One that makes no stream: a lane's, or the peer's own. Its call waits where a reply is expected.
 abbrev pub posted : Bool → Parcel → Posting
-posted inner parcel = record { parcel = parcel; purpose = purpose_of inner (expects (Ok parcel)) }
+posted inner parcel = record { parcel = parcel; purpose = if inner && expects (Ok parcel) then Removes else OfLane (expects (Ok parcel)) }
 
 -- it is put with this serial
 abbrev pub put_of : Posting → ℕ → Event
 put_of d serial = Put (message_of d.parcel serial) d.purpose
 
--- the number of the call that a message makes, if it expects a reply
-abbrev pub call_number : Bool → ℕ → Option ℕ
-call_number true number = Some number
-call_number false number = None
-
--- what is answered of a message that is put: its place in the outbox, its serial, its call's number
+-- what is answered of a message that is put: its place in the outbox, its serial, and its call's number, if it expects a reply
 abbrev pub issued_of : Past → Posting → ℕ → Issued
-issued_of h d serial = record { index = length h.outbox.put; serial = serial; call = call_number (expects (Ok d.parcel)) (length h.calls) }
+issued_of h d serial = record { index = length h.outbox.put; serial = serial; call = if expects (Ok d.parcel) then Some (length h.calls) else None }
 
 -- ---- several messages
 
@@ -63,10 +48,6 @@ issued_of h d serial = record { index = length h.outbox.put; serial = serial; ca
 abbrev pub drawn : Past → List Posting → Option (List ℕ)
 drawn h [] = Some []
 drawn h (d ∷ ds) = option_and_then (λ serial. option_map (λ serials. serial ∷ serials) (drawn (after (put_of d serial) h) ds)) (next_serial h)
-
--- a value of some message opens too many containers at once
-abbrev pub are_deep : List Posting → Bool
-are_deep ds = list_any (λ d. is_deep d.parcel) ds
 
 -- some message, with these serials, passes a limit
 abbrev pub some_long : List Parcel → List ℕ → Bool
@@ -77,14 +58,12 @@ some_long ps serials = false
 abbrev pub parcels : List Posting → List Parcel
 parcels ds = map (λ d. d.parcel) ds
 
-abbrev pub limit_refusal : List Posting → Option (List ℕ) → Option Error
-limit_refusal ds None = Some Error.SerialsSpent
-limit_refusal ds (Some serials) = if some_long (parcels ds) serials then Some Error.ExcessData else None
-
 -- Why messages are refused, the first that holds, each asked of all of them before the next is: a value opens too many containers; a
 -- message finds each serial pending; an array or a message passes its limit.
 abbrev pub refusal : Past → List Posting → Option Error
-refusal h ds = if are_deep ds then Some (Error.Variant VariantError.Depth) else limit_refusal ds (drawn h ds)
+refusal h ds =
+    if list_any (λ d. is_deep d.parcel) ds then Some (Error.Variant VariantError.Depth)
+    else unwrap_or (option_map (λ serials. if some_long (parcels ds) serials then Some Error.ExcessData else None) (drawn h ds)) (Some Error.SerialsSpent)
 
 -- after a failed write, or once the peer was closed, nothing is put
 abbrev pub barred : Writer → Option Error
@@ -92,19 +71,11 @@ barred Writer.Fine = None
 barred Writer.Failed = Some (Error.InputOutput IoKind.WriteFault)
 barred Writer.Closed = Some (Error.InputOutput IoKind.Closed)
 
-abbrev pub or_barred : Writer → Option Error → Option Error
-or_barred met (Some error) = Some error
-or_barred met None = barred met
-
-abbrev pub issued_by : Option Error → Option (List ℕ) → Result (List ℕ) Error
-issued_by (Some error) serials = Err error
-issued_by None None = Err Error.SerialsSpent
-issued_by None (Some serials) = Ok serials
-
 -- What putting messages gives: the serial of each, or why none is put. Where there are none, nothing refuses it.
 unfoldable pub issued : Past → List Posting → Result (List ℕ) Error
 issued h [] = Ok []
-issued h (d ∷ ds) = issued_by (or_barred h.outbox.writer (refusal h (d ∷ ds))) (drawn h (d ∷ ds))
+issued h (d ∷ ds) =
+    unwrap_or (option_map Err (option_or (refusal h (d ∷ ds)) (barred h.outbox.writer))) (ok_or (drawn h (d ∷ ds)) Error.SerialsSpent)
 
 -- the messages with these serials
 abbrev pub messages_of : List Parcel → List ℕ → List Seen
@@ -133,9 +104,6 @@ IssuesBy tells stays leaves ds h (Ok answer) = (serials : List ℕ) × (issued h
 IssuesBy tells stays leaves ds h (Err Error.Memory) = stays
 IssuesBy tells stays leaves ds h (Err error) = (issued h ds ≡ Err error) × stays
 
-abbrev pub Issues : {A : Type 0} → (A → List ℕ → Type 0) → Type 0 → View → List Posting → Past → Result A Error → Type 0
-Issues tells stays new ds h result = IssuesBy tells stays (Left new) ds h result
-
 -- What issuing the messages of a lane's command gives: for each its place, its serial and its call. An error changes nothing.
 abbrev pub IssuesAll : {A : Type 0} → (A → List Issued) → View → View → List Parcel → Past → Result A Error → Type 0
-IssuesAll items old new ps h r = Issues (λ issued serials. items issued ≡ issued_each h (map of_lane ps) serials) (new ≡ old) new (map of_lane ps) h r
+IssuesAll items old new ps h r = IssuesBy (λ issued serials. items issued ≡ issued_each h (map (posted false) ps) serials) (new ≡ old) (Left new) (map (posted false) ps) h r

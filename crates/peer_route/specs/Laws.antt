@@ -1,16 +1,10 @@
 -- What the laws of histories say, in words of their own.
-use Rattle.std.specs.{Prelude.{ℕ, ⊤, ◌≡◌, ◌+◌, ◌||◌, ◌⊎◌, true, false, is_some, drop, find, slice_get, Option, Some, None, Bool}, List.AllByRecursion}
+use Rattle.std.specs.{Prelude.{ℕ, ⊤, ◌≡◌, ◌≢◌, ◌+◌, ◌||◌, ◌⊎◌, true, false, is_some, drop, find, slice_get, Option, Some, None, Bool}, List.AllByRecursion}
 use Rattle.peer_route.specs.{Names.{Seen, Error, Words, CallOp, Answer, Entry, StreamOp}, History.{Call, bears, Past}, Calls.{found, is_gone}, Trail.{Trail, place}, Shown.reply_answer, Plan.{where_named, on_call}}
-
--- it asks for the call's answer, by position or not
-abbrev pub IsPollOp : CallOp → Type 0
-IsPollOp CallOp.Poll = ⊤
-IsPollOp (CallOp.Before before) = ⊤
-IsPollOp CallOp.Drop = ⊥
 
 -- the command asks for the answer of the lane's call with this number, by position or not
 abbrev pub IsPoll : ℕ → Words → Type 0
-IsPoll number w = (op : CallOp) × (w ≡ Words.OfCall number op) × IsPollOp op
+IsPoll number w = (op : CallOp) × (w ≡ Words.OfCall number op) × (op ≢ CallOp.Drop)
 
 -- the answer is the call's last word: its reply, or the error that closed the peer
 abbrev pub IsFinal : Answer → Type 0

@@ -1,16 +1,11 @@
 -- What a past leaves of a peer: all that the answers to come depend on.
-use Rattle.std.specs.{Prelude.{ℕ, zero, suc, ⊤, ◌≡◌, ◌+◌, ◌<◌, ◌≤◌, nat_lt, max, Bool, true, false, not, ◌&&◌, ◌==◌, if◌then◌else◌, is_none, is_some, List, [], ◌∷◌, ◌++◌, length, map, get_or, option_map, Option, Some, None, IsSome, Result, Ok, Err, drop}, List.{list_any, AllByRecursion}, Ordering.nat_cmp, BTreeMap.{BTreeMap, get}}
-use Rattle.peer_route.specs.{Names.{Seen, Error, Slot, MessageStream, Subscription, Progress, Writer, Rule, accepts, OpenState, greatest_serial}, Rules.is_same, History.{Call, bears, Stream, Start, Behind, OnReturn, Phase, Asking, Denied, Since, phase, is_return, raised, Made, Cloned, Past, after}, Calls.{found, is_gone}, Streams.{accepted, matched, runs, is_open}}
+use Rattle.std.specs.{Prelude.{ℕ, zero, suc, ⊤, ◌≡◌, ◌+◌, ◌<◌, ◌≤◌, nat_lt, Bool, true, false, not, ◌&&◌, ◌==◌, if◌then◌else◌, is_none, is_some, List, [], ◌∷◌, ◌++◌, length, map, get_or, option_map, unwrap_or, Option, Some, None, IsSome, Result, Ok, Err, drop}, List.{list_any, AllByRecursion}, Ordering.nat_cmp, BTreeMap.{BTreeMap, get}}
+use Rattle.peer_route.specs.{Names.{Seen, Error, Slot, MessageStream, Subscription, Progress, Writer, Rule, accepts, OpenState, greatest_serial}, Rules.is_same, History.{Call, bears, Stream, Start, Behind, OnReturn, Phase, Asking, Denied, Since, phase, is_return, raised, Made, Cloned, Past, after}, Calls.{found, is_gone}, Streams.{accepted, matched, is_open}}
 
--- what is kept of a reply: nothing where the call is one of the peer's own
-abbrev pub reply_kept : Bool → Seen → Slot
-reply_kept true m = Slot.Gone
-reply_kept false m = Slot.Replied m
-
--- what is kept of a call: that it is over, the serial that it waits for, or its reply
+-- what is kept of a call: that it is over, the serial that it waits for, or its reply; nothing of a reply where it is one of the peer's own
 abbrev pub slot_by : Bool → ℕ → Option Seen → Slot
 slot_by inner serial None = Slot.Waiting serial inner
-slot_by inner serial (Some m) = reply_kept inner m
+slot_by inner serial (Some m) = if inner then Slot.Gone else Slot.Replied m
 
 unfoldable pub slot_of : List Seen → Call → Slot
 slot_of ms c = if is_gone c then Slot.Gone else slot_by c.inner c.serial (found ms c)
@@ -31,11 +26,6 @@ abbrev pub is_inner_slot : Slot → Bool
 is_inner_slot (Slot.Waiting n inner) = inner
 is_inner_slot other = false
 
--- the slot waits for a serial that the message bears
-abbrev pub takes : Seen → Slot → Bool
-takes m (Slot.Waiting n inner) = bears n m
-takes m other = false
-
 -- what is kept of calls
 pub record CallsView : Type 0 where
   pub slots : List Slot
@@ -44,10 +34,6 @@ pub record CallsView : Type 0 where
 -- the serials that are pending, as the core has them
 unfoldable pub waiting_serial : CallsView → ℕ → Bool
 waiting_serial v serial = is_none v.closing && list_any (is_waiting serial) v.slots
-
--- the message answers a call that waits; after the closing error none waits
-unfoldable pub answers_call : CallsView → Seen → Bool
-answers_call v m = is_none v.closing && list_any (takes m) v.slots
 
 -- The map has for each serial that a slot waits for the place of that slot, and no other serial; each is one of the circle.
 pub record IsIndex (places : BTreeMap ℕ ℕ) (ss : List Slot) : Type 0 where
@@ -86,19 +72,6 @@ abbrev pub is_running : Progress → Bool
 is_running Progress.Runs = true
 is_running other = false
 
--- the stream is open
-abbrev pub is_usable : Held → Bool
-is_usable q = q.opened && is_running q.progress
-
--- what is kept of a stream that may be there, where it is open
-abbrev pub kept_open : (Rule → ℕ) → List Seen → Option Stream → Option Held
-kept_open limits ms None = None
-kept_open limits ms (Some s) = if runs ms s then Some (kept limits ms s) else None
-
--- what a new stream is kept by; one that runs is open
-abbrev pub new_held : Option Subscription → Progress → Bool → Held
-new_held wants progress told = record { wants = wants; progress = progress; items = []; told = told; opened = is_running progress }
-
 -- a stream keeps the message: it is one of its own, or denies it
 abbrev pub keeps_by : Progress → Option Subscription → Seen → Bool
 keeps_by Progress.Runs None m = true
@@ -131,14 +104,9 @@ each_first f zero xs = xs
 each_first f (suc n) [] = []
 each_first f (suc n) (x ∷ xs) = f x ∷ each_first f n xs
 
--- how many messages a stream may hold: as many as its rule's may, or without a rule so many
-abbrev pub limit_or : ℕ → Option Subscription → ℕ
-limit_or main None = main
-limit_or main (Some s) = s.limit
-
--- a stream that runs holds more than it may
+-- a stream that runs holds more than it may: than its rule's streams may, or without a rule so many
 abbrev pub is_over : ℕ → Held → Bool
-is_over main q = is_running q.progress && nat_lt (limit_or main q.wants) (length q.items)
+is_over main q = is_running q.progress && nat_lt (unwrap_or (option_map (λ (s : Subscription). s.limit) q.wants) main) (length q.items)
 
 -- a stream after a take: without its first message, or with the closing error told
 abbrev pub after_by : List Seen → Option Error → Held → Held
@@ -165,13 +133,6 @@ after_ask other q = q
 -- the capacity of a rule, where a stream of it asks for more
 abbrev pub raise : Rule → Option ℕ → Subscription → Subscription
 raise rule asked s = record s { limit = if is_same s.rule rule then raised asked s.limit else s.limit }
-
-abbrev pub raise_held : Rule → Option ℕ → Held → Held
-raise_held rule asked q = record q { wants = option_map (raise rule asked) q.wants }
-
--- a stream with a rule, where it asks for more
-abbrev pub raise_own : ℕ → Held → Held
-raise_own limit q = record q { wants = option_map (λ (s : Subscription). record s { limit = max s.limit limit }) q.wants }
 
 -- What contracts see of a peer's core: what is kept of each stream; how many messages one without a rule may hold
 -- before reads wait; `places` has for each call the place of its message in the outbox; `name` is the peer's own.
@@ -214,11 +175,6 @@ pub record AreStreams (v : List Held) (limits : Rule → ℕ) (ms : List Seen) (
   pub queues : v ≡ map (kept limits ms) ss
   pub within : AllByRecursion (IsWithin ms) ss
 
--- a stream of the rule, so far opened, that holds nothing yet
-pub record IsNew (ms : List Seen) (rule : Rule) (progress : Progress) (s : Stream) : Type 0 where
-  pub holds : (limits : Rule → ℕ) → kept limits ms s ≡ new_held (Some (subscription limits rule)) progress false
-  pub within : IsWithin ms s
-
 -- The past leaves these streams.
 abbrev pub LeftStreams : List Held → Past → Type 0
 LeftStreams v h = AreStreams v h.capacities.rules h.read h.streams
@@ -239,10 +195,6 @@ pub record AreSound (put : List Seen) (writer : Writer) (closed : Option Error) 
   pub rise : Rising (map (λ c. c.index) cs)
   pub shut : writer ≡ Writer.Closed → is_some closed ≡ true
 
--- what holds of this past
-abbrev pub IsSound : Past → Type 0
-IsSound h = AreSound h.outbox.put h.outbox.writer h.closing h.calls
-
 -- The past leaves this core.
 pub record Left (v : View) (h : Past) : Type 0 where
   pub calls : LeftCalls v.calls h
@@ -256,11 +208,7 @@ pub record Left (v : View) (h : Past) : Type 0 where
   pub places : v.places ≡ map (λ c. c.index) h.calls
   pub done : v.done ≡ h.outbox.done
   pub writer : v.writer ≡ h.outbox.writer
-  pub sound : IsSound h
-
--- one call more, which waits for a reply to this serial
-abbrev pub with_call : Bool → ℕ → CallsView → CallsView
-with_call inner serial v = record { slots = v.slots ++ Slot.Waiting serial inner ∷ []; closing = v.closing }
+  pub sound : AreSound h.outbox.put h.outbox.writer h.closing h.calls
 
 -- What cloning the stream with this number gives: one more that goes on where it is, with the next number; a stream that isn't
 -- open is unknown. An error changes nothing. `leaves` is what a past leaves.
@@ -269,7 +217,3 @@ ClonesBy leaves old new k h (Ok stream) = (is_open h k ≡ true) × (stream.numb
 ClonesBy leaves old new k h (Err Error.UnknownHandle) = (is_open h k ≡ false) × (new ≡ old)
 ClonesBy leaves old new k h (Err Error.Memory) = new ≡ old
 ClonesBy leaves old new k h (Err error) = ⊥
-
--- the whole core's
-abbrev pub Clones : View → View → ℕ → Past → Result MessageStream Error → Type 0
-Clones old new k h result = ClonesBy Left old new k h result

@@ -1,5 +1,5 @@
 -- What a command asks to be sent, and the message that this makes (D-Bus Specification, "Message Format").
-use Rattle.std.specs.{Prelude.{ℕ, Bool, false, if◌then◌else◌, List, [], ◌∷◌, map, Option, None, Result, refl}, Coded.{Coded, code_by, coded×, coded_list, coded_ℕ}}
+use Rattle.std.specs.{Prelude.{ℕ, Bool, if◌then◌else◌, List, [], ◌∷◌, map, Option, None, Result, refl}, Coded.{Coded, code_by, coded×, coded_list, coded_ℕ}}
 use Rattle.peer_route.specs.{Names.{Datum, text, string, type_of, Draft, built, body_text, signed, counted, Seen, MessageType, Error}, declared.letter_body.LetterBody.LetterBody}
 use Rattle.wire_tree.specs.DatumCode.{datum_code}
 
@@ -32,24 +32,18 @@ values_of (LetterBody.Long bytes) = text string bytes ∷ []
 abbrev pub Asked : Type 0
 Asked = Result Parcel Error
 
--- the header with the signature of the values and the count of the descriptors
-abbrev pub whole_draft : Parcel → Draft
-whole_draft parcel = signed (counted parcel.draft parcel.fds) (map type_of parcel.values)
-
--- The message with this serial: its body is the spelling of the values in the message's own byte order.
+-- The message with this serial: its header has the signature of the values and the count of the descriptors, and its body is the
+-- spelling of the values in the message's own byte order.
 unfoldable pub message_of : Parcel → ℕ → Seen
 message_of parcel serial =
-    record (built (whole_draft parcel) serial (body_text parcel.draft.order parcel.values)) { fds = parcel.fds }
-
--- a message of this type names no sender: an error that serves a call
-abbrev pub is_unsigned : Bool → MessageType → Bool
-is_unsigned served MessageType.Error = served
-is_unsigned served other = false
+    let draft = signed (counted parcel.draft parcel.fds) (map type_of parcel.values) in
+    record (built draft serial (body_text parcel.draft.order parcel.values)) { fds = parcel.fds }
 
 -- Who sends a message: the peer of this name, if it has one; of an error that serves a call nobody is named (D-Bus Specification,
 -- "Header Fields", `SENDER`).
 abbrev pub sender_of : Option (List ℕ) → Bool → MessageType → Option (List ℕ)
-sender_of name served kind = if is_unsigned served kind then None else name
+sender_of name served MessageType.Error = if served then None else name
+sender_of name served other = name
 
 -- what is sent, with that sender, whatever sender it had
 abbrev pub sent_by : Option (List ℕ) → Bool → Parcel → Parcel

@@ -1,7 +1,7 @@
 -- How the messages of one command are put, step by step, each by the past before it: their serials are drawn and their calls made,
 -- they are built and placed; what is refused is taken back (D-Bus Specification, "Message Format").
 use Rattle.std.specs.Prelude.{ℕ, ⊤, ◌≡◌, Bool, true, false, List, ◌++◌, length, map, Option, Some, None, Result, Ok, Err}
-use Rattle.peer_route.specs.{Names.{Seen, Error, Slot, Issued}, declared.issuing.Mark.Mark, Parcel.{Parcel, message_of, sent_by}, History.{Past, after}, Issuing.{Posting, posted, parcels, put_of, put_each, next_serial, drawn, is_long, some_long, issued_each, IssuesBy}, Left.{CallsView, LeftCalls, View}}
+use Rattle.peer_route.specs.{Names.{Seen, Error, Slot, Issued}, declared.issuing.Mark.Mark, Parcel.{Parcel, message_of, sent_by}, History.Past, Issuing.{Posting, posted, parcels, put_each, is_long, some_long, issued_each, IssuesBy}, Left.{CallsView, LeftCalls, View}}
 
 -- the messages of this list, sent by the peer of this name: a lane's, or the peer's own
 abbrev pub posts : Bool → Option (List ℕ) → Bool → List Parcel → List Posting
@@ -20,14 +20,6 @@ Draws read due then calls last (Ok x) = (due ≡ Some (read x)) × IsCounted cal
 Draws read due then calls last (Err Error.SerialsSpent) = due ≡ None
 Draws read due then calls last (Err Error.Memory) = ⊤
 Draws read due then calls last (Err error) = ⊥
-
--- the serial of one message
-abbrev pub DrawsOne : Posting → Past → CallsView → ℕ → Result ℕ Error → Type 0
-DrawsOne d p calls last result = Draws (λ serial. serial) (next_serial p) (λ serial. after (put_of d serial) p) calls last result
-
--- those of several
-abbrev pub DrawsEach : {A : Type 0} → (A → List ℕ) → List Posting → Past → CallsView → ℕ → Result A Error → Type 0
-DrawsEach read ds p calls last result = Draws read (drawn p ds) (λ serials. put_each ds serials p) calls last result
 
 -- ---- messages
 
@@ -80,9 +72,6 @@ pub record IsMore (old new : View) : Type 0 where
   pub places : Grows old.places new.places
   pub same : new ≡ record old { calls = new.calls; last = new.last; outbox = new.outbox; places = new.places }
 
--- so much is there
-pub record Marks (v : View) (m : Mark) : Type 0 where
-  pub calls : m.calls ≡ length v.calls.slots
-  pub last : m.serials ≡ v.last
-  pub outbox : m.outbox ≡ length v.outbox
-  pub places : m.places ≡ length v.places
+-- how much is there
+abbrev pub mark_of : View → Mark
+mark_of v = record { calls = length v.calls.slots; serials = v.last; outbox = length v.outbox; places = length v.places }

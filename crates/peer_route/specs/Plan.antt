@@ -1,7 +1,7 @@
 -- What each command means, by what the entries before it left: what it is answered and does by itself, and which messages it wants sent;
 -- or that it reads, or closes the peer. All else goes by these few kinds.
-use Rattle.std.specs.Prelude.{ℕ, ◌==◌, ◌&&◌, not, nat_lt, Bool, true, false, List, [], ◌∷◌, length, slice_get, Option, Some, None, option_map, Result, Ok, Err, option_and_then, if◌then◌else◌}
-use Rattle.peer_route.specs.{Names.{Seen, Error, Rule, rule_in_bytes, Words, CallOp, StreamOp, Live, Answer, IoKind}, Parcel.Asked, CallMessage.{expects, outgoing_asked, reply_asked, error_asked}, History.{Event, Deed, Made, Making, Plain, Ruled, Cloned, Did, Main, Named, Past}, Calls.{in_flight, poll_answer, by_position, poll_events, drop_answer, drop_events}, Streams.{busy, gave_last, take_answer, take_events, is_open, are_open, asks_bus, close_waits, leaving, gone_events, opening_answer, opening_events}, BusCall.{asking_of, tellings_of, first_of, last_of}, Shown.{shown, shown_drop, shown_take, shown_opening}, Issuing.{Posting, of_lane}, Trail.{Trail, place, count}}
+use Rattle.std.specs.Prelude.{ℕ, ◌==◌, ◌&&◌, not, nat_lt, is_none, Bool, true, false, List, [], ◌∷◌, length, slice_get, Option, Some, None, option_map, unwrap_or, Result, Ok, Err, option_and_then, if◌then◌else◌}
+use Rattle.peer_route.specs.{Names.{Seen, Error, Rule, rule_in_bytes, Words, CallOp, StreamOp, Live, Answer, IoKind}, Parcel.Asked, CallMessage.{expects, outgoing_asked, reply_asked, error_asked}, History.{Event, Deed, Made, Making, Plain, Ruled, Cloned, Did, Main, Named, Past}, Calls.{in_flight, poll_answer, by_position, poll_events, drop_answer, drop_events}, Streams.{busy, gave_last, take_answer, take_events, is_open, are_open, asks_bus, close_waits, leaving, gone_events, opening_answer, opening_events}, BusCall.{asking_of, tellings_of, first_of, last_of}, Shown.{shown, shown_drop, shown_take, shown_opening}, Issuing.{Posting, posted}, Trail.{Trail, place, count}}
 
 pub data Plan : Type 0 where
   Says : (answer : Answer) (deeds : List Event) → Plan  -- it is answered so, and does these, in order
@@ -17,30 +17,26 @@ refuses error = Says (Answer.Refused error) []
 
 -- what is done with the call, or the stream, that a number names
 abbrev pub where_named : (ℕ → Plan) → Option ℕ → Plan
-where_named done None = refuses Error.UnknownHandle
-where_named done (Some k) = done k
+where_named done o = unwrap_or (option_map done o) (refuses Error.UnknownHandle)
 
 -- what is done with a stream that is open
 abbrev pub where_open : Bool → Plan → Plan
-where_open true done = done
-where_open false done = refuses Error.UnknownHandle
+where_open there done = if there then done else refuses Error.UnknownHandle
 
 -- what is done where it need not wait for the reply to an AddMatch or a RemoveMatch
 abbrev pub unless_waits : Bool → Plan → Plan
-unless_waits true done = Says Answer.Busy []
-unless_waits false done = done
+unless_waits waits done = if waits then Says Answer.Busy [] else done
 
 -- ---- a message
 
 -- a message that was sent: its call's number in its lane and its serial; its serial alone where no reply is waited for
 abbrev pub sent_answer : Bool → ℕ → ℕ → Answer
-sent_answer true call serial = Answer.Called call serial
-sent_answer false call serial = Answer.Sent serial
+sent_answer waits call serial = if waits then Answer.Called call serial else Answer.Sent serial
 
 -- The message is to be sent, or is refused.
 abbrev pub sends : Trail → ℕ → Asked → Plan
 sends t lane (Err error) = refuses error
-sends t lane (Ok parcel) = Sends [] (of_lane parcel ∷ []) (λ serials. sent_answer (expects (Ok parcel)) (count lane t.names) (first_of serials))
+sends t lane (Ok parcel) = Sends [] (posted false parcel ∷ []) (λ serials. sent_answer (expects (Ok parcel)) (count lane t.names) (first_of serials))
 
 -- ---- a call
 
@@ -115,16 +111,12 @@ writer_lane = 4294967295
 abbrev pub is_due : Past → ℕ → ℕ → Bool
 is_due h lane index = (lane == writer_lane) && ((index == h.outbox.done) && nat_lt index (length h.outbox.put))
 
-abbrev pub named_now : Option (List ℕ) → List ℕ → Plan
-named_now None name = Says (Answer.Named true) (Named name ∷ [])
-named_now (Some earlier) name = Says (Answer.Named false) []
-
 -- Writes take the messages in order; after a failed one all fail. The other lines of such scripts stand in a history as the commands that
 -- they stand for.
 abbrev pub lives : Past → ℕ → Live → Plan
 lives h lane (Live.Written index) = if is_due h lane index && not h.outbox.failed then Writes false else Never
 lives h lane (Live.Fault index) = if is_due h lane index then Writes true else Never
-lives h lane (Live.Unique name) = named_now h.name name
+lives h lane (Live.Unique name) = Says (Answer.Named (is_none h.name)) (if is_none h.name then Named name ∷ [] else [])
 lives h lane line = Never
 
 -- ---- every command

@@ -46,10 +46,7 @@ is_first_alone others = false
 abbrev pub owner_changes : Rule
 owner_changes = record (bus_signal (codes "NameOwnerChanged")) { path = Some (Path (codes "/org/freedesktop/DBus")) }
 
--- The rule is one of an owner's changes: it is that one, of one name, and has no other part.
-unfoldable pub is_owner_rule : Rule → Bool
-is_owner_rule r = is_first_alone r.args && is_same (record r { args = [] }) owner_changes
-
--- how many messages a rule's streams may hold where nothing else is asked for
+-- How many messages a rule's streams may hold where nothing else is asked for: few where the rule is one of an owner's changes, which is
+-- that one, of one name, and has no other part.
 unfoldable pub usual : Rule → ℕ
-usual r = if is_owner_rule r then 8 else 64
+usual r = if is_first_alone r.args && is_same (record r { args = [] }) owner_changes then 8 else 64

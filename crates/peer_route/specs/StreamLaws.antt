@@ -27,13 +27,15 @@ abbrev pub items_given : ℕ → ℕ → List Entry → List ℕ
 items_given lane number [] = []
 items_given lane number (e ∷ es) = items_given lane number es ++ item_by ((e.lane == lane) && is_take number e.words) e.answer
 
+-- the lane's stream with this number
+abbrev pub stream_of : Trail → ℕ → ℕ → Option Stream
+stream_of t lane number = option_and_then (slice_get t.past.streams) (place 0 lane number t.streams)
+
 -- What the lane's stream with this number gave by these entries, and behind that what it doesn't have given after this trail, are the
 -- positions of these messages, in order.
 pub record Gives (t : Trail) (lane number : ℕ) (newer : List Entry) (all : List Seen) : Type 0 where
-  pub k : ℕ
   pub stream : Stream
-  pub named : place 0 lane number t.streams ≡ Some k
-  pub made : slice_get t.past.streams k ≡ Some stream
+  pub named : stream_of t lane number ≡ Some stream
   pub items : items_given lane number newer ++ positions (held t.past.read stream) ≡ positions all
 
 -- what was read since these entries
@@ -57,10 +59,6 @@ after_return serial (m ∷ ms) = if bears serial m then (if is_return m.kind the
 abbrev pub YieldsAsked : Setting → List Entry → Entry → List Entry → ℕ → ℕ → Rule → Type 0
 YieldsAsked setting newer e older number serial rule =
     let t = trail setting (newer ++ e ∷ older) in Gives t e.lane number newer (accepted (Some rule) (after_return serial (read_since setting older t.past)))
-
--- the lane's stream with this number
-abbrev pub stream_of : Trail → ℕ → ℕ → Option Stream
-stream_of t lane number = option_and_then (slice_get t.past.streams) (place 0 lane number t.streams)
 
 -- what it holds
 abbrev pub holds : Trail → ℕ → ℕ → List Seen
@@ -121,10 +119,8 @@ IsLast answer = ⊥
 
 -- The lane's number names a stream that holds nothing and is open, and this was the first error that closed the peer.
 pub record IsDrained (t : Trail) (lane number : ℕ) (error : Error) : Type 0 where
-  pub k : ℕ
   pub stream : Stream
-  pub named : place 0 lane number t.streams ≡ Some k
-  pub made : slice_get t.past.streams k ≡ Some stream
+  pub named : stream_of t lane number ≡ Some stream
   pub still : runs t.past.read stream ≡ true
   pub nothing : held t.past.read stream ≡ []
   pub first : t.past.closing ≡ Some error

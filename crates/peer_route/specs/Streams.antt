@@ -1,5 +1,5 @@
 -- The streams of a past: the messages that each matches, those that it holds still, and what it gives next.
-use Rattle.std.specs.{Prelude.{ℕ, zero, suc, ◌==◌, Bool, true, false, not, ◌&&◌, ◌||◌, if◌then◌else◌, nat_lt, is_none, is_some, List, [], ◌∷◌, ◌++◌, length, drop, filter, map, slice_get, Option, Some, None, Result, Ok, Err}, List.list_any}
+use Rattle.std.specs.{Prelude.{ℕ, zero, suc, ◌==◌, Bool, true, false, not, ◌&&◌, ◌||◌, if◌then◌else◌, nat_lt, is_none, is_some, List, [], ◌∷◌, ◌++◌, length, drop, filter, map, slice_get, Option, Some, None, option_and_then, option_map, option_to_list, unwrap_or, Result, Ok, Err}, List.list_any}
 use Rattle.peer_route.specs.{Names.{Seen, Error, Rule, accepts, Polled, OpenState, MessageType}, History.{Event, Gave, Told, Gone, Asked, Opened, Did, Stream, Phase, Asking, Denied, Since, Capacities, phase, rule_of, is_subscribed, Past, after}, Calls.in_flight}
 
 -- the messages that were read since the stream began
@@ -15,13 +15,9 @@ is_since other = false
 unfoldable pub runs : List Seen → Stream → Bool
 runs ms s = s.opened && (not s.gone && is_since (phase ms s))
 
-abbrev pub runs_at : List Seen → Option Stream → Bool
-runs_at ms None = false
-runs_at ms (Some s) = runs ms s
-
 -- The stream with this number is open.
 unfoldable pub is_open : Past → ℕ → Bool
-is_open h k = runs_at h.read (slice_get h.streams k)
+is_open h k = unwrap_or (option_map (runs h.read) (slice_get h.streams k)) false
 
 -- the messages that the rule accepts; without a rule all
 abbrev pub accepted : Option Rule → List Seen → List Seen
@@ -55,8 +51,7 @@ held ms s = drop s.taken (offered ms s)
 
 -- how many messages a stream of this rule, or without one, may hold
 abbrev pub limit_of : Capacities → Option Rule → ℕ
-limit_of c None = c.main
-limit_of c (Some rule) = c.rules rule
+limit_of c o = unwrap_or (option_map c.rules o) c.main
 
 -- the stream is open and holds more than it may
 unfoldable pub is_full : Capacities → List Seen → Stream → Bool
@@ -73,26 +68,17 @@ take_by [] None told = Polled.NotYet
 take_by [] (Some error) false = Polled.Closed error
 take_by [] (Some error) true = Polled.Ended
 
-abbrev pub take_at : List Seen → Option Error → Option Stream → Result (Polled Seen) Error
-take_at ms closed None = Err Error.UnknownHandle
-take_at ms closed (Some s) = if runs ms s then Ok (take_by (held ms s) closed s.told) else Err Error.UnknownHandle
-
 -- What taking from the stream with this number gives. A stream that wasn't made, isn't open yet, or was closed, is unknown.
 unfoldable pub take_answer : Past → ℕ → Result (Polled Seen) Error
-take_answer h k = take_at h.read h.closing (slice_get h.streams k)
+take_answer h k = unwrap_or (option_map (λ s. if runs h.read s then Ok (take_by (held h.read s) h.closing s.told) else Err Error.UnknownHandle) (slice_get h.streams k)) (Err Error.UnknownHandle)
 
 -- the position of the first of these messages
 abbrev pub first_position : List Seen → Option ℕ
-first_position [] = None
-first_position (m ∷ ms) = Some m.position
-
-abbrev pub next_at : List Seen → Option Stream → Option ℕ
-next_at ms None = None
-next_at ms (Some s) = if runs ms s then first_position (held ms s) else None
+first_position ms = option_map (λ (m : Seen). m.position) (slice_get ms 0)
 
 -- The position of the first message that the stream with this number holds; none where it holds none, or isn't open.
 unfoldable pub next_position : Past → ℕ → Option ℕ
-next_position h k = next_at h.read (slice_get h.streams k)
+next_position h k = option_and_then (λ s. if runs h.read s then first_position (held h.read s) else None) (slice_get h.streams k)
 
 -- what a take is, by its answer
 abbrev pub take_events : ℕ → Result (Polled Seen) Error → List Event
@@ -118,13 +104,9 @@ may_be_signal other = false
 unfoldable pub asks_bus : Past → Rule → Bool
 asks_bus h rule = h.bus && (may_be_signal rule.kind && not (is_subscribed h.read h.streams rule))
 
-abbrev pub leaves_by : Past → Option Rule → List Rule
-leaves_by h None = []
-leaves_by h (Some rule) = if h.bus && (is_none h.closing && (may_be_signal rule.kind && not (is_subscribed h.read h.streams rule))) then rule ∷ [] else []
-
 -- The rule of the stream with this number, which was closed last, where no other stream has it: the bus has to be told.
 abbrev pub leaves : Past → ℕ → List Rule
-leaves h k = leaves_by h (rule_of (slice_get h.streams k))
+leaves h k = filter (λ rule. is_none h.closing && asks_bus h rule) (option_to_list (rule_of (slice_get h.streams k)))
 
 -- The rules whose last streams go where the stream with this number is closed, and then the second: the bus has to be told of
 -- each (D-Bus Specification, "Message Bus Messages", `org.freedesktop.DBus.RemoveMatch`).
@@ -135,13 +117,9 @@ leaving h k (Some j) = leaves (after (Did k Gone) h) k ++ leaves (after (Did j G
 abbrev pub has_rule : Past → ℕ → Bool
 has_rule h k = is_some (rule_of (slice_get h.streams k))
 
-abbrev pub has_rule_at : Past → Option ℕ → Bool
-has_rule_at h None = false
-has_rule_at h (Some j) = has_rule h j
-
 -- Closing these streams has to wait: one of them has a rule, and an AddMatch or a RemoveMatch is on its way.
 unfoldable pub close_waits : Past → ℕ → Option ℕ → Bool
-close_waits h k j = in_flight h && (has_rule h k || has_rule_at h j)
+close_waits h k j = in_flight h && (has_rule h k || unwrap_or (option_map (has_rule h) j) false)
 
 -- ---- opening a stream of a rule
 
@@ -153,8 +131,7 @@ opening_by (Denied m) error = OpenState.Refused m
 opening_by (Since ms) error = OpenState.Open
 
 abbrev pub opening_at : List Seen → Option Error → Option Stream → OpenState
-opening_at ms closed None = OpenState.Unknown
-opening_at ms closed (Some s) = if s.gone || s.opened then OpenState.Unknown else opening_by (phase ms s) closed
+opening_at ms closed o = unwrap_or (option_map (λ (s : Stream). if s.gone || s.opened then OpenState.Unknown else opening_by (phase ms s) closed) o) OpenState.Unknown
 
 -- What asking gives whether the stream with this number, which was made with an AddMatch, is open: it is from the read of that
 -- one's return on. One that wasn't made so, was told so before, or was closed is unknown.
@@ -170,10 +147,6 @@ opening_events k other = []
 
 -- ---- closing streams, and their capacity
 
-abbrev pub known : Bool → Result (Unit {0}) Error
-known true = Ok tt
-known false = Err Error.UnknownHandle
-
 -- both are open, and they are two
 abbrev pub are_open : Past → ℕ → Option ℕ → Bool
 are_open h k None = is_open h k
@@ -181,12 +154,11 @@ are_open h k (Some j) = is_open h k && is_open h j && not (k == j)
 
 -- what closing them is
 abbrev pub gone_events : ℕ → Option ℕ → List Event
-gone_events k None = Did k Gone ∷ []
-gone_events k (Some j) = Did k Gone ∷ Did j Gone ∷ []
+gone_events k o = Did k Gone ∷ option_to_list (option_map (λ j. Did j Gone) o)
 
 -- What asking for a capacity gives.
 unfoldable pub ask_answer : Past → ℕ → Result (Unit {0}) Error
-ask_answer h k = known (is_open h k)
+ask_answer h k = if is_open h k then Ok tt else Err Error.UnknownHandle
 
 abbrev pub ask_events : {A E : Type 0} → ℕ → ℕ → Result A E → List Event
 ask_events k limit (Ok done) = Did k (Asked limit) ∷ []
@@ -204,7 +176,3 @@ rule_answer h k = if is_open h k then rule_of (slice_get h.streams k) else None
 abbrev pub gone_if : Option ℕ → Past → Past
 gone_if None h = h
 gone_if (Some k) h = after (Did k Gone) h
-
--- the past once this stream was closed, behind the one that goes before it, if one does
-abbrev pub gone_behind : Option ℕ → ℕ → Past → Past
-gone_behind before k h = after (Did k Gone) (gone_if before h)

@@ -1,7 +1,7 @@
 -- What the outside told: the reads are what stands in the source's bytes, and a send fails where the sink's room ends. It
 -- stands apart from `Legal`, over the same history.
 use Rattle.std.specs.{Prelude.{ℕ, ⊤, ◌≡◌, ◌+◌, ◌-◌, ◌<◌, ◌⊎◌, nat_le, nat_lt, if◌then◌else◌, Bool, true, false, List, [], ◌∷◌, ◌++◌, length, drop, take, slice_get, Option, Some, None, Result, Ok, Err}, List.flat_map}
-use Rattle.peer_route.specs.{Names.{Seen, outcome, ending_of, Error, Words, Answer, Entry, IoKind}, Parcel.Setting, History.{Outbox, Past}, Plan.{Plan, Reads, plan}, Entries.trail}
+use Rattle.peer_route.specs.{Names.{Seen, outcome, ending_of, Error, Words, Answer, Entry, IoKind}, Parcel.Setting, History.Past, Plan.{Plan, Reads, plan}, Entries.trail}
 
 -- ---- the source
 
@@ -53,9 +53,6 @@ IsSentBytes false count ms sent = (count ≡ length ms) × (sent ≡ encodings m
 IsSentBytes true count ms sent =
     (broken : Seen) × (n : ℕ) × (slice_get ms count ≡ Some broken) × (n < length broken.bytes) × (sent ≡ encodings (take count ms) ++ take n broken.bytes)
 
-abbrev pub IsSentOf : Outbox → List ℕ → Type 0
-IsSentOf o sent = IsSentBytes o.failed o.written o.put sent
-
 -- How many of the messages, from the first on, end within so many bytes; one that ends exactly there does.
 abbrev pub fitting : ℕ → List Seen → ℕ
 fitting room [] = 0
@@ -77,5 +74,4 @@ WritesTold setting room (e ∷ es) =
 -- After a failed write the sink holds just the bytes that it had room for.
 abbrev pub IsCutAt : Option (Option ℕ) → Bool → List ℕ → Type 0
 IsCutAt (Some (Some room)) true sent = length sent ≡ room
-IsCutAt (Some (Some room)) false sent = ⊤
 IsCutAt other failed sent = ⊤

@@ -1,9 +1,9 @@
-ghost use Rattle.std.specs.Prelude.{Bool, ℕ, ◌≡◌, ◌+◌, ◌<◌, ◌++◌, ◌∷◌, [], List, length, IfSome, IfNone, OnOk, OnErr, IfOk, None, is_none, slice_set, take, true, false};
+ghost use Rattle.std.specs.Prelude.{Bool, ℕ, ◌≡◌, ◌+◌, ◌<◌, ◌++◌, ◌∷◌, [], List, length, IfSome, IfNone, OnOk, OnErr, IfOk, None, is_none, if◌then◌else◌, ◌&&◌, option_map, unwrap_or, slice_set, take, true, false};
 ghost use Rattle.std.specs.List.{list_any};
-ghost use Rattle.peer_route.specs.History.{Took, Shut, Put, OfLane, bears, is_serial, Past, after, after_all, no_past};
+ghost use Rattle.peer_route.specs.History.{Took, Shut, Put, OfLane, bears, is_reply, is_serial, Past, after, after_all, no_past};
 ghost use Rattle.peer_route.specs.Calls.{poll_answer, poll_events, drop_answer, drop_events, in_flight};
 ghost use Rattle.peer_route.specs.Calls as answers;
-ghost use Rattle.peer_route.specs.Left.{CallsView, LeftCalls, is_empty_slot, is_inner_slot, reply_kept, with_call, answers_call, waiting_serial, IsIndex};
+ghost use Rattle.peer_route.specs.Left.{CallsView, LeftCalls, is_empty_slot, is_inner_slot, waiting_serial, IsIndex};
 ghost use Rattle.wire_message.specs.Front.{Seen};
 ghost use Rattle.wire_message.specs.Closing.{closes};
 
@@ -99,7 +99,7 @@ fn is_some_inner(slots: &[Slot]) -> bool
 
 /// The reply to a call; nothing is kept of one to the peer's own.
 fn reply_kept(inner: bool, message: Message) -> Slot
-    ensures { result ≡ reply_kept inner message }
+    ensures { result ≡ (if inner then Slot.Gone else Slot.Replied message) }
 {
     if inner {
         Slot::Gone
@@ -156,7 +156,7 @@ impl PendingMethodCalls {
         requires free { waiting_serial self.old serial ≡ false }
         ensures err { OnErr result (self.new ≡ self.old) }
         ensures number { IfOk result (λ k. k ≡ length self.old.slots) }
-        ensures ok { OnOk result (self.new ≡ with_call false serial self.old) }
+        ensures ok { OnOk result (self.new ≡ record self.old { slots = self.old.slots ++ Slot.Waiting serial false ∷ [] }) }
         ensures left { OnOk result ((p : Past) (m : Seen) → m.serial ≡ serial → LeftCalls self.old p → LeftCalls self.new (after (Put m (OfLane true)) p)) }
     {
         self.register(serial, false)
@@ -169,7 +169,7 @@ impl PendingMethodCalls {
         requires free { waiting_serial self.old serial ≡ false }
         ensures err { OnErr result (self.new ≡ self.old) }
         ensures number { IfOk result (λ k. k ≡ length self.old.slots) }
-        ensures ok { OnOk result (self.new ≡ with_call inner serial self.old) }
+        ensures ok { OnOk result (self.new ≡ record self.old { slots = self.old.slots ++ Slot.Waiting serial inner ∷ [] }) }
     {
         let place = self.slots.len();
         let is_open = self.closing.is_none();
@@ -187,7 +187,7 @@ impl PendingMethodCalls {
     /// Gives a message to the call that waits for its reply serial. It is handed back exactly where none does; after the closing
     /// error none waits.
     pub fn complete_call(&mut self, message: Message) -> Option<Message>
-        ensures exact { is_none result ≡ answers_call self.old message }
+        ensures exact { is_none result ≡ (is_reply message.kind && unwrap_or (option_map (waiting_serial self.old) message.reply_serial) false) }
         ensures none { IfNone result ((p : Past) → LeftCalls self.old p → LeftCalls self.new (after (Took message) p)) }
         ensures back { IfSome result (λ m. (m ≡ message) × (self.new ≡ self.old)) }
         ensures left { IfSome result (λ m. (p : Past) → LeftCalls self.old p → p.closing ≡ None → LeftCalls self.new (after (Took message) p)) }

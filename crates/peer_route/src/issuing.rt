@@ -1,11 +1,11 @@
 //! The messages of one command are put in the outbox all or none.
 ghost use Rattle.std.specs.Prelude.{ℕ, ◌≡◌, ◌<◌, ◌^◌, ◌∷◌, [], Bool, List, length, map, Option, false, IfOk, OnOk, OnErr};
 ghost use Rattle.std.specs.List.{list_any, AllByRecursion};
-ghost use Rattle.peer_route.specs.History.{Past};
-ghost use Rattle.peer_route.specs.Issuing.{is_deep, posted, IssuesAll};
+ghost use Rattle.peer_route.specs.History.{Past, after};
+ghost use Rattle.peer_route.specs.Issuing.{is_deep, posted, put_of, put_each, next_serial, drawn, IssuesAll};
 ghost use Rattle.peer_route.specs.Left.{View, Left};
 ghost use Rattle.peer_route.specs.Parcel.{sent_by};
-ghost use Rattle.peer_route.specs.Placing.{IsCounted, IsPlaced, posts, DrawsOne, DrawsEach, Places, PutsAll, LeftPosts, AreMade, Grows, IsMore, Marks};
+ghost use Rattle.peer_route.specs.Placing.{IsCounted, IsPlaced, posts, Draws, Places, PutsAll, LeftPosts, AreMade, Grows, IsMore, mark_of};
 
 use crate::calls::PendingMethodCalls;
 use crate::letter::Letter;
@@ -40,7 +40,7 @@ fn draw(
     inner: bool,
 ) -> Result<u32>
     ensures drawn { (p : Past) (name : Option (List ℕ)) (served : Bool) → IsCounted calls.old serials.old p
-        → DrawsOne (posted inner (sent_by name served letter.now)) p calls.new serials.new result }
+        → Draws (λ serial. serial) (next_serial p) (λ serial. after (put_of (posted inner (sent_by name served letter.now)) serial) p) calls.new serials.new result }
     ensures some { IfOk result (λ serial. 0 < serial) }
     ensures made { AreMade calls.old calls.new }
 {
@@ -60,7 +60,7 @@ fn draw_each(
     inner: bool,
 ) -> Result<Vec<u32>>
     ensures drawn { (p : Past) (name : Option (List ℕ)) (served : Bool) → IsCounted calls.old serials.old p
-        → DrawsEach (λ drawn. drawn.items) (posts inner name served list.now) p calls.new serials.new result }
+        → Draws (λ drawn. drawn.items) (drawn p (posts inner name served list.now)) (λ ns. put_each (posts inner name served list.now) ns p) calls.new serials.new result }
     ensures some { IfOk result (λ drawn. AllByRecursion (λ serial. 0 < serial) drawn.items) }
     ensures count { IfOk result (λ drawn. length drawn.items ≡ length list.now) }
     ensures made { AreMade calls.old calls.new }
@@ -160,7 +160,7 @@ impl Route {
 
     /// How much is there now.
     pub(crate) fn mark(&self) -> Mark
-        ensures { Marks self.now result }
+        ensures { result ≡ mark_of self.now }
     {
         Mark {
             calls: self.calls.len(),
@@ -235,7 +235,7 @@ impl Route {
 
     /// Takes back what was made, drawn and placed since the mark.
     pub(crate) fn take_back(&mut self, mark: Mark)
-        ensures { (v : View) → Marks v mark → IsMore v self.old → self.new ≡ v }
+        ensures { (v : View) → mark ≡ mark_of v → IsMore v self.old → self.new ≡ v }
     {
         self.calls.take_back(mark.calls);
         self.serials = Serials::after(mark.serials);

@@ -1,11 +1,13 @@
 //! Closing streams, and telling the bus which rules have none any more (D-Bus Specification, "Match Rules").
-ghost use Rattle.std.specs.Prelude.{ℕ, ◌≡◌, ◌↔◌, ◌<◌, ◌^◌, ◌||◌, [], List, length, IsTrue, Some, true, if◌then◌else◌, ◌∷◌, IfOk, OnOk, OnErr};
+ghost use Rattle.std.specs.Prelude.{ℕ, ◌≡◌, ◌↔◌, ◌<◌, ◌^◌, ◌||◌, [], List, length, filter, is_none, ◌&&◌, option_map, unwrap_or, false, IsTrue, Some, true, if◌then◌else◌, ◌∷◌, IfOk, OnOk, OnErr};
 ghost use Rattle.std.specs.List.{AllByRecursion};
-ghost use Rattle.peer_route.specs.History.{Past};
-ghost use Rattle.peer_route.specs.Streams.{is_open, are_open, has_rule, has_rule_at, close_waits, leaves, leaves_by, leaving, gone_behind};
+ghost use Rattle.peer_route.specs.History.{Past, after_all};
+ghost use Rattle.peer_route.specs.Streams.{is_open, are_open, has_rule, close_waits, leaves, asks_bus, leaving, gone_if, gone_events};
 ghost use Rattle.peer_route.specs.Left.{Left, LeftStreams};
-ghost use Rattle.peer_route.specs.Leaving.{gone_both, number_of, MakesRemovals, TellsPosts, ClosesStreams};
-ghost use Rattle.peer_route.specs.Placing.{IsMore};
+ghost use Rattle.peer_route.specs.Issuing.{IssuesBy};
+ghost use Rattle.peer_route.specs.BusCall.{last_of, tellings_of};
+ghost use Rattle.peer_route.specs.Leaving.{MakesRemovals, ClosesStreams};
+ghost use Rattle.peer_route.specs.Placing.{LeftPosts, IsMore};
 
 use crate::letter::Letter;
 use crate::opening::{match_letter, may_be_signal};
@@ -27,7 +29,7 @@ pub enum Spent {
 
 /// The stream's number, where there is one.
 fn number_of(stream: &Option<MessageStream>) -> Option<u64>
-    ensures { result ≡ number_of stream.now }
+    ensures { result ≡ option_map (λ s. s.number) stream.now }
 {
     match stream {
         Some(stream) => Some(stream.number),
@@ -44,8 +46,9 @@ fn is_memory(error: &Error) -> bool
 
 impl Route {
     /// Whether the bus has to be told of the rule once this stream is closed, and the one that goes before it.
+    #[tactic(auto, unfolding(crate::specs::Streams::asks_bus))]
     fn must_tell(&self, rule: &OwnedMatchRule, stream: u64, before: Option<u64>) -> bool
-        ensures { (p : Past) → Left self.now p → leaves_by (gone_behind before stream p) (Some rule.now) ≡ (if result then rule.now ∷ [] else []) }
+        ensures { (p : Past) → Left self.now p → filter (λ r. is_none (gone_if (Some stream) (gone_if before p)).closing && asks_bus (gone_if (Some stream) (gone_if before p)) r) (rule.now ∷ []) ≡ (if result then rule.now ∷ [] else []) }
     {
         self.bus
             && self.calls.closing().is_none()
@@ -62,7 +65,7 @@ impl Route {
         before: Option<u64>,
     ) -> Result<()>
         ensures made { (p : Past) → Left self.now p → is_open p stream ≡ true
-            → MakesRemovals (λ done. letters.new.items) letters.old.items (leaves (gone_behind before stream p) stream) result }
+            → MakesRemovals (λ done. letters.new.items) letters.old.items (leaves (gone_if (Some stream) (gone_if before p)) stream) result }
         ensures few { AllByRecursion (λ p. length p.fds < 2 ^ 32) letters.old.items → AllByRecursion (λ p. length p.fds < 2 ^ 32) letters.new.items }
     {
         match self.streams.rule(stream) {
@@ -92,7 +95,8 @@ impl Route {
     /// Tells the bus which rules have no stream any more once these are closed, and gives the serial of the last message.
     fn tell(&mut self, stream: u64, second: Option<u64>) -> Result<Option<u32>>
         ensures tells { (p : Past) → Left self.old p → are_open p stream second ≡ true
-            → TellsPosts self.new (gone_both stream second p) (leaving p stream second) result }
+            → IssuesBy (λ last serials. last ≡ last_of serials) (0 < length (leaving p stream second)) (LeftPosts self.new)
+            (tellings_of (after_all (gone_events stream second) p) (leaving p stream second)) (after_all (gone_events stream second) p) result }
         ensures more { OnOk result (IsMore self.old self.new) }
         ensures same { OnErr result (self.new ≡ self.old) }
     {
@@ -106,7 +110,7 @@ impl Route {
 
     /// Whether one of these streams has a rule.
     fn has_rules(&self, stream: u64, second: Option<u64>) -> bool
-        ensures { (p : Past) → Left self.now p → are_open p stream second ≡ true → result ≡ (has_rule p stream || has_rule_at p second) }
+        ensures { (p : Past) → Left self.now p → are_open p stream second ≡ true → result ≡ (has_rule p stream || unwrap_or (option_map (has_rule p) second) false) }
     {
         if self.streams.rule(stream).is_some() {
             return true;
@@ -127,7 +131,7 @@ impl Route {
 
     /// Nothing is kept of these streams any more.
     fn end_both(&mut self, stream: u64, second: Option<u64>)
-        ensures streams { (p : Past) → LeftStreams self.old.streams p → LeftStreams self.new.streams (gone_both stream second p) }
+        ensures streams { (p : Past) → LeftStreams self.old.streams p → LeftStreams self.new.streams (after_all (gone_events stream second) p) }
         ensures same { self.new ≡ record self.old { streams = self.new.streams } }
     {
         self.streams.end(stream);
@@ -148,7 +152,7 @@ impl Route {
     /// RemoveMatch finds each of the 4,294,967,295 serials pending, ExcessData exactly where one would pass 134,217,728 bytes,
     /// InputOutput(WriteFault) exactly where a write failed before. Of a closed peer's streams nothing is told.
     pub fn close_stream(&mut self, stream: MessageStream, second: Option<MessageStream>) -> Spent
-        ensures closes { (p : Past) → Left self.old p → ClosesStreams self.old self.new stream.number (number_of second) p result }
+        ensures closes { (p : Past) → Left self.old p → ClosesStreams self.old self.new stream.number (option_map (λ s. s.number) second) p result }
     {
         let (number, other) = (stream.number, number_of(&second));
         if !self.are_open(number, other) {

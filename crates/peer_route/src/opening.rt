@@ -5,7 +5,7 @@ ghost use Rattle.wire_tree.specs.Datum.{text, string};
 ghost use Rattle.rule_match.specs.Text.{rule_text};
 ghost use Rattle.peer_route.specs.History.{OnBus, Past, after, after_all};
 ghost use Rattle.peer_route.specs.Streams.{asks_bus, opening_answer, opening_events, may_be_signal};
-ghost use Rattle.peer_route.specs.Issuing.{Issues};
+ghost use Rattle.peer_route.specs.Issuing.{IssuesBy};
 ghost use Rattle.peer_route.specs.Bus.{IsOpening, OpensRule, IsShownAs};
 ghost use Rattle.peer_route.specs.BusCall.{bus_draft, match_parcel, asking_of};
 ghost use Rattle.peer_route.specs.Left.{Left};
@@ -159,7 +159,7 @@ impl Route {
     /// done.
     fn put_asking(&mut self, rule: OwnedMatchRule, asked: Option<u64>) -> Result<Opening>
         ensures asks { (p : Past) → Left self.old p
-            → Issues (λ opening serials. IsOpening p (Opens.Opening opening) serials) ⊤ self.new (asking_of p rule asked ∷ []) p result }
+            → IssuesBy (λ opening serials. IsOpening p (Opens.Opening opening) serials) ⊤ (Left self.new) (asking_of p rule asked ∷ []) p result }
         ensures more { IfErr result (λ e. IsMore self.old self.new) }
     {
         let mut letters = Vec::new(self.alloc);

@@ -1,10 +1,10 @@
 //! How many messages the streams of a rule may hold where nothing is asked for.
-ghost use Rattle.std.specs.Prelude.{◌≡◌, [], option_map};
+ghost use Rattle.std.specs.Prelude.{◌≡◌, ◌&&◌, [], option_map};
 ghost use Rattle.std.specs.Cmp.Lexicographic.{pointwise};
 ghost use Rattle.std.specs.Option.{option_eq};
 ghost use Rattle.rule_arguments.specs.SameArgument.{same_argument};
 ghost use Rattle.rule_arguments.specs.Passing.{same};
-ghost use Rattle.peer_route.specs.Rules.{same_kind, same_name, same_place, is_first_alone, owner_changes, is_owner_rule, usual};
+ghost use Rattle.peer_route.specs.Rules.{is_same, same_kind, same_name, same_place, is_first_alone, owner_changes, usual};
 
 use rule_match::{Argument, MatchRule, PathSpec};
 use wire_message::MessageType;
@@ -92,9 +92,9 @@ fn is_in_no_namespace(namespace: Option<&Text>) -> bool
 
 /// Whether the rule is one of an owner's changes: the bus's own signals NameOwnerChanged, at its path, of one name, and it
 /// has no other part.
-#[tactic(auto, unfolding(crate::specs::Rules::is_owner_rule, crate::specs::Rules::is_same, rule_match::specs::Rule::bus_signal))]
+#[tactic(auto, unfolding(crate::specs::Rules::is_same, rule_match::specs::Rule::bus_signal))]
 fn is_owner_rule(rule: &MatchRule) -> bool
-    ensures { result ≡ is_owner_rule rule.now }
+    ensures { result ≡ (is_first_alone rule.now.args && is_same (record rule.now { args = [] }) owner_changes) }
 {
     is_first_alone(rule.args())
         && is_signal(rule.msg_type())

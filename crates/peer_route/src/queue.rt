@@ -1,8 +1,8 @@
-ghost use Rattle.std.specs.Prelude.{ℕ, ◌≡◌, ◌==◌, ◌&&◌, length, List, Option, Some, OnOk, OnErr, IfOk, option_map};
+ghost use Rattle.std.specs.Prelude.{ℕ, ◌≡◌, ◌==◌, ◌&&◌, length, List, Option, Some, OnOk, OnErr, IfOk, option_map, unwrap_or, max, []};
 ghost use Rattle.peer_route.specs.Rules.{is_same};
 ghost use Rattle.peer_route.specs.History.{raised, is_of};
 ghost use Rattle.peer_route.specs.Streams.{take_by, first_position};
-ghost use Rattle.peer_route.specs.Left.{Held, new_held, is_running, is_usable, keeps_by, pushed, settled_by, ended, lost_by, limit_or, is_over, raise, raise_held, raise_own, after_by, asked_by, after_ask};
+ghost use Rattle.peer_route.specs.Left.{Held, is_running, keeps_by, pushed, settled_by, ended, lost_by, is_over, raise, after_by, asked_by, after_ask};
 ghost use Rattle.wire_message.specs.Front.{Seen};
 
 use crate::polled::Polled;
@@ -117,7 +117,7 @@ impl Queue {
         progress: Progress,
         told: bool,
     ) -> Queue
-        ensures { result ≡ new_held wants progress told }
+        ensures { result ≡ record { wants = wants; progress = progress; items = []; told = told; opened = is_running progress } }
     {
         Queue {
             wants,
@@ -137,7 +137,7 @@ impl Queue {
 
     /// Whether it is open: it takes messages, and who asked for it was told so.
     pub(crate) fn is_usable(&self) -> bool
-        ensures { result ≡ is_usable self.now }
+        ensures { result ≡ (self.now.opened && is_running self.now.progress) }
     {
         self.opened && self.runs()
     }
@@ -268,7 +268,7 @@ impl Queue {
 
     /// How many messages the stream may hold: as many as its rule's streams may, or, without a rule, so many.
     pub(crate) fn limit(&self, main: u64) -> u64
-        ensures { result ≡ limit_or main self.now.wants }
+        ensures { result ≡ unwrap_or (option_map (λ (s : Subscription). s.limit) self.now.wants) main }
     {
         match &self.wants {
             Some(wants) => wants.limit,
@@ -305,7 +305,7 @@ impl Queue {
 
     /// A stream of this rule asks for more.
     pub(crate) fn raise(&mut self, rule: &OwnedMatchRule, asked: Option<u64>)
-        ensures { self.new ≡ raise_held rule.now asked self.old }
+        ensures { self.new ≡ record self.old { wants = option_map (raise rule.now asked) self.old.wants } }
     {
         if let Some(wants) = &mut self.wants {
             wants.raise(rule, asked);
@@ -322,7 +322,7 @@ impl Queue {
 
     /// The stream asks for more, where it has a rule.
     pub(crate) fn raise_own(&mut self, limit: u64)
-        ensures { self.new ≡ raise_own limit self.old }
+        ensures { self.new ≡ record self.old { wants = option_map (λ (s : Subscription). record s { limit = max s.limit limit }) self.old.wants } }
     {
         if let Some(wants) = &mut self.wants {
             wants.limit = wants.limit.max(limit);

@@ -3,7 +3,7 @@ ghost use Rattle.std.specs.Prelude.{ℕ, ◌≡◌, ◌++◌, ◌∷◌, List, l
 ghost use Rattle.peer_route.specs.History.{Made, Plain, Main, Past, after, after_all};
 ghost use Rattle.peer_route.specs.Streams.{take_answer, take_events, next_position, is_over, are_open, ask_answer, ask_events, limit_answer, rule_answer};
 ghost use Rattle.peer_route.specs.Calls as answers;
-ghost use Rattle.peer_route.specs.Left.{Left, Clones};
+ghost use Rattle.peer_route.specs.Left.{Left, ClonesBy};
 
 use crate::polled::{Polled, by_position};
 use crate::route::Route;
@@ -39,7 +39,7 @@ impl Route {
     ///
     /// UnknownHandle exactly where that stream isn't open; Memory. An error changes nothing.
     pub fn clone_stream(&mut self, stream: &MessageStream) -> Result<MessageStream>
-        ensures { (p : Past) → Left self.old p → Clones self.old self.new stream.now.number p result }
+        ensures { (p : Past) → Left self.old p → ClonesBy Left self.old self.new stream.now.number p result }
     {
         self.streams.open_clone(stream.number)
     }

@@ -1,10 +1,12 @@
-ghost use Rattle.std.specs.Prelude.{ℕ, ◌≡◌, ◌≤◌, ◌||◌, ◌∷◌, ◌++◌, [], List, length, Option, Some, None, OnOk, OnErr, IfOk, map, option_map, slice_get, Bool, if◌then◌else◌, is_some, true, ok_or, unwrap_or};
+ghost use Rattle.std.specs.Prelude.{ℕ, ◌≡◌, ◌≤◌, ◌||◌, ◌∷◌, ◌++◌, [], List, length, Option, Some, None, OnOk, OnErr, IfOk, map, option_map, slice_get, Bool, if◌then◌else◌, is_some, true, false, ok_or, unwrap_or};
 ghost use Rattle.std.specs.List.{list_any};
+ghost use Rattle.std.specs.Option.{option_and_then};
 ghost use Rattle.peer_route.specs.History.{is_serial, raised, Past, Stream, Made, Plain, Ruled, Put, Adds, Fault, Took, Did, Gone, Asked, after, after_all, asked_limit, is_subscribed};
 ghost use Rattle.peer_route.specs.Rules.{usual};
-ghost use Rattle.peer_route.specs.Streams.{is_open, are_open, has_rule, is_over as nothing_comes, gone_if, gone_behind, opening_answer, opening_events, take_answer, take_events, next_position, limit_answer, rule_answer};
+ghost use Rattle.peer_route.specs.Names.{Rule};
+ghost use Rattle.peer_route.specs.Streams.{runs, is_open, are_open, has_rule, is_over as nothing_comes, gone_if, opening_answer, opening_events, take_answer, take_events, next_position, limit_answer, rule_answer};
 ghost use Rattle.wire_message.specs.Front.{Seen};
-ghost use Rattle.peer_route.specs.Left.{Held, pushed, settled_by, lost_by, raise_held, each_first, is_over, kept_open, LeftStreams, AreStreams, IsNew, ClonesBy};
+ghost use Rattle.peer_route.specs.Left.{Held, pushed, settled_by, lost_by, raise, each_first, is_over, LeftStreams, AreStreams, IsWithin, kept, subscription, is_running, ClonesBy};
 
 use crate::owner_rule::usual;
 use crate::polled::Polled;
@@ -70,7 +72,7 @@ fn lose_each(queues: &mut Vec<Queue>, index: u64)
 
 /// A stream of this rule asks for more: each one of the rule may hold it.
 fn raise_each(queues: &mut Vec<Queue>, rule: &OwnedMatchRule, asked: Option<u64>)
-    ensures { queues.new.items ≡ map (raise_held rule.now asked) queues.old.items }
+    ensures { queues.new.items ≡ map (λ (q : Held). record q { wants = option_map (raise rule.now asked) q.wants }) queues.old.items }
 {
     for queue in queues.iter_mut() {
         queue.raise(rule, asked);
@@ -184,7 +186,7 @@ impl Streams {
     ) -> Result<u64, AllocError>
         ensures err { OnErr result (self.new ≡ self.old) }
         ensures number { IfOk result (λ k. k ≡ length self.old) }
-        ensures ok { OnOk result ((p : Past) (s : Stream) → LeftStreams self.old p → IsNew p.read rule progress s → AreStreams self.new (λ r. asked_limit p r rule asked (p.capacities.rules r)) p.read (p.streams ++ s ∷ [])) }
+        ensures ok { OnOk result ((p : Past) (s : Stream) → LeftStreams self.old p → ((limits : Rule → ℕ) → kept limits p.read s ≡ record { wants = Some (subscription limits rule); progress = progress; items = []; told = false; opened = is_running progress }) → IsWithin p.read s → AreStreams self.new (λ r. asked_limit p r rule asked (p.capacities.rules r)) p.read (p.streams ++ s ∷ [])) }
     {
         let place = self.queues.len();
         let limit = limit_now(
@@ -251,7 +253,7 @@ impl Streams {
 
     /// What is kept of the stream with this number; None where it isn't open.
     fn queue(&self, stream: u64) -> Option<&Queue>
-        ensures { (p : Past) → LeftStreams self.now p → option_map (λ q. q.now) result ≡ kept_open p.capacities.rules p.read (slice_get p.streams stream) }
+        ensures { (p : Past) → LeftStreams self.now p → option_map (λ q. q.now) result ≡ option_and_then (λ s. if runs p.read s then Some (kept p.capacities.rules p.read s) else None) (slice_get p.streams stream) }
     {
         let queue = self.queues.get(stream as usize)?;
         if queue.is_usable() { Some(queue) } else { None }
@@ -266,7 +268,7 @@ impl Streams {
 
     /// Whether a stream of this rule is open, or being opened, but for these.
     pub(crate) fn stays(&self, rule: &OwnedMatchRule, stream: u64, before: Option<u64>) -> bool
-        ensures { (p : Past) → LeftStreams self.now p → result ≡ is_subscribed p.read (gone_behind before stream p).streams rule.now }
+        ensures { (p : Past) → LeftStreams self.now p → result ≡ is_subscribed p.read (gone_if (Some stream) (gone_if before p)).streams rule.now }
     {
         shared(self.queues.as_slice(), rule, Some(stream), before).is_some()
     }

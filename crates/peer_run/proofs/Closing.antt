@@ -1,11 +1,11 @@
 -- How the program ends, by how its input was read.
 use Rattle.std.proofs.{Common.{◌≡◌, ◌≢◌, ℕ, ◌<◌, refl, sym, ◌∙◌, subst, arith, Bool, true, false, List, [], append-nil, length, take, Option, Some, None, IfSome, if◌then◌else◌, ◌⊎◌, inl, inr, Ok, Err, is_ok, ap, ◌∷◌, ◌++◌, map, reverse}, Math.Bool.and-false, Math.Seq.take-length, lemmas.Bool.Decides.nat_tests, KnownBytes.{Appends-nil, Appends-trans}, lemmas.List.reverse-append}
-use Rattle.std.specs.{Prelude.nat_le, Io.KnownBytes.Appends, List.AllByRecursion}
-use Rattle.peer_run.specs.{Names.{MayRise, Part, Script, line_count, is_bus, name_of, IsWithin, script_of, given, script_from, command_of, transcript_text, Entry, Command, Seen}, Program.{Says, Said, SaidPart, SaidNot, Ends, Whole, Failed, NoMemory, Tells, IsRefusal, IsRun, Prints, Transcript, Usage, Refusal, InputFault, IsFront, decided, limit_text, line_text, memory_text, source_bytes, source_breaks, IsPolled, StreamsAre}, Runs.{Inlet, Outlet, Holds, Runs}}
+use Rattle.std.specs.{Prelude.{nat_le, codes, decimal, IsTrue}, Io.KnownBytes.Appends, List.AllByRecursion}
+use Rattle.peer_run.specs.{Names.{MayRise, Part, Script, line_count, is_bus, name_of, IsWithin, script_of, given, script_from, command_of, transcript_text, Entry, Command, Seen}, Program.{Says, Said, SaidPart, SaidNot, Ends, Whole, Failed, NoMemory, Tells, IsRefusal, is_run, Prints, Transcript, Usage, Refusal, InputFault, IsFront, decided, memory_text, source_bytes, source_breaks}, Runs.{Inlet, Outlet, Holds, Runs}}
 use Rattle.wire_framing.specs.{Memory.{told_bytes, told_stop}, declared.memory.Piece.Piece, declared.memory.Piece.TheVariants.{Bytes, Fault}}
 use Rattle.peer_script.specs.declared.kind.PeerKind.{PeerKind}
 use Rattle.peer_script.proofs.{Grammar.text_of_reading, Readings.reading_of_text}
-use Rattle.peer_route.specs.{Parcel.Setting, Entries.{Legal, IsOfRun, trail}, Laws.IsPoll, Told.{IsSentBytes, IsCutAt}}
+use Rattle.peer_route.specs.{Parcel.Setting, Entries.{Legal, IsOfRun, trail}, Told.{IsSentBytes, IsCutAt}}
 use Rattle.peer_route.proofs.{Plans.legal_from, Read.{once, by_the_first, by_the_closing_error}, Yields.{yields, opened_yields, asked_yields, clone_yields}, ClosedStreams.{closed_for_good, denied_for_good}, Drained.{ended, busy_there}}
 use Rattle.peer_route.proofs.Sent as sends
 
@@ -36,16 +36,16 @@ module _ (Is : ℕ → List ℕ → Type 0) (before after : Option (List ℕ)) (
 
 -- ---- what is to be said
 
-module _ (words : List (List ℕ)) (run : IsRun words) (stop : Option Bool) (faults faults' : ℕ) where
+module _ (words : List (List ℕ)) (run : IsTrue (is_run words)) (stop : Option Bool) (faults faults' : ℕ) where
   pub transcript_of : (input : Option (List ℕ)) (s : Script) (text : List ℕ) → stop ≢ Some true → IfSome input (λ bytes. IsWithin bytes × (script_of bytes ≡ Ok s)) → Tells s text → Prints words input stop faults faults' 0 text
   transcript_of None s text told read is = Transcript refl run told tt
   transcript_of (Some bytes) s text told read is = Transcript refl run told (record { script = s; within = read.0; read = text_of_reading bytes s read.1; told = is })
 
-  pub limit_of : (input : Option (List ℕ)) → IfSome input (λ bytes. (1073741824 < length bytes) ⊎ (1000000 < line_count bytes)) → Prints words input stop faults faults' 3 limit_text
+  pub limit_of : (input : Option (List ℕ)) → IfSome input (λ bytes. (1073741824 < length bytes) ⊎ (1000000 < line_count bytes)) → Prints words input stop faults faults' 3 (codes "script: limit" ++ 10 ∷ [])
   limit_of None passed = Refusal refl run tt
   limit_of (Some bytes) passed = Refusal refl run (inl (passed, refl))
 
-  pub line_of : (input : Option (List ℕ)) (n : ℕ) → stop ≢ Some true → IfSome input (λ bytes. IsWithin bytes × (script_of bytes ≡ Err n)) → Prints words input stop faults faults' 3 (line_text n)
+  pub line_of : (input : Option (List ℕ)) (n : ℕ) → stop ≢ Some true → IfSome input (λ bytes. IsWithin bytes × (script_of bytes ≡ Err n)) → Prints words input stop faults faults' 3 (codes "script: line " ++ decimal n ++ 10 ∷ [])
   line_of None n told read = Refusal refl run tt
   line_of (Some bytes) n told read = Refusal refl run (inr (told, read.0, n, read.1, refl))
 
@@ -65,7 +65,7 @@ refusal_decides stop bytes text (inr (told, w, n, read, is)) = sym (decides byte
 
 -- where no count rose, the input's bytes decide the status, memory aside
 pub run_decided : (words : List (List ℕ)) (input : Option (List ℕ)) (stop : Option Bool) (in_faults in_faults' : ℕ) (before after : Option (List ℕ)) (faults faults' result : ℕ)
-    → Ends (Prints words input stop in_faults in_faults') before after faults faults' result → IsRun words → ¬ MayRise in_faults in_faults' → ¬ MayRise faults faults'
+    → Ends (Prints words input stop in_faults in_faults') before after faults faults' result → IsTrue (is_run words) → ¬ MayRise in_faults in_faults' → ¬ MayRise faults faults'
     → IfSome input (λ bytes. (result ≡ decided bytes) ⊎ (result ≡ 1))
 run_decided words None stop in_faults in_faults' before after faults faults' result ends run calm fine = tt
 run_decided words (Some bytes) stop in_faults in_faults' before after faults faults' result (Whole text (Transcript zero r told is) gained same) run calm fine =
@@ -88,28 +88,6 @@ pub told_breaks : (pieces : List Piece) → told_stop pieces ≡ source_breaks (
 told_breaks [] = refl
 told_breaks (Bytes v ∷ pieces) = told_breaks pieces
 told_breaks (Fault ∷ pieces) = refl
-
--- what is said of a run's history follows from its laws
-polls_are : (setting : Setting) (newer : List Entry) (e : Entry) (older : List Entry) (number : ℕ) → Legal setting (newer ++ e ∷ older) → IsPoll number e.words → IsPolled setting newer e older number
-polls_are setting newer e older number legal w =
-    let before = legal_from setting newer (e ∷ older) legal in
-    record {
-      first = λ q at. by_the_first setting older e number q before w at;
-      cut_off = λ error at. by_the_closing_error setting older e number error before w at;
-      once = λ f. once setting newer older e number legal w f;
-    }
-
-streams_are : (setting : Setting) (h : List Entry) → Legal setting h → StreamsAre setting h
-streams_are setting h legal = record {
-  yields = λ newer e older is number w a. yields setting newer e older number (subst (Legal setting) is legal) w a;
-  rules = λ newer e older is number asked text rule w found a. opened_yields setting newer e older number asked text rule (subst (Legal setting) is legal) w found a;
-  asked = λ newer e older is number serial asked text rule w found a. asked_yields setting newer e older number serial asked text rule (subst (Legal setting) is legal) w found a;
-  clones = λ newer e older is number original w a. clone_yields setting newer e older number original (subst (Legal setting) is legal) w a;
-  ends = λ newer e older is number w last. ended setting newer older e number (subst (Legal setting) is legal) w last;
-  closes = λ newer e older is number w a. closed_for_good setting newer older e number (subst (Legal setting) is legal) w a;
-  denied = λ newer e older is number w a. denied_for_good setting newer older e number (subst (Legal setting) is legal) w a;
-  waits = λ newer e older is w many. busy_there setting older e (legal_from setting newer (e ∷ older) (subst (Legal setting) is legal)) w many;
-}
 
 all_append : {X : Type 0} (P : X → Type 0) (xs ys : List X) → AllByRecursion P xs → AllByRecursion P ys → AllByRecursion P (xs ++ ys)
 all_append P [] ys a b = b
@@ -135,12 +113,14 @@ pub tells : (kind : PeerKind) (queue : Option ℕ) (fds : Bool) (outfault : Opti
     → start_out.held ≡ Some [] → start_out.room ≡ Some outfault → end_out.held ≡ Some held → takes ≡ fds
     → Runs (record { bus = is_bus kind; name = name_of kind; takes_fds = takes; queue = queue }) start_in start_out end_in end_out commands entries → sent ≡ held
     → Tells (script_from kind queue fds outfault pieces commands) (transcript_text kind queue fds outfault (given pieces) entries sent)
-tells kind queue fds outfault pieces lent commands start_in start_out end_in end_out takes entries held sent ours same left stop before room after takes_is run sent_is =
+tells kind queue fds outfault pieces lent commands start_in start_out end_in end_out takes entries held sent ours same left stop empty room after takes_is run sent_is =
     let setting : Setting = record { bus = is_bus kind; name = name_of kind; takes_fds = fds; queue = queue } in
     let h = reverse entries in
     let r : Runs setting start_in start_out end_in end_out commands entries = subst (λ b. Runs (record { bus = is_bus kind; name = name_of kind; takes_fds = b; queue = queue }) start_in start_out end_in end_out commands entries) takes_is run in
     let o = (trail setting h).past.outbox in
-    let w = sent_of outfault held o.failed o.written o.put (rw (before, room, after) at r.writes) in
+    let w = sent_of outfault held o.failed o.written o.put (rw (empty, room, after) at r.writes) in
+    let all : (newer : List Entry) (e : Entry) (older : List Entry) → h ≡ newer ++ e ∷ older → Legal setting (newer ++ e ∷ older) = λ newer e older is. subst (Legal setting) is r.legal in
+    let before : (newer : List Entry) (e : Entry) (older : List Entry) → h ≡ newer ++ e ∷ older → Legal setting (e ∷ older) = λ newer e older is. legal_from setting newer (e ∷ older) (all newer e older is) in
     record {
       entries = entries;
       sent = held;
@@ -148,10 +128,23 @@ tells kind queue fds outfault pieces lent commands start_in start_out end_in end
       once = r.once;
       each = r.each;
       whole = record {
-        reads = rw (left ∙ ap Some (ap told_bytes same ∙ told_given pieces), stop ∙ ap Some (ap told_stop same ∙ told_breaks pieces)) at r.reads;
-        polls = λ newer e older is number w. polls_are setting newer e older number (subst (Legal setting) is r.legal) w;
-        streams = streams_are setting h r.legal;
-        sends = record { bytes = w.0; room = rw room at r.room; cut = w.1; closes = rw room at r.closes; put_is = sends.sent setting h r.legal r.once (of_run entries commands r.each ours) };
+        reads = rw (left ∙ ap Some (ap told_bytes same ∙ told_given pieces), stop ∙ ap Some (ap told_stop same ∙ told_breaks pieces)) at r.reads.told;
+        first = λ newer e older is number q w at. by_the_first setting older e number q (before newer e older is) w at;
+        cut_off = λ newer e older is number error w at. by_the_closing_error setting older e number error (before newer e older is) w at;
+        once = λ newer e older is number w f. once setting newer older e number (all newer e older is) w f;
+        yields = λ newer e older is number w a. yields setting newer e older number (all newer e older is) w a;
+        rules = λ newer e older is number asked text rule w found a. opened_yields setting newer e older number asked text rule (all newer e older is) w found a;
+        asked = λ newer e older is number serial asked text rule w found a. asked_yields setting newer e older number serial asked text rule (all newer e older is) w found a;
+        clones = λ newer e older is number original w a. clone_yields setting newer e older number original (all newer e older is) w a;
+        ends = λ newer e older is number w last. ended setting newer older e number (all newer e older is) w last;
+        closes = λ newer e older is number w a. closed_for_good setting newer older e number (all newer e older is) w a;
+        denied = λ newer e older is number w a. denied_for_good setting newer older e number (all newer e older is) w a;
+        waits = λ newer e older is w many. busy_there setting older e (before newer e older is) w many;
+        bytes = w.0;
+        room = rw room at r.room;
+        cut = w.1;
+        shuts = rw room at r.closes;
+        put_is = sends.sent setting h r.legal r.once (of_run entries commands r.each ours);
       };
       is = ap (λ bytes. transcript_text kind queue fds outfault (given pieces) entries bytes) sent_is;
     }

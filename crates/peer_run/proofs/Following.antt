@@ -1,7 +1,7 @@
 -- A peer and a source follow one entry more, by its plan.
 use Rattle.std.proofs.{Common.{◌≡◌, ℕ, ◌-◌, ◌^◌, ◌≤◌, refl, sym, ◌∙◌, ap, subst, arith, List, [], ◌∷◌, ◌++◌, length, Option, Some, None, IfSome, Bool, map, reverse}, lemmas.List.append-nil}
-use Rattle.peer_route.specs.{Parcel.Setting, Streams.all_given, Left.Left, Plan.{Plan, Says, plan}, Entries.{IsMeant, IsAtOnce, trail, first_past, past_after, more_by}, Told.{ReadTold, ReadsTold}, History.no_past}
-use Rattle.peer_run.specs.{Names.{Answer, Entry, Words, Command, Writing, Fine, command_of}, Stands.{PeerView, Stands}, Runs.{Inlet, Reads, IsLeft, Follows, quiet, Outlet, Sinks, Running, Runs}}
+use Rattle.peer_route.specs.{Parcel.Setting, Streams.all_given, Left.Left, Plan.{Plan, Says, plan}, Entries.{IsMeant, IsAtOnce, trail, first_past, past_after, more_by}, Told.{ReadTold, ReadsTold, left_after}, History.{Past, no_past}}
+use Rattle.peer_run.specs.{Names.{Answer, Entry, Words, Command, Writing, Fine, command_of}, Stands.{PeerView, Stands}, Runs.{Inlet, Reads, IsRest, Follows, quiet, Outlet, Sinks, Running, Runs}}
 use Rattle.peer_route.proofs.Kept.{at_start}
 use Rattle.peer_run.proofs.Sinks.{got_all, sinks_start}
 
@@ -40,6 +40,10 @@ follows_still setting p es lane w answer means f =
 if_both : {A : Type 0} (o : Option A) (P Q R S : A → Type 0) → ((a : A) → P a → Q a → R a × S a) → IfSome o P → IfSome o Q → IfSome o R × IfSome o S
 if_both None P Q R S f p q = (tt, tt)
 if_both (Some a) P Q R S f p q = f a p q
+
+-- what the past leaves in a source that had these bytes
+abbrev pub IsLeft : List ℕ → Option Bool → Past → Option (List ℕ) → Option Bool → Type 0
+IsLeft bytes before h left stop = IsRest h.closing (length h.read) (left_after bytes h) before left stop
 
 pub reads_by : (setting : Setting) (start now then : Inlet) (es : List Entry) (e : Entry) (pl : Plan) → plan (trail setting es) e.lane e.words ≡ pl
     → ((bytes : List ℕ) → IsLeft bytes start.stop (trail setting es).past now.left now.stop
@@ -96,8 +100,7 @@ runs_of setting start_in start_out p end_in end_out writing commands entries s e
   legal = s.follows.legal;
   once = s.follows.once;
   each = e;
-  reads = s.reads.told;
-  rest = s.reads.rest;
+  reads = s.reads;
   writes = (got_all start_out end_out (trail setting (reverse entries)).past.outbox s.sinks (all_done setting p (reverse entries) s.follows)).held;
   room = s.told;
   closes = s.closes;

@@ -1,7 +1,7 @@
 -- What the halves of a run keep from command to command.
 use Rattle.std.proofs.{Common.{ℕ, ◌≡◌, ◌≢◌, ◌-◌, ◌^◌, ◌≤◌, ◌<◌, ◌⊎◌, inl, inr, refl, sym, ◌∙◌, ap, subst, arith, nat_le, if◌then◌else◌, Bool, true, false, List, [], length, take, drop, Option, Some, None, IfSome, IfOk, IfErr, Result, Ok, Err}, lemmas.List.{take_all, drop_all}, lemmas.Bool.cases_lt, lemmas.Bool.Decides.nat_tests}
 use Rattle.std.specs.Io.KnownBytes.{Consumes}
-use Rattle.peer_run.specs.{Names.{Takes, HasCause, Spends, spent, Seen, Front, IsReadRefusal, Error, IoKind}, Runs.{IsRest, lost}}
+use Rattle.peer_run.specs.{Names.{Takes, HasCause, Spends, spent, Seen, Front, IsReadRefusal, Error, IoKind}, Runs.IsRest}
 use Rattle.wire_framing.specs.Kept.{TakesKept, rest_of}
 
 -- ---- a read
@@ -46,15 +46,15 @@ keeps_none seq result kept' left left' stop stop' faults faults' asked asked' ne
 
 -- ---- what is left
 
-lost_some : (seq : ℕ) (bytes : List ℕ) → 0 < seq → seq < 2 ^ 64 - 1 → lost (seq - 1) bytes ≡ spent bytes
+lost_some : (seq : ℕ) (bytes : List ℕ) → 0 < seq → seq < 2 ^ 64 - 1 → (if nat_le (2 ^ 64 - 2) (seq - 1) then 0 else spent bytes) ≡ spent bytes
 lost_some seq bytes some below =
     let e : nat_le (2 ^ 64 - 2) (seq - 1) ≡ false = grind (arith, nat_tests) in ap (λ b. if b then 0 else spent bytes) e
 
-lost_none : (seq : ℕ) (bytes : List ℕ) → seq ≡ 2 ^ 64 - 1 → lost (seq - 1) bytes ≡ 0
+lost_none : (seq : ℕ) (bytes : List ℕ) → seq ≡ 2 ^ 64 - 1 → (if nat_le (2 ^ 64 - 2) (seq - 1) then 0 else spent bytes) ≡ 0
 lost_none seq bytes last =
     let e : nat_le (2 ^ 64 - 2) (seq - 1) ≡ true = grind (arith, nat_tests) in ap (λ b. if b then 0 else spent bytes) e
 
-behind_it : (seq : ℕ) (bytes : List ℕ) (left' : Option (List ℕ)) → 0 < seq → seq < 2 ^ 64 - 1 → left' ≡ Some (drop (spent bytes) bytes) → left' ≡ Some (drop (lost (seq - 1) bytes) bytes)
+behind_it : (seq : ℕ) (bytes : List ℕ) (left' : Option (List ℕ)) → 0 < seq → seq < 2 ^ 64 - 1 → left' ≡ Some (drop (spent bytes) bytes) → left' ≡ Some (drop ((if nat_le (2 ^ 64 - 2) (seq - 1) then 0 else spent bytes)) bytes)
 behind_it seq bytes left' some below e = e ∙ ap (λ n. Some (drop n bytes)) (sym (lost_some seq bytes some below))
 
 -- what a read that found no message took

@@ -1,15 +1,18 @@
 -- The words of a message that is to be sent, one after the other, and what stands in its letters.
 use Rattle.std.proofs.Common.{◌≡◌, ℕ, refl, ap, ◌∙◌, not, Bool, true, false, if◌then◌else◌, List, [], Option, Some, None, unwrap_or, Ok, Err, ◌+◌}
 use Rattle.std.specs.Int.RustNames.{bit_and, bit_or}
-use Rattle.peer_run.specs.{Names.{is_bus_name, is_object_path, is_member_name, Datum, Draft, are_misplaced, flagged, Error, CallFlags}, CallWords.{MakesParcel, letters_asked}}
+use Rattle.peer_run.specs.{Names.{is_bus_name, is_object_path, is_member_name, Datum, Draft, are_misplaced, flagged, Error, CallFlags}, Stands.{MakesParcel, letters_asked}}
 use Rattle.wire_names.specs.{Names.is_interface_name, declared.error.NamesError.NamesError}
 use Rattle.wire_number.specs.declared.endian.Endian.{Endian}
-use Rattle.peer_route.specs.{Parcel.Asked, CallMessage.{flags_number, order_of, is_outside, words_refusal, asked_of, bit}}
+use Rattle.peer_route.specs.{Parcel.Asked, CallMessage.{flags_number, is_outside, words_refusal, asked_of}}
 use Rattle.wire_names.specs.Names as grammar
 
 -- ---- the flags of a script's letters
 
 -- the flags that are asked for, together; and beside no flags, among those that are known
+abbrev bit : ℕ → Bool → ℕ
+bit n given = if given then n else 0
+
 bits : (n a i : Bool) → (bit_or (bit_or (if n then 1 else 0) (if a then 2 else 0)) (if i then 4 else 0) ≡ bit 1 n + bit 2 a + bit 4 i) × (bit_or 0 (bit_and (bit 1 n + bit 2 a + bit 4 i) 7) ≡ bit 1 n + bit 2 a + bit 4 i)
 bits true true true = (refl, refl)
 bits true true false = (refl, refl)
@@ -67,15 +70,15 @@ misplaced_by : (b : Bool) (made : Draft) (error : Error) (values : List Datum) (
 misplaced_by true made error values unsupported d fds e = cc
 misplaced_by false made error values unsupported d fds e = absurd (cc)
 
-pub misplaced : (d : Draft) (error : Error) (values : List Datum) (flags : CallFlags) (takes_fds : Bool) → Err error ≡ (if are_misplaced d.kind (flags_number flags) then Err Error.InvalidField else Ok (record d { order = order_of flags.big; flags = flags_number flags }))
+pub misplaced : (d : Draft) (error : Error) (values : List Datum) (flags : CallFlags) (takes_fds : Bool) → Err error ≡ (if are_misplaced d.kind (flags_number flags) then Err Error.InvalidField else Ok (record d { order = (if flags.big then Endian.Big else Endian.Little); flags = flags_number flags }))
     → letters_asked d values flags takes_fds ≡ Err error
 misplaced d error values flags takes_fds e = misplaced_by _ _ error values _ _ _ e
 
-pub flagged_is : (b : Draft) (order : Endian) (flags : CallFlags) (n : ℕ) → b.flags ≡ 0 → order ≡ order_of flags.big → n ≡ flags_number flags
-    → flagged (record b { order = order }) n ≡ (if are_misplaced b.kind (flags_number flags) then Err Error.InvalidField else Ok (record b { order = order_of flags.big; flags = flags_number flags }))
+pub flagged_is : (b : Draft) (order : Endian) (flags : CallFlags) (n : ℕ) → b.flags ≡ 0 → order ≡ (if flags.big then Endian.Big else Endian.Little) → n ≡ flags_number flags
+    → flagged (record b { order = order }) n ≡ (if are_misplaced b.kind (flags_number flags) then Err Error.InvalidField else Ok (record b { order = (if flags.big then Endian.Big else Endian.Little); flags = flags_number flags }))
 flagged_is b order flags n h o e =
     ap (λ k. flagged (record b { order = order }) k) e ∙ ap (λ p. flagged (record b { order = p }) (flags_number flags)) o
-    ∙ ap (λ z. if are_misplaced b.kind (flags_number flags) then Err Error.InvalidField else Ok (record b { order = order_of flags.big; flags = z }))
+    ∙ ap (λ z. if are_misplaced b.kind (flags_number flags) then Err Error.InvalidField else Ok (record b { order = (if flags.big then Endian.Big else Endian.Little); flags = z }))
     (ap (λ z. bit_or z (bit_and (flags_number flags) 7)) h ∙ kept_flags flags)
 
 pub no_interface : is_interface_name [] ≡ false

@@ -2,7 +2,7 @@
 use Rattle.std.proofs.Common.{◌≡◌, ℕ, zero, suc, ◌+◌, ◌==◌, refl, sym, ◌∙◌, ap, arith, Bool, true, false, List, [], ◌∷◌, ◌++◌, append_assoc, append-nil, length, Option, Some, None, if◌then◌else◌, slice_get}
 use Rattle.std.specs.{Option.option_map_or, Ordering.nat_cmp, BTreeMap.{BTreeMap, get}, Global.Vec}
 use Rattle.peer_route.specs.Trail.{Names, count, place}
-use Rattle.peer_run.specs.Numbers.{is_of, places, kept_for}
+use Rattle.peer_run.specs.Stands.{is_of, places, kept_for}
 
 -- the lane has as many as are counted
 pub count-places : (at lane : ℕ) (owners : Names) → count lane owners ≡ length (places at lane owners)

@@ -30,7 +30,7 @@ same_entries : (s : Script) (text other : List ℕ) (p : Tells s text) (q : Tell
 same_entries s text other p q =
     let commands : map command_of (reverse p.entries) ≡ map command_of (reverse q.entries) = map_reverse p.entries ∙ ap reverse (p.each ∙ sym q.each) ∙ sym (map_reverse q.entries) in
     let back = same_history (setting_of s) (reverse p.entries) (reverse q.entries) (source_breaks s.given) (source_bytes s.given) s.outfault commands p.legal q.legal p.once q.once
-    p.whole.reads q.whole.reads p.whole.sends.room q.whole.sends.room p.whole.sends.closes q.whole.sends.closes in
+    p.whole.reads q.whole.reads p.whole.room q.whole.room p.whole.shuts q.whole.shuts in
     sym (reverse-reverse p.entries) ∙ ap reverse back ∙ reverse-reverse q.entries
 
 unfailed : (setting : Setting) (room : Option ℕ) (h : List Entry) → WritesTold setting (Some room) h → room ≡ None → (trail setting h).past.outbox.failed ≡ false
@@ -42,7 +42,7 @@ same_sent : (s : Script) (es fs : List Entry) (a b : List ℕ) → es ≡ fs →
 same_sent s es fs a b same p q =
     let o = (trail (setting_of s) (reverse es)).past.outbox in
     let r : IsWhole s (reverse es) b = subst (λ es. IsWhole s (reverse es) b) (sym same) q in
-    same_bytes s.outfault o.failed o.written o.put a b (unfailed (setting_of s) s.outfault (reverse es) p.sends.room) p.sends.bytes r.sends.bytes p.sends.cut r.sends.cut
+    same_bytes s.outfault o.failed o.written o.put a b (unfailed (setting_of s) s.outfault (reverse es) p.room) p.bytes r.bytes p.cut r.cut
 
 same_text : (s : Script) (text other : List ℕ) → Tells s text → Tells s other → text ≡ other
 same_text s text other p q =

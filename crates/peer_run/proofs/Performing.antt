@@ -1,9 +1,9 @@
 -- A command that is no read and no `close` is one entry more.
 use Rattle.std.proofs.{Common.{◌≡◌, ◌≢◌, ℕ, ◌+◌, ◌-◌, ◌^◌, ◌≤◌, ◌<◌, ◌⊎◌, inl, inr, refl, sym, ◌∙◌, ap, subst, arith, ◌||◌, ◌&&◌, Bool, true, false, if◌then◌else◌, List, [], ◌∷◌, ◌++◌, length, drop, Option, Some, None, append_assoc, length-append}, Math.Bool.or-false, Math.Seq.drop-append_seam}
-use Rattle.peer_run.specs.{Names.{Seen, Error, Writing, asked_again, Words, Answer, Entry, Acted, Writer}, Stands.{PeerView, Stands, Did, AreTaken, call_owners, stream_owners}, Runs.{Inlet, Outlet, Sinks, IsReady, IsFine, IsRest, IsLeft, Flushed, Moves, SourceMoves, is_close, is_failed_write, asked_by, Follows, Running}}
+use Rattle.peer_run.specs.{Names.{Seen, Error, Writing, asked_again, Words, Answer, Entry, Acted, Writer}, Stands.{PeerView, Stands, Did, AreTaken, call_owners, stream_owners}, Runs.{Inlet, Outlet, Sinks, IsReady, IsFine, IsRest, Flushed, Moves, SourceMoves, is_close, is_failed_write, asked_by, Follows, Running}}
 use Rattle.peer_route.specs.{Parcel.Setting, History.{Outbox, Fault, Past, after_all}, Streams.all_given, Left.Left, Trail.{Trail, new_names, asked_names, made_names}, Plan.{Plan, Says, Sends, plan}, Entries.{trail, writes, writes_of, postings, deeds, past_after, write_fault}, Told.{ReadTold, CloseTold, encodings}}
 use Rattle.peer_route.proofs.{Plans.are_writes, Kept.kept_by, Given.given_along, Writers.fine_unfailed}
-use Rattle.peer_run.proofs.{Sinks.{sinks_put, got_all}, Following.{follows_by, reads_by, all_done}, Laid.{Laid, laid, plan_does}}
+use Rattle.peer_run.proofs.{Sinks.{sinks_put, got_all}, Following.{IsLeft, follows_by, reads_by, all_done}, Laid.{Laid, laid, plan_does}}
 use Rattle.peer_route.proofs.Kept as kept
 
 -- ---- other commands

@@ -1,9 +1,9 @@
 -- What a command's messages leave once they are put.
-use Rattle.std.proofs.Common.{◌≡◌, ◌≢◌, ℕ, zero, suc, ◌+◌, ◌-◌, ◌≤◌, refl, sym, ◌∙◌, ap, subst, arith, inl, inr, ◌&&◌, not, Bool, true, false, List, [], ◌∷◌, ◌++◌, length, drop, take, Option, Some, None, Ok, Err}
+use Rattle.std.proofs.Common.{if◌then◌else◌, ◌≡◌, ◌≢◌, ℕ, zero, suc, ◌+◌, ◌-◌, ◌≤◌, refl, sym, ◌∙◌, ap, subst, arith, inl, inr, ◌&&◌, not, Bool, true, false, List, [], ◌∷◌, ◌++◌, length, drop, take, Option, Some, None, Ok, Err}
 use Rattle.std.specs.List.{slice_get}
-use Rattle.peer_run.specs.{Names.{Seen, Draft, are_misplaced, Error, is_unsupported, has_descriptors, Answer, Datum, Acted, Makes}, CallWords.{IsCarried, MakesParcel, named_asked}, Stands.{PeerView, Keeps, Did, DidSend, plain, call_owners, stream_owners}}
+use Rattle.peer_run.specs.{Names.{Seen, Draft, are_misplaced, Error, is_unsupported, has_descriptors, Answer, Datum, Acted, Makes}, Stands.{IsCarried, MakesParcel, named_asked, PeerView, Keeps, Did, DidSend, plain, call_owners, stream_owners}}
 use Rattle.wire_message.specs.{Draft.built, Signed.fds_field, Primary.head_of, Drafts.{reply_draft, error_draft}, declared.kind.MessageType.MessageType}
-use Rattle.peer_route.specs.{declared.route.Issued.Issued, Parcel.{Parcel, Asked, message_of, sent_by}, declared.words.Outgoing.Outgoing, declared.words.OutgoingKind.OutgoingKind, CallMessage.{expects, fds_of, values_in, words_refusal, name_refusal, asked_of, member_asked, outgoing_draft, outgoing_asked, reply_asked, error_asked, sent_from}, History.{Event, OfLane, after_all}, Streams.all_given, Left.{View, Left}, Issuing.{Posting, of_lane, issued_of, issued_each, call_number, issued, put_each, Issues}, Trail.{Trail, Names, count, call_names, made_names}, Plan.{Sends, sends, sent_answer}, BusCall.first_of}
+use Rattle.peer_route.specs.{declared.route.Issued.Issued, Parcel.{Parcel, Asked, message_of, sent_by}, declared.words.Outgoing.Outgoing, declared.words.OutgoingKind.OutgoingKind, CallMessage.{expects, values_in, words_refusal, name_refusal, asked_of, member_asked, outgoing_draft, outgoing_asked, reply_asked, error_asked, sent_from}, History.{Event, OfLane, after_all}, Streams.all_given, Left.{View, Left}, Issuing.{Posting, posted, issued_of, issued_each, issued, put_each, IssuesBy}, Trail.{Trail, Names, count, call_names, made_names}, Plan.{Sends, sends, sent_answer}, BusCall.first_of}
 use Rattle.peer_run.proofs.Quietly.{nothing_made, nothing_did}
 use Rattle.peer_route.specs.Entries as entries
 
@@ -41,28 +41,31 @@ carried parcel takes serial (inr can) = ap (λ b. is_unsupported (fds_field parc
     never true = refl
     never false = refl
 
+abbrev call_number : Bool → ℕ → Option ℕ
+call_number waits number = if waits then Some number else None
+
 acted_so : (waits : Bool) (calls number other serial : ℕ) → number ≡ other → (acted_by (call_number waits calls) number serial).answer ≡ sent_answer waits other serial
 acted_so true calls number other serial e = ap (λ n. Answer.Called n serial) e
 acted_so false calls number other serial e = refl
 
 put_one : (t : Trail) (v : PeerView) (new : View) (lane : ℕ) (names : Names) (parcel : Parcel) (i : Issued) → v.core ≡ new → v.given ≡ all_given t.past → names ≡ t.names → IsCarried t.setting.takes_fds parcel
-    → Issues (λ i serials. i ∷ [] ≡ issued_each t.past (of_lane parcel ∷ []) serials) (Unit {0}) new (of_lane parcel ∷ []) t.past (Ok i)
+    → IssuesBy (λ i serials. i ∷ [] ≡ issued_each t.past (posted false parcel ∷ []) serials) (Unit {0}) (Left new) (posted false parcel ∷ []) t.past (Ok i)
     → Did v t lane (sends t lane (Ok parcel)) (acted_by i.call (count lane names) i.serial)
 put_one t v new lane names parcel i core given same can (serials, is, tells, left) =
-    subst (DidSend v t lane [] (of_lane parcel ∷ []) (λ serials. sent_answer (expects (Ok parcel)) (count lane t.names) (first_of serials)) (acted_by i.call (count lane names) i.serial)) (sym is) (by serials tells (subst (λ c. Left c (put_each (of_lane parcel ∷ []) serials t.past)) (sym core) left))
+    subst (DidSend v t lane [] (posted false parcel ∷ []) (λ serials. sent_answer (expects (Ok parcel)) (count lane t.names) (first_of serials)) (acted_by i.call (count lane names) i.serial)) (sym is) (by serials tells (subst (λ c. Left c (put_each (posted false parcel ∷ []) serials t.past)) (sym core) left))
   where
     owns : (waits : Bool) (failed : Bool) (calls number serial : ℕ) → (call_owners lane failed (acted_by (call_number waits calls) number serial).makes ≡ call_names lane failed (OfLane waits) ++ [])
         × (stream_owners lane failed (acted_by (call_number waits calls) number serial).makes ≡ [])
     owns true failed calls number serial = (refl, refl)
     owns false failed calls number serial = (refl, refl)
 
-    by : (serials : List ℕ) → i ∷ [] ≡ issued_each t.past (of_lane parcel ∷ []) serials → Left v.core (put_each (of_lane parcel ∷ []) serials t.past)
-        → DidSend v t lane [] (of_lane parcel ∷ []) (λ serials. sent_answer (expects (Ok parcel)) (count lane t.names) (first_of serials)) (acted_by i.call (count lane names) i.serial) (Ok serials)
+    by : (serials : List ℕ) → i ∷ [] ≡ issued_each t.past (posted false parcel ∷ []) serials → Left v.core (put_each (posted false parcel ∷ []) serials t.past)
+        → DidSend v t lane [] (posted false parcel ∷ []) (λ serials. sent_answer (expects (Ok parcel)) (count lane t.names) (first_of serials)) (acted_by i.call (count lane names) i.serial) (Ok serials)
     by [] tells left = cc
     by (serial ∷ serials) tells left =
-        let one : i ≡ issued_of t.past (of_lane parcel) serial = cc in
+        let one : i ≡ issued_of t.past (posted false parcel) serial = cc in
         let waits = expects (Ok parcel) in
-        subst (λ (x : Issued). DidSend v t lane [] (of_lane parcel ∷ []) (λ serials. sent_answer (expects (Ok parcel)) (count lane t.names) (first_of serials)) (acted_by x.call (count lane names) x.serial) (Ok (serial ∷ serials))) (sym one) (
+        subst (λ (x : Issued). DidSend v t lane [] (posted false parcel ∷ []) (λ serials. sent_answer (expects (Ok parcel)) (count lane t.names) (first_of serials)) (acted_by x.call (count lane names) x.serial) (Ok (serial ∷ serials))) (sym one) (
           acted_so waits (length t.past.calls) (count lane names) (count lane t.names) serial (ap (count lane) same),
           record { left = left; given = given },
           (carried parcel t.setting.takes_fds serial can, tt),
@@ -75,7 +78,7 @@ letter_named old name asked parcel same e = ap (λ n. Ok (sent_by n false parcel
 
 pub put_did : (t : Trail) (v : PeerView) (new : View) (lane : ℕ) (names : Names) (old : Option (List ℕ)) (asked : Asked) (parcel : Parcel) (i : Issued) → old ≡ t.past.name → asked ≡ Ok parcel
     → v.core ≡ new → v.given ≡ all_given t.past → names ≡ t.names → IsCarried t.setting.takes_fds parcel
-    → Issues (λ i serials. i ∷ [] ≡ issued_each t.past (of_lane (sent_by old false parcel) ∷ []) serials) (Unit {0}) new (of_lane (sent_by old false parcel) ∷ []) t.past (Ok i)
+    → IssuesBy (λ i serials. i ∷ [] ≡ issued_each t.past (posted false (sent_by old false parcel) ∷ []) serials) (Unit {0}) (Left new) (posted false (sent_by old false parcel) ∷ []) t.past (Ok i)
     → Did v t lane (sends t lane (named_asked t.past.name asked)) (acted_by i.call (count lane names) i.serial)
 put_did t v new lane names old asked parcel i named is core given same can issues =
     subst (λ x. Did v t lane (sends t lane x) (acted_by i.call (count lane names) i.serial)) (letter_named old t.past.name asked parcel named is) (put_one t v new lane names (sent_by old false parcel) i core given same can issues)
@@ -90,10 +93,10 @@ unput_did v t lane done ds sent error none keeps refuses =
 
 -- a lane's message isn't put
 pub unsent_did : {A : Type 0} (tells : A → List ℕ → Type 0) (old new : View) (v : PeerView) (t : Trail) (lane : ℕ) (parcel : Parcel) (error : Error) → v.core ≡ new → Left old t.past → v.given ≡ all_given t.past
-    → Issues tells (new ≡ old) new (of_lane parcel ∷ []) t.past (Err error) → error ≢ Error.Memory → Did v t lane (sends t lane (Ok parcel)) (plain (entries.unsent error))
+    → IssuesBy tells (new ≡ old) (Left new) (posted false parcel ∷ []) t.past (Err error) → error ≢ Error.Memory → Did v t lane (sends t lane (Ok parcel)) (plain (entries.unsent error))
 unsent_did tells old new v t lane parcel Error.Memory core left given is never = absurd (never refl)
 unsent_did tells old new v t lane parcel error core left given is never =
-    unput_did v t lane [] (of_lane parcel ∷ []) _ error refl (record { left = subst (λ c. Left c t.past) (sym (core ∙ is.1)) left; given = given }) is.0
+    unput_did v t lane [] (posted false parcel ∷ []) _ error refl (record { left = subst (λ c. Left c t.past) (sym (core ∙ is.1)) left; given = given }) is.0
 
 -- ---- whose name a message bears
 
@@ -123,10 +126,10 @@ outgoing_named name takes_fds out = by out.kind
     by : (kind : OutgoingKind) → named_asked name (member_asked takes_fds out (outgoing_draft kind None out)) ≡ member_asked takes_fds out (outgoing_draft kind name out)
     by OutgoingKind.Call =
         let draft = outgoing_draft OutgoingKind.Call None out in
-        asked_named name (words_refusal draft) (values_in out.body) (are_misplaced draft.kind draft.flags) (out.flags.descriptor && not takes_fds) draft (fds_of out.flags.descriptor) (λ vs. refl)
+        asked_named name (words_refusal draft) (values_in out.body) (are_misplaced draft.kind draft.flags) (out.flags.descriptor && not takes_fds) draft (if out.flags.descriptor then 0 ∷ [] else []) (λ vs. refl)
     by OutgoingKind.Signal =
         let draft = outgoing_draft OutgoingKind.Signal None out in
-        asked_named name (words_refusal draft) (values_in out.body) (are_misplaced draft.kind draft.flags) (out.flags.descriptor && not takes_fds) draft (fds_of out.flags.descriptor) (λ vs. refl)
+        asked_named name (words_refusal draft) (values_in out.body) (are_misplaced draft.kind draft.flags) (out.flags.descriptor && not takes_fds) draft (if out.flags.descriptor then 0 ∷ [] else []) (λ vs. refl)
 
 -- and a refusal is the one that is due
 pub refused_did : (v : PeerView) (t : Trail) (lane : ℕ) (asked : Asked) (error : Error) → Keeps v t.past → MakesParcel (Err error) asked → error ≢ Error.Memory

@@ -1,8 +1,8 @@
 -- What commands do that send nothing.
-use Rattle.std.proofs.{Common.{◌≡◌, ◌≢◌, ℕ, refl, sym, ◌∙◌, ap, subst, Bool, true, false, List, [], ◌∷◌, ◌++◌, Option, None, Result, Ok, Err, IfOk, OnOk}, lemmas.List.append-nil}
+use Rattle.std.proofs.{Common.{if◌then◌else◌, ◌≡◌, ◌≢◌, ℕ, refl, sym, ◌∙◌, ap, subst, Bool, true, false, List, [], ◌∷◌, ◌++◌, Option, None, Result, Ok, Err, IfOk, OnOk}, lemmas.List.append-nil}
 use Rattle.std.specs.List.{AllByRecursion}
 use Rattle.peer_run.specs.{Names.{Seen, Error, Polled, Answer, Acted, StreamOp, Makes}, Stands.{PeerView, Keeps, Stands, Owns, Did, Answers, plain, given_after}}
-use Rattle.peer_route.specs.{History.{Event, Making, Made, Cloned, Past, after, after_all}, Calls.by_position, Streams.{all_given, is_open, known, ask_answer, ask_events, take_answer, take_events}, Left.{Left, Clones}, Trail.{Trail, count, made_names}, Shown.shown_take, Plan.{Plan, Says, where_open, on_stream}}
+use Rattle.peer_route.specs.{History.{Event, Making, Made, Cloned, Past, after, after_all}, Calls.by_position, Streams.{all_given, is_open, ask_answer, ask_events, take_answer, take_events}, Left.{Left, ClonesBy}, Trail.{Trail, count, made_names}, Shown.shown_take, Plan.{Plan, Says, where_open, on_stream}}
 use Rattle.peer_route.proofs.Given.{GivesNone, all_left_given, given_all, given_taken}
 use Rattle.peer_route.specs.History as events
 use Rattle.peer_route.specs.Plan as plans
@@ -28,7 +28,7 @@ pub queue_did : (v w : PeerView) (t : Trail) (lane k limit : ℕ) (r : Result (U
 unfolding ask_answer
 queue_did v w t lane k limit r s e is left = by (is_open t.past k) r is left
   where
-    by : (b : Bool) (r : Result (Unit {0}) Error) → r ≡ known b → Left w.core (after_all (ask_events k limit r) t.past)
+    by : (b : Bool) (r : Result (Unit {0}) Error) → r ≡ (if b then Ok tt else Err Error.UnknownHandle) → Left w.core (after_all (ask_events k limit r) t.past)
         → Did w t lane (where_open b (Says Answer.Set (events.Did k (events.Asked limit) ∷ []))) (plain (set_shown r))
     by true (Ok done) is left = (refl, keeps_along w v.given t.past (events.Did k (events.Asked limit) ∷ []) s.keeps.given (tt, tt) left e, nothing_made lane (events.Did k (events.Asked limit) ∷ []) refl)
     by true (Err error) is left = cc
@@ -101,7 +101,7 @@ answers_did f w t lane pl error (Err e) is did = tt
 answers_did f w t lane pl Error.Memory (Ok a) is did = absurd is
 answers_did f w t lane pl error (Ok a) is did = subst (Did w t lane pl) (sym is) (did (λ e. cc))
 
-pub uncloned_did : (v w : PeerView) (t : Trail) (lane k : ℕ) (error : Error) → Stands v t → w.given ≡ v.given → Clones v.core w.core k t.past (Err error) → error ≢ Error.Memory
+pub uncloned_did : (v w : PeerView) (t : Trail) (lane k : ℕ) (error : Error) → Stands v t → w.given ≡ v.given → ClonesBy Left v.core w.core k t.past (Err error) → error ≢ Error.Memory
     → Did w t lane (on_stream t lane StreamOp.Clone k) (plain (Answer.Refused error))
 uncloned_did v w t lane k Error.UnknownHandle s given c never =
     subst (λ b. Did w t lane (where_open b (plans.makes t lane (Cloned k))) (plain (Answer.Refused Error.UnknownHandle))) (sym c.0)

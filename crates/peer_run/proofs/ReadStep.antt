@@ -1,10 +1,10 @@
 -- A read is one entry more.
 use Rattle.std.proofs.{Common.{◌≡◌, ◌≢◌, ℕ, ◌+◌, ◌-◌, ◌^◌, ◌≤◌, ◌<◌, refl, sym, ◌∙◌, ap, subst, arith, Bool, List, [], ◌∷◌, ◌++◌, length, Option, Some, None, IfSome, inl, inr, Result, Ok, Err}, lemmas.List.{append-nil, length_push}}
 use Rattle.std.specs.Io.KnownBytes.{Consumes}
-use Rattle.peer_run.specs.{Names.{Seen, Front, outcome, Tells, ending_of, IsReadError, IsReadRefusal, Error, Answer, Entry, IoKind, Words}, Stands.PeerView, Runs.{Inlet, IsRest, IsLeft, SourceMoves, Follows, quiet}}
+use Rattle.peer_run.specs.{Names.{Seen, Front, outcome, Tells, ending_of, IsReadError, IsReadRefusal, Error, Answer, Entry, IoKind, Words}, Stands.PeerView, Runs.{Inlet, IsRest, SourceMoves, Follows, quiet}}
 use Rattle.peer_route.specs.{Parcel.Setting, History.{Took, Shut, Past, after}, Streams.busy, Entries.trail, Told.{IsOutcome, IsOf, left_after}, Left.Left, Plan.{Reads, reads_by, plan}}
 use Rattle.peer_route.proofs.{Given.given_took, Read.left_after-took}
-use Rattle.peer_run.proofs.{Flushing.rises, Following.{follows_by, reads_by as source_by}}
+use Rattle.peer_run.proofs.{Flushing.rises, Following.{IsLeft, follows_by, reads_by as source_by}}
 use Rattle.wire_signature.specs.declared.error.VariantError.{VariantError}
 use Rattle.wire_framing.specs.Receive as receive
 use Rattle.peer_run.specs.Runs as sinks

@@ -2,8 +2,8 @@
 use Rattle.std.proofs.{Common.{◌≡◌, ◌≢◌, ℕ, zero, suc, ◌||◌, if◌then◌else◌, drop, ◌-◌, refl, sym, ◌∙◌, ap, subst, arith, ◌⊎◌, inl, inr, Bool, true, false, List, [], ◌∷◌, ◌++◌, length, map, replicate, Option, Some, None, IsSome, Result, Ok, Err, IfOk}, lemmas.Option.slice_get-map, Math.Seq.drop-nil, lemmas.List.length-append}
 use Rattle.std.specs.{List.{slice_get, slice_set}, Option.option_map}
 use Rattle.peer_run.specs.{Names.{Seen, Error, Rule, Answer, Acted, IoKind, Spent, StreamOp, Makes}, Stands.{PeerView, Stands, Did, DidSend, AreTaken, Answers, unopened_answer, plain, forgotten}}
-use Rattle.peer_route.specs.{declared.opening.Opening.Opening, declared.streams.MessageStream.MessageStream, Parcel.message_of, History.{Made, Ruled, Put, Adds, Removes, Gone, Stream, Phase, Asking, Denied, Since, phase, Outbox, Past, after, after_all}, Calls.in_flight, Streams.{all_given, asks_bus, close_waits, leaving, gone_events, since_in, accepted, matched, offered, item_at, gave_last, opening_by, opening_at, opening_answer, opening_events}, Left.{View, Left}, Issuing.{put_of, issued, put_each, parcels, messages_of}, Bus.{OpensRule, OpensBy}, BusCall.{asking_of, tellings_of, remove_parcel, first_of, last_of}, Leaving.{ClosesStreams, MayClose, gone_both}, Trail.{Trail, count, new_names, asked_names, made_names}, Plan.{Says, Sends, unless_waits, on_stream, opens_new, where_open, leaves, ends}, Shown.shown_opening, declared.progress.OpenState.OpenState, declared.opening.Opens.Opens}
-use Rattle.peer_route.proofs.{Matched.accepted_nothing, Edits.{set_edit, edit-same}, Given.given_along, Issues.put_outbox}
+use Rattle.peer_route.specs.{declared.opening.Opening.Opening, declared.streams.MessageStream.MessageStream, Parcel.message_of, History.{Made, Ruled, Put, Adds, Removes, Gone, Stream, Phase, Asking, Denied, Since, phase, Outbox, Past, after, after_all}, Calls.in_flight, Streams.{all_given, asks_bus, close_waits, leaving, gone_events, since_in, accepted, matched, offered, item_at, gave_last, opening_by, opening_at, opening_answer, opening_events}, Left.{View, Left}, Issuing.{put_of, issued, put_each, parcels, messages_of}, Bus.{OpensRule, OpensBy}, BusCall.{asking_of, tellings_of, first_of, last_of}, Leaving.{ClosesStreams, MayClose}, Trail.{Trail, count, new_names, asked_names, made_names}, Plan.{Says, Sends, unless_waits, on_stream, opens_new, where_open, leaves, ends}, Shown.shown_opening, declared.progress.OpenState.OpenState, declared.opening.Opens.Opens}
+use Rattle.peer_route.proofs.{BusMessages.remove_parcel, Leavings.gone_both, Matched.accepted_nothing, Edits.{set_edit, edit-same}, Given.given_along, Issues.put_outbox}
 use Rattle.peer_run.proofs.{Quietly.{nothing_made, nothing_did, kept_still, answers_did}, Posted.{carried, unput_did}}
 use Rattle.peer_route.specs.History as events
 use Rattle.peer_route.specs.Entries as entries

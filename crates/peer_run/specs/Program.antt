@@ -1,7 +1,7 @@
 -- What the program prints, and with which status it ends.
 use Rattle.std.specs.{Prelude.{ℕ, ◌≡◌, ◌≢◌, ◌<◌, ◌⊎◌, ◌&&◌, nat_le, Bool, true, false, if◌then◌else◌, List, [], ◌∷◌, ◌++◌, length, map, take, reverse, codes, decimal, Option, Some, None, Ok, Err, is_ok, IfSome, IsTrue}, List.AllByRecursion, Io.KnownBytes.Appends}
 use Rattle.peer_run.specs.Names.{Error, Rule, rule_in_bytes, Entry, Given, Gave, Broke, Script, ScriptText, is_bus, name_of, line_count, IsWithin, script_of, transcript_text, command_of, MayRise, Part, Words, StreamOp, Answer}
-use Rattle.peer_route.specs.{Parcel.Setting, Entries.{trail, Legal, IsAtOnce}, Told.{ReadsTold, ClosesTold, IsSentOf, WritesTold, IsCutAt}, Laws.{IsPoll, IsFinal, IsReplyAt, IsFirstReply, IsCutOff, IsUnknown}, StreamLaws.{Yields, YieldsAsked, holds, rule_at, closes_stream, stays_open, says_denied, IsNoStream, is_take, IsEnded, IsLast, HoldsTooMany, IsPutOf, all_written}}
+use Rattle.peer_route.specs.{Parcel.Setting, Entries.{trail, Legal, IsAtOnce}, Told.{ReadsTold, ClosesTold, IsSentBytes, WritesTold, IsCutAt}, Laws.{IsPoll, IsFinal, IsReplyAt, IsFirstReply, IsCutOff, IsUnknown}, StreamLaws.{Yields, YieldsAsked, holds, rule_at, closes_stream, stays_open, says_denied, IsNoStream, is_take, IsEnded, IsLast, HoldsTooMany, IsPutOf, all_written}}
 use Rattle.peer_script.specs.Word.{same}
 
 -- the words of the program's table that are built: none, or `run`
@@ -10,23 +10,8 @@ is_run [] = true
 is_run (word ∷ []) = same word (codes "run")
 is_run (word ∷ other ∷ words) = false
 
-abbrev pub IsRun : List (List ℕ) → Type 0
-IsRun words = IsTrue (is_run words)
-
-abbrev pub usage : List ℕ
-usage = codes "usage: run, live, talk ADDR, serve ADDR, gen N" ++ 10 ∷ []
-
-abbrev pub input_fault : List ℕ
-input_fault = codes "input fault" ++ 10 ∷ []
-
-abbrev pub limit_text : List ℕ
-limit_text = codes "script: limit" ++ 10 ∷ []
-
 abbrev pub memory_text : List ℕ
 memory_text = codes "memory" ++ 10 ∷ []
-
-abbrev pub line_text : ℕ → List ℕ
-line_text n = codes "script: line " ++ decimal n ++ 10 ∷ []
 
 -- ---- what a run's history is
 
@@ -49,50 +34,38 @@ setting_of s = record { bus = is_bus s.kind; name = name_of s.kind; takes_fds = 
 abbrev pub Everywhere : List Entry → (List Entry → Entry → List Entry → Type 0) → Type 0
 Everywhere h Such = (newer : List Entry) (e : Entry) (older : List Entry) → h ≡ newer ++ e ∷ older → Such newer e older
 
--- what a poll of a lane's call gives: its answer, by the entries before it; and what comes after its last word
-pub record IsPolled (setting : Setting) (newer : List Entry) (e : Entry) (older : List Entry) (number : ℕ) : Type 0 where
-  pub first : (q : ℕ) → IsReplyAt q e.answer → IsFirstReply (trail setting older) e.lane number q e.answer
-  pub cut_off : (error : Error) → e.answer ≡ Answer.Closed error → IsCutOff (trail setting older) e.lane number error
-  pub once : IsFinal e.answer → AllByRecursion (IsUnknown e.lane number) newer
-
--- Each stream gives exactly the messages that were read since it was made and that its rule accepts, in order, a clone before
--- them what its original held; one for which the bus was asked, those behind the return to its AddMatch. It ends once; one that was
--- closed, or denied, is unknown from then on; and where an open one holds more than it may, reads wait.
-pub record StreamsAre (setting : Setting) (h : List Entry) : Type 0 where
-  pub yields : Everywhere h (λ newer e older. (number : ℕ) → e.words ≡ Words.Stream → e.answer ≡ Answer.Streaming number → Yields setting newer e older number None [])
-  -- a rule's stream, where it is open at once
+-- All that is said of a run's history, newest first, and of the bytes sent.
+pub record IsWhole (s : Script) (h : List Entry) (sent : List ℕ) : Type 0 where
+  -- Reads take the messages that stand in the source's bytes, in order, however these are cut; a busy read and a read of a closed peer
+  -- take nothing.
+  pub reads : ReadsTold (setting_of s) (Some (source_breaks s.given)) (source_bytes s.given) h
+  -- A polled call is answered at most once: by the first later reply that bears its serial, else by the error that closed the peer.
+  pub first : Everywhere h (λ newer e older. (number q : ℕ) → IsPoll number e.words → IsReplyAt q e.answer → IsFirstReply (trail (setting_of s) older) e.lane number q e.answer)
+  pub cut_off : Everywhere h (λ newer e older. (number : ℕ) (error : Error) → IsPoll number e.words → e.answer ≡ Answer.Closed error → IsCutOff (trail (setting_of s) older) e.lane number error)
+  pub once : Everywhere h (λ newer e older. (number : ℕ) → IsPoll number e.words → IsFinal e.answer → AllByRecursion (IsUnknown e.lane number) newer)
+  -- Each stream gives exactly the messages that were read since it was made and that its rule accepts, in order
+  pub yields : Everywhere h (λ newer e older. (number : ℕ) → e.words ≡ Words.Stream → e.answer ≡ Answer.Streaming number → Yields (setting_of s) newer e older number None [])
   pub rules : Everywhere h (λ newer e older. (number : ℕ) (asked : Option ℕ) (text : List ℕ) (rule : Rule) → e.words ≡ Words.Open asked text → rule_in_bytes text ≡ Ok rule
-      → e.answer ≡ Answer.Streaming number → Yields setting newer e older number (Some rule) [])
-  -- one for which the bus is asked
+      → e.answer ≡ Answer.Streaming number → Yields (setting_of s) newer e older number (Some rule) [])
+  -- one for which the bus was asked, those behind the return to its AddMatch; a clone, before them what its original held
   pub asked : Everywhere h (λ newer e older. (number serial : ℕ) (asked : Option ℕ) (text : List ℕ) (rule : Rule) → e.words ≡ Words.Open asked text → rule_in_bytes text ≡ Ok rule
-      → e.answer ≡ Answer.Opening number serial → YieldsAsked setting newer e older number serial rule)
-  -- a clone
+      → e.answer ≡ Answer.Opening number serial → YieldsAsked (setting_of s) newer e older number serial rule)
   pub clones : Everywhere h (λ newer e older. (number original : ℕ) → e.words ≡ Words.OfStream original StreamOp.Clone → e.answer ≡ Answer.Streaming number
-      → Yields setting newer e older number (rule_at (trail setting older) e.lane original) (holds (trail setting older) e.lane original))
+      → Yields (setting_of s) newer e older number (rule_at (trail (setting_of s) older) e.lane original) (holds (trail (setting_of s) older) e.lane original))
+  -- It ends once; one that was closed, or denied, is unknown from then on; and where an open one holds more than it may, reads wait.
   pub ends : Everywhere h (λ newer e older. (number : ℕ) → is_take number e.words ≡ true → IsLast e.answer → AllByRecursion (IsEnded e.lane number) newer)
   pub closes : Everywhere h (λ newer e older. (number : ℕ) → closes_stream number e.words ≡ true → stays_open e.answer ≡ false → AllByRecursion (IsNoStream e.lane number) newer)
   pub denied : Everywhere h (λ newer e older. (number : ℕ) → e.words ≡ Words.OfStream number StreamOp.Opened → says_denied e.answer ≡ true → AllByRecursion (IsNoStream e.lane number) newer)
-  pub waits : Everywhere h (λ newer e older. e.words ≡ Words.Read → HoldsTooMany (trail setting older).past → e.answer ≡ Answer.Busy)
-
--- What was sent. Where no write failed, all that was put was written, and the bytes sent are its encodings, in order. Where one
--- failed, it is that of the first message that wasn't written: the bytes sent are the encodings of those before it, and of it a proper
--- prefix. Where the sink has room for so many bytes, at each entry just those messages were written that end within them, and after a
--- failed write the bytes sent are just so many; no closing of the peer fails; and what the answers say was sent is what was written.
-pub record SentIs (setting : Setting) (outfault : Option ℕ) (h : List Entry) (sent : List ℕ) : Type 0 where
-  pub bytes : IsSentOf (trail setting h).past.outbox sent
-  pub room : WritesTold setting (Some outfault) h
-  pub cut : IsCutAt (Some outfault) (trail setting h).past.outbox.failed sent
-  pub closes : ClosesTold (Some outfault) h
-  pub put_is : let o = (trail setting h).past.outbox in IsPutOf o.failed o.written o.put (all_written h)
-
--- All that is said of a run's history, newest first, and of the bytes sent. Reads take the messages that stand in the source's bytes, in
--- order, however these are cut; a busy read and a read of a closed peer take nothing. A polled call is answered at most once: by the first
--- later reply that bears its serial, else by the error that closed the peer.
-pub record IsWhole (s : Script) (h : List Entry) (sent : List ℕ) : Type 0 where
-  pub reads : ReadsTold (setting_of s) (Some (source_breaks s.given)) (source_bytes s.given) h
-  pub polls : Everywhere h (λ newer e older. (number : ℕ) → IsPoll number e.words → IsPolled (setting_of s) newer e older number)
-  pub streams : StreamsAre (setting_of s) h
-  pub sends : SentIs (setting_of s) s.outfault h sent
+  pub waits : Everywhere h (λ newer e older. e.words ≡ Words.Read → HoldsTooMany (trail (setting_of s) older).past → e.answer ≡ Answer.Busy)
+  -- Where no write failed, all that was put was written, and the bytes sent are its encodings, in order. Where one failed, it is that of
+  -- the first message that wasn't written: the bytes sent are the encodings of those before it, and of it a proper prefix.
+  pub bytes : let o = (trail (setting_of s) h).past.outbox in IsSentBytes o.failed o.written o.put sent
+  -- Where the sink has room for so many bytes, at each entry just those messages were written that end within them, and after a failed
+  -- write the bytes sent are just so many; no closing of the peer fails; and what the answers say was sent is what was written.
+  pub room : WritesTold (setting_of s) (Some s.outfault) h
+  pub cut : IsCutAt (Some s.outfault) (trail (setting_of s) h).past.outbox.failed sent
+  pub shuts : ClosesTold (Some s.outfault) h
+  pub put_is : let o = (trail (setting_of s) h).past.outbox in IsPutOf o.failed o.written o.put (all_written h)
 
 -- ---- what is printed
 
@@ -118,17 +91,17 @@ pub record IsTranscript (input text : List ℕ) : Type 0 where
 -- isn't told to fail behind its bytes.
 abbrev pub IsRefusal : Option Bool → List ℕ → List ℕ → Type 0
 IsRefusal stop input text =
-    (((1073741824 < length input) ⊎ (1000000 < line_count input)) × (text ≡ limit_text))
-    ⊎ ((stop ≢ Some true) × IsWithin input × (n : ℕ) × (script_of input ≡ Err n) × (text ≡ line_text n))
+    (((1073741824 < length input) ⊎ (1000000 < line_count input)) × (text ≡ codes "script: limit" ++ 10 ∷ []))
+    ⊎ ((stop ≢ Some true) × IsWithin input × (n : ℕ) × (script_of input ≡ Err n) × (text ≡ codes "script: line " ++ decimal n ++ 10 ∷ []))
 
 -- What the program prints and under which status, memory and the output's faults aside, by its words and what the input tells: 0, the
 -- transcript, where the input isn't told to fail behind its bytes; 2, the usage, exactly where the words are none of its own; 3, why there is
 -- no transcript; 4, that the input failed, only where the count of its faults rose.
 pub data Prints (words : List (List ℕ)) (input : Option (List ℕ)) (stop : Option Bool) (faults faults' : ℕ) (status : ℕ) (text : List ℕ) : Type 0 where
-  Transcript : status ≡ 0 → IsRun words → stop ≢ Some true → IfSome input (λ bytes. IsTranscript bytes text) → Prints words input stop faults faults' status text
-  Usage : status ≡ 2 → ¬ IsRun words → text ≡ usage → Prints words input stop faults faults' status text
-  Refusal : status ≡ 3 → IsRun words → IfSome input (λ bytes. IsRefusal stop bytes text) → Prints words input stop faults faults' status text
-  InputFault : status ≡ 4 → IsRun words → MayRise faults faults' → text ≡ input_fault → Prints words input stop faults faults' status text
+  Transcript : status ≡ 0 → IsTrue (is_run words) → stop ≢ Some true → IfSome input (λ bytes. IsTranscript bytes text) → Prints words input stop faults faults' status text
+  Usage : status ≡ 2 → ¬ IsTrue (is_run words) → text ≡ codes "usage: run, live, talk ADDR, serve ADDR, gen N" ++ 10 ∷ [] → Prints words input stop faults faults' status text
+  Refusal : status ≡ 3 → IsTrue (is_run words) → IfSome input (λ bytes. IsRefusal stop bytes text) → Prints words input stop faults faults' status text
+  InputFault : status ≡ 4 → IsTrue (is_run words) → MayRise faults faults' → text ≡ codes "input fault" ++ 10 ∷ [] → Prints words input stop faults faults' status text
 
 -- the status that an input's bytes decide: 0 for a script text within the limits, else 3
 abbrev pub decided : List ℕ → ℕ

@@ -1,7 +1,7 @@
 -- What a run gives: a legal history of its commands, whose reads and writes are what the outside told.
 use Rattle.std.specs.{Prelude.{ℕ, ◌≡◌, ◌^◌, ◌-◌, ◌≤◌, false, List, [], length, map, reverse, Option, None, IfSome, ⊤, ◌⊎◌, ◌&&◌, ◌||◌, nat_le, if◌then◌else◌, Bool, true, ◌∷◌, ◌++◌, drop, take, Some, IsSome}, List.AllByRecursion, Io.KnownBytes.Keeps}
 use Rattle.peer_run.specs.{Names.{Writing, MayRise, RoomFalls, RoomStays, asked_again, spent, Fine, Seen, Error, Words, Command, Answer, Entry, Writer, command_of, IoKind}, Stands.{PeerView, Stands}}
-use Rattle.peer_route.specs.{Parcel.Setting, Entries.{trail, Legal, IsAtOnce}, Told.{ReadsTold, ClosesTold, WritesTold, AreWritten, IsSentBytes, IsCutAt, encodings, left_after}, History.{Outbox, Past}}
+use Rattle.peer_route.specs.{Parcel.Setting, Entries.{trail, Legal, IsAtOnce}, Told.{ReadsTold, ClosesTold, WritesTold, AreWritten, IsSentBytes, IsCutAt, encodings, left_after}, History.{Outbox}}
 
 -- ---- what a source and a sink tell, entry by entry: the sink holds what was written of what was put
 
@@ -25,27 +25,19 @@ Moves false before now = now ≡ before
 
 -- ---- the source
 
--- how many of the bytes that are left a read takes that finds no message in them: none, where no position is left for one
-abbrev pub lost : ℕ → List ℕ → ℕ
-lost count bytes = if nat_le (2 ^ 64 - 2) count then 0 else spent bytes
-
 -- What is left in the source, by what closed the peer; `rest` are the bytes that the messages left which were read, `count` of them. It
--- is these where nothing closed the peer, or a command did; where a read found no message, those behind the bytes that it took. After a
--- fault nothing is told.
+-- is these where nothing closed the peer, or a command did; where a read found no message, those behind the bytes that it took, which are
+-- none where no position was left for a message. After a fault nothing is told.
 abbrev pub IsRest : Option Error → ℕ → List ℕ → Option Bool → Option (List ℕ) → Option Bool → Type 0
 IsRest None count rest before left stop = (left ≡ Some rest) × (stop ≡ before)
 IsRest (Some (Error.InputOutput IoKind.Closed)) count rest before left stop = (left ≡ Some rest) × (stop ≡ before)
 IsRest (Some (Error.InputOutput IoKind.Fault)) count rest before left stop = ⊤
-IsRest (Some error) count rest before left stop = (left ≡ Some (drop (lost count rest) rest)) × (stop ≡ before)
+IsRest (Some error) count rest before left stop = (left ≡ Some (drop (if nat_le (2 ^ 64 - 2) count then 0 else spent rest) rest)) × (stop ≡ before)
 
--- what the past leaves in a source that had these bytes
-abbrev pub IsLeft : List ℕ → Option Bool → Past → Option (List ℕ) → Option Bool → Type 0
-IsLeft bytes before h left stop = IsRest h.closing (length h.read) (left_after bytes h) before left stop
-
--- What the source told at the start, and tells now, is what the history's reads say.
+-- What the source told at the start is what the history's reads say; what they didn't take is left in it.
 pub record Reads (setting : Setting) (start now : Inlet) (es : List Entry) : Type 0 where
   pub told : IfSome start.left (λ bytes. ReadsTold setting start.stop bytes es)
-  pub rest : IfSome start.left (λ bytes. IsLeft bytes start.stop (trail setting es).past now.left now.stop)
+  pub rest : let h = (trail setting es).past in IfSome start.left (λ bytes. IsRest h.closing (length h.read) (left_after bytes h) start.stop now.left now.stop)
 
 -- What an entry did to the source's count of faults, by what had closed the peer: nothing, but where it is a read of an open one; there it
 -- rose where that is answered as a fault, and a busy peer leaves it.
@@ -162,10 +154,8 @@ pub record Runs (setting : Setting) (start_in : Inlet) (start_out : Outlet) (end
   pub once : AllByRecursion IsAtOnce (reverse entries)
   -- the entries' commands are those, each once and in order
   pub each : map command_of entries ≡ commands
-  -- the reads are what stands in the source's bytes
-  pub reads : IfSome start_in.left (λ bytes. ReadsTold setting start_in.stop bytes (reverse entries))
-  -- what is left in the source is what they didn't take
-  pub rest : IfSome start_in.left (λ bytes. IsLeft bytes start_in.stop (trail setting (reverse entries)).past end_in.left end_in.stop)
+  -- the reads are what stands in the source's bytes, and what is left in it is what they didn't take
+  pub reads : Reads setting start_in end_in (reverse entries)
   -- the sink holds the encodings of what was put, up to its first fault
   pub writes : let o = (trail setting (reverse entries)).past.outbox in IfSome start_out.held (λ before. Holds start_out.room before end_out.held o.failed o.written o.put)
   -- where the sink tells its room, at each entry just those messages were written that end within it, and the next one's write failed

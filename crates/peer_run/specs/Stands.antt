@@ -1,7 +1,8 @@
 -- How a peer stands to what its entries leave, and what a command does to it before anything of it is written.
-use Rattle.std.specs.{Prelude.{ℕ, ◌≡◌, Bool, false, List, [], ◌∷◌, ◌++◌, replicate, slice_set, Option, Some, None, Result, Ok, Err}, List.AllByRecursion}
-use Rattle.peer_run.specs.Names.{Seen, Error, is_unsupported, Polled, Answer, Acted, Makes, IoKind}
-use Rattle.peer_route.specs.{History.{Event, Past, after_all}, Streams.all_given, Left.{View, Left}, Issuing.{Posting, issued, parcels, messages_of, put_each}, Trail.{Trail, Names, owner, new_names, asked_names, made_names}, Plan.{Plan, Says, Sends}, Entries.unsent}
+use Rattle.std.specs.{Prelude.{ℕ, ◌≡◌, Bool, false, List, [], ◌∷◌, ◌++◌, replicate, slice_set, Option, Some, None, Result, Ok, Err, ◌+◌, ◌==◌, if◌then◌else◌, ◌⊎◌, ◌&&◌, not, true}, List.AllByRecursion, Option.option_map_or, Ordering.nat_cmp, BTreeMap.{BTreeMap, get}, Global.Vec}
+use Rattle.peer_run.specs.Names.{Seen, Error, is_unsupported, Polled, Answer, Acted, Makes, IoKind, Datum, Draft, are_misplaced, CallFlags}
+use Rattle.peer_route.specs.{History.{Event, Past, after_all}, Streams.all_given, Left.{View, Left}, Issuing.{Posting, issued, parcels, messages_of, put_each}, Trail.{Trail, Names, owner, new_names, asked_names, made_names}, Plan.{Plan, Says, Sends}, Entries.unsent, Parcel.{Parcel, Asked, sent_by}, CallMessage.{flags_number, words_refusal, asked_of}}
+use Rattle.wire_number.specs.declared.endian.Endian.TheVariants.{Little, Big}
 
 -- what contracts see of a peer: its core, whose its calls and its streams are, and for each stream the message that it gave last
 pub record PeerView : Type 0 where
@@ -91,3 +92,49 @@ given_after k other gs = gs
 abbrev pub forgotten : ℕ → Option ℕ → List (Option Seen) → List (Option Seen)
 forgotten k None gs = slice_set gs k None
 forgotten k (Some j) gs = slice_set (slice_set gs k None) j None
+
+-- ---- what a lane's numbers name, where it is kept for each lane
+
+-- whether what has this owner belongs to the lane
+abbrev pub is_of : Option ℕ → ℕ → Bool
+is_of None lane = false
+is_of (Some l) lane = l == lane
+
+-- The numbers among all of what belongs to the lane, in order; `at` is the first owner's.
+abbrev pub places : ℕ → ℕ → Names → List ℕ
+places at lane [] = []
+places at lane (owner ∷ owners) = (if is_of owner lane then at ∷ [] else []) ++ places (at + 1) lane owners
+
+-- what is kept for a lane: nothing, where the map lacks it
+abbrev pub kept_for : BTreeMap ℕ (Vec ℕ) → ℕ → List ℕ
+kept_for lanes lane = option_map_or (λ v. v.items) (get nat_cmp lanes lane) []
+
+-- ---- what the words of a command make: a message to be sent, or why none is
+
+-- What is made is what is asked to be sent, and a refusal is the one that is due. Want of memory tells nothing.
+abbrev pub MakesParcel : Result Parcel Error → Asked → Type 0
+MakesParcel (Ok parcel) asked = asked ≡ Ok parcel
+MakesParcel (Err Error.Memory) asked = Unit {0}
+MakesParcel (Err error) asked = asked ≡ Err error
+
+-- what is asked for, sent by the peer of that name
+abbrev pub named_asked : Option (List ℕ) → Asked → Asked
+named_asked name (Ok parcel) = Ok (sent_by name false parcel)
+named_asked name (Err error) = Err error
+
+-- it has no descriptors, or the sink takes them
+abbrev pub IsCarried : Bool → Parcel → Type 0
+IsCarried takes parcel = (parcel.fds ≡ []) ⊎ (takes ≡ true)
+
+-- ---- on the way
+
+-- The header of words of which each is in its grammar, before its letters are looked at; else why they are refused.
+abbrev pub MakesDraft : Result Draft Error → Draft → Type 0
+MakesDraft (Ok made) draft = (made ≡ record draft { order = Little; flags = 0 }) × (words_refusal draft ≡ None)
+MakesDraft (Err error) draft = words_refusal draft ≡ Some error
+
+-- what is asked for once the words and the body are read
+abbrev pub letters_asked : Draft → List Datum → CallFlags → Bool → Asked
+letters_asked draft values flags takes_fds =
+    asked_of None (Some values) (are_misplaced draft.kind (flags_number flags)) (flags.descriptor && not takes_fds)
+    (record draft { order = if flags.big then Big else Little; flags = flags_number flags }) (if flags.descriptor then 0 ∷ [] else [])

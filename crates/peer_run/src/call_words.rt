@@ -1,14 +1,15 @@
 //! The messages that the words of commands ask for.
-ghost use Rattle.std.specs.Prelude.{Bool, ◌≡◌, ◌<◌, ◌^◌, length, IfOk, IfErr, true, false, Some, None, Ok, Err, option_map, unwrap_or, if◌then◌else◌, []};
+ghost use Rattle.std.specs.Prelude.{Bool, ◌≡◌, ◌<◌, ◌^◌, length, IfOk, IfErr, true, false, Some, None, Ok, Err, option_map, unwrap_or, if◌then◌else◌, [], ◌∷◌};
 ghost use Rattle.wire_names.specs.Names.{is_bus_name, is_interface_name};
 ghost use Rattle.wire_names.specs.BusName.{text_of};
 ghost use Rattle.wire_names.specs.declared.error.NamesError.TheVariants as names;
 ghost use Rattle.wire_message.specs.declared.error.Error.TheVariants as errors;
 ghost use Rattle.wire_message.specs.declared.kind.MessageType.TheVariants as types;
+ghost use Rattle.wire_number.specs.declared.endian.Endian.TheVariants as ends;
 ghost use Rattle.wire_message.specs.Draft.{are_misplaced};
 ghost use Rattle.peer_route.specs.BodyWord.{ReadsBody};
-ghost use Rattle.peer_route.specs.CallMessage.{flags_number, order_of, fds_of, is_outside, values_in, outgoing_draft, outgoing_asked, reply_asked, error_asked};
-ghost use Rattle.peer_run.specs.CallWords.{MakesDraft, MakesParcel, IsCarried, letters_asked};
+ghost use Rattle.peer_route.specs.CallMessage.{flags_number, is_outside, values_in, outgoing_draft, outgoing_asked, reply_asked, error_asked};
+ghost use Rattle.peer_run.specs.Stands.{MakesDraft, MakesParcel, IsCarried, letters_asked};
 
 use bitflags::Flags as _;
 use peer_route::{CallFlags, Letter, Outgoing, OutgoingKind, read_body};
@@ -135,7 +136,7 @@ fn flags_of(flags: CallFlags) -> Flags
 }
 
 fn order_of(big: bool) -> Endian
-    ensures { result ≡ order_of big }
+    ensures { result ≡ (if big then ends.Big else ends.Little) }
 {
     if big { Endian::Big } else { Endian::Little }
 }
@@ -143,7 +144,7 @@ fn order_of(big: bool) -> Endian
 /// With those flags, and in that byte order, where its type can have them.
 fn with_letters<'a>(builder: Builder<'a>, flags: CallFlags) -> Result<Builder<'a>>
     requires none { builder.flags ≡ 0 }
-    ensures { result ≡ (if are_misplaced builder.entry.kind (flags_number flags) then Err errors.InvalidField else Ok (record builder.entry { order = order_of flags.big; flags = flags_number flags })) }
+    ensures { result ≡ (if are_misplaced builder.entry.kind (flags_number flags) then Err errors.InvalidField else Ok (record builder.entry { order = if flags.big then ends.Big else ends.Little; flags = flags_number flags })) }
 {
     builder
         .endian(order_of(flags.big))
@@ -152,7 +153,7 @@ fn with_letters<'a>(builder: Builder<'a>, flags: CallFlags) -> Result<Builder<'a
 
 /// The list of descriptors: the one number 0 where it is asked for.
 fn fds_of(alloc: Global, descriptor: bool) -> std::result::Result<Vec<u32>, AllocError>
-    ensures value { IfOk result (λ fds. fds.items ≡ fds_of descriptor) }
+    ensures value { IfOk result (λ fds. fds.items ≡ (if descriptor then 0 ∷ [] else [])) }
     ensures few { IfOk result (λ fds. length fds.items < 2 ^ 32) }
 {
     let mut fds = Vec::new(alloc);

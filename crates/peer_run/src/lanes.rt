@@ -1,6 +1,6 @@
 ghost use Rattle.std.specs.Prelude.{◌≡◌, ℕ, [], ◌∷◌, ◌++◌, if◌then◌else◌, replicate, None, OnOk, OnErr};
 ghost use Rattle.peer_route.specs.Trail as trails;
-ghost use Rattle.peer_run.specs.Numbers.{is_of, places, kept_for};
+ghost use Rattle.peer_run.specs.Stands.{is_of, places, kept_for};
 
 use std::alloc::{AllocError, Global};
 use std::collections::BTreeMap;
@@ -25,7 +25,7 @@ impl Drop for Lanes {
 impl Model for Lanes {
     ghost use Rattle.std.specs.Prelude.{◌≡◌, ℕ};
     ghost use Rattle.peer_route.specs.Trail.{Names};
-    ghost use Rattle.peer_run.specs.Numbers.{places, kept_for};
+    ghost use Rattle.peer_run.specs.Stands.{places, kept_for};
 
     ghost Value = { Names };
 

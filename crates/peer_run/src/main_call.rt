@@ -1,4 +1,4 @@
-ghost use Rattle.std.specs.Prelude.{ℕ, ◌≡◌, ◌≢◌, ◌<◌, ◌≤◌, ◌⊎◌, Bool, true, List, [], map, string_bytes, Option, Some, Ok, IfOk, IfSome, is_some};
+ghost use Rattle.std.specs.Prelude.{ℕ, IsTrue, codes, decimal, ◌∷◌, ◌++◌, ◌≡◌, ◌≢◌, ◌<◌, ◌≤◌, ◌⊎◌, Bool, true, List, [], map, string_bytes, Option, Some, Ok, IfOk, IfSome, is_some};
 ghost use Rattle.std.specs.List.{AllByRecursion};
 ghost use Rattle.std.specs.Io.KnownBytes.{Appends};
 ghost use Rattle.peer_route.specs.declared.words.Command.{Command};
@@ -6,7 +6,7 @@ ghost use Rattle.peer_route.specs.Entries.{IsOfRun};
 ghost use Rattle.wire_framing.specs.Source.{MayRise};
 ghost use Rattle.peer_script.specs.Reading.{IsWithin, script_of, script_from, given};
 ghost use Rattle.peer_script.specs.Transcript.{transcript_text};
-ghost use Rattle.peer_run.specs.Program.{IsRun, is_run, usage, input_fault, memory_text, line_text, Tells, IsTranscript, IsRefusal, Prints, decided, IsCutShort, RunsOut, Ends, Says};
+ghost use Rattle.peer_run.specs.Program.{is_run, memory_text, Tells, IsTranscript, IsRefusal, Prints, decided, IsCutShort, RunsOut, Ends, Says};
 
 use crate::peer::RunError;
 use crate::run::run_peer;
@@ -88,7 +88,7 @@ fn run_in_memory(
 /// Runs the commands, which were read of this input, and prints the transcript.
 fn run_commands<O: Sink>(alloc: Global, setup: &Setup, commands: &[Command], output: &mut O) -> u8
     requires { AllByRecursion (λ (c : Command). IsOfRun c.words) commands.now }
-    ensures { (words : List (List ℕ)) (input : Option (List ℕ)) (stop : Option Bool) (faults faults' : ℕ) → IsRun words → stop ≢ Some true
+    ensures { (words : List (List ℕ)) (input : Option (List ℕ)) (stop : Option Bool) (faults faults' : ℕ) → IsTrue (is_run words) → stop ≢ Some true
         → IfSome input (λ bytes. IsWithin bytes × (script_of bytes ≡ Ok (script_from setup.now.kind setup.now.queue setup.now.fds setup.now.outfault setup.now.pieces.items commands.now)))
         → Ends (Prints words input stop faults faults') (O.held output.old) (O.held output.new) (O.faults output.old) (O.faults output.new) result }
 {
@@ -106,7 +106,7 @@ fn run_commands<O: Sink>(alloc: Global, setup: &Setup, commands: &[Command], out
 
 /// Says which line is the first outside.
 fn say_line<O: Sink>(alloc: Global, output: &mut O, line: u64) -> u8
-    ensures { Says 3 (line_text line) (O.held output.old) (O.held output.new) (O.faults output.old) (O.faults output.new) result
+    ensures { Says 3 (codes "script: line " ++ decimal line ++ 10 ∷ []) (O.held output.old) (O.held output.new) (O.faults output.old) (O.faults output.new) result
         ⊎ Says 1 memory_text (O.held output.old) (O.held output.new) (O.faults output.old) (O.faults output.new) result }
 {
     match format!(in alloc; "script: line {line}\n") {
@@ -117,7 +117,7 @@ fn say_line<O: Sink>(alloc: Global, output: &mut O, line: u64) -> u8
 
 /// Reads a script to its end and runs it.
 fn run_script<I: Source, O: Sink>(alloc: Global, input: &mut I, output: &mut O) -> u8
-    ensures { (words : List (List ℕ)) → IsRun words → Ends (Prints words (I.left input.old) (I.stop input.old) (I.faults input.old) (I.faults input.new))
+    ensures { (words : List (List ℕ)) → IsTrue (is_run words) → Ends (Prints words (I.left input.old) (I.stop input.old) (I.faults input.old) (I.faults input.new))
         (O.held output.old) (O.held output.new) (O.faults output.old) (O.faults output.new) result }
 {
     match read_script(alloc, Word::Run, input) {
@@ -133,7 +133,7 @@ fn run_script<I: Source, O: Sink>(alloc: Global, input: &mut I, output: &mut O) 
 fn print<I: Source, O: Sink>(alloc: Global, words: &[String], input: &mut I, output: &mut O) -> u8
     ensures ends { Ends (Prints (map (λ word. string_bytes word) words.now) (I.left input.old) (I.stop input.old) (I.faults input.old) (I.faults input.new))
         (O.held output.old) (O.held output.new) (O.faults output.old) (O.faults output.new) result }
-    ensures script { IsRun (map (λ word. string_bytes word) words.now) → ¬ MayRise (I.faults input.old) (I.faults input.new)
+    ensures script { IsTrue (is_run (map (λ word. string_bytes word) words.now)) → ¬ MayRise (I.faults input.old) (I.faults input.new)
         → ¬ MayRise (O.faults output.old) (O.faults output.new) → IfSome (I.left input.old) (λ bytes. (result ≡ decided bytes) ⊎ (result ≡ 1)) }
 {
     match word_of(words) {
@@ -163,18 +163,18 @@ pub fn peer_main<R, I: Source, O: Sink>(
     // 0: the input isn't told to fail behind its bytes; the transcript of a legal history of the script, and nothing else, was printed;
     // and all that `IsWhole` says holds of that history, of its reads, polls and streams and of what was sent
     ensures told { result ≡ 0 → I.stop input.old ≢ Some true }
-    ensures whole { result ≡ 0 → IsRun (map (λ word. string_bytes word) words.now)
+    ensures whole { result ≡ 0 → IsTrue (is_run (map (λ word. string_bytes word) words.now))
         × IfSome (I.left input.old) (λ bytes. (text : List ℕ) × IsTranscript bytes text × Appends (O.held output.old) (O.held output.new) text) }
     // 2: exactly where the words are no row of the program's table, memory and the output's faults aside
-    ensures usage { result ≡ 2 → (¬ IsRun (map (λ word. string_bytes word) words.now)) × Appends (O.held output.old) (O.held output.new) usage }
-    ensures no_row { ¬ IsRun (map (λ word. string_bytes word) words.now) → (result ≡ 2) ⊎ (result ≡ 1) ⊎ (result ≡ 5) }
+    ensures usage { result ≡ 2 → (¬ IsTrue (is_run (map (λ word. string_bytes word) words.now))) × Appends (O.held output.old) (O.held output.new) (codes "usage: run, live, talk ADDR, serve ADDR, gen N" ++ 10 ∷ []) }
+    ensures no_row { ¬ IsTrue (is_run (map (λ word. string_bytes word) words.now)) → (result ≡ 2) ⊎ (result ≡ 1) ⊎ (result ≡ 5) }
     // 3: exactly where the input passes a limit or is no script text, and the printed line says where; with a line only where the input
     // isn't told to fail behind its bytes
-    ensures refused { result ≡ 3 → IsRun (map (λ word. string_bytes word) words.now)
+    ensures refused { result ≡ 3 → IsTrue (is_run (map (λ word. string_bytes word) words.now))
         × IfSome (I.left input.old) (λ bytes. (text : List ℕ) × IsRefusal (I.stop input.old) bytes text × Appends (O.held output.old) (O.held output.new) text) }
     // 4, 5: only where the count of the input's, the output's faults rose; 5 exactly there, in place of any other
-    ensures input_fault { result ≡ 4 → IsRun (map (λ word. string_bytes word) words.now)
-        × MayRise (I.faults input.old) (I.faults input.new) × Appends (O.held output.old) (O.held output.new) input_fault }
+    ensures input_fault { result ≡ 4 → IsTrue (is_run (map (λ word. string_bytes word) words.now))
+        × MayRise (I.faults input.old) (I.faults input.new) × Appends (O.held output.old) (O.held output.new) (codes "input fault" ++ 10 ∷ []) }
     ensures output_fault { result ≡ 5 → MayRise (O.faults output.old) (O.faults output.new) }
     // and then a proper part was printed of what would have been, and nothing else
     ensures cut_short { result ≡ 5 → IsCutShort (Prints (map (λ word. string_bytes word) words.now) (I.left input.old) (I.stop input.old) (I.faults input.old) (I.faults input.new)) (O.held output.old) (O.held output.new) }
@@ -183,7 +183,7 @@ pub fn peer_main<R, I: Source, O: Sink>(
     ensures output_first { O.faults output.old < O.faults output.new → result ≡ 5 }
     ensures statuses { result ≤ 5 }
     // a script text gives 0, another input 3, where no count rose and there is memory
-    ensures script { IsRun (map (λ word. string_bytes word) words.now) → ¬ MayRise (I.faults input.old) (I.faults input.new)
+    ensures script { IsTrue (is_run (map (λ word. string_bytes word) words.now)) → ¬ MayRise (I.faults input.old) (I.faults input.new)
         → ¬ MayRise (O.faults output.old) (O.faults output.new) → IfSome (I.left input.old) (λ bytes. (result ≡ decided bytes) ⊎ (result ≡ 1)) }
 {
     print(alloc, words, input, output)

@@ -7,10 +7,10 @@ ghost use Rattle.peer_route.specs.History.{Past};
 ghost use Rattle.peer_route.specs.Streams.{all_given};
 ghost use Rattle.peer_route.specs.Left.{Left};
 ghost use Rattle.peer_route.specs.CallMessage.{outgoing_asked};
-ghost use Rattle.peer_route.specs.Issuing.{Issues, issued_each, of_lane};
+ghost use Rattle.peer_route.specs.Issuing.{IssuesBy, issued_each, posted};
 ghost use Rattle.peer_route.specs.Plan.{sends, on_stream};
 ghost use Rattle.peer_route.specs.declared.words.StreamOp.TheVariants as ops;
-ghost use Rattle.peer_run.specs.CallWords.{MakesParcel, named_asked, IsCarried};
+ghost use Rattle.peer_run.specs.Stands.{MakesParcel, named_asked, IsCarried};
 ghost use Rattle.peer_run.specs.Stands.{PeerView, Stands, Did};
 
 use crate::acting::{Acted, Makes, plainly};
@@ -26,7 +26,7 @@ use wire_names::Bytes;
 /// Issues one message, sent by the peer; no call is served by it.
 fn issue_one(alloc: Global, route: &mut Route, letter: Letter<'_>) -> wire_message::Result<Issued>
     requires { length letter.fds < 2 ^ 32 }
-    ensures { (p : Past) → Left route.old p → Issues (λ issued serials. issued ∷ [] ≡ issued_each p (of_lane (sent_by route.old.name false letter.entry) ∷ []) serials) (route.new ≡ route.old) route.new (of_lane (sent_by route.old.name false letter.entry) ∷ []) p result }
+    ensures { (p : Past) → Left route.old p → IssuesBy (λ issued serials. issued ∷ [] ≡ issued_each p (posted false (sent_by route.old.name false letter.entry) ∷ []) serials) (route.new ≡ route.old) (Left route.new) (posted false (sent_by route.old.name false letter.entry) ∷ []) p result }
 {
     let mut list = Vec::new(alloc);
     list.push(letter)?;

@@ -1,5 +1,5 @@
 -- One message more has its serial, or none is left for it.
-use Rattle.peer_route.proofs.{Edits.{all_push}, Drawn.{Drawing, drawing_more, drawing_refused, drawing_done, next_dropped, next_posted, made_more}}
+use Rattle.peer_route.proofs.{Edits.all_push, Drawn.{Drawing, drawing_more, drawing_refused, drawing_done, next_dropped, next_posted, made_more}}
 use Rattle.std.proofs.{Common.{arith, ◌≡◌, [], ◌<◌, ◌+◌, ℕ, Vec, Global, drop, length, sym, ◌∙◌, ap, subst, drop_of_length-le}, lemmas.Result.err_from_is_err_and, lemmas.List.length_push}
 use Rattle.std.specs.List.{AllByRecursion}
 use Rattle.peer_route.specs.Placing.{posts}

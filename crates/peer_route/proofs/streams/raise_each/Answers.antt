@@ -1,7 +1,6 @@
 -- One stream more is raised; past the last all are.
 use Rattle.std.proofs.Common.{arith, sym, ap, ◌∙◌}
-use Rattle.peer_route.specs.Left.{raise_held}
-use Rattle.peer_route.proofs.Queues.{each_step, each_back}
+use Rattle.peer_route.proofs.{Queues.{each_step, each_back}, RuledStreams.raise_held}
 use Rattle.peer_route.proofs.streams.raise_each.Goals as goal
 
 pub loop-queue-preserved : goal.loop-queue-preserved

@@ -1,6 +1,6 @@
 use Rattle.std.proofs.Common.{◌≡◌, [], ◌∷◌, false, sym, subst, Ok, IfOk}
-use Rattle.peer_route.specs.{Entries.unsent, Parcel.sent_by, Left.Left, Issuing.{issued_each, of_lane}, Plan.sends}
-use Rattle.peer_run.specs.{CallWords.named_asked, Stands.Did, Names.Answer}
+use Rattle.peer_run.specs.{Stands.{named_asked, Did}, Names.Answer}
+use Rattle.peer_route.specs.{Entries.unsent, Parcel.sent_by, Left.Left, Issuing.{issued_each, posted}, Plan.sends}
 use Rattle.peer_run.proofs.{Quietly.answers_did, Posted.{put_did, unsent_did, letter_named, refused_did}}
 use Rattle.peer_run.proofs.sending.put.Goals as goal
 
@@ -24,4 +24,4 @@ returns-in-Err-issue_one c t v asked core left given names makes can =
     let parcel = sent_by c.args.route.now.name false c.in-Ok.letter in
     subst (λ x. IfOk c.unsent.result (Did v t c.args.lane (sends t c.args.lane x))) (letter_named c.args.route.now.name t.past.name asked c.in-Ok.letter left.name (rw (c.in-Ok.is) at makes))
     (answers_did unsent v t c.args.lane (sends t c.args.lane (Ok parcel)) c.in-Err-issue_one.error c.unsent.result c.unsent.ensures
-    (unsent_did (λ issued serials. issued ∷ [] ≡ issued_each t.past (of_lane parcel ∷ []) serials) c.args.route.now c.issue_one.new.route v t c.args.lane parcel c.in-Err-issue_one.error core left given (c.in-Err-issue_one.ensures t.past left)))
+    (unsent_did (λ issued serials. issued ∷ [] ≡ issued_each t.past (posted false parcel ∷ []) serials) c.args.route.now c.issue_one.new.route v t c.args.lane parcel c.in-Err-issue_one.error core left given (c.in-Err-issue_one.ensures t.past left)))

@@ -1,8 +1,8 @@
 -- The call that waits for the message's reply serial takes it.
 use Rattle.std.proofs.{Common.{◌≡◌, ℕ, length, refl, sym, ◌∙◌, ap, set, get_or, is_some, true, subst}, lemmas.Bool.false≢true, lemmas.List.get_or_read_under}
 use Rattle.std.specs.List.{list_any}
-use Rattle.peer_route.specs.{History.{Took, after}, Left.{CallsView, LeftCalls, is_waiting, is_inner_slot, reply_kept}, Names.Gone}
-use Rattle.peer_route.proofs.{Core.{took_by_none, took_past, took_first}, Slots.reply_waits, Index.{any_index, waits_within, index_removed, some_same, open_none, pending_open, answers_none, answers_serial, answers_shut}}
+use Rattle.peer_route.specs.{History.{Took, after}, Left.{CallsView, LeftCalls, is_waiting, is_inner_slot}, Names.Gone}
+use Rattle.peer_route.proofs.{Core.{took_by_none, took_past, took_first}, Slots.{reply_kept, reply_waits}, Index.{any_index, waits_within, index_removed, some_same, open_none, pending_open, answers_none, answers_serial, answers_shut}}
 use Rattle.peer_route.proofs.calls.PendingMethodCalls.complete_call.Goals as goal
 
 -- ---- a closed peer

@@ -1,7 +1,7 @@
 -- The call is issued.
 use Rattle.std.proofs.Common.{OnOk, Result, Ok, Err, sym, ◌∙◌, ap, refl, false, true}
-use Rattle.peer_route.specs.{History.{Put, OfLane, after}, Left.{waiting_serial, with_call}}
-use Rattle.peer_route.proofs.Drawn.{called}
+use Rattle.peer_route.specs.{History.{Put, OfLane, after}, Left.waiting_serial}
+use Rattle.peer_route.proofs.Drawn.{called, with_call}
 use Rattle.peer_route.proofs.calls.PendingMethodCalls.register_call.Goals as goal
 
 on-ok : {A E P Q : Type 0} (r : Result A E) → OnOk r P → (P → Q) → OnOk r Q

@@ -1,7 +1,7 @@
 -- The stream's rule is told of, or it has none, or need not be.
-use Rattle.std.proofs.{Common.{◌∙◌, sym, ap, subst, codes, map, if◌then◌else◌, [], ◌∷◌, ◌++◌, Some, None}, lemmas.List.append-nil, lemmas.Result.err_from_is_err_and}
-use Rattle.peer_route.specs.{Left.{View, Left}, BusCall.{match_parcel, remove_parcel, some_rules}}
-use Rattle.peer_route.proofs.{BusMessages.remove_is, Leavings.leaves_so, route.Route.add_removal.Goals.{in_default-via-in-Some+else-must_tell, in_default-via-in_default}}
+use Rattle.std.proofs.{Common.{arith, length, ◌∙◌, sym, ap, subst, codes, map, if◌then◌else◌, [], ◌∷◌, ◌++◌, Some, None}, lemmas.List.append-nil, lemmas.Result.err_from_is_err_and}
+use Rattle.peer_route.specs.{Left.{View, Left}, BusCall.match_parcel}
+use Rattle.peer_route.proofs.{BusMessages.{remove_is, remove_parcel}, Leavings.leaves_so, route.Route.add_removal.Goals.{in_default-via-in-Some+else-must_tell, in_default-via-in_default}}
 use Rattle.peer_route.proofs.route.Route.add_removal.Goals as goal
 
 pub match_letter-requires : goal.match_letter-requires
@@ -12,14 +12,14 @@ returns-in_err-match_letter-in-Some-clause-made c h left there =
     let q = err_from_is_err_and c.from_residual.result c.from_residual.ensures.1 in
     let w = subst (λ (v : View). Left v h) (sym c.self.view_is) left in
     let told = sym (leaves_so h c.args.before c.args.stream (Some c.in-Some.rule.now) (c.in-Some.ensures h w.streams) there) ∙ c.must_tell.ensures h left ∙ ap (λ b. if b then c.in-Some.rule.now ∷ [] else []) c.if-must_tell.true in
-    rw (q.1, q.2, c.in_err-match_letter-in-Some.ensures.error) (ap some_rules told)
+    rw (q.1, q.2, c.in_err-match_letter-in-Some.ensures.error) (omega (arith, ap length told))
 
 pub returns-in_err-push-in-Some-clause-made : goal.returns-in_err-push-in-Some-clause-made
 returns-in_err-push-in-Some-clause-made c h left there =
     let q = err_from_is_err_and c.from_residual-in_err-push-in-Some.result c.from_residual-in_err-push-in-Some.ensures.1 in
     let w = subst (λ (v : View). Left v h) (sym c.self.view_is) left in
     let told = sym (leaves_so h c.args.before c.args.stream (Some c.in-Some.rule.now) (c.in-Some.ensures h w.streams) there) ∙ c.must_tell.ensures h left ∙ ap (λ b. if b then c.in-Some.rule.now ∷ [] else []) c.if-must_tell.true in
-    rw (q.1, q.2) (ap some_rules told)
+    rw (q.1, q.2) (omega (arith, ap length told))
 
 pub returns-in_ok-push-in-Some-clause-made : goal.returns-in_ok-push-in-Some-clause-made
 returns-in_ok-push-in-Some-clause-made c h left there =

@@ -1,6 +1,7 @@
 -- The second stream goes after the first.
 use Rattle.std.proofs.Common.{sym, ap, subst}
-use Rattle.peer_route.specs.{History.{Did, Gone, after}, Left.{View, LeftStreams}, Leaving.gone_both}
+use Rattle.peer_route.specs.{History.{Did, Gone, after}, Left.{View, LeftStreams}}
+use Rattle.peer_route.proofs.Leavings.{gone_both}
 use Rattle.peer_route.proofs.route.Route.end_both.Goals as goal
 
 pub returns-in-Some-clause-streams : goal.returns-in-Some-clause-streams

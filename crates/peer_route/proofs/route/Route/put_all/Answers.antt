@@ -1,8 +1,8 @@
 -- All messages are put, or it is said why not.
 use Rattle.std.proofs.{Common.{◌≡◌, ◌==◌, ℕ, [], refl, sym, ◌∙◌, ap, subst, length, List, Vec, Global, Ok, Err}, lemmas.Bool.{true≢false, eqb-true}, lemmas.Result.err_from_is_err_and}
 use Rattle.std.specs.List.{list_any}
-use Rattle.peer_route.specs.{Names.Issued, contracts.route.Route.the_view, Issuing.is_deep, Left.View, Placing.{posts, DrawsEach, Places, PutsAll, LeftPosts}}
-use Rattle.peer_route.proofs.{Placed.none_left, Issues.{issued_deep, puts_none, puts_not_drawn, puts_not_placed, puts_barred, puts_placed}}
+use Rattle.peer_route.specs.{Names.Issued, contracts.route.Route.the_view, Issuing.is_deep, Left.View, Placing.{posts, Places, PutsAll, LeftPosts}}
+use Rattle.peer_route.proofs.{Drawn.DrawsEach, Placed.none_left, Issues.{issued_deep, puts_none, puts_not_drawn, puts_not_placed, puts_barred, puts_placed}}
 use Rattle.peer_route.proofs.route.Route.put_all.Goals as goal
 
 abbrev items : Vec Issued Global → List Issued

@@ -1,7 +1,7 @@
 -- The message of the first stream, and of the second, if there is one.
 use Rattle.std.proofs.{Common.{◌≡◌, ◌∙◌, sym, ap, subst, map, true, List, [], ◌++◌, None, Err, Vec, Global}, lemmas.Result.err_from_is_err_and}
-use Rattle.peer_route.specs.{declared.letter.Letter.Letter, Parcel.Parcel, BusCall.remove_parcel, Streams.{are_open, leaves, leaving, gone_behind}, Leaving.MakesRemovals}
-use Rattle.peer_route.proofs.{Leavings.{first_open, two_open, unmade_first, unmade_second, made_one, made_two}, route.Route.removals.Goals.{in-Some+in_ok-add_removal-in-Some, in-None}}
+use Rattle.peer_route.specs.{declared.letter.Letter.Letter, Parcel.Parcel, Streams.{are_open, leaves, leaving}, Leaving.MakesRemovals}
+use Rattle.peer_route.proofs.{Leavings.{gone_behind, first_open, two_open, unmade_first, unmade_second, made_one, made_two}, route.Route.removals.Goals.{in-Some+in_ok-add_removal-in-Some, in-None}, BusMessages.remove_parcel}
 use Rattle.peer_route.proofs.route.Route.removals.Goals as goal
 
 abbrev items : Vec Letter Global → List Parcel

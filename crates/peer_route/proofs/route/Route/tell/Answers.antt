@@ -1,7 +1,7 @@
 -- The messages are made and put.
 use Rattle.std.proofs.{Common.{◌≡◌, sym, ◌∙◌, ap, length, ◌==◌, List, [], Vec, Global}, lemmas.Bool.{true≢false, eqb-true}, lemmas.Result.err_from_is_err_and}
-use Rattle.peer_route.specs.{Names.Issued, Left.View, Streams.leaving, Leaving.gone_both}
-use Rattle.peer_route.proofs.{Issues.left_posts, Placed.none_left, Leavings.{gone_posts, tells_none, tells_put, tells_not}}
+use Rattle.peer_route.specs.{Names.Issued, Left.View, Streams.leaving}
+use Rattle.peer_route.proofs.{Issues.left_posts, Placed.none_left, Leavings.{gone_both, gone_posts, tells_none, tells_put, tells_not}}
 use Rattle.peer_route.proofs.route.Route.tell.Goals as goal
 
 abbrev items : Vec Issued Global → List Issued

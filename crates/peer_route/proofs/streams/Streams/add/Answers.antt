@@ -1,11 +1,11 @@
 -- The others of the rule are raised, and the new one is put at its place.
 use Rattle.std.proofs.Common.{◌≡◌, sym, ◌∙◌, subst, ◌++◌, ◌∷◌, []}
-use Rattle.peer_route.specs.{History.{asked_limit, is_subscribed}, Left.{raise_held, AreStreams, LeftStreams}}
-use Rattle.peer_route.proofs.{Queues.put_last, RuledStreams.streams_ruled}
+use Rattle.peer_route.specs.{History.{asked_limit, is_subscribed}, Left.{AreStreams, LeftStreams}}
+use Rattle.peer_route.proofs.{Queues.put_last, RuledStreams.{raise_held, streams_ruled}}
 use Rattle.peer_route.proofs.streams.Streams.add.Goals as goal
 
 pub returns-clause-ok : goal.returns-clause-ok
-returns-clause-ok c p s left new =
+returns-clause-ok c p s left holds within =
     let xs = c.self.inside.queues.items in
     let rule = c.args.rule in
     let asked = c.args.asked in
@@ -15,4 +15,4 @@ returns-clause-ok c p s left new =
     rw (c.raise_each.ensures, pushed, c.new-2.ensures)
     (subst (λ qs. AreStreams qs (λ r. asked_limit p r rule asked (p.capacities.rules r)) p.read (p.streams ++ s ∷ []))
     (sym (put_last (raise_held rule asked) xs c.new.result _ c.len-place.result (c.len-place.ensures ∙ c.self.inside.queues.ok.0)))
-    (streams_ruled xs p rule asked c.args.progress c.limit_now-limit.result s was new limit))
+    (streams_ruled xs p rule asked c.args.progress c.limit_now-limit.result s was (record { holds = holds; within = within }) limit))

@@ -1,7 +1,7 @@
 -- One stream more that holds nothing.
 use Rattle.std.proofs.Common.{sym, ◌∙◌, ap, subst, [], ◌∷◌, ◌++◌, None}
-use Rattle.peer_route.specs.{History.{Made, Plain, after}, Left.{new_held, LeftStreams}, Names.Progress}
-use Rattle.peer_route.proofs.StreamsMade.{streams_made}
+use Rattle.peer_route.specs.{History.{Made, Plain, after}, Left.LeftStreams, Names.Progress}
+use Rattle.peer_route.proofs.StreamsMade.{new_held, streams_made}
 use Rattle.peer_route.proofs.streams.Streams.open.Goals as goal
 
 pub returns-clause-ok : goal.returns-clause-ok

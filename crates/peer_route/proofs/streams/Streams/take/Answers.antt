@@ -1,7 +1,7 @@
 -- One queue gives; a number past the last changes nothing.
 use Rattle.std.proofs.{Common.{◌≡◌, sym, ◌∙◌, ap, subst, arith, true, set, if◌then◌else◌, Some, None, Ok}, lemmas.Option.slice_get_read}
-use Rattle.peer_route.specs.{History.after_all, Streams.{runs, take_by, take_events}, Left.{is_usable, kept_open, LeftStreams, after_by}}
-use Rattle.peer_route.proofs.{Queues.edit-at, StreamsMade.{at_read, past_read, found_left, usable_runs, take_so}, StreamsTaken.streams_taken}
+use Rattle.peer_route.specs.{History.after_all, Streams.{runs, take_by, take_events}, Left.{LeftStreams, after_by}}
+use Rattle.peer_route.proofs.{Queues.edit-at, StreamsMade.{is_usable, kept_open, at_read, past_read, found_left, usable_runs, take_so}, StreamsTaken.streams_taken}
 use Rattle.peer_route.proofs.streams.Streams.take.Goals as goal
 
 pub returns-then-stream-len-clause-gives : goal.returns-then-stream-len-clause-gives

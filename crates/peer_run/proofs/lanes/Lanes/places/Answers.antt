@@ -1,5 +1,5 @@
 use Rattle.std.proofs.Common.{◌∙◌, ap}
-use Rattle.peer_run.specs.Numbers.{places}
+use Rattle.peer_run.specs.Stands.{places}
 use Rattle.peer_run.proofs.Numbers.{kept-some, kept-none}
 use Rattle.peer_run.proofs.lanes.Lanes.places.Goals as goal
 

@@ -1,5 +1,5 @@
 use Rattle.std.proofs.Common.{◌≡◌, List, ℕ, [], ◌∷◌, ◌++◌, length, sym, ◌∙◌, ap, Option}
-use Rattle.peer_run.specs.Numbers.{places}
+use Rattle.peer_run.specs.Stands.{places}
 use Rattle.peer_run.proofs.Numbers.{kept-push}
 use Rattle.peer_run.proofs.lanes.Lanes.push.Goals as goal
 

@@ -1,5 +1,5 @@
-use Rattle.std.proofs.Common.{◌≡◌, ◌-◌, sym, ap, subst, refl, ◌∙◌, length, Some}
-use Rattle.peer_route.specs.{Entries.unsent, Plan.ends, Leaving.{ClosesStreams, number_of}}
+use Rattle.std.proofs.Common.{◌≡◌, ◌-◌, sym, ap, subst, refl, ◌∙◌, length, Some, option_map}
+use Rattle.peer_route.specs.{Entries.unsent, Plan.ends, Leaving.ClosesStreams, declared.streams.MessageStream.MessageStream}
 use Rattle.peer_run.specs.{Stands.{PeerView, Stands, forgotten}, Names.Spent}
 use Rattle.peer_run.proofs.{Quietly.answers_did, RuleStreams.{gone_did, over_did, unopen_did}, peer.Peer.end.Goals.{in-Some, in-None, then-not-is_unknown, else-not-is_unknown}}
 use Rattle.peer_run.proofs.peer.Peer.end.Goals as goal
@@ -7,7 +7,7 @@ use Rattle.peer_run.proofs.peer.Peer.end.Goals as goal
 pub returns-in-Gone-clause-did : goal.returns-in-Gone-clause-did
 returns-in-Gone-clause-did c t lane s =
     let before : Stands _ t = subst (λ v. Stands v t) (sym c.self.view_is) s in
-    let other : number_of c.match-second.other ≡ c.args.second = elim c.match-second.branch [
+    let other : option_map (λ (s : MessageStream). s.number) c.match-second.other ≡ c.args.second = elim c.match-second.branch [
       | in-Some w ↦ rw (w.other-is, w.in-Some.is) refl
       | in-None w ↦ rw (w.other-is, w.in-None.is) refl
     ] in
@@ -25,7 +25,7 @@ returns-in-Gone-clause-did c t lane s =
 pub returns-after-not-is_unknown-clause-did : goal.returns-after-not-is_unknown-clause-did
 returns-after-not-is_unknown-clause-did c t lane s =
     let before : Stands _ t = subst (λ v. Stands v t) (sym c.self.view_is) s in
-    let other : number_of c.match-second.other ≡ c.args.second = elim c.match-second.branch [
+    let other : option_map (λ (s : MessageStream). s.number) c.match-second.other ≡ c.args.second = elim c.match-second.branch [
       | in-Some w ↦ rw (w.other-is, w.in-Some.is) refl
       | in-None w ↦ rw (w.other-is, w.in-None.is) refl
     ] in

@@ -1,6 +1,6 @@
 use Rattle.std.proofs.Common.{sym, subst, refl, None, IfOk}
 use Rattle.peer_route.specs.{CallMessage.outgoing_asked, Plan.sends}
-use Rattle.peer_run.specs.{CallWords.IsCarried, Stands.{PeerView, Stands, Did}}
+use Rattle.peer_run.specs.Stands.{IsCarried, PeerView, Stands, Did}
 use Rattle.peer_run.proofs.Posted.{outgoing_named}
 use Rattle.peer_run.proofs.peer.Peer.send.Goals as goal
 
