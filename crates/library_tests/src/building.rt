@@ -1,6 +1,6 @@
 //! Calls and signals that are built. The bytes are worked by hand from the D-Bus Specification,
 //! "Message Format", "Header Fields" and "Marshaling".
-use crate::support::{do_call, holds, is_built};
+use crate::test_support::{do_call, holds, is_built};
 use std::alloc::Global;
 use wire_message::{Body, Builder, Flags, Message, NonePending, Result, Serials};
 use wire_value::{

@@ -1,7 +1,6 @@
 //! Two ends within the process.
 
-use crate::answers::{count_of, send_behind};
-use crate::support::holds;
+use crate::test_support::{count_of, holds, send_behind};
 use std::alloc::{AllocError, Global};
 use std::sync::Wait;
 use std::thread;

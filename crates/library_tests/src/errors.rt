@@ -1,5 +1,5 @@
 //! Errors that are copied.
-use crate::support::holds;
+use crate::test_support::holds;
 use std::alloc::Global;
 use wire_message::fdo::{self, Kind, StandardError};
 use wire_message::{ClosingError, Error, Result, each_error_is_itself, equal_errors_are_the_same};

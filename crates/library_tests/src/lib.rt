@@ -3,13 +3,13 @@
 #![tactic(auto)]
 
 #[cfg(test)]
-mod answers;
-#[cfg(test)]
 mod arguments;
 #[cfg(test)]
 mod bodies;
 #[cfg(test)]
 mod building;
+#[cfg(test)]
+mod calls;
 #[cfg(test)]
 mod channels;
 #[cfg(test)]
@@ -21,6 +21,8 @@ mod memory;
 #[cfg(test)]
 mod message_bodies;
 #[cfg(test)]
+mod message_streams;
+#[cfg(test)]
 mod names;
 #[cfg(test)]
 mod own_error;
@@ -29,13 +31,7 @@ mod peer;
 #[cfg(test)]
 mod peer_bus;
 #[cfg(test)]
-mod peer_calls;
-#[cfg(test)]
 mod peer_laws;
-#[cfg(test)]
-mod peer_streams;
-#[cfg(test)]
-mod peer_words;
 #[cfg(test)]
 mod replies;
 #[cfg(test)]
@@ -49,8 +45,10 @@ mod signatures;
 #[cfg(test)]
 mod streams;
 #[cfg(test)]
-mod support;
+mod test_support;
 #[cfg(test)]
 mod texts;
 #[cfg(test)]
 mod trees;
+#[cfg(test)]
+mod words;

@@ -1,7 +1,6 @@
 //! Messages from and to memory.
 
-use crate::answers::{RETURN, is_return, message_of};
-use crate::support::holds;
+use crate::test_support::{RETURN, holds, is_return, message_of};
 use std::alloc::Global;
 use wire_framing::{
     MemorySink, MemorySource, Piece, ReadHalf, Sink, WriteHalf, receive_message, send_message,

@@ -1,5 +1,5 @@
 //! Bodies of messages, as arguments. The bytes are worked by hand from the D-Bus Specification, "Marshaling".
-use crate::support::{do_call, holds};
+use crate::test_support::{do_call, holds};
 use std::alloc::Global;
 use wire_message::{Body, Message, NonePending, Result, Serials, built_bodies_are_read_again};
 use wire_value::{Endian, Text, to};

@@ -1,5 +1,5 @@
 //! An error of an interface's own: its name, and what it says, make the reply, whose arguments are its own.
-use crate::support::holds;
+use crate::test_support::holds;
 use std::alloc::Global;
 use wire_message::{DBusError, Error, Message, NonePending, Result, Serials};
 use wire_value::{BodyValues, Endian, ErrorName, OwnedErrorName, Text, VariantError, to};

@@ -2,11 +2,11 @@
 ghost use Rattle.std.specs.Prelude.{ℕ, ◌<◌, ◌^◌, length, IfOk};
 ghost use Rattle.std.specs.List.{AllByRecursion};
 
-use peer_route::{Issued, Letter, MessageStream, Opens, PendingMethodCalls, Polled, Route, Spent};
+use peer_route::{Issued, MessageStream, Opens, PendingMethodCalls, Polled, Route, Spent};
 use rule_match::OwnedMatchRule;
 use std::alloc::Global;
 use wire_body::BodyValues;
-use wire_message::{Builder, Error, IoKind, Message, Result, Taken, header_front};
+use wire_message::{Builder, Error, IoKind, Message, OutgoingMessage, Result, Taken, header_front};
 use wire_names::{InterfaceName, MemberName, ObjectPath, OwnedUniqueName};
 
 /// A method return with serial 1 that answers serial 1 (D-Bus Specification, "Message Format").
@@ -56,45 +56,48 @@ pub(crate) fn registers(calls: &mut PendingMethodCalls, serial: u32, number: u64
     calls.register_call(serial).ok() == Some(number)
 }
 
-/// The letter of a message without values.
-fn letter<'a>(alloc: Global, builder: Builder<'a>) -> Result<Letter<'a>>
-    ensures few { IfOk result (λ letter. length letter.fds < 2 ^ 32) }
+/// The outgoing message without values.
+fn outgoing<'a>(alloc: Global, builder: Builder<'a>) -> Result<OutgoingMessage<'a>>
+    ensures few { IfOk result (λ outgoing. length outgoing.fds < 2 ^ 32) }
 {
     let body = BodyValues::from_values(alloc, Vec::new(alloc))?;
-    Ok(Letter::new(builder, body, Vec::new(alloc)))
+    Ok(OutgoingMessage::new(builder, body, Vec::new(alloc)))
 }
 
 /// The method call of `do` at `/`.
-fn call(alloc: Global) -> Result<Letter<'static>>
-    ensures few { IfOk result (λ letter. length letter.fds < 2 ^ 32) }
+fn call(alloc: Global) -> Result<OutgoingMessage<'static>>
+    ensures few { IfOk result (λ outgoing. length outgoing.fds < 2 ^ 32) }
 {
     let path = ObjectPath::try_from("/")?;
     let member = MemberName::try_from("do")?;
-    letter(alloc, Message::method_call(&path, &member))
+    outgoing(alloc, Message::method_call(&path, &member))
 }
 
 /// The signal `do` of `a.b` from `/`.
-fn signal(alloc: Global) -> Result<Letter<'static>>
-    ensures few { IfOk result (λ letter. length letter.fds < 2 ^ 32) }
+fn signal(alloc: Global) -> Result<OutgoingMessage<'static>>
+    ensures few { IfOk result (λ outgoing. length outgoing.fds < 2 ^ 32) }
 {
     let path = ObjectPath::try_from("/")?;
     let interface = InterfaceName::try_from("a.b")?;
     let member = MemberName::try_from("do")?;
-    letter(alloc, Message::signal(&path, &interface, &member))
+    outgoing(alloc, Message::signal(&path, &interface, &member))
 }
 
-/// The list of one letter.
-fn list_of(alloc: Global, letter: Letter<'static>) -> Result<Vec<Letter<'static>>>
-    requires { length letter.fds < 2 ^ 32 }
+/// The list of one message.
+fn list_of(
+    alloc: Global,
+    outgoing: OutgoingMessage<'static>,
+) -> Result<Vec<OutgoingMessage<'static>>>
+    requires { length outgoing.fds < 2 ^ 32 }
     ensures few { IfOk result (λ list. AllByRecursion (λ p. length p.fds < 2 ^ 32) list.items) }
 {
     let mut list = Vec::new(alloc);
-    list.push(letter)?;
+    list.push(outgoing)?;
     Ok(list)
 }
 
 /// The call, and a signal behind it.
-fn call_and_signal(alloc: Global) -> Result<Vec<Letter<'static>>>
+fn call_and_signal(alloc: Global) -> Result<Vec<OutgoingMessage<'static>>>
     ensures few { IfOk result (λ list. AllByRecursion (λ p. length p.fds < 2 ^ 32) list.items) }
 {
     let mut list = list_of(alloc, call(alloc)?)?;

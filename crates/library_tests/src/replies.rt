@@ -1,5 +1,5 @@
 //! Answers to a call. The bytes are worked by hand from the D-Bus Specification, "Message Format" and "Types of messages".
-use crate::support::{holds, is_built};
+use crate::test_support::{holds, is_built};
 use std::alloc::Global;
 use wire_message::{Message, NonePending, Result, Serials, built_messages_are_read_again};
 use wire_value::{Endian, ErrorName, Text};

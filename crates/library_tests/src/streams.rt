@@ -1,7 +1,6 @@
 //! Real streams and sockets, and broken ones.
 
-use crate::answers::{RETURN, count_of, send_behind};
-use crate::support::holds;
+use crate::test_support::{RETURN, count_of, holds, send_behind};
 use std::alloc::Global;
 use std::io;
 use std::io::{Read, Write};

@@ -1,10 +1,10 @@
 //! Values as trees (D-Bus Specification, "Type System").
 use std::alloc::{AllocError, Global};
 use std::hash::{DefaultHasher, Hash, Hasher};
+use wire_encoding::{no_encoding_begins_another, one_encoding, one_value, skip, skip_by_text};
 use wire_names::Text;
 use wire_number::{Endian, reading_a_number, reading_a_text, reading_padding};
 use wire_signature::{BasicType, ValueType, VariantError};
-use wire_spelling::{no_spelling_begins_another, one_spelling, one_value, skip, skip_by_text};
 use wire_tree::{
     Entries, Inner, Tree, Trees, Value, equal_is_one, type_text, variants_hold_values,
 };
@@ -26,8 +26,8 @@ fn variant(alloc: Global, tree: Tree) -> Result<Tree, AllocError> {
     Ok(Tree::Variant(Inner::new(alloc, tree)?))
 }
 
-/// A container that no bytes spell ("Container types").
-fn unsound(alloc: Global, case: &str) -> Result<Tree, VariantError> {
+/// A container that no bytes encode ("Container types").
+fn ill_typed(alloc: Global, case: &str) -> Result<Tree, VariantError> {
     match case {
         "an element of another type" => array(alloc, "n", Tree::U16(3)),
         "a key of another type" => dict(alloc, Tree::U8(1), Tree::U8(1)),
@@ -36,7 +36,7 @@ fn unsound(alloc: Global, case: &str) -> Result<Tree, VariantError> {
     }
 }
 
-const UNSOUND: &[&str] = &[
+const ILL_TYPED: &[&str] = &[
     "an element of another type",
     "a key of another type",
     "a value of another type",
@@ -44,13 +44,13 @@ const UNSOUND: &[&str] = &[
 ];
 
 fn is_refused(alloc: Global, case: &str) -> Result<bool, VariantError> {
-    let tree = unsound(alloc, case)?;
+    let tree = ill_typed(alloc, case)?;
     Ok(matches!(&Value::from_tree(alloc, tree), Err(VariantError::Malformed)))
 }
 
 #[test]
 fn what_no_message_holds(rt: HostRuntime) {
-    for case in UNSOUND {
+    for case in ILL_TYPED {
         assert!(rt; is_refused(rt.alloc(), case) == Ok(true), "{case}");
     }
 }
@@ -123,9 +123,9 @@ fn calls_of_values_and_trees(rt: HostRuntime) {
     reading_padding();
     reading_a_number();
     reading_a_text();
-    one_spelling();
+    one_encoding();
     one_value();
-    no_spelling_begins_another();
+    no_encoding_begins_another();
     for answer in [is_copied(alloc), are_taken(alloc), type_has_its_text(alloc)] {
         assert!(rt; answer == Ok(true));
     }
@@ -141,7 +141,7 @@ fn variants(alloc: Global) -> Result<Vec<u8>, AllocError> {
 }
 
 /// Whether nothing is read of the bytes as a variant, and nothing is passed.
-fn spell_nothing(alloc: Global, bytes: &[u8]) -> Result<bool, VariantError> {
+fn encode_nothing(alloc: Global, bytes: &[u8]) -> Result<bool, VariantError> {
     let order = Endian::Little;
     let any = ValueType::try_from(alloc, "v")?;
     Ok(
@@ -155,7 +155,7 @@ fn spell_nothing(alloc: Global, bytes: &[u8]) -> Result<bool, VariantError> {
 }
 
 fn are_no_value(alloc: Global) -> Result<bool, VariantError> {
-    spell_nothing(alloc, &variants(alloc)?)
+    encode_nothing(alloc, &variants(alloc)?)
 }
 
 /// A megabyte of variants in variants exhausts no stack.

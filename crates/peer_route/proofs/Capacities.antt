@@ -1,27 +1,34 @@
 -- What a stream does, that one is opened, and what a capacity is, leave what each other stream gives; and what becomes of capacities.
-use Rattle.peer_route.specs.{History.{fresh, Made, Did, Main, Ruled, Deed, Asked, Stream, done_by, Past, after, is_subscribed, raised, rule_of, is_of}, Streams.{runs, take_answer, is_open, limit_of, limit_answer}, Rules.{is_same, usual}, Names.{Rule, Error}}
+use Rattle.peer_core.specs.History.{streams_of}
+use Rattle.peer_streams.specs.Streams.{is_open as streams_is_open}
+use Rattle.peer_streams.specs.Streams.{limit_answer as streams_limit_answer}
+use Rattle.peer_streams.specs.Streams.{take_answer as streams_take_answer}
+use Rattle.peer_streams.specs.{History.{fresh, Ruled, Deed, Asked, Stream, done_by, is_subscribed, raised, rule_of, is_of}, Streams.{runs, limit_of}, Rules.{is_same, usual}}
+use Rattle.peer_core.specs.{History.{Made, Did, Main, Past, after}, Asked.{take_answer, is_open, limit_answer}}
+use Rattle.peer_route.specs.Names.{Rule, Error}
 use Rattle.std.proofs.{Common.{◌≡◌, ◌≢◌, ℕ, refl, ◌∙◌, ap, ◌<◌, length, [], ◌∷◌, Option, Some, None, max, sym, true, false, is_none, is_some, ◌&&◌, if◌then◌else◌, Ok, Err, unwrap_or}, lemmas.Bool.false_from_ne_true}
 use Rattle.std.specs.List.{slice_get}
-use Rattle.peer_route.proofs.{Edits.{edit_other, edit-none, get_before}, SameRule.{same_self, same_one}, Looks.{runs_at, take_at}}
+use Rattle.wire_message.proofs.Edits.{edit_other, edit-none, get_before}
+use Rattle.peer_streams.proofs.{SameRule.{same_self, same_one}, Looks.{runs_at, take_at}}
 
 -- ---- other streams
 
 pub did_other : (h : Past) (j k : ℕ) (deed : Deed) → j ≢ k → take_answer (after (Did j deed) h) k ≡ take_answer h k
-unfolding take_answer
+unfolding streams_take_answer
 did_other h j k deed ne = ap (take_at h.read h.closing) (edit_other (done_by deed) j k h.streams ne)
 
 pub main_keeps : (h : Past) (limit k : ℕ) → take_answer (after (Main limit) h) k ≡ take_answer h k
-unfolding take_answer
+unfolding streams_take_answer
 main_keeps h limit k = refl
 
 pub asked_keeps : (h : Past) (limit j k : ℕ) → take_answer (after (Did j (Asked limit)) h) k ≡ take_answer h k
-unfolding take_answer
+unfolding streams_take_answer
 asked_keeps h limit j k = ap (λ ss. take_at h.read h.closing (slice_get ss k)) (edit-none (λ s. s) (λ s. refl) h.streams j)
 
 -- a stream that is opened comes behind those that were there
 pub opened_keeps : (h : Past) (rule : Rule) (asked : Option ℕ) (k : ℕ) → k < length h.streams → take_answer (after (Made (Ruled rule asked)) h) k ≡ take_answer h k
-unfolding take_answer
-opened_keeps h rule asked k le = ap (take_at h.read h.closing) (get_before k h.streams (fresh h (Some rule) false ∷ []) le)
+unfolding streams_take_answer
+opened_keeps h rule asked k le = ap (take_at h.read h.closing) (get_before k h.streams (fresh (streams_of h) (Some rule) false ∷ []) le)
 
 -- ---- the main one
 
@@ -38,7 +45,7 @@ same_other rule another differ = false_from_ne_true (is_same rule another) (λ e
 
 -- an open stream's
 limit_there : (h : Past) (k : ℕ) (s : Stream) → slice_get h.streams k ≡ Some s → runs h.read s ≡ true → limit_answer h k ≡ Ok (limit_of h.capacities s.rule)
-unfolding limit_answer is_open
+unfolding streams_limit_answer streams_is_open
 limit_there h k s at still =
     ap (λ o. if runs_at h.read o then Ok (limit_of h.capacities (rule_of o)) else Err Error.UnknownHandle) at
     ∙ ap (λ b. if b then Ok (limit_of h.capacities s.rule) else Err Error.UnknownHandle) still

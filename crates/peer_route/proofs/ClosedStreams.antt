@@ -1,8 +1,19 @@
 -- A stream that was closed, or that the bus denied, is unknown for good.
-use Rattle.peer_route.specs.{History.{Gone, done_by, Event, Fault, Made, Cloned, Did, Put, Adds, Deed, Asked, edit, Stream, phase, asks_by, new_stream, asking_stream, fail_stream, Past, after, after_all}, Names.{OpenState, Words, StreamOp, Entry, Seen, Error, Answer}, CallMessage.{reply_asked, error_asked}, Calls.by_position, Streams.{is_since, runs, is_open, are_open, close_waits, item_at, offered, gave_last, held, take_by, take_answer, take_events, gone_events, opening_by, opening_at, opening_answer, opening_events}, Shown.{shown_take, shown_opening}, Parcel.Setting, Trail.{Trail, place}, Plan.{Plan, Says, refuses, where_named, where_open, unless_waits, makes, sends, leaves, ends, second_place, given_last, on_stream, plan}, Entries.{IsMeant, deeds, trail, more, Legal, postings, writes}, StreamLaws.{is_second, names_stream, closes_stream, stays_open, says_denied, IsNoStream}, Issuing.puts}
+use Rattle.peer_core.specs.History.{request_of, streams_of}
+use Rattle.peer_streams.specs.Streams.{is_open as streams_is_open}
+use Rattle.peer_streams.specs.Streams.{opening_answer as streams_opening_answer}
+use Rattle.peer_streams.specs.Streams.{take_answer as streams_take_answer}
+use Rattle.peer_streams.specs.{History.{Gone, done_by, Cloned, Deed, Asked, Stream, phase, asks_by, new_stream, asking_stream, fail_stream}, Streams.{is_since, runs, item_at, offered, gave_last, held, take_by, opening_by, opening_at}}
+use Rattle.peer_core.specs.{History.{Event, Fault, Made, Did, Put, Past, after, after_all}, Asked.{is_open, are_open, close_waits, take_answer, take_events, gone_events, opening_answer, opening_events}, Issuing.puts}
+use Rattle.peer_calls.specs.History.{Adds}
+use Rattle.wire_message.specs.{Plain.edit, Polls.by_position}
+use Rattle.peer_route.specs.{Names.{OpenState, Words, StreamOp, Entry, MessageView, Error, Answer}, Shown.{shown_take, shown_opening}, Trail.{Setting, Trail, place}, Plan.{Plan, Says, refuses, where_named, where_open, unless_waits, makes, sends, leaves, ends, second_place, given_last, on_stream, plan}, Entries.{IsMeant, deeds, trail, more, Legal, postings, writes}, StreamLaws.{is_second, names_stream, closes_stream, stays_open, says_denied, IsNoStream}}
+use Rattle.peer_words.specs.CallMessage.{reply_asked, error_asked}
 use Rattle.std.proofs.{Common.{◌≡◌, ◌⊎◌, inl, inr, ℕ, ◌==◌, ◌&&◌, not, refl, sym, ◌∙◌, ap, subst, ◌||◌, Bool, true, false, if◌then◌else◌, List, [], ◌∷◌, ◌++◌, Option, Some, None, option_map, Ok, Err, option_and_then}, Math.Bool.and-false, lemmas.Bool.{cases_eq, eq-eqb, eqb-true, and_parts, not-true}, lemmas.Option.slice_get-map}
 use Rattle.std.specs.{List.{slice_get, AllByRecursion}, Option.option_and_then}
-use Rattle.peer_route.proofs.{Edits.{edit_other, edit_here, get_append}, Plans.legal_from, Kept.{every, later}, Deeds.{open_stream, named_done, open_done, waits_done, named_on}, Looks.{runs_at, take_at}}
+use Rattle.wire_message.proofs.Edits.{edit_other, edit_here, get_append}
+use Rattle.peer_streams.proofs.Looks.{runs_at, take_at}
+use Rattle.peer_route.proofs.{Plans.legal_from, Kept.{every, later}, Deeds.{open_stream, named_done, open_done, waits_done, named_on}}
 
 -- ---- a stream that is gone
 
@@ -27,8 +38,8 @@ gone_edit deed ss j k g = elim (cases_eq j k) as (λ _. GoneAt (edit j (done_by 
 -- whatever happens
 gone_after : (k : ℕ) (e : Event) (h : Past) → GoneAt h.streams k → GoneAt (after e h).streams k
 gone_after k (Did j deed) h g = gone_edit deed h.streams j k g
-gone_after k (Made making) h g = record { stream = g.stream; made = get_append k h.streams (new_stream h h.streams making ∷ []) g.stream g.made; gone = g.gone }
-gone_after k (Put m (Adds rule asked)) h g = record { stream = g.stream; made = get_append k h.streams (asking_stream h m rule ∷ []) g.stream g.made; gone = g.gone }
+gone_after k (Made making) h g = record { stream = g.stream; made = get_append k h.streams (new_stream (streams_of h) h.streams making ∷ []) g.stream g.made; gone = g.gone }
+gone_after k (Put m (Adds rule asked)) h g = record { stream = g.stream; made = get_append k h.streams (asking_stream (request_of h m) rule ∷ []) g.stream g.made; gone = g.gone }
 gone_after k Fault h g =
     let fails = fail_stream h.read h.outbox.done in
     record { stream = fails g.stream; made = slice_get-map fails h.streams k ∙ ap (option_map fails) g.made; gone = ap (λ b. b || asks_by h.outbox.done (phase h.read g.stream)) g.gone }
@@ -39,20 +50,20 @@ gone_now ss k there = record { stream = done_by Gone there.0; made = edit_here (
 
 -- ---- what is asked of it
 
-gone_runs : (ms : List Seen) (s : Stream) → s.gone ≡ true → runs ms s ≡ false
+gone_runs : (ms : List MessageView) (s : Stream) → s.gone ≡ true → runs ms s ≡ false
 unfolding runs
 gone_runs ms s e = ap (λ b. s.opened && (not b && is_since (phase ms s))) e ∙ and-false s.opened
 
 gone_take : (h : Past) (k : ℕ) → GoneAt h.streams k → take_answer h k ≡ Err Error.UnknownHandle
-unfolding take_answer
+unfolding streams_take_answer
 gone_take h k g = ap (take_at h.read h.closing) g.made ∙ ap (λ b. if b then Ok (take_by (held h.read g.stream) h.closing g.stream.told) else Err Error.UnknownHandle) (gone_runs h.read g.stream g.gone)
 
 gone_open : (h : Past) (k : ℕ) → GoneAt h.streams k → is_open h k ≡ false
-unfolding is_open
+unfolding streams_is_open
 gone_open h k g = ap (runs_at h.read) g.made ∙ gone_runs h.read g.stream g.gone
 
 gone_opening : (h : Past) (k : ℕ) → GoneAt h.streams k → opening_answer h k ≡ OpenState.Unknown
-unfolding opening_answer
+unfolding streams_opening_answer
 gone_opening h k g = ap (opening_at h.read h.closing) g.made ∙ ap (λ b. if b || g.stream.opened then OpenState.Unknown else opening_by (phase h.read g.stream) h.closing) g.gone
 
 gone_given : (h : Past) (k : ℕ) → GoneAt h.streams k → given_last h k ≡ None
@@ -200,7 +211,7 @@ denied_at h k None at said = cc
 denied_at h k (Some s) at said = denied_state h k (opening_at h.read h.closing (Some s)) (s, at) said
 
 denied_so : (h : Past) (k : ℕ) → says_denied (shown_opening (opening_answer h k)) ≡ true → GoneAt (after_all (opening_events k (opening_answer h k)) h).streams k
-unfolding opening_answer
+unfolding streams_opening_answer
 denied_so h k said = denied_at h k (slice_get h.streams k) refl said
 
 denies : (t : Trail) (e : Entry) (number : ℕ) (p : Option ℕ) → place 0 e.lane number t.streams ≡ p → IsMeant t.past (where_named (on_stream t e.lane StreamOp.Opened) p) e → says_denied e.answer ≡ true

@@ -1,9 +1,18 @@
 -- What a lane's take is, by its answer; which entries give an item, and what is left of a stream that gives none. Each stream that was made
 -- has its lane, none starts above what was read; and what a lane's stream gives, entry by entry.
-use Rattle.peer_route.specs.{History.{Gave, done_by, Event, Purpose, Wrote, Fault, Made, Did, Put, Adds, Deed, Told, Gone, Asked, Opened, edit, Stream, phase, asks_by, new_stream, asking_stream, fail_stream, Past, after, after_all, OfLane, Removes, Took, Making, Plain, Ruled, Cloned, clone_of}, Names.{Words, StreamOp, Answer, Entry, Polled, Seen, Error}, Calls.by_position, Streams.{held, runs, take_by, take_answer, take_events, is_open, is_since, matched}, Issuing.{puts, Posting}, Trail.{Trail, place, Names, stream_names, asked_names, made_names, count}, Plan.{Plan, where_named, on_stream, plan, where_open, unless_waits, makes}, StreamLaws.{stays_open, is_take, is_take_op, item_by, IsLast, items_given}, Entries.{IsMeant, deeds, postings, writes, past_after, first_past, trail, Legal, more_by, more}, Shown.shown_take, Parcel.Setting, Left.IsWithin}
+use Rattle.peer_core.specs.History.{request_of, streams_of}
+use Rattle.peer_streams.specs.Streams.{is_open as streams_is_open}
+use Rattle.peer_streams.specs.Streams.{take_answer as streams_take_answer}
+use Rattle.peer_streams.specs.{History.{Gave, done_by, Deed, Told, Gone, Asked, Opened, Stream, phase, asks_by, new_stream, asking_stream, fail_stream, Making, Plain, Ruled, Cloned, clone_of}, Streams.{held, runs, take_by, is_since, matched}, Left.IsWithin}
+use Rattle.peer_core.specs.{History.{Event, Wrote, Fault, Made, Did, Put, Past, after, after_all, Took}, Asked.{take_answer, take_events, is_open}, Issuing.puts}
+use Rattle.peer_calls.specs.{History.{Purpose, Adds, OfLane, Removes}, Issuing.Posting}
+use Rattle.wire_message.specs.{Plain.edit, Polls.by_position}
+use Rattle.peer_route.specs.{Names.{Words, StreamOp, Answer, Entry, Polled, MessageView, Error}, Trail.{Trail, place, Names, stream_names, asked_names, made_names, count, Setting}, Plan.{Plan, where_named, on_stream, plan, where_open, unless_waits, makes}, StreamLaws.{stays_open, is_take, is_take_op, item_by, IsLast, items_given}, Entries.{IsMeant, deeds, postings, writes, past_after, first_past, trail, Legal, more_by, more}, Shown.shown_take}
 use Rattle.std.proofs.{Common.{◌≡◌, ◌≢◌, inl, inr, ℕ, refl, sym, ◌∙◌, ap, subst, ◌||◌, ◌&&◌, ◌==◌, Bool, true, false, if◌then◌else◌, List, [], ◌∷◌, Option, Some, None, Ok, Err, Result, ◌⊎◌, ◌+◌, arith, ◌++◌, length, length-append, ◌≤◌, is_some, append-nil}, lemmas.Option.slice_get-map, lemmas.Bool.{cases_eq, eq-eqb, eqb-true, and_parts, false_from_ne_true}, Math.Bool.{and-true, and-false}, lemmas.List.length-map}
 use Rattle.std.specs.{List.{slice_get, AllByRecursion}, Option.option_map}
-use Rattle.peer_route.proofs.{StreamsMade.{runs_so, within_edit, fail_within, clone_within}, Edits.{edit_other, edit_here, get_append, edit-length, drop_next, all_weaker, all_at, all_more, all_map, all_edit}, Plans.{takes, along, are_writes, IsDeed, Gives, IsWrite}, Kept.{puts_are, deeds_by, deeds_all, at_start}, Matched.{held_matched, within_took, within_fresh, within_asking}, Places.{place_append, place_new, one_place}, Looks.{runs_at, take_at}}
+use Rattle.peer_streams.proofs.{StreamsMade.{runs_so, within_edit, fail_within, clone_within}, Matched.{held_matched, within_took, within_fresh, within_asking}, Looks.{runs_at, take_at}}
+use Rattle.wire_message.proofs.Edits.{edit_other, edit_here, get_append, edit-length, drop_next, all_weaker, all_at, all_more, all_map, all_edit}
+use Rattle.peer_route.proofs.{Plans.{takes, along, are_writes, IsDeed, Gives, IsWrite}, Kept.{puts_are, deeds_by, deeds_all, at_start}, Places.{place_append, place_new, one_place}}
 
 -- no item is given
 abbrev pub NoItem : Event → Type 0
@@ -15,16 +24,16 @@ NoItem e = Unit {0}
 -- a take of the stream that is named, by its answer, and what it does
 pub data TakeOf (h : Past) (p : Option ℕ) (a : Answer) (done : List Event) : Type 0 where
   Quiet : done ≡ [] → item_by true a ≡ [] → (IsLast a → ⊥) → (a ≡ Answer.Refused Error.UnknownHandle) ⊎ (h.closing ≡ None) → TakeOf h p a done
-  Item : (k : ℕ) (s : Stream) (m : Seen) (ms : List Seen) → p ≡ Some k → slice_get h.streams k ≡ Some s → held h.read s ≡ m ∷ ms → done ≡ Did k Gave ∷ [] → a ≡ Answer.Item m.position → TakeOf h p a done
+  Item : (k : ℕ) (s : Stream) (m : MessageView) (ms : List MessageView) → p ≡ Some k → slice_get h.streams k ≡ Some s → held h.read s ≡ m ∷ ms → done ≡ Did k Gave ∷ [] → a ≡ Answer.Item m.position → TakeOf h p a done
   Tells : (k : ℕ) (s : Stream) (error : Error) → p ≡ Some k → slice_get h.streams k ≡ Some s → runs h.read s ≡ true → held h.read s ≡ [] → h.closing ≡ Some error → s.told ≡ false
       → done ≡ Did k Told ∷ [] → a ≡ Answer.Closed error → TakeOf h p a done
   Ends : (k : ℕ) (s : Stream) (error : Error) → p ≡ Some k → slice_get h.streams k ≡ Some s → held h.read s ≡ [] → h.closing ≡ Some error → s.told ≡ true
       → done ≡ [] → a ≡ Answer.Ended → TakeOf h p a done
 
-abbrev TakeBy : Past → ℕ → Result (Polled Seen) Error → Type 0
+abbrev TakeBy : Past → ℕ → Result (Polled MessageView) Error → Type 0
 TakeBy h k r = TakeOf h (Some k) (shown_take r) (take_events k r)
 
-kind_by : (h : Past) (k : ℕ) (s : Stream) (items : List Seen) (o : Option Error) (told : Bool) → slice_get h.streams k ≡ Some s → runs h.read s ≡ true
+kind_by : (h : Past) (k : ℕ) (s : Stream) (items : List MessageView) (o : Option Error) (told : Bool) → slice_get h.streams k ≡ Some s → runs h.read s ≡ true
     → held h.read s ≡ items → h.closing ≡ o → s.told ≡ told → TakeBy h k (Ok (take_by items o told))
 kind_by h k s (m ∷ ms) o told at still e c t = Item k s m ms refl at e refl refl
 kind_by h k s [] None told at still e c t = Quiet refl refl (λ l. l) (inr c)
@@ -40,11 +49,11 @@ kind_at h k None at = Quiet refl refl (λ l. l) (inl refl)
 kind_at h k (Some s) at = kind_open h k s (runs h.read s) at refl
 
 kind_of : (h : Past) (k : ℕ) → TakeBy h k (take_answer h k)
-unfolding take_answer
+unfolding streams_take_answer
 kind_of h k = kind_at h k (slice_get h.streams k) refl
 
 -- by position it is said that there is none before, in place of nothing yet
-kind_before : (h : Past) (k : ℕ) (r : Result (Polled Seen) Error) → TakeBy h k r → TakeOf h (Some k) (shown_take (by_position r)) (take_events k r)
+kind_before : (h : Past) (k : ℕ) (r : Result (Polled MessageView) Error) → TakeBy h k r → TakeOf h (Some k) (shown_take (by_position r)) (take_events k r)
 kind_before h k (Ok Polled.NotYet) (Quiet none item last (inl is)) = cc
 kind_before h k (Ok Polled.NotYet) (Quiet none item last (inr shut)) = Quiet refl refl (λ l. l) (inr shut)
 kind_before h k (Ok Polled.NotYet) (Item j s m ms named at e does is) = cc
@@ -81,7 +90,7 @@ silent t lane e w q = deeds_by NoItem t lane e w (no_item w q) (λ error. tt) (�
 
 pub data Items (t : Trail) (lane : ℕ) (w : Words) (e : Entry) : Type 0 where
   NoneGiven : AllByRecursion NoItem (deeds (plan t lane w) e) → ((i : ℕ) → is_take i w ≡ true → item_by true e.answer ≡ []) → Items t lane w e
-  OneGiven : (n k : ℕ) (s : Stream) (m : Seen) (ms : List Seen) → ((i : ℕ) → is_take i w ≡ (n == i)) → place 0 lane n t.streams ≡ Some k → slice_get t.past.streams k ≡ Some s
+  OneGiven : (n k : ℕ) (s : Stream) (m : MessageView) (ms : List MessageView) → ((i : ℕ) → is_take i w ≡ (n == i)) → place 0 lane n t.streams ≡ Some k → slice_get t.past.streams k ≡ Some s
       → held t.past.read s ≡ m ∷ ms → deeds (plan t lane w) e ≡ Did k Gave ∷ [] → e.answer ≡ Answer.Item m.position → Items t lane w e
 
 items_taken : (t : Trail) (lane n : ℕ) (w : Words) (e : Entry) → ((i : ℕ) → is_take i w ≡ (n == i)) → TakeOf t.past (place 0 lane n t.streams) e.answer (deeds (plan t lane w) e) → Items t lane w e
@@ -104,7 +113,7 @@ items t lane w e is = NoneGiven (silent t lane e w refl) (λ i q. cc)
 -- ---- along an entry
 
 -- what is so once the deeds were is so behind the entry, where its messages and their writes keep it
-pub along_messages : (P : Past → Type 0) (Is : Event → Type 0) → ((e : Event) (h : Past) → Is e → P h → P (after e h)) → ((m : Seen) (why : Purpose) → Is (Put m why)) → Is Wrote → Is Fault
+pub along_messages : (P : Past → Type 0) (Is : Event → Type 0) → ((e : Event) (h : Past) → Is e → P h → P (after e h)) → ((m : MessageView) (why : Purpose) → Is (Put m why)) → Is Wrote → Is Fault
     → (pl : Plan) (e : Entry) (h : Past) → P (after_all (deeds pl e) h) → P (past_after pl e h)
 along_messages P Is keeps put wrote fault pl e h so =
     let g = after_all (deeds pl e) h in
@@ -141,8 +150,8 @@ stays (Did j deed) h k s n at = elim (cases_eq j k) as (λ _. Stays (slice_get (
   | inl same ↦ subst (λ i. Stays (slice_get (edit i (done_by deed) h.streams) k) s) (sym same) (stays_here deed h.streams k s (subst (λ i. Spares k (Did i deed)) same n) at)
   | inr ne ↦ (s.told, s.gone, s.opened, edit_other (done_by deed) j k h.streams ne ∙ at, λ e. e)
 ]
-stays (Made making) h k s n at = (s.told, s.gone, s.opened, get_append k h.streams (new_stream h h.streams making ∷ []) s at, λ e. e)
-stays (Put m (Adds rule asked)) h k s n at = (s.told, s.gone, s.opened, get_append k h.streams (asking_stream h m rule ∷ []) s at, λ e. e)
+stays (Made making) h k s n at = (s.told, s.gone, s.opened, get_append k h.streams (new_stream (streams_of h) h.streams making ∷ []) s at, λ e. e)
+stays (Put m (Adds rule asked)) h k s n at = (s.told, s.gone, s.opened, get_append k h.streams (asking_stream (request_of h m) rule ∷ []) s at, λ e. e)
 stays Fault h k s n at =
     let fails = fail_stream h.read h.outbox.done in
     (s.told, s.gone || asks_by h.outbox.done (phase h.read s), s.opened, slice_get-map fails h.streams k ∙ ap (option_map fails) at, λ e. e)
@@ -165,10 +174,10 @@ waits_done h false pl e is not_ = refl
 -- a stream that is open was made, and runs
 stream_runs : (h : Past) (o : Option Stream) → runs_at h.read o ≡ true → (s : Stream) × (o ≡ Some s) × (is_since (phase h.read s) ≡ true)
 stream_runs h None e = cc
-stream_runs h (Some s) e = (s, refl, (runs_so h s e).since)
+stream_runs h (Some s) e = (s, refl, (runs_so (streams_of h) s e).since)
 
 pub open_stream : (h : Past) (k : ℕ) → is_open h k ≡ true → (s : Stream) × (slice_get h.streams k ≡ Some s) × (is_since (phase h.read s) ≡ true)
-unfolding is_open
+unfolding streams_is_open
 open_stream h k e = stream_runs h (slice_get h.streams k) e
 
 -- ---- lanes
@@ -186,7 +195,7 @@ made_length : (lane : ℕ) (es : List Event) (h : Past) → AllByRecursion NoPut
 made_length lane [] h all = let none : length (made_names lane []) ≡ 0 = refl in omega (arith, none)
 made_length lane (Made making ∷ es) h all =
     let rest = made_length lane es (after (Made making) h) all.1 in
-    let one = length-append h.streams (new_stream h h.streams making ∷ []) in
+    let one = length-append h.streams (new_stream (streams_of h) h.streams making ∷ []) in
     omega (arith, rest, one)
 made_length lane (Did k deed ∷ es) h all = made_length lane es (after (Did k deed) h) all.1 ∙ ap (λ n. length (made_names lane es) + n) (edit-length k (done_by deed) h.streams)
 made_length lane (Fault ∷ es) h all = made_length lane es (after Fault h) all.1 ∙ ap (λ n. length (made_names lane es) + n) (length-map h.streams (fail_stream h.read h.outbox.done))
@@ -194,12 +203,12 @@ made_length lane (Put m why ∷ es) h all = absurd all.0
 made_length lane (e ∷ es) h all = made_length lane es (after e h) all.1
 
 -- and so do messages
-put_length : (lane : ℕ) (failed : Bool) (m : Seen) (why : Purpose) (h : Past) → length (after (Put m why) h).streams ≡ length (stream_names lane failed why) + length h.streams
+put_length : (lane : ℕ) (failed : Bool) (m : MessageView) (why : Purpose) (h : Past) → length (after (Put m why) h).streams ≡ length (stream_names lane failed why) + length h.streams
 put_length lane failed m (OfLane waits) h = omega arith
-put_length lane failed m (Adds rule asked) h = let one = length-append h.streams (asking_stream h m rule ∷ []) in omega (arith, one)
+put_length lane failed m (Adds rule asked) h = let one = length-append h.streams (asking_stream (request_of h m) rule ∷ []) in omega (arith, one)
 put_length lane failed m Removes h = omega arith
 
-puts_length : (lane : ℕ) (failed : Bool) (ds : List Posting) (ms : List Seen) (h : Past) → length (after_all (puts ds ms) h).streams ≡ length (asked_names lane failed ds ms) + length h.streams
+puts_length : (lane : ℕ) (failed : Bool) (ds : List Posting) (ms : List MessageView) (h : Past) → length (after_all (puts ds ms) h).streams ≡ length (asked_names lane failed ds ms) + length h.streams
 puts_length lane failed [] ms h = omega arith
 puts_length lane failed (d ∷ ds) [] h = omega arith
 puts_length lane failed (d ∷ ds) (m ∷ ms) h =
@@ -240,13 +249,13 @@ lanes setting (e ∷ es) =
 abbrev pub AllWithin : Past → Type 0
 AllWithin h = AllByRecursion (IsWithin h.read) h.streams
 
-within_clone : (h : Past) (k : ℕ) (o : Option Stream) → slice_get h.streams k ≡ o → AllWithin h → IsWithin h.read (clone_of h o)
-within_clone h k None at w = within_fresh h None (is_some h.closing)
-within_clone h k (Some s) at w = clone_within h s (all_at (IsWithin h.read) h.streams k s at w)
+within_clone : (h : Past) (k : ℕ) (o : Option Stream) → slice_get h.streams k ≡ o → AllWithin h → IsWithin h.read (clone_of (streams_of h) o)
+within_clone h k None at w = within_fresh (streams_of h) None (is_some h.closing)
+within_clone h k (Some s) at w = clone_within (streams_of h) s (all_at (IsWithin h.read) h.streams k s at w)
 
-within_new : (h : Past) (making : Making) → AllWithin h → IsWithin h.read (new_stream h h.streams making)
-within_new h Plain w = within_fresh h None (is_some h.closing)
-within_new h (Ruled rule asked) w = within_fresh h (Some rule) false
+within_new : (h : Past) (making : Making) → AllWithin h → IsWithin h.read (new_stream (streams_of h) h.streams making)
+within_new h Plain w = within_fresh (streams_of h) None (is_some h.closing)
+within_new h (Ruled rule asked) w = within_fresh (streams_of h) (Some rule) false
 within_new h (Cloned k) w = within_clone h k (slice_get h.streams k) refl w
 
 within_deed : (h : Past) (j : ℕ) (deed : Deed) (s : Stream) → NoItem (Did j deed) → IsWithin h.read s → IsWithin h.read (done_by deed s)
@@ -256,19 +265,19 @@ within_deed h j (Asked limit) s n w = w
 within_deed h j deed s n w = record { start = w.start; passed = w.passed }
 
 within_after : (e : Event) (h : Past) → NoItem e → AllWithin h → AllWithin (after e h)
-within_after (Took m) h n w = all_weaker (IsWithin h.read) (IsWithin (after (Took m) h).read) (within_took m h) h.streams w
-within_after (Made making) h n w = all_more (IsWithin h.read) h.streams (new_stream h h.streams making) w (within_new h making w)
-within_after (Put m (Adds rule asked)) h n w = all_more (IsWithin h.read) h.streams (asking_stream h m rule) w (within_asking h m rule)
+within_after (Took m) h n w = all_weaker (IsWithin h.read) (IsWithin (after (Took m) h).read) (within_took m (streams_of h)) h.streams w
+within_after (Made making) h n w = all_more (IsWithin h.read) h.streams (new_stream (streams_of h) h.streams making) w (within_new h making w)
+within_after (Put m (Adds rule asked)) h n w = all_more (IsWithin h.read) h.streams (asking_stream (request_of h m) rule) w (within_asking (streams_of h) (request_of h m) rule refl)
 within_after (Did j deed) h n w = all_edit (IsWithin h.read) (done_by deed) h.streams j (λ s is one. within_deed h j deed s n one) w
-within_after Fault h n w = all_map (IsWithin h.read) (IsWithin h.read) (fail_stream h.read h.outbox.done) (fail_within h h.outbox.done) h.streams w
+within_after Fault h n w = all_map (IsWithin h.read) (IsWithin h.read) (fail_stream h.read h.outbox.done) (fail_within (streams_of h) h.outbox.done) h.streams w
 within_after e h n w = w
 
-within_item : (h : Past) (k : ℕ) (s : Stream) (m : Seen) (ms : List Seen) → slice_get h.streams k ≡ Some s → held h.read s ≡ m ∷ ms → AllWithin h → AllWithin (after (Did k Gave) h)
+within_item : (h : Past) (k : ℕ) (s : Stream) (m : MessageView) (ms : List MessageView) → slice_get h.streams k ≡ Some s → held h.read s ≡ m ∷ ms → AllWithin h → AllWithin (after (Did k Gave) h)
 unfolding matched phase
 within_item h k s m ms at e w =
     let one = all_at (IsWithin h.read) h.streams k s at w in
-    let le : s.skip + s.taken + 1 ≤ length (matched h.read s) = (drop_next (s.skip + s.taken) (matched h.read s) m ms (sym (held_matched h s) ∙ e)).1 in
-    within_edit h (done_by Gave) h.streams k s at (record { start = one.start; passed = omega arith }) w
+    let le : s.skip + s.taken + 1 ≤ length (matched h.read s) = (drop_next (s.skip + s.taken) (matched h.read s) m ms (sym (held_matched (streams_of h) s) ∙ e)).1 in
+    within_edit (streams_of h) (done_by Gave) h.streams k s at (record { start = one.start; passed = omega arith }) w
 
 within_deeds : (t : Trail) (lane : ℕ) (w : Words) (e : Entry) → Items t lane w e → AllWithin t.past → AllWithin (after_all (deeds (plan t lane w) e) t.past)
 within_deeds t lane w e (NoneGiven none item) all = along AllWithin NoItem within_after (deeds (plan t lane w) e) t.past none all
@@ -288,7 +297,7 @@ all_within setting (e ∷ es) legal =
 pub record Flowing (goes : Past → Stream → List ℕ → Type 0) : Type 0 where
   pub along : (e : Event) (h : Past) (s : Stream) (given : List ℕ) → goes h s given → goes (after e h) s given
   pub same : (h : Past) (s : Stream) (given : List ℕ) (a b c : Bool) → goes h s given → goes h (turned s a b c) given
-  pub item : (h : Past) (k : ℕ) (s : Stream) (given : List ℕ) (m : Seen) (ms : List Seen) → held h.read s ≡ m ∷ ms → goes h s given
+  pub item : (h : Past) (k : ℕ) (s : Stream) (given : List ℕ) (m : MessageView) (ms : List MessageView) → held h.read s ≡ m ∷ ms → goes h s given
       → goes (after (Did k Gave) h) (done_by Gave s) (given ++ m.position ∷ [])
 
 -- So it is of the stream with this number, and these are the positions of what it gave.
@@ -342,7 +351,7 @@ module _ (goes : Past → Stream → List ℕ → Type 0) (steps : Flowing goes)
   kept k given all es h spare none f =
       subst (λ ps. FlowAt goes k ps (after_all es h)) (sym (append-nil given) ∙ ap (λ ps. given ++ ps) (sym none)) (along (FlowAt goes k given) (Spares k) (flow_after k given) es h spare f)
 
-  gave : (k : ℕ) (given : List ℕ) (h : Past) (s : Stream) (m : Seen) (ms : List Seen) → slice_get h.streams k ≡ Some s → held h.read s ≡ m ∷ ms → FlowAt goes k given h
+  gave : (k : ℕ) (given : List ℕ) (h : Past) (s : Stream) (m : MessageView) (ms : List MessageView) → slice_get h.streams k ≡ Some s → held h.read s ≡ m ∷ ms → FlowAt goes k given h
       → FlowAt goes k (given ++ m.position ∷ []) (after (Did k Gave) h)
   gave k given h s m ms at e f =
       let one : s ≡ f.stream = (let q : Some s ≡ Some f.stream = sym at ∙ f.made in cc) in

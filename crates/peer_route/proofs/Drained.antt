@@ -1,14 +1,20 @@
 -- A stream that gave all gives no more; when a read is busy.
-use Rattle.peer_route.specs.{History.{Told, done_by, Event, Took, Made, Plain, Stream, phase, plain_stream, Past, after, after_all}, Names.{Words, Answer, Entry, Seen, Error}, Streams.{matched, offered, held, limit_of, busy, is_full}, Parcel.Setting, Trail.{Trail, place, count}, Plan.{Reads, reads_by, plan}, Entries.{IsMeant, IsRead, deeds, past_after, trail, more, Legal}, StreamLaws.{is_take, IsEnded, IsLast, IsDrained, HoldsTooMany}}
+use Rattle.peer_core.specs.History.{streams_of}
+use Rattle.peer_streams.specs.Streams.{busy as streams_busy}
+use Rattle.peer_streams.specs.{History.{Told, done_by, Plain, Stream, phase, plain_stream}, Streams.{matched, offered, held, limit_of, is_full}}
+use Rattle.peer_core.specs.{History.{Event, Took, Made, Past, after, after_all}, Asked.busy}
+use Rattle.peer_route.specs.{Names.{Words, Answer, Entry, MessageView, Error}, Trail.{Setting, Trail, place, count}, Plan.{Reads, reads_by, plan}, Entries.{IsMeant, IsRead, deeds, past_after, trail, more, Legal}, StreamLaws.{is_take, IsEnded, IsLast, IsDrained, HoldsTooMany}}
 use Rattle.std.proofs.{Common.{◌≡◌, ◌≢◌, ◌⊎◌, inl, inr, ℕ, ◌&&◌, suc, not, refl, sym, ◌∙◌, ap, subst, Bool, true, false, is_some, is_none, nat_lt, List, [], ◌∷◌, ◌++◌, length, Option, Some, None, option_and_then}, lemmas.Bool.{cases_Bool, and_parts, not-true, lt-ltb}, lemmas.List.Folds.list_any_at, lemmas.Option.{slice_get_within, get_or_from_slice_get}}
 use Rattle.std.specs.List.{slice_get, list_any, AllByRecursion}
-use Rattle.peer_route.proofs.{Edits.{edit_here, get_new, all_weaker}, Plans.{IsDeed, along, legal_from, IsFair, fair}, Deeds.{TakeOf, Quiet, Item, Tells, Ends, take_entry, Items, NoneGiven, OneGiven, items, Spares, spares, stays, turned, along_messages, NoItem, lanes, named_on, named_new}, Kept.{Keeps, deeds_all, entry_keeps, later}, StreamsMade.held_fresh, Writers.closing_keeps}
+use Rattle.wire_message.proofs.Edits.{edit_here, get_new, all_weaker}
+use Rattle.peer_streams.proofs.StreamsMade.{held_fresh}
+use Rattle.peer_route.proofs.{Plans.{IsDeed, along, legal_from, IsFair, fair}, Deeds.{TakeOf, Quiet, Item, Tells, Ends, take_entry, Items, NoneGiven, OneGiven, items, Spares, spares, stays, turned, along_messages, NoItem, lanes, named_on, named_new}, Kept.{Keeps, deeds_all, entry_keeps, later}, Writers.closing_keeps}
 use borrow.Author.Tests.{ltb-true}
 
 -- ---- a stream that is over
 
 -- Of these messages the stream with this number holds none; it told the closing error, which was this.
-record OverAt (ms : List Seen) (k : ℕ) (error : Error) (h : Past) : Type 0 where
+record OverAt (ms : List MessageView) (k : ℕ) (error : Error) (h : Past) : Type 0 where
   stream : Stream
   made : slice_get h.streams k ≡ Some stream
   nothing : held ms stream ≡ []
@@ -22,7 +28,7 @@ record Over (t : Trail) (lane number : ℕ) : Type 0 where
   named : place 0 lane number t.streams ≡ Some k
   now : OverAt t.past.read k error t.past
 
-over_after : (ms : List Seen) (k : ℕ) (error : Error) (e : Event) (h : Past) → Spares k e → OverAt ms k error h → OverAt ms k error (after e h)
+over_after : (ms : List MessageView) (k : ℕ) (error : Error) (e : Event) (h : Past) → Spares k e → OverAt ms k error h → OverAt ms k error (after e h)
 unfolding held offered matched phase
 over_after ms k error e h spare o =
     let r = stays e h k o.stream spare o.made in
@@ -141,16 +147,16 @@ ended_from_start setting newer older e number error legal w a shut =
     let t = trail setting older in
     let h = t.past in
     let k = length t.streams in
-    let s = plain_stream h in
+    let s = plain_stream (streams_of h) in
     let means = ap (plan t e.lane) w in
     let named = named_new t e number Plain (legal_from setting newer (e ∷ older) legal).0 means a in
     let made : slice_get (h.streams ++ s ∷ []) k ≡ Some s = ap (slice_get (h.streams ++ s ∷ [])) (lanes setting older) ∙ get_new h.streams s in
-    let now : OverAt h.read k error (after (Made Plain) h) = record { stream = s; made = made; nothing = held_fresh h None (is_some h.closing); told = ap is_some shut; shut = shut } in
+    let now : OverAt h.read k error (after (Made Plain) h) = record { stream = s; made = made; nothing = held_fresh (streams_of h) None (is_some h.closing); told = ap is_some shut; shut = shut } in
     over_later setting newer older e e.lane number legal (over_entry t e e.lane number k error named shut (subst (λ pl. OverAt h.read k error (after_all (deeds pl e) h)) (sym means) now))
 
 -- ---- a busy read
 
-read_busy : (count : ℕ) (o : Option Seen) (a : Answer) → IsRead count o a → a ≡ Answer.Busy → ⊥
+read_busy : (count : ℕ) (o : Option MessageView) (a : Answer) → IsRead count o a → a ≡ Answer.Busy → ⊥
 read_busy count (Some m) a is e = let q : Answer.Got ≡ Answer.Busy = sym is.0 ∙ e in cc
 read_busy count None a is e = let q : Answer.Closed is.0 ≡ Answer.Busy = sym is.1 ∙ e in cc
 
@@ -168,7 +174,7 @@ any_at {A} p (y ∷ ys) e =
     ]
 
 too_many : (h : Past) → h.closing ≡ None → busy h ≡ true → HoldsTooMany h
-unfolding busy is_full
+unfolding streams_busy is_full
 too_many h open_ e =
     let at = any_at (is_full h.capacities h.read) h.streams (and_parts (is_none h.closing) (list_any (is_full h.capacities h.read) h.streams) e).1 in
     let s = at.1 in
@@ -181,7 +187,7 @@ busy_only setting older e legal w a =
     let b = busy_by t.past t.past.closing (busy t.past) e (subst (λ pl. IsMeant t.past pl e) (ap (plan t e.lane) w) legal.0) a in too_many t.past b.0 b.1
 
 busy_of : (h : Past) → HoldsTooMany h → busy h ≡ true
-unfolding busy is_full
+unfolding streams_busy is_full
 busy_of h many =
     let s = many.stream in
     let full : is_full h.capacities h.read s ≡ true =

@@ -1,27 +1,34 @@
 -- The message that each stream gave last, after each event.
-use Rattle.peer_route.specs.{History.{Gave, Gone, Opened, Told, done_by, Event, Took, Shut, Wrote, Fault, Spent, Made, Did, Main, OnBus, Named, Put, OfLane, Adds, Removes, Making, Plain, Ruled, Cloned, Asked, Stream, Phase, Asking, Denied, Since, asks_by, phase, edit, new_stream, clone_of, fail_stream, Past, after, after_all}, Names.{Polled, Seen, Error, Rule}, Streams.{since_in, accepted, matched, offered, held, item_at, gave_last, all_given, runs, take_by, take_answer, take_events}, Left.{IsWithin, View, Left}, Plan.given_last}
+use Rattle.peer_core.specs.History.{streams_of}
+use Rattle.peer_streams.specs.Streams.{take_answer as streams_take_answer}
+use Rattle.peer_streams.specs.{History.{Gave, Gone, Opened, Told, done_by, Making, Plain, Ruled, Cloned, Asked, Stream, Phase, Asking, Denied, Since, asks_by, phase, new_stream, clone_of, fail_stream}, Streams.{since_in, accepted, matched, offered, held, item_at, gave_last, runs, take_by}, Left.IsWithin}
+use Rattle.peer_core.specs.{History.{Event, Took, Shut, Wrote, Fault, Spent, Made, Did, Main, OnBus, Named, Put, Past, after, after_all}, Asked.{all_given, take_answer, take_events}, Left.{View, Left}}
+use Rattle.peer_calls.specs.History.{OfLane, Adds, Removes}
+use Rattle.wire_message.specs.Plain.{edit}
+use Rattle.peer_route.specs.{Names.{Polled, MessageView, Error, Rule}, Plan.given_last}
 use Rattle.std.proofs.{Common.{◌≡◌, ℕ, ◌+◌, ◌≤◌, zero, suc, refl, sym, ◌∙◌, ap, arith, ◌||◌, Bool, true, false, if◌then◌else◌, List, [], ◌∷◌, ◌++◌, length, drop, map, Option, Some, None, Result, Ok, Err, option_and_then}, lemmas.List.{map-append, drop-append-le, length-drop}, Math.Seq.drop-nil, lemmas.Option.slice_get-map}
 use Rattle.std.specs.{List.{slice_get, slice_set, AllByRecursion}, Option.{option_map, option_flatten, option_and_then}}
-use Rattle.peer_route.proofs.{Plain.{map_along, map_each}, Edits.{edit-none, map_edit, map_edit_all, set_edit, get_before, get_first}, Matched.{arriving, matched_took, accepted_nothing}, StreamsMade.runs_so, Looks.take_at}
+use Rattle.wire_message.proofs.{Plain.{map_along, map_each}, Edits.{edit-none, map_edit, map_edit_all, set_edit, get_before, get_first}}
+use Rattle.peer_streams.proofs.{Matched.{arriving, matched_took, accepted_nothing}, StreamsMade.runs_so, Looks.take_at}
 use mathlib.Core.List.{map-map}
 
 -- ---- a message comes
 
-item_push : (taken : ℕ) (ms xs : List Seen) → taken ≤ length ms → item_at (ms ++ xs) taken ≡ item_at ms taken
+item_push : (taken : ℕ) (ms xs : List MessageView) → taken ≤ length ms → item_at (ms ++ xs) taken ≡ item_at ms taken
 item_push zero ms xs le = refl
 item_push (suc n) ms xs le = get_before n ms xs (omega arith)
 
-gave_took : (m : Seen) (h : Past) (s : Stream) → IsWithin h.read s → gave_last (h.read ++ m ∷ []) s ≡ gave_last h.read s
+gave_took : (m : MessageView) (h : Past) (s : Stream) → IsWithin h.read s → gave_last (h.read ++ m ∷ []) s ≡ gave_last h.read s
 unfolding gave_last offered
 gave_took m h s w =
     let passed = w.passed in
     let some = arriving (phase h.read s) s.rule m in
-    let more : drop s.skip (matched (h.read ++ m ∷ []) s) ≡ offered h.read s ++ some = ap (drop s.skip) (matched_took m h s w.start) ∙ drop-append-le s.skip (matched h.read s) some (omega arith) in
+    let more : drop s.skip (matched (h.read ++ m ∷ []) s) ≡ offered h.read s ++ some = ap (drop s.skip) (matched_took m (streams_of h) s w.start) ∙ drop-append-le s.skip (matched h.read s) some (omega arith) in
     ap (λ ms. if s.gone then None else item_at ms s.taken) more
     ∙ ap (λ o. if s.gone then None else o) (item_push s.taken (offered h.read s) some (omega (arith, length-drop s.skip (matched h.read s))))
 
 -- what streams gave stays when a message comes
-pub given_took : (m : Seen) (v : View) (h : Past) → Left v h → all_given (after (Took m) h) ≡ all_given h
+pub given_took : (m : MessageView) (v : View) (h : Past) → Left v h → all_given (after (Took m) h) ≡ all_given h
 given_took m v h left = map_along (IsWithin h.read) (gave_last (h.read ++ m ∷ [])) (gave_last h.read) (gave_took m h) h.streams left.streams.within
 
 -- ---- a write fails
@@ -40,11 +47,11 @@ failed_by n skip taken rule false (Asking add) =
     let none : item_at (drop skip (accepted rule [])) taken ≡ None = ap (λ ms. item_at (drop skip ms) taken) (accepted_nothing rule) ∙ ap (λ ms. item_at ms taken) (drop-nil skip) ∙ item_nothing taken in
     either (asks_by n (Asking add)) (item_at (drop skip (accepted rule [])) taken) none
   where
-    either : (b : Bool) (o : Option Seen) → o ≡ None → (if b then None else o) ≡ o
+    either : (b : Bool) (o : Option MessageView) → o ≡ None → (if b then None else o) ≡ o
     either true o e = sym e
     either false o e = refl
 
-gave_failed : (ms : List Seen) (n : ℕ) (s : Stream) → gave_last ms (fail_stream ms n s) ≡ gave_last ms s
+gave_failed : (ms : List MessageView) (n : ℕ) (s : Stream) → gave_last ms (fail_stream ms n s) ≡ gave_last ms s
 unfolding gave_last offered matched phase
 gave_failed ms n s = failed_by n s.skip s.taken s.rule s.gone (phase ms s)
 
@@ -52,13 +59,13 @@ gave_failed ms n s = failed_by n s.skip s.taken s.rule s.gone (phase ms s)
 
 -- What it leaves of what streams gave: one that is made gave nothing yet, a clone neither, and of one that was closed nothing can be
 -- answered.
-abbrev pub left_given : Event → List (Option Seen) → List (Option Seen)
+abbrev pub left_given : Event → List (Option MessageView) → List (Option MessageView)
 left_given (Made making) gs = gs ++ None ∷ []
 left_given (Put m (Adds rule asked)) gs = gs ++ None ∷ []
 left_given (Did k Gone) gs = slice_set gs k None
 left_given e gs = gs
 
-abbrev pub all_left_given : List Event → List (Option Seen) → List (Option Seen)
+abbrev pub all_left_given : List Event → List (Option MessageView) → List (Option MessageView)
 all_left_given [] gs = gs
 all_left_given (e ∷ es) gs = all_left_given es (left_given e gs)
 
@@ -67,12 +74,12 @@ GivesNone (Took m) = ⊥
 GivesNone (Did k Gave) = ⊥
 GivesNone e = Unit {0}
 
-clone_gave : (h : Past) (o : Option Stream) → gave_last h.read (clone_of h o) ≡ None
+clone_gave : (h : Past) (o : Option Stream) → gave_last h.read (clone_of (streams_of h) o) ≡ None
 unfolding gave_last
 clone_gave h None = refl
 clone_gave h (Some s) = refl
 
-new_gave : (h : Past) (making : Making) → gave_last h.read (new_stream h h.streams making) ≡ None
+new_gave : (h : Past) (making : Making) → gave_last h.read (new_stream (streams_of h) h.streams making) ≡ None
 unfolding gave_last
 new_gave h Plain = refl
 new_gave h (Ruled rule asked) = refl
@@ -97,7 +104,7 @@ given_along Wrote h x = refl
 given_along Fault h x =
     map-map (gave_last h.read) (fail_stream h.read h.outbox.done) h.streams ∙ map_each (λ s. gave_last h.read (fail_stream h.read h.outbox.done s)) (gave_last h.read) (gave_failed h.read h.outbox.done) h.streams
 given_along (Spent k) h x = refl
-given_along (Made making) h x = one_more h (new_stream h h.streams making) (new_gave h making)
+given_along (Made making) h x = one_more h (new_stream (streams_of h) h.streams making) (new_gave h making)
 given_along (Did k Gave) h x = absurd x
 given_along (Did k Told) h x = same_gave h k (done_by Told) (λ s. refl)
 given_along (Did k Gone) h x = map_edit_all (gave_last h.read) (done_by Gone) (λ o. None) h.streams k (λ s. refl) ∙ sym (set_edit (all_given h) k None)
@@ -115,17 +122,17 @@ given_all (e ∷ es) h a = given_all es (after e h) a.1 ∙ ap (all_left_given e
 -- ---- a stream gives
 
 -- for each stream the message that it gave last, after a take
-abbrev pub given_after : ℕ → Result (Polled Seen) Error → List (Option Seen) → List (Option Seen)
+abbrev pub given_after : ℕ → Result (Polled MessageView) Error → List (Option MessageView) → List (Option MessageView)
 given_after k (Ok (Polled.Now m)) gs = slice_set gs k (Some m)
 given_after k other gs = gs
 
-gave_now : (ms : List Seen) (s : Stream) (m : Seen) (rest : List Seen) → s.gone ≡ false → held ms s ≡ m ∷ rest → gave_last ms (done_by Gave s) ≡ Some m
+gave_now : (ms : List MessageView) (s : Stream) (m : MessageView) (rest : List MessageView) → s.gone ≡ false → held ms s ≡ m ∷ rest → gave_last ms (done_by Gave s) ≡ Some m
 unfolding gave_last held offered matched phase
 gave_now ms s m rest still e =
     ap (λ b. if b then None else item_at (offered ms s) (s.taken + 1)) still
     ∙ ap (item_at (offered ms s)) (let n : s.taken + 1 ≡ suc s.taken = omega arith in n) ∙ get_first s.taken (offered ms s) m rest e
 
-given_by_take : (h : Past) (k : ℕ) (s : Stream) (items : List Seen) (error : Option Error) (told : Bool) → slice_get h.streams k ≡ Some s → s.gone ≡ false → held h.read s ≡ items
+given_by_take : (h : Past) (k : ℕ) (s : Stream) (items : List MessageView) (error : Option Error) (told : Bool) → slice_get h.streams k ≡ Some s → s.gone ≡ false → held h.read s ≡ items
     → all_given (after_all (take_events k (Ok (take_by items error told))) h) ≡ given_after k (Ok (take_by items error told)) (all_given h)
 given_by_take h k s (m ∷ ms) error told at still e =
     map_edit (gave_last h.read) (done_by Gave) (λ _. Some m) h.streams k s at (gave_now h.read s m ms still e) ∙ sym (set_edit (all_given h) k (Some m))
@@ -137,7 +144,7 @@ given_if : (h : Past) (k : ℕ) (s : Stream) (open_ : Bool) → slice_get h.stre
     → all_given (after_all (take_events k (if open_ then Ok (take_by (held h.read s) h.closing s.told) else Err Error.UnknownHandle)) h)
     ≡ given_after k (if open_ then Ok (take_by (held h.read s) h.closing s.told) else Err Error.UnknownHandle) (all_given h)
 given_if h k s false at e = refl
-given_if h k s true at e = let is = runs_so h s e in given_by_take h k s (held h.read s) h.closing s.told at is.still refl
+given_if h k s true at e = let is = runs_so (streams_of h) s e in given_by_take h k s (held h.read s) h.closing s.told at is.still refl
 
 given_take_at : (h : Past) (k : ℕ) (o : Option Stream) → slice_get h.streams k ≡ o
     → all_given (after_all (take_events k (take_at h.read h.closing o)) h) ≡ given_after k (take_at h.read h.closing o) (all_given h)
@@ -145,7 +152,7 @@ given_take_at h k None at = refl
 given_take_at h k (Some s) at = given_if h k s (runs h.read s) at refl
 
 pub given_taken : (h : Past) (k : ℕ) → all_given (after_all (take_events k (take_answer h k)) h) ≡ given_after k (take_answer h k) (all_given h)
-unfolding take_answer
+unfolding streams_take_answer
 given_taken h k = given_take_at h k (slice_get h.streams k) refl
 
 -- ---- what a number names

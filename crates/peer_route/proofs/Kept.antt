@@ -2,8 +2,12 @@
 -- messages is no unknown handle.
 use Rattle.std.specs.{Prelude.option_to_list, List.AllByRecursion}
 use Rattle.std.proofs.{Common.{◌≡◌, ℕ, refl, ◌∙◌, Bool, true, false, if◌then◌else◌, List, [], ◌∷◌, Option, Some, None, ◌++◌, option_map, zero, suc, ap}, lemmas.List.append-nil}
-use Rattle.peer_route.specs.{Names.{Seen, Error, Words, Answer, Entry}, Parcel.Setting, History.{Event, Took, Shut, Put, Wrote, Fault, Main, OnBus, Named, Purpose, no_past, Past, after, after_all}, Issuing.{Posting, puts}, Trail.{Trail, new_names, asked_names, made_names}, Plan.{Plan, Reads, plan, Says, Sends, Closes, Writes, Never}, Entries.{trail, deeds, postings, writes, past_after, read_events, first_past, IsOfRun, IsEntry, Legal, more, IsQuiet, more_by, repeat}}
-use Rattle.peer_route.proofs.{Edits.all_weaker, Plans.{IsDeed, AreDeeds, along, along_entry, is_live, Gives, IsOwn, IsFair, fair}}
+use Rattle.peer_route.specs.{Names.{MessageView, Error, Words, Answer, Entry}, Trail.{Setting, Trail, new_names, asked_names, made_names}, Plan.{Plan, Reads, plan, Says, Sends, Closes, Writes, Never}, Entries.{trail, deeds, postings, writes, past_after, read_events, first_past, IsEntry, Legal, more, IsQuiet, more_by, repeat}}
+use Rattle.peer_core.specs.{History.{Event, Took, Shut, Put, Wrote, Fault, Main, OnBus, Named, no_past, Past, after, after_all}, Issuing.puts}
+use Rattle.peer_calls.specs.{History.Purpose, Issuing.Posting}
+use Rattle.peer_words.specs.OfRun.{IsOfRun}
+use Rattle.wire_message.proofs.Edits.{all_weaker}
+use Rattle.peer_route.proofs.Plans.{IsDeed, AreDeeds, along, along_entry, is_live, Gives, IsOwn, IsFair, fair}
 
 -- ---- what every event keeps
 
@@ -61,12 +65,12 @@ kept_by f es h all = along (λ q. f q ≡ f h) (Keeps f) (λ e q keeps so. keeps
 pub deeds_are : (Is : Event → Type 0) → ((e : Event) → IsDeed e → Is e) → (es : List Event) → AreDeeds es → AllByRecursion Is es
 deeds_are Is deed = all_weaker IsDeed Is deed
 
-pub puts_are : (Is : Event → Type 0) → ((m : Seen) (purpose : Purpose) → Is (Put m purpose)) → (ds : List Posting) (ms : List Seen) → AllByRecursion Is (puts ds ms)
+pub puts_are : (Is : Event → Type 0) → ((m : MessageView) (purpose : Purpose) → Is (Put m purpose)) → (ds : List Posting) (ms : List MessageView) → AllByRecursion Is (puts ds ms)
 puts_are Is put [] ms = tt
 puts_are Is put (d ∷ ds) [] = tt
 puts_are Is put (d ∷ ds) (m ∷ ms) = (put m d.purpose, puts_are Is put ds ms)
 
-pub entry_keeps : {X : Type 0} (f : Past → X) (pl : Plan) (e : Entry) (h : Past) → AllByRecursion (Keeps f) (deeds pl e) → ((m : Seen) (purpose : Purpose) → Keeps f (Put m purpose)) → Keeps f Wrote → Keeps f Fault → f (past_after pl e h) ≡ f h
+pub entry_keeps : {X : Type 0} (f : Past → X) (pl : Plan) (e : Entry) (h : Past) → AllByRecursion (Keeps f) (deeds pl e) → ((m : MessageView) (purpose : Purpose) → Keeps f (Put m purpose)) → Keeps f Wrote → Keeps f Fault → f (past_after pl e h) ≡ f h
 entry_keeps f pl e h done put wrote fault =
     along_entry (λ q. f q ≡ f h) (Keeps f) (λ x q keeps so. keeps q ∙ so) pl e h done (puts_are (Keeps f) put (postings pl) e.put) wrote fault refl
 
@@ -75,11 +79,11 @@ of_run (Words.Live line) is = absurd is
 of_run w is = refl
 
 -- the deeds of a command: those that a plan says, what a read found, the closing, and a write
-pub deeds_by : (Is : Event → Type 0) (t : Trail) (lane : ℕ) (e : Entry) (w : Words) → ((x : Event) → IsDeed x → Gives w x → Is x) → ((error : Error) → Is (Shut error)) → (plan t lane w ≡ Reads → (m : Seen) → Is (Took m))
+pub deeds_by : (Is : Event → Type 0) (t : Trail) (lane : ℕ) (e : Entry) (w : Words) → ((x : Event) → IsDeed x → Gives w x → Is x) → ((error : Error) → Is (Shut error)) → (plan t lane w ≡ Reads → (m : MessageView) → Is (Took m))
     → (is_live w ≡ true → Is Wrote × Is Fault) → AllByRecursion Is (deeds (plan t lane w) e)
 deeds_by Is t lane e w deed shut took live = by (plan t lane w) refl (fair t lane w)
   where
-    read_all : ((m : Seen) → Is (Took m)) → (m : Option Seen) (a : Answer) → AllByRecursion Is (read_events m a)
+    read_all : ((m : MessageView) → Is (Took m)) → (m : Option MessageView) (a : Answer) → AllByRecursion Is (read_events m a)
     read_all took (Some m) a = (took m, tt)
     read_all took None (Answer.Closed error) = (shut error, tt)
     read_all took None a = tt
@@ -96,7 +100,7 @@ deeds_by Is t lane e w deed shut took live = by (plan t lane w) refl (fair t lan
     by (Writes fails) at f = write_all fails (live f.0)
     by Never at f = tt
 
-pub deeds_all : (Is : Event → Type 0) → ((e : Event) → IsDeed e → Is e) → ((error : Error) → Is (Shut error)) → (t : Trail) (lane : ℕ) (e : Entry) (w : Words) → (plan t lane w ≡ Reads → (m : Seen) → Is (Took m))
+pub deeds_all : (Is : Event → Type 0) → ((e : Event) → IsDeed e → Is e) → ((error : Error) → Is (Shut error)) → (t : Trail) (lane : ℕ) (e : Entry) (w : Words) → (plan t lane w ≡ Reads → (m : MessageView) → Is (Took m))
     → (is_live w ≡ true → Is Wrote × Is Fault) → AllByRecursion Is (deeds (plan t lane w) e)
 deeds_all Is deed shut t lane e w took live = deeds_by Is t lane e w (λ x is gives. deed x is) shut took live
 
@@ -110,7 +114,7 @@ deed_outbox e is h = refl
 -- ---- where nothing is put or written
 
 -- what is left where no message is put
-no_messages : (ds : List Posting) (ms : List Seen) (lane : ℕ) (failed : Bool) → ms ≡ [] → (puts ds ms ≡ []) × (new_names lane failed ds ms ≡ []) × (asked_names lane failed ds ms ≡ [])
+no_messages : (ds : List Posting) (ms : List MessageView) (lane : ℕ) (failed : Bool) → ms ≡ [] → (puts ds ms ≡ []) × (new_names lane failed ds ms ≡ []) × (asked_names lane failed ds ms ≡ [])
 no_messages [] ms lane failed e = (refl, refl, refl)
 no_messages (d ∷ ds) [] lane failed e = (refl, refl, refl)
 no_messages (d ∷ ds) (m ∷ ms) lane failed e = cc

@@ -1,9 +1,19 @@
 -- What is known of each command's plan: what is said at once, what is done beside messages, and what is told of these; and what holds along
 -- the events of an entry.
+use Rattle.peer_calls.specs.Calls.{poll_answer as calls_poll_answer}
+use Rattle.peer_streams.specs.Streams.{take_answer as streams_take_answer}
 use Rattle.std.proofs.Common.{◌≡◌, is_none, ℕ, ◌-◌, zero, suc, refl, subst, ◌&&◌, not, Bool, true, false, if◌then◌else◌, List, ◌∷◌, ◌++◌, length, Option, Some, None, Result, Ok, Err, ◌∙◌, ap, [], arith, ◌<◌, ◌^◌, sym}
 use Rattle.std.specs.{List.{AllByRecursion, slice_get}, Option.option_and_then}
-use Rattle.peer_route.specs.{Names.{Datum, Draft, are_misplaced, reply_draft, error_draft, head_of, Seen, MessageType, Error, Rule, rule_in_bytes, Polled, OpenState, Words, CallOp, StreamOp, Live, Outgoing, OutgoingKind, Answer, Entry}, Parcel.{Setting, Asked, Parcel}, CallMessage.{asked_of, outgoing_draft, outgoing_asked, sent_from, reply_asked, error_asked, expects, words_refusal, values_in, name_refusal}, History.{Event, Wrote, Fault, Spent, Made, Did, Main, Named, Making, Gave, Gone, Past, after, after_all, Call, Stream, Plain, Ruled, Cloned}, Calls.{in_flight, poll_answer, by_position, poll_events, drop_answer, drop_events, found, is_nobodys, polled_by}, Streams.{busy, take_answer, take_events, is_open, are_open, asks_bus, close_waits, gone_events, opening_answer, opening_events, held, runs, take_by, leaving}, Shown.{error_answer, reply_by, shown, shown_drop, shown_take, shown_opening}, Issuing.{Posting, puts, drawn, next_serial, posted}, Trail.{Trail, place, count}, Plan.{Plan, Says, Reads, Closes, Writes, Never, refuses, where_named, where_open, unless_waits, sends, on_call, makes, leaves, ends, second_place, given_last, on_stream, opens_new, opens, reads_by, is_due, lives, plan, Sends, sent_answer}, StreamLaws.{is_take_op, is_unstream}, Entries.{Legal, repeat, writes, deeds, postings, past_after}, BusCall.{first_of, last_of, asking_of, tellings_of}, Laws.{told_serial, is_by_position}}
-use Rattle.peer_route.proofs.{Edits.all_weaker, Looks.{polled_at, take_at}}
+use Rattle.peer_route.specs.{Names.{Datum, BuilderView, are_misplaced, reply_builder, error_builder, head_of, MessageView, MessageType, Error, Rule, rule_in_bytes, Polled, OpenState, Words, CallOp, StreamOp, Live, Outgoing, OutgoingKind, Answer, Entry}, Trail.{Setting, Trail, place, count}, Shown.{error_answer, reply_by, shown, shown_drop, shown_take, shown_opening}, Plan.{Plan, Says, Reads, Closes, Writes, Never, refuses, where_named, where_open, unless_waits, sends, on_call, makes, leaves, ends, second_place, given_last, on_stream, opens_new, opens, reads_by, is_due, lives, plan, Sends, sent_answer}, StreamLaws.{is_take_op, is_unstream}, Entries.{Legal, repeat, writes, deeds, postings, past_after}, Laws.{told_serial, is_by_position}}
+use Rattle.peer_words.specs.CallMessage.{Asked, asked_of, outgoing_builder, outgoing_asked, sent_from, reply_asked, error_asked, words_refusal, values_in, name_refusal}
+use Rattle.wire_message.specs.{Outgoing.{OutgoingMessageView, expects}, Polls.by_position}
+use Rattle.peer_core.specs.{History.{Event, Wrote, Fault, Spent, Made, Did, Main, Named, Past, after, after_all}, Asked.{in_flight, poll_answer, poll_events, drop_answer, drop_events, busy, take_answer, take_events, is_open, are_open, asks_bus, close_waits, gone_events, opening_answer, opening_events, leaving}, Issuing.puts, BusCall.{first_of, last_of, asking_of, tellings_of}}
+use Rattle.peer_streams.specs.{History.{Making, Gave, Gone, Stream, Plain, Ruled, Cloned}, Streams.{held, runs, take_by}}
+use Rattle.peer_calls.specs.{History.Call, Calls.{found, is_nobodys, polled_by}, Issuing.{Posting, posted}}
+use Rattle.peer_core.specs.Issuing.{drawn, next_serial}
+use Rattle.wire_message.proofs.Edits.{all_weaker}
+use Rattle.peer_calls.proofs.Looks.{polled_at}
+use Rattle.peer_streams.proofs.Looks.{take_at}
 
 -- ---- deeds
 
@@ -65,11 +75,11 @@ fits by (Some place) = if by then place else not place
 abbrev pub IsBland : Answer → Type 0
 IsBland a = (is_idle a ≡ false) × (told_serial a ≡ None) × (place_of a ≡ None)
 
-error_bland : (m : Seen) (name : Option (List ℕ)) → IsBland (error_answer m name)
+error_bland : (m : MessageView) (name : Option (List ℕ)) → IsBland (error_answer m name)
 error_bland m (Some name) = (refl, refl, refl)
 error_bland m None = (refl, refl, refl)
 
-reply_bland : (m : Seen) (kind : MessageType) → IsBland (reply_by m kind)
+reply_bland : (m : MessageView) (kind : MessageType) → IsBland (reply_by m kind)
 reply_bland m MessageType.Error = error_bland m m.error_name
 reply_bland m kind = (refl, refl, refl)
 
@@ -101,7 +111,7 @@ pub record Fair (w : Words) (answer : Answer) (done : List Event) : Type 0 where
 
 -- the messages have this name as their sender
 abbrev pub AreFrom : Option (List ℕ) → List Posting → Type 0
-AreFrom name ds = AllByRecursion (λ (d : Posting). d.parcel.draft.fields.sender ≡ name) ds
+AreFrom name ds = AllByRecursion (λ (d : Posting). d.parcel.builder.fields.sender ≡ name) ds
 
 -- Where messages are wanted, only a command that closes streams does anything beside them; they have the peer's name; and what is answered
 -- once they are sent tells the last serial that they draw.
@@ -130,34 +140,34 @@ does : (w : Words) (a : Answer) (es : List Event) → AllByRecursion (IsOwn w) e
 does w a es only is = let loud = is.0 in record { only = only; idle = λ e. cc; untold = is.1; fit = ap (fits (is_by_position w)) is.2 }
 
 -- neither a poll nor a take says by itself that there is none before a position
-not_before : (b : Bool) (f : Option Seen) (o : Option Error) → (if b then Err Error.UnknownHandle else polled_by f o) ≡ Ok Polled.NoneBefore → ⊥
+not_before : (b : Bool) (f : Option MessageView) (o : Option Error) → (if b then Err Error.UnknownHandle else polled_by f o) ≡ Ok Polled.NoneBefore → ⊥
 not_before true f o e = cc
 not_before false (Some m) o e = cc
 not_before false None (Some error) e = cc
 not_before false None None e = cc
 
-poll_at : (ms : List Seen) (closing : Option Error) (c : Option Call) → polled_at ms closing c ≡ Ok Polled.NoneBefore → ⊥
+poll_at : (ms : List MessageView) (closing : Option Error) (c : Option Call) → polled_at ms closing c ≡ Ok Polled.NoneBefore → ⊥
 poll_at ms closing None e = cc
 poll_at ms closing (Some c) e = not_before (is_nobodys c) (found ms c) closing e
 
-take_not_before : (b : Bool) (ms : List Seen) (o : Option Error) (told : Bool) → (if b then Ok (take_by ms o told) else Err Error.UnknownHandle) ≡ Ok Polled.NoneBefore → ⊥
+take_not_before : (b : Bool) (ms : List MessageView) (o : Option Error) (told : Bool) → (if b then Ok (take_by ms o told) else Err Error.UnknownHandle) ≡ Ok Polled.NoneBefore → ⊥
 take_not_before false ms o told e = cc
 take_not_before true (m ∷ ms) o told e = cc
 take_not_before true [] None told e = cc
 take_not_before true [] (Some error) false e = cc
 take_not_before true [] (Some error) true e = cc
 
-taken_at : (ms : List Seen) (closing : Option Error) (s : Option Stream) → take_at ms closing s ≡ Ok Polled.NoneBefore → ⊥
+taken_at : (ms : List MessageView) (closing : Option Error) (s : Option Stream) → take_at ms closing s ≡ Ok Polled.NoneBefore → ⊥
 taken_at ms closing None e = cc
 taken_at ms closing (Some s) e = take_not_before (runs ms s) (held ms s) closing s.told e
 
-poll_fair : (n k : ℕ) (r : Result (Polled Seen) Error) → (r ≡ Ok Polled.NoneBefore → ⊥) → Fair (Words.OfCall n CallOp.Poll) (shown r) (poll_events k r)
+poll_fair : (n k : ℕ) (r : Result (Polled MessageView) Error) → (r ≡ Ok Polled.NoneBefore → ⊥) → Fair (Words.OfCall n CallOp.Poll) (shown r) (poll_events k r)
 poll_fair n k (Ok (Polled.Now m)) other = does _ _ (Spent k ∷ []) ((tt, tt), tt) (reply_bland m m.kind)
 poll_fair n k (Ok (Polled.Closed error)) other = does _ _ (Spent k ∷ []) ((tt, tt), tt) (refl, refl, refl)
 poll_fair n k (Ok Polled.NoneBefore) other = absurd (other refl)
 poll_fair n k r other = none _ (shown r) refl refl
 
-before_fair : (n before k : ℕ) (r : Result (Polled Seen) Error) → Fair (Words.OfCall n (CallOp.Before before)) (shown (by_position r)) (poll_events k r)
+before_fair : (n before k : ℕ) (r : Result (Polled MessageView) Error) → Fair (Words.OfCall n (CallOp.Before before)) (shown (by_position r)) (poll_events k r)
 before_fair n before k (Ok (Polled.Now m)) = does _ _ (Spent k ∷ []) ((tt, tt), tt) (reply_bland m m.kind)
 before_fair n before k (Ok (Polled.Closed error)) = does _ _ (Spent k ∷ []) ((tt, tt), tt) (refl, refl, refl)
 before_fair n before k r = none _ (shown (by_position r)) refl refl
@@ -166,13 +176,13 @@ drop_fair : (n k : ℕ) (r : Result (Unit {0}) Error) → Fair (Words.OfCall n C
 drop_fair n k (Ok done) = does _ _ (Spent k ∷ []) ((tt, tt), tt) (refl, refl, refl)
 drop_fair n k (Err error) = none _ (Answer.Refused error) refl refl
 
-take_fair : (n k : ℕ) (r : Result (Polled Seen) Error) → (r ≡ Ok Polled.NoneBefore → ⊥) → Fair (Words.OfStream n StreamOp.Take) (shown_take r) (take_events k r)
+take_fair : (n k : ℕ) (r : Result (Polled MessageView) Error) → (r ≡ Ok Polled.NoneBefore → ⊥) → Fair (Words.OfStream n StreamOp.Take) (shown_take r) (take_events k r)
 take_fair n k (Ok (Polled.Now m)) other = does _ _ (take_events k (Ok (Polled.Now m))) ((tt, refl), tt) (refl, refl, refl)
 take_fair n k (Ok (Polled.Closed error)) other = does _ _ (take_events k (Ok (Polled.Closed error))) ((tt, tt), tt) (refl, refl, refl)
 take_fair n k (Ok Polled.NoneBefore) other = absurd (other refl)
 take_fair n k r other = none _ (shown_take r) refl refl
 
-take_before_fair : (n before k : ℕ) (r : Result (Polled Seen) Error) → Fair (Words.OfStream n (StreamOp.TakeBefore before)) (shown_take (by_position r)) (take_events k r)
+take_before_fair : (n before k : ℕ) (r : Result (Polled MessageView) Error) → Fair (Words.OfStream n (StreamOp.TakeBefore before)) (shown_take (by_position r)) (take_events k r)
 take_before_fair n before k (Ok (Polled.Now m)) = does _ _ (take_events k (Ok (Polled.Now m))) ((tt, refl), tt) (refl, refl, refl)
 take_before_fair n before k (Ok (Polled.Closed error)) = does _ _ (take_events k (Ok (Polled.Closed error))) ((tt, tt), tt) (refl, refl, refl)
 take_before_fair n before k r = none _ (shown_take (by_position r)) refl refl
@@ -186,38 +196,38 @@ opening_fair n k state = none _ (shown_opening state) refl refl
 -- ---- whose name a message bears
 
 abbrev IsFrom : Option (List ℕ) → Asked → Type 0
-IsFrom name (Ok parcel) = parcel.draft.fields.sender ≡ name
+IsFrom name (Ok parcel) = parcel.builder.fields.sender ≡ name
 IsFrom name (Err error) = Unit {0}
 
--- what is asked to be sent is refused, or is this draft with some values, where the sink takes the descriptors
-asked_so : (P : Asked → Type 0) (refusal : Option Error) (values : Option (List Datum)) (misplaced unsupported : Bool) (draft : Draft) (fds : List ℕ) → ((error : Error) → P (Err error))
-    → ((ds : List Datum) → unsupported ≡ false → P (Ok (record { draft = draft; values = ds; fds = fds }))) → P (asked_of refusal values misplaced unsupported draft fds)
-asked_so P (Some error) values misplaced unsupported draft fds refused goes_so = refused error
-asked_so P None None misplaced unsupported draft fds refused goes_so = refused _
-asked_so P None (Some ds) true unsupported draft fds refused goes_so = refused _
-asked_so P None (Some ds) false true draft fds refused goes_so = refused _
-asked_so P None (Some ds) false false draft fds refused goes_so = goes_so ds refl
+-- what is asked to be sent is refused, or is this builder with some values, where the sink takes the descriptors
+asked_so : (P : Asked → Type 0) (refusal : Option Error) (values : Option (List Datum)) (misplaced unsupported : Bool) (builder : BuilderView) (fds : List ℕ) → ((error : Error) → P (Err error))
+    → ((ds : List Datum) → unsupported ≡ false → P (Ok (record { builder = builder; values = ds; fds = fds }))) → P (asked_of refusal values misplaced unsupported builder fds)
+asked_so P (Some error) values misplaced unsupported builder fds refused goes_so = refused error
+asked_so P None None misplaced unsupported builder fds refused goes_so = refused _
+asked_so P None (Some ds) true unsupported builder fds refused goes_so = refused _
+asked_so P None (Some ds) false true builder fds refused goes_so = refused _
+asked_so P None (Some ds) false false builder fds refused goes_so = goes_so ds refl
 
-asked_from : (name : Option (List ℕ)) (refusal : Option Error) (values : Option (List Datum)) (misplaced unsupported : Bool) (draft : Draft) (fds : List ℕ) → draft.fields.sender ≡ name
-    → IsFrom name (asked_of refusal values misplaced unsupported draft fds)
-asked_from name refusal values misplaced unsupported draft fds e = asked_so (IsFrom name) refusal values misplaced unsupported draft fds (λ error. tt) (λ ds fine. e)
+asked_from : (name : Option (List ℕ)) (refusal : Option Error) (values : Option (List Datum)) (misplaced unsupported : Bool) (builder : BuilderView) (fds : List ℕ) → builder.fields.sender ≡ name
+    → IsFrom name (asked_of refusal values misplaced unsupported builder fds)
+asked_from name refusal values misplaced unsupported builder fds e = asked_so (IsFrom name) refusal values misplaced unsupported builder fds (λ error. tt) (λ ds fine. e)
 
 outgoing_from : (name : Option (List ℕ)) (takes_fds : Bool) (out : Outgoing) → IsFrom name (outgoing_asked name takes_fds out)
 outgoing_from name takes_fds out =
-    let draft = outgoing_draft out.kind name out in
-    asked_from name (words_refusal draft) (values_in out.body) (are_misplaced draft.kind draft.flags) (out.flags.descriptor && not takes_fds) draft (if out.flags.descriptor then 0 ∷ [] else []) (drafted out.kind)
+    let builder = outgoing_builder out.kind name out in
+    asked_from name (words_refusal builder) (values_in out.body) (are_misplaced builder.kind builder.flags) (out.flags.descriptor && not takes_fds) builder (if out.flags.descriptor then 0 ∷ [] else []) (built_of out.kind)
   where
-    drafted : (kind : OutgoingKind) → (outgoing_draft kind name out).fields.sender ≡ name
-    drafted OutgoingKind.Call = refl
-    drafted OutgoingKind.Signal = refl
+    built_of : (kind : OutgoingKind) → (outgoing_builder kind name out).fields.sender ≡ name
+    built_of OutgoingKind.Call = refl
+    built_of OutgoingKind.Signal = refl
 
-reply_from : (name : Option (List ℕ)) (m : Option Seen) (body : Option (List ℕ)) → IsFrom name (reply_asked name m body)
+reply_from : (name : Option (List ℕ)) (m : Option MessageView) (body : Option (List ℕ)) → IsFrom name (reply_asked name m body)
 reply_from name None body = tt
-reply_from name (Some m) body = asked_from name None (values_in body) false false (sent_from name (reply_draft MessageType.MethodReturn (head_of m))) [] refl
+reply_from name (Some m) body = asked_from name None (values_in body) false false (sent_from name (reply_builder MessageType.MethodReturn (head_of m))) [] refl
 
-error_from : (name : Option (List ℕ)) (m : Option Seen) (text : List ℕ) (body : Option (List ℕ)) → IsFrom name (error_asked name m text body)
+error_from : (name : Option (List ℕ)) (m : Option MessageView) (text : List ℕ) (body : Option (List ℕ)) → IsFrom name (error_asked name m text body)
 error_from name None text body = tt
-error_from name (Some m) text body = asked_from name (name_refusal text) (values_in body) false false (sent_from name (error_draft (head_of m) text)) [] refl
+error_from name (Some m) text body = asked_from name (name_refusal text) (values_in body) false false (sent_from name (error_builder (head_of m) text)) [] refl
 
 -- ---- and which descriptors it carries: at most one, and none to a sink that takes none
 
@@ -226,7 +236,7 @@ abbrev pub are_refused : List ℕ → Bool → Bool
 are_refused [] takes = false
 are_refused (fd ∷ fds) takes = not takes
 
-pub record CanGo (takes_fds : Bool) (parcel : Parcel) : Type 0 where
+pub record CanGo (takes_fds : Bool) (parcel : OutgoingMessageView) : Type 0 where
   pub taken : are_refused parcel.fds takes_fds ≡ false
   pub few : length parcel.fds < 2 ^ 32
 
@@ -234,28 +244,28 @@ pub record CanGo (takes_fds : Bool) (parcel : Parcel) : Type 0 where
 abbrev pub fds_of : Bool → List ℕ
 fds_of asks_one = if asks_one then 0 ∷ [] else []
 
-goes : (takes_fds asks_one : Bool) (refusal : Option Error) (values : Option (List Datum)) (misplaced : Bool) (draft : Draft) (parcel : Parcel)
-    → asked_of refusal values misplaced (asks_one && not takes_fds) draft (fds_of asks_one) ≡ Ok parcel → CanGo takes_fds parcel
-goes takes_fds asks_one refusal values misplaced draft parcel =
-    asked_so (λ a. a ≡ Ok parcel → CanGo takes_fds parcel) refusal values misplaced (asks_one && not takes_fds) draft (fds_of asks_one) (λ error e. cc) (λ ds fine e. by asks_one takes_fds ds fine (cc))
+goes : (takes_fds asks_one : Bool) (refusal : Option Error) (values : Option (List Datum)) (misplaced : Bool) (builder : BuilderView) (parcel : OutgoingMessageView)
+    → asked_of refusal values misplaced (asks_one && not takes_fds) builder (fds_of asks_one) ≡ Ok parcel → CanGo takes_fds parcel
+goes takes_fds asks_one refusal values misplaced builder parcel =
+    asked_so (λ a. a ≡ Ok parcel → CanGo takes_fds parcel) refusal values misplaced (asks_one && not takes_fds) builder (fds_of asks_one) (λ error e. cc) (λ ds fine e. by asks_one takes_fds ds fine (cc))
   where
-    by : (asks takes : Bool) (ds : List Datum) → (asks && not takes) ≡ false → record { draft = draft; values = ds; fds = fds_of asks } ≡ parcel → CanGo takes parcel
+    by : (asks takes : Bool) (ds : List Datum) → (asks && not takes) ≡ false → record { builder = builder; values = ds; fds = fds_of asks } ≡ parcel → CanGo takes parcel
     by true false ds fine is = cc
     by true true ds fine is = subst (CanGo true) is (record { taken = refl; few = omega arith })
     by false takes ds fine is = subst (CanGo takes) is (record { taken = refl; few = omega arith })
 
-pub outgoing_goes : (name : Option (List ℕ)) (takes_fds : Bool) (out : Outgoing) (parcel : Parcel) → outgoing_asked name takes_fds out ≡ Ok parcel → CanGo takes_fds parcel
+pub outgoing_goes : (name : Option (List ℕ)) (takes_fds : Bool) (out : Outgoing) (parcel : OutgoingMessageView) → outgoing_asked name takes_fds out ≡ Ok parcel → CanGo takes_fds parcel
 outgoing_goes name takes_fds out parcel e =
-    let draft = outgoing_draft out.kind name out in
-    goes takes_fds out.flags.descriptor (words_refusal draft) (values_in out.body) (are_misplaced draft.kind draft.flags) draft parcel e
+    let builder = outgoing_builder out.kind name out in
+    goes takes_fds out.flags.descriptor (words_refusal builder) (values_in out.body) (are_misplaced builder.kind builder.flags) builder parcel e
 
-pub reply_goes : (name : Option (List ℕ)) (takes_fds : Bool) (m : Option Seen) (word : Option (List ℕ)) (parcel : Parcel) → reply_asked name m word ≡ Ok parcel → CanGo takes_fds parcel
+pub reply_goes : (name : Option (List ℕ)) (takes_fds : Bool) (m : Option MessageView) (word : Option (List ℕ)) (parcel : OutgoingMessageView) → reply_asked name m word ≡ Ok parcel → CanGo takes_fds parcel
 reply_goes name takes_fds None word parcel e = cc
-reply_goes name takes_fds (Some m) word parcel e = goes takes_fds false None (values_in word) false (sent_from name (reply_draft MessageType.MethodReturn (head_of m))) parcel e
+reply_goes name takes_fds (Some m) word parcel e = goes takes_fds false None (values_in word) false (sent_from name (reply_builder MessageType.MethodReturn (head_of m))) parcel e
 
-pub error_goes : (name : Option (List ℕ)) (takes_fds : Bool) (m : Option Seen) (text : List ℕ) (word : Option (List ℕ)) (parcel : Parcel) → error_asked name m text word ≡ Ok parcel → CanGo takes_fds parcel
+pub error_goes : (name : Option (List ℕ)) (takes_fds : Bool) (m : Option MessageView) (text : List ℕ) (word : Option (List ℕ)) (parcel : OutgoingMessageView) → error_asked name m text word ≡ Ok parcel → CanGo takes_fds parcel
 error_goes name takes_fds None text word parcel e = cc
-error_goes name takes_fds (Some m) text word parcel e = goes takes_fds false (name_refusal text) (values_in word) false (sent_from name (error_draft (head_of m) text)) parcel e
+error_goes name takes_fds (Some m) text word parcel e = goes takes_fds false (name_refusal text) (values_in word) false (sent_from name (error_builder (head_of m) text)) parcel e
 
 -- ---- every command
 
@@ -292,12 +302,12 @@ module _ (t : Trail) (lane : ℕ) where
     only = tt;
     idle = λ e. refl;
     from = (from, tt);
-    loud = λ serials. let is = sent_told (expects (Ok parcel)) (count lane t.names) (first_of serials) in (is.1, is.2);
-    told = λ serials drew. (sent_told (expects (Ok parcel)) (count lane t.names) (first_of serials)).0 ∙ one_drew (posted false parcel) t.past serials drew;
+    loud = λ serials. let is = sent_told (expects parcel) (count lane t.names) (first_of serials) in (is.1, is.2);
+    told = λ serials drew. (sent_told (expects parcel) (count lane t.names) (first_of serials)).0 ∙ one_drew (posted false parcel) t.past serials drew;
   }
 
   fair_call : (n : ℕ) (op : CallOp) (k : ℕ) → IsFair t (Words.OfCall n op) (on_call t.past op k)
-  unfolding poll_answer
+  unfolding calls_poll_answer
   fair_call n CallOp.Poll k = poll_fair n k (poll_answer t.past k) (poll_at t.past.read t.past.closing (slice_get t.past.calls k))
   fair_call n (CallOp.Before before) k = before_fair n before k (poll_answer t.past k)
   fair_call n CallOp.Drop k = drop_fair n k (drop_answer t.past k)
@@ -313,7 +323,7 @@ module _ (t : Trail) (lane : ℕ) where
   }))
 
   fair_stream : (n : ℕ) (op : StreamOp) (k : ℕ) → IsFair t (Words.OfStream n op) (on_stream t lane op k)
-  unfolding take_answer
+  unfolding streams_take_answer
   fair_stream n (StreamOp.Reply body) k = fair_sends _ _ (reply_from t.past.name (given_last t.past k) body)
   fair_stream n (StreamOp.Error name body) k = fair_sends _ _ (error_from t.past.name (given_last t.past k) name body)
   fair_stream n StreamOp.Take k = take_fair n k (take_answer t.past k) (taken_at t.past.read t.past.closing (slice_get t.past.streams k))

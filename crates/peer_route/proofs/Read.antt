@@ -1,24 +1,32 @@
 -- What answers a call, where that stands among the messages read, and that the call is over for good then; and that a message that isn't
 -- for it, and a poll or a drop of another, leave its answer as it was.
+use Rattle.peer_calls.specs.Calls.{drop_answer as calls_drop_answer}
+use Rattle.peer_calls.specs.Calls.{pending as calls_pending}
+use Rattle.peer_calls.specs.Calls.{poll_answer as calls_poll_answer}
 use Rattle.std.proofs.{Common.{inl, inr, ◌≡◌, ◌⊎◌, ℕ, zero, suc, ◌+◌, ◌<◌, cond, if◌then◌else◌, arith, refl, sym, ◌∙◌, subst, Bool, true, false, List, [], ◌∷◌, ◌++◌, length, drop, Option, Some, None, Result, Ok, Err, ◌||◌, ◌==◌, ap, option_map, length-append, append_assoc, ◌≢◌, ◌&&◌, not, is_some, is_none, IfSome}, lemmas.Option.slice_get-map, lemmas.List.{drop-drop, append-nil}, Math.Seq.{drop-append_seam, drop-nil}, lemmas.Bool.{eqb-true, cases_Bool, eq-eqb, or_parts, and_parts}}
 use Rattle.std.specs.List.{slice_get, find, AllByRecursion, list_any}
-use Rattle.peer_route.specs.{Names.{Seen, MessageType, Error, Polled, Words, CallOp, Answer, Entry}, Parcel.Setting, History.{Event, Took, Call, bears, Past, after, after_all, Put, OfLane, Adds, Removes, Fault, Spent, edit, spend, fail_at, is_reply, is_serial}, Calls.{found, is_nobodys, polled_by, poll_answer, by_position, is_gone, drop_answer, drop_events, poll_events, is_awaited, pending}, Shown.{error_answer, reply_by, shown, reply_answer, shown_drop}, Trail.{Trail, place, Names}, Plan.{Plan, Reads, where_named, on_call, plan, refuses, Says}, Entries.{IsMeant, IsRead, Legal, trail, read_events, deeds, past_after, IsEntry, IsQuiet, more, more_by}, Laws.{IsPoll, IsReplyAt, IsFirstReply, IsCutOff, IsFinal, IsUnknown, SameCall, IsPast}, Told.{encodings, left_after}}
-use Rattle.peer_route.proofs.{Plans.{IsDeed, legal_from}, Kept.{at_start, Keeps, entry_keeps, deeds_all, every_entry, later, quiet_past, quiet_more}, Places.{place_append, one_place}, Edits.{edit_here, get_append, edit_other}, Looks.{dropped_at, polled_at}}
+use Rattle.peer_route.specs.{Names.{MessageView, MessageType, Error, Polled, Words, CallOp, Answer, Entry}, Trail.{Setting, Trail, place, Names}, Shown.{error_answer, reply_by, shown, reply_answer, shown_drop}, Plan.{Plan, Reads, where_named, on_call, plan, refuses, Says}, Entries.{IsMeant, IsRead, Legal, trail, read_events, deeds, past_after, IsEntry, IsQuiet, more, more_by}, Laws.{IsPoll, IsReplyAt, IsFirstReply, IsCutOff, IsFinal, IsUnknown, SameCall, IsPast}, Told.{message_bytes, left_after}}
+use Rattle.peer_core.specs.{History.{Event, Took, Past, after, after_all, Put, Fault, Spent}, Asked.{poll_answer, drop_answer, drop_events, poll_events, pending}}
+use Rattle.peer_calls.specs.{History.{Call, OfLane, Adds, Removes, spend, fail_at}, Calls.{found, is_nobodys, polled_by, is_gone, is_awaited}}
+use Rattle.wire_message.specs.{Replying.{bears, is_reply, is_serial}, Plain.edit, Polls.by_position}
+use Rattle.peer_route.proofs.{Plans.{IsDeed, legal_from}, Kept.{at_start, Keeps, entry_keeps, deeds_all, every_entry, later, quiet_past, quiet_more}, Places.{place_append, one_place}}
+use Rattle.wire_message.proofs.Edits.{edit_here, get_append, edit_other}
+use Rattle.peer_calls.proofs.Looks.{dropped_at, polled_at}
 
 -- ---- positions
 
 -- each message that was read has the position of its place, from 1 on
-abbrev Ranked : List Seen → Type 0
-Ranked ms = (i : ℕ) (m : Seen) → slice_get ms i ≡ Some m → m.position ≡ i + 1
+abbrev Ranked : List MessageView → Type 0
+Ranked ms = (i : ℕ) (m : MessageView) → slice_get ms i ≡ Some m → m.position ≡ i + 1
 
-ranked_push : (ms : List Seen) (n i : ℕ) (m x : Seen) → ((j : ℕ) (y : Seen) → slice_get ms j ≡ Some y → y.position ≡ n + j + 1) → m.position ≡ n + length ms + 1 → slice_get (ms ++ m ∷ []) i ≡ Some x → x.position ≡ n + i + 1
-ranked_push [] n zero m x r e at = let same : m ≡ x = cc in subst (λ (y : Seen). y.position ≡ n + 0 + 1) same e
+ranked_push : (ms : List MessageView) (n i : ℕ) (m x : MessageView) → ((j : ℕ) (y : MessageView) → slice_get ms j ≡ Some y → y.position ≡ n + j + 1) → m.position ≡ n + length ms + 1 → slice_get (ms ++ m ∷ []) i ≡ Some x → x.position ≡ n + i + 1
+ranked_push [] n zero m x r e at = let same : m ≡ x = cc in subst (λ (y : MessageView). y.position ≡ n + 0 + 1) same e
 ranked_push [] n (suc i) m x r e at = cc
 ranked_push (y ∷ ms) n zero m x r e at = r 0 x at
 ranked_push (y ∷ ms) n (suc i) m x r e at =
     let rest : x.position ≡ n + 1 + i + 1 = ranked_push ms (n + 1) i m x (λ j z is. let rank : z.position ≡ n + suc j + 1 = r (suc j) z is in omega arith) (omega arith) at in omega arith
 
-ranked_read : (h : Past) (m : Option Seen) (a : Answer) → IsRead (length h.read) m a → Ranked h.read → Ranked (after_all (read_events m a) h).read
+ranked_read : (h : Past) (m : Option MessageView) (a : Answer) → IsRead (length h.read) m a → Ranked h.read → Ranked (after_all (read_events m a) h).read
 ranked_read h (Some m) a is r = λ i x at. ranked_push h.read 0 i m x (λ j y q. r j y q ∙ omega arith) (is.2 ∙ omega arith) at ∙ omega arith
 ranked_read h None (Answer.Closed error) is r = r
 ranked_read h None a is r = r
@@ -39,10 +47,10 @@ ranked setting [] legal = at_start (λ h. Ranked h.read) (λ i m at. cc) (λ lim
 ranked setting (e ∷ es) legal = let t = trail setting es in ranked_more t e.lane e.words (plan t e.lane e.words) e refl legal.0 (ranked setting es legal.1)
 
 -- a message that was read has the position of its place
-pub at_place : (setting : Setting) (es : List Entry) (i : ℕ) (m : Seen) → Legal setting es → slice_get (trail setting es).past.read i ≡ Some m → m.position ≡ i + 1
+pub at_place : (setting : Setting) (es : List Entry) (i : ℕ) (m : MessageView) → Legal setting es → slice_get (trail setting es).past.read i ≡ Some m → m.position ≡ i + 1
 at_place setting es i m legal at = ranked setting es legal i m at
 
-pub in_order : (setting : Setting) (es : List Entry) (i j : ℕ) (m n : Seen) → Legal setting es → i < j → slice_get (trail setting es).past.read i ≡ Some m
+pub in_order : (setting : Setting) (es : List Entry) (i j : ℕ) (m n : MessageView) → Legal setting es → i < j → slice_get (trail setting es).past.read i ≡ Some m
     → slice_get (trail setting es).past.read j ≡ Some n → m.position < n.position
 in_order setting es i j m n legal less at at₂ =
     let p = at_place setting es i m legal at in
@@ -51,15 +59,15 @@ in_order setting es i j m n legal less at at₂ =
 
 -- ---- what is left of the source's bytes after one message more
 
-encodings-append : (xs : List Seen) (m : Seen) → encodings (xs ++ m ∷ []) ≡ encodings xs ++ m.bytes
-encodings-append [] m = append-nil m.bytes
-encodings-append (x ∷ xs) m = ap (λ ys. x.bytes ++ ys) (encodings-append xs m) ∙ sym (append_assoc x.bytes (encodings xs) m.bytes)
+message_bytes-append : (xs : List MessageView) (m : MessageView) → message_bytes (xs ++ m ∷ []) ≡ message_bytes xs ++ m.bytes
+message_bytes-append [] m = append-nil m.bytes
+message_bytes-append (x ∷ xs) m = ap (λ ys. x.bytes ++ ys) (message_bytes-append xs m) ∙ sym (append_assoc x.bytes (message_bytes xs) m.bytes)
 
-pub left_after-took : (bytes left : List ℕ) (h : Past) (m : Seen) → left_after bytes h ≡ m.bytes ++ left → left_after bytes (after (Took m) h) ≡ left
+pub left_after-took : (bytes left : List ℕ) (h : Past) (m : MessageView) → left_after bytes h ≡ m.bytes ++ left → left_after bytes (after (Took m) h) ≡ left
 left_after-took bytes left h m e =
-    ap (λ ys. drop (length ys) bytes) (encodings-append h.read m)
-    ∙ ap (λ n. drop n bytes) (length-append (encodings h.read) m.bytes)
-    ∙ sym (drop-drop (length m.bytes) (length (encodings h.read)) bytes)
+    ap (λ ys. drop (length ys) bytes) (message_bytes-append h.read m)
+    ∙ ap (λ n. drop n bytes) (length-append (message_bytes h.read) m.bytes)
+    ∙ sym (drop-drop (length m.bytes) (length (message_bytes h.read)) bytes)
     ∙ ap (λ ys. drop (length m.bytes) ys) e
     ∙ drop-append_seam m.bytes left
 
@@ -89,22 +97,22 @@ none_passes p (x ∷ xs) e =
 -- ---- what a poll shows
 
 -- what shows a reply says its position, and isn't the closing error
-error_shows : (m : Seen) (name : Option (List ℕ)) → ((q : ℕ) → IsReplyAt q (error_answer m name) → m.position ≡ q) × ((error : Error) → error_answer m name ≡ Answer.Closed error → ⊥)
+error_shows : (m : MessageView) (name : Option (List ℕ)) → ((q : ℕ) → IsReplyAt q (error_answer m name) → m.position ≡ q) × ((error : Error) → error_answer m name ≡ Answer.Closed error → ⊥)
 error_shows m (Some name) = (λ q is. is, λ error e. cc)
 error_shows m None = (λ q is. is, λ error e. cc)
 
-reply_shows : (m : Seen) (kind : MessageType) → ((q : ℕ) → IsReplyAt q (reply_by m kind) → m.position ≡ q) × ((error : Error) → reply_by m kind ≡ Answer.Closed error → ⊥)
+reply_shows : (m : MessageView) (kind : MessageType) → ((q : ℕ) → IsReplyAt q (reply_by m kind) → m.position ≡ q) × ((error : Error) → reply_by m kind ≡ Answer.Closed error → ⊥)
 reply_shows m MessageType.Error = error_shows m m.error_name
 reply_shows m kind = (λ q is. is, λ error e. cc)
 
 -- what a poll of the lane's call with this number is answered: neither a reply nor the closing error; or what the call's state says
 data Polls (t : Trail) (lane number : ℕ) (a : Answer) : Type 0 where
   Dull : ((q : ℕ) → IsReplyAt q a → ⊥) → ((error : Error) → a ≡ Answer.Closed error → ⊥) → Polls t lane number a
-  Replied : (k : ℕ) (c : Call) (m : Seen) → place 0 lane number t.names ≡ Some k → slice_get t.past.calls k ≡ Some c → found t.past.read c ≡ Some m → a ≡ reply_answer m → Polls t lane number a
+  Replied : (k : ℕ) (c : Call) (m : MessageView) → place 0 lane number t.names ≡ Some k → slice_get t.past.calls k ≡ Some c → found t.past.read c ≡ Some m → a ≡ reply_answer m → Polls t lane number a
   Cut : (k : ℕ) (c : Call) (error : Error) → place 0 lane number t.names ≡ Some k → slice_get t.past.calls k ≡ Some c → found t.past.read c ≡ None → t.past.closing ≡ Some error → a ≡ Answer.Closed error
       → Polls t lane number a
 
-polls_by : (t : Trail) (lane number k : ℕ) (c : Call) (b : Bool) (f : Option Seen) (o : Option Error) → place 0 lane number t.names ≡ Some k → slice_get t.past.calls k ≡ Some c → found t.past.read c ≡ f → t.past.closing ≡ o
+polls_by : (t : Trail) (lane number k : ℕ) (c : Call) (b : Bool) (f : Option MessageView) (o : Option Error) → place 0 lane number t.names ≡ Some k → slice_get t.past.calls k ≡ Some c → found t.past.read c ≡ f → t.past.closing ≡ o
     → Polls t lane number (shown (if b then Err Error.UnknownHandle else polled_by f o))
 polls_by t lane number k c true f o named made at shut = Dull (λ q is. is) (λ error e. cc)
 polls_by t lane number k c false (Some m) o named made at shut = Replied k c m named made at refl
@@ -116,12 +124,12 @@ polls_at t lane number k None named made = Dull (λ q is. is) (λ error e. cc)
 polls_at t lane number k (Some c) named made = polls_by t lane number k c (is_nobodys c) (found t.past.read c) t.past.closing named made refl refl
 
 -- by position it is the same, or that there is none before it
-polls_before : (t : Trail) (lane number : ℕ) (r : Result (Polled Seen) Error) → Polls t lane number (shown r) → Polls t lane number (shown (by_position r))
+polls_before : (t : Trail) (lane number : ℕ) (r : Result (Polled MessageView) Error) → Polls t lane number (shown r) → Polls t lane number (shown (by_position r))
 polls_before t lane number (Ok Polled.NotYet) p = Dull (λ q is. is) (λ error e. cc)
 polls_before t lane number r p = p
 
 polls_named : (t : Trail) (lane number : ℕ) (op : CallOp) (p : Option ℕ) (e : Entry) → place 0 lane number t.names ≡ p → op ≢ CallOp.Drop → IsMeant t.past (where_named (on_call t.past op) p) e → Polls t lane number e.answer
-unfolding poll_answer
+unfolding calls_poll_answer
 polls_named t lane number op None e named poll is = subst (Polls t lane number) (sym is.1) (Dull (λ q r. r) (λ error a. cc))
 polls_named t lane number CallOp.Poll (Some k) e named poll is = subst (Polls t lane number) (sym is.1) (polls_at t lane number k (slice_get t.past.calls k) named refl)
 polls_named t lane number (CallOp.Before before) (Some k) e named poll is =
@@ -193,7 +201,7 @@ gone_spent asked cs k (Some c) x none at e = (spend c, edit_here spend k cs c at
 
 -- and of one that is over is refused
 gone_plan : (h : Past) (op : CallOp) (k : ℕ) → IsGone h.calls k → on_call h op k ≡ refuses Error.UnknownHandle
-unfolding poll_answer drop_answer
+unfolding calls_poll_answer calls_drop_answer
 gone_plan h CallOp.Poll k gone = rw (gone.1, gone.2) refl
 gone_plan h (CallOp.Before before) k gone = rw (gone.1, gone.2) refl
 gone_plan h CallOp.Drop k gone = rw (gone.1, gone.2) refl
@@ -205,7 +213,7 @@ abbrev pub Ends : CallOp → Answer → Type 0
 Ends CallOp.Drop a = a ≡ Answer.Dropped
 Ends op a = IsFinal a
 
-before_final : (r : Result (Polled Seen) Error) → IsFinal (shown (by_position r)) → IsFinal (shown r)
+before_final : (r : Result (Polled MessageView) Error) → IsFinal (shown (by_position r)) → IsFinal (shown r)
 before_final (Ok Polled.NotYet) f = absurd f
 before_final r f = f
 
@@ -217,14 +225,14 @@ Spends h k es = (es ≡ Spent k ∷ []) × IsGone (edit k spend h.calls) k
 abbrev pub EndsOr : Past → ℕ → CallOp → Answer → List Event → Type 0
 EndsOr h k op a es = ((es ≡ []) × (Ends op a → ⊥)) ⊎ Spends h k es
 
-poll_spends : (h : Past) (k : ℕ) (op : CallOp) (a : Answer) (r : Result (Polled Seen) Error) → poll_answer h k ≡ r → (Ends op a → IsFinal (shown r)) → EndsOr h k op a (poll_events k r)
-unfolding poll_answer
+poll_spends : (h : Past) (k : ℕ) (op : CallOp) (a : Answer) (r : Result (Polled MessageView) Error) → poll_answer h k ≡ r → (Ends op a → IsFinal (shown r)) → EndsOr h k op a (poll_events k r)
+unfolding calls_poll_answer
 poll_spends h k op a (Ok (Polled.Now m)) at so = inr (refl, gone_spent (polled_at h.read h.closing) h.calls k (slice_get h.calls k) (Polled.Now m) refl refl at)
 poll_spends h k op a (Ok (Polled.Closed error)) at so = inr (refl, gone_spent (polled_at h.read h.closing) h.calls k (slice_get h.calls k) (Polled.Closed error) refl refl at)
 poll_spends h k op a r at so = inl (refl, so)
 
 drop_spends : (h : Past) (k : ℕ) (a : Answer) (r : Result (Unit {0}) Error) → drop_answer h k ≡ r → a ≡ shown_drop r → EndsOr h k CallOp.Drop a (drop_events k r)
-unfolding drop_answer
+unfolding calls_drop_answer
 drop_spends h k a (Ok done) at is = inr (refl, gone_spent dropped_at h.calls k (slice_get h.calls k) done refl refl at)
 drop_spends h k a (Err error) at is = inl (refl, λ f. cc)
 
@@ -301,7 +309,7 @@ find_more p (suc n) [] x so = ap (find p) (drop-nil n)
 find_more p (suc n) (y ∷ ys) x so = find_more p n ys x so
 
 -- a call that isn't over
-past_by : (gone inner : Bool) (f g : Option Seen) (o : Option Error) → (gone ≡ false → g ≡ f) → (if gone || inner then Err Error.UnknownHandle else polled_by g o) ≡ (if gone || inner then Err Error.UnknownHandle else polled_by f o)
+past_by : (gone inner : Bool) (f g : Option MessageView) (o : Option Error) → (gone ≡ false → g ≡ f) → (if gone || inner then Err Error.UnknownHandle else polled_by g o) ≡ (if gone || inner then Err Error.UnknownHandle else polled_by f o)
 past_by true inner f g o same = refl
 past_by false inner f g o same = ap (λ x. if inner then Err Error.UnknownHandle else polled_by x o) (same refl)
 
@@ -309,18 +317,18 @@ or_some : (gone some : Bool) → gone ≡ false → (gone || some) ≡ true → 
 or_some true some none e = cc
 or_some false some none e = e
 
-past_call : (h : Past) (m : Seen) (c : Call) → IsPast h m c → polled_at (after (Took m) h).read (after (Took m) h).closing (Some c) ≡ polled_at h.read h.closing (Some c)
+past_call : (h : Past) (m : MessageView) (c : Call) → IsPast h m c → polled_at (after (Took m) h).read (after (Took m) h).closing (Some c) ≡ polled_at h.read h.closing (Some c)
 unfolding found
 past_call h m c (inl other) = past_by (is_gone c) c.inner (found h.read c) (found (after (Took m) h).read c) h.closing (λ open_. find_more (bears c.serial) c.from h.read m (inl other))
 past_call h m c (inr over) =
     past_by (is_gone c) c.inner (found h.read c) (found (after (Took m) h).read c) h.closing (λ open_. find_more (bears c.serial) c.from h.read m (inr (or_some (is_gone c) (is_some (found h.read c)) open_ over)))
 
-past_at : (h : Past) (m : Seen) (o : Option Call) → IfSome o (IsPast h m) → polled_at (after (Took m) h).read (after (Took m) h).closing o ≡ polled_at h.read h.closing o
+past_at : (h : Past) (m : MessageView) (o : Option Call) → IfSome o (IsPast h m) → polled_at (after (Took m) h).read (after (Took m) h).closing o ≡ polled_at h.read h.closing o
 past_at h m None past = refl
 past_at h m (Some c) past = past_call h m c past
 
-pub took_other : (h : Past) (m : Seen) (k : ℕ) → IfSome (slice_get h.calls k) (IsPast h m) → poll_answer (after (Took m) h) k ≡ poll_answer h k
-unfolding poll_answer
+pub took_other : (h : Past) (m : MessageView) (k : ℕ) → IfSome (slice_get h.calls k) (IsPast h m) → poll_answer (after (Took m) h) k ≡ poll_answer h k
+unfolding calls_poll_answer
 took_other h m k past = past_at h m (slice_get h.calls k) past
 
 -- ---- a message that comes late
@@ -330,7 +338,7 @@ fails_at p [] k e = tt
 fails_at p (c ∷ cs) zero e = (or_parts (p c) (list_any p cs) e).0
 fails_at p (c ∷ cs) (suc k) e = fails_at p cs k (or_parts (p c) (list_any p cs) e).1
 
-over_by : (gone : Bool) (f : Option Seen) (same : Bool) → same ≡ true → (not gone && is_none f && same) ≡ false → (gone || is_some f) ≡ true
+over_by : (gone : Bool) (f : Option MessageView) (same : Bool) → same ≡ true → (not gone && is_none f && same) ≡ false → (gone || is_some f) ≡ true
 over_by true f same s e = refl
 over_by false None same s e = cc
 over_by false (Some r) same s e = refl
@@ -339,33 +347,33 @@ serial_one : (o : Option ℕ) (a b : ℕ) → is_serial o a ≡ true → is_seri
 serial_one None a b p q = cc
 serial_one (Some n) a b p q = sym (eqb-true n a p) ∙ eqb-true n b q
 
-late_call : (h : Past) (m : Seen) (serial : ℕ) (c : Call) → is_serial m.reply_serial serial ≡ true → (is_awaited h.read c && (c.serial == serial)) ≡ false → IsPast h m c
+late_call : (h : Past) (m : MessageView) (serial : ℕ) (c : Call) → is_serial m.reply_serial serial ≡ true → (is_awaited h.read c && (c.serial == serial)) ≡ false → IsPast h m c
 unfolding bears
 late_call h m serial c is waits = elim (cases_Bool (bears c.serial m)) [
   | inl bears_it ↦ inr (over_by (is_gone c) (found h.read c) (c.serial == serial) (eq-eqb c.serial serial (serial_one m.reply_serial c.serial serial (and_parts (is_reply m.kind) (is_serial m.reply_serial c.serial) bears_it).1 is)) waits)
   | inr other ↦ inl other
 ]
 
-late_at : (h : Past) (m : Seen) (serial : ℕ) (o : Option Call) → is_serial m.reply_serial serial ≡ true → IfSome o (λ c. (is_awaited h.read c && (c.serial == serial)) ≡ false) → IfSome o (IsPast h m)
+late_at : (h : Past) (m : MessageView) (serial : ℕ) (o : Option Call) → is_serial m.reply_serial serial ≡ true → IfSome o (λ c. (is_awaited h.read c && (c.serial == serial)) ≡ false) → IfSome o (IsPast h m)
 late_at h m serial None is waits = tt
 late_at h m serial (Some c) is waits = late_call h m serial c is waits
 
 none_waits : (h : Past) (serial : ℕ) → h.closing ≡ None → pending h serial ≡ false → list_any (λ c. is_awaited h.read c && (c.serial == serial)) h.calls ≡ false
-unfolding pending
+unfolding calls_pending
 none_waits h serial open_ e = rw open_ at e
 
-pub took_late : (h : Past) (m : Seen) (serial : ℕ) → h.closing ≡ None → is_serial m.reply_serial serial ≡ true → pending h serial ≡ false → (k : ℕ) → poll_answer (after (Took m) h) k ≡ poll_answer h k
+pub took_late : (h : Past) (m : MessageView) (serial : ℕ) → h.closing ≡ None → is_serial m.reply_serial serial ≡ true → pending h serial ≡ false → (k : ℕ) → poll_answer (after (Took m) h) k ≡ poll_answer h k
 took_late h m serial open_ is e k =
     took_other h m k (late_at h m serial (slice_get h.calls k) is (fails_at (λ c. is_awaited h.read c && (c.serial == serial)) h.calls k (none_waits h serial open_ e)))
 
 -- ---- a poll
 
 pub spent_other : (h : Past) (j k : ℕ) → j ≢ k → poll_answer (after (Spent j) h) k ≡ poll_answer h k
-unfolding poll_answer
+unfolding calls_poll_answer
 spent_other h j k ne = ap (polled_at h.read h.closing) (edit_other spend j k h.calls ne)
 
 pub dropped_other : (h : Past) (j k : ℕ) → j ≢ k → drop_answer (after (Spent j) h) k ≡ drop_answer h k
-unfolding drop_answer
+unfolding calls_drop_answer
 dropped_other h j k ne = ap dropped_at (edit_other spend j k h.calls ne)
 
 -- ---- a number names one call

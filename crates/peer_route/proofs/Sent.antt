@@ -1,9 +1,15 @@
 -- What was put is what the entries put, what was written is what they wrote; and what answers tell of it.
+use Rattle.peer_calls.specs.Issuing.{issued as calls_issued}
 use Rattle.std.proofs.{Common.{◌≡◌, ◌≢◌, ℕ, zero, suc, ◌+◌, ◌-◌, ◌<◌, ◌≤◌, arith, refl, sym, ◌∙◌, ap, subst, ◌||◌, Bool, true, false, if◌then◌else◌, List, [], ◌∷◌, ◌++◌, length, take, append_assoc, length-append, inl, inr, map, option_map, option_and_then, Option, Some, None, Result, Ok, Err, ◌⊎◌}, lemmas.List.append-nil, Math.Seq.{take-length, take-append-add}, Math.Bool.{or-true, or-false}}
 use Rattle.std.specs.List.{AllByRecursion}
-use Rattle.peer_route.proofs.{Issues.{are_deep, limit_refusal, or_barred, issued_by}, Plans.{are_writes, repeat_all, IsFair, fair, AreFrom, are_deeds, legal_from, is_live}, Kept.{every, every_entry, at_start, Keeps, kept_by, puts_are, deeds_all, deed_outbox, deeds_are, of_run, later, quiet_past}, Writers.{fine_unfailed, writer_keeps, shut_writer, writer_stays}}
-use Rattle.peer_route.specs.{Names.{Seen, Error, Entry, Words, Answer, Writer, VariantError}, Parcel.{Setting, message_of, Parcel}, History.{Event, Shut, Put, Purpose, Wrote, Fault, Outbox, Past, after, after_all}, Issuing.{Posting, put_of, parcels, messages_of, puts, drawn, next_serial, issued, refusal}, Trail.Trail, Plan.{Closes, plan, Plan, Says, Sends, Reads, Writes, Never}, Entries.{IsMeant, IsEntry, IsQuiet, IsAtOnce, IsOfRun, Legal, trail, more, repeat, writes, deeds, postings, past_after, IsSending, write_fault, IsPut}, StreamLaws.{IsPutOf, all_put, all_written}}
-use Rattle.wire_message.specs.Draft.{built}
+use Rattle.peer_calls.proofs.Refusing.{are_deep, limit_refusal, or_barred, issued_by}
+use Rattle.peer_route.proofs.{Plans.{are_writes, repeat_all, IsFair, fair, AreFrom, are_deeds, legal_from, is_live}, Kept.{every, every_entry, at_start, Keeps, kept_by, puts_are, deeds_all, deed_outbox, deeds_are, of_run, later, quiet_past}, Writers.{fine_unfailed, writer_keeps, shut_writer, writer_stays}}
+use Rattle.peer_route.specs.{Names.{MessageView, Error, Entry, Words, Answer, Writer, VariantError}, Trail.{Setting, Trail}, Plan.{Closes, plan, Plan, Says, Sends, Reads, Writes, Never}, Entries.{IsMeant, IsEntry, IsQuiet, IsAtOnce, Legal, trail, more, repeat, writes, deeds, postings, past_after, IsSending, write_fault, IsPut}, StreamLaws.{IsPutOf, all_put, all_written}}
+use Rattle.wire_message.specs.{Outgoing.{message_of, OutgoingMessageView}, BuilderView.built}
+use Rattle.peer_core.specs.{History.{Event, Shut, Put, Wrote, Fault, Past, after, after_all}, Issuing.puts}
+use Rattle.peer_calls.specs.{History.{Purpose, Outbox}, Issuing.{Posting, parcels, messages_of}}
+use Rattle.peer_core.specs.Issuing.{put_of, drawn, next_serial, issued, refusal}
+use Rattle.peer_words.specs.OfRun.{IsOfRun}
 
 -- ---- an entry's messages
 
@@ -23,7 +29,7 @@ quiet_or h Closes e is = inl is.2
 quiet_or h (Writes fails) e is = inl is.2
 quiet_or h Never e is = absurd is
 
-messages_none : (ps : List Parcel) → messages_of ps [] ≡ []
+messages_none : (ps : List OutgoingMessageView) → messages_of ps [] ≡ []
 messages_none [] = refl
 messages_none (p ∷ ps) = refl
 
@@ -45,7 +51,7 @@ deep_or false ds (Some serials) e = (serials, refl)
 
 -- where nothing refuses messages, and the peer writes, they are put with the serials that they draw
 pub put_where : (h : Past) (ds : List Posting) → refusal h ds ≡ None → h.outbox.writer ≡ Writer.Fine → (serials : List ℕ) × (drawn h ds ≡ Some serials) × (issued h ds ≡ Ok serials)
-unfolding issued
+unfolding calls_issued
 put_where h [] free fine = ([], refl, refl)
 put_where h (d ∷ ds) free fine =
     let draws = deep_or (are_deep (d ∷ ds)) (d ∷ ds) (drawn h (d ∷ ds)) free in (draws.0, draws.1, ap (λ r. issued_by (or_barred h.outbox.writer r) (drawn h (d ∷ ds))) free ∙ ap (λ w. issued_by (or_barred w None) (drawn h (d ∷ ds))) fine ∙ ap (issued_by None) draws.1)
@@ -59,13 +65,13 @@ issued_draws Writer.Fine None (Some some) serials e = (cc, refl)
 
 -- messages that are put drew their serials
 pub put_drew : (h : Past) (ds : List Posting) (serials : List ℕ) → issued h ds ≡ Ok serials → drawn h ds ≡ Some serials
-unfolding issued
+unfolding calls_issued
 put_drew h [] serials e = cc
 put_drew h (d ∷ ds) serials e = (issued_draws h.outbox.writer (refusal h (d ∷ ds)) (drawn h (d ∷ ds)) serials e).0
 
 -- and the peer writes, where there are any
 pub put_none : (h : Past) (ds : List Posting) (serials : List ℕ) → h.outbox.writer ≢ Writer.Fine → issued h ds ≡ Ok serials → messages_of (parcels ds) serials ≡ []
-unfolding issued
+unfolding calls_issued
 put_none h [] serials ne e = refl
 put_none h (d ∷ ds) serials ne e = absurd (ne (issued_draws h.outbox.writer (refusal h (d ∷ ds)) (drawn h (d ∷ ds)) serials e).1)
 
@@ -155,7 +161,7 @@ failed_with e p cut =
     ∙ ap (λ b. b || e.failed) (kept_by (λ h. h.outbox.failed) (repeat e.written Wrote) p (repeat_all (Keeps (λ h. h.outbox.failed)) e.written Wrote (λ h. refl)))
 
 -- what an entry leaves, before its writes, of what neither the closing of a writer nor a message changes
-before_writes : {X : Type 0} (g : Outbox → X) (t : Trail) (e : Entry) → ((error : Error) → Keeps (λ h. g h.outbox) (Shut error)) → ((m : Seen) (purpose : Purpose) → Keeps (λ h. g h.outbox) (Put m purpose)) → is_live e.words ≡ false
+before_writes : {X : Type 0} (g : Outbox → X) (t : Trail) (e : Entry) → ((error : Error) → Keeps (λ h. g h.outbox) (Shut error)) → ((m : MessageView) (purpose : Purpose) → Keeps (λ h. g h.outbox) (Put m purpose)) → is_live e.words ≡ false
     → g (after_all (puts (postings (plan t e.lane e.words)) e.put) (after_all (deeds (plan t e.lane e.words) e) t.past)).outbox ≡ g t.past.outbox
 before_writes g t e shut put run =
     let pl = plan t e.lane e.words in
@@ -173,7 +179,7 @@ failed_more t e run cut =
     ∙ ap (λ b. b || e.failed) (before_writes (λ o. o.failed) t e (λ error h. refl) (λ m purpose h. refl) run)
 
 -- one entry more
-sent_step : (failed fails : Bool) (count n : ℕ) (put sent ms : List Seen) → (failed ≡ true → ms ≡ []) → n ≤ length ms → (fails ≡ true → n < length ms) → (fails ≡ false → n ≡ length ms) → IsPutOf failed count put sent
+sent_step : (failed fails : Bool) (count n : ℕ) (put sent ms : List MessageView) → (failed ≡ true → ms ≡ []) → n ≤ length ms → (fails ≡ true → n < length ms) → (fails ≡ false → n ≡ length ms) → IsPutOf failed count put sent
     → IsPutOf (failed || fails) (count + n) (put ++ ms) (sent ++ take n ms)
 sent_step true fails count zero put sent [] none most cut all is = rw (append-nil put, append-nil sent) (let less = is.0 in omega (arith, less), is.1 ∙ ap (λ k. take k put) (omega arith))
 sent_step true fails count (suc n) put sent [] none most cut all is = let no : ⊥ = omega (arith, most) in absurd no
@@ -264,20 +270,20 @@ none_failed setting (x ∷ newer) e older legal w run =
 
 -- ---- serials
 
-pub message_serial : (parcel : Parcel) (serial : ℕ) → (message_of parcel serial).serial ≡ serial
+pub message_serial : (parcel : OutgoingMessageView) (serial : ℕ) → (message_of parcel serial).serial ≡ serial
 unfolding message_of built
 message_serial parcel serial = refl
 
 -- the messages have the serials that they drew
 abbrev Bear : List Posting → List ℕ → Type 0
-Bear ds serials = map (λ (m : Seen). m.serial) (messages_of (parcels ds) serials) ≡ serials
+Bear ds serials = map (λ (m : MessageView). m.serial) (messages_of (parcels ds) serials) ≡ serials
 
 one_more : (d : Posting) (ds : List Posting) (serial : ℕ) (rest : Option (List ℕ)) (serials : List ℕ) → ((ss : List ℕ) → rest ≡ Some ss → Bear ds ss) → option_map (λ ss. serial ∷ ss) rest ≡ Some serials → Bear (d ∷ ds) serials
 one_more d ds serial None serials bear e = cc
 one_more d ds serial (Some ss) serials bear e =
     let same : serial ∷ ss ≡ serials = cc in
     subst (Bear (d ∷ ds)) same
-    (ap (λ n. n ∷ map (λ (m : Seen). m.serial) (messages_of (parcels ds) ss)) (message_serial d.parcel serial) ∙ ap (λ xs. serial ∷ xs) (bear ss refl))
+    (ap (λ n. n ∷ map (λ (m : MessageView). m.serial) (messages_of (parcels ds) ss)) (message_serial d.parcel serial) ∙ ap (λ xs. serial ∷ xs) (bear ss refl))
 
 by_next : (d : Posting) (ds : List Posting) (h : Past) (n : Option ℕ) (serials : List ℕ) → ((serial : ℕ) (ss : List ℕ) → drawn (after (put_of d serial) h) ds ≡ Some ss → Bear ds ss)
     → option_and_then (λ serial. option_map (λ ss. serial ∷ ss) (drawn (after (put_of d serial) h) ds)) n ≡ Some serials → Bear (d ∷ ds) serials
@@ -294,17 +300,17 @@ plan_from : (t : Trail) (w : Words) (pl : Plan) → IsFair t w pl → AreFrom t.
 plan_from t w (Sends done ds sent) f = f.from
 plan_from t w pl f = tt
 
-message_sender : (parcel : Parcel) (serial : ℕ) → (message_of parcel serial).sender ≡ parcel.draft.fields.sender
+message_sender : (parcel : OutgoingMessageView) (serial : ℕ) → (message_of parcel serial).sender ≡ parcel.builder.fields.sender
 unfolding message_of built
 message_sender parcel serial = refl
 
-messages_from : (name : Option (List ℕ)) (ds : List Posting) (serials : List ℕ) → AreFrom name ds → AllByRecursion (λ (m : Seen). m.sender ≡ name) (messages_of (parcels ds) serials)
+messages_from : (name : Option (List ℕ)) (ds : List Posting) (serials : List ℕ) → AreFrom name ds → AllByRecursion (λ (m : MessageView). m.sender ≡ name) (messages_of (parcels ds) serials)
 messages_from name [] serials from = tt
 messages_from name (d ∷ ds) [] from = tt
 messages_from name (d ∷ ds) (serial ∷ serials) from = (message_sender d.parcel serial ∙ from.0, messages_from name ds serials from.1)
 
-pub bear_the_name : (setting : Setting) (older : List Entry) (e : Entry) → Legal setting (e ∷ older) → AllByRecursion (λ (m : Seen). m.sender ≡ (trail setting older).past.name) e.put
+pub bear_the_name : (setting : Setting) (older : List Entry) (e : Entry) → Legal setting (e ∷ older) → AllByRecursion (λ (m : MessageView). m.sender ≡ (trail setting older).past.name) e.put
 bear_the_name setting older e legal =
     let t = trail setting older in
     let put = puts_of t.past (plan t e.lane e.words) e (quiet_or t.past (plan t e.lane e.words) e legal.0) in
-    subst (λ ms. AllByRecursion (λ (m : Seen). m.sender ≡ t.past.name) ms) (sym put.1) (messages_from t.past.name (postings (plan t e.lane e.words)) put.0 (plan_from t e.words (plan t e.lane e.words) (fair t e.lane e.words)))
+    subst (λ ms. AllByRecursion (λ (m : MessageView). m.sender ≡ t.past.name) ms) (sym put.1) (messages_from t.past.name (postings (plan t e.lane e.words)) put.0 (plan_from t e.words (plan t e.lane e.words) (fair t e.lane e.words)))

@@ -1,15 +1,20 @@
 -- What entries are answered goes with what they do: a serial that is told is that of the last message, that there is none before is said by
 -- position alone, and a refusal or a wait leaves all as it was. And the peer's name stays.
+use Rattle.peer_core.specs.{History.{calls_of, Event, Named, Past, after, after_all}, BusCall.last_of, Issuing.issued}
 use Rattle.std.proofs.Common.{is_none, inl, inr, ◌≡◌, ℕ, refl, sym, ◌∙◌, ap, subst, Bool, true, false, if◌then◌else◌, List, [], ◌∷◌, Option, Some, None, Result, Ok, Err, ◌++◌, length, map}
 use Rattle.std.specs.List.{AllByRecursion}
-use Rattle.peer_route.specs.{Names.{Seen, Error, Words, Answer, Entry, Live}, Parcel.Setting, History.{Event, Named, Past, first_of, after, after_all}, BusCall.last_of, Issuing.{Posting, issued}, Trail.Trail, Plan.{Plan, Says, Sends, Reads, Closes, Writes, Never, plan}, Entries.{IsMeant, IsSending, IsRead, IsClose, IsAtOnce, Legal, trail, write_fault, unsent, IsOfRun, deeds, past_after, first_past}, Laws.{IsNothingYet, told_serial, is_by_position}, StreamLaws.{is_unstream, stays_open}}
-use Rattle.peer_route.proofs.{Plans.{IsDeed, Gives, is_live, is_idle, place_of, fits, IsBland, FairSends, IsFair, fair}, Kept.{since, Keeps, entry_keeps, deeds_by, of_run, Idles, quiet_past, idle_more}, Issues.refusal_known, Sent.{put_drew, drew}}
+use Rattle.peer_route.specs.{Names.{MessageView, Error, Words, Answer, Entry, Live}, Trail.{Setting, Trail}, Plan.{Plan, Says, Sends, Reads, Closes, Writes, Never, plan}, Entries.{IsMeant, IsSending, IsRead, IsClose, IsAtOnce, Legal, trail, write_fault, unsent, deeds, past_after, first_past}, Laws.{IsNothingYet, told_serial, is_by_position}, StreamLaws.{is_unstream, stays_open}}
+use Rattle.wire_message.specs.Plain.{first_of}
+use Rattle.peer_calls.specs.Issuing.{Posting}
+use Rattle.peer_words.specs.OfRun.{IsOfRun}
+use Rattle.peer_route.proofs.{Plans.{IsDeed, Gives, is_live, is_idle, place_of, fits, IsBland, FairSends, IsFair, fair}, Kept.{since, Keeps, entry_keeps, deeds_by, of_run, Idles, quiet_past, idle_more}, Sent.{put_drew, drew}}
+use Rattle.peer_calls.proofs.Refusing.{refusal_known}
 
 -- ---- answers
 
 -- where it tells a serial, no write failed, and it is that of the last message
 abbrev Tells : Entry → Type 0
-Tells e = (serial : ℕ) → told_serial e.answer ≡ Some serial → (e.failed ≡ false) × (last_of (map (λ (m : Seen). m.serial) e.put) ≡ Some serial)
+Tells e = (serial : ℕ) → told_serial e.answer ≡ Some serial → (e.failed ≡ false) × (last_of (map (λ (m : MessageView). m.serial) e.put) ≡ Some serial)
 
 -- how an entry's answer goes with what it does
 record Speaks (w : Words) (pl : Plan) (e : Entry) : Type 0 where
@@ -48,7 +53,7 @@ sending t w done ds sent e (Err error) f at is = record {
   where
     by : (b : Bool) → is_unstream w ≡ b → (is_unstream w ≡ true → stays_open e.answer ≡ true) → done ≡ []
     by false q open_ = f.idle q
-    by true q open_ = absurd (not_open error (λ unknown. refusal_known (after_all done t.past) ds Error.UnknownHandle (at ∙ ap Err unknown)) (sym (ap stays_open is.0) ∙ open_ q))
+    by true q open_ = absurd (not_open error (λ unknown. refusal_known (calls_of (after_all done t.past)) ds Error.UnknownHandle (at ∙ ap Err unknown)) (sym (ap stays_open is.0) ∙ open_ q))
 sending t w done ds sent e (Ok serials) f at is = by_fault e.failed refl is.answer
   where
     by_fault : (b : Bool) → e.failed ≡ b → e.answer ≡ (if b then write_fault else sent serials) → Speaks w (Sends done ds sent) e
@@ -58,7 +63,7 @@ sending t w done ds sent e (Ok serials) f at is = by_fault e.failed refl is.answ
         let drawn_so = put_drew (after_all done t.past) ds serials at in
         record {
           fit = ap (λ x. fits (is_by_position w) (place_of x)) a ∙ ap (fits (is_by_position w)) (f.loud serials).1;
-          tells = λ n told. (fine, ap (λ ms. last_of (map (λ (m : Seen). m.serial) ms)) is.put ∙ ap last_of (drew ds (after_all done t.past) serials drawn_so) ∙ sym (f.told serials drawn_so) ∙ sym (ap told_serial a) ∙ told);
+          tells = λ n told. (fine, ap (λ ms. last_of (map (λ (m : MessageView). m.serial) ms)) is.put ∙ ap last_of (drew ds (after_all done t.past) serials drawn_so) ∙ sym (f.told serials drawn_so) ∙ sym (ap told_serial a) ∙ told);
           idle = λ idle. cc;
         }
 
@@ -71,7 +76,7 @@ speaks t w (Says answer done) e f is = record {
 speaks t w (Sends done ds sent) e f is = sending t w done ds sent e _ f refl is.1
 speaks t w Reads e f is = by_read e.read is.0
   where
-    by_read : (m : Option Seen) → IsRead (length t.past.read) m e.answer → Speaks w Reads e
+    by_read : (m : Option MessageView) → IsRead (length t.past.read) m e.answer → Speaks w Reads e
     by_read (Some m) is = bland w Reads e _ (refl, refl, refl) is.0
     by_read None is = bland w Reads e _ (refl, refl, refl) is.1
 speaks t w Closes e f is = by_close is.1
@@ -87,7 +92,7 @@ says : (setting : Setting) (older : List Entry) (e : Entry) → Legal setting (e
 says setting older e legal = let t = trail setting older in speaks t e.words (plan t e.lane e.words) e (fair t e.lane e.words) legal.0
 
 pub serial : (setting : Setting) (older : List Entry) (e : Entry) (serial : ℕ) → Legal setting (e ∷ older) → told_serial e.answer ≡ Some serial → IsAtOnce e
-    → (last_of (map (λ (m : Seen). m.serial) e.put) ≡ Some serial) × (e.written ≡ length e.put)
+    → (last_of (map (λ (m : MessageView). m.serial) e.put) ≡ Some serial) × (e.written ≡ length e.put)
 serial setting older e n legal told at_once = let tells = (says setting older e legal).tells n told in (tells.1, at_once tells.0)
 
 -- ---- a refusal, and a wait

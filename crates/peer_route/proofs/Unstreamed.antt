@@ -1,6 +1,16 @@
 -- Closing streams, and telling the bus of it, leaves each other stream, each call and each capacity as it was.
-use Rattle.peer_route.proofs.{Looks.{polled_at, take_at}, Kept.always, Edits.{edit_other, get_before, all_weaker, all_more, all_map, all_edit}, CallsMade.{IsSound, sound_first, sound_after}, Plans.{along, repeat_all, all_append}}
-use Rattle.peer_route.specs.{History.{call_by, Event, Made, Put, Adds, Removes, Did, Fault, Making, Plain, Ruled, Cloned, Deed, Gave, Gone, Call, bears, is_return, Start, Behind, OnReturn, Stream, Phase, Denied, Since, since_reply, phase_by, phase, asks_by, clone_of, new_stream, asking_stream, done_by, fail_stream, Past, after, Wrote, fail_at, Capacities, after_all}, Names.{Entry, Seen, Rule, Words, StreamOp}, Parcel.Setting, Entries.{IsMeant, trail, deeds, postings, repeat, writes, Legal}, Calls.poll_answer, Streams.{take_answer, are_open, close_waits, leaving, gone_events}, BusCall.tellings_of, Issuing.puts, Trail.{Trail, place}, Plan.{Plan, Says, Sends, Reads, Closes, Writes, Never, where_named, where_open, unless_waits, ends, second_place, on_stream, plan}}
+use Rattle.peer_core.proofs.Core.{sound_past as sound_core}
+use Rattle.peer_streams.specs.History.{Request, Making, Plain, Ruled, Cloned, Deed, Gave, Gone, Start, Behind, OnReturn, Stream, Phase, Denied, Since, since_reply, phase_by, phase, asks_by, clone_of, new_stream, asking_stream, done_by, fail_stream, Capacities}
+use Rattle.peer_core.specs.{History.{calls_of, request_of, streams_of, Event, Made, Put, Did, Fault, Past, after, Wrote, after_all}, Asked.{poll_answer, take_answer, are_open, close_waits, leaving, gone_events}, BusCall.tellings_of, Issuing.puts}
+use Rattle.peer_calls.specs.Calls.{poll_answer as calls_poll_answer}
+use Rattle.peer_streams.specs.Streams.{take_answer as streams_take_answer}
+use Rattle.peer_calls.proofs.{Looks.polled_at, CallsMade.{IsSound, sound_first, sound_after}}
+use Rattle.peer_streams.proofs.Looks.{take_at}
+use Rattle.wire_message.proofs.Edits.{edit_other, get_before, all_weaker, all_more, all_map, all_edit}
+use Rattle.peer_route.proofs.{Kept.always, Plans.{along, repeat_all, all_append}}
+use Rattle.peer_calls.specs.History.{call_by, Adds, Removes, Call, fail_at}
+use Rattle.wire_message.specs.Replying.{bears, is_return}
+use Rattle.peer_route.specs.{Names.{Entry, MessageView, Rule, Words, StreamOp}, Trail.{Setting, Trail, place}, Entries.{IsMeant, trail, deeds, postings, repeat, writes, Legal}, Plan.{Plan, Says, Sends, Reads, Closes, Writes, Never, where_named, where_open, unless_waits, ends, second_place, on_stream, plan}}
 use Rattle.std.proofs.{Common.{◌≡◌, ℕ, ◌≤◌, ◌<◌, zero, suc, refl, arith, Bool, true, false, if◌then◌else◌, List, [], ◌∷◌, ◌++◌, length, map, drop, length-append, append_assoc, append-nil, ◌≢◌, ◌⊎◌, inl, inr, ◌-◌, sym, ◌∙◌, ap, subst, ◌||◌, option_map, Option, Some, None, IfSome}, lemmas.List.map-append, lemmas.Bool.ne_eqb, Math.Bool.or-false, lemmas.Option.slice_get-map}
 use Rattle.std.specs.{Prelude.⊤, List.{AllByRecursion, slice_get}}
 
@@ -27,23 +37,23 @@ done_start : (n : ℕ) (deed : Deed) (s : Stream) → Begins n s.start → Begin
 done_start n Gave s h = h
 done_start n deed s h = h
 
-clone_start : (n : ℕ) (p : Past) (k : ℕ) (ss : List Stream) → AllBegin n ss → Begins n (clone_of p (slice_get ss k)).start
+clone_start : (n : ℕ) (p : Past) (k : ℕ) (ss : List Stream) → AllBegin n ss → Begins n (clone_of (streams_of p) (slice_get ss k)).start
 clone_start n p k [] h = tt
 clone_start n p zero (s ∷ ss) h = h.0
 clone_start n p (suc k) (s ∷ ss) h = clone_start n p k ss h.1
 
-made_start : (n : ℕ) (p : Past) (making : Making) (ss : List Stream) → AllBegin n ss → Begins n (new_stream p ss making).start
+made_start : (n : ℕ) (p : Past) (making : Making) (ss : List Stream) → AllBegin n ss → Begins n (new_stream (streams_of p) ss making).start
 made_start n p Plain ss h = tt
 made_start n p (Ruled rule asked) ss h = tt
 made_start n p (Cloned k) ss h = clone_start n p k ss h
 
-grown : (ms : List Seen) (m : Seen) (ss : List Stream) → AllBegin (length ms) ss → AllBegin (length (ms ++ m ∷ [])) ss
+grown : (ms : List MessageView) (m : MessageView) (ss : List Stream) → AllBegin (length ms) ss → AllBegin (length (ms ++ m ∷ [])) ss
 grown ms m ss h = all_weaker (BeginsBelow (length ms)) (BeginsBelow (length (ms ++ m ∷ []))) (λ s b. begins_more (length ms) (length (ms ++ m ∷ [])) s.start (omega (arith, length-append ms (m ∷ []))) b) ss h
 
 begin_after : (e : Event) (p : Past) → AllBegin (length p.outbox.put) p.streams → AllBegin (length (after e p).outbox.put) (after e p).streams
-begin_after (Made making) p h = all_more (BeginsBelow (length p.outbox.put)) p.streams (new_stream p p.streams making) h (made_start (length p.outbox.put) p making p.streams h)
+begin_after (Made making) p h = all_more (BeginsBelow (length p.outbox.put)) p.streams (new_stream (streams_of p) p.streams making) h (made_start (length p.outbox.put) p making p.streams h)
 begin_after (Put m (Adds rule asked)) p h =
-    all_more (BeginsBelow (length (p.outbox.put ++ m ∷ []))) p.streams (asking_stream p m rule) (grown p.outbox.put m p.streams h) (omega (arith, length-append p.outbox.put (m ∷ [])))
+    all_more (BeginsBelow (length (p.outbox.put ++ m ∷ []))) p.streams (asking_stream (request_of p m) rule) (grown p.outbox.put m p.streams h) (omega (arith, length-append p.outbox.put (m ∷ [])))
 begin_after (Put m why) p h = grown p.outbox.put m p.streams h
 begin_after (Did k deed) p h = all_edit (BeginsBelow (length p.outbox.put)) (done_by deed) p.streams k (λ s is b. done_start (length p.outbox.put) deed s b) h
 begin_after Fault p h = all_map (BeginsBelow (length p.outbox.put)) (BeginsBelow (length p.outbox.put)) (fail_stream p.read p.outbox.done) (λ s b. b) p.streams h
@@ -54,21 +64,21 @@ all_begin setting es = always (λ (p : Past). AllBegin (length p.outbox.put) p.s
 
 -- ---- a write that fails further on
 
-step_asks : (index : ℕ) (b ret : Bool) (m : Seen) (ms : List Seen) (p : Phase) → asks_by index p ≡ false → asks_by index (if b then (if ret then Since ms else Denied m) else p) ≡ false
+step_asks : (index : ℕ) (b ret : Bool) (m : MessageView) (ms : List MessageView) (p : Phase) → asks_by index p ≡ false → asks_by index (if b then (if ret then Since ms else Denied m) else p) ≡ false
 step_asks index true true m ms p e = refl
 step_asks index true false m ms p e = refl
 step_asks index false ret m ms p e = e
 
-since_asks : (index : ℕ) (add : Call) (ms : List Seen) → add.index < index → asks_by index (since_reply add ms) ≡ false
+since_asks : (index : ℕ) (add : Request) (ms : List MessageView) → add.index < index → asks_by index (since_reply add ms) ≡ false
 since_asks index add [] lt = ne_eqb add.index index (λ e. omega (arith, e, lt))
 since_asks index add (m ∷ ms) lt = step_asks index (bears add.serial m) (is_return m.kind) m ms (since_reply add ms) (since_asks index add ms lt)
 
-start_asks : (index : ℕ) (b : Start) (ms : List Seen) → Begins index b → asks_by index (phase_by b ms) ≡ false
+start_asks : (index : ℕ) (b : Start) (ms : List MessageView) → Begins index b → asks_by index (phase_by b ms) ≡ false
 start_asks index (Behind count) ms h = refl
 start_asks index (OnReturn add) ms h = since_asks index add (drop add.from ms) h
 
 -- a stream that begins below doesn't wait for a message at this place
-pub asks_not : (index : ℕ) (ms : List Seen) (s : Stream) → Begins index s.start → asks_by index (phase ms s) ≡ false
+pub asks_not : (index : ℕ) (ms : List MessageView) (s : Stream) → Begins index s.start → asks_by index (phase ms s) ≡ false
 unfolding phase
 asks_not index ms s h = start_asks index s.start ms h
 
@@ -96,7 +106,7 @@ begin_at n index [] k le all = tt
 begin_at n index (s ∷ ss) zero le all = begins_more n index s.start le all.0
 begin_at n index (s ∷ ss) (suc k) le all = begin_at n index ss k le all.1
 
-same_stream : (ms : List Seen) (index : ℕ) (o : Option Stream) → IfSome o (λ s. Begins index s.start) → option_map (fail_stream ms index) o ≡ o
+same_stream : (ms : List MessageView) (index : ℕ) (o : Option Stream) → IfSome o (λ s. Begins index s.start) → option_map (fail_stream ms index) o ≡ o
 same_stream ms index None b = refl
 same_stream ms index (Some s) b =
     ap (λ x. Some (record s { gone = s.gone || x })) (asks_not index ms s b) ∙ ap (λ x. Some (record s { gone = x })) (or-false s.gone)
@@ -109,7 +119,7 @@ IsClosing shut failed Wrote = Unit {0}
 IsClosing shut failed Fault = failed ≡ true
 IsClosing shut failed e = ⊥
 
-apart_after : (shut : ℕ → Type 0) (failed : Bool) (p : Past) → IsSound p → AllBegin (length p.outbox.put) p.streams → (e : Event) (q : Past) → IsClosing shut failed e → Apart shut failed p q
+apart_after : (shut : ℕ → Type 0) (failed : Bool) (p : Past) → IsSound (calls_of p) → AllBegin (length p.outbox.put) p.streams → (e : Event) (q : Past) → IsClosing shut failed e → Apart shut failed p q
     → Apart shut failed p (after e q)
 apart_after shut failed p sound begin (Did j Gone) q is a = record {
   reads = a.reads;
@@ -123,8 +133,8 @@ apart_after shut failed p sound begin (Put m Removes) q is a = record {
   reads = a.reads;
   closings = a.closings;
   later = a.later;
-  more = a.more ++ call_by q m true ∷ [];
-  calls = ap (λ cs. cs ++ call_by q m true ∷ []) a.calls ∙ append_assoc p.calls a.more (call_by q m true ∷ []);
+  more = a.more ++ call_by (calls_of q) m true ∷ [];
+  calls = ap (λ cs. cs ++ call_by (calls_of q) m true ∷ []) a.calls ∙ append_assoc p.calls a.more (call_by (calls_of q) m true ∷ []);
   stream = a.stream;
 }
 apart_after shut failed p sound begin Wrote q is a =
@@ -156,7 +166,7 @@ limits_after shut failed c e q is same = absurd is
 abbrev Shuts : (ℕ → Type 0) → Plan → Type 0
 Shuts shut pl = (failed : Bool) (e : Entry) → AllByRecursion (IsClosing shut failed) (deeds pl e) × AllByRecursion (IsClosing shut failed) (puts (postings pl) e.put)
 
-shuts_tellings : (shut : ℕ → Type 0) (failed : Bool) (h : Past) (rules : List Rule) (ms : List Seen) → AllByRecursion (IsClosing shut failed) (puts (tellings_of h rules) ms)
+shuts_tellings : (shut : ℕ → Type 0) (failed : Bool) (h : Past) (rules : List Rule) (ms : List MessageView) → AllByRecursion (IsClosing shut failed) (puts (tellings_of h rules) ms)
 shuts_tellings shut failed h [] ms = tt
 shuts_tellings shut failed h (rule ∷ rules) [] = tt
 shuts_tellings shut failed h (rule ∷ rules) (m ∷ ms) = (tt, shuts_tellings shut failed h rules ms)
@@ -193,8 +203,8 @@ shuts_writes shut n m false = all_append (IsClosing shut false) (repeat n Wrote)
 abbrev Ends : Trail → ℕ → ℕ → Option ℕ → ℕ → Type 0
 Ends t lane number second k = (place 0 lane number t.streams ≡ Some k) ⊎ (second_place t lane second ≡ Some (Some k))
 
-sound_past : (setting : Setting) (es : List Entry) → IsSound (trail setting es).past
-sound_past setting es = always IsSound sound_first sound_after setting es
+sound_past : (setting : Setting) (es : List Entry) → IsSound (calls_of (trail setting es).past)
+sound_past setting es = always (λ p. IsSound (calls_of p)) sound_first sound_core setting es
 
 -- what such events keep
 closing_along : (P : Past → Type 0) (setting : Setting) (older : List Entry) (e : Entry) (number : ℕ) (second : Option ℕ) → e.words ≡ Words.OfStream number (StreamOp.Unstream second)
@@ -230,12 +240,12 @@ unstream_apart setting older e number second w done =
     (record { reads = refl; closings = refl; later = λ f. let all = done f in omega (arith, all); more = []; calls = sym (append-nil (trail setting older).past.calls); stream = λ k still. refl })
 
 take_same : (shut : ℕ → Type 0) (failed : Bool) (p q : Past) (k : ℕ) → Apart shut failed p q → (shut k → ⊥) → take_answer q k ≡ take_answer p k
-unfolding take_answer
+unfolding streams_take_answer
 take_same shut failed p q k a still =
     ap (λ ms. take_at ms q.closing (slice_get q.streams k)) a.reads ∙ ap (λ o. take_at p.read o (slice_get q.streams k)) a.closings ∙ ap (take_at p.read p.closing) (a.stream k still)
 
 poll_same : (shut : ℕ → Type 0) (failed : Bool) (p q : Past) (k : ℕ) → Apart shut failed p q → k < length p.calls → poll_answer q k ≡ poll_answer p k
-unfolding poll_answer
+unfolding calls_poll_answer
 poll_same shut failed p q k a le =
     ap (λ ms. polled_at ms q.closing (slice_get q.calls k)) a.reads ∙ ap (λ o. polled_at p.read o (slice_get q.calls k)) a.closings ∙ ap (polled_at p.read p.closing) (ap (λ cs. slice_get cs k) a.calls ∙ get_before k p.calls a.more le)
 

@@ -1,6 +1,9 @@
 -- The first cause stays: the error that closed the peer, and what became of its writer; and where nothing did, no write failed.
 use Rattle.std.proofs.Common.{◌≡◌, ◌≢◌, refl, ◌∙◌, ap, false, List, Some}
-use Rattle.peer_route.specs.{Names.{Error, Writer, Entry}, Parcel.Setting, History.{Event, Shut, Fault, worse, shuts, first_of, Past, after, after_all}, Entries.trail}
+use Rattle.peer_route.specs.{Names.{Error, Writer, Entry}, Trail.Setting, Entries.trail}
+use Rattle.peer_core.specs.History.{Event, Shut, Fault, Past, after, after_all}
+use Rattle.wire_message.specs.Plain.{first_of}
+use Rattle.peer_calls.specs.History.{worse, shuts}
 use Rattle.peer_route.proofs.Kept.{every, always}
 
 worse_fine : (w cause : Writer) → worse w cause ≡ Writer.Fine → (w ≡ Writer.Fine) × (cause ≡ Writer.Fine)

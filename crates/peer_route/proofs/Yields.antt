@@ -1,8 +1,15 @@
 -- What streams give, entry by entry; and how it is known that one was made, or that the bus was asked for it.
-use Rattle.peer_route.specs.{History.{Gave, call_by, done_by, fresh, Made, Ruled, Past, Event, Took, Did, Making, Plain, Cloned, Stream, Denied, Since, phase, plain_stream, clone_of, new_stream, rule_of, after, Put, Adds, Call, bears, OnReturn, is_return, since_reply, phase_by, asking_stream, after_all, Start, Behind, Phase}, Names.{Answer, Entry, Error, Seen, Rule, rule_in_bytes, Words, StreamOp}, Calls.in_flight, Streams.{asks_bus, is_since, is_open, accepted, matched, offered, held, since_in}, BusCall.{asking_of, first_of}, Issuing.{Posting, issued, parcels, messages_of, puts}, Trail.{Trail, count, place, asked_names}, Plan.{Plan, unless_waits, makes, opens_new, opens, plan, on_stream}, Entries.{IsMeant, IsSending, unsent, write_fault, past_after, trail, more, Legal, more_by}, Left.{start_count, IsWithin}, Parcel.{Setting, message_of}, StreamLaws.{positions, Yields, holds, rule_at, items_given, after_return, YieldsAsked, Gives, stays_open, stream_of}}
+use Rattle.peer_streams.specs.{History.{Request, Gave, done_by, fresh, Ruled, Making, Plain, Cloned, Stream, Denied, Since, phase, plain_stream, clone_of, new_stream, rule_of, OnReturn, since_reply, phase_by, asking_stream, Start, Behind, Phase}, Streams.{is_since, accepted, matched, offered, held, since_in}, Left.{start_count, IsWithin}}
+use Rattle.peer_core.specs.{History.{request_of, streams_of, Made, Past, Event, Took, Did, after, Put, after_all}, Issuing.{issued, puts}, Asked.{in_flight, asks_bus, is_open}, BusCall.{asking_of, first_of}}
+use Rattle.peer_calls.specs.{History.{call_by, Adds, Call}, Issuing.{Posting, parcels, messages_of}}
+use Rattle.wire_message.specs.{Replying.{bears, is_return}, Outgoing.message_of}
+use Rattle.peer_route.specs.{Names.{Answer, Entry, Error, MessageView, Rule, rule_in_bytes, Words, StreamOp}, Trail.{Trail, count, place, asked_names, Setting}, Plan.{Plan, unless_waits, makes, opens_new, opens, plan, on_stream}, Entries.{IsMeant, IsSending, unsent, write_fault, past_after, trail, more, Legal, more_by}, StreamLaws.{positions, Yields, holds, rule_at, items_given, after_return, YieldsAsked, Gives, stays_open, stream_of}}
 use Rattle.std.proofs.{Common.{◌≡◌, ℕ, refl, sym, ◌∙◌, ap, subst, Bool, true, false, if◌then◌else◌, List, [], ◌∷◌, Option, Some, None, Result, Ok, Err, ◌+◌, ◌≤◌, arith, is_some, ◌++◌, length, take, drop, append_assoc, append-nil, ◌⊎◌, inl, inr, unwrap_or, option_and_then, option_map}, Math.Seq.drop-append_seam, lemmas.List.{map-append, take-append-drop, drop-append-le, take-append-le, length-drop, drop-drop}}
 use Rattle.std.specs.List.{slice_get}
-use Rattle.peer_route.proofs.{BusMessages.add_parcel, Edits.{get_new, take_one, drop_next, all_at}, Matched.{held_matched, accepted-append, arriving, matched_took, within_took, within_fresh, within_asking}, Plans.{is_idle, legal_from, one_drawn}, Deeds.{all_within, lanes, Flowing, FlowAt, Flow, named_new, flow_all, flow_entry, flow_writes, turned, named_done, open_done, open_stream}, Places.place_new, Sent.{put_drew, message_serial}, Kept.{every_entry, since}, StreamsMade.clone_within}
+use Rattle.peer_core.proofs.BusMessages.{add_parcel}
+use Rattle.wire_message.proofs.Edits.{get_new, take_one, drop_next, all_at}
+use Rattle.peer_streams.proofs.{Matched.{held_matched, accepted-append, arriving, matched_took, within_took, within_fresh, within_asking}, StreamsMade.clone_within}
+use Rattle.peer_route.proofs.{Plans.{is_idle, legal_from, one_drawn}, Deeds.{all_within, lanes, Flowing, FlowAt, Flow, named_new, flow_all, flow_entry, flow_writes, turned, named_done, open_done, open_stream}, Places.place_new, Sent.{put_drew, message_serial}, Kept.{every_entry, since}}
 
 -- ---- messages went out
 
@@ -89,8 +96,8 @@ own_after rule start skip (Took m) h s given r =
       of_rule = r.of_rule;
       begins = r.begins;
       skips = r.skips;
-      within = within_took m h s r.within;
-      given_is = r.given_is ∙ ap positions (sym (ap (λ ms. take s.taken (drop s.skip ms)) (matched_took m h s r.within.start) ∙ ap (take s.taken) (drop-append-le s.skip own some (omega (arith, passed)))
+      within = within_took m (streams_of h) s r.within;
+      given_is = r.given_is ∙ ap positions (sym (ap (λ ms. take s.taken (drop s.skip ms)) (matched_took m (streams_of h) s r.within.start) ∙ ap (take s.taken) (drop-append-le s.skip own some (omega (arith, passed)))
           ∙ take-append-le s.taken (drop s.skip own) some (omega (arith, passed, length-drop s.skip own))));
     }
 own_after rule start skip e h s given r = record { of_rule = r.of_rule; begins = r.begins; skips = r.skips; within = r.within; given_is = r.given_is }
@@ -99,7 +106,7 @@ own_same : (rule : Option Rule) (start : Start) (skip : ℕ) (h : Past) (s : Str
 unfolding matched phase
 own_same rule start skip h s given a b c r = record { of_rule = r.of_rule; begins = r.begins; skips = r.skips; within = record { start = r.within.start; passed = r.within.passed }; given_is = r.given_is }
 
-own_item : (rule : Option Rule) (start : Start) (skip : ℕ) (h : Past) (k : ℕ) (s : Stream) (given : List ℕ) (m : Seen) (ms : List Seen) → held h.read s ≡ m ∷ ms → Own rule start skip h s given
+own_item : (rule : Option Rule) (start : Start) (skip : ℕ) (h : Past) (k : ℕ) (s : Stream) (given : List ℕ) (m : MessageView) (ms : List MessageView) → held h.read s ≡ m ∷ ms → Own rule start skip h s given
     → Own rule start skip (after (Did k Gave) h) (done_by Gave s) (given ++ m.position ∷ [])
 unfolding matched held offered phase
 own_item rule start skip h k s given m ms e r =
@@ -110,7 +117,7 @@ own_item rule start skip h k s given m ms e r =
       begins = r.begins;
       skips = r.skips;
       within = record { start = r.within.start; passed = omega (arith, le) };
-      given_is = ap (λ ps. ps ++ m.position ∷ []) r.given_is ∙ sym (map-append (λ (x : Seen). x.position) (take s.taken (drop s.skip own)) (m ∷ []))
+      given_is = ap (λ ps. ps ++ m.position ∷ []) r.given_is ∙ sym (map-append (λ (x : MessageView). x.position) (take s.taken (drop s.skip own)) (m ∷ []))
           ∙ ap positions (sym (take_one s.taken (drop s.skip own) m ms e));
     }
 
@@ -118,7 +125,7 @@ own_flowing : (rule : Option Rule) (start : Start) (skip : ℕ) → Flowing (Own
 own_flowing rule start skip = record { along = own_after rule start skip; same = own_same rule start skip; item = own_item rule start skip }
 
 -- what such a stream offers of these messages
-abbrev offers : Option Rule → Start → ℕ → List Seen → List Seen
+abbrev offers : Option Rule → Start → ℕ → List MessageView → List MessageView
 offers rule start skip ms = drop skip (accepted rule (since_in (phase_by start ms)))
 
 own_offers : (rule : Option Rule) (start : Start) (skip : ℕ) (h : Past) (s : Stream) (given : List ℕ) → Own rule start skip h s given → drop s.skip (matched h.read s) ≡ offers rule start skip h.read
@@ -127,7 +134,7 @@ own_offers rule start skip h s given r =
     ap (λ n. drop n (matched h.read s)) r.skips ∙ ap (λ o. drop skip (accepted o (since_in (phase_by s.start h.read)))) r.of_rule ∙ ap (λ b. offers rule b skip h.read) r.begins
 
 -- what was given and what is held
-gives_from : (setting : Setting) (newer : List Entry) (e : Entry) (older : List Entry) (number : ℕ) (rule : Option Rule) (start : Start) (skip : ℕ) (all : List Seen) → Legal setting (newer ++ e ∷ older)
+gives_from : (setting : Setting) (newer : List Entry) (e : Entry) (older : List Entry) (number : ℕ) (rule : Option Rule) (start : Start) (skip : ℕ) (all : List MessageView) → Legal setting (newer ++ e ∷ older)
     → Flow (Own rule start skip) (trail setting (e ∷ older)) e.lane number [] → offers rule start skip (trail setting (newer ++ e ∷ older)).past.read ≡ all
     → Gives (trail setting (newer ++ e ∷ older)) e.lane number newer all
 unfolding held offered
@@ -139,7 +146,7 @@ gives_from setting newer e older number rule start skip all legal begun is =
     record {
       stream = s;
       named = ap (option_and_then (slice_get h.streams)) f.named ∙ f.now.made;
-      items = ap (λ ps. ps ++ positions (held h.read s)) f.now.flows.given_is ∙ sym (map-append (λ (m : Seen). m.position) (take s.taken own) (held h.read s))
+      items = ap (λ ps. ps ++ positions (held h.read s)) f.now.flows.given_is ∙ sym (map-append (λ (m : MessageView). m.position) (take s.taken own) (held h.read s))
           ∙ ap positions (take-append-drop s.taken own ∙ own_offers rule start skip h s (items_given e.lane number newer) f.now.flows ∙ is);
     }
 
@@ -147,7 +154,7 @@ gives_from setting newer e older number rule start skip all legal begun is =
 
 -- an entry that made one so
 flow_made : (t : Trail) (e : Entry) (number : ℕ) (making : Making) (s : Stream) → IsMeant t.past (plan t e.lane e.words) e → plan t e.lane e.words ≡ makes t e.lane making
-    → e.answer ≡ Answer.Streaming number → length t.streams ≡ length t.past.streams → new_stream t.past t.past.streams making ≡ s → Own s.rule s.start s.skip t.past s []
+    → e.answer ≡ Answer.Streaming number → length t.streams ≡ length t.past.streams → new_stream (streams_of t.past) t.past.streams making ≡ s → Own s.rule s.start s.skip t.past s []
     → Flow (Own s.rule s.start s.skip) (more t e) e.lane number []
 flow_made t e number making s is means a same new own =
     let k = length t.streams in
@@ -163,15 +170,15 @@ flow_made t e number making s is means a same new own =
           }));
     }
 
-own_fresh : (h : Past) (rule : Option Rule) (told : Bool) → Own rule (Behind (length h.read)) 0 h (fresh h rule told) []
-own_fresh h rule told = record { of_rule = refl; begins = refl; skips = refl; within = within_fresh h rule told; given_is = refl }
+own_fresh : (h : Past) (rule : Option Rule) (told : Bool) → Own rule (Behind (length h.read)) 0 h (fresh (streams_of h) rule told) []
+own_fresh h rule told = record { of_rule = refl; begins = refl; skips = refl; within = within_fresh (streams_of h) rule told; given_is = refl }
 
 pub yields : (setting : Setting) (newer : List Entry) (e : Entry) (older : List Entry) (number : ℕ) → Legal setting (newer ++ e ∷ older) → e.words ≡ Words.Stream → e.answer ≡ Answer.Streaming number
     → Yields setting newer e older number None []
 yields setting newer e older number legal w a =
     let t = trail setting older in
     gives_from setting newer e older number None (Behind (length t.past.read)) 0 _ legal
-    (flow_made t e number Plain (plain_stream t.past) (legal_from setting newer (e ∷ older) legal).0 (ap (plan t e.lane) w) a (lanes setting older) refl (own_fresh t.past None (is_some t.past.closing))) refl
+    (flow_made t e number Plain (plain_stream (streams_of t.past)) (legal_from setting newer (e ∷ older) legal).0 (ap (plan t e.lane) w) a (lanes setting older) refl (own_fresh t.past None (is_some t.past.closing))) refl
 
 pub opened_yields : (setting : Setting) (newer : List Entry) (e : Entry) (older : List Entry) (number : ℕ) (asked : Option ℕ) (text : List ℕ) (rule : Rule) → Legal setting (newer ++ e ∷ older)
     → e.words ≡ Words.Open asked text → rule_in_bytes text ≡ Ok rule → e.answer ≡ Answer.Streaming number → Yields setting newer e older number (Some rule) []
@@ -179,30 +186,30 @@ opened_yields setting newer e older number asked text rule legal w r a =
     let t = trail setting older in
     let is = (legal_from setting newer (e ∷ older) legal).0 in
     gives_from setting newer e older number (Some rule) (Behind (length t.past.read)) 0 _ legal
-    (flow_made t e number (Ruled rule asked) (fresh t.past (Some rule) false) is (at_once t e.lane rule asked e (plan t e.lane e.words) number (opened_so t e asked text rule is w r (ap is_idle a) (ap is_reason a)) a) a (lanes setting older) refl (own_fresh t.past (Some rule) false)) refl
+    (flow_made t e number (Ruled rule asked) (fresh (streams_of t.past) (Some rule) false) is (at_once t e.lane rule asked e (plan t e.lane e.words) number (opened_so t e asked text rule is w r (ap is_idle a) (ap is_reason a)) a) a (lanes setting older) refl (own_fresh t.past (Some rule) false)) refl
 
 -- ---- a stream for which the bus was asked
 
-since_by : (b r : Bool) (add : Call) (m : Seen) (ms rest : List Seen) → since_in (since_reply add ms) ≡ rest
+since_by : (b r : Bool) (add : Request) (m : MessageView) (ms rest : List MessageView) → since_in (since_reply add ms) ≡ rest
     → since_in (if b then (if r then Since ms else Denied m) else since_reply add ms) ≡ (if b then (if r then ms else []) else rest)
 since_by true true add m ms rest e = refl
 since_by true false add m ms rest e = refl
 since_by false r add m ms rest e = e
 
 -- the messages that were read since the stream began are those behind the return
-since_return : (add : Call) (ms : List Seen) → since_in (since_reply add ms) ≡ after_return add.serial ms
+since_return : (add : Request) (ms : List MessageView) → since_in (since_reply add ms) ≡ after_return add.serial ms
 since_return add [] = refl
 since_return add (m ∷ ms) = since_by (bears add.serial m) (is_return m.kind) add m ms (after_return add.serial ms) (since_return add ms)
 
 flow_asked : (t : Trail) (e : Entry) (number serial : ℕ) (rule : Rule) (asked : Option ℕ) → WasAsked t e.lane rule asked e → plan t e.lane e.words ≡ opens_new t e.lane rule asked true
     → e.answer ≡ Answer.Opening number serial → length t.streams ≡ length t.past.streams
-    → Flow (Own (Some rule) (OnReturn (call_by t.past (message_of (add_parcel t.past.name rule) serial) true)) 0) (more t e) e.lane number []
+    → Flow (Own (Some rule) (OnReturn (request_of t.past (message_of (add_parcel t.past.name rule) serial))) 0) (more t e) e.lane number []
 flow_asked t e number serial rule asked was means a same =
     let m = message_of (add_parcel t.past.name rule) serial in
-    let start = OnReturn (call_by t.past m true) in
+    let start = OnReturn (request_of t.past m) in
     let goes = Own (Some rule) start 0 in
     let k = length t.streams in
-    let s = asking_stream t.past m rule in
+    let s = asking_stream (request_of t.past m) rule in
     let d = asking_of t.past rule asked in
     let one = one_drawn t.past d was.serials (put_drew t.past (d ∷ []) was.serials was.drew) in
     let answer : Answer.Opening (count e.lane t.streams) one.0 ≡ Answer.Opening number serial = ap (λ ns. Answer.Opening (count e.lane t.streams) (first_of ns)) (sym one.1) ∙ sym was.answer ∙ a in
@@ -213,7 +220,7 @@ flow_asked t e number serial rule asked was means a same =
     let begun : FlowAt goes k [] (after (Put m (Adds rule asked)) t.past) = record {
       stream = s;
       made = ap (slice_get (t.past.streams ++ s ∷ [])) same ∙ get_new t.past.streams s;
-      flows = record { of_rule = refl; begins = refl; skips = refl; within = within_asking t.past m rule; given_is = refl };
+      flows = record { of_rule = refl; begins = refl; skips = refl; within = within_asking (streams_of t.past) (request_of t.past m) rule refl; given_is = refl };
     } in
     subst (λ p. Flow goes (more_by p e t) e.lane number []) (sym means) (record {
       k = k;
@@ -228,7 +235,7 @@ pub asked_yields : (setting : Setting) (newer : List Entry) (e : Entry) (older :
 asked_yields setting newer e older number serial asked text rule legal w r a =
     let t = trail setting older in
     let h = (trail setting (newer ++ e ∷ older)).past in
-    let add = call_by t.past (message_of (add_parcel t.past.name rule) serial) true in
+    let add = request_of t.past (message_of (add_parcel t.past.name rule) serial) in
     let was = by_bus t e.lane rule asked e (plan t e.lane e.words) number serial (opened_so t e asked text rule (legal_from setting newer (e ∷ older) legal).0 w r (ap is_idle a) (ap is_reason a)) a in
     gives_from setting newer e older number (Some rule) (OnReturn add) 0 _ legal (flow_asked t e number serial rule asked was.1 was.0 a (lanes setting older))
     (ap (accepted (Some rule)) (since_return add (drop add.from h.read)) ∙ ap (λ n. accepted (Some rule) (after_return n (drop (length t.past.read) h.read))) (message_serial (add_parcel t.past.name rule) serial))
@@ -236,28 +243,28 @@ asked_yields setting newer e older number serial asked text rule legal w r a =
 -- ---- a clone
 
 -- behind its return, what comes is a stream's own
-append_by : (b r : Bool) (x : Seen) (xs ys : List Seen) (p q : Phase) → (is_since p ≡ true → since_in q ≡ since_in p ++ ys) → is_since (if b then (if r then Since xs else Denied x) else p) ≡ true
+append_by : (b r : Bool) (x : MessageView) (xs ys : List MessageView) (p q : Phase) → (is_since p ≡ true → since_in q ≡ since_in p ++ ys) → is_since (if b then (if r then Since xs else Denied x) else p) ≡ true
     → since_in (if b then (if r then Since (xs ++ ys) else Denied x) else q) ≡ since_in (if b then (if r then Since xs else Denied x) else p) ++ ys
 append_by true true x xs ys p q rest e = refl
 append_by true false x xs ys p q rest e = cc
 append_by false r x xs ys p q rest e = rest e
 
-reply_append : (add : Call) (xs ys : List Seen) → is_since (since_reply add xs) ≡ true → since_in (since_reply add (xs ++ ys)) ≡ since_in (since_reply add xs) ++ ys
+reply_append : (add : Request) (xs ys : List MessageView) → is_since (since_reply add xs) ≡ true → since_in (since_reply add (xs ++ ys)) ≡ since_in (since_reply add xs) ++ ys
 reply_append add [] ys e = cc
 reply_append add (x ∷ xs) ys e = append_by (bears add.serial x) (is_return x.kind) x xs ys (since_reply add xs) (since_reply add (xs ++ ys)) (reply_append add xs ys) e
 
-since_append : (start : Start) (xs ys : List Seen) → start_count start ≤ length xs → is_since (phase_by start xs) ≡ true → since_in (phase_by start (xs ++ ys)) ≡ since_in (phase_by start xs) ++ ys
+since_append : (start : Start) (xs ys : List MessageView) → start_count start ≤ length xs → is_since (phase_by start xs) ≡ true → since_in (phase_by start (xs ++ ys)) ≡ since_in (phase_by start xs) ++ ys
 since_append (Behind count) xs ys le e = drop-append-le count xs ys le
 since_append (OnReturn add) xs ys le e =
     ap (λ ms. since_in (since_reply add ms)) (drop-append-le add.from xs ys le) ∙ reply_append add (drop add.from xs) ys e
 
 -- more is read, and nothing forgotten
-reads_on : (read : List Seen) (e : Event) (h : Past) → (ms : List Seen) × (h.read ≡ read ++ ms) → (ms : List Seen) × ((after e h).read ≡ read ++ ms)
+reads_on : (read : List MessageView) (e : Event) (h : Past) → (ms : List MessageView) × (h.read ≡ read ++ ms) → (ms : List MessageView) × ((after e h).read ≡ read ++ ms)
 reads_on read (Took m) h is = (is.0 ++ m ∷ [], ap (λ ms. ms ++ m ∷ []) is.1 ∙ append_assoc read is.0 (m ∷ []))
 reads_on read e h is = is
 
 -- what a clone offers of a stream that runs: what that held, and what was read since and the rule accepts
-clone_offers : (h : Past) (s : Stream) (read : List Seen) → IsWithin h.read s → is_since (phase h.read s) ≡ true → (ms : List Seen) × (read ≡ h.read ++ ms)
+clone_offers : (h : Past) (s : Stream) (read : List MessageView) → IsWithin h.read s → is_since (phase h.read s) ≡ true → (ms : List MessageView) × (read ≡ h.read ++ ms)
     → offers s.rule s.start (s.skip + s.taken) read ≡ held h.read s ++ accepted s.rule (drop (length h.read) read)
 unfolding matched phase
 clone_offers h s read w since is =
@@ -265,11 +272,11 @@ clone_offers h s read w since is =
     let ms = is.0 in
     ap (offers s.rule s.start (s.skip + s.taken)) is.1 ∙ ap (λ xs. drop (s.skip + s.taken) (accepted s.rule xs)) (since_append s.start h.read ms w.start since)
     ∙ ap (drop (s.skip + s.taken)) (accepted-append s.rule own ms) ∙ drop-append-le (s.skip + s.taken) (accepted s.rule own) (accepted s.rule ms) w.passed
-    ∙ ap (λ xs. xs ++ accepted s.rule ms) (sym (held_matched h s)) ∙ ap (λ xs. held h.read s ++ accepted s.rule xs) (sym (ap (drop (length h.read)) is.1 ∙ drop-append_seam h.read ms))
+    ∙ ap (λ xs. xs ++ accepted s.rule ms) (sym (held_matched (streams_of h) s)) ∙ ap (λ xs. held h.read s ++ accepted s.rule xs) (sym (ap (drop (length h.read)) is.1 ∙ drop-append_seam h.read ms))
 
-own_clone : (h : Past) (s : Stream) → IsWithin h.read s → Own s.rule s.start (s.skip + s.taken) h (clone_of h (Some s)) []
+own_clone : (h : Past) (s : Stream) → IsWithin h.read s → Own s.rule s.start (s.skip + s.taken) h (clone_of (streams_of h) (Some s)) []
 unfolding matched phase
-own_clone h s w = record { of_rule = refl; begins = refl; skips = refl; within = clone_within h s w; given_is = refl }
+own_clone h s w = record { of_rule = refl; begins = refl; skips = refl; within = clone_within (streams_of h) s w; given_is = refl }
 
 pub clone_yields : (setting : Setting) (newer : List Entry) (e : Entry) (older : List Entry) (number first : ℕ) → Legal setting (newer ++ e ∷ older) → e.words ≡ Words.OfStream first StreamOp.Clone
     → e.answer ≡ Answer.Streaming number → Yields setting newer e older number (rule_at (trail setting older) e.lane first) (holds (trail setting older) e.lane first)
@@ -285,10 +292,10 @@ clone_yields setting newer e older number first legal w a =
     let o = open_stream h n.0 opens.0 in
     let s = o.0 in
     let at : stream_of t e.lane first ≡ Some s = ap (option_and_then (slice_get h.streams)) n.1 ∙ o.1 in
-    let clone = clone_of h (Some s) in
+    let clone = clone_of (streams_of h) (Some s) in
     let within = all_at (IsWithin h.read) h.streams n.0 s o.1 (all_within setting older there.1) in
     subst (λ x. Yields setting newer e older number (rule_of x) (unwrap_or (option_map (held h.read) x) [])) (sym at)
     (gives_from setting newer e older number s.rule s.start (s.skip + s.taken) _ legal
-    (flow_made t e number (Cloned n.0) clone there.0 (means ∙ n.2 ∙ opens.1) a (lanes setting older) (ap (clone_of h) o.1) (own_clone h s within))
+    (flow_made t e number (Cloned n.0) clone there.0 (means ∙ n.2 ∙ opens.1) a (lanes setting older) (ap (clone_of (streams_of h)) o.1) (own_clone h s within))
     (clone_offers h s (trail setting (newer ++ e ∷ older)).past.read within o.2
-    (since (λ q. (ms : List Seen) × (q.read ≡ h.read ++ ms)) (reads_on h.read) setting newer (e ∷ older) (every_entry (λ q. (ms : List Seen) × (q.read ≡ h.read ++ ms)) (reads_on h.read) (plan t e.lane e.words) e h ([], sym (append-nil h.read))))))
+    (since (λ q. (ms : List MessageView) × (q.read ≡ h.read ++ ms)) (reads_on h.read) setting newer (e ∷ older) (every_entry (λ q. (ms : List MessageView) × (q.read ≡ h.read ++ ms)) (reads_on h.read) (plan t e.lane e.words) e h ([], sym (append-nil h.read))))))

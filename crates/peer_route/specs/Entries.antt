@@ -1,6 +1,9 @@
 -- What an entry holds, by what its command means; what entries leave; and the histories whose entries are these.
 use Rattle.std.specs.Prelude.{ℕ, zero, suc, ⊤, ◌≡◌, ◌+◌, ◌-◌, ◌^◌, ◌<◌, ◌≤◌, ◌⊎◌, Bool, true, false, if◌then◌else◌, List, [], ◌∷◌, ◌++◌, length, Option, Some, None, Result, Ok, Err, option_map, option_to_list}
-use Rattle.peer_route.specs.{Names.{Front, Seen, IsReadError, Error, Words, Answer, Entry, IoKind}, Parcel.Setting, History.{Event, Took, Shut, Wrote, Fault, Main, OnBus, Named, Past, no_past, after_all}, Issuing.{Posting, issued, parcels, messages_of, puts}, Trail.{Trail, new_names, asked_names, made_names}, Plan.{Plan, Says, Sends, Reads, Closes, Writes, Never, plan}}
+use Rattle.peer_route.specs.{Names.{Front, MessageView, IsReadError, Error, Words, Answer, Entry, IoKind}, Trail.{Setting, Trail, new_names, asked_names, made_names}, Plan.{Plan, Says, Sends, Reads, Closes, Writes, Never, plan}}
+use Rattle.peer_core.specs.{History.{Event, Took, Shut, Wrote, Fault, Main, OnBus, Named, Past, no_past, after_all}, Issuing.puts}
+use Rattle.peer_calls.specs.Issuing.{Posting, parcels, messages_of}
+use Rattle.peer_core.specs.Issuing.{issued}
 
 -- ---- an entry
 
@@ -12,10 +15,11 @@ pub record IsQuiet (e : Entry) : Type 0 where
 
 -- What a read took: the next message, which stands on its own bytes, one position above those before it (no position passes 2^64 - 2); or
 -- why there is none.
-abbrev pub IsRead : ℕ → Option Seen → Answer → Type 0
+abbrev pub IsRead : ℕ → Option MessageView → Answer → Type 0
 IsRead count (Some m) answer = (answer ≡ Answer.Got) × Front m.bytes m (length m.bytes) × (m.position ≡ count + 1) × (count < 2 ^ 64 - 2)
 IsRead count None answer = (error : Error) × (answer ≡ Answer.Closed error) × IsReadError error
 
+-- what is answered where the write of a message failed
 abbrev pub write_fault : Answer
 write_fault = Answer.SendFailed (Error.InputOutput IoKind.WriteFault)
 
@@ -37,7 +41,7 @@ abbrev pub IsInTurn : Past → Entry → Type 0
 IsInTurn h e = IsLater e ⊎ (h.outbox.done ≡ length h.outbox.put)
 
 -- Messages were put; each one that was written was the first that wasn't, and where a write failed, none behind it was.
-pub record IsPut (ms : List Seen) (success : Answer) (e : Entry) : Type 0 where
+pub record IsPut (ms : List MessageView) (success : Answer) (e : Entry) : Type 0 where
   pub put : e.put ≡ ms
   pub answer : e.answer ≡ (if e.failed then write_fault else success)
   pub written : e.written ≤ length ms
@@ -68,7 +72,7 @@ IsEntry t e = IsMeant t.past (plan t e.lane e.words) e
 -- ---- what an entry leaves
 
 -- a read takes a message, or closes the peer where it found none
-abbrev pub read_events : Option Seen → Answer → List Event
+abbrev pub read_events : Option MessageView → Answer → List Event
 read_events (Some m) answer = Took m ∷ []
 read_events None (Answer.Closed error) = Shut error ∷ []
 read_events None answer = []
@@ -87,6 +91,7 @@ abbrev pub postings : Plan → List Posting
 postings (Sends done ds sent) = ds
 postings other = []
 
+-- the event so many times
 abbrev pub repeat : ℕ → Event → List Event
 repeat zero e = []
 repeat (suc n) e = e ∷ repeat n e
@@ -95,6 +100,7 @@ repeat (suc n) e = e ∷ repeat n e
 abbrev pub writes_of : ℕ → Bool → ℕ → List Event
 writes_of written failed count = repeat written Wrote ++ (if failed then repeat (count - written) Fault else [])
 
+-- the events of what was written within the entry
 abbrev pub writes : Entry → List Event
 writes e = writes_of e.written e.failed (length e.put)
 
@@ -102,6 +108,7 @@ writes e = writes_of e.written e.failed (length e.put)
 abbrev pub past_after : Plan → Entry → Past → Past
 past_after pl e h = after_all (writes e) (after_all (puts (postings pl) e.put) (after_all (deeds pl e) h))
 
+-- what the entry leaves, by what its command means
 abbrev pub more_by : Plan → Entry → Trail → Trail
 more_by pl e t = record {
   past = past_after pl e t.past;
@@ -110,6 +117,7 @@ more_by pl e t = record {
   setting = t.setting;
 }
 
+-- what the entry leaves
 abbrev pub more : Trail → Entry → Trail
 more t e = more_by (plan t e.lane e.words) e t
 
@@ -131,8 +139,3 @@ trail setting (e ∷ es) = more (trail setting es) e
 abbrev pub Legal : Setting → List Entry → Type 0
 Legal setting [] = ⊤
 Legal setting (e ∷ es) = IsEntry (trail setting es) e × Legal setting es
-
--- no command that only lanes have which run at once
-abbrev pub IsOfRun : Words → Type 0
-IsOfRun (Words.Live line) = ⊥
-IsOfRun w = ⊤

@@ -1,6 +1,9 @@
 -- What the laws of histories say, in words of their own.
 use Rattle.std.specs.{Prelude.{ℕ, ⊤, ◌≡◌, ◌≢◌, ◌+◌, ◌||◌, ◌⊎◌, true, false, is_some, drop, find, slice_get, Option, Some, None, Bool}, List.AllByRecursion}
-use Rattle.peer_route.specs.{Names.{Seen, Error, Words, CallOp, Answer, Entry, StreamOp}, History.{Call, bears, Past}, Calls.{found, is_gone}, Trail.{Trail, place}, Shown.reply_answer, Plan.{where_named, on_call}}
+use Rattle.peer_route.specs.{Names.{MessageView, Error, Words, CallOp, Answer, Entry, StreamOp}, Trail.{Trail, place}, Shown.reply_answer, Plan.{where_named, on_call}}
+use Rattle.peer_calls.specs.{History.Call, Calls.{found, is_gone}}
+use Rattle.wire_message.specs.Replying.{bears}
+use Rattle.peer_core.specs.History.{Past}
 
 -- the command asks for the answer of the lane's call with this number, by position or not
 abbrev pub IsPoll : ℕ → Words → Type 0
@@ -30,7 +33,7 @@ IsUnknown lane number e = e.lane ≡ lane → (op : CallOp) → e.words ≡ Word
 pub record IsFirstReply (t : Trail) (lane number q : ℕ) (answer : Answer) : Type 0 where
   pub k : ℕ
   pub call : Call
-  pub message : Seen
+  pub message : MessageView
   pub place_before : ℕ
   pub named : place 0 lane number t.names ≡ Some k
   pub made : slice_get t.past.calls k ≡ Some call
@@ -51,7 +54,7 @@ pub record IsCutOff (t : Trail) (lane number : ℕ) (error : Error) : Type 0 whe
   pub first : t.past.closing ≡ Some error
 
 -- a message that comes now says nothing to this call: it bears another serial, or the call has its reply or is over
-abbrev pub IsPast : Past → Seen → Call → Type 0
+abbrev pub IsPast : Past → MessageView → Call → Type 0
 IsPast h m c = (bears c.serial m ≡ false) ⊎ ((is_gone c || is_some (found h.read c)) ≡ true)
 
 -- What a command that asks something of the lane's call with this number means is the same after these entries as after those.

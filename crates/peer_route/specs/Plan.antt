@@ -1,8 +1,14 @@
 -- What each command means, by what the entries before it left: what it is answered and does by itself, and which messages it wants sent;
 -- or that it reads, or closes the peer. All else goes by these few kinds.
 use Rattle.std.specs.Prelude.{ℕ, ◌==◌, ◌&&◌, not, nat_lt, is_none, Bool, true, false, List, [], ◌∷◌, length, slice_get, Option, Some, None, option_map, unwrap_or, Result, Ok, Err, option_and_then, if◌then◌else◌}
-use Rattle.peer_route.specs.{Names.{Seen, Error, Rule, rule_in_bytes, Words, CallOp, StreamOp, Live, Answer, IoKind}, Parcel.Asked, CallMessage.{expects, outgoing_asked, reply_asked, error_asked}, History.{Event, Deed, Made, Making, Plain, Ruled, Cloned, Did, Main, Named, Past}, Calls.{in_flight, poll_answer, by_position, poll_events, drop_answer, drop_events}, Streams.{busy, gave_last, take_answer, take_events, is_open, are_open, asks_bus, close_waits, leaving, gone_events, opening_answer, opening_events}, BusCall.{asking_of, tellings_of, first_of, last_of}, Shown.{shown, shown_drop, shown_take, shown_opening}, Issuing.{Posting, posted}, Trail.{Trail, place, count}}
+use Rattle.peer_route.specs.{Names.{MessageView, Error, Rule, rule_in_bytes, Words, CallOp, StreamOp, Live, Answer, IoKind}, Shown.{shown, shown_drop, shown_take, shown_opening}, Trail.{Trail, place, count}}
+use Rattle.peer_words.specs.CallMessage.{Asked, outgoing_asked, reply_asked, error_asked}
+use Rattle.wire_message.specs.{Outgoing.expects, Polls.by_position}
+use Rattle.peer_core.specs.{History.{Event, Made, Did, Main, Named, Past}, Asked.{in_flight, poll_answer, poll_events, drop_answer, drop_events, busy, take_answer, take_events, is_open, are_open, asks_bus, close_waits, leaving, gone_events, opening_answer, opening_events}, BusCall.{asking_of, tellings_of, first_of, last_of}}
+use Rattle.peer_streams.specs.{History.{Deed, Making, Plain, Ruled, Cloned}, Streams.gave_last}
+use Rattle.peer_calls.specs.Issuing.{Posting, posted}
 
+-- what a command means, one of six kinds
 pub data Plan : Type 0 where
   Says : (answer : Answer) (deeds : List Event) → Plan  -- it is answered so, and does these, in order
   Sends : (deeds : List Event) (ds : List Posting) (sent : List ℕ → Answer) → Plan  -- it does these, whatever becomes of its messages, which are to be sent; once they are, it is answered so, by their serials
@@ -36,10 +42,11 @@ sent_answer waits call serial = if waits then Answer.Called call serial else Ans
 -- The message is to be sent, or is refused.
 abbrev pub sends : Trail → ℕ → Asked → Plan
 sends t lane (Err error) = refuses error
-sends t lane (Ok parcel) = Sends [] (posted false parcel ∷ []) (λ serials. sent_answer (expects (Ok parcel)) (count lane t.names) (first_of serials))
+sends t lane (Ok parcel) = Sends [] (posted false parcel ∷ []) (λ serials. sent_answer (expects parcel) (count lane t.names) (first_of serials))
 
 -- ---- a call
 
+-- what is asked of the call with this number among all
 abbrev pub on_call : Past → CallOp → ℕ → Plan
 on_call h CallOp.Poll k = Says (shown (poll_answer h k)) (poll_events k (poll_answer h k))
 on_call h (CallOp.Before before) k = Says (shown (by_position (poll_answer h k))) (poll_events k (poll_answer h k))
@@ -66,9 +73,10 @@ second_place t lane None = Some None
 second_place t lane (Some number) = option_map Some (place 0 lane number t.streams)
 
 -- the message that the stream with this number gave last
-abbrev pub given_last : Past → ℕ → Option Seen
+abbrev pub given_last : Past → ℕ → Option MessageView
 given_last h k = option_and_then (gave_last h.read) (slice_get h.streams k)
 
+-- what is asked of the stream with this number among all
 abbrev pub on_stream : Trail → ℕ → StreamOp → ℕ → Plan
 on_stream t lane (StreamOp.Reply body) k = sends t lane (reply_asked t.past.name (given_last t.past k) body)
 on_stream t lane (StreamOp.Error name body) k = sends t lane (error_asked t.past.name (given_last t.past k) name body)
@@ -121,6 +129,7 @@ lives h lane line = Never
 
 -- ---- every command
 
+-- what the words of a lane's command mean
 abbrev pub plan : Trail → ℕ → Words → Plan
 plan t lane (Words.Send out) = sends t lane (outgoing_asked t.past.name t.setting.takes_fds out)
 plan t lane Words.Read = reads_by t.past.closing (busy t.past)

@@ -1,22 +1,24 @@
 -- What is shown of what the core answers.
 use Rattle.std.specs.Prelude.{ℕ, List, Option, Some, None, Result, Ok, Err}
-use Rattle.peer_route.specs.Names.{Seen, MessageType, Error, Polled, OpenState, Answer}
+use Rattle.peer_route.specs.Names.{MessageView, MessageType, Error, Polled, OpenState, Answer}
 
 -- an error with a name, or without
-abbrev pub error_answer : Seen → Option (List ℕ) → Answer
+abbrev pub error_answer : MessageView → Option (List ℕ) → Answer
 error_answer m (Some name) = Answer.MethodError m
 error_answer m None = Answer.InvalidReply m.position
 
-abbrev pub reply_by : Seen → MessageType → Answer
+-- what is shown of a reply, by its type
+abbrev pub reply_by : MessageView → MessageType → Answer
 reply_by m MessageType.MethodReturn = Answer.Reply m.position
 reply_by m MessageType.Error = error_answer m m.error_name
 reply_by m other = Answer.InvalidReply m.position
 
-abbrev pub reply_answer : Seen → Answer
+-- what is shown of a reply
+abbrev pub reply_answer : MessageView → Answer
 reply_answer m = reply_by m m.kind
 
 -- what is shown of a poll or a take, by what it gave, or where there is nothing yet
-abbrev pub shown_by : (Seen → Answer) → Answer → Result (Polled Seen) Error → Answer
+abbrev pub shown_by : (MessageView → Answer) → Answer → Result (Polled MessageView) Error → Answer
 shown_by given nothing (Ok (Polled.Now m)) = given m
 shown_by given nothing (Ok Polled.NotYet) = nothing
 shown_by given nothing (Ok Polled.NoneBefore) = Answer.NoneBefore
@@ -25,11 +27,11 @@ shown_by given nothing (Ok Polled.Ended) = Answer.Ended
 shown_by given nothing (Err error) = Answer.Refused error
 
 -- of a poll: a method return's position; an error with its name, or the position of one without
-abbrev pub shown : Result (Polled Seen) Error → Answer
+abbrev pub shown : Result (Polled MessageView) Error → Answer
 shown r = shown_by reply_answer Answer.NotYet r
 
 -- of a take: the item's position
-abbrev pub shown_take : Result (Polled Seen) Error → Answer
+abbrev pub shown_take : Result (Polled MessageView) Error → Answer
 shown_take r = shown_by (λ m. Answer.Item m.position) Answer.Empty r
 
 -- what is shown of a drop

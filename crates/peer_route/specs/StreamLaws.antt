@@ -1,10 +1,14 @@
 -- What the laws of streams, of busy reads and of what was sent say, in words of their own.
 use Rattle.std.specs.Prelude.{ℕ, ⊤, ◌≡◌, ◌==◌, ◌<◌, ◌&&◌, ◌||◌, ◌⊎◌, Bool, true, false, List, [], ◌∷◌, ◌++◌, if◌then◌else◌, length, map, drop, take, slice_get, Option, Some, None, option_and_then, option_map, unwrap_or}
-use Rattle.peer_route.specs.{Names.{Seen, Error, Rule, Words, StreamOp, Answer, Entry}, Parcel.Setting, History.{bears, Stream, rule_of, is_return, Past}, Streams.{accepted, held, runs, limit_of}, Trail.{Trail, place}, Entries.trail}
+use Rattle.peer_route.specs.{Names.{MessageView, Error, Rule, Words, StreamOp, Answer, Entry}, Trail.{Setting, Trail, place}, Entries.trail}
+use Rattle.wire_message.specs.Replying.{bears, is_return}
+use Rattle.peer_streams.specs.{History.{Stream, rule_of}, Streams.{accepted, held, runs, limit_of}}
+use Rattle.peer_core.specs.History.{Past}
 
 -- ---- what streams give
 
-abbrev pub positions : List Seen → List ℕ
+-- the positions of messages
+abbrev pub positions : List MessageView → List ℕ
 positions ms = map (λ m. m.position) ms
 
 -- it asks for the stream's next item, by position or not
@@ -18,6 +22,7 @@ abbrev pub is_take : ℕ → Words → Bool
 is_take number (Words.OfStream n op) = (n == number) && is_take_op op
 is_take number w = false
 
+-- the position that the answer tells, where it is the stream's
 abbrev pub item_by : Bool → Answer → List ℕ
 item_by true (Answer.Item position) = position ∷ []
 item_by b answer = []
@@ -33,24 +38,24 @@ stream_of t lane number = option_and_then (slice_get t.past.streams) (place 0 la
 
 -- What the lane's stream with this number gave by these entries, and behind that what it doesn't have given after this trail, are the
 -- positions of these messages, in order.
-pub record Gives (t : Trail) (lane number : ℕ) (newer : List Entry) (all : List Seen) : Type 0 where
+pub record Gives (t : Trail) (lane number : ℕ) (newer : List Entry) (all : List MessageView) : Type 0 where
   pub stream : Stream
   pub named : stream_of t lane number ≡ Some stream
   pub items : items_given lane number newer ++ positions (held t.past.read stream) ≡ positions all
 
 -- what was read since these entries
-abbrev pub read_since : Setting → List Entry → Past → List Seen
+abbrev pub read_since : Setting → List Entry → Past → List MessageView
 read_since setting older h = drop (length (trail setting older).past.read) h.read
 
 -- The entry made the lane's stream with this number, of this rule or without one, which had `begun` to offer then. It gives that, and then
 -- all that was read since and that the rule accepts.
-abbrev pub Yields : Setting → List Entry → Entry → List Entry → ℕ → Option Rule → List Seen → Type 0
+abbrev pub Yields : Setting → List Entry → Entry → List Entry → ℕ → Option Rule → List MessageView → Type 0
 Yields setting newer e older number rule begun =
     let t = trail setting (newer ++ e ∷ older) in Gives t e.lane number newer (begun ++ accepted rule (read_since setting older t.past))
 
 -- The messages behind the return to this serial, which is the first of these that bears it; none where that is an error, or none
 -- does.
-abbrev pub after_return : ℕ → List Seen → List Seen
+abbrev pub after_return : ℕ → List MessageView → List MessageView
 after_return serial [] = []
 after_return serial (m ∷ ms) = if bears serial m then (if is_return m.kind then ms else []) else after_return serial ms
 
@@ -61,7 +66,7 @@ YieldsAsked setting newer e older number serial rule =
     let t = trail setting (newer ++ e ∷ older) in Gives t e.lane number newer (accepted (Some rule) (after_return serial (read_since setting older t.past)))
 
 -- what it holds
-abbrev pub holds : Trail → ℕ → ℕ → List Seen
+abbrev pub holds : Trail → ℕ → ℕ → List MessageView
 holds t lane number = unwrap_or (option_map (held t.past.read) (stream_of t lane number)) []
 
 -- its rule, where it has one
@@ -137,17 +142,17 @@ pub record HoldsTooMany (h : Past) : Type 0 where
 -- ---- what was sent
 
 -- the messages that these entries, newest first, put; oldest first
-abbrev pub all_put : List Entry → List Seen
+abbrev pub all_put : List Entry → List MessageView
 all_put [] = []
 all_put (e ∷ es) = all_put es ++ e.put
 
 -- those of them that were written within their entries
-abbrev pub all_written : List Entry → List Seen
+abbrev pub all_written : List Entry → List MessageView
 all_written [] = []
 all_written (e ∷ es) = all_written es ++ take e.written e.put
 
 -- Of what was put, by whether a write failed and how many messages were written: those that were sent are just those that were
 -- written, the first of what was put. Where no write failed that is all; where one failed it is that of the message behind them.
-abbrev pub IsPutOf : Bool → ℕ → List Seen → List Seen → Type 0
+abbrev pub IsPutOf : Bool → ℕ → List MessageView → List MessageView → Type 0
 IsPutOf false count put sent = (count ≡ length put) × (sent ≡ put)
 IsPutOf true count put sent = (count < length put) × (sent ≡ take count put)

@@ -1,20 +1,21 @@
 -- What the outside told: the reads are what stands in the source's bytes, and a send fails where the sink's room ends. It
 -- stands apart from `Legal`, over the same history.
 use Rattle.std.specs.{Prelude.{ℕ, ⊤, ◌≡◌, ◌+◌, ◌-◌, ◌<◌, ◌⊎◌, nat_le, nat_lt, if◌then◌else◌, Bool, true, false, List, [], ◌∷◌, ◌++◌, length, drop, take, slice_get, Option, Some, None, Result, Ok, Err}, List.flat_map}
-use Rattle.peer_route.specs.{Names.{Seen, outcome, ending_of, Error, Words, Answer, Entry, IoKind}, Parcel.Setting, History.Past, Plan.{Plan, Reads, plan}, Entries.trail}
+use Rattle.peer_route.specs.{Names.{MessageView, outcome, ending_of, Error, Words, Answer, Entry, IoKind}, Trail.Setting, Plan.{Plan, Reads, plan}, Entries.trail}
+use Rattle.peer_core.specs.History.{Past}
 
 -- ---- the source
 
--- the encodings of messages, one after another
-abbrev pub encodings : List Seen → List ℕ
-encodings ms = flat_map (λ m. m.bytes) ms
+-- the bytes of messages, one after another
+abbrev pub message_bytes : List MessageView → List ℕ
+message_bytes ms = flat_map (λ m. m.bytes) ms
 
 -- the source's bytes without those of the messages read
 abbrev pub left_after : List ℕ → Past → List ℕ
-left_after bytes h = drop (length (encodings h.read)) bytes
+left_after bytes h = drop (length (message_bytes h.read)) bytes
 
 -- what a read took and was answered, by its outcome
-abbrev pub IsOf : Result Seen Error → Entry → Type 0
+abbrev pub IsOf : Result MessageView Error → Entry → Type 0
 IsOf (Ok m) e = (e.read ≡ Some m) × (e.answer ≡ Answer.Got)
 IsOf (Err error) e = (e.read ≡ None) × (e.answer ≡ Answer.Closed error)
 
@@ -41,29 +42,30 @@ abbrev pub CloseTold : Option (Option ℕ) → Words → Answer → Type 0
 CloseTold (Some room) Words.Close answer = answer ≡ Answer.Shut
 CloseTold other w answer = ⊤
 
+-- so it is of each `close`
 abbrev pub ClosesTold : Option (Option ℕ) → List Entry → Type 0
 ClosesTold room [] = ⊤
 ClosesTold room (e ∷ es) = CloseTold room e.words e.answer × ClosesTold room es
 
 -- What the sink got of what was put, by how many messages were written. Where no write failed, all of them were, and it got their
--- encodings. Where one failed, it is that of the first message that wasn't written: the sink got the encodings of those before it,
+-- bytes. Where one failed, it is that of the first message that wasn't written: the sink got the bytes of those before it,
 -- and of it a proper prefix.
-abbrev pub IsSentBytes : Bool → ℕ → List Seen → List ℕ → Type 0
-IsSentBytes false count ms sent = (count ≡ length ms) × (sent ≡ encodings ms)
+abbrev pub IsSentBytes : Bool → ℕ → List MessageView → List ℕ → Type 0
+IsSentBytes false count ms sent = (count ≡ length ms) × (sent ≡ message_bytes ms)
 IsSentBytes true count ms sent =
-    (broken : Seen) × (n : ℕ) × (slice_get ms count ≡ Some broken) × (n < length broken.bytes) × (sent ≡ encodings (take count ms) ++ take n broken.bytes)
+    (broken : MessageView) × (n : ℕ) × (slice_get ms count ≡ Some broken) × (n < length broken.bytes) × (sent ≡ message_bytes (take count ms) ++ take n broken.bytes)
 
 -- How many of the messages, from the first on, end within so many bytes; one that ends exactly there does.
-abbrev pub fitting : ℕ → List Seen → ℕ
+abbrev pub fitting : ℕ → List MessageView → ℕ
 fitting room [] = 0
 fitting room (m ∷ ms) = if nat_le (length m.bytes) room then fitting (room - length m.bytes) ms + 1 else 0
 
 -- Where the sink says that no write fails, none failed. Where it has room for so many bytes, those of the messages were written that end
 -- within them, and a write failed exactly where some message ends past them: it is that of the first such.
-abbrev pub AreWritten : Option (Option ℕ) → Bool → ℕ → List Seen → Type 0
+abbrev pub AreWritten : Option (Option ℕ) → Bool → ℕ → List MessageView → Type 0
 AreWritten None failed count ms = ⊤
 AreWritten (Some None) failed count ms = failed ≡ false
-AreWritten (Some (Some room)) failed count ms = (count ≡ fitting room ms) × (failed ≡ nat_lt room (length (encodings ms)))
+AreWritten (Some (Some room)) failed count ms = (count ≡ fitting room ms) × (failed ≡ nat_lt room (length (message_bytes ms)))
 
 -- So it is of all messages that were put so far, at each entry.
 abbrev pub WritesTold : Setting → Option (Option ℕ) → List Entry → Type 0

@@ -1,6 +1,16 @@
 -- Whose the calls and the streams of a peer are: each lane numbers its own; and what its entries leave of it.
 use Rattle.std.specs.Prelude.{ℕ, zero, suc, ◌+◌, ◌==◌, Bool, true, false, if◌then◌else◌, List, [], ◌∷◌, ◌++◌, Option, Some, None}
-use Rattle.peer_route.specs.{Names.Seen, Parcel.Setting, History.{Event, OfLane, Adds, Purpose, Made, Past}, Issuing.Posting}
+use Rattle.peer_route.specs.Names.{MessageView}
+use Rattle.peer_core.specs.History.{Event, Made, Past}
+use Rattle.peer_calls.specs.{History.{OfLane, Adds, Purpose}, Issuing.Posting}
+
+-- What a peer is given at its start: whether it stands on a message bus; its unique name, if it has one; whether its sink takes file
+-- descriptors; and how many messages a stream may hold, if that is set.
+pub record Setting : Type 0 where
+  pub bus : Bool
+  pub name : Option (List ℕ)
+  pub takes_fds : Bool
+  pub queue : Option ℕ
 
 -- For each call, or each stream, by its number among all, the lane that it belongs to; none where its message failed, or where the
 -- call is the peer's own.
@@ -35,22 +45,24 @@ pub record Trail : Type 0 where
 abbrev pub owner : ℕ → Bool → Option ℕ
 owner lane failed = if failed then None else Some lane
 
+-- whose the call is that a message makes, if it makes one
 abbrev pub call_names : ℕ → Bool → Purpose → Names
 call_names lane failed (OfLane true) = owner lane failed ∷ []
 call_names lane failed (OfLane false) = []
 call_names lane failed own = None ∷ []
 
 -- whose the calls are that these messages make: a lane's call is the lane's, one of the peer's own is nobody's
-abbrev pub new_names : ℕ → Bool → List Posting → List Seen → Names
+abbrev pub new_names : ℕ → Bool → List Posting → List MessageView → Names
 new_names lane failed (d ∷ ds) (m ∷ ms) = call_names lane failed d.purpose ++ new_names lane failed ds ms
 new_names lane failed ds ms = []
 
+-- whose the stream is for which a message asks the bus, if it asks for one
 abbrev pub stream_names : ℕ → Bool → Purpose → Names
 stream_names lane failed (Adds rule asked) = owner lane failed ∷ []
 stream_names lane failed other = []
 
 -- whose the streams are for which these messages ask the bus
-abbrev pub asked_names : ℕ → Bool → List Posting → List Seen → Names
+abbrev pub asked_names : ℕ → Bool → List Posting → List MessageView → Names
 asked_names lane failed (d ∷ ds) (m ∷ ms) = stream_names lane failed d.purpose ++ asked_names lane failed ds ms
 asked_names lane failed ds ms = []
 

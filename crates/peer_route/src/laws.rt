@@ -1,28 +1,30 @@
 //! Laws of every history, each the contract of a function that does nothing.
 ghost use Rattle.std.specs.Prelude.{◌≡◌, ◌≢◌, ◌↔◌, ◌⊎◌, ◌+◌, ◌<◌, ℕ, max, length, map, List, Option, [], ◌∷◌, ◌++◌, IfSome, Some, None, true, false, slice_get, Ok, unwrap_or, if◌then◌else◌};
 ghost use Rattle.std.specs.List.{AllByRecursion};
-ghost use Rattle.wire_message.specs.Front.{Seen};
+ghost use Rattle.wire_message.specs.Front.{MessageView};
 ghost use Rattle.wire_message.specs.declared.error.Error.{Error};
-ghost use Rattle.peer_route.specs.declared.answer.Entry.{Entry};
-ghost use Rattle.peer_route.specs.History.{Event, Took, Spent, Made, Making, Ruled, Did, Main, Deed, Asked, is_serial, Stream, is_subscribed, raised, Past, after, after_all};
-ghost use Rattle.peer_route.specs.Calls.{pending, poll_answer};
-ghost use Rattle.peer_route.specs.Streams.{runs, limit_answer, take_answer};
+ghost use Rattle.peer_words.specs.declared.answer.Entry.{Entry};
+ghost use Rattle.peer_core.specs.History.{Event, Took, Spent, Made, Did, Main, Past, after, after_all};
+ghost use Rattle.peer_streams.specs.History.{Making, Ruled, Deed, Asked, Stream, is_subscribed, raised};
+ghost use Rattle.wire_message.specs.Replying.{is_serial};
+ghost use Rattle.peer_core.specs.Asked.{pending, poll_answer, limit_answer, take_answer};
+ghost use Rattle.peer_streams.specs.Streams.{runs};
 ghost use Rattle.rule_match.specs.Rule.{Rule};
 ghost use Rattle.rule_match.specs.Bytes.{rule_in_bytes};
 ghost use Rattle.rule_match.specs.contracts.rule.MatchRulePartialEq.TheImpl.{ghosts as of_rules};
-ghost use Rattle.peer_route.specs.Rules.{is_same, usual};
-ghost use Rattle.peer_route.specs.Parcel.{Setting};
-ghost use Rattle.peer_route.specs.BusCall.{last_of};
-ghost use Rattle.peer_route.specs.Issuing.{Posting, refusal, drawn};
+ghost use Rattle.peer_streams.specs.Rules.{is_same, usual};
+ghost use Rattle.peer_route.specs.Trail.{Setting, place};
+ghost use Rattle.peer_core.specs.BusCall.{last_of};
+ghost use Rattle.peer_calls.specs.Issuing.{Posting};
+ghost use Rattle.peer_core.specs.Issuing.{refusal, drawn};
 ghost use Rattle.peer_route.specs.Plan.{Says, Sends, plan, second_place};
-ghost use Rattle.peer_route.specs.Trail.{place};
-ghost use Rattle.peer_route.specs.Entries.{trail, Legal, IsAtOnce, IsOfRun, write_fault};
+ghost use Rattle.peer_route.specs.Entries.{trail, Legal, IsAtOnce, write_fault};
+ghost use Rattle.peer_words.specs.OfRun.{IsOfRun};
 ghost use Rattle.peer_route.specs.StreamLaws.{Yields, YieldsAsked, holds, rule_at, is_unstream, closes_stream, stays_open, says_denied, IsNoStream, is_take, IsEnded, IsLast, IsDrained, HoldsTooMany, IsPutOf, all_put, all_written};
 ghost use Rattle.peer_route.specs.Laws.{IsPoll, IsFinal, IsReplyAt, IsUnknown, IsFirstReply, IsCutOff, IsPast, SameCall, is_by_position, IsNothingYet, told_serial};
 
-use crate::answer::Answer;
-use crate::words::{CallOp, Live, StreamOp, Words};
-use crate::writer::Writer;
+use peer_calls::Writer;
+use peer_words::{Answer, CallOp, Live, StreamOp, Words};
 
 /// A call is answered once. Once a lane's poll of a number, by position or not, gave a reply, valid or not, or the closing
 /// error, each later poll or drop of that number by that lane is refused, as of a call that was never made. Histories are
@@ -48,8 +50,8 @@ pub fn answered_by_the_first()
 /// above that number. So of two messages the one that arrived first has the lesser `Sequence`.
 #[tactic(auto, using(crate::proofs::Read::at_place, crate::proofs::Read::in_order))]
 pub fn arrival_order_is_the_order_of_positions()
-    ensures position { (setting : Setting) (es : List Entry) (i : ℕ) (m : Seen) → Legal setting es → slice_get (trail setting es).past.read i ≡ Some m → m.position ≡ i + 1 }
-    ensures order { (setting : Setting) (es : List Entry) (i j : ℕ) (m n : Seen) → Legal setting es → i < j → slice_get (trail setting es).past.read i ≡ Some m → slice_get (trail setting es).past.read j ≡ Some n → m.position < n.position }
+    ensures position { (setting : Setting) (es : List Entry) (i : ℕ) (m : MessageView) → Legal setting es → slice_get (trail setting es).past.read i ≡ Some m → m.position ≡ i + 1 }
+    ensures order { (setting : Setting) (es : List Entry) (i j : ℕ) (m n : MessageView) → Legal setting es → i < j → slice_get (trail setting es).past.read i ≡ Some m → slice_get (trail setting es).past.read j ≡ Some n → m.position < n.position }
 {}
 
 /// A call is answered with the error that closed the peer only where no reply came: no message read after the call was put
@@ -63,8 +65,8 @@ pub fn answered_by_the_closing_error()
 /// has its reply or is over. One that bears a serial that isn't pending changes the answer of no call at all.
 #[tactic(auto, using(crate::proofs::Read::took_other, crate::proofs::Read::took_late))]
 pub fn reply_changes_no_other()
-    ensures other { (p : Past) (m : Seen) (k : ℕ) → IfSome (slice_get p.calls k) (IsPast p m) → poll_answer (after (Took m) p) k ≡ poll_answer p k }
-    ensures late { (p : Past) (m : Seen) (serial : ℕ) → p.closing ≡ None → is_serial m.reply_serial serial ≡ true → pending p serial ≡ false → (k : ℕ) → poll_answer (after (Took m) p) k ≡ poll_answer p k }
+    ensures other { (p : Past) (m : MessageView) (k : ℕ) → IfSome (slice_get p.calls k) (IsPast p m) → poll_answer (after (Took m) p) k ≡ poll_answer p k }
+    ensures late { (p : Past) (m : MessageView) (serial : ℕ) → p.closing ≡ None → is_serial m.reply_serial serial ≡ true → pending p serial ≡ false → (k : ℕ) → poll_answer (after (Took m) p) k ≡ poll_answer p k }
 {}
 
 /// A poll or a drop changes what is asked of no other call: neither of another number of its lane, nor of another lane.
@@ -144,7 +146,7 @@ pub fn main_capacity()
 {}
 
 /// Two rules are one exactly where each part of them is the same, and that is what `==` decides.
-#[tactic(auto, using(crate::proofs::SameRule::one_where_same, crate::proofs::SameRule::code_same))]
+#[tactic(auto, using(peer_streams::proofs::SameRule::one_where_same, peer_streams::proofs::SameRule::code_same))]
 pub fn rules_are_one_where_equal()
     ensures equal { (r s : Rule) → is_same r s ≡ true ↔ (r ≡ s) }
     ensures code { (r s : Rule) → of_rules.eq r s ≡ is_same r s }
@@ -221,7 +223,7 @@ pub fn busy_where_a_stream_is_full()
 /// right behind them.
 pub fn put_is_what_was_sent()
     ensures put { (setting : Setting) (es : List Entry) → Legal setting es → (trail setting es).past.outbox.put ≡ all_put es }
-    ensures serial { (setting : Setting) (older : List Entry) (e : Entry) (serial : ℕ) → Legal setting (e ∷ older) → told_serial e.answer ≡ Some serial → IsAtOnce e → (last_of (map (λ (m : Seen). m.serial) e.put) ≡ Some serial) × (e.written ≡ length e.put) }
+    ensures serial { (setting : Setting) (older : List Entry) (e : Entry) (serial : ℕ) → Legal setting (e ∷ older) → told_serial e.answer ≡ Some serial → IsAtOnce e → (last_of (map (λ (m : MessageView). m.serial) e.put) ≡ Some serial) × (e.written ≡ length e.put) }
     ensures sent { (setting : Setting) (es : List Entry) → Legal setting es → AllByRecursion IsAtOnce es → AllByRecursion (λ (e : Entry). IsOfRun e.words) es
         → IsPutOf (trail setting es).past.outbox.failed (trail setting es).past.outbox.written (trail setting es).past.outbox.put (all_written es) }
 {}
@@ -242,7 +244,7 @@ pub fn name_stays()
 /// "Header Fields", `SENDER`).
 #[tactic(auto, using(crate::proofs::Sent::bear_the_name))]
 pub fn messages_bear_the_name()
-    ensures { (setting : Setting) (older : List Entry) (e : Entry) → Legal setting (e ∷ older) → AllByRecursion (λ (m : Seen). m.sender ≡ (trail setting older).past.name) e.put }
+    ensures { (setting : Setting) (older : List Entry) (e : Entry) → Legal setting (e ∷ older) → AllByRecursion (λ (m : MessageView). m.sender ≡ (trail setting older).past.name) e.put }
 {}
 
 /// A refused command leaves all as it was: what the entries leave is the same as before it. So it is of one that closes streams where

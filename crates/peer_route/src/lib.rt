@@ -1,30 +1,8 @@
-//! The core of a peer: which call a reply answers, what closes it, what is to be sent, and the history that says so.
+//! What a peer's commands mean, the histories that say so, and the laws that hold of them.
 #![tactic(auto)]
 
-mod answer;
-mod body_word;
-mod calls;
-mod hex;
-mod issuing;
 mod laws;
-mod leaving;
-mod letter;
-mod letter_body;
-mod opening;
-mod owner_rule;
-mod polled;
-mod progress;
-mod queue;
-mod route;
-mod route_streams;
-mod streams;
-mod words;
-mod writer;
 
-pub use answer::{Answer, Entry, Posts};
-pub use body_word::{body_words_are_read, read_body};
-pub use calls::PendingMethodCalls;
-pub use hex::{hex_byte, read_hex};
 pub use laws::{
     answered_by_the_closing_error, answered_by_the_first, answered_once,
     arrival_order_is_the_order_of_positions, asked_stream_gives_what_comes_behind_the_return,
@@ -38,12 +16,10 @@ pub use laws::{
     stream_denied_for_good, stream_ends_once, stream_gives_all, stream_gives_the_first_error,
     unstream_changes_no_other,
 };
-pub use leaving::Spent;
-pub use letter::Letter;
-pub use opening::{Opened, Opening, Opens};
-pub use polled::Polled;
-pub use progress::{OpenState, Progress};
-pub use route::{Issued, Route};
-pub use streams::MessageStream;
-pub use words::{CallFlags, CallOp, Command, Live, Outgoing, OutgoingKind, StreamOp, Words};
-pub use writer::Writer;
+pub use peer_core::{
+    Issued, MessageStream, Opened, Opening, Opens, PendingMethodCalls, Polled, Route, Spent,
+};
+pub use peer_words::{
+    Answer, CallFlags, CallOp, Command, Entry, Live, Outgoing, OutgoingKind, Posts, StreamOp,
+    Words, body_words_are_read, hex_byte, read_body, read_hex,
+};

@@ -1,11 +1,12 @@
 -- How the program ends, by how its input was read.
 use Rattle.std.proofs.{Common.{◌≡◌, ◌≢◌, ℕ, ◌<◌, refl, sym, ◌∙◌, subst, arith, Bool, true, false, List, [], append-nil, length, take, Option, Some, None, IfSome, if◌then◌else◌, ◌⊎◌, inl, inr, Ok, Err, is_ok, ap, ◌∷◌, ◌++◌, map, reverse}, Math.Bool.and-false, Math.Seq.take-length, lemmas.Bool.Decides.nat_tests, KnownBytes.{Appends-nil, Appends-trans}, lemmas.List.reverse-append}
 use Rattle.std.specs.{Prelude.{nat_le, codes, decimal, IsTrue}, Io.KnownBytes.Appends, List.AllByRecursion}
-use Rattle.peer_run.specs.{Names.{MayRise, Part, Script, line_count, is_bus, name_of, IsWithin, script_of, given, script_from, command_of, transcript_text, Entry, Command, Seen}, Program.{Says, Said, SaidPart, SaidNot, Ends, Whole, Failed, NoMemory, Tells, IsRefusal, is_run, Prints, Transcript, Usage, Refusal, InputFault, IsFront, decided, memory_text, source_bytes, source_breaks}, Runs.{Inlet, Outlet, Holds, Runs}}
+use Rattle.peer_run.specs.{Names.{MayRise, Part, Script, line_count, is_bus, name_of, IsWithin, script_of, given, script_from, command_of, transcript_text, Entry, Command, MessageView}, Program.{Says, Said, SaidPart, SaidNot, Ends, Whole, Failed, NoMemory, Tells, IsRefusal, is_run, Prints, Transcript, Usage, Refusal, InputFault, IsFront, decided, memory_text, source_bytes, source_breaks}, Runs.{Inlet, Outlet, Holds, Runs}}
 use Rattle.wire_framing.specs.{Memory.{told_bytes, told_stop}, declared.memory.Piece.Piece, declared.memory.Piece.TheVariants.{Bytes, Fault}}
 use Rattle.peer_script.specs.declared.kind.PeerKind.{PeerKind}
 use Rattle.peer_script.proofs.{Grammar.text_of_reading, Readings.reading_of_text}
-use Rattle.peer_route.specs.{Parcel.Setting, Entries.{Legal, IsOfRun, trail}, Told.{IsSentBytes, IsCutAt}}
+use Rattle.peer_route.specs.{Trail.Setting, Entries.{Legal, trail}, Told.{IsSentBytes, IsCutAt}}
+use Rattle.peer_words.specs.OfRun.{IsOfRun}
 use Rattle.peer_route.proofs.{Plans.legal_from, Read.{once, by_the_first, by_the_closing_error}, Yields.{yields, opened_yields, asked_yields, clone_yields}, ClosedStreams.{closed_for_good, denied_for_good}, Drained.{ended, busy_there}}
 use Rattle.peer_route.proofs.Sent as sends
 
@@ -103,7 +104,7 @@ of_run (x ∷ es) (c ∷ cs) e all =
     subst (AllByRecursion (λ (e : Entry). IsOfRun e.words)) (sym (reverse-append (x ∷ []) es)) (all_append (λ (e : Entry). IsOfRun e.words) (reverse es) (x ∷ []) older (subst (λ (k : Command). IsOfRun k.words) (sym front) all.0, tt))
 
 -- what a sink that was empty holds, and the room that it had
-sent_of : (room : Option ℕ) (held : List ℕ) (failed : Bool) (count : ℕ) (ms : List Seen) → Holds (Some room) [] (Some held) failed count ms → IsSentBytes failed count ms held × IsCutAt (Some room) failed held
+sent_of : (room : Option ℕ) (held : List ℕ) (failed : Bool) (count : ℕ) (ms : List MessageView) → Holds (Some room) [] (Some held) failed count ms → IsSentBytes failed count ms held × IsCutAt (Some room) failed held
 sent_of room held failed count ms (sent, is, bytes, cut) = let same : sent ≡ held = cc in (subst (IsSentBytes failed count ms) same bytes, subst (IsCutAt (Some room) failed) same cut)
 
 -- a run over what a script gives, in memory, is a run of the script

@@ -1,7 +1,9 @@
 -- How messages that wait are written: one after another, up to one whose write fails.
 use Rattle.std.proofs.{Common.{◌≡◌, ◌≢◌, ℕ, ◌+◌, ◌-◌, ◌≤◌, ◌<◌, ◌⊎◌, inl, inr, zero, suc, refl, sym, ◌∙◌, ap, subst, arith, IfSome, Bool, true, false, List, [], ◌∷◌, ◌++◌, length, drop, slice_get, get_or, Option, Some, None, Result, Ok, Err, is_ok, append-nil}, lemmas.Option.{slice_get_within, slice_get_cases}}
-use Rattle.peer_run.specs.{Names.{Seen, Error, MayRise, Sends, is_unsupported, Writing, IoKind, Writer}, Stands.AreTaken, Runs.{Outlet, Flushed, IsReady}}
-use Rattle.peer_route.specs.{History.{Past, Event, Wrote, Fault, worse, after, after_all}, Left.{View, Left}, Entries.{repeat, writes_of}}
+use Rattle.peer_run.specs.{Names.{MessageView, Error, MayRise, Sends, is_unsupported, Writing, IoKind, Writer}, Stands.AreTaken, Runs.{Outlet, Flushed, IsReady}}
+use Rattle.peer_core.specs.{History.{Past, Event, Wrote, Fault, after, after_all}, Left.{View, Left}}
+use Rattle.peer_calls.specs.History.{worse}
+use Rattle.peer_route.specs.Entries.{repeat, writes_of}
 use Rattle.peer_run.proofs.Sinks.{sinks_wrote, sinks_failed, faults_leave}
 
 -- ---- a send never lowers the count of faults
@@ -34,29 +36,29 @@ send_grows faults old new false None result writing bytes held held' room room' 
 -- ---- the message that waits
 
 -- it is the first of the core's that isn't done
-pub record Waits (core : View) (m : Seen) : Type 0 where
+pub record Waits (core : View) (m : MessageView) : Type 0 where
   pub there : slice_get core.outbox core.done ≡ Some m
   pub within : core.done < length core.outbox
 
-pub waits_by : (inside core : View) (k : ℕ) (found : Option Seen) (m : Seen) → inside ≡ core → k ≡ inside.done → found ≡ slice_get inside.outbox k → found ≡ Some m → Waits core m
+pub waits_by : (inside core : View) (k : ℕ) (found : Option MessageView) (m : MessageView) → inside ≡ core → k ≡ inside.done → found ≡ slice_get inside.outbox k → found ≡ Some m → Waits core m
 waits_by inside core k found m same at is some =
     let there = ap (λ (v : View). slice_get v.outbox v.done) (sym same) ∙ ap (slice_get inside.outbox) (sym at) ∙ sym is ∙ some in
     record { there = there; within = slice_get_within core.outbox core.done m there }
 
-pub past_end : (ms : List Seen) (k : ℕ) → slice_get ms k ≡ None → length ms ≤ k
+pub past_end : (ms : List MessageView) (k : ℕ) → slice_get ms k ≡ None → length ms ≤ k
 past_end ms k none = by (slice_get_cases ms k).1
   where
-    by : ((x : Seen) × (k < length ms) × (slice_get ms k ≡ Some x) × (get_or ms k x ≡ x)) ⊎ ((length ms ≤ k) × (slice_get ms k ≡ None)) → length ms ≤ k
+    by : ((x : MessageView) × (k < length ms) × (slice_get ms k ≡ Some x) × (get_or ms k x ≡ x)) ⊎ ((length ms ≤ k) × (slice_get ms k ≡ None)) → length ms ≤ k
     by (inl there) = let is = sym none ∙ there.2 in absurd (cc)
     by (inr past) = past.0
 
-taken_first : (takes : Bool) (ms : List Seen) (n : ℕ) (m : Seen) → slice_get ms n ≡ Some m → AreTaken takes ms → is_unsupported m.unix_fds takes ≡ false
+taken_first : (takes : Bool) (ms : List MessageView) (n : ℕ) (m : MessageView) → slice_get ms n ≡ Some m → AreTaken takes ms → is_unsupported m.unix_fds takes ≡ false
 taken_first takes [] n m there all = absurd (cc)
-taken_first takes (x ∷ ms) zero m there all = let same : x ≡ m = cc in subst (λ (y : Seen). is_unsupported y.unix_fds takes ≡ false) same all.0
+taken_first takes (x ∷ ms) zero m there all = let same : x ≡ m = cc in subst (λ (y : MessageView). is_unsupported y.unix_fds takes ≡ false) same all.0
 taken_first takes (x ∷ ms) (suc n) m there all = taken_first takes ms n m there all.1
 
 -- the sink takes its descriptors
-taken_at : (takes : Bool) (ms : List Seen) (from n at : ℕ) (m : Seen) → at ≡ from + n → slice_get ms at ≡ Some m → AreTaken takes (drop from ms) → is_unsupported m.unix_fds takes ≡ false
+taken_at : (takes : Bool) (ms : List MessageView) (from n at : ℕ) (m : MessageView) → at ≡ from + n → slice_get ms at ≡ Some m → AreTaken takes (drop from ms) → is_unsupported m.unix_fds takes ≡ false
 taken_at takes ms zero n at m is there all = taken_first takes ms at m there all
 taken_at takes [] (suc from) n at m is there all = absurd (cc)
 taken_at takes (x ∷ ms) (suc from) n zero m is there all = absurd (omega (arith, is))
@@ -68,13 +70,13 @@ wrote_keeps zero p = (refl, refl)
 wrote_keeps (suc n) p = wrote_keeps n (after Wrote p)
 
 -- It is the first that isn't done, and may be written to this sink.
-pub record IsNext (q : Past) (m : Seen) (takes : Bool) : Type 0 where
+pub record IsNext (q : Past) (m : MessageView) (takes : Bool) : Type 0 where
   pub fine : q.outbox.writer ≡ Writer.Fine
   pub unfailed : q.outbox.failed ≡ false
   pub there : slice_get q.outbox.put q.outbox.done ≡ Some m
   pub taken : is_unsupported m.unix_fds takes ≡ false
 
-pub is_next : (first core : View) (p : Past) (m : Seen) (at_first takes : Bool) → Left first p → Left core (after_all (repeat (core.done - first.done) Wrote) p) → first.done ≤ core.done → core.outbox ≡ first.outbox
+pub is_next : (first core : View) (p : Past) (m : MessageView) (at_first takes : Bool) → Left first p → Left core (after_all (repeat (core.done - first.done) Wrote) p) → first.done ≤ core.done → core.outbox ≡ first.outbox
     → takes ≡ at_first → AreTaken at_first (drop first.done first.outbox) → Waits core m → IsReady p.outbox → IsNext (after_all (repeat (core.done - first.done) Wrote) p) m takes
 is_next first core p m at_first takes before left more outbox same taken waits (inl all) =
     let long : length core.outbox ≡ length p.outbox.put = ap length (outbox ∙ before.outbox) in
@@ -91,7 +93,7 @@ is_next first core p m at_first takes before left more outbox same taken waits (
 
 -- ---- it is written, or its write fails
 
-pub flush_wrote : (A : Type 0) (start first now after_it : Outlet) (q : Past) (m : Seen) (r : Result A Error) (before writing : Writing) (takes : Bool) → IsNext q m takes
+pub flush_wrote : (A : Type 0) (start first now after_it : Outlet) (q : Past) (m : MessageView) (r : Result A Error) (before writing : Writing) (takes : Bool) → IsNext q m takes
     → true ≡ is_ok r → Sends r writing m.bytes now.held after_it.held now.room after_it.room now.faults after_it.faults
     → Flushed start first now q.outbox false before → Flushed start first after_it (after Wrote q).outbox false writing
 flush_wrote A start first now after_it q m (Ok done) before writing takes is went s f = record {
@@ -101,7 +103,7 @@ flush_wrote A start first now after_it q m (Ok done) before writing takes is wen
 }
 flush_wrote A start first now after_it q m (Err error) before writing takes is went s f = absurd (cc)
 
-pub flush_failed : (A : Type 0) (start first now after_it : Outlet) (q : Past) (m : Seen) (r : Result A Error) (before writing : Writing) (takes : Bool) (n : ℕ) → IsNext q m takes → q.outbox.done + suc n ≤ length q.outbox.put
+pub flush_failed : (A : Type 0) (start first now after_it : Outlet) (q : Past) (m : MessageView) (r : Result A Error) (before writing : Writing) (takes : Bool) (n : ℕ) → IsNext q m takes → q.outbox.done + suc n ≤ length q.outbox.put
     → false ≡ is_ok r → r ≢ Err Error.Memory → Sends r writing m.bytes now.held after_it.held now.room after_it.room now.faults after_it.faults
     → Flushed start first now q.outbox false before → Flushed start first after_it (after_all (repeat (suc n) Fault) q).outbox true writing
 flush_failed A start first now after_it q m (Ok done) before writing takes n is within went never s f = absurd (cc)

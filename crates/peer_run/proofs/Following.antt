@@ -1,6 +1,7 @@
 -- A peer and a source follow one entry more, by its plan.
 use Rattle.std.proofs.{Common.{◌≡◌, ℕ, ◌-◌, ◌^◌, ◌≤◌, refl, sym, ◌∙◌, ap, subst, arith, List, [], ◌∷◌, ◌++◌, length, Option, Some, None, IfSome, Bool, map, reverse}, lemmas.List.append-nil}
-use Rattle.peer_route.specs.{Parcel.Setting, Streams.all_given, Left.Left, Plan.{Plan, Says, plan}, Entries.{IsMeant, IsAtOnce, trail, first_past, past_after, more_by}, Told.{ReadTold, ReadsTold, left_after}, History.{Past, no_past}}
+use Rattle.peer_route.specs.{Trail.Setting, Plan.{Plan, Says, plan}, Entries.{IsMeant, IsAtOnce, trail, first_past, past_after, more_by}, Told.{ReadTold, ReadsTold, left_after}}
+use Rattle.peer_core.specs.{Asked.all_given, Left.Left, History.{Past, no_past}}
 use Rattle.peer_run.specs.{Names.{Answer, Entry, Words, Command, Writing, Fine, command_of}, Stands.{PeerView, Stands}, Runs.{Inlet, Reads, IsRest, Follows, quiet, Outlet, Sinks, Running, Runs}}
 use Rattle.peer_route.proofs.Kept.{at_start}
 use Rattle.peer_run.proofs.Sinks.{got_all, sinks_start}

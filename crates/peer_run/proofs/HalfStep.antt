@@ -1,7 +1,7 @@
 -- What the halves of a run keep from command to command.
 use Rattle.std.proofs.{Common.{ℕ, ◌≡◌, ◌≢◌, ◌-◌, ◌^◌, ◌≤◌, ◌<◌, ◌⊎◌, inl, inr, refl, sym, ◌∙◌, ap, subst, arith, nat_le, if◌then◌else◌, Bool, true, false, List, [], length, take, drop, Option, Some, None, IfSome, IfOk, IfErr, Result, Ok, Err}, lemmas.List.{take_all, drop_all}, lemmas.Bool.cases_lt, lemmas.Bool.Decides.nat_tests}
 use Rattle.std.specs.Io.KnownBytes.{Consumes}
-use Rattle.peer_run.specs.{Names.{Takes, HasCause, Spends, spent, Seen, Front, IsReadRefusal, Error, IoKind}, Runs.IsRest}
+use Rattle.peer_run.specs.{Names.{Takes, HasCause, Spends, spent, MessageView, Front, IsReadRefusal, Error, IoKind}, Runs.IsRest}
 use Rattle.wire_framing.specs.Kept.{TakesKept, rest_of}
 
 -- ---- a read
@@ -12,7 +12,7 @@ all_own got own (inl none) is = sym (is ∙ take_all (spent got) got (rw none (o
 all_own got own (inr fits) is = sym (is ∙ take_all (spent got) got fits)
 
 -- a message's bytes, and no more, are gone from the source
-pub takes_own : (seq : ℕ) (result : Result Seen Error) (kept' : List ℕ) (left left' : Option (List ℕ)) (stop stop' : Option Bool) (faults faults' : ℕ) (asked asked' : Option ℕ)
+pub takes_own : (seq : ℕ) (result : Result MessageView Error) (kept' : List ℕ) (left left' : Option (List ℕ)) (stop stop' : Option Bool) (faults faults' : ℕ) (asked asked' : Option ℕ)
     → seq ≤ 2 ^ 64 - 1 → (seq ≡ 2 ^ 64 - 1 → result ≡ Err (Error.InputOutput IoKind.Ended))
     → (seq < 2 ^ 64 - 1 → TakesKept result [] kept' left left' stop stop' faults faults' asked asked')
     → IfOk result (λ m. Front m.bytes m (length m.bytes) × (m.position ≡ seq))
@@ -28,13 +28,13 @@ none_behind : (got : List ℕ) → (got ≡ []) ⊎ (length got ≤ spent got) �
 none_behind got (inl none) = drop_all (spent got) got (rw none (omega arith))
 none_behind got (inr fits) = drop_all (spent got) got fits
 
-rest_is : (result : Result Seen Error) (all : List ℕ) → result ≢ Err Error.Memory → rest_of result all ≡ drop (spent all) all
+rest_is : (result : Result MessageView Error) (all : List ℕ) → result ≢ Err Error.Memory → rest_of result all ≡ drop (spent all) all
 rest_is (Ok m) all never = refl
 rest_is (Err Error.Memory) all never = absurd (never refl)
 rest_is (Err e) all never = refl
 
 -- nothing is kept again, but for want of memory
-pub keeps_none : (seq : ℕ) (result : Result Seen Error) (kept' : List ℕ) (left left' : Option (List ℕ)) (stop stop' : Option Bool) (faults faults' : ℕ) (asked asked' : Option ℕ)
+pub keeps_none : (seq : ℕ) (result : Result MessageView Error) (kept' : List ℕ) (left left' : Option (List ℕ)) (stop stop' : Option Bool) (faults faults' : ℕ) (asked asked' : Option ℕ)
     → result ≢ Err Error.Memory → seq ≤ 2 ^ 64 - 1 → (seq ≡ 2 ^ 64 - 1 → kept' ≡ [])
     → (seq < 2 ^ 64 - 1 → TakesKept result [] kept' left left' stop stop' faults faults' asked asked')
     → kept' ≡ []
@@ -59,7 +59,7 @@ behind_it seq bytes left' some below e = e ∙ ap (λ n. Some (drop n bytes)) (s
 
 -- what a read that found no message took
 rest_below : (seq : ℕ) (e : Error) (kept' bytes : List ℕ) (left' : Option (List ℕ)) (stop stop' : Option Bool) (faults faults' : ℕ) (asked asked' : Option ℕ) → 0 < seq → seq < 2 ^ 64 - 1
-    → e ≢ Error.Memory → IsReadRefusal e → Spends {A = Seen} (Err e) (Some bytes) left' → TakesKept (Err e) [] kept' (Some bytes) left' stop stop' faults faults' asked asked'
+    → e ≢ Error.Memory → IsReadRefusal e → Spends {A = MessageView} (Err e) (Some bytes) left' → TakesKept (Err e) [] kept' (Some bytes) left' stop stop' faults faults' asked asked'
     → IsRest (Some e) (seq - 1) bytes stop left' stop'
 rest_below seq (Error.InputOutput IoKind.Fault) kept' bytes left' stop stop' faults faults' asked asked' some below never refusal spends takes = tt
 rest_below seq (Error.InputOutput IoKind.Ended) kept' bytes left' stop stop' faults faults' asked asked' some below never refusal spends takes =
@@ -76,7 +76,7 @@ rest_last seq bytes left' stop stop' last still stays = (still ∙ ap (λ n. Som
 
 rest_told : (seq : ℕ) (e : Error) (kept' bytes : List ℕ) (left' : Option (List ℕ)) (stop stop' : Option Bool) (faults faults' : ℕ) (asked asked' : Option ℕ) → 0 < seq → seq ≤ 2 ^ 64 - 1
     → e ≢ Error.Memory → IsReadRefusal e → (seq ≡ 2 ^ 64 - 1 → (left' ≡ Some bytes) × (stop' ≡ stop) × (e ≡ Error.InputOutput IoKind.Ended))
-    → (seq < 2 ^ 64 - 1 → Spends {A = Seen} (Err e) (Some bytes) left') → (seq < 2 ^ 64 - 1 → TakesKept (Err e) [] kept' (Some bytes) left' stop stop' faults faults' asked asked')
+    → (seq < 2 ^ 64 - 1 → Spends {A = MessageView} (Err e) (Some bytes) left') → (seq < 2 ^ 64 - 1 → TakesKept (Err e) [] kept' (Some bytes) left' stop stop' faults faults' asked asked')
     → IsRest (Some e) (seq - 1) bytes stop left' stop'
 rest_told seq e kept' bytes left' stop stop' faults faults' asked asked' some within never refusal last spends takes =
     elim (cases_lt seq (2 ^ 64 - 1)) as (λ _. IsRest (Some e) (seq - 1) bytes stop left' stop') [
@@ -87,7 +87,7 @@ rest_told seq e kept' bytes left' stop stop' faults faults' asked asked' some wi
           subst (λ o. IsRest (Some o) (seq - 1) bytes stop left' stop') (sym x.2) (rest_last seq bytes left' stop stop' at x.0 x.1)
     ]
 
-pub rest_read : (seq : ℕ) (result : Result Seen Error) (kept' : List ℕ) (left left' : Option (List ℕ)) (stop stop' : Option Bool) (faults faults' : ℕ) (asked asked' : Option ℕ)
+pub rest_read : (seq : ℕ) (result : Result MessageView Error) (kept' : List ℕ) (left left' : Option (List ℕ)) (stop stop' : Option Bool) (faults faults' : ℕ) (asked asked' : Option ℕ)
     → 0 < seq → seq ≤ 2 ^ 64 - 1 → (seq ≡ 2 ^ 64 - 1 → (left' ≡ left) × (stop' ≡ stop) × (result ≡ Err (Error.InputOutput IoKind.Ended)))
     → (seq < 2 ^ 64 - 1 → Spends result left left') → (seq < 2 ^ 64 - 1 → TakesKept result [] kept' left left' stop stop' faults faults' asked asked')
     → IfErr result (λ e. IsReadRefusal e × HasCause e faults faults')

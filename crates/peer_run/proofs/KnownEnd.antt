@@ -1,8 +1,11 @@
 -- No peer of a history is closed by a handle that isn't known.
 use Rattle.std.proofs.Common.{◌≡◌, sym, ◌∙◌, Bool, true, false, List, [], ◌∷◌, ℕ, Option, Some, None}
 use Rattle.std.specs.List.{AllByRecursion}
-use Rattle.peer_run.specs.Names.{Seen, IsReadError, Error, Answer, Entry, Words}
-use Rattle.peer_route.specs.{Parcel.Setting, History.{Event, Shut, Past, first_of, after}, Issuing.{Posting, puts}, Trail.Trail, Plan.{plan, Says, Sends, Reads, Closes, Writes, Never, Plan}, Entries.{IsMeant, IsRead, Legal, trail, deeds, postings, read_events, first_past}}
+use Rattle.peer_run.specs.Names.{MessageView, IsReadError, Error, Answer, Entry, Words}
+use Rattle.peer_route.specs.{Trail.{Setting, Trail}, Plan.{plan, Says, Sends, Reads, Closes, Writes, Never, Plan}, Entries.{IsMeant, IsRead, Legal, trail, deeds, postings, read_events, first_past}}
+use Rattle.peer_core.specs.{History.{Event, Shut, Past, after}, Issuing.puts}
+use Rattle.wire_message.specs.Plain.{first_of}
+use Rattle.peer_calls.specs.Issuing.{Posting}
 use Rattle.peer_route.proofs.Plans.{AreDeeds, along_entry, IsFair, fair, are_deeds}
 
 abbrev Ends : Event → Type 0
@@ -25,7 +28,7 @@ deeds_end [] a = tt
 deeds_end (Shut error ∷ es) a = absurd a.0
 deeds_end (e ∷ es) a = (tt, deeds_end es a.1)
 
-puts_end : (ds : List Posting) (ms : List Seen) → AllByRecursion Ends (puts ds ms)
+puts_end : (ds : List Posting) (ms : List MessageView) → AllByRecursion Ends (puts ds ms)
 puts_end [] ms = tt
 puts_end (d ∷ ds) [] = tt
 puts_end (d ∷ ds) (m ∷ ms) = (tt, puts_end ds ms)
@@ -34,7 +37,7 @@ not_read : (error : Error) → IsReadError error → error ≡ Error.UnknownHand
 not_read Error.UnknownHandle is e = is
 not_read error is e = cc
 
-read_ends : (n : ℕ) (m : Option Seen) (a : Answer) → IsRead n m a → AllByRecursion Ends (read_events m a)
+read_ends : (n : ℕ) (m : Option MessageView) (a : Answer) → IsRead n m a → AllByRecursion Ends (read_events m a)
 read_ends n (Some m) a is = (tt, tt)
 read_ends n None (Answer.Closed error) (e, is, read) = (let same : error ≡ e = cc in λ unknown. not_read e read (sym same ∙ unknown), tt)
 read_ends n None a is = tt

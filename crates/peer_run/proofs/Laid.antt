@@ -1,12 +1,17 @@
 -- What a command did before anything of it is written, by the kind of its plan.
 use Rattle.std.proofs.{Common.{◌≡◌, ℕ, ◌≤◌, ◌<◌, ◌⊎◌, inl, inr, refl, sym, ◌∙◌, ap, subst, arith, Bool, true, false, if◌then◌else◌, List, [], ◌∷◌, ◌++◌, length, None, Result, Ok, Err, append_assoc}, lemmas.List.append-nil}
-use Rattle.peer_run.specs.{Names.{Seen, Error, Words, Writer, Answer, Entry, Acted}, Stands.{PeerView, Keeps, Did, DidSend, AreTaken, call_owners, stream_owners}}
-use Rattle.peer_route.specs.{History.{Event, Took, Shut, Outbox, Past, after, after_all}, Issuing.{Posting, issued, parcels, messages_of, put_of, puts}, Parcel.message_of, Trail.{Trail, new_names, asked_names, made_names}, Plan.{Plan, Says, Sends, plan}, Entries.{IsMeant, IsQuiet, IsSending, deeds, postings, writes, past_after, write_fault, IsInTurn}}
-use Rattle.peer_route.proofs.{Plans.{IsDeed, AreDeeds, IsFair, fair, are_deeds}, Kept.{kept_by, deeds_are, puts_are, deed_outbox}, Issues.put_puts, Sent.put_none}
+use Rattle.peer_run.specs.{Names.{MessageView, Error, Words, Writer, Answer, Entry, Acted}, Stands.{PeerView, Keeps, Did, DidSend, AreTaken, call_owners, stream_owners}}
+use Rattle.peer_core.specs.{History.{Event, Took, Shut, Past, after, after_all}, Issuing.puts}
+use Rattle.peer_calls.specs.{History.Outbox, Issuing.{Posting, parcels, messages_of}}
+use Rattle.peer_core.specs.Issuing.{issued, put_of}
+use Rattle.wire_message.specs.Outgoing.{message_of}
+use Rattle.peer_route.specs.{Trail.{Trail, new_names, asked_names, made_names}, Plan.{Plan, Says, Sends, plan}, Entries.{IsMeant, IsQuiet, IsSending, deeds, postings, writes, past_after, write_fault, IsInTurn}}
+use Rattle.peer_route.proofs.{Plans.{IsDeed, AreDeeds, IsFair, fair, are_deeds}, Kept.{kept_by, deeds_are, puts_are, deed_outbox}, Sent.put_none}
+use Rattle.peer_core.proofs.Issues.{put_puts}
 use Rattle.peer_route.proofs.Kept as kept
 
 -- The messages were put, and wait; the past that the core keeps then; and what the entry will be.
-pub record Laid (t : Trail) (mid : PeerView) (lane : ℕ) (pl : Plan) (a : Acted) (q : Past) (ms : List Seen) : Type 0 where
+pub record Laid (t : Trail) (mid : PeerView) (lane : ℕ) (pl : Plan) (a : Acted) (q : Past) (ms : List MessageView) : Type 0 where
   pub keeps : Keeps mid q
   pub leads : (e : Entry) → e.put ≡ ms → past_after pl e t.past ≡ after_all (writes e) q
   pub outbox : (last : ℕ) × (q.outbox ≡ record t.past.outbox { put = t.past.outbox.put ++ ms; last = last })
@@ -94,7 +99,7 @@ outbox_puts (d ∷ ds) (serial ∷ serials) h =
     (more.0, more.1 ∙ ap (λ ms. record h.outbox { put = ms; last = more.0 }) (append_assoc h.outbox.put (message_of d.parcel serial ∷ []) (messages_of (parcels ds) serials)))
 
 abbrev pub LaidSome : Trail → PeerView → ℕ → Plan → Acted → Type 0
-LaidSome t mid lane pl a = (q : Past) × (ms : List Seen) × Laid t mid lane pl a q ms
+LaidSome t mid lane pl a = (q : Past) × (ms : List MessageView) × Laid t mid lane pl a q ms
 
 laid_sends : (t : Trail) (mid : PeerView) (lane : ℕ) (done : List Event) (ds : List Posting) (sent : List ℕ → Answer) (a : Acted) (r : Result (List ℕ) Error) → AreDeeds done → issued (after_all done t.past) ds ≡ r
     → DidSend mid t lane done ds sent a r → LaidSome t mid lane (Sends done ds sent) a

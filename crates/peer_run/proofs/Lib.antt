@@ -1,4 +1,3 @@
-pub mod Letters
 pub mod HalfStep
 pub mod ReadStep
 pub mod Numbers

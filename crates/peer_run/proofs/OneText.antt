@@ -1,7 +1,7 @@
 -- What is printed of a script's text is one text.
 use Rattle.std.proofs.{Common.{◌≡◌, ℕ, ◌+◌, refl, sym, ◌∙◌, ap, subst, arith, Bool, true, false, List, [], ◌∷◌, ◌++◌, length, take, map, reverse, Option, Some, None, Result, Ok, Err, length-append}, lemmas.List.{length-take-le, map-append, reverse-reverse, reverse-append}}
-use Rattle.peer_run.specs.{Names.{Seen, Entry, Script, script_of, transcript_text, command_of}, Program.{setting_of, source_bytes, source_breaks, IsTranscript, IsWhole, Tells}}
-use Rattle.peer_route.specs.{Entries.trail, Told.{IsSentBytes, IsCutAt, WritesTold, encodings}, Parcel.Setting}
+use Rattle.peer_run.specs.{Names.{MessageView, Entry, Script, script_of, transcript_text, command_of}, Program.{setting_of, source_bytes, source_breaks, IsTranscript, IsWhole, Tells}}
+use Rattle.peer_route.specs.{Entries.trail, Told.{IsSentBytes, IsCutAt, WritesTold, message_bytes}, Trail.Setting}
 use Rattle.peer_script.proofs.Readings.{reading_of_text}
 use Rattle.peer_route.proofs.Kept.{at_start}
 use Rattle.peer_run.proofs.Transcripts.{same_history}
@@ -13,18 +13,18 @@ map_reverse (e ∷ es) =
     ∙ sym (reverse-append (command_of e ∷ []) (map command_of es))
 
 -- the bytes sent are decided by how many messages were written, and by the room
-same_bytes : (room : Option ℕ) (failed : Bool) (count : ℕ) (ms : List Seen) (a b : List ℕ) → (room ≡ None → failed ≡ false)
+same_bytes : (room : Option ℕ) (failed : Bool) (count : ℕ) (ms : List MessageView) (a b : List ℕ) → (room ≡ None → failed ≡ false)
     → IsSentBytes failed count ms a → IsSentBytes failed count ms b → IsCutAt (Some room) failed a → IsCutAt (Some room) failed b → a ≡ b
 same_bytes room false count ms a b never x y p q = x.1 ∙ sym y.1
 same_bytes None true count ms a b never x y p q = let wrong : true ≡ false = never refl in cc
 same_bytes (Some k) true count ms a b never (m, n, at, less, is) (m', n', at', less', is') p q =
     let one : Some m ≡ Some m' = sym at ∙ at' in
     let same : m ≡ m' = cc in
-    let front = encodings (take count ms) in
+    let front = message_bytes (take count ms) in
     let long : length a ≡ length front + n = ap length is ∙ length-append front (take n m.bytes) ∙ ap (λ i. length front + i) (length-take-le n m.bytes (omega (arith, less))) in
     let long' : length b ≡ length front + n' = ap length is' ∙ length-append front (take n' m'.bytes) ∙ ap (λ i. length front + i) (length-take-le n' m'.bytes (omega (arith, less'))) in
     let cut : n ≡ n' = omega (arith, long, long', p, q) in
-    is ∙ ap (λ i. front ++ take i m.bytes) cut ∙ ap (λ (x : Seen). front ++ take n' x.bytes) same ∙ sym is'
+    is ∙ ap (λ i. front ++ take i m.bytes) cut ∙ ap (λ (x : MessageView). front ++ take n' x.bytes) same ∙ sym is'
 
 same_entries : (s : Script) (text other : List ℕ) (p : Tells s text) (q : Tells s other) → p.entries ≡ q.entries
 same_entries s text other p q =

@@ -1,7 +1,9 @@
 -- A command that is no read and no `close` is one entry more.
 use Rattle.std.proofs.{Common.{◌≡◌, ◌≢◌, ℕ, ◌+◌, ◌-◌, ◌^◌, ◌≤◌, ◌<◌, ◌⊎◌, inl, inr, refl, sym, ◌∙◌, ap, subst, arith, ◌||◌, ◌&&◌, Bool, true, false, if◌then◌else◌, List, [], ◌∷◌, ◌++◌, length, drop, Option, Some, None, append_assoc, length-append}, Math.Bool.or-false, Math.Seq.drop-append_seam}
-use Rattle.peer_run.specs.{Names.{Seen, Error, Writing, asked_again, Words, Answer, Entry, Acted, Writer}, Stands.{PeerView, Stands, Did, AreTaken, call_owners, stream_owners}, Runs.{Inlet, Outlet, Sinks, IsReady, IsFine, IsRest, Flushed, Moves, SourceMoves, is_close, is_failed_write, asked_by, Follows, Running}}
-use Rattle.peer_route.specs.{Parcel.Setting, History.{Outbox, Fault, Past, after_all}, Streams.all_given, Left.Left, Trail.{Trail, new_names, asked_names, made_names}, Plan.{Plan, Says, Sends, plan}, Entries.{trail, writes, writes_of, postings, deeds, past_after, write_fault}, Told.{ReadTold, CloseTold, encodings}}
+use Rattle.peer_run.specs.{Names.{MessageView, Error, Writing, asked_again, Words, Answer, Entry, Acted, Writer}, Stands.{PeerView, Stands, Did, AreTaken, call_owners, stream_owners}, Runs.{Inlet, Outlet, Sinks, IsReady, IsFine, IsRest, Flushed, Moves, SourceMoves, is_close, is_failed_write, asked_by, Follows, Running}}
+use Rattle.peer_route.specs.{Trail.{Setting, Trail, new_names, asked_names, made_names}, Plan.{Plan, Says, Sends, plan}, Entries.{trail, writes, writes_of, postings, deeds, past_after, write_fault}, Told.{ReadTold, CloseTold, message_bytes}}
+use Rattle.peer_calls.specs.History.{Outbox}
+use Rattle.peer_core.specs.{History.{Fault, Past, after_all}, Asked.all_given, Left.Left}
 use Rattle.peer_route.proofs.{Plans.are_writes, Kept.kept_by, Given.given_along, Writers.fine_unfailed}
 use Rattle.peer_run.proofs.{Sinks.{sinks_put, got_all}, Following.{IsLeft, follows_by, reads_by, all_done}, Laid.{Laid, laid, plan_does}}
 use Rattle.peer_route.proofs.Kept as kept
@@ -33,13 +35,13 @@ trail_setting setting (e ∷ es) = trail_setting setting es
 -- where the same was read, and closed the peer, the same is left
 still_left : (bytes : List ℕ) (stop : Option Bool) (g h : Past) (now : Inlet) → h.closing ≡ g.closing → h.read ≡ g.read → IsLeft bytes stop g now.left now.stop → IsLeft bytes stop h now.left now.stop
 still_left bytes stop g h now closing read rest =
-    subst (λ o. IsRest o (length h.read) (drop (length (encodings h.read)) bytes) stop now.left now.stop) (sym closing)
-    (subst (λ (ms : List Seen). IsRest g.closing (length ms) (drop (length (encodings ms)) bytes) stop now.left now.stop) (sym read) rest)
+    subst (λ o. IsRest o (length h.read) (drop (length (message_bytes h.read)) bytes) stop now.left now.stop) (sym closing)
+    (subst (λ (ms : List MessageView). IsRest g.closing (length ms) (drop (length (message_bytes ms)) bytes) stop now.left now.stop) (sym read) rest)
 
 -- ---- the outbox
 
 -- nothing waits, or the writer is fine
-ready_by : (setting : Setting) (es : List Entry) (old mid : PeerView) (lane : ℕ) (pl : Plan) (a : Acted) (q : Past) (ms : List Seen) → Follows setting old es → Laid (trail setting es) mid lane pl a q ms → IsReady q.outbox
+ready_by : (setting : Setting) (es : List Entry) (old mid : PeerView) (lane : ℕ) (pl : Plan) (a : Acted) (q : Past) (ms : List MessageView) → Follows setting old es → Laid (trail setting es) mid lane pl a q ms → IsReady q.outbox
 ready_by setting es old mid lane pl a q ms f l = subst IsReady (sym l.outbox.1) (by l.ready)
   where
     by : (ms ≡ []) ⊎ ((trail setting es).past.outbox.writer ≡ Writer.Fine) → let o = (trail setting es).past.outbox in IsReady (record o { put = o.put ++ ms; last = l.outbox.0 })
@@ -66,7 +68,7 @@ pub record Written (start now end : Outlet) (mid new : PeerView) (takes : Bool) 
   pub given : new.given ≡ mid.given
   pub asked : end.closes ≡ now.closes
 
-abbrev pub entry_of : ℕ → Words → Acted → List Seen → ℕ → Bool → Entry
+abbrev pub entry_of : ℕ → Words → Acted → List MessageView → ℕ → Bool → Entry
 entry_of lane w a put n failed = record { lane = lane; words = w; answer = if failed then write_fault else a.answer; read = None; put = put; written = n; failed = failed }
 
 at_most : (failed : Bool) (n k : ℕ) → (failed ≡ false → n ≡ k) → (failed ≡ true → n < k) → n ≤ k
@@ -77,7 +79,7 @@ module _ (setting : Setting) (start_in now_in : Inlet) (start now end : Outlet) 
     (unread : w ≢ Words.Read) (unclosed : w ≢ Words.Close) (r : Running setting start_in start old now_in now writing es) (did : Did mid (trail setting es) lane (plan (trail setting es) lane w) a)
     (wrote : Written start now end mid new setting.takes_fds writing writing' n failed)
     (names : new.names ≡ old.names ++ call_owners lane failed a.makes) (streams : new.streams ≡ old.streams ++ stream_owners lane failed a.makes) where
-  with_laid : (q : Past) (ms : List Seen) → Laid (trail setting es) mid lane (plan (trail setting es) lane w) a q ms
+  with_laid : (q : Past) (ms : List MessageView) → Laid (trail setting es) mid lane (plan (trail setting es) lane w) a q ms
       → Running setting start_in start new now_in end writing' (entry_of lane w a (drop (length old.core.outbox) mid.core.outbox) n failed ∷ es)
   with_laid q ms l =
       let t = trail setting es in

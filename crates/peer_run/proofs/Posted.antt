@@ -1,9 +1,12 @@
 -- What a command's messages leave once they are put.
+use Rattle.peer_core.specs.{History.{calls_of, Event, after_all}, Issuing.{issued_each, issued, put_each, IssuesBy}, Asked.all_given, Left.{View, Left}, BusCall.first_of}
 use Rattle.std.proofs.Common.{if◌then◌else◌, ◌≡◌, ◌≢◌, ℕ, zero, suc, ◌+◌, ◌-◌, ◌≤◌, refl, sym, ◌∙◌, ap, subst, arith, inl, inr, ◌&&◌, not, Bool, true, false, List, [], ◌∷◌, ◌++◌, length, drop, take, Option, Some, None, Ok, Err}
 use Rattle.std.specs.List.{slice_get}
-use Rattle.peer_run.specs.{Names.{Seen, Draft, are_misplaced, Error, is_unsupported, has_descriptors, Answer, Datum, Acted, Makes}, Stands.{IsCarried, MakesParcel, named_asked, PeerView, Keeps, Did, DidSend, plain, call_owners, stream_owners}}
-use Rattle.wire_message.specs.{Draft.built, Signed.fds_field, Primary.head_of, Drafts.{reply_draft, error_draft}, declared.kind.MessageType.MessageType}
-use Rattle.peer_route.specs.{declared.route.Issued.Issued, Parcel.{Parcel, Asked, message_of, sent_by}, declared.words.Outgoing.Outgoing, declared.words.OutgoingKind.OutgoingKind, CallMessage.{expects, values_in, words_refusal, name_refusal, asked_of, member_asked, outgoing_draft, outgoing_asked, reply_asked, error_asked, sent_from}, History.{Event, OfLane, after_all}, Streams.all_given, Left.{View, Left}, Issuing.{Posting, posted, issued_of, issued_each, issued, put_each, IssuesBy}, Trail.{Trail, Names, count, call_names, made_names}, Plan.{Sends, sends, sent_answer}, BusCall.first_of}
+use Rattle.peer_run.specs.{Names.{MessageView, BuilderView, are_misplaced, Error, is_unsupported, has_descriptors, Answer, Datum, Acted, Makes}, Stands.{named_asked, PeerView, Keeps, Did, DidSend, plain, call_owners, stream_owners}}
+use Rattle.peer_words.specs.{Made.{IsCarried, MakesParcel}, CallMessage.{Asked, values_in, words_refusal, name_refusal, asked_of, member_asked, outgoing_builder, outgoing_asked, reply_asked, error_asked, sent_from}, declared.words.Outgoing.Outgoing, declared.words.OutgoingKind.OutgoingKind}
+use Rattle.wire_message.specs.{BuilderView.built, Signed.fds_field, Primary.head_of, NewBuilders.{reply_builder, error_builder}, declared.kind.MessageType.MessageType, Outgoing.{OutgoingMessageView, message_of, sent_by, expects}}
+use Rattle.peer_calls.specs.{declared.posting.Issued.Issued, History.OfLane, Issuing.{Posting, posted, issued_of}}
+use Rattle.peer_route.specs.{Trail.{Trail, Names, count, call_names, made_names}, Plan.{Sends, sends, sent_answer}}
 use Rattle.peer_run.proofs.Quietly.{nothing_made, nothing_did}
 use Rattle.peer_route.specs.Entries as entries
 
@@ -32,7 +35,7 @@ acted_by (Some k) number serial = record { answer = Answer.Called number serial;
 acted_by None number serial = plain (Answer.Sent serial)
 
 -- the sink takes its descriptors
-pub carried : (parcel : Parcel) (takes : Bool) (serial : ℕ) → IsCarried takes parcel → is_unsupported (message_of parcel serial).unix_fds takes ≡ false
+pub carried : (parcel : OutgoingMessageView) (takes : Bool) (serial : ℕ) → IsCarried takes parcel → is_unsupported (message_of parcel serial).unix_fds takes ≡ false
 unfolding message_of built
 carried parcel takes serial (inl none) = ap (λ fds. is_unsupported (fds_field fds) takes) none
 carried parcel takes serial (inr can) = ap (λ b. is_unsupported (fds_field parcel.fds) b) can ∙ never (has_descriptors (fds_field parcel.fds))
@@ -48,11 +51,11 @@ acted_so : (waits : Bool) (calls number other serial : ℕ) → number ≡ other
 acted_so true calls number other serial e = ap (λ n. Answer.Called n serial) e
 acted_so false calls number other serial e = refl
 
-put_one : (t : Trail) (v : PeerView) (new : View) (lane : ℕ) (names : Names) (parcel : Parcel) (i : Issued) → v.core ≡ new → v.given ≡ all_given t.past → names ≡ t.names → IsCarried t.setting.takes_fds parcel
+put_one : (t : Trail) (v : PeerView) (new : View) (lane : ℕ) (names : Names) (parcel : OutgoingMessageView) (i : Issued) → v.core ≡ new → v.given ≡ all_given t.past → names ≡ t.names → IsCarried t.setting.takes_fds parcel
     → IssuesBy (λ i serials. i ∷ [] ≡ issued_each t.past (posted false parcel ∷ []) serials) (Unit {0}) (Left new) (posted false parcel ∷ []) t.past (Ok i)
     → Did v t lane (sends t lane (Ok parcel)) (acted_by i.call (count lane names) i.serial)
 put_one t v new lane names parcel i core given same can (serials, is, tells, left) =
-    subst (DidSend v t lane [] (posted false parcel ∷ []) (λ serials. sent_answer (expects (Ok parcel)) (count lane t.names) (first_of serials)) (acted_by i.call (count lane names) i.serial)) (sym is) (by serials tells (subst (λ c. Left c (put_each (posted false parcel ∷ []) serials t.past)) (sym core) left))
+    subst (DidSend v t lane [] (posted false parcel ∷ []) (λ serials. sent_answer (expects parcel) (count lane t.names) (first_of serials)) (acted_by i.call (count lane names) i.serial)) (sym is) (by serials tells (subst (λ c. Left c (put_each (posted false parcel ∷ []) serials t.past)) (sym core) left))
   where
     owns : (waits : Bool) (failed : Bool) (calls number serial : ℕ) → (call_owners lane failed (acted_by (call_number waits calls) number serial).makes ≡ call_names lane failed (OfLane waits) ++ [])
         × (stream_owners lane failed (acted_by (call_number waits calls) number serial).makes ≡ [])
@@ -60,28 +63,28 @@ put_one t v new lane names parcel i core given same can (serials, is, tells, lef
     owns false failed calls number serial = (refl, refl)
 
     by : (serials : List ℕ) → i ∷ [] ≡ issued_each t.past (posted false parcel ∷ []) serials → Left v.core (put_each (posted false parcel ∷ []) serials t.past)
-        → DidSend v t lane [] (posted false parcel ∷ []) (λ serials. sent_answer (expects (Ok parcel)) (count lane t.names) (first_of serials)) (acted_by i.call (count lane names) i.serial) (Ok serials)
+        → DidSend v t lane [] (posted false parcel ∷ []) (λ serials. sent_answer (expects parcel) (count lane t.names) (first_of serials)) (acted_by i.call (count lane names) i.serial) (Ok serials)
     by [] tells left = cc
     by (serial ∷ serials) tells left =
-        let one : i ≡ issued_of t.past (posted false parcel) serial = cc in
-        let waits = expects (Ok parcel) in
-        subst (λ (x : Issued). DidSend v t lane [] (posted false parcel ∷ []) (λ serials. sent_answer (expects (Ok parcel)) (count lane t.names) (first_of serials)) (acted_by x.call (count lane names) x.serial) (Ok (serial ∷ serials))) (sym one) (
+        let one : i ≡ issued_of (calls_of t.past) (posted false parcel) serial = cc in
+        let waits = expects parcel in
+        subst (λ (x : Issued). DidSend v t lane [] (posted false parcel ∷ []) (λ serials. sent_answer (expects parcel) (count lane t.names) (first_of serials)) (acted_by x.call (count lane names) x.serial) (Ok (serial ∷ serials))) (sym one) (
           acted_so waits (length t.past.calls) (count lane names) (count lane t.names) serial (ap (count lane) same),
           record { left = left; given = given },
           (carried parcel t.setting.takes_fds serial can, tt),
           λ failed. owns waits failed (length t.past.calls) (count lane names) serial,
         )
 
--- the letter that was made, sent by the peer, is what is asked for
-pub letter_named : (old name : Option (List ℕ)) (asked : Asked) (parcel : Parcel) → old ≡ name → asked ≡ Ok parcel → Ok (sent_by old false parcel) ≡ named_asked name asked
-letter_named old name asked parcel same e = ap (λ n. Ok (sent_by n false parcel)) same ∙ ap (named_asked name) (sym e)
+-- the message that was made, sent by the peer, is what is asked for
+pub message_named : (old name : Option (List ℕ)) (asked : Asked) (parcel : OutgoingMessageView) → old ≡ name → asked ≡ Ok parcel → Ok (sent_by old false parcel) ≡ named_asked name asked
+message_named old name asked parcel same e = ap (λ n. Ok (sent_by n false parcel)) same ∙ ap (named_asked name) (sym e)
 
-pub put_did : (t : Trail) (v : PeerView) (new : View) (lane : ℕ) (names : Names) (old : Option (List ℕ)) (asked : Asked) (parcel : Parcel) (i : Issued) → old ≡ t.past.name → asked ≡ Ok parcel
+pub put_did : (t : Trail) (v : PeerView) (new : View) (lane : ℕ) (names : Names) (old : Option (List ℕ)) (asked : Asked) (parcel : OutgoingMessageView) (i : Issued) → old ≡ t.past.name → asked ≡ Ok parcel
     → v.core ≡ new → v.given ≡ all_given t.past → names ≡ t.names → IsCarried t.setting.takes_fds parcel
     → IssuesBy (λ i serials. i ∷ [] ≡ issued_each t.past (posted false (sent_by old false parcel) ∷ []) serials) (Unit {0}) (Left new) (posted false (sent_by old false parcel) ∷ []) t.past (Ok i)
     → Did v t lane (sends t lane (named_asked t.past.name asked)) (acted_by i.call (count lane names) i.serial)
 put_did t v new lane names old asked parcel i named is core given same can issues =
-    subst (λ x. Did v t lane (sends t lane x) (acted_by i.call (count lane names) i.serial)) (letter_named old t.past.name asked parcel named is) (put_one t v new lane names (sent_by old false parcel) i core given same can issues)
+    subst (λ x. Did v t lane (sends t lane x) (acted_by i.call (count lane names) i.serial)) (message_named old t.past.name asked parcel named is) (put_one t v new lane names (sent_by old false parcel) i core given same can issues)
 
 -- ---- why messages aren't put
 
@@ -92,7 +95,7 @@ unput_did v t lane done ds sent error none keeps refuses =
     subst (DidSend v t lane done ds sent (plain (entries.unsent error))) (sym refuses) (refl, keeps, nothing_made lane done none)
 
 -- a lane's message isn't put
-pub unsent_did : {A : Type 0} (tells : A → List ℕ → Type 0) (old new : View) (v : PeerView) (t : Trail) (lane : ℕ) (parcel : Parcel) (error : Error) → v.core ≡ new → Left old t.past → v.given ≡ all_given t.past
+pub unsent_did : {A : Type 0} (tells : A → List ℕ → Type 0) (old new : View) (v : PeerView) (t : Trail) (lane : ℕ) (parcel : OutgoingMessageView) (error : Error) → v.core ≡ new → Left old t.past → v.given ≡ all_given t.past
     → IssuesBy tells (new ≡ old) (Left new) (posted false parcel ∷ []) t.past (Err error) → error ≢ Error.Memory → Did v t lane (sends t lane (Ok parcel)) (plain (entries.unsent error))
 unsent_did tells old new v t lane parcel Error.Memory core left given is never = absurd (never refl)
 unsent_did tells old new v t lane parcel error core left given is never =
@@ -100,36 +103,36 @@ unsent_did tells old new v t lane parcel error core left given is never =
 
 -- ---- whose name a message bears
 
-asked_named : (name : Option (List ℕ)) (refusal : Option Error) (values : Option (List Datum)) (misplaced unsupported : Bool) (draft : Draft) (fds : List ℕ)
-    → ((vs : List Datum) → sent_by name false (record { draft = draft; values = vs; fds = fds }) ≡ record { draft = sent_from name draft; values = vs; fds = fds })
-    → named_asked name (asked_of refusal values misplaced unsupported draft fds) ≡ asked_of refusal values misplaced unsupported (sent_from name draft) fds
-asked_named name (Some error) values misplaced unsupported draft fds same = refl
-asked_named name None None misplaced unsupported draft fds same = refl
-asked_named name None (Some values) true unsupported draft fds same = refl
-asked_named name None (Some values) false true draft fds same = refl
-asked_named name None (Some values) false false draft fds same = ap Ok (same values)
+asked_named : (name : Option (List ℕ)) (refusal : Option Error) (values : Option (List Datum)) (misplaced unsupported : Bool) (builder : BuilderView) (fds : List ℕ)
+    → ((vs : List Datum) → sent_by name false (record { builder = builder; values = vs; fds = fds }) ≡ record { builder = sent_from name builder; values = vs; fds = fds })
+    → named_asked name (asked_of refusal values misplaced unsupported builder fds) ≡ asked_of refusal values misplaced unsupported (sent_from name builder) fds
+asked_named name (Some error) values misplaced unsupported builder fds same = refl
+asked_named name None None misplaced unsupported builder fds same = refl
+asked_named name None (Some values) true unsupported builder fds same = refl
+asked_named name None (Some values) false true builder fds same = refl
+asked_named name None (Some values) false false builder fds same = ap Ok (same values)
 
-pub reply_named : (name : Option (List ℕ)) (m : Option Seen) (word : Option (List ℕ)) → named_asked name (reply_asked None m word) ≡ reply_asked name m word
+pub reply_named : (name : Option (List ℕ)) (m : Option MessageView) (word : Option (List ℕ)) → named_asked name (reply_asked None m word) ≡ reply_asked name m word
 reply_named name None word = refl
 reply_named name (Some m) word =
-    asked_named name None (values_in word) false false (sent_from None (reply_draft MessageType.MethodReturn (head_of m))) [] (λ vs. refl)
+    asked_named name None (values_in word) false false (sent_from None (reply_builder MessageType.MethodReturn (head_of m))) [] (λ vs. refl)
 
-pub error_named : (name : Option (List ℕ)) (m : Option Seen) (text : List ℕ) (word : Option (List ℕ)) → named_asked name (error_asked None m text word) ≡ error_asked name m text word
+pub error_named : (name : Option (List ℕ)) (m : Option MessageView) (text : List ℕ) (word : Option (List ℕ)) → named_asked name (error_asked None m text word) ≡ error_asked name m text word
 error_named name None text word = refl
 error_named name (Some m) text word =
-    asked_named name (name_refusal text) (values_in word) false false (sent_from None (error_draft (head_of m) text)) [] (λ vs. refl)
+    asked_named name (name_refusal text) (values_in word) false false (sent_from None (error_builder (head_of m) text)) [] (λ vs. refl)
 
 pub outgoing_named : (name : Option (List ℕ)) (takes_fds : Bool) (out : Outgoing) → named_asked name (outgoing_asked None takes_fds out) ≡ outgoing_asked name takes_fds out
 unfolding words_refusal
 outgoing_named name takes_fds out = by out.kind
   where
-    by : (kind : OutgoingKind) → named_asked name (member_asked takes_fds out (outgoing_draft kind None out)) ≡ member_asked takes_fds out (outgoing_draft kind name out)
+    by : (kind : OutgoingKind) → named_asked name (member_asked takes_fds out (outgoing_builder kind None out)) ≡ member_asked takes_fds out (outgoing_builder kind name out)
     by OutgoingKind.Call =
-        let draft = outgoing_draft OutgoingKind.Call None out in
-        asked_named name (words_refusal draft) (values_in out.body) (are_misplaced draft.kind draft.flags) (out.flags.descriptor && not takes_fds) draft (if out.flags.descriptor then 0 ∷ [] else []) (λ vs. refl)
+        let builder = outgoing_builder OutgoingKind.Call None out in
+        asked_named name (words_refusal builder) (values_in out.body) (are_misplaced builder.kind builder.flags) (out.flags.descriptor && not takes_fds) builder (if out.flags.descriptor then 0 ∷ [] else []) (λ vs. refl)
     by OutgoingKind.Signal =
-        let draft = outgoing_draft OutgoingKind.Signal None out in
-        asked_named name (words_refusal draft) (values_in out.body) (are_misplaced draft.kind draft.flags) (out.flags.descriptor && not takes_fds) draft (if out.flags.descriptor then 0 ∷ [] else []) (λ vs. refl)
+        let builder = outgoing_builder OutgoingKind.Signal None out in
+        asked_named name (words_refusal builder) (values_in out.body) (are_misplaced builder.kind builder.flags) (out.flags.descriptor && not takes_fds) builder (if out.flags.descriptor then 0 ∷ [] else []) (λ vs. refl)
 
 -- and a refusal is the one that is due
 pub refused_did : (v : PeerView) (t : Trail) (lane : ℕ) (asked : Asked) (error : Error) → Keeps v t.past → MakesParcel (Err error) asked → error ≢ Error.Memory

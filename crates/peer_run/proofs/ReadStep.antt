@@ -1,10 +1,12 @@
 -- A read is one entry more.
 use Rattle.std.proofs.{Common.{◌≡◌, ◌≢◌, ℕ, ◌+◌, ◌-◌, ◌^◌, ◌≤◌, ◌<◌, refl, sym, ◌∙◌, ap, subst, arith, Bool, List, [], ◌∷◌, ◌++◌, length, Option, Some, None, IfSome, inl, inr, Result, Ok, Err}, lemmas.List.{append-nil, length_push}}
 use Rattle.std.specs.Io.KnownBytes.{Consumes}
-use Rattle.peer_run.specs.{Names.{Seen, Front, outcome, Tells, ending_of, IsReadError, IsReadRefusal, Error, Answer, Entry, IoKind, Words}, Stands.PeerView, Runs.{Inlet, IsRest, SourceMoves, Follows, quiet}}
-use Rattle.peer_route.specs.{Parcel.Setting, History.{Took, Shut, Past, after}, Streams.busy, Entries.trail, Told.{IsOutcome, IsOf, left_after}, Left.Left, Plan.{Reads, reads_by, plan}}
+use Rattle.peer_run.specs.{Names.{MessageView, Front, outcome, Tells, ending_of, IsReadError, IsReadRefusal, Error, Answer, Entry, IoKind, Words}, Stands.PeerView, Runs.{Inlet, IsRest, SourceMoves, Follows, quiet}}
+use Rattle.peer_route.specs.{Trail.Setting, Entries.trail, Told.{IsOutcome, IsOf, left_after}, Plan.{Reads, reads_by, plan}}
+use Rattle.peer_core.specs.{History.{Took, Shut, Past, after}, Asked.busy, Left.Left}
 use Rattle.peer_route.proofs.{Given.given_took, Read.left_after-took}
-use Rattle.peer_run.proofs.{Flushing.rises, Following.{IsLeft, follows_by, reads_by as source_by}}
+use Rattle.peer_run.proofs.Following.{reads_by as source_by}
+use Rattle.peer_run.proofs.{Flushing.rises, Following.{IsLeft, follows_by}}
 use Rattle.wire_signature.specs.declared.error.VariantError.{VariantError}
 use Rattle.wire_framing.specs.Receive as receive
 use Rattle.peer_run.specs.Runs as sinks
@@ -24,7 +26,7 @@ closed_means setting p es lane error f c = read_means setting p es lane (Some er
 -- ---- the peer
 
 -- a message was taken
-pub follows_got : (setting : Setting) (p q : PeerView) (es : List Entry) (lane : ℕ) (m : Seen) → plan (trail setting es) lane Words.Read ≡ Reads → Follows setting p es
+pub follows_got : (setting : Setting) (p q : PeerView) (es : List Entry) (lane : ℕ) (m : MessageView) → plan (trail setting es) lane Words.Read ≡ Reads → Follows setting p es
     → Front m.bytes m (length m.bytes) → m.position ≡ p.core.read + 1 → p.core.read < 2 ^ 64 - 2
     → q.names ≡ p.names → q.streams ≡ p.streams → q.given ≡ p.given → Left q.core (after (Took m) (trail setting es).past)
     → Follows setting q (quiet lane Words.Read Answer.Got (Some m) ∷ es)
@@ -64,12 +66,12 @@ follows_shut setting p q es lane error means f r n names streams given left =
 
 -- ---- the source
 
-told_error : (error : Error) (found : Result Seen Error) → error ≢ Error.Memory → Tells {A = Seen} (λ m. m) (Err error) found → found ≡ Err error
+told_error : (error : Error) (found : Result MessageView Error) → error ≢ Error.Memory → Tells {A = MessageView} (λ m. m) (Err error) found → found ≡ Err error
 told_error Error.Memory found n t = absurd (n refl)
 told_error other found n t = t
 
 -- what was received is the outcome of the bytes that were left
-got_outcome : (stop : Option Bool) (count : ℕ) (bytes : List ℕ) (m : Seen) (e : Entry) → IsOf (Ok m) e → receive.Receives stop count bytes (Ok m) → IsOutcome stop count bytes e
+got_outcome : (stop : Option Bool) (count : ℕ) (bytes : List ℕ) (m : MessageView) (e : Entry) → IsOf (Ok m) e → receive.Receives stop count bytes (Ok m) → IsOutcome stop count bytes e
 got_outcome (Some stop) count bytes m e is t = subst (λ r. IsOf r e) (sym t) is
 got_outcome None count bytes m e is (inl t) = inl (subst (λ r. IsOf r e) (sym t) is)
 got_outcome None count bytes m e is (inr t) = cc
@@ -89,7 +91,7 @@ still_left : (stop : Option Bool) (bytes : List ℕ) (h : Past) (now : Inlet) �
 still_left stop bytes h now open_ rest = subst (λ o. IsRest o (length h.read) (left_after bytes h) stop now.left now.stop) open_ rest
 
 -- a message was taken from it
-pub reads_got : (setting : Setting) (start now then : Inlet) (p : PeerView) (es : List Entry) (lane : ℕ) (m : Seen) → Follows setting p es → p.core.calls.closing ≡ None → plan (trail setting es) lane Words.Read ≡ Reads
+pub reads_got : (setting : Setting) (start now then : Inlet) (p : PeerView) (es : List Entry) (lane : ℕ) (m : MessageView) → Follows setting p es → p.core.calls.closing ≡ None → plan (trail setting es) lane Words.Read ≡ Reads
     → IfSome now.left (λ bytes. receive.Receives now.stop p.core.read bytes (Ok m))
     → Consumes now.left then.left m.bytes → then.stop ≡ now.stop
     → sinks.Reads setting start now es → sinks.Reads setting start then (quiet lane Words.Read Answer.Got (Some m) ∷ es)

@@ -1,11 +1,21 @@
 -- What commands do with streams of rules: they open them, and close them.
+use Rattle.peer_streams.specs.Streams.{opening_answer as streams_opening_answer}
 use Rattle.std.proofs.{Common.{◌≡◌, ◌≢◌, ℕ, zero, suc, ◌||◌, if◌then◌else◌, drop, ◌-◌, refl, sym, ◌∙◌, ap, subst, arith, ◌⊎◌, inl, inr, Bool, true, false, List, [], ◌∷◌, ◌++◌, length, map, replicate, Option, Some, None, IsSome, Result, Ok, Err, IfOk}, lemmas.Option.slice_get-map, Math.Seq.drop-nil, lemmas.List.length-append}
 use Rattle.std.specs.{List.{slice_get, slice_set}, Option.option_map}
-use Rattle.peer_run.specs.{Names.{Seen, Error, Rule, Answer, Acted, IoKind, Spent, StreamOp, Makes}, Stands.{PeerView, Stands, Did, DidSend, AreTaken, Answers, unopened_answer, plain, forgotten}}
-use Rattle.peer_route.specs.{declared.opening.Opening.Opening, declared.streams.MessageStream.MessageStream, Parcel.message_of, History.{Made, Ruled, Put, Adds, Removes, Gone, Stream, Phase, Asking, Denied, Since, phase, Outbox, Past, after, after_all}, Calls.in_flight, Streams.{all_given, asks_bus, close_waits, leaving, gone_events, since_in, accepted, matched, offered, item_at, gave_last, opening_by, opening_at, opening_answer, opening_events}, Left.{View, Left}, Issuing.{put_of, issued, put_each, parcels, messages_of}, Bus.{OpensRule, OpensBy}, BusCall.{asking_of, tellings_of, first_of, last_of}, Leaving.{ClosesStreams, MayClose}, Trail.{Trail, count, new_names, asked_names, made_names}, Plan.{Says, Sends, unless_waits, on_stream, opens_new, where_open, leaves, ends}, Shown.shown_opening, declared.progress.OpenState.OpenState, declared.opening.Opens.Opens}
-use Rattle.peer_route.proofs.{BusMessages.remove_parcel, Leavings.gone_both, Matched.accepted_nothing, Edits.{set_edit, edit-same}, Given.given_along, Issues.put_outbox}
+use Rattle.peer_run.specs.{Names.{MessageView, Error, Rule, Answer, Acted, IoKind, Spent, StreamOp, Makes}, Stands.{PeerView, Stands, Did, DidSend, AreTaken, Answers, unopened_answer, plain, forgotten}}
+use Rattle.peer_core.specs.{declared.opening.Opening.Opening, History.{Made, Put, Past, after, after_all}, Asked.{in_flight, all_given, asks_bus, close_waits, leaving, gone_events, opening_answer, opening_events}, Left.{View, Left}, Issuing.put_each, Bus.{OpensRule, OpensBy}, BusCall.{asking_of, tellings_of, first_of, last_of}, Leaving.{ClosesStreams, MayClose}, declared.opening.Opens.Opens}
+use Rattle.peer_streams.specs.{declared.streams.MessageStream.MessageStream, History.{Ruled, Gone, Stream, Phase, Asking, Denied, Since, phase}, Streams.{since_in, accepted, matched, offered, item_at, gave_last, opening_by, opening_at}, declared.progress.OpenState.OpenState}
+use Rattle.peer_calls.specs.{History.{Adds, Removes, Outbox}, Issuing.{parcels, messages_of}}
+use Rattle.peer_core.specs.Issuing.{put_of, issued}
+use Rattle.wire_message.specs.Outgoing.{message_of}
+use Rattle.peer_route.specs.{Trail.{Trail, count, new_names, asked_names, made_names}, Plan.{Says, Sends, unless_waits, on_stream, opens_new, where_open, leaves, ends}, Shown.shown_opening}
+use Rattle.peer_core.proofs.{BusMessages.remove_parcel, Leavings.gone_both, Issues.put_outbox}
+use Rattle.peer_streams.proofs.Matched.{accepted_nothing}
+use Rattle.wire_message.proofs.Edits.{set_edit, edit-same}
+use Rattle.peer_route.proofs.Given.{given_along}
 use Rattle.peer_run.proofs.{Quietly.{nothing_made, nothing_did, kept_still, answers_did}, Posted.{carried, unput_did}}
-use Rattle.peer_route.specs.History as events
+use Rattle.peer_core.specs.History as events
+use Rattle.peer_streams.specs.History as streams_events
 use Rattle.peer_route.specs.Entries as entries
 use Rattle.peer_route.specs.Plan as plans
 
@@ -99,7 +109,7 @@ told_given p [] serials h = refl
 told_given p (rule ∷ rules) [] h = refl
 told_given p (rule ∷ rules) (serial ∷ serials) h = told_given p rules serials (after (put_of (record { parcel = remove_parcel p.name rule; purpose = Removes }) serial) h)
 
-gone_given : (k : ℕ) (j : Option ℕ) (h : Past) (gs : List (Option Seen)) → gs ≡ all_given h → forgotten k j gs ≡ all_given (gone_both k j h)
+gone_given : (k : ℕ) (j : Option ℕ) (h : Past) (gs : List (Option MessageView)) → gs ≡ all_given h → forgotten k j gs ≡ all_given (gone_both k j h)
 gone_given k None h gs e = ap (λ gs. slice_set gs k None) e ∙ sym (given_along (events.Did k Gone) h tt)
 gone_given k (Some j) h gs e =
     ap (λ gs. slice_set (slice_set gs k None) j None) e ∙ ap (λ gs. slice_set gs j None) (sym (given_along (events.Did k Gone) h tt)) ∙ sym (given_along (events.Did j Gone) (after (events.Did k Gone) h) tt)
@@ -167,7 +177,7 @@ item_nothing : (n : ℕ) → item_at [] n ≡ None
 item_nothing zero = refl
 item_nothing (suc n) = refl
 
-ended_none : (gone : Bool) (o : Option Seen) → o ≡ None → (if gone then None else o) ≡ None
+ended_none : (gone : Bool) (o : Option MessageView) → o ≡ None → (if gone then None else o) ≡ None
 ended_none true o e = refl
 ended_none false o e = e
 
@@ -193,7 +203,7 @@ told_by_phase h k s (Asking add) None at e shut = (refl, λ known same. cc)
 told_by_phase h k s (Asking add) (Some error) at e shut =
     (nothing_gone h k s at (ap since_in e), λ known same. known (let is : error ≡ Error.UnknownHandle = cc in shut ∙ ap Some is))
 told_by_phase h k s (Denied m) shut at e closed = (nothing_gone h k s at (ap since_in e), λ known same. cc)
-told_by_phase h k s (Since ms) shut at e closed = (given_along (events.Did k events.Opened) h tt, λ known same. cc)
+told_by_phase h k s (Since ms) shut at e closed = (given_along (events.Did k streams_events.Opened) h tt, λ known same. cc)
 
 told_at : (h : Past) (k : ℕ) (o : Option Stream) → slice_get h.streams k ≡ o → IsTold h k (opening_at h.read h.closing o)
 told_at h k None at = (refl, λ known same. cc)
@@ -204,7 +214,7 @@ told_at h k (Some s) at = by (s.gone || s.opened)
     by false = told_by_phase h k s (phase h.read s) h.closing at refl refl
 
 pub opening_told : (h : Past) (k : ℕ) → IsTold h k (opening_answer h k)
-unfolding opening_answer
+unfolding streams_opening_answer
 opening_told h k = told_at h k (slice_get h.streams k) refl
 
 opening_makes : (lane k : ℕ) (state : OpenState) → made_names lane (opening_events k state) ≡ []

@@ -1,22 +1,24 @@
 -- What writes leave of a sink, by the outbox: messages are put, one is written, one's write fails, or the sink is closed.
 use Rattle.std.proofs.{Common.{◌≡◌, ◌≢◌, ℕ, ◌+◌, ◌-◌, ◌≤◌, ◌<◌, zero, suc, refl, sym, ◌∙◌, ap, subst, arith, IsSome, IfSome, nat_le, nat_lt, if◌then◌else◌, Bool, true, false, List, [], ◌∷◌, ◌++◌, length, take, slice_get, Option, Some, None, length-append, append_assoc, append-nil}, Math.Seq.take-append_seam, lemmas.List.{take-append-le, length-take-le, take_all, take_more}, lemmas.List.Concat.flat_map-append, lemmas.Bool.Decides.nat_tests, lemmas.Option.{slice_get_within, get_or_from_slice_get, IfSome_then}}
 use Rattle.std.specs.Io.KnownBytes.{Appends, Keeps}
-use Rattle.peer_run.specs.{Names.{Seen, RoomFalls, RoomBreaks, RoomStays, Part, Answer, Writer}, Runs.{Outlet, Got, Sinks, Shuts}}
+use Rattle.peer_run.specs.{Names.{MessageView, RoomFalls, RoomBreaks, RoomStays, Part, Answer, Writer}, Runs.{Outlet, Got, Sinks, Shuts}}
 use Rattle.wire_framing.proofs.Gone.{room_then}
-use Rattle.peer_route.specs.{History.{Outbox, Past, Event, Fault, worse, no_past, after, after_all}, Entries.repeat, Told.{AreWritten, IsCutAt, fitting, encodings}}
-use Rattle.peer_route.proofs.Edits.{get_new, get_append}
+use Rattle.peer_calls.specs.History.{Outbox, worse}
+use Rattle.peer_core.specs.History.{Past, Event, Fault, no_past, after, after_all}
+use Rattle.peer_route.specs.{Entries.repeat, Told.{AreWritten, IsCutAt, fitting, message_bytes}}
+use Rattle.wire_message.proofs.Edits.{get_new, get_append}
 
 -- ---- lists
 
 -- those behind one
-take_past : (ms : List Seen) (d e : ℕ) (m : Seen) → slice_get ms d ≡ Some m → d < e → (more : List Seen) × (take e ms ≡ take d ms ++ m ∷ more)
+take_past : (ms : List MessageView) (d e : ℕ) (m : MessageView) → slice_get ms d ≡ Some m → d < e → (more : List MessageView) × (take e ms ≡ take d ms ++ m ∷ more)
 take_past [] d e m there less = absurd (cc)
 take_past (x ∷ ms) d zero m there less = absurd (omega (arith, less))
 take_past (x ∷ ms) zero (suc e) m there less = (take e ms, let is : x ≡ m = cc in ap (λ y. y ∷ take e ms) is)
 take_past (x ∷ ms) (suc d) (suc e) m there less = let behind = take_past ms d e m there (omega (arith, less)) in (behind.0, ap (λ ys. x ∷ ys) behind.1)
 
-encoded_more : (ms more : List Seen) → encodings (ms ++ more) ≡ encodings ms ++ encodings more
-encoded_more ms more = flat_map-append (λ (m : Seen). m.bytes) ms more
+message_bytes_more : (ms more : List MessageView) → message_bytes (ms ++ more) ≡ message_bytes ms ++ message_bytes more
+message_bytes_more ms more = flat_map-append (λ (m : MessageView). m.bytes) ms more
 
 -- the same event once more
 pub once_more : (n k : ℕ) (e : Event) (p : Past) → k ≡ n + 1 → after_all (repeat k e) p ≡ after e (after_all (repeat n e) p)
@@ -27,26 +29,26 @@ once_more (suc n) (suc k) e p is = once_more n k e (after e p) (omega (arith, is
 
 -- ---- how many fit
 
-fit_all : (k : ℕ) (ms : List Seen) → length (encodings ms) ≤ k → fitting k ms ≡ length ms
+fit_all : (k : ℕ) (ms : List MessageView) → length (message_bytes ms) ≤ k → fitting k ms ≡ length ms
 fit_all k [] less = refl
 fit_all k (m ∷ ms) less =
-    let both : length (encodings (m ∷ ms)) ≡ length m.bytes + length (encodings ms) = length-append m.bytes (encodings ms) in
+    let both : length (message_bytes (m ∷ ms)) ≡ length m.bytes + length (message_bytes ms) = length-append m.bytes (message_bytes ms) in
     let e : nat_le (length m.bytes) k ≡ true = grind (arith, nat_tests) in
     let inner : fitting (k - length m.bytes) ms ≡ length ms = fit_all (k - length m.bytes) ms (omega (arith, both, less)) in
     ap (λ b. if b then fitting (k - length m.bytes) ms + 1 else 0) e ∙ omega (arith, inner)
 
 -- those before one that doesn't
-fit_some : (k : ℕ) (ms more : List Seen) (m : Seen) → length (encodings ms) ≤ k → k < length (encodings ms) + length m.bytes
-    → (length ms ≡ fitting k (ms ++ m ∷ more)) × (k < length (encodings (ms ++ m ∷ more)))
+fit_some : (k : ℕ) (ms more : List MessageView) (m : MessageView) → length (message_bytes ms) ≤ k → k < length (message_bytes ms) + length m.bytes
+    → (length ms ≡ fitting k (ms ++ m ∷ more)) × (k < length (message_bytes (ms ++ m ∷ more)))
 fit_some k [] more m less past =
-    let both : length (encodings (m ∷ more)) ≡ length m.bytes + length (encodings more) = length-append m.bytes (encodings more) in
+    let both : length (message_bytes (m ∷ more)) ≡ length m.bytes + length (message_bytes more) = length-append m.bytes (message_bytes more) in
     let over : k < length m.bytes = omega (arith, past) in
     let e : nat_le (length m.bytes) k ≡ false = grind (arith, nat_tests) in
     (ap (λ b. if b then fitting (k - length m.bytes) more + 1 else 0) (sym e), omega (arith, both, over))
 fit_some k (x ∷ ms) more m less past =
     let rest = ms ++ m ∷ more in
-    let both : length (encodings (x ∷ rest)) ≡ length x.bytes + length (encodings rest) = length-append x.bytes (encodings rest) in
-    let first : length (encodings (x ∷ ms)) ≡ length x.bytes + length (encodings ms) = length-append x.bytes (encodings ms) in
+    let both : length (message_bytes (x ∷ rest)) ≡ length x.bytes + length (message_bytes rest) = length-append x.bytes (message_bytes rest) in
+    let first : length (message_bytes (x ∷ ms)) ≡ length x.bytes + length (message_bytes ms) = length-append x.bytes (message_bytes ms) in
     let fits : length x.bytes ≤ k = omega (arith, first, less) in
     let e : nat_le (length x.bytes) k ≡ true = grind (arith, nat_tests) in
     let inner = fit_some (k - length x.bytes) ms more m (omega (arith, first, less)) (omega (arith, first, less, past, fits)) in
@@ -70,21 +72,21 @@ falls_tells None now n falls there = absurd (cc)
 falls_tells (Some None) now n falls there = subst IsSome (sym falls) refl
 falls_tells (Some (Some k)) now n falls there = subst IsSome (sym falls.1) refl
 
-written_fine : (room now : Option (Option ℕ)) (ms : List Seen) → RoomFalls room now (length (encodings ms)) → AreWritten room false (length ms) ms
+written_fine : (room now : Option (Option ℕ)) (ms : List MessageView) → RoomFalls room now (length (message_bytes ms)) → AreWritten room false (length ms) ms
 written_fine None now ms falls = tt
 written_fine (Some None) now ms falls = refl
 written_fine (Some (Some k)) now ms falls =
-    let less : length (encodings ms) ≤ k = falls.0 in
-    let over : nat_lt k (length (encodings ms)) ≡ false = grind (arith, nat_tests) in
+    let less : length (message_bytes ms) ≤ k = falls.0 in
+    let over : nat_lt k (length (message_bytes ms)) ≡ false = grind (arith, nat_tests) in
     (sym (fit_all k ms less), sym over)
 
 -- all of these were written
-got_fine : (start now : Outlet) (ms : List Seen) → RoomFalls start.room now.room (length (encodings ms)) → IfSome start.held (λ before. now.held ≡ Some (before ++ encodings ms)) → Got start now false (length ms) ms
+got_fine : (start now : Outlet) (ms : List MessageView) → RoomFalls start.room now.room (length (message_bytes ms)) → IfSome start.held (λ before. now.held ≡ Some (before ++ message_bytes ms)) → Got start now false (length ms) ms
 got_fine start now ms falls held = record {
-  held = IfSome_then start.held held (λ before is. (encodings ms, is, (refl, refl), cut_none start.room (encodings ms)));
+  held = IfSome_then start.held held (λ before is. (message_bytes ms, is, (refl, refl), cut_none start.room (message_bytes ms)));
   told = written_fine start.room now.room ms falls;
   room = λ fine. falls;
-  tells = falls_tells start.room now.room (length (encodings ms)) falls;
+  tells = falls_tells start.room now.room (length (message_bytes ms)) falls;
 }
 
 keeps_some : (now after : Option (List ℕ)) (xs : List ℕ) → now ≡ Some xs → Keeps now after → after ≡ Some xs
@@ -98,44 +100,44 @@ appends_some (Some ys) None xs bs e appends = absurd appends
 appends_some (Some ys) (Some zs) xs bs e appends = let same : ys ≡ xs = cc in ap Some (appends ∙ ap (λ l. l ++ bs) same)
 
 -- one more is
-got_more : (start now after : Outlet) (ms : List Seen) (m : Seen) (n : ℕ) → Got start now false n ms → Appends now.held after.held m.bytes → RoomFalls now.room after.room (length m.bytes)
+got_more : (start now after : Outlet) (ms : List MessageView) (m : MessageView) (n : ℕ) → Got start now false n ms → Appends now.held after.held m.bytes → RoomFalls now.room after.room (length m.bytes)
     → Got start after false (length (ms ++ m ∷ [])) (ms ++ m ∷ [])
 got_more start now after ms m n got appends falls =
-    let all : encodings (ms ++ m ∷ []) ≡ encodings ms ++ m.bytes = encoded_more ms (m ∷ []) ∙ ap (λ bs. encodings ms ++ bs) (append-nil m.bytes) in
-    let long : length (encodings (ms ++ m ∷ [])) ≡ length (encodings ms) + length m.bytes = ap length all ∙ length-append (encodings ms) m.bytes in
-    got_fine start after (ms ++ m ∷ []) (subst (RoomFalls start.room after.room) (sym long) (room_then start.room now.room after.room (length (encodings ms)) (length m.bytes) (got.room refl) falls))
+    let all : message_bytes (ms ++ m ∷ []) ≡ message_bytes ms ++ m.bytes = message_bytes_more ms (m ∷ []) ∙ ap (λ bs. message_bytes ms ++ bs) (append-nil m.bytes) in
+    let long : length (message_bytes (ms ++ m ∷ [])) ≡ length (message_bytes ms) + length m.bytes = ap length all ∙ length-append (message_bytes ms) m.bytes in
+    got_fine start after (ms ++ m ∷ []) (subst (RoomFalls start.room after.room) (sym long) (room_then start.room now.room after.room (length (message_bytes ms)) (length m.bytes) (got.room refl) falls))
     (IfSome_then start.held got.held (λ before h. appends_some now.held after.held (before ++ h.0) m.bytes h.1 appends
     ∙ ap Some (append_assoc before h.0 m.bytes ∙ ap (λ bs. before ++ bs) (ap (λ bs. bs ++ m.bytes) h.2.1 ∙ sym all))))
 
 -- the room ends within the next one
-broken : (room now after : Option (Option ℕ)) (ms more : List Seen) (m : Seen) (n : ℕ) → n < length m.bytes → RoomFalls room now (length (encodings ms)) → RoomBreaks now after n
-    → AreWritten room true (length ms) (ms ++ m ∷ more) × (IsSome room → IsSome after) × ((sent : List ℕ) → length sent ≡ length (encodings ms) + n → IsCutAt room true sent)
+broken : (room now after : Option (Option ℕ)) (ms more : List MessageView) (m : MessageView) (n : ℕ) → n < length m.bytes → RoomFalls room now (length (message_bytes ms)) → RoomBreaks now after n
+    → AreWritten room true (length ms) (ms ++ m ∷ more) × (IsSome room → IsSome after) × ((sent : List ℕ) → length sent ≡ length (message_bytes ms) + n → IsCutAt room true sent)
 broken None now after ms more m n less falls breaks = (tt, (λ there. absurd (cc)), λ sent long. tt)
 broken (Some None) now after ms more m n less falls breaks = let no : RoomBreaks (Some None) after n = subst (λ x. RoomBreaks x after n) falls breaks in absurd no
 broken (Some (Some k)) now after ms more m n less falls breaks =
-    let b : (n ≡ k - length (encodings ms)) × (after ≡ Some None) = subst (λ x. RoomBreaks x after n) falls.1 breaks in
-    let fits : length (encodings ms) ≤ k = falls.0 in
+    let b : (n ≡ k - length (message_bytes ms)) × (after ≡ Some None) = subst (λ x. RoomBreaks x after n) falls.1 breaks in
+    let fits : length (message_bytes ms) ≤ k = falls.0 in
     let some = fit_some k ms more m fits (omega (arith, b.0, fits, less)) in
-    let past : k < length (encodings (ms ++ m ∷ more)) = some.1 in
-    let over : nat_lt k (length (encodings (ms ++ m ∷ more))) ≡ true = grind (arith, nat_tests) in
+    let past : k < length (message_bytes (ms ++ m ∷ more)) = some.1 in
+    let over : nat_lt k (length (message_bytes (ms ++ m ∷ more))) ≡ true = grind (arith, nat_tests) in
     ((some.0, sym over), (λ there. subst IsSome (sym b.1) refl), λ sent long. long ∙ omega (arith, b.0, fits))
 
 -- its write fails, and no more are written
-got_failed : (start now after : Outlet) (ms more : List Seen) (m : Seen) (c n : ℕ) → Got start now false c ms → Part m.bytes now.held after.held n → RoomBreaks now.room after.room n
+got_failed : (start now after : Outlet) (ms more : List MessageView) (m : MessageView) (c n : ℕ) → Got start now false c ms → Part m.bytes now.held after.held n → RoomBreaks now.room after.room n
     → Got start after true (length ms) (ms ++ m ∷ more)
 got_failed start now after ms more m c n got part breaks =
     let b = broken start.room now.room after.room ms more m n part.proper (got.room refl) breaks in
     let less : n < length m.bytes = part.proper in
     let some = take n m.bytes in
     let there : slice_get (ms ++ m ∷ more) (length ms) ≡ Some m = subst (λ xs. slice_get xs (length ms) ≡ Some m) (append_assoc ms (m ∷ []) more) (get_append (length ms) (ms ++ m ∷ []) more m (get_new ms m)) in
-    let front : encodings (take (length ms) (ms ++ m ∷ more)) ≡ encodings ms = ap encodings (take-append_seam ms (m ∷ more)) in
-    let long : length (encodings ms ++ some) ≡ length (encodings ms) + n = length-append (encodings ms) some ∙ ap (λ k. length (encodings ms) + k) (length-take-le n m.bytes (omega (arith, less))) in
+    let front : message_bytes (take (length ms) (ms ++ m ∷ more)) ≡ message_bytes ms = ap message_bytes (take-append_seam ms (m ∷ more)) in
+    let long : length (message_bytes ms ++ some) ≡ length (message_bytes ms) + n = length-append (message_bytes ms) some ∙ ap (λ k. length (message_bytes ms) + k) (length-take-le n m.bytes (omega (arith, less))) in
     record {
       held = IfSome_then start.held got.held (λ before h. (
-        encodings ms ++ some,
+        message_bytes ms ++ some,
         appends_some now.held after.held (before ++ h.0) some h.1 part.gone ∙ ap Some (append_assoc before h.0 some ∙ ap (λ bs. before ++ (bs ++ some)) h.2.1),
         (m, n, there, less, ap (λ bs. bs ++ some) (sym front)),
-        b.2 (encodings ms ++ some) long,
+        b.2 (message_bytes ms ++ some) long,
       ));
       told = b.0;
       room = λ fine. absurd (cc);
@@ -144,12 +146,12 @@ got_failed start now after ms more m c n got part breaks =
 
 -- ---- by the outbox
 
-same_got : (start now : Outlet) (f g : Bool) (n m d e : ℕ) (xs ys : List Seen) → f ≡ g → n ≡ m → d ≡ e → xs ≡ ys → Got start now g m (take e ys) × (e ≤ length ys) × (g ≡ false → m ≡ e)
+same_got : (start now : Outlet) (f g : Bool) (n m d e : ℕ) (xs ys : List MessageView) → f ≡ g → n ≡ m → d ≡ e → xs ≡ ys → Got start now g m (take e ys) × (e ≤ length ys) × (g ≡ false → m ≡ e)
     → Got start now f n (take d xs) × (d ≤ length xs) × (f ≡ false → n ≡ d)
 same_got start now f g n m d e xs ys a b c z t = rw (a, b, c, z) t
 
 -- an outbox of these numbers
-sinks_by : (start now : Outlet) (p : Outbox) (failed : Bool) (count done : ℕ) (ms : List Seen) → p.put ≡ ms → p.written ≡ count → p.done ≡ done → p.failed ≡ failed
+sinks_by : (start now : Outlet) (p : Outbox) (failed : Bool) (count done : ℕ) (ms : List MessageView) → p.put ≡ ms → p.written ≡ count → p.done ≡ done → p.failed ≡ failed
     → Got start now failed count (take done ms) × (done ≤ length ms) × (failed ≡ false → count ≡ done) → Sinks start now p
 sinks_by start now p failed count done ms put written ended fails t =
     let u = same_got start now p.failed failed p.written count p.done done p.put ms fails written ended put t in
@@ -168,7 +170,7 @@ sinks_same start now o p e s =
     sinks_by start now p o.failed o.written o.done o.put (ap (λ (x : Outbox). x.put) e) (ap (λ (x : Outbox). x.written) e) (ap (λ (x : Outbox). x.done) e) (ap (λ (x : Outbox). x.failed) e) (s.got, s.few, s.step)
 
 -- messages are put behind
-pub sinks_put : (start now : Outlet) (o : Outbox) (ms : List Seen) (last : ℕ) → Sinks start now o → Sinks start now (record o { put = o.put ++ ms; last = last })
+pub sinks_put : (start now : Outlet) (o : Outbox) (ms : List MessageView) (last : ℕ) → Sinks start now o → Sinks start now (record o { put = o.put ++ ms; last = last })
 sinks_put start now o ms last s = record {
   got = subst (Got start now o.failed o.written) (sym (take-append-le o.done o.put ms s.few)) s.got;
   few = let long = length-append o.put ms in omega (arith, s.few, long);
@@ -188,7 +190,7 @@ stays_by (Some (Some k)) None after n stays = ((λ there. absurd (cc)), λ falls
 
 pub sinks_shut : (answer : Answer) (start now after : Outlet) (o : Outbox) → Shuts answer now after → Sinks start now o → Sinks start after o
 sinks_shut answer start now after o shuts s =
-    let stays = stays_by start.room now.room after.room (length (encodings (take o.done o.put))) shuts.room in
+    let stays = stays_by start.room now.room after.room (length (message_bytes (take o.done o.put))) shuts.room in
     record {
       got = record {
         held = IfSome_then start.held s.got.held (λ before h. (h.0, keeps_some now.held after.held (before ++ h.0) h.1 shuts.held, h.2, h.3));
@@ -201,7 +203,7 @@ sinks_shut answer start now after o shuts s =
     }
 
 -- one is written
-pub sinks_wrote : (start now after : Outlet) (o : Outbox) (m : Seen) → slice_get o.put o.done ≡ Some m → o.failed ≡ false → Appends now.held after.held m.bytes → RoomFalls now.room after.room (length m.bytes)
+pub sinks_wrote : (start now after : Outlet) (o : Outbox) (m : MessageView) → slice_get o.put o.done ≡ Some m → o.failed ≡ false → Appends now.held after.held m.bytes → RoomFalls now.room after.room (length m.bytes)
     → Sinks start now o → Sinks start after (record o { written = o.written + 1; done = o.done + 1 })
 sinks_wrote start now after o m there fine appends falls s =
     let within = slice_get_within o.put o.done m there in
@@ -216,7 +218,7 @@ sinks_wrote start now after o m there fine appends falls s =
     }
 
 -- one's write fails, and others of those behind it
-pub sinks_failed : (start now after : Outlet) (o p : Outbox) (m : Seen) (n : ℕ) → slice_get o.put o.done ≡ Some m → o.failed ≡ false
+pub sinks_failed : (start now after : Outlet) (o p : Outbox) (m : MessageView) (n : ℕ) → slice_get o.put o.done ≡ Some m → o.failed ≡ false
     → p.put ≡ o.put → p.written ≡ o.written → p.failed ≡ true → o.done < p.done → p.done ≤ length o.put
     → Part m.bytes now.held after.held n → RoomBreaks now.room after.room n → Sinks start now o → Sinks start after p
 sinks_failed start now after o p m n there fine put written fails more most part breaks s =

@@ -1,7 +1,10 @@
 -- A read, and a `close`, are one entry more of a run.
 use Rattle.std.proofs.Common.{◌≡◌, ℕ, refl, ◌∙◌, ap, subst, Bool, false, List, ◌∷◌, Option, Some, None, IsSome}
 use Rattle.peer_run.specs.{Names.{Error, asked_again, Writing, Writer, Answer, Entry, IoKind, Words}, declared.peer.Reading.Reading, Stands.PeerView, Runs.{Inlet, Outlet, Reads, IsRest, Shuts, SourceMoves, Follows, Running, quiet}}
-use Rattle.peer_route.specs.{Parcel.Setting, History.{Outbox, Past, first_of}, Trail.Trail, Plan.{Closes, plan}, Entries.{IsQuiet, trail, more, deeds}, Told.CloseTold}
+use Rattle.peer_route.specs.{Trail.{Setting, Trail}, Plan.{Closes, plan}, Entries.{IsQuiet, trail, more, deeds}, Told.CloseTold}
+use Rattle.peer_calls.specs.History.{Outbox}
+use Rattle.peer_core.specs.History.{Past}
+use Rattle.wire_message.specs.Plain.{first_of}
 use Rattle.peer_route.proofs.{Kept.{Keeps, kept_by, deeds_all, deed_outbox, every_entry, quiet_past}, Plans.is_live, Writers.{writer_keeps, shut_writer}}
 use Rattle.peer_run.proofs.{Sinks.{sinks_same, sinks_shut, got_all}, Following.{reads_by, all_done}}
 

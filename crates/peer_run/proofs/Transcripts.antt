@@ -1,8 +1,11 @@
 -- Two histories of the same commands, of which the outside told the same, are the same.
 use Rattle.std.proofs.{Common.{◌≡◌, ℕ, ◌+◌, ◌<◌, refl, sym, ◌∙◌, ap, subst, arith, Bool, true, false, if◌then◌else◌, List, [], ◌∷◌, length, map, ◌||◌, Option, Some, None, Result, Ok, Err}, Math.Bool.or-true}
 use Rattle.std.specs.List.{AllByRecursion}
-use Rattle.peer_run.specs.Names.{Seen, Error, Words, Command, Answer, Entry, command_of}
-use Rattle.peer_route.specs.{Parcel.Setting, History.{Event, Past, after_all}, Issuing.{Posting, issued, parcels, messages_of, puts}, Trail.Trail, Plan.{Plan, Says, Sends, Reads, Closes, Writes, Never, plan}, Entries.{IsMeant, IsQuiet, IsPut, IsSending, IsAtOnce, Legal, trail, writes, past_after, write_fault}, Told.{ReadsTold, ReadTold, IsOf, CloseTold, ClosesTold, WritesTold, AreWritten, fitting}}
+use Rattle.peer_run.specs.Names.{MessageView, Error, Words, Command, Answer, Entry, command_of}
+use Rattle.peer_route.specs.{Trail.{Setting, Trail}, Plan.{Plan, Says, Sends, Reads, Closes, Writes, Never, plan}, Entries.{IsMeant, IsQuiet, IsPut, IsSending, IsAtOnce, Legal, trail, writes, past_after, write_fault}, Told.{ReadsTold, ReadTold, IsOf, CloseTold, ClosesTold, WritesTold, AreWritten, fitting}}
+use Rattle.peer_core.specs.{History.{Event, Past, after_all}, Issuing.puts}
+use Rattle.peer_calls.specs.Issuing.{Posting, parcels, messages_of}
+use Rattle.peer_core.specs.Issuing.{issued}
 use Rattle.peer_route.proofs.{Kept.{Keeps, kept_by}, Plans.{are_writes, IsFair, fair}, Sent.{written_by, failed_with}}
 
 -- the same was read, answered, put and written
@@ -19,7 +22,7 @@ same_quiet e f answer read p q = record { answer = answer; read = read; put = p.
 -- ---- what the sink's room decides
 
 -- what is written of messages that are put, and whether a write fails
-record Wrote (room : Option ℕ) (p : Past) (ms : List Seen) (e : Entry) : Type 0 where
+record Wrote (room : Option ℕ) (p : Past) (ms : List MessageView) (e : Entry) : Type 0 where
   put : e.put ≡ ms
   once : IsAtOnce e
   cut : e.failed ≡ true → e.written < length ms
@@ -32,21 +35,21 @@ fails_by false false m n k same x y p q = refl
 fails_by true false m n k same x y p q = let less = p refl in let all = y refl in let no : ⊥ = omega (arith, same, less, all) in absurd no
 fails_by false true m n k same x y p q = let less = q refl in let all = x refl in let no : ⊥ = omega (arith, same, less, all) in absurd no
 
-none_fails : (p : Past) (ms : List Seen) (e : Entry) → Wrote None p ms e → e.failed ≡ false
+none_fails : (p : Past) (ms : List MessageView) (e : Entry) → Wrote None p ms e → e.failed ≡ false
 none_fails p ms e w = by e.failed (sym (failed_with e p (λ failed. subst (λ xs. e.written < length xs) (sym w.put) (w.cut failed))) ∙ w.told)
   where
     by : (b : Bool) → (p.outbox.failed || b) ≡ false → b ≡ false
     by true never = let wrong = or-true p.outbox.failed in cc
     by false never = refl
 
-same_count : (room : Option ℕ) (p : Past) (ms : List Seen) (e f : Entry) → Wrote room p ms e → Wrote room p ms f → e.written ≡ f.written
+same_count : (room : Option ℕ) (p : Past) (ms : List MessageView) (e f : Entry) → Wrote room p ms e → Wrote room p ms f → e.written ≡ f.written
 same_count None p ms e f v w = v.once (none_fails p ms e v) ∙ ap length (v.put ∙ sym w.put) ∙ sym (w.once (none_fails p ms f w))
 same_count (Some k) p ms e f v w =
     let kept : (g : Entry) → (after_all (writes g) p).outbox.put ≡ p.outbox.put = λ g. kept_by (λ h. h.outbox.put) (writes g) p (are_writes (Keeps (λ h. h.outbox.put)) g (λ h. refl) (λ h. refl)) in
     let counts : p.outbox.written + e.written ≡ p.outbox.written + f.written = sym (written_by e p) ∙ v.told.0 ∙ ap (fitting k) (kept e ∙ sym (kept f)) ∙ sym w.told.0 ∙ written_by f p in
     omega (arith, counts)
 
-same_put : (room : Option ℕ) (p : Past) (ms : List Seen) (success : Answer) (e f : Entry) → e.read ≡ f.read → IsPut ms success e → IsPut ms success f → Wrote room p ms e → Wrote room p ms f → Same e f
+same_put : (room : Option ℕ) (p : Past) (ms : List MessageView) (success : Answer) (e f : Entry) → e.read ≡ f.read → IsPut ms success e → IsPut ms success f → Wrote room p ms e → Wrote room p ms f → Same e f
 same_put room p ms success e f read x y v w =
     let count = same_count room p ms e f v w in
     let fails : e.failed ≡ f.failed = fails_by e.failed f.failed e.written f.written (length ms) count (λ fine. v.once fine ∙ ap length v.put) (λ fine. w.once fine ∙ ap length w.put) v.cut w.cut in
@@ -61,7 +64,7 @@ record Known (room : Option ℕ) (stop : Bool) (bytes : List ℕ) (h : Past) (pl
   read : ReadTold (Some stop) bytes h pl e
   told : let o = (past_after pl e h).outbox in AreWritten (Some room) o.failed o.written o.put
 
-same_of : (found : Result Seen Error) (e f : Entry) → IsOf found e → IsOf found f → (e.answer ≡ f.answer) × (e.read ≡ f.read)
+same_of : (found : Result MessageView Error) (e f : Entry) → IsOf found e → IsOf found f → (e.answer ≡ f.answer) × (e.read ≡ f.read)
 same_of (Ok m) e f p q = (p.1 ∙ sym q.1, p.0 ∙ sym q.0)
 same_of (Err error) e f p q = (p.1 ∙ sym q.1, p.0 ∙ sym q.0)
 

@@ -1,7 +1,7 @@
 -- What the program prints, and with which status it ends.
 use Rattle.std.specs.{Prelude.{ℕ, ◌≡◌, ◌≢◌, ◌<◌, ◌⊎◌, ◌&&◌, nat_le, Bool, true, false, if◌then◌else◌, List, [], ◌∷◌, ◌++◌, length, map, take, reverse, codes, decimal, Option, Some, None, Ok, Err, is_ok, IfSome, IsTrue}, List.AllByRecursion, Io.KnownBytes.Appends}
 use Rattle.peer_run.specs.Names.{Error, Rule, rule_in_bytes, Entry, Given, Gave, Broke, Script, ScriptText, is_bus, name_of, line_count, IsWithin, script_of, transcript_text, command_of, MayRise, Part, Words, StreamOp, Answer}
-use Rattle.peer_route.specs.{Parcel.Setting, Entries.{trail, Legal, IsAtOnce}, Told.{ReadsTold, ClosesTold, IsSentBytes, WritesTold, IsCutAt}, Laws.{IsPoll, IsFinal, IsReplyAt, IsFirstReply, IsCutOff, IsUnknown}, StreamLaws.{Yields, YieldsAsked, holds, rule_at, closes_stream, stays_open, says_denied, IsNoStream, is_take, IsEnded, IsLast, HoldsTooMany, IsPutOf, all_written}}
+use Rattle.peer_route.specs.{Trail.Setting, Entries.{trail, Legal, IsAtOnce}, Told.{ReadsTold, ClosesTold, IsSentBytes, WritesTold, IsCutAt}, Laws.{IsPoll, IsFinal, IsReplyAt, IsFirstReply, IsCutOff, IsUnknown}, StreamLaws.{Yields, YieldsAsked, holds, rule_at, closes_stream, stays_open, says_denied, IsNoStream, is_take, IsEnded, IsLast, HoldsTooMany, IsPutOf, all_written}}
 use Rattle.peer_script.specs.Word.{same}
 
 -- the words of the program's table that are built: none, or `run`
@@ -10,6 +10,7 @@ is_run [] = true
 is_run (word ∷ []) = same word (codes "run")
 is_run (word ∷ other ∷ words) = false
 
+-- what is printed where there is no memory
 abbrev pub memory_text : List ℕ
 memory_text = codes "memory" ++ 10 ∷ []
 
@@ -57,8 +58,8 @@ pub record IsWhole (s : Script) (h : List Entry) (sent : List ℕ) : Type 0 wher
   pub closes : Everywhere h (λ newer e older. (number : ℕ) → closes_stream number e.words ≡ true → stays_open e.answer ≡ false → AllByRecursion (IsNoStream e.lane number) newer)
   pub denied : Everywhere h (λ newer e older. (number : ℕ) → e.words ≡ Words.OfStream number StreamOp.Opened → says_denied e.answer ≡ true → AllByRecursion (IsNoStream e.lane number) newer)
   pub waits : Everywhere h (λ newer e older. e.words ≡ Words.Read → HoldsTooMany (trail (setting_of s) older).past → e.answer ≡ Answer.Busy)
-  -- Where no write failed, all that was put was written, and the bytes sent are its encodings, in order. Where one failed, it is that of
-  -- the first message that wasn't written: the bytes sent are the encodings of those before it, and of it a proper prefix.
+  -- Where no write failed, all that was put was written, and the bytes sent are those of the messages, in order. Where one failed, it is that of
+  -- the first message that wasn't written: the bytes sent are those of the messages before it, and of it a proper prefix.
   pub bytes : let o = (trail (setting_of s) h).past.outbox in IsSentBytes o.failed o.written o.put sent
   -- Where the sink has room for so many bytes, at each entry just those messages were written that end within them, and after a failed
   -- write the bytes sent are just so many; no closing of the peer fails; and what the answers say was sent is what was written.

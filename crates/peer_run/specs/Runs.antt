@@ -1,7 +1,8 @@
 -- What a run gives: a legal history of its commands, whose reads and writes are what the outside told.
 use Rattle.std.specs.{Prelude.{ℕ, ◌≡◌, ◌^◌, ◌-◌, ◌≤◌, false, List, [], length, map, reverse, Option, None, IfSome, ⊤, ◌⊎◌, ◌&&◌, ◌||◌, nat_le, if◌then◌else◌, Bool, true, ◌∷◌, ◌++◌, drop, take, Some, IsSome}, List.AllByRecursion, Io.KnownBytes.Keeps}
-use Rattle.peer_run.specs.{Names.{Writing, MayRise, RoomFalls, RoomStays, asked_again, spent, Fine, Seen, Error, Words, Command, Answer, Entry, Writer, command_of, IoKind}, Stands.{PeerView, Stands}}
-use Rattle.peer_route.specs.{Parcel.Setting, Entries.{trail, Legal, IsAtOnce}, Told.{ReadsTold, ClosesTold, WritesTold, AreWritten, IsSentBytes, IsCutAt, encodings, left_after}, History.{Outbox}}
+use Rattle.peer_run.specs.{Names.{Writing, MayRise, RoomFalls, RoomStays, asked_again, spent, Fine, MessageView, Error, Words, Command, Answer, Entry, Writer, command_of, IoKind}, Stands.{PeerView, Stands}}
+use Rattle.peer_route.specs.{Trail.Setting, Entries.{trail, Legal, IsAtOnce}, Told.{ReadsTold, ClosesTold, WritesTold, AreWritten, IsSentBytes, IsCutAt, message_bytes, left_after}}
+use Rattle.peer_calls.specs.History.{Outbox}
 
 -- ---- what a source and a sink tell, entry by entry: the sink holds what was written of what was put
 
@@ -65,6 +66,7 @@ abbrev pub asked_by : Option ℕ → List Entry → Option ℕ
 asked_by asked [] = asked
 asked_by asked (e ∷ es) = if is_close e.words then asked_again (asked_by asked es) else asked_by asked es
 
+-- the answer says that a write failed, or the sink's `close`
 abbrev pub is_failed_write : Answer → Bool
 is_failed_write (Answer.SendFailed (Error.InputOutput IoKind.WriteFault)) = true
 is_failed_write answer = false
@@ -81,7 +83,7 @@ SinkFaults start (e ∷ es) now = (before : ℕ) × SinkFaults start es before �
 
 -- what the sink holds: behind what it held before, what was sent of these messages, of which so many were written, all but where a write
 -- failed
-abbrev pub Holds : Option (Option ℕ) → List ℕ → Option (List ℕ) → Bool → ℕ → List Seen → Type 0
+abbrev pub Holds : Option (Option ℕ) → List ℕ → Option (List ℕ) → Bool → ℕ → List MessageView → Type 0
 Holds room before after failed count ms = (sent : List ℕ) × (after ≡ Some (before ++ sent)) × IsSentBytes failed count ms sent × IsCutAt room failed sent
 
 -- What closing the peer did to the sink: nothing, but that it was asked to close; and the count of faults rose where that failed, which it
@@ -96,10 +98,10 @@ pub record Shuts (answer : Answer) (now after : Outlet) : Type 0 where
 -- ---- on the way
 
 -- What the sink got of these messages and has room for; it tells its room still.
-pub record Got (start now : Outlet) (failed : Bool) (count : ℕ) (ms : List Seen) : Type 0 where
+pub record Got (start now : Outlet) (failed : Bool) (count : ℕ) (ms : List MessageView) : Type 0 where
   pub held : IfSome start.held (λ before. Holds start.room before now.held failed count ms)
   pub told : AreWritten start.room failed count ms
-  pub room : failed ≡ false → RoomFalls start.room now.room (length (encodings ms))
+  pub room : failed ≡ false → RoomFalls start.room now.room (length (message_bytes ms))
   pub tells : IsSome start.room → IsSome now.room
 
 -- That of the messages of the outbox that don't wait.
@@ -123,7 +125,7 @@ pub record Flushed (start now after : Outlet) (o : Outbox) (failed : Bool) (writ
   pub fine : IsFine o.writer writing
 
 -- a lane's command that puts nothing, its answer, and what it read
-abbrev pub quiet : ℕ → Words → Answer → Option Seen → Entry
+abbrev pub quiet : ℕ → Words → Answer → Option MessageView → Entry
 quiet lane w answer read = record { lane = lane; words = w; answer = answer; read = read; put = []; written = 0; failed = false }
 
 -- The peer is what the history leaves, newest first, which is legal and writes at once.
@@ -156,7 +158,7 @@ pub record Runs (setting : Setting) (start_in : Inlet) (start_out : Outlet) (end
   pub each : map command_of entries ≡ commands
   -- the reads are what stands in the source's bytes, and what is left in it is what they didn't take
   pub reads : Reads setting start_in end_in (reverse entries)
-  -- the sink holds the encodings of what was put, up to its first fault
+  -- the sink holds the bytes of what was put, up to its first fault
   pub writes : let o = (trail setting (reverse entries)).past.outbox in IfSome start_out.held (λ before. Holds start_out.room before end_out.held o.failed o.written o.put)
   -- where the sink tells its room, at each entry just those messages were written that end within it, and the next one's write failed
   pub room : WritesTold setting start_out.room (reverse entries)

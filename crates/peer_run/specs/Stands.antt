@@ -1,7 +1,12 @@
 -- How a peer stands to what its entries leave, and what a command does to it before anything of it is written.
 use Rattle.std.specs.{Prelude.{ℕ, ◌≡◌, Bool, false, List, [], ◌∷◌, ◌++◌, replicate, slice_set, Option, Some, None, Result, Ok, Err, ◌+◌, ◌==◌, if◌then◌else◌, ◌⊎◌, ◌&&◌, not, true}, List.AllByRecursion, Option.option_map_or, Ordering.nat_cmp, BTreeMap.{BTreeMap, get}, Global.Vec}
-use Rattle.peer_run.specs.Names.{Seen, Error, is_unsupported, Polled, Answer, Acted, Makes, IoKind, Datum, Draft, are_misplaced, CallFlags}
-use Rattle.peer_route.specs.{History.{Event, Past, after_all}, Streams.all_given, Left.{View, Left}, Issuing.{Posting, issued, parcels, messages_of, put_each}, Trail.{Trail, Names, owner, new_names, asked_names, made_names}, Plan.{Plan, Says, Sends}, Entries.unsent, Parcel.{Parcel, Asked, sent_by}, CallMessage.{flags_number, words_refusal, asked_of}}
+use Rattle.peer_run.specs.Names.{MessageView, Error, is_unsupported, Polled, Answer, Acted, Makes, IoKind, Datum, BuilderView, are_misplaced, CallFlags}
+use Rattle.peer_core.specs.{History.{Event, Past, after_all}, Asked.all_given, Left.{View, Left}, Issuing.put_each}
+use Rattle.peer_calls.specs.Issuing.{Posting, parcels, messages_of}
+use Rattle.peer_core.specs.Issuing.{issued}
+use Rattle.peer_route.specs.{Trail.{Trail, Names, owner, new_names, asked_names, made_names}, Plan.{Plan, Says, Sends}, Entries.unsent}
+use Rattle.wire_message.specs.Outgoing.{OutgoingMessageView, sent_by}
+use Rattle.peer_words.specs.CallMessage.{Asked, flags_number, words_refusal, asked_of}
 use Rattle.wire_number.specs.declared.endian.Endian.TheVariants.{Little, Big}
 
 -- what contracts see of a peer: its core, whose its calls and its streams are, and for each stream the message that it gave last
@@ -9,7 +14,7 @@ pub record PeerView : Type 0 where
   pub core : View
   pub names : Names
   pub streams : Names
-  pub given : List (Option Seen)
+  pub given : List (Option MessageView)
 
 -- The past leaves the peer's core, and the messages that its streams gave last.
 pub record Keeps (v : PeerView) (h : Past) : Type 0 where
@@ -38,14 +43,14 @@ stream_owners lane failed Makes.Opening = owner lane failed ∷ []
 stream_owners lane failed other = []
 
 -- That is what its plan says of them.
-abbrev pub Owns : ℕ → Makes → List Posting → List Seen → List Event → Type 0
+abbrev pub Owns : ℕ → Makes → List Posting → List MessageView → List Event → Type 0
 Owns lane made ds ms done =
     (failed : Bool) → (call_owners lane failed made ≡ new_names lane failed ds ms) × (stream_owners lane failed made ≡ made_names lane done ++ asked_names lane failed ds ms)
 
 -- ---- what a command does
 
 -- the sink takes the descriptors of each of these
-abbrev pub AreTaken : Bool → List Seen → Type 0
+abbrev pub AreTaken : Bool → List MessageView → Type 0
 AreTaken takes ms = AllByRecursion (λ m. is_unsupported m.unix_fds takes ≡ false) ms
 
 -- Messages were put after these deeds, and wait to be written; or why none was.
@@ -84,12 +89,12 @@ unopened_answer error = undone_answer error
 -- ---- what streams gave last
 
 -- after a take
-abbrev pub given_after : ℕ → Result (Polled Seen) Error → List (Option Seen) → List (Option Seen)
+abbrev pub given_after : ℕ → Result (Polled MessageView) Error → List (Option MessageView) → List (Option MessageView)
 given_after k (Ok (Polled.Now m)) gs = slice_set gs k (Some m)
 given_after k other gs = gs
 
 -- once these are closed
-abbrev pub forgotten : ℕ → Option ℕ → List (Option Seen) → List (Option Seen)
+abbrev pub forgotten : ℕ → Option ℕ → List (Option MessageView) → List (Option MessageView)
 forgotten k None gs = slice_set gs k None
 forgotten k (Some j) gs = slice_set (slice_set gs k None) j None
 
@@ -111,30 +116,9 @@ kept_for lanes lane = option_map_or (λ v. v.items) (get nat_cmp lanes lane) []
 
 -- ---- what the words of a command make: a message to be sent, or why none is
 
--- What is made is what is asked to be sent, and a refusal is the one that is due. Want of memory tells nothing.
-abbrev pub MakesParcel : Result Parcel Error → Asked → Type 0
-MakesParcel (Ok parcel) asked = asked ≡ Ok parcel
-MakesParcel (Err Error.Memory) asked = Unit {0}
-MakesParcel (Err error) asked = asked ≡ Err error
-
 -- what is asked for, sent by the peer of that name
 abbrev pub named_asked : Option (List ℕ) → Asked → Asked
 named_asked name (Ok parcel) = Ok (sent_by name false parcel)
 named_asked name (Err error) = Err error
 
--- it has no descriptors, or the sink takes them
-abbrev pub IsCarried : Bool → Parcel → Type 0
-IsCarried takes parcel = (parcel.fds ≡ []) ⊎ (takes ≡ true)
-
 -- ---- on the way
-
--- The header of words of which each is in its grammar, before its letters are looked at; else why they are refused.
-abbrev pub MakesDraft : Result Draft Error → Draft → Type 0
-MakesDraft (Ok made) draft = (made ≡ record draft { order = Little; flags = 0 }) × (words_refusal draft ≡ None)
-MakesDraft (Err error) draft = words_refusal draft ≡ Some error
-
--- what is asked for once the words and the body are read
-abbrev pub letters_asked : Draft → List Datum → CallFlags → Bool → Asked
-letters_asked draft values flags takes_fds =
-    asked_of None (Some values) (are_misplaced draft.kind (flags_number flags)) (flags.descriptor && not takes_fds)
-    (record draft { order = if flags.big then Big else Little; flags = flags_number flags }) (if flags.descriptor then 0 ∷ [] else [])

@@ -2,7 +2,7 @@
 ghost use Rattle.std.specs.Prelude.{ℕ, ◌≡◌, ◌≢◌, ◌++◌, drop, OnOk, IfOk, Some};
 ghost use Rattle.wire_message.specs.declared.error.Error.TheVariants as errors;
 ghost use Rattle.peer_route.specs.Trail.{Trail};
-ghost use Rattle.peer_route.specs.Entries.{IsOfRun};
+ghost use Rattle.peer_words.specs.OfRun.{IsOfRun};
 ghost use Rattle.peer_route.specs.Plan.{plan};
 ghost use Rattle.peer_run.specs.Stands.{Stands, Did, call_owners, stream_owners};
 

@@ -1,7 +1,7 @@
 ghost use Rattle.std.specs.Prelude.{◌≡◌, ℕ, Bool, List, Option, map, Some};
-ghost use Rattle.peer_route.specs.declared.answer.Entry.{Entry};
+ghost use Rattle.peer_words.specs.declared.answer.Entry.{Entry};
 ghost use Rattle.std.specs.List.{AllByRecursion};
-ghost use Rattle.peer_route.specs.Parcel.{Setting};
+ghost use Rattle.peer_route.specs.Trail.{Setting};
 ghost use Rattle.peer_route.specs.Entries.{Legal, IsAtOnce};
 ghost use Rattle.peer_route.specs.Told.{ReadsTold, WritesTold, ClosesTold};
 ghost use Rattle.peer_script.specs.Again.{command_of};

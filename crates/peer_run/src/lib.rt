@@ -2,7 +2,6 @@
 #![tactic(auto)]
 
 mod acting;
-mod call_words;
 mod lanes;
 mod laws;
 mod main_call;

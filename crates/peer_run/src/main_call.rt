@@ -1,8 +1,8 @@
 ghost use Rattle.std.specs.Prelude.{ℕ, IsTrue, codes, decimal, ◌∷◌, ◌++◌, ◌≡◌, ◌≢◌, ◌<◌, ◌≤◌, ◌⊎◌, Bool, true, List, [], map, string_bytes, Option, Some, Ok, IfOk, IfSome, is_some};
 ghost use Rattle.std.specs.List.{AllByRecursion};
 ghost use Rattle.std.specs.Io.KnownBytes.{Appends};
-ghost use Rattle.peer_route.specs.declared.words.Command.{Command};
-ghost use Rattle.peer_route.specs.Entries.{IsOfRun};
+ghost use Rattle.peer_words.specs.declared.words.Command.{Command};
+ghost use Rattle.peer_words.specs.OfRun.{IsOfRun};
 ghost use Rattle.wire_framing.specs.Source.{MayRise};
 ghost use Rattle.peer_script.specs.Reading.{IsWithin, script_of, script_from, given};
 ghost use Rattle.peer_script.specs.Transcript.{transcript_text};

@@ -1,9 +1,8 @@
 ghost use Rattle.std.specs.Prelude.{ℕ, ◌≡◌, ◌≢◌, ◌≤◌, ◌<◌, ◌-◌, ◌^◌, List, [], ◌∷◌, IfSome, IfOk, IfErr, Some, None, Err};
-ghost use Rattle.peer_route.specs.declared.answer.Entry.{Entry};
-ghost use Rattle.peer_route.specs.declared.words.Words.TheVariants as words;
-ghost use Rattle.peer_route.specs.Parcel.{Setting};
-ghost use Rattle.peer_run.specs.Runs.{Inlet, Outlet, Reads, SourceMoves, IsRest, Shuts};
-ghost use Rattle.peer_run.specs.Runs.{Follows, quiet};
+ghost use Rattle.peer_words.specs.declared.answer.Entry.{Entry};
+ghost use Rattle.peer_words.specs.declared.words.Words.TheVariants as words;
+ghost use Rattle.peer_route.specs.Trail.{Setting};
+ghost use Rattle.peer_run.specs.Runs.{Inlet, Outlet, Reads, SourceMoves, IsRest, Shuts, Follows, quiet};
 ghost use Rattle.wire_framing.specs.Writing.{closed};
 ghost use Rattle.wire_framing.specs.Receive.{Receives, Takes};
 ghost use Rattle.wire_message.specs.declared.error.IoKind.TheVariants.{Ended};

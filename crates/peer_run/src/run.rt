@@ -1,15 +1,13 @@
 ghost use Rattle.std.specs.Prelude.{ℕ, ◌≡◌, ◌≢◌, ◌≤◌, ◌-◌, ◌^◌, length, List, [], ◌∷◌, IfOk, option_map, Some};
 ghost use Rattle.std.specs.List.{AllByRecursion};
-ghost use Rattle.peer_route.specs.declared.answer.Entry.{Entry};
-ghost use Rattle.peer_route.specs.declared.words.Command.{Command};
-ghost use Rattle.peer_route.specs.Entries.{IsOfRun};
-ghost use Rattle.peer_route.specs.Parcel.{Setting};
+ghost use Rattle.peer_words.specs.declared.answer.Entry.{Entry};
+ghost use Rattle.peer_words.specs.declared.words.Command.{Command};
+ghost use Rattle.peer_words.specs.OfRun.{IsOfRun};
+ghost use Rattle.peer_route.specs.Trail.{Setting, Trail};
 ghost use Rattle.peer_script.specs.Script.{is_bus, name_of};
-ghost use Rattle.peer_route.specs.Trail.{Trail};
 ghost use Rattle.peer_run.specs.Stands.{Stands};
-ghost use Rattle.peer_run.specs.Runs.{Inlet, Outlet};
+ghost use Rattle.peer_run.specs.Runs.{Inlet, Outlet, Running, Runs};
 ghost use Rattle.peer_run.specs.Runs as runs;
-ghost use Rattle.peer_run.specs.Runs.{Running, Runs};
 ghost use Rattle.peer_script.specs.Again.{command_of};
 
 use crate::acting::Acted;

@@ -2,38 +2,44 @@
 ghost use Rattle.std.specs.Prelude.{ℕ, ◌≡◌, ◌<◌, ◌^◌, [], ◌∷◌, length, false, slice_get, option_map, IfOk};
 ghost use Rattle.std.specs.Option.{option_flatten};
 ghost use Rattle.peer_route.specs.Trail.{Trail};
-ghost use Rattle.peer_route.specs.Parcel.{Asked, sent_by};
-ghost use Rattle.peer_route.specs.History.{Past};
-ghost use Rattle.peer_route.specs.Streams.{all_given};
-ghost use Rattle.peer_route.specs.Left.{Left};
-ghost use Rattle.peer_route.specs.CallMessage.{outgoing_asked};
-ghost use Rattle.peer_route.specs.Issuing.{IssuesBy, issued_each, posted};
+ghost use Rattle.peer_words.specs.CallMessage.{Asked, outgoing_asked};
+ghost use Rattle.wire_message.specs.Outgoing.{sent_by};
+ghost use Rattle.peer_core.specs.History.{Past};
+ghost use Rattle.peer_core.specs.Asked.{all_given};
+ghost use Rattle.peer_core.specs.Left.{Left};
+ghost use Rattle.peer_core.specs.Issuing.{IssuesBy};
+ghost use Rattle.peer_calls.specs.Issuing.{posted};
+ghost use Rattle.peer_core.specs.Issuing.{issued_each};
 ghost use Rattle.peer_route.specs.Plan.{sends, on_stream};
-ghost use Rattle.peer_route.specs.declared.words.StreamOp.TheVariants as ops;
-ghost use Rattle.peer_run.specs.Stands.{MakesParcel, named_asked, IsCarried};
-ghost use Rattle.peer_run.specs.Stands.{PeerView, Stands, Did};
+ghost use Rattle.peer_words.specs.declared.words.StreamOp.TheVariants as ops;
+ghost use Rattle.peer_words.specs.Made.{MakesParcel, IsCarried};
+ghost use Rattle.peer_run.specs.Stands.{named_asked, PeerView, Stands, Did};
 
 use crate::acting::{Acted, Makes, plainly};
-use crate::call_words::{error_letter, outgoing_letter, reply_letter};
 use crate::lanes::Lanes;
 use crate::peer::{Peer, RunError};
 use crate::showing::{refused, unsent};
-use peer_route::{Answer, Issued, Letter, Outgoing, Route};
+use peer_route::{Answer, Issued, Outgoing, Route};
+use peer_words::{error_message, outgoing_message, reply_message};
 use std::alloc::Global;
-use wire_message::{Error, Message};
+use wire_message::{Error, Message, OutgoingMessage};
 use wire_names::Bytes;
 
 /// Issues one message, sent by the peer; no call is served by it.
-fn issue_one(alloc: Global, route: &mut Route, letter: Letter<'_>) -> wire_message::Result<Issued>
-    requires { length letter.fds < 2 ^ 32 }
-    ensures { (p : Past) → Left route.old p → IssuesBy (λ issued serials. issued ∷ [] ≡ issued_each p (posted false (sent_by route.old.name false letter.entry) ∷ []) serials) (route.new ≡ route.old) (Left route.new) (posted false (sent_by route.old.name false letter.entry) ∷ []) p result }
+fn issue_one(
+    alloc: Global,
+    route: &mut Route,
+    outgoing: OutgoingMessage<'_>,
+) -> wire_message::Result<Issued>
+    requires { length outgoing.fds < 2 ^ 32 }
+    ensures { (p : Past) → Left route.old p → IssuesBy (λ issued serials. issued ∷ [] ≡ issued_each p (posted false (sent_by route.old.name false outgoing.entry) ∷ []) serials) (route.new ≡ route.old) (Left route.new) (posted false (sent_by route.old.name false outgoing.entry) ∷ []) p result }
 {
     let mut list = Vec::new(alloc);
-    list.push(letter)?;
+    list.push(outgoing)?;
     let mut issued = route.issue(list, false)?;
     match issued.pop() {
         Some(issued) => Ok(issued),
-        // One letter is answered once.
+        // One message is answered once.
         None => Err(Error::Memory),
     }
 }
@@ -44,17 +50,17 @@ fn put(
     route: &mut Route,
     names: &Lanes,
     lane: u32,
-    letter: wire_message::Result<Letter<'_>>,
+    outgoing: wire_message::Result<OutgoingMessage<'_>>,
 ) -> Result<Acted, RunError>
-    requires { IfOk letter (λ letter. length letter.fds < 2 ^ 32) }
+    requires { IfOk outgoing (λ outgoing. length outgoing.fds < 2 ^ 32) }
     ensures { (t : Trail) (v : PeerView) (asked : Asked) → v.core ≡ route.new → Left route.old t.past → v.given ≡ all_given t.past → names.now ≡ t.names
-        → MakesParcel letter.entry asked → IfOk letter.entry (λ letter. IsCarried t.setting.takes_fds letter) → IfOk result (Did v t lane (sends t lane (named_asked t.past.name asked))) }
+        → MakesParcel outgoing.entry asked → IfOk outgoing.entry (λ outgoing. IsCarried t.setting.takes_fds outgoing) → IfOk result (Did v t lane (sends t lane (named_asked t.past.name asked))) }
 {
-    let letter = match letter {
-        Ok(letter) => letter,
+    let outgoing = match outgoing {
+        Ok(outgoing) => outgoing,
         Err(error) => return refused(error),
     };
-    match issue_one(alloc, route, letter) {
+    match issue_one(alloc, route, outgoing) {
         Ok(issued) => match issued.call {
             Some(_) => Ok(Acted {
                 answer: Answer::Called {
@@ -91,8 +97,8 @@ impl Peer {
         ensures did { (t : Trail) → Stands self.old t → t.setting.takes_fds ≡ takes_fds → IfOk result (Did self.new t lane (sends t lane (outgoing_asked t.past.name takes_fds words.now))) }
         ensures rest { (self.new.names ≡ self.old.names) × (self.new.streams ≡ self.old.streams) }
     {
-        let letter = outgoing_letter(alloc, words, takes_fds);
-        put(alloc, &mut self.route, &self.names, lane, letter)
+        let outgoing = outgoing_message(alloc, words, takes_fds);
+        put(alloc, &mut self.route, &self.names, lane, outgoing)
     }
 
     /// Puts a method return to the message that the stream with this number gave last.
@@ -109,8 +115,8 @@ impl Peer {
         let Some(message) = given_last(self.given.as_slice(), stream) else {
             return Ok(plainly(Answer::Refused(Error::UnknownHandle)));
         };
-        let letter = reply_letter(alloc, message, body);
-        put(alloc, &mut self.route, &self.names, lane, letter)
+        let outgoing = reply_message(alloc, message, body);
+        put(alloc, &mut self.route, &self.names, lane, outgoing)
     }
 
     /// Puts the error of that name to the message that the stream with this number gave last.
@@ -128,7 +134,7 @@ impl Peer {
         let Some(message) = given_last(self.given.as_slice(), stream) else {
             return Ok(plainly(Answer::Refused(Error::UnknownHandle)));
         };
-        let letter = error_letter(alloc, message, name, body);
-        put(alloc, &mut self.route, &self.names, lane, letter)
+        let outgoing = error_message(alloc, message, name, body);
+        put(alloc, &mut self.route, &self.names, lane, outgoing)
     }
 }

@@ -1,10 +1,11 @@
 //! What the core gave, as answers.
 ghost use Rattle.std.specs.Prelude.{◌≡◌, ◌≢◌};
 ghost use Rattle.wire_message.specs.declared.error.Error.TheVariants as errors;
-ghost use Rattle.peer_route.specs.declared.opening.Opening.{Opening};
-ghost use Rattle.peer_route.specs.declared.progress.OpenState.{OpenState};
-ghost use Rattle.peer_route.specs.declared.progress.OpenState.TheVariants as states;
-ghost use Rattle.peer_route.specs.Bus.{IsShownAs};
+ghost use Rattle.peer_core.specs.declared.opening.Opened.{Opened};
+ghost use Rattle.peer_core.specs.declared.opening.Opening.{Opening};
+ghost use Rattle.peer_streams.specs.declared.progress.OpenState.{OpenState};
+ghost use Rattle.peer_streams.specs.declared.progress.OpenState.TheVariants as states;
+ghost use Rattle.peer_core.specs.Bus.{IsShownAs};
 ghost use Rattle.peer_route.specs.Entries.{unsent};
 ghost use Rattle.peer_route.specs.Shown as shows;
 ghost use Rattle.peer_run.specs.Stands.{Answers, undone_answer, unopened_answer};
@@ -105,13 +106,13 @@ pub(crate) fn unopened(error: Error) -> Result<Acted, RunError>
 
 /// What is shown of asking whether a stream is open, for which the bus was asked.
 pub(crate) fn shown_opening(opened: Opened) -> Answer
+    requires given { (o : Opening) → opened ≢ Opened.Memory o }
     ensures { (o : Opening) (state : OpenState) → IsShownAs o state opened → state ≢ states.Over errors.UnknownHandle → result ≡ shows.shown_opening state }
 {
     match opened {
         Opened::Open(_) => Answer::Opened,
         Opened::NotYet(_) => Answer::NotYet,
-        // The core takes no memory to tell.
-        Opened::Memory(_) => Answer::NotYet,
+        Opened::Memory(_) => unreachable!(),
         Opened::Refused(message) => shown_error(message),
         Opened::Over(error) => shown_over(error),
     }

@@ -1,8 +1,9 @@
 //! What commands ask of calls and of streams, and the streams that they open.
 ghost use Rattle.std.specs.Prelude.{ℕ, ◌≡◌, ◌≢◌, [], ◌∷◌, ◌++◌, true, false, OnOk, IfOk, Some, None};
-ghost use Rattle.peer_route.specs.declared.words.StreamOp.TheVariants as ops;
+ghost use Rattle.peer_words.specs.declared.words.StreamOp.TheVariants as ops;
 ghost use Rattle.rule_match.specs.Bytes.{rule_in_bytes};
-ghost use Rattle.peer_route.specs.History.{Plain, Main, Past, after};
+ghost use Rattle.peer_streams.specs.History.{Plain};
+ghost use Rattle.peer_core.specs.History.{Main, Past, after};
 ghost use Rattle.peer_route.specs.Trail as trails;
 ghost use Rattle.peer_route.specs.Trail.{Trail, place};
 ghost use Rattle.peer_route.specs.Shown as shows;

@@ -1,7 +1,7 @@
 //! Writing what a peer's core put in its outbox.
 ghost use Rattle.std.specs.Prelude.{ℕ, ◌≡◌, ◌≤◌, ◌<◌, ◌-◌, ◌≢◌, drop, true, false, length, Err, is_ok, IfOk, OnOk};
-ghost use Rattle.peer_route.specs.History.{Past, Fault, after_all};
-ghost use Rattle.peer_route.specs.Left.{Left};
+ghost use Rattle.peer_core.specs.History.{Past, Fault, after_all};
+ghost use Rattle.peer_core.specs.Left.{Left};
 ghost use Rattle.peer_route.specs.Entries.{repeat, writes_of};
 ghost use Rattle.peer_run.specs.Stands.{AreTaken};
 ghost use Rattle.peer_run.specs.Runs.{Outlet, Sinks, Flushed, IsReady, IsFine};

@@ -1,12 +1,9 @@
 -- The words of a call are read again: absent names, and the letters of flags.
 use Rattle.std.proofs.Common.{ℕ, ◌≡◌, ◌<◌, Bool, true, false, ◌||◌, if◌then◌else◌, List, [], ◌∷◌, ◌++◌, length, Option, Some, None, refl, sym, ap, ◌∙◌, arith}
 use Rattle.std.specs.List.{list_all}
-use Rattle.peer_route.specs.declared.words.CallFlags.{CallFlags}
-use Rattle.peer_script.specs.Word.{same, text_of, text_word, optional_word, flag_letter, flag_letters, or_dash, flags_word}
-use Rattle.peer_script.specs.Script.{is_absent, present, optional_of, flags_of}
-use Rattle.peer_script.specs.Again.{IsOptional}
-use Rattle.peer_script.proofs.Spelling.{text_again, same_is}
-use Rattle.peer_script.proofs.Again.{word_byte}
+use Rattle.peer_words.specs.declared.words.CallFlags.{CallFlags}
+use Rattle.peer_script.specs.{Word.{same, text_of, text_word, optional_word, flag_letter, flag_letters, or_dash, flags_word}, Script.{is_absent, present, optional_of, flags_of}, Again.IsOptional}
+use Rattle.peer_script.proofs.{Spelling.{text_again, same_is}, Again.word_byte}
 
 -- ---- what may be absent
 

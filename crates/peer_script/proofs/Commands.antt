@@ -1,27 +1,13 @@
 -- The words of a command are words of a line, and are read again.
-use Rattle.std.proofs.Common.{ℕ, ◌≡◌, ◌/◌, ◌%◌, ◌^◌, ◌<◌, Bool, true, false, if◌then◌else◌, List, [], ◌∷◌, ◌++◌, Option, Some, None, codes, decimal, refl, ap, arith}
+use Rattle.std.proofs.{Common.{ℕ, ◌≡◌, ◌/◌, ◌%◌, ◌^◌, ◌<◌, Bool, true, false, if◌then◌else◌, List, [], ◌∷◌, ◌++◌, Option, Some, None, codes, decimal, refl, ap, arith}, lemmas.Bool.Decides.nat_tests, lemmas.List.Elements.{All-head, All-tail}, lemmas.Fmt.decimal_nonempty}
 use Rattle.std.specs.List.{list_all, flat_map, All, AllByRecursion}
-use Rattle.std.proofs.lemmas.Bool.Decides.{nat_tests}
-use Rattle.std.proofs.lemmas.List.Elements.{All-head, All-tail}
-use Rattle.std.proofs.lemmas.Fmt.{decimal_nonempty}
-use Rattle.peer_route.specs.declared.words.CallFlags.{CallFlags}
-use Rattle.peer_route.specs.declared.words.OutgoingKind.{OutgoingKind}
-use Rattle.peer_route.specs.declared.words.OutgoingKind.TheVariants as outgoing
-use Rattle.peer_route.specs.declared.words.Outgoing.{Outgoing}
-use Rattle.peer_route.specs.declared.words.CallOp.{CallOp}
-use Rattle.peer_route.specs.declared.words.CallOp.TheVariants as calls
-use Rattle.peer_route.specs.declared.words.StreamOp.{StreamOp}
-use Rattle.peer_route.specs.declared.words.StreamOp.TheVariants as ops
-use Rattle.peer_route.specs.declared.words.Words.{Words}
-use Rattle.peer_route.specs.declared.words.Words.TheVariants as words
-use Rattle.peer_route.specs.Hex.{hex_digit, hex_two, hex_word}
-use Rattle.peer_script.specs.Word.{same, text_of, is_plain, text_byte, text_word, optional_word, flag_letters, flags_word}
-use Rattle.peer_script.specs.Script.{present, optional_number, kind_of, interface_of, command_words, head_line}
-use Rattle.peer_script.specs.Transcript.{optional_decimal, kind_word, outgoing_words, call_words, stream_words, entry_words}
-use Rattle.peer_script.specs.Again.{SomeBytes, IsOptional, IsThere, IsInterface, IsCount, OutgoingText, HasCallText, HasStreamText, HasText}
-use Rattle.peer_script.proofs.Spelling.{number_again, number_present, text_again, number_other, text_other, text_some, decimal_digits}
-use Rattle.peer_script.proofs.Calls.{optional_again, flags_again, dash_some}
-use Rattle.peer_script.proofs.Again.{word_byte, both, joined, digits_word, IsWord, named}
+use Rattle.peer_words.specs.{declared.words.CallFlags.CallFlags, declared.words.OutgoingKind.OutgoingKind, declared.words.Outgoing.Outgoing, declared.words.CallOp.CallOp, declared.words.StreamOp.StreamOp, declared.words.Words.Words, Hex.{hex_digit, hex_two, hex_word}}
+use Rattle.peer_words.specs.declared.words.OutgoingKind.TheVariants as outgoing
+use Rattle.peer_words.specs.declared.words.CallOp.TheVariants as calls
+use Rattle.peer_words.specs.declared.words.StreamOp.TheVariants as ops
+use Rattle.peer_words.specs.declared.words.Words.TheVariants as words
+use Rattle.peer_script.specs.{Word.{same, text_of, is_plain, text_byte, text_word, optional_word, flag_letters, flags_word}, Script.{present, optional_number, kind_of, interface_of, command_words, head_line}, Transcript.{optional_decimal, kind_word, outgoing_words, call_words, stream_words, entry_words}, Again.{SomeBytes, IsOptional, IsThere, IsInterface, IsCount, OutgoingText, HasCallText, HasStreamText, HasText}}
+use Rattle.peer_script.proofs.{Spelling.{number_again, number_present, text_again, number_other, text_other, text_some, decimal_digits}, Calls.{optional_again, flags_again, dash_some}, Again.{word_byte, both, joined, digits_word, IsWord, named}}
 
 -- ---- words
 

@@ -1,14 +1,7 @@
 -- What is read is a script's text: what the lines said so far is a script of just these lines.
-use Rattle.std.proofs.Common.{ℕ, ◌≡◌, ◌+◌, ◌≤◌, Bool, true, false, ◌&&◌, nat_le, if◌then◌else◌, List, [], ◌∷◌, ◌++◌, map, Option, Some, None, Ok, Err, refl, sym, ap, ◌∙◌, subst, arith, append_assoc, append-nil}
-use Rattle.std.proofs.lemmas.Bool.Decides.{nat_tests}
-use Rattle.peer_route.specs.declared.words.Command.{Command}
-use Rattle.peer_script.specs.declared.kind.PeerKind.{PeerKind}
-use Rattle.peer_script.specs.declared.line.Line.{Line}
-use Rattle.peer_script.specs.declared.line.Line.TheVariants.{Peer, Capacity, Fds, OutFault, In, InFault, Do, Sent}
-use Rattle.peer_script.specs.declared.reading.Stage.{Stage}
-use Rattle.peer_script.specs.declared.reading.Stage.TheVariants.{Start, Over}
-use Rattle.peer_script.specs.Script.{Given, Gave, Broke, Script, ScriptText, line_of, parts, capacity_lines, fds_lines, outfault_lines, given_line, script_lines}
-use Rattle.peer_script.specs.Reading.{Step, begun, rank, first_stage, last_stage, next_stage, may_come, with_line, take_line, may_end, end_of, then_read, read_lines, script_of}
+use Rattle.std.proofs.{Common.{ℕ, ◌≡◌, ◌+◌, ◌≤◌, Bool, true, false, ◌&&◌, nat_le, if◌then◌else◌, List, [], ◌∷◌, ◌++◌, map, Option, Some, None, Ok, Err, refl, sym, ap, ◌∙◌, subst, arith, append_assoc, append-nil}, lemmas.Bool.Decides.nat_tests}
+use Rattle.peer_words.specs.declared.words.Command.{Command}
+use Rattle.peer_script.specs.{declared.kind.PeerKind.PeerKind, declared.line.Line.Line, declared.line.Line.TheVariants.{Peer, Capacity, Fds, OutFault, In, InFault, Do, Sent}, declared.reading.Stage.Stage, declared.reading.Stage.TheVariants.{Start, Over}, Script.{Given, Gave, Broke, Script, ScriptText, line_of, parts, capacity_lines, fds_lines, outfault_lines, given_line, script_lines}, Reading.{Step, begun, rank, first_stage, last_stage, next_stage, may_come, with_line, take_line, may_end, end_of, then_read, read_lines, script_of}}
 
 -- ---- one line after the other
 

@@ -1,22 +1,10 @@
 -- A script that was read has only commands of `run`.
 use Rattle.std.proofs.Common.{ℕ, ◌≡◌, Bool, true, false, ◌||◌, nat_le, if◌then◌else◌, List, [], ◌∷◌, ◌++◌, map, codes, Option, Some, None, IfSome, is_some, option_map, Result, Ok, Err, IfOk, subst}
 use Rattle.std.specs.List.{AllByRecursion}
-use Rattle.peer_route.specs.declared.words.OutgoingKind.{OutgoingKind}
-use Rattle.peer_route.specs.declared.words.CallOp.{CallOp}
-use Rattle.peer_route.specs.declared.words.StreamOp.{StreamOp}
-use Rattle.peer_route.specs.declared.words.CallFlags.{CallFlags}
-use Rattle.peer_route.specs.declared.words.Words.{Words}
-use Rattle.peer_route.specs.declared.words.Words.TheVariants as words
-use Rattle.peer_route.specs.declared.words.Command.{Command}
-use Rattle.peer_route.specs.Entries.{IsOfRun}
-use Rattle.peer_route.specs.Hex.{bytes_of}
+use Rattle.peer_words.specs.{declared.words.OutgoingKind.OutgoingKind, declared.words.CallOp.CallOp, declared.words.StreamOp.StreamOp, declared.words.CallFlags.CallFlags, declared.words.Words.Words, declared.words.Command.Command, OfRun.IsOfRun, Hex.bytes_of}
+use Rattle.peer_words.specs.declared.words.Words.TheVariants as words
 use Rattle.peer_script.specs.declared.kind.PeerKind.TheVariants as kinds
-use Rattle.peer_script.specs.declared.line.Line.{Line}
-use Rattle.peer_script.specs.declared.line.Line.TheVariants.{Peer, Capacity, Fds, OutFault, In, InFault, Do, Sent}
-use Rattle.peer_script.specs.Word.{same, number_of, text_of, words_of}
-use Rattle.peer_script.specs.Script.{Script, is_absent, optional_of, optional_number, flags_of, interface_of, kind_of, outgoing_of, sending, open_of, plain, call_op, stream_op, asking, asking_words, or_else, named_words, command_words, in_lane, with_lane, lane_words, before_answer, command_line, unique_of, head_line, line_of, capacity_lines, fds_lines, outfault_lines, given_line, sent_lines, script_lines}
-use Rattle.peer_script.specs.Reading.{script_of, TellsText}
-use Rattle.peer_script.specs.declared.error.ScriptError.{ScriptError}
+use Rattle.peer_script.specs.{declared.line.Line.Line, declared.line.Line.TheVariants.{Peer, Capacity, Fds, OutFault, In, InFault, Do, Sent}, Word.{same, number_of, text_of, words_of}, Script.{Script, is_absent, optional_of, optional_number, flags_of, interface_of, kind_of, outgoing_of, sending, open_of, plain, call_op, stream_op, asking, asking_words, or_else, named_words, command_words, in_lane, with_lane, lane_words, before_answer, command_line, unique_of, head_line, line_of, capacity_lines, fds_lines, outfault_lines, given_line, sent_lines, script_lines}, Reading.{script_of, TellsText}, declared.error.ScriptError.ScriptError}
 use Rattle.peer_script.proofs.Grammar.{text_of_reading}
 
 -- what is there, if anything is, has the property

@@ -1,15 +1,9 @@
 -- Reading line by line.
-use Rattle.std.proofs.Common.{ℕ, ◌≡◌, ◌+◌, ◌<◌, ◌≤◌, ◌==◌, if◌then◌else◌, Bool, true, false, List, [], ◌∷◌, length, Option, Some, None, Result, Ok, Err, refl, sym, ap, subst, ◌∙◌, arith}
-use Rattle.std.proofs.lemmas.List.Splits.{length-slice_split}
+use Rattle.std.proofs.{Common.{ℕ, ◌≡◌, ◌+◌, ◌<◌, ◌≤◌, ◌==◌, if◌then◌else◌, Bool, true, false, List, [], ◌∷◌, length, Option, Some, None, Result, Ok, Err, refl, sym, ap, subst, ◌∙◌, arith}, lemmas.List.Splits.length-slice_split}
 use Rattle.wire_framing.specs.declared.memory.Piece.{Piece}
-use Rattle.peer_route.specs.declared.words.Command.{Command}
-use Rattle.peer_script.specs.declared.reading.Progress.{Progress}
+use Rattle.peer_words.specs.declared.words.Command.{Command}
+use Rattle.peer_script.specs.{declared.reading.Progress.Progress, declared.line.Line.Line, declared.reading.Stage.Stage, declared.reading.Stage.TheVariants.Start, Script.{Script, line_of, parts}, Reading.{Step, take_line, may_end, end_of, then_read, read_lines, script_of, script_from, TakesLine}}
 use Rattle.peer_script.specs.declared.kind.PeerKind.TheVariants as kinds
-use Rattle.peer_script.specs.declared.line.Line.{Line}
-use Rattle.peer_script.specs.declared.reading.Stage.{Stage}
-use Rattle.peer_script.specs.declared.reading.Stage.TheVariants.{Start}
-use Rattle.peer_script.specs.Script.{Script, line_of, parts}
-use Rattle.peer_script.specs.Reading.{Step, take_line, may_end, end_of, then_read, read_lines, script_of, script_from, TakesLine}
 
 pub lines_step : (r : Step) (n : ℕ) (line : List ℕ) (ls : List (List ℕ)) → 1 ≤ length ls
     → read_lines r n (line ∷ ls) ≡ then_read (take_line r.stage r.script (line_of line)) n (λ q. read_lines q (n + 1) ls)

@@ -1,16 +1,8 @@
 -- Each script's text is read.
-use Rattle.std.proofs.Common.{ℕ, ◌≡◌, ◌+◌, ◌≤◌, Bool, true, false, ◌&&◌, nat_le, List, [], ◌∷◌, ◌++◌, length, map, Option, Some, None, Ok, refl, sym, ap, ◌∙◌, subst, arith, append_assoc, append-nil, length-append}
-use Rattle.std.proofs.lemmas.Bool.Decides.{nat_tests}
-use Rattle.peer_route.specs.declared.words.Command.{Command}
-use Rattle.peer_script.specs.declared.kind.PeerKind.{PeerKind}
-use Rattle.peer_script.specs.declared.line.Line.{Line}
-use Rattle.peer_script.specs.declared.line.Line.TheVariants.{Peer, Capacity, Fds, OutFault, In, InFault, Do, Sent}
-use Rattle.peer_script.specs.declared.reading.Stage.{Stage}
-use Rattle.peer_script.specs.declared.reading.Stage.TheVariants.{Start, Head}
-use Rattle.peer_script.specs.Script.{Given, Gave, Broke, Script, ScriptText, line_of, capacity_lines, fds_lines, outfault_lines, given_line, sent_lines, script_lines}
-use Rattle.peer_script.specs.Reading.{Step, begun, rank, first_stage, last_stage, next_stage, with_line, take_line, then_read, read_lines, script_of}
-use Rattle.peer_script.proofs.Read.{lines_step}
-use Rattle.peer_script.proofs.Grammar.{and_then, steps}
+use Rattle.std.proofs.{Common.{ℕ, ◌≡◌, ◌+◌, ◌≤◌, Bool, true, false, ◌&&◌, nat_le, List, [], ◌∷◌, ◌++◌, length, map, Option, Some, None, Ok, refl, sym, ap, ◌∙◌, subst, arith, append_assoc, append-nil, length-append}, lemmas.Bool.Decides.nat_tests}
+use Rattle.peer_words.specs.declared.words.Command.{Command}
+use Rattle.peer_script.specs.{declared.kind.PeerKind.PeerKind, declared.line.Line.Line, declared.line.Line.TheVariants.{Peer, Capacity, Fds, OutFault, In, InFault, Do, Sent}, declared.reading.Stage.Stage, declared.reading.Stage.TheVariants.{Start, Head}, Script.{Given, Gave, Broke, Script, ScriptText, line_of, capacity_lines, fds_lines, outfault_lines, given_line, sent_lines, script_lines}, Reading.{Step, begun, rank, first_stage, last_stage, next_stage, with_line, take_line, then_read, read_lines, script_of}}
+use Rattle.peer_script.proofs.{Read.lines_step, Grammar.{and_then, steps}}
 
 both_tests : (a k b : ℕ) → a ≤ k → k ≤ b → (nat_le a k && nat_le k b) ≡ true
 both_tests a k b h i = grind (arith, nat_tests)

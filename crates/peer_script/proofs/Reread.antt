@@ -1,33 +1,15 @@
 -- Each line of a transcript is read again, and so is the whole.
-use Rattle.std.proofs.Common.{ℕ, ◌≡◌, ◌/◌, ◌%◌, ◌^◌, ◌<◌, Bool, true, false, not, ◌&&◌, ◌||◌, nat_eq, nat_le, if◌then◌else◌, List, [], ◌∷◌, ◌++◌, length, map, Option, Some, None, is_some, codes, decimal, refl, sym, ap, subst, ◌∙◌, arith, append_assoc, append-nil}
+use Rattle.std.proofs.{Common.{ℕ, ◌≡◌, ◌/◌, ◌%◌, ◌^◌, ◌<◌, Bool, true, false, not, ◌&&◌, ◌||◌, nat_eq, nat_le, if◌then◌else◌, List, [], ◌∷◌, ◌++◌, length, map, Option, Some, None, is_some, codes, decimal, refl, sym, ap, subst, ◌∙◌, arith, append_assoc, append-nil}, lemmas.Bool.Decides.nat_tests, lemmas.List.Elements.{All-head, All-tail, All-from_recursion}}
 use Rattle.std.specs.List.{list_all, flat_map, All}
-use Rattle.std.proofs.lemmas.Bool.Decides.{nat_tests}
-use Rattle.std.proofs.lemmas.List.Elements.{All-head, All-tail, All-from_recursion}
-use Rattle.wire_message.specs.Front.{Seen}
-use Rattle.wire_message.specs.Texts.{message_line}
-use Rattle.wire_message.specs.declared.error.Error.{Error}
+use Rattle.wire_message.specs.{Front.MessageView, Texts.message_line, declared.error.Error.Error, declared.error.IoKind.IoKind}
 use Rattle.wire_message.specs.declared.error.Error.TheVariants as errors
-use Rattle.wire_message.specs.declared.error.IoKind.{IoKind}
 use Rattle.wire_message.specs.declared.error.IoKind.TheVariants as kinds
-use Rattle.peer_route.specs.declared.words.Words.{Words}
-use Rattle.peer_route.specs.declared.words.Command.{Command}
-use Rattle.peer_route.specs.declared.answer.Answer.{Answer}
-use Rattle.peer_route.specs.declared.answer.Answer.TheVariants as answers
-use Rattle.peer_route.specs.declared.answer.Entry.{Entry}
-use Rattle.peer_script.specs.declared.kind.PeerKind.{PeerKind}
+use Rattle.peer_words.specs.{declared.words.Words.Words, declared.words.Command.Command, declared.answer.Answer.Answer, declared.answer.Entry.Entry, Hex.{bytes_of, hex_digit, hex_two, hex_word}}
+use Rattle.peer_words.specs.declared.answer.Answer.TheVariants as answers
+use Rattle.peer_script.specs.{declared.kind.PeerKind.PeerKind, declared.line.Line.Line, declared.line.Line.TheVariants.{Peer, Capacity, Fds, OutFault, In, InFault, Do, Sent}, Word.{same, words_of, number_of, text_word}, Script.{Given, Gave, Broke, Script, ScriptText, given_line, capacity_lines, fds_lines, outfault_lines, parts, lane_words, command_words, command_line, head_line, line_of, script_lines}, Transcript.{or_empty, shown_byte, shown_text, io_word, error_word, spaced, entry_words, got_text, named_text, last_text, answer_text, entry_text, given_text, peer_text, capacity_text, fds_text, outfault_text, sent_word, transcript_text}, Again.{command_of, HasBytes, IsShown, HasNumbers, CanBeRead, IsGiven, IsName, IsCount}}
 use Rattle.peer_script.specs.declared.kind.PeerKind.TheVariants as peers
-use Rattle.peer_script.specs.declared.line.Line.{Line}
-use Rattle.peer_script.specs.declared.line.Line.TheVariants.{Peer, Capacity, Fds, OutFault, In, InFault, Do, Sent}
-use Rattle.peer_script.specs.Word.{same, words_of, number_of, text_word}
-use Rattle.peer_route.specs.Hex.{bytes_of, hex_digit, hex_two, hex_word}
-use Rattle.peer_script.specs.Script.{Given, Gave, Broke, Script, ScriptText, given_line, capacity_lines, fds_lines, outfault_lines, parts, lane_words, command_words, command_line, head_line, line_of, script_lines}
-use Rattle.peer_script.specs.Transcript.{or_empty, shown_byte, shown_text, io_word, error_word, spaced, entry_words, got_text, named_text, last_text, answer_text, entry_text, given_text, peer_text, capacity_text, fds_text, outfault_text, sent_word, transcript_text}
-use Rattle.peer_script.specs.Again.{command_of, HasBytes, IsShown, HasNumbers, CanBeRead, IsGiven, IsName, IsCount}
-use Rattle.peer_route.proofs.Spelled.{bytes_again}
-use Rattle.peer_script.proofs.Grammar.{mapped}
-use Rattle.peer_script.proofs.Spelling.{number_again, text_again, decimal_digits}
-use Rattle.peer_script.proofs.Commands.{digit_byte, hex_bytes, text_bytes, text_is_word, number_is_word, command_again, no_head}
-use Rattle.peer_script.proofs.Again.{line_byte, both, joined, word_line, digits_word, line_part, IsWord, named, words_again, words_alone, before_again}
+use Rattle.peer_words.proofs.Spelled.{bytes_again}
+use Rattle.peer_script.proofs.{Grammar.mapped, Spelling.{number_again, text_again, decimal_digits}, Commands.{digit_byte, hex_bytes, text_bytes, text_is_word, number_is_word, command_again, no_head}, Again.{line_byte, both, joined, word_line, digits_word, line_part, IsWord, named, words_again, words_alone, before_again}}
 
 -- ---- a line, and a text of lines
 
@@ -157,7 +139,7 @@ made_line what n serial w h k =
     joined line_byte (what ++ decimal n ++ codes " serial ") (decimal serial)
     (joined line_byte (what ++ decimal n) (codes " serial ") (joined line_byte what (decimal n) w (number_line n h)) refl) (number_line serial k)
 
-got_line : (read : Option Seen) → IsShown read → list_all line_byte (got_text read) ≡ true
+got_line : (read : Option MessageView) → IsShown read → list_all line_byte (got_text read) ≡ true
 got_line None h = refl
 got_line (Some m) h =
     let place = codes "got " ++ decimal m.position in
@@ -175,7 +157,7 @@ last_line : (last : Option ℕ) → IsCount last → list_all line_byte (last_te
 last_line None h = refl
 last_line (Some serial) h = joined line_byte (codes " serial ") (decimal serial) refl (number_line serial h)
 
-answer_line : (read : Option Seen) (a : Answer) → HasNumbers read a → list_all line_byte (answer_text read a) ≡ true
+answer_line : (read : Option MessageView) (a : Answer) → HasNumbers read a → list_all line_byte (answer_text read a) ≡ true
 unfolding answer_text
 answer_line read (answers.Called call serial) h = made_line (codes "call ") call serial refl h.0 h.1
 answer_line read (answers.Opening number serial) h = made_line (codes "opening ") number serial refl h.0 h.1

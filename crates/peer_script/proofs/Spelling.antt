@@ -1,15 +1,9 @@
 -- What is spelled is read again: numbers and texts.
-use Rattle.std.proofs.Common.{ℕ, zero, suc, ◌≡◌, ◌+◌, ◌-◌, ◌*◌, ◌^◌, ◌<◌, Bool, true, false, not, ◌||◌, ◌==◌, nat_lt, nat_le, if◌then◌else◌, List, [], ◌∷◌, ◌++◌, length, get_or, Some, None, codes, decimal, fold, refl, sym, ap, ◌∙◌, arith, rules}
-use Rattle.std.specs.List.{list_all, flat_map, All}
-use Rattle.std.specs.Char.{is_ascii_digit}
-use Rattle.std.proofs.lemmas.Bool.Decides.{nat_tests}
-use Rattle.std.proofs.lemmas.List.Elements.{All-head, All-tail}
-use Rattle.std.proofs.lemmas.Str.Parse.{IsNumeralModel, numerals_by_fold}
-use Rattle.std.proofs.lemmas.Fmt.{digits_decimal, digits_value-decimal, decimal_nonempty, first_decimal, decimal_digit}
-use Rattle.std.specs.Cmp.Lexicographic.{bytes_decides}
-use Rattle.peer_route.proofs.Spelled.{byte_again}
+use Rattle.std.proofs.{Common.{ℕ, zero, suc, ◌≡◌, ◌+◌, ◌-◌, ◌*◌, ◌^◌, ◌<◌, Bool, true, false, not, ◌||◌, ◌==◌, nat_lt, nat_le, if◌then◌else◌, List, [], ◌∷◌, ◌++◌, length, get_or, Some, None, codes, decimal, fold, refl, sym, ap, ◌∙◌, arith, rules}, lemmas.Bool.Decides.nat_tests, lemmas.List.Elements.{All-head, All-tail}, lemmas.Str.Parse.{IsNumeralModel, numerals_by_fold}, lemmas.Fmt.{digits_decimal, digits_value-decimal, decimal_nonempty, first_decimal, decimal_digit}}
+use Rattle.std.specs.{List.{list_all, flat_map, All}, Char.is_ascii_digit, Cmp.Lexicographic.bytes_decides}
+use Rattle.peer_words.proofs.Spelled.{byte_again}
 use Rattle.peer_script.specs.Word.{same, digits_value, begins_with_zero, number_of, is_plain, plain_byte, escaped, unescaped, text_of, text_byte, text_word}
-use Rattle.peer_route.specs.Hex.{hex_value, hex_byte, onto, hex_two}
+use Rattle.peer_words.specs.Hex.{hex_value, hex_byte, onto, hex_two}
 
 -- ---- numbers
 

@@ -1,14 +1,10 @@
 -- What the transcript's text is, and what was written where nothing was.
-use Rattle.std.proofs.Common.{ℕ, ◌<◌, Bool, List, length, Option, Some, None, Err, refl, ap, arith}
-use Rattle.std.proofs.KnownBytes.{Appends-nil}
+use Rattle.std.proofs.{Common.{ℕ, ◌<◌, Bool, List, length, Option, Some, None, Err, refl, ap, arith}, KnownBytes.Appends-nil}
 use Rattle.wire_framing.specs.declared.sink.Refusal.TheVariants as refusals
 use Rattle.wire_framing.specs.Sink.{RoomFalls}
-use Rattle.peer_route.specs.declared.answer.Entry.{Entry}
-use Rattle.peer_script.specs.declared.kind.PeerKind.{PeerKind}
+use Rattle.peer_words.specs.declared.answer.Entry.{Entry}
+use Rattle.peer_script.specs.{declared.kind.PeerKind.PeerKind, Output.WritesAll, Script.Given, Transcript.{peer_text, transcript_text}}
 use Rattle.peer_script.specs.declared.kind.PeerKind.TheVariants as kinds
-use Rattle.peer_script.specs.Output.{WritesAll}
-use Rattle.peer_script.specs.Script.{Given}
-use Rattle.peer_script.specs.Transcript.{peer_text, transcript_text}
 
 room_none : (room : Option (Option ℕ)) → RoomFalls room room 0
 room_none None = tt

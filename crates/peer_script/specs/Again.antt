@@ -1,29 +1,16 @@
 -- Transcripts as scripts: the command of an entry, and the entries whose lines are read again.
-use Rattle.std.specs.Prelude.{ℕ, ◌≡◌, ◌<◌, ◌≤◌, ◌^◌, Bool, false, List, length, map, Ok, Option, Some, None}
-use Rattle.std.specs.List.{All}
-use Rattle.peer_route.specs.declared.words.Outgoing.{Outgoing}
-use Rattle.peer_route.specs.declared.words.OutgoingKind.{OutgoingKind}
-use Rattle.peer_route.specs.declared.words.OutgoingKind.TheVariants as outgoing
-use Rattle.peer_route.specs.declared.words.CallOp.{CallOp}
-use Rattle.peer_route.specs.declared.words.CallOp.TheVariants as calls
-use Rattle.peer_route.specs.declared.words.StreamOp.{StreamOp}
-use Rattle.peer_route.specs.declared.words.StreamOp.TheVariants as ops
-use Rattle.peer_route.specs.declared.words.Words.{Words}
-use Rattle.peer_route.specs.declared.words.Words.TheVariants as words
-use Rattle.peer_route.specs.declared.words.Command.{Command}
-use Rattle.peer_route.specs.declared.answer.Answer.{Answer}
-use Rattle.peer_route.specs.declared.answer.Answer.TheVariants as answers
-use Rattle.peer_route.specs.declared.answer.Entry.{Entry}
-use Rattle.wire_message.specs.Front.{Seen}
-use Rattle.wire_message.specs.Texts.{message_line}
-use Rattle.wire_message.specs.declared.error.Error.{Error}
+use Rattle.std.specs.{Prelude.{ℕ, ◌≡◌, ◌<◌, ◌≤◌, ◌^◌, Bool, false, List, length, map, Ok, Option, Some, None}, List.All}
+use Rattle.peer_words.specs.{declared.words.Outgoing.Outgoing, declared.words.OutgoingKind.OutgoingKind, declared.words.CallOp.CallOp, declared.words.StreamOp.StreamOp, declared.words.Words.Words, declared.words.Command.Command, declared.answer.Answer.Answer, declared.answer.Entry.Entry}
+use Rattle.peer_words.specs.declared.words.OutgoingKind.TheVariants as outgoing
+use Rattle.peer_words.specs.declared.words.CallOp.TheVariants as calls
+use Rattle.peer_words.specs.declared.words.StreamOp.TheVariants as ops
+use Rattle.peer_words.specs.declared.words.Words.TheVariants as words
+use Rattle.peer_words.specs.declared.answer.Answer.TheVariants as answers
+use Rattle.wire_message.specs.{Front.MessageView, Texts.message_line, declared.error.Error.Error}
 use Rattle.wire_message.specs.declared.error.Error.TheVariants as errors
 use Rattle.wire_names.specs.Names.{IsUniqueName}
-use Rattle.peer_script.specs.declared.kind.PeerKind.{PeerKind}
+use Rattle.peer_script.specs.{declared.kind.PeerKind.PeerKind, Script.{Given, Gave, Broke, is_absent}, Reading.script_of, Transcript.{or_empty, transcript_text}}
 use Rattle.peer_script.specs.declared.kind.PeerKind.TheVariants as kinds
-use Rattle.peer_script.specs.Script.{Given, Gave, Broke, is_absent}
-use Rattle.peer_script.specs.Reading.{script_of}
-use Rattle.peer_script.specs.Transcript.{or_empty, transcript_text}
 
 -- the command that an entry answers
 abbrev pub command_of : Entry → Command
@@ -39,6 +26,7 @@ pub record Present (text : List ℕ) : Type 0 where
   pub some : SomeBytes text
   pub other : is_absent text ≡ false
 
+-- a text that may be left out is no empty one, and isn't the word for none
 abbrev pub IsOptional : Option (List ℕ) → Type 0
 IsOptional None = Unit {0}
 IsOptional (Some text) = Present text
@@ -66,10 +54,12 @@ abbrev pub IsCount : Option ℕ → Type 0
 IsCount None = Unit {0}
 IsCount (Some count) = count < 2 ^ 64
 
+-- the position that it names, if it names one, is below 2^64
 abbrev pub HasCallText : CallOp → Type 0
 HasCallText (calls.Before before) = before < 2 ^ 64
 HasCallText op = Unit {0}
 
+-- its texts are words, and its numbers are below 2^64
 abbrev pub HasStreamText : StreamOp → Type 0
 HasStreamText (ops.Reply body) = IsOptional body
 HasStreamText (ops.Error name body) = SomeBytes name × IsOptional body
@@ -96,12 +86,12 @@ HasBytes (errors.MissingParameter name) = All (λ b. b < 256) name.now
 HasBytes error = Unit {0}
 
 -- the numbers of a message that was read are below 2^64, and its line is of bytes
-abbrev pub IsShown : Option Seen → Type 0
+abbrev pub IsShown : Option MessageView → Type 0
 IsShown None = Unit {0}
 IsShown (Some m) = (m.position < 2 ^ 64) × (length m.bytes < 2 ^ 64) × All (λ b. b < 256) (message_line m)
 
 -- the numbers of an answer are below 2^64, and its texts are bytes; `read` is the message that the entry read
-abbrev pub HasNumbers : Option Seen → Answer → Type 0
+abbrev pub HasNumbers : Option MessageView → Answer → Type 0
 HasNumbers read (answers.Called call serial) = (call < 2 ^ 64) × (serial < 2 ^ 64)
 HasNumbers read (answers.Sent serial) = serial < 2 ^ 64
 HasNumbers read (answers.MethodError m) = (m.position < 2 ^ 64) × All (λ b. b < 256) (or_empty m.error_name)

@@ -1,25 +1,17 @@
 -- Reading a script: line by line, with the first line outside the table or out of its order.
 use Rattle.std.specs.Prelude.{ℕ, ◌≡◌, ◌+◌, ◌<◌, ◌≤◌, ◌⊎◌, Bool, true, false, ◌&&◌, nat_le, if◌then◌else◌, List, [], ◌∷◌, ◌++◌, length, map, ◌≢◌, Option, Some, None, IfSome, Result, Ok, Err}
-use Rattle.peer_route.specs.declared.words.Command.{Command}
-use Rattle.wire_framing.specs.declared.memory.Piece.{Piece}
-use Rattle.wire_framing.specs.declared.memory.Piece.TheVariants.{Bytes, Fault}
-use Rattle.wire_framing.specs.Source.{MayRise}
-use Rattle.peer_script.specs.declared.kind.PeerKind.{PeerKind}
+use Rattle.peer_words.specs.declared.words.Command.{Command}
+use Rattle.wire_framing.specs.{declared.memory.Piece.Piece, declared.memory.Piece.TheVariants.{Bytes, Fault}, Source.MayRise}
+use Rattle.peer_script.specs.{declared.kind.PeerKind.PeerKind, declared.line.Line.Line, declared.line.Line.TheVariants.{Peer, Capacity, Fds, OutFault, In, InFault, Do, Sent}, declared.reading.Stage.Stage, declared.reading.Stage.TheVariants.{Start, Head, Queued, Sink, Pieces, Commands, Over}, declared.reading.Progress.Progress, declared.error.ScriptError.ScriptError, Script.{Given, Gave, Broke, Script, line_of, line_count, parts}}
 use Rattle.peer_script.specs.declared.kind.PeerKind.TheVariants as kinds
-use Rattle.peer_script.specs.declared.line.Line.{Line}
-use Rattle.peer_script.specs.declared.line.Line.TheVariants.{Peer, Capacity, Fds, OutFault, In, InFault, Do, Sent}
-use Rattle.peer_script.specs.declared.reading.Stage.{Stage}
-use Rattle.peer_script.specs.declared.reading.Stage.TheVariants.{Start, Head, Queued, Sink, Pieces, Commands, Over}
-use Rattle.peer_script.specs.declared.reading.Progress.{Progress}
-use Rattle.peer_script.specs.declared.error.ScriptError.{ScriptError}
 use Rattle.peer_script.specs.declared.error.ScriptError.TheVariants as errors
-use Rattle.peer_script.specs.Script.{Given, Gave, Broke, Script, line_of, line_count, parts}
 
 -- how far a script has come, and what it said so far
 pub record Step : Type 0 where
   pub stage : Stage
   pub script : Script
 
+-- before the first line: nothing was said yet, and `direct` or `bus` is wanted
 abbrev pub begun : Step
 begun = record { stage = Start; script = record { kind = kinds.Direct None; queue = None; fds = false; outfault = None; given = []; commands = [] } }
 
@@ -60,6 +52,7 @@ next_stage InFault = Pieces
 next_stage (Do command) = Commands
 next_stage Sent = Over
 
+-- a line may come at this stage, by the order of a script's lines
 abbrev pub may_come : Stage → Line → Bool
 may_come stage line = nat_le (rank (first_stage line)) (rank stage) && nat_le (rank stage) (rank (last_stage line))
 
@@ -84,10 +77,12 @@ abbrev pub may_end : Stage → Bool
 may_end Start = false
 may_end p = true
 
+-- the script of a text that ends here, or the number of the line that isn't ended or is missing
 abbrev pub end_of : Stage → Script → ℕ → List ℕ → Result Script ℕ
 end_of stage s n [] = if may_end stage then Ok s else Err n
 end_of stage s n (b ∷ bs) = Err n
 
+-- what the lines behind the n-th give, or n, where the n-th is outside the table or out of order
 abbrev pub then_read : Option Step → ℕ → (Step → Result Script ℕ) → Result Script ℕ
 then_read (Some r) n more = more r
 then_read None n more = Err n
@@ -111,6 +106,7 @@ abbrev pub given_of : Piece → Given
 given_of (Bytes v) = Gave v.items
 given_of Fault = Broke
 
+-- what a source gives by its pieces, in order: bytes, and reads that fail
 abbrev pub given : List Piece → List Given
 given pieces = map given_of pieces
 

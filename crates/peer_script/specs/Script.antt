@@ -1,25 +1,15 @@
 -- Script text: a list of lines, each ended by one byte 0x0a: `direct`, perhaps with the peer's unique name, or `bus` with it, perhaps
 -- how many messages a stream may hold, perhaps the line that its sink takes descriptors, perhaps the bytes that the sink takes, what the
 -- source gives, the commands, and perhaps one `sent` line, which is passed over.
-use Rattle.std.specs.Prelude.{ℕ, ◌≡◌, ◌+◌, Bool, true, false, ◌&&◌, ◌||◌, ◌==◌, nat_le, if◌then◌else◌, List, [], ◌∷◌, ◌++◌, map, codes, Option, Some, None, is_some, option_map}
-use Rattle.std.specs.List.{slice_split, list_any}
+use Rattle.std.specs.{Prelude.{ℕ, ◌≡◌, ◌+◌, Bool, true, false, ◌&&◌, ◌||◌, ◌==◌, nat_le, if◌then◌else◌, List, [], ◌∷◌, ◌++◌, map, codes, Option, Some, None, is_some, option_map}, List.{slice_split, list_any}}
 use Rattle.wire_names.specs.Names.{is_unique_name}
-use Rattle.peer_route.specs.declared.words.Words.{Words}
-use Rattle.peer_route.specs.declared.words.Words.TheVariants as words
-use Rattle.peer_route.specs.declared.words.CallFlags.{CallFlags}
-use Rattle.peer_route.specs.declared.words.OutgoingKind.{OutgoingKind}
-use Rattle.peer_route.specs.declared.words.OutgoingKind.TheVariants as outgoing
-use Rattle.peer_route.specs.declared.words.CallOp.{CallOp}
-use Rattle.peer_route.specs.declared.words.CallOp.TheVariants as calls
-use Rattle.peer_route.specs.declared.words.StreamOp.{StreamOp}
-use Rattle.peer_route.specs.declared.words.StreamOp.TheVariants as ops
-use Rattle.peer_route.specs.declared.words.Command.{Command}
-use Rattle.peer_script.specs.declared.line.Line.{Line}
-use Rattle.peer_script.specs.declared.kind.PeerKind.{PeerKind}
+use Rattle.peer_words.specs.{declared.words.Words.Words, declared.words.CallFlags.CallFlags, declared.words.OutgoingKind.OutgoingKind, declared.words.CallOp.CallOp, declared.words.StreamOp.StreamOp, declared.words.Command.Command, Hex.bytes_of}
+use Rattle.peer_words.specs.declared.words.Words.TheVariants as words
+use Rattle.peer_words.specs.declared.words.OutgoingKind.TheVariants as outgoing
+use Rattle.peer_words.specs.declared.words.CallOp.TheVariants as calls
+use Rattle.peer_words.specs.declared.words.StreamOp.TheVariants as ops
+use Rattle.peer_script.specs.{declared.line.Line.Line, declared.kind.PeerKind.PeerKind, declared.line.Line.TheVariants.{Peer, Capacity, Fds, OutFault, In, InFault, Do, Sent}, Word.{same, words_of, number_of, text_of, flags_word}}
 use Rattle.peer_script.specs.declared.kind.PeerKind.TheVariants as kinds
-use Rattle.peer_script.specs.declared.line.Line.TheVariants.{Peer, Capacity, Fds, OutFault, In, InFault, Do, Sent}
-use Rattle.peer_script.specs.Word.{same, words_of, number_of, text_of, flags_word}
-use Rattle.peer_route.specs.Hex.{bytes_of}
 
 -- one line of the source: a piece of its bytes, or a read that fails there
 pub data Given : Type 0 where
@@ -53,6 +43,7 @@ name_of (kinds.Bus name) = Some name
 abbrev pub is_absent : List ℕ → Bool
 is_absent word = same word (45 ∷ [])
 
+-- a text or a number that may be absent, and is there; None where it can't be read
 abbrev pub present : {A : Type 0} → Option A → Option (Option A)
 present o = option_map Some o
 
@@ -64,6 +55,7 @@ optional_of word = if is_absent word then Some None else present (text_of word)
 abbrev pub optional_number : List ℕ → Option (Option ℕ)
 optional_number word = if is_absent word then Some None else present (number_of word)
 
+-- the word has this letter
 abbrev pub has_letter : ℕ → List ℕ → Bool
 has_letter letter word = list_any (λ b. b == letter) word
 
@@ -96,6 +88,7 @@ abbrev pub interface_of : OutgoingKind → List ℕ → Option (Option (List ℕ
 interface_of outgoing.Call word = optional_of word
 interface_of outgoing.Signal word = present (text_of word)
 
+-- the call or the signal of the parts `D P I M F B`; None where one of them can't be read
 abbrev pub outgoing_of : OutgoingKind → Option (Option (List ℕ)) → Option (List ℕ) → Option (Option (List ℕ)) → Option (List ℕ) → Option CallFlags → Option (Option (List ℕ)) → Option Words
 outgoing_of kind (Some destination) (Some path) (Some interface) (Some member) (Some flags) (Some body) =
     Some (words.Send (record { kind = kind; destination = destination; path = path; interface = interface; member = member; flags = flags; body = body }))
@@ -107,6 +100,7 @@ sending kind (destination ∷ path ∷ interface ∷ member ∷ flags ∷ body �
     outgoing_of kind (optional_of destination) (text_of path) (interface_of kind interface) (text_of member) (flags_of flags) (optional_of body)
 sending kind others = None
 
+-- what `open Q R` asks, by its capacity and its rule; None where one of them can't be read
 abbrev pub open_of : Option (Option ℕ) → Option (List ℕ) → Option Words
 open_of (Some max_queued) (Some rule) = Some (words.Open max_queued rule)
 open_of max_queued rule = None
@@ -131,6 +125,7 @@ call_op name [] =
 call_op name (word ∷ []) = if same name (codes "before") then option_map calls.Before (number_of word) else None
 call_op name others = None
 
+-- what `error S NAME B` asks, by its name and its body; None where one of them can't be read
 abbrev pub error_op : Option (List ℕ) → Option (Option (List ℕ)) → Option StreamOp
 error_op (Some name) (Some body) = Some (ops.Error name body)
 error_op name body = None
@@ -163,14 +158,17 @@ asking (Some number) (Some op) other = Some (words.OfCall number op)
 asking (Some number) None (Some op) = Some (words.OfStream number op)
 asking number call stream = None
 
+-- what is asked of a call or of a stream, whose number stands behind the command's name
 abbrev pub asking_words : List ℕ → List (List ℕ) → Option Words
 asking_words name (number ∷ more) = asking (number_of number) (call_op name more) (stream_op name more)
 asking_words name [] = None
 
+-- the first of the two that is there
 abbrev pub or_else : {A : Type 0} → Option A → Option A → Option A
 or_else (Some x) other = Some x
 or_else None other = other
 
+-- a command by its name, `call`, `signal` or another, and the words behind that
 abbrev pub named_words : Option OutgoingKind → List ℕ → List (List ℕ) → Option Words
 named_words (Some kind) name more = sending kind more
 named_words None name more = or_else (plain name more) (asking_words name more)
@@ -180,9 +178,11 @@ unfoldable pub command_words : List (List ℕ) → Option Words
 command_words [] = None
 command_words (name ∷ more) = named_words (kind_of name) name more
 
+-- the command of these words in this lane, where there are any
 abbrev pub in_lane : ℕ → Option Words → Option Command
 in_lane lane o = option_map (λ w. record { lane = lane; words = w }) o
 
+-- a command behind its lane, a number from 0 to 63; without one it is of lane 0
 abbrev pub with_lane : Option ℕ → List ℕ → List (List ℕ) → Option Command
 with_lane (Some lane) word rest = if nat_le lane 63 then in_lane lane (command_words rest) else None
 with_lane None word rest = in_lane 0 (command_words (word ∷ rest))
@@ -199,6 +199,7 @@ before_answer (a ∷ []) = a ∷ []
 before_answer (a ∷ b ∷ []) = a ∷ b ∷ []
 before_answer (a ∷ b ∷ c ∷ rest) = if (a == 32) && (b == 61) && (c == 32) then [] else a ∷ before_answer (b ∷ c ∷ rest)
 
+-- the command that a line is: `[LANE ]WORDS[ = TEXT]`
 abbrev pub command_line : List ℕ → Option Command
 command_line line = lane_words (words_of (before_answer line))
 
@@ -207,6 +208,7 @@ abbrev pub unique_of : Option (List ℕ) → Option (List ℕ)
 unique_of (Some name) = if is_unique_name name then Some name else None
 unique_of None = None
 
+-- the line `sent HEX` or `sent -`, by the word behind `sent`
 abbrev pub sent_line : List ℕ → Option Line
 sent_line word = if is_absent word || is_some (bytes_of word) then Some Sent else None
 
@@ -243,22 +245,27 @@ line_count [] = 0
 line_count (b ∷ []) = 1
 line_count (b ∷ c ∷ rest) = if b == 10 then line_count (c ∷ rest) + 1 else line_count (c ∷ rest)
 
+-- the line `queue N`, where the script sets the main capacity
 abbrev pub capacity_lines : Option ℕ → List Line
 capacity_lines (Some limit) = Capacity limit ∷ []
 capacity_lines None = []
 
+-- the line `fds`, where the sink takes file descriptors
 abbrev pub fds_lines : Bool → List Line
 fds_lines true = Fds ∷ []
 fds_lines false = []
 
+-- the line `outfault N`, where the sink takes N bytes and then fails a write
 abbrev pub outfault_lines : Option ℕ → List Line
 outfault_lines (Some count) = OutFault count ∷ []
 outfault_lines None = []
 
+-- the line of what the source gives: `in HEX` of bytes, `infault` of a read that fails
 abbrev pub given_line : Given → Line
 given_line (Gave piece) = In piece
 given_line Broke = InFault
 
+-- the last line, `sent HEX` or `sent -`, where there is one
 abbrev pub sent_lines : Bool → List Line
 sent_lines true = Sent ∷ []
 sent_lines false = []

@@ -1,33 +1,20 @@
 -- The transcript: the header lines as read, one line for each entry in order, and one `sent` line with all bytes that were
 -- sent. Each line ends with 0x0a.
-use Rattle.std.specs.Prelude.{ℕ, Bool, true, false, not, ◌&&◌, ◌==◌, nat_le, if◌then◌else◌, List, [], ◌∷◌, ◌++◌, length, codes, decimal, Option, Some, None}
-use Rattle.std.specs.List.{flat_map}
-use Rattle.wire_message.specs.Front.{Seen}
-use Rattle.wire_message.specs.Texts.{message_line}
-use Rattle.wire_message.specs.declared.error.Error.{Error}
+use Rattle.std.specs.{Prelude.{ℕ, Bool, true, false, not, ◌&&◌, ◌==◌, nat_le, if◌then◌else◌, List, [], ◌∷◌, ◌++◌, length, codes, decimal, Option, Some, None}, List.flat_map}
+use Rattle.wire_message.specs.{Front.MessageView, Texts.message_line, declared.error.Error.Error, declared.error.IoKind.IoKind}
 use Rattle.wire_message.specs.declared.error.Error.TheVariants as errors
-use Rattle.wire_message.specs.declared.error.IoKind.{IoKind}
 use Rattle.wire_message.specs.declared.error.IoKind.TheVariants as kinds
-use Rattle.peer_route.specs.declared.words.Outgoing.{Outgoing}
-use Rattle.peer_route.specs.declared.words.OutgoingKind.{OutgoingKind}
-use Rattle.peer_route.specs.declared.words.OutgoingKind.TheVariants as outgoing
-use Rattle.peer_route.specs.declared.words.CallOp.{CallOp}
-use Rattle.peer_route.specs.declared.words.CallOp.TheVariants as calls
-use Rattle.peer_route.specs.declared.words.StreamOp.{StreamOp}
-use Rattle.peer_route.specs.declared.words.StreamOp.TheVariants as ops
-use Rattle.peer_route.specs.declared.words.Live.{Live}
-use Rattle.peer_route.specs.declared.words.Live.TheVariants as live
-use Rattle.peer_route.specs.declared.words.Words.{Words}
-use Rattle.peer_route.specs.declared.words.Words.TheVariants as words
-use Rattle.peer_route.specs.declared.answer.Answer.{Answer}
-use Rattle.peer_route.specs.declared.answer.Answer.TheVariants as answers
-use Rattle.peer_route.specs.declared.answer.Entry.{Entry}
-use Rattle.peer_script.specs.Word.{text_word, optional_word, flags_word}
-use Rattle.peer_route.specs.Hex.{hex_two, hex_word}
-use Rattle.peer_script.specs.declared.kind.PeerKind.{PeerKind}
+use Rattle.peer_words.specs.{declared.words.Outgoing.Outgoing, declared.words.OutgoingKind.OutgoingKind, declared.words.CallOp.CallOp, declared.words.StreamOp.StreamOp, declared.words.Live.Live, declared.words.Words.Words, declared.answer.Answer.Answer, declared.answer.Entry.Entry, Hex.{hex_two, hex_word}}
+use Rattle.peer_words.specs.declared.words.OutgoingKind.TheVariants as outgoing
+use Rattle.peer_words.specs.declared.words.CallOp.TheVariants as calls
+use Rattle.peer_words.specs.declared.words.StreamOp.TheVariants as ops
+use Rattle.peer_words.specs.declared.words.Live.TheVariants as live
+use Rattle.peer_words.specs.declared.words.Words.TheVariants as words
+use Rattle.peer_words.specs.declared.answer.Answer.TheVariants as answers
+use Rattle.peer_script.specs.{Word.{text_word, optional_word, flags_word}, declared.kind.PeerKind.PeerKind, Script.{Given, Gave, Broke}}
 use Rattle.peer_script.specs.declared.kind.PeerKind.TheVariants as peers
-use Rattle.peer_script.specs.Script.{Given, Gave, Broke}
 
+-- a text, or the empty one where there is none
 abbrev pub or_empty : Option (List ℕ) → List ℕ
 or_empty None = []
 or_empty (Some text) = text
@@ -36,9 +23,11 @@ or_empty (Some text) = text
 abbrev pub shown_byte : ℕ → List ℕ
 shown_byte b = if nat_le 32 b && nat_le b 126 && not (b == 92) then b ∷ [] else 92 ∷ hex_two b
 
+-- a text as it is shown: a byte outside 0x20 to 0x7e, and the backslash, as a backslash and two digits
 abbrev pub shown_text : List ℕ → List ℕ
 shown_text text = flat_map shown_byte text
 
+-- the word of a kind of InputOutput: its name
 abbrev pub io_word : IoKind → List ℕ
 io_word kinds.Ended = codes "Ended"
 io_word kinds.Fault = codes "Fault"
@@ -78,19 +67,23 @@ optional_decimal (Some number) = decimal number
 
 -- ---- the words of a command
 
+-- the command's name: `call` for a method call, `signal` for a signal
 abbrev pub kind_word : OutgoingKind → List ℕ
 kind_word outgoing.Call = codes "call"
 kind_word outgoing.Signal = codes "signal"
 
+-- the words of a call or of a signal: `call D P I M F B` or `signal D P I M F B`
 abbrev pub outgoing_words : Outgoing → List (List ℕ)
 outgoing_words o =
     kind_word o.kind ∷ optional_word o.destination ∷ text_word o.path ∷ optional_word o.interface ∷ text_word o.member ∷ flags_word o.flags ∷ optional_word o.body ∷ []
 
+-- the words that ask something of the call C: `poll C`, `before C Q` or `drop C`
 abbrev pub call_words : List ℕ → CallOp → List (List ℕ)
 call_words call calls.Poll = codes "poll" ∷ call ∷ []
 call_words call (calls.Before before) = codes "before" ∷ call ∷ decimal before ∷ []
 call_words call calls.Drop = codes "drop" ∷ call ∷ []
 
+-- the words that ask something of the stream S, such as `take S` or `reply S B`
 abbrev pub stream_words : List ℕ → StreamOp → List (List ℕ)
 stream_words stream (ops.Reply body) = codes "reply" ∷ stream ∷ optional_word body ∷ []
 stream_words stream (ops.Error name body) = codes "error" ∷ stream ∷ text_word name ∷ optional_word body ∷ []
@@ -111,6 +104,7 @@ live_words (live.Await call) = codes "await" ∷ decimal call ∷ []
 live_words (live.Next stream) = codes "next" ∷ decimal stream ∷ []
 live_words live.Worker = codes "worker" ∷ []
 
+-- the words of an entry's command, without its lane
 abbrev pub entry_words : Words → List (List ℕ)
 entry_words (words.Send outgoing) = outgoing_words outgoing
 entry_words words.Read = codes "read" ∷ []
@@ -129,20 +123,22 @@ spaced ws = flat_map (λ w. 32 ∷ w) ws
 -- ---- answers
 
 -- the message that was read: its position, its length and its line
-abbrev pub got_text : Option Seen → List ℕ
+abbrev pub got_text : Option MessageView → List ℕ
 got_text None = codes "got"
 got_text (Some m) = codes "got " ++ decimal m.position ++ 32 ∷ [] ++ decimal (length m.bytes) ++ 32 ∷ [] ++ shown_text (message_line m)
 
+-- the answer to `unique NAME`: `true` where the peer was given the name, `false` where it had one
 abbrev pub named_text : Bool → List ℕ
 named_text true = codes "true"
 named_text false = codes "false"
 
+-- what stands behind `gone`: the serial of the last RemoveMatch, where one was sent
 abbrev pub last_text : Option ℕ → List ℕ
 last_text None = []
 last_text (Some serial) = codes " serial " ++ decimal serial
 
 -- an answer's text; `read` is the message that the entry read
-unfoldable pub answer_text : Option Seen → Answer → List ℕ
+unfoldable pub answer_text : Option MessageView → Answer → List ℕ
 answer_text read (answers.Called call serial) = codes "call " ++ decimal call ++ codes " serial " ++ decimal serial
 answer_text read (answers.Sent serial) = codes "sent " ++ decimal serial
 answer_text read (answers.Refused error) = codes "refused " ++ error_word error
@@ -168,6 +164,7 @@ answer_text read answers.Shut = codes "closed"
 answer_text read (answers.Named given) = named_text given
 answer_text read answers.Silent = 45 ∷ []
 
+-- the line of an entry: `LANE WORDS = ANSWER`
 unfoldable pub entry_text : Entry → List ℕ
 entry_text e = decimal e.lane ++ spaced (entry_words e.words) ++ codes " = " ++ answer_text e.read e.answer ++ 10 ∷ []
 
@@ -176,19 +173,23 @@ unfoldable pub given_text : Given → List ℕ
 given_text (Gave piece) = codes "in " ++ hex_word piece ++ 10 ∷ []
 given_text Broke = codes "infault" ++ 10 ∷ []
 
+-- the first line: `direct`, `direct NAME` or `bus NAME`
 unfoldable pub peer_text : PeerKind → List ℕ
 peer_text (peers.Direct None) = codes "direct" ++ 10 ∷ []
 peer_text (peers.Direct (Some name)) = codes "direct " ++ text_word name ++ 10 ∷ []
 peer_text (peers.Bus name) = codes "bus " ++ text_word name ++ 10 ∷ []
 
+-- the line `queue N`, where the script sets the main capacity
 unfoldable pub capacity_text : Option ℕ → List ℕ
 capacity_text None = []
 capacity_text (Some limit) = codes "queue " ++ decimal limit ++ 10 ∷ []
 
+-- the line `fds`, where the sink takes file descriptors
 unfoldable pub fds_text : Bool → List ℕ
 fds_text true = codes "fds" ++ 10 ∷ []
 fds_text false = []
 
+-- the line `outfault N`, where the sink takes N bytes and then fails a write
 unfoldable pub outfault_text : Option ℕ → List ℕ
 outfault_text None = []
 outfault_text (Some count) = codes "outfault " ++ decimal count ++ 10 ∷ []
@@ -198,6 +199,7 @@ abbrev pub sent_word : List ℕ → List ℕ
 sent_word [] = 45 ∷ []
 sent_word (b ∷ bs) = hex_word (b ∷ bs)
 
+-- the transcript: the header lines, one line for each entry, and one `sent` line with all bytes that were sent
 unfoldable pub transcript_text : PeerKind → Option ℕ → Bool → Option ℕ → List Given → List Entry → List ℕ → List ℕ
 transcript_text kind queue fds outfault given entries sent =
     peer_text kind ++ capacity_text queue ++ fds_text fds ++ outfault_text outfault ++ flat_map given_text given ++ flat_map entry_text entries

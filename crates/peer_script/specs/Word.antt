@@ -1,10 +1,6 @@
 -- The words of a line: numbers, texts with escapes, and flags.
-use Rattle.std.specs.Prelude.{ℕ, ◌+◌, ◌-◌, ◌*◌, ◌^◌, Bool, false, not, ◌&&◌, ◌||◌, ◌==◌, nat_eq, nat_le, nat_lt, if◌then◌else◌, List, [], ◌∷◌, ◌++◌, length, codes, Option, Some, None, fold}
-use Rattle.std.specs.List.{list_all, slice_split, flat_map}
-use Rattle.std.specs.Char.{is_ascii_digit}
-use Rattle.std.specs.Cmp.Lexicographic.{pointwise}
-use Rattle.peer_route.specs.declared.words.CallFlags.{CallFlags}
-use Rattle.peer_route.specs.Hex.{hex_value, hex_byte, onto, hex_two}
+use Rattle.std.specs.{Prelude.{ℕ, ◌+◌, ◌-◌, ◌*◌, ◌^◌, Bool, false, not, ◌&&◌, ◌||◌, ◌==◌, nat_eq, nat_le, nat_lt, if◌then◌else◌, List, [], ◌∷◌, ◌++◌, length, codes, Option, Some, None, fold}, List.{list_all, slice_split, flat_map}, Char.is_ascii_digit, Cmp.Lexicographic.pointwise}
+use Rattle.peer_words.specs.{declared.words.CallFlags.CallFlags, Hex.{hex_value, hex_byte, onto, hex_two}}
 
 -- two texts are the same
 abbrev pub same : List ℕ → List ℕ → Bool
@@ -16,9 +12,11 @@ words_of line = slice_split (λ b. b == 32) line
 
 -- ---- numbers
 
+-- the number that decimal digits spell
 abbrev pub digits_value : List ℕ → ℕ
 digits_value word = fold (λ sum digit. sum * 10 + (digit - 48)) 0 word
 
+-- the word begins with `0`, and isn't `0` alone
 abbrev pub begins_with_zero : List ℕ → Bool
 begins_with_zero [] = false
 begins_with_zero (b ∷ bs) = b == 48 && nat_le 1 (length bs)
@@ -35,6 +33,7 @@ number_of word =
 abbrev pub is_plain : ℕ → Bool
 is_plain b = nat_le 33 b && nat_le b 126 && not (b == 92)
 
+-- the byte, where it stands for itself in a word
 abbrev pub plain_byte : ℕ → Option ℕ
 plain_byte b = if is_plain b then Some b else None
 
@@ -61,6 +60,7 @@ text_of word =
 
 -- ---- and back
 
+-- how a word spells a byte: by itself, or as a backslash and two digits
 abbrev pub text_byte : ℕ → List ℕ
 text_byte b = if is_plain b then b ∷ [] else 92 ∷ hex_two b
 
@@ -73,6 +73,7 @@ abbrev pub optional_word : Option (List ℕ) → List ℕ
 optional_word None = 45 ∷ []
 optional_word (Some text) = text_word text
 
+-- the letter of a flag, where it is set
 abbrev pub flag_letter : ℕ → Bool → List ℕ
 flag_letter letter flag = if flag then letter ∷ [] else []
 
@@ -80,6 +81,7 @@ flag_letter letter flag = if flag then letter ∷ [] else []
 abbrev pub flag_letters : CallFlags → List ℕ
 flag_letters f = flag_letter 110 f.no_reply_expected ++ flag_letter 97 f.no_auto_start ++ flag_letter 105 f.allow_interactive_auth ++ flag_letter 98 f.big ++ flag_letter 100 f.descriptor
 
+-- the letters, or `-` where there are none
 abbrev pub or_dash : List ℕ → List ℕ
 or_dash [] = 45 ∷ []
 or_dash (b ∷ bs) = b ∷ bs

@@ -1,12 +1,12 @@
 //! The words of a command.
 ghost use Rattle.std.specs.Prelude.{◌≡◌, [], ◌∷◌, map, IfOk, option_map};
-ghost use Rattle.peer_route.specs.declared.words.StreamOp.TheVariants as ops;
+ghost use Rattle.peer_words.specs.declared.words.StreamOp.TheVariants as ops;
 ghost use Rattle.peer_script.specs.Script.{command_words, kind_of, open_of, numbered_op, error_op, interface_of, sending, plain, call_op, stream_op, asking_words, present, optional_of, optional_number, has_letter, named_flags, flags_of, is_absent};
 ghost use Rattle.peer_script.specs.Word.{text_of};
 
 use crate::text::put_flags;
 use crate::word::{number_of, same, text_of};
-use peer_route::{CallFlags, CallOp, Outgoing, OutgoingKind, StreamOp, Words};
+use peer_words::{CallFlags, CallOp, Outgoing, OutgoingKind, StreamOp, Words};
 use std::alloc::{AllocError, Global};
 use wire_names::Bytes;
 

@@ -2,13 +2,13 @@
 ghost use Rattle.std.specs.Prelude.{◌≡◌, [], ◌∷◌, ◌++◌, length, take, map, IfOk, Some, None, option_map};
 ghost use Rattle.peer_script.specs.Script.{before_answer, lane_words, command_words, command_line, head_line, line_of, in_lane, unique_of, sent_line, is_absent};
 ghost use Rattle.peer_script.specs.Word.{number_of, text_of};
-ghost use Rattle.peer_route.specs.Hex.{bytes_of};
+ghost use Rattle.peer_words.specs.Hex.{bytes_of};
 ghost use Rattle.peer_script.specs.declared.line.Line.TheVariants as lines;
 
 use crate::command::{command_words, is_absent};
 use crate::kind::PeerKind;
 use crate::word::{number_of, same, text_of, words_of};
-use peer_route::{Command, Words, read_hex};
+use peer_words::{Command, Words, read_hex};
 use std::alloc::{AllocError, Global};
 use wire_names::{Bytes, OwnedUniqueName, UniqueName};
 

@@ -6,7 +6,7 @@ use crate::error::ScriptError;
 use crate::kind::PeerKind;
 use crate::line::{Line, line_of};
 use crate::script::Setup;
-use peer_route::Command;
+use peer_words::Command;
 use std::alloc::{AllocError, Global};
 use wire_framing::Piece;
 use wire_names::Bytes;

@@ -1,15 +1,15 @@
 //! Reading a script.
 ghost use Rattle.std.specs.Prelude.{ℕ, ◌≡◌, ◌≤◌, ◌<◌, length, List, IfSome, IfOk, false};
 ghost use Rattle.std.specs.List.{AllByRecursion};
-ghost use Rattle.peer_route.specs.declared.words.Command.{Command};
-ghost use Rattle.peer_route.specs.Entries.{IsOfRun};
+ghost use Rattle.peer_words.specs.declared.words.Command.{Command};
+ghost use Rattle.peer_words.specs.OfRun.{IsOfRun};
 ghost use Rattle.peer_script.specs.Script.{line_count};
 ghost use Rattle.peer_script.specs.Reading.{script_from, TellsScript, FaultsTell, ReadsInput};
 
 use crate::error::ScriptError;
 use crate::kind::PeerKind;
 use crate::reading::read_text;
-use peer_route::Command;
+use peer_words::Command;
 use std::alloc::Global;
 use wire_framing::{Piece, Source};
 

@@ -2,10 +2,10 @@
 ghost use Rattle.std.specs.Prelude.{◌≡◌, ◌++◌, ◌||◌, length, OnOk, ◌<◌, decimal};
 ghost use Rattle.std.specs.List.{flat_map};
 ghost use Rattle.peer_script.specs.Word.{text_byte, text_word, optional_word, flag_letter, flag_letters, flags_word};
-ghost use Rattle.peer_route.specs.Hex.{hex_digit, hex_two, hex_word};
+ghost use Rattle.peer_words.specs.Hex.{hex_digit, hex_two, hex_word};
 
 use crate::word::{is_plain, same};
-use peer_route::CallFlags;
+use peer_words::CallFlags;
 use std::alloc::{AllocError, Global};
 use wire_names::Bytes;
 

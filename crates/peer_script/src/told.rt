@@ -2,12 +2,12 @@
 ghost use Rattle.std.specs.Prelude.{◌≡◌, ◌++◌, [], ◌∷◌, OnOk, decimal};
 ghost use Rattle.peer_script.specs.Word.{text_word, optional_word, flags_word};
 ghost use Rattle.peer_script.specs.Transcript.{spaced, kind_word, outgoing_words, call_words, stream_words, live_words, entry_words, optional_decimal};
-ghost use Rattle.peer_route.specs.declared.words.Words.TheVariants as words;
-ghost use Rattle.peer_route.specs.declared.words.StreamOp.TheVariants as ops;
-ghost use Rattle.peer_route.specs.declared.words.Live.TheVariants as live;
+ghost use Rattle.peer_words.specs.declared.words.Words.TheVariants as words;
+ghost use Rattle.peer_words.specs.declared.words.StreamOp.TheVariants as ops;
+ghost use Rattle.peer_words.specs.declared.words.Live.TheVariants as live;
 
 use crate::text::{put, put_flags, put_number, put_optional, put_text};
-use peer_route::{CallFlags, CallOp, Live, Outgoing, OutgoingKind, StreamOp, Words};
+use peer_words::{CallFlags, CallOp, Live, Outgoing, OutgoingKind, StreamOp, Words};
 use std::alloc::{AllocError, Global};
 use wire_names::{Bytes, OwnedUniqueName};
 

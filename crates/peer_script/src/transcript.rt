@@ -12,7 +12,7 @@ use crate::output::write_all;
 use crate::script::Setup;
 use crate::text::{put, put_hex, put_hex_byte, put_number, put_text};
 use crate::told::put_words;
-use peer_route::{Answer, Entry};
+use peer_words::{Answer, Entry};
 use std::alloc::{AllocError, Global};
 use wire_framing::{Piece, Refusal, Sink};
 use wire_message::{Error, IoKind, Message};

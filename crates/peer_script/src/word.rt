@@ -4,9 +4,9 @@ ghost use Rattle.std.specs.Option.{option_map};
 ghost use Rattle.std.specs.List.{list_all};
 ghost use Rattle.std.specs.Char.{is_ascii_digit};
 ghost use Rattle.peer_script.specs.Word.{same, words_of, digits_value, begins_with_zero, number_of, is_plain, escaped, unescaped, text_of};
-ghost use Rattle.peer_route.specs.Hex.{TakesOne, hex_value, hex_byte, hex_pairs, bytes_of};
+ghost use Rattle.peer_words.specs.Hex.{TakesOne, hex_value, hex_byte, hex_pairs, bytes_of};
 
-use peer_route::hex_byte;
+use peer_words::hex_byte;
 use std::alloc::{AllocError, Global};
 use wire_names::Bytes;
 

@@ -23,7 +23,7 @@ pub(crate) fn signature_of(alloc: Global, message: &Message) -> anyhow::Result<S
     Ok(Signature::try_from(alloc, str::from_utf8(text)?)?)
 }
 
-/// The values of a body, which begins on a multiple of 8; bytes that are left over spell nothing.
+/// The values of a body, which begins on a multiple of 8; bytes that are left over encode nothing.
 fn values_in(
     alloc: Global,
     order: Endian,

@@ -6,8 +6,8 @@
 //! - `header HEX`: a message's header, the message in words, and the rule of its header.
 //! - `rule HEX`: the text of a match rule, as the rule is printed.
 //! - `match HEX HEX`: the text of a match rule and a message: `yes` where the rule matches it, else `no`.
-//! - `spelled ORDER PLACE TYPE HEX`: the value that the bytes at this place spell, in the order `l` or `B`: its type, the value,
-//!   and `same` where it is written as these bytes, and all of them are passed by the type and by its text.
+//! - `encoded ORDER PLACE TYPE HEX`: the value that the bytes at this place encode, in the order `l` or `B`: its type, the
+//!   value, and `same` where it is written as these bytes, and all of them are passed by the type and by its text.
 //! - `signature TEXT`: whether the text is a signature, and the length of the first type in it.
 //! - `grammars TEXT`: the grammars that the text is in, each by its letter.
 //! - `repeat COUNT TYPE HEX HEX`: an array of this type, of so many equal elements of these bytes behind that padding: the length of
@@ -29,6 +29,7 @@
 #![tactic(auto)]
 
 mod arguments;
+mod encoded;
 mod errors;
 mod head;
 mod leaf;
@@ -39,7 +40,6 @@ mod replies;
 mod rules;
 mod show;
 mod speed;
-mod spelled;
 mod transcripts;
 
 use anyhow::anyhow;
@@ -74,7 +74,7 @@ fn bytes_shown(alloc: Global, word: &str, rest: &str) -> anyhow::Result<String> 
         "header" => header_lines(alloc, rest),
         "rule" => rules::rule_line(alloc, rest),
         "match" => rules::match_line(alloc, rest),
-        "spelled" => spelled::spelled(alloc, rest),
+        "encoded" => encoded::encoded(alloc, rest),
         "repeat" => speed::repeat(alloc, rest),
         "times" => speed::times(alloc, rest),
         _ => Err(anyhow!("no such word")),

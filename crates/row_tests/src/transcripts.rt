@@ -1,9 +1,9 @@
 //! Entries that no script reaches, as a transcript writes them, and how many lines a script has at most.
-use peer_route::{Answer, Entry, Live, Posts, StreamOp, Words};
 use peer_script::{
     PeerKind, Setup, Transcript, Word, read_script, script_texts_are_read,
     transcripts_are_read_again, write_transcript,
 };
+use peer_words::{Answer, Entry, Live, Posts, StreamOp, Words};
 use std::alloc::{AllocError, Global};
 use wire_framing::{MemorySink, MemorySource, Piece};
 use wire_message::{Error, IoKind};

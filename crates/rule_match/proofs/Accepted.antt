@@ -9,16 +9,16 @@ use Rattle.wire_names.specs.declared.bus.OwnedBusName.{OwnedBusName}
 use Rattle.wire_names.specs.declared.bus.OwnedBusName.TheVariants.{Unique, WellKnown}
 use Rattle.wire_tree.specs.Datum.{Datum, string, object_path, text}
 use Rattle.wire_number.proofs.Steps.{AreBytes}
-use Rattle.wire_message.specs.Front.{Seen, body_bytes, body_len, header_len, kind_code}
+use Rattle.wire_message.specs.Front.{MessageView, body_bytes, body_len, header_len, kind_code}
 use Rattle.wire_message.specs.declared.kind.MessageType.{MessageType}
 use Rattle.wire_message.specs.declared.kind.MessageType.TheVariants as types
-use Rattle.rule_arguments.specs.declared.arguments.Argument.{Argument}
-use Rattle.rule_arguments.specs.Below.{IsAtOrBelow}
-use Rattle.rule_arguments.specs.Wanted.{HasString, HasPath, HasNameIn}
-use Rattle.rule_arguments.specs.Passing.{same, is_at_or_below, is_string, is_path, is_name_in, has_at}
-use Rattle.rule_arguments.proofs.Both.{first_true, second_true, both_true}
-use Rattle.rule_arguments.proofs.Texts.{same_is, is_same, below_from_test, test_from_below}
-use Rattle.rule_arguments.proofs.Matching.{string_is, path_is, name_is, at_found, at_again}
+use Rattle.rule_match.specs.declared.arguments.Argument.{Argument}
+use Rattle.rule_match.specs.Below.{IsAtOrBelow}
+use Rattle.rule_match.specs.Wanted.{HasString, HasPath, HasNameIn}
+use Rattle.rule_match.specs.ArgumentTests.{same, is_at_or_below, is_string, is_path, is_name_in, has_at}
+use Rattle.rule_match.proofs.Both.{first_true, second_true, both_true}
+use Rattle.rule_match.proofs.Texts.{same_is, is_same, below_from_test, test_from_below}
+use Rattle.rule_match.proofs.ArgumentMatching.{string_is, path_is, name_is, at_found, at_again}
 use Rattle.rule_match.specs.declared.place.PathSpec.{PathSpec}
 use Rattle.rule_match.specs.declared.place.PathSpec.TheVariants.{Path, PathNamespace}
 use Rattle.rule_match.specs.Rule.{Rule}
@@ -189,7 +189,7 @@ low_body bytes low =
     are_bytes (body_bytes bytes)
     (All-take (λ b. b < 256) (body_len bytes) (drop (header_len bytes) bytes) (All-drop (λ b. b < 256) (header_len bytes) bytes low))
 
-module _ (r : Rule) (m : Seen) where
+module _ (r : Rule) (m : MessageView) where
   abbrev body : List ℕ
   body = body_bytes m.bytes
 
@@ -241,7 +241,7 @@ module _ (r : Rule) (m : Seen) where
       both_true _ _ (both_true _ _ kind (both_true _ _ sender (both_true _ _ interface (both_true _ _ member (both_true _ _ path destination)))))
       (both_true _ _ args (both_true _ _ arg_paths arg0ns))
 
-pub accepting : (r : Rule) (m : Seen) → All (λ b. b < 256) m.bytes → IsTrue (accepts r m) ↔ Matches r m
+pub accepting : (r : Rule) (m : MessageView) → All (λ b. b < 256) m.bytes → IsTrue (accepts r m) ↔ Matches r m
 accepting r m low = (λ h. accepted r m (low_body m.bytes low) h, λ k. accepted_again r m k)
 
 same_truth : (a b : Bool) → (a ≡ true → b ≡ true) → (b ≡ true → a ≡ true) → a ≡ b
@@ -250,7 +250,7 @@ same_truth false true f g = g refl
 same_truth false false f g = refl
 
 -- what decides the relation is the test
-pub decided : (b : Bool) (r : Rule) (m : Seen) → All (λ b. b < 256) m.bytes → IsTrue b ↔ Matches r m → b ≡ accepts r m
+pub decided : (b : Bool) (r : Rule) (m : MessageView) → All (λ b. b < 256) m.bytes → IsTrue b ↔ Matches r m → b ≡ accepts r m
 decided b r m low d =
     let e = accepting r m low in
     same_truth b (accepts r m) (λ h. e.1 (d.0 h)) (λ h. d.1 (e.0 h))

@@ -7,16 +7,16 @@ use Rattle.wire_names.specs.declared.bus.OwnedBusName.{OwnedBusName}
 use Rattle.wire_names.specs.declared.bus.OwnedBusName.TheVariants.{Unique, WellKnown}
 use Rattle.wire_message.specs.declared.kind.MessageType.{MessageType}
 use Rattle.wire_message.specs.declared.kind.MessageType.TheVariants as types
-use Rattle.rule_arguments.specs.declared.arguments.Argument.{Argument}
+use Rattle.rule_match.specs.declared.arguments.Argument.{Argument}
 use Rattle.rule_match.specs.declared.part.Part.{Part}
 use Rattle.rule_match.specs.declared.part.Part.TheVariants as parts
 use Rattle.rule_match.specs.declared.place.PathSpec.{PathSpec}
 use Rattle.rule_match.specs.declared.place.PathSpec.TheVariants.{Path, PathNamespace}
-use Rattle.rule_arguments.specs.Arguments.{is_argument, is_path_argument, is_plain}
+use Rattle.rule_match.specs.Arguments.{is_argument, is_path_argument, is_plain}
 use Rattle.rule_match.specs.Rule.{Rule, IsRule, HasNames, IsSender, place_text}
 use Rattle.rule_match.specs.Again.{has_no_comma, IsReadable}
 use Rattle.rule_match.specs.Text.{component_text, part_text, one, place_part, parts_of, said, made, rule_in, rule_text}
-use Rattle.rule_arguments.proofs.Both.{first_true, second_true, both_true, not_true}
+use Rattle.rule_match.proofs.Both.{first_true, second_true, both_true, not_true}
 use Rattle.rule_match.proofs.Clear.{unique_clear, well_known_clear, interface_clear, member_clear, path_clear, namespace_clear}
 use Rattle.rule_match.proofs.Reread.{IsTold, reread, arg_key, arg_path_key, arg_clear, arg_path_clear}
 use Rattle.rule_match.proofs.Same.{same_rule}

@@ -7,8 +7,8 @@ use Rattle.std.proofs.lemmas.Slice.Eq.{bytes_eq-Decides}
 use Rattle.wire_names.specs.Names.{elements, is_element, is_element_byte, is_dotted, is_connection, is_short, is_the_bus, is_unique_name, is_well_known_name, is_interface_name, is_member_name, is_object_path, is_path_element, is_unique_element, is_well_known_element, is_interface_element, IsUniqueName, IsWellKnownName, IsInterfaceName, IsMemberName, IsObjectPath}
 use Rattle.rule_match.specs.Namespace.{is_namespace, has_namespace_elements, IsNamespace}
 use Rattle.rule_match.specs.Again.{has_no_comma}
-use Rattle.rule_arguments.specs.Arguments.{is_plain}
-use Rattle.rule_arguments.proofs.Both.{first_true, second_true, both_true}
+use Rattle.rule_match.specs.Arguments.{is_plain}
+use Rattle.rule_match.proofs.Both.{first_true, second_true, both_true}
 
 abbrev is_above : ℕ → Bool
 is_above b = nat_lt 44 b

@@ -6,10 +6,10 @@ use Rattle.std.proofs.lemmas.Bool.Decides.{Decides-eqb}
 use Rattle.wire_message.specs.declared.kind.MessageType.TheVariants.{MethodCall, MethodReturn, Error, Signal}
 use Rattle.wire_message.specs.contracts.kind.MessageTypePartialEq.TheImpl.{ghosts as of_kinds}
 use Rattle.wire_names.specs.declared.bus.OwnedBusName.TheVariants.{Unique, WellKnown}
-use Rattle.rule_arguments.specs.declared.arguments.Argument.{Argument}
-use Rattle.rule_arguments.specs.SameArgument.{same_argument}
-use Rattle.rule_arguments.proofs.Both.{first_true, second_true, both_true}
-use Rattle.rule_arguments.proofs.Texts.{same_is, is_same}
+use Rattle.rule_match.specs.declared.arguments.Argument.{Argument}
+use Rattle.rule_match.specs.SameArgument.{same_argument}
+use Rattle.rule_match.proofs.Both.{first_true, second_true, both_true}
+use Rattle.rule_match.proofs.Texts.{same_is, is_same}
 use Rattle.rule_match.specs.declared.place.PathSpec.TheVariants.{Path, PathNamespace}
 use Rattle.rule_match.specs.contracts.place.PathSpecPartialEq.TheImpl.{ghosts as of_places}
 use Rattle.rule_match.specs.Rule.{Rule}

@@ -2,11 +2,11 @@
 use Rattle.std.proofs.Common.{◌≡◌, refl, ◌<◌, List, [], ◌∷◌, ◌++◌, Bool, true, false, cond, nat_lt, IsTrue, arith}
 use Rattle.std.specs.List.{filter, list_all}
 use Rattle.std.proofs.lemmas.Bool.Decides.{nat_tests}
-use Rattle.rule_arguments.specs.declared.arguments.Argument.{Argument}
-use Rattle.rule_arguments.specs.Arguments.{is_ascending, is_argument, is_path_argument, put}
+use Rattle.rule_match.specs.declared.arguments.Argument.{Argument}
+use Rattle.rule_match.specs.Arguments.{is_ascending, is_argument, is_path_argument, put}
 use Rattle.rule_match.specs.Rule.{Rule, IsRule}
-use Rattle.rule_arguments.proofs.Both.{first_true, second_true, both_true}
-use Rattle.rule_arguments.proofs.Placing.{put_behind, put_instead, put_first, put_alone, above_more}
+use Rattle.rule_match.proofs.Both.{first_true, second_true, both_true}
+use Rattle.rule_match.proofs.Placing.{put_behind, put_instead, put_first, put_alone, above_more}
 
 all_filtered : (p q : Argument → Bool) (xs : List Argument) → list_all p xs ≡ true → list_all p (filter q xs) ≡ true
 all_filtered p q [] h = refl

@@ -14,3 +14,12 @@ pub mod BodyArguments
 pub mod Accepted
 pub mod Equal
 pub mod Orders
+pub mod Both
+pub mod Placing
+pub mod Positions
+pub mod After
+pub mod Texts
+pub mod ArgumentTests
+pub mod ArgumentValues
+pub mod ArgumentSteps
+pub mod ArgumentMatching

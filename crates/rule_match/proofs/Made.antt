@@ -5,14 +5,14 @@ use Rattle.std.specs.List.{filter}
 use Rattle.std.proofs.lemmas.Bool.{eqb-true, ltb-true}
 use Rattle.std.proofs.lemmas.Bool.Decides.{nat_tests}
 use Rattle.wire_message.specs.declared.error.Error.{Error}
-use Rattle.rule_arguments.specs.declared.arguments.Argument.{Argument}
+use Rattle.rule_match.specs.declared.arguments.Argument.{Argument}
 use Rattle.rule_match.specs.declared.part.Part.{Part}
 use Rattle.rule_match.specs.declared.part.Part.TheVariants as parts
-use Rattle.rule_arguments.specs.Arguments.{put, argument_at, in_order, is_argument, is_path_argument}
+use Rattle.rule_match.specs.Arguments.{put, argument_at, in_order, is_argument, is_path_argument}
 use Rattle.rule_match.specs.Rule.{Rule}
 use Rattle.rule_match.specs.Building.{with_part, IsPart}
 use Rattle.rule_match.specs.Text.{or_else, last_of, text_at, arg_in, arg_path_in, rule_of, made, with_first}
-use Rattle.rule_arguments.proofs.Both.{first_true}
+use Rattle.rule_match.proofs.Both.{first_true}
 
 -- ---- the last value
 

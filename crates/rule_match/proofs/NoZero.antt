@@ -12,9 +12,9 @@ use Rattle.wire_message.specs.declared.kind.MessageType.TheVariants as types
 use Rattle.wire_names.specs.Names.{is_object_path, IsUniqueName, IsInterfaceName, IsMemberName, IsObjectPath}
 use Rattle.wire_names.specs.declared.bus.OwnedBusName.{OwnedBusName}
 use Rattle.wire_names.specs.declared.bus.OwnedBusName.TheVariants.{Unique, WellKnown}
-use Rattle.rule_arguments.specs.declared.arguments.Argument.{Argument}
-use Rattle.rule_arguments.specs.Arguments.{is_plain, is_argument, is_path_argument}
-use Rattle.rule_arguments.proofs.Both.{first_true, second_true, both_true}
+use Rattle.rule_match.specs.declared.arguments.Argument.{Argument}
+use Rattle.rule_match.specs.Arguments.{is_plain, is_argument, is_path_argument}
+use Rattle.rule_match.proofs.Both.{first_true, second_true, both_true}
 use Rattle.rule_match.specs.declared.part.Part.{Part}
 use Rattle.rule_match.specs.declared.part.Part.TheVariants as parts
 use Rattle.rule_match.specs.declared.place.PathSpec.{PathSpec}

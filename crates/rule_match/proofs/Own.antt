@@ -2,7 +2,7 @@
 use Rattle.std.proofs.Common.{◌≡◌, refl, ℕ, true, false, if◌then◌else◌, List, Option, Some, None, option_map, IfSome}
 use Rattle.wire_names.specs.Names.{is_unique_name, IsUniqueName}
 use Rattle.wire_names.specs.declared.bus.OwnedBusName.TheVariants.{Unique}
-use Rattle.wire_message.specs.Front.{Seen}
+use Rattle.wire_message.specs.Front.{MessageView}
 use Rattle.wire_message.specs.Primary.{head_of}
 use Rattle.rule_match.specs.declared.place.PathSpec.TheVariants.{Path}
 use Rattle.rule_match.specs.Matching.{Matches, IsSender, IsPlace, IsDestination, unique_only, header_rule}
@@ -24,7 +24,7 @@ own_destination None = tt
 own_destination (Some name) =
     elim (is_unique_name name) as (λ b. IfSome (if b then Some name else None) (λ wanted. IsUniqueName name → name ≡ wanted)) [ true ↦ λ _. refl | false ↦ tt ]
 
-pub own_header : (m : Seen) → Matches (header_rule (head_of m)) m
+pub own_header : (m : MessageView) → Matches (header_rule (head_of m)) m
 unfolding header_rule
 own_header m = record {
   kind = refl;

@@ -5,7 +5,7 @@ use Rattle.std.specs.Cmp.Lexicographic.{pointwise}
 use Rattle.std.specs.Option.{MatchOption}
 use Rattle.std.specs.Borrow.{Bor}
 use Rattle.std.proofs.lemmas.Bool.{eqb-true}
-use Rattle.rule_arguments.proofs.Both.{first_true}
+use Rattle.rule_match.proofs.Both.{first_true}
 use Rattle.rule_match.specs.Text.{before_quote}
 
 pub before_quote_of : (xs : List ℕ) → before_quote (xs ++ 39 ∷ []) ≡ Some xs

@@ -4,7 +4,7 @@ use Rattle.std.specs.Borrow.{Bor}
 use Rattle.wire_message.specs.declared.error.Error.{Error}
 use Rattle.wire_message.specs.declared.error.Error.TheVariants.{Memory}
 use Rattle.rule_match.specs.declared.part.Part.{Part}
-use Rattle.rule_arguments.specs.Arguments.{in_order}
+use Rattle.rule_match.specs.Arguments.{in_order}
 use Rattle.rule_match.specs.Rule.{no_parts}
 use Rattle.rule_match.specs.Building.{Gives}
 use Rattle.rule_match.specs.Text.{rule_of, made, component, first_then}

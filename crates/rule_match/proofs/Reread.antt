@@ -13,14 +13,14 @@ use Rattle.rule_match.specs.declared.key.Key.{Key}
 use Rattle.rule_match.specs.declared.key.Key.TheVariants as keys
 use Rattle.rule_match.specs.declared.part.Part.{Part}
 use Rattle.rule_match.specs.declared.part.Part.TheVariants as parts
-use Rattle.rule_arguments.specs.declared.arguments.Argument.{Argument}
-use Rattle.rule_arguments.specs.Arguments.{is_argument, is_path_argument, is_plain}
+use Rattle.rule_match.specs.declared.arguments.Argument.{Argument}
+use Rattle.rule_match.specs.Arguments.{is_argument, is_path_argument, is_plain}
 use Rattle.rule_match.specs.Namespace.{IsNamespace}
 use Rattle.rule_match.specs.Key.{key_of}
 use Rattle.rule_match.specs.Part.{part_of}
 use Rattle.rule_match.specs.Again.{has_no_comma}
 use Rattle.rule_match.specs.Text.{component, component_text, argument_text, part_text, keyed}
-use Rattle.rule_arguments.proofs.Both.{first_true, second_true}
+use Rattle.rule_match.proofs.Both.{first_true, second_true}
 use Rattle.rule_match.proofs.Quotes.{before_quote_of}
 
 -- ---- up to the first `=`

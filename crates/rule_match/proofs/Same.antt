@@ -3,15 +3,15 @@ use Rattle.std.proofs.Common.{◌≡◌, refl, sym, ap, ◌∙◌, ℕ, List, []
 use Rattle.std.specs.List.{filter, list_all}
 use Rattle.std.proofs.lemmas.Bool.{ltb-true}
 use Rattle.std.proofs.lemmas.Bool.Decides.{nat_tests}
-use Rattle.rule_arguments.specs.declared.arguments.Argument.{Argument}
+use Rattle.rule_match.specs.declared.arguments.Argument.{Argument}
 use Rattle.rule_match.specs.declared.part.Part.{Part}
 use Rattle.rule_match.specs.declared.part.Part.TheVariants as parts
 use Rattle.rule_match.specs.declared.place.PathSpec.{PathSpec}
 use Rattle.rule_match.specs.declared.place.PathSpec.TheVariants.{Path, PathNamespace}
-use Rattle.rule_arguments.specs.Arguments.{is_ascending, in_order, put}
+use Rattle.rule_match.specs.Arguments.{is_ascending, in_order, put}
 use Rattle.rule_match.specs.Rule.{Rule}
 use Rattle.rule_match.specs.Text.{or_else, last_of, text_at, kind_in, sender_in, interface_in, member_in, place_in, destination_in, arg_in, arg_path_in, arg0ns_in, one, place_part, parts_of, rule_of}
-use Rattle.rule_arguments.proofs.Both.{first_true, second_true, both_true}
+use Rattle.rule_match.proofs.Both.{first_true, second_true, both_true}
 use Rattle.rule_match.proofs.Made.{or_nothing, or_assoc, last_more, newer, same_below, in_order_put}
 
 last_append : {A : Type 0} (value : Part → Option A) (xs ys : List Part) → last_of value (xs ++ ys) ≡ or_else (last_of value ys) (last_of value xs)

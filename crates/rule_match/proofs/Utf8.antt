@@ -18,9 +18,9 @@ use Rattle.wire_message.specs.declared.error.Error.TheVariants.{InvalidMatchRule
 use Rattle.wire_names.specs.declared.error.NamesError.TheVariants as faults
 use Rattle.wire_names.specs.Names.{elements, is_element, is_element_byte, is_unique_element, is_well_known_element, is_bus_name, is_unique_name, is_interface_name, is_member_name, is_object_path}
 use Rattle.wire_names.specs.BusName.{bus_name_of, owned_of}
-use Rattle.rule_arguments.specs.Arguments.{is_plain}
-use Rattle.rule_arguments.proofs.Positions.{place_short}
-use Rattle.rule_arguments.proofs.Both.{first_true, second_true, both_true}
+use Rattle.rule_match.specs.Arguments.{is_plain}
+use Rattle.rule_match.proofs.Positions.{place_short}
+use Rattle.rule_match.proofs.Both.{first_true, second_true, both_true}
 use Rattle.rule_match.specs.declared.key.Key.{Key}
 use Rattle.rule_match.specs.declared.key.Key.TheVariants as keys
 use Rattle.rule_match.specs.declared.part.Part.{Part}

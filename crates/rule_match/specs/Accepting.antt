@@ -6,15 +6,15 @@ use Rattle.wire_number.specs.declared.endian.Endian.{Endian}
 use Rattle.wire_names.specs.Names.{is_unique_name}
 use Rattle.wire_names.specs.declared.bus.OwnedBusName.{OwnedBusName}
 use Rattle.wire_names.specs.declared.bus.OwnedBusName.TheVariants.{Unique, WellKnown}
-use Rattle.wire_signature.specs.Shape.{Shape, shapes_of}
+use Rattle.wire_signature.specs.SingleType.{SingleType, single_types_of}
 use Rattle.wire_signature.specs.Parsing.{types_in}
 use Rattle.wire_tree.specs.Datum.{Datum}
-use Rattle.wire_spelling.specs.Reading.{value_at, fields_at}
-use Rattle.wire_message.specs.Front.{Seen, body_bytes, kind_code}
+use Rattle.wire_encoding.specs.Reading.{value_at, fields_at}
+use Rattle.wire_message.specs.Front.{MessageView, body_bytes, kind_code}
 use Rattle.wire_message.specs.declared.kind.MessageType.{MessageType}
-use Rattle.rule_arguments.specs.declared.arguments.Argument.{Argument}
-use Rattle.rule_arguments.specs.Passing.{same, is_at_or_below, is_string, is_path, is_name_in, has_at}
-use Rattle.rule_arguments.specs.Wanted.{Wanted}
+use Rattle.rule_match.specs.declared.arguments.Argument.{Argument}
+use Rattle.rule_match.specs.ArgumentTests.{same, is_at_or_below, is_string, is_path, is_name_in, has_at}
+use Rattle.rule_match.specs.Wanted.{Wanted}
 use Rattle.rule_match.specs.declared.place.PathSpec.{PathSpec}
 use Rattle.rule_match.specs.declared.place.PathSpec.TheVariants.{Path, PathNamespace}
 use Rattle.rule_match.specs.Rule.{Rule}
@@ -56,7 +56,7 @@ accepts_destination None wanted = true
 accepts_destination (Some name) wanted = not (is_unique_name name) || same name wanted
 
 -- the header has what the rule wants of it
-unfoldable pub accepts_header : Rule → Seen → Bool
+unfoldable pub accepts_header : Rule → MessageView → Bool
 accepts_header r m =
     is_none_or (is_kind m.kind) r.kind
     && (is_none_or (accepts_sender m.sender) r.sender
@@ -67,15 +67,15 @@ accepts_header r m =
 -- ---- the arguments
 
 -- The values of these types that stand at the front of a body, whatever stands behind them. They nest at most 64 deep.
-abbrev pub values_in : Endian → List Shape → List ℕ → Option (List Datum)
-values_in order types body = option_map (λ found. found.0) (fields_at (value_at 64 order) (shapes_of types) (record { place = 0; rest = body }))
+abbrev pub values_in : Endian → List SingleType → List ℕ → Option (List Datum)
+values_in order types body = option_map (λ found. found.0) (fields_at (value_at 64 order) (single_types_of types) (record { place = 0; rest = body }))
 
 -- the values at the front of a body by its signature; None where there are none
 unfoldable pub arguments_in : Endian → List ℕ → List ℕ → Option (List Datum)
 arguments_in order signature body = option_and_then (λ types. values_in order types body) (types_in signature)
 
 -- a message's arguments
-abbrev pub arguments_of : Seen → Option (List Datum)
+abbrev pub arguments_of : MessageView → Option (List Datum)
 arguments_of m = arguments_in m.order (signature_text m) (body_bytes m.bytes)
 
 -- The arguments have what is wanted: at each index that string or object path, and first a name in the namespace.
@@ -87,5 +87,5 @@ accepts_arguments w ds =
 -- ---- the whole
 
 -- The rule accepts the message. One whose body can't be read by its signature is tested as one without arguments.
-unfoldable pub accepts : Rule → Seen → Bool
+unfoldable pub accepts : Rule → MessageView → Bool
 accepts r m = accepts_header r m && accepts_arguments (wanted_of r) (unwrap_or (arguments_of m) [])

@@ -2,7 +2,7 @@
 use Rattle.std.specs.Prelude.{ℕ, ◌≢◌, Bool, not, ◌==◌, List, [], codes, IfSome, IsTrue}
 use Rattle.std.specs.List.{list_all}
 use Rattle.wire_names.specs.declared.bus.OwnedBusName.TheVariants.{WellKnown}
-use Rattle.rule_arguments.specs.declared.arguments.Argument.{Argument}
+use Rattle.rule_match.specs.declared.arguments.Argument.{Argument}
 use Rattle.rule_match.specs.Rule.{Rule}
 use Rattle.rule_match.specs.Text.{parts_of}
 

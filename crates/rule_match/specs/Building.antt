@@ -7,7 +7,7 @@ use Rattle.rule_match.specs.declared.key.Key.TheVariants as keys
 use Rattle.rule_match.specs.declared.part.Part.{Part}
 use Rattle.rule_match.specs.declared.part.Part.TheVariants as parts
 use Rattle.rule_match.specs.declared.place.PathSpec.TheVariants as places
-use Rattle.rule_arguments.specs.Arguments.{put, is_argument, is_path_argument}
+use Rattle.rule_match.specs.Arguments.{put, is_argument, is_path_argument}
 use Rattle.rule_match.specs.Namespace.{IsNamespace}
 use Rattle.rule_match.specs.Rule.{Rule}
 

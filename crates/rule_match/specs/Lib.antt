@@ -11,3 +11,9 @@ pub mod Printing
 pub mod Again
 pub mod Matching
 pub mod Accepting
+pub mod Arguments
+pub mod SameArgument
+pub mod Body
+pub mod Below
+pub mod Wanted
+pub mod ArgumentTests

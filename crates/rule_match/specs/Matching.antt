@@ -4,10 +4,10 @@ use Rattle.std.specs.List.{AllByRecursion}
 use Rattle.wire_names.specs.Names.{is_unique_name, IsUniqueName}
 use Rattle.wire_names.specs.declared.bus.OwnedBusName.{OwnedBusName}
 use Rattle.wire_names.specs.declared.bus.OwnedBusName.TheVariants.{Unique, WellKnown}
-use Rattle.wire_message.specs.Front.{Seen, body_bytes}
+use Rattle.wire_message.specs.Front.{MessageView, body_bytes}
 use Rattle.wire_message.specs.Primary.{Head}
-use Rattle.rule_arguments.specs.Below.{IsAtOrBelow}
-use Rattle.rule_arguments.specs.Wanted.{Wanted, HasString, HasPath, HasNameIn}
+use Rattle.rule_match.specs.Below.{IsAtOrBelow}
+use Rattle.rule_match.specs.Wanted.{Wanted, HasString, HasPath, HasNameIn}
 use Rattle.rule_match.specs.declared.place.PathSpec.{PathSpec}
 use Rattle.rule_match.specs.declared.place.PathSpec.TheVariants.{Path, PathNamespace}
 use Rattle.rule_match.specs.Rule.{Rule, no_parts}
@@ -28,12 +28,12 @@ IsDestination None wanted = Unit {0}
 IsDestination (Some name) wanted = IsUniqueName name → name ≡ wanted
 
 -- the text of a body's signature; an absent one is empty
-abbrev pub signature_text : Seen → List ℕ
+abbrev pub signature_text : MessageView → List ℕ
 signature_text m = unwrap_or m.signature []
 
--- The message matches each part of the rule that is there. Its arguments are the values that a front of its body spells by
+-- The message matches each part of the rule that is there. Its arguments are the values that a front of its body encodes by
 -- its signature; where no front does, it has none.
-pub record Matches (r : Rule) (m : Seen) : Type 0 where
+pub record Matches (r : Rule) (m : MessageView) : Type 0 where
   pub kind : IfSome r.kind (λ kind. m.kind ≡ kind)
   pub sender : IfSome r.sender (IsSender m.sender)
   pub interface : IfSome r.interface (λ name. m.interface ≡ Some name)
@@ -62,7 +62,7 @@ header_rule head = record no_parts {
 
 -- ---- by halves
 
-pub record HeaderMatches (r : Rule) (m : Seen) : Type 0 where
+pub record HeaderMatches (r : Rule) (m : MessageView) : Type 0 where
   pub kind : IfSome r.kind (λ kind. m.kind ≡ kind)
   pub sender : IfSome r.sender (IsSender m.sender)
   pub interface : IfSome r.interface (λ name. m.interface ≡ Some name)

@@ -11,8 +11,8 @@ use Rattle.rule_match.specs.declared.key.Key.{Key}
 use Rattle.rule_match.specs.declared.key.Key.TheVariants as keys
 use Rattle.rule_match.specs.declared.part.Part.{Part}
 use Rattle.rule_match.specs.declared.part.Part.TheVariants as parts
-use Rattle.rule_arguments.specs.declared.arguments.Argument.{Argument}
-use Rattle.rule_arguments.specs.Arguments.{is_plain}
+use Rattle.rule_match.specs.declared.arguments.Argument.{Argument}
+use Rattle.rule_match.specs.Arguments.{is_plain}
 use Rattle.rule_match.specs.Namespace.{is_namespace}
 use Rattle.rule_match.specs.Key.{same}
 

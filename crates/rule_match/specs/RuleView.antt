@@ -2,8 +2,8 @@
 use Rattle.rule_match.specs.declared.rule.MatchRule.TheInside.{Inside}
 use Rattle.rule_match.specs.Rule.{Rule}
 
-abbrev pub rule_seen : Inside → Rule
-rule_seen m = record {
+abbrev pub rule_view : Inside → Rule
+rule_view m = record {
   kind = m.kind;
   sender = m.sender;
   interface = m.interface;

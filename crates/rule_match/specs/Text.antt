@@ -11,8 +11,8 @@ use Rattle.rule_match.specs.declared.part.Part.{Part}
 use Rattle.rule_match.specs.declared.part.Part.TheVariants as parts
 use Rattle.rule_match.specs.declared.place.PathSpec.{PathSpec}
 use Rattle.rule_match.specs.declared.place.PathSpec.TheVariants as places
-use Rattle.rule_arguments.specs.declared.arguments.Argument.{Argument}
-use Rattle.rule_arguments.specs.Arguments.{in_order}
+use Rattle.rule_match.specs.declared.arguments.Argument.{Argument}
+use Rattle.rule_match.specs.Arguments.{in_order}
 use Rattle.rule_match.specs.Rule.{Rule}
 use Rattle.rule_match.specs.Key.{key_of}
 use Rattle.rule_match.specs.Part.{part_of, kind_word}

@@ -1,10 +1,10 @@
 //! Building a rule, part by part.
+use crate::arguments::{Argument, Arguments};
 use crate::component::{is_namespace, is_plain};
 use crate::part::Part;
 use crate::place::PathSpec;
 use crate::rule::MatchRule;
 use crate::sender::Sender;
-use rule_arguments::{Argument, Arguments};
 use std::alloc::{AllocError, Global};
 use std::marker::Model;
 use wire_message::{Error, MessageType};
@@ -38,7 +38,7 @@ impl Model for Builder {
 impl Builder {
     ghost use Rattle.std.specs.Prelude.{◌≡◌, ◌⊎◌, ◌<◌, ◌&&◌, nat_lt, Some, Ok, Err, IfOk, IsTrue, if◌then◌else◌};
     ghost use Rattle.rule_match.specs.declared.place.PathSpec.TheVariants.{Path, PathNamespace};
-    ghost use Rattle.rule_arguments.specs.Arguments.{put, index_after, is_argument, is_path_argument, is_plain};
+    ghost use Rattle.rule_match.specs.Arguments.{put, index_after, is_argument, is_path_argument, is_plain};
     ghost use Rattle.rule_match.specs.Namespace.{is_namespace};
     ghost use Rattle.rule_match.specs.Part.{argument};
     ghost use Rattle.rule_match.specs.Rule.{no_parts};

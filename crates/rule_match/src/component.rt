@@ -3,7 +3,7 @@ ghost use Rattle.std.specs.Prelude.{◌≡◌, ◌⊎◌, ◌<◌, ◌==◌, len
 ghost use Rattle.std.specs.List.{list_all, position_or_len, before_first, after_first};
 ghost use Rattle.std.specs.Option.{MatchOption};
 ghost use Rattle.wire_names.specs.Names.{elements, is_element, is_element_byte, begins_with_digit};
-ghost use Rattle.rule_arguments.specs.Arguments.{is_plain};
+ghost use Rattle.rule_match.specs.Arguments.{is_plain};
 ghost use Rattle.rule_match.specs.Namespace.{has_namespace_elements, is_namespace};
 ghost use Rattle.rule_match.specs.Key.{same};
 ghost use Rattle.rule_match.specs.Part.{kind_of, part_of};
@@ -11,10 +11,10 @@ ghost use Rattle.rule_match.specs.Text.{components, before_quote, between_quotes
 ghost use Rattle.rule_match.specs.Bytes.{utf8_wanted, said_in_bytes, rule_in_bytes};
 ghost use Rattle.rule_match.specs.Building.{IsPart, IsKey, Gives};
 
+use crate::arguments::Argument;
 use crate::key::{Key, key_of, same};
 use crate::part::Part;
 use crate::rule::MatchRule;
-use rule_arguments::Argument;
 use std::alloc::{AllocError, Global};
 use wire_message::{Error, MessageType};
 use wire_names::{BusName, Name, NameKind, OwnedName, OwnedObjectPath, Text};

@@ -6,11 +6,11 @@ ghost use Rattle.wire_names.specs.BusName.{text_of_owned};
 ghost use Rattle.rule_match.specs.Text.{component_text, argument_text, part_text, one, place_part, rule_text};
 ghost use Rattle.rule_match.specs.Printing.{separator, joined, named};
 
+use crate::arguments::Argument;
 use crate::names::{namespace_of, text_of};
 use crate::place::PathSpec;
 use crate::rule::MatchRule;
 use crate::sender::Sender;
-use rule_arguments::Argument;
 use std::fmt;
 use wire_message::MessageType;
 

@@ -4,12 +4,12 @@ ghost use Rattle.wire_names.specs.declared.bus.OwnedBusName.TheVariants.{Unique}
 ghost use Rattle.rule_match.specs.declared.place.PathSpec.TheVariants as places;
 ghost use Rattle.rule_match.specs.Matching.{header_rule, unique_only};
 
+use crate::arguments::Arguments;
 use crate::building::Builder;
 use crate::names::owned_of;
 use crate::place::PathSpec;
 use crate::rule::MatchRule;
 use crate::sender::Sender;
-use rule_arguments::Arguments;
 use std::alloc::{AllocError, Global};
 use wire_message::Header;
 use wire_names::{BusName, OwnedBusName, OwnedUniqueName};

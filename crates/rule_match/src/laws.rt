@@ -1,7 +1,7 @@
 //! Laws of rules.
 ghost use Rattle.std.specs.Prelude.{◌≡◌, ◌<◌, ◌↔◌, List, ℕ, Ok, IfSome, IsTrue, IsUtf8};
 ghost use Rattle.std.specs.List.{All};
-ghost use Rattle.wire_message.specs.Front.{Seen};
+ghost use Rattle.wire_message.specs.Front.{MessageView};
 ghost use Rattle.wire_message.specs.Primary.{head_of};
 ghost use Rattle.wire_names.specs.Names.{IsUniqueName, IsInterfaceName, IsMemberName, IsObjectPath};
 ghost use Rattle.rule_match.specs.Accepting.{accepts};
@@ -75,13 +75,13 @@ pub fn rules_hold_their_grammar(rule: &MatchRule)
 
 /// A message matches the rule of its own header.
 pub fn a_message_matches_its_header()
-    ensures { (m : Seen) → Matches (header_rule (head_of m)) m }
+    ensures { (m : MessageView) → Matches (header_rule (head_of m)) m }
 {}
 
 /// The function `accepts` of the definitions is true exactly where the message matches the rule. Of the message's bytes it asks
 /// only that each is below 256.
 pub fn accepting_is_matching()
-    ensures { (r : Rule) (m : Seen) → All (λ b. b < 256) m.bytes → IsTrue (accepts r m) ↔ Matches r m }
+    ensures { (r : Rule) (m : MessageView) → All (λ b. b < 256) m.bytes → IsTrue (accepts r m) ↔ Matches r m }
 {}
 
 /// Whether two rules are one, which is what `==` decides; equal rules are hashed alike, so they are one key of a map.

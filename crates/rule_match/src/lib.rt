@@ -1,6 +1,7 @@
 //! Match rules: which messages a peer wants to see (D-Bus Specification, "Message Bus Message Routing", "Match Rules").
 #![tactic(auto)]
 
+pub use crate::arguments::Argument;
 pub use crate::building::Builder;
 pub use crate::laws::{
     a_message_matches_its_header, accepting_is_matching, bytes_and_texts_agree, is_one_rule,
@@ -9,8 +10,9 @@ pub use crate::laws::{
 pub use crate::owned::OwnedMatchRule;
 pub use crate::place::PathSpec;
 pub use crate::rule::MatchRule;
-pub use rule_arguments::Argument;
 
+mod arguments;
+mod below;
 mod building;
 mod component;
 mod display;
@@ -24,3 +26,5 @@ mod part;
 mod place;
 mod rule;
 mod sender;
+mod skip;
+mod wanted;

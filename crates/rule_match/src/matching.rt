@@ -2,16 +2,17 @@
 ghost use Rattle.std.specs.Prelude.{◌≡◌, ◌<◌, ◌↔◌, ◌⊎◌, length, [], Some, IfSome, IsTrue, codes, option_map, unwrap_or};
 ghost use Rattle.std.specs.List.{All};
 ghost use Rattle.wire_message.specs.Front.{body_bytes, order_at};
-ghost use Rattle.rule_arguments.specs.Below.{IsAtOrBelow};
-ghost use Rattle.rule_arguments.specs.Wanted.{ArgumentsMatch};
+ghost use Rattle.rule_match.specs.Below.{IsAtOrBelow};
+ghost use Rattle.rule_match.specs.Wanted.{ArgumentsMatch};
 ghost use Rattle.rule_match.specs.Accepting.{accepts};
 ghost use Rattle.rule_match.specs.Matching.{HeaderMatches, IsDestination, IsPlace, IsSender, Matches, signature_text, wanted_of};
 
+use crate::below::is_at_or_below;
 use crate::names::{is_wanted, namespace_of, same_text};
 use crate::place::PathSpec;
 use crate::rule::MatchRule;
 use crate::sender::Sender;
-use rule_arguments::{WantedArguments, is_at_or_below};
+use crate::wanted::WantedArguments;
 use wire_message::{Header, Message, MessageType};
 use wire_names::{BusName, OwnedBusName, OwnedInterfaceName, OwnedMemberName, OwnedUniqueName};
 use wire_number::{Endian, padding_for_8_bytes, read_u32};
@@ -172,7 +173,7 @@ impl MatchRule {
     ///
     /// A unique sender is to be the header's own, and a well-known one refuses no message. A path namespace accepts its path
     /// and all below it, by whole elements. A destination refuses only messages with another unique one. Arguments are those
-    /// that the body spells by its signature; where it can't be read so, it has none.
+    /// that the body encodes by its signature; where it can't be read so, it has none.
     ///
     /// The answer is stated twice: by the relation `Matches`, and as what the function `accepts` computes.
     pub fn matches(&self, message: &Message) -> bool

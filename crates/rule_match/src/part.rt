@@ -1,6 +1,6 @@
 //! What one component of a rule's text says.
+use crate::arguments::Argument;
 use crate::building::Builder;
-use rule_arguments::Argument;
 use std::alloc::AllocError;
 use wire_message::MessageType;
 use wire_names::{

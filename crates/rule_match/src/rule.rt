@@ -1,12 +1,12 @@
 //! The rule itself.
 ghost use Rattle.std.specs.Prelude.{◌≡◌, IfOk, codes};
 
+use crate::arguments::{Argument, Arguments};
 use crate::building::Builder;
 use crate::component::{rule_in, rule_in_bytes};
 use crate::names::copy_of;
 use crate::place::PathSpec;
 use crate::sender::Sender;
-use rule_arguments::{Argument, Arguments};
 use std::alloc::{AllocError, Global};
 use std::marker::Model;
 use wire_message::{Error, MessageType};
@@ -51,11 +51,11 @@ impl Model for MatchRule {
 
     ghost Value = { Rule };
 
-    ghost use Rattle.rule_match.specs.RuleView.{rule_seen, rule_fields};
+    ghost use Rattle.rule_match.specs.RuleView.{rule_view, rule_fields};
 
-    ghost view = { rule_seen };
+    ghost view = { rule_view };
 
-    ghost invariant = { λ m. IsRule (rule_seen m) };
+    ghost invariant = { λ m. IsRule (rule_view m) };
 
     ghost inverse = { rule_fields };
 }

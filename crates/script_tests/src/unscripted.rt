@@ -1,8 +1,8 @@
 //! A peer that is run without script text, with nothing but the names of `peer_run`.
 ghost use Rattle.std.specs.Prelude.{IfOk};
 ghost use Rattle.std.specs.List.{AllByRecursion};
-ghost use Rattle.peer_route.specs.declared.words.Command.{Command};
-ghost use Rattle.peer_route.specs.Entries.{IsOfRun};
+ghost use Rattle.peer_words.specs.declared.words.Command.{Command};
+ghost use Rattle.peer_words.specs.OfRun.{IsOfRun};
 
 use peer_run::{
     Answer, Bytes, CallFlags, CallOp, Command, Entry, MemorySink, MemorySource, Outgoing,

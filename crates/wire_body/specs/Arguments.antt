@@ -1,13 +1,13 @@
 -- Arguments as the values of a body, and bodies as arguments (D-Bus Specification, "Message Format").
 use Rattle.std.specs.Prelude.{◌≡◌, List, [], ◌∷◌, map, Option, Some, None, Result, Ok, Err}
-use Rattle.wire_signature.specs.Shape.{Shape, IsSignature, IsType}
+use Rattle.wire_signature.specs.SingleType.{SingleType, IsSignature, IsType}
 use Rattle.wire_signature.specs.declared.error.VariantError.{VariantError}
 use Rattle.wire_signature.specs.declared.error.VariantError.TheVariants as errors
-use Rattle.wire_tree.specs.Datum.{Datum, IsSound, type_of}
+use Rattle.wire_tree.specs.Datum.{Datum, WellTyped, type_of}
 
-abbrev pub AreAllSound : List Datum → Type 0
-AreAllSound [] = Unit {0}
-AreAllSound (d ∷ ds) = IsSound d × AreAllSound ds
+abbrev pub AreAllWellTyped : List Datum → Type 0
+AreAllWellTyped [] = Unit {0}
+AreAllWellTyped (d ∷ ds) = WellTyped d × AreAllWellTyped ds
 
 -- The values of a body are taken exactly where their types together are a signature.
 abbrev pub TellsBody : Result (List Datum) VariantError → List Datum → Type 0
@@ -19,7 +19,7 @@ TellsBody (Err errors.SignatureMismatch) ds = ⊥
 TellsBody (Err errors.Memory) ds = Unit {0}
 
 -- The same of a list of types.
-abbrev pub TellsKinds : Result (List Shape) VariantError → List Shape → Type 0
+abbrev pub TellsKinds : Result (List SingleType) VariantError → List SingleType → Type 0
 TellsKinds (Ok signature) kinds = (signature ≡ kinds) × IsSignature kinds
 TellsKinds (Err errors.Signature) kinds = IsSignature kinds → ⊥
 TellsKinds (Err errors.Malformed) kinds = ⊥
@@ -29,25 +29,25 @@ TellsKinds (Err errors.Memory) kinds = Unit {0}
 
 -- Arguments become the values of a body. Signature comes exactly where their types together are no signature, Malformed
 -- exactly where they are and a text holds a 0 byte, or a text or path is longer than 32 bits count.
-abbrev pub TellsTo : Result (List Datum) VariantError → List Shape → List Datum → Type 0
-TellsTo (Ok body) kinds ds = (body ≡ ds) × IsSignature kinds × AreAllSound ds
+abbrev pub TellsTo : Result (List Datum) VariantError → List SingleType → List Datum → Type 0
+TellsTo (Ok body) kinds ds = (body ≡ ds) × IsSignature kinds × AreAllWellTyped ds
 TellsTo (Err errors.Signature) kinds ds = IsSignature kinds → ⊥
-TellsTo (Err errors.Malformed) kinds ds = IsSignature kinds × (AreAllSound ds → ⊥)
+TellsTo (Err errors.Malformed) kinds ds = IsSignature kinds × (AreAllWellTyped ds → ⊥)
 TellsTo (Err errors.Depth) kinds ds = ⊥
 TellsTo (Err errors.SignatureMismatch) kinds ds = ⊥
 TellsTo (Err errors.Memory) kinds ds = Unit {0}
 
 -- The same where the types are known to be a signature.
-abbrev pub TellsSound : {A : Type 0} → Result A VariantError → List Datum → Type 0
-TellsSound (Ok values) ds = AreAllSound ds
-TellsSound (Err errors.Malformed) ds = AreAllSound ds → ⊥
-TellsSound (Err errors.Signature) ds = ⊥
-TellsSound (Err errors.Depth) ds = ⊥
-TellsSound (Err errors.SignatureMismatch) ds = ⊥
-TellsSound (Err errors.Memory) ds = Unit {0}
+abbrev pub TellsWellTyped : {A : Type 0} → Result A VariantError → List Datum → Type 0
+TellsWellTyped (Ok values) ds = AreAllWellTyped ds
+TellsWellTyped (Err errors.Malformed) ds = AreAllWellTyped ds → ⊥
+TellsWellTyped (Err errors.Signature) ds = ⊥
+TellsWellTyped (Err errors.Depth) ds = ⊥
+TellsWellTyped (Err errors.SignatureMismatch) ds = ⊥
+TellsWellTyped (Err errors.Memory) ds = Unit {0}
 
 -- What is read of values of these types: SignatureMismatch exactly where they are of others.
-abbrev pub TellsFrom : {A : Type 0} → Result A VariantError → A → List Shape → List Shape → Type 0
+abbrev pub TellsFrom : {A : Type 0} → Result A VariantError → A → List SingleType → List SingleType → Type 0
 TellsFrom (Ok x) read types kinds = (x ≡ read) × (types ≡ kinds)
 TellsFrom (Err errors.SignatureMismatch) read types kinds = types ≡ kinds → ⊥
 TellsFrom (Err errors.Signature) read types kinds = ⊥
@@ -56,7 +56,7 @@ TellsFrom (Err errors.Depth) read types kinds = ⊥
 TellsFrom (Err errors.Memory) read types kinds = Unit {0}
 
 -- The same of one value.
-abbrev pub TellsRead : {A : Type 0} → Result A VariantError → A → Shape → Shape → Type 0
+abbrev pub TellsRead : {A : Type 0} → Result A VariantError → A → SingleType → SingleType → Type 0
 TellsRead (Ok x) read own kind = (x ≡ read) × (own ≡ kind)
 TellsRead (Err errors.SignatureMismatch) read own kind = own ≡ kind → ⊥
 TellsRead (Err errors.Signature) read own kind = ⊥
@@ -65,7 +65,7 @@ TellsRead (Err errors.Depth) read own kind = ⊥
 TellsRead (Err errors.Memory) read own kind = Unit {0}
 
 -- each is a type that a signature may hold
-abbrev pub AllAreTypes : List Shape → Type 0
+abbrev pub AllAreTypes : List SingleType → Type 0
 AllAreTypes [] = Unit {0}
 AllAreTypes (t ∷ ts) = IsType t × AllAreTypes ts
 
@@ -84,7 +84,7 @@ TellsEnd (Err errors.Depth) ds = ⊥
 TellsEnd (Err errors.Memory) ds = ⊥
 
 -- The next value is taken where there is one of the type; SignatureMismatch exactly where there is none.
-abbrev pub TellsTake : {A : Type 0} → Result A VariantError → List Datum → List Datum → Shape → (Datum → A) → Type 0
+abbrev pub TellsTake : {A : Type 0} → Result A VariantError → List Datum → List Datum → SingleType → (Datum → A) → Type 0
 TellsTake (Ok x) old new kind read = (d : Datum) × (old ≡ d ∷ new) × (type_of d ≡ kind) × (x ≡ read d)
 TellsTake (Err errors.SignatureMismatch) old new kind read = (d : Datum) (ds : List Datum) → old ≡ d ∷ ds → type_of d ≡ kind → ⊥
 TellsTake (Err errors.Signature) old new kind read = ⊥

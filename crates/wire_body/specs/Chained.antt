@@ -1,7 +1,7 @@
 -- The first of a list of values, and those behind it.
 use Rattle.std.specs.Prelude.{◌≡◌, List, [], ◌∷◌}
 use Rattle.std.proofs.Common.{ap, ◌∙◌}
-use Rattle.wire_signature.specs.Shape.{Shape}
+use Rattle.wire_signature.specs.SingleType.{SingleType}
 use Rattle.wire_tree.specs.Datum.{Datum, struct, no_data}
 
 -- of no values nothing is said
@@ -13,5 +13,5 @@ abbrev pub rest_of : List Datum → List Datum
 rest_of [] = []
 rest_of (d ∷ ds) = ds
 
-pub same_cons : (t u : Shape) (ts us : List Shape) → t ≡ u → ts ≡ us → t ∷ ts ≡ u ∷ us
+pub same_cons : (t u : SingleType) (ts us : List SingleType) → t ≡ u → ts ≡ us → t ∷ ts ≡ u ∷ us
 same_cons t u ts us e f = ap (λ r. r ∷ ts) e ∙ ap (λ rs. u ∷ rs) f

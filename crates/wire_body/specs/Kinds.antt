@@ -1,6 +1,6 @@
 -- What a value of each type is read as.
 use Rattle.std.specs.Prelude.{ℕ, List, [], unwrap_or}
-use Rattle.wire_signature.specs.Shape.{Shape}
+use Rattle.wire_signature.specs.SingleType.{SingleType}
 use Rattle.wire_signature.specs.Parsing.{types_in}
 use Rattle.wire_tree.specs.Datum.{Datum, num, text, array, dict, variant, list_of, pairs_of}
 
@@ -14,7 +14,7 @@ text_in (text t bytes) = bytes
 text_in d = []
 
 -- the types of which a signature is the text
-abbrev pub signature_in : Datum → List Shape
+abbrev pub signature_in : Datum → List SingleType
 signature_in d = unwrap_or (types_in (text_in d)) []
 
 -- what a variant holds

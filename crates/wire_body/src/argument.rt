@@ -1,8 +1,8 @@
 //! Arguments.
 ghost use Rattle.std.specs.Prelude.{◌≡◌, ◌++◌, IfErr, IfOk, OnOk, string_bytes};
-ghost use Rattle.wire_signature.specs.Shape.{HasFields, IsType, Shape, type_text};
+ghost use Rattle.wire_signature.specs.SingleType.{HasFields, IsType, SingleType, type_text};
 ghost use Rattle.wire_signature.specs.declared.error.VariantError.TheVariants.{Memory};
-ghost use Rattle.wire_tree.specs.Datum.{Datum, IsSound, type_of};
+ghost use Rattle.wire_tree.specs.Datum.{Datum, WellTyped, type_of};
 ghost use Rattle.wire_tree.specs.DatumView.{datum_of};
 ghost use Rattle.wire_body.specs.Arguments.{TellsRead};
 
@@ -13,7 +13,7 @@ use wire_tree::Tree;
 /// What is one argument of a message: each value of the Rust type is a value of one D-Bus type.
 pub trait Argument: Drop {
     /// the D-Bus type
-    ghost kind: { Shape };
+    ghost kind: { SingleType };
 
     /// the value that an argument is
     ghost datum: { Self → Datum };
@@ -35,7 +35,7 @@ pub trait Argument: Drop {
 
     /// The argument that a value is. `SignatureMismatch` comes exactly where it is of another type.
     fn from_tree(alloc: Global, tree: Tree) -> Result<Self, VariantError>
-        requires { IsSound (datum_of tree) }
+        requires { WellTyped (datum_of tree) }
         ensures { TellsRead result (read (datum_of tree)) (type_of (datum_of tree)) kind };
 
     ghost has_fields: { HasFields kind };

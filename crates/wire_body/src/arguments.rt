@@ -1,5 +1,5 @@
 //! The values of a body, one after another.
-ghost use Rattle.wire_body.specs.Arguments.{TellsEnd, TellsSound, TellsTake};
+ghost use Rattle.wire_body.specs.Arguments.{TellsEnd, TellsWellTyped, TellsTake};
 
 use crate::argument::Argument;
 use crate::body::BodyValues;

@@ -1,6 +1,6 @@
 //! Arrays as arguments.
 ghost use Rattle.std.specs.Prelude.{◌≡◌, IfErr, IfOk, map, refl};
-ghost use Rattle.wire_signature.specs.Shape.{IsType, array as array_of};
+ghost use Rattle.wire_signature.specs.SingleType.{IsType, array as array_of};
 ghost use Rattle.wire_signature.specs.declared.error.VariantError.TheVariants.{Memory};
 ghost use Rattle.wire_tree.specs.Datum.{AreElements, array, data_of};
 ghost use Rattle.wire_tree.specs.DatumView.{datum_of};

@@ -1,6 +1,6 @@
 //! Bodies of messages.
 ghost use Rattle.std.specs.Prelude.{◌≡◌, ◌++◌, IfErr, OnOk, map, string_bytes};
-ghost use Rattle.wire_signature.specs.Shape.{AllHaveFields, HasFields, shapes_of, type_text, types_text};
+ghost use Rattle.wire_signature.specs.SingleType.{AllHaveFields, HasFields, single_types_of, type_text, types_text};
 ghost use Rattle.wire_signature.specs.declared.error.VariantError.TheVariants.{Memory};
 ghost use Rattle.wire_tree.specs.Datum.{type_of};
 
@@ -41,7 +41,7 @@ impl Drop for BodyValues {
 
 impl BodyValues {
     ghost use Rattle.std.specs.Prelude.{◌≡◌, map};
-    ghost use Rattle.wire_signature.specs.Shape.{IsSignature};
+    ghost use Rattle.wire_signature.specs.SingleType.{IsSignature};
     ghost use Rattle.wire_tree.specs.Datum.{type_of};
     ghost use Rattle.wire_body.specs.Arguments.{TellsBody};
 
@@ -98,8 +98,8 @@ impl BodyValues {
 
 /// Writes the texts of the values' types, one after another, at the end of `out`.
 fn write_types(out: &mut String, alloc: Global, values: &[Value]) -> Result<(), VariantError>
-    ensures text { OnOk result (string_bytes out.new ≡ string_bytes out.old ++ types_text (shapes_of (map type_of values.now))) }
-    ensures fields { OnOk result (AllHaveFields (shapes_of (map type_of values.now))) }
+    ensures text { OnOk result (string_bytes out.new ≡ string_bytes out.old ++ types_text (single_types_of (map type_of values.now))) }
+    ensures fields { OnOk result (AllHaveFields (single_types_of (map type_of values.now))) }
     ensures error { IfErr result (λ e. e ≡ Memory) }
 {
     for each in values {

@@ -1,7 +1,7 @@
 //! One argument, and those behind it.
 ghost use Rattle.std.specs.Prelude.{◌≡◌, ◌++◌, ◌∷◌, [], IfOk, OnOk, refl};
-ghost use Rattle.wire_signature.specs.Shape.{IsType};
-ghost use Rattle.wire_body.specs.Arguments.{TellsSound};
+ghost use Rattle.wire_signature.specs.SingleType.{IsType};
+ghost use Rattle.wire_body.specs.Arguments.{TellsWellTyped};
 ghost use Rattle.wire_body.specs.Chained.{first_of, rest_of, same_cons};
 
 use crate::argument::Argument;
@@ -13,7 +13,7 @@ use wire_tree::Value;
 
 /// An argument, and those behind it.
 #[derive(Drop)]
-pub(crate) struct Then<A, R> {
+pub(crate) struct Cons<A, R> {
     pub(crate) first: A,
     pub(crate) rest: R,
 }
@@ -44,7 +44,7 @@ impl FromBody for () {
     }
 }
 
-impl<A: Argument, R: ToBody> ToBody for Then<A, R> {
+impl<A: Argument, R: ToBody> ToBody for Cons<A, R> {
     ghost kinds = { A.kind ∷ R.kinds };
 
     ghost datums = { λ x. A.datum x.first ∷ R.datums x.rest };
@@ -68,18 +68,18 @@ impl<A: Argument, R: ToBody> ToBody for Then<A, R> {
     }
 }
 
-impl<A: Argument, R: FromBody> FromBody for Then<A, R> {
-    fn from_arguments(alloc: Global, mut arguments: Arguments) -> Result<Then<A, R>, VariantError> {
+impl<A: Argument, R: FromBody> FromBody for Cons<A, R> {
+    fn from_arguments(alloc: Global, mut arguments: Arguments) -> Result<Cons<A, R>, VariantError> {
         let first = take::<A>(alloc, &mut arguments)?;
         let rest = R::from_arguments(alloc, arguments)?;
-        Ok(Then { first, rest })
+        Ok(Cons { first, rest })
     }
 }
 
 /// The value of an argument.
 fn value_of<A: Argument>(alloc: Global, argument: A) -> Result<Value, VariantError>
     requires { IsType A.kind }
-    ensures told { TellsSound result (A.datum argument ∷ []) }
+    ensures told { TellsWellTyped result (A.datum argument ∷ []) }
     ensures value { IfOk result (λ value. value ≡ A.datum argument) }
     ensures round { IfOk result (λ value. A.read (A.datum argument) ≡ argument) }
 {

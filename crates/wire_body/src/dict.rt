@@ -1,6 +1,6 @@
 //! Dicts as arguments.
 ghost use Rattle.std.specs.Prelude.{◌≡◌, ◌∷◌, [], IfErr, IfOk, map, refl};
-ghost use Rattle.wire_signature.specs.Shape.{IsType, dict as dict_of};
+ghost use Rattle.wire_signature.specs.SingleType.{IsType, dict as dict_of};
 ghost use Rattle.wire_signature.specs.declared.error.VariantError.TheVariants.{Memory};
 ghost use Rattle.wire_tree.specs.Datum.{AreElements, dict, entries_of, entry_type};
 ghost use Rattle.wire_tree.specs.DatumView.{pair_of};

@@ -1,6 +1,6 @@
 //! Keys of dicts.
 ghost use Rattle.std.specs.Prelude.{◌≡◌, refl};
-ghost use Rattle.wire_signature.specs.Shape.{basic as basic_shape};
+ghost use Rattle.wire_signature.specs.SingleType.{basic as basic_single_type};
 ghost use Rattle.wire_signature.specs.declared.basic.BasicType.{BasicType};
 ghost use Rattle.wire_signature.specs.declared.basic.BasicType.TheVariants as basics;
 
@@ -18,7 +18,7 @@ pub trait Key: Argument {
     fn basic() -> BasicType
         ensures { result ≡ basic };
 
-    ghost is_basic: { Self.kind ≡ basic_shape basic };
+    ghost is_basic: { Self.kind ≡ basic_single_type basic };
 }
 
 impl Key for u8 {

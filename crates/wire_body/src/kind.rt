@@ -1,6 +1,6 @@
 //! The types of arguments.
 ghost use Rattle.std.specs.Prelude.{◌≡◌, ◌↔◌, IfErr, IfOk, IsTrue};
-ghost use Rattle.wire_signature.specs.Shape.{IsType};
+ghost use Rattle.wire_signature.specs.SingleType.{IsType};
 ghost use Rattle.wire_signature.specs.declared.error.VariantError.TheVariants.{Memory};
 
 use crate::argument::Argument;

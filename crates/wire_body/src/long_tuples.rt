@@ -4,7 +4,7 @@ ghost use Rattle.wire_body.specs.Chained.{first_of, rest_of, same_cons};
 
 use crate::argument::Argument;
 use crate::arguments::Arguments;
-use crate::chain::Then;
+use crate::chain::Cons;
 use crate::message::{FromBody, ToBody};
 use std::alloc::{AllocError, Global};
 use wire_signature::VariantError;
@@ -30,24 +30,24 @@ impl<
     ghost of_kinds = { λ x. (same_cons _ _ _ _ (A.of_kind x.0) (same_cons _ _ _ _ (B.of_kind x.1) (same_cons _ _ _ _ (C.of_kind x.2) (same_cons _ _ _ _ (D.of_kind x.3) (same_cons _ _ _ _ (E.of_kind x.4) (same_cons _ _ _ _ (F.of_kind x.5) (same_cons _ _ _ _ (G.of_kind x.6) refl))))))) };
 
     fn write_kinds(out: &mut String) -> Result<(), AllocError> {
-        Then::<A, Then<B, Then<C, Then<D, Then<E, Then<F, Then<G, ()>>>>>>>::write_kinds(out)
+        Cons::<A, Cons<B, Cons<C, Cons<D, Cons<E, Cons<F, Cons<G, ()>>>>>>>::write_kinds(out)
     }
 
     fn into_values(self, alloc: Global) -> Result<Vec<Value>, VariantError> {
         let (first, second, third, fourth, fifth, sixth, seventh) = self;
-        let all = Then {
+        let all = Cons {
             first,
-            rest: Then {
+            rest: Cons {
                 first: second,
-                rest: Then {
+                rest: Cons {
                     first: third,
-                    rest: Then {
+                    rest: Cons {
                         first: fourth,
-                        rest: Then {
+                        rest: Cons {
                             first: fifth,
-                            rest: Then {
+                            rest: Cons {
                                 first: sixth,
-                                rest: Then {
+                                rest: Cons {
                                     first: seventh,
                                     rest: (),
                                 },
@@ -74,23 +74,23 @@ impl<
         alloc: Global,
         arguments: Arguments,
     ) -> Result<(A, B, C, D, E, F, G), VariantError> {
-        let all = Then::<
+        let all = Cons::<
             A,
-            Then<B, Then<C, Then<D, Then<E, Then<F, Then<G, ()>>>>>>,
+            Cons<B, Cons<C, Cons<D, Cons<E, Cons<F, Cons<G, ()>>>>>>,
         >::from_arguments(alloc, arguments)?;
-        let Then {
+        let Cons {
             first,
-            rest: Then {
+            rest: Cons {
                 first: second,
-                rest: Then {
+                rest: Cons {
                     first: third,
-                    rest: Then {
+                    rest: Cons {
                         first: fourth,
-                        rest: Then {
+                        rest: Cons {
                             first: fifth,
-                            rest: Then {
+                            rest: Cons {
                                 first: sixth,
-                                rest: Then {
+                                rest: Cons {
                                     first: seventh,
                                     rest: (),
                                 },
@@ -125,28 +125,28 @@ impl<
     ghost of_kinds = { λ x. (same_cons _ _ _ _ (A.of_kind x.0) (same_cons _ _ _ _ (B.of_kind x.1) (same_cons _ _ _ _ (C.of_kind x.2) (same_cons _ _ _ _ (D.of_kind x.3) (same_cons _ _ _ _ (E.of_kind x.4) (same_cons _ _ _ _ (F.of_kind x.5) (same_cons _ _ _ _ (G.of_kind x.6) (same_cons _ _ _ _ (H.of_kind x.7) refl)))))))) };
 
     fn write_kinds(out: &mut String) -> Result<(), AllocError> {
-        Then::<A, Then<B, Then<C, Then<D, Then<E, Then<F, Then<G, Then<H, ()>>>>>>>>::write_kinds(
+        Cons::<A, Cons<B, Cons<C, Cons<D, Cons<E, Cons<F, Cons<G, Cons<H, ()>>>>>>>>::write_kinds(
             out,
         )
     }
 
     fn into_values(self, alloc: Global) -> Result<Vec<Value>, VariantError> {
         let (first, second, third, fourth, fifth, sixth, seventh, eighth) = self;
-        let all = Then {
+        let all = Cons {
             first,
-            rest: Then {
+            rest: Cons {
                 first: second,
-                rest: Then {
+                rest: Cons {
                     first: third,
-                    rest: Then {
+                    rest: Cons {
                         first: fourth,
-                        rest: Then {
+                        rest: Cons {
                             first: fifth,
-                            rest: Then {
+                            rest: Cons {
                                 first: sixth,
-                                rest: Then {
+                                rest: Cons {
                                     first: seventh,
-                                    rest: Then {
+                                    rest: Cons {
                                         first: eighth,
                                         rest: (),
                                     },
@@ -175,25 +175,25 @@ impl<
         alloc: Global,
         arguments: Arguments,
     ) -> Result<(A, B, C, D, E, F, G, H), VariantError> {
-        let all = Then::<
+        let all = Cons::<
             A,
-            Then<B, Then<C, Then<D, Then<E, Then<F, Then<G, Then<H, ()>>>>>>>,
+            Cons<B, Cons<C, Cons<D, Cons<E, Cons<F, Cons<G, Cons<H, ()>>>>>>>,
         >::from_arguments(alloc, arguments)?;
-        let Then {
+        let Cons {
             first,
-            rest: Then {
+            rest: Cons {
                 first: second,
-                rest: Then {
+                rest: Cons {
                     first: third,
-                    rest: Then {
+                    rest: Cons {
                         first: fourth,
-                        rest: Then {
+                        rest: Cons {
                             first: fifth,
-                            rest: Then {
+                            rest: Cons {
                                 first: sixth,
-                                rest: Then {
+                                rest: Cons {
                                     first: seventh,
-                                    rest: Then {
+                                    rest: Cons {
                                         first: eighth,
                                         rest: (),
                                     },

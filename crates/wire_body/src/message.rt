@@ -1,8 +1,8 @@
 //! Lists of arguments as bodies.
 ghost use Rattle.std.specs.Prelude.{◌≡◌, ◌≢◌, ◌++◌, IfErr, IfOk, List, OnOk, map, string_bytes};
-ghost use Rattle.wire_signature.specs.Shape.{AllHaveFields, Shape, shapes_of, types_text};
+ghost use Rattle.wire_signature.specs.SingleType.{AllHaveFields, SingleType, single_types_of, types_text};
 ghost use Rattle.wire_tree.specs.Datum.{Datum, type_of};
-ghost use Rattle.wire_body.specs.Arguments.{AllAreTypes, TellsFrom, TellsKinds, TellsSound, TellsTo};
+ghost use Rattle.wire_body.specs.Arguments.{AllAreTypes, TellsFrom, TellsKinds, TellsWellTyped, TellsTo};
 
 use crate::arguments::Arguments;
 use crate::body::BodyValues;
@@ -13,7 +13,7 @@ use wire_tree::Value;
 /// What is a whole body: so many arguments, each of one D-Bus type.
 pub trait ToBody: Drop {
     /// the D-Bus types, in their order
-    ghost kinds: { List Shape };
+    ghost kinds: { List SingleType };
 
     /// the values that the arguments are
     ghost datums: { Self → List Datum };
@@ -23,17 +23,17 @@ pub trait ToBody: Drop {
 
     /// Writes the texts of the D-Bus types, one after another, at the end of `out`.
     fn write_kinds(out: &mut String) -> Result<(), AllocError>
-        ensures { OnOk result (string_bytes out.new ≡ string_bytes out.old ++ types_text (shapes_of kinds)) };
+        ensures { OnOk result (string_bytes out.new ≡ string_bytes out.old ++ types_text (single_types_of kinds)) };
 
     /// The values of the arguments, which are given up. Read again, they are the arguments. `Malformed` comes exactly where
     /// a text holds a 0 byte, or a text or path is longer than 4,294,967,295 bytes; else it fails only for want of memory.
     fn into_values(self, alloc: Global) -> Result<Vec<Value>, VariantError>
         requires { AllAreTypes kinds }
-        ensures told { TellsSound result (datums self) }
+        ensures told { TellsWellTyped result (datums self) }
         ensures value { IfOk result (λ values. values.items ≡ datums self) }
         ensures round { IfOk result (λ values. read (datums self) ≡ self) };
 
-    ghost all_have_fields: { AllHaveFields (shapes_of kinds) };
+    ghost all_have_fields: { AllHaveFields (single_types_of kinds) };
 
     ghost of_kinds: { (x : Self) → map type_of (datums x) ≡ kinds };
 }

@@ -1,6 +1,6 @@
 //! Numbers as arguments.
 ghost use Rattle.std.specs.Prelude.{◌==◌, cond, refl};
-ghost use Rattle.wire_signature.specs.Shape.{basic};
+ghost use Rattle.wire_signature.specs.SingleType.{basic};
 ghost use Rattle.wire_signature.specs.declared.basic.BasicType.TheVariants as basics;
 ghost use Rattle.wire_tree.specs.Datum.{boolean, byte, double, int16, int32, int64, num, uint16, uint32, uint64, unix_fd};
 ghost use Rattle.std.specs.Int.{cast_signed, cast_unsigned, w16, w32, w64};

@@ -1,6 +1,6 @@
 //! Texts, paths, signatures and values of any type as arguments.
 ghost use Rattle.std.specs.Prelude.{◌≡◌, IfErr, IfOk, List, Some, refl};
-ghost use Rattle.wire_signature.specs.Shape.{Shape, SignatureText, basic, shapes_of, types_text, variant as any};
+ghost use Rattle.wire_signature.specs.SingleType.{SingleType, SignatureText, basic, single_types_of, types_text, variant as any};
 ghost use Rattle.wire_signature.specs.declared.basic.BasicType.TheVariants as basics;
 ghost use Rattle.wire_tree.specs.Datum.{object_path, signature, string, text, variant};
 ghost use Rattle.wire_names.specs.Names.{IsObjectPath};
@@ -68,7 +68,7 @@ impl Argument for OwnedObjectPath {
 impl Argument for Signature {
     ghost kind = { basic basics.Signature };
 
-    ghost datum = { λ x. text signature (types_text (shapes_of x)) };
+    ghost datum = { λ x. text signature (types_text (single_types_of x)) };
 
     ghost read = { signature_in };
 
@@ -113,7 +113,7 @@ impl Argument for Value {
 
     fn from_tree(alloc: Global, tree: Tree) -> Result<Value, VariantError> {
         match tree.into_variant() {
-            Some(inner) => Ok(Value::from_formed(inner.into_tree())),
+            Some(inner) => Ok(Value::from_valid(inner.into_tree())),
             None => Err(VariantError::SignatureMismatch),
         }
     }
@@ -131,7 +131,7 @@ fn path_of(alloc: Global, text: &Text) -> Result<OwnedObjectPath, VariantError>
 }
 
 fn signature_of(alloc: Global, text: &Text) -> Result<Signature, VariantError>
-    requires { (types : List Shape) × SignatureText types text.now }
+    requires { (types : List SingleType) × SignatureText types text.now }
     ensures value { IfOk result (λ signature. types_in text.now ≡ Some signature) }
     ensures error { IfErr result (λ e. e ≡ Memory) }
 {

@@ -4,7 +4,7 @@ ghost use Rattle.wire_body.specs.Chained.{first_of, rest_of, same_cons};
 
 use crate::argument::Argument;
 use crate::arguments::Arguments;
-use crate::chain::Then;
+use crate::chain::Cons;
 use crate::message::{FromBody, ToBody};
 use std::alloc::{AllocError, Global};
 use wire_signature::VariantError;
@@ -22,20 +22,20 @@ impl<A: Argument> ToBody for (A,) {
     ghost of_kinds = { λ x. (same_cons _ _ _ _ (A.of_kind x.0) refl) };
 
     fn write_kinds(out: &mut String) -> Result<(), AllocError> {
-        Then::<A, ()>::write_kinds(out)
+        Cons::<A, ()>::write_kinds(out)
     }
 
     fn into_values(self, alloc: Global) -> Result<Vec<Value>, VariantError> {
         let (first,) = self;
-        let all = Then { first, rest: () };
+        let all = Cons { first, rest: () };
         all.into_values(alloc)
     }
 }
 
 impl<A: Argument> FromBody for (A,) {
     fn from_arguments(alloc: Global, arguments: Arguments) -> Result<(A,), VariantError> {
-        let all = Then::<A, ()>::from_arguments(alloc, arguments)?;
-        let Then { first, rest: () } = all;
+        let all = Cons::<A, ()>::from_arguments(alloc, arguments)?;
+        let Cons { first, rest: () } = all;
         Ok((first,))
     }
 }
@@ -52,14 +52,14 @@ impl<A: Argument, B: Argument> ToBody for (A, B) {
     ghost of_kinds = { λ x. (same_cons _ _ _ _ (A.of_kind x.0) (same_cons _ _ _ _ (B.of_kind x.1) refl)) };
 
     fn write_kinds(out: &mut String) -> Result<(), AllocError> {
-        Then::<A, Then<B, ()>>::write_kinds(out)
+        Cons::<A, Cons<B, ()>>::write_kinds(out)
     }
 
     fn into_values(self, alloc: Global) -> Result<Vec<Value>, VariantError> {
         let (first, second) = self;
-        let all = Then {
+        let all = Cons {
             first,
-            rest: Then {
+            rest: Cons {
                 first: second,
                 rest: (),
             },
@@ -70,10 +70,10 @@ impl<A: Argument, B: Argument> ToBody for (A, B) {
 
 impl<A: Argument, B: Argument> FromBody for (A, B) {
     fn from_arguments(alloc: Global, arguments: Arguments) -> Result<(A, B), VariantError> {
-        let all = Then::<A, Then<B, ()>>::from_arguments(alloc, arguments)?;
-        let Then {
+        let all = Cons::<A, Cons<B, ()>>::from_arguments(alloc, arguments)?;
+        let Cons {
             first,
-            rest: Then {
+            rest: Cons {
                 first: second,
                 rest: (),
             },
@@ -94,16 +94,16 @@ impl<A: Argument, B: Argument, C: Argument> ToBody for (A, B, C) {
     ghost of_kinds = { λ x. (same_cons _ _ _ _ (A.of_kind x.0) (same_cons _ _ _ _ (B.of_kind x.1) (same_cons _ _ _ _ (C.of_kind x.2) refl))) };
 
     fn write_kinds(out: &mut String) -> Result<(), AllocError> {
-        Then::<A, Then<B, Then<C, ()>>>::write_kinds(out)
+        Cons::<A, Cons<B, Cons<C, ()>>>::write_kinds(out)
     }
 
     fn into_values(self, alloc: Global) -> Result<Vec<Value>, VariantError> {
         let (first, second, third) = self;
-        let all = Then {
+        let all = Cons {
             first,
-            rest: Then {
+            rest: Cons {
                 first: second,
-                rest: Then {
+                rest: Cons {
                     first: third,
                     rest: (),
                 },
@@ -115,12 +115,12 @@ impl<A: Argument, B: Argument, C: Argument> ToBody for (A, B, C) {
 
 impl<A: Argument, B: Argument, C: Argument> FromBody for (A, B, C) {
     fn from_arguments(alloc: Global, arguments: Arguments) -> Result<(A, B, C), VariantError> {
-        let all = Then::<A, Then<B, Then<C, ()>>>::from_arguments(alloc, arguments)?;
-        let Then {
+        let all = Cons::<A, Cons<B, Cons<C, ()>>>::from_arguments(alloc, arguments)?;
+        let Cons {
             first,
-            rest: Then {
+            rest: Cons {
                 first: second,
-                rest: Then {
+                rest: Cons {
                     first: third,
                     rest: (),
                 },
@@ -142,18 +142,18 @@ impl<A: Argument, B: Argument, C: Argument, D: Argument> ToBody for (A, B, C, D)
     ghost of_kinds = { λ x. (same_cons _ _ _ _ (A.of_kind x.0) (same_cons _ _ _ _ (B.of_kind x.1) (same_cons _ _ _ _ (C.of_kind x.2) (same_cons _ _ _ _ (D.of_kind x.3) refl)))) };
 
     fn write_kinds(out: &mut String) -> Result<(), AllocError> {
-        Then::<A, Then<B, Then<C, Then<D, ()>>>>::write_kinds(out)
+        Cons::<A, Cons<B, Cons<C, Cons<D, ()>>>>::write_kinds(out)
     }
 
     fn into_values(self, alloc: Global) -> Result<Vec<Value>, VariantError> {
         let (first, second, third, fourth) = self;
-        let all = Then {
+        let all = Cons {
             first,
-            rest: Then {
+            rest: Cons {
                 first: second,
-                rest: Then {
+                rest: Cons {
                     first: third,
-                    rest: Then {
+                    rest: Cons {
                         first: fourth,
                         rest: (),
                     },
@@ -166,14 +166,14 @@ impl<A: Argument, B: Argument, C: Argument, D: Argument> ToBody for (A, B, C, D)
 
 impl<A: Argument, B: Argument, C: Argument, D: Argument> FromBody for (A, B, C, D) {
     fn from_arguments(alloc: Global, arguments: Arguments) -> Result<(A, B, C, D), VariantError> {
-        let all = Then::<A, Then<B, Then<C, Then<D, ()>>>>::from_arguments(alloc, arguments)?;
-        let Then {
+        let all = Cons::<A, Cons<B, Cons<C, Cons<D, ()>>>>::from_arguments(alloc, arguments)?;
+        let Cons {
             first,
-            rest: Then {
+            rest: Cons {
                 first: second,
-                rest: Then {
+                rest: Cons {
                     first: third,
-                    rest: Then {
+                    rest: Cons {
                         first: fourth,
                         rest: (),
                     },
@@ -196,20 +196,20 @@ impl<A: Argument, B: Argument, C: Argument, D: Argument, E: Argument> ToBody for
     ghost of_kinds = { λ x. (same_cons _ _ _ _ (A.of_kind x.0) (same_cons _ _ _ _ (B.of_kind x.1) (same_cons _ _ _ _ (C.of_kind x.2) (same_cons _ _ _ _ (D.of_kind x.3) (same_cons _ _ _ _ (E.of_kind x.4) refl))))) };
 
     fn write_kinds(out: &mut String) -> Result<(), AllocError> {
-        Then::<A, Then<B, Then<C, Then<D, Then<E, ()>>>>>::write_kinds(out)
+        Cons::<A, Cons<B, Cons<C, Cons<D, Cons<E, ()>>>>>::write_kinds(out)
     }
 
     fn into_values(self, alloc: Global) -> Result<Vec<Value>, VariantError> {
         let (first, second, third, fourth, fifth) = self;
-        let all = Then {
+        let all = Cons {
             first,
-            rest: Then {
+            rest: Cons {
                 first: second,
-                rest: Then {
+                rest: Cons {
                     first: third,
-                    rest: Then {
+                    rest: Cons {
                         first: fourth,
-                        rest: Then {
+                        rest: Cons {
                             first: fifth,
                             rest: (),
                         },
@@ -226,18 +226,18 @@ impl<A: Argument, B: Argument, C: Argument, D: Argument, E: Argument> FromBody f
         alloc: Global,
         arguments: Arguments,
     ) -> Result<(A, B, C, D, E), VariantError> {
-        let all = Then::<A, Then<B, Then<C, Then<D, Then<E, ()>>>>>::from_arguments(
+        let all = Cons::<A, Cons<B, Cons<C, Cons<D, Cons<E, ()>>>>>::from_arguments(
             alloc, arguments,
         )?;
-        let Then {
+        let Cons {
             first,
-            rest: Then {
+            rest: Cons {
                 first: second,
-                rest: Then {
+                rest: Cons {
                     first: third,
-                    rest: Then {
+                    rest: Cons {
                         first: fourth,
-                        rest: Then {
+                        rest: Cons {
                             first: fifth,
                             rest: (),
                         },
@@ -262,22 +262,22 @@ impl<A: Argument, B: Argument, C: Argument, D: Argument, E: Argument, F: Argumen
     ghost of_kinds = { λ x. (same_cons _ _ _ _ (A.of_kind x.0) (same_cons _ _ _ _ (B.of_kind x.1) (same_cons _ _ _ _ (C.of_kind x.2) (same_cons _ _ _ _ (D.of_kind x.3) (same_cons _ _ _ _ (E.of_kind x.4) (same_cons _ _ _ _ (F.of_kind x.5) refl)))))) };
 
     fn write_kinds(out: &mut String) -> Result<(), AllocError> {
-        Then::<A, Then<B, Then<C, Then<D, Then<E, Then<F, ()>>>>>>::write_kinds(out)
+        Cons::<A, Cons<B, Cons<C, Cons<D, Cons<E, Cons<F, ()>>>>>>::write_kinds(out)
     }
 
     fn into_values(self, alloc: Global) -> Result<Vec<Value>, VariantError> {
         let (first, second, third, fourth, fifth, sixth) = self;
-        let all = Then {
+        let all = Cons {
             first,
-            rest: Then {
+            rest: Cons {
                 first: second,
-                rest: Then {
+                rest: Cons {
                     first: third,
-                    rest: Then {
+                    rest: Cons {
                         first: fourth,
-                        rest: Then {
+                        rest: Cons {
                             first: fifth,
-                            rest: Then {
+                            rest: Cons {
                                 first: sixth,
                                 rest: (),
                             },
@@ -296,20 +296,20 @@ impl<A: Argument, B: Argument, C: Argument, D: Argument, E: Argument, F: Argumen
         alloc: Global,
         arguments: Arguments,
     ) -> Result<(A, B, C, D, E, F), VariantError> {
-        let all = Then::<A, Then<B, Then<C, Then<D, Then<E, Then<F, ()>>>>>>::from_arguments(
+        let all = Cons::<A, Cons<B, Cons<C, Cons<D, Cons<E, Cons<F, ()>>>>>>::from_arguments(
             alloc, arguments,
         )?;
-        let Then {
+        let Cons {
             first,
-            rest: Then {
+            rest: Cons {
                 first: second,
-                rest: Then {
+                rest: Cons {
                     first: third,
-                    rest: Then {
+                    rest: Cons {
                         first: fourth,
-                        rest: Then {
+                        rest: Cons {
                             first: fifth,
-                            rest: Then {
+                            rest: Cons {
                                 first: sixth,
                                 rest: (),
                             },

@@ -6,7 +6,7 @@ use borrow.Rule.Slice.PartMut.{put_mid, post_of}
 use Rattle.std.specs.Io.KnownBytes.{Consumes}
 use Rattle.wire_framing.specs.Source.{IsEnd, FailsAt, Asks, Widens}
 use Rattle.wire_framing.specs.Receive.{spent}
-use Rattle.wire_framing.specs.Kept.{Comes, FillsUp, IsRight, IsCut, Gathers}
+use Rattle.wire_framing.specs.Kept.{Comes, FillsUp, IsRight, IsCut, ReadsToMessage}
 use Rattle.wire_framing.proofs.Steps.{Went, Consumes-then, may_rise_after, filled_more}
 use Rattle.wire_framing.proofs.Fronts.{cond_either, head_fault-append, total-append}
 use Rattle.wire_framing.proofs.Whole.{spent_all, spent_refused, spent_right}
@@ -99,15 +99,15 @@ taken_front k from n res piece more within fits le =
 
 -- ---- a message's bytes
 
-pub gathers_cut : (e : Error) (n : ℕ) (bytes : List ℕ) → IsCut bytes → FillsUp {A = Unit {0}} (Err e) n bytes → Gathers (Err e) bytes
-gathers_cut (errors.InputOutput kinds.Ended) n bytes cut h = cut
-gathers_cut (errors.InputOutput kinds.Fault) n bytes cut h = cut
-gathers_cut errors.Memory n bytes cut h = tt
-gathers_cut e n bytes cut h = absurd h
+pub reads_cut : (e : Error) (n : ℕ) (bytes : List ℕ) → IsCut bytes → FillsUp {A = Unit {0}} (Err e) n bytes → ReadsToMessage (Err e) bytes
+reads_cut (errors.InputOutput kinds.Ended) n bytes cut h = cut
+reads_cut (errors.InputOutput kinds.Fault) n bytes cut h = cut
+reads_cut errors.Memory n bytes cut h = tt
+reads_cut e n bytes cut h = absurd h
 
 -- what the refusal of a head gives
 record Refused (e : Error) (bytes got : List ℕ) (a b : Option (List ℕ)) (s t : Option Bool) (f g : ℕ) : Type 0 where
-  found : Gathers (Err e) bytes
+  found : ReadsToMessage (Err e) bytes
   came : Comes {A = ℕ} (Err e) got a b s t f g
 
 refused_by : (bytes got : List ℕ) (a b : Option (List ℕ)) (s t : Option Bool) (f g : ℕ) → 16 ≤ length bytes → Went got a b s t f g
@@ -130,7 +130,7 @@ refused_is (Some d) e bytes got a b s t f g p h =
     subst (λ (x : Error). head_fault bytes ≡ Some x → Refused x bytes got a b s t f g) same h
 
 pub refused : (e : Error) (bytes got : List ℕ) (a b : Option (List ℕ)) (s t : Option Bool) (f g : ℕ) → 16 ≤ length bytes → Went got a b s t f g → head_fault bytes ≡ Some e
-    → Gathers (Err e) bytes × Comes {A = ℕ} (Err e) got a b s t f g
+    → ReadsToMessage (Err e) bytes × Comes {A = ℕ} (Err e) got a b s t f g
 refused e bytes got a b s t f g h w p =
     let r = refused_is (head_fault bytes) e bytes got a b s t f g p (refused_by bytes got a b s t f g h w) p in
     (r.found, r.came)

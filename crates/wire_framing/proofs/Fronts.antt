@@ -5,8 +5,8 @@ use Rattle.std.proofs.lemmas.Bool.Decides.{nat_tests}
 use Rattle.wire_number.specs.declared.endian.Endian.{Endian}
 use Rattle.wire_signature.specs.declared.error.VariantError.TheVariants as faults
 use Rattle.wire_message.specs.Field.{Fields}
-use Rattle.wire_message.specs.Front.{seen, order_at, word_at, fields_len, total, field_bytes}
-use Rattle.wire_message.specs.Reading.{fields_in}
+use Rattle.wire_message.specs.Front.{message_view, order_at, word_at, fields_len, total, field_bytes}
+use Rattle.wire_message.specs.FieldReading.{fields_in}
 use Rattle.wire_message.specs.Outcome.{kind_of, is_order, head_fault, front_outcome, then_message, message_by, fields_found}
 use Rattle.wire_message.specs.declared.error.Error.{Error}
 use Rattle.wire_message.specs.declared.error.Error.TheVariants as errors
@@ -95,10 +95,10 @@ message_by-append xs ys (Some kind) (Some fields) h e =
     let zs = xs ++ ys in
     let t = total-append xs ys h in
     let own : take (total zs) zs ≡ take (total xs) xs = ap (λ (k : ℕ). take k zs) t ∙ take-append-le (total xs) xs ys (omega arith) in
-    ap (λ (b : List ℕ). Ok (seen b 0 kind (order_at zs) (slice_index zs 2) (word_at 8 zs) fields)) own
-    ∙ ap (λ (o : Endian). Ok (seen (take (total xs) xs) 0 kind o (slice_index zs 2) (word_at 8 zs) fields)) (order-same n zs xs (same xs ys) (omega arith))
-    ∙ ap (λ (k : ℕ). Ok (seen (take (total xs) xs) 0 kind (order_at xs) k (word_at 8 zs) fields)) (index-same n 2 zs xs (same xs ys) (omega arith))
-    ∙ ap (λ (k : ℕ). Ok (seen (take (total xs) xs) 0 kind (order_at xs) (slice_index xs 2) k fields)) (word-same n 8 zs xs (same xs ys) (omega arith))
+    ap (λ (b : List ℕ). Ok (message_view b 0 kind (order_at zs) (slice_index zs 2) (word_at 8 zs) fields)) own
+    ∙ ap (λ (o : Endian). Ok (message_view (take (total xs) xs) 0 kind o (slice_index zs 2) (word_at 8 zs) fields)) (order-same n zs xs (same xs ys) (omega arith))
+    ∙ ap (λ (k : ℕ). Ok (message_view (take (total xs) xs) 0 kind (order_at xs) k (word_at 8 zs) fields)) (index-same n 2 zs xs (same xs ys) (omega arith))
+    ∙ ap (λ (k : ℕ). Ok (message_view (take (total xs) xs) 0 kind (order_at xs) (slice_index xs 2) k fields)) (word-same n 8 zs xs (same xs ys) (omega arith))
 
 -- What stands at the front of a whole message and more is that message, whatever ends the bytes.
 pub front-append : (xs ys : List ℕ) (ending other : IoKind) → 16 ≤ length xs → head_fault xs ≡ None → length xs ≡ total xs

@@ -5,10 +5,10 @@ use Rattle.std.specs.Io.KnownBytes.{Consumes, prepend_known}
 use Rattle.wire_framing.specs.Source.{IsEnd, FailsAt, Asks}
 use Rattle.wire_framing.specs.Fill.{FrontFails}
 use Rattle.wire_framing.specs.Receive.{HasCause, Receives, spent}
-use Rattle.wire_framing.specs.Kept.{Comes, IsCut, Gathers, rest_of, TakesKept}
+use Rattle.wire_framing.specs.Kept.{Comes, IsCut, ReadsToMessage, rest_of, TakesKept}
 use Rattle.wire_framing.proofs.Fronts.{front_short, front_refused, front_cut, front_there, head_fault-append, total-append}
 use Rattle.wire_framing.proofs.Whole.{spent_right, whole_failed, front_failed, fine_head, untold, same_fails, ended_fails, memory_fails, message_told}
-use Rattle.wire_message.specs.Front.{Seen, Front, total}
+use Rattle.wire_message.specs.Front.{MessageView, Front, total}
 use Rattle.wire_message.specs.Field.{Fields}
 use Rattle.wire_message.specs.Outcome.{kind_of, fields_found, message_by, head_fault, front_outcome, Tells, ending_of, IsReadRefusal}
 use Rattle.wire_message.specs.declared.kind.MessageType.{MessageType}
@@ -69,14 +69,14 @@ told_refused e kept got (Some xs) (Some ys) stop h p q =
     let long : 16 ≤ length (kept ++ xs) = omega (arith, ap length all ∙ length-append (kept ++ got) ys) in
     same_fails e stop (kept ++ xs) (λ ending. front_refused (kept ++ xs) ending e long (ap head_fault all ∙ head_fault-append (kept ++ got) ys h ∙ p))
 
-told_failed : (e : Error) (kept got : List ℕ) (left left' : Option (List ℕ)) (stop stop' : Option Bool) (f f' : ℕ) → Gathers (Err e) (kept ++ got)
+told_failed : (e : Error) (kept got : List ℕ) (left left' : Option (List ℕ)) (stop stop' : Option Bool) (f f' : ℕ) → ReadsToMessage (Err e) (kept ++ got)
     → Comes {A = ℕ} (Err e) got left left' stop stop' f f' → IfSome (prepend_known kept left) (FrontFails e stop)
 told_failed (errors.InputOutput kinds.Ended) kept got left left' stop stop' f f' h c = told_ended kept got left left' stop h c.0 c.1
 told_failed (errors.InputOutput kinds.Fault) kept got left left' stop stop' f f' h c = told_fault kept got left c.0 left' stop stop' h c.1 c.2
 told_failed errors.Memory kept got left left' stop stop' f f' h c = memory_fails stop (prepend_known kept left)
 told_failed e kept got left left' stop stop' f f' h c = told_refused e kept got left left' stop h.0 h.1 c.0
 
-cause_failed : (e : Error) (bytes got : List ℕ) (left left' : Option (List ℕ)) (stop stop' : Option Bool) (f f' : ℕ) → Gathers (Err e) bytes
+cause_failed : (e : Error) (bytes got : List ℕ) (left left' : Option (List ℕ)) (stop stop' : Option Bool) (f f' : ℕ) → ReadsToMessage (Err e) bytes
     → Comes {A = ℕ} (Err e) got left left' stop stop' f f' → IsReadRefusal e × HasCause e f f'
 cause_failed (errors.InputOutput kinds.Ended) bytes got left left' stop stop' f f' h c = (tt, c.3)
 cause_failed (errors.InputOutput kinds.Fault) bytes got left left' stop stop' f f' h c = (tt, c.3)
@@ -84,12 +84,12 @@ cause_failed errors.Memory bytes got left left' stop stop' f f' h c = (tt, c.2)
 cause_failed e bytes got left left' stop stop' f f' h c = let fine = fine_head bytes e h.1 in (fine.0, fine.1 f f' c.2)
 
 came_as : (e : Error) (got : List ℕ) (left left' : Option (List ℕ)) (stop stop' : Option Bool) (f f' : ℕ) → Comes {A = ℕ} (Err e) got left left' stop stop' f f'
-    → Comes {A = Seen} (Err e) got left left' stop stop' f f'
+    → Comes {A = MessageView} (Err e) got left left' stop stop' f f'
 came_as (errors.InputOutput kinds.Ended) got left left' stop stop' f f' c = c
 came_as (errors.InputOutput kinds.Fault) got left left' stop stop' f f' c = c
 came_as e got left left' stop stop' f f' c = c
 
-pub rest_as : (e : Error) (bytes : List ℕ) → rest_of {A = ℕ} (Err e) bytes ≡ rest_of {A = Seen} (Err e) bytes
+pub rest_as : (e : Error) (bytes : List ℕ) → rest_of {A = ℕ} (Err e) bytes ≡ rest_of {A = MessageView} (Err e) bytes
 rest_as errors.Memory bytes = refl
 rest_as e bytes = refl
 
@@ -110,23 +110,23 @@ own_of : (kept mid got : List ℕ) → mid ≡ kept ++ got → (mid ≡ kept) �
 own_of kept mid got e (inl p) = inl (no_more kept got (sym e ∙ p))
 own_of kept mid got e (inr p) = inr (subst (λ l. length l ≤ spent l) e p)
 
--- where there was memory, what a read costs was taken away
-pub given_up : (e : Error) (old new : List ℕ) → (e ≡ errors.Memory → ⊥) → new ≡ drop (spent old) old → new ≡ rest_of {A = ℕ} (Err e) old
-given_up errors.Memory old new m s = absurd (m refl)
-given_up e old new m s = s
+-- where there was memory, what a read consumes was taken away
+pub discarded : (e : Error) (old new : List ℕ) → (e ≡ errors.Memory → ⊥) → new ≡ drop (spent old) old → new ≡ rest_of {A = ℕ} (Err e) old
+discarded errors.Memory old new m s = absurd (m refl)
+discarded e old new m s = s
 
-pub tells_as : (e : Error) (found : Result Seen Error) → Tells {A = Seen × ℕ} {B = Seen} (λ x. x.0) (Err e) found → Tells {A = Seen} {B = Seen} (λ m. m) (Err e) found
+pub tells_as : (e : Error) (found : Result MessageView Error) → Tells {A = MessageView × ℕ} {B = MessageView} (λ x. x.0) (Err e) found → Tells {A = MessageView} {B = MessageView} (λ m. m) (Err e) found
 tells_as errors.Memory found h = tt
 tells_as e found h = h
 
 -- Why no message came, is told of all the bytes.
 pub failed_told : (e : Error) (count : ℕ) (kept mid : List ℕ) (left left' : Option (List ℕ)) (stop stop' : Option Bool) (f f' : ℕ) → count < 2 ^ 64 - 2
-    → mid ≡ kept ++ drop (length kept) mid → Gathers (Err e) mid → Comes {A = ℕ} (Err e) (drop (length kept) mid) left left' stop stop' f f'
+    → mid ≡ kept ++ drop (length kept) mid → ReadsToMessage (Err e) mid → Comes {A = ℕ} (Err e) (drop (length kept) mid) left left' stop stop' f f'
     → IfSome (prepend_known kept left) (λ bytes. Receives stop count bytes (Err e))
 failed_told e count kept mid left left' stop stop' f f' below grown h c =
-    whole_failed e count stop (prepend_known kept left) below (told_failed e kept (drop (length kept) mid) left left' stop stop' f f' (subst (Gathers (Err e)) grown h) c)
+    whole_failed e count stop (prepend_known kept left) below (told_failed e kept (drop (length kept) mid) left left' stop stop' f f' (subst (ReadsToMessage (Err e)) grown h) c)
 
-pub failed_cause : (e : Error) (mid got : List ℕ) (left left' : Option (List ℕ)) (stop stop' : Option Bool) (f f' : ℕ) → Gathers (Err e) mid
+pub failed_cause : (e : Error) (mid got : List ℕ) (left left' : Option (List ℕ)) (stop stop' : Option Bool) (f f' : ℕ) → ReadsToMessage (Err e) mid
     → Comes {A = ℕ} (Err e) got left left' stop stop' f f' → IsReadRefusal e × HasCause e f f'
 failed_cause e mid got left left' stop stop' f f' h c = cause_failed e mid got left left' stop stop' f f' h c
 
@@ -140,7 +140,7 @@ failed_takes e kept mid kept' left left' stop stop' f f' a a' grown own c asks r
       came = came_as e (drop (length kept) mid) left left' stop stop' f f' c;
       own = own_of kept mid (drop (length kept) mid) grown own;
       message = tt;
-      behind = rest ∙ rest_as e mid ∙ ap (rest_of {A = Seen} (Err e)) grown;
+      behind = rest ∙ rest_as e mid ∙ ap (rest_of {A = MessageView} (Err e)) grown;
       asks = asks;
     }
 
@@ -153,7 +153,7 @@ pub record Own (own mid : List ℕ) : Type 0 where
   pub spends : spent mid ≡ length own
   pub front : mid ≡ own ++ drop (spent mid) mid
 
-pub own_right : (n : ℕ) (mid : List ℕ) → Gathers (Ok n) mid → Own (take n mid) mid
+pub own_right : (n : ℕ) (mid : List ℕ) → ReadsToMessage (Ok n) mid → Own (take n mid) mid
 own_right n mid g =
     let own = take n mid in
     let some : 16 ≤ n = omega (arith, g.1) in
@@ -171,7 +171,7 @@ own_right n mid g =
       front = sym joined ∙ ap (λ k. own ++ drop k mid) (sym spends);
     }
 
-pub front_own : (n k : ℕ) (mid : List ℕ) (m : Seen) → Gathers (Ok n) mid → Front (take n mid) m k → k ≡ length m.bytes → (m.bytes ≡ take n mid) × Front m.bytes m (length m.bytes)
+pub front_own : (n k : ℕ) (mid : List ℕ) (m : MessageView) → ReadsToMessage (Ok n) mid → Front (take n mid) m k → k ≡ length m.bytes → (m.bytes ≡ take n mid) × Front m.bytes m (length m.bytes)
 front_own n k mid m g f e =
     let own = own_right n mid g in
     let is : m.bytes ≡ take n mid = f.own ∙ ap (λ j. take j (take n mid)) (f.whole ∙ sym own.all) ∙ take_all (length (take n mid)) (take n mid) (omega arith) in
@@ -188,40 +188,40 @@ own_error own mid e o (inr p) =
     inr (own_error_by own (kind_of (slice_index own 1)) (fields_found own) e (sym (front_there own kinds.Ended o.head o.right (omega (arith, o.all))) ∙ p))
 
 came_malformed : (e : Error) (n : ℕ) (got : List ℕ) (left left' : Option (List ℕ)) (stop stop' : Option Bool) (f f' : ℕ) → (e ≡ errors.Memory) ⊎ (e ≡ errors.Variant faults.Malformed)
-    → Comes {A = ℕ} (Ok n) got left left' stop stop' f f' → Comes {A = Seen} (Err e) got left left' stop stop' f f'
-came_malformed e n got left left' stop stop' f f' (inl p) c = subst (λ (x : Error). Comes {A = Seen} (Err x) got left left' stop stop' f f') (sym p) c
-came_malformed e n got left left' stop stop' f f' (inr p) c = subst (λ (x : Error). Comes {A = Seen} (Err x) got left left' stop stop' f f') (sym p) c
+    → Comes {A = ℕ} (Ok n) got left left' stop stop' f f' → Comes {A = MessageView} (Err e) got left left' stop stop' f f'
+came_malformed e n got left left' stop stop' f f' (inl p) c = subst (λ (x : Error). Comes {A = MessageView} (Err x) got left left' stop stop' f f') (sym p) c
+came_malformed e n got left left' stop stop' f f' (inr p) c = subst (λ (x : Error). Comes {A = MessageView} (Err x) got left left' stop stop' f f') (sym p) c
 
 pub unmade_told : (e : Error) (count n : ℕ) (kept mid : List ℕ) (left left' : Option (List ℕ)) (stop stop' : Option Bool) (f f' : ℕ) → count < 2 ^ 64 - 2
-    → mid ≡ kept ++ drop (length kept) mid → Gathers (Ok n) mid → Comes {A = ℕ} (Ok n) (drop (length kept) mid) left left' stop stop' f f'
-    → Tells {A = Seen} {B = Seen} (λ m. m) (Err e) (front_outcome (take n mid) kinds.Ended)
+    → mid ≡ kept ++ drop (length kept) mid → ReadsToMessage (Ok n) mid → Comes {A = ℕ} (Ok n) (drop (length kept) mid) left left' stop stop' f f'
+    → Tells {A = MessageView} {B = MessageView} (λ m. m) (Err e) (front_outcome (take n mid) kinds.Ended)
     → IfSome (prepend_known kept left) (λ bytes. Receives stop count bytes (Err e))
 unmade_told e count n kept mid left left' stop stop' f f' below grown g c t =
     let o = own_right n mid g in
     whole_failed e count stop (prepend_known kept left) below
     (front_failed (take n mid) e (prepend_known kept left) (prepend_known (drop (spent mid) mid) left') stop o.head o.right o.all
-    (prepended kept (drop (spent mid) mid) (drop (length kept) mid) (take n mid) left left' (sym grown ∙ o.front) c.0) (untold {A = Seen} (λ m. m) e _ t))
+    (prepended kept (drop (spent mid) mid) (drop (length kept) mid) (take n mid) left left' (sym grown ∙ o.front) c.0) (untold {A = MessageView} (λ m. m) e _ t))
 
-pub unmade_cause : (e : Error) (n : ℕ) (mid got : List ℕ) (left left' : Option (List ℕ)) (stop stop' : Option Bool) (f f' : ℕ) → Gathers (Ok n) mid
-    → Comes {A = ℕ} (Ok n) got left left' stop stop' f f' → Tells {A = Seen} {B = Seen} (λ m. m) (Err e) (front_outcome (take n mid) kinds.Ended) → IsReadRefusal e × HasCause e f f'
-unmade_cause e n mid got left left' stop stop' f f' g c t = cause_by e f f' c.2 (own_error (take n mid) mid e (own_right n mid g) (untold {A = Seen} (λ m. m) e _ t))
+pub unmade_cause : (e : Error) (n : ℕ) (mid got : List ℕ) (left left' : Option (List ℕ)) (stop stop' : Option Bool) (f f' : ℕ) → ReadsToMessage (Ok n) mid
+    → Comes {A = ℕ} (Ok n) got left left' stop stop' f f' → Tells {A = MessageView} {B = MessageView} (λ m. m) (Err e) (front_outcome (take n mid) kinds.Ended) → IsReadRefusal e × HasCause e f f'
+unmade_cause e n mid got left left' stop stop' f f' g c t = cause_by e f f' c.2 (own_error (take n mid) mid e (own_right n mid g) (untold {A = MessageView} (λ m. m) e _ t))
 
 pub unmade_takes : (e : Error) (n : ℕ) (kept mid kept' : List ℕ) (left left' : Option (List ℕ)) (stop stop' : Option Bool) (f f' : ℕ) (a a' : Option ℕ)
-    → mid ≡ kept ++ drop (length kept) mid → Gathers (Ok n) mid → (mid ≡ kept) ⊎ (length mid ≤ spent mid) → Comes {A = ℕ} (Ok n) (drop (length kept) mid) left left' stop stop' f f'
-    → Asks a a' (length (drop (length kept) mid) + 0) → Tells {A = Seen} {B = Seen} (λ m. m) (Err e) (front_outcome (take n mid) kinds.Ended)
-    → kept' ≡ rest_of {A = Seen} (Err e) mid → TakesKept (Err e) kept kept' left left' stop stop' f f' a a'
+    → mid ≡ kept ++ drop (length kept) mid → ReadsToMessage (Ok n) mid → (mid ≡ kept) ⊎ (length mid ≤ spent mid) → Comes {A = ℕ} (Ok n) (drop (length kept) mid) left left' stop stop' f f'
+    → Asks a a' (length (drop (length kept) mid) + 0) → Tells {A = MessageView} {B = MessageView} (λ m. m) (Err e) (front_outcome (take n mid) kinds.Ended)
+    → kept' ≡ rest_of {A = MessageView} (Err e) mid → TakesKept (Err e) kept kept' left left' stop stop' f f' a a'
 unmade_takes e n kept mid kept' left left' stop stop' f f' a a' grown g own c asks t rest =
     record {
       got = drop (length kept) mid;
-      came = came_malformed e n (drop (length kept) mid) left left' stop stop' f f' (own_error (take n mid) mid e (own_right n mid g) (untold {A = Seen} (λ m. m) e _ t)) c;
+      came = came_malformed e n (drop (length kept) mid) left left' stop stop' f f' (own_error (take n mid) mid e (own_right n mid g) (untold {A = MessageView} (λ m. m) e _ t)) c;
       own = own_of kept mid (drop (length kept) mid) grown own;
       message = tt;
-      behind = rest ∙ ap (rest_of {A = Seen} (Err e)) grown;
+      behind = rest ∙ ap (rest_of {A = MessageView} (Err e)) grown;
       asks = asks_more a a' _ _ (omega arith) asks;
     }
 
-pub made_told : (m placed : Seen) (seq n : ℕ) (kept mid : List ℕ) (left left' : Option (List ℕ)) (stop stop' : Option Bool) (f f' : ℕ) → 0 < seq → seq - 1 < 2 ^ 64 - 2
-    → mid ≡ kept ++ drop (length kept) mid → Gathers (Ok n) mid → Comes {A = ℕ} (Ok n) (drop (length kept) mid) left left' stop stop' f f'
+pub made_told : (m placed : MessageView) (seq n : ℕ) (kept mid : List ℕ) (left left' : Option (List ℕ)) (stop stop' : Option Bool) (f f' : ℕ) → 0 < seq → seq - 1 < 2 ^ 64 - 2
+    → mid ≡ kept ++ drop (length kept) mid → ReadsToMessage (Ok n) mid → Comes {A = ℕ} (Ok n) (drop (length kept) mid) left left' stop stop' f f'
     → front_outcome (take n mid) kinds.Ended ≡ Ok m → placed ≡ record m { position = seq }
     → IfSome (prepend_known kept left) (λ bytes. Receives stop (seq - 1) bytes (Ok placed))
 made_told m placed seq n kept mid left left' stop stop' f f' some below grown g c t at =
@@ -229,10 +229,10 @@ made_told m placed seq n kept mid left left' stop stop' f f' some below grown g 
     message_told (take n mid) m placed seq (prepend_known kept left) (prepend_known (drop (spent mid) mid) left') stop o.head o.right o.all
     (prepended kept (drop (spent mid) mid) (drop (length kept) mid) (take n mid) left left' (sym grown ∙ o.front) c.0) some below t at
 
-pub made_takes : (m placed : Seen) (n : ℕ) (kept mid kept' : List ℕ) (left left' : Option (List ℕ)) (stop stop' : Option Bool) (f f' : ℕ) (a a' : Option ℕ)
-    → mid ≡ kept ++ drop (length kept) mid → Gathers (Ok n) mid → (mid ≡ kept) ⊎ (length mid ≤ spent mid) → Comes {A = ℕ} (Ok n) (drop (length kept) mid) left left' stop stop' f f'
+pub made_takes : (m placed : MessageView) (n : ℕ) (kept mid kept' : List ℕ) (left left' : Option (List ℕ)) (stop stop' : Option Bool) (f f' : ℕ) (a a' : Option ℕ)
+    → mid ≡ kept ++ drop (length kept) mid → ReadsToMessage (Ok n) mid → (mid ≡ kept) ⊎ (length mid ≤ spent mid) → Comes {A = ℕ} (Ok n) (drop (length kept) mid) left left' stop stop' f f'
     → Asks a a' (length (drop (length kept) mid) + 0) → m.bytes ≡ take n mid → placed.bytes ≡ m.bytes
-    → kept' ≡ rest_of {A = Seen} (Ok m) mid → TakesKept (Ok placed) kept kept' left left' stop stop' f f' a a'
+    → kept' ≡ rest_of {A = MessageView} (Ok m) mid → TakesKept (Ok placed) kept kept' left left' stop stop' f f' a a'
 made_takes m placed n kept mid kept' left left' stop stop' f f' a a' grown g own c asks is same rest =
     let o = own_right n mid g in
     let spends : spent mid ≡ n = o.spends ∙ length-take-le n mid g.2 in
@@ -245,9 +245,9 @@ made_takes m placed n kept mid kept' left left' stop stop' f f' a a' grown g own
       asks = asks_more a a' _ _ (omega arith) asks;
     }
 
-pub front_placed : (m placed : Seen) (seq : ℕ) → placed ≡ record m { position = seq } → Front m.bytes m (length m.bytes) → Front placed.bytes placed (length placed.bytes) × (placed.position ≡ seq)
+pub front_placed : (m placed : MessageView) (seq : ℕ) → placed ≡ record m { position = seq } → Front m.bytes m (length m.bytes) → Front placed.bytes placed (length placed.bytes) × (placed.position ≡ seq)
 front_placed m placed seq e f =
-    subst (λ (x : Seen). Front x.bytes x (length x.bytes) × (x.position ≡ seq)) (sym e) (
+    subst (λ (x : MessageView). Front x.bytes x (length x.bytes) × (x.position ≡ seq)) (sym e) (
       record {
         own = f.own;
         there = f.there;

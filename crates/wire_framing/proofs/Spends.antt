@@ -3,9 +3,9 @@ use Rattle.std.proofs.Common.{ℕ, ◌≡◌, ◌≤◌, ◌⊎◌, min, inl, in
 use Rattle.std.specs.Io.KnownBytes.{Consumes}
 use Rattle.wire_framing.specs.Source.{IsEnd}
 use Rattle.wire_framing.specs.Receive.{Spends, spent}
-use Rattle.wire_framing.specs.Kept.{Comes, IsCut, Gathers}
+use Rattle.wire_framing.specs.Kept.{Comes, IsCut, ReadsToMessage}
 use Rattle.wire_framing.proofs.Whole.{Behind, spent_all, spent_refused, spent_right, refused_behind, own_behind}
-use Rattle.wire_message.specs.Front.{Seen, total}
+use Rattle.wire_message.specs.Front.{MessageView, total}
 use Rattle.wire_message.specs.Outcome.{head_fault}
 use Rattle.wire_message.specs.declared.error.Error.{Error}
 use Rattle.wire_message.specs.declared.error.Error.TheVariants as errors
@@ -41,34 +41,34 @@ head_only got e (inr fits) long fault = let is = spent_refused got e long fault 
 head_behind : (got : List ℕ) (e : Error) (left left' : Option (List ℕ)) → (got ≡ []) ⊎ (length got ≤ spent got) → (16 ≤ length got) × (head_fault got ≡ Some e) → Consumes left left' got → Behind left left'
 head_behind got e left left' own g q = refused_behind got e left left' (head_only got e own g.0 g.1) g.1 q
 
-failed_by : (e : Error) (mid : List ℕ) (left left' : Option (List ℕ)) (stop stop' : Option Bool) (f f' : ℕ) → Gathers (Err e) mid → (mid ≡ []) ⊎ (length mid ≤ spent mid)
-    → Comes {A = ℕ} (Err e) mid left left' stop stop' f f' → Spends {A = Seen} (Err e) left left'
+failed_by : (e : Error) (mid : List ℕ) (left left' : Option (List ℕ)) (stop stop' : Option Bool) (f f' : ℕ) → ReadsToMessage (Err e) mid → (mid ≡ []) ⊎ (length mid ≤ spent mid)
+    → Comes {A = ℕ} (Err e) mid left left' stop stop' f f' → Spends {A = MessageView} (Err e) left left'
 failed_by (errors.InputOutput kinds.Ended) mid left left' stop stop' f f' g own c = ended_behind mid left left' stop g c.0 c.1
 failed_by (errors.InputOutput kinds.Fault) mid left left' stop stop' f f' g own c = tt
 failed_by errors.Memory mid left left' stop stop' f f' g own c = tt
-failed_by e mid left left' stop stop' f f' g own c = spends_of {A = Seen} (Err e) left left' (head_behind mid e left left' own g c.0)
+failed_by e mid left left' stop stop' f f' g own c = spends_of {A = MessageView} (Err e) left left' (head_behind mid e left left' own g c.0)
 
 -- all that came is all that was there
 got_all : (kept mid : List ℕ) → kept ≡ [] → mid ≡ kept ++ drop (length kept) mid → drop (length kept) mid ≡ mid
 got_all kept mid none grown = sym (grown ∙ ap (λ l. l ++ drop (length kept) mid) none)
 
 pub failed_spends : (e : Error) (kept mid : List ℕ) (left left' : Option (List ℕ)) (stop stop' : Option Bool) (f f' : ℕ) → kept ≡ [] → mid ≡ kept ++ drop (length kept) mid
-    → Gathers (Err e) mid → (mid ≡ kept) ⊎ (length mid ≤ spent mid) → Comes {A = ℕ} (Err e) (drop (length kept) mid) left left' stop stop' f f' → Spends {A = Seen} (Err e) left left'
+    → ReadsToMessage (Err e) mid → (mid ≡ kept) ⊎ (length mid ≤ spent mid) → Comes {A = ℕ} (Err e) (drop (length kept) mid) left left' stop stop' f f' → Spends {A = MessageView} (Err e) left left'
 failed_spends e kept mid left left' stop stop' f f' none grown g own c =
     failed_by e mid left left' stop stop' f f' g (subst (λ l. (mid ≡ l) ⊎ (length mid ≤ spent mid)) none own)
     (subst (λ l. Comes {A = ℕ} (Err e) l left left' stop stop' f f') (got_all kept mid none grown) c)
 
 -- ---- a message came, and was read or refused
 
-all_there : (n : ℕ) (mid : List ℕ) → Gathers (Ok n) mid → (mid ≡ []) ⊎ (length mid ≤ spent mid) → length mid ≡ total mid
+all_there : (n : ℕ) (mid : List ℕ) → ReadsToMessage (Ok n) mid → (mid ≡ []) ⊎ (length mid ≤ spent mid) → length mid ≡ total mid
 all_there n mid g (inl none) = let no : length mid ≡ 0 = ap length none in let long = g.0.head in absurd (omega (arith, no, long))
 all_there n mid g (inr fits) =
     let is = spent_right mid g.0.head g.0.right in
     let within : n ≤ length mid = g.2 in
     omega (arith, is, fits, g.1, within)
 
-pub whole_spends : (r : Result Seen Error) (n : ℕ) (kept mid : List ℕ) (left left' : Option (List ℕ)) (stop stop' : Option Bool) (f f' : ℕ) → kept ≡ [] → mid ≡ kept ++ drop (length kept) mid
-    → Gathers (Ok n) mid → (mid ≡ kept) ⊎ (length mid ≤ spent mid) → Comes {A = ℕ} (Ok n) (drop (length kept) mid) left left' stop stop' f f' → Spends r left left'
+pub whole_spends : (r : Result MessageView Error) (n : ℕ) (kept mid : List ℕ) (left left' : Option (List ℕ)) (stop stop' : Option Bool) (f f' : ℕ) → kept ≡ [] → mid ≡ kept ++ drop (length kept) mid
+    → ReadsToMessage (Ok n) mid → (mid ≡ kept) ⊎ (length mid ≤ spent mid) → Comes {A = ℕ} (Ok n) (drop (length kept) mid) left left' stop stop' f f' → Spends r left left'
 whole_spends r n kept mid left left' stop stop' f f' none grown g own c =
     let all = all_there n mid g (subst (λ l. (mid ≡ l) ⊎ (length mid ≤ spent mid)) none own) in
     spends_of r left left' (own_behind mid left left' g.0.head g.0.right all (subst (Consumes left left') (got_all kept mid none grown) c.0))

@@ -8,7 +8,7 @@ use Rattle.wire_framing.specs.Fill.{Fills, IsShort, FailsShort, FrontFails, IsSp
 use Rattle.wire_framing.specs.Receive.{HasCause, Receives, Spends, spent}
 use Rattle.wire_framing.proofs.Steps.{Consumes-then, may_rise_after}
 use Rattle.wire_framing.proofs.Fronts.{cond_either, cond_true, cond_false, less_true, less_false, front_short, front_refused, front_cut, front-append, head_fault-append, total-append}
-use Rattle.wire_message.specs.Front.{Seen, total}
+use Rattle.wire_message.specs.Front.{MessageView, total}
 use Rattle.wire_message.specs.Field.{Fields}
 use Rattle.wire_message.specs.Outcome.{kind_of, is_order, is_refused, head_fault, front_outcome, then_message, message_by, fields_found, placed, outcome, Tells, ending_of, IsReadRefusal}
 use Rattle.wire_message.specs.declared.error.Error.{Error}
@@ -119,13 +119,13 @@ message_fine bs (Some kind) (Some fields) = tt
 then_fine : (bs : List ℕ) (o : Option Error) → IfSome o Fine → IfErr (then_message bs kinds.Ended o) Fine
 then_fine bs None h =
     let found = message_by bs (kind_of (slice_index bs 1)) (fields_found bs) in
-    cond_either (λ r. IfErr {T = Seen} r Fine) (nat_lt (length bs) (total bs)) (Err (errors.InputOutput kinds.Ended)) found fine_ended
+    cond_either (λ r. IfErr {T = MessageView} r Fine) (nat_lt (length bs) (total bs)) (Err (errors.InputOutput kinds.Ended)) found fine_ended
     (message_fine bs (kind_of (slice_index bs 1)) (fields_found bs))
 then_fine bs (Some e) h = h
 
 front_fine : (bs : List ℕ) → IfErr (front_outcome bs kinds.Ended) Fine
 front_fine bs =
-    cond_either (λ r. IfErr {T = Seen} r Fine) (nat_lt (length bs) 16) (Err (errors.InputOutput kinds.Ended)) (then_message bs kinds.Ended (head_fault bs))
+    cond_either (λ r. IfErr {T = MessageView} r Fine) (nat_lt (length bs) 16) (Err (errors.InputOutput kinds.Ended)) (then_message bs kinds.Ended (head_fault bs))
     fine_ended (then_fine bs (head_fault bs) (head_fine bs))
 
 pub fine_head : (bs : List ℕ) (e : Error) → head_fault bs ≡ Some e → Fine e
@@ -134,12 +134,12 @@ fine_head bs e p = subst (λ o. IfSome o Fine) p (head_fine bs)
 fine_front : (bs : List ℕ) (e : Error) → front_outcome bs kinds.Ended ≡ Err e → Fine e
 fine_front bs e p = subst (λ r. IfErr r Fine) p (front_fine bs)
 
-told : {A : Type 0} (view : A → Seen) (e : Error) (found : Result Seen Error) → found ≡ Err e → Tells view (Err e) found
+told : {A : Type 0} (view : A → MessageView) (e : Error) (found : Result MessageView Error) → found ≡ Err e → Tells view (Err e) found
 told view errors.Memory found p = tt
 told view (errors.InputOutput k) found p = p
 told view e found p = p
 
-pub untold : {A : Type 0} (view : A → Seen) (e : Error) (found : Result Seen Error) → Tells view (Err e) found → (e ≡ errors.Memory) ⊎ (found ≡ Err e)
+pub untold : {A : Type 0} (view : A → MessageView) (e : Error) (found : Result MessageView Error) → Tells view (Err e) found → (e ≡ errors.Memory) ⊎ (found ≡ Err e)
 untold view errors.Memory found p = inl refl
 untold view (errors.InputOutput k) found p = inr p
 untold view e found p = inr p
@@ -270,7 +270,7 @@ outcome_above count bytes ending h =
     rw full refl
 
 outcome_error : (e : Error) (count : ℕ) (bytes : List ℕ) (ending : IoKind) → count < 2 ^ 64 - 2
-    → Tells {A = Seen} {B = Seen} (λ m. m) (Err e) (front_outcome bytes ending) → Tells {A = Seen} {B = Seen} (λ m. m) (Err e) (outcome count bytes ending)
+    → Tells {A = MessageView} {B = MessageView} (λ m. m) (Err e) (front_outcome bytes ending) → Tells {A = MessageView} {B = MessageView} (λ m. m) (Err e) (outcome count bytes ending)
 outcome_error errors.Memory count bytes ending h p = tt
 outcome_error (errors.InputOutput k) count bytes ending h p = outcome_below count bytes ending h ∙ ap (placed (count + 1)) p
 outcome_error e count bytes ending h p = outcome_below count bytes ending h ∙ ap (placed (count + 1)) p
@@ -307,38 +307,38 @@ front_failed own e (Some xs) (Some ys) stop l p w q (inr m) =
 
 pub body_failed : (own : List ℕ) (e : Error) (count : ℕ) (left left' : Option (List ℕ)) (stop : Option Bool)
     → 16 ≤ length own → head_fault own ≡ None → length own ≡ total own → Consumes left left' own → count < 2 ^ 64 - 2
-    → Tells {A = Seen × ℕ} {B = Seen} (λ x. x.0) (Err e) (front_outcome own kinds.Ended) → IfSome left (λ bytes. Receives stop count bytes (Err e))
+    → Tells {A = MessageView × ℕ} {B = MessageView} (λ x. x.0) (Err e) (front_outcome own kinds.Ended) → IfSome left (λ bytes. Receives stop count bytes (Err e))
 body_failed own e count left left' stop l p w q h m =
-    whole_failed e count stop left h (front_failed own e left left' stop l p w q (untold {A = Seen × ℕ} (λ x. x.0) e _ m))
+    whole_failed e count stop left h (front_failed own e left left' stop l p w q (untold {A = MessageView × ℕ} (λ x. x.0) e _ m))
 
 body_cause : (own : List ℕ) (e : Error) (f f' : ℕ) → f ≤ f' → (e ≡ errors.Memory) ⊎ (front_outcome own kinds.Ended ≡ Err e) → IsReadRefusal e × HasCause e f f'
 body_cause own e f f' le (inl m) = subst (λ x. IsReadRefusal x × HasCause x f f') (sym m) (tt, le)
 body_cause own e f f' le (inr m) = let fine = fine_front own e m in (fine.0, fine.1 f f' le)
 
 pub body_takes : (own : List ℕ) (e : Error) (f f' : ℕ) → f ≤ f'
-    → Tells {A = Seen × ℕ} {B = Seen} (λ x. x.0) (Err e) (front_outcome own kinds.Ended) → IsReadRefusal e × HasCause e f f'
-body_takes own e f f' le m = body_cause own e f f' le (untold {A = Seen × ℕ} (λ x. x.0) e _ m)
+    → Tells {A = MessageView × ℕ} {B = MessageView} (λ x. x.0) (Err e) (front_outcome own kinds.Ended) → IsReadRefusal e × HasCause e f f'
+body_takes own e f f' le m = body_cause own e f f' le (untold {A = MessageView × ℕ} (λ x. x.0) e _ m)
 
 -- A message came.
-message_outcome : (own xs rest : List ℕ) (m : Seen) (seq : ℕ) (ending : IoKind) → 16 ≤ length own → head_fault own ≡ None → length own ≡ total own
+message_outcome : (own xs rest : List ℕ) (m : MessageView) (seq : ℕ) (ending : IoKind) → 16 ≤ length own → head_fault own ≡ None → length own ≡ total own
     → xs ≡ own ++ rest → 0 < seq → seq - 1 < 2 ^ 64 - 2 → front_outcome own kinds.Ended ≡ Ok m → outcome (seq - 1) xs ending ≡ Ok (record m { position = seq })
 message_outcome own xs rest m seq ending l p w q s h e =
     let n : seq - 1 + 1 ≡ seq = omega arith in
     outcome_below (seq - 1) xs ending h ∙ ap (λ b. placed (seq - 1 + 1) (front_outcome b ending)) q
     ∙ ap (placed (seq - 1 + 1)) (front-append own rest ending kinds.Ended l p w ∙ e) ∙ ap (λ k. Ok (record m { position = k })) n
 
-pub message_received : (own xs rest : List ℕ) (m : Seen) (seq : ℕ) (stop : Option Bool) → 16 ≤ length own → head_fault own ≡ None → length own ≡ total own
+pub message_received : (own xs rest : List ℕ) (m : MessageView) (seq : ℕ) (stop : Option Bool) → 16 ≤ length own → head_fault own ≡ None → length own ≡ total own
     → xs ≡ own ++ rest → 0 < seq → seq - 1 < 2 ^ 64 - 2 → front_outcome own kinds.Ended ≡ Ok m → Receives stop (seq - 1) xs (Ok (record m { position = seq }))
 message_received own xs rest m seq None l p w q s h e = inl (message_outcome own xs rest m seq kinds.Ended l p w q s h e)
 message_received own xs rest m seq (Some stop) l p w q s h e = message_outcome own xs rest m seq (ending_of stop) l p w q s h e
 
-placed_told : (own : List ℕ) (m : Seen) (seq : ℕ) (left left' : Option (List ℕ)) (stop : Option Bool) → 16 ≤ length own → head_fault own ≡ None → length own ≡ total own
+placed_told : (own : List ℕ) (m : MessageView) (seq : ℕ) (left left' : Option (List ℕ)) (stop : Option Bool) → 16 ≤ length own → head_fault own ≡ None → length own ≡ total own
     → Consumes left left' own → 0 < seq → seq - 1 < 2 ^ 64 - 2 → front_outcome own kinds.Ended ≡ Ok m → IfSome left (λ bytes. Receives stop (seq - 1) bytes (Ok (record m { position = seq })))
 placed_told own m seq None left' stop l p w q s h e = tt
 placed_told own m seq (Some xs) None stop l p w q s h e = absurd q
 placed_told own m seq (Some xs) (Some ys) stop l p w q s h e = message_received own xs ys m seq stop l p w q s h e
 
-pub message_told : (own : List ℕ) (m placed : Seen) (seq : ℕ) (left left' : Option (List ℕ)) (stop : Option Bool) → 16 ≤ length own → head_fault own ≡ None → length own ≡ total own
+pub message_told : (own : List ℕ) (m placed : MessageView) (seq : ℕ) (left left' : Option (List ℕ)) (stop : Option Bool) → 16 ≤ length own → head_fault own ≡ None → length own ≡ total own
     → Consumes left left' own → 0 < seq → seq - 1 < 2 ^ 64 - 2 → front_outcome own kinds.Ended ≡ Ok m → placed ≡ record m { position = seq }
     → IfSome left (λ bytes. Receives stop (seq - 1) bytes (Ok placed))
 message_told own m placed seq left left' stop l p w q s h e at =

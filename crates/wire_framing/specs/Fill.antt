@@ -4,7 +4,7 @@ use Rattle.std.specs.Io.KnownBytes.{Consumes}
 use Rattle.wire_framing.specs.Source.{MayRise}
 use Rattle.wire_framing.specs.Receive.{HasCause, Spends}
 use Rattle.wire_message.specs.Outcome.{head_fault, front_outcome, Tells, ending_of, IsReadRefusal}
-use Rattle.wire_message.specs.Front.{Seen, total}
+use Rattle.wire_message.specs.Front.{MessageView, total}
 use Rattle.wire_message.specs.declared.error.Error.{Error}
 use Rattle.wire_message.specs.declared.error.Error.TheVariants as errors
 use Rattle.wire_message.specs.declared.error.IoKind.TheVariants as kinds
@@ -36,9 +36,9 @@ Fills (Err e) wanted got left left' stop stop' faults faults' = ⊥
 -- What stands at the front of the bytes left, where these are told, is this error. Where nothing is told of a failing
 -- call, one may come at any time.
 abbrev pub FrontFails : Error → Option Bool → List ℕ → Type 0
-FrontFails e (Some stop) bytes = Tells {A = Seen} {B = Seen} (λ m. m) (Err e) (front_outcome bytes (ending_of stop))
+FrontFails e (Some stop) bytes = Tells {A = MessageView} {B = MessageView} (λ m. m) (Err e) (front_outcome bytes (ending_of stop))
 FrontFails e None bytes =
-    Tells {A = Seen} {B = Seen} (λ m. m) (Err e) (front_outcome bytes kinds.Ended) ⊎ (e ≡ errors.InputOutput kinds.Fault)
+    Tells {A = MessageView} {B = MessageView} (λ m. m) (Err e) (front_outcome bytes kinds.Ended) ⊎ (e ≡ errors.InputOutput kinds.Fault)
 
 -- The bytes of one message were taken, as its head says; or why not.
 abbrev pub TakesWhole : {A : Type 0} → (A → List ℕ) → Result A Error → Option (List ℕ) → Option (List ℕ) → Option Bool → Option Bool → ℕ → ℕ → Type 0

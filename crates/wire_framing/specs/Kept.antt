@@ -4,7 +4,7 @@ use Rattle.std.specs.Prelude.{ℕ, ◌≡◌, ◌+◌, ◌<◌, ◌≤◌, ◌�
 use Rattle.std.specs.Io.KnownBytes.{Consumes}
 use Rattle.wire_framing.specs.Source.{MayRise, IsEnd, FailsAt, Asks}
 use Rattle.wire_framing.specs.Receive.{spent}
-use Rattle.wire_message.specs.Front.{Seen, total}
+use Rattle.wire_message.specs.Front.{MessageView, total}
 use Rattle.wire_message.specs.Outcome.{head_fault}
 use Rattle.wire_message.specs.declared.error.Error.{Error}
 use Rattle.wire_message.specs.declared.error.Error.TheVariants as errors
@@ -26,7 +26,7 @@ rest_of result all = drop (spent all) all
 
 -- What a read takes, with `kept` and `kept'` before and after it. `got` came from the source, which was asked at most once
 -- more than it gave bytes, and only as far as the message's own bytes go, `kept` being taken first.
-pub record TakesKept (result : Result Seen Error) (kept kept' : List ℕ) (left left' : Option (List ℕ)) (stop stop' : Option Bool) (faults faults' : ℕ) (asked asked' : Option ℕ) : Type 0 where
+pub record TakesKept (result : Result MessageView Error) (kept kept' : List ℕ) (left left' : Option (List ℕ)) (stop stop' : Option Bool) (faults faults' : ℕ) (asked asked' : Option ℕ) : Type 0 where
   pub got : List ℕ
   pub came : Comes result got left left' stop stop' faults faults'
   pub own : (got ≡ []) ⊎ (length (kept ++ got) ≤ spent (kept ++ got))
@@ -59,9 +59,9 @@ abbrev pub IsCut : List ℕ → Type 0
 IsCut bytes = (length bytes < 16) ⊎ (IsRight bytes × (length bytes < total bytes))
 
 -- The first message's bytes are all there, and how many they are; or why not.
-abbrev pub Gathers : Result ℕ Error → List ℕ → Type 0
-Gathers (Ok n) bytes = IsRight bytes × (n ≡ total bytes) × (n ≤ length bytes)
-Gathers (Err (errors.InputOutput kinds.Ended)) bytes = IsCut bytes
-Gathers (Err (errors.InputOutput kinds.Fault)) bytes = IsCut bytes
-Gathers (Err errors.Memory) bytes = Unit {0}
-Gathers (Err e) bytes = (16 ≤ length bytes) × (head_fault bytes ≡ Some e)
+abbrev pub ReadsToMessage : Result ℕ Error → List ℕ → Type 0
+ReadsToMessage (Ok n) bytes = IsRight bytes × (n ≡ total bytes) × (n ≤ length bytes)
+ReadsToMessage (Err (errors.InputOutput kinds.Ended)) bytes = IsCut bytes
+ReadsToMessage (Err (errors.InputOutput kinds.Fault)) bytes = IsCut bytes
+ReadsToMessage (Err errors.Memory) bytes = Unit {0}
+ReadsToMessage (Err e) bytes = (16 ≤ length bytes) × (head_fault bytes ≡ Some e)

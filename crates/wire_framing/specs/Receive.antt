@@ -2,7 +2,7 @@
 use Rattle.std.specs.Prelude.{ℕ, ◌≡◌, ◌≤◌, ◌⊎◌, Bool, nat_lt, is_some, min, if◌then◌else◌, List, length, drop, IfSome, Option, Some, None, Result, Ok, Err}
 use Rattle.std.specs.Io.KnownBytes.{Consumes}
 use Rattle.wire_framing.specs.Source.{MayRise}
-use Rattle.wire_message.specs.Front.{Seen, Front, total}
+use Rattle.wire_message.specs.Front.{MessageView, Front, total}
 use Rattle.wire_message.specs.Outcome.{outcome, head_fault, Tells, ending_of, IsReadRefusal}
 use Rattle.wire_message.specs.declared.error.Error.{Error}
 use Rattle.wire_message.specs.declared.error.Error.TheVariants as errors
@@ -10,7 +10,7 @@ use Rattle.wire_message.specs.declared.error.IoKind.TheVariants as kinds
 
 -- What a read answers where `bytes` are left and `count` messages were read before. Where nothing is told of a failing
 -- call, one may come at any time; it is then the answer.
-abbrev pub Receives : Option Bool → ℕ → List ℕ → Result Seen Error → Type 0
+abbrev pub Receives : Option Bool → ℕ → List ℕ → Result MessageView Error → Type 0
 Receives (Some stop) count bytes result = Tells (λ m. m) result (outcome count bytes (ending_of stop))
 Receives None count bytes result =
     Tells (λ m. m) result (outcome count bytes kinds.Ended) ⊎ (result ≡ Err (errors.InputOutput kinds.Fault))
@@ -22,7 +22,7 @@ HasCause e faults faults' = faults ≤ faults'
 
 -- What a read takes, whatever is told. Ok: exactly the message's own bytes, on which it stands, at the position asked for.
 -- Err: one of a read's errors, a fault only with its cause.
-abbrev pub Takes : ℕ → Result Seen Error → Option (List ℕ) → Option (List ℕ) → Option Bool → Option Bool → ℕ → ℕ → Type 0
+abbrev pub Takes : ℕ → Result MessageView Error → Option (List ℕ) → Option (List ℕ) → Option Bool → Option Bool → ℕ → ℕ → Type 0
 Takes position (Ok m) left left' stop stop' faults faults' =
     Front m.bytes m (length m.bytes) × (m.position ≡ position) × Consumes left left' m.bytes × (stop' ≡ stop) × (faults ≤ faults')
 Takes position (Err e) left left' stop stop' faults faults' = IsReadRefusal e × HasCause e faults faults'

@@ -4,11 +4,11 @@
 
 mod boxes;
 mod channel;
-mod gather;
 mod lent;
 mod memory;
 mod pipe;
 mod read_half;
+mod read_to_message;
 mod receive;
 mod send;
 mod sink;

@@ -2,12 +2,12 @@ ghost use Rattle.std.specs.Prelude.{ℕ, ◌≡◌, ◌≤◌, ◌<◌, ◌-◌,
 ghost use Rattle.std.specs.Io.KnownBytes.{prepend_known};
 ghost use Rattle.wire_framing.specs.Source.{Widens};
 ghost use Rattle.wire_framing.specs.Receive.{Receives, HasCause, Spends, spent};
-ghost use Rattle.wire_framing.specs.Kept.{TakesKept, Gathers, rest_of};
-ghost use Rattle.wire_message.specs.Front.{Seen, Front};
+ghost use Rattle.wire_framing.specs.Kept.{TakesKept, ReadsToMessage, rest_of};
+ghost use Rattle.wire_message.specs.Front.{MessageView, Front};
 ghost use Rattle.wire_message.specs.Outcome.{front_outcome, Tells, IsReadRefusal};
 ghost use Rattle.wire_message.specs.declared.error.IoKind.TheVariants.{Ended};
 
-use crate::gather::{cost, gather};
+use crate::read_to_message::{consumed, read_to_message};
 use crate::source::Source;
 use std::alloc::Global;
 use wire_message::{Error, IoKind, Message, Result, header_front};
@@ -28,14 +28,14 @@ fn shift(bytes: &mut Vec<u8>, count: usize)
     bytes.truncate(left);
 }
 
-/// Takes away what a read that answers this error costs.
-fn give_up(bytes: &mut Vec<u8>, error: &Error)
+/// Takes away what a read that answers this error consumes.
+fn discard(bytes: &mut Vec<u8>, error: &Error)
     ensures { bytes.new.items ≡ rest_of {A = ℕ} (Err error.now) bytes.old.items }
 {
     match error {
         Error::Memory => {}
         _ => {
-            let count = cost(bytes);
+            let count = consumed(bytes);
             shift(bytes, count);
         }
     }
@@ -43,7 +43,7 @@ fn give_up(bytes: &mut Vec<u8>, error: &Error)
 
 /// The message that the first `total` bytes are, which are taken away, unless there is no memory.
 fn take_message(alloc: Global, bytes: &mut Vec<u8>, total: usize) -> Result<Message>
-    requires { Gathers (Ok total) bytes.old.items }
+    requires { ReadsToMessage (Ok total) bytes.old.items }
     ensures exact { Tells (λ m. m) result (front_outcome (take total bytes.old.items) Ended) }
     ensures front { IfOk result (λ m. Front (take total bytes.old.items) m (length m.bytes)) }
     ensures rest { bytes.new.items ≡ rest_of result bytes.old.items }
@@ -54,7 +54,7 @@ fn take_message(alloc: Global, bytes: &mut Vec<u8>, total: usize) -> Result<Mess
             Ok(message)
         }
         Err(error) => {
-            give_up(bytes, &error);
+            discard(bytes, &error);
             Err(error)
         }
     }
@@ -85,7 +85,7 @@ impl<S: Source> ReadHalf<S> {
     /// Takes one message, the `seq`-th, of the bytes that are kept and then of the source's, and no byte more: 16 bytes,
     /// then the rest of the total that they say. The first that holds: InputOutput(Ended) with nothing taken, where `seq`
     /// is 2^64 - 1; InputOutput(Ended) or (Fault), where the bytes end before 16 came; IncorrectEndian, Variant or
-    /// ExcessData, where the head is refused, which costs its 16 bytes; InputOutput, where the bytes end before the message
+    /// ExcessData, where the head is refused, which consumes its 16 bytes; InputOutput, where the bytes end before the message
     /// does; Variant, where a header field is outside its grammar (D-Bus Specification, "Message Format").
     ///
     /// A fault is answered only where the source's count of faults rose. At want of memory `kept` holds all that was there
@@ -111,13 +111,13 @@ impl<S: Source> ReadHalf<S> {
         if seq == u64::MAX {
             return Err(Error::InputOutput(IoKind::Ended));
         }
-        match gather(&mut self.source, kept) {
+        match read_to_message(&mut self.source, kept) {
             Ok(total) => {
                 let message = take_message(alloc, kept, total)?;
                 Ok(message.at(seq))
             }
             Err(error) => {
-                give_up(kept, &error);
+                discard(kept, &error);
                 Err(error)
             }
         }

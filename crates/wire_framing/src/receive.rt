@@ -69,7 +69,7 @@ fn take_whole<S: Source>(alloc: Global, source: &mut S) -> Result<Vec<u8>>
 /// holds: InputOutput(Ended) with nothing taken, where `seq` is 2^64 - 1; InputOutput(Ended) or (Fault), where the bytes
 /// end before 16 came; IncorrectEndian, Variant or ExcessData, where the head is refused; InputOutput, where the bytes end
 /// before the message does; Variant, where a header field is outside its grammar (D-Bus Specification, "Message Format").
-/// A fault is answered only where the source's count of faults rose. A refused head costs its 16 bytes and no more.
+/// A fault is answered only where the source's count of faults rose. A refused head consumes its 16 bytes and no more.
 pub fn receive_message<S: Source>(alloc: Global, source: &mut S, seq: u64) -> Result<Message>
     requires { 0 < seq }
     ensures told { IfSome (S.left source.old) (λ bytes. Receives (S.stop source.old) (seq - 1) bytes result) }

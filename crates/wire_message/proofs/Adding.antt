@@ -8,11 +8,11 @@ use Rattle.wire_number.specs.Number.{padding, number_text, pad}
 use Rattle.wire_number.proofs.Steps.{length-padded}
 use Rattle.wire_message.specs.declared.field.FieldCode.{FieldCode}
 use Rattle.wire_message.specs.declared.field.FieldCode.TheVariants as codes
-use Rattle.wire_message.specs.declared.places.Held.{Held}
-use Rattle.wire_message.specs.declared.places.Held.TheVariants as helds
+use Rattle.wire_message.specs.declared.field_offsets.FieldValue.{FieldValue}
+use Rattle.wire_message.specs.declared.field_offsets.FieldValue.TheVariants as field_values
 use Rattle.wire_message.specs.Field.{Fields, Field, code_bytes, field_type, text_bytes, value_bytes, field_text, fields_text, with_field, gathered}
-use Rattle.wire_message.specs.Held.{HasRoom, StandsAt, value_of}
-use Rattle.wire_message.specs.Places.{area, found_fields, AreSpans, AppendsFields, Places}
+use Rattle.wire_message.specs.FieldValue.{HasRoom, StandsAt, value_of}
+use Rattle.wire_message.specs.FieldOffsets.{area, found_fields, AreSpans, AppendsFields, FieldOffsets}
 use Rattle.wire_message.proofs.FieldLaws.{placed}
 
 -- ---- where a text stands
@@ -26,12 +26,12 @@ area-there bytes a text b start end e s t =
     ap (λ (l : List ℕ). take (end - start) (drop start l)) e ∙ ap (take (end - start)) (drop_at a (text ++ b) start (sym s)) ∙ take_at text b (end - start) (omega (arith, s, t))
 
 -- the text of a field that stands behind a front, and ends at `next`
-pub held-stands : (order : Endian) (code : FieldCode) (held : Held) (bytes front more : List ℕ) (place next : ℕ)
-    → bytes ≡ front ++ ((padding place 8 ++ field_text order (record { code = code; value = value_of held })) ++ more)
-    → next ≡ length front + length (padding place 8 ++ field_text order (record { code = code; value = value_of held })) → HasRoom next held × StandsAt bytes next held
+pub field_value-stands : (order : Endian) (code : FieldCode) (field_value : FieldValue) (bytes front more : List ℕ) (place next : ℕ)
+    → bytes ≡ front ++ ((padding place 8 ++ field_text order (record { code = code; value = value_of field_value })) ++ more)
+    → next ≡ length front + length (padding place 8 ++ field_text order (record { code = code; value = value_of field_value })) → HasRoom next field_value × StandsAt bytes next field_value
 unfolding field_text
-held-stands order code (helds.Number number) bytes front more place next e n = (tt, tt)
-held-stands order code (helds.Text lent) bytes front more place next e n =
+field_value-stands order code (field_values.Number number) bytes front more place next e n = (tt, tt)
+field_value-stands order code (field_values.Text lent) bytes front more place next e n =
     let text : List ℕ = lent.now in
     let d = text-ends order code text in
     let pads : List ℕ = padding place 8 in
@@ -62,32 +62,32 @@ code-placed code old new e =
     ap (λ (q : ℕ). pad q 4) here ∙ placed p
 
 -- the bytes of a field that was added
-pub field-bytes : (order : Endian) (code : FieldCode) (held : Held) (old mid new : List ℕ) → mid ≡ old ++ (padding (length old) 8 ++ code_bytes code)
-    → new ≡ mid ++ value_bytes order (field_type code) (value_of held) → new ≡ old ++ (padding (length old) 8 ++ field_text order (record { code = code; value = value_of held }))
+pub field-bytes : (order : Endian) (code : FieldCode) (field_value : FieldValue) (old mid new : List ℕ) → mid ≡ old ++ (padding (length old) 8 ++ code_bytes code)
+    → new ≡ mid ++ value_bytes order (field_type code) (value_of field_value) → new ≡ old ++ (padding (length old) 8 ++ field_text order (record { code = code; value = value_of field_value }))
 unfolding field_text
-field-bytes order code held old mid new m e =
-    let value = value_bytes order (field_type code) (value_of held) in
+field-bytes order code field_value old mid new m e =
+    let value = value_bytes order (field_type code) (value_of field_value) in
     e ∙ ap (λ (l : List ℕ). l ++ value) m ∙ append_assoc old (padding (length old) 8 ++ code_bytes code) value
     ∙ ap (λ (l : List ℕ). old ++ l) (append_assoc (padding (length old) 8) (code_bytes code) value)
 
 -- there is room for its text
-pub field-room : (order : Endian) (code : FieldCode) (held : Held) (old new : List ℕ)
-    → new ≡ old ++ (padding (length old) 8 ++ field_text order (record { code = code; value = value_of held })) → HasRoom (length new) held
-field-room order code held old new e =
-    let text = padding (length old) 8 ++ field_text order (record { code = code; value = value_of held }) in
-    (held-stands order code held new old [] (length old) (length new) (e ∙ ap (λ (l : List ℕ). old ++ l) (sym (append-nil text))) (ap length e ∙ length-append old text)).0
+pub field-room : (order : Endian) (code : FieldCode) (field_value : FieldValue) (old new : List ℕ)
+    → new ≡ old ++ (padding (length old) 8 ++ field_text order (record { code = code; value = value_of field_value })) → HasRoom (length new) field_value
+field-room order code field_value old new e =
+    let text = padding (length old) 8 ++ field_text order (record { code = code; value = value_of field_value }) in
+    (field_value-stands order code field_value new old [] (length old) (length new) (e ∙ ap (λ (l : List ℕ). old ++ l) (sym (append-nil text))) (ap length e ∙ length-append old text)).0
 
-pub field-added : (order : Endian) (code : FieldCode) (held : Held) (old new : List ℕ) (places after : Places)
-    → new ≡ old ++ (padding (length old) 8 ++ field_text order (record { code = code; value = value_of held }))
-    → ((bytes : List ℕ) → StandsAt bytes (length new) held → found_fields bytes after ≡ with_field (record { code = code; value = value_of held }) (found_fields bytes places))
-    → ((n : ℕ) → AreSpans n places → length new ≤ n → AreSpans n after) → AppendsFields order (record { code = code; value = value_of held } ∷ []) old places new after
+pub field-added : (order : Endian) (code : FieldCode) (field_value : FieldValue) (old new : List ℕ) (offsets after : FieldOffsets)
+    → new ≡ old ++ (padding (length old) 8 ++ field_text order (record { code = code; value = value_of field_value }))
+    → ((bytes : List ℕ) → StandsAt bytes (length new) field_value → found_fields bytes after ≡ with_field (record { code = code; value = value_of field_value }) (found_fields bytes offsets))
+    → ((n : ℕ) → AreSpans n offsets → length new ≤ n → AreSpans n after) → AppendsFields order (record { code = code; value = value_of field_value } ∷ []) old offsets new after
 unfolding fields_text gathered
-field-added order code held old new places after e field spans =
-    let text = padding (length old) 8 ++ field_text order (record { code = code; value = value_of held }) in
+field-added order code field_value old new offsets after e field spans =
+    let text = padding (length old) 8 ++ field_text order (record { code = code; value = value_of field_value }) in
     record {
       text = e ∙ ap (λ (l : List ℕ). old ++ l) (sym (append-nil text));
       found = λ bytes front more l same. field bytes
-          (held-stands order code held bytes front more (length old) (length new) (same ∙ ap (λ (r : List ℕ). front ++ (r ++ more)) (append-nil text)) (omega (arith, ap length e, length-append old text, l))).1;
+          (field_value-stands order code field_value bytes front more (length old) (length new) (same ∙ ap (λ (r : List ℕ). front ++ (r ++ more)) (append-nil text)) (omega (arith, ap length e, length-append old text, l))).1;
       spans = λ n h s. spans n s h;
     }
 
@@ -97,9 +97,9 @@ pub if-ok : {A E : Type 0} {P Q : A → Type 0} (r : Result A E) → ((x : A) �
 if-ok (Ok x) f p = f x p
 if-ok (Err e) f p = p
 
-pub none_added : (order : Endian) (old : List ℕ) (places : Places) → AppendsFields order [] old places old places
+pub none_added : (order : Endian) (old : List ℕ) (offsets : FieldOffsets) → AppendsFields order [] old offsets old offsets
 unfolding fields_text gathered
-none_added order old places = record { text = sym (append-nil old); found = λ bytes front more l same. refl; spans = λ n h s. s }
+none_added order old offsets = record { text = sym (append-nil old); found = λ bytes front more l same. refl; spans = λ n h s. s }
 
 pub fields-append : (order : Endian) (place : ℕ) (xs ys : List Field) → fields_text order place (xs ++ ys) ≡ fields_text order place xs ++ fields_text order (place + length (fields_text order place xs)) ys
 unfolding fields_text
@@ -117,7 +117,7 @@ unfolding gathered
 gathered-append fields [] ys = refl
 gathered-append fields (x ∷ xs) ys = gathered-append (with_field x fields) xs ys
 
-pub added-then : (order : Endian) (a b c : List ℕ) (p q r : Places) (xs ys : List Field) → AppendsFields order xs a p b q → AppendsFields order ys b q c r
+pub added-then : (order : Endian) (a b c : List ℕ) (p q r : FieldOffsets) (xs ys : List Field) → AppendsFields order xs a p b q → AppendsFields order ys b q c r
     → AppendsFields order (xs ++ ys) a p c r
 added-then order a b c p q r xs ys f g =
     let x = fields_text order (length a) xs in

@@ -1,47 +1,47 @@
--- Reading a body: what a front of its bytes spells.
+-- Reading a body: what a front of its bytes encodes.
 use Rattle.std.proofs.Common.{◌≡◌, ℕ, ◌+◌, Bool, true, false, IsTrue, nat_eq, is_some, List, [], ◌∷◌, length, map, take, drop, refl, sym, ap, subst, ◌∙◌}
 use Rattle.std.proofs.lemmas.List.{take-append-drop}
 use Rattle.wire_number.specs.declared.endian.Endian.{Endian}
-use Rattle.wire_signature.specs.Shape.{Shape, shapes_of, types_text, AllHaveFields, IsSignature, SignatureText}
+use Rattle.wire_signature.specs.SingleType.{SingleType, single_types_of, types_text, AllHaveFields, IsSignature, SignatureText}
 use Rattle.std.specs.Cmp.Lexicographic.{pointwise, same_text}
 use Rattle.wire_signature.specs.Parsing.{types_in}
 use Rattle.wire_signature.proofs.Exact.{is_some-types_in}
-use Rattle.wire_body.proofs.Spelled.{types_text-one}
+use Rattle.wire_body.proofs.TypeTexts.{types_text-one}
 use Rattle.wire_tree.specs.Datum.{Datum, type_of}
-use Rattle.wire_spelling.specs.Each.{SpellEach}
+use Rattle.wire_encoding.specs.Each.{EncodeEach}
 use Rattle.wire_value.specs.Bodies.{HasOnlyBody}
-use Rattle.wire_message.specs.Read.{Begins}
+use Rattle.wire_message.specs.BodyReading.{Begins}
 
--- values that are spelled have the types
-pub types_spelled : (order : Endian) (place : ℕ) (ts : List Shape) (ds : List Datum) (bytes : List ℕ) → SpellEach order place ts ds bytes → map type_of ds ≡ ts
-types_spelled order place [] [] bytes s = refl
-types_spelled order place [] (d ∷ ds) bytes s = absurd s
-types_spelled order place (t ∷ ts) [] bytes s = absurd s
-types_spelled order place (t ∷ ts) (d ∷ ds) bytes s =
-    ap (λ (x : Shape). x ∷ map type_of ds) s.3.kind ∙ ap (λ (xs : List Shape). t ∷ xs) (types_spelled order (place + length s.0) ts ds s.1 s.4)
+-- values that are encoded have the types
+pub types_encoded : (order : Endian) (place : ℕ) (ts : List SingleType) (ds : List Datum) (bytes : List ℕ) → EncodeEach order place ts ds bytes → map type_of ds ≡ ts
+types_encoded order place [] [] bytes s = refl
+types_encoded order place [] (d ∷ ds) bytes s = absurd s
+types_encoded order place (t ∷ ts) [] bytes s = absurd s
+types_encoded order place (t ∷ ts) (d ∷ ds) bytes s =
+    ap (λ (x : SingleType). x ∷ map type_of ds) s.3.kind ∙ ap (λ (xs : List SingleType). t ∷ xs) (types_encoded order (place + length s.0) ts ds s.1 s.4)
 
--- a front that spells the values is a body with them alone, and read as they are
-pub begins : {A : Type 0} (read : List Datum → A) (order : Endian) (kinds types : List Shape) (bytes : List ℕ) (values body : List Datum) (n : ℕ) (x : A) → types ≡ kinds → body ≡ values
-    → IsSignature kinds → SpellEach order 0 types values (take n bytes) → HasOnlyBody order types bytes values n → x ≡ read body → Begins read order kinds bytes x
+-- a front that encodes the values is a body with them alone, and read as they are
+pub begins : {A : Type 0} (read : List Datum → A) (order : Endian) (kinds types : List SingleType) (bytes : List ℕ) (values body : List Datum) (n : ℕ) (x : A) → types ≡ kinds → body ≡ values
+    → IsSignature kinds → EncodeEach order 0 types values (take n bytes) → HasOnlyBody order types bytes values n → x ≡ read body → Begins read order kinds bytes x
 begins read order kinds types bytes values body n x same one valid s only e =
-    let own = subst (λ (ts : List Shape). HasOnlyBody order ts bytes values n) same only in
-    let spelled = subst (λ (ts : List Shape). SpellEach order 0 ts values (take n bytes)) same s in record {
+    let own = subst (λ (ts : List SingleType). HasOnlyBody order ts bytes values n) same only in
+    let encoded = subst (λ (ts : List SingleType). EncodeEach order 0 ts values (take n bytes)) same s in record {
       values = values;
-      there = record { front = take n bytes; rest = drop n bytes; text = sym (take-append-drop n bytes); signature = valid; spelled = spelled };
-      only = λ others b. (own others b.front b.rest b.spelled b.text).0;
+      there = record { front = take n bytes; rest = drop n bytes; text = sym (take-append-drop n bytes); signature = valid; encoded = encoded };
+      only = λ others b. (own others b.front b.rest b.encoded b.text).0;
       same = e ∙ ap read one;
     }
 
 -- ---- the header's types
 
 -- a signature with the text of these types is theirs
-pub own_types : (b : Bool) (kinds : List Shape) (own text : List ℕ) → AllHaveFields (shapes_of kinds) → own ≡ types_text (shapes_of kinds) → IsTrue (is_some (types_in text))
+pub own_types : (b : Bool) (kinds : List SingleType) (own text : List ℕ) → AllHaveFields (single_types_of kinds) → own ≡ types_text (single_types_of kinds) → IsTrue (is_some (types_in text))
     → b ≡ pointwise nat_eq own text → b ≡ true → SignatureText kinds text
 own_types false kinds own text fields e valid same t = absurd (cc)
 own_types true kinds own text fields e valid same t =
     let one : own ≡ text = same_text own text same in
     let k = (is_some-types_in (is_some (types_in text)) text refl).0 valid in
     let kinds-are : k.0 ≡ kinds = types_text-one k.0 kinds k.1.valid.fields fields (sym k.1.text ∙ sym one ∙ e) in
-    subst (λ (ts : List Shape). SignatureText ts text) kinds-are k.1
+    subst (λ (ts : List SingleType). SignatureText ts text) kinds-are k.1
 
-pub ruleset found_bodies = (types_spelled, begins)
+pub ruleset found_bodies = (types_encoded, begins)

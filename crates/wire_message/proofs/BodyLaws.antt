@@ -4,10 +4,10 @@ use Rattle.wire_number.specs.declared.endian.Endian.{Endian}
 use Rattle.wire_tree.specs.Datum.{data_of}
 use Rattle.wire_value.proofs.Fits.{Decided, all_decided}
 use Rattle.wire_message.specs.Bodies.{BuildsOf, IsExcess, MakesOf}
-use Rattle.wire_message.specs.Circle.{IsSerial, last_after}
+use Rattle.wire_message.specs.SerialOrder.{IsSerial, last_after}
 use Rattle.wire_message.specs.Content.{ContentFits, IsNotAppended}
-use Rattle.wire_message.specs.Draft.{Draft, header_text, message_text, Writes}
-use Rattle.wire_message.specs.Front.{Seen, bare}
+use Rattle.wire_message.specs.BuilderView.{BuilderView, header_text, message_text, Writes}
+use Rattle.wire_message.specs.Front.{MessageView, bare}
 use Rattle.wire_message.specs.declared.content.Content.{Content}
 use Rattle.wire_message.specs.declared.content.Content.TheVariants as contents
 use Rattle.wire_message.specs.declared.error.Error.{Error}
@@ -21,33 +21,33 @@ pub content-decided : (order : Endian) (content : Content) → Decided (ContentF
 content-decided order (contents.Bytes bytes) = inr tt
 content-decided order (contents.Values values) = all_decided order 0 (data_of values.now)
 
-module _ (draft : Draft) (text : List ℕ) (shallow fits : Type 0) (fds : List ℕ) where
+module _ (builder : BuilderView) (text : List ℕ) (shallow fits : Type 0) (fds : List ℕ) where
   either : (n : ℕ) → Decided fits → 134217728 < n → (fits → ⊥) ⊎ (fits × (134217728 < n))
   either n (inl f) h = inl f
   either n (inr k) h = inr (k, h)
 
-  pub header-refused : (serial : ℕ) (e : Error) → Decided fits → shallow → Writes (λ (x : List ℕ). x) (Err e) (header_text draft 0 serial)
-      → MakesOf draft serial text shallow fits fds (Err e)
+  pub header-refused : (serial : ℕ) (e : Error) → Decided fits → shallow → Writes (λ (x : List ℕ). x) (Err e) (header_text builder 0 serial)
+      → MakesOf builder serial text shallow fits fds (Err e)
   unfolding message_text
   header-refused serial errors.ExcessData k s h =
-      let head = header_text draft (length text) serial in
-      let long : 134217728 < length (head ++ text) = omega (arith, h, header-length draft 0 serial, header-length draft (length text) serial, length-append head text) in
+      let head = header_text builder (length text) serial in
+      let long : 134217728 < length (head ++ text) = omega (arith, h, header-length builder 0 serial, header-length builder (length text) serial, length-append head text) in
       (s, either (length (head ++ text)) k long)
   header-refused serial errors.Memory k s h = tt
   header-refused serial other k s h = absurd h
 
-  longer : (serial : ℕ) → IsExcess fits text → IsExcess fits (message_text draft serial text)
+  longer : (serial : ℕ) → IsExcess fits text → IsExcess fits (message_text builder serial text)
   unfolding message_text
   longer serial (inl f) = inl f
-  longer serial (inr p) = inr (p.0, (let h : 134217728 < length text = p.1 in omega (arith, length-append (header_text draft (length text) serial) text)))
+  longer serial (inr p) = inr (p.0, (let h : 134217728 < length text = p.1 in omega (arith, length-append (header_text builder (length text) serial) text)))
 
-  pub body-refused : (serial : ℕ) (e : Error) → shallow → IsNotAppended e text fits → MakesOf draft serial text shallow fits fds (Err e)
+  pub body-refused : (serial : ℕ) (e : Error) → shallow → IsNotAppended e text fits → MakesOf builder serial text shallow fits fds (Err e)
   body-refused serial errors.ExcessData s h = (s, longer serial h)
   body-refused serial errors.Memory s h = tt
   body-refused serial other s h = absurd h
 
   -- ---- with the serial that was drawn
 
-  pub builds-it : (taken : ℕ → Bool) (old new serial : ℕ) (m : Seen) → IsSerial taken draft.serial old serial → new ≡ last_after draft.serial old serial
-      → MakesOf draft serial text shallow fits fds (Ok m) → BuildsOf taken draft text shallow fits fds old new (Ok m)
-  builds-it taken old new serial m s l made = (made.0, made.1, (builds-ok taken draft text old new serial (bare m) s l (made.2, made.3), made.4))
+  pub builds-it : (taken : ℕ → Bool) (old new serial : ℕ) (m : MessageView) → IsSerial taken builder.serial old serial → new ≡ last_after builder.serial old serial
+      → MakesOf builder serial text shallow fits fds (Ok m) → BuildsOf taken builder text shallow fits fds old new (Ok m)
+  builds-it taken old new serial m s l made = (made.0, made.1, (builds-ok taken builder text old new serial (bare m) s l (made.2, made.3), made.4))

@@ -1,4 +1,4 @@
--- What is written of a draft is a message, and reads as the draft.
+-- What is written of a builder is a message, and reads as what the builder holds.
 use Rattle.std.proofs.Common.{◌≡◌, ℕ, ◌+◌, ◌-◌, ◌<◌, ◌≤◌, ◌^◌, true, false, List, [], ◌∷◌, ◌++◌, length, Option, Some, None, take, drop, refl, sym, ap, ◌∙◌, append_assoc, arith, length-append}
 use Rattle.std.specs.Prelude.{IfSome, IsTrue, ◌≢◌}
 use Rattle.std.specs.Int.{Width, w8, w32}
@@ -15,8 +15,8 @@ use Rattle.wire_message.specs.declared.field.FieldCode.{FieldCode}
 use Rattle.wire_message.specs.declared.field.FieldCode.TheVariants as codes
 use Rattle.wire_message.specs.Field.{Fields, no_fields, Value, Text, Number, Field, IsField, IsShort, is_value, is_text, field_type, text_bytes, value_bytes, field_text, fields_text, with_field, gathered, there, field_list}
 use Rattle.wire_message.specs.declared.kind.MessageType.{MessageType}
-use Rattle.wire_message.specs.Draft.{Draft, draft_fields, header_text, laid, AreShort, IsHeaderOf, IsShortText, has_long_text}
-use Rattle.wire_message.specs.Places.{AppendsFields, Places}
+use Rattle.wire_message.specs.BuilderView.{BuilderView, builder_fields, header_text, laid, AreShort, IsHeaderOf, IsShortText, has_long_text}
+use Rattle.wire_message.specs.FieldOffsets.{AppendsFields, FieldOffsets}
 use Rattle.wire_message.specs.Valid.{AreFields}
 use Rattle.wire_message.proofs.FieldLaws.{signature-below}
 use Rattle.wire_message.proofs.Each.{each_but_path, each_none, if_some}
@@ -92,72 +92,72 @@ size-put : (order : Endian) (kind : MessageType) (f serial size : ℕ) (rest : L
     → take 12 (laid order kind f 0 serial 0 rest) ++ (number_text w32 order size ++ drop 16 (laid order kind f 0 serial 0 rest)) ≡ laid order kind f 0 serial size rest
 size-put order kind f serial size rest = grind arith
 
--- the words of a draft, and what stands behind its header
-abbrev pub head_of : Draft → ℕ → ℕ → List ℕ → List ℕ
-head_of draft size serial rest = laid draft.order draft.kind draft.flags size serial (length (draft_fields draft)) rest
+-- the words of a builder, and what stands behind its header
+abbrev pub head_of : BuilderView → ℕ → ℕ → List ℕ → List ℕ
+head_of builder size serial rest = laid builder.order builder.kind builder.flags size serial (length (builder_fields builder)) rest
 
-abbrev pub behind : Draft → List ℕ → List ℕ
-behind draft rest = draft_fields draft ++ (padding (16 + length (draft_fields draft)) 8 ++ rest)
+abbrev pub behind : BuilderView → List ℕ → List ℕ
+behind builder rest = builder_fields builder ++ (padding (16 + length (builder_fields builder)) 8 ++ rest)
 
-pub head-words : (draft : Draft) (size serial : ℕ) (rest : List ℕ) → HasWords draft.order size serial (length (draft_fields draft)) rest (head_of draft size serial rest)
-head-words draft size serial rest = words draft.order draft.kind draft.flags size serial (length (draft_fields draft)) rest
+pub head-words : (builder : BuilderView) (size serial : ℕ) (rest : List ℕ) → HasWords builder.order size serial (length (builder_fields builder)) rest (head_of builder size serial rest)
+head-words builder size serial rest = words builder.order builder.kind builder.flags size serial (length (builder_fields builder)) rest
 
-head-then : (draft : Draft) (size serial : ℕ) (rest more : List ℕ) → head_of draft size serial rest ++ more ≡ head_of draft size serial (rest ++ more)
-head-then draft size serial rest more = laid-then draft.order draft.kind draft.flags size serial (length (draft_fields draft)) rest more
+head-then : (builder : BuilderView) (size serial : ℕ) (rest more : List ℕ) → head_of builder size serial rest ++ more ≡ head_of builder size serial (rest ++ more)
+head-then builder size serial rest more = laid-then builder.order builder.kind builder.flags size serial (length (builder_fields builder)) rest more
 
-pub header-laid : (draft : Draft) (size serial : ℕ) (rest : List ℕ) → header_text draft size serial ++ rest ≡ head_of draft size serial (behind draft rest)
+pub header-laid : (builder : BuilderView) (size serial : ℕ) (rest : List ℕ) → header_text builder size serial ++ rest ≡ head_of builder size serial (behind builder rest)
 unfolding header_text
-header-laid draft size serial rest =
-    let fields = draft_fields draft in
-    let pads = padding (length (head_of draft size serial fields)) 8 in
-    append_assoc (head_of draft size serial fields) pads rest ∙ head-then draft size serial fields (pads ++ rest)
-    ∙ ap (λ (n : ℕ). head_of draft size serial (fields ++ (padding n 8 ++ rest))) (head-words draft size serial fields).long
+header-laid builder size serial rest =
+    let fields = builder_fields builder in
+    let pads = padding (length (head_of builder size serial fields)) 8 in
+    append_assoc (head_of builder size serial fields) pads rest ∙ head-then builder size serial fields (pads ++ rest)
+    ∙ ap (λ (n : ℕ). head_of builder size serial (fields ++ (padding n 8 ++ rest))) (head-words builder size serial fields).long
 
-pub header-length : (draft : Draft) (size serial : ℕ)
-    → length (header_text draft size serial) ≡ 16 + length (draft_fields draft) + pad (16 + length (draft_fields draft)) 8
-header-length draft size serial =
-    let fields = draft_fields draft in
+pub header-length : (builder : BuilderView) (size serial : ℕ)
+    → length (header_text builder size serial) ≡ 16 + length (builder_fields builder) + pad (16 + length (builder_fields builder)) 8
+header-length builder size serial =
+    let fields = builder_fields builder in
     let pads = padding (16 + length fields) 8 in
-    ap length (sym (append-nil (header_text draft size serial)) ∙ header-laid draft size serial [])
+    ap length (sym (append-nil (header_text builder size serial)) ∙ header-laid builder size serial [])
     ∙ omega (
       arith,
-      (head-words draft size serial (behind draft [])).long,
+      (head-words builder size serial (behind builder [])).long,
       length-append fields (pads ++ []),
       length-append pads [],
       length_padding (16 + length fields) 8,
     )
 
-pub path-long : (draft : Draft) (size serial : ℕ) → has_long_text draft.fields.path ≡ true → 134217728 < length (header_text draft size serial)
-path-long draft size serial h = omega (arith, header-length draft size serial, path-in draft.order 16 draft.fields h)
+pub path-long : (builder : BuilderView) (size serial : ℕ) → has_long_text builder.fields.path ≡ true → 134217728 < length (header_text builder size serial)
+path-long builder size serial h = omega (arith, header-length builder size serial, path-in builder.order 16 builder.fields h)
 
--- ---- the fields of a draft
+-- ---- the fields of a builder
 
 abbrev pub IsNumber : Value → Type 0
 IsNumber (Text text) = Unit {0}
 IsNumber (Number number) = number < 2 ^ 32
 
 -- valid, but for the length of its text
-abbrev pub IsValid : Field → Type 0
-IsValid field = IsTrue (is_value field.code field.value) × IsNumber field.value
+abbrev pub IsValidField : Field → Type 0
+IsValidField field = IsTrue (is_value field.code field.value) × IsNumber field.value
 
 all-append : (P : Field → Type 0) (xs ys : List Field) → AllByRecursion P xs → AllByRecursion P ys → AllByRecursion P (xs ++ ys)
 all-append P [] ys p q = q
 all-append P (x ∷ xs) ys p q = (p.0, all-append P xs ys p.1 q)
 
-there-valid : {A : Type 0} (value : A → Value) (code : FieldCode) (o : Option A) → IfSome o (λ x. IsValid (record { code = code; value = value x })) → AllByRecursion IsValid (there value code o)
+there-valid : {A : Type 0} (value : A → Value) (code : FieldCode) (o : Option A) → IfSome o (λ x. IsValidField (record { code = code; value = value x })) → AllByRecursion IsValidField (there value code o)
 there-valid value code None h = tt
 there-valid value code (Some x) h = (h, tt)
 
-text-valid : (code : FieldCode) (o : Option (List ℕ)) → IfSome o (λ text. IsTrue (is_text code text)) → AllByRecursion IsValid (there Text code o)
+text-valid : (code : FieldCode) (o : Option (List ℕ)) → IfSome o (λ text. IsTrue (is_text code text)) → AllByRecursion IsValidField (there Text code o)
 text-valid code o h = there-valid Text code o (if_some o (λ text t. (t, tt)) h)
 
-pub list-valid : (fields : Fields) → AreFields fields → AllByRecursion IsValid (field_list fields)
+pub list-valid : (fields : Fields) → AreFields fields → AllByRecursion IsValidField (field_list fields)
 unfolding field_list
 list-valid fields f =
-    all-append IsValid _ _ (text-valid codes.Path fields.path f.texts.path) (all-append IsValid _ _ (text-valid codes.Interface fields.interface f.texts.interface)
-    (all-append IsValid _ _ (text-valid codes.Member fields.member f.texts.member) (all-append IsValid _ _ (text-valid codes.ErrorName fields.error_name f.texts.error_name)
-    (all-append IsValid _ _ (there-valid Number codes.ReplySerial fields.reply_serial (if_some fields.reply_serial (λ number h. (lt-ltb 0 number h.0, h.1)) f.reply_serial)) (all-append IsValid _ _ (text-valid codes.Destination fields.destination f.texts.destination)
-    (all-append IsValid _ _ (text-valid codes.Sender fields.sender f.texts.sender) (all-append IsValid _ _ (text-valid codes.Signature fields.signature f.texts.signature)
+    all-append IsValidField _ _ (text-valid codes.Path fields.path f.texts.path) (all-append IsValidField _ _ (text-valid codes.Interface fields.interface f.texts.interface)
+    (all-append IsValidField _ _ (text-valid codes.Member fields.member f.texts.member) (all-append IsValidField _ _ (text-valid codes.ErrorName fields.error_name f.texts.error_name)
+    (all-append IsValidField _ _ (there-valid Number codes.ReplySerial fields.reply_serial (if_some fields.reply_serial (λ number h. (lt-ltb 0 number h.0, h.1)) f.reply_serial)) (all-append IsValidField _ _ (text-valid codes.Destination fields.destination f.texts.destination)
+    (all-append IsValidField _ _ (text-valid codes.Sender fields.sender f.texts.sender) (all-append IsValidField _ _ (text-valid codes.Signature fields.signature f.texts.signature)
     (there-valid Number codes.UnixFds fields.unix_fds (if_some fields.unix_fds (λ number h. (refl, h)) f.unix_fds)))))))))
 
 text-bytes-length : (order : Endian) (code : FieldCode) (text : List ℕ) → length text ≤ length (text_bytes order (field_type code) text)
@@ -167,7 +167,7 @@ value-short : (order : Endian) (code : FieldCode) (value : Value) (n : ℕ) → 
 value-short order code (Text text) n h k l = let le = text-bytes-length order code text in omega arith
 value-short order code (Number number) n h k l = h
 
-pub list-short : (order : Endian) (place : ℕ) (fs : List Field) → AllByRecursion IsValid fs → length (fields_text order place fs) < 2 ^ 32 → AllByRecursion IsField fs
+pub list-short : (order : Endian) (place : ℕ) (fs : List Field) → AllByRecursion IsValidField fs → length (fields_text order place fs) < 2 ^ 32 → AllByRecursion IsField fs
 unfolding fields_text field_text
 list-short order place [] h k = tt
 list-short order place (field ∷ fs) h k =
@@ -202,37 +202,37 @@ list-says d =
 
 -- ---- the message
 
-module _ (draft : Draft) (serial size : ℕ) (start old : List ℕ) (places : Places) (s : start ≡ laid draft.order draft.kind draft.flags 0 serial 0 [])
-    (a : AppendsFields draft.order (field_list draft.fields) start no_fields old places) (n : size ≡ length old - 16) where
+module _ (builder : BuilderView) (serial size : ℕ) (start old : List ℕ) (offsets : FieldOffsets) (s : start ≡ laid builder.order builder.kind builder.flags 0 serial 0 [])
+    (a : AppendsFields builder.order (field_list builder.fields) start no_fields old offsets) (n : size ≡ length old - 16) where
   start-long : length start ≡ 16
-  start-long = ap length s ∙ (words draft.order draft.kind draft.flags 0 serial 0 []).long
+  start-long = ap length s ∙ (words builder.order builder.kind builder.flags 0 serial 0 []).long
 
-  fields-behind : old ≡ start ++ draft_fields draft
-  fields-behind = a.text ∙ ap (λ (k : ℕ). start ++ fields_text draft.order k (field_list draft.fields)) start-long
+  fields-behind : old ≡ start ++ builder_fields builder
+  fields-behind = a.text ∙ ap (λ (k : ℕ). start ++ fields_text builder.order k (field_list builder.fields)) start-long
 
-  size-is : size ≡ length (draft_fields draft)
-  size-is = omega (arith, n, ap length fields-behind, length-append start (draft_fields draft), start-long)
+  size-is : size ≡ length (builder_fields builder)
+  size-is = omega (arith, n, ap length fields-behind, length-append start (builder_fields builder), start-long)
 
-  pub fields-long : 134217728 < size → 134217728 < length (header_text draft 0 serial)
-  fields-long h = omega (arith, h, size-is, header-length draft 0 serial)
+  pub fields-long : 134217728 < size → 134217728 < length (header_text builder 0 serial)
+  fields-long h = omega (arith, h, size-is, header-length builder 0 serial)
 
   -- the first 16 bytes, the fields, their length put in its place, zeros; the texts stand where they were written
-  pub header-made : (put final : List ℕ) → put ≡ take 12 old ++ (number_text w32 draft.order size ++ drop 16 old) → final ≡ put ++ padding (0 + length put) 8 → IsHeaderOf draft serial final places
+  pub header-made : (put final : List ℕ) → put ≡ take 12 old ++ (number_text w32 builder.order size ++ drop 16 old) → final ≡ put ++ padding (0 + length put) 8 → IsHeaderOf builder serial final offsets
   unfolding header_text
   header-made put final p f =
-      let fields = draft_fields draft in
-      let put_is : put ≡ head_of draft 0 serial fields =
-      p ∙ ap (λ (l : List ℕ). take 12 l ++ (number_text w32 draft.order size ++ drop 16 l)) (fields-behind ∙ ap (λ (l : List ℕ). l ++ fields) s ∙ laid-then draft.order _ _ 0 serial 0 [] fields)
-      ∙ size-put draft.order _ _ serial size fields
-      ∙ ap (λ (k : ℕ). laid draft.order draft.kind draft.flags 0 serial k fields) size-is in
+      let fields = builder_fields builder in
+      let put_is : put ≡ head_of builder 0 serial fields =
+      p ∙ ap (λ (l : List ℕ). take 12 l ++ (number_text w32 builder.order size ++ drop 16 l)) (fields-behind ∙ ap (λ (l : List ℕ). l ++ fields) s ∙ laid-then builder.order _ _ 0 serial 0 [] fields)
+      ∙ size-put builder.order _ _ serial size fields
+      ∙ ap (λ (k : ℕ). laid builder.order builder.kind builder.flags 0 serial k fields) size-is in
       let none : 0 + length put ≡ length put = omega arith in
-      let whole : final ≡ header_text draft 0 serial = f ∙ ap (λ (k : ℕ). put ++ padding k 8) none ∙ ap (λ (l : List ℕ). l ++ padding (length l) 8) put_is in
+      let whole : final ≡ header_text builder 0 serial = f ∙ ap (λ (k : ℕ). put ++ padding k 8) none ∙ ap (λ (l : List ℕ). l ++ padding (length l) 8) put_is in
       record {
         written = whole;
         found = λ other more.
             let rest = padding (16 + length fields) 8 ++ more in
-            let front = head_of draft other serial [] in
-            a.found _ front rest (omega (arith, (head-words draft other serial []).long, start-long)) (header-laid draft other serial more ∙ sym (head-then draft other serial [] (fields ++ rest))
-            ∙ ap (λ (k : ℕ). front ++ (fields_text draft.order k (field_list draft.fields) ++ rest)) (sym start-long)) ∙ list-says draft.fields;
-        spans = a.spans (length final) (omega (arith, ap length whole, header-length draft 0 serial, ap length fields-behind, length-append start fields, start-long)) (each_none _);
+            let front = head_of builder other serial [] in
+            a.found _ front rest (omega (arith, (head-words builder other serial []).long, start-long)) (header-laid builder other serial more ∙ sym (head-then builder other serial [] (fields ++ rest))
+            ∙ ap (λ (k : ℕ). front ++ (fields_text builder.order k (field_list builder.fields) ++ rest)) (sym start-long)) ∙ list-says builder.fields;
+        spans = a.spans (length final) (omega (arith, ap length whole, header-length builder 0 serial, ap length fields-behind, length-append start fields, start-long)) (each_none _);
       }

@@ -5,8 +5,8 @@ use Rattle.wire_message.specs.declared.field.FieldCode.{FieldCode}
 use Rattle.wire_message.specs.declared.field.FieldCode.TheVariants as codes
 use Rattle.wire_message.specs.declared.field.FieldsOf.{FieldsOf}
 use Rattle.wire_message.specs.Field.{EachText, no_fields, read_by, with_number, with_text}
-use Rattle.wire_message.specs.Places.{AreSpans, IsSpan, Places}
-use Rattle.wire_message.specs.declared.places.Span.{Span}
+use Rattle.wire_message.specs.FieldOffsets.{AreSpans, IsSpan, FieldOffsets}
+use Rattle.wire_message.specs.declared.field_offsets.Span.{Span}
 
 -- what holds of each text holds still where one more is put in
 pub each_with : {A : Type 0} (P : FieldCode → A → Type 0) (code : FieldCode) (text : A) (fields : FieldsOf A) → P code text → EachText P fields → EachText P (with_text code text fields)
@@ -19,8 +19,8 @@ pub read_with_number : {A B : Type 0} (read : A → B) (code : FieldCode) (numbe
     → read_by read (with_number code number fields) ≡ with_number code number (read_by read fields)
 read_with_number read code number fields = grind arith
 
-pub spans_with : (n : ℕ) (code : FieldCode) (span : Span) (places : Places) → IsSpan n span → AreSpans n places → AreSpans n (with_text code span places)
-spans_with n code span places h s = each_with (λ c x. IsSpan n x) code span places h s
+pub spans_with : (n : ℕ) (code : FieldCode) (span : Span) (offsets : FieldOffsets) → IsSpan n span → AreSpans n offsets → AreSpans n (with_text code span offsets)
+spans_with n code span offsets h s = each_with (λ c x. IsSpan n x) code span offsets h s
 
 pub if_some : {A : Type 0} {P Q : A → Type 0} (o : Option A) → ((x : A) → P x → Q x) → IfSome o P → IfSome o Q
 if_some None f h = tt

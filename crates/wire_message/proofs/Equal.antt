@@ -4,7 +4,7 @@ use Rattle.std.specs.Prelude.{◌↔◌}
 use Rattle.std.specs.Cmp.Lexicographic.{pointwise}
 use Rattle.std.proofs.lemmas.Slice.Eq.{bytes_eq-Decides}
 use denote.Enum.Bare.{same_true, true_same}
-use Rattle.fdo_kinds.specs.contracts.kind.Kind.{the_type as standard_kind}
+use Rattle.wire_message.specs.contracts.fdo_kind.Kind.{the_type as standard_kind}
 use Rattle.wire_names.specs.contracts.error.NamesError.{the_type as names_error}
 use Rattle.wire_signature.specs.contracts.error.VariantError.{the_type as variant_error}
 use Rattle.wire_message.specs.contracts.error.IoKind.{the_type as io_kind}

@@ -1,4 +1,4 @@
--- What is read as a header field is spelled so, and what is spelled so is read.
+-- What is read as a header field is encoded so, and what is encoded so is read.
 use Rattle.std.proofs.Common.{◌≡◌, ℕ, ◌+◌, ◌-◌, ◌<◌, ◌≤◌, ◌%◌, Bool, true, false, ◌&&◌, ◌==◌, List, [], ◌∷◌, ◌++◌, length, replicate, Some, is_some, refl, sym, ap, subst, ◌∙◌, append_assoc, arith}
 use Rattle.std.specs.Prelude.{IsTrue}
 use Rattle.std.specs.Int.{Width, w8, w32, byte_len}
@@ -10,13 +10,13 @@ use Rattle.wire_number.proofs.Multiples.{padded-is-multiple}
 use Rattle.wire_number.proofs.Steps.{at, AreBytes, Reads, reads_then, Takes, IsNumber, IsShort as IsShortWidth, limit, bind_some, map_some, some_is, guard_some, guarded, bound_some, bytes_take, bytes_again, align_takes, align_again, number_takes, number_again, length-number_text, length_padding, length-padded, IsCounted, counted_takes, counted_again}
 use Rattle.wire_signature.specs.declared.basic.BasicType.{BasicType}
 use Rattle.wire_signature.specs.declared.basic.BasicType.TheVariants as basics
-use Rattle.wire_signature.specs.Shape.{letter}
+use Rattle.wire_signature.specs.SingleType.{letter}
 use Rattle.wire_signature.specs.Parsing.{types_in}
 use Rattle.wire_signature.proofs.Exact.{is_some-types_in}
 use Rattle.wire_message.specs.declared.field.FieldCode.{FieldCode}
 use Rattle.wire_message.specs.declared.field.FieldCode.TheVariants as codes
 use Rattle.wire_message.specs.Field.{Value, Text, Number, Field, IsField, IsShort, is_value, is_text, code_byte, code_bytes, field_type, text_bytes, value_bytes, field_text}
-use Rattle.wire_message.specs.Reading.{code_of, typed_code, code_at, value_at, field_at}
+use Rattle.wire_message.specs.FieldReading.{code_of, typed_code, code_at, value_at, field_at}
 
 -- ---- the code
 

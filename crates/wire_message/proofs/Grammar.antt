@@ -6,8 +6,8 @@ use Rattle.std.proofs.lemmas.List.{length-take-le}
 use Rattle.wire_number.specs.declared.endian.Endian.{Endian}
 use Rattle.wire_number.proofs.Numbers.{IsBytes, IsBytes-drop, IsBytes-take}
 use Rattle.wire_message.specs.Field.{Fields}
-use Rattle.wire_message.specs.Front.{Seen, seen, fields_of, kind_code, order_code, order_at, word_at, fields_len, total, field_bytes, Front}
-use Rattle.wire_message.specs.Reading.{fields_in}
+use Rattle.wire_message.specs.Front.{MessageView, message_view, fields_of, kind_code, order_code, order_at, word_at, fields_len, total, field_bytes, Front}
+use Rattle.wire_message.specs.FieldReading.{fields_in}
 use Rattle.wire_message.specs.Outcome.{kind_of, is_order, head_fault, fields_found, message_by, front_outcome, Tells}
 use Rattle.wire_message.specs.declared.kind.MessageType.{MessageType}
 use Rattle.wire_message.specs.declared.error.Error.{Error}
@@ -58,29 +58,29 @@ order-right bytes order e = grind (arith, nat_tests)
 -- ---- the message
 
 -- what a message that was made has
-record Made (bytes : List ℕ) (k : Option MessageType) (r : Option Fields) (m : Seen) : Type 0 where
+record Made (bytes : List ℕ) (k : Option MessageType) (r : Option Fields) (m : MessageView) : Type 0 where
   kind_made : MessageType
   fields_made : Fields
   kind : k ≡ Some kind_made
   fields : r ≡ Some fields_made
-  same : seen (take (total bytes) bytes) 0 kind_made (order_at bytes) (slice_index bytes 2) (word_at 8 bytes) fields_made ≡ m
+  same : message_view (take (total bytes) bytes) 0 kind_made (order_at bytes) (slice_index bytes 2) (word_at 8 bytes) fields_made ≡ m
 
-ok_is : (m n : Seen) → ◌≡◌ {A = Result Seen Error} (Ok m) (Ok n) → m ≡ n
+ok_is : (m n : MessageView) → ◌≡◌ {A = Result MessageView Error} (Ok m) (Ok n) → m ≡ n
 ok_is m n e = cc
 
-message_by-made : (bytes : List ℕ) (k : Option MessageType) (r : Option Fields) (m : Seen) → message_by bytes k r ≡ Ok m → Made bytes k r m
+message_by-made : (bytes : List ℕ) (k : Option MessageType) (r : Option Fields) (m : MessageView) → message_by bytes k r ≡ Ok m → Made bytes k r m
 message_by-made bytes None r m e = absurd cc
 message_by-made bytes (Some k) None m e = absurd cc
 message_by-made bytes (Some k) (Some r) m e = record { kind_made = k; fields_made = r; kind = refl; fields = refl; same = ok_is _ m e }
 
 -- a message that is read stands on the front of the bytes
-pub front-found : (bytes : List ℕ) (m : Seen) → IsBytes bytes → 16 ≤ length bytes → total bytes ≤ length bytes → head_fault bytes ≡ None
+pub front-found : (bytes : List ℕ) (m : MessageView) → IsBytes bytes → 16 ≤ length bytes → total bytes ≤ length bytes → head_fault bytes ≡ None
     → message_by bytes (kind_of (slice_index bytes 1)) (fields_found bytes) ≡ Ok m → Front bytes m (total bytes)
 front-found bytes m fits long there no_faults e =
     let h = head_fault-takes bytes no_faults in
     let made = message_by-made bytes (kind_of (slice_index bytes 1)) (fields_found bytes) m e in
     let s = fields_in-takes (order_at bytes) (field_bytes bytes) made.fields_made (bytes_from (field_bytes bytes) (IsBytes-take (fields_len bytes) (drop 16 bytes) (IsBytes-drop 16 bytes fits))) made.fields in
-    subst (λ (x : Seen). Front bytes x (total bytes)) made.same (record {
+    subst (λ (x : MessageView). Front bytes x (total bytes)) made.same (record {
       own = refl;
       there = there;
       head = long;
@@ -97,11 +97,11 @@ front-found bytes m fits long there no_faults e =
     })
 
 -- what a reader finds stands on the front of the bytes
-pub front_outcome-found : (bytes : List ℕ) (ending : IoKind) (m : Seen) → IsBytes bytes → front_outcome bytes ending ≡ Ok m → Front bytes m (total bytes)
+pub front_outcome-found : (bytes : List ℕ) (ending : IoKind) (m : MessageView) → IsBytes bytes → front_outcome bytes ending ≡ Ok m → Front bytes m (total bytes)
 front_outcome-found bytes ending m fits e = front-found bytes m fits (grind (arith, nat_tests)) (grind (arith, nat_tests)) (grind (arith, nat_tests)) (grind (arith, nat_tests))
 
 -- what a field array says of a message that stands on the bytes
-pub front-fields : (bytes : List ℕ) (m : Seen) (n : ℕ) → Front bytes m n → fields_found bytes ≡ Some (fields_of m)
+pub front-fields : (bytes : List ℕ) (m : MessageView) (n : ℕ) → Front bytes m n → fields_found bytes ≡ Some (fields_of m)
 front-fields bytes m n f =
     let order : order_at bytes ≡ m.order = order_again bytes m.order f.order in
     let fs = f.fields.0 in
@@ -109,13 +109,13 @@ front-fields bytes m n f =
     ∙ fields_in-again m.order fs f.fields.1 ∙ ap (λ (r : Fields). Some r) (sym f.fields.3)
 
 -- the bytes alone say which message stands on their front, but for its position
-front-made : (bytes : List ℕ) (m : Seen) (n : ℕ) → Front bytes m n
+front-made : (bytes : List ℕ) (m : MessageView) (n : ℕ) → Front bytes m n
     → message_by bytes (kind_of (slice_index bytes 1)) (fields_found bytes) ≡ Ok (record m { position = 0 })
 front-made bytes m n f =
     let kind : kind_of (slice_index bytes 1) ≡ Some m.kind = ap kind_of f.type ∙ kind_of-code m.kind in
     rw (kind, front-fields bytes m n f, f.own, f.whole, f.serial, ← (order_again bytes m.order f.order), ← f.flags, f.fds) refl
 
-front-head : (bytes : List ℕ) (m : Seen) (n : ℕ) → Front bytes m n → IsHead bytes
+front-head : (bytes : List ℕ) (m : MessageView) (n : ℕ) → Front bytes m n → IsHead bytes
 front-head bytes m n f = record { order = order-right bytes m.order f.order; flags = rw f.flags f.known; not_zero = rw (← f.serial) f.not_zero; limit = rw (← f.whole) f.limit }
 
 -- where nothing is wrong with the head, and the bytes are there, the fields decide
@@ -124,31 +124,31 @@ pub outcome-made : (bytes : List ℕ) (ending : IoKind) → 16 ≤ length bytes 
 outcome-made bytes ending long right there = grind (arith, nat_tests)
 
 -- what stands on the front of the bytes is what a reader finds
-pub front_outcome-again : (bytes : List ℕ) (ending : IoKind) (m : Seen) (n : ℕ) → Front bytes m n → front_outcome bytes ending ≡ Ok (record m { position = 0 })
+pub front_outcome-again : (bytes : List ℕ) (ending : IoKind) (m : MessageView) (n : ℕ) → Front bytes m n → front_outcome bytes ending ≡ Ok (record m { position = 0 })
 front_outcome-again bytes ending m n f =
     let right : head_fault bytes ≡ None = head_fault-again bytes m.kind (front-head bytes m n f) (ap kind_of f.type ∙ kind_of-code m.kind) in
     outcome-made bytes ending f.head right (rw (← f.whole) f.there) ∙ front-made bytes m n f
 
 -- two messages with the same parts are one
-seen_is : (m k : Seen) → m.position ≡ k.position → record m { position = 0 } ≡ record k { position = 0 } → m ≡ k
-seen_is m k p e =
-    ap (λ (q : ℕ). record m { position = q }) p ∙ ap (λ (x : Seen). record x { position = k.position }) e
+message_view_is : (m k : MessageView) → m.position ≡ k.position → record m { position = 0 } ≡ record k { position = 0 } → m ≡ k
+message_view_is m k p e =
+    ap (λ (q : ℕ). record m { position = q }) p ∙ ap (λ (x : MessageView). record x { position = k.position }) e
 
-pub one_message : (bytes : List ℕ) (m k : Seen) (n l : ℕ) → Front bytes m n → Front bytes k l → m.position ≡ k.position → (m ≡ k) × (n ≡ l)
+pub one_message : (bytes : List ℕ) (m k : MessageView) (n l : ℕ) → Front bytes m n → Front bytes k l → m.position ≡ k.position → (m ≡ k) × (n ≡ l)
 one_message bytes m k n l f g p =
-    (seen_is m k p (ok_is (record m { position = 0 }) (record k { position = 0 }) (sym (front-made bytes m n f) ∙ front-made bytes k l g)), f.whole ∙ sym g.whole)
+    (message_view_is m k p (ok_is (record m { position = 0 }) (record k { position = 0 }) (sym (front-made bytes m n f) ∙ front-made bytes k l g)), f.whole ∙ sym g.whole)
 
-pub found_of : (bytes : List ℕ) (ending : IoKind) (r : Result (Seen × ℕ) Error) → IsBytes bytes → Tells (λ (x : Seen × ℕ). x.0) r (front_outcome bytes ending)
+pub found_of : (bytes : List ℕ) (ending : IoKind) (r : Result (MessageView × ℕ) Error) → IsBytes bytes → Tells (λ (x : MessageView × ℕ). x.0) r (front_outcome bytes ending)
     → IfOk r (λ x. x.1 ≡ total bytes) → IfOk r (λ x. Front bytes x.0 x.1)
 found_of bytes ending (Ok x) fits t e = rw e (front_outcome-found bytes ending x.0 fits t)
 found_of bytes ending (Err error) fits t e = tt
 
-pub length_of : (bytes : List ℕ) (r : Result (Seen × ℕ) Error) → IfOk r (λ x. Front bytes x.0 x.1) → IfOk r (λ x. x.1 ≡ length x.0.bytes)
+pub length_of : (bytes : List ℕ) (r : Result (MessageView × ℕ) Error) → IfOk r (λ x. Front bytes x.0 x.1) → IfOk r (λ x. x.1 ≡ length x.0.bytes)
 length_of bytes (Ok x) f = sym (ap length f.own ∙ length-take-le x.1 bytes f.there)
 length_of bytes (Err error) f = tt
 
-pub only_of : (bytes : List ℕ) (ending : IoKind) (r : Result (Seen × ℕ) Error) (m : Seen) (n : ℕ) → Tells (λ (x : Seen × ℕ). x.0) r (front_outcome bytes ending)
-    → m.position ≡ 0 → Front bytes m n → Tells (λ (x : Seen × ℕ). x.0) r (Ok m)
+pub only_of : (bytes : List ℕ) (ending : IoKind) (r : Result (MessageView × ℕ) Error) (m : MessageView) (n : ℕ) → Tells (λ (x : MessageView × ℕ). x.0) r (front_outcome bytes ending)
+    → m.position ≡ 0 → Front bytes m n → Tells (λ (x : MessageView × ℕ). x.0) r (Ok m)
 only_of bytes ending r m n t p f =
-    subst (λ (o : Result Seen Error). Tells (λ (x : Seen × ℕ). x.0) r o)
+    subst (λ (o : Result MessageView Error). Tells (λ (x : MessageView × ℕ). x.0) r o)
     (front_outcome-again bytes ending m n f ∙ ap (λ (q : ℕ). Ok (record m { position = q })) (sym p)) t

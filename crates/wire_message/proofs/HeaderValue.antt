@@ -1,4 +1,4 @@
--- A header's fields are spelled as values of `(yv)`, and a header as one of `yyyyuua(yv)`.
+-- A header's fields are encoded as values of `(yv)`, and a header as one of `yyyyuua(yv)`.
 use Rattle.std.proofs.Common.{◌≡◌, ℕ, ◌+◌, ◌<◌, ◌≤◌, List, [], ◌∷◌, ◌++◌, length, take, drop, slice_index, replicate, refl, sym, ap, subst, ◌∙◌, arith, length-drop}
 use Rattle.std.specs.Prelude.{IsTrue}
 use Rattle.std.specs.List.{AllByRecursion}
@@ -11,15 +11,15 @@ use Rattle.wire_number.specs.declared.endian.Endian.TheVariants.{Little, Big}
 use Rattle.wire_number.specs.Number.{number_text, number_at, counted_text, pad, padding}
 use Rattle.wire_number.proofs.Numbers.{IsBytes, IsBytes-drop, IsBytes-take}
 use Rattle.wire_number.proofs.Steps.{bytes_from, text_of_number}
-use Rattle.wire_signature.specs.Shape.{letter, type_text}
+use Rattle.wire_signature.specs.SingleType.{letter, type_text}
 use Rattle.wire_tree.specs.Datum.{Datum, type_of}
-use Rattle.wire_spelling.specs.Spelling.{aligned, spelling, spellings, depth, depths, ArraysFit, AllFit}
+use Rattle.wire_encoding.specs.Encoding.{aligned, encoding, encodings, depth, depths, ArraysFit, AllFit}
 use Rattle.wire_value.proofs.Appends.{byte_text}
 use Rattle.wire_message.specs.declared.field.FieldCode.{FieldCode}
 use Rattle.wire_message.specs.declared.field.FieldCode.TheVariants as codes
 use Rattle.wire_message.specs.declared.kind.MessageType.{MessageType}
 use Rattle.wire_message.specs.Field.{Value, Text, Number, Field, IsField, is_value, code_byte, field_type, value_bytes, field_text, fields_text}
-use Rattle.wire_message.specs.Front.{Seen, Front, order_at, order_code, kind_code, fields_len, body_len, word_at}
+use Rattle.wire_message.specs.Front.{MessageView, Front, order_at, order_code, kind_code, fields_len, body_len, word_at}
 use Rattle.wire_message.specs.Header.{held_datum, field_datum, field_data, header_datum, IsHeader}
 use Rattle.wire_message.proofs.FieldLaws.{placed, no_pad, not-so}
 use Rattle.wire_message.proofs.Grammar.{order_again}
@@ -27,52 +27,52 @@ use Rattle.wire_message.proofs.Grammar.{order_again}
 -- ---- one field
 
 -- what a field holds, where it needs no padding
-abbrev pub HeldSpelled : Endian → FieldCode → Value → ℕ → Type 0
-HeldSpelled order code value q =
-    (type_text (type_of (held_datum code value)) ≡ letter (field_type code) ∷ []) × (spelling order q (held_datum code value) ≡ value_bytes order (field_type code) value)
+abbrev pub HeldEncoded : Endian → FieldCode → Value → ℕ → Type 0
+HeldEncoded order code value q =
+    (type_text (type_of (held_datum code value)) ≡ letter (field_type code) ∷ []) × (encoding order q (held_datum code value) ≡ value_bytes order (field_type code) value)
 
 no_front : (q n : ℕ) (text : List ℕ) → pad q n ≡ 0 → padding q n ++ text ≡ text
 no_front q n text e = ap (λ (k : ℕ). replicate k 0 ++ text) e
 
-held_spelled : (order : Endian) (code : FieldCode) (value : Value) (q : ℕ) → pad q 4 ≡ 0 → IsTrue (is_value code value) → HeldSpelled order code value q
-unfolding spelling
-held_spelled order codes.ReplySerial (Number n) q e h = (refl, no_front q 4 _ e)
-held_spelled order codes.UnixFds (Number n) q e h = (refl, no_front q 4 _ e)
-held_spelled order codes.ReplySerial (Text t) q e h = not-so h
-held_spelled order codes.UnixFds (Text t) q e h = not-so h
-held_spelled order codes.Signature (Text t) q e h = (refl, no_front q 1 _ (no_pad q))
-held_spelled order code (Text t) q e h = (refl, no_front q 4 _ e)
-held_spelled order code (Number n) q e h = not-so h
+held_encoded : (order : Endian) (code : FieldCode) (value : Value) (q : ℕ) → pad q 4 ≡ 0 → IsTrue (is_value code value) → HeldEncoded order code value q
+unfolding encoding
+held_encoded order codes.ReplySerial (Number n) q e h = (refl, no_front q 4 _ e)
+held_encoded order codes.UnixFds (Number n) q e h = (refl, no_front q 4 _ e)
+held_encoded order codes.ReplySerial (Text t) q e h = not-so h
+held_encoded order codes.UnixFds (Text t) q e h = not-so h
+held_encoded order codes.Signature (Text t) q e h = (refl, no_front q 1 _ (no_pad q))
+held_encoded order code (Text t) q e h = (refl, no_front q 4 _ e)
+held_encoded order code (Number n) q e h = not-so h
 
 code-low : (code : FieldCode) → code_byte code < 256
 code-low code = grind arith
 
-pub field_spelled : (order : Endian) (p : ℕ) (field : Field) → IsField field → padding p 8 ++ field_text order field ≡ spelling order p (field_datum field)
-unfolding spelling spellings field_text
-field_spelled order p field h =
+pub field_encoded : (order : Endian) (p : ℕ) (field : Field) → IsField field → padding p 8 ++ field_text order field ≡ encoding order p (field_datum field)
+unfolding encoding encodings field_text
+field_encoded order p field h =
     let d : Datum = held_datum field.code field.value in
     let q : ℕ = aligned p 8 in
-    let held : HeldSpelled order field.code field.value (q + 4) = held_spelled order field.code field.value (q + 4) (placed p) h.0 in
-    let whole : List ℕ → List ℕ → List ℕ = λ code sign. padding p 8 ++ (code ++ ((sign ++ spelling order (q + length code + length sign) d) ++ [])) in
+    let held : HeldEncoded order field.code field.value (q + 4) = held_encoded order field.code field.value (q + 4) (placed p) h.0 in
+    let whole : List ℕ → List ℕ → List ℕ = λ code sign. padding p 8 ++ (code ++ ((sign ++ encoding order (q + length code + length sign) d) ++ [])) in
     let code : padding q 1 ++ number_text w8 order (code_byte field.code) ≡ code_byte field.code ∷ [] =
     no_front q 1 _ (no_pad q) ∙ byte_text order (code_byte field.code) (code-low field.code) in
     let sign : counted_text w8 order (type_text (type_of d)) ≡ 1 ∷ letter (field_type field.code) ∷ 0 ∷ [] =
     ap (counted_text w8 order) held.0 ∙ ap (λ (r : List ℕ). r ++ (letter (field_type field.code) ∷ 0 ∷ [])) (byte_text order 1 (omega arith)) in
     let here : q + 1 + 3 ≡ q + 4 = omega arith in
-    let spelled : spelling order p (field_datum field) ≡ padding p 8 ++ field_text order field =
+    let encoded : encoding order p (field_datum field) ≡ padding p 8 ++ field_text order field =
     ap (λ (c : List ℕ). whole c (counted_text w8 order (type_text (type_of d)))) code
     ∙ ap (whole (code_byte field.code ∷ [])) sign
-    ∙ ap (λ (k : ℕ). padding p 8 ++ (code_byte field.code ∷ 1 ∷ letter (field_type field.code) ∷ 0 ∷ (spelling order k d ++ []))) here
-    ∙ ap (λ (r : List ℕ). padding p 8 ++ (code_byte field.code ∷ 1 ∷ letter (field_type field.code) ∷ 0 ∷ r)) (append-nil (spelling order (q + 4) d) ∙ held.1) in
-    sym spelled
+    ∙ ap (λ (k : ℕ). padding p 8 ++ (code_byte field.code ∷ 1 ∷ letter (field_type field.code) ∷ 0 ∷ (encoding order k d ++ []))) here
+    ∙ ap (λ (r : List ℕ). padding p 8 ++ (code_byte field.code ∷ 1 ∷ letter (field_type field.code) ∷ 0 ∷ r)) (append-nil (encoding order (q + 4) d) ∙ held.1) in
+    sym encoded
 
-pub fields_spelled : (order : Endian) (p : ℕ) (fields : List Field) → AllByRecursion IsField fields → fields_text order p fields ≡ spellings order p (field_data fields)
-unfolding spellings fields_text
-fields_spelled order p [] h = refl
-fields_spelled order p (field ∷ fields) h =
-    let front : List ℕ = spelling order p (field_datum field) in
-    ap (λ (r : List ℕ). r ++ fields_text order (p + length r) fields) (field_spelled order p field h.0)
-    ∙ ap (λ (r : List ℕ). front ++ r) (fields_spelled order (p + length front) fields h.1)
+pub fields_encoded : (order : Endian) (p : ℕ) (fields : List Field) → AllByRecursion IsField fields → fields_text order p fields ≡ encodings order p (field_data fields)
+unfolding encodings fields_text
+fields_encoded order p [] h = refl
+fields_encoded order p (field ∷ fields) h =
+    let front : List ℕ = encoding order p (field_datum field) in
+    ap (λ (r : List ℕ). r ++ fields_text order (p + length r) fields) (field_encoded order p field h.0)
+    ∙ ap (λ (r : List ℕ). front ++ r) (fields_encoded order (p + length front) fields h.1)
 
 -- ---- the header
 
@@ -81,13 +81,13 @@ abbrev pub header_bytes : Endian → ℕ → ℕ → ℕ → ℕ → ℕ → ℕ
 header_bytes order o k f v body serial fields =
     o ∷ k ∷ f ∷ v ∷ (number_text w32 order body ++ (number_text w32 order serial ++ (number_text w32 order (length fields) ++ fields)))
 
-pub header_spelled : (order : Endian) (o k f v body serial : ℕ) (fields : List Field) → o < 256 → k < 256 → f < 256 → v < 256 → AllByRecursion IsField fields
-    → header_bytes order o k f v body serial (fields_text order 16 fields) ≡ spelling order 0 (header_datum o k f v body serial fields)
-unfolding spelling spellings
-header_spelled order o k f v body serial fields a b c d h = ap (header_bytes order o k f v body serial) (fields_spelled order 16 fields h) ∙ laid order where
-  laid : (order : Endian) → header_bytes order o k f v body serial (spellings order 16 (field_data fields)) ≡ spelling order 0 (header_datum o k f v body serial fields)
-  laid Little = rw (mod-eq_of_lt a, mod-eq_of_lt b, mod-eq_of_lt c, mod-eq_of_lt d, append-nil (number_text w32 Little (length (spellings Little 16 (field_data fields))) ++ spellings Little 16 (field_data fields))) refl
-  laid Big = rw (mod-eq_of_lt a, mod-eq_of_lt b, mod-eq_of_lt c, mod-eq_of_lt d, append-nil (number_text w32 Big (length (spellings Big 16 (field_data fields))) ++ spellings Big 16 (field_data fields))) refl
+pub header_encoded : (order : Endian) (o k f v body serial : ℕ) (fields : List Field) → o < 256 → k < 256 → f < 256 → v < 256 → AllByRecursion IsField fields
+    → header_bytes order o k f v body serial (fields_text order 16 fields) ≡ encoding order 0 (header_datum o k f v body serial fields)
+unfolding encoding encodings
+header_encoded order o k f v body serial fields a b c d h = ap (header_bytes order o k f v body serial) (fields_encoded order 16 fields h) ∙ laid order where
+  laid : (order : Endian) → header_bytes order o k f v body serial (encodings order 16 (field_data fields)) ≡ encoding order 0 (header_datum o k f v body serial fields)
+  laid Little = rw (mod-eq_of_lt a, mod-eq_of_lt b, mod-eq_of_lt c, mod-eq_of_lt d, append-nil (number_text w32 Little (length (encodings Little 16 (field_data fields))) ++ encodings Little 16 (field_data fields))) refl
+  laid Big = rw (mod-eq_of_lt a, mod-eq_of_lt b, mod-eq_of_lt c, mod-eq_of_lt d, append-nil (number_text w32 Big (length (encodings Big 16 (field_data fields))) ++ encodings Big 16 (field_data fields))) refl
 
 -- ---- its limits
 
@@ -107,8 +107,8 @@ unfolding ArraysFit AllFit
 fields-fit order [] p = tt
 fields-fit order (field ∷ fields) p = ((tt, (held-fits order _ field.code field.value, tt)), fields-fit order fields _)
 
-header-fits : (order : Endian) (o k f v body serial : ℕ) (fields : List Field) → length (spellings order 16 (field_data fields)) ≤ 67108864 → ArraysFit order 0 (header_datum o k f v body serial fields)
-unfolding spelling ArraysFit AllFit
+header-fits : (order : Endian) (o k f v body serial : ℕ) (fields : List Field) → length (encodings order 16 (field_data fields)) ≤ 67108864 → ArraysFit order 0 (header_datum o k f v body serial fields)
+unfolding encoding ArraysFit AllFit
 header-fits Little o k f v body serial fields h = (tt, (tt, (tt, (tt, (tt, (tt, ((h, fields-fit Little fields 16), tt)))))))
 header-fits Big o k f v body serial fields h = (tt, (tt, (tt, (tt, (tt, (tt, ((h, fields-fit Big fields 16), tt)))))))
 
@@ -154,7 +154,7 @@ order-low order = grind arith
 kind-low : (kind : MessageType) → kind_code kind < 256
 kind-low kind = grind arith
 
-pub header_is : (bytes : List ℕ) (m : Seen) (n : ℕ) → IsBytes bytes → Front bytes m n → IsHeader bytes m
+pub header_is : (bytes : List ℕ) (m : MessageView) (n : ℕ) → IsBytes bytes → Front bytes m n → IsHeader bytes m
 header_is bytes m n fits f =
     let order : order_at bytes ≡ m.order = order_again bytes m.order f.order in
     let fs = f.fields.0 in
@@ -173,7 +173,7 @@ header_is bytes m n fits f =
       says = f.fields.3;
       kind = refl;
       within = omega (arith, fields-flat fs);
-      fit = λ h. header-fits m.order _ _ _ _ _ _ fs (subst (λ (k : ℕ). k ≤ 67108864) (sym (ap length (sym (fields_spelled m.order 16 fs f.fields.1)) ∙ size)) h);
-      text = text ∙ header_spelled m.order (order_code m.order) (kind_code m.kind) m.flags (slice_index bytes 3) (body_len bytes) m.serial fs
+      fit = λ h. header-fits m.order _ _ _ _ _ _ fs (subst (λ (k : ℕ). k ≤ 67108864) (sym (ap length (sym (fields_encoded m.order 16 fs f.fields.1)) ∙ size)) h);
+      text = text ∙ header_encoded m.order (order_code m.order) (kind_code m.kind) m.flags (slice_index bytes 3) (body_len bytes) m.serial fs
           (order-low m.order) (kind-low m.kind) (omega (arith, f.known)) (fits 3) f.fields.1;
     }

@@ -3,7 +3,7 @@ pub mod FieldLaws
 pub mod Lists
 pub mod Grammar
 pub mod Moved
-pub mod Circle
+pub mod SerialOrder
 pub mod Adding
 pub mod Stepping
 pub mod Building
@@ -15,6 +15,12 @@ pub mod Refusals
 pub mod BodyLaws
 pub mod BodyFound
 pub mod BodyAgain
-pub mod KindNames
+pub mod ErrorNames
 pub mod Equal
 pub mod HeaderValue
+pub mod Fitting
+pub mod Built
+pub mod Edits
+pub mod Plain
+pub mod BodyFronts
+mod StandardNames

@@ -1,16 +1,16 @@
--- A field array that is read is spelled by a list of fields, and what is so spelled is read.
+-- A field array that is read is encoded by a list of fields, and what is so encoded is read.
 use Rattle.std.proofs.Common.{◌≡◌, ℕ, zero, suc, ◌+◌, ◌<◌, ◌≤◌, List, [], ◌∷◌, ◌++◌, length, Some, refl, sym, ap, ◌∙◌, arith, length-append, option_map}
 use Rattle.std.specs.List.{AllByRecursion}
 use Rattle.wire_number.specs.declared.endian.Endian.{Endian}
 use Rattle.wire_number.specs.Number.{padding}
 use Rattle.wire_number.specs.Reading.{Cursor}
 use Rattle.wire_number.proofs.Steps.{at, AreBytes}
-use Rattle.wire_spelling.specs.Reading.{many_at}
-use Rattle.wire_spelling.proofs.FoundValues.{many_hold}
-use Rattle.wire_spelling.proofs.ReadAgain.{many_with}
-use Rattle.wire_spelling.proofs.Loops.{many_done}
+use Rattle.wire_encoding.specs.Reading.{many_at}
+use Rattle.wire_encoding.proofs.FoundValues.{many_hold}
+use Rattle.wire_encoding.proofs.ReadAgain.{many_with}
+use Rattle.wire_encoding.proofs.Loops.{many_done}
 use Rattle.wire_message.specs.Field.{Fields, Field, IsField, field_text, fields_text, gathered, no_fields}
-use Rattle.wire_message.specs.Reading.{field_at, fields_in}
+use Rattle.wire_message.specs.FieldReading.{field_at, fields_in}
 use Rattle.wire_message.proofs.FieldLaws.{Taken, field_at-takes, field_at-again}
 use Rattle.wire_number.proofs.Steps.{map_some}
 
@@ -55,13 +55,13 @@ fields-again order (suc n) place (field ∷ fs) valid h =
     (fields-again order n (place + length front) fs valid.1 (omega (arith, length-append front rest, field-some order place field)))
 
 -- what a field array is
-pub record Spelled (order : Endian) (bytes : List ℕ) (says : Fields) : Type 0 where
+pub record Encoded (order : Endian) (bytes : List ℕ) (says : Fields) : Type 0 where
   pub list : List Field
   pub each : AllByRecursion IsField list
   pub text : bytes ≡ fields_text order 16 list
   pub all : says ≡ gathered no_fields list
 
-pub fields_in-takes : (order : Endian) (bytes : List ℕ) (says : Fields) → AreBytes bytes → fields_in order bytes ≡ Some says → Spelled order bytes says
+pub fields_in-takes : (order : Endian) (bytes : List ℕ) (says : Fields) → AreBytes bytes → fields_in order bytes ≡ Some says → Encoded order bytes says
 unfolding fields_in
 fields_in-takes order bytes says low e =
     let s = map_some (gathered no_fields) (many_at (length bytes) (field_at order) (at 16 bytes)) says e in

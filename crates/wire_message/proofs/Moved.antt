@@ -8,9 +8,9 @@ use Rattle.wire_number.specs.declared.endian.Endian.TheVariants.{Little, Big}
 use Rattle.wire_number.specs.Number.{number, number_at, pad}
 use Rattle.wire_number.proofs.Numbers.{IsBytes}
 use Rattle.wire_message.specs.Field.{Fields}
-use Rattle.wire_message.specs.Front.{Seen, seen, Front, order_at, word_at, fields_len, header_len, total, field_bytes}
+use Rattle.wire_message.specs.Front.{MessageView, message_view, Front, order_at, word_at, fields_len, header_len, total, field_bytes}
 use Rattle.wire_message.specs.Outcome.{kind_of, fields_found, head_fault, message_by}
-use Rattle.wire_message.specs.Places.{found_fields, AreSpans, Places, Stands}
+use Rattle.wire_message.specs.FieldOffsets.{found_fields, AreSpans, FieldOffsets, Stands}
 use Rattle.wire_message.specs.declared.kind.MessageType.{MessageType}
 use Rattle.wire_message.proofs.Each.{each_map, each_same}
 use Rattle.wire_message.proofs.Grammar.{front-found}
@@ -46,7 +46,7 @@ pub fields-same : (n : ℕ) (xs ys : List ℕ) → take n xs ≡ take n ys → 1
 fields-same n xs ys e h =
     part-same n 16 (fields_len xs) xs ys e h ∙ ap (λ (k : ℕ). take k (drop 16 ys)) (word-same n 12 xs ys e (omega arith))
 
-pub front-moved : (xs ys : List ℕ) (m : Seen) (n : ℕ) → Front xs m n → n ≤ length ys → take n xs ≡ take n ys → Front ys m n
+pub front-moved : (xs ys : List ℕ) (m : MessageView) (n : ℕ) → Front xs m n → n ≤ length ys → take n xs ≡ take n ys → Front ys m n
 front-moved xs ys m n f there e =
     let long : 16 ≤ n = omega (arith, f.whole) in
     record {
@@ -65,30 +65,30 @@ front-moved xs ys m n f there e =
       fields = (f.fields.0, f.fields.1, sym (fields-same n xs ys e (omega (arith, f.whole))) ∙ f.fields.2, f.fields.3);
     }
 
--- ---- the places of texts
+-- ---- the offsets of texts
 
-pub spans-more : (k n : ℕ) (places : Places) → k ≤ n → AreSpans k places → AreSpans n places
-spans-more k n places h s = each_map _ _ places (λ code span t. (t.0, omega (arith, t.1))) s
+pub spans-more : (k n : ℕ) (offsets : FieldOffsets) → k ≤ n → AreSpans k offsets → AreSpans n offsets
+spans-more k n offsets h s = each_map _ _ offsets (λ code span t. (t.0, omega (arith, t.1))) s
 
-pub found-own : (k n : ℕ) (bytes : List ℕ) (places : Places) → k ≤ n → AreSpans k places → found_fields (take n bytes) places ≡ found_fields bytes places
-found-own k n bytes places h s =
-    each_same _ _ places (each_map _ _ places (λ code span t. part-take n span.start (span.end - span.start) bytes (omega (arith, t.0, t.1))) s)
+pub found-own : (k n : ℕ) (bytes : List ℕ) (offsets : FieldOffsets) → k ≤ n → AreSpans k offsets → found_fields (take n bytes) offsets ≡ found_fields bytes offsets
+found-own k n bytes offsets h s =
+    each_same _ _ offsets (each_map _ _ offsets (λ code span t. part-take n span.start (span.end - span.start) bytes (omega (arith, t.0, t.1))) s)
 
 -- ---- the message of what was found
 
-pub message-found : (bytes own : List ℕ) (n : ℕ) (kind : MessageType) (places : Places) (order : Endian) (flags serial : ℕ)
+pub message-found : (bytes own : List ℕ) (n : ℕ) (kind : MessageType) (offsets : FieldOffsets) (order : Endian) (flags serial : ℕ)
     → IsBytes bytes → 16 ≤ length bytes → head_fault bytes ≡ None → n ≤ length bytes → n ≡ total bytes
-    → Some kind ≡ kind_of (slice_index bytes 1) → Some (found_fields bytes places) ≡ fields_found bytes → AreSpans (16 + fields_len bytes) places
+    → Some kind ≡ kind_of (slice_index bytes 1) → Some (found_fields bytes offsets) ≡ fields_found bytes → AreSpans (16 + fields_len bytes) offsets
     → own ≡ take n bytes → order ≡ order_at bytes → flags ≡ slice_index bytes 2 → serial ≡ word_at 8 bytes
-    → Stands own kind order flags serial places × (message_by bytes (kind_of (slice_index bytes 1)) (fields_found bytes) ≡ Ok (seen own 0 kind order flags serial (found_fields own places)))
-message-found bytes own n kind places order flags serial fits long right there whole k f spans o q r s =
+    → Stands own kind order flags serial offsets × (message_by bytes (kind_of (slice_index bytes 1)) (fields_found bytes) ≡ Ok (message_view own 0 kind order flags serial (found_fields own offsets)))
+message-found bytes own n kind offsets order flags serial fits long right there whole k f spans o q r s =
     let inside : 16 + fields_len bytes ≤ n = omega arith in
-    let texts : found_fields own places ≡ found_fields bytes places =
-    ap (λ (l : List ℕ). found_fields l places) o ∙ found-own (16 + fields_len bytes) n bytes places inside spans in
-    let alike : message_by bytes (kind_of (slice_index bytes 1)) (fields_found bytes) ≡ Ok (seen own 0 kind order flags serial (found_fields bytes places)) =
+    let texts : found_fields own offsets ≡ found_fields bytes offsets =
+    ap (λ (l : List ℕ). found_fields l offsets) o ∙ found-own (16 + fields_len bytes) n bytes offsets inside spans in
+    let alike : message_by bytes (kind_of (slice_index bytes 1)) (fields_found bytes) ≡ Ok (message_view own 0 kind order flags serial (found_fields bytes offsets)) =
     rw (← k, ← f, o, whole, q, r, s) refl in
-    let m = seen own 0 kind order flags serial (found_fields own places) in
-    let made : message_by bytes (kind_of (slice_index bytes 1)) (fields_found bytes) ≡ Ok m = alike ∙ ap (λ (x : Fields). Ok (seen own 0 kind order flags serial x)) (sym texts) in
+    let m = message_view own 0 kind order flags serial (found_fields own offsets) in
+    let made : message_by bytes (kind_of (slice_index bytes 1)) (fields_found bytes) ≡ Ok m = alike ∙ ap (λ (x : Fields). Ok (message_view own 0 kind order flags serial x)) (sym texts) in
     let all : total bytes ≤ length bytes = omega arith in
     let front = front-found bytes m fits long all right made in
     let len : length own ≡ n = ap length o ∙ length-take-le n bytes there in
@@ -97,7 +97,7 @@ message-found bytes own n kind places order flags serial fits long right there w
     let moved : Front own m n = front-moved bytes own m n here (omega arith) same in (
       record {
         front = rw len moved;
-        spans = spans-more (16 + fields_len bytes) (length own) places (omega arith) spans;
+        spans = spans-more (16 + fields_len bytes) (length own) offsets (omega arith) spans;
         valid = front-valid own m n moved;
       },
       made,

@@ -10,15 +10,15 @@ use Rattle.std.proofs.lemmas.Bool.Decides.{nat_tests}
 use Rattle.std.proofs.lemmas.Nat.{and_le_r, or_lt}
 use Rattle.wire_names.specs.Names.{is_bus_name}
 use Rattle.wire_message.specs.Field.{is_text, with_text}
-use Rattle.wire_message.specs.Draft.{Draft, IsDraft}
+use Rattle.wire_message.specs.BuilderView.{BuilderView, IsBuilder}
 
-pub set-text : (draft : Draft) (code : FieldCode) (text : List ℕ) → IsDraft draft → IsTrue (is_text code text) → IsDraft (record draft { fields = with_text code text draft.fields })
-set-text draft code text d h = record { flags = d.flags; serial = d.serial; fields = with_text-valid code text draft.fields h d.fields }
+pub set-text : (builder : BuilderView) (code : FieldCode) (text : List ℕ) → IsBuilder builder → IsTrue (is_text code text) → IsBuilder (record builder { fields = with_text code text builder.fields })
+set-text builder code text d h = record { flags = d.flags; serial = d.serial; fields = with_text-valid code text builder.fields h d.fields }
 
-pub set_reply_serial : (draft : Draft) (serial : ℕ) → IsDraft draft → (0 < serial) × (serial < 2 ^ 32) → IsDraft (record draft { fields = record draft.fields { reply_serial = Some serial } })
-set_reply_serial draft serial d h =
+pub set_reply_serial : (builder : BuilderView) (serial : ℕ) → IsBuilder builder → (0 < serial) × (serial < 2 ^ 32) → IsBuilder (record builder { fields = record builder.fields { reply_serial = Some serial } })
+set_reply_serial builder serial d h =
     let f = d.fields in
-    record { flags = d.flags; serial = d.serial; fields = record { texts = each_numbers _ draft.fields _ _ f.texts; reply_serial = h; unix_fds = f.unix_fds } }
+    record { flags = d.flags; serial = d.serial; fields = record { texts = each_numbers _ builder.fields _ _ f.texts; reply_serial = h; unix_fds = f.unix_fds } }
 
 pub known : (a b : ℕ) → a ≤ 7 → bit_or a (bit_and b 7) ≤ 7
 known a b h = let low = or_lt 3 a (bit_and b 7) (omega arith) (omega (arith, and_le_r b 7)) in omega arith

@@ -8,7 +8,7 @@ use Rattle.wire_signature.proofs.Exact.{types_in-again}
 use Rattle.wire_message.specs.declared.field.FieldCode.{FieldCode}
 use Rattle.wire_message.specs.declared.field.FieldCode.TheVariants as codes
 use Rattle.wire_message.specs.Field.{Fields, no_fields, Value, Text, Number, Field, IsField, is_text, is_number, with_field, with_text, with_number, gathered}
-use Rattle.wire_message.specs.Front.{Seen, Front, fields_of}
+use Rattle.wire_message.specs.Front.{MessageView, Front, fields_of}
 use Rattle.wire_message.specs.Valid.{AreFields}
 use Rattle.wire_message.proofs.Each.{each_none, each_numbers, each_with}
 use Rattle.wire_message.proofs.FieldLaws.{is-true, not-so}
@@ -35,7 +35,7 @@ gathered-valid fields (field ∷ fs) h f = gathered-valid (with_field field fiel
 none-valid : AreFields no_fields
 none-valid = record { texts = each_none _; reply_serial = tt; unix_fds = tt }
 
-pub front-valid : (bytes : List ℕ) (m : Seen) (n : ℕ) → Front bytes m n → AreFields (fields_of m)
+pub front-valid : (bytes : List ℕ) (m : MessageView) (n : ℕ) → Front bytes m n → AreFields (fields_of m)
 front-valid bytes m n front =
     let fs = front.fields in
     subst AreFields (sym fs.3) (gathered-valid no_fields fs.0 fs.1 none-valid)

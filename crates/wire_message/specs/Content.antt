@@ -2,7 +2,7 @@
 use Rattle.std.specs.Prelude.{◌≡◌, ◌≤◌, ◌++◌, ℕ, List, Result, Ok, Err}
 use Rattle.wire_number.specs.declared.endian.Endian.{Endian}
 use Rattle.wire_tree.specs.Datum.{data_of}
-use Rattle.wire_spelling.specs.Spelling.{AllFit, depths}
+use Rattle.wire_encoding.specs.Encoding.{AllFit, depths}
 use Rattle.wire_message.specs.Bodies.{IsExcess, body_text}
 use Rattle.wire_message.specs.declared.content.Content.{Content}
 use Rattle.wire_message.specs.declared.content.Content.TheVariants as contents

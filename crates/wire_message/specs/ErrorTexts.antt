@@ -1,6 +1,6 @@
 -- What is printed of an error, and its description.
 use Rattle.std.specs.Prelude.{ℕ, List, [], ◌++◌, codes, Option, Some, None}
-use Rattle.fdo_kinds.specs.Names.{kind_name}
+use Rattle.wire_message.specs.StandardNames.{kind_name}
 use Rattle.wire_message.specs.declared.fdo.StandardError.{StandardError}
 use Rattle.wire_message.specs.declared.error.Error.{Error}
 use Rattle.wire_message.specs.declared.error.Error.TheVariants as errors

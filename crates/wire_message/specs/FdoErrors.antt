@@ -1,7 +1,7 @@
 -- Errors of calls by their kinds (D-Bus Specification, "Types of messages", "Errors").
 use Rattle.std.specs.Prelude.{◌≡◌, ◌≢◌, ℕ, List, [], ◌∷◌, codes, Option, Some, unwrap_or}
-use Rattle.fdo_kinds.specs.declared.kind.Kind.{Kind}
-use Rattle.fdo_kinds.specs.Names.{kind_name}
+use Rattle.wire_message.specs.declared.fdo_kind.Kind.{Kind}
+use Rattle.wire_message.specs.StandardNames.{kind_name}
 use Rattle.wire_tree.specs.Datum.{Datum, string, text}
 use Rattle.wire_message.specs.ErrorTexts.{error_text, standard_text, description}
 use Rattle.wire_message.specs.declared.error.Error.{Error}

@@ -6,7 +6,7 @@ use Rattle.wire_number.specs.Number.{number_text, counted_text, padding}
 use Rattle.wire_names.specs.Names.{is_object_path, is_interface_name, is_member_name, is_error_name, is_bus_name, is_unique_name}
 use Rattle.wire_signature.specs.declared.basic.BasicType.{BasicType}
 use Rattle.wire_signature.specs.declared.basic.BasicType.TheVariants as basics
-use Rattle.wire_signature.specs.Shape.{letter}
+use Rattle.wire_signature.specs.SingleType.{letter}
 use Rattle.wire_signature.specs.Parsing.{types_in}
 use Rattle.wire_message.specs.declared.field.FieldCode.{FieldCode}
 use Rattle.wire_message.specs.declared.field.FieldCode.TheVariants as codes

@@ -12,7 +12,7 @@ use Rattle.wire_message.specs.declared.kind.MessageType.TheVariants as types
 
 -- What contracts see of a message: its own bytes, its position among the messages read (0 for one that wasn't read), what its
 -- header says, and the descriptors that go with it. A message that stands on its bytes (`Front`) is determined by them.
-pub record Seen : Type 0 where
+pub record MessageView : Type 0 where
   pub bytes : List ℕ
   pub position : ℕ
   pub kind : MessageType
@@ -31,8 +31,8 @@ pub record Seen : Type 0 where
   pub fds : List ℕ
 
 -- a message of these parts, without descriptors
-abbrev pub seen : List ℕ → ℕ → MessageType → Endian → ℕ → ℕ → Fields → Seen
-seen bytes position kind order flags serial fields = record {
+abbrev pub message_view : List ℕ → ℕ → MessageType → Endian → ℕ → ℕ → Fields → MessageView
+message_view bytes position kind order flags serial fields = record {
   bytes = bytes;
   position = position;
   kind = kind;
@@ -52,11 +52,11 @@ seen bytes position kind order flags serial fields = record {
 }
 
 -- the message without its descriptors
-abbrev pub bare : Seen → Seen
+abbrev pub bare : MessageView → MessageView
 bare m = record m { fds = [] }
 
 -- its header fields
-abbrev pub fields_of : Seen → Fields
+abbrev pub fields_of : MessageView → Fields
 fields_of m = record {
   path = m.path;
   interface = m.interface;
@@ -113,7 +113,7 @@ abbrev pub body_bytes : List ℕ → List ℕ
 body_bytes bytes = take (body_len bytes) (drop (header_len bytes) bytes)
 
 -- The message `m` stands on the first `n` of the bytes. No descriptors go with bytes alone.
-pub record Front (bytes : List ℕ) (m : Seen) (n : ℕ) : Type 0 where
+pub record Front (bytes : List ℕ) (m : MessageView) (n : ℕ) : Type 0 where
   pub own : m.bytes ≡ take n bytes
   pub there : n ≤ length bytes
   pub head : 16 ≤ length bytes

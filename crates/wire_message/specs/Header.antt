@@ -3,16 +3,16 @@ use Rattle.std.specs.Prelude.{◌≡◌, ℕ, ◌+◌, ◌≤◌, List, [], ◌�
 use Rattle.wire_number.specs.Limits.{array_limit}
 use Rattle.std.specs.List.{AllByRecursion}
 use Rattle.wire_signature.specs.declared.basic.BasicType.TheVariants as basics
-use Rattle.wire_signature.specs.Shape.{Shape, basic, variant as any, array as array_of, struct as struct_of, no_shapes, shapes}
-use Rattle.wire_tree.specs.Datum.{byte, uint32, Txt, string, object_path, signature, Datum, num, text, array, struct, variant, Data, no_data, items, type_of}
-use Rattle.wire_spelling.specs.Spelling.{spelling, depth, ArraysFit}
+use Rattle.wire_signature.specs.SingleType.{SingleType, basic, variant as any, array as array_of, struct as struct_of, no_single_types, single_types}
+use Rattle.wire_tree.specs.Datum.{byte, uint32, StringLike, string, object_path, signature, Datum, num, text, array, struct, variant, Data, no_data, items, type_of}
+use Rattle.wire_encoding.specs.Encoding.{encoding, depth, ArraysFit}
 use Rattle.wire_message.specs.declared.field.FieldCode.{FieldCode}
 use Rattle.wire_message.specs.declared.field.FieldCode.TheVariants as codes
 use Rattle.wire_message.specs.Field.{Value, Text, Number, Field, IsField, no_fields, code_byte, gathered}
-use Rattle.wire_message.specs.Front.{Seen, fields_of, order_code, kind_code, fields_len, body_len}
+use Rattle.wire_message.specs.Front.{MessageView, fields_of, order_code, kind_code, fields_len, body_len}
 
 -- the type of a field's text
-abbrev pub text_kind : FieldCode → Txt
+abbrev pub text_kind : FieldCode → StringLike
 text_kind codes.Path = object_path
 text_kind codes.Signature = signature
 text_kind code = string
@@ -32,34 +32,34 @@ field_data [] = no_data
 field_data (field ∷ fields) = items (field_datum field) (field_data fields)
 
 -- the type of a field, `(yv)`
-abbrev pub field_shape : Shape
-field_shape = struct_of (shapes (basic basics.Byte) (shapes any no_shapes))
+abbrev pub field_single_type : SingleType
+field_single_type = struct_of (single_types (basic basics.Byte) (single_types any no_single_types))
 
 -- the types of a header, `yyyyuua(yv)`, as a struct
-abbrev pub header_shape : Shape
-header_shape = struct_of (
-    shapes (basic basics.Byte) (shapes (basic basics.Byte) (shapes (basic basics.Byte) (shapes (basic basics.Byte)
-    (shapes (basic basics.Uint32) (shapes (basic basics.Uint32) (shapes (array_of field_shape) no_shapes))))))
+abbrev pub header_single_type : SingleType
+header_single_type = struct_of (
+    single_types (basic basics.Byte) (single_types (basic basics.Byte) (single_types (basic basics.Byte) (single_types (basic basics.Byte)
+    (single_types (basic basics.Uint32) (single_types (basic basics.Uint32) (single_types (array_of field_single_type) no_single_types))))))
     )
 
 -- byte order, message type, flags, version, the body's length, the serial, the fields
 abbrev pub header_datum : ℕ → ℕ → ℕ → ℕ → ℕ → ℕ → List Field → Datum
 header_datum order kind flags version body serial fields = struct (
     items (num byte order) (items (num byte kind) (items (num byte flags) (items (num byte version)
-    (items (num uint32 body) (items (num uint32 serial) (items (array field_shape (field_data fields)) no_data))))))
+    (items (num uint32 body) (items (num uint32 serial) (items (array field_single_type (field_data fields)) no_data))))))
     )
 
 -- the header of a message that stands on bytes, with these fields
-abbrev pub header_of : List ℕ → Seen → List Field → Datum
+abbrev pub header_of : List ℕ → MessageView → List Field → Datum
 header_of bytes m fields = header_datum (order_code m.order) (kind_code m.kind) m.flags (slice_index bytes 3) (body_len bytes) m.serial fields
 
--- The first 16 bytes and the fields behind them are the spelling of a header that says what the message has. Its arrays fit
+-- The first 16 bytes and the fields behind them are the encoding of a header that says what the message has. Its arrays fit
 -- where its fields take at most 67,108,864 bytes.
-pub record IsHeader (bytes : List ℕ) (m : Seen) : Type 0 where
+pub record IsHeader (bytes : List ℕ) (m : MessageView) : Type 0 where
   pub list : List Field
   pub each : AllByRecursion IsField list
   pub says : fields_of m ≡ gathered no_fields list
-  pub kind : type_of (header_of bytes m list) ≡ header_shape
+  pub kind : type_of (header_of bytes m list) ≡ header_single_type
   pub within : depth (header_of bytes m list) ≤ 64
   pub fit : fields_len bytes ≤ array_limit → ArraysFit m.order 0 (header_of bytes m list)
-  pub text : take (16 + fields_len bytes) bytes ≡ spelling m.order 0 (header_of bytes m list)
+  pub text : take (16 + fields_len bytes) bytes ≡ encoding m.order 0 (header_of bytes m list)

@@ -2,8 +2,8 @@
 use Rattle.std.specs.Prelude.{ℕ, ◌≡◌, ◌+◌, ◌^◌, ◌-◌, Bool, true, false, not, ◌||◌, ◌==◌, nat_lt, nat_le, is_none, if◌then◌else◌, List, length, take, slice_index, Option, Some, None, Result, Ok, Err}
 use Rattle.wire_number.specs.Limits.{message_limit}
 use Rattle.wire_message.specs.Field.{Fields}
-use Rattle.wire_message.specs.Front.{Seen, seen, order_at, word_at, total, field_bytes}
-use Rattle.wire_message.specs.Reading.{fields_in}
+use Rattle.wire_message.specs.Front.{MessageView, message_view, order_at, word_at, total, field_bytes}
+use Rattle.wire_message.specs.FieldReading.{fields_in}
 use Rattle.wire_message.specs.declared.kind.MessageType.{MessageType}
 use Rattle.wire_message.specs.declared.kind.MessageType.TheVariants as types
 use Rattle.wire_message.specs.declared.error.Error.{Error}
@@ -41,30 +41,30 @@ head_fault bytes =
 abbrev pub fields_found : List ℕ → Option Fields
 fields_found bytes = fields_in (order_at bytes) (field_bytes bytes)
 
-abbrev pub message_by : List ℕ → Option MessageType → Option Fields → Result Seen Error
+abbrev pub message_by : List ℕ → Option MessageType → Option Fields → Result MessageView Error
 message_by bytes (Some kind) (Some fields) =
-    Ok (seen (take (total bytes) bytes) 0 kind (order_at bytes) (slice_index bytes 2) (word_at 8 bytes) fields)
+    Ok (message_view (take (total bytes) bytes) 0 kind (order_at bytes) (slice_index bytes 2) (word_at 8 bytes) fields)
 message_by bytes kind fields = Err (errors.Variant faults.Malformed)
 
-abbrev pub then_message : List ℕ → IoKind → Option Error → Result Seen Error
+abbrev pub then_message : List ℕ → IoKind → Option Error → Result MessageView Error
 then_message bytes ending (Some error) = Err error
 then_message bytes ending None =
     if nat_lt (length bytes) (total bytes) then Err (errors.InputOutput ending)
     else message_by bytes (kind_of (slice_index bytes 1)) (fields_found bytes)
 
 -- The message at the front of the bytes, or what a reader finds in its place; after the bytes comes the ending.
-abbrev pub front_outcome : List ℕ → IoKind → Result Seen Error
+abbrev pub front_outcome : List ℕ → IoKind → Result MessageView Error
 front_outcome bytes ending =
     if nat_lt (length bytes) 16 then Err (errors.InputOutput ending)
     else then_message bytes ending (head_fault bytes)
 
-abbrev pub placed : ℕ → Result Seen Error → Result Seen Error
+abbrev pub placed : ℕ → Result MessageView Error → Result MessageView Error
 placed position (Ok m) = Ok (record m { position = position })
 placed position (Err error) = Err error
 
 -- What a read gives: `count` messages were read before it, `bytes` are all that is left, and after them comes the
 -- ending. No message has a position above 2^64 - 2.
-unfoldable pub outcome : ℕ → List ℕ → IoKind → Result Seen Error
+unfoldable pub outcome : ℕ → List ℕ → IoKind → Result MessageView Error
 outcome count bytes ending =
     if nat_le (2 ^ 64 - 2) count then Err (errors.InputOutput kinds.Ended)
     else placed (count + 1) (front_outcome bytes ending)

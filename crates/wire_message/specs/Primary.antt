@@ -3,7 +3,7 @@ use Rattle.std.specs.Prelude.{ℕ, ◌≡◌, ◌≢◌, Result, Ok, Err, slice_
 use Rattle.wire_number.specs.declared.endian.Endian.{Endian}
 use Rattle.wire_number.specs.declared.endian.Endian.TheVariants as orders
 use Rattle.wire_message.specs.Field.{Fields}
-use Rattle.wire_message.specs.Front.{Seen, fields_of, body_len}
+use Rattle.wire_message.specs.Front.{MessageView, fields_of, body_len}
 use Rattle.wire_message.specs.declared.endian_sig.EndianSig.{EndianSig}
 use Rattle.wire_message.specs.declared.endian_sig.EndianSig.TheVariants as sigs
 use Rattle.wire_message.specs.declared.kind.MessageType.{MessageType}
@@ -41,7 +41,7 @@ pub record Primary : Type 0 where
   pub serial_num : ℕ
 
 -- those of a message
-abbrev pub primary_of : Seen → Primary
+abbrev pub primary_of : MessageView → Primary
 primary_of m = record {
   endian_sig = sig_of m.order;
   msg_type = m.kind;
@@ -57,7 +57,7 @@ pub record Head : Type 0 where
   pub fields : Fields
 
 -- that of a message
-abbrev pub head_of : Seen → Head
+abbrev pub head_of : MessageView → Head
 head_of m = record { primary = primary_of m; fields = fields_of m }
 
 -- those of a message that isn't made yet: little order, no flags, version 1

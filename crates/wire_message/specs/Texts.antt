@@ -2,8 +2,8 @@
 use Rattle.std.specs.Prelude.{ℕ, Bool, false, ◌==◌, if◌then◌else◌, List, [], ◌∷◌, ◌++◌, codes, Option, Some, None, option_map}
 use Rattle.wire_number.specs.declared.endian.Endian.{Endian}
 use Rattle.wire_tree.specs.Datum.{string}
-use Rattle.wire_spelling.specs.Reading.{text_at}
-use Rattle.wire_message.specs.Front.{Seen, body_bytes}
+use Rattle.wire_encoding.specs.Reading.{text_at}
+use Rattle.wire_message.specs.Front.{MessageView, body_bytes}
 use Rattle.wire_message.specs.declared.kind.MessageType.{MessageType}
 use Rattle.wire_message.specs.declared.kind.MessageType.TheVariants as types
 
@@ -19,7 +19,7 @@ part_text before None = []
 part_text before (Some text) = before ++ text
 
 -- the member of a call or a signal, the name of an error
-abbrev pub name_by : MessageType → Seen → Option (List ℕ)
+abbrev pub name_by : MessageType → MessageView → Option (List ℕ)
 name_by types.MethodCall m = m.member
 name_by types.MethodReturn m = None
 name_by types.Error m = m.error_name
@@ -36,15 +36,15 @@ begins_with_string (Some []) = false
 begins_with_string (Some (letter ∷ rest)) = letter == 115
 
 -- The first argument, where it is a string and can be read.
-unfoldable pub first_argument : Seen → Option (List ℕ)
+unfoldable pub first_argument : MessageView → Option (List ℕ)
 first_argument m = if begins_with_string m.signature then first_string m.order (body_bytes m.bytes) else None
 
 -- what an error says beside its name
-abbrev pub detail_by : MessageType → Seen → Option (List ℕ)
+abbrev pub detail_by : MessageType → MessageView → Option (List ℕ)
 detail_by types.Error m = first_argument m
 detail_by kind m = None
 
 -- What is printed of a message, as `Method call M from S`, `Method return from S`, `Error N: D from S`, `Signal M from S`.
-unfoldable pub message_line : Seen → List ℕ
+unfoldable pub message_line : MessageView → List ℕ
 message_line m =
     kind_text m.kind ++ part_text (codes " ") (name_by m.kind m) ++ part_text (codes ": ") (detail_by m.kind m) ++ part_text (codes " from ") m.sender

@@ -1,13 +1,13 @@
 //! Messages whose bodies are arguments, values, or bytes.
 ghost use Rattle.std.specs.Prelude.{◌≡◌, ◌+◌, ◌<◌, ◌≤◌, ◌^◌, IfErr, IfOk, IfSome, IsTrue, List, length, map, option_map};
 ghost use Rattle.wire_number.specs.Limits.{greatest_serial};
-ghost use Rattle.wire_signature.specs.Shape.{SignatureText};
+ghost use Rattle.wire_signature.specs.SingleType.{SignatureText};
 ghost use Rattle.wire_tree.specs.Datum.{Datum, type_of};
 ghost use Rattle.wire_body.specs.Arguments.{TellsTo};
 ghost use Rattle.wire_message.specs.Bodies.{BuildsBody, BuildsOf, BuildsValues};
-ghost use Rattle.wire_message.specs.Circle.{taken_among};
+ghost use Rattle.wire_message.specs.SerialOrder.{taken_among};
 ghost use Rattle.wire_message.specs.Content.{ContentFits, IsShallow, content_text};
-ghost use Rattle.wire_message.specs.Draft.{BuildsWith, ReadsAgain};
+ghost use Rattle.wire_message.specs.BuilderView.{BuildsWith, ReadsAgain};
 ghost use Rattle.wire_message.specs.Field.{is_text};
 ghost use Rattle.wire_message.specs.Signed.{counted, signature_field, signed};
 ghost use Rattle.wire_message.specs.declared.field.FieldCode.TheVariants as codes;
@@ -206,7 +206,7 @@ impl<'a> Builder<'a> {
     }
 
     /// As `build_empty`, with these bytes as the body, that signature, and these descriptors. The bytes are put as they are, and not
-    /// compared with the signature: what they spell is for the caller to know. An empty signature is left out. The
+    /// compared with the signature: what they encode is for the caller to know. An empty signature is left out. The
     /// descriptors go with the message; their count is written as its `UNIX_FDS` exactly where there are some.
     pub fn build_raw_body<T: Taken, L: Ledger>(
         self,

@@ -1,7 +1,7 @@
 //! Reading the bodies of messages.
 ghost use Rattle.std.specs.Prelude.{◌≡◌, ◌==◌, IfErr, IfOk, length};
 ghost use Rattle.wire_message.specs.Front.{body_bytes};
-ghost use Rattle.wire_message.specs.Read.{HasTypes, ReadsAs, ReadsBody, TellsBegun, TellsTypes};
+ghost use Rattle.wire_message.specs.BodyReading.{HasTypes, ReadsAs, ReadsBody, TellsBegun, TellsTypes};
 ghost use Rattle.wire_message.specs.declared.error.Error.TheVariants.{Memory};
 
 use crate::error::{Error, Result};
@@ -19,9 +19,9 @@ pub struct Body<'a> {
 }
 
 impl<'a> Model for Body<'a> {
-    ghost use Rattle.wire_message.specs.Front.{Seen};
+    ghost use Rattle.wire_message.specs.Front.{MessageView};
 
-    ghost Value = { Seen };
+    ghost Value = { MessageView };
 
     ghost view = { λ b. b.message.now };
 }
@@ -46,8 +46,8 @@ fn types_of<T: ToBody>(alloc: Global) -> std::result::Result<Signature, VariantE
     }
 }
 
-/// The arguments that a front of a body's bytes spells.
-#[tactic(auto, using(crate::proofs::BodyFound::found_bodies), unfolding(crate::specs::Read::BeginsNoBody))]
+/// The arguments that a front of a body's bytes encodes.
+#[tactic(auto, using(crate::proofs::BodyFound::found_bodies), unfolding(crate::specs::BodyReading::BeginsNoBody))]
 fn begun<T: FromBody>(
     alloc: Global,
     order: Endian,
@@ -115,13 +115,13 @@ impl<'a> Body<'a> {
         }
     }
 
-    /// The arguments that a front of the body spells in the message's byte order, as values of the target's types, whatever
+    /// The arguments that a front of the body encodes in the message's byte order, as values of the target's types, whatever
     /// the header's signature says (D-Bus Specification, "Marshaling (Wire Format)"). Of what stands behind them nothing is
     /// asked.
     ///
     /// # Errors
     ///
-    /// Variant of `Malformed` exactly where no front of the body spells a value of each of the target's types, or where these
+    /// Variant of `Malformed` exactly where no front of the body encodes a value of each of the target's types, or where these
     /// types together are no signature, so that no body has them. Memory for want of memory.
     pub fn deserialize_unchecked<T: FromBody>(&self, alloc: Global) -> Result<T>
         ensures { ReadsAs result T.read T.kinds self.now }
@@ -134,14 +134,14 @@ impl<'a> Body<'a> {
         }
     }
 
-    /// The arguments of the body, where the header's signature is that of the target's types: what a front of the body spells
+    /// The arguments of the body, where the header's signature is that of the target's types: what a front of the body encodes
     /// in the message's byte order (D-Bus Specification, "Message Format", "Marshaling (Wire Format)"). A header without a
     /// signature has the empty one. Of bytes behind the arguments nothing is asked.
     ///
     /// # Errors
     ///
     /// Variant of `SignatureMismatch` exactly where the header's signature is not that of the target's types; else Variant of
-    /// `Malformed` exactly where no front of the body spells a value of each type. Memory for want of memory.
+    /// `Malformed` exactly where no front of the body encodes a value of each type. Memory for want of memory.
     #[tactic(auto, using(crate::proofs::BodyFound::own_types))]
     pub fn deserialize<T: FromBody>(&self, alloc: Global) -> Result<T>
         ensures { ReadsBody result T.read T.kinds self.now }

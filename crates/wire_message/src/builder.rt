@@ -3,22 +3,22 @@ ghost use Rattle.wire_number.specs.Limits.{greatest_serial};
 ghost use Rattle.wire_number.specs.declared.endian.Endian.TheVariants.{Little};
 ghost use Rattle.wire_names.specs.BusName.{text_of};
 ghost use Rattle.wire_message.specs.Front.{order_code};
-ghost use Rattle.wire_message.specs.Circle.{Numbers, taken_among};
+ghost use Rattle.wire_message.specs.SerialOrder.{Numbers, taken_among};
 ghost use Rattle.wire_message.specs.Field.{is_text, with_text};
-ghost use Rattle.wire_message.specs.Draft.{Draft, IsDraft, AreShort, new_draft, header_fields, header_text, laid, IsHeaderOf, message_text, call_draft, flagged, has_long_text, Writes, Builds, ReadsAgain};
+ghost use Rattle.wire_message.specs.BuilderView.{BuilderView, IsBuilder, AreShort, new_builder, header_fields, header_text, laid, IsHeaderOf, message_text, call_builder, flagged, has_long_text, Writes, Builds, ReadsAgain};
 ghost use Rattle.wire_message.specs.Bodies.{BuildsOf, MakesOf};
 ghost use Rattle.wire_message.specs.Content.{ContentFits, IsShallow, content_text};
-ghost use Rattle.wire_message.specs.Places.{found_fields, AreSpans};
+ghost use Rattle.wire_message.specs.FieldOffsets.{found_fields, AreSpans};
 ghost use Rattle.wire_message.specs.declared.kind.MessageType.TheVariants as types;
 
 use crate::content::Content;
 use crate::error::{Error, Result};
 use crate::field::FieldCode;
+use crate::field_offsets::FieldOffsets;
 use crate::flags::Flags;
 use crate::front::MESSAGE_LIMIT;
 use crate::kind::{MessageType, type_code};
 use crate::message::Message;
-use crate::places::Places;
 use crate::serials::{Serials, Taken};
 use crate::shared::Parts;
 use crate::steps::{Counts, Steps, Uncounted};
@@ -40,13 +40,13 @@ pub struct Builder<'a> {
 }
 
 impl<'a> Model for Builder<'a> {
-    ghost use Rattle.wire_message.specs.Draft.{Draft, IsDraft, header_fields};
+    ghost use Rattle.wire_message.specs.BuilderView.{BuilderView, IsBuilder, header_fields};
 
-    ghost Value = { Draft };
+    ghost Value = { BuilderView };
 
     ghost view = { λ b. record { kind = b.kind; order = b.order; flags = b.flags; serial = b.serial; fields = header_fields b.fields } };
 
-    ghost invariant = { λ b. IsDraft (record { kind = b.kind; order = b.order; flags = b.flags; serial = b.serial; fields = header_fields b.fields }) };
+    ghost invariant = { λ b. IsBuilder (record { kind = b.kind; order = b.order; flags = b.flags; serial = b.serial; fields = header_fields b.fields }) };
 }
 
 impl<'a> Drop for Builder<'a> {
@@ -74,7 +74,7 @@ pub(crate) fn order_byte(order: Endian) -> u8
 impl Message {
     /// A method call of a member at a path (D-Bus Specification, "Types of messages"): little order, no flags.
     pub fn method_call<'a>(path: &ObjectPath<'a>, member: &MemberName<'a>) -> Builder<'a>
-        ensures { result ≡ call_draft path.now member.now }
+        ensures { result ≡ call_builder path.now member.now }
     {
         let builder = Builder::new(MessageType::MethodCall, Endian::Little);
         builder.path(path).member(member)
@@ -103,7 +103,7 @@ fn has_long_path(fields: &HeaderFields<'_>) -> bool
 impl<'a> Builder<'a> {
     /// Without flags, serial and fields.
     pub(crate) fn new(kind: MessageType, order: Endian) -> Builder<'a>
-        ensures { result ≡ new_draft kind order }
+        ensures { result ≡ new_builder kind order }
     {
         Builder {
             kind,
@@ -243,7 +243,7 @@ impl<'a> Builder<'a> {
 
     /// The bytes of the header with that serial, for a body of no bytes yet, and where its texts stand, if it doesn't pass the
     /// limit of a message.
-    fn header_bytes(&self, alloc: Global, serial: u32) -> Result<(Vec<u8>, Places)>
+    fn header_bytes(&self, alloc: Global, serial: u32) -> Result<(Vec<u8>, FieldOffsets)>
         ensures written { Writes (λ x. x.0.items) result (header_text self.now 0 serial) }
         ensures made { IfOk result (λ x. IsHeaderOf self.now serial x.0.items x.1) }
     {
@@ -252,14 +252,14 @@ impl<'a> Builder<'a> {
         }
         let start = start_of(self.order, self.kind, self.flags, serial);
         let mut text = Vec::from_slice(alloc, &start)?;
-        let places = put_fields(&mut text, self.order, &self.fields)?;
+        let offsets = put_fields(&mut text, self.order, &self.fields)?;
         let fields_len = text.len() - 16;
         if fields_len > MESSAGE_LIMIT {
             return Err(Error::ExcessData);
         }
         put_u32(self.order, &mut text, 12, fields_len as u32);
         pad_to(&mut text, 0, 8)?;
-        Ok((text, places))
+        Ok((text, offsets))
     }
 
     /// The message with that serial, body and descriptors, if no value of the body is too deep, and neither an array nor the
@@ -278,7 +278,7 @@ impl<'a> Builder<'a> {
         if !content.is_shallow() {
             return Err(Error::Variant(VariantError::Depth));
         }
-        let (mut text, places) = self.header_bytes(alloc, serial)?;
+        let (mut text, offsets) = self.header_bytes(alloc, serial)?;
         let start = text.len();
         content.append(self.order, &mut text)?;
         if text.len() > MESSAGE_LIMIT {
@@ -291,7 +291,7 @@ impl<'a> Builder<'a> {
             order: self.order,
             flags: self.flags,
             serial,
-            places,
+            offsets,
         };
         let message = Message::from_parts(alloc, text, parts, fds)?;
         Ok(message)

@@ -4,9 +4,9 @@ ghost use Rattle.wire_number.specs.Limits.{greatest_serial};
 ghost use Rattle.wire_tree.specs.Datum.{Datum, type_of};
 ghost use Rattle.wire_body.specs.Arguments.{TellsTo};
 ghost use Rattle.wire_message.specs.Bodies.{BuildsBody};
-ghost use Rattle.wire_message.specs.Circle.{taken_among};
-ghost use Rattle.wire_message.specs.Draft.{ReadsAgain};
-ghost use Rattle.wire_message.specs.Drafts.{error_draft};
+ghost use Rattle.wire_message.specs.SerialOrder.{taken_among};
+ghost use Rattle.wire_message.specs.BuilderView.{ReadsAgain};
+ghost use Rattle.wire_message.specs.NewBuilders.{error_builder};
 ghost use Rattle.wire_message.specs.FdoErrors.{fdo_name, fdo_description, reply_text, one_string};
 
 use crate::error::Result;
@@ -60,7 +60,7 @@ pub trait DBusError {
         taken: &T,
         steps: &mut Steps<L>,
     ) -> Result<Message>
-        ensures built { BuildsBody (T.is_taken taken.now) (error_draft call.now (named self.now)) (replied self.now) serials.old serials.new result }
+        ensures built { BuildsBody (T.is_taken taken.now) (error_builder call.now (named self.now)) (replied self.now) serials.old serials.new result }
         ensures again { IfOk result ReadsAgain }
         ensures cost { steps.new ≤ steps.old + taken_among (T.is_taken taken.now) greatest_serial + 2 }
     {
@@ -77,7 +77,7 @@ pub trait DBusError {
         serials: &mut Serials,
         taken: &T,
     ) -> Result<Message>
-        ensures built { BuildsBody (T.is_taken taken.now) (error_draft call.now (named self.now)) (replied self.now) serials.old serials.new result }
+        ensures built { BuildsBody (T.is_taken taken.now) (error_builder call.now (named self.now)) (replied self.now) serials.old serials.new result }
         ensures again { IfOk result ReadsAgain }
     {
         let reply = self.reply(alloc);
@@ -115,7 +115,7 @@ impl DBusError for fdo::Error {
 
     ghost replied = { λ error. one_string (reply_text error) };
 
-    #[tactic(auto, using(crate::proofs::KindNames::fdo_name_valid))]
+    #[tactic(auto, using(crate::proofs::ErrorNames::fdo_name_valid))]
     fn name(&self) -> ErrorName<'_> {
         ErrorName::try_from(name_text(self)).unwrap()
     }

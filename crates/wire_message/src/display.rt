@@ -8,8 +8,8 @@ use crate::kind::MessageType;
 use crate::message::Message;
 use crate::shared::Shared;
 use std::fmt;
+use wire_encoding::string;
 use wire_number::{Endian, Reader};
-use wire_spelling::string;
 
 /// A part of a message's line, left out where it is absent.
 #[derive(Clone, Copy)]

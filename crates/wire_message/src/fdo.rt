@@ -4,7 +4,7 @@ ghost use Rattle.wire_message.specs.ErrorTexts.{standard_text};
 ghost use Rattle.wire_message.specs.FdoErrors.{Becomes, error_within, fdo_text};
 
 use crate::error;
-pub use fdo_kinds::Kind;
+pub use crate::fdo_kind::Kind;
 use std::alloc::{AllocError, Global};
 use std::fmt;
 use wire_names::Text;

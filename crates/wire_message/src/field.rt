@@ -1,7 +1,7 @@
 //! Codes of header fields, and what each holds.
 ghost use Rattle.std.specs.Prelude.{◌≡◌, ◌≤◌, length, IsSome};
 ghost use Rattle.wire_message.specs.Field.{code_byte, field_type, is_text as has_text, is_number as has_number, no_fields, with_text as text_put, with_number as number_put};
-ghost use Rattle.wire_message.specs.Reading.{code_of, code_at as code_found};
+ghost use Rattle.wire_message.specs.FieldReading.{code_of, code_at as code_found};
 
 use wire_names::{BusName, ErrorName, InterfaceName, MemberName, ObjectPath, UniqueName};
 use wire_signature::{BasicType, is_signature};
@@ -138,7 +138,7 @@ impl<T: Copy> FieldsOf<T> {
 }
 
 /// The code at the front of a field whose value has its type.
-#[tactic(auto, unfolding(crate::specs::Reading::code_at))]
+#[tactic(auto, unfolding(crate::specs::FieldReading::code_at))]
 pub(crate) fn code_at(bytes: &[u8]) -> Option<FieldCode>
     ensures code { result ≡ code_found bytes.now }
     ensures long { IsSome result → 4 ≤ length bytes.now }

@@ -1,16 +1,16 @@
 ghost use Rattle.std.specs.Prelude.{ℕ, ◌≡◌, ◌+◌, ◌<◌, ◌≤◌, ◌^◌, List, length, take, slice_index, Ok, Err, option_map, None, IfOk, IfSome};
 ghost use Rattle.wire_number.specs.Number.{pad};
 ghost use Rattle.wire_message.specs.Field.{Fields};
-ghost use Rattle.wire_message.specs.Front.{Seen, Front, order_at, word_at, fields_len, header_len as header_length, total as total_len, field_bytes};
+ghost use Rattle.wire_message.specs.Front.{MessageView, Front, order_at, word_at, fields_len, header_len as header_length, total as total_len, field_bytes};
 ghost use Rattle.wire_message.specs.Outcome.{kind_of, fields_found, head_fault, front_outcome, message_by, Tells, TellsTotal};
-ghost use Rattle.wire_message.specs.Places.{found_fields, AreSpans};
+ghost use Rattle.wire_message.specs.FieldOffsets.{found_fields, AreSpans};
 ghost use Rattle.wire_message.specs.declared.error.IoKind.TheVariants.{Ended};
 
 use crate::error::{Error, IoKind, Result};
+use crate::field_offsets::FieldOffsets;
 use crate::kind::message_type;
 use crate::message::Message;
-use crate::places::Places;
-use crate::reading::places_in;
+use crate::reading::offsets_in;
 use crate::shared::Parts;
 use std::alloc::Global;
 use wire_number::{Endian, padding_for_8_bytes, read_u32};
@@ -71,7 +71,7 @@ pub fn total_of(first: &[u8; 16]) -> Result<u32>
 }
 
 /// Where the header fields stand; None where the bytes of the fields are no field array.
-fn places_of(bytes: &[u8]) -> Option<Places>
+fn offsets_of(bytes: &[u8]) -> Option<FieldOffsets>
     requires head { 16 ≤ length bytes.now }
     requires there { 16 + fields_len bytes.now ≤ length bytes.now }
     ensures found { option_map (found_fields bytes.now) result ≡ fields_found bytes.now }
@@ -79,7 +79,7 @@ fn places_of(bytes: &[u8]) -> Option<Places>
 {
     let order = byte_order(bytes);
     let end = 16 + read_u32(order, bytes, 12) as usize;
-    places_in(order, bytes, end)
+    offsets_in(order, bytes, end)
 }
 
 /// The message on the first bytes, whose head is right and whose total is there.
@@ -93,7 +93,7 @@ fn message_on(alloc: Global, bytes: &[u8], total: usize) -> Result<Message>
     let Some(kind) = message_type(bytes[1]) else {
         return Err(Error::Variant(VariantError::Malformed));
     };
-    let Some(places) = places_of(bytes) else {
+    let Some(offsets) = offsets_of(bytes) else {
         return Err(Error::Variant(VariantError::Malformed));
     };
     let order = byte_order(bytes);
@@ -102,7 +102,7 @@ fn message_on(alloc: Global, bytes: &[u8], total: usize) -> Result<Message>
         order,
         flags: bytes[2],
         serial: read_u32(order, bytes, 8),
-        places,
+        offsets,
     };
     let own = Vec::from_slice(alloc, &bytes[..total])?;
     Ok(Message::from_parts(alloc, own, parts, &[])?)
@@ -133,7 +133,7 @@ pub fn header_front(alloc: Global, bytes: &[u8]) -> Result<(Message, u32)>
     ensures exact { Tells (λ x. x.0) result (front_outcome bytes.now Ended) }
     ensures length { IfOk result (λ x. x.1 ≡ length x.0.bytes) }
     ensures found { IfOk result (λ x. Front bytes.now x.0 x.1) }
-    ensures only { (m : Seen) (n : ℕ) → m.position ≡ 0 → Front bytes.now m n → Tells (λ x. x.0) result (Ok m) }
+    ensures only { (m : MessageView) (n : ℕ) → m.position ≡ 0 → Front bytes.now m n → Tells (λ x. x.0) result (Ok m) }
 {
     front_of(alloc, bytes)
 }

@@ -5,13 +5,13 @@ ghost use Rattle.wire_names.specs.BusName.{bus_name_of};
 ghost use Rattle.wire_names.specs.Names.{IsBusName};
 ghost use Rattle.wire_message.specs.Lending.{LendsPrimary};
 ghost use Rattle.wire_message.specs.Primary.{head_of, order_of};
-ghost use Rattle.wire_message.specs.Places.{IsSpan, span_text};
-ghost use Rattle.wire_message.specs.Read.{body_signature};
+ghost use Rattle.wire_message.specs.FieldOffsets.{IsSpan, span_text};
+ghost use Rattle.wire_message.specs.BodyReading.{body_signature};
 
+use crate::field_offsets::Span;
 use crate::flags::Flags;
 use crate::kind::MessageType;
 use crate::message::Message;
-use crate::places::Span;
 use crate::primary::PrimaryHeader;
 use crate::shared::Shared;
 use std::marker::Model;
@@ -84,7 +84,7 @@ impl Message {
         ensures valid { IsTrue (is_some (types_in result.now)) }
     {
         let shared: &Shared = &self.shared;
-        match part(shared.bytes.as_slice(), shared.parts.places.signature) {
+        match part(shared.bytes.as_slice(), shared.parts.offsets.signature) {
             Some(text) => text,
             None => &[],
         }
@@ -141,7 +141,7 @@ impl<'a> Header<'a> {
         ensures { result ≡ self.now.fields.path }
     {
         let shared = self.shared;
-        name_at(shared.bytes.as_slice(), shared.parts.places.path)
+        name_at(shared.bytes.as_slice(), shared.parts.offsets.path)
     }
 
     /// The interface that the member belongs to.
@@ -149,7 +149,7 @@ impl<'a> Header<'a> {
         ensures { result ≡ self.now.fields.interface }
     {
         let shared = self.shared;
-        name_at(shared.bytes.as_slice(), shared.parts.places.interface)
+        name_at(shared.bytes.as_slice(), shared.parts.offsets.interface)
     }
 
     /// The method or signal.
@@ -157,7 +157,7 @@ impl<'a> Header<'a> {
         ensures { result ≡ self.now.fields.member }
     {
         let shared = self.shared;
-        name_at(shared.bytes.as_slice(), shared.parts.places.member)
+        name_at(shared.bytes.as_slice(), shared.parts.offsets.member)
     }
 
     /// The error, of an error reply.
@@ -165,7 +165,7 @@ impl<'a> Header<'a> {
         ensures { result ≡ self.now.fields.error_name }
     {
         let shared = self.shared;
-        name_at(shared.bytes.as_slice(), shared.parts.places.error_name)
+        name_at(shared.bytes.as_slice(), shared.parts.offsets.error_name)
     }
 
     /// The serial of the call that the message answers; it isn't 0.
@@ -174,7 +174,7 @@ impl<'a> Header<'a> {
         ensures some { IfSome result (λ serial. (0 < serial) × (serial < 2 ^ 32)) }
     {
         let shared = self.shared;
-        shared.parts.places.reply_serial
+        shared.parts.offsets.reply_serial
     }
 
     /// The connection that the message is for.
@@ -182,7 +182,7 @@ impl<'a> Header<'a> {
         ensures { result ≡ option_map bus_name_of self.now.fields.destination }
     {
         let shared = self.shared;
-        bus_name_at(shared.bytes.as_slice(), shared.parts.places.destination)
+        bus_name_at(shared.bytes.as_slice(), shared.parts.offsets.destination)
     }
 
     /// The connection that sent the message.
@@ -190,7 +190,7 @@ impl<'a> Header<'a> {
         ensures { result ≡ self.now.fields.sender }
     {
         let shared = self.shared;
-        name_at(shared.bytes.as_slice(), shared.parts.places.sender)
+        name_at(shared.bytes.as_slice(), shared.parts.offsets.sender)
     }
 
     /// The text of the body's signature.
@@ -198,7 +198,7 @@ impl<'a> Header<'a> {
         ensures { option_map (λ text. text.now) result ≡ self.now.fields.signature }
     {
         let shared = self.shared;
-        part(shared.bytes.as_slice(), shared.parts.places.signature)
+        part(shared.bytes.as_slice(), shared.parts.offsets.signature)
     }
 
     /// How many file descriptors go with the message.
@@ -206,6 +206,6 @@ impl<'a> Header<'a> {
         ensures { result ≡ self.now.fields.unix_fds }
     {
         let shared = self.shared;
-        shared.parts.places.unix_fds
+        shared.parts.offsets.unix_fds
     }
 }

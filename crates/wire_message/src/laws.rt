@@ -4,51 +4,53 @@ ghost use Rattle.wire_number.specs.Limits.{message_limit};
 ghost use Rattle.std.specs.List.{AllByRecursion};
 ghost use Rattle.wire_number.specs.declared.endian.Endian.{Endian};
 ghost use Rattle.wire_number.specs.Number.{padding};
-ghost use Rattle.wire_signature.specs.Shape.{IsSignature};
-ghost use Rattle.wire_spelling.specs.Spelling.{spelling, spellings};
-ghost use Rattle.wire_body.specs.Arguments.{AreAllSound};
+ghost use Rattle.wire_signature.specs.SingleType.{IsSignature};
+ghost use Rattle.wire_encoding.specs.Encoding.{encoding, encodings};
+ghost use Rattle.wire_body.specs.Arguments.{AreAllWellTyped};
 ghost use Rattle.wire_message.specs.Bodies.{BuildsBody, BuildsValues};
-ghost use Rattle.wire_message.specs.Draft.{Draft, IsDraft, ReadsAgain, built, message_text};
+ghost use Rattle.wire_message.specs.BuilderView.{BuilderView, IsBuilder, ReadsAgain, built, message_text};
 ghost use Rattle.wire_message.specs.Field.{Field, IsField, field_text, fields_text};
-ghost use Rattle.wire_message.specs.Front.{Seen, Front, fields_of};
+ghost use Rattle.wire_message.specs.Front.{MessageView, Front, fields_of};
 ghost use Rattle.wire_message.specs.Header.{IsHeader, field_data, field_datum};
 ghost use Rattle.wire_message.specs.Outcome.{Tells};
-ghost use Rattle.wire_message.specs.Read.{ReadsBody};
+ghost use Rattle.wire_message.specs.BodyReading.{ReadsBody};
 ghost use Rattle.wire_message.specs.SameError.{Same};
+ghost use Rattle.wire_message.specs.StandardNames.{kind_name};
 ghost use Rattle.wire_message.specs.declared.error.Error.{Error};
+ghost use Rattle.wire_message.specs.declared.fdo_kind.Kind.{Kind};
 
 use crate::error::Error;
 use wire_body::FromBody;
 
-/// What is built of a draft stands on its own bytes, whatever follows them, with exactly the fields that were set (D-Bus
+/// What is built of a builder stands on its own bytes, whatever follows them, with exactly the fields that were set (D-Bus
 /// Specification, "Message Format", "Header Fields").
-#[tactic(auto, unfolding(crate::specs::Draft::built))]
+#[tactic(auto, unfolding(crate::specs::BuilderView::built))]
 pub fn built_messages_are_read_again()
-    ensures again { (draft : Draft) (serial : ℕ) (body : List ℕ) → IsDraft draft → 0 < serial → serial < 2 ^ 32 → length (message_text draft serial body) ≤ message_limit → ReadsAgain (built draft serial body) }
-    ensures fields { (draft : Draft) (serial : ℕ) (body : List ℕ) → fields_of (built draft serial body) ≡ draft.fields }
-    ensures bytes { (draft : Draft) (serial : ℕ) (body : List ℕ) → (built draft serial body).bytes ≡ message_text draft serial body }
+    ensures again { (builder : BuilderView) (serial : ℕ) (body : List ℕ) → IsBuilder builder → 0 < serial → serial < 2 ^ 32 → length (message_text builder serial body) ≤ message_limit → ReadsAgain (built builder serial body) }
+    ensures fields { (builder : BuilderView) (serial : ℕ) (body : List ℕ) → fields_of (built builder serial body) ≡ builder.fields }
+    ensures bytes { (builder : BuilderView) (serial : ℕ) (body : List ℕ) → (built builder serial body).bytes ≡ message_text builder serial body }
 {}
 
 /// A header's field is a value of type `(yv)`, and fields are such values one behind the other (D-Bus Specification, "Message
 /// Format", "Marshaling (Wire Format)").
-#[tactic(auto, using(crate::proofs::HeaderValue::field_spelled, crate::proofs::HeaderValue::fields_spelled))]
+#[tactic(auto, using(crate::proofs::HeaderValue::field_encoded, crate::proofs::HeaderValue::fields_encoded))]
 pub fn fields_are_values()
-    ensures one { (order : Endian) (place : ℕ) (field : Field) → IsField field → padding place 8 ++ field_text order field ≡ spelling order place (field_datum field) }
-    ensures all { (order : Endian) (place : ℕ) (fields : List Field) → AllByRecursion IsField fields → fields_text order place fields ≡ spellings order place (field_data fields) }
+    ensures one { (order : Endian) (place : ℕ) (field : Field) → IsField field → padding place 8 ++ field_text order field ≡ encoding order place (field_datum field) }
+    ensures all { (order : Endian) (place : ℕ) (fields : List Field) → AllByRecursion IsField fields → fields_text order place fields ≡ encodings order place (field_data fields) }
 {}
 
-/// The first 16 bytes of a message and the fields behind them are the spelling of a value of types `yyyyuua(yv)` (D-Bus
+/// The first 16 bytes of a message and the fields behind them are the encoding of a value of types `yyyyuua(yv)` (D-Bus
 /// Specification, "Message Format").
 #[tactic(auto, using(crate::proofs::HeaderValue::header_is))]
 pub fn headers_are_values()
-    ensures { (bytes : List ℕ) (m : Seen) (n : ℕ) → ((i : ℕ) → slice_index bytes i < 256) → Front bytes m n → IsHeader bytes m }
+    ensures { (bytes : List ℕ) (m : MessageView) (n : ℕ) → ((i : ℕ) → slice_index bytes i < 256) → Front bytes m n → IsHeader bytes m }
 {}
 
 /// At most one message and one length stand on the front of given bytes, but for the message's position (D-Bus
 /// Specification, "Message Format").
 #[tactic(auto, using(crate::proofs::Grammar::one_message))]
 pub fn one_message()
-    ensures { (bytes : List ℕ) (m other : Seen) (n len : ℕ) → Front bytes m n → Front bytes other len → m.position ≡ other.position → (m ≡ other) × (n ≡ len) }
+    ensures { (bytes : List ℕ) (m other : MessageView) (n len : ℕ) → Front bytes m n → Front bytes other len → m.position ≡ other.position → (m ≡ other) × (n ≡ len) }
 {}
 
 /// What a message was built of is read back from its body, in either byte order, where nothing but memory is missing: of
@@ -57,8 +59,8 @@ pub fn one_message()
 /// (D-Bus Specification, "Message Format", "Marshaling (Wire Format)").
 #[tactic(auto, using(crate::proofs::BodyAgain::values_again))]
 pub fn built_bodies_are_read_again<T: FromBody>()
-    ensures arguments { (taken : ℕ → Bool) (draft : Draft) (old new : ℕ) (m : Seen) (x : T) (r : Result T Error) → BuildsBody taken draft (T.datums x) old new (Ok m) → ReadsAgain m → T.read (T.datums x) ≡ x → ReadsBody r T.read T.kinds m → Tells (λ y. y) r (Ok x) }
-    ensures values { (taken : ℕ → Bool) (draft : Draft) (fds : List ℕ) (old new : ℕ) (m : Seen) (x : T) (r : Result T Error) → IsSignature T.kinds → AreAllSound (T.datums x) → BuildsValues taken draft (T.datums x) fds old new (Ok m) → ReadsAgain m → T.read (T.datums x) ≡ x → ReadsBody r T.read T.kinds m → Tells (λ y. y) r (Ok x) }
+    ensures arguments { (taken : ℕ → Bool) (builder : BuilderView) (old new : ℕ) (m : MessageView) (x : T) (r : Result T Error) → BuildsBody taken builder (T.datums x) old new (Ok m) → ReadsAgain m → T.read (T.datums x) ≡ x → ReadsBody r T.read T.kinds m → Tells (λ y. y) r (Ok x) }
+    ensures values { (taken : ℕ → Bool) (builder : BuilderView) (fds : List ℕ) (old new : ℕ) (m : MessageView) (x : T) (r : Result T Error) → IsSignature T.kinds → AreAllWellTyped (T.datums x) → BuildsValues taken builder (T.datums x) fds old new (Ok m) → ReadsAgain m → T.read (T.datums x) ≡ x → ReadsBody r T.read T.kinds m → Tells (λ y. y) r (Ok x) }
 {}
 
 /// Two errors are equal exactly where they are the same.
@@ -72,4 +74,9 @@ pub fn equal_errors_are_the_same(error: &Error, other: &Error) -> bool
 /// Each error is the same as itself.
 pub fn each_error_is_itself()
     ensures { (error : Error) → Same error error }
+{}
+
+/// Two kinds of standard errors have two names.
+pub fn two_kinds_have_two_names()
+    ensures { (a : Kind) → (b : Kind) → kind_name a ≡ kind_name b → a ≡ b }
 {}

@@ -13,7 +13,9 @@ mod endian_sig;
 mod error;
 mod error_texts;
 pub mod fdo;
+mod fdo_kind;
 mod field;
+mod field_offsets;
 mod flags;
 mod from_message;
 mod front;
@@ -21,7 +23,9 @@ mod header;
 mod kind;
 mod laws;
 mod message;
-mod places;
+mod outgoing;
+mod outgoing_body;
+mod polled;
 mod primary;
 mod reading;
 mod replies;
@@ -45,8 +49,12 @@ pub use kind::MessageType;
 pub use laws::{
     built_bodies_are_read_again, built_messages_are_read_again, each_error_is_itself,
     equal_errors_are_the_same, fields_are_values, headers_are_values, one_message,
+    two_kinds_have_two_names,
 };
 pub use message::Message;
+pub use outgoing::OutgoingMessage;
+pub use outgoing_body::{LongText, OutgoingBody};
+pub use polled::{Polled, by_position};
 pub use primary::PrimaryHeader;
 pub use sequence::{Sequence, none_is_behind_the_last};
 pub use serials::{NonePending, Serials, Taken};

@@ -1,6 +1,6 @@
 ghost use Rattle.std.specs.Prelude.{◌≡◌, IfOk};
-ghost use Rattle.wire_message.specs.Front.{Seen, seen};
-ghost use Rattle.wire_message.specs.Places.{found_fields, Stands};
+ghost use Rattle.wire_message.specs.Front.{MessageView, message_view};
+ghost use Rattle.wire_message.specs.FieldOffsets.{found_fields, Stands};
 
 use crate::kind::MessageType;
 use crate::shared::{Parts, Shared};
@@ -18,9 +18,9 @@ pub struct Message {
 
 impl Model for Message {
     ghost use Rattle.std.specs.Arc.{arc_value};
-    ghost use Rattle.wire_message.specs.Front.{Seen};
+    ghost use Rattle.wire_message.specs.Front.{MessageView};
 
-    ghost Value = { Seen };
+    ghost Value = { MessageView };
 
     ghost view = { λ m. record (arc_value m.shared) { position = m.position } };
 }
@@ -45,8 +45,8 @@ impl Message {
         parts: Parts,
         fds: &[u32],
     ) -> Result<Message, AllocError>
-        requires { Stands bytes.items parts.kind parts.order parts.flags parts.serial parts.places }
-        ensures { IfOk result (λ m. m ≡ record (seen bytes.items 0 parts.kind parts.order parts.flags parts.serial (found_fields bytes.items parts.places)) { fds = fds.now }) }
+        requires { Stands bytes.items parts.kind parts.order parts.flags parts.serial parts.offsets }
+        ensures { IfOk result (λ m. m ≡ record (message_view bytes.items 0 parts.kind parts.order parts.flags parts.serial (found_fields bytes.items parts.offsets)) { fds = fds.now }) }
     {
         let shared = Shared {
             bytes,
@@ -99,7 +99,7 @@ impl Message {
     pub fn reply_serial(&self) -> Option<u32>
         ensures { result ≡ self.now.reply_serial }
     {
-        self.shared.parts.places.reply_serial
+        self.shared.parts.offsets.reply_serial
     }
 
     /// The position among the messages that the peer read, from 1 on; 0 where the message wasn't read.

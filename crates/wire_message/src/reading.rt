@@ -2,56 +2,63 @@
 ghost use Rattle.std.specs.Prelude.{◌≡◌, ◌≤◌, length, option_map, IfSome};
 ghost use Rattle.wire_number.specs.ReaderView.{Finds, cursor_of};
 ghost use Rattle.wire_message.specs.Field.{is_value as has_value};
-ghost use Rattle.wire_message.specs.Held.{value_of};
-ghost use Rattle.wire_message.specs.Places.{area, found_fields, AreSpans};
-ghost use Rattle.wire_message.specs.Reading.{field_at as field_found, fields_in, value_at as value_found};
+ghost use Rattle.wire_message.specs.FieldValue.{value_of};
+ghost use Rattle.wire_message.specs.FieldOffsets.{area, found_fields, AreSpans};
+ghost use Rattle.wire_message.specs.FieldReading.{field_at as field_found, fields_in, value_at as value_found};
 
 use crate::field::{FieldCode, code_at, is_number, is_text};
-use crate::places::{Held, Places};
+use crate::field_offsets::{FieldOffsets, FieldValue};
 use wire_number::{Endian, Reader};
 use wire_signature::BasicType;
 
 /// A value of the type. It stands behind four bytes at a multiple of 8, so that a number needs no padding.
-#[tactic(auto, unfolding(crate::specs::Reading::value_at))]
-fn value<'a>(order: Endian, kind: BasicType, reader: Reader<'a>) -> Option<(Held<'a>, Reader<'a>)>
+#[tactic(auto, unfolding(crate::specs::FieldReading::value_at))]
+fn value<'a>(
+    order: Endian,
+    kind: BasicType,
+    reader: Reader<'a>,
+) -> Option<(FieldValue<'a>, Reader<'a>)>
     ensures { Finds (λ x. (value_of x.0, cursor_of x.1)) result (value_found order kind (cursor_of reader.entry)) }
 {
     match kind {
         BasicType::Signature => {
             let (text, after) = reader.short_text(order)?;
-            Some((Held::Text(text), after))
+            Some((FieldValue::Text(text), after))
         }
         BasicType::Uint32 => {
             let (number, after) = reader.u32(order)?;
-            Some((Held::Number(number), after))
+            Some((FieldValue::Number(number), after))
         }
         _ => {
             let (text, after) = reader.long_text(order)?;
-            Some((Held::Text(text), after))
+            Some((FieldValue::Text(text), after))
         }
     }
 }
 
 /// Whether the field may have the value.
-fn is_value(code: FieldCode, held: Held<'_>) -> bool
-    ensures { result ≡ has_value code (value_of held.entry) }
+fn is_value(code: FieldCode, field_value: FieldValue<'_>) -> bool
+    ensures { result ≡ has_value code (value_of field_value.entry) }
 {
-    match held {
-        Held::Text(text) => is_text(code, text),
-        Held::Number(number) => is_number(code, number),
+    match field_value {
+        FieldValue::Text(text) => is_text(code, text),
+        FieldValue::Number(number) => is_number(code, number),
     }
 }
 
 /// The next field: its code and its value.
-#[tactic(auto, unfolding(crate::specs::Reading::field_at))]
-fn next_field<'a>(order: Endian, reader: Reader<'a>) -> Option<((FieldCode, Held<'a>), Reader<'a>)>
+#[tactic(auto, unfolding(crate::specs::FieldReading::field_at))]
+fn next_field<'a>(
+    order: Endian,
+    reader: Reader<'a>,
+) -> Option<((FieldCode, FieldValue<'a>), Reader<'a>)>
     ensures { Finds (λ x. (record { code = x.0.0; value = value_of x.0.1 }, cursor_of x.1)) result (field_found order (cursor_of reader.entry)) }
 {
     let (head, inner) = reader.align(8)?.bytes(4)?;
     let code = code_at(head)?;
-    let (held, after) = value(order, code.value_type(), inner)?;
-    if is_value(code, held) {
-        Some(((code, held), after))
+    let (field_value, after) = value(order, code.value_type(), inner)?;
+    if is_value(code, field_value) {
+        Some(((code, field_value), after))
     } else {
         None
     }
@@ -70,18 +77,18 @@ fn reader_of(bytes: &[u8], end: usize) -> Reader<'_>
 }
 
 /// The fields of a field array that ends at `end`; None where the bytes are no field array.
-pub(crate) fn places_in(order: Endian, bytes: &[u8], end: usize) -> Option<Places>
+pub(crate) fn offsets_in(order: Endian, bytes: &[u8], end: usize) -> Option<FieldOffsets>
     requires from { 16 ≤ end }
     requires there { end ≤ length bytes.now }
     ensures found { option_map (found_fields bytes.now) result ≡ fields_in order (area bytes.now 16 end) }
     ensures spans { IfSome result (AreSpans end) }
 {
-    let mut places = Places::none();
+    let mut offsets = FieldOffsets::none();
     let mut left = reader_of(bytes, end);
     while !left.rest.is_empty() {
-        let ((code, held), after) = next_field(order, left)?;
-        places = places.with_value(code, held, after.place);
+        let ((code, field_value), after) = next_field(order, left)?;
+        offsets = offsets.with_value(code, field_value, after.place);
         left = after;
     }
-    Some(places)
+    Some(offsets)
 }

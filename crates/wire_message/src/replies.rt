@@ -2,7 +2,7 @@
 ghost use Rattle.std.specs.Prelude.{◌≡◌, IfSome, IsTrue, option_map};
 ghost use Rattle.wire_names.specs.BusName.{text_of};
 ghost use Rattle.wire_names.specs.Names.{IsBusName};
-ghost use Rattle.wire_message.specs.Drafts.{signal_draft, reply_draft, error_draft, draft_from};
+ghost use Rattle.wire_message.specs.NewBuilders.{signal_builder, reply_builder, error_builder, builder_from};
 ghost use Rattle.wire_message.specs.declared.kind.MessageType.TheVariants as types;
 
 use crate::builder::Builder;
@@ -39,7 +39,7 @@ fn bus_name_text<'a>(name: &Option<BusName<'a>>) -> Option<&'a str>
 /// An answer to the message of a header.
 #[tactic(auto, using(crate::proofs::Setting::unique_bus))]
 fn reply<'a>(kind: MessageType, reply_to: &Header<'a>) -> Builder<'a>
-    ensures { result ≡ reply_draft kind reply_to.now }
+    ensures { result ≡ reply_builder kind reply_to.now }
 {
     let serial = reply_to.primary().serial_num();
     let builder = Builder::new(kind, reply_to.endian()).reply_serial(serial);
@@ -56,7 +56,7 @@ impl Message {
         interface: &InterfaceName<'a>,
         member: &MemberName<'a>,
     ) -> Builder<'a>
-        ensures { result ≡ signal_draft path.now interface.now member.now }
+        ensures { result ≡ signal_builder path.now interface.now member.now }
     {
         let builder = Builder::new(MessageType::Signal, Endian::Little);
         builder.path(path).interface(interface).member(member)
@@ -65,14 +65,14 @@ impl Message {
     /// The return of a method call (D-Bus Specification, "Types of messages"): in the call's byte order, without flags; the
     /// call's serial is its reply serial, the call's sender its destination, where the call has one.
     pub fn method_return<'a>(reply_to: &Header<'a>) -> Builder<'a>
-        ensures { result ≡ reply_draft types.MethodReturn reply_to.now }
+        ensures { result ≡ reply_builder types.MethodReturn reply_to.now }
     {
         reply(MessageType::MethodReturn, reply_to)
     }
 
     /// The answer to a method call by an error of that name, else as `method_return`.
     pub fn error<'a>(reply_to: &Header<'a>, name: &ErrorName<'a>) -> Builder<'a>
-        ensures { result ≡ error_draft reply_to.now name.now }
+        ensures { result ≡ error_builder reply_to.now name.now }
     {
         let builder = reply(MessageType::Error, reply_to);
         builder.with_text(FieldCode::ErrorName, name.as_str())
@@ -80,7 +80,7 @@ impl Message {
 }
 
 impl<'a> From<Header<'a>> for Builder<'a> {
-    ghost from_gives = { λ header builder. builder ≡ draft_from header };
+    ghost from_gives = { λ header builder. builder ≡ builder_from header };
 
     #[tactic(auto, using(crate::proofs::Setting::low_flags))]
     /// What a header says, to be built anew: its type, byte order, flags and fields, and its serial as one that was set. The

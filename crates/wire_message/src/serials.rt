@@ -1,6 +1,6 @@
 ghost use Rattle.std.specs.Prelude.{ℕ, ◌≡◌, ◌+◌, ◌<◌, ◌≤◌, ◌%◌, Bool, IfSome, IfNone, false};
 ghost use Rattle.wire_number.specs.Limits.{greatest_serial};
-ghost use Rattle.wire_message.specs.Circle.{Draws, IsNext, AllTaken, taken_among};
+ghost use Rattle.wire_message.specs.SerialOrder.{Draws, IsNext, AllTaken, taken_among};
 
 use crate::error::{Error, Result};
 use crate::steps::{Counts, Steps, Uncounted};
@@ -31,13 +31,13 @@ impl Taken for NonePending {
         false
     }
 
-    #[tactic(auto, using(crate::proofs::Circle::among_none))]
+    #[tactic(auto, using(crate::proofs::SerialOrder::among_none))]
     fn count(&self) -> u64 {
         0
     }
 }
 
-/// Draws serials: each is the first after the last one drawn, round the circle from 1 to 4,294,967,295, that isn't
+/// Draws serials: each is the first after the last one drawn, in cyclic order from 1 to 4,294,967,295, that isn't
 /// pending (D-Bus Specification, "Message Format").
 #[derive(Debug)]
 pub struct Serials {
@@ -110,7 +110,7 @@ impl Serials {
     }
 }
 
-/// The serial after this one in the circle; 1 after nothing, which is 0.
+/// The serial after this one in cyclic order; 1 after nothing, which is 0.
 fn after(serial: u32) -> u32
     ensures { result ≡ serial % greatest_serial + 1 }
 {
@@ -118,7 +118,7 @@ fn after(serial: u32) -> u32
 }
 
 /// The first serial after the last one drawn that isn't pending.
-#[tactic(auto, using(crate::proofs::Circle::round))]
+#[tactic(auto, using(crate::proofs::SerialOrder::round))]
 fn next_after<T: Taken, S: Counts>(last: u32, taken: &T, steps: &mut S) -> Option<u32>
     ensures next { IfSome result (IsNext (T.is_taken taken.now) last) }
     ensures none { IfNone result (AllTaken (T.is_taken taken.now)) }

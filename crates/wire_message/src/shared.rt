@@ -1,6 +1,6 @@
 //! What a message and its clones share.
+use crate::field_offsets::FieldOffsets;
 use crate::kind::MessageType;
-use crate::places::Places;
 use std::marker::Model;
 use wire_number::Endian;
 
@@ -11,7 +11,7 @@ pub(crate) struct Parts {
     pub(crate) order: Endian,
     pub(crate) flags: u8,
     pub(crate) serial: u32,
-    pub(crate) places: Places,
+    pub(crate) offsets: FieldOffsets,
 }
 
 /// The bytes of a message, what their header says, and the descriptors that go with it.
@@ -22,14 +22,14 @@ pub(crate) struct Shared {
 }
 
 impl Model for Shared {
-    ghost use Rattle.wire_message.specs.Front.{Seen, seen};
-    ghost use Rattle.wire_message.specs.Places.{found_fields, Stands};
+    ghost use Rattle.wire_message.specs.Front.{MessageView, message_view};
+    ghost use Rattle.wire_message.specs.FieldOffsets.{found_fields, Stands};
 
-    ghost Value = { Seen };
+    ghost Value = { MessageView };
 
-    ghost view = { λ s. record (seen s.bytes.items 0 s.parts.kind s.parts.order s.parts.flags s.parts.serial (found_fields s.bytes.items s.parts.places)) { fds = s.fds.items } };
+    ghost view = { λ s. record (message_view s.bytes.items 0 s.parts.kind s.parts.order s.parts.flags s.parts.serial (found_fields s.bytes.items s.parts.offsets)) { fds = s.fds.items } };
 
-    ghost invariant = { λ s. Stands s.bytes.items s.parts.kind s.parts.order s.parts.flags s.parts.serial s.parts.places };
+    ghost invariant = { λ s. Stands s.bytes.items s.parts.kind s.parts.order s.parts.flags s.parts.serial s.parts.offsets };
 }
 
 impl Drop for Shared {

@@ -1,5 +1,5 @@
 ghost use Rattle.std.specs.Prelude.{◌≡◌, ℕ, IfOk, Ok, length};
-ghost use Rattle.wire_message.specs.Front.{Front, Seen, order_code};
+ghost use Rattle.wire_message.specs.Front.{Front, MessageView, order_code};
 ghost use Rattle.wire_message.specs.Outcome.{Tells};
 ghost use Rattle.wire_message.specs.Whole.{whole_outcome};
 
@@ -37,7 +37,7 @@ impl Message {
         ensures exact { Tells (λ m. m) result (whole_outcome order bytes.now) }
         ensures found { IfOk result (λ m. Front bytes.now m (length bytes.now)) }
         ensures order { IfOk result (λ m. m.order ≡ order) }
-        ensures only { (m : Seen) → m.position ≡ 0 → m.order ≡ order → Front bytes.now m (length bytes.now) → Tells (λ x. x) result (Ok m) }
+        ensures only { (m : MessageView) → m.position ≡ 0 → m.order ≡ order → Front bytes.now m (length bytes.now) → Tells (λ x. x) result (Ok m) }
     {
         whole_of(alloc, bytes, order)
     }

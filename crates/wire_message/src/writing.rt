@@ -2,12 +2,12 @@
 ghost use Rattle.std.specs.Prelude.{◌≡◌, ◌++◌, ◌∷◌, [], length, option_map, IfSome, OnOk, IfOk};
 ghost use Rattle.wire_number.specs.Number.{pad};
 ghost use Rattle.wire_message.specs.Field.{field_type, value_bytes, no_fields, Text, Number, there, field_list};
-ghost use Rattle.wire_message.specs.Draft.{header_fields, AreShort, IsShortText, IsShortValue};
-ghost use Rattle.wire_message.specs.Held.{value_of};
-ghost use Rattle.wire_message.specs.Places.{AppendsFields};
+ghost use Rattle.wire_message.specs.BuilderView.{header_fields, AreShort, IsShortText, IsShortValue};
+ghost use Rattle.wire_message.specs.FieldValue.{value_of};
+ghost use Rattle.wire_message.specs.FieldOffsets.{AppendsFields};
 
 use crate::field::{FieldCode, FieldsOf};
-use crate::places::{Held, Places};
+use crate::field_offsets::{FieldOffsets, FieldValue};
 use std::alloc::AllocError;
 use wire_number::{Endian, append, append_signature, append_text, write_u32};
 use wire_signature::BasicType;
@@ -20,36 +20,36 @@ fn put_value(
     out: &mut Vec<u8>,
     order: Endian,
     kind: BasicType,
-    held: Held<'_>,
+    field_value: FieldValue<'_>,
 ) -> Result<(), AllocError>
-    requires short { IsShortValue kind (value_of held) }
+    requires short { IsShortValue kind (value_of field_value) }
     requires placed { pad (length out.old.items) 4 ≡ 0 }
-    ensures { OnOk result (out.new.items ≡ out.old.items ++ value_bytes order kind (value_of held.entry)) }
+    ensures { OnOk result (out.new.items ≡ out.old.items ++ value_bytes order kind (value_of field_value.entry)) }
 {
-    match held {
-        Held::Text(text) => match kind {
+    match field_value {
+        FieldValue::Text(text) => match kind {
             BasicType::Signature => append_signature(order, out, text),
             _ => append_text(order, out, 0, text),
         },
-        Held::Number(number) => append(out, 0, 4, &write_u32(order, number)),
+        FieldValue::Number(number) => append(out, 0, 4, &write_u32(order, number)),
     }
 }
 
-/// Adds a field: its padding, its code, the signature of its value, its value. The answer has its place beside the others.
+/// Adds a field: its padding, its code, the signature of its value, its value. The answer has its offsets beside the others.
 fn put_field(
     out: &mut Vec<u8>,
     order: Endian,
     code: FieldCode,
-    held: Held<'_>,
-    places: Places,
-) -> Result<Places, AllocError>
-    requires { IsShortValue (field_type code) (value_of held) }
-    ensures { IfOk result (AppendsFields order (record { code = code; value = value_of held.entry } ∷ []) out.old.items places out.new.items) }
+    field_value: FieldValue<'_>,
+    offsets: FieldOffsets,
+) -> Result<FieldOffsets, AllocError>
+    requires { IsShortValue (field_type code) (value_of field_value) }
+    ensures { IfOk result (AppendsFields order (record { code = code; value = value_of field_value.entry } ∷ []) out.old.items offsets out.new.items) }
 {
     let kind = code.value_type();
     append(out, 0, 8, &[code.byte(), 1, kind.letter(), 0])?;
-    put_value(out, order, kind, held)?;
-    Ok(places.with_value(code, held, out.len()))
+    put_value(out, order, kind, field_value)?;
+    Ok(offsets.with_value(code, field_value, out.len()))
 }
 
 /// Adds a field with a text, if it is there.
@@ -58,14 +58,14 @@ fn put_text(
     order: Endian,
     code: FieldCode,
     text: Option<&str>,
-    places: Places,
-) -> Result<Places, AllocError>
+    offsets: FieldOffsets,
+) -> Result<FieldOffsets, AllocError>
     requires { IfSome text (λ t. IsShortText (field_type code) t.now) }
-    ensures { IfOk result (AppendsFields order (there Text code (option_map (λ t. t.now) text.entry)) out.old.items places out.new.items) }
+    ensures { IfOk result (AppendsFields order (there Text code (option_map (λ t. t.now) text.entry)) out.old.items offsets out.new.items) }
 {
     match text {
-        Some(text) => put_field(out, order, code, Held::Text(text.as_bytes()), places),
-        None => Ok(places),
+        Some(text) => put_field(out, order, code, FieldValue::Text(text.as_bytes()), offsets),
+        None => Ok(offsets),
     }
 }
 
@@ -75,13 +75,13 @@ fn put_number(
     order: Endian,
     code: FieldCode,
     number: Option<u32>,
-    places: Places,
-) -> Result<Places, AllocError>
-    ensures { IfOk result (AppendsFields order (there Number code number) out.old.items places out.new.items) }
+    offsets: FieldOffsets,
+) -> Result<FieldOffsets, AllocError>
+    ensures { IfOk result (AppendsFields order (there Number code number) out.old.items offsets out.new.items) }
 {
     match number {
-        Some(number) => put_field(out, order, code, Held::Number(number), places),
-        None => Ok(places),
+        Some(number) => put_field(out, order, code, FieldValue::Number(number), offsets),
+        None => Ok(offsets),
     }
 }
 
@@ -90,11 +90,17 @@ pub(crate) fn put_fields(
     out: &mut Vec<u8>,
     order: Endian,
     fields: &HeaderFields<'_>,
-) -> Result<Places, AllocError>
+) -> Result<FieldOffsets, AllocError>
     requires { AreShort (header_fields fields.now) }
     ensures { IfOk result (AppendsFields order (field_list (header_fields fields.now)) out.old.items no_fields out.new.items) }
 {
-    let found = put_text(out, order, FieldCode::Path, fields.path, Places::none())?;
+    let found = put_text(
+        out,
+        order,
+        FieldCode::Path,
+        fields.path,
+        FieldOffsets::none(),
+    )?;
     let found = put_text(out, order, FieldCode::Interface, fields.interface, found)?;
     let found = put_text(out, order, FieldCode::Member, fields.member, found)?;
     let found = put_text(out, order, FieldCode::ErrorName, fields.error_name, found)?;

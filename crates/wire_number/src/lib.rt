@@ -10,9 +10,9 @@ pub use crate::padding::{padding_for_8_bytes, padding_for_n_bytes};
 pub use crate::reader::Reader;
 
 mod appending;
+mod cursor;
 mod endian;
 mod laws;
 mod number;
 mod padding;
 mod reader;
-mod taking;

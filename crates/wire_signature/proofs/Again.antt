@@ -5,79 +5,79 @@ use Rattle.wire_signature.specs.declared.basic.BasicType.{BasicType}
 use Rattle.wire_signature.specs.declared.basic.BasicType.TheVariants.{Byte, Boolean, Int16, Uint16, Int32, Uint32, Int64, Uint64, Double, String, ObjectPath, Signature, UnixFd}
 use Rattle.wire_signature.specs.declared.walk.End.{End}
 use Rattle.wire_signature.specs.declared.walk.End.TheVariants as ends
-use Rattle.wire_signature.specs.Shape.{Shape, basic, variant, array, dict, struct, Shapes, no_shapes, shapes, shapes_of, list_of, letter, type_text, types_text, array_depth, array_depths, struct_depth, struct_depths, HasFields, AllHaveFields, AreFields}
-use Rattle.wire_signature.specs.ShapeCode.{basic_of-letter}
-use Rattle.wire_signature.specs.Parsing.{Found, past, behind, as_array, entry_at, array_or_dict, with_first, many_at, fields_at, type_step, type_at}
+use Rattle.wire_signature.specs.SingleType.{SingleType, basic, variant, array, dict, struct, SingleTypes, no_single_types, single_types, single_types_of, list_of, letter, type_text, types_text, array_depth, array_depths, struct_depth, struct_depths, HasFields, AllHaveFields, AreFields}
+use Rattle.wire_signature.specs.SingleTypeCode.{basic_of-letter}
+use Rattle.wire_signature.specs.Parsing.{Found, skip_byte, behind, as_array, entry_at, array_or_dict, with_first, many_at, fields_at, type_step, type_at}
 use Rattle.wire_signature.proofs.Steps.{many_at-end, many_at-more}
 
-pub shapes_of-list_of : (ts : Shapes) → shapes_of (list_of ts) ≡ ts
-shapes_of-list_of no_shapes = refl
-shapes_of-list_of (shapes t ts) = ap (shapes t) (shapes_of-list_of ts)
+pub single_types_of-list_of : (ts : SingleTypes) → single_types_of (list_of ts) ≡ ts
+single_types_of-list_of no_single_types = refl
+single_types_of-list_of (single_types t ts) = ap (single_types t) (single_types_of-list_of ts)
 
-pub list_of-shapes_of : (ts : List Shape) → list_of (shapes_of ts) ≡ ts
-list_of-shapes_of [] = refl
-list_of-shapes_of (t ∷ ts) = ap (λ us. t ∷ us) (list_of-shapes_of ts)
+pub list_of-single_types_of : (ts : List SingleType) → list_of (single_types_of ts) ≡ ts
+list_of-single_types_of [] = refl
+list_of-single_types_of (t ∷ ts) = ap (λ us. t ∷ us) (list_of-single_types_of ts)
 
 -- a basic type's letter is no other mark
-no_bracket : (b : BasicType) (rest : List ℕ) → (past 41 (letter b ∷ rest) ≡ None) × (past 123 (letter b ∷ rest) ≡ None)
+no_bracket : (b : BasicType) (rest : List ℕ) → (skip_byte 41 (letter b ∷ rest) ≡ None) × (skip_byte 123 (letter b ∷ rest) ≡ None)
 no_bracket Byte rest = (refl, refl)
 no_bracket b rest = (refl, refl)
 
 -- no type begins with the bracket that opens a dict entry, nor with the one that closes a struct
-no_entry : (t : Shape) (rest : List ℕ) → past 123 (type_text t ++ rest) ≡ None
+no_entry : (t : SingleType) (rest : List ℕ) → skip_byte 123 (type_text t ++ rest) ≡ None
 no_entry (basic b) rest = (no_bracket b rest).1
 no_entry t rest = refl
 
-no_end : (until : End) (t : Shape) (rest : List ℕ) → behind until (type_text t ++ rest) ≡ None
+no_end : (until : End) (t : SingleType) (rest : List ℕ) → behind until (type_text t ++ rest) ≡ None
 no_end ends.Bracket (basic b) rest = (no_bracket b rest).0
 no_end ends.Text (basic b) rest = refl
 no_end until t rest = refl
 
-some_text : (t : Shape) → 0 < length (type_text t)
+some_text : (t : SingleType) → 0 < length (type_text t)
 some_text (basic b) = omega arith
 some_text t = omega arith
 
-basic_again : (read : ℕ → ℕ → List ℕ → Found Shape) (a s : ℕ) (b : BasicType) (rest : List ℕ) → type_step read a s (letter b ∷ rest) ≡ Some (basic b, rest)
+basic_again : (read : ℕ → ℕ → List ℕ → Found SingleType) (a s : ℕ) (b : BasicType) (rest : List ℕ) → type_step read a s (letter b ∷ rest) ≡ Some (basic b, rest)
 basic_again read a s Byte rest = refl
 basic_again read a s b rest = refl
 
 if_true : {A : Type 0} (b : Bool) (x y : A) → b ≡ true → (if b then x else y) ≡ x
 if_true b x y e = ap (λ b. if b then x else y) e
 
-array_step : (read : ℕ → ℕ → List ℕ → Found Shape) (a s : ℕ) (rest : List ℕ) → 0 < a
-    → type_step read a s (97 ∷ rest) ≡ array_or_dict (read (a - 1) s) rest (past 123 rest)
+array_step : (read : ℕ → ℕ → List ℕ → Found SingleType) (a s : ℕ) (rest : List ℕ) → 0 < a
+    → type_step read a s (97 ∷ rest) ≡ array_or_dict (read (a - 1) s) rest (skip_byte 123 rest)
 array_step read a s rest h = if_true (nat_lt 0 a) _ _ (lt-ltb 0 a h)
 
-struct_step : (read : ℕ → ℕ → List ℕ → Found Shape) (a s : ℕ) (rest : List ℕ) → 0 < s
-    → type_step read a s (40 ∷ rest) ≡ fields_at (read a (s - 1)) rest (past 41 rest)
+struct_step : (read : ℕ → ℕ → List ℕ → Found SingleType) (a s : ℕ) (rest : List ℕ) → 0 < s
+    → type_step read a s (40 ∷ rest) ≡ fields_at (read a (s - 1)) rest (skip_byte 41 rest)
 struct_step read a s rest h = if_true (nat_lt 0 s) _ _ (lt-ltb 0 s h)
 
-entry_again : (read : List ℕ → Found Shape) (k : BasicType) (v : Shape) (rest : List ℕ)
+entry_again : (read : List ℕ → Found SingleType) (k : BasicType) (v : SingleType) (rest : List ℕ)
     → read (type_text v ++ (125 ∷ rest)) ≡ Some (v, 125 ∷ rest)
     → entry_at read (letter k ∷ ((type_text v ++ (125 ∷ [])) ++ rest)) ≡ Some (dict k v, rest)
 entry_again read k v rest e =
-    let value : Found Shape → BasicType → Found Shape = λ found key. option_and_then (λ x. option_and_then (λ end. Some (dict key x.0, end)) (past 125 x.1)) found in
+    let value : Found SingleType → BasicType → Found SingleType = λ found key. option_and_then (λ x. option_and_then (λ end. Some (dict key x.0, end)) (skip_byte 125 x.1)) found in
     ap (λ (o : Option BasicType). option_and_then (value (read ((type_text v ++ (125 ∷ [])) ++ rest))) o) (basic_of-letter k)
     ∙ ap (λ r. value (read r) k) (append_assoc (type_text v) (125 ∷ []) rest) ∙ ap (λ found. value found k) e
 
 -- a struct's fields are read up to its closing bracket
-fields_again : (read : List ℕ → Found Shape) (ts : Shapes) (rest : List ℕ) → past 41 (types_text ts ++ (41 ∷ rest)) ≡ None
+fields_again : (read : List ℕ → Found SingleType) (ts : SingleTypes) (rest : List ℕ) → skip_byte 41 (types_text ts ++ (41 ∷ rest)) ≡ None
     → many_at (length (types_text ts ++ (41 ∷ rest))) ends.Bracket read (types_text ts ++ (41 ∷ rest)) ≡ Some (list_of ts, rest)
-    → fields_at read ((types_text ts ++ (41 ∷ [])) ++ rest) (past 41 ((types_text ts ++ (41 ∷ [])) ++ rest)) ≡ Some (struct ts, rest)
+    → fields_at read ((types_text ts ++ (41 ∷ [])) ++ rest) (skip_byte 41 ((types_text ts ++ (41 ∷ [])) ++ rest)) ≡ Some (struct ts, rest)
 fields_again read ts rest h e =
-    ap (λ r. fields_at read r (past 41 r)) (append_assoc (types_text ts) (41 ∷ []) rest)
+    ap (λ r. fields_at read r (skip_byte 41 r)) (append_assoc (types_text ts) (41 ∷ []) rest)
     ∙ ap (fields_at read (types_text ts ++ (41 ∷ rest))) h
-    ∙ ap (option_and_then (λ x. Some (struct (shapes_of x.0), x.1))) e
-    ∙ ap (λ us. Some (struct us, rest)) (shapes_of-list_of ts)
+    ∙ ap (option_and_then (λ x. Some (struct (single_types_of x.0), x.1))) e
+    ∙ ap (λ us. Some (struct us, rest)) (single_types_of-list_of ts)
 
-no_close : (ts : Shapes) (rest : List ℕ) → AreFields ts → past 41 (types_text ts ++ (41 ∷ rest)) ≡ None
-no_close no_shapes rest h = absurd h
-no_close (shapes t ts) rest h = ap (past 41) (append_assoc (type_text t) (types_text ts) (41 ∷ rest)) ∙ no_end ends.Bracket t (types_text ts ++ (41 ∷ rest))
+no_close : (ts : SingleTypes) (rest : List ℕ) → AreFields ts → skip_byte 41 (types_text ts ++ (41 ∷ rest)) ≡ None
+no_close no_single_types rest h = absurd h
+no_close (single_types t ts) rest h = ap (skip_byte 41) (append_assoc (type_text t) (types_text ts) (41 ∷ rest)) ∙ no_end ends.Bracket t (types_text ts ++ (41 ∷ rest))
 
 mutual
   unfolding type_at
 
-  pub type_again : (room a s : ℕ) (t : Shape) (rest : List ℕ) → a + s < room → array_depth t ≤ a → struct_depth t ≤ s → HasFields t
+  pub type_again : (room a s : ℕ) (t : SingleType) (rest : List ℕ) → a + s < room → array_depth t ≤ a → struct_depth t ≤ s → HasFields t
       → type_at room a s (type_text t ++ rest) ≡ Some (t, rest)
   type_again zero a s t rest r i j h = absurd (omega arith)
   type_again (suc room) a s (basic b) rest r i j h = basic_again (type_at room) a s b rest
@@ -94,12 +94,12 @@ mutual
       ∙ fields_again (type_at room a (s - 1)) ts rest (no_close ts rest h.0)
       (types_again (length (types_text ts ++ (41 ∷ rest))) room a (s - 1) ends.Bracket ts (41 ∷ rest) rest (omega arith) i (omega arith) h.1 (omega (arith, length-append (types_text ts) (41 ∷ rest))) refl)
 
-  pub types_again : (n room a s : ℕ) (until : End) (ts : Shapes) (left rest : List ℕ) → a + s < room → array_depths ts ≤ a → struct_depths ts ≤ s → AllHaveFields ts
+  pub types_again : (n room a s : ℕ) (until : End) (ts : SingleTypes) (left rest : List ℕ) → a + s < room → array_depths ts ≤ a → struct_depths ts ≤ s → AllHaveFields ts
       → length (types_text ts) ≤ n → behind until left ≡ Some rest
       → many_at n until (type_at room a s) (types_text ts ++ left) ≡ Some (list_of ts, rest)
-  types_again n room a s until no_shapes left rest r i j h l e = many_at-end n until (type_at room a s) left rest e
-  types_again zero room a s until (shapes t ts) left rest r i j h l e = absurd (omega (arith, some_text t, length-append (type_text t) (types_text ts)))
-  types_again (suc n) room a s until (shapes t ts) left rest r i j h l e =
+  types_again n room a s until no_single_types left rest r i j h l e = many_at-end n until (type_at room a s) left rest e
+  types_again zero room a s until (single_types t ts) left rest r i j h l e = absurd (omega (arith, some_text t, length-append (type_text t) (types_text ts)))
+  types_again (suc n) room a s until (single_types t ts) left rest r i j h l e =
       ap (many_at (suc n) until (type_at room a s)) (append_assoc (type_text t) (types_text ts) left)
       ∙ many_at-more n until (type_at room a s) (type_text t ++ (types_text ts ++ left)) (no_end until t (types_text ts ++ left))
       ∙ ap (option_and_then (λ x. with_first x.0 (many_at n until (type_at room a s) x.1))) (type_again room a s t (types_text ts ++ left) r (omega arith) (omega arith) h.0)

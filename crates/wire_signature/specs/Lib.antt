@@ -1,5 +1,5 @@
-pub mod Shape
-pub mod ShapeCode
+pub mod SingleType
+pub mod SingleTypeCode
 pub mod TypeView
 pub mod TypeFalls
 pub mod Parsing

@@ -1,11 +1,11 @@
 -- What contracts see of a type.
-use Rattle.wire_signature.specs.Shape.{Shape, basic, variant, array, dict, struct, shapes_of}
+use Rattle.wire_signature.specs.SingleType.{SingleType, basic, variant, array, dict, struct, single_types_of}
 use Rattle.wire_signature.specs.declared.value_type.TypeNode.{TypeNode}
 use Rattle.wire_signature.specs.declared.value_type.TypeNode.TheVariants.{Basic, Variant, Array, Dict, Struct}
 
-abbrev pub shape_of : TypeNode → Shape
-shape_of (Basic b) = basic b
-shape_of Variant = variant
-shape_of (Array t) = array t.value
-shape_of (Dict k v) = dict k v.value
-shape_of (Struct ts) = struct (shapes_of ts.items)
+abbrev pub single_type_of : TypeNode → SingleType
+single_type_of (Basic b) = basic b
+single_type_of Variant = variant
+single_type_of (Array t) = array t.value
+single_type_of (Dict k v) = dict k v.value
+single_type_of (Struct ts) = struct (single_types_of ts.items)

@@ -1,6 +1,6 @@
 //! The basic types.
 ghost use Rattle.std.specs.Prelude.{◌≡◌};
-ghost use Rattle.wire_signature.specs.Shape.{basic_alignment, basic_of, letter};
+ghost use Rattle.wire_signature.specs.SingleType.{basic_alignment, basic_of, letter};
 
 /// A type whose values hold no other value (D-Bus Specification, "Basic types").
 #[derive(Clone, Copy, Debug, PartialEq, Eq, Hash)]

@@ -14,7 +14,7 @@ pub enum VariantError {
     /// More than 64 containers would be open at once (D-Bus Specification, "Message Protocol").
     #[error("variant error: Depth")]
     Depth,
-    /// Bytes spell no value of their type, or a value breaks a rule of its type (D-Bus Specification, "Marshaling").
+    /// Bytes encode no value of their type, or a value breaks a rule of its type (D-Bus Specification, "Marshaling").
     #[error("variant error: Malformed")]
     Malformed,
     /// A value of another type was asked for.

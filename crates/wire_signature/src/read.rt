@@ -2,13 +2,13 @@
 //! stand in one another is counted down, so that no text leads deeper than the limits allow: `arrays` and `structs`
 //! by the standard, and `room` for the calls themselves.
 ghost use Rattle.std.specs.Prelude.{◌≡◌, ◌≤◌, ◌∷◌, length};
-ghost use Rattle.wire_signature.specs.Parsing.{Gives, array_or_dict, entry_at, fields_at, many_at, past, type_at, type_step};
-ghost use Rattle.wire_signature.specs.TypeView.{shape_of};
+ghost use Rattle.wire_signature.specs.Parsing.{Gives, array_or_dict, entry_at, fields_at, many_at, skip_byte, type_at, type_step};
+ghost use Rattle.wire_signature.specs.TypeView.{single_type_of};
 
 use crate::basic::BasicType;
 use crate::error::VariantError;
 use crate::value_type::{TypeNode, ValueType};
-use crate::walk::{End, past, split};
+use crate::walk::{End, skip_byte, split};
 use std::alloc::Global;
 
 /// A dict entry behind its opening bracket, as the array of such entries.
@@ -23,12 +23,12 @@ fn read_entry(
     requires arrays { arrays ≤ 32 }
     requires structs { structs ≤ 32 }
     requires short { length text.now ≤ 255 }
-    ensures { Gives (λ x. (shape_of x.0, x.1.now)) result (entry_at (type_at room arrays structs) text.now) }
+    ensures { Gives (λ x. (single_type_of x.0, x.1.now)) result (entry_at (type_at room arrays structs) text.now) }
 {
     let (first, rest) = split(text).ok_or(VariantError::Signature)?;
     let key = BasicType::from_letter(first).ok_or(VariantError::Signature)?;
     let (value, rest) = read_type(alloc, room, arrays, structs, rest)?;
-    let rest = past(b'}', rest).ok_or(VariantError::Signature)?;
+    let rest = skip_byte(b'}', rest).ok_or(VariantError::Signature)?;
     Ok((TypeNode::Dict(key, Box::new(alloc, value)?), rest))
 }
 
@@ -44,9 +44,9 @@ fn read_array(
     requires arrays { arrays ≤ 32 }
     requires structs { structs ≤ 32 }
     requires short { length text.now ≤ 255 }
-    ensures { Gives (λ x. (shape_of x.0, x.1.now)) result (array_or_dict (type_at room arrays structs) text.now (past 123 text.now)) }
+    ensures { Gives (λ x. (single_type_of x.0, x.1.now)) result (array_or_dict (type_at room arrays structs) text.now (skip_byte 123 text.now)) }
 {
-    match past(b'{', text) {
+    match skip_byte(b'{', text) {
         Some(entry) => read_entry(alloc, room, arrays, structs, entry),
         None => {
             let (element, rest) = read_type(alloc, room, arrays, structs, text)?;
@@ -67,9 +67,9 @@ fn read_fields(
     requires arrays { arrays ≤ 32 }
     requires structs { structs ≤ 32 }
     requires short { length text.now ≤ 255 }
-    ensures { Gives (λ x. (shape_of x.0, x.1.now)) result (fields_at (type_at room arrays structs) text.now (past 41 text.now)) }
+    ensures { Gives (λ x. (single_type_of x.0, x.1.now)) result (fields_at (type_at room arrays structs) text.now (skip_byte 41 text.now)) }
 {
-    match past(b')', text) {
+    match skip_byte(b')', text) {
         Some(_) => Err(VariantError::Signature),
         None => {
             let (fields, rest) = read_types(alloc, End::Bracket, room, arrays, structs, text)?;
@@ -120,7 +120,7 @@ fn read_kind(
     requires arrays { arrays ≤ 32 }
     requires structs { structs ≤ 32 }
     requires short { length rest.now ≤ 255 }
-    ensures { Gives (λ x. (shape_of x.0, x.1.now)) result (type_step (type_at room) arrays structs (first ∷ rest.now)) }
+    ensures { Gives (λ x. (single_type_of x.0, x.1.now)) result (type_step (type_at room) arrays structs (first ∷ rest.now)) }
 {
     match first {
         b'a' if arrays > 0 => read_array(alloc, room, arrays - 1, structs, rest),

@@ -23,12 +23,12 @@ impl Drop for Signature {
 impl Model for Signature {
     ghost use Rattle.std.specs.Prelude.{List};
     ghost use Rattle.std.specs.Coded.{coded_list};
-    ghost use Rattle.wire_signature.specs.Shape.{Shape, IsSignature};
-    ghost use Rattle.wire_signature.specs.ShapeCode.{shape_code};
+    ghost use Rattle.wire_signature.specs.SingleType.{SingleType, IsSignature};
+    ghost use Rattle.wire_signature.specs.SingleTypeCode.{single_type_code};
 
-    ghost Value = { List Shape };
+    ghost Value = { List SingleType };
 
-    ghost coded = { coded_list shape_code };
+    ghost coded = { coded_list single_type_code };
 
     ghost view = { λ s. s.types.items };
 
@@ -37,7 +37,7 @@ impl Model for Signature {
 
 impl Signature {
     ghost use Rattle.std.specs.Prelude.{◌≡◌, ◌↔◌, [], IfOk, IsTrue, string_bytes};
-    ghost use Rattle.wire_signature.specs.Shape.{IsSignature, SignatureText};
+    ghost use Rattle.wire_signature.specs.SingleType.{IsSignature, SignatureText};
     ghost use Rattle.wire_signature.specs.Parsing.{GivesType, TellsSignature, types_in};
 
     #[tactic(auto, unfolding(crate::specs::Parsing::types_in, crate::specs::Parsing::first_at))]
@@ -112,7 +112,7 @@ impl PartialEq for Signature {
     ghost use Rattle.std.specs.Prelude.{nat_eq};
     ghost use Rattle.std.specs.Cmp.{on_per, partial_equiv_from_equiv};
     ghost use Rattle.std.specs.Cmp.Lexicographic.{pointwise, nat_list_eq_equiv};
-    ghost use Rattle.wire_signature.specs.Shape.{signature_text};
+    ghost use Rattle.wire_signature.specs.SingleType.{signature_text};
 
     ghost eq = { λ s t. pointwise nat_eq (signature_text s) (signature_text t) };
 
@@ -126,7 +126,7 @@ impl PartialEq for Signature {
 impl Eq for Signature {
     ghost use Rattle.std.specs.Cmp.{on_equiv};
     ghost use Rattle.std.specs.Cmp.Lexicographic.{nat_list_eq_equiv};
-    ghost use Rattle.wire_signature.specs.Shape.{signature_text};
+    ghost use Rattle.wire_signature.specs.SingleType.{signature_text};
 
     ghost laws = { on_equiv signature_text nat_list_eq_equiv };
 }

@@ -1,9 +1,9 @@
 //! What a text says of its types, without memory.
 ghost use Rattle.std.specs.Prelude.{◌≡◌, ◌↔◌, ℕ, is_some, IsTrue, List, IfSome, IfNone};
-ghost use Rattle.wire_signature.specs.Shape.{BeginsWithType, Shape, SignatureText};
+ghost use Rattle.wire_signature.specs.SingleType.{BeginsWithType, SingleType, SignatureText};
 ghost use Rattle.wire_signature.specs.Parsing.{first_length, types_in};
 
-use crate::walk::{End, past_type, past_types};
+use crate::walk::{End, skip_type, skip_types};
 
 /// The most arrays that stand in one another in a type (D-Bus Specification, "Valid Signatures").
 pub const MAX_ARRAYS: usize = 32;
@@ -21,7 +21,7 @@ pub fn first_type(text: &[u8]) -> Option<usize>
     ensures none { IfNone result ((count : ℕ) → BeginsWithType text.now count → ⊥) }
     ensures length { result ≡ first_length text.now }
 {
-    let rest = past_type(ROOM, MAX_ARRAYS, MAX_STRUCTS, text)?;
+    let rest = skip_type(ROOM, MAX_ARRAYS, MAX_STRUCTS, text)?;
     Some(text.len() - rest.len())
 }
 
@@ -29,12 +29,12 @@ pub fn first_type(text: &[u8]) -> Option<usize>
 fn has_types(text: &[u8]) -> bool
     ensures { result ≡ is_some (types_in text.now) }
 {
-    text.len() <= MAX_LENGTH && past_types(End::Text, ROOM, MAX_ARRAYS, MAX_STRUCTS, text).is_some()
+    text.len() <= MAX_LENGTH && skip_types(End::Text, ROOM, MAX_ARRAYS, MAX_STRUCTS, text).is_some()
 }
 
 /// Whether a text is a signature (D-Bus Specification, "Valid Signatures").
 pub fn is_signature(text: &[u8]) -> bool
-    ensures valid { IsTrue result ↔ ((types : List Shape) × SignatureText types text.now) }
+    ensures valid { IsTrue result ↔ ((types : List SingleType) × SignatureText types text.now) }
     ensures read { result ≡ is_some (types_in text.now) }
 {
     has_types(text)

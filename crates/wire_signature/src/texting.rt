@@ -1,6 +1,6 @@
 //! The texts of types. They are put into bytes on the stack, whose room is the limit of a signature, without memory.
 ghost use Rattle.std.specs.Prelude.{◌≡◌, ◌+◌, ◌<◌, ◌≤◌, [], ◌∷◌, IfOk, IsUtf8, length, string_bytes};
-ghost use Rattle.wire_signature.specs.Shape.{shapes_of, type_text, types_text};
+ghost use Rattle.wire_signature.specs.SingleType.{single_types_of, type_text, types_text};
 ghost use Rattle.wire_signature.specs.Texting.{Puts};
 
 use crate::value_type::{TypeNode, ValueType};
@@ -29,8 +29,8 @@ fn put(letter: u8, out: &mut [u8; 255], at: usize) -> usize
 /// Puts the texts of types, one behind the other, at a place, and gives the place behind them.
 #[cycle(text)]
 pub(crate) fn put_types(types: &[ValueType], out: &mut [u8; 255], at: usize) -> usize
-    requires { at + length (types_text (shapes_of types.now)) ≤ 255 }
-    ensures { Puts (types_text (shapes_of types.now)) at out.old result out.new }
+    requires { at + length (types_text (single_types_of types.now)) ≤ 255 }
+    ensures { Puts (types_text (single_types_of types.now)) at out.old result out.new }
 {
     let mut next = at;
     for each in types {

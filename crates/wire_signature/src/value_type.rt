@@ -31,18 +31,18 @@ pub enum TypeNode {
 }
 
 impl Model for ValueType {
-    ghost use Rattle.wire_signature.specs.Shape.{Shape, IsType, type_count};
-    ghost use Rattle.wire_signature.specs.ShapeCode.{shape_code};
+    ghost use Rattle.wire_signature.specs.SingleType.{SingleType, IsType, type_count};
+    ghost use Rattle.wire_signature.specs.SingleTypeCode.{single_type_code};
 
-    ghost Value = { Shape };
+    ghost Value = { SingleType };
 
-    ghost coded = { shape_code };
+    ghost coded = { single_type_code };
 
-    ghost use Rattle.wire_signature.specs.TypeView.{shape_of};
+    ghost use Rattle.wire_signature.specs.TypeView.{single_type_of};
 
-    ghost view = { λ t. shape_of t.node };
+    ghost view = { λ t. single_type_of t.node };
 
-    ghost invariant = { λ t. IsType (shape_of t.node) };
+    ghost invariant = { λ t. IsType (single_type_of t.node) };
 
     ghost size = { type_count };
 
@@ -53,8 +53,8 @@ impl Model for ValueType {
 
 impl ValueType {
     ghost use Rattle.std.specs.Prelude.{◌≡◌, ◌≤◌, IfOk, string_bytes, take};
-    ghost use Rattle.wire_signature.specs.TypeView.{shape_of};
-    ghost use Rattle.wire_signature.specs.Shape.{IsType, TypeText, alignment};
+    ghost use Rattle.wire_signature.specs.TypeView.{single_type_of};
+    ghost use Rattle.wire_signature.specs.SingleType.{IsType, TypeText, alignment};
     ghost use Rattle.wire_signature.specs.Parsing.{GivesType, TellsType, type_in};
 
     #[tactic(auto, unfolding(crate::specs::Parsing::type_in, crate::specs::Parsing::first_at))]
@@ -83,15 +83,15 @@ impl ValueType {
 
     /// The type of this node. What it holds is within the limits already; it has to be so itself.
     pub fn from_node(node: TypeNode) -> ValueType
-        requires { IsType (shape_of node) }
-        ensures { result ≡ shape_of node }
+        requires { IsType (single_type_of node) }
+        ensures { result ≡ single_type_of node }
     {
         ValueType { node }
     }
 
     /// The outermost level of the type.
     pub fn node(&self) -> &TypeNode
-        ensures node { shape_of result.now ≡ self.now }
+        ensures node { single_type_of result.now ≡ self.now }
         ensures valid { IsType self.now }
     {
         &self.node
@@ -140,7 +140,7 @@ impl PartialEq for ValueType {
     ghost use Rattle.std.specs.Prelude.{nat_eq};
     ghost use Rattle.std.specs.Cmp.{on_per, partial_equiv_from_equiv};
     ghost use Rattle.std.specs.Cmp.Lexicographic.{pointwise, nat_list_eq_equiv};
-    ghost use Rattle.wire_signature.specs.Shape.{type_text};
+    ghost use Rattle.wire_signature.specs.SingleType.{type_text};
 
     ghost eq = { λ t u. pointwise nat_eq (type_text t) (type_text u) };
 
@@ -157,7 +157,7 @@ impl PartialEq for ValueType {
 impl Eq for ValueType {
     ghost use Rattle.std.specs.Cmp.{on_equiv};
     ghost use Rattle.std.specs.Cmp.Lexicographic.{nat_list_eq_equiv};
-    ghost use Rattle.wire_signature.specs.Shape.{type_text};
+    ghost use Rattle.wire_signature.specs.SingleType.{type_text};
 
     ghost laws = { on_equiv type_text nat_list_eq_equiv };
 }

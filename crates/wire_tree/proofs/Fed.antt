@@ -4,7 +4,7 @@ use Rattle.wire_tree.specs.Datum.{Datum, array, dict, data_of, list_of, entries_
 use Rattle.wire_tree.specs.DatumView.{datum_of, pair_of, entry_of}
 use Rattle.std.specs.Hash.{le_bytes}
 use Rattle.wire_signature.specs.declared.basic.BasicType.{BasicType}
-use Rattle.wire_signature.specs.Shape.{Shape}
+use Rattle.wire_signature.specs.SingleType.{SingleType}
 use Rattle.wire_tree.specs.Equal.{writes, writes_of, writes_in}
 use Rattle.wire_tree.specs.declared.tree.Tree.{Tree}
 use Rattle.wire_tree.proofs.Parts.{entries_are}
@@ -33,7 +33,7 @@ writes_in-take (a ∷ ps) (suc i) p h e =
     ap (λ r. (writes (datum_of a.0) ++ (writes (datum_of a.1) ++ [])) ++ r) (writes_in-take ps i p (omega arith) e) ∙ grind (arith, append_assoc)
 
 module _ {S : Type 0} (write : S → List ℕ → S) (s s1 s2 s3 : S) (d : Datum) where
-  pub fed_array : (ts : List Tree) (ds : List Datum) (t : Shape) → d ≡ array t (data_of ds) → map datum_of ts ≡ ds
+  pub fed_array : (ts : List Tree) (ds : List Datum) (t : SingleType) → d ≡ array t (data_of ds) → map datum_of ts ≡ ds
       → s1 ≡ write s (97 ∷ []) → s2 ≡ write s1 (le_bytes 8 (length ts)) → s3 ≡ fold write s2 (writes_of (data_of (map datum_of ts)))
       → s3 ≡ fold write s (writes d)
   fed_array ts ds t e f p q r =
@@ -41,7 +41,7 @@ module _ {S : Type 0} (write : S → List ℕ → S) (s s1 s2 s3 : S) (d : Datum
       ∙ ap (λ n. fold write (write (write s (97 ∷ [])) (le_bytes 8 n)) (writes_of (data_of (map datum_of ts)))) (sym (counted datum_of ts))
       ∙ ap (λ es. fold write s (writes (array t (data_of es)))) f ∙ ap (λ x. fold write s (writes x)) (sym e)
 
-  pub fed_dict : (ps : List (Tree × Tree)) (es : List (Datum × Datum)) (k : BasicType) (v : Shape) → d ≡ dict k v (entries_of es) → map pair_of ps ≡ es
+  pub fed_dict : (ps : List (Tree × Tree)) (es : List (Datum × Datum)) (k : BasicType) (v : SingleType) → d ≡ dict k v (entries_of es) → map pair_of ps ≡ es
       → s1 ≡ write s (123 ∷ []) → s2 ≡ write s1 (le_bytes 8 (length ps)) → s3 ≡ fold write s2 (writes_in (entries_of (map pair_of ps)))
       → s3 ≡ fold write s (writes d)
   fed_dict ps es k v e f p q r =

@@ -1,7 +1,7 @@
 -- Lists of values and plain data, and when values are one.
 use Rattle.std.proofs.Common.{◌≡◌, ◌↔◌, ℕ, zero, suc, ◌<◌, Bool, IsTrue, List, [], ◌∷◌, length, get_or, map, refl, sym, ◌∙◌, ap, arith}
 use Rattle.wire_signature.specs.declared.basic.BasicType.{BasicType}
-use Rattle.wire_signature.specs.Shape.{Shape}
+use Rattle.wire_signature.specs.SingleType.{SingleType}
 use Rattle.wire_tree.specs.Datum.{Datum, array, dict, struct, data_of, list_of, entries_of, pairs_of}
 
 pub list_of-data_of : (ds : List Datum) → list_of (data_of ds) ≡ ds
@@ -26,10 +26,10 @@ lists-same hold one b xs ys d e f g h = (λ k. sym f ∙ ap hold (h.0 k) ∙ g, 
 pub structs-one : (xs ys : List Datum) → struct (data_of xs) ≡ struct (data_of ys) → xs ≡ ys
 structs-one xs ys e = data_of-one xs ys (cc)
 
-pub arrays-one : (t : Shape) (xs ys : List Datum) → array t (data_of xs) ≡ array t (data_of ys) → xs ≡ ys
+pub arrays-one : (t : SingleType) (xs ys : List Datum) → array t (data_of xs) ≡ array t (data_of ys) → xs ≡ ys
 arrays-one t xs ys e = data_of-one xs ys (cc)
 
-pub dicts-one : (k : BasicType) (t : Shape) (xs ys : List (Datum × Datum)) → dict k t (entries_of xs) ≡ dict k t (entries_of ys) → xs ≡ ys
+pub dicts-one : (k : BasicType) (t : SingleType) (xs ys : List (Datum × Datum)) → dict k t (entries_of xs) ≡ dict k t (entries_of ys) → xs ≡ ys
 dicts-one k t xs ys e = entries_of-one xs ys (cc)
 
 -- one item of two lists that are seen as one

@@ -1,6 +1,6 @@
 -- One value of a list of values.
 use Rattle.std.proofs.Common.{◌≡◌, ℕ, zero, suc, ◌+◌, ◌<◌, List, [], ◌∷◌, ◌++◌, length, get_or, map, take, refl, sym, ◌∙◌, ap, arith, append_assoc, append-nil}
-use Rattle.wire_signature.specs.Shape.{type_text, types_text}
+use Rattle.wire_signature.specs.SingleType.{type_text, types_text}
 use Rattle.wire_tree.specs.Datum.{Datum, Data, no_data, items, data_of, entries_of, size_of, sizes_of, type_of, types_of}
 use Rattle.wire_tree.specs.DatumView.{datum_of, pair_of, entry_of}
 use Rattle.wire_tree.specs.declared.tree.Tree.{Tree}

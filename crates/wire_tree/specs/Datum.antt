@@ -3,36 +3,36 @@ use Rattle.std.specs.Prelude.{◌≡◌, ℕ, ◌+◌, ◌<◌, ◌≤◌, List,
 use Rattle.wire_names.specs.Names.{IsObjectPath}
 use Rattle.wire_signature.specs.declared.basic.BasicType.{BasicType}
 use Rattle.wire_signature.specs.declared.basic.BasicType.TheVariants as basics
-use Rattle.wire_signature.specs.Shape.{Shape, basic, array as array_of, dict as dict_of, struct as struct_of, variant as any, Shapes, no_shapes, shapes, IsType, SignatureText}
+use Rattle.wire_signature.specs.SingleType.{SingleType, basic, array as array_of, dict as dict_of, struct as struct_of, variant as any, SingleTypes, no_single_types, single_types, IsType, SignatureText}
 
 -- the types whose values are numbers of a fixed width (D-Bus Specification, "Basic types", "Fixed types")
-pub data Num : Type 0 where
-  byte : Num
-  boolean : Num
-  int16 : Num
-  uint16 : Num
-  int32 : Num
-  uint32 : Num
-  int64 : Num
-  uint64 : Num
-  double : Num
-  unix_fd : Num
+pub data FixedType : Type 0 where
+  byte : FixedType
+  boolean : FixedType
+  int16 : FixedType
+  uint16 : FixedType
+  int32 : FixedType
+  uint32 : FixedType
+  int64 : FixedType
+  uint64 : FixedType
+  double : FixedType
+  unix_fd : FixedType
 
 -- the types whose values are texts (D-Bus Specification, "Basic types", "String-like types")
-pub data Txt : Type 0 where
-  string : Txt
-  object_path : Txt
-  signature : Txt
+pub data StringLike : Type 0 where
+  string : StringLike
+  object_path : StringLike
+  signature : StringLike
 
 -- A value: a number by its bits, signed ones in two's complement and a double by its 64 raw bits; a text by its bytes; an
 -- array by its elements' type and its elements; a dict by its keys' type, its values' type and its entries, each of them a
 -- struct of a key and its value; a struct by its fields; a variant by the value that it holds.
 mutual
   pub data Datum : Type 0 where
-    num : Num → ℕ → Datum
-    text : Txt → List ℕ → Datum
-    array : Shape → Data → Datum
-    dict : BasicType → Shape → Data → Datum
+    num : FixedType → ℕ → Datum
+    text : StringLike → List ℕ → Datum
+    array : SingleType → Data → Datum
+    dict : BasicType → SingleType → Data → Datum
     struct : Data → Datum
     variant : Datum → Datum
 
@@ -52,8 +52,8 @@ list_of (items d ds) = d ∷ list_of ds
 abbrev pub entry : Datum × Datum → Datum
 entry e = struct (items e.0 (items e.1 no_data))
 
-abbrev pub entry_type : BasicType → Shape → Shape
-entry_type k v = struct_of (shapes (basic k) (shapes v no_shapes))
+abbrev pub entry_type : BasicType → SingleType → SingleType
+entry_type k v = struct_of (single_types (basic k) (single_types v no_single_types))
 
 abbrev pub entries_of : List (Datum × Datum) → Data
 entries_of es = data_of (map entry es)
@@ -64,7 +64,7 @@ pairs_of no_data = []
 pairs_of (items (struct (items k (items v ds))) es) = (k, v) ∷ pairs_of es
 pairs_of (items d es) = pairs_of es
 
-abbrev pub num_type : Num → BasicType
+abbrev pub num_type : FixedType → BasicType
 num_type byte = basics.Byte
 num_type boolean = basics.Boolean
 num_type int16 = basics.Int16
@@ -76,13 +76,13 @@ num_type uint64 = basics.Uint64
 num_type double = basics.Double
 num_type unix_fd = basics.UnixFd
 
-abbrev pub text_type : Txt → BasicType
+abbrev pub text_type : StringLike → BasicType
 text_type string = basics.String
 text_type object_path = basics.ObjectPath
 text_type signature = basics.Signature
 
 -- how many bytes a number of the type takes (D-Bus Specification, "Summary of D-Bus marshaling")
-abbrev pub width : Num → ℕ
+abbrev pub width : FixedType → ℕ
 width byte = 1
 width boolean = 4
 width int16 = 2
@@ -96,7 +96,7 @@ width unix_fd = 4
 
 -- the type of a value
 abbrev mutual
-  pub type_of : Datum → Shape
+  pub type_of : Datum → SingleType
   type_of (num n v) = basic (num_type n)
   type_of (text t bytes) = basic (text_type t)
   type_of (array t ds) = array_of t
@@ -104,12 +104,12 @@ abbrev mutual
   type_of (struct ds) = struct_of (types_of ds)
   type_of (variant d) = any
 
-  pub types_of : Data → Shapes
-  types_of no_data = no_shapes
-  types_of (items d ds) = shapes (type_of d) (types_of ds)
+  pub types_of : Data → SingleTypes
+  types_of no_data = no_single_types
+  types_of (items d ds) = single_types (type_of d) (types_of ds)
 
 -- the first number that a type hasn't: a boolean is 0 or 1
-abbrev pub bound : Num → ℕ
+abbrev pub bound : FixedType → ℕ
 bound byte = 256
 bound boolean = 2
 bound int16 = 65536
@@ -130,41 +130,41 @@ string_limit = 4294967295
 
 -- A text of the type: UTF-8 without a 0 byte; a path and a signature in their grammars; a length that 32 bits hold
 -- (D-Bus Specification, "String-like types", "Valid Object Paths", "Valid Signatures").
-abbrev pub IsTextOf : Txt → List ℕ → Type 0
+abbrev pub IsTextOf : StringLike → List ℕ → Type 0
 IsTextOf string bytes = IsUtf8 bytes × HasNoZero bytes × (length bytes ≤ string_limit)
 IsTextOf object_path bytes = IsObjectPath bytes × (length bytes ≤ string_limit)
-IsTextOf signature bytes = (ts : List Shape) × SignatureText ts bytes
+IsTextOf signature bytes = (ts : List SingleType) × SignatureText ts bytes
 
 -- Each number is in its type's range, each text is one of its type, each element has its array's type, each entry that of
 -- its dict, and what each variant holds is of a type that a signature may hold.
 abbrev mutual
-  pub IsSound : Datum → Type 0
-  IsSound (num n v) = v < bound n
-  IsSound (text t bytes) = IsTextOf t bytes
-  IsSound (array t ds) = AreElements t ds
-  IsSound (dict k v es) = AreElements (entry_type k v) es
-  IsSound (struct ds) = AreSound ds
-  IsSound (variant d) = IsSound d × IsType (type_of d)
+  pub WellTyped : Datum → Type 0
+  WellTyped (num n v) = v < bound n
+  WellTyped (text t bytes) = IsTextOf t bytes
+  WellTyped (array t ds) = AreElements t ds
+  WellTyped (dict k v es) = AreElements (entry_type k v) es
+  WellTyped (struct ds) = AreWellTyped ds
+  WellTyped (variant d) = WellTyped d × IsType (type_of d)
 
   -- the fields of a struct
-  pub AreSound : Data → Type 0
-  AreSound no_data = Unit {0}
-  AreSound (items d ds) = IsSound d × AreSound ds
+  pub AreWellTyped : Data → Type 0
+  AreWellTyped no_data = Unit {0}
+  AreWellTyped (items d ds) = WellTyped d × AreWellTyped ds
 
   -- the elements of an array, or the entries of a dict
-  pub AreElements : Shape → Data → Type 0
+  pub AreElements : SingleType → Data → Type 0
   AreElements t no_data = Unit {0}
-  AreElements t (items d ds) = (IsSound d × (type_of d ≡ t)) × AreElements t ds
+  AreElements t (items d ds) = (WellTyped d × (type_of d ≡ t)) × AreElements t ds
 
 -- one number
 abbrev pub IsNumber : Datum → Type 0
 IsNumber (num n v) = Unit {0}
 IsNumber d = ⊥
 
--- A value that a message may hold: sound, and of a type that a signature may hold, so without an empty struct.
-pub record IsFormed (d : Datum) : Type 0 where
+-- A value that a message may hold: well typed, and of a type that a signature may hold, so without an empty struct.
+pub record IsValid (d : Datum) : Type 0 where
   pub type : IsType (type_of d)
-  pub sound : IsSound d
+  pub well_typed : WellTyped d
 
 -- how many values stand in a value, itself among them; a list of them counts one
 abbrev mutual

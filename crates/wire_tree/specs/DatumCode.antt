@@ -4,27 +4,27 @@ use Rattle.std.proofs.Common.{sym, ◌∙◌, ap}
 use base.Stored.{Coded, Gv, gnil, gnum, gcons}
 use Rattle.wire_signature.specs.declared.basic.BasicType.{BasicType}
 use Rattle.wire_signature.specs.declared.basic.BasicType.TheVariants.{Byte}
-use Rattle.wire_signature.specs.Shape.{letter}
-use Rattle.wire_signature.specs.ShapeCode as types
-use Rattle.wire_tree.specs.Datum.{Num, byte, boolean, int16, uint16, int32, uint32, int64, uint64, double, unix_fd, Txt, string, object_path, signature}
+use Rattle.wire_signature.specs.SingleType.{letter}
+use Rattle.wire_signature.specs.SingleTypeCode as types
+use Rattle.wire_tree.specs.Datum.{FixedType, byte, boolean, int16, uint16, int32, uint32, int64, uint64, double, unix_fd, StringLike, string, object_path, signature}
 use Rattle.wire_tree.specs.Datum.{Datum, num, text, array, dict, struct, variant, Data, no_data, items, num_type, text_type}
 
 -- the type of a number by the code of its letter; of other codes nothing is said
-abbrev pub num_at : ℕ → Num
+abbrev pub num_at : ℕ → FixedType
 num_at c =
     if c == 121 then byte else if c == 98 then boolean else if c == 110 then int16
     else if c == 113 then uint16 else if c == 105 then int32 else if c == 117 then uint32
     else if c == 120 then int64 else if c == 116 then uint64 else if c == 100 then double else unix_fd
 
-num_at-letter : (n : Num) → num_at (letter (num_type n)) ≡ n
+num_at-letter : (n : FixedType) → num_at (letter (num_type n)) ≡ n
 num_at-letter byte = refl
 num_at-letter n = refl
 
 -- the same of a text's
-abbrev pub text_at : ℕ → Txt
+abbrev pub text_at : ℕ → StringLike
 text_at c = if c == 115 then string else if c == 111 then object_path else signature
 
-text_at-letter : (t : Txt) → text_at (letter (text_type t)) ≡ t
+text_at-letter : (t : StringLike) → text_at (letter (text_type t)) ≡ t
 text_at-letter string = refl
 text_at-letter object_path = refl
 text_at-letter signature = refl

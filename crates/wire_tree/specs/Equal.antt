@@ -2,7 +2,7 @@
 use Rattle.std.specs.Prelude.{Bool, true, false, ◌==◌, ◌&&◌, [], ◌++◌, length}
 use Rattle.std.specs.Hash as fed
 use base.Stored.{Gv, gnil, gnum, gcons}
-use Rattle.wire_signature.specs.Shape.{letter}
+use Rattle.wire_signature.specs.SingleType.{letter}
 use Rattle.wire_tree.specs.Datum.{Datum, num, text, array, dict, struct, variant, Data, no_data, items, num_type, text_type, list_of}
 use Rattle.wire_tree.specs.DatumCode.{code}
 

@@ -10,7 +10,7 @@ mod copy;
 mod hash;
 mod laws;
 mod same;
-mod sound;
 mod tree;
 mod typed;
 mod value;
+mod well_typed;

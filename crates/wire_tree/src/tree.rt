@@ -163,7 +163,7 @@ impl Model for Inner {
 
 impl Tree {
     ghost use Rattle.std.specs.Prelude.{◌≡◌, IfNone, IfSome};
-    ghost use Rattle.wire_signature.specs.Shape.{Shape, array as array_of, basic, dict as dict_of, variant as any};
+    ghost use Rattle.wire_signature.specs.SingleType.{SingleType, array as array_of, basic, dict as dict_of, variant as any};
     ghost use Rattle.wire_signature.specs.declared.basic.BasicType.{BasicType};
     ghost use Rattle.wire_signature.specs.declared.basic.BasicType.TheVariants as basics;
     ghost use Rattle.wire_tree.specs.Datum.{array, data_of, dict, entries_of, string, text, type_of, variant};
@@ -183,7 +183,7 @@ impl Tree {
     /// The elements and their type, exactly where the tree is an array.
     pub fn into_array(self) -> Option<(ValueType, Trees)>
         ensures some { IfSome result (λ it. datum_of self ≡ array it.0 (data_of it.1)) }
-        ensures none { IfNone result ((t : Shape) → type_of (datum_of self) ≡ array_of t → ⊥) }
+        ensures none { IfNone result ((t : SingleType) → type_of (datum_of self) ≡ array_of t → ⊥) }
     {
         match self {
             Tree::Array(element, elements) => Some((element, elements)),
@@ -194,7 +194,7 @@ impl Tree {
     /// The entries and the types of their keys and values, exactly where the tree is a dict.
     pub fn into_dict(self) -> Option<(BasicType, ValueType, Entries)>
         ensures some { IfSome result (λ it. datum_of self ≡ dict it.0 it.1 (entries_of it.2)) }
-        ensures none { IfNone result ((k : BasicType) (v : Shape) → type_of (datum_of self) ≡ dict_of k v → ⊥) }
+        ensures none { IfNone result ((k : BasicType) (v : SingleType) → type_of (datum_of self) ≡ dict_of k v → ⊥) }
     {
         match self {
             Tree::Dict(key, value, entries) => Some((key, value, entries)),

@@ -1,6 +1,6 @@
 //! The types of trees.
 ghost use Rattle.std.specs.Prelude.{◌≡◌, ◌↔◌, ◌++◌, IfOk, IsTrue, OnOk, map, string_bytes};
-ghost use Rattle.wire_signature.specs.Shape.{IsType, array, basic as basic_shape, dict, shapes_of, type_text, types_text};
+ghost use Rattle.wire_signature.specs.SingleType.{IsType, array, basic as basic_single_type, dict, single_types_of, type_text, types_text};
 ghost use Rattle.wire_tree.specs.Check.{TellsOwn, TellsType};
 ghost use Rattle.wire_tree.specs.Datum.{data_of, type_of, types_of};
 ghost use Rattle.wire_tree.specs.DatumView.{datum_of};
@@ -72,7 +72,7 @@ pub fn type_text(alloc: Global, tree: &Tree) -> Result<String, AllocError>
 /// Whether the trees are of the types, one of each.
 #[cycle(of_type)]
 fn have_types(trees: &[Tree], types: &[ValueType]) -> bool
-    ensures { IsTrue result ↔ (types_of (data_of (map datum_of trees.now)) ≡ shapes_of types.now) }
+    ensures { IsTrue result ↔ (types_of (data_of (map datum_of trees.now)) ≡ single_types_of types.now) }
 {
     if trees.len() != types.len() {
         return false;
@@ -104,7 +104,7 @@ pub(crate) fn has_type(tree: &Tree, value_type: &ValueType) -> bool
 
 /// Whether the tree is of the basic type.
 pub(crate) fn has_basic(tree: &Tree, basic: BasicType) -> bool
-    ensures { IsTrue result ↔ (type_of (datum_of tree.now) ≡ basic_shape basic) }
+    ensures { IsTrue result ↔ (type_of (datum_of tree.now) ≡ basic_single_type basic) }
 {
     match tree {
         Tree::U8(_) => basic == BasicType::Byte,

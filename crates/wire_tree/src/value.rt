@@ -2,8 +2,8 @@
 ghost use Rattle.std.specs.Prelude.{◌≡◌, ◌↔◌, IfErr, IfOk, IsTrue};
 ghost use Rattle.std.specs.Cmp.{decided, partial_equiv_from_equiv};
 ghost use Rattle.std.specs.Hash.{same_Alike};
-ghost use Rattle.wire_tree.specs.Check.{TellsFormed};
-ghost use Rattle.wire_tree.specs.Datum.{IsFormed, type_of};
+ghost use Rattle.wire_tree.specs.Check.{TellsValid};
+ghost use Rattle.wire_tree.specs.Datum.{IsValid, type_of};
 ghost use Rattle.wire_tree.specs.DatumView.{datum_of};
 ghost use Rattle.wire_tree.specs.Equal.{same, writes};
 ghost use Rattle.wire_tree.specs.EqualTells.{same_decides};
@@ -11,9 +11,9 @@ ghost use Rattle.wire_tree.specs.EqualTells.{same_decides};
 use crate::copy::copy_of;
 use crate::hash::feed;
 use crate::same::is_same;
-use crate::sound::is_sound;
 use crate::tree::Tree;
 use crate::typed::type_of;
+use crate::well_typed::is_well_typed;
 use std::alloc::{AllocError, Global};
 use std::hash::{Hash, Hasher};
 use std::marker::Model;
@@ -34,7 +34,7 @@ impl Drop for Value {
 }
 
 impl Model for Value {
-    ghost use Rattle.wire_tree.specs.Datum.{Datum, IsFormed};
+    ghost use Rattle.wire_tree.specs.Datum.{Datum, IsValid};
     ghost use Rattle.wire_tree.specs.DatumCode.{datum_code};
 
     ghost Value = { Datum };
@@ -45,14 +45,14 @@ impl Model for Value {
 
     ghost view = { λ v. datum_of v.tree };
 
-    ghost invariant = { λ v. IsFormed (datum_of v.tree) };
+    ghost invariant = { λ v. IsValid (datum_of v.tree) };
 }
 
 /// Whether a tree is a value that a message may hold.
-fn is_formed(alloc: Global, tree: &Tree) -> Result<bool, AllocError>
-    ensures { IfOk result (λ formed. IsTrue formed ↔ IsFormed (datum_of tree.now)) }
+fn is_valid(alloc: Global, tree: &Tree) -> Result<bool, AllocError>
+    ensures { IfOk result (λ valid. IsTrue valid ↔ IsValid (datum_of tree.now)) }
 {
-    Ok(type_of(alloc, tree)?.is_some() && is_sound(alloc, tree)?)
+    Ok(type_of(alloc, tree)?.is_some() && is_well_typed(alloc, tree)?)
 }
 
 impl Value {
@@ -72,9 +72,9 @@ impl Value {
     ///
     /// [`VariantError::Memory`] for want of memory.
     pub fn from_tree(alloc: Global, tree: Tree) -> Result<Value, VariantError>
-        ensures { TellsFormed result (datum_of tree) }
+        ensures { TellsValid result (datum_of tree) }
     {
-        match is_formed(alloc, &tree) {
+        match is_valid(alloc, &tree) {
             Ok(true) => Ok(Value { tree }),
             Ok(false) => Err(VariantError::Malformed),
             Err(_) => Err(VariantError::Memory),
@@ -82,8 +82,8 @@ impl Value {
     }
 
     /// The value that a tree is, which is known to be one.
-    pub fn from_formed(tree: Tree) -> Value
-        requires { IsFormed (datum_of tree) }
+    pub fn from_valid(tree: Tree) -> Value
+        requires { IsValid (datum_of tree) }
         ensures { result ≡ datum_of tree }
     {
         Value { tree }
@@ -91,7 +91,7 @@ impl Value {
 
     pub fn tree(&self) -> &Tree
         ensures tree { datum_of result.now ≡ self.now }
-        ensures formed { IsFormed self.now }
+        ensures valid { IsValid self.now }
     {
         &self.tree
     }
@@ -99,7 +99,7 @@ impl Value {
     /// Gives the tree back.
     pub fn into_tree(self) -> Tree
         ensures tree { datum_of result ≡ self }
-        ensures formed { IsFormed self }
+        ensures valid { IsValid self }
     {
         let Value { tree } = self;
         tree

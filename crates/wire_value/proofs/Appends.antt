@@ -7,7 +7,7 @@ use Rattle.wire_number.specs.declared.endian.Endian.TheVariants.{Little, Big}
 use Rattle.wire_number.specs.Number.{number_text, pad, padding}
 use Rattle.wire_number.proofs.Steps.{length_padding}
 use Rattle.wire_tree.specs.Datum.{signature, IsTextOf}
-use Rattle.wire_spelling.specs.Spelling.{aligned}
+use Rattle.wire_encoding.specs.Encoding.{aligned}
 
 pub opened : (shift boundary : ℕ) (old mid new : List ℕ) → mid ≡ old ++ (padding (shift + length old) 4 ++ (0 ∷ 0 ∷ 0 ∷ 0 ∷ []))
     → new ≡ mid ++ padding (shift + length mid) boundary

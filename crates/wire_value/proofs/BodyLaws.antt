@@ -4,12 +4,12 @@ use Rattle.std.proofs.lemmas.Bool.{cases_lt}
 use Rattle.std.proofs.lemmas.List.{take_at}
 use Rattle.wire_number.specs.declared.endian.Endian.{Endian}
 use Rattle.wire_tree.specs.Datum.{Datum, Data, no_data, items, data_of}
-use Rattle.wire_spelling.specs.Spelling.{spelling, spellings, depth, depths, ArraysFit, AllFit}
+use Rattle.wire_encoding.specs.Encoding.{encoding, encodings, depth, depths, ArraysFit, AllFit}
 use Rattle.wire_value.specs.Writing.{Refused, Grown, Wrote, AreNotEncoded}
 use Rattle.wire_value.specs.declared.error.EncodeError.{EncodeError}
 use Rattle.wire_value.specs.declared.error.EncodeError.TheVariants.{Variant, ExcessData, Memory}
 use Rattle.wire_value.proofs.Writes.{Writing, write_one, all_written, first_fits, refused, grown_more, as_whole}
-use Rattle.wire_spelling.proofs.Shift.{Alike, spellings_alike, all_alike}
+use Rattle.wire_encoding.proofs.Shift.{Alike, encodings_alike, all_alike}
 
 -- ---- depths
 
@@ -35,10 +35,10 @@ next_value ds i d h e =
 -- `t` is the tree's value, and `d` that of the list
 pub value_next : (order : Endian) (shift : ℕ) (all : Data) (ds : List Datum) (i : ℕ) (d t : Datum) (old now next : List ℕ)
     → Writing order shift all (data_of (drop i ds)) old now → i < length ds → d ≡ get_or ds i d → t ≡ d
-    → (next ≡ now ++ spelling order (shift + length now) t) × ArraysFit order (shift + length now) t
+    → (next ≡ now ++ encoding order (shift + length now) t) × ArraysFit order (shift + length now) t
     → Writing order shift all (data_of (drop (i + 1) ds)) old next
 value_next order shift all ds i d t old now next w h e same f =
-    let own = subst (λ (x : Datum). (next ≡ now ++ spelling order (shift + length now) x) × ArraysFit order (shift + length now) x) same f in
+    let own = subst (λ (x : Datum). (next ≡ now ++ encoding order (shift + length now) x) × ArraysFit order (shift + length now) x) same f in
     write_one order shift all d (data_of (drop (i + 1) ds)) old now next (subst (λ (es : Data). Writing order shift all es old now) (next_value ds i d h e) w) own.0 own.1
 
 no_value : (ds : List Datum) (i : ℕ) → length ds ≤ i → data_of (drop i ds) ≡ no_data
@@ -49,7 +49,7 @@ no_value (d ∷ ds) (suc i) h = no_value ds i (omega arith)
 
 pub values_done : (order : Endian) (shift : ℕ) (all : Data) (ds : List Datum) (i : ℕ) (old now : List ℕ)
     → Writing order shift all (data_of (drop i ds)) old now → length ds ≤ i
-    → (now ≡ old ++ spellings order (shift + length old) all) × AllFit order (shift + length old) all
+    → (now ≡ old ++ encodings order (shift + length old) all) × AllFit order (shift + length old) all
 values_done order shift all ds i old now w h =
     all_written order shift all old now (subst (λ (es : Data). Writing order shift all es old now) (no_value ds i h) w)
 
@@ -77,15 +77,15 @@ body_refused (Variant v) order ds within h = absurd h
 body_refused ExcessData order ds within h = (within, h)
 body_refused Memory order ds within h = tt
 
--- A body that begins on a multiple of 8 is spelled as one that begins at 0.
+-- A body that begins on a multiple of 8 is encoded as one that begins at 0.
 pub body_placed : {A : Type 0} (r : Result A EncodeError) (order : Endian) (ds es : List Datum) (old new : List ℕ) → ds ≡ es → length old % 8 ≡ 0
-    → Wrote r (spellings order (0 + length old) (data_of ds)) (AllFit order (0 + length old) (data_of ds)) old new
-    → Wrote r (spellings order 0 (data_of es)) (AllFit order 0 (data_of es)) old new
+    → Wrote r (encodings order (0 + length old) (data_of ds)) (AllFit order (0 + length old) (data_of ds)) old new
+    → Wrote r (encodings order 0 (data_of es)) (AllFit order 0 (data_of es)) old new
 body_placed r order ds es old new same placed h =
     let there : Alike (0 + length old) 0 = record { rest = omega (arith, placed) } in
     let here : Alike 0 (0 + length old) = record { rest = omega (arith, placed) } in
-    subst (λ (xs : List Datum). Wrote r (spellings order 0 (data_of xs)) (AllFit order 0 (data_of xs)) old new) same
-    (as_whole r _ _ _ _ old old new ([], sym (append-nil old)) (ap (λ t. old ++ t) (spellings_alike order (0 + length old) 0 (data_of ds) there))
+    subst (λ (xs : List Datum). Wrote r (encodings order 0 (data_of xs)) (AllFit order 0 (data_of xs)) old new) same
+    (as_whole r _ _ _ _ old old new ([], sym (append-nil old)) (ap (λ t. old ++ t) (encodings_alike order (0 + length old) 0 (data_of ds) there))
     (all_alike order (0 + length old) 0 (data_of ds) there) (all_alike order 0 (0 + length old) (data_of ds) here) h)
 
 -- What was written whole stays; else the output is cut back to what stood before.

@@ -1,7 +1,7 @@
 -- The depths of lists of values, each as it is seen by a function.
 use Rattle.std.proofs.Common.{◌≡◌, ℕ, zero, suc, ◌<◌, ◌≤◌, List, [], ◌∷◌, length, get_or, map, take, ap, arith}
 use Rattle.wire_tree.specs.Datum.{Datum, data_of}
-use Rattle.wire_spelling.specs.Spelling.{depth, depths}
+use Rattle.wire_encoding.specs.Encoding.{depth, depths}
 
 -- one value is no deeper than its list
 pub depth_item : {A : Type 0} (f : A → Datum) (xs : List A) (i : ℕ) (x : A) → i < length xs → x ≡ get_or xs i x → depth (f x) ≤ depths (data_of (map f xs))

@@ -4,9 +4,9 @@ use Rattle.std.proofs.lemmas.Bool.{cases_lt}
 use Rattle.std.specs.Int.{w8}
 use Rattle.wire_number.specs.declared.endian.Endian.{Endian}
 use Rattle.wire_number.specs.Number.{counted_text}
-use Rattle.wire_signature.specs.Shape.{alignment, type_text}
+use Rattle.wire_signature.specs.SingleType.{alignment, type_text}
 use Rattle.wire_tree.specs.Datum.{Datum, num, text, array, dict, struct, variant, Data, no_data, items, type_of}
-use Rattle.wire_spelling.specs.Spelling.{aligned, first_place, spelling, spellings, ArraysFit, AllFit}
+use Rattle.wire_encoding.specs.Encoding.{aligned, first_place, encoding, encodings, ArraysFit, AllFit}
 
 abbrev pub Decided : Type 0 → Type 0
 Decided A = (A → ⊥) ⊎ A
@@ -30,11 +30,11 @@ mutual
   arrays_decided order p (num n v) = inr tt
   arrays_decided order p (text t bs) = inr tt
   arrays_decided order p (array t ds) =
-      both (fit (length (spellings order (first_place p (alignment t)) ds))) (all_decided order (first_place p (alignment t)) ds)
-  arrays_decided order p (dict k v ds) = both (fit (length (spellings order (first_place p 8) ds))) (all_decided order (first_place p 8) ds)
+      both (fit (length (encodings order (first_place p (alignment t)) ds))) (all_decided order (first_place p (alignment t)) ds)
+  arrays_decided order p (dict k v ds) = both (fit (length (encodings order (first_place p 8) ds))) (all_decided order (first_place p 8) ds)
   arrays_decided order p (struct ds) = all_decided order (aligned p 8) ds
   arrays_decided order p (variant d) = arrays_decided order (p + length (counted_text w8 order (type_text (type_of d)))) d
 
   pub all_decided : (order : Endian) (p : ℕ) (ds : Data) → Decided (AllFit order p ds)
   all_decided order p no_data = inr tt
-  all_decided order p (items d ds) = both (arrays_decided order p d) (all_decided order (p + length (spelling order p d)) ds)
+  all_decided order p (items d ds) = both (arrays_decided order p d) (all_decided order (p + length (encoding order p d)) ds)

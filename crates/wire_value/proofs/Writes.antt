@@ -4,9 +4,9 @@ use Rattle.std.specs.Int.{w32, w8}
 use Rattle.std.proofs.lemmas.List.{take_at, drop_at}
 use Rattle.wire_number.specs.declared.endian.Endian.{Endian}
 use Rattle.wire_number.specs.Number.{number_text, pad, padding, counted_text}
-use Rattle.wire_signature.specs.Shape.{Shape, alignment, type_text}
-use Rattle.wire_tree.specs.Datum.{Datum, array, struct, variant, Data, no_data, items, entry, data_of, type_of, AreSound, AreElements}
-use Rattle.wire_spelling.specs.Spelling.{aligned, first_place, array_form, spelling, spellings, ArraysFit, AllFit}
+use Rattle.wire_signature.specs.SingleType.{SingleType, alignment, type_text}
+use Rattle.wire_tree.specs.Datum.{Datum, array, struct, variant, Data, no_data, items, entry, data_of, type_of, AreWellTyped, AreElements}
+use Rattle.wire_encoding.specs.Encoding.{aligned, first_place, array_form, encoding, encodings, ArraysFit, AllFit}
 use Rattle.wire_value.specs.Writing.{Refused, Grown, Wrote, Closed}
 use Rattle.wire_value.specs.declared.error.EncodeError.{EncodeError}
 use Rattle.wire_value.specs.declared.error.EncodeError.TheVariants.{Variant, ExcessData, Memory}
@@ -14,9 +14,9 @@ use Rattle.wire_number.proofs.Steps.{length_padding}
 
 -- ---- soundness of parts
 
-pub elements_sound : (t : Shape) (ds : Data) → AreElements t ds → AreSound ds
-elements_sound t no_data h = tt
-elements_sound t (items d ds) h = (h.0.0, elements_sound t ds h.1)
+pub elements_well_typed : (t : SingleType) (ds : Data) → AreElements t ds → AreWellTyped ds
+elements_well_typed t no_data h = tt
+elements_well_typed t (items d ds) h = (h.0.0, elements_well_typed t ds h.1)
 
 -- ---- refusals
 
@@ -39,7 +39,7 @@ as_whole (Err x) part whole part_fits fits old mid new more e f g h = (refused x
 -- ---- values one behind the other
 
 pub record Writing (order : Endian) (shift : ℕ) (ds left : Data) (old now : List ℕ) : Type 0 where
-  pub whole : now ++ spellings order (shift + length now) left ≡ old ++ spellings order (shift + length old) ds
+  pub whole : now ++ encodings order (shift + length now) left ≡ old ++ encodings order (shift + length old) ds
   pub back : AllFit order (shift + length now) left → AllFit order (shift + length old) ds
   pub forth : AllFit order (shift + length old) ds → AllFit order (shift + length now) left
   pub grown : Grown old now
@@ -51,16 +51,16 @@ there : (shift : ℕ) (now next text : List ℕ) → next ≡ now ++ text → sh
 there shift now next text e = omega (arith, ap length e, length-append now text)
 
 pub write_one : (order : Endian) (shift : ℕ) (ds : Data) (d : Datum) (left : Data) (old now next : List ℕ)
-    → Writing order shift ds (items d left) old now → next ≡ now ++ spelling order (shift + length now) d → ArraysFit order (shift + length now) d
+    → Writing order shift ds (items d left) old now → next ≡ now ++ encoding order (shift + length now) d → ArraysFit order (shift + length now) d
     → Writing order shift ds left old next
-unfolding spellings AllFit
+unfolding encodings AllFit
 write_one order shift ds d left old now next w e f =
-    let one : List ℕ = spelling order (shift + length now) d in
+    let one : List ℕ = encoding order (shift + length now) d in
     let end : shift + length now + length one ≡ shift + length next = there shift now next one e in
     record {
-      whole = ap (λ r. r ++ spellings order (shift + length next) left) e
-          ∙ append_assoc now one (spellings order (shift + length next) left)
-          ∙ ap (λ p. now ++ (one ++ spellings order p left)) (sym end) ∙ w.whole;
+      whole = ap (λ r. r ++ encodings order (shift + length next) left) e
+          ∙ append_assoc now one (encodings order (shift + length next) left)
+          ∙ ap (λ p. now ++ (one ++ encodings order p left)) (sym end) ∙ w.whole;
       back = λ h. w.back (f, subst (λ (p : ℕ). AllFit order p left) (sym end) h);
       forth = λ h. subst (λ (p : ℕ). AllFit order p left) end (w.forth h).1;
       grown = grown_more old now next w.grown (one, e);
@@ -74,7 +74,7 @@ next_item f xs i x h e =
 
 pub write_next : {A : Type 0} (f : A → Datum) (order : Endian) (shift : ℕ) (ds : Data) (xs : List A) (i : ℕ) (x : A) (old now next : List ℕ)
     → Writing order shift ds (data_of (map f (drop i xs))) old now → i < length xs → x ≡ get_or xs i x
-    → (next ≡ now ++ spelling order (shift + length now) (f x)) × ArraysFit order (shift + length now) (f x)
+    → (next ≡ now ++ encoding order (shift + length now) (f x)) × ArraysFit order (shift + length now) (f x)
     → Writing order shift ds (data_of (map f (drop (i + 1) xs))) old next
 write_next f order shift ds xs i x old now next w h e k =
     write_one order shift ds (f x) (data_of (map f (drop (i + 1) xs))) old now next
@@ -87,13 +87,13 @@ none_left f (x ∷ xs) zero h = absurd (omega arith)
 none_left f (x ∷ xs) (suc i) h = none_left f xs i (omega arith)
 
 pub all_written : (order : Endian) (shift : ℕ) (ds : Data) (old now : List ℕ) → Writing order shift ds no_data old now
-    → (now ≡ old ++ spellings order (shift + length old) ds) × AllFit order (shift + length old) ds
-unfolding spellings AllFit
+    → (now ≡ old ++ encodings order (shift + length old) ds) × AllFit order (shift + length old) ds
+unfolding encodings AllFit
 all_written order shift ds old now w = (sym (append-nil now) ∙ w.whole, w.back tt)
 
 pub write_done : {A : Type 0} (f : A → Datum) (order : Endian) (shift : ℕ) (ds : Data) (xs : List A) (i : ℕ) (old now : List ℕ)
     → Writing order shift ds (data_of (map f (drop i xs))) old now → length xs ≤ i
-    → (now ≡ old ++ spellings order (shift + length old) ds) × AllFit order (shift + length old) ds
+    → (now ≡ old ++ encodings order (shift + length old) ds) × AllFit order (shift + length old) ds
 write_done f order shift ds xs i old now w h =
     all_written order shift ds old now (subst (λ (es : Data). Writing order shift ds es old now) (none_left f xs i h) w)
 
@@ -169,20 +169,20 @@ closed_form {A} r order shift boundary old mid body full new place fits e f g fi
   by (Err ExcessData) h = (λ k. absurd (omega (arith, h.0, k.0, long)), grown_more old mid new (_, f) (body, h.1 ∙ g))
   by (Err Memory) h = absurd h
 
-pub array_written : {A : Type 0} (r : Result A EncodeError) (order : Endian) (shift : ℕ) (t : Shape) (ds : Data) (old mid full new : List ℕ) (place : ℕ)
+pub array_written : {A : Type 0} (r : Result A EncodeError) (order : Endian) (shift : ℕ) (t : SingleType) (ds : Data) (old mid full new : List ℕ) (place : ℕ)
     → place ≡ length old + pad (shift + length old) 4
     → mid ≡ old ++ (padding (shift + length old) 4 ++ (0 ∷ 0 ∷ 0 ∷ 0 ∷ padding (aligned (shift + length old) 4 + 4) (alignment t)))
-    → (full ≡ mid ++ spellings order (shift + length mid) ds) × AllFit order (shift + length mid) ds
+    → (full ≡ mid ++ encodings order (shift + length mid) ds) × AllFit order (shift + length mid) ds
     → Closed r (length full - length mid) (take place full ++ (number_text w32 order (length full - length mid) ++ drop (place + 4) full)) full new
-    → Wrote r (spelling order (shift + length old) (array t ds)) (ArraysFit order (shift + length old) (array t ds)) old new
-unfolding spelling ArraysFit
+    → Wrote r (encoding order (shift + length old) (array t ds)) (ArraysFit order (shift + length old) (array t ds)) old new
+unfolding encoding ArraysFit
 array_written r order shift t ds old mid full new place e f g h =
     let p : ℕ = first_place (shift + length old) (alignment t) in
     let start : shift + length mid ≡ p = array_place shift (alignment t) old mid f in
-    closed_form r order shift (alignment t) old mid (spellings order p ds) full new place (AllFit order p ds) e f
-    (g.0 ∙ ap (λ n. mid ++ spellings order n ds) start) (subst (λ (n : ℕ). AllFit order n ds) start g.1) h
+    closed_form r order shift (alignment t) old mid (encodings order p ds) full new place (AllFit order p ds) e f
+    (g.0 ∙ ap (λ n. mid ++ encodings order n ds) start) (subst (λ (n : ℕ). AllFit order n ds) start g.1) h
 
-pub array_refused : (order : Endian) (shift : ℕ) (t : Shape) (ds : Data) (old mid new : List ℕ) (e : EncodeError)
+pub array_refused : (order : Endian) (shift : ℕ) (t : SingleType) (ds : Data) (old mid new : List ℕ) (e : EncodeError)
     → mid ≡ old ++ (padding (shift + length old) 4 ++ (0 ∷ 0 ∷ 0 ∷ 0 ∷ padding (aligned (shift + length old) 4 + 4) (alignment t)))
     → Refused e (AllFit order (shift + length mid) ds) × Grown mid new → Refused e (ArraysFit order (shift + length old) (array t ds)) × Grown old new
 unfolding ArraysFit
@@ -198,50 +198,50 @@ behind_8 shift old mid e = omega (arith, ap length e, length-append old (padding
 
 pub struct_written : {A : Type 0} (r : Result A EncodeError) (order : Endian) (shift : ℕ) (ds : Data) (old mid new : List ℕ)
     → mid ≡ old ++ padding (shift + length old) 8
-    → Wrote r (spellings order (shift + length mid) ds) (AllFit order (shift + length mid) ds) mid new
-    → Wrote r (spelling order (shift + length old) (struct ds)) (ArraysFit order (shift + length old) (struct ds)) old new
-unfolding spelling ArraysFit
+    → Wrote r (encodings order (shift + length mid) ds) (AllFit order (shift + length mid) ds) mid new
+    → Wrote r (encoding order (shift + length old) (struct ds)) (ArraysFit order (shift + length old) (struct ds)) old new
+unfolding encoding ArraysFit
 struct_written r order shift ds old mid new e h =
     let p : ℕ = aligned (shift + length old) 8 in
     let start : shift + length mid ≡ p = behind_8 shift old mid e in
-    as_whole r (spellings order (shift + length mid) ds) _ (AllFit order (shift + length mid) ds) _ old mid new (_, e)
-    (ap (λ r. r ++ spellings order (shift + length mid) ds) e ∙ append_assoc old (padding (shift + length old) 8) (spellings order (shift + length mid) ds)
-    ∙ ap (λ n. old ++ (padding (shift + length old) 8 ++ spellings order n ds)) start)
+    as_whole r (encodings order (shift + length mid) ds) _ (AllFit order (shift + length mid) ds) _ old mid new (_, e)
+    (ap (λ r. r ++ encodings order (shift + length mid) ds) e ∙ append_assoc old (padding (shift + length old) 8) (encodings order (shift + length mid) ds)
+    ∙ ap (λ n. old ++ (padding (shift + length old) 8 ++ encodings order n ds)) start)
     (λ k. subst (λ (n : ℕ). AllFit order n ds) start k) (λ k. subst (λ (n : ℕ). AllFit order n ds) (sym start) k) h
 
 pub variant_written : {A : Type 0} (r : Result A EncodeError) (order : Endian) (shift : ℕ) (d : Datum) (old mid new kind : List ℕ)
     → kind ≡ type_text (type_of d) → mid ≡ old ++ counted_text w8 order kind
-    → Wrote r (spelling order (shift + length mid) d) (ArraysFit order (shift + length mid) d) mid new
-    → Wrote r (spelling order (shift + length old) (variant d)) (ArraysFit order (shift + length old) (variant d)) old new
-unfolding spelling ArraysFit
+    → Wrote r (encoding order (shift + length mid) d) (ArraysFit order (shift + length mid) d) mid new
+    → Wrote r (encoding order (shift + length old) (variant d)) (ArraysFit order (shift + length old) (variant d)) old new
+unfolding encoding ArraysFit
 variant_written r order shift d old mid new kind k e h =
     let sign : List ℕ = counted_text w8 order (type_text (type_of d)) in
     let f : mid ≡ old ++ sign = e ∙ ap (λ t. old ++ counted_text w8 order t) k in
     let start : shift + length old + length sign ≡ shift + length mid = there shift old mid sign f in
-    as_whole r (spelling order (shift + length mid) d) _ (ArraysFit order (shift + length mid) d) _ old mid new (sign, f)
-    (ap (λ r. r ++ spelling order (shift + length mid) d) f ∙ append_assoc old sign (spelling order (shift + length mid) d)
-    ∙ ap (λ n. old ++ (sign ++ spelling order n d)) (sym start))
+    as_whole r (encoding order (shift + length mid) d) _ (ArraysFit order (shift + length mid) d) _ old mid new (sign, f)
+    (ap (λ r. r ++ encoding order (shift + length mid) d) f ∙ append_assoc old sign (encoding order (shift + length mid) d)
+    ∙ ap (λ n. old ++ (sign ++ encoding order n d)) (sym start))
     (λ k. subst (λ (n : ℕ). ArraysFit order n d) (sym start) k) (λ k. subst (λ (n : ℕ). ArraysFit order n d) start k) h
 
 pub entry_written : {A : Type 0} (r : Result A EncodeError) (order : Endian) (shift : ℕ) (a b : Datum) (old mid next new : List ℕ)
     → mid ≡ old ++ padding (shift + length old) 8
-    → (next ≡ mid ++ spelling order (shift + length mid) a) × ArraysFit order (shift + length mid) a
-    → Wrote r (spelling order (shift + length next) b) (ArraysFit order (shift + length next) b) next new
-    → Wrote r (spelling order (shift + length old) (entry (a, b))) (ArraysFit order (shift + length old) (entry (a, b))) old new
-unfolding spelling spellings ArraysFit AllFit
+    → (next ≡ mid ++ encoding order (shift + length mid) a) × ArraysFit order (shift + length mid) a
+    → Wrote r (encoding order (shift + length next) b) (ArraysFit order (shift + length next) b) next new
+    → Wrote r (encoding order (shift + length old) (entry (a, b))) (ArraysFit order (shift + length old) (entry (a, b))) old new
+unfolding encoding encodings ArraysFit AllFit
 entry_written r order shift a b old mid next new e f h =
     let p : ℕ = aligned (shift + length old) 8 in
     let front : List ℕ = padding (shift + length old) 8 in
     let start : shift + length mid ≡ p = behind_8 shift old mid e in
-    let key : List ℕ = spelling order p a in
-    let wrote : next ≡ mid ++ key = f.0 ∙ ap (λ n. mid ++ spelling order n a) start in
+    let key : List ℕ = encoding order p a in
+    let wrote : next ≡ mid ++ key = f.0 ∙ ap (λ n. mid ++ encoding order n a) start in
     let middle : shift + length next ≡ p + length key = sym (there shift mid next key wrote) ∙ ap (λ n. n + length key) start in
-    let value : List ℕ = spelling order (shift + length next) b in
+    let value : List ℕ = encoding order (shift + length next) b in
     as_whole r value _ (ArraysFit order (shift + length next) b) _ old next new (grown_more old mid next (front, e) (key, wrote))
     (ap (λ r. r ++ value) (wrote ∙ ap (λ r. r ++ key) e)
     ∙ append_assoc (old ++ front) key value ∙ append_assoc old front (key ++ value)
-    ∙ ap (λ n. old ++ (front ++ (key ++ spelling order n b))) middle
-    ∙ ap (λ r. old ++ (front ++ (key ++ r))) (sym (append-nil (spelling order (p + length key) b))))
+    ∙ ap (λ n. old ++ (front ++ (key ++ encoding order n b))) middle
+    ∙ ap (λ r. old ++ (front ++ (key ++ r))) (sym (append-nil (encoding order (p + length key) b))))
     (λ k. (subst (λ (n : ℕ). ArraysFit order n a) start f.1, (subst (λ (n : ℕ). ArraysFit order n b) middle k, tt)))
     (λ k. subst (λ (n : ℕ). ArraysFit order n b) (sym middle) k.1.0) h
 

@@ -4,22 +4,22 @@ use Rattle.std.specs.Prelude.{◌≡◌, ℕ, List, ◌++◌, length}
 use Rattle.wire_number.specs.declared.endian.Endian.{Endian}
 use Rattle.wire_signature.specs.declared.error.VariantError.{VariantError}
 use Rattle.wire_signature.specs.declared.error.VariantError.TheVariants as errors
-use Rattle.wire_signature.specs.Shape.{Shape}
+use Rattle.wire_signature.specs.SingleType.{SingleType}
 use Rattle.wire_tree.specs.Datum.{Datum}
-use Rattle.wire_spelling.specs.Each.{SpellEach}
+use Rattle.wire_encoding.specs.Each.{EncodeEach}
 
--- no front of the bytes spells a value of each type
-abbrev pub HasNoBody : Endian → List Shape → List ℕ → Type 0
-HasNoBody order types bytes = (ds : List Datum) (front rest : List ℕ) → SpellEach order 0 types ds front → bytes ≡ front ++ rest → ⊥
+-- no front of the bytes encodes a value of each type
+abbrev pub HasNoBody : Endian → List SingleType → List ℕ → Type 0
+HasNoBody order types bytes = (ds : List Datum) (front rest : List ℕ) → EncodeEach order 0 types ds front → bytes ≡ front ++ rest → ⊥
 
--- Whatever front of the bytes spells a value of each type, these are the values, and it is so long.
-abbrev pub HasOnlyBody : Endian → List Shape → List ℕ → List Datum → ℕ → Type 0
+-- Whatever front of the bytes encodes a value of each type, these are the values, and it is so long.
+abbrev pub HasOnlyBody : Endian → List SingleType → List ℕ → List Datum → ℕ → Type 0
 HasOnlyBody order types bytes values count =
-    (ds : List Datum) (front rest : List ℕ) → SpellEach order 0 types ds front → bytes ≡ front ++ rest → (values ≡ ds) × (count ≡ length front)
+    (ds : List Datum) (front rest : List ℕ) → EncodeEach order 0 types ds front → bytes ≡ front ++ rest → (values ≡ ds) × (count ≡ length front)
 
--- What an error says: Malformed, exactly that no front of the bytes spells a value of each type. Want of memory tells
+-- What an error says: Malformed, exactly that no front of the bytes encodes a value of each type. Want of memory tells
 -- nothing.
-abbrev pub Explains : VariantError → Endian → List Shape → List ℕ → Type 0
+abbrev pub Explains : VariantError → Endian → List SingleType → List ℕ → Type 0
 Explains errors.Signature order types bytes = ⊥
 Explains errors.Depth order types bytes = ⊥
 Explains errors.Malformed order types bytes = HasNoBody order types bytes

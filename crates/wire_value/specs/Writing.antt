@@ -4,7 +4,7 @@ use Rattle.wire_number.specs.Limits.{array_limit}
 use Rattle.wire_number.specs.declared.endian.Endian.{Endian}
 use Rattle.wire_signature.specs.declared.error.VariantError.TheVariants as errors
 use Rattle.wire_tree.specs.Datum.{Datum, data_of, type_of}
-use Rattle.wire_spelling.specs.Spelling.{AllFit, ArraysFit, Spells, depth, depths, spellings}
+use Rattle.wire_encoding.specs.Encoding.{AllFit, ArraysFit, Encodes, depth, depths, encodings}
 use Rattle.wire_value.specs.declared.error.EncodeError.{EncodeError}
 use Rattle.wire_value.specs.declared.error.EncodeError.TheVariants.{Variant, ExcessData, Memory}
 
@@ -39,9 +39,9 @@ NotEncoded (Variant errors.Memory) order place d old new = ⊥
 NotEncoded ExcessData order place d old new = (depth d ≤ 64) × (ArraysFit order place d → ⊥) × (new ≡ old)
 NotEncoded Memory order place d old new = new ≡ old
 
--- What encoding did: a spelling of the value was appended, or it was refused.
+-- What encoding did: an encoding of the value was appended, or it was refused.
 abbrev pub Encoded : {A : Type 0} → Result A EncodeError → Endian → ℕ → Datum → List ℕ → List ℕ → Type 0
-Encoded (Ok done) order place d old new = (bytes : List ℕ) × Spells order place (type_of d) d bytes × (new ≡ old ++ bytes)
+Encoded (Ok done) order place d old new = (bytes : List ℕ) × Encodes order place (type_of d) d bytes × (new ≡ old ++ bytes)
 Encoded (Err e) order place d old new = NotEncoded e order place d old new
 
 -- Why values are not encoded one behind the other from place 0 on: `Depth` exactly where one opens more than 64 containers at
@@ -52,9 +52,9 @@ AreNotEncoded (Variant error) order ds = ⊥
 AreNotEncoded ExcessData order ds = (depths (data_of ds) ≤ 64) × (AllFit order 0 (data_of ds) → ⊥)
 AreNotEncoded Memory order ds = Unit {0}
 
--- A body's bytes, the spellings of its values from place 0 on, or why there are none.
+-- A body's bytes, the encodings of its values from place 0 on, or why there are none.
 abbrev pub EncodedAll : {A : Type 0} → (A → List ℕ) → Result A EncodeError → Endian → List Datum → Type 0
-EncodedAll bytes (Ok text) order ds = (bytes text ≡ spellings order 0 (data_of ds)) × (depths (data_of ds) ≤ 64) × AllFit order 0 (data_of ds)
+EncodedAll bytes (Ok text) order ds = (bytes text ≡ encodings order 0 (data_of ds)) × (depths (data_of ds) ≤ 64) × AllFit order 0 (data_of ds)
 EncodedAll bytes (Err e) order ds = AreNotEncoded e order ds
 
 -- The length of an array's elements was put where it belongs, unless they are too long.

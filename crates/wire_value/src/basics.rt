@@ -2,15 +2,15 @@
 ghost use Rattle.std.specs.Prelude.{◌≡◌};
 ghost use Rattle.wire_tree.specs.Datum.{byte, boolean, int16, uint16, int32, uint32, int64, uint64, double, unix_fd, string, object_path, signature};
 ghost use Rattle.wire_tree.specs.DatumView.{datum_of};
-ghost use Rattle.wire_spelling.specs.Reading.{basic_at, num_value_at, text_value_at};
+ghost use Rattle.wire_encoding.specs.Reading.{basic_at, num_value_at, text_value_at};
 ghost use Rattle.wire_number.specs.ReaderView.{Finds, cursor_of};
-ghost use Rattle.wire_spelling.specs.ReaderView.{Gives};
+ghost use Rattle.wire_encoding.specs.ReaderView.{Gives};
 
 use std::alloc::Global;
+use wire_encoding::{boolean, byte, path, signature, string, uint16, uint32, uint64};
 use wire_names::Text;
 use wire_number::{Endian, Reader};
 use wire_signature::{BasicType, VariantError};
-use wire_spelling::{boolean, byte, path, signature, string, uint16, uint32, uint64};
 use wire_tree::Tree;
 
 fn read_byte<'a>(order: Endian, reader: Reader<'a>) -> Option<(Tree, Reader<'a>)>
@@ -27,7 +27,7 @@ fn read_boolean<'a>(order: Endian, reader: Reader<'a>) -> Option<(Tree, Reader<'
     Some((Tree::Bool(flag), after))
 }
 
-#[tactic(auto, using(crate::proofs::Signs::signs), unfolding(wire_spelling::specs::Reading::num_at))]
+#[tactic(auto, using(crate::proofs::Signs::signs), unfolding(wire_encoding::specs::Reading::num_at))]
 fn read_int16<'a>(order: Endian, reader: Reader<'a>) -> Option<(Tree, Reader<'a>)>
     ensures { Finds (λ x. (datum_of x.0, cursor_of x.1)) result (num_value_at int16 order (cursor_of reader.entry)) }
 {
@@ -42,7 +42,7 @@ fn read_uint16<'a>(order: Endian, reader: Reader<'a>) -> Option<(Tree, Reader<'a
     Some((Tree::U16(number), after))
 }
 
-#[tactic(auto, using(crate::proofs::Signs::signs), unfolding(wire_spelling::specs::Reading::num_at))]
+#[tactic(auto, using(crate::proofs::Signs::signs), unfolding(wire_encoding::specs::Reading::num_at))]
 fn read_int32<'a>(order: Endian, reader: Reader<'a>) -> Option<(Tree, Reader<'a>)>
     ensures { Finds (λ x. (datum_of x.0, cursor_of x.1)) result (num_value_at int32 order (cursor_of reader.entry)) }
 {
@@ -57,7 +57,7 @@ fn read_uint32<'a>(order: Endian, reader: Reader<'a>) -> Option<(Tree, Reader<'a
     Some((Tree::U32(number), after))
 }
 
-#[tactic(auto, using(crate::proofs::Signs::signs), unfolding(wire_spelling::specs::Reading::num_at))]
+#[tactic(auto, using(crate::proofs::Signs::signs), unfolding(wire_encoding::specs::Reading::num_at))]
 fn read_int64<'a>(order: Endian, reader: Reader<'a>) -> Option<(Tree, Reader<'a>)>
     ensures { Finds (λ x. (datum_of x.0, cursor_of x.1)) result (num_value_at int64 order (cursor_of reader.entry)) }
 {
@@ -72,7 +72,7 @@ fn read_uint64<'a>(order: Endian, reader: Reader<'a>) -> Option<(Tree, Reader<'a
     Some((Tree::U64(number), after))
 }
 
-#[tactic(auto, unfolding(wire_spelling::specs::Reading::num_at))]
+#[tactic(auto, unfolding(wire_encoding::specs::Reading::num_at))]
 fn read_double<'a>(order: Endian, reader: Reader<'a>) -> Option<(Tree, Reader<'a>)>
     ensures { Finds (λ x. (datum_of x.0, cursor_of x.1)) result (num_value_at double order (cursor_of reader.entry)) }
 {
@@ -80,7 +80,7 @@ fn read_double<'a>(order: Endian, reader: Reader<'a>) -> Option<(Tree, Reader<'a
     Some((Tree::F64(bits), after))
 }
 
-#[tactic(auto, unfolding(wire_spelling::specs::Reading::num_at))]
+#[tactic(auto, unfolding(wire_encoding::specs::Reading::num_at))]
 fn read_unix_fd<'a>(order: Endian, reader: Reader<'a>) -> Option<(Tree, Reader<'a>)>
     ensures { Finds (λ x. (datum_of x.0, cursor_of x.1)) result (num_value_at unix_fd order (cursor_of reader.entry)) }
 {

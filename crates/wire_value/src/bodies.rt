@@ -1,8 +1,8 @@
 //! The bytes of a body's values, and the values of its bytes.
 ghost use Rattle.std.specs.Prelude.{◌≡◌, ◌+◌, ◌%◌, ◌<◌, ◌≤◌, ◌↔◌, IfErr, IfOk, IsTrue, length, take};
 ghost use Rattle.wire_tree.specs.Datum.{data_of};
-ghost use Rattle.wire_spelling.specs.Spelling.{AllFit, depths, spellings};
-ghost use Rattle.wire_spelling.specs.Each.{SpellEach};
+ghost use Rattle.wire_encoding.specs.Encoding.{AllFit, depths, encodings};
+ghost use Rattle.wire_encoding.specs.Each.{EncodeEach};
 ghost use Rattle.wire_value.specs.Bodies.{Explains, HasOnlyBody};
 ghost use Rattle.wire_value.specs.Writing.{EncodedAll, Wrote, WroteWhole};
 
@@ -12,9 +12,9 @@ use crate::error::EncodeError;
 use crate::write::write_value;
 use std::alloc::Global;
 use wire_body::BodyValues;
+use wire_encoding::MAX_DEPTH;
 use wire_number::Endian;
 use wire_signature::{Signature, VariantError};
-use wire_spelling::MAX_DEPTH;
 use wire_tree::Value;
 
 /// Whether no more than 64 containers are open at once in each value.
@@ -46,7 +46,7 @@ fn write_each(
     values: &[Value],
 ) -> Result<(), EncodeError>
     requires shift { shift < 8 }
-    ensures { Wrote result (spellings order (shift + length out.old.items) (data_of values.now)) (AllFit order (shift + length out.old.items) (data_of values.now)) out.old.items out.new.items }
+    ensures { Wrote result (encodings order (shift + length out.old.items) (data_of values.now)) (AllFit order (shift + length out.old.items) (data_of values.now)) out.old.items out.new.items }
 {
     for value in values {
         write_value(alloc, order, shift, out, value.tree())?;
@@ -65,7 +65,7 @@ fn write_each(
 pub fn append_body(order: Endian, body: &BodyValues, out: &mut Vec<u8>) -> Result<(), EncodeError>
     requires shallow { depths (data_of body.now) ≤ 64 }
     requires placed { length out.old.items % 8 ≡ 0 }
-    ensures { WroteWhole result (spellings order 0 (data_of body.now)) (AllFit order 0 (data_of body.now)) out.old.items out.new.items }
+    ensures { WroteWhole result (encodings order 0 (data_of body.now)) (AllFit order 0 (data_of body.now)) out.old.items out.new.items }
 {
     let before = out.len();
     let alloc = *out.allocator();
@@ -78,7 +78,7 @@ pub fn append_body(order: Endian, body: &BodyValues, out: &mut Vec<u8>) -> Resul
     }
 }
 
-/// The bytes of a body: the spellings of its values, one behind the other (D-Bus Specification, "Message Format",
+/// The bytes of a body: the encodings of its values, one behind the other (D-Bus Specification, "Message Format",
 /// "Marshaling (Wire Format)"). A body begins at a multiple of 8 in its message, so places are counted from its first byte.
 ///
 /// # Errors
@@ -97,12 +97,12 @@ pub fn encode_body(alloc: Global, order: Endian, body: &BodyValues) -> Result<Ve
     Ok(text)
 }
 
-/// The values that a front of a message's body spells in that byte order, one of each type of the signature, and how many
+/// The values that a front of a message's body encodes in that byte order, one of each type of the signature, and how many
 /// bytes they take (D-Bus Specification, "Message Format"). Of what stands behind them nothing is asked.
 ///
 /// # Errors
 ///
-/// [`VariantError::Malformed`] exactly where no front of the bytes spells a value of each type.
+/// [`VariantError::Malformed`] exactly where no front of the bytes encodes a value of each type.
 /// [`VariantError::Memory`] for want of memory.
 pub fn decode_body(
     alloc: Global,
@@ -110,7 +110,7 @@ pub fn decode_body(
     signature: &Signature,
     bytes: &[u8],
 ) -> Result<(Vec<Value>, usize), VariantError>
-    ensures found { IfOk result (λ x. SpellEach order 0 signature.now x.0.items (take x.1 bytes.now)) }
+    ensures found { IfOk result (λ x. EncodeEach order 0 signature.now x.0.items (take x.1 bytes.now)) }
     ensures within { IfOk result (λ x. x.1 ≤ length bytes.now) }
     ensures only { IfOk result (λ x. HasOnlyBody order signature.now bytes.now x.0.items x.1) }
     ensures error { IfErr result (λ e. Explains e order signature.now bytes.now) }

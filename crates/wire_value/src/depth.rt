@@ -2,7 +2,7 @@
 ghost use Rattle.std.specs.Prelude.{◌≤◌, ◌↔◌, ◌+◌, IsTrue, map, max};
 ghost use Rattle.wire_tree.specs.Datum.{data_of, entries_of};
 ghost use Rattle.wire_tree.specs.DatumView.{datum_of, pair_of};
-ghost use Rattle.wire_spelling.specs.Spelling.{depth, depths};
+ghost use Rattle.wire_encoding.specs.Encoding.{depth, depths};
 
 use wire_tree::Tree;
 

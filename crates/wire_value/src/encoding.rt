@@ -4,12 +4,12 @@ ghost use Rattle.wire_value.specs.Writing.{Encoded};
 use crate::depth::is_within;
 use crate::error::EncodeError;
 use crate::write::write_value;
+use wire_encoding::MAX_DEPTH;
 use wire_number::Endian;
 use wire_signature::VariantError;
-use wire_spelling::MAX_DEPTH;
 use wire_tree::Value;
 
-/// Appends the one spelling of a value to an output, as bytes that begin at the place `at`, counted in bytes from the
+/// Appends the one encoding of a value to an output, as bytes that begin at the place `at`, counted in bytes from the
 /// message's first (D-Bus Specification, "Marshaling (Wire Format)"). The signature of the value's type is no part of it.
 ///
 /// # Errors

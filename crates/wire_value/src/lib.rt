@@ -10,6 +10,10 @@ pub use wire_body::{
     Argument, Arguments, Array, BodyValues, Dict, Double, Fd, FromBody, Key, ToBody, from,
     there_and_back, to,
 };
+pub use wire_encoding::{
+    MAX_ARRAY_LENGTH, MAX_DEPTH, boundary, no_encoding_begins_another, one_encoding, one_value,
+    skip, skip_by_text, utf8,
+};
 pub use wire_names::{
     BusName, Bytes, ErrorName, InterfaceName, MemberName, NamesError, ObjectPath, OwnedBusName,
     OwnedErrorName, OwnedInterfaceName, OwnedMemberName, OwnedObjectPath, OwnedUniqueName,
@@ -22,10 +26,6 @@ pub use wire_signature::{
     BasicType, MAX_ARRAYS, MAX_LENGTH, MAX_STRUCTS, Signature, TypeNode, ValueType, VariantError,
     first_type, is_signature, one_list_of_types, one_signature_text, one_type, one_type_text,
     reading_a_signature, reading_a_type,
-};
-pub use wire_spelling::{
-    MAX_ARRAY_LENGTH, MAX_DEPTH, boundary, no_spelling_begins_another, one_spelling, one_value,
-    skip, skip_by_text, utf8,
 };
 pub use wire_tree::{
     Entries, Inner, Tree, Trees, Value, equal_is_one, type_text, variants_hold_values,

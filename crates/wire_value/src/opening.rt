@@ -1,7 +1,7 @@
 //! The front of an array at the end of an output.
 ghost use Rattle.std.specs.Prelude.{◌≡◌, ◌+◌, ◌<◌, ◌≤◌, ◌++◌, OnOk, length, replicate};
 ghost use Rattle.wire_number.specs.Number.{padding};
-ghost use Rattle.wire_spelling.specs.Spelling.{aligned};
+ghost use Rattle.wire_encoding.specs.Encoding.{aligned};
 ghost use Rattle.wire_value.specs.Writing.{Grown};
 
 use std::alloc::AllocError;

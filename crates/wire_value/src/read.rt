@@ -1,23 +1,23 @@
 //! Reading values by their types. `room` is how many containers may still be opened.
 ghost use Rattle.std.specs.Prelude.{◌≡◌, length, map};
 ghost use Rattle.wire_signature.specs.Parsing.{type_in};
-ghost use Rattle.wire_signature.specs.Shape.{alignment, shapes_of};
+ghost use Rattle.wire_signature.specs.SingleType.{alignment, single_types_of};
 ghost use Rattle.wire_tree.specs.Datum.{array as array_datum, data_of, dict as dict_datum, entry_type, struct as struct_datum};
 ghost use Rattle.wire_tree.specs.DatumView.{datum_of, entry_of};
 ghost use Rattle.wire_number.specs.Reading.{made};
-ghost use Rattle.wire_spelling.specs.Reading.{array_at, fields_at, leaf_at, many_at, struct_at, value_at, value_step, variant_at};
+ghost use Rattle.wire_encoding.specs.Reading.{array_at, fields_at, leaf_at, many_at, struct_at, value_at, value_step, variant_at};
 ghost use Rattle.wire_number.specs.ReaderView.{cursor_of};
-ghost use Rattle.wire_spelling.specs.ReaderView.{Gives};
+ghost use Rattle.wire_encoding.specs.ReaderView.{Gives};
 
 use crate::basics::read_basic;
 use std::alloc::Global;
+use wire_encoding::{boundary, elements, utf8};
 use wire_number::{Endian, Reader};
 use wire_signature::{BasicType, TypeNode, ValueType, VariantError};
-use wire_spelling::{boundary, elements, utf8};
 use wire_tree::{Entries, Inner, Tree, Trees};
 
 /// The single complete type that bytes are the text of.
-#[tactic(auto, using(wire_spelling::proofs::Ascii::no_type))]
+#[tactic(auto, using(wire_encoding::proofs::Ascii::no_type))]
 fn read_type(alloc: Global, bytes: &[u8]) -> Result<ValueType, VariantError>
     ensures { Gives (λ t. t) result (type_in bytes.now) }
 {
@@ -46,7 +46,7 @@ fn read_leaf<'a>(
 
 /// A value of the type, and what stands behind it.
 #[cycle(read)]
-#[tactic(auto, unfolding(wire_spelling::specs::Reading::value_at))]
+#[tactic(auto, unfolding(wire_encoding::specs::Reading::value_at))]
 pub(crate) fn read_value<'a>(
     alloc: Global,
     order: Endian,
@@ -85,7 +85,7 @@ fn read_kind<'a>(
 
 /// A variant: the signature of one type, and a value of it.
 #[cycle(read)]
-#[tactic(auto, unfolding(wire_spelling::specs::Reading::variant_at))]
+#[tactic(auto, unfolding(wire_encoding::specs::Reading::variant_at))]
 fn read_variant<'a>(
     alloc: Global,
     order: Endian,
@@ -102,7 +102,7 @@ fn read_variant<'a>(
 
 /// An array.
 #[cycle(read)]
-#[tactic(auto, unfolding(wire_spelling::specs::Reading::array_at))]
+#[tactic(auto, unfolding(wire_encoding::specs::Reading::array_at))]
 fn read_array<'a>(
     alloc: Global,
     order: Endian,
@@ -122,7 +122,7 @@ fn read_array<'a>(
 
 /// All elements of an array, which fill the bytes.
 #[cycle(read)]
-#[tactic(auto, using(wire_spelling::proofs::Loops::gathered))]
+#[tactic(auto, using(wire_encoding::proofs::Loops::gathered))]
 fn read_items<'a>(
     alloc: Global,
     order: Endian,
@@ -151,7 +151,7 @@ fn read_items<'a>(
 
 /// An array of dict entries.
 #[cycle(read)]
-#[tactic(auto, using(crate::proofs::Pairs::entries), unfolding(wire_spelling::specs::Reading::array_at))]
+#[tactic(auto, using(crate::proofs::Pairs::entries), unfolding(wire_encoding::specs::Reading::array_at))]
 fn read_dict<'a>(
     alloc: Global,
     order: Endian,
@@ -170,7 +170,7 @@ fn read_dict<'a>(
 
 /// All entries of a dict, which fill the bytes.
 #[cycle(read)]
-#[tactic(auto, using(wire_spelling::proofs::Loops::gathered))]
+#[tactic(auto, using(wire_encoding::proofs::Loops::gathered))]
 fn read_entries<'a>(
     alloc: Global,
     order: Endian,
@@ -200,7 +200,7 @@ fn read_entries<'a>(
 
 /// A dict entry, which counts as a container.
 #[cycle(read)]
-#[tactic(auto, using(crate::proofs::Pairs::entries), unfolding(wire_spelling::specs::Reading::value_at, wire_spelling::specs::Reading::struct_at, wire_spelling::specs::Reading::fields_at))]
+#[tactic(auto, using(crate::proofs::Pairs::entries), unfolding(wire_encoding::specs::Reading::value_at, wire_encoding::specs::Reading::struct_at, wire_encoding::specs::Reading::fields_at))]
 fn read_entry<'a>(
     alloc: Global,
     order: Endian,
@@ -222,7 +222,7 @@ fn read_entry<'a>(
 
 /// A struct.
 #[cycle(read)]
-#[tactic(auto, unfolding(wire_spelling::specs::Reading::struct_at))]
+#[tactic(auto, unfolding(wire_encoding::specs::Reading::struct_at))]
 fn read_struct<'a>(
     alloc: Global,
     order: Endian,
@@ -230,7 +230,7 @@ fn read_struct<'a>(
     fields: &[ValueType],
     reader: Reader<'a>,
 ) -> Result<(Tree, Reader<'a>), VariantError>
-    ensures { Gives (λ x. (datum_of x.0, cursor_of x.1)) result (made (λ ds. struct_datum (data_of ds)) (struct_at (value_at room order) (shapes_of fields.now) (cursor_of reader.entry))) }
+    ensures { Gives (λ x. (datum_of x.0, cursor_of x.1)) result (made (λ ds. struct_datum (data_of ds)) (struct_at (value_at room order) (single_types_of fields.now) (cursor_of reader.entry))) }
 {
     let first = reader.align(8).ok_or(VariantError::Malformed)?;
     let (items, after) = read_fields(alloc, order, room, fields, first)?;
@@ -246,7 +246,7 @@ fn read_fields<'a>(
     fields: &[ValueType],
     reader: Reader<'a>,
 ) -> Result<(Vec<Tree>, Reader<'a>), VariantError>
-    ensures { Gives (λ x. (map datum_of x.0.items, cursor_of x.1)) result (fields_at (value_at room order) (shapes_of fields.now) (cursor_of reader.entry)) }
+    ensures { Gives (λ x. (map datum_of x.0.items, cursor_of x.1)) result (fields_at (value_at room order) (single_types_of fields.now) (cursor_of reader.entry)) }
 {
     let mut items = Vec::new(alloc);
     let mut stand = reader;

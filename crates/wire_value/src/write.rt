@@ -3,11 +3,11 @@
 ghost use Rattle.std.specs.Prelude.{◌≡◌, ◌+◌, ◌-◌, ◌<◌, ◌≤◌, ◌++◌, drop, length, map, take};
 ghost use Rattle.std.specs.Int.{w32};
 ghost use Rattle.wire_number.specs.Number.{number_text};
-ghost use Rattle.wire_signature.specs.Shape.{IsType, Shape, alignment};
+ghost use Rattle.wire_signature.specs.SingleType.{IsType, SingleType, alignment};
 ghost use Rattle.wire_signature.specs.declared.basic.BasicType.{BasicType};
-ghost use Rattle.wire_tree.specs.Datum.{AreElements, AreSound, IsSound, array as array_datum, data_of, dict as dict_datum, entries_of, entry, struct as struct_datum, type_of, variant};
+ghost use Rattle.wire_tree.specs.Datum.{AreElements, AreWellTyped, WellTyped, array as array_datum, data_of, dict as dict_datum, entries_of, entry, struct as struct_datum, type_of, variant};
 ghost use Rattle.wire_tree.specs.DatumView.{datum_of, pair_of};
-ghost use Rattle.wire_spelling.specs.Spelling.{AllFit, ArraysFit, spelling, spellings};
+ghost use Rattle.wire_encoding.specs.Encoding.{AllFit, ArraysFit, encoding, encodings};
 ghost use Rattle.wire_value.specs.Writing.{Closed, Wrote};
 
 use crate::error::EncodeError;
@@ -17,9 +17,9 @@ use crate::write_leaf::{
     write_signature, write_string, write_uint16, write_uint32, write_uint64, write_unix_fd,
 };
 use std::alloc::Global;
+use wire_encoding::{MAX_ARRAY_LENGTH, boundary};
 use wire_number::{Endian, append_signature, pad_to, padding_for_n_bytes, put_u32};
 use wire_signature::ValueType;
-use wire_spelling::{MAX_ARRAY_LENGTH, boundary};
 use wire_tree::{Tree, type_text};
 
 /// Puts the length of the elements, which begin at `start`, at its place before them.
@@ -41,7 +41,7 @@ fn close_array(
     Ok(())
 }
 
-/// Appends the spelling of a value.
+/// Appends the encoding of a value.
 #[cycle(write)]
 pub(crate) fn write_value(
     alloc: Global,
@@ -51,8 +51,8 @@ pub(crate) fn write_value(
     tree: &Tree,
 ) -> Result<(), EncodeError>
     requires shift { shift < 8 }
-    requires sound { IsSound (datum_of tree.now) }
-    ensures { Wrote result (spelling order (shift + length out.old.items) (datum_of tree.now)) (ArraysFit order (shift + length out.old.items) (datum_of tree.now)) out.old.items out.new.items }
+    requires well_typed { WellTyped (datum_of tree.now) }
+    ensures { Wrote result (encoding order (shift + length out.old.items) (datum_of tree.now)) (ArraysFit order (shift + length out.old.items) (datum_of tree.now)) out.old.items out.new.items }
 {
     match tree {
         Tree::U8(number) => write_byte(order, shift, out, *number),
@@ -87,9 +87,9 @@ fn write_variant(
     tree: &Tree,
 ) -> Result<(), EncodeError>
     requires shift { shift < 8 }
-    requires sound { IsSound (datum_of tree.now) }
+    requires well_typed { WellTyped (datum_of tree.now) }
     requires kind { IsType (type_of (datum_of tree.now)) }
-    ensures { Wrote result (spelling order (shift + length out.old.items) (variant (datum_of tree.now))) (ArraysFit order (shift + length out.old.items) (variant (datum_of tree.now))) out.old.items out.new.items }
+    ensures { Wrote result (encoding order (shift + length out.old.items) (variant (datum_of tree.now))) (ArraysFit order (shift + length out.old.items) (variant (datum_of tree.now))) out.old.items out.new.items }
 {
     let text = type_text(alloc, tree)?;
     append_signature(order, out, text.as_str().as_bytes())?;
@@ -107,8 +107,8 @@ fn write_array(
     elements: &[Tree],
 ) -> Result<(), EncodeError>
     requires shift { shift < 8 }
-    requires sound { AreSound (data_of (map datum_of elements.now)) }
-    ensures { Wrote result (spelling order (shift + length out.old.items) (array_datum element.now (data_of (map datum_of elements.now)))) (ArraysFit order (shift + length out.old.items) (array_datum element.now (data_of (map datum_of elements.now)))) out.old.items out.new.items }
+    requires well_typed { AreWellTyped (data_of (map datum_of elements.now)) }
+    ensures { Wrote result (encoding order (shift + length out.old.items) (array_datum element.now (data_of (map datum_of elements.now)))) (ArraysFit order (shift + length out.old.items) (array_datum element.now (data_of (map datum_of elements.now)))) out.old.items out.new.items }
 {
     let place = out.len() + padding_for_n_bytes(shift + out.len(), 4);
     open_array(out, shift, boundary(element))?;
@@ -127,8 +127,8 @@ fn write_items(
     trees: &[Tree],
 ) -> Result<(), EncodeError>
     requires shift { shift < 8 }
-    requires sound { AreSound (data_of (map datum_of trees.now)) }
-    ensures { Wrote result (spellings order (shift + length out.old.items) (data_of (map datum_of trees.now))) (AllFit order (shift + length out.old.items) (data_of (map datum_of trees.now))) out.old.items out.new.items }
+    requires well_typed { AreWellTyped (data_of (map datum_of trees.now)) }
+    ensures { Wrote result (encodings order (shift + length out.old.items) (data_of (map datum_of trees.now))) (AllFit order (shift + length out.old.items) (data_of (map datum_of trees.now))) out.old.items out.new.items }
 {
     for each in trees {
         write_value(alloc, order, shift, out, each)?;
@@ -146,8 +146,8 @@ fn write_dict(
     pairs: &[(Tree, Tree)],
 ) -> Result<(), EncodeError>
     requires shift { shift < 8 }
-    requires sound { AreSound (entries_of (map pair_of pairs.now)) }
-    ensures { (k : BasicType) (v : Shape) → Wrote result (spelling order (shift + length out.old.items) (dict_datum k v (entries_of (map pair_of pairs.now)))) (ArraysFit order (shift + length out.old.items) (dict_datum k v (entries_of (map pair_of pairs.now)))) out.old.items out.new.items }
+    requires well_typed { AreWellTyped (entries_of (map pair_of pairs.now)) }
+    ensures { (k : BasicType) (v : SingleType) → Wrote result (encoding order (shift + length out.old.items) (dict_datum k v (entries_of (map pair_of pairs.now)))) (ArraysFit order (shift + length out.old.items) (dict_datum k v (entries_of (map pair_of pairs.now)))) out.old.items out.new.items }
 {
     let place = out.len() + padding_for_n_bytes(shift + out.len(), 4);
     open_array(out, shift, 8)?;
@@ -166,8 +166,8 @@ fn write_entries(
     pairs: &[(Tree, Tree)],
 ) -> Result<(), EncodeError>
     requires shift { shift < 8 }
-    requires sound { AreSound (entries_of (map pair_of pairs.now)) }
-    ensures { Wrote result (spellings order (shift + length out.old.items) (entries_of (map pair_of pairs.now))) (AllFit order (shift + length out.old.items) (entries_of (map pair_of pairs.now))) out.old.items out.new.items }
+    requires well_typed { AreWellTyped (entries_of (map pair_of pairs.now)) }
+    ensures { Wrote result (encodings order (shift + length out.old.items) (entries_of (map pair_of pairs.now))) (AllFit order (shift + length out.old.items) (entries_of (map pair_of pairs.now))) out.old.items out.new.items }
 {
     for each in pairs {
         write_entry(alloc, order, shift, out, &each.0, &each.1)?;
@@ -186,9 +186,9 @@ fn write_entry(
     value: &Tree,
 ) -> Result<(), EncodeError>
     requires shift { shift < 8 }
-    requires key { IsSound (datum_of key.now) }
-    requires value { IsSound (datum_of value.now) }
-    ensures { Wrote result (spelling order (shift + length out.old.items) (entry (datum_of key.now, datum_of value.now))) (ArraysFit order (shift + length out.old.items) (entry (datum_of key.now, datum_of value.now))) out.old.items out.new.items }
+    requires key { WellTyped (datum_of key.now) }
+    requires value { WellTyped (datum_of value.now) }
+    ensures { Wrote result (encoding order (shift + length out.old.items) (entry (datum_of key.now, datum_of value.now))) (ArraysFit order (shift + length out.old.items) (entry (datum_of key.now, datum_of value.now))) out.old.items out.new.items }
 {
     pad_to(out, shift, 8)?;
     write_value(alloc, order, shift, out, key)?;
@@ -205,8 +205,8 @@ fn write_struct(
     fields: &[Tree],
 ) -> Result<(), EncodeError>
     requires shift { shift < 8 }
-    requires sound { AreSound (data_of (map datum_of fields.now)) }
-    ensures { Wrote result (spelling order (shift + length out.old.items) (struct_datum (data_of (map datum_of fields.now)))) (ArraysFit order (shift + length out.old.items) (struct_datum (data_of (map datum_of fields.now)))) out.old.items out.new.items }
+    requires well_typed { AreWellTyped (data_of (map datum_of fields.now)) }
+    ensures { Wrote result (encoding order (shift + length out.old.items) (struct_datum (data_of (map datum_of fields.now)))) (ArraysFit order (shift + length out.old.items) (struct_datum (data_of (map datum_of fields.now)))) out.old.items out.new.items }
 {
     pad_to(out, shift, 8)?;
     write_items(alloc, order, shift, out, fields)

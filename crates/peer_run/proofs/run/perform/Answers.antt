@@ -1,5 +1,6 @@
 use Rattle.std.proofs.Common.{◌≡◌, ◌∙◌, refl, ◌++◌, ◌-◌, sym, ap, subst, length, drop, if◌then◌else◌}
-use Rattle.peer_route.specs.{Entries.{trail, writes_of, write_fault}, History.after_all, Left.{View, Left}}
+use Rattle.peer_route.specs.Entries.{trail, writes_of, write_fault}
+use Rattle.peer_core.specs.{History.after_all, Left.{View, Left}}
 use Rattle.peer_run.specs.Stands.{PeerView, AreTaken, call_owners, stream_owners}
 use Rattle.peer_run.proofs.{Performing.{performed, fits, trail_setting}, KnownEnd.closed_known, run.perform.Goals.{then-flush, else-flush}}
 use Rattle.peer_run.proofs.run.perform.Goals as goal

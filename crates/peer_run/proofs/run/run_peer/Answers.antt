@@ -1,6 +1,6 @@
 use Rattle.std.proofs.{Common.{rules, [], ◌∷◌, ◌++◌, map, take, reverse, sym, ◌∙◌, ap, arith, refl}, lemmas.List.{take_all, take_more, reverse-append, map_push}}
 use Rattle.peer_run.specs.Names.{is_bus, name_of, command_of}
-use Rattle.peer_route.specs.{Parcel.Setting, Entries.trail}
+use Rattle.peer_route.specs.{Trail.Setting, Entries.trail}
 use Rattle.peer_run.proofs.{Performing.trail_setting, Following.{start_running, runs_of}, KnownEnd.closed_known}
 use Rattle.peer_run.proofs.run.run_peer.Goals as goal
 

@@ -1,5 +1,5 @@
 use Rattle.peer_script.specs.Word.{unescaped}
-use Rattle.peer_route.proofs.Spelled.{taken_more}
+use Rattle.peer_words.proofs.Spelled.{taken_more}
 use Rattle.peer_script.proofs.word.unescaped.Goals as goal
 
 pub loop-rest-preserved : goal.loop-rest-preserved

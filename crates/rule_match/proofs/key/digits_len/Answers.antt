@@ -3,7 +3,7 @@ use Rattle.std.specs.Prelude.{unwrap_or}
 use Rattle.std.specs.Char.{is_ascii_digit}
 use Rattle.std.proofs.lemmas.Iterator.{YieldsList-from_slice}
 use Rattle.std.proofs.lemmas.Iterator.Search.{position_from_yields_List}
-use Rattle.rule_arguments.proofs.Positions.{place_told}
+use Rattle.rule_match.proofs.Positions.{place_told}
 use Rattle.rule_match.proofs.key.digits_len.Goals as goal
 
 pub returns-clause-value : goal.returns-clause-value

@@ -1,6 +1,6 @@
 use Rattle.std.proofs.Common.{◌++◌, ap, ◌∙◌}
-use Rattle.wire_signature.specs.Shape.{type_text}
-use Rattle.wire_body.proofs.Spelled.{kind_tells}
+use Rattle.wire_signature.specs.SingleType.{type_text}
+use Rattle.wire_body.proofs.TypeTexts.{kind_tells}
 use Rattle.wire_body.proofs.kind.is_kind.Goals as goal
 
 pub returns-clause-value : goal.returns-clause-value

@@ -13,5 +13,5 @@ returns-in-Err c =
     record {
       exact = tells_as c.in-Err.error _ (rw c.deref.ensures.value at c.in-Err.ensures.exact);
       front = tt;
-      rest = c.give_up.ensures ∙ rest_as c.in-Err.error c.args.bytes.now.items;
+      rest = c.discard.ensures ∙ rest_as c.in-Err.error c.args.bytes.now.items;
     }

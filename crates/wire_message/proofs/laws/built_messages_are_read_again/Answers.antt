@@ -1,5 +1,5 @@
-use Rattle.wire_message.proofs.Law.{draft_again}
+use Rattle.wire_message.proofs.Law.{builder_again}
 use Rattle.wire_message.proofs.laws.built_messages_are_read_again.Goals as goal
 
 pub returns-clause-again : goal.returns-clause-again
-returns-clause-again c = draft_again
+returns-clause-again c = builder_again

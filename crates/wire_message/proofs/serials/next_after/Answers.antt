@@ -1,5 +1,5 @@
 use Rattle.std.proofs.Common.{arith, sym, ◌∙◌, ◌≡◌}
-use Rattle.wire_message.proofs.Circle.{next-of, round_all, tried-among}
+use Rattle.wire_message.proofs.SerialOrder.{next-of, round_all, tried-among}
 use Rattle.wire_message.proofs.serials.next_after.Goals as goal
 
 -- the candidate isn't pending

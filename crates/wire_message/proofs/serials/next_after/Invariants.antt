@@ -1,4 +1,4 @@
-use Rattle.wire_message.proofs.Circle.{Searched}
+use Rattle.wire_message.proofs.SerialOrder.{Searched}
 use Rattle.wire_message.proofs.serials.next_after.Given as goal
 
 abbrev pub invariant-loop : goal.invariant-loop

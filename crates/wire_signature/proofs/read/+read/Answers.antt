@@ -1,7 +1,7 @@
 use Rattle.std.proofs.Common.{◌≡◌, ◌-◌, ◌∷◌, Some, None, arith, sym, ◌∙◌, ap}
 use Rattle.std.proofs.lemmas.Result.{err_from_is_err_and}
 use Rattle.wire_signature.specs.declared.error.VariantError.TheVariants as errors
-use Rattle.wire_signature.specs.TypeView.{shape_of}
+use Rattle.wire_signature.specs.TypeView.{single_type_of}
 use Rattle.wire_signature.specs.Parsing.{behind, type_at, type_step}
 use Rattle.wire_signature.proofs.Steps.{type_at-kind}
 use Rattle.wire_signature.proofs.Rows.{type_valid, type_shorter, tells_as, before-end, before-last, before-more, before-none}
@@ -18,7 +18,7 @@ read_type-returns-in_err-node t c =
 pub read_type-from_node-requires : goal.read_type-from_node-requires
 read_type-from_node-requires t c =
     let e : c.args.text.now ≡ c.in_ok-first.first ∷ c.in_ok-first.rest.now = grind arith in
-    type_valid c.args.room c.args.arrays c.args.structs c.args.text.now (shape_of c.in_ok-node.node) c.in_ok-node.rest.now
+    type_valid c.args.room c.args.arrays c.args.structs c.args.text.now (single_type_of c.in_ok-node.node) c.in_ok-node.rest.now
     (type_at-kind _ _ _ _ _ _ (omega arith) e ∙ c.in_ok-node.ensures)
     c.requires.arrays c.requires.structs c.requires.short
 

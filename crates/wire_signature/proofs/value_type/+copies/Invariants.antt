@@ -1,9 +1,9 @@
 use Rattle.std.proofs.Common.{◌≡◌, ◌+◌, ◌*◌, take}
-use Rattle.wire_signature.specs.Shape.{shapes_of, type_count, types_count}
+use Rattle.wire_signature.specs.SingleType.{single_types_of, type_count, types_count}
 use Rattle.wire_signature.proofs.value_type.+copies.Given as goal
 
 abbrev pub decreases-copies_of : goal.decreases-copies_of
-decreases-copies_of l = 2 * types_count (shapes_of l.types.now) + 1
+decreases-copies_of l = 2 * types_count (single_types_of l.types.now) + 1
 
 abbrev pub decreases-copy_of : goal.decreases-copy_of
 decreases-copy_of l = 2 * type_count l.value_type.now

@@ -1,9 +1,9 @@
 use Rattle.std.proofs.Common.{◌≡◌, ◌+◌, ◌*◌, length, take}
-use Rattle.wire_signature.specs.Shape.{shapes_of, type_count, types_count}
+use Rattle.wire_signature.specs.SingleType.{single_types_of, type_count, types_count}
 use Rattle.wire_signature.proofs.value_type.+same.Given as goal
 
 abbrev pub decreases-are_same : goal.decreases-are_same
-decreases-are_same l = 2 * types_count (shapes_of l.types.now) + 1
+decreases-are_same l = 2 * types_count (single_types_of l.types.now) + 1
 
 abbrev pub decreases-is_same : goal.decreases-is_same
 decreases-is_same l = 2 * type_count l.value_type.now

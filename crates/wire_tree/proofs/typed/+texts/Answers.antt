@@ -1,5 +1,5 @@
 use Rattle.std.proofs.Common.{◌++◌, add-one, arith, map, take, sym, ◌∙◌, ap, append_assoc, string_bytes}
-use Rattle.wire_signature.specs.Shape.{type_text, types_text}
+use Rattle.wire_signature.specs.SingleType.{type_text, types_text}
 use Rattle.wire_tree.specs.Datum.{data_of, type_of, types_of}
 use Rattle.wire_tree.specs.DatumView.{datum_of}
 use Rattle.wire_tree.proofs.Parts.{size_item, types_text-take}

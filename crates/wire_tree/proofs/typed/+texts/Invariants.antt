@@ -1,5 +1,5 @@
 use Rattle.std.proofs.Common.{◌≡◌, ◌++◌, map, take, string_bytes}
-use Rattle.wire_signature.specs.Shape.{types_text}
+use Rattle.wire_signature.specs.SingleType.{types_text}
 use Rattle.wire_tree.specs.Datum.{data_of, size_of, sizes_of, types_of}
 use Rattle.wire_tree.specs.DatumView.{datum_of}
 use Rattle.wire_tree.proofs.typed.+texts.Given as goal

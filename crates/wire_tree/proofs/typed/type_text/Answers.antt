@@ -1,5 +1,5 @@
 use Rattle.std.proofs.Common.{◌++◌, ◌∙◌, ap}
-use Rattle.wire_signature.specs.Shape.{type_text}
+use Rattle.wire_signature.specs.SingleType.{type_text}
 use Rattle.wire_tree.specs.Datum.{type_of}
 use Rattle.wire_tree.specs.DatumView.{datum_of}
 use Rattle.wire_tree.proofs.typed.type_text.Goals as goal

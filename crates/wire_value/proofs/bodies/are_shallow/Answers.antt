@@ -1,6 +1,6 @@
 use Rattle.std.proofs.Common.{◌≤◌, add-one, ap, arith, sym, ◌∙◌}
 use Rattle.wire_tree.specs.DatumView.{datum_of}
-use Rattle.wire_spelling.specs.Spelling.{depth}
+use Rattle.wire_encoding.specs.Encoding.{depth}
 use Rattle.wire_value.proofs.BodyLaws.{depth_value, depth_more}
 use Rattle.wire_value.proofs.bodies.are_shallow.Goals as goal
 

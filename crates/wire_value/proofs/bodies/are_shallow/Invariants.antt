@@ -1,6 +1,6 @@
 use Rattle.std.proofs.Common.{◌≤◌, take}
 use Rattle.wire_tree.specs.Datum.{data_of}
-use Rattle.wire_spelling.specs.Spelling.{depths}
+use Rattle.wire_encoding.specs.Encoding.{depths}
 use Rattle.wire_value.proofs.bodies.are_shallow.Given as goal
 
 abbrev pub invariant-loop-value : goal.invariant-loop-value

@@ -1,6 +1,6 @@
 use Rattle.std.proofs.Common.{◌≤◌, suc, take, add-one, arith, sym, ◌∙◌, ap}
 use Rattle.wire_tree.specs.DatumView.{datum_of, entry_of}
-use Rattle.wire_spelling.specs.Spelling.{depth, depths}
+use Rattle.wire_encoding.specs.Encoding.{depth, depths}
 use Rattle.wire_tree.proofs.Parts.{entries_are}
 use Rattle.wire_value.proofs.DepthLaws.{depth_item, depth_take}
 use Rattle.wire_value.proofs.depth.+within.Goals as goal

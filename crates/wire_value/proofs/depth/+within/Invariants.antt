@@ -1,7 +1,7 @@
 use Rattle.std.proofs.Common.{◌≤◌, ◌+◌, ◌*◌, map, take}
 use Rattle.wire_tree.specs.Datum.{data_of, entries_of}
 use Rattle.wire_tree.specs.DatumView.{datum_of, pair_of}
-use Rattle.wire_spelling.specs.Spelling.{depths}
+use Rattle.wire_encoding.specs.Encoding.{depths}
 use Rattle.wire_value.proofs.depth.+within.Given as goal
 
 abbrev pub decreases-is_within : goal.decreases-is_within

@@ -1,7 +1,7 @@
 use Rattle.std.proofs.Common.{◌≡◌, ◌++◌, ◌∙◌, ap}
 use Rattle.std.proofs.lemmas.Result.{err_from_is_err_and}
 use Rattle.wire_tree.specs.DatumView.{datum_of}
-use Rattle.wire_value.proofs.EncodeLaws.{encoded, not_encoded}
+use Rattle.wire_value.proofs.EncodeLaws.{encoded_value, not_encoded}
 use Rattle.wire_value.proofs.encoding.encode.Goals as goal
 
 pub returns-in_err-write_value : goal.returns-in_err-write_value
@@ -14,6 +14,6 @@ returns-in_err-write_value c =
 pub returns : goal.returns
 returns c =
     let whole : c.extend_from_slice.new.self.items ≡ c.args.out.now.items ++ c.as_slice.result.now = c.in_ok-extend_from_slice.ensures.items in
-    encoded c.args.order c.args.at c.args.value.now (datum_of c.tree-tree.result.now) _ _ c.args.out.now.items c.extend_from_slice.new.self.items c.tree-tree.ensures.tree c.new-text.ensures.items
-    (c.is_within.ensures.0 c.if-not-is_within.false) c.tree-tree.ensures.formed c.in_ok-write_value.ensures
+    encoded_value c.args.order c.args.at c.args.value.now (datum_of c.tree-tree.result.now) _ _ c.args.out.now.items c.extend_from_slice.new.self.items c.tree-tree.ensures.tree c.new-text.ensures.items
+    (c.is_within.ensures.0 c.if-not-is_within.false) c.tree-tree.ensures.valid c.in_ok-write_value.ensures
     (whole ∙ ap (λ r. c.args.out.now.items ++ r) c.as_slice.ensures.value)

@@ -3,9 +3,9 @@ use Rattle.std.proofs.lemmas.Bool.Decides.{nat_tests}
 use Rattle.std.proofs.lemmas.List.{map-append}
 use Rattle.std.proofs.lemmas.Result.{err_from_is_err_and}
 use Rattle.wire_tree.specs.Datum.{entry_type}
-use Rattle.wire_spelling.specs.Reading.{value_at}
+use Rattle.wire_encoding.specs.Reading.{value_at}
 use Rattle.wire_number.specs.ReaderView.{cursor_of}
-use Rattle.wire_spelling.proofs.Loops.{many_none, joined, joined_more, joined_field, joined_done, joined_fields, fields_next, refuses_as, value_in_room}
+use Rattle.wire_encoding.proofs.Loops.{many_none, joined, joined_more, joined_field, joined_done, joined_fields, fields_next, refuses_as, value_in_room}
 use Rattle.wire_value.proofs.read.+read.Goals as goal
 
 pub read_value-returns-else-room-eq0 : goal.read_value-returns-else-room-eq0

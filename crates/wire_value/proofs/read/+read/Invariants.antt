@@ -1,10 +1,10 @@
 use Rattle.std.proofs.Common.{◌≡◌, ◌+◌, length, drop, map, ◌-◌, ◌*◌}
-use Rattle.wire_signature.specs.Shape.{shapes_of}
+use Rattle.wire_signature.specs.SingleType.{single_types_of}
 use Rattle.wire_tree.specs.Datum.{entry_type}
 use Rattle.wire_tree.specs.DatumView.{datum_of, entry_of}
-use Rattle.wire_spelling.specs.Reading.{fields_at, many_at, value_at}
+use Rattle.wire_encoding.specs.Reading.{fields_at, many_at, value_at}
 use Rattle.wire_number.specs.ReaderView.{cursor_of}
-use Rattle.wire_spelling.proofs.Loops.{joined, joined_fields}
+use Rattle.wire_encoding.proofs.Loops.{joined, joined_fields}
 use Rattle.wire_value.proofs.read.+read.Given as goal
 
 abbrev pub decreases-read_value : goal.decreases-read_value
@@ -52,5 +52,5 @@ invariant-read_entries-loop l =
 -- the fields so far, and those that are left, are all
 abbrev pub invariant-read_fields-loop-each : goal.invariant-read_fields-loop-each
 invariant-read_fields-loop-each l =
-    fields_at (value_at l.room l.order) (shapes_of l.fields) (cursor_of l.reader)
-    ≡ joined_fields (map datum_of l.items.items) (fields_at (value_at l.room l.order) (shapes_of (drop l.each-index l.fields)) (cursor_of l.stand))
+    fields_at (value_at l.room l.order) (single_types_of l.fields) (cursor_of l.reader)
+    ≡ joined_fields (map datum_of l.items.items) (fields_at (value_at l.room l.order) (single_types_of (drop l.each-index l.fields)) (cursor_of l.stand))

@@ -1,26 +1,26 @@
 use Rattle.std.proofs.Common.{◌≡◌, length, map, arith, ◌∙◌, ap, subst}
 use Rattle.std.proofs.lemmas.Result.{err_from_is_err_and}
-use Rattle.wire_tree.specs.Datum.{Data, data_of, entries_of, entry_type, AreElements, AreSound, type_of, size_of, sizes_of}
-use Rattle.wire_signature.specs.Shape.{type_text}
+use Rattle.wire_tree.specs.Datum.{Data, data_of, entries_of, entry_type, AreElements, AreWellTyped, type_of, size_of, sizes_of}
+use Rattle.wire_signature.specs.SingleType.{type_text}
 use Rattle.wire_tree.specs.DatumView.{datum_of, pair_of, entry_of}
 use Rattle.wire_tree.proofs.Parts.{size_item, size_pair, entries_are}
-use Rattle.wire_tree.proofs.Checked.{sound-item}
-use Rattle.wire_spelling.specs.Spelling.{spelling, ArraysFit}
-use Rattle.wire_value.proofs.Writes.{Writing, elements_sound, write_start, write_next, write_done, write_refused, array_written, array_refused, struct_written, variant_written, entry_written, key_refused}
+use Rattle.wire_tree.proofs.Checked.{well_typed-item}
+use Rattle.wire_encoding.specs.Encoding.{encoding, ArraysFit}
+use Rattle.wire_value.proofs.Writes.{Writing, elements_well_typed, write_start, write_next, write_done, write_refused, array_written, array_refused, struct_written, variant_written, entry_written, key_refused}
 use Rattle.wire_value.proofs.write.+write.Goals as goal
 
 pub write_value-write_array-requires : goal.write_value-write_array-requires
 write_value-write_array-requires t c =
-    let s : AreElements c.in-Array.element (data_of c.in-Array.elements) = rw c.in-Array.is at c.requires.sound in (
+    let s : AreElements c.in-Array.element (data_of c.in-Array.elements) = rw c.in-Array.is at c.requires.well_typed in (
       omega (arith, ap (λ ds. sizes_of (data_of ds)) c.as_slice.ensures, ap (λ u. size_of (datum_of u)) c.in-Array.is),
-      (c.requires.shift, rw c.as_slice.ensures (elements_sound _ _ s)),
+      (c.requires.shift, rw c.as_slice.ensures (elements_well_typed _ _ s)),
     )
 
 pub write_value-write_dict-requires : goal.write_value-write_dict-requires
 write_value-write_dict-requires t c =
-    let s : AreElements (entry_type c.in-Dict.field-0 c.in-Dict.field-1) (entries_of c.in-Dict.entries) = rw c.in-Dict.is at c.requires.sound in (
+    let s : AreElements (entry_type c.in-Dict.field-0 c.in-Dict.field-1) (entries_of c.in-Dict.entries) = rw c.in-Dict.is at c.requires.well_typed in (
       omega (arith, ap (λ es. sizes_of (entries_of es)) c.as_slice-in-Dict.ensures, ap (λ u. size_of (datum_of u)) c.in-Dict.is),
-      (c.requires.shift, rw c.as_slice-in-Dict.ensures (elements_sound _ _ s)),
+      (c.requires.shift, rw c.as_slice-in-Dict.ensures (elements_well_typed _ _ s)),
     )
 
 pub write_value-returns-in-Dict : goal.write_value-returns-in-Dict
@@ -32,7 +32,7 @@ write_items-loop-each-init t c = write_start _ _ _ _
 pub write_items-write_value-requires : goal.write_items-write_value-requires
 write_items-write_value-requires t c = (
   omega (arith, size_item c.args.trees.now c.loop-each.each-index c.each-item.result c.loop-each-test.true c.each-item.is),
-  (c.requires.shift, sound-item datum_of c.args.trees.now c.loop-each.each-index c.each-item.result c.requires.sound c.loop-each-test.true c.each-item.is),
+  (c.requires.shift, well_typed-item datum_of c.args.trees.now c.loop-each.each-index c.each-item.result c.requires.well_typed c.loop-each-test.true c.each-item.is),
 )
 
 pub write_items-returns-in_err-write_value : goal.write_items-returns-in_err-write_value
@@ -50,7 +50,7 @@ write_items-returns t c = write_done datum_of _ _ _ _ c.loop-each.each-index _ _
 
 pub write_entries-write_entry-requires : goal.write_entries-write_entry-requires
 write_entries-write_entry-requires t c =
-    let s = sound-item entry_of c.args.pairs.now c.loop-each.each-index c.each-item.result (subst AreSound (entries_are c.args.pairs.now) c.requires.sound) c.loop-each-test.true c.each-item.is in (
+    let s = well_typed-item entry_of c.args.pairs.now c.loop-each.each-index c.each-item.result (subst AreWellTyped (entries_are c.args.pairs.now) c.requires.well_typed) c.loop-each-test.true c.each-item.is in (
       omega (arith, size_pair c.args.pairs.now c.loop-each.each-index c.each-item.result c.loop-each-test.true c.each-item.is),
       (c.requires.shift, (s.0, s.1.0)),
     )
@@ -85,13 +85,13 @@ write_array-returns t c =
     c.in_ok-write_items.ensures (rw start at c.close_array.ensures)
 
 pub write_dict-returns-in_err-write_entries : goal.write_dict-returns-in_err-write_entries
-unfolding spelling ArraysFit
+unfolding encoding ArraysFit
 write_dict-returns-in_err-write_entries t c =
     let p = err_from_is_err_and c.from_residual-in_err-write_entries.result c.from_residual-in_err-write_entries.ensures.1 in
     rw (p.1, p.2) (λ k v. array_refused _ _ (entry_type k v) _ _ _ _ _ c.in_ok-open_array.ensures.opened c.in_err-write_entries.ensures)
 
 pub write_dict-returns : goal.write_dict-returns
-unfolding spelling ArraysFit
+unfolding encoding ArraysFit
 write_dict-returns t c =
     let start : c.len-first.result ≡ length c.open_array.new.out.items = omega arith in
     λ k v. array_written _ _ _ (entry_type k v) _ _ _ _ _ _ (omega (arith, c.padding_for_n_bytes.ensures.exact)) c.in_ok-open_array.ensures.opened
@@ -102,9 +102,9 @@ write_struct-returns t c = struct_written _ _ _ _ _ _ _ c.in_ok-pad_to.ensures c
 
 pub write_variant-returns : goal.write_variant-returns
 write_variant-returns t c =
-    let spelled : c.as_bytes.result.now ≡ type_text (type_of (datum_of c.args.tree.now)) =
+    let encoded : c.as_bytes.result.now ≡ type_text (type_of (datum_of c.args.tree.now)) =
     c.as_bytes.ensures.value ∙ c.as_str.ensures.value ∙ c.in_ok-text.ensures in
-    variant_written _ _ _ _ _ _ _ c.as_bytes.result.now spelled c.in_ok-append_signature.ensures c.write_value.ensures
+    variant_written _ _ _ _ _ _ _ c.as_bytes.result.now encoded c.in_ok-append_signature.ensures c.write_value.ensures
 
 pub write_entry-returns-in_err-write_value : goal.write_entry-returns-in_err-write_value
 write_entry-returns-in_err-write_value t c =

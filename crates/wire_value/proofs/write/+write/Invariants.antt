@@ -28,7 +28,7 @@ decreases-write_entry l = 4 * (size_of (datum_of l.key.now) + size_of (datum_of 
 abbrev pub decreases-write_struct : goal.decreases-write_struct
 decreases-write_struct l = 4 * sizes_of (data_of (map datum_of l.fields.now)) + 3
 
--- what is written so far, and the spellings of the values that are left, are the whole
+-- what is written so far, and the encodings of the values that are left, are the whole
 abbrev pub invariant-write_items-loop-each : goal.invariant-write_items-loop-each
 invariant-write_items-loop-each l =
     Writing l.order l.shift (data_of (map datum_of l.trees)) (data_of (map datum_of (drop l.each-index l.trees))) l.fn.out.items l.out.items

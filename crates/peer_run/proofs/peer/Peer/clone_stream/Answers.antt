@@ -1,5 +1,7 @@
 use Rattle.std.proofs.Common.{sym, subst, refl, IfOk}
-use Rattle.peer_route.specs.{History.{Cloned, Made, after}, Left.Left, Plan.{where_open, makes, on_stream}}
+use Rattle.peer_streams.specs.History.{Cloned}
+use Rattle.peer_core.specs.{History.{Made, after}, Left.Left}
+use Rattle.peer_route.specs.Plan.{where_open, makes, on_stream}
 use Rattle.peer_run.specs.{Stands.{PeerView, Stands, Did}, Names.{Answer, StreamOp}}
 use Rattle.peer_run.proofs.Quietly.{makes_did, answers_did, uncloned_did}
 use Rattle.peer_run.proofs.peer.Peer.clone_stream.Goals as goal

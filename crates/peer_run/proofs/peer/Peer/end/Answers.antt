@@ -1,5 +1,7 @@
 use Rattle.std.proofs.Common.{◌≡◌, ◌-◌, sym, ap, subst, refl, ◌∙◌, length, Some, option_map}
-use Rattle.peer_route.specs.{Entries.unsent, Plan.ends, Leaving.ClosesStreams, declared.streams.MessageStream.MessageStream}
+use Rattle.peer_route.specs.{Entries.unsent, Plan.ends}
+use Rattle.peer_core.specs.Leaving.{ClosesStreams}
+use Rattle.peer_streams.specs.declared.streams.MessageStream.{MessageStream}
 use Rattle.peer_run.specs.{Stands.{PeerView, Stands, forgotten}, Names.Spent}
 use Rattle.peer_run.proofs.{Quietly.answers_did, RuleStreams.{gone_did, over_did, unopen_did}, peer.Peer.end.Goals.{in-Some, in-None, then-not-is_unknown, else-not-is_unknown}}
 use Rattle.peer_run.proofs.peer.Peer.end.Goals as goal

@@ -1,6 +1,7 @@
 use Rattle.std.proofs.Common.{◌≡◌, ◌≤◌, ◌-◌, ◌⊎◌, ℕ, inl, inr, List, length, ap, sym, ◌∙◌, subst, arith}
-use Rattle.peer_run.specs.{Names.Seen, Stands.PeerView}
-use Rattle.peer_route.specs.{History.{Fault, after_all}, Left.{View, Left}, Entries.repeat}
+use Rattle.peer_run.specs.{Names.MessageView, Stands.PeerView}
+use Rattle.peer_core.specs.{History.{Fault, after_all}, Left.{View, Left}}
+use Rattle.peer_route.specs.Entries.{repeat}
 use Rattle.peer_run.proofs.Sinks.{once_more}
 use Rattle.peer_run.proofs.peer.Peer.fail_rest.Goals as goal
 
@@ -35,7 +36,7 @@ returns-clause-left c = λ p left.
     let core : c.args.self.now.core ≡ c.self.inside.route = sym (ap (λ (v : PeerView). v.core) c.self.view_is) in
     let past : length c.loop-self.self-inside.route.outbox ≤ c.loop-self.self-inside.route.done = omega (arith, c.loop-self-test.false, c.outbox_done.ensures, c.outbox_len.ensures) in
     let count = ends c.self.inside.route.done c.loop-self.self-inside.route.done (length c.loop-self.self-inside.route.outbox) inv.most past in
-    subst (λ n. Left c.loop-self.self-inside.route (after_all (repeat n Fault) p)) (count ∙ ap (λ (ms : List Seen). length ms - c.self.inside.route.done) (inv.outbox ∙ ap (λ (v : View). v.outbox) (sym core)) ∙ ap (λ (v : View). length c.args.self.now.core.outbox - v.done) (sym core)) (inv.left p (subst (λ v. Left v p) core left))
+    subst (λ n. Left c.loop-self.self-inside.route (after_all (repeat n Fault) p)) (count ∙ ap (λ (ms : List MessageView). length ms - c.self.inside.route.done) (inv.outbox ∙ ap (λ (v : View). v.outbox) (sym core)) ∙ ap (λ (v : View). length c.args.self.now.core.outbox - v.done) (sym core)) (inv.left p (subst (λ v. Left v p) core left))
 
 pub returns-clause-done : goal.returns-clause-done
 returns-clause-done c = λ within.

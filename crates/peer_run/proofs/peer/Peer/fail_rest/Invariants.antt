@@ -1,6 +1,7 @@
 -- Those that were done since failed.
 use Rattle.std.proofs.Common.{◌≡◌, ◌≤◌, ◌-◌, ◌⊎◌, length}
-use Rattle.peer_route.specs.{History.{Past, Fault, after_all}, Left.Left, Entries.repeat}
+use Rattle.peer_core.specs.{History.{Past, Fault, after_all}, Left.Left}
+use Rattle.peer_route.specs.Entries.{repeat}
 use Rattle.peer_run.proofs.peer.Peer.fail_rest.Given as goal
 
 abbrev pub invariant-loop-self : goal.invariant-loop-self

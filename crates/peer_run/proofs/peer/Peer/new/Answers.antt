@@ -1,7 +1,7 @@
 -- The capacity is set, then the bus, and then the name.
 use Rattle.std.proofs.Common.{◌≡◌, ◌∙◌, ℕ, refl, sym, ap, subst, Bool, true, false, Option, Some, None, is_none, List, [], ◌∷◌, if◌then◌else◌, option_map}
 use Rattle.std.specs.Prelude.{option_to_list}
-use Rattle.peer_route.specs.{History.{Past, Main, OnBus, Named, no_past, after_all}, Left.Left}
+use Rattle.peer_core.specs.{History.{Past, Main, OnBus, Named, no_past, after_all}, Left.Left}
 use Rattle.peer_run.proofs.{Following.follows_first, peer.Peer.new.Goals.{in-Some, in_default, then-bus, else-bus, in-Some-name, in_default-name}}
 use Rattle.peer_run.proofs.peer.Peer.new.Goals as goal
 

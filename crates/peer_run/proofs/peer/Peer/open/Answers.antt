@@ -1,6 +1,8 @@
 use Rattle.std.proofs.Common.{◌≡◌, sym, ap, subst, refl, ◌∙◌, Ok, IfOk}
 use Rattle.peer_run.specs.{Names.{rule_in_bytes, Acted, Answer, Makes}, Stands.{PeerView, Stands, Did, unopened_answer}}
-use Rattle.peer_route.specs.{History.{Made, Ruled, after}, Left.Left, Bus.OpensRule, Trail.count, Plan.opens}
+use Rattle.peer_core.specs.{History.{Made, after}, Left.Left, Bus.OpensRule}
+use Rattle.peer_streams.specs.History.{Ruled}
+use Rattle.peer_route.specs.{Trail.count, Plan.opens}
 use Rattle.peer_run.proofs.{Quietly.{makes_did, answers_did}, RuleStreams.{asking_did, opened_left, opened_plan, unopened_did, misread_did, rule_read}}
 use Rattle.peer_run.proofs.peer.Peer.open.Goals as goal
 

@@ -1,5 +1,5 @@
 use Rattle.std.proofs.Common.{sym, subst, refl}
-use Rattle.peer_route.specs.Streams.{opening_answer}
+use Rattle.peer_core.specs.Asked.{opening_answer}
 use Rattle.peer_run.specs.Stands.{PeerView, Stands}
 use Rattle.peer_run.proofs.RuleStreams.{opened_did, opening_told}
 use Rattle.peer_run.proofs.peer.Peer.opened.Goals as goal

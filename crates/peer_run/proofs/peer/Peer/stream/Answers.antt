@@ -1,5 +1,6 @@
 use Rattle.std.proofs.Common.{sym, subst}
-use Rattle.peer_route.specs.{History.{Plain, Made, after}, Left.Left}
+use Rattle.peer_streams.specs.History.{Plain}
+use Rattle.peer_core.specs.{History.{Made, after}, Left.Left}
 use Rattle.peer_run.specs.Stands.{Stands}
 use Rattle.peer_run.proofs.Quietly.{makes_did}
 use Rattle.peer_run.proofs.peer.Peer.stream.Goals as goal

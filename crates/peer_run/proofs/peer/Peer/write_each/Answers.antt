@@ -2,7 +2,8 @@ use Rattle.std.proofs.{Common.{◌≡◌, ◌≤◌, ◌-◌, ◌+◌, length, a
 use Rattle.std.specs.Option.{option_copied}
 use Rattle.peer_run.specs.{Names.{cause, Writer}, declared.peer.Peer.TheInside.Inside, Stands.PeerView, Runs.{Outlet, Flushed}}
 use Rattle.wire_framing.specs.declared.write_half.WriteHalf.{WriteHalf}
-use Rattle.peer_route.specs.{History.{Past, Wrote, Fault, after_all, after}, Left.{View, Left}, Entries.{repeat, writes_of}}
+use Rattle.peer_core.specs.{History.{Past, Wrote, Fault, after_all, after}, Left.{View, Left}}
+use Rattle.peer_route.specs.Entries.{repeat, writes_of}
 use Rattle.peer_run.proofs.{Sinks.once_more, Flushing.{send_grows, past_end, waits_by, is_next, flush_wrote, flush_failed, cut_short}, peer.Peer.write_each.Given.Over, peer.Peer.write_each.Goals.{then-is_failed-via-then-is_failed, then-is_failed-via-else-is_failed+in_ok-went_out+then-not-branch}}
 use Rattle.peer_run.proofs.peer.Peer.write_each.Goals as goal
 

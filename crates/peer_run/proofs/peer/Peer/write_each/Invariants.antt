@@ -1,6 +1,7 @@
 -- Those that were done since were written, and nothing failed.
 use Rattle.std.proofs.Common.{◌≡◌, ◌≤◌, ◌-◌, false, length, drop}
-use Rattle.peer_route.specs.{History.{Past, Wrote, after_all}, Left.Left, Entries.repeat}
+use Rattle.peer_core.specs.{History.{Past, Wrote, after_all}, Left.Left}
+use Rattle.peer_route.specs.Entries.{repeat}
 use Rattle.peer_run.specs.{Stands.AreTaken, Runs.{Outlet, Sinks, Flushed, IsReady, IsFine}}
 use Rattle.peer_run.proofs.peer.Peer.write_each.Given as goal
 

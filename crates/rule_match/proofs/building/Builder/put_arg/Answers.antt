@@ -1,6 +1,6 @@
-use Rattle.rule_match.specs.RuleView.{rule_seen}
+use Rattle.rule_match.specs.RuleView.{rule_view}
 use Rattle.rule_match.proofs.Kept.{with_argument}
 use Rattle.rule_match.proofs.building.Builder.put_arg.Goals as goal
 
 pub invariant_of-rule-2 : goal.invariant_of-rule-2
-invariant_of-rule-2 c = rw c.in_ok-put.ensures.put (with_argument (rule_seen c.rule.inside) c.args.argument c.rule.invariant c.requires)
+invariant_of-rule-2 c = rw c.in_ok-put.ensures.put (with_argument (rule_view c.rule.inside) c.args.argument c.rule.invariant c.requires)

@@ -3,7 +3,7 @@ use Rattle.std.proofs.Output.{has_written_of_eq}
 use Rattle.wire_names.specs.BusName.{text_of_owned}
 use Rattle.rule_match.specs.Part.{kind_word}
 use Rattle.rule_match.specs.Printing.{named}
-use Rattle.rule_match.specs.RuleView.{rule_seen}
+use Rattle.rule_match.specs.RuleView.{rule_view}
 use Rattle.rule_match.specs.Text.{one, part_text, argument_text, place_part, rule_text}
 use Rattle.rule_match.proofs.Printed.{then_written, none_told, none_mapped, next_named, next_one, next_list, text_is}
 use Rattle.rule_match.proofs.display.MatchRuleDisplay.fmt.Goals as goal
@@ -31,7 +31,7 @@ returns g c =
     let n7 = next_list (argument_text (codes "path")) c.both-first-6.result c.both-first-7.result c.is_empty-2.result r.arg_paths c.both-first-7.ensures (rw c.as_slice-4.ensures at c.is_empty-2.ensures) in
     let w8 = rw c.namespace_of.ensures at c.write_text-6.ensures in
     record {
-      writes = λ plain ok. has_written_of_eq _ _ _ _ _ (text_is (rule_seen r) ∙ ap rule_text c.self.view_is) ((then_written _ _ _ _ _ true c.is_none-first.result (named (codes "type") kind) _ w0 n0
+      writes = λ plain ok. has_written_of_eq _ _ _ _ _ (text_is (rule_view r) ∙ ap rule_text c.self.view_is) ((then_written _ _ _ _ _ true c.is_none-first.result (named (codes "type") kind) _ w0 n0
           (then_written _ _ _ _ _ c.is_none-first.result c.both-first.result (named (codes "sender") sender) _ w1 n1
           (then_written _ _ _ _ _ c.both-first.result c.both-first-2.result (named (codes "interface") r.interface) _ w2 n2
           (then_written _ _ _ _ _ c.both-first-2.result c.both-first-3.result (named (codes "member") r.member) _ w3 n3

@@ -1,5 +1,5 @@
 use Rattle.std.proofs.Common.{map, subst, sym}
-use Rattle.wire_signature.specs.Shape.{array as array_of}
+use Rattle.wire_signature.specs.SingleType.{array as array_of}
 use Rattle.wire_tree.specs.Datum.{type_of}
 use Rattle.wire_tree.proofs.Lists.{list_of-data_of}
 use Rattle.wire_body.specs.Arguments.{TellsRead}

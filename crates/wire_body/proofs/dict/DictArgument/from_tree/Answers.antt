@@ -1,5 +1,5 @@
 use Rattle.std.proofs.Common.{map, subst, sym}
-use Rattle.wire_signature.specs.Shape.{dict as dict_of}
+use Rattle.wire_signature.specs.SingleType.{dict as dict_of}
 use Rattle.wire_tree.specs.Datum.{type_of}
 use Rattle.wire_tree.proofs.Lists.{pairs_of-entries_of}
 use Rattle.wire_body.specs.Arguments.{TellsRead}

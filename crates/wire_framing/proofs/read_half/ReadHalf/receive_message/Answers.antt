@@ -1,6 +1,6 @@
 use Rattle.std.proofs.Common.{◌-◌, ◌^◌, ◌<◌, ap, arith, refl, Ok, Err}
 use Rattle.std.proofs.lemmas.Result.{err_from_is_err_and}
-use Rattle.wire_message.specs.Front.{Seen}
+use Rattle.wire_message.specs.Front.{MessageView}
 use Rattle.wire_framing.proofs.Whole.{nothing_received}
 use Rattle.wire_framing.proofs.Kept.{failed_told, failed_cause, unmade_told, unmade_cause, unmade_takes, front_own, front_placed, made_told, made_takes}
 use Rattle.wire_framing.proofs.Spends.{failed_spends, whole_spends}
@@ -40,7 +40,7 @@ returns-in_ok-message-in-Ok-clause-takes g c below =
     let whole = c.in-Ok.ensures in
     let made = c.in_ok-message-in-Ok.ensures in
     let own = front_own c.in-Ok.total _ _ c.in_ok-message-in-Ok.message whole.found made.front refl in
-    made_takes c.in_ok-message-in-Ok.message c.at.result c.in-Ok.total _ _ _ _ _ _ _ _ _ _ _ whole.grown whole.found whole.own whole.came whole.asks own.0 (ap (λ (x : Seen). x.bytes) c.at.ensures) made.rest
+    made_takes c.in_ok-message-in-Ok.message c.at.result c.in-Ok.total _ _ _ _ _ _ _ _ _ _ _ whole.grown whole.found whole.own whole.came whole.asks own.0 (ap (λ (x : MessageView). x.bytes) c.at.ensures) made.rest
 
 pub returns-in_ok-message-in-Ok-clause-message : goal.returns-in_ok-message-in-Ok-clause-message
 returns-in_ok-message-in-Ok-clause-message g c =

@@ -1,8 +1,8 @@
 use Rattle.std.proofs.Common.{arith, ap, subst, ◌∙◌, length, length-append, inr}
 use Rattle.std.proofs.lemmas.Result.{err_from_is_err_and}
 use Rattle.wire_message.specs.Content.{ContentFits, IsNotAppended, IsShallow, content_text}
-use Rattle.wire_message.specs.Draft.{Draft}
-use Rattle.wire_message.specs.Front.{Seen, bare}
+use Rattle.wire_message.specs.BuilderView.{BuilderView}
+use Rattle.wire_message.specs.Front.{MessageView, bare}
 use Rattle.wire_message.proofs.BodyLaws.{body-refused, content-decided, header-refused}
 use Rattle.wire_message.proofs.Building.{header-length}
 use Rattle.wire_message.proofs.Law.{again-of, behind-length, written}
@@ -26,7 +26,7 @@ pub returns-in_err-append-clause-made : goal.returns-in_err-append-clause-made
 returns-in_err-append-clause-made c =
     let p = err_from_is_err_and c.from_residual-in_err-append.result c.from_residual-in_err-append.ensures.1 in
     let order = c.args.self.now.order in
-    let own = subst (λ (d : Draft). IsNotAppended c.in_err-append.field-0.0 (content_text d.order c.args.content) (ContentFits d.order c.args.content)) c.self.view_is c.in_err-append.ensures in
+    let own = subst (λ (d : BuilderView). IsNotAppended c.in_err-append.field-0.0 (content_text d.order c.args.content) (ContentFits d.order c.args.content)) c.self.view_is c.in_err-append.ensures in
     rw (p.1, p.2)
     (body-refused c.args.self.now (content_text order c.args.content) (IsShallow c.args.content) (ContentFits order c.args.content) c.args.fds.now c.args.serial _
     (c.is_shallow.ensures.0 c.if-not-is_shallow.false) own)
@@ -44,18 +44,18 @@ put_u32-requires c =
 pub from_parts-requires : goal.from_parts-requires
 from_parts-requires c =
     let h = rw (← c.self.view_is) at c.in_ok-text.ensures in
-    (written _ c.args.serial _ c.in_ok-text.text.items _ c.append.new.out.items c.put_u32.new.out.items c.in_ok-text.places c.self.invariant c.requires (omega arith)
+    (written _ c.args.serial _ c.in_ok-text.text.items _ c.append.new.out.items c.put_u32.new.out.items c.in_ok-text.offsets c.self.invariant c.requires (omega arith)
     (omega (arith, c.len.ensures ∙ c.append.new.out.ok.0)) h.made c.in_ok-append.ensures.0 c.put_u32.ensures
     (omega (arith, c.len.ensures ∙ c.append.new.out.ok.0, ap length c.in_ok-append.ensures.0, length-append c.in_ok-text.text.items (content_text c.self.inside.order c.args.content)))).stands
 
 pub returns-clause-made : goal.returns-clause-made
 returns-clause-made c =
     let h = rw (← c.self.view_is) at c.in_ok-text.ensures in
-    let w = written _ c.args.serial _ c.in_ok-text.text.items _ c.append.new.out.items c.put_u32.new.out.items c.in_ok-text.places c.self.invariant c.requires (omega arith)
+    let w = written _ c.args.serial _ c.in_ok-text.text.items _ c.append.new.out.items c.put_u32.new.out.items c.in_ok-text.offsets c.self.invariant c.requires (omega arith)
     (omega (arith, c.len.ensures ∙ c.append.new.out.ok.0)) h.made c.in_ok-append.ensures.0 c.put_u32.ensures
     (omega (arith, c.len.ensures ∙ c.append.new.out.ok.0, ap length c.in_ok-append.ensures.0, length-append c.in_ok-text.text.items (content_text c.self.inside.order c.args.content))) in
     let made = c.in_ok-message.ensures in
-    rw (← c.self.view_is) (c.is_shallow.ensures.0 c.if-not-is_shallow.false, c.in_ok-append.ensures.1, ap (λ (x : Seen). bare x) made ∙ w.message, rw made w.long, ap (λ (x : Seen). x.fds) made)
+    rw (← c.self.view_is) (c.is_shallow.ensures.0 c.if-not-is_shallow.false, c.in_ok-append.ensures.1, ap (λ (x : MessageView). bare x) made ∙ w.message, rw made w.long, ap (λ (x : MessageView). x.fds) made)
 
 pub returns-clause-again : goal.returns-clause-again
 returns-clause-again c =

@@ -1,5 +1,5 @@
 use Rattle.std.proofs.Common.{arith}
-use Rattle.wire_signature.specs.Shape.{SignatureText}
+use Rattle.wire_signature.specs.SingleType.{SignatureText}
 use Rattle.wire_signature.proofs.Exact.{types_valid}
 use Rattle.wire_signature.proofs.signature.Signature.read.Goals as goal
 

@@ -1,5 +1,5 @@
 use Rattle.std.proofs.Common.{subst}
-use Rattle.wire_signature.specs.Shape.{IsType}
+use Rattle.wire_signature.specs.SingleType.{IsType}
 use Rattle.wire_signature.proofs.Equal.{types_test}
 use Rattle.wire_signature.proofs.value_type.ValueTypePartialEq.eq.Goals as goal
 

@@ -1,5 +1,0 @@
-use Rattle.fdo_kinds.proofs.Names.{first_is}
-use Rattle.fdo_kinds.proofs.kind.Kind.from_name.Goals as goal
-
-pub returns : goal.returns
-returns c = first_is _ c.args.text.now c.first_named.ensures.none c.first_named.ensures.some

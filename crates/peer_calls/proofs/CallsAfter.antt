@@ -1,0 +1,156 @@
+-- The calls after each event.
+use Rattle.std.proofs.{Common.{rules, arith, max, ◌≡◌, ℕ, ◌+◌, ◌<◌, ◌==◌, is_some, ◌&&◌, ◌||◌, is_none, if◌then◌else◌, refl, sym, ◌∙◌, ap, Bool, true, false, not, List, [], ◌∷◌, ◌++◌, length, map, get_or, set, Option, Some, None, Result, Ok, Err, length-append, ◌≤◌}, lemmas.List.{set-set, set-get_or, length-map}, lemmas.Bool.{true≢false, false≢true}, lemmas.List.Quantifiers.position-Some, lemmas.Option.{slice_get-map, slice_get_read}}
+use Rattle.std.specs.{List.{list_any, position, slice_get}, Option.option_map}
+use Rattle.peer_calls.proofs.{Looks.polled_at, CallsMade.{places, places-edit, places-fail, sound_after}, Slots.{reply_kept, arrived, slots_took, arrived_nowhere, arrived_idly, arrived_first, slots_spent, slots_kept, slots_lost}}
+use Rattle.wire_message.proofs.{Plain.position-None, Edits.{all_weaker, all_edit, all_map}}
+use Rattle.peer_calls.specs.{Names.{MessageView, Error, Rule, Polled, Slot, Writer}, History.{Took, Shut, Wrote, Fault, Spent, Call, worse, shuts, CallsPast, after, after_all, spend, fail_at}, Calls.{found, is_gone, poll_answer, poll_events, polled_by}, Left.{is_empty_slot, is_inner_slot, slot_of, slot_by, is_waiting, CallsView, LeftCalls, Rising}}
+use Rattle.wire_message.specs.{Replying.{is_reply, is_serial, bears}, Plain.first_of, Polls.by_position}
+
+-- ---- a message comes
+
+taken_slots : (m : MessageView) (v : CallsView) (h : CallsPast) → LeftCalls v h → map (arrived m) v.slots ≡ map (slot_of (after (Took m) h).read) h.calls
+taken_slots m v h left = ap (map (arrived m)) left.slots ∙ sym (slots_took m h h.calls left.early)
+
+took : (m : MessageView) (v new : CallsView) (h : CallsPast) → LeftCalls v h → new.closing ≡ v.closing → new.slots ≡ map (arrived m) v.slots → LeftCalls new (after (Took m) h)
+took m v new h left same e = record {
+  slots = e ∙ taken_slots m v h left;
+  closing = same ∙ left.closing;
+  early = all_weaker (λ (c : Call). c.from ≤ length h.read) (λ (c : Call). c.from ≤ length (h.read ++ m ∷ [])) (λ c le. omega (arith, le, length-append h.read (m ∷ []))) h.calls left.early;
+}
+
+-- no call waits for it
+pub took_by_none : (m : MessageView) (v : CallsView) (h : CallsPast) → ((n : ℕ) → bears n m ≡ false) → LeftCalls v h → LeftCalls v (after (Took m) h)
+took_by_none m v h none left = took m v v h left refl (sym (arrived_nowhere m none v.slots))
+
+pub took_past : (m : MessageView) (s : ℕ) (v : CallsView) (h : CallsPast) → ((n : ℕ) → bears n m ≡ (s == n)) → list_any (is_waiting s) v.slots ≡ false → LeftCalls v h → LeftCalls v (after (Took m) h)
+took_past m s v h same none left = took m v v h left refl (sym (arrived_idly m s same v.slots none))
+
+-- the one call that waits for it takes it
+pub took_first : (m : MessageView) (s k : ℕ) (v new : CallsView) (h : CallsPast) → ((n : ℕ) → bears n m ≡ (s == n)) → is_waiting s (get_or v.slots k Slot.Gone) ≡ true
+    → ((j : ℕ) → is_waiting s (get_or v.slots j Slot.Gone) ≡ true → j ≡ k)
+    → new.slots ≡ set v.slots k (reply_kept (is_inner_slot (get_or v.slots k Slot.Gone)) m) → new.closing ≡ v.closing → LeftCalls v h → LeftCalls new (after (Took m) h)
+took_first m s k v new h same at only e kept left = took m v new h left kept (e ∙ sym (arrived_first m s same v.slots k at only))
+
+-- ---- the peer is shut
+
+pub shut : (error : Error) (v new : CallsView) (h : CallsPast) → new.slots ≡ v.slots → new.closing ≡ first_of v.closing error → LeftCalls v h → LeftCalls new (after (Shut error) h)
+unfolding slot_of found
+shut error v new h same e left = record {
+  slots = same ∙ left.slots;
+  closing = e ∙ ap (λ o. first_of o error) left.closing;
+  early = left.early;
+}
+
+-- ---- polls
+
+-- what a slot gives a poll
+abbrev pub slot_gives : Option Slot → Option Error → Result (Polled MessageView) Error
+slot_gives None error = Err Error.UnknownHandle
+slot_gives (Some Slot.Gone) error = Err Error.UnknownHandle
+slot_gives (Some (Slot.Replied m)) error = Ok (Polled.Now m)
+slot_gives (Some (Slot.Waiting n inner)) error = if inner then Err Error.UnknownHandle else polled_by None error
+
+slot_gives_by : (gone inner : Bool) (n : ℕ) (o : Option MessageView) (error : Option Error)
+    → slot_gives (Some (if gone then Slot.Gone else slot_by inner n o)) error ≡ (if gone || inner then Err Error.UnknownHandle else polled_by o error)
+slot_gives_by true inner n o error = refl
+slot_gives_by false true n (Some m) error = refl
+slot_gives_by false true n None error = refl
+slot_gives_by false false n (Some m) error = refl
+slot_gives_by false false n None error = refl
+
+gives_at : (h : CallsPast) (o : Option Call) → slot_gives (option_map (slot_of h.read) o) h.closing ≡ polled_at h.read h.closing o
+unfolding slot_of
+gives_at h None = refl
+gives_at h (Some c) = slot_gives_by (is_gone c) c.inner c.serial (found h.read c) h.closing
+
+gives : (v : CallsView) (h : CallsPast) (k : ℕ) → LeftCalls v h → slot_gives (slice_get v.slots k) v.closing ≡ poll_answer h k
+unfolding poll_answer
+gives v h k left =
+    rw left.slots (rw left.closing (rw (slice_get-map (slot_of h.read) h.calls k) (gives_at h (slice_get h.calls k))))
+
+-- a call's answer was given
+pub spent : (k : ℕ) (v new : CallsView) (h : CallsPast) → new.slots ≡ set v.slots k Slot.Gone → new.closing ≡ v.closing → LeftCalls v h → LeftCalls new (after (Spent k) h)
+unfolding slot_of found
+spent k v new h e same left = record {
+  slots = e ∙ ap (λ ss. set ss k Slot.Gone) left.slots ∙ sym (slots_spent h h.calls k);
+  closing = same ∙ left.closing;
+  early = all_edit (λ (c : Call). c.from ≤ length h.read) spend h.calls k (λ c is le. le) left.early;
+}
+
+-- by position the events are those of a poll or a take without one
+pub polls_so : (k : ℕ) (r : Result (Polled MessageView) Error) → poll_events k (by_position r) ≡ poll_events k r
+polls_so k (Ok (Polled.Now m)) = refl
+polls_so k other = refl
+
+pub is_none_not : {A : Type 0} (o : Option A) (b : Bool) → is_some o ≡ not b → is_none o ≡ b
+is_none_not None true e = refl
+is_none_not None false e = cc
+is_none_not (Some x) true e = cc
+is_none_not (Some x) false e = refl
+
+-- what a poll gives of a slot that nothing is kept of
+pub slot_gives_empty : (s : Slot) (error : Option Error) → is_empty_slot s ≡ true → slot_gives (Some s) error ≡ Err Error.UnknownHandle
+slot_gives_empty Slot.Gone error e = refl
+slot_gives_empty (Slot.Waiting n true) error e = refl
+slot_gives_empty (Slot.Waiting n false) error e = cc
+slot_gives_empty (Slot.Replied m) error e = cc
+
+-- ---- what the code reads of its slots
+
+abbrev pub view_of : List Slot → Option Error → CallsView
+view_of ss error = record { slots = ss; closing = error }
+
+pub first_none : (o : Option Error) (error : Error) → is_some o ≡ false → Some error ≡ first_of o error
+first_none None error e = refl
+first_none (Some earlier) error e = absurd (true≢false e)
+
+pub first_some : (o : Option Error) (error : Error) → is_some o ≡ true → o ≡ first_of o error
+first_some None error e = absurd (false≢true e)
+first_some (Some earlier) error e = refl
+
+-- the slot at a place that was read
+pub at_slot : (ss : List Slot) (n k : ℕ) (x s : Slot) → n ≡ length ss → k < n → x ≡ get_or ss k x → s ≡ x → slice_get ss k ≡ Some s
+at_slot ss n k x s len lt at e = slice_get_read ss n k x len lt at ∙ ap (λ y. Some y) (sym e)
+
+pub gives_slot : (ss : List Slot) (error : Option Error) (v : CallsView) (h : CallsPast) (k : ℕ) (o : Option Slot)
+    → view_of ss error ≡ v → slice_get ss k ≡ o → LeftCalls v h → slot_gives o error ≡ poll_answer h k
+gives_slot ss error v h k o e at left =
+    ap (λ s. slot_gives s error) (sym at) ∙ ap (λ (w : CallsView). slot_gives (slice_get w.slots k) w.closing) e ∙ gives v h k left
+
+-- a slot that was taken out and put back
+pub put_back : (ss : List Slot) (k : ℕ) (y x s : Slot) → x ≡ get_or ss k x → s ≡ x → set (set ss k y) k s ≡ ss
+put_back ss k y x s at e = set-set ss k y s ∙ ap (set ss k) (e ∙ at) ∙ set-get_or ss k x
+
+-- ---- which serial a message answers
+
+pub bears_reply : (serial : ℕ) (m : MessageView) → is_reply m.kind ≡ true → bears serial m ≡ is_serial m.reply_serial serial
+unfolding bears
+bears_reply serial m e = ap (λ b. b && is_serial m.reply_serial serial) e
+
+pub bears_none : (serial : ℕ) (m : MessageView) → is_reply m.kind ≡ false → bears serial m ≡ false
+unfolding bears
+bears_none serial m e = ap (λ b. b && is_serial m.reply_serial serial) e
+
+-- the write of a call failed
+pub lost : (n k : ℕ) (ps : List ℕ) (v new : CallsView) (h : CallsPast) → n ≡ h.outbox.done → ps ≡ places h.calls → position (λ i. i == n) ps ≡ Some k
+    → new.slots ≡ set v.slots k Slot.Gone → new.closing ≡ v.closing → Rising (places h.calls) → LeftCalls v h → LeftCalls new (after Fault h)
+unfolding slot_of found
+lost n k ps v new h first same at e kept rise left =
+    let there = position-Some (λ i. i == h.outbox.done) (places h.calls) k 0 (rw (← same, ← first) at) in
+    record {
+      slots = e ∙ ap (λ ss. set ss k Slot.Gone) left.slots ∙ sym (slots_lost h h.outbox.done h.calls k there.0 there.1 rise);
+      closing = kept ∙ left.closing;
+      early = all_map (λ (c : Call). c.from ≤ length h.read) (λ (c : Call). c.from ≤ length h.read) (fail_at h.outbox.done) (λ c le. le) h.calls left.early;
+    }
+
+-- the write of a message that no call waits for failed
+pub lost_none : (n : ℕ) (ps : List ℕ) (v : CallsView) (h : CallsPast) → n ≡ h.outbox.done → ps ≡ places h.calls → position (λ i. i == n) ps ≡ None
+    → LeftCalls v h → LeftCalls v (after Fault h)
+unfolding slot_of found
+lost_none n ps v h first same at left =
+    let none = position-None (λ i. i == h.outbox.done) (places h.calls) (rw (← same, ← first) at) in
+    record {
+      slots = left.slots ∙ sym (slots_kept h h.outbox.done h.calls none);
+      closing = left.closing;
+      early = all_map (λ (c : Call). c.from ≤ length h.read) (λ (c : Call). c.from ≤ length h.read) (fail_at h.outbox.done) (λ c le. le) h.calls left.early;
+    }

@@ -1,0 +1,12 @@
+pub mod CallsAfter
+pub mod CallsMade
+pub mod Drawn
+pub mod Drops
+pub mod Refusing
+pub mod Index
+pub mod Looks
+pub mod NextSerial
+pub mod Placed
+pub mod Rising
+pub mod Slots
+pub mod Waiting

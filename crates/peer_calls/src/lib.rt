@@ -1,0 +1,10 @@
+//! The calls of a peer and its outbox: which call a reply answers, which serials are pending, and how messages are put.
+#![tactic(auto)]
+
+mod calls;
+mod posting;
+mod writer;
+
+pub use calls::PendingMethodCalls;
+pub use posting::{Issued, draw_each, is_some_deep, post_each};
+pub use writer::Writer;

@@ -1,0 +1,7 @@
+-- What is kept of the stream has its first message.
+use Rattle.peer_core.specs.{History.streams_of, Left.{View, Left}}
+use Rattle.std.proofs.Common.{sym, subst}
+use Rattle.peer_core.proofs.route.Route.next_position.Goals as goal
+
+pub returns : goal.returns
+returns c h left = c.next_position.ensures (streams_of h) (subst (λ (v : View). Left v h) (sym c.self.view_is) left).streams

@@ -1,0 +1,10 @@
+pub mod Names
+pub mod BusCall
+pub mod Bus
+pub mod Leaving
+pub mod History
+pub mod Left
+pub mod Issuing
+pub mod Placing
+pub mod Lending
+pub mod Asked

@@ -1,6 +1,0 @@
-use Rattle.std.proofs.Common.{◌∙◌, ap}
-use Rattle.peer_route.specs.Left.{View}
-use Rattle.peer_route.proofs.route.Route.is_bus.Goals as goal
-
-pub returns : goal.returns
-returns c h left = ap (λ (v : View). v.bus) c.self.view_is ∙ left.bus

@@ -1,7 +1,0 @@
--- The core keeps the main capacity.
-use Rattle.std.proofs.Common.{◌∙◌, ap}
-use Rattle.peer_route.specs.Left.{View}
-use Rattle.peer_route.proofs.route.Route.main_max_queued.Goals as goal
-
-pub returns : goal.returns
-returns c h left = ap (λ (v : View). v.main) c.self.view_is ∙ left.main

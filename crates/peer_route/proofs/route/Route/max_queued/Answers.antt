@@ -1,9 +1,0 @@
--- The capacity that is kept with the stream's rule, or the main one.
-use Rattle.std.proofs.Common.{sym, ◌∙◌, subst}
-use Rattle.peer_route.specs.Left.{View, Left}
-use Rattle.peer_route.proofs.route.Route.max_queued.Goals as goal
-
-pub returns : goal.returns
-returns c h left =
-    let was = subst (λ (v : View). Left v h) (sym c.self.view_is) left in
-    c.ok_or.ensures.value ∙ c.limit.ensures h was.streams was.main

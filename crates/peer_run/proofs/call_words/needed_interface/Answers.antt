@@ -1,7 +1,0 @@
-use Rattle.std.proofs.Common.{refl, ap, ◌∙◌, [], unwrap_or}
-use Rattle.peer_run.specs.Names.{is_interface_name}
-use Rattle.peer_run.proofs.Letters.{no_interface}
-use Rattle.peer_run.proofs.call_words.needed_interface.Goals as goal
-
-pub returns-in-None-clause-err : goal.returns-in-None-clause-err
-returns-in-None-clause-err c = (refl, ap (λ o. is_interface_name (unwrap_or o [])) c.in-None.is ∙ no_interface)

@@ -1,0 +1,235 @@
+-- What is kept of streams after one of a rule is opened, or after one asks for more; and whether a rule has a stream.
+use Rattle.peer_streams.specs.{History.{Request, Gone, done_by, fresh, Did, Asked, Stream, Phase, Asking, Denied, Since, is_denied, since_reply, phase, asking_stream, rule_of, is_of, subscribes, is_subscribed, raised, asked_limit, StreamsPast, after}, Names.{Subscription, Progress, MessageView, Rule}, Rules.{is_same, usual}, Streams.gone_if, Left.{Held, kept_by, subscription, LeftStreams, kept, raise, AreStreams, IsWithin}}
+use Rattle.wire_message.specs.{Plain.edit, Replying.is_serial}
+use Rattle.std.proofs.{Common.{subst, ◌≡◌, ℕ, refl, sym, ◌∙◌, ap, max, Bool, true, false, not, if◌then◌else◌, ◌&&◌, ◌||◌, List, [], ◌∷◌, ◌++◌, length, map, Option, Some, None, unwrap_or, inl, inr, zero, suc, ◌<◌, ◌≤◌, ◌==◌, arith, set, get_or, drop, drop_of_length-le}, Math.Seq.drop-length, lemmas.List.{length-map, map-id}, lemmas.Bool.{or_left, or_right, cases_eq, eq-eqb, ne_eqb}}
+use Rattle.std.specs.{List.{slice_get, list_any}, Option.option_map}
+use Rattle.peer_streams.proofs.{SameRule.{same_self, same_one}, Matched.{within_fresh, within_asking}, StreamsMade.{kept_fresh, limit_or, new_held, rule_kept, rule_by, at_read, streams_more}, Queues.{put_changed, put_same}}
+use Rattle.wire_message.proofs.Edits.{edit-none, edit_here, edit_other, edit-length}
+
+-- ---- whether a rule has a stream
+
+-- what is kept of a stream has the rule exactly where it lives and is of it
+kept_of : (limits : Rule → ℕ) (rule : Rule) (s : Stream) (gone : Bool) (p : Phase) → is_of rule (rule_kept (kept_by limits s gone p).wants) ≡ ((not gone && not (is_denied p)) && is_of rule s.rule)
+kept_of limits rule s true p = refl
+kept_of limits rule s false (Denied m) = refl
+kept_of limits rule s false (Since ms) = ap (is_of rule) (rule_by limits s.rule)
+kept_of limits rule s false (Asking add) = ap (is_of rule) (rule_by limits s.rule)
+
+pub subscribes_kept : (limits : Rule → ℕ) (rule : Rule) (ms : List MessageView) (s : Stream) → is_of rule (rule_kept (kept limits ms s).wants) ≡ subscribes ms rule s
+unfolding kept
+subscribes_kept limits rule ms s = kept_of limits rule s s.gone (phase ms s)
+
+-- and its capacity then
+limit_own : (limits : Rule → ℕ) (rule : Rule) (n : ℕ) (o : Option Rule) → is_of rule o ≡ true → limit_or n (option_map (subscription limits) o) ≡ limits rule
+limit_own limits rule n None e = cc
+limit_own limits rule n (Some r) e = ap limits (sym (same_one rule r e))
+
+limit_of_kept : (limits : Rule → ℕ) (rule : Rule) (n : ℕ) (s : Stream) (gone : Bool) (p : Phase) → is_of rule (rule_kept (kept_by limits s gone p).wants) ≡ true
+    → limit_or n (kept_by limits s gone p).wants ≡ limits rule
+limit_of_kept limits rule n s true p e = cc
+limit_of_kept limits rule n s false (Denied m) e = cc
+limit_of_kept limits rule n s false (Since ms) e = limit_own limits rule n s.rule (sym (ap (is_of rule) (rule_by limits s.rule)) ∙ e)
+limit_of_kept limits rule n s false (Asking add) e = limit_own limits rule n s.rule (sym (ap (is_of rule) (rule_by limits s.rule)) ∙ e)
+
+pub limit_kept : (limits : Rule → ℕ) (rule : Rule) (n : ℕ) (ms : List MessageView) (s : Stream) → is_of rule (rule_kept (kept limits ms s).wants) ≡ true → limit_or n (kept limits ms s).wants ≡ limits rule
+unfolding kept
+limit_kept limits rule n ms s e = limit_of_kept limits rule n s s.gone (phase ms s) e
+
+-- where one was closed
+gone_at : (o : Option ℕ) (h : StreamsPast) (i : ℕ) (s : Stream) → slice_get h.streams i ≡ Some s → slice_get (gone_if o h).streams i ≡ Some (if is_serial o i then done_by Gone s else s)
+gone_at None h i s at = at
+gone_at (Some k) h i s at = elim (cases_eq k i) as (λ _. slice_get (edit k (done_by Gone) h.streams) i ≡ Some (if k == i then done_by Gone s else s)) [
+  | inl same ↦ rw (eq-eqb k i same) (ap (λ j. slice_get (edit j (done_by Gone) h.streams) i) same ∙ edit_here (done_by Gone) i h.streams s at)
+  | inr other ↦ rw (ne_eqb k i other) (edit_other (done_by Gone) k i h.streams other ∙ at)
+]
+
+abbrev gone_two : Option ℕ → Option ℕ → ℕ → Stream → Stream
+gone_two one before i s = if is_serial one i then done_by Gone (if is_serial before i then done_by Gone s else s) else (if is_serial before i then done_by Gone s else s)
+
+two_at : (one before : Option ℕ) (h : StreamsPast) (i : ℕ) (s : Stream) → slice_get h.streams i ≡ Some s → slice_get (gone_if one (gone_if before h)).streams i ≡ Some (gone_two one before i s)
+two_at one before h i s at = gone_at one (gone_if before h) i (if is_serial before i then done_by Gone s else s) (gone_at before h i s at)
+
+any_drop : {A : Type 0} (q : A → Bool) (xs : List A) (i : ℕ) (x : A) → slice_get xs i ≡ Some x → list_any q (drop i xs) ≡ (q x || list_any q (drop (suc i) xs))
+any_drop q [] i x at = cc
+any_drop q (y ∷ ys) zero x at = let same : y ≡ x = cc in ap (λ z. q z || list_any q ys) same
+any_drop q (y ∷ ys) (suc i) x at = any_drop q ys i x at
+
+-- one of those at these places isn't looked at
+abbrev pub others : StreamsPast → Rule → Option ℕ → Option ℕ → ℕ → Bool
+others h rule one before i = list_any (subscribes h.read rule) (drop i (gone_if one (gone_if before h)).streams)
+
+here_by : (h : StreamsPast) (rule : Rule) (one before : Option ℕ) (i : ℕ) (s : Stream) → slice_get h.streams i ≡ Some s
+    → others h rule one before i ≡ (subscribes h.read rule (gone_two one before i s) || others h rule one before (suc i))
+here_by h rule one before i s at = any_drop (subscribes h.read rule) (gone_if one (gone_if before h)).streams i (gone_two one before i s) (two_at one before h i s at)
+
+gone_by : (h : StreamsPast) (rule : Rule) (a b : Bool) (s : Stream) → (a || b) ≡ true → subscribes h.read rule (if a then done_by Gone (if b then done_by Gone s else s) else (if b then done_by Gone s else s)) ≡ false
+gone_by h rule true b s e = refl
+gone_by h rule false true s e = refl
+gone_by h rule false false s e = cc
+
+stays_by : (a b : Bool) (s : Stream) → (a || b) ≡ false → (if a then done_by Gone (if b then done_by Gone s else s) else (if b then done_by Gone s else s)) ≡ s
+stays_by true b s e = cc
+stays_by false true s e = cc
+stays_by false false s e = refl
+
+pub passes_gone : (v : List Held) (h : StreamsPast) (rule : Rule) (one before : Option ℕ) (i : ℕ) → LeftStreams v h → i < length v → (is_serial one i || is_serial before i) ≡ true
+    → others h rule one before i ≡ others h rule one before (suc i)
+passes_gone v h rule one before i left lt gone =
+    let len : length v ≡ length h.streams = ap length left.queues ∙ length-map h.streams (kept h.capacities.rules h.read) in
+    let at = slice_get-there h.streams i (omega (arith, len, lt)) in
+    here_by h rule one before i at.0 at.1 ∙ ap (λ b. b || others h rule one before (suc i)) (gone_by h rule (is_serial one i) (is_serial before i) at.0 gone)
+  where
+    slice_get-there : (xs : List Stream) (k : ℕ) → k < length xs → (x : Stream) × (slice_get xs k ≡ Some x)
+    slice_get-there [] k le = absurd (omega arith)
+    slice_get-there (y ∷ ys) zero le = (y, refl)
+    slice_get-there (y ∷ ys) (suc k) le = slice_get-there ys k (omega arith)
+
+-- one that stays is looked at
+pub looks_at : (v : List Held) (h : StreamsPast) (rule : Rule) (one before : Option ℕ) (i : ℕ) (x : Held) (b : Bool) → LeftStreams v h → i < length v → x ≡ get_or v i x → (is_serial one i || is_serial before i) ≡ false
+    → is_of rule (rule_kept x.wants) ≡ b → others h rule one before i ≡ (b || others h rule one before (suc i))
+looks_at v h rule one before i x b left lt is stays of =
+    let at = at_read v h (length v) i x left refl lt is in
+    here_by h rule one before i at.0 at.1 ∙ ap (λ s. subscribes h.read rule s || others h rule one before (suc i)) (stays_by (is_serial one i) (is_serial before i) at.0 stays)
+    ∙ ap (λ c. c || others h rule one before (suc i)) (sym (subscribes_kept h.capacities.rules rule h.read at.0) ∙ ap (λ (q : Held). is_of rule (rule_kept q.wants)) (sym at.2) ∙ of)
+
+pub found_here : (v : List Held) (h : StreamsPast) (rule : Rule) (one before : Option ℕ) (i : ℕ) (x : Held) → LeftStreams v h → i < length v → x ≡ get_or v i x → (is_serial one i || is_serial before i) ≡ false
+    → is_of rule (rule_kept x.wants) ≡ true → others h rule one before 0 ≡ others h rule one before i
+    → Some (limit_or 0 x.wants) ≡ (if is_subscribed h.read (gone_if one (gone_if before h)).streams rule then Some (h.capacities.rules rule) else None)
+unfolding is_subscribed
+found_here v h rule one before i x left lt is stays of past =
+    let at = at_read v h (length v) i x left refl lt is in
+    let there : others h rule one before 0 ≡ true = past ∙ looks_at v h rule one before i x true left lt is stays of in
+    ap (λ (q : Held). Some (limit_or 0 q.wants)) at.2
+    ∙ ap Some (limit_kept h.capacities.rules rule 0 h.read at.0 (ap (λ (q : Held). is_of rule (rule_kept q.wants)) (sym at.2) ∙ of))
+    ∙ sym (ap (λ b. if b then Some (h.capacities.rules rule) else None) there)
+
+gone_length : (o : Option ℕ) (h : StreamsPast) → length (gone_if o h).streams ≡ length h.streams
+gone_length None h = refl
+gone_length (Some k) h = edit-length k (done_by Gone) h.streams
+
+pub none_there : (v : List Held) (h : StreamsPast) (rule : Rule) (one before : Option ℕ) (i : ℕ) → LeftStreams v h → length v ≤ i → others h rule one before 0 ≡ others h rule one before i
+    → None ≡ (if is_subscribed h.read (gone_if one (gone_if before h)).streams rule then Some (h.capacities.rules rule) else None)
+unfolding is_subscribed
+none_there v h rule one before i left le past =
+    let len : length v ≡ length h.streams = ap length left.queues ∙ length-map h.streams (kept h.capacities.rules h.read) in
+    let none : others h rule one before 0 ≡ false =
+    past ∙ ap (list_any (subscribes h.read rule)) (drop_of_length-le (gone_if one (gone_if before h)).streams (omega (arith, gone_length one (gone_if before h), gone_length before h, len, le))) in
+    sym (ap (λ b. if b then Some (h.capacities.rules rule) else None) none)
+
+-- ---- the streams of a rule are raised
+
+-- what is kept of a stream, where one of the rule asks for more, and where it does itself
+abbrev pub raise_held : Rule → Option ℕ → Held → Held
+raise_held rule asked q = record q { wants = option_map (raise rule asked) q.wants }
+
+abbrev pub raise_own : ℕ → Held → Held
+raise_own limit q = record q { wants = option_map (λ (s : Subscription). record s { limit = max s.limit limit }) q.wants }
+
+own_changed : (limits new : Rule → ℕ) (u : Option Subscription → Option Subscription) (o : Option Rule) → u None ≡ None → ((r : Rule) → o ≡ Some r → Some (subscription new r) ≡ u (Some (subscription limits r)))
+    → option_map (subscription new) o ≡ u (option_map (subscription limits) o)
+own_changed limits new u None none e = sym none
+own_changed limits new u (Some r) none e = e r refl
+
+changed_by : (limits new : Rule → ℕ) (u : Option Subscription → Option Subscription) (s : Stream) (gone : Bool) (p : Phase) → u None ≡ None
+    → ((r : Rule) → (not gone && not (is_denied p)) ≡ true → s.rule ≡ Some r → Some (subscription new r) ≡ u (Some (subscription limits r)))
+    → kept_by new s gone p ≡ record (kept_by limits s gone p) { wants = u (kept_by limits s gone p).wants }
+changed_by limits new u s true p none e = ap (λ w. record (kept_by limits s true p) { wants = w }) (sym none)
+changed_by limits new u s false (Denied m) none e = ap (λ w. record (kept_by limits s false (Denied m)) { wants = w }) (sym none)
+changed_by limits new u s false (Since ms) none e = ap (λ w. record (kept_by limits s false (Since ms)) { wants = w }) (own_changed limits new u s.rule none (λ r of. e r refl of))
+changed_by limits new u s false (Asking add) none e = ap (λ w. record (kept_by limits s false (Asking add)) { wants = w }) (own_changed limits new u s.rule none (λ r of. e r refl of))
+
+-- where the capacities of rules that have a stream are changed so, all streams are
+changed_all : (limits new : Rule → ℕ) (u : Option Subscription → Option Subscription) (ms : List MessageView) (ss : List Stream) → u None ≡ None
+    → ((r : Rule) → list_any (subscribes ms r) ss ≡ true → Some (subscription new r) ≡ u (Some (subscription limits r)))
+    → map (λ (q : Held). record q { wants = u q.wants }) (map (kept limits ms) ss) ≡ map (kept new ms) ss
+unfolding kept
+changed_all limits new u ms [] none e = refl
+changed_all limits new u ms (s ∷ ss) none e =
+    let one = changed_by limits new u s s.gone (phase ms s) none (λ r lives of. e r (or_left (subscribes ms r s) (list_any (subscribes ms r) ss) (ap (λ b. b && is_of r s.rule) lives ∙ ap (is_of r) of ∙ same_self r))) in
+    let more = changed_all limits new u ms ss none (λ r there. e r (or_right (subscribes ms r s) (list_any (subscribes ms r) ss) there)) in
+    ap (λ q. q ∷ map (λ (q : Held). record q { wants = u q.wants }) (map (kept limits ms) ss)) (sym one) ∙ ap (λ qs. kept new ms s ∷ qs) more
+
+raised_all : (limits new : Rule → ℕ) (rule : Rule) (asked : Option ℕ) (ms : List MessageView) (ss : List Stream)
+    → ((r : Rule) → list_any (subscribes ms r) ss ≡ true → new r ≡ (if is_same r rule then raised asked (limits r) else limits r))
+    → map (raise_held rule asked) (map (kept limits ms) ss) ≡ map (kept new ms) ss
+raised_all limits new rule asked ms ss e = changed_all limits new (option_map (raise rule asked)) ms ss refl (λ r there. ap (λ n. Some (record { rule = r; limit = n })) (e r there))
+
+-- ---- a stream of a rule is opened
+
+asked_own : (h : StreamsPast) (rule : Rule) (asked : Option ℕ) → asked_limit h rule rule asked (h.capacities.rules rule) ≡ (if is_subscribed h.read h.streams rule then raised asked (h.capacities.rules rule) else unwrap_or asked (usual rule))
+asked_own h rule asked = ap (λ b. if b then (if is_subscribed h.read h.streams rule then raised asked (h.capacities.rules rule) else unwrap_or asked (usual rule)) else h.capacities.rules rule) (same_self rule)
+
+-- a stream of the rule, so far opened, that holds nothing yet
+pub record IsNew (ms : List MessageView) (rule : Rule) (progress : Progress) (s : Stream) : Type 0 where
+  pub holds : (limits : Rule → ℕ) → kept limits ms s ≡ new_held (Some (subscription limits rule)) progress false
+  pub within : IsWithin ms s
+
+pub streams_ruled : (v : List Held) (h : StreamsPast) (rule : Rule) (asked : Option ℕ) (progress : Progress) (limit : ℕ) (s : Stream) → LeftStreams v h → IsNew h.read rule progress s
+    → limit ≡ (if is_subscribed h.read h.streams rule then raised asked (h.capacities.rules rule) else unwrap_or asked (usual rule))
+    → AreStreams (map (raise_held rule asked) v ++ new_held (Some (record { rule = rule; limit = limit })) progress false ∷ []) (λ r. asked_limit h r rule asked (h.capacities.rules r)) h.read (h.streams ++ s ∷ [])
+unfolding is_subscribed
+streams_ruled v h rule asked progress limit s left is e =
+    let new : Rule → ℕ = λ r. asked_limit h r rule asked (h.capacities.rules r) in
+    streams_more (map (raise_held rule asked) v) new h s _
+    (is.holds new ∙ ap (λ n. new_held (Some (record { rule = rule; limit = n })) progress false) (asked_own h rule asked ∙ sym e)) is.within
+    (record {
+      queues = ap (map (raise_held rule asked)) left.queues
+          ∙ raised_all h.capacities.rules new rule asked h.read h.streams (λ r there. ap (λ b. if is_same r rule then (if b then raised asked (h.capacities.rules r) else unwrap_or asked (usual r)) else h.capacities.rules r) there);
+      within = left.within;
+    })
+
+pub new_ruled : (h : StreamsPast) (rule : Rule) → IsNew h.read rule Progress.Runs (fresh h (Some rule) false)
+new_ruled h rule = record { holds = λ limits. kept_fresh limits h (Some rule) false; within = within_fresh h (Some rule) false }
+
+-- nothing that was read answers an AddMatch that is put now
+pub new_asking : (h : StreamsPast) (add : Request) (rule : Rule) → add.from ≡ length h.read → IsNew h.read rule (Progress.Waits add.serial add.index) (asking_stream add rule)
+unfolding kept phase
+new_asking h add rule e = record {
+  holds = λ limits. ap (λ ms. kept_by limits (asking_stream add rule) false (since_reply add ms)) (ap (λ n. drop n h.read) e ∙ drop-length h.read);
+  within = within_asking h add rule e;
+}
+
+-- ---- more is asked for
+
+asked_plain : (h : StreamsPast) (k limit : ℕ) → rule_of (slice_get h.streams k) ≡ None → map (kept h.capacities.rules h.read) h.streams ≡ map (kept (after (Did k (Asked limit)) h).capacities.rules h.read) h.streams
+asked_plain h k limit none =
+    sym (map-id (map (kept h.capacities.rules h.read) h.streams))
+    ∙ changed_all h.capacities.rules (after (Did k (Asked limit)) h).capacities.rules (λ w. w) h.read h.streams refl
+    (λ r there. ap (λ o. Some (record { rule = r; limit = if is_of r o then max (h.capacities.rules r) limit else h.capacities.rules r })) none)
+
+asked_ruled : (h : StreamsPast) (k limit : ℕ) (rule : Rule) → rule_of (slice_get h.streams k) ≡ Some rule
+    → map (raise_held rule (Some limit)) (map (kept h.capacities.rules h.read) h.streams) ≡ map (kept (after (Did k (Asked limit)) h).capacities.rules h.read) h.streams
+asked_ruled h k limit rule of =
+    raised_all h.capacities.rules (after (Did k (Asked limit)) h).capacities.rules rule (Some limit) h.read h.streams (λ r there. ap (λ o. (if is_of r o then max (h.capacities.rules r) limit else h.capacities.rules r)) of)
+
+-- what was kept with these capacities is kept so of the streams of that past
+asked_left : (v new : List Held) (h : StreamsPast) (k limit : ℕ) → LeftStreams v h → new ≡ map (kept (after (Did k (Asked limit)) h).capacities.rules h.read) h.streams → LeftStreams new (after (Did k (Asked limit)) h)
+asked_left v new h k limit left e =
+    subst (AreStreams new (after (Did k (Asked limit)) h).capacities.rules h.read) (sym (edit-none (done_by (Asked limit)) (λ s. refl) h.streams k)) (record { queues = e; within = left.within })
+
+-- a stream raises itself as its rule does
+own_by : (q : Held) (w : Option Subscription) (rule : Rule) (limit : ℕ) → q.wants ≡ w → Some rule ≡ rule_kept w → raise_own limit q ≡ raise_held rule (Some limit) q
+own_by q None rule limit e of = cc
+own_by q (Some s) rule limit e of =
+    let same : rule ≡ s.rule = cc in
+    rw same (sym (ap (λ (w : Option Subscription). record q { wants = w })
+    (ap (option_map (raise s.rule (Some limit))) e
+    ∙ ap (λ b. Some (record { rule = s.rule; limit = if b then max s.limit limit else s.limit })) (same_self s.rule)
+    ∙ ap (option_map (λ (t : Subscription). record t { limit = max t.limit limit })) (sym e))))
+
+own_none : (q : Held) (w : Option Subscription) (limit : ℕ) → q.wants ≡ w → None ≡ rule_kept w → raise_own limit q ≡ q
+own_none q None limit e of = ap (λ (w : Option Subscription). record q { wants = w }) (ap (option_map (λ (t : Subscription). record t { limit = max t.limit limit })) e ∙ sym e)
+own_none q (Some s) limit e of = cc
+
+-- the stream was set aside, the others of its rule were raised, and it was put back
+pub streams_asked : (v : List Held) (h : StreamsPast) (k limit : ℕ) (q away : Held) (rule : Rule) → LeftStreams v h → q ≡ get_or v k q → Some rule ≡ rule_kept q.wants → rule_of (slice_get h.streams k) ≡ Some rule
+    → LeftStreams (set (map (raise_held rule (Some limit)) (set v k away)) k (raise_own limit q)) (after (Did k (Asked limit)) h)
+streams_asked v h k limit q away rule left at of is =
+    asked_left v _ h k limit left
+    (ap (set (map (raise_held rule (Some limit)) (set v k away)) k) (own_by q q.wants rule limit refl of) ∙ put_changed (raise_held rule (Some limit)) v k away q at
+    ∙ ap (map (raise_held rule (Some limit))) left.queues ∙ asked_ruled h k limit rule is)
+
+pub streams_kept : (v : List Held) (h : StreamsPast) (k limit : ℕ) (q away : Held) → LeftStreams v h → q ≡ get_or v k q → None ≡ rule_kept q.wants → rule_of (slice_get h.streams k) ≡ None
+    → LeftStreams (set (set v k away) k (raise_own limit q)) (after (Did k (Asked limit)) h)
+streams_kept v h k limit q away left at of is =
+    asked_left v _ h k limit left (ap (set (set v k away) k) (own_none q q.wants limit refl of) ∙ put_same v k away q at ∙ left.queues ∙ asked_plain h k limit is)

@@ -1,0 +1,16 @@
+-- One stream more is raised; past the last all are.
+use Rattle.std.proofs.Common.{arith, sym, ap, ◌∙◌}
+use Rattle.peer_streams.proofs.{Queues.{each_step, each_back}, RuledStreams.raise_held}
+use Rattle.peer_streams.proofs.streams.raise_each.Goals as goal
+
+pub loop-queue-preserved : goal.loop-queue-preserved
+loop-queue-preserved c =
+    let f = (raise_held c.args.rule.now c.args.asked) in
+    each_step f c.loop-queue.queue-index c.args.queues.now.items c.loop-queue.queue-items c.queue-item.result c.raise.new.self
+    c.loop-queue.invariant (omega (arith, c.loop-queue-test.true, c.loop-queue.auto.queue-items, c.loop-queue.auto.queue-index-end)) c.queue-item.is
+    (c.raise.ensures ∙ ap f (sym c.queue-item.is))
+
+pub returns : goal.returns
+returns c =
+    each_back (raise_held c.args.rule.now c.args.asked) c.loop-queue.queue-index c.args.queues.now.len c.args.queues.now.items c.loop-queue.queue-items
+    c.loop-queue.invariant (omega (arith, c.loop-queue-test.false, c.loop-queue.auto.queue-items, c.loop-queue.auto.queue-index-end, c.deref_mut-queue-items.ensures.len, c.args.queues.now.ok.0)) c.args.queues.now.ok.0

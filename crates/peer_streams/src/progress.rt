@@ -1,0 +1,56 @@
+//! How far streams are opened.
+ghost use Rattle.std.specs.Prelude.{◌≡◌};
+ghost use Rattle.wire_message.specs.Replying.{bears, is_return};
+
+use wire_message::{Error, Message, MessageType};
+
+/// How far a stream is opened.
+#[derive(Clone, Copy)]
+pub enum Progress {
+    /// It waits for the return to its AddMatch.
+    Waits {
+        /// The serial of that one.
+        serial: u32,
+        /// Its place in the outbox.
+        index: u64,
+    },
+    /// It was denied, by an error.
+    Denied,
+    /// It takes messages.
+    Runs,
+    /// It was closed, or its AddMatch could not be written.
+    Gone,
+}
+
+/// What becomes of a stream that waits for the return to its AddMatch.
+#[derive(Drop)]
+pub enum OpenState {
+    /// It isn't one that is being opened.
+    Unknown,
+    /// No reply came yet.
+    NotYet,
+    /// It is open.
+    Open,
+    /// It was denied, by this error.
+    Refused(Message),
+    /// The peer was closed before a reply came.
+    Over(Error),
+}
+
+/// Whether the message is a method return.
+pub(crate) fn is_return(message: &Message) -> bool
+    ensures { result ≡ is_return message.now.kind }
+{
+    matches!(message.message_type(), MessageType::MethodReturn)
+}
+
+/// Whether the message is a return or an error to this serial.
+#[tactic(auto, unfolding(wire_message::specs::Replying::bears))]
+pub(crate) fn bears(serial: u32, message: &Message) -> bool
+    ensures { result ≡ bears serial message.now }
+{
+    match message.message_type() {
+        MessageType::MethodReturn | MessageType::Error => message.reply_serial() == Some(serial),
+        MessageType::MethodCall | MessageType::Signal => false,
+    }
+}

@@ -1,0 +1,3 @@
+pub mod BodyWords
+pub mod Letters
+pub mod Spelled

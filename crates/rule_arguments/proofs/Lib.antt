@@ -1,9 +1,0 @@
-pub mod Both
-pub mod Placing
-pub mod Positions
-pub mod After
-pub mod Texts
-pub mod Tests
-pub mod Values
-pub mod Steps
-pub mod Matching

@@ -1,6 +1,0 @@
-pub mod Arguments
-pub mod SameArgument
-pub mod Body
-pub mod Below
-pub mod Wanted
-pub mod Passing

@@ -1,0 +1,35 @@
+-- What a match rule wants of a message's arguments (D-Bus Specification, "Match Rules", `argN`, `argNpath`, `arg0namespace`).
+use Rattle.std.specs.Prelude.{ℕ, List, Option, IfSome}
+use Rattle.std.specs.List.{AllByRecursion}
+use Rattle.wire_number.specs.declared.endian.Endian.{Endian}
+use Rattle.wire_names.specs.Names.{IsBusName}
+use Rattle.wire_tree.specs.Datum.{text, string, object_path}
+use Rattle.rule_match.specs.declared.arguments.Argument.{Argument}
+use Rattle.rule_match.specs.Below.{IsAtOrBelow}
+use Rattle.rule_match.specs.Body.{HasArgument}
+
+pub record Wanted : Type 0 where
+  pub args : List Argument
+  pub arg_paths : List Argument
+  pub arg0ns : Option (List ℕ)
+
+-- the argument of the index is that string
+abbrev pub HasString : Endian → List ℕ → List ℕ → Argument → Type 0
+HasString order signature body a = HasArgument order signature body a.index (text string a.text)
+
+-- the argument of the index is that object path
+abbrev pub HasPath : Endian → List ℕ → List ℕ → Argument → Type 0
+HasPath order signature body a = HasArgument order signature body a.index (text object_path a.text)
+
+-- the first argument is a string and a bus name: the namespace, or one that begins with it and a dot
+pub record HasNameIn (order : Endian) (signature body namespace : List ℕ) : Type 0 where
+  pub name : List ℕ
+  pub first : HasArgument order signature body 0 (text string name)
+  pub valid : IsBusName name
+  pub below : IsAtOrBelow 46 namespace name
+
+-- The body has all that is wanted.
+pub record ArgumentsMatch (order : Endian) (signature body : List ℕ) (w : Wanted) : Type 0 where
+  pub args : AllByRecursion (HasString order signature body) w.args
+  pub arg_paths : AllByRecursion (HasPath order signature body) w.arg_paths
+  pub arg0ns : IfSome w.arg0ns (HasNameIn order signature body)

@@ -1,0 +1,18 @@
+use Rattle.std.proofs.Common.{length, ◌-◌, ◌≡◌, ◌≤◌, ◌⊎◌, ◌++◌, drop}
+use Rattle.wire_framing.specs.Source.{Asks, Widens}
+use Rattle.wire_framing.proofs.Steps.{Went}
+use Rattle.wire_framing.proofs.read_to_message.take_until.Given as goal
+
+abbrev pub invariant-loop-bytes : goal.invariant-loop-bytes
+invariant-loop-bytes g l =
+    record {
+      own : (l.bytes.items ≡ l.initial.bytes.items) ⊎ (length l.bytes.items ≤ l.total);
+      grown : l.bytes.items ≡ l.initial.bytes.items ++ drop (length l.initial.bytes.items) l.bytes.items;
+      went : Went (drop (length l.initial.bytes.items) l.bytes.items) (g.S.Source.left l.initial.source) (g.S.Source.left l.source) (g.S.Source.stop l.initial.source) (g.S.Source.stop l.source) (g.S.Source.faults l.initial.source) (g.S.Source.faults l.source);
+      asks : Asks (g.S.Source.asked l.initial.source) (g.S.Source.asked l.source) (length (drop (length l.initial.bytes.items) l.bytes.items));
+      width : Widens (g.S.Source.widest l.initial.source) (g.S.Source.widest l.source) 65536;
+      same : g.S.Source.lent l.source ≡ g.S.Source.lent l.initial.source;
+    }
+
+abbrev pub decreases-loop-bytes : goal.decreases-loop-bytes
+decreases-loop-bytes g l = l.total - length l.bytes.items

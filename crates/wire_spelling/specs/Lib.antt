@@ -1,6 +1,0 @@
-pub mod Spelling
-pub mod Reading
-pub mod Walking
-pub mod ReaderView
-pub mod Promises
-pub mod Each
